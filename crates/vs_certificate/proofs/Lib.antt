@@ -1,0 +1,9 @@
+pub mod Lists
+pub mod Names
+pub mod Found
+pub mod Written
+pub mod Natural
+pub mod Plain
+pub mod Law
+pub mod Only
+pub mod Images

@@ -1,0 +1,17 @@
+use Rattle.std.proofs.Common.{IfOk, IfErr, rules}
+use Rattle.vs_certificate.specs.JsonValue.{value_of}
+use Rattle.vs_certificate.specs.Reading.{Passes, IsFaultOf}
+use Rattle.vs_certificate.proofs.Only.{only_value}
+use Rattle.vs_certificate.proofs.reading.from_json.Goals as goal
+
+pub returns-in_err-json-clause-only : goal.returns-in_err-json-clause-only
+returns-in_err-json-clause-only c =
+    let ok : IfOk c.from_residual.result (λ r. Passes c.args.bytes.now (value_of r)) = search rules in
+    let fault : IfErr c.from_residual.result (IsFaultOf c.args.bytes.now) = search rules in
+    only_value c.args.bytes.now c.from_residual.result ok fault
+
+pub returns-clause-only : goal.returns-clause-only
+returns-clause-only c =
+    let ok : IfOk c.certificate_from.result (λ r. Passes c.args.bytes.now (value_of r)) = search rules in
+    let fault : IfErr c.certificate_from.result (IsFaultOf c.args.bytes.now) = search rules in
+    only_value c.args.bytes.now c.certificate_from.result ok fault

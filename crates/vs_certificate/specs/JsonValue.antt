@@ -1,0 +1,116 @@
+-- The JSON value of a certificate, version 1.
+use Rattle.std.specs.Prelude.{◌≡◌, Some, ℕ, List, [], ◌∷◌, map, codes, String, string_bytes, Vec}
+use Rattle.std.specs.declared.alloc.Global.{Global}
+use Rattle.serde_json.specs.Data.{Data, number, unsigned, string, array, object, Members, no_members, member}
+use Rattle.serde_json.specs.Find.{get}
+use Rattle.serde_json.specs.View.{items_of}
+use Rattle.vs_certificate.specs.declared.members.Certificate.{Certificate}
+use Rattle.vs_certificate.specs.declared.members.Grain.{Grain}
+use Rattle.vs_certificate.specs.declared.members.Grain.TheVariants as grains
+use Rattle.vs_certificate.specs.declared.members.EdgeSignal.{EdgeSignal}
+use Rattle.vs_certificate.specs.declared.members.ProcessEntry.{ProcessEntry}
+use Rattle.vs_certificate.specs.declared.members.ProcessKind.{ProcessKind}
+use Rattle.vs_certificate.specs.declared.members.ProcessKind.TheVariants as kinds
+use Rattle.vs_certificate.specs.declared.members.Start.{Start}
+use Rattle.vs_certificate.specs.declared.members.Start.TheVariants as starts
+use Rattle.vs_certificate.specs.declared.members.SignalEntry.{SignalEntry}
+use Rattle.vs_certificate.specs.declared.members.SignalMode.{SignalMode}
+use Rattle.vs_certificate.specs.declared.members.SignalMode.TheVariants as modes
+
+-- ---- words (profile)
+
+abbrev pub grain_word : Grain → List ℕ
+grain_word grains.Block = codes "block"
+grain_word grains.Statement = codes "statement"
+
+abbrev pub kind_word : ProcessKind → List ℕ
+kind_word (kinds.Combinational start) = codes "comb"
+kind_word kinds.Edge = codes "edge"
+kind_word (kinds.Delay slots) = codes "delay"
+
+abbrev pub start_word : Start → List ℕ
+start_word starts.Cold = codes "cold"
+start_word starts.Sources = codes "sources"
+
+abbrev pub mode_word : SignalMode → List ℕ
+mode_word modes.Net = codes "net"
+mode_word modes.Unwritten = codes "unwritten"
+mode_word modes.Combinational = codes "comb"
+mode_word modes.Nonblocking = codes "nonblocking"
+mode_word modes.Blocking = codes "blocking"
+mode_word modes.Private = codes "private"
+
+-- ---- values
+
+-- a name
+abbrev pub text_value : String Global → Data
+text_value s = string (string_bytes s)
+
+abbrev pub grain_value : Grain → Data
+grain_value g = string (grain_word g)
+
+abbrev pub start_word_value : Start → Data
+start_word_value s = string (start_word s)
+
+abbrev pub mode_value : SignalMode → Data
+mode_value m = string (mode_word m)
+
+-- a list, each of whose entries has this value
+abbrev pub list_value : {A : Type 0} → (A → Data) → List A → Data
+list_value value entries = array (items_of (map value entries))
+
+abbrev pub members_with : List (List ℕ × Data) → Members
+members_with [] = no_members
+members_with (m ∷ ms) = member m.0 m.1 (members_with ms)
+
+-- an object of these members, which stand in the byte order of their names
+abbrev pub object_with : List (List ℕ × Data) → Data
+object_with ms = object (members_with ms)
+
+abbrev pub whole_value : ℕ → Data
+whole_value n = number (unsigned n)
+
+-- the residues of one delay control
+abbrev pub residues_value : Vec ℕ Global → Data
+residues_value residues = list_value whole_value residues.items
+
+-- a delay process has a list for each delay control, any other process none
+abbrev pub slots_value : ProcessKind → Data
+slots_value (kinds.Combinational start) = list_value residues_value []
+slots_value kinds.Edge = list_value residues_value []
+slots_value (kinds.Delay slots) = list_value residues_value slots.items
+
+-- a combinational block has a start, any other process none
+abbrev pub start_value : ProcessKind → Data
+start_value (kinds.Combinational start) = start_word_value start
+start_value kinds.Edge = string (codes "none")
+start_value (kinds.Delay slots) = string (codes "none")
+
+-- the members of an object that tell a process's kind tell this one
+abbrev pub IsKindOf : Data → ProcessKind → Type 0
+IsKindOf d kind = (get (codes "kind") d ≡ Some (string (kind_word kind))) × (get (codes "slots") d ≡ Some (slots_value kind)) × (get (codes "start") d ≡ Some (start_value kind))
+
+abbrev pub edge_value : EdgeSignal → Data
+edge_value e = object_with ((codes "root", text_value e.root) ∷ (codes "signal", text_value e.signal) ∷ [])
+
+abbrev pub process_value : ProcessEntry → Data
+process_value p =
+    object_with ((codes "kind", string (kind_word p.kind)) ∷ (codes "name", text_value p.name) ∷ (codes "slots", slots_value p.kind) ∷ (codes "start", start_value p.kind) ∷ [])
+
+abbrev pub signal_value : SignalEntry → Data
+signal_value s =
+    object_with ((codes "mode", mode_value s.mode) ∷ (codes "name", text_value s.name) ∷ (codes "second", text_value s.second) ∷ (codes "writer", text_value s.writer) ∷ [])
+
+-- the JSON value of a certificate
+abbrev pub value_of : Certificate → Data
+value_of c =
+    object_with (
+    (codes "edges", list_value edge_value c.edges.items)
+    ∷ (codes "grain", grain_value c.grain)
+    ∷ (codes "modulus", whole_value c.modulus)
+    ∷ (codes "order", list_value text_value c.order.items)
+    ∷ (codes "processes", list_value process_value c.processes.items)
+    ∷ (codes "signals", list_value signal_value c.signals.items)
+    ∷ (codes "version", whole_value 1)
+    ∷ []
+    )

@@ -1,0 +1,4 @@
+pub mod JsonValue
+pub mod Shape
+pub mod Limits
+pub mod Reading

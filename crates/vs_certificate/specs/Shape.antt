@@ -1,0 +1,102 @@
+-- Which JSON values have the form of a certificate, version 1: the members of each object, and of what kind each is.
+-- The limits are no part of it. So numbers go by a test, `numeric`: any whole number of 64 bits, or one that isn't negative.
+use Rattle.std.specs.Prelude.{List, ℕ, [], ◌∷◌, codes, Bool, true, false, ◌&&◌, ◌||◌, bytes_eq, is_some, Option, option_and_then, ◌==◌}
+use Rattle.std.specs.Option.{option_map_or}
+use Rattle.serde_json.specs.Data.{Data, Items, no_items, item, Members, no_members, member}
+use Rattle.serde_json.specs.Find.{get, as_number, as_str, as_array, as_object, as_u64, as_integer}
+
+-- a whole number of 64 bits
+abbrev pub is_whole : Data → Bool
+is_whole d = is_some (option_and_then as_integer (as_number d))
+
+-- the number, where it is a whole number of 64 bits that isn't negative
+abbrev pub natural : Data → Option ℕ
+natural d = option_and_then as_u64 (as_number d)
+
+abbrev pub is_natural : Data → Bool
+is_natural d = is_some (natural d)
+
+-- this number
+abbrev pub is_number : ℕ → Data → Bool
+is_number n d = option_map_or (λ m. m == n) (natural d) false
+
+abbrev pub is_text : Data → Bool
+is_text d = is_some (as_str d)
+
+-- this text
+abbrev pub is_word : List ℕ → Data → Bool
+is_word word d = option_map_or (λ s. bytes_eq s word) (as_str d) false
+
+-- each item passes
+abbrev pub all_items : (Data → Bool) → Items → Bool
+all_items test no_items = true
+all_items test (item d ds) = test d && all_items test ds
+
+-- a list whose entries all pass
+abbrev pub is_list : (Data → Bool) → Data → Bool
+is_list test d = option_map_or (all_items test) (as_array d) false
+
+abbrev pub is_empty_list : Data → Bool
+is_empty_list d = is_list (λ _. false) d
+
+abbrev pub are_names : List (List ℕ) → Members → Bool
+are_names [] no_members = true
+are_names [] (member k d ms) = false
+are_names (n ∷ ns) no_members = false
+are_names (n ∷ ns) (member k d ms) = bytes_eq k n && are_names ns ms
+
+-- an object whose members have exactly these names, which are given in byte order
+abbrev pub has_names : List (List ℕ) → Data → Bool
+has_names names d = option_map_or (are_names names) (as_object d) false
+
+-- the member of this name is there, and passes
+abbrev pub passes_at : (Data → Bool) → List ℕ → Data → Bool
+passes_at test name d = option_map_or test (get name d) false
+
+-- ---- words (profile)
+
+abbrev pub is_grain : Data → Bool
+is_grain d = is_word (codes "block") d || is_word (codes "statement") d
+
+abbrev pub is_start : Data → Bool
+is_start d = is_word (codes "cold") d || is_word (codes "sources") d
+
+abbrev pub is_mode : Data → Bool
+is_mode d =
+    is_word (codes "net") d || is_word (codes "unwritten") d || is_word (codes "comb") d || is_word (codes "nonblocking") d || is_word (codes "blocking") d || is_word (codes "private") d
+
+-- ---- entries (profile)
+
+abbrev pub is_edge_signal : Data → Bool
+is_edge_signal d = has_names (codes "root" ∷ codes "signal" ∷ []) d && passes_at is_text (codes "root") d && passes_at is_text (codes "signal") d
+
+abbrev pub is_signal_entry : Data → Bool
+is_signal_entry d =
+    has_names (codes "mode" ∷ codes "name" ∷ codes "second" ∷ codes "writer" ∷ []) d && passes_at is_mode (codes "mode") d && passes_at is_text (codes "name") d && passes_at is_text (codes "second") d
+    && passes_at is_text (codes "writer") d
+
+-- a combinational block has a start, and no slots
+abbrev pub is_combinational : Data → Bool
+is_combinational d = passes_at (is_word (codes "comb")) (codes "kind") d && passes_at is_empty_list (codes "slots") d && passes_at is_start (codes "start") d
+
+-- a process that waits for edges has neither
+abbrev pub is_edge_process : Data → Bool
+is_edge_process d = passes_at (is_word (codes "edge")) (codes "kind") d && passes_at is_empty_list (codes "slots") d && passes_at (is_word (codes "none")) (codes "start") d
+
+-- a process that waits for times has lists of residues for slots, and no start
+abbrev pub is_delay_process : (Data → Bool) → Data → Bool
+is_delay_process numeric d =
+    passes_at (is_word (codes "delay")) (codes "kind") d && passes_at (is_list (is_list numeric)) (codes "slots") d && passes_at (is_word (codes "none")) (codes "start") d
+
+abbrev pub is_process_entry : (Data → Bool) → Data → Bool
+is_process_entry numeric d =
+    has_names (codes "kind" ∷ codes "name" ∷ codes "slots" ∷ codes "start" ∷ []) d && passes_at is_text (codes "name") d && (is_combinational d || is_edge_process d || is_delay_process numeric d)
+
+-- ---- the whole (profile)
+
+-- a certificate whose numbers pass this test
+abbrev pub is_certificate : (Data → Bool) → Data → Bool
+is_certificate numeric d =
+    has_names (codes "edges" ∷ codes "grain" ∷ codes "modulus" ∷ codes "order" ∷ codes "processes" ∷ codes "signals" ∷ codes "version" ∷ []) d && passes_at (is_list is_edge_signal) (codes "edges") d
+    && passes_at is_grain (codes "grain") d && passes_at numeric (codes "modulus") d && passes_at (is_list is_text) (codes "order") d && passes_at (is_list (is_process_entry numeric)) (codes "processes") d
+    && passes_at (is_list is_signal_entry) (codes "signals") d && passes_at (is_number 1) (codes "version") d

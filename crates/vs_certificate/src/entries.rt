@@ -1,0 +1,152 @@
+//! The JSON forms of the words and of the entries of a certificate's lists.
+
+ghost use Rattle.std.specs.Prelude.{◌≡◌, ℕ, IsTrue, IfOk};
+ghost use Rattle.serde_json.specs.View.{view};
+ghost use Rattle.vs_certificate.specs.JsonValue.{grain_value, start_word_value, mode_value, edge_value, signal_value};
+ghost use Rattle.vs_certificate.specs.Shape.{is_natural, is_whole, is_grain, is_start, is_mode, is_edge_signal, is_signal_entry};
+
+use crate::form::{
+    JsonForm, from_value_at, has_form_at, has_names, is_empty_list_at, is_word, is_word_at,
+};
+use crate::members::{
+    EdgeSignal, Grain, ProcessEntry, ProcessKind, SignalEntry, SignalMode, Start,
+};
+use serde_json::{Value, json};
+use std::alloc::{AllocError, Global};
+
+impl JsonForm for Grain {
+    ghost json_value = { grain_value };
+
+    ghost json_shape = { λ _. is_grain };
+
+    fn to_value(&self, alloc: Global) -> Result<Value, AllocError> {
+        Value::try_from_str(alloc, self.word())
+    }
+
+    fn has_form(json: &Value) -> bool {
+        is_word(json, "block") || is_word(json, "statement")
+    }
+
+    fn from_value(_alloc: Global, json: &Value) -> Result<Grain, AllocError> {
+        if is_word(json, "block") {
+            Ok(Grain::Block)
+        } else {
+            Ok(Grain::Statement)
+        }
+    }
+}
+
+impl JsonForm for Start {
+    ghost json_value = { start_word_value };
+
+    ghost json_shape = { λ _. is_start };
+
+    fn to_value(&self, alloc: Global) -> Result<Value, AllocError> {
+        Value::try_from_str(alloc, self.word())
+    }
+
+    fn has_form(json: &Value) -> bool {
+        is_word(json, "cold") || is_word(json, "sources")
+    }
+
+    fn from_value(_alloc: Global, json: &Value) -> Result<Start, AllocError> {
+        if is_word(json, "cold") {
+            Ok(Start::Cold)
+        } else {
+            Ok(Start::Sources)
+        }
+    }
+}
+
+impl JsonForm for SignalMode {
+    ghost json_value = { mode_value };
+
+    ghost json_shape = { λ _. is_mode };
+
+    fn to_value(&self, alloc: Global) -> Result<Value, AllocError> {
+        Value::try_from_str(alloc, self.word())
+    }
+
+    fn has_form(json: &Value) -> bool {
+        is_word(json, "net")
+            || is_word(json, "unwritten")
+            || is_word(json, "comb")
+            || is_word(json, "nonblocking")
+            || is_word(json, "blocking")
+            || is_word(json, "private")
+    }
+
+    fn from_value(_alloc: Global, json: &Value) -> Result<SignalMode, AllocError> {
+        if is_word(json, "net") {
+            Ok(SignalMode::Net)
+        } else if is_word(json, "unwritten") {
+            Ok(SignalMode::Unwritten)
+        } else if is_word(json, "comb") {
+            Ok(SignalMode::Combinational)
+        } else if is_word(json, "nonblocking") {
+            Ok(SignalMode::Nonblocking)
+        } else if is_word(json, "blocking") {
+            Ok(SignalMode::Blocking)
+        } else {
+            Ok(SignalMode::Private)
+        }
+    }
+}
+
+impl JsonForm for EdgeSignal {
+    ghost json_value = { edge_value };
+
+    ghost json_shape = { λ _. is_edge_signal };
+
+    fn to_value(&self, alloc: Global) -> Result<Value, AllocError> {
+        json!(in alloc; {"root": &self.root, "signal": &self.signal})
+    }
+
+    fn has_form(json: &Value) -> bool {
+        has_names(json, &["root", "signal"])
+            && has_form_at::<String>(json, "root")
+            && has_form_at::<String>(json, "signal")
+    }
+
+    fn from_value(alloc: Global, json: &Value) -> Result<EdgeSignal, AllocError> {
+        let root = from_value_at(alloc, json, "root")?;
+        let signal = from_value_at(alloc, json, "signal")?;
+        Ok(EdgeSignal { root, signal })
+    }
+}
+
+impl JsonForm for SignalEntry {
+    ghost json_value = { signal_value };
+
+    ghost json_shape = { λ _. is_signal_entry };
+
+    fn to_value(&self, alloc: Global) -> Result<Value, AllocError> {
+        json!(in alloc; {
+            "mode": self.mode.word(),
+            "name": &self.name,
+            "second": &self.second,
+            "writer": &self.writer,
+        })
+    }
+
+    fn has_form(json: &Value) -> bool {
+        has_names(json, &["mode", "name", "second", "writer"])
+            && has_form_at::<SignalMode>(json, "mode")
+            && has_form_at::<String>(json, "name")
+            && has_form_at::<String>(json, "second")
+            && has_form_at::<String>(json, "writer")
+    }
+
+    fn from_value(alloc: Global, json: &Value) -> Result<SignalEntry, AllocError> {
+        let mode = from_value_at(alloc, json, "mode")?;
+        let name = from_value_at(alloc, json, "name")?;
+        let second = from_value_at(alloc, json, "second")?;
+        let writer = from_value_at(alloc, json, "writer")?;
+        Ok(SignalEntry {
+            mode,
+            name,
+            second,
+            writer,
+        })
+    }
+}

@@ -1,0 +1,100 @@
+//! The JSON form of the processes of a certificate.
+
+ghost use Rattle.std.specs.Prelude.{◌≡◌, ℕ, ◌||◌, IsTrue, IfOk};
+ghost use Rattle.serde_json.specs.Data.{string};
+ghost use Rattle.serde_json.specs.View.{view};
+ghost use Rattle.vs_certificate.specs.JsonValue.{process_value, slots_value, start_value, IsKindOf};
+ghost use Rattle.vs_certificate.specs.Shape.{is_natural, is_whole, is_process_entry};
+ghost use Rattle.vs_certificate.specs.Shape as Shape;
+
+use crate::form::{JsonForm, from_value_at, has_form_at, has_names, is_empty_list_at, is_word_at};
+use crate::members::{ProcessEntry, ProcessKind, Start};
+use serde_json::{Value, json};
+use std::alloc::{AllocError, Global};
+
+impl JsonForm for ProcessEntry {
+    ghost json_value = { process_value };
+
+    ghost json_shape = { is_process_entry };
+
+    fn to_value(&self, alloc: Global) -> Result<Value, AllocError> {
+        let slots = slots_to_value(alloc, &self.kind)?;
+        json!(in alloc; {
+            "kind": self.kind.word(),
+            "name": &self.name,
+            "slots": slots,
+            "start": start_word(&self.kind),
+        })
+    }
+
+    fn has_form(json: &Value) -> bool {
+        has_names(json, &["kind", "name", "slots", "start"])
+            && has_form_at::<String>(json, "name")
+            && (is_combinational(json) || is_edge_process(json) || is_delay_process(json))
+    }
+
+    fn from_value(alloc: Global, json: &Value) -> Result<ProcessEntry, AllocError> {
+        let kind = kind_from_value(alloc, json)?;
+        let name = from_value_at(alloc, json, "name")?;
+        Ok(ProcessEntry { kind, name })
+    }
+}
+
+fn slots_to_value(alloc: Global, kind: &ProcessKind) -> Result<Value, AllocError>
+    ensures { IfOk result (λ v. view v ≡ slots_value kind.now) }
+{
+    match kind {
+        ProcessKind::Combinational(_) | ProcessKind::Edge => Ok(Value::Array(Vec::new(alloc))),
+        ProcessKind::Delay(slots) => slots.to_value(alloc),
+    }
+}
+
+fn start_word(kind: &ProcessKind) -> &'static str
+    ensures { string result.now ≡ start_value kind.now }
+{
+    match kind {
+        ProcessKind::Combinational(start) => start.word(),
+        ProcessKind::Edge | ProcessKind::Delay(_) => "none",
+    }
+}
+
+fn is_combinational(json: &Value) -> bool
+    ensures { result ≡ Shape.is_combinational (view json.now) }
+{
+    is_word_at(json, "kind", "comb")
+        && is_empty_list_at(json, "slots")
+        && has_form_at::<Start>(json, "start")
+}
+
+fn is_edge_process(json: &Value) -> bool
+    ensures { result ≡ Shape.is_edge_process (view json.now) }
+{
+    is_word_at(json, "kind", "edge")
+        && is_empty_list_at(json, "slots")
+        && is_word_at(json, "start", "none")
+}
+
+fn is_delay_process(json: &Value) -> bool
+    ensures { result ≡ Shape.is_delay_process is_whole (view json.now) }
+{
+    is_word_at(json, "kind", "delay")
+        && has_form_at::<Vec<Vec<u64>>>(json, "slots")
+        && is_word_at(json, "start", "none")
+}
+
+fn kind_from_value(alloc: Global, json: &Value) -> Result<ProcessKind, AllocError>
+    requires { IsTrue (Shape.is_combinational (view json.now)
+        || Shape.is_edge_process (view json.now)
+        || Shape.is_delay_process is_natural (view json.now)) }
+    ensures { IfOk result (IsKindOf (view json.now)) }
+{
+    if is_combinational(json) {
+        let start = from_value_at(alloc, json, "start")?;
+        Ok(ProcessKind::Combinational(start))
+    } else if is_edge_process(json) {
+        Ok(ProcessKind::Edge)
+    } else {
+        let slots = from_value_at(alloc, json, "slots")?;
+        Ok(ProcessKind::Delay(slots))
+    }
+}

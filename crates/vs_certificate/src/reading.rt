@@ -1,0 +1,78 @@
+//! A certificate from its text.
+
+ghost use Rattle.std.specs.Prelude.{◌≡◌, IfOk, IfErr, MatchResult};
+ghost use Rattle.serde_json.specs.Data.{Data};
+ghost use Rattle.serde_json.specs.View.{view};
+ghost use Rattle.vs_certificate.specs.JsonValue.{value_of};
+ghost use Rattle.vs_certificate.specs.Reading.{IsJson, IsSound, FailsFirst, Passes, IsFaultOf, IsUnread};
+ghost use Rattle.vs_certificate.specs.Reading as Reading;
+
+use crate::fault::CertFault;
+use crate::form::JsonForm;
+use crate::limits::is_within_limits;
+use crate::members::Certificate;
+use serde_json::Value;
+use std::alloc::Global;
+
+const MAX_LEN: usize = 16_777_216;
+
+/// The certificate whose JSON text the bytes are. The tests are made in the order C1, C3, C2, C4, and the first that
+/// fails is told; `Memory` may come in place of any answer, where a growth was refused.
+pub fn from_json(alloc: Global, bytes: &[u8]) -> Result<Certificate, CertFault>
+    // What is answered is what the bytes say, and no test fails of them.
+    ensures ok { IfOk result (λ c. Passes bytes.now (value_of c)) }
+    // Where no test fails, what the bytes say is answered.
+    ensures only { (d : Data) → Passes bytes.now d
+        → MatchResult result (λ c. value_of c ≡ d) (λ e. e ≡ CertFault.Memory) }
+    // A fault is that of the first test that fails.
+    ensures fault { IfErr result (IsFaultOf bytes.now) }
+{
+    let json = value_from(alloc, bytes)?;
+    certificate_from(alloc, &json)
+}
+
+/// The JSON value whose text the bytes are.
+fn value_from(alloc: Global, bytes: &[u8]) -> Result<Value, CertFault>
+    ensures ok { IfOk result (λ v. IsJson bytes.now (view v)) }
+    ensures err { IfErr result (IsUnread bytes.now) }
+{
+    if bytes.len() > MAX_LEN {
+        return Err(CertFault::NotJson);
+    }
+    match Value::from_slice(alloc, bytes) {
+        Ok(json) => Ok(json),
+        Err(e) => if e.is_memory() {
+            Err(CertFault::Memory)
+        } else {
+            Err(CertFault::NotJson)
+        },
+    }
+}
+
+/// The certificate that has this JSON value.
+fn certificate_from(alloc: Global, json: &Value) -> Result<Certificate, CertFault>
+    ensures value { IfOk result (λ c. value_of c ≡ view json.now) }
+    ensures sound { IfOk result (λ _. IsSound (view json.now)) }
+    ensures fault { IfErr result (FailsFirst (view json.now)) }
+{
+    if is_other_version(json) {
+        return Err(CertFault::Version);
+    }
+    if !Certificate::has_form(json) {
+        return Err(CertFault::Shape);
+    }
+    if !is_within_limits(json) {
+        return Err(CertFault::Limit);
+    }
+    Certificate::from_value(alloc, json).map_err(|_| CertFault::Memory)
+}
+
+/// Whether the version is a whole number other than 1.
+fn is_other_version(json: &Value) -> bool
+    ensures { result ≡ Reading.is_other_version (view json.now) }
+{
+    match json.get("version") {
+        Some(version) => (version.is_u64() || version.is_i64()) && version.as_u64() != Some(1),
+        None => false,
+    }
+}

@@ -1,0 +1,82 @@
+//! The limits of a certificate.
+
+ghost use Rattle.std.specs.Prelude.{◌≡◌, ◌↔◌, ℕ, IsTrue};
+ghost use Rattle.vs_certificate.specs.JsonValue.{whole_value, residues_value, list_value, process_value, value_of};
+ghost use Rattle.vs_certificate.specs.Limits.{is_within, are_residues, are_slots, are_processes, is_within_limits};
+ghost use Rattle.vs_certificate.specs.Reading.{IsSound};
+
+use crate::form::JsonForm;
+use crate::limits::{MAX_ENTRIES, MAX_RESIDUES, is_modulus};
+use crate::members::{Certificate, ProcessEntry, ProcessKind};
+
+impl Certificate {
+    /// Whether the limits hold. Then no test fails of what is written of it, and a checker may be asked.
+    pub fn is_sound(&self) -> bool
+        ensures { IsTrue result ↔ IsSound (value_of self.now) }
+    {
+        self.is_within_limits()
+    }
+
+    fn is_within_limits(&self) -> bool
+        ensures { result ≡ is_within_limits (value_of self.now) }
+    {
+        is_modulus(self.modulus)
+            && is_short(&self.edges)
+            && is_short(&self.order)
+            && are_processes_within(&self.processes, self.modulus)
+            && is_short(&self.signals)
+    }
+}
+
+/// Whether a list has at most as many entries as a certificate's lists may have.
+fn is_short<T: JsonForm>(list: &[T]) -> bool
+    ensures { result ≡ is_within 65536 (list_value T.json_value list.now) }
+{
+    list.len() <= MAX_ENTRIES
+}
+
+fn are_processes_within(processes: &[ProcessEntry], modulus: u64) -> bool
+    ensures { result ≡ are_processes modulus (list_value process_value processes.now) }
+{
+    if processes.len() > MAX_ENTRIES {
+        return false;
+    }
+    for process in processes {
+        if let ProcessKind::Delay(slots) = &process.kind {
+            if !are_slots_within(slots, modulus) {
+                return false;
+            }
+        }
+    }
+    true
+}
+
+fn are_slots_within(slots: &[Vec<u64>], modulus: u64) -> bool
+    ensures { result ≡ are_slots modulus (list_value residues_value slots.now) }
+{
+    if slots.len() > MAX_ENTRIES {
+        return false;
+    }
+    for residues in slots {
+        if !are_residues_within(residues, modulus) {
+            return false;
+        }
+    }
+    true
+}
+
+fn are_residues_within(residues: &[u64], modulus: u64) -> bool
+    ensures { result ≡ are_residues modulus (list_value whole_value residues.now) }
+{
+    if residues.len() > MAX_RESIDUES {
+        return false;
+    }
+    let mut low = 0;
+    for residue in residues {
+        if *residue < low || modulus <= *residue {
+            return false;
+        }
+        low = *residue + 1;
+    }
+    true
+}

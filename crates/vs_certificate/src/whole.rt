@@ -1,0 +1,70 @@
+//! The JSON form of a certificate as a whole.
+
+ghost use Rattle.std.specs.Prelude.{◌≡◌, IsTrue, IfOk};
+ghost use Rattle.serde_json.specs.View.{view};
+ghost use Rattle.vs_certificate.specs.JsonValue.{value_of};
+ghost use Rattle.vs_certificate.specs.Shape.{is_natural, is_whole, is_certificate};
+
+use crate::form::{JsonForm, from_value_at, has_form_at, has_names, is_number_at};
+use crate::members::{Certificate, EdgeSignal, Grain, ProcessEntry, SignalEntry};
+use serde_json::{Value, json};
+use std::alloc::{AllocError, Global};
+
+impl JsonForm for Certificate {
+    ghost json_value = { value_of };
+
+    ghost json_shape = { is_certificate };
+
+    fn to_value(&self, alloc: Global) -> Result<Value, AllocError> {
+        let edges = self.edges.to_value(alloc)?;
+        let order = self.order.to_value(alloc)?;
+        let processes = self.processes.to_value(alloc)?;
+        let signals = self.signals.to_value(alloc)?;
+        json!(in alloc; {
+            "edges": edges,
+            "grain": self.grain.word(),
+            "modulus": self.modulus,
+            "order": order,
+            "processes": processes,
+            "signals": signals,
+            "version": 1u64,
+        })
+    }
+
+    fn has_form(json: &Value) -> bool {
+        let names = [
+            "edges",
+            "grain",
+            "modulus",
+            "order",
+            "processes",
+            "signals",
+            "version",
+        ];
+        has_names(json, &names)
+            && has_form_at::<Vec<EdgeSignal>>(json, "edges")
+            && has_form_at::<Grain>(json, "grain")
+            && has_form_at::<u64>(json, "modulus")
+            && has_form_at::<Vec<String>>(json, "order")
+            && has_form_at::<Vec<ProcessEntry>>(json, "processes")
+            && has_form_at::<Vec<SignalEntry>>(json, "signals")
+            && is_number_at(json, "version", 1)
+    }
+
+    fn from_value(alloc: Global, json: &Value) -> Result<Certificate, AllocError> {
+        let grain = from_value_at(alloc, json, "grain")?;
+        let modulus = from_value_at(alloc, json, "modulus")?;
+        let edges = from_value_at(alloc, json, "edges")?;
+        let order = from_value_at(alloc, json, "order")?;
+        let processes = from_value_at(alloc, json, "processes")?;
+        let signals = from_value_at(alloc, json, "signals")?;
+        Ok(Certificate {
+            grain,
+            modulus,
+            edges,
+            order,
+            processes,
+            signals,
+        })
+    }
+}

@@ -1,0 +1,29 @@
+//! Signals of a design.
+ghost use Rattle.std.specs.Prelude.{◌<◌, ◌≤◌};
+
+/// What a signal was declared as (IEEE 1364-2005, clauses 4.1 and 4.8).
+#[derive(Clone, Copy, PartialEq, Eq, Debug)]
+pub enum SignalKind {
+    /// A net of type `wire`.
+    Wire,
+    /// A variable of type `reg`.
+    Reg,
+    /// A variable of type `integer`.
+    Integer,
+}
+
+/// A variable or a net.
+#[derive(Debug, Drop)]
+pub struct Signal {
+    /// The name as it is printed: an escaped name that isn't a simple one has its backslash and one space after it.
+    pub name: Vec<u8>,
+    /// The path from the top, as it is printed: the names of the scopes and then the signal's own, joined by `.`.
+    pub path: Vec<u8>,
+    /// What the signal was declared as.
+    pub kind: SignalKind,
+    /// The size in bits, from 1 to 64.
+    pub width: u32,
+    /// Whether its value is a signed number.
+    pub signed: bool,
+    pub ghost sized: { (0 < width) × (width ≤ 64) },
+}

@@ -1,0 +1,40 @@
+//! Statements of a design.
+
+ghost use Rattle.std.specs.Prelude.{◌<◌, ◌≤◌, ◌^◌};
+
+use crate::expression::Typed;
+
+/// A span of time in ticks, below 2^62. A tick is the precision of the source's time scale (IEEE 1364-2005, clause 19.8).
+#[derive(Clone, Copy, Debug)]
+pub struct Ticks {
+    /// How many ticks.
+    pub count: u64,
+    pub ghost short: { count < 2 ^ 62 },
+}
+
+/// The left side of an assignment: a whole signal.
+#[derive(Clone, Copy, Debug)]
+pub struct Target {
+    /// The signal's number in design order.
+    pub signal: usize,
+    /// The signal's size in bits.
+    pub width: u32,
+    pub ghost sized: { (0 < width) × (width ≤ 64) },
+}
+
+/// A statement (IEEE 1364-2005, clause 9), whose names are numbers of signals and whose delays are ticks.
+#[derive(Debug, Drop)]
+pub enum Statement {
+    /// `;`
+    Null,
+    /// A blocking assignment.
+    Assign(Target, Typed),
+    /// A nonblocking assignment without a delay.
+    Later(Target, Typed),
+    /// `begin .. end`
+    Block(Vec<Statement>),
+    /// A delay control, and the statement behind it.
+    Delay(Ticks, Box<Statement>),
+    /// `forever`; the body of an `always` too.
+    Forever(Box<Statement>),
+}

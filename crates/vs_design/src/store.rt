@@ -1,0 +1,107 @@
+//! Stores.
+ghost use Rattle.std.specs.Prelude.{◌≡◌, ◌<◌, ◌≤◌, ◌∷◌, [], Some, length, slice_get, IfOk, take};
+ghost use Rattle.vs_design.specs.Stores.{word_of, put_part, start_store, start_word, start_words, is_driven};
+
+use crate::design::{Assign, Design};
+use crate::signal::{Signal, SignalKind};
+use std::alloc::{AllocError, Global};
+use std::marker::Model;
+use vs_logic4::Vec4;
+
+/// The values of a design's signals: one word for each, in design order.
+#[derive(Debug, Drop)]
+pub struct Store {
+    words: Vec<Vec4>,
+}
+
+impl Model for Store {
+    ghost use Rattle.std.specs.Prelude.{map, ◌∷◌, []};
+    ghost use Rattle.vs_design.specs.Stores.{Store, one_word_each};
+
+    ghost Value = { Store };
+
+    ghost view = { λ s. one_word_each s.words.items };
+}
+
+impl Store {
+    /// The store in which every execution of a design begins.
+    ///
+    /// It looks at every assignment for each net.
+    pub fn start(alloc: Global, design: &Design) -> Result<Self, AllocError>
+        ensures { IfOk result (λ s. s ≡ start_store design.now) }
+    {
+        let signals = design.signals();
+        let assigns = design.assigns();
+        let mut words = Vec::new(alloc);
+        for i in 0..signals.len() {
+            words.push(start_vector(has_driver(assigns, i), &signals[i]))?;
+        }
+        Ok(Store { words })
+    }
+
+    /// A word of a signal, where there is one. A signal that isn't an array has the word 0 alone.
+    pub fn word(&self, signal: usize, word: usize) -> Option<Vec4>
+        ensures { result ≡ word_of self.now signal word }
+    {
+        let words = &self.words;
+        if word > 0 {
+            return None;
+        }
+        first_word(words, signal)
+    }
+
+    /// Writes a value over a signal's word from its lowest digit on; digits past its end are dropped, and so is a value without a word.
+    pub fn put(&mut self, signal: usize, value: Vec4)
+        ensures { self.new ≡ put_part self.old (record { signal = signal; word = 0; low = 0; digits = value }) }
+    {
+        if let Some(word) = first_word(&self.words, signal) {
+            self.words[signal] = word.put(0, value);
+        }
+    }
+
+    /// The same store once more.
+    pub fn copy(&self, alloc: Global) -> Result<Self, AllocError>
+        ensures { IfOk result (λ s. s ≡ self.now) }
+    {
+        let mut words = Vec::new(alloc);
+        for word in &self.words {
+            words.push(*word)?;
+        }
+        Ok(Store { words })
+    }
+}
+
+// The word of a signal.
+fn first_word(words: &[Vec4], signal: usize) -> Option<Vec4>
+    ensures { result ≡ slice_get words.now signal }
+{
+    if signal < words.len() {
+        Some(words[signal])
+    } else {
+        None
+    }
+}
+
+// Whether a continuous assignment drives the signal.
+fn has_driver(assigns: &[Assign], signal: usize) -> bool
+    ensures { result ≡ is_driven assigns.now signal }
+{
+    assigns.iter().any(|a| a.target.signal == signal)
+}
+
+// What a signal holds before the first step.
+fn start_vector(driven: bool, signal: &Signal) -> Vec4
+    ensures { result ≡ start_word driven signal.now.kind signal.now.width }
+{
+    match signal.kind {
+        SignalKind::Wire => {
+            if driven {
+                Vec4::unknown(signal.width)
+            } else {
+                Vec4::high_impedance(signal.width)
+            }
+        }
+        SignalKind::Reg => Vec4::unknown(signal.width),
+        SignalKind::Integer => Vec4::unknown(signal.width),
+    }
+}

@@ -1,0 +1,9 @@
+pub mod NameLemmas
+pub mod Numbers
+pub mod Bodies
+pub mod Paths
+pub mod Members
+pub mod Meanings
+pub mod Modules
+pub mod Designs
+pub mod Soundness

@@ -1,0 +1,7 @@
+use Rattle.std.proofs.Common.{◌≡◌, ◌+◌, take}
+use Rattle.vs_elaborate.specs.Printed.{printed}
+use Rattle.vs_elaborate.specs.Frames.{borrowed}
+use Rattle.vs_elaborate.proofs.printed.print_path.Given as goal
+
+abbrev pub invariant-loop-name : goal.invariant-loop-name
+invariant-loop-name l = l.text.items ≡ printed (borrowed (take (l.name-index + 1) l.path))

@@ -1,0 +1,13 @@
+pub mod Printed
+pub mod Names
+pub mod Environment
+pub mod Literals
+pub mod Expressions
+pub mod Statements
+pub mod Resolved
+pub mod Delays
+pub mod Scopes
+pub mod Faults
+pub mod DesignOf
+pub mod Frames
+pub mod WellFormed

@@ -1,0 +1,5 @@
+pub mod Faults
+pub mod Runs
+pub mod Stages
+pub mod Touches
+pub mod VcdFaults

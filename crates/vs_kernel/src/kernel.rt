@@ -1,0 +1,134 @@
+//! The kernel: one run of a design.
+ghost use Rattle.std.specs.Prelude.{◌≡◌, ◌<◌, ◌^◌, IfOk, IfErr, OnOk, OnErr};
+ghost use Rattle.vs_kernel.specs.Faults.{is_write, FaultAt, behind_fault};
+ghost use Rattle.vs_kernel.specs.Runs.{RanTo, HasBegun};
+ghost use Rattle.vs_kernel.specs.declared.kernel.Status.TheVariants as statuses;
+ghost use Rattle.vs_vcd.specs.Sinks.{failed_after};
+
+use crate::agenda::Agenda;
+use crate::machine::Machine;
+use crate::outcome::{Outcome, RunFault};
+use crate::policy::Pick;
+use crate::run::execute;
+use std::alloc::{AllocError, Global};
+use std::marker::Model;
+use std::mem;
+use vs_design::Design;
+use vs_vcd::Sink;
+
+/// Whether a kernel may run.
+#[derive(Clone, Copy, PartialEq, Eq, Debug)]
+pub enum Status {
+    /// It hasn't run.
+    Ready,
+    /// It has given an outcome.
+    Done,
+    /// It has failed.
+    Failed,
+}
+
+/// How far a kernel has come.
+#[derive(Drop)]
+enum Stage<'a> {
+    Ready(Machine<'a>, Agenda),
+    Done,
+    Failed,
+}
+
+/// The run of a design under a policy. A contract sees the design, and whether it may run.
+#[derive(Drop)]
+pub struct Kernel<'a, P> {
+    alloc: Global,
+    design: &'a Design,
+    policy: P,
+    stage: Stage<'a>,
+}
+
+impl<'a, P> Model for Kernel<'a, P> {
+    ghost use Rattle.std.specs.Coded.{codes};
+    ghost use Rattle.vs_design.specs.contracts.statement.Statement as statement;
+    ghost use Rattle.vs_kernel.specs.Stages.{Course, status_of, IsAtStart};
+
+    ghost Value = { Course };
+
+    ghost coded = { Prim.hlevel (codes, statement.the_row.coded) };
+
+    ghost view = { λ k. record { design = k.design.now; status = status_of k.stage } };
+
+    ghost invariant = { λ k. IsAtStart k.design.now k.stage };
+}
+
+impl<'a, P: Pick + Drop> Kernel<'a, P> {
+    /// A kernel that hasn't run.
+    pub fn new(alloc: Global, design: &'a Design, policy: P) -> Result<Self, AllocError>
+        ensures { IfOk result (λ kernel. kernel ≡ record { design = design.entry.now; status = statuses.Ready }) }
+    {
+        let machine = Machine::start(alloc, design)?;
+        let agenda = Agenda::start(alloc, design.signals().len(), &machine)?;
+        Ok(Kernel {
+            alloc,
+            design,
+            policy,
+            stage: Stage::Ready(machine, agenda),
+        })
+    }
+
+    /// Whether it may run.
+    pub fn status(&self) -> Status
+        ensures { result ≡ self.now.status }
+    {
+        match &self.stage {
+            Stage::Ready(_, _) => Status::Ready,
+            Stage::Done => Status::Done,
+            Stage::Failed => Status::Failed,
+        }
+    }
+
+    /// Runs the design until its time is past `until`, in ticks, or no event is left, in at most `steps` permitted steps
+    /// (IEEE 1364-2005, clause 11). The value change dump is written to `vcd` while it runs. `lines` takes no byte, since the
+    /// language has no system task that prints.
+    ///
+    /// After an outcome every further call answers `Done`, after a fault `Failed`, and writes nothing.
+    pub fn run<V: Sink, L: Sink>(
+        &mut self,
+        until: u64,
+        steps: u64,
+        vcd: &mut V,
+        lines: &mut L,
+    ) -> Result<Outcome, RunFault>
+        requires until { until < 2 ^ 62 }
+        requires steps { steps < 2 ^ 62 }
+        ensures ran { IfOk result (λ outcome. RanTo self.old.design until steps outcome (V.bytes vcd.old) (V.bytes vcd.new)) }
+        ensures ok { OnOk result ((self.old.status ≡ statuses.Ready) × (self.new.status ≡ statuses.Done)) }
+        ensures begun { OnErr result (self.old.status ≡ statuses.Ready → HasBegun self.old.design until steps (V.bytes vcd.old) (V.bytes vcd.new)) }
+        ensures fault { IfErr result (λ fault. FaultAt self.old.status fault) }
+        ensures err { OnErr result (self.new.status ≡ behind_fault self.old.status) }
+        ensures design { self.new.design ≡ self.old.design }
+        ensures again { (self.old.status ≡ statuses.Ready → ⊥) → vcd.new ≡ vcd.old }
+        ensures failures { V.failed vcd.new ≡ failed_after (is_write result) (V.failed vcd.old) }
+        ensures lines { lines.new ≡ lines.old }
+    {
+        let _ = lines;
+        match mem::replace(&mut self.stage, Stage::Failed) {
+            Stage::Ready(machine, agenda) => {
+                let outcome = execute(
+                    self.alloc,
+                    self.design,
+                    machine,
+                    agenda,
+                    &mut self.policy,
+                    until,
+                    steps,
+                    vcd,
+                )?;
+                self.stage = Stage::Done;
+                Ok(outcome)
+            }
+            Stage::Done => {
+                self.stage = Stage::Done;
+                Err(RunFault::Done)
+            }
+            Stage::Failed => Err(RunFault::Failed),
+        }
+    }
+}

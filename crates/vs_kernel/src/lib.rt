@@ -1,0 +1,23 @@
+//! The run of a design: one permitted execution, chosen step by step by a policy (IEEE 1364-2005, clause 11).
+//!
+//! `Kernel::run` makes moves of the definitions of `vs_process` until the execution is complete to a moment or the
+//! steps are used up, and writes the value change dump of its trace while it runs.
+#![tactic(auto)]
+
+mod agenda;
+mod changes;
+mod driver;
+mod kernel;
+mod machine;
+mod moves;
+mod outcome;
+mod policy;
+mod run;
+mod search;
+#[cfg(test)]
+mod tests;
+mod update;
+
+pub use kernel::{Kernel, Status};
+pub use outcome::{Outcome, RunFault};
+pub use policy::{Fifo, Pick};

@@ -1,0 +1,10 @@
+pub mod BasedNumbers
+pub mod CollectedDigits
+pub mod DecimalValues
+pub mod Forms
+pub mod LongestRuns
+pub mod Openings
+pub mod Pairs
+pub mod Spelled
+pub mod Tables
+pub mod Unique

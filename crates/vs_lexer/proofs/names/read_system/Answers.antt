@@ -1,0 +1,8 @@
+use Rattle.std.proofs.Common.{refl}
+use Rattle.vs_lexer.specs.Bytes.{in_name}
+use Rattle.vs_lexer.specs.Pieces.{system_piece}
+use Rattle.vs_lexer.proofs.LongestRuns.{run_reads}
+use Rattle.vs_lexer.proofs.names.read_system.Goals as goal
+
+pub returns : goal.returns
+returns c = run_reads in_name system_piece _ _ _ c.split_run.ensures.splits c.split_run.ensures.all c.split_run.ensures.stops c.system_piece-piece.ensures

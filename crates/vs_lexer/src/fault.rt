@@ -1,0 +1,65 @@
+//! Why a source is refused.
+ghost use Rattle.vs_lexer.specs.declared.fault.LexFault.TheVariants.{Memory};
+ghost use Rattle.std.specs.Prelude.{◌≡◌};
+
+use std::alloc::{AllocError, AllocFailed};
+use std::fmt;
+use thiserror::Error;
+
+/// What is wrong with a source, by its number.
+#[derive(Clone, Copy, PartialEq, Eq, Debug)]
+pub enum Refusal {
+    /// L1: a byte that no token has there.
+    BadByte,
+    /// L2: a comment, an attribute or a text that is not closed.
+    Unclosed,
+    /// L3: a literal that is not well formed.
+    BadLiteral,
+    /// L4: a literal that is too large: unsized past 32 bits, or of size 0 or over 64.
+    TooLarge,
+    /// L5: a directive out of scope.
+    BadDirective,
+    /// L6: a source over 4 MiB, or a name over 1,024 bytes.
+    TooLong,
+}
+
+impl fmt::Display for Refusal {
+    fn fmt<W: fmt::Write>(&self, f: &mut fmt::Formatter<W>) -> fmt::Result {
+        let text = match self {
+            Refusal::BadByte => "L1",
+            Refusal::Unclosed => "L2",
+            Refusal::BadLiteral => "L3",
+            Refusal::TooLarge => "L4",
+            Refusal::BadDirective => "L5",
+            Refusal::TooLong => "L6",
+        };
+        write!(f, "{text}")
+    }
+}
+
+/// Why there are no tokens.
+#[derive(Clone, Copy, PartialEq, Eq, Debug, Error)]
+pub enum LexFault {
+    /// The source is refused, at the place (in bytes) where the offending token begins.
+    #[error("{why} at {place}")]
+    Refused { why: Refusal, place: usize },
+    /// Memory ran out.
+    #[error("out of memory")]
+    Memory,
+}
+
+impl From<AllocError> for LexFault {
+    ghost from_gives = { λ _ e. e ≡ Memory };
+
+    fn from(_error: AllocError) -> LexFault {
+        LexFault::Memory
+    }
+}
+
+impl<T: Drop> From<AllocFailed<T>> for LexFault {
+    ghost from_gives = { λ _ e. e ≡ Memory };
+
+    fn from(_error: AllocFailed<T>) -> LexFault {
+        LexFault::Memory
+    }
+}

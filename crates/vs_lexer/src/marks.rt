@@ -1,0 +1,71 @@
+//! Marks and operators (IEEE 1364-2005, clauses 3.3 and 5).
+ghost use Rattle.std.specs.Prelude.{◌≡◌, ◌∷◌, MatchOption};
+ghost use Rattle.vs_lexer.specs.Pieces.{mark_form, directive_form};
+ghost use Rattle.vs_lexer.specs.Reading.{Reads, HasNoMarkOfTwo, HasNoMarkOfThree};
+
+use crate::fault::Refusal;
+use crate::piece::{Piece, Read};
+use crate::reserved::{one_byte_mark, three_byte_mark, two_byte_mark};
+use crate::runs::{first_three_and_rest, first_two_and_rest};
+
+/// Reads a mark of three bytes, if one stands there.
+fn read_three(bytes: &[u8]) -> Option<Read<'_>>
+    ensures { MatchOption result (HasNoMarkOfThree bytes.now) (λ read. Reads mark_form bytes.now read) }
+{
+    let Some((first, second, third, rest)) = first_three_and_rest(bytes) else {
+        return None;
+    };
+    let Some(kind) = three_byte_mark(&[first, second, third]) else {
+        return None;
+    };
+    let piece = Piece::Token(kind);
+    Some(Read { piece, rest })
+}
+
+/// Reads a mark of two bytes, if one stands there, where none of three does.
+fn read_two(bytes: &[u8]) -> Option<Read<'_>>
+    requires { HasNoMarkOfThree bytes.now }
+    ensures { MatchOption result (HasNoMarkOfTwo bytes.now) (λ read. Reads mark_form bytes.now read) }
+{
+    let Some((first, second, rest)) = first_two_and_rest(bytes) else {
+        return None;
+    };
+    let Some(kind) = two_byte_mark(&[first, second]) else {
+        return None;
+    };
+    let piece = Piece::Token(kind);
+    Some(Read { piece, rest })
+}
+
+/// Reads a mark, from its first byte and the bytes after it.
+pub(crate) fn read_mark<'s>(first: u8, after: &'s [u8], bytes: &'s [u8]) -> Read<'s>
+    requires { bytes.now ≡ first ∷ after.now }
+    ensures { Reads mark_form bytes.now result }
+{
+    if let Some(read) = read_three(bytes) {
+        return read;
+    }
+    if let Some(read) = read_two(bytes) {
+        return read;
+    }
+    let Some(kind) = one_byte_mark(&[first]) else {
+        return Read {
+            piece: Piece::Refused(Refusal::BadByte),
+            rest: after,
+        };
+    };
+    Read {
+        piece: Piece::Token(kind),
+        rest: after,
+    }
+}
+
+/// Reads a directive, from the bytes after its backquote.
+pub(crate) fn read_directive(backquote: u8, after: &[u8]) -> Read<'_>
+    ensures { Reads directive_form (backquote ∷ after.now) result }
+{
+    Read {
+        piece: Piece::Refused(Refusal::BadDirective),
+        rest: after,
+    }
+}

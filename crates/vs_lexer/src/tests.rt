@@ -1,0 +1,191 @@
+//! Tokens of sources by hand: what the standard and the profile say of them.
+use crate::{Kind, Literal, Token, lex};
+use std::alloc::{AllocError, Global};
+use std::test::Fail;
+use vs_logic4::Digit;
+
+/// A number: `s` where it is signed, `b` where it has a base, and its digits from the highest on.
+fn show_number(text: &mut String, literal: Literal) -> Result<(), AllocError> {
+    text.push('=')?;
+    if literal.signed {
+        text.push('s')?;
+    }
+    if literal.based {
+        text.push('b')?;
+    }
+    for index in (0..literal.value.width()).rev() {
+        text.push(match literal.value.digit(index) {
+            Digit::Zero => '0',
+            Digit::One => '1',
+            Digit::X => 'x',
+            Digit::Z => 'z',
+        })?;
+    }
+    Ok(())
+}
+
+/// A token: a letter for its kind, its place, and how many bytes it has.
+fn show(text: &mut String, token: &Token) -> Result<(), AllocError> {
+    let letter = match token.kind {
+        Kind::Mark(_) => 'm',
+        Kind::Word(_) => 'w',
+        Kind::LeftOut => 'l',
+        Kind::Name => 'n',
+        Kind::System => 's',
+        Kind::Number(_) => '#',
+        Kind::Text => 't',
+        Kind::Directive(_) => 'd',
+    };
+    let place = token.place;
+    let length = token.bytes.len();
+    write!(text, "{letter}{place}+{length}")?;
+    if let Kind::Number(literal) = token.kind {
+        show_number(text, literal)?;
+    }
+    text.push(' ')?;
+    Ok(())
+}
+
+/// The tokens of a source, or its refusal.
+fn shown(alloc: Global, source: &[u8]) -> Result<String, Fail> {
+    let mut text = String::new(alloc);
+    match lex(alloc, source) {
+        Ok(tokens) => {
+            for token in &tokens {
+                show(&mut text, token)?;
+            }
+        }
+        Err(fault) => write!(text, "{fault}")?,
+    }
+    Ok(text)
+}
+
+#[test]
+fn words_and_marks(rt: HostRuntime) -> Result<(), Fail> {
+    for (source, wanted) in [
+        ("", ""),
+        ("module t;", "w0+6 n7+1 m8+1 "),
+        ("a<=b", "n0+1 m1+2 n3+1 "),
+        ("a >>>= b", "n0+1 m2+3 m5+1 n7+1 "),
+        ("&&& ** -> => *>", "m0+3 m4+2 m7+2 m10+2 m13+2 "),
+        ("and\tx$1 _y", "l0+3 n4+3 n8+2 "),
+        ("$display $$", "s0+8 s9+2 "),
+        ("a$b", "n0+3 "),
+        ("$", "L1 at 0"),
+        ("a $ b", "L1 at 2"),
+        ("\\a+b c", "n0+4 n5+1 "),
+        ("\\module ", "n0+7 "),
+        ("\\abc", "n0+4 "),
+        ("\\", "L1 at 0"),
+        ("x \\ ", "L1 at 2"),
+        ("\\a\u{e9} ", "L1 at 0"),
+        ("a \u{7f}", "L1 at 2"),
+        ("a \u{1}", "L1 at 2"),
+    ] {
+        assert_eq!(rt;
+            shown(rt.alloc(), source.as_bytes())?.as_str(),
+            wanted,
+            "of {source:?}"
+        );
+    }
+    Ok(())
+}
+
+#[test]
+fn skipped(rt: HostRuntime) -> Result<(), Fail> {
+    for (source, wanted) in [
+        (" \t\n\u{c}\ra", "n5+1 "),
+        ("a // b\nc", "n0+1 n7+1 "),
+        ("a // b", "n0+1 "),
+        ("a /* b * / ** */ c", "n0+1 n17+1 "),
+        ("/**/a", "n4+1 "),
+        ("module t; /* x", "L2 at 10"),
+        ("/*/", "L2 at 0"),
+        ("// \u{1}\n", "L1 at 0"),
+        ("a /* \u{1} */", "L1 at 2"),
+        ("/* \u{e9} */ a", "n9+1 "),
+        ("(* full *) a", "n11+1 "),
+        ("(**)a", "n4+1 "),
+        ("@(*) a", "m0+1 m1+1 m2+1 m3+1 n5+1 "),
+        ("@(* ) a", "m0+1 m1+1 m2+1 m4+1 n6+1 "),
+        ("(*", "L2 at 0"),
+        ("(* a", "L2 at 0"),
+        ("(* \u{e9} *)", "L1 at 0"),
+        ("( * )", "m0+1 m2+1 m4+1 "),
+    ] {
+        assert_eq!(rt;
+            shown(rt.alloc(), source.as_bytes())?.as_str(),
+            wanted,
+            "of {source:?}"
+        );
+    }
+    Ok(())
+}
+
+#[test]
+fn numbers(rt: HostRuntime) -> Result<(), Fail> {
+    for (source, wanted) in [
+        ("5", "#0+1=s00000000000000000000000000000101 "),
+        ("1_0__", "#0+5=s00000000000000000000000000001010 "),
+        ("4294967295", "#0+10=s11111111111111111111111111111111 "),
+        ("4294967296", "L4 at 0"),
+        ("12a", "L3 at 0"),
+        ("x 1.5", "L3 at 2"),
+        (
+            "1 .5",
+            "#0+1=s00000000000000000000000000000001 m2+1 #3+1=s00000000000000000000000000000101 ",
+        ),
+        ("4'b1x0Z", "#0+7=b1x0z "),
+        ("4 'B 1?", "#0+7=b001z "),
+        ("4'b1?b", "#0+5=b001z n5+1 "),
+        ("3'sd5", "#0+5=sb101 "),
+        ("3'SD13", "#0+6=sb101 "),
+        ("8'hxf", "#0+5=bxxxx1111 "),
+        ("8'hzF", "#0+5=bzzzz1111 "),
+        ("6'o7_1", "#0+6=b111001 "),
+        ("12'hx", "#0+5=bxxxxxxxxxxxx "),
+        ("4'dx", "#0+4=bxxxx "),
+        ("4'd?_", "#0+5=bzzzz "),
+        ("4'd1?b:c", "L3 at 0"),
+        ("4'dxx", "L3 at 0"),
+        ("4'd12a", "#0+5=b1100 n5+1 "),
+        ("4'd99999999999999999999999999", "#0+29=b1111 "),
+        ("2'd18446744073709551618", "#0+23=b10 "),
+        ("'h1_0000_0000", "L4 at 0"),
+        ("'h0_ffff_ffff", "#0+13=b11111111111111111111111111111111 "),
+        ("'oxxxxxxxxxxx", "#0+13=bxxxxxxxxxxxxxxxxxxxxxxxxxxxxxxxx "),
+        ("'o1xxxxxxxxxx", "#0+13=b01xxxxxxxxxxxxxxxxxxxxxxxxxxxxxx "),
+        ("'hx0_0000_0000", "L4 at 0"),
+        ("'d4294967296", "L4 at 0"),
+        ("'sd7", "#0+4=sb00000000000000000000000000000111 "),
+        ("0'd1", "L4 at 0"),
+        ("65'd1", "L4 at 0"),
+        ("99999999999999999999'd1", "L4 at 0"),
+        ("8'q", "L3 at 0"),
+        ("a 8 '", "L3 at 2"),
+        ("8'b2", "L3 at 0"),
+        ("8'b_1", "L3 at 0"),
+        ("a'", "L3 at 1"),
+        ("'s", "L3 at 0"),
+    ] {
+        assert_eq!(rt;
+            shown(rt.alloc(), source.as_bytes())?.as_str(),
+            wanted,
+            "of {source:?}"
+        );
+    }
+    Ok(())
+}
+
+#[test]
+fn limits(rt: HostRuntime) -> Result<(), Fail> {
+    let name = vec![in rt.alloc(); b'a'; 1024]?;
+    assert_eq!(rt; shown(rt.alloc(), &name)?.as_str(), "n0+1024 ");
+    let name = vec![in rt.alloc(); b'a'; 1025]?;
+    assert_eq!(rt; shown(rt.alloc(), &name)?.as_str(), "L6 at 0");
+    let spaces = vec![in rt.alloc(); b' '; 4194304]?;
+    assert_eq!(rt; shown(rt.alloc(), &spaces)?.as_str(), "");
+    let spaces = vec![in rt.alloc(); b' '; 4194305]?;
+    assert_eq!(rt; shown(rt.alloc(), &spaces)?.as_str(), "L6 at 4194304");
+    Ok(())
+}

@@ -1,0 +1,14 @@
+pub mod Bits
+pub mod Bitwise
+pub mod Positions
+pub mod Comparisons
+pub mod Numbers
+pub mod Arithmetic
+pub mod Signs
+pub mod Division
+pub mod Order
+pub mod Moves
+pub mod Shifts
+pub mod Parts
+pub mod Lanes
+pub mod Properties

@@ -1,0 +1,8 @@
+use Rattle.vs_logic4.proofs.Bitwise.{merge_is}
+use Rattle.vs_logic4.proofs.vector.Vec4.merge.Goals as goal
+
+pub invariant_of-result : goal.invariant_of-result
+invariant_of-result c = (merge_is c.self.invariant c.other.invariant c.self.view_is c.other.view_is c.requires).0
+
+pub returns : goal.returns
+returns c = (merge_is c.self.invariant c.other.invariant c.self.view_is c.other.view_is c.requires).1

@@ -1,0 +1,14 @@
+pub mod Planes
+pub mod PlaneLaws
+pub mod Vectors
+pub mod Sameness
+pub mod Extensions
+pub mod Tables
+pub mod Bitwise
+pub mod Comparisons
+pub mod Arithmetic
+pub mod Shifts
+pub mod Parts
+pub mod Moves
+pub mod Changes
+pub mod Lengths

@@ -1,0 +1,17 @@
+//! Vectors of the four digits 0, 1, x and z, of 1 to 64 digits (IEEE 1364-2005, clauses 3 to 5).
+#![tactic(auto)]
+
+mod changes;
+mod digit;
+mod laws;
+#[cfg(test)]
+mod tests;
+mod vector;
+
+pub use changes::changed;
+pub use digit::Digit;
+pub use laws::{
+    digit_after_put, known_vector_is_its_number, resize_to_own_width, same_digits_make_equal,
+    select_after_put,
+};
+pub use vector::Vec4;

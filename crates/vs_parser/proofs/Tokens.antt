@@ -1,0 +1,77 @@
+-- Single tokens as symbols.
+use Rattle.std.specs.Prelude.{◌≡◌, ℕ, Bool, true, false, List, [], ◌∷◌, refl}
+use Rattle.std.proofs.Common.{sym, ◌∙◌, ap}
+use Rattle.vs_lexer.specs.declared.token.Kind.{Kind}
+use Rattle.vs_lexer.specs.declared.token.Kind.TheVariants as k
+use Rattle.vs_lexer.specs.declared.token.Literal.{Literal}
+use Rattle.vs_lexer.specs.declared.token.Token.{Token}
+use Rattle.vs_lexer.specs.Tokens.{name_of}
+use Rattle.vs_syntax.specs.Symbols.{Symbol, a_name, a_number, Class, any_name, any_number, class_of, first, symbol_of, same_class, same_flag}
+use Rattle.vs_syntax.specs.Grammar.{token, name, number, part, an_expr}
+use Rattle.vs_syntax.specs.Tables.{goes}
+use Rattle.vs_syntax.specs.Derivation.{leaf}
+use Rattle.vs_syntax.specs.Reading.{Gets, Stuck, stuck_here, stuck_part}
+use Rattle.vs_syntax.proofs.Gets.{gets_token, gets_left, gets_right, gets_part}
+use Rattle.vs_parser.specs.Answers.{seen}
+
+-- the first token's symbol is the first of the symbols
+pub seen_is : (ts : List Token) (t : Token) (rest : List Token) (s : Symbol) → ts ≡ t ∷ rest → symbol_of t.kind t.bytes.now ≡ s → seen ts ≡ s ∷ seen rest
+seen_is ts t rest s e f = ap seen e ∙ ap (λ u. u ∷ seen rest) f
+
+-- of a kind that is known
+pub seen_kind : (ts : List Token) (t : Token) (rest : List Token) (kind : Kind) → ts ≡ t ∷ rest → t.kind ≡ kind → seen ts ≡ symbol_of kind t.bytes.now ∷ seen rest
+seen_kind ts t rest kind e f = seen_is ts t rest (symbol_of kind t.bytes.now) e (ap (λ u. symbol_of u t.bytes.now) f)
+
+-- a token that was read
+pub read_token : (c : Class) (room : ℕ) (ts : List Symbol) (s : Symbol) (rest : List Symbol) → ts ≡ s ∷ rest → class_of s ≡ c → Gets (token c) room ts (leaf s) rest
+read_token c room ts s rest e f = rw e (gets_token f)
+
+-- a name that was read
+pub read_name : (room : ℕ) (ts : List Token) (t : Token) (rest : List Token) (bytes : List ℕ) → ts ≡ t ∷ rest → t.kind ≡ k.Name → bytes ≡ name_of t.bytes.now → Gets name room (seen ts) (leaf (a_name bytes)) (seen rest)
+read_name room ts t rest bytes e f g = read_token any_name room (seen ts) (a_name bytes) (seen rest) (seen_kind ts t rest k.Name e f ∙ ap (λ u. a_name u ∷ seen rest) (sym g)) refl
+
+-- a number that was read
+pub read_number : (room : ℕ) (ts : List Token) (t : Token) (rest : List Token) (l : Literal) → ts ≡ t ∷ rest → t.kind ≡ k.Number l → l.based ≡ false → Gets number room (seen ts) (leaf (a_number l)) (seen rest)
+read_number room ts t rest l e f g = read_token (any_number false) room (seen ts) (a_number l) (seen rest) (seen_kind ts t rest (k.Number l) e f) (ap any_number g)
+
+-- the class of the next token, by its kind
+class_at : Kind → Class
+class_at kind = class_of (symbol_of kind [])
+
+-- no name and no number
+pub no_name : (kind : Kind) (bytes : List ℕ) → (kind ≡ k.Name → ⊥) → same_class (class_of (symbol_of kind bytes)) any_name ≡ false
+no_name k.Name bytes f = absurd (f refl)
+no_name _ bytes f = refl
+
+pub no_number : (kind : Kind) (bytes : List ℕ) → ((l : Literal) → kind ≡ k.Number l → ⊥) → same_class (class_of (symbol_of kind bytes)) (any_number false) ≡ false
+no_number (k.Number l) bytes f = absurd (f l refl)
+no_number _ bytes f = refl
+
+pub based_number : (l : Literal) → l.based ≡ true → same_class (class_of (a_number l)) (any_number false) ≡ false
+based_number l e = rw e refl
+
+-- no token
+pub none_at : (ts : List Token) (g : _) (b : Bool) → ts ≡ [] → goes g [] ≡ b → goes g (seen ts) ≡ b
+none_at ts g b e h = ap (λ u. goes g (seen u)) e ∙ h
+
+-- a next token that isn't of the class
+pub other_at : (c : Class) (ts : List Token) (t : Token) (rest : List Token) → ts ≡ t ∷ rest → same_class (class_of (symbol_of t.kind t.bytes.now)) c ≡ false → goes (token c) (seen ts) ≡ false
+other_at c ts t rest e h = ap (λ u. goes (token c) (seen u)) e ∙ rw h refl
+
+-- what is no expression
+pub no_expr : (ts : List Token) (t : Token) (rest : List Token) → ts ≡ t ∷ rest → same_class (class_of (symbol_of t.kind t.bytes.now)) any_name ≡ false → same_class (class_of (symbol_of t.kind t.bytes.now)) (any_number false) ≡ false → goes (part an_expr) (seen ts) ≡ false
+no_expr ts t rest e h k = ap (λ u. goes (part an_expr) (seen u)) e ∙ rw (h, k) refl
+
+pub read_name_expr : (room : ℕ) (ts : List Token) (t : Token) (rest : List Token) (bytes : List ℕ) → ts ≡ t ∷ rest → t.kind ≡ k.Name → bytes ≡ name_of t.bytes.now → Gets (part an_expr) room (seen ts) (leaf (a_name bytes)) (seen rest)
+read_name_expr room ts t rest bytes e f g = gets_part (gets_right (ap (goes number) (seen_kind ts t rest k.Name e f)) (read_name room ts t rest bytes e f g))
+
+pub read_number_expr : (room : ℕ) (ts : List Token) (t : Token) (rest : List Token) (l : Literal) → ts ≡ t ∷ rest → t.kind ≡ k.Number l → l.based ≡ false → Gets (part an_expr) room (seen ts) (leaf (a_number l)) (seen rest)
+read_number_expr room ts t rest l e f g = gets_part (gets_left (ap (goes number) (seen_kind ts t rest (k.Number l) e f) ∙ rw g refl) (read_number room ts t rest l e f g))
+
+-- by the kind
+pub class_kind : (t : Token) (kind : Kind) (c : Class) → t.kind ≡ kind → same_class (class_of (symbol_of kind t.bytes.now)) c ≡ false → same_class (class_of (symbol_of t.kind t.bytes.now)) c ≡ false
+class_kind t kind c e h = ap (λ u. same_class (class_of (symbol_of u t.bytes.now)) c) e ∙ h
+
+-- a number that is next
+pub number_at : (room : ℕ) (ts : List Token) (t : Token) (rest : List Token) (l : Literal) → ts ≡ t ∷ rest → (t.kind ≡ k.Number l) × (l.based ≡ false) → Gets number room (seen ts) (leaf (a_number l)) (seen rest)
+number_at room ts t rest l e f = read_number room ts t rest l e f.0 f.1

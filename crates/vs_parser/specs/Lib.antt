@@ -1,0 +1,4 @@
+pub mod Answers
+pub mod Heads
+pub mod LeftOut
+pub mod Faults

@@ -1,0 +1,74 @@
+//! Why tokens are refused.
+ghost use Rattle.std.specs.Prelude.{◌≡◌};
+ghost use Rattle.vs_parser.specs.LeftOut.{is_punctuation, is_in_grammar, is_left_out};
+
+use thiserror::Error;
+use vs_lexer::{Kind, Mark, Word};
+
+/// What is wrong with the tokens. The place of a token is that of its first byte in the source.
+#[derive(Clone, Copy, PartialEq, Eq, Debug, Error)]
+pub enum ParseFault<'s> {
+    /// P1: no source goes on with the token at this place.
+    #[error("P1 at {0}")]
+    Unexpected(usize),
+    /// P2: the same, where the token is an operator, a reserved word or a system name that the
+    /// grammar leaves out; with the bytes that it is.
+    #[error("P2 at {place}")]
+    LeftOut { place: usize, text: &'s [u8] },
+    /// P3: with the token at this place only sources go on whose nesting is above 256.
+    #[error("P3 at {0}")]
+    TooDeep(usize),
+    /// P4: the tokens end before a source does; the place behind the last one.
+    #[error("P4 at {0}")]
+    UnexpectedEnd(usize),
+    /// Memory ran out.
+    #[error("out of memory")]
+    Memory,
+}
+
+/// Whether a mark is no operator of expressions.
+fn punctuation(mark: Mark) -> bool
+    ensures { result ≡ is_punctuation mark }
+{
+    matches!(
+        mark,
+        Mark::Hash
+            | Mark::Open
+            | Mark::Close
+            | Mark::Semicolon
+            | Mark::Comma
+            | Mark::Assign
+            | Mark::OpenBracket
+            | Mark::CloseBracket
+            | Mark::Colon
+            | Mark::Dot
+            | Mark::At
+            | Mark::OpenBrace
+            | Mark::CloseBrace
+            | Mark::PlusColon
+            | Mark::MinusColon
+    )
+}
+
+/// Whether the grammar has a reserved word somewhere.
+fn in_grammar(word: Word) -> bool
+    ensures { result ≡ is_in_grammar word }
+{
+    matches!(
+        word,
+        Word::Module | Word::Endmodule | Word::Reg | Word::Initial | Word::Begin | Word::End
+    )
+}
+
+/// Whether a token is an operator, a reserved word or a system name that the grammar leaves out.
+pub(crate) fn left_out(kind: Kind) -> bool
+    ensures { result ≡ is_left_out kind }
+{
+    match kind {
+        Kind::Mark(mark) => !punctuation(mark),
+        Kind::Word(word) => !in_grammar(word),
+        Kind::LeftOut => true,
+        Kind::System => true,
+        _ => false,
+    }
+}

@@ -1,0 +1,15 @@
+//! The parser: from tokens to the syntax tree of a source (IEEE 1364-2005, annex A).
+#![tactic(auto)]
+
+mod fault;
+mod head;
+mod item;
+mod parser;
+mod reading;
+mod statement;
+#[cfg(test)]
+mod tests;
+mod token;
+
+pub use fault::ParseFault;
+pub use parser::parse;

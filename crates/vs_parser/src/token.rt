@@ -1,0 +1,94 @@
+//! Reading single tokens.
+ghost use Rattle.std.specs.Prelude.{◌≡◌, ℕ, List, [], ◌∷◌, false, MatchOption};
+ghost use Rattle.vs_lexer.specs.declared.token.Kind.TheVariants as k;
+ghost use Rattle.vs_syntax.specs.Symbols.{a_mark, a_word, any_number, class_of, same_class, symbol_of};
+ghost use Rattle.vs_syntax.specs.Grammar.{mark, word, name};
+ghost use Rattle.vs_syntax.specs.Tables.{goes};
+ghost use Rattle.vs_syntax.specs.Derivation.{leaf};
+ghost use Rattle.vs_syntax.specs.Views.{name_tree};
+ghost use Rattle.vs_parser.specs.Answers.{seen, Answers};
+
+use crate::reading::Stop;
+use std::alloc::Global;
+use vs_lexer::{Kind, Literal, Mark, Token, Word};
+
+/// The next token and those behind it.
+pub(crate) fn next<'t, 's>(tokens: &'t [Token<'s>]) -> Option<(&'t Token<'s>, &'t [Token<'s>])>
+    ensures { MatchOption result (tokens.now ≡ []) (λ x. tokens.now ≡ x.0.now ∷ x.1.now) }
+{
+    tokens.split_first()
+}
+
+/// The tokens behind the mark, if it is next.
+pub(crate) fn mark_at<'t, 's>(tokens: &'t [Token<'s>], wanted: Mark) -> Option<&'t [Token<'s>]>
+    ensures { MatchOption result (goes (mark wanted) (seen tokens.now) ≡ false) (λ rest. seen tokens.now ≡ a_mark wanted ∷ seen rest.now) }
+{
+    let (first, rest) = next(tokens)?;
+    match first.kind {
+        Kind::Mark(found) => { if found == wanted { Some(rest) } else { None } }
+        _ => None,
+    }
+}
+
+/// The tokens behind the reserved word, if it is next.
+pub(crate) fn word_at<'t, 's>(tokens: &'t [Token<'s>], wanted: Word) -> Option<&'t [Token<'s>]>
+    ensures { MatchOption result (goes (word wanted) (seen tokens.now) ≡ false) (λ rest. seen tokens.now ≡ a_word wanted ∷ seen rest.now) }
+{
+    let (first, rest) = next(tokens)?;
+    match first.kind {
+        Kind::Word(found) => { if found == wanted { Some(rest) } else { None } }
+        _ => None,
+    }
+}
+
+/// Reads a mark: the tokens behind it.
+pub(crate) fn expect_mark<'t, 's>(
+    tokens: &'t [Token<'s>],
+    wanted: Mark,
+) -> Result<&'t [Token<'s>], Stop<'t, 's>>
+    ensures { (room : ℕ) → Answers (mark wanted) room (seen tokens.now) (λ _. leaf (a_mark wanted)) (λ rest. seen rest.now) result }
+{
+    match mark_at(tokens, wanted) {
+        Some(rest) => Ok(rest),
+        None => Err(Stop::Unexpected(tokens)),
+    }
+}
+
+/// Reads a reserved word: the tokens behind it.
+pub(crate) fn expect_word<'t, 's>(
+    tokens: &'t [Token<'s>],
+    wanted: Word,
+) -> Result<&'t [Token<'s>], Stop<'t, 's>>
+    ensures { (room : ℕ) → Answers (word wanted) room (seen tokens.now) (λ _. leaf (a_word wanted)) (λ rest. seen rest.now) result }
+{
+    match word_at(tokens, wanted) {
+        Some(rest) => Ok(rest),
+        None => Err(Stop::Unexpected(tokens)),
+    }
+}
+
+/// Reads a name: a copy of its bytes, and the tokens behind it.
+pub(crate) fn expect_name<'t, 's>(
+    alloc: Global,
+    tokens: &'t [Token<'s>],
+) -> Result<(Vec<u8>, &'t [Token<'s>]), Stop<'t, 's>>
+    ensures { (room : ℕ) → Answers name room (seen tokens.now) (λ x. name_tree x.0.items) (λ x. seen x.1.now) result }
+{
+    let Some((first, rest)) = next(tokens) else {
+        return Err(Stop::Unexpected(tokens));
+    };
+    match first.kind {
+        Kind::Name => Ok((Vec::from_slice(alloc, first.name())?, rest)),
+        _ => Err(Stop::Unexpected(tokens)),
+    }
+}
+
+/// The number that the token is, if it is a decimal one without a base.
+pub(crate) fn decimal(kind: Kind) -> Option<Literal>
+    ensures { MatchOption result ((bytes : List ℕ) → same_class (class_of (symbol_of kind bytes)) (any_number false) ≡ false) (λ l. (kind ≡ k.Number l) × (l.based ≡ false)) }
+{
+    match kind {
+        Kind::Number(literal) => { if literal.based { None } else { Some(literal) } }
+        _ => None,
+    }
+}

@@ -1,0 +1,2 @@
+mod Permitted
+mod Todos

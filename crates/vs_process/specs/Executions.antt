@@ -1,0 +1,165 @@
+-- What is permitted at each moment, and executions.
+use Rattle.std.specs.Prelude.{ℕ, suc, ◌==◌, ◌≡◌, ◌<◌, ◌⊎◌, ◌&&◌, ◌||◌, not, Bool, true, false, Option, Some, None, List, [], ◌∷◌, ◌++◌, map, filter, take, is_some, is_none, leb, slice_get, if◌then◌else◌, min}
+use Rattle.std.specs.List.{list_any}
+use Rattle.vs_design.specs.declared.design.Process.{Process}
+use Rattle.vs_design.specs.Parts.{Parts}
+use Rattle.vs_design.specs.Stores.{Store, Part, Write}
+use Rattle.vs_design.specs.Traces.{Slot, Trace}
+use Rattle.vs_process.specs.declared.moves.Grain.{Grain}
+use Rattle.vs_process.specs.declared.moves.Grain.TheVariants.{Statement, Block}
+use Rattle.vs_process.specs.declared.moves.Move.{Move}
+use Rattle.vs_process.specs.declared.moves.Move.TheVariants.{Step, Evaluate, Propagate, Make, Rouse, Activate, EndSlot}
+use Rattle.vs_process.specs.Places.{Place, sleeping, is_going, is_inactive, is_inside}
+use Rattle.vs_process.specs.States.{Driver, Update, Called, State, start, stepped, evaluate, propagate, make, roused, is_due, activated, woken_at}
+
+-- whether a write names a signal, in range or not
+abbrev pub names : Write → ℕ → Bool
+names w signal = list_any (λ (p : Part). p.signal == signal) w
+
+abbrev pub shares : Write → Write → Bool
+shares a b = list_any (λ (p : Part). names b p.signal) a
+
+-- whether an update is activated and no older activated one names a signal that it names (clause 11.4.1; the free order between signals: profile)
+abbrev pub is_first : List Update → ℕ → Update → Bool
+is_first updates i u = u.active && not (list_any (λ (older : Update). older.active && shares older.what u.what) (take i updates))
+
+abbrev pub if_some : {A : Type 0} → (A → Bool) → Option A → Bool
+if_some f None = false
+if_some f (Some x) = f x
+
+-- whether an active event is left in the slot (clause 11.3)
+abbrev pub is_busy : State → Bool
+is_busy s =
+    list_any is_going s.places || list_any (λ (x : Driver). x.needs || is_some x.pending) s.drivers || list_any (λ (u : Update). u.active) s.updates
+
+-- whether an inactive process is left in the slot
+abbrev pub has_inactive : State → Bool
+has_inactive s = list_any is_inactive s.places
+
+-- whether a nonblocking update is due in this slot and not activated
+abbrev pub has_due : State → Bool
+has_due s = list_any (is_due s.time) s.updates
+
+-- whether the move is one of this state, whatever the grain (clauses 11.3 and 11.4)
+abbrev pub is_enabled : State → Move → Bool
+is_enabled s (Step i) = if_some is_going (slice_get s.places i)
+is_enabled s (Evaluate j) = if_some (λ (x : Driver). x.needs) (slice_get s.drivers j)
+is_enabled s (Propagate j) = if_some (λ (x : Driver). is_some x.pending) (slice_get s.drivers j)
+is_enabled s (Make i) = if_some (is_first s.updates i) (slice_get s.updates i)
+is_enabled s Rouse = not (is_busy s) && has_inactive s
+is_enabled s Activate = not (is_busy s) && not (has_inactive s) && has_due s
+is_enabled s EndSlot = not (is_busy s) && not (has_inactive s) && not (has_due s)
+
+-- whether a process is a combinational block: an `always` whose statement is one control of level terms before a statement without timing
+-- control; the language has no event controls yet, so none is
+abbrev pub is_combinational : Process → Bool
+is_combinational p = false
+
+abbrev pub is_step_of : ℕ → Move → Bool
+is_step_of i (Step k) = k == i
+is_step_of i _ = false
+
+-- whether a combinational block that has taken a step after its wake keeps the move out, at grain block (profile)
+abbrev pub is_kept_out : List Process → List Place → ℕ → Move → Bool
+is_kept_out [] places first m = false
+is_kept_out (p ∷ ps) [] first m = false
+is_kept_out (p ∷ ps) (x ∷ xs) first m = is_combinational p && is_inside x && not (is_step_of first m) || is_kept_out ps xs (suc first) m
+
+abbrev pub is_free : Grain → Parts → State → Move → Bool
+is_free Statement d s m = true
+is_free Block d s m = not (is_kept_out d.processes s.places 0 m)
+
+-- whether a move is permitted in a state
+abbrev pub allowed : Grain → Parts → State → Move → Bool
+allowed grain d s m = not s.over && is_enabled s m && is_free grain d s m
+
+-- the lesser of a time and another, where there is one
+abbrev pub earlier : Option ℕ → ℕ → Option ℕ
+earlier None t = Some t
+earlier (Some u) t = Some (min u t)
+
+-- the least time at which a delay ends
+abbrev pub next_wake : Option ℕ → List Place → Option ℕ
+next_wake best [] = best
+next_wake best (sleeping due todo ∷ places) = next_wake (earlier best due) places
+next_wake best (_ ∷ places) = next_wake best places
+
+-- the least time at which a nonblocking update is due
+abbrev pub next_update : Option ℕ → List Update → Option ℕ
+next_update best [] = best
+next_update best (u ∷ updates) = next_update (earlier best u.due) updates
+
+-- the least due time
+abbrev pub next_time : State → Option ℕ
+next_time s = next_update (next_wake None s.places) s.updates
+
+-- whether the execution is over at the end of a slot: it is finishing, or nothing is due (clauses 11.4 and 17.4.1)
+abbrev pub ends : State → Bool
+ends s = s.finishing || is_none (next_time s)
+
+abbrev pub places_at : Bool → Option ℕ → List Place → List Place
+places_at true next places = places
+places_at false None places = places
+places_at false (Some t) places = map (woken_at t) places
+
+abbrev pub time_at : Bool → Option ℕ → ℕ → ℕ
+time_at true next time = time
+time_at false None time = time
+time_at false (Some t) time = t
+
+-- a state after the end of its slot: it is over, or time goes to the least due time and the processes that are due then are active
+abbrev pub slot_behind : State → State
+slot_behind s = record s {
+  places = places_at (ends s) (next_time s) s.places;
+  calls = [];
+  time = time_at (ends s) (next_time s) s.time;
+  over = ends s;
+}
+
+-- the state after a move; total, and meant where the move is allowed
+abbrev pub apply : Move → State → State
+apply (Step i) s = stepped s i (slice_get s.places i)
+apply (Evaluate j) s = evaluate s j (slice_get s.drivers j)
+apply (Propagate j) s = propagate s j (slice_get s.drivers j)
+apply (Make i) s = make s i (slice_get s.updates i)
+apply Rouse s = record s { places = map roused s.places }
+apply Activate s = record s { updates = map (activated s.time) s.updates }
+apply EndSlot s = slot_behind s
+
+-- the state after a list of moves, the newest first
+abbrev pub after : Parts → List Move → State
+after d [] = start d
+after d (m ∷ before) = apply m (after d before)
+
+-- each move was allowed where it was made: an execution (clause 11)
+abbrev pub Legal : Grain → Parts → List Move → Type 0
+Legal grain d [] = Unit {0}
+Legal grain d (m ∷ before) = Legal grain d before × (allowed grain d (after d before) m ≡ true)
+
+-- the line of a strobe call at the end of its slot: there are no such calls yet
+abbrev pub strobe_line : Called → Store → List ℕ
+strobe_line c store = elim c.call [ ]
+
+-- the slot that a move ends
+abbrev pub ended_slot : Move → State → List Slot
+ended_slot EndSlot s = record { time = s.time; store = s.store; lines = map (λ c. strobe_line c s.store) s.calls } ∷ []
+ended_slot _ s = []
+
+-- the slots that ended, the earliest first
+abbrev pub slots : Parts → List Move → List Slot
+slots d [] = []
+slots d (m ∷ before) = slots d before ++ ended_slot m (after d before)
+
+-- an execution is complete to a moment where it is over or its time is past it
+abbrev pub IsComplete : ℕ → State → Type 0
+IsComplete until s = (s.over ≡ true) ⊎ (until < s.time)
+
+abbrev pub is_by : ℕ → Slot → Bool
+is_by until slot = leb slot.time until
+
+abbrev pub finish_time : ℕ → State → Option ℕ
+finish_time until s = if s.over && s.finishing && leb s.time until then Some s.time else None
+
+-- the trace of an execution to a moment: the slots at or before it that ended, and the slot at or before it in which `$finish` took effect
+abbrev pub trace : Parts → List Move → ℕ → Trace
+trace d moves until = record { slots = filter (is_by until) (slots d moves); finish = finish_time until (after d moves) }

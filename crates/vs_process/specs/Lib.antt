@@ -1,0 +1,7 @@
+pub mod Effects
+pub mod Executions
+pub mod Permitted
+pub mod Places
+pub mod States
+pub mod Stacks
+pub mod Steps

@@ -1,0 +1,12 @@
+//! Executions of a design (IEEE 1364-2005, clause 11): places of processes, states, moves, and what is permitted.
+#![tactic(auto)]
+
+mod effect;
+mod laws;
+mod moves;
+mod spot;
+
+pub use effect::Effect;
+pub use laws::{moves_are_permitted, never_stuck};
+pub use moves::{Gait, Grain, Move};
+pub use spot::Spot;

@@ -1,0 +1,11 @@
+//! Worked rows: sources with the exact bytes that the program writes for them.
+#![tactic(auto)]
+
+#[cfg(test)]
+mod dumps;
+#[cfg(test)]
+mod orders;
+#[cfg(test)]
+mod refusals;
+#[cfg(test)]
+mod running;

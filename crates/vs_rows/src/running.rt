@@ -1,0 +1,52 @@
+//! How a row is run.
+
+use std::alloc::{AllocError, Global};
+use std::io::{self, Read};
+use vs_sim::program;
+
+/// What the program answered.
+#[derive(Debug, Drop)]
+pub struct Answer {
+    pub status: u8,
+    pub out: Vec<u8>,
+    pub err: Vec<u8>,
+}
+
+/// A source as a reader.
+#[derive(Debug, Drop)]
+pub struct Input<'s> {
+    rest: &'s [u8],
+}
+
+impl<'s> Read for Input<'s> {
+    fn read(&mut self, buf: &mut [u8]) -> io::Result<usize> {
+        let mut n = 0;
+        for slot in buf.iter_mut() {
+            match self.rest.split_first() {
+                Some((byte, rest)) => {
+                    *slot = *byte;
+                    self.rest = rest;
+                    n += 1;
+                }
+                None => {}
+            }
+        }
+        Ok(n)
+    }
+}
+
+/// Runs the program on a source with these words.
+pub fn run(alloc: Global, words: &[&str], source: &[u8]) -> Answer {
+    let mut out = Vec::new(alloc);
+    let mut err = Vec::new(alloc);
+    let status = program(alloc, words, Input { rest: source }, &mut out, &mut err);
+    Answer { status, out, err }
+}
+
+/// Runs a source with the top `t` to a moment, and answers its value change dump.
+pub fn dump(alloc: Global, until: &str, source: &str) -> Answer {
+    let words = [
+        "vsim", "run", "--top", "t", "--until", until, "--out", "vcd",
+    ];
+    run(alloc, words.as_slice(), source.as_bytes())
+}

@@ -1,0 +1,14 @@
+//! The simulator: from the bytes of a source to the text of a value change dump.
+#![tactic(auto)]
+
+mod command;
+mod dropped;
+mod fault;
+mod simulation;
+mod words;
+
+pub use command::program;
+pub use dropped::Dropped;
+pub use fault::SimFault;
+pub use simulation::{Policy, simulate};
+pub use words::{Request, Text, is_help, is_memory, read_words};

@@ -1,0 +1,61 @@
+//! One simulation.
+ghost use Rattle.std.specs.Prelude.{◌≡◌, ◌<◌, ◌^◌, true, IfOk, IfErr, MatchResult};
+ghost use Rattle.vs_sim.specs.Honesty.{Defines, DefinesNone, IsRun, Fails, is_refusal};
+
+use crate::fault::SimFault;
+use std::alloc::Global;
+use vs_design::Design;
+use vs_elaborate::elaborate;
+use vs_kernel::{Fifo, Kernel, Outcome};
+use vs_lexer::lex;
+use vs_parser::parse;
+use vs_vcd::Sink;
+
+/// Which enabled item is next.
+#[derive(Clone, Copy, PartialEq, Eq, Debug)]
+pub enum Policy {
+    /// The first of the list.
+    Fifo,
+}
+
+// The design that a source and a top define.
+fn design_of<'s>(alloc: Global, source: &'s [u8], top: &[u8]) -> Result<Design, SimFault<'s>>
+    ensures { MatchResult result (λ d. Defines source.entry.now top.now d) (λ fault. DefinesNone source.entry.now top.now fault) }
+{
+    let tokens = lex(alloc, source)?;
+    let tree = parse(alloc, &tokens)?;
+    let design = elaborate(alloc, &tree, top)?;
+    Ok(design)
+}
+
+/// Runs the design that a source and the name of a top module define, until its time is past `until`, in ticks, or no event is left, in at most `steps`
+/// steps. The value change dump is written to `vcd`; `lines` takes no byte, since the language has no system task that prints.
+///
+/// Where it answers an outcome, the run is an execution of the design that the source defines, and the dump is that execution's. Where the source
+/// is refused, nothing is written.
+pub fn simulate<'s, V: Sink, L: Sink>(
+    alloc: Global,
+    source: &'s [u8],
+    top: &[u8],
+    until: u64,
+    steps: u64,
+    policy: &Policy,
+    vcd: &mut V,
+    lines: &mut L,
+) -> Result<Outcome, SimFault<'s>>
+    requires until { until < 2 ^ 62 }
+    requires steps { steps < 2 ^ 62 }
+    ensures honest { IfOk result (λ outcome. IsRun source.entry.now top.now until steps outcome (V.bytes vcd.old) (V.bytes vcd.new)) }
+    ensures fault { IfErr result (λ fault. Fails source.entry.now top.now fault) }
+    ensures refused { IfErr result (λ fault. is_refusal fault ≡ true → vcd.new ≡ vcd.old) }
+    ensures lines { lines.new ≡ lines.old }
+{
+    let design = design_of(alloc, source, top)?;
+    match policy {
+        Policy::Fifo => {
+            let mut kernel = Kernel::new(alloc, &design, Fifo)?;
+            let outcome = kernel.run(until, steps, vcd, lines)?;
+            Ok(outcome)
+        }
+    }
+}

@@ -1,0 +1,113 @@
+//! The words of a command line.
+ghost use Rattle.std.specs.Prelude.{◌<◌, ◌^◌, IfOk};
+
+use clap::error::ErrorKind;
+use clap::{Arg, ArgAction, ArgMatches, Command, Error};
+use std::alloc::Global;
+
+/// Which text goes to standard output.
+#[derive(Clone, Copy, PartialEq, Eq, Debug)]
+pub enum Text {
+    /// The lines of `$display` and `$strobe`.
+    Lines,
+    /// The value change dump.
+    Dump,
+}
+
+/// What the words of `vsim run` ask for.
+#[derive(Clone, Copy, Debug)]
+pub struct Request<'a> {
+    /// The top module's name.
+    pub top: &'a str,
+    /// The moment up to which the design runs, in ticks.
+    pub until: u64,
+    /// The most steps that the run may take.
+    pub steps: u64,
+    /// The text that is asked for.
+    pub text: Text,
+}
+
+// An option with a number from 0 to 2^62 - 1.
+fn number<'a>(alloc: Global, name: &'a str, help: &'a str) -> Arg<'a> {
+    Arg::new(alloc, name)
+        .long(name)
+        .value_name("N")
+        .help(help)
+        .action(ArgAction::Set)
+        .value_parser(clap::value_parser!(u64).range(0..=4611686018427387903))
+}
+
+fn run_command<'a>(alloc: Global) -> Result<Command<'a>, Error> {
+    let top = Arg::new(alloc, "top")
+        .long("top")
+        .value_name("NAME")
+        .help("The top module")
+        .action(ArgAction::Set)
+        .required(true);
+    let until = number(alloc, "until", "The moment up to which it runs, in ticks").required(true);
+    let steps = number(alloc, "steps", "The most steps that the run may take").default_value(
+        "10000000",
+    );
+    let policy = Arg::new(alloc, "policy")
+        .long("policy")
+        .help("Which enabled item is next")
+        .action(ArgAction::Set)
+        .value_parser(["fifo"].as_slice())
+        .default_value("fifo");
+    let out = Arg::new(alloc, "out")
+        .long("out")
+        .help("The text to write")
+        .action(ArgAction::Set)
+        .value_parser(["lines", "vcd"].as_slice())
+        .default_value("lines");
+    Ok(
+        Command::new(alloc, "run")
+            .about("Runs a design that standard input has")
+            .arg(top)?
+            .arg(until)?
+            .arg(steps)?
+            .arg(policy)?
+            .arg(out)?,
+    )
+}
+
+// What the matches of `run` ask for.
+fn asked<'a>(matches: &ArgMatches<'a>) -> Option<Request<'a>> {
+    let top = matches.get_str("top")?;
+    let until = matches.get_one::<u64>("until")?;
+    let steps = matches.get_one::<u64>("steps")?;
+    let text = match matches.get_str("out")? {
+        "vcd" => Text::Dump,
+        _ => Text::Lines,
+    };
+    Some(Request {
+        top,
+        until,
+        steps,
+        text,
+    })
+}
+
+/// What the words ask for; they begin with the program's own name. A fault of the words, and a call for help, is `clap`'s error, whose text is to
+/// be printed.
+pub fn read_words<'a>(alloc: Global, words: &'a [&'a str]) -> Result<Option<Request<'a>>, Error> {
+    let command = Command::new(alloc, "vsim")
+        .about("Simulates a Verilog design")
+        .subcommand_required(true)
+        .subcommand(run_command(alloc)?)?;
+    let matches = command.try_get_matches_from(words)?;
+    match matches.subcommand() {
+        Some((_, run)) => Ok(asked(run)),
+        None => Ok(None),
+    }
+}
+
+/// Whether the error is a call for help, whose text goes to standard output.
+pub fn is_help(error: &Error) -> bool {
+    !error.use_stderr()
+}
+
+/// Whether the error is that memory ran out.
+pub fn is_memory(error: &Error) -> bool {
+    error.kind() == ErrorKind::OutOfMemory
+}

@@ -1,0 +1,182 @@
+-- A least tree of each part.
+use Rattle.std.specs.Prelude.{◌≡◌, ℕ, suc, max, min, ◌==◌, ◌≤◌, nat_le, not, Bool, true, false, cond, ◌&&◌, ◌||◌, List, [], ◌∷◌, ◌++◌, refl, replicate}
+use Rattle.std.proofs.Common.{sym, ◌∙◌, ap, subst, inl, inr, arith}
+use Rattle.std.proofs.lemmas.Bool.Decides.{nat_tests}
+use Rattle.std.proofs.lemmas.Bool.{eqb-true}
+use Rattle.vs_syntax.proofs.Fronts.{or_false}
+use Rattle.vs_logic4.specs.declared.digit.Digit.TheVariants.{Zero}
+use Rattle.vs_lexer.specs.declared.token.Literal.{Literal}
+use Rattle.vs_lexer.specs.declared.token.Mark.TheVariants as m
+use Rattle.vs_lexer.specs.declared.token.Word.TheVariants as w
+use Rattle.vs_syntax.specs.Symbols.{Symbol, a_mark, a_word, a_name, a_number, another, Class, no_token, the_mark, the_word, any_name, any_number, any_other, class_of, first}
+use Rattle.vs_syntax.specs.Grammar.{Part, a_source, a_module, an_item, a_stmt, a_target, an_expr, Grammar, nothing, token, seq, either, many, part, node, chain, rule}
+use Rattle.vs_syntax.specs.Tables.{low_of, null, low, fronts, among, goes}
+use Rattle.vs_syntax.specs.Derivation.{Tree, empty, leaf, both, down, tokens, height, Is, is_nothing, is_token, is_seq, is_left, is_right, is_stop, is_more, is_part, is_node, is_one, is_chain}
+use Rattle.vs_syntax.proofs.Ends.{goes_on, again}
+
+-- a literal of 32 zeros
+abbrev pub zero_literal : Bool → Literal
+zero_literal based = record { value = replicate 32 Zero; signed = true; based = based }
+
+-- a symbol of the class
+abbrev pub sample : Class → Symbol
+sample no_token = another
+sample (the_mark x) = a_mark x
+sample (the_word x) = a_word x
+sample any_name = a_name (97 ∷ [])
+sample (any_number b) = a_number (zero_literal b)
+sample any_other = another
+
+-- whether a symbol has the class
+abbrev pub is_class : Class → Bool
+is_class no_token = false
+is_class _ = true
+
+sample-class : (c : Class) → is_class c ≡ true → class_of (sample c) ≡ c
+sample-class no_token h = cc
+sample-class (the_mark x) h = refl
+sample-class (the_word x) h = refl
+sample-class any_name h = refl
+sample-class (any_number b) h = refl
+sample-class any_other h = refl
+
+-- a least tree of each part
+abbrev pub least_of : Part → Tree
+least_of a_source = empty
+least_of a_module = both (leaf (a_word w.Module)) (both (leaf (sample any_name)) (both (leaf (a_mark m.Semicolon)) (both empty (leaf (a_word w.Endmodule)))))
+least_of an_item = down (both (leaf (a_word w.Reg)) (both (leaf (sample any_name)) (both empty (leaf (a_mark m.Semicolon)))))
+least_of a_stmt = down (leaf (a_mark m.Semicolon))
+least_of a_target = down (leaf (sample any_name))
+least_of an_expr = leaf (sample (any_number false))
+
+pub rule_least : (p : Part) → Is (part p) (least_of p) []
+rule_least a_source = is_part (is_stop refl)
+rule_least a_module = is_part (is_seq (is_token refl) (is_seq (is_token refl) (is_seq (is_token refl) (is_seq (is_stop refl) (is_token refl)))))
+rule_least an_item = is_part (is_node (is_left refl (is_seq (is_token refl) (is_seq (is_token refl) (is_seq (is_stop refl) (is_token refl))))))
+rule_least a_stmt = is_part (is_node (is_left refl (is_token refl)))
+rule_least a_target = is_part (is_node (is_token refl))
+rule_least an_expr = is_part (is_left refl (is_token refl))
+
+least_of-height : (p : Part) → height (least_of p) ≡ low_of p
+least_of-height a_source = refl
+least_of-height a_module = refl
+least_of-height an_item = refl
+least_of-height a_stmt = refl
+least_of-height a_target = refl
+least_of-height an_expr = refl
+
+-- a least tree of the grammar
+abbrev pub least : Grammar → Tree
+least nothing = empty
+least (token c) = leaf (sample c)
+least (seq a b) = both (least a) (least b)
+least (either a b) = cond (nat_le (low a) (low b)) (least a) (least b)
+least (many a) = empty
+least (part p) = least_of p
+least (node a) = down (least a)
+least (chain a b) = least a
+
+-- whether parts of the grammar can be ended by least ones
+abbrev pub sound : Grammar → Bool
+sound nothing = true
+sound (token c) = is_class c
+sound (seq a b) = sound a && (sound b && not (goes_on a (first (tokens (least b)))))
+sound (either a b) = sound a && (sound b && (not (null a) && cond (nat_le (low a) (low b)) (goes a (tokens (least a))) (not (goes a (tokens (least b))))))
+sound (many a) = sound a && not (goes_on a no_token || among no_token (fronts a))
+sound (part p) = true
+sound (node a) = sound a
+sound (chain a b) = sound a && (sound b && (not (goes_on a no_token || among no_token (fronts b)) && (low b == 0 && not (null a))))
+
+pub rule_sound : (p : Part) → sound (rule p) ≡ true
+rule_sound a_source = refl
+rule_sound a_module = refl
+rule_sound an_item = refl
+rule_sound a_stmt = refl
+rule_sound a_target = refl
+rule_sound an_expr = refl
+
+pub and_left : (a b : Bool) → (a && b) ≡ true → a ≡ true
+and_left true b h = refl
+and_left false b h = h
+
+pub and_right : (a b : Bool) → (a && b) ≡ true → b ≡ true
+and_right true b h = h
+and_right false b h = cc
+
+pub not_true : (a : Bool) → not a ≡ true → a ≡ false
+not_true true h = cc
+not_true false h = refl
+
+pub first_nil : (xs : List Symbol) → first (xs ++ []) ≡ first xs
+first_nil [] = refl
+first_nil (x ∷ xs) = refl
+
+least_either : (a b : Grammar) (s : Bool) → Is a (least a) [] → Is b (least b) [] → cond s (goes a (tokens (least a))) (not (goes a (tokens (least b)))) ≡ true → Is (either a b) (cond s (least a) (least b)) []
+least_either a b true p q h = is_left (ap (λ c. among c (fronts a)) (first_nil (tokens (least a))) ∙ h) p
+least_either a b false p q h = is_right (ap (λ c. among c (fronts a)) (first_nil (tokens (least b))) ∙ not_true (goes a (tokens (least b))) h) q
+
+-- with the least tree of the next part
+pub before_least : (a b : Grammar) (x : Tree) (m : List Symbol) → Is a x m → goes_on a (first (tokens (least b))) ≡ false → Is a x (tokens (least b) ++ [])
+before_least a b x m p h = again p (tokens (least b) ++ []) (inr (ap (goes_on a) (first_nil (tokens (least b))) ∙ h))
+
+-- the premises of a sequence
+pub sound_seq : (a b : Grammar) → sound (seq a b) ≡ true → (sound a ≡ true) × (sound b ≡ true) × (goes_on a (first (tokens (least b))) ≡ false)
+sound_seq a b h =
+    let r = and_right (sound a) (sound b && not (goes_on a (first (tokens (least b))))) h in
+    (and_left (sound a) (sound b && not (goes_on a (first (tokens (least b))))) h, and_left (sound b) (not (goes_on a (first (tokens (least b))))) r, not_true (goes_on a (first (tokens (least b)))) (and_right (sound b) (not (goes_on a (first (tokens (least b))))) r))
+
+pub sound_either : (a b : Grammar) → sound (either a b) ≡ true → (sound a ≡ true) × (sound b ≡ true) × (cond (nat_le (low a) (low b)) (goes a (tokens (least a))) (not (goes a (tokens (least b)))) ≡ true) × (null a ≡ false)
+sound_either a b h =
+    let c = cond (nat_le (low a) (low b)) (goes a (tokens (least a))) (not (goes a (tokens (least b)))) in
+    let n = not (null a) in
+    let r = and_right (sound a) (sound b && (n && c)) h in
+    let t = and_right (sound b) (n && c) r in
+    (and_left (sound a) (sound b && (n && c)) h, and_left (sound b) (n && c) r, and_right n c t, not_true (null a) (and_left n c t))
+
+pub sound_chain : (a b : Grammar) → sound (chain a b) ≡ true → (sound a ≡ true) × (sound b ≡ true) × (goes_on a no_token ≡ false) × (among no_token (fronts b) ≡ false) × (low b ≡ 0) × (null a ≡ false)
+sound_chain a b h =
+    let s = not (goes_on a no_token || among no_token (fronts b)) in
+    let z = low b == 0 in
+    let n = not (null a) in
+    let r = and_right (sound a) (sound b && (s && (z && n))) h in
+    let t = and_right (sound b) (s && (z && n)) r in
+    let v = and_right s (z && n) t in
+    let o = or_false (goes_on a no_token) (among no_token (fronts b)) (not_true (goes_on a no_token || among no_token (fronts b)) (and_left s (z && n) t)) in
+    (and_left (sound a) (sound b && (s && (z && n))) h, and_left (sound b) (s && (z && n)) r, o.0, o.1, eqb-true (low b) 0 (and_left z n v), not_true (null a) (and_right z n v))
+
+pub sound_many : (a : Grammar) → sound (many a) ≡ true → (sound a ≡ true) × (goes_on a no_token ≡ false) × (among no_token (fronts a) ≡ false)
+sound_many a h =
+    let s = not (goes_on a no_token || among no_token (fronts a)) in
+    let o = or_false (goes_on a no_token) (among no_token (fronts a)) (not_true (goes_on a no_token || among no_token (fronts a)) (and_right (sound a) s h)) in
+    (and_left (sound a) s h, o.0, o.1)
+
+-- The least tree is one of the grammar.
+pub least_is : (g : Grammar) → sound g ≡ true → Is g (least g) []
+least_is nothing h = is_nothing
+least_is (token c) h = is_token (sample-class c h)
+least_is (seq a b) h =
+    let s = sound_seq a b h in is_seq (before_least a b (least a) [] (least_is a s.0) s.2) (least_is b s.1)
+least_is (either a b) h =
+    let s = sound_either a b h in least_either a b (nat_le (low a) (low b)) (least_is a s.0) (least_is b s.1) s.2
+least_is (many a) h = is_stop (sound_many a h).2
+least_is (part p) h = rule_least p
+least_is (node a) h = is_node (least_is a h)
+least_is (chain a b) h = let s = sound_chain a b h in is_one s.3 (least_is a s.0)
+
+height-cond : (s : Bool) (x y : Tree) → height (cond s x y) ≡ cond s (height x) (height y)
+height-cond true x y = refl
+height-cond false x y = refl
+
+min-cond : (m n : ℕ) → cond (nat_le m n) m n ≡ min m n
+min-cond m n = grind (arith, nat_tests)
+
+-- Its nesting is the least.
+pub least-height : (g : Grammar) → height (least g) ≡ low g
+least-height nothing = refl
+least-height (token c) = refl
+least-height (seq a b) = rw (least-height a, least-height b) refl
+least-height (either a b) = height-cond (nat_le (low a) (low b)) (least a) (least b) ∙ rw (least-height a, least-height b) (min-cond (low a) (low b))
+least-height (many a) = refl
+least-height (part p) = least_of-height p
+least-height (node a) = ap suc (least-height a)
+least-height (chain a b) = least-height a

@@ -1,0 +1,12 @@
+pub mod Fronts
+pub mod Checks
+pub mod Unique
+pub mod Starts
+pub mod Refused
+pub mod Ends
+pub mod Least
+pub mod Viable
+pub mod Gets
+pub mod Beginnings
+pub mod Plainly
+pub mod Deeper

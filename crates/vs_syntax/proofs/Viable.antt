@@ -1,0 +1,180 @@
+-- Where reading a part stops, the symbols before the place begin a part.
+use Rattle.std.specs.Prelude.{◌≡◌, ℕ, suc, max, min, ◌-◌, ◌<◌, ◌≤◌, Bool, true, false, cond, List, [], ◌∷◌, ◌++◌, refl}
+use Rattle.std.proofs.Common.{sym, ◌∙◌, ap, subst, inl, inr, append_assoc, arith}
+use Rattle.std.proofs.lemmas.List.{append-nil}
+use Rattle.vs_syntax.specs.Symbols.{Symbol, no_token, first}
+use Rattle.vs_syntax.specs.Grammar.{Part, Grammar, nothing, token, seq, either, many, part, node, chain, rule}
+use Rattle.vs_syntax.specs.Tables.{low_of, null, low, fronts, need, among, goes}
+use Rattle.vs_syntax.specs.Derivation.{Tree, empty, leaf, both, down, tokens, height, Is, is_nothing, is_token, is_seq, is_left, is_right, is_stop, is_more, is_part, is_node, is_one, is_chain}
+use Rattle.vs_syntax.specs.Reading.{Gets, Stuck, stuck_here, stuck_deep, stuck_first, stuck_second, stuck_left, stuck_right, stuck_many, stuck_more, stuck_part, stuck_node, stuck_one, stuck_link, stuck_high}
+use Rattle.vs_syntax.proofs.Checks.{rule_low}
+use Rattle.vs_syntax.proofs.Fronts.{goes_same}
+use Rattle.vs_syntax.proofs.Starts.{quiet}
+use Rattle.vs_syntax.proofs.Ends.{goes_on, goes_again, again}
+use Rattle.vs_syntax.proofs.Least.{least, sound, rule_sound, least_is, least-height, before_least, sound_seq, sound_either, sound_many, sound_chain, first_nil}
+use Rattle.vs_syntax.proofs.Refused.{front_of, front_text}
+
+-- These symbols begin a part of the grammar, of at most this nesting.
+pub record Viable (g : Grammar) (room : ℕ) (w : List Symbol) : Type 0 where
+  pub tree : Tree
+  pub tail : List Symbol
+  pub is : Is g tree []
+  pub fits : height tree ≤ room
+  pub text : tokens tree ≡ w ++ tail
+
+-- no symbols begin any part
+pub from_least : (g : Grammar) (room : ℕ) → sound g ≡ true → low g ≤ room → Viable g room []
+from_least g room h n = record { tree = least g; tail = tokens (least g); is = least_is g h; fits = (let e : height (least g) ≡ low g = least-height g in omega (arith, e)); text = refl }
+
+-- symbols that are there, or none
+or_least : (g : Grammar) (room : ℕ) (w : List Symbol) → sound g ≡ true → low g ≤ room → ((s : Symbol) (ss : List Symbol) → w ≡ s ∷ ss → Viable g room w) → Viable g room w
+or_least g room [] h n f = from_least g room h n
+or_least g room (s ∷ ss) h n f = f s ss refl
+
+-- what a tree that the symbols begin begins with
+first_front : (w : List Symbol) (s : Symbol) (ss tree tail ts rest : List Symbol) → w ≡ s ∷ ss → tree ≡ w ++ tail → ts ≡ w ++ rest → first (tree ++ []) ≡ first ts
+first_front w s ss tree tail ts rest e p q = first_nil tree ∙ ap first p ∙ ap (λ u. first (u ++ tail)) e ∙ sym (ap first q ∙ ap (λ u. first (u ++ rest)) e)
+
+-- one part, and the least of the next
+pub viable_first : (a b : Grammar) (room : ℕ) (w : List Symbol) → sound (seq a b) ≡ true → low (seq a b) ≤ room → Viable a room w → Viable (seq a b) room w
+viable_first a b room w h n v =
+    let s = sound_seq a b h in
+    let e : height (least b) ≡ low b = least-height b in
+    let f : height v.tree ≤ room = v.fits in
+    let n' : max (low a) (low b) ≤ room = n in
+    record {
+      tree = both v.tree (least b);
+      tail = v.tail ++ tokens (least b);
+      is = is_seq (before_least a b v.tree [] v.is s.2) (least_is b s.1);
+      fits = omega (arith, e, f, n');
+      text = ap (λ u. u ++ tokens (least b)) v.text ∙ append_assoc w v.tail (tokens (least b));
+    }
+
+-- a part that was read, and what the symbols behind it begin
+pub viable_second : (a b : Grammar) (room : ℕ) (ts mid w rest : List Symbol) (x : Tree) → sound (seq a b) ≡ true → low (seq a b) ≤ room → Gets a room ts x mid → mid ≡ w ++ rest → Viable b room w → Viable (seq a b) room (tokens x ++ w)
+viable_second a b room ts mid [] rest x h n p t v =
+    let s = sound_seq a b h in
+    let e : height (least b) ≡ low b = least-height b in
+    let f : height x ≤ room = p.fits in
+    let n' : max (low a) (low b) ≤ room = n in
+    record {
+      tree = both x (least b);
+      tail = tokens (least b);
+      is = is_seq (before_least a b x mid p.is s.2) (least_is b s.1);
+      fits = omega (arith, e, f, n');
+      text = ap (λ u. u ++ tokens (least b)) (sym (append-nil (tokens x)));
+    }
+viable_second a b room ts mid (c ∷ cs) rest x h n p t v =
+    let f : height x ≤ room = p.fits in
+    let g : height v.tree ≤ room = v.fits in
+    record {
+      tree = both x v.tree;
+      tail = v.tail;
+      is = is_seq (again p.is (tokens v.tree ++ []) (inl (first_front (c ∷ cs) c cs (tokens v.tree) v.tail mid rest refl v.text t))) v.is;
+      fits = omega (arith, f, g);
+      text = ap (λ u. tokens x ++ u) v.text ∙ sym (append_assoc (tokens x) (c ∷ cs) v.tail);
+    }
+
+pub viable_left : (a b : Grammar) (room : ℕ) (ts w rest : List Symbol) → sound (either a b) ≡ true → low (either a b) ≤ room → goes a ts ≡ true → ts ≡ w ++ rest → Viable a room w → Viable (either a b) room w
+viable_left a b room ts w rest h n i t v =
+    or_least (either a b) room w h n (λ s ss e. record {
+      tree = v.tree;
+      tail = v.tail;
+      is = is_left (goes_same a (tokens v.tree ++ []) ts (first_front w s ss (tokens v.tree) v.tail ts rest e v.text t) ∙ i) v.is;
+      fits = v.fits;
+      text = v.text;
+    })
+
+pub viable_right : (a b : Grammar) (room : ℕ) (ts w rest : List Symbol) → sound (either a b) ≡ true → low (either a b) ≤ room → goes a ts ≡ false → ts ≡ w ++ rest → Viable b room w → Viable (either a b) room w
+viable_right a b room ts w rest h n i t v =
+    or_least (either a b) room w h n (λ s ss e. record {
+      tree = v.tree;
+      tail = v.tail;
+      is = is_right (goes_same a (tokens v.tree ++ []) ts (first_front w s ss (tokens v.tree) v.tail ts rest e v.text t) ∙ i) v.is;
+      fits = v.fits;
+      text = v.text;
+    })
+
+pub viable_many : (a : Grammar) (room : ℕ) (ts w rest : List Symbol) → sound (many a) ≡ true → goes a ts ≡ true → ts ≡ w ++ rest → Viable a room w → Viable (many a) room w
+viable_many a room ts w rest h i t v =
+    or_least (many a) room w h (omega arith) (λ s ss e.
+    let f : height v.tree ≤ room = v.fits in
+    record {
+      tree = both v.tree empty;
+      tail = v.tail;
+      is = is_more (goes_same a (tokens v.tree ++ []) ts (first_front w s ss (tokens v.tree) v.tail ts rest e v.text t) ∙ i) v.is (is_stop (sound_many a h).2);
+      fits = omega (arith, f);
+      text = append-nil (tokens v.tree) ∙ v.text;
+    })
+
+pub viable_more : (a : Grammar) (room : ℕ) (ts mid w rest : List Symbol) (x : Tree) → sound (many a) ≡ true → goes a ts ≡ true → Gets a room ts x mid → mid ≡ w ++ rest → Viable (many a) room w → Viable (many a) room (tokens x ++ w)
+viable_more a room ts mid [] rest x h i p t v =
+    let s = sound_many a h in
+    let f : height x ≤ room = p.fits in
+    record {
+      tree = both x empty;
+      tail = [];
+      is = is_more (goes_again a (tokens x) mid [] (ap (goes a) (sym p.text) ∙ i) (λ e. quiet p.is e)) (again p.is [] (inr s.1)) (is_stop s.2);
+      fits = omega (arith, f);
+      text = sym (append-nil (tokens x ++ []));
+    }
+viable_more a room ts mid (c ∷ cs) rest x h i p t v =
+    let f : height x ≤ room = p.fits in
+    let g : height v.tree ≤ room = v.fits in
+    record {
+      tree = both x v.tree;
+      tail = v.tail;
+      is = is_more (goes_again a (tokens x) mid (tokens v.tree ++ []) (ap (goes a) (sym p.text) ∙ i) (λ e. quiet p.is e))
+          (again p.is (tokens v.tree ++ []) (inl (first_front (c ∷ cs) c cs (tokens v.tree) v.tail mid rest refl v.text t))) v.is;
+      fits = omega (arith, f, g);
+      text = ap (λ u. tokens x ++ u) v.text ∙ sym (append_assoc (tokens x) (c ∷ cs) v.tail);
+    }
+
+-- an operand alone
+viable_one : (a b : Grammar) (room : ℕ) (ts mid : List Symbol) (x : Tree) → sound (chain a b) ≡ true → Gets a room ts x mid → Viable (chain a b) room (tokens x)
+viable_one a b room ts mid x h p =
+    let s = sound_chain a b h in
+    record { tree = x; tail = []; is = is_one s.3 (again p.is [] (inr s.2)); fits = p.fits; text = sym (append-nil (tokens x)) }
+
+pub viable_link : (a b : Grammar) (room : ℕ) (ts mid w rest : List Symbol) (x : Tree) → sound (chain a b) ≡ true → Gets a room ts x mid → height x < room → goes b mid ≡ true → mid ≡ w ++ rest → Viable b (room - 1) w → Viable (chain a b) room (tokens x ++ w)
+viable_link a b room ts mid [] rest x h p n i t v = subst (λ (u : List Symbol). Viable (chain a b) room u) (sym (append-nil (tokens x))) (viable_one a b room ts mid x h p)
+viable_link a b room ts mid (c ∷ cs) rest x h p n i t v =
+    let g : height v.tree ≤ room - 1 = v.fits in
+    let same : first (tokens v.tree ++ []) ≡ first mid = first_front (c ∷ cs) c cs (tokens v.tree) v.tail mid rest refl v.text t in
+    record {
+      tree = down (both x v.tree);
+      tail = v.tail;
+      is = is_chain (goes_same b (tokens v.tree ++ []) mid same ∙ i) (again p.is (tokens v.tree ++ []) (inl same)) v.is;
+      fits = omega (arith, n, g);
+      text = ap (λ u. tokens x ++ u) v.text ∙ sym (append_assoc (tokens x) (c ∷ cs) v.tail);
+    }
+
+-- The symbols before the place begin a part of the grammar.
+pub viable : {g : Grammar} {room : ℕ} {deep : Bool} {ts rest : List Symbol} → (s : Stuck g room deep ts rest) → sound g ≡ true → low g ≤ room → Viable g room (front_of s)
+viable {g} {room} (stuck_here n h) i l = from_least g room i l
+viable {g} {room} (stuck_deep h n) i l = from_least g room i l
+viable {room = room} (stuck_first {a = a} {b = b} s) i l =
+    let l' : max (low a) (low b) ≤ room = l in viable_first a b room (front_of s) i l (viable s (sound_seq a b i).0 (omega (arith, l')))
+viable {room = room} (stuck_second {a = a} {b = b} {ts = ts} {mid = mid} {rest = rest} {x = x} p s) i l =
+    let l' : max (low a) (low b) ≤ room = l in viable_second a b room ts mid (front_of s) rest x i l p (front_text s) (viable s (sound_seq a b i).1 (omega (arith, l')))
+viable {room = room} (stuck_left {a = a} {b = b} {ts = ts} {rest = rest} h n s) i l = viable_left a b room ts (front_of s) rest i l h (front_text s) (viable s (sound_either a b i).0 n)
+viable {room = room} (stuck_right {a = a} {b = b} {ts = ts} {rest = rest} h n s) i l = viable_right a b room ts (front_of s) rest i l h (front_text s) (viable s (sound_either a b i).1 n)
+viable {room = room} (stuck_many {a = a} {ts = ts} {rest = rest} h n s) i l = viable_many a room ts (front_of s) rest i h (front_text s) (viable s (sound_many a i).0 n)
+viable {room = room} (stuck_more {a = a} {ts = ts} {mid = mid} {rest = rest} {x = x} h p s) i l = viable_more a room ts mid (front_of s) rest x i h p (front_text s) (viable s i l)
+viable {room = room} (stuck_part {p = k} s) i l =
+    let v = viable s (rule_sound k) (subst (λ (n : ℕ). n ≤ room) (sym (rule_low k)) l) in
+    record { tree = v.tree; tail = v.tail; is = is_part v.is; fits = v.fits; text = v.text }
+viable {room = room} (stuck_node {a = a} n s) i l =
+    let l' : suc (low a) ≤ room = l in
+    let v = viable s i (omega (arith, l')) in
+    let f : height v.tree ≤ room - 1 = v.fits in
+    record { tree = down v.tree; tail = v.tail; is = is_node v.is; fits = omega (arith, f, n); text = v.text }
+viable {room = room} (stuck_one {a = a} {b = b} s) i l =
+    let t = sound_chain a b i in
+    let v = viable s t.0 l in
+    record { tree = v.tree; tail = v.tail; is = is_one t.3 v.is; fits = v.fits; text = v.text }
+viable {room = room} (stuck_link {a = a} {b = b} {ts = ts} {mid = mid} {rest = rest} {x = x} p n h s) i l =
+    let t = sound_chain a b i in
+    let e : low b ≡ 0 = t.4 in
+    viable_link a b room ts mid (front_of s) rest x i p n h (front_text s) (viable s t.1 (omega (arith, e)))
+viable {room = room} (stuck_high {a = a} {b = b} {ts = ts} {mid = mid} {x = x} p h n) i l = viable_one a b room ts mid x i p

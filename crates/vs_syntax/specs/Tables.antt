@@ -1,0 +1,95 @@
+-- What can begin and end each part of a source, and how high it is at least. Laws of the crate say that the tables are those of the rules.
+use Rattle.std.specs.Prelude.{ℕ, suc, max, min, Bool, true, false, cond, ◌&&◌, ◌||◌, List, [], ◌∷◌, ◌++◌}
+use Rattle.vs_lexer.specs.declared.token.Mark.TheVariants as m
+use Rattle.vs_lexer.specs.declared.token.Word.TheVariants as w
+use Rattle.vs_syntax.specs.Symbols.{Symbol, Class, the_mark, the_word, any_name, any_number, same_class, first}
+use Rattle.vs_syntax.specs.Grammar.{Part, a_source, a_module, an_item, a_stmt, a_target, an_expr, Grammar, nothing, token, seq, either, many, part, node, chain}
+
+-- a class that can begin a part, and the least nesting of a part that it begins
+pub record Front : Type 0 where
+  pub class : Class
+  pub need : ℕ
+
+-- a class with a need
+abbrev pub at_least : Class → ℕ → Front
+at_least c n = record { class = c; need = n }
+
+-- whether a part can be without tokens
+abbrev pub null_of : Part → Bool
+null_of a_source = true
+null_of _ = false
+
+-- the least nesting of a part
+abbrev pub low_of : Part → ℕ
+low_of a_source = 0
+low_of a_module = 0
+low_of an_item = 1
+low_of a_stmt = 1
+low_of a_target = 1
+low_of an_expr = 0
+
+-- what can begin a part
+abbrev pub fronts_of : Part → List Front
+fronts_of a_source = at_least (the_word w.Module) 0 ∷ []
+fronts_of a_module = at_least (the_word w.Module) 0 ∷ []
+fronts_of an_item = at_least (the_word w.Reg) 1 ∷ at_least (the_word w.Initial) 2 ∷ []
+fronts_of a_stmt = at_least (the_mark m.Semicolon) 1 ∷ at_least any_name 2 ∷ at_least (the_word w.Begin) 1 ∷ at_least (the_mark m.Hash) 2 ∷ []
+fronts_of a_target = at_least any_name 1 ∷ []
+fronts_of an_expr = at_least (any_number false) 0 ∷ at_least any_name 0 ∷ []
+
+-- whether the grammar allows no token
+abbrev pub null : Grammar → Bool
+null nothing = true
+null (token c) = false
+null (seq a b) = null a && null b
+null (either a b) = null a || null b
+null (many a) = true
+null (part p) = null_of p
+null (node a) = null a
+null (chain a b) = null a
+
+-- the least nesting
+abbrev pub low : Grammar → ℕ
+low nothing = 0
+low (token c) = 0
+low (seq a b) = max (low a) (low b)
+low (either a b) = min (low a) (low b)
+low (many a) = 0
+low (part p) = low_of p
+low (node a) = suc (low a)
+low (chain a b) = low a
+
+-- the same classes, each beside a part of this nesting
+abbrev pub beside : ℕ → List Front → List Front
+beside n [] = []
+beside n (f ∷ fs) = at_least f.class (max n f.need) ∷ beside n fs
+
+-- the same classes, one node up
+abbrev pub above : List Front → List Front
+above [] = []
+above (f ∷ fs) = at_least f.class (suc f.need) ∷ above fs
+
+-- what can begin a part of this grammar
+abbrev pub fronts : Grammar → List Front
+fronts nothing = []
+fronts (token c) = at_least c 0 ∷ []
+fronts (seq a b) = beside (low b) (fronts a) ++ cond (null a) (beside (low a) (fronts b)) []
+fronts (either a b) = fronts a ++ fronts b
+fronts (many a) = fronts a
+fronts (part p) = fronts_of p
+fronts (node a) = above (fronts a)
+fronts (chain a b) = fronts a ++ cond (null a) (above (beside (low a) (fronts b))) []
+
+-- whether the class is among them
+abbrev pub among : Class → List Front → Bool
+among c [] = false
+among c (f ∷ fs) = same_class c f.class || among c fs
+
+-- the need of the class, or 0 where it is not among them
+abbrev pub need : Class → List Front → ℕ
+need c [] = 0
+need c (f ∷ fs) = cond (same_class c f.class) f.need (need c fs)
+
+-- whether the next token can begin a part of this grammar
+abbrev pub goes : Grammar → List Symbol → Bool
+goes g ts = among (first ts) (fronts g)

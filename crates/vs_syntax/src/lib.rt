@@ -1,0 +1,8 @@
+//! The syntax tree of a source, and the grammar that its tokens follow (IEEE 1364-2005, annex A).
+#![tactic(auto)]
+
+mod law;
+mod tree;
+
+pub use law::{one_tree, plain_reading, tables_agree};
+pub use tree::{Expr, Item, Module, Source, Stmt};

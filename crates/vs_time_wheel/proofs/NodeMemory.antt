@@ -1,0 +1,4 @@
+pub mod Chained
+pub mod OfVacant
+pub mod Pairs
+pub mod Steps

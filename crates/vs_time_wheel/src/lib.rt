@@ -1,0 +1,25 @@
+//! Event queues: bags of timed events, the oldest first at equal times.
+//!
+//! `EventQueue` is the law, which code above is proved against once. `ListQueue` is a plain list in the order
+//! of scheduling. `Wheel` has 256 slots of linked nodes for the times from now on, and an ordered map for the later ones.
+#![tactic(auto)]
+
+mod blocks;
+mod busy;
+mod calls;
+mod law;
+mod list;
+mod nodes;
+mod pool;
+mod timing;
+mod turn;
+mod wheel_queue;
+
+pub use calls::{Answer, Call, replay, same_answers};
+pub use law::EventQueue;
+pub use list::ListQueue;
+pub use timing::{Full, Memory, Timed};
+pub use wheel_queue::Wheel;
+
+#[cfg(test)]
+mod tests;

@@ -1,0 +1,78 @@
+-- A dump shows the values at the ends of its slots.
+use Rattle.std.proofs.Common.{◌≡◌, ℕ, ◌<◌, true, Option, Some, None, IfSome, List, [], ◌∷◌, ◌++◌, length, reverse, refl, sym, ap, ◌∙◌, subst, append_assoc, inl, inr}
+use Rattle.std.proofs.lemmas.List.{length-reverse}
+use Rattle.std.proofs.lemmas.Bool.{cases_lt}
+use Rattle.std.specs.Prelude.{unwrap_or, slice_get}
+use Rattle.std.specs.List.{list_all}
+use Rattle.vs_design.specs.declared.signal.Signal.{Signal}
+use Rattle.vs_design.specs.declared.design.Entry.{Entry}
+use Rattle.vs_design.specs.declared.design.Entry.TheVariants.{Enter, Declare, Leave}
+use Rattle.vs_design.specs.Parts.{Parts}
+use Rattle.vs_design.specs.Traces.{Slot}
+use Rattle.vs_vcd.specs.Values.{shown_value}
+use Rattle.vs_vcd.specs.Text.{text_of, declaration, entry_lines, outline_lines, end_of_definitions, header_lines, slots_lines}
+use Rattle.vs_vcd.specs.Shown.{dump_lines, body_lines, Shows, slot_at, AreRising, is_one_line, HasNamesOfOneLine}
+use Rattle.vs_vcd.proofs.LineLemmas.{text_of-append}
+use Rattle.vs_vcd.proofs.OneLineLemmas.{dump_lines-text_of, all-append, header_one_line, slots_one_line}
+use Rattle.vs_vcd.proofs.ExtendLemmas.{extended-shortened}
+use Rattle.vs_vcd.proofs.ChangeLemmas.{written, told, IsSilent, told_whole, slot_at-cons, slot_at-before}
+
+-- ---- past the header
+
+declaration_skipped : (o : Option Signal) (n : ℕ) (ls : List (List ℕ)) → body_lines (declaration o n ++ ls) ≡ body_lines ls
+declaration_skipped None n ls = refl
+declaration_skipped (Some s) n ls = refl
+
+entry_skipped : (signals : List Signal) (e : Entry) (ls : List (List ℕ)) → body_lines (entry_lines signals e ++ ls) ≡ body_lines ls
+entry_skipped signals (Enter k name) ls = refl
+entry_skipped signals (Declare i) ls = declaration_skipped (slice_get signals i) i ls
+entry_skipped signals Leave ls = refl
+
+outline_skipped : (signals : List Signal) (es : List Entry) (ls : List (List ℕ)) → body_lines (outline_lines signals es ++ ls) ≡ body_lines ls
+outline_skipped signals [] ls = refl
+outline_skipped signals (e ∷ es) ls =
+    ap body_lines (append_assoc (entry_lines signals e) (outline_lines signals es) ls) ∙ entry_skipped signals e (outline_lines signals es ++ ls) ∙ outline_skipped signals es ls
+
+header_skipped : (d : Parts) (ls : List (List ℕ)) → body_lines (header_lines d ++ ls) ≡ ls
+header_skipped d ls =
+    ap body_lines (append_assoc (outline_lines d.signals d.outline) (end_of_definitions ∷ []) ls) ∙ outline_skipped d.signals d.outline (end_of_definitions ∷ ls)
+
+-- the lines of the body of a whole text
+body_of_text : (d : Parts) (slots ends : List (List ℕ)) → HasNamesOfOneLine d → list_all is_one_line slots ≡ true → list_all is_one_line ends ≡ true
+    → body_lines (dump_lines (text_of (header_lines d) ++ text_of slots ++ text_of ends)) ≡ slots ++ (ends ++ [] ∷ [])
+body_of_text d slots ends names p q =
+    let h = header_lines d in
+    let joined : text_of h ++ text_of slots ++ text_of ends ≡ text_of ((h ++ slots) ++ ends) =
+    ap (λ l. l ++ text_of ends) (sym (text_of-append h slots)) ∙ sym (text_of-append (h ++ slots) ends) in
+    let lines = dump_lines-text_of ((h ++ slots) ++ ends) (all-append (h ++ slots) ends (all-append h slots (header_one_line d names) p) q) in
+    let regrouped : ((h ++ slots) ++ ends) ++ [] ∷ [] ≡ h ++ (slots ++ (ends ++ [] ∷ [])) =
+    append_assoc (h ++ slots) ends ([] ∷ []) ∙ append_assoc h slots (ends ++ [] ∷ []) in
+    ap (λ l. body_lines (dump_lines l)) joined ∙ ap body_lines lines ∙ ap body_lines regrouped ∙ header_skipped d (slots ++ (ends ++ [] ∷ []))
+
+-- the value of the last slot is shown
+shows_slots : (d : Parts) (text : List ℕ) (tail : List (List ℕ)) (slots : List Slot) (time signal : ℕ)
+    → body_lines (dump_lines text) ≡ slots_lines (length d.signals) slots ++ tail → IsSilent tail → AreRising slots → signal < length d.signals
+    → IfSome (slot_at time slots) (λ s. Shows text time signal (shown_value s.store signal))
+shows_slots d text tail [] time signal body quiet r k = tt
+shows_slots d text tail (s ∷ ss) time signal body quiet r k =
+    elim (cases_lt time s.time) [
+      | inl early ↦ subst (λ o. IfSome o (λ (x : Slot). Shows text time signal (shown_value x.store signal))) (sym (slot_at-before time s ss early r.1)) tt
+      | inr there ↦
+          let current = unwrap_or (slot_at time ss) s in
+          let value = shown_value current.store signal in
+          let shown : Shows text time signal value = record {
+            digits = written current.store signal;
+            last = ap (λ ls. told time signal 0 ls) body ∙ told_whole time signal (length d.signals) s ss tail k r quiet there;
+            extends = extended-shortened (length value) (reverse value) (sym (length-reverse value));
+          } in
+          subst (λ o. IfSome o (λ (x : Slot). Shows text time signal (shown_value x.store signal))) (sym (slot_at-cons time s ss there)) shown
+    ]
+
+-- a text of a header, of slots and of lines that tell nothing
+pub shows_text : (d : Parts) (ends : List (List ℕ)) (slots : List Slot) (time signal : ℕ) → list_all is_one_line ends ≡ true → IsSilent (ends ++ [] ∷ [])
+    → HasNamesOfOneLine d → AreRising slots → signal < length d.signals
+    → IfSome (slot_at time slots) (λ s. Shows (text_of (header_lines d) ++ text_of (slots_lines (length d.signals) slots) ++ text_of ends) time signal (shown_value s.store signal))
+shows_text d ends slots time signal plain quiet names r k =
+    let count = length d.signals in
+    shows_slots d (text_of (header_lines d) ++ text_of (slots_lines count slots) ++ text_of ends) (ends ++ [] ∷ []) slots time signal
+    (body_of_text d (slots_lines count slots) ends names (slots_one_line count slots) plain) quiet r k

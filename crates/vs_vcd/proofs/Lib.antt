@@ -1,0 +1,10 @@
+pub mod ChangeLemmas
+pub mod CodeLemmas
+pub mod ExtendLemmas
+pub mod HeaderLemmas
+pub mod LawLemmas
+pub mod LineLemmas
+pub mod OneLineLemmas
+pub mod ProgressLemmas
+pub mod Sinking
+pub mod ValueLemmas

@@ -1,0 +1,6 @@
+pub mod Codes
+pub mod Sinks
+pub mod Values
+pub mod Text
+pub mod Shown
+pub mod Progress

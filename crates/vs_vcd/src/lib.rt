@@ -1,0 +1,17 @@
+//! Value change dumps (IEEE 1364-2005, clause 18): the text of a trace, its writer, and the sinks that take it.
+#![tactic(auto)]
+
+mod fault;
+mod header;
+mod law;
+mod lines;
+mod sink;
+#[cfg(test)]
+mod tests;
+mod value;
+mod writer;
+
+pub use fault::VcdFault;
+pub use law::shows_values_at_slot_ends;
+pub use sink::{Counted, Sink, WriteFault, write_all};
+pub use writer::Writer;
