@@ -1,5 +1,5 @@
 -- A write of one whole signal, and which continuous assignments it touches.
-use Rattle.std.proofs.Common.{◌≡◌, ℕ, zero, suc, ◌==◌, ◌||◌, ◌&&◌, not, Bool, true, false, Option, Some, None, List, [], ◌∷◌, ◌++◌, map, slice_get, refl, sym, ◌∙◌, ap, inl, inr, ⊎_elim}
+use Rattle.std.proofs.Common.{◌≡◌, ℕ, zero, suc, ◌==◌, ◌||◌, ◌&&◌, not, Bool, true, false, Option, Some, None, List, [], ◌∷◌, map, slice_get, refl, sym, ◌∙◌, ap, ⊎_elim}
 use Rattle.std.specs.List.{list_any}
 use Rattle.std.proofs.Math.Bool.{or-false}
 use Rattle.std.proofs.lemmas.Bool.Decides.{eqb_tells}
@@ -9,7 +9,7 @@ use Rattle.vs_logic4.specs.Vectors.{same_digits}
 use Rattle.vs_design.specs.Stores.{Store, word_of, put_part, overlaid, changed_at}
 use Rattle.vs_eval.specs.Values.{reads}
 use Rattle.vs_process.specs.States.{Driver, same_words, same_signal, is_changed, touched}
-use Rattle.vs_kernel.specs.Touches.{reads_signal, touched_by, is_kept}
+use Rattle.vs_kernel.specs.Touches.{touched_by, is_kept}
 
 same_words_self : (ws : List (List Digit)) → same_words ws ws ≡ true
 same_words_self [] = refl

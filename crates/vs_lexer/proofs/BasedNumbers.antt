@@ -1,19 +1,17 @@
 -- Reading numbers with a base.
-use Rattle.std.proofs.Common.{◌≡◌, ℕ, ◌+◌, ◌≤◌, ◌<◌, ◌&&◌, ◌||◌, Bool, true, false, nat_eq, nat_lt, if◌then◌else◌, ◌==◌, List, [], ◌∷◌, ◌++◌, length, Option, Some, None, refl, sym, ap, ◌∙◌, subst, append_assoc, arith, eq-eqb, length-append}
+use Rattle.std.proofs.Common.{◌≡◌, ℕ, Bool, true, false, nat_eq, ◌==◌, List, [], ◌∷◌, ◌++◌, length, Option, Some, None, refl, sym, ap, ◌∙◌, append_assoc, arith, eq-eqb, length-append}
 use Rattle.std.specs.List.{list_all}
 use Rattle.std.proofs.lemmas.Bool.{and_parts, or_parts}
 use Rattle.vs_lexer.specs.declared.base.Base.{Base}
 use Rattle.vs_lexer.specs.declared.fault.Refusal.TheVariants as r
-use Rattle.vs_lexer.specs.declared.piece.Piece.{Piece}
 use Rattle.vs_lexer.specs.declared.piece.Piece.TheVariants.{Refused}
 use Rattle.vs_lexer.specs.declared.piece.Read.{Read}
 use Rattle.vs_lexer.specs.Bytes.{is_white, in_decimal, begins, front_run, after_run}
 use Rattle.vs_lexer.specs.Numbers.{base_of, is_sign, starts_digits, in_digits}
 use Rattle.vs_lexer.specs.Pieces.{Form, decimal_piece, literal_piece, digits_form, base_form, quote_form, behind_size, number_form, apostrophe_form}
-use Rattle.vs_lexer.specs.Spelling.{Longest, Begins}
+use Rattle.vs_lexer.specs.Spelling.{Begins}
 use Rattle.vs_lexer.specs.Reading.{Reads, HasNone}
 use Rattle.vs_lexer.proofs.LongestRuns.{fails_all}
-use Rattle.vs_lexer.proofs.Openings.{other_byte}
 
 module _ (p : ℕ → Bool) where
   after_none : (ys : List ℕ) → begins p ys ≡ false → after_run p ys ≡ ys

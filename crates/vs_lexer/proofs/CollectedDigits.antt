@@ -1,10 +1,9 @@
 -- Collecting the digits of a vector.
-use Rattle.std.proofs.Common.{◌≡◌, ℕ, zero, suc, ◌+◌, ◌-◌, ◌≤◌, ◌<◌, ◌/◌, ◌%◌, ◌&&◌, ◌||◌, Bool, true, false, nat_lt, min, List, [], ◌∷◌, ◌++◌, length, get_or, set, take, drop, replicate, refl, sym, ap, ◌∙◌, subst, append_assoc, arith, length-append, length-set}
-use Rattle.std.proofs.lemmas.List.{append-nil, take_more_set, drop_more, take-replicate, length-replicate, length-take}
-use Rattle.std.proofs.Math.Seq.{take-length}
+use Rattle.std.proofs.Common.{◌≡◌, ℕ, zero, suc, ◌+◌, ◌-◌, ◌≤◌, ◌<◌, ◌/◌, ◌%◌, ◌&&◌, ◌||◌, Bool, true, false, nat_lt, min, List, [], ◌∷◌, ◌++◌, length, get_or, set, take, drop, replicate, refl, sym, ap, ◌∙◌, append_assoc, arith, length-append, length-set}
+use Rattle.std.proofs.lemmas.List.{append-nil, take_more_set, drop_more, take-replicate, length-replicate}
 use Rattle.std.proofs.lemmas.Bool.{lt-ltb, ltb-true, false_from_ne_true}
 use Rattle.vs_logic4.specs.declared.digit.Digit.{Digit}
-use Rattle.vs_logic4.specs.declared.digit.Digit.TheVariants.{Zero, One, X, Z}
+use Rattle.vs_logic4.specs.declared.digit.Digit.TheVariants.{Zero, One}
 use Rattle.vs_logic4.specs.Vectors.{of_number, digit_of_bit}
 use Rattle.vs_lexer.specs.declared.collector.Collector.{Collector}
 use Rattle.vs_lexer.specs.Numbers.{digit_vector, digits_vector, fits_from, is_lost_freely, highest, filling, fitted}

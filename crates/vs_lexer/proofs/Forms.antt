@@ -1,12 +1,12 @@
 -- The form that a first byte chooses.
-use Rattle.std.proofs.Common.{◌≡◌, ℕ, ◌<◌, ◌≤◌, ◌&&◌, ◌||◌, Bool, true, false, if◌then◌else◌, ◌==◌, nat_eq, List, [], ◌∷◌, ◌++◌, Option, Some, None, refl, sym, ap, ◌∙◌, subst, eq-eqb, inl, inr, ◌⊎◌, ⊎_elim, arith}
-use Rattle.std.specs.Char.{is_ascii_digit, is_ascii_alphabetic, is_ascii_alphanumeric}
+use Rattle.std.proofs.Common.{◌≡◌, ℕ, Bool, true, false, if◌then◌else◌, ◌==◌, nat_eq, List, [], ◌∷◌, ◌++◌, Some, None, refl, sym, subst, eq-eqb, arith}
+use Rattle.std.specs.Char.{is_ascii_digit}
 use borrow.Author.Tests.{eqb-true}
 use Rattle.vs_lexer.specs.declared.piece.Piece.{Piece}
 use Rattle.vs_lexer.specs.declared.piece.Read.{Read}
 use Rattle.vs_lexer.specs.Bytes.{is_white, starts_name, in_name, in_escaped, in_decimal, begins}
-use Rattle.vs_lexer.specs.Pieces.{Form, run_of, number_form, apostrophe_form, quote_form, white_piece, name_piece, decimal_piece, system_piece, escaped_piece, slash_form, parenthesis_form, mark_form, directive_form, form_of, piece_of}
-use Rattle.vs_lexer.specs.Spelling.{Longest, Begins}
+use Rattle.vs_lexer.specs.Pieces.{Form, run_of, text_form, number_form, apostrophe_form, quote_form, white_piece, name_piece, decimal_piece, system_piece, escaped_piece, slash_form, parenthesis_form, mark_form, directive_form, form_of, piece_of}
+use Rattle.vs_lexer.specs.Spelling.{Begins}
 use Rattle.vs_lexer.specs.Reading.{Reads}
 use Rattle.vs_lexer.proofs.Openings.{other_byte}
 
@@ -26,38 +26,43 @@ module _ (b : ℕ) where
       form_of_digit h = rw (not_white, no_name, h) refl
 
       module _ (no_digit : is_ascii_digit b ≡ false) where
-        pub form_of_system : b ≡ 36 → form_of b ≡ run_of in_name system_piece
+        pub form_of_text : b ≡ 34 → form_of b ≡ text_form
         unfolding form_of
-        form_of_system h = rw (not_white, no_name, no_digit, eq-eqb _ _ h) refl
+        form_of_text h = rw (not_white, no_name, no_digit, eq-eqb _ _ h) refl
 
-        module _ (no_system : b ≡ 36 → ⊥) where
-          pub form_of_apostrophe : b ≡ 39 → form_of b ≡ apostrophe_form
+        module _ (no_text : b ≡ 34 → ⊥) where
+          pub form_of_system : b ≡ 36 → form_of b ≡ run_of in_name system_piece
           unfolding form_of
-          form_of_apostrophe h = rw (not_white, no_name, no_digit, other_byte _ _ no_system, eq-eqb _ _ h) refl
+          form_of_system h = rw (not_white, no_name, no_digit, other_byte _ _ no_text, eq-eqb _ _ h) refl
 
-          module _ (no_apostrophe : b ≡ 39 → ⊥) where
-            pub form_of_parenthesis : b ≡ 40 → form_of b ≡ parenthesis_form
+          module _ (no_system : b ≡ 36 → ⊥) where
+            pub form_of_apostrophe : b ≡ 39 → form_of b ≡ apostrophe_form
             unfolding form_of
-            form_of_parenthesis h = rw (not_white, no_name, no_digit, other_byte _ _ no_system, other_byte _ _ no_apostrophe, eq-eqb _ _ h) refl
+            form_of_apostrophe h = rw (not_white, no_name, no_digit, other_byte _ _ no_text, other_byte _ _ no_system, eq-eqb _ _ h) refl
 
-            module _ (no_parenthesis : b ≡ 40 → ⊥) where
-              pub form_of_slash : b ≡ 47 → form_of b ≡ slash_form
+            module _ (no_apostrophe : b ≡ 39 → ⊥) where
+              pub form_of_parenthesis : b ≡ 40 → form_of b ≡ parenthesis_form
               unfolding form_of
-              form_of_slash h = rw (not_white, no_name, no_digit, other_byte _ _ no_system, other_byte _ _ no_apostrophe, other_byte _ _ no_parenthesis, eq-eqb _ _ h) refl
+              form_of_parenthesis h = rw (not_white, no_name, no_digit, other_byte _ _ no_text, other_byte _ _ no_system, other_byte _ _ no_apostrophe, eq-eqb _ _ h) refl
 
-              module _ (no_slash : b ≡ 47 → ⊥) where
-                pub form_of_escaped : b ≡ 92 → form_of b ≡ run_of in_escaped escaped_piece
+              module _ (no_parenthesis : b ≡ 40 → ⊥) where
+                pub form_of_slash : b ≡ 47 → form_of b ≡ slash_form
                 unfolding form_of
-                form_of_escaped h = rw (not_white, no_name, no_digit, other_byte _ _ no_system, other_byte _ _ no_apostrophe, other_byte _ _ no_parenthesis, other_byte _ _ no_slash, eq-eqb _ _ h) refl
+                form_of_slash h = rw (not_white, no_name, no_digit, other_byte _ _ no_text, other_byte _ _ no_system, other_byte _ _ no_apostrophe, other_byte _ _ no_parenthesis, eq-eqb _ _ h) refl
 
-                module _ (no_escaped : b ≡ 92 → ⊥) where
-                  pub form_of_directive : b ≡ 96 → form_of b ≡ directive_form
+                module _ (no_slash : b ≡ 47 → ⊥) where
+                  pub form_of_escaped : b ≡ 92 → form_of b ≡ run_of in_escaped escaped_piece
                   unfolding form_of
-                  form_of_directive h = rw (not_white, no_name, no_digit, other_byte _ _ no_system, other_byte _ _ no_apostrophe, other_byte _ _ no_parenthesis, other_byte _ _ no_slash, other_byte _ _ no_escaped, eq-eqb _ _ h) refl
+                  form_of_escaped h = rw (not_white, no_name, no_digit, other_byte _ _ no_text, other_byte _ _ no_system, other_byte _ _ no_apostrophe, other_byte _ _ no_parenthesis, other_byte _ _ no_slash, eq-eqb _ _ h) refl
 
-                  pub form_of_mark : (b ≡ 96 → ⊥) → form_of b ≡ mark_form
-                  unfolding form_of
-                  form_of_mark h = rw (not_white, no_name, no_digit, other_byte _ _ no_system, other_byte _ _ no_apostrophe, other_byte _ _ no_parenthesis, other_byte _ _ no_slash, other_byte _ _ no_escaped, other_byte _ _ h) refl
+                  module _ (no_escaped : b ≡ 92 → ⊥) where
+                    pub form_of_directive : b ≡ 96 → form_of b ≡ directive_form
+                    unfolding form_of
+                    form_of_directive h = rw (not_white, no_name, no_digit, other_byte _ _ no_text, other_byte _ _ no_system, other_byte _ _ no_apostrophe, other_byte _ _ no_parenthesis, other_byte _ _ no_slash, other_byte _ _ no_escaped, eq-eqb _ _ h) refl
+
+                    pub form_of_mark : (b ≡ 96 → ⊥) → form_of b ≡ mark_form
+                    unfolding form_of
+                    form_of_mark h = rw (not_white, no_name, no_digit, other_byte _ _ no_text, other_byte _ _ no_system, other_byte _ _ no_apostrophe, other_byte _ _ no_parenthesis, other_byte _ _ no_slash, other_byte _ _ no_escaped, other_byte _ _ h) refl
 
 -- a form by which the byte alone is a piece
 record HasFirst (b : ℕ) (form : Form) : Type 0 where
@@ -79,6 +84,10 @@ digit_in_decimal b h = rw h refl
 number_has_first : (b : ℕ) → is_ascii_digit b ≡ true → HasFirst b number_form
 unfolding number_form
 number_has_first b h = record { first = λ tail. (decimal_piece (b ∷ []) tail, rw (digit_in_decimal b h) refl) }
+
+text_has_first : (b : ℕ) → HasFirst b text_form
+unfolding text_form
+text_has_first b = record { first = λ tail. (_, refl) }
 
 apostrophe_has_first : (b : ℕ) → HasFirst b apostrophe_form
 unfolding apostrophe_form quote_form
@@ -119,8 +128,11 @@ from_apostrophe b = if b == 39 then apostrophe_form else from_parenthesis b
 abbrev from_dollar : ℕ → Form
 from_dollar b = if b == 36 then run_of in_name system_piece else from_apostrophe b
 
+abbrev from_text : ℕ → Form
+from_text b = if b == 34 then text_form else from_dollar b
+
 abbrev from_digit : ℕ → Form
-from_digit b = if is_ascii_digit b then number_form else from_dollar b
+from_digit b = if is_ascii_digit b then number_form else from_text b
 
 abbrev from_letter : ℕ → Form
 from_letter b = if starts_name b then run_of in_name name_piece else from_digit b
@@ -130,13 +142,14 @@ unfolding form_of
 byte_has_first b =
     either_form (HasFirst b) (is_white b) (run_of is_white white_piece) (from_letter b) (λ h. run_has_first b is_white white_piece h)
     (λ _. either_form (HasFirst b) (starts_name b) (run_of in_name name_piece) (from_digit b) (λ h. run_has_first b in_name name_piece (starts_name_in_name b h))
-    (λ _. either_form (HasFirst b) (is_ascii_digit b) number_form (from_dollar b) (λ h. number_has_first b h)
+    (λ _. either_form (HasFirst b) (is_ascii_digit b) number_form (from_text b) (λ h. number_has_first b h)
+    (λ _. either_form (HasFirst b) (nat_eq b 34) text_form (from_dollar b) (λ _. text_has_first b)
     (λ _. either_form (HasFirst b) (nat_eq b 36) (run_of in_name system_piece) (from_apostrophe b) (λ h. run_has_first b in_name system_piece (subst (λ (y : ℕ). in_name y ≡ true) (sym (eqb-true b 36 h)) refl))
     (λ _. either_form (HasFirst b) (nat_eq b 39) apostrophe_form (from_parenthesis b) (λ _. apostrophe_has_first b)
     (λ _. either_form (HasFirst b) (nat_eq b 40) parenthesis_form (from_slash b) (λ _. parenthesis_has_first b)
     (λ _. either_form (HasFirst b) (nat_eq b 47) slash_form (from_backslash b) (λ _. slash_has_first b)
     (λ _. either_form (HasFirst b) (nat_eq b 92) (run_of in_escaped escaped_piece) (from_backquote b) (λ h. run_has_first b in_escaped escaped_piece (subst (λ (y : ℕ). in_escaped y ≡ true) (sym (eqb-true b 92 h)) refl))
-    (λ _. either_form (HasFirst b) (nat_eq b 96) directive_form mark_form (λ _. directive_has_first b) (λ _. mark_has_first b)))))))))
+    (λ _. either_form (HasFirst b) (nat_eq b 96) directive_form mark_form (λ _. directive_has_first b) (λ _. mark_has_first b))))))))))
 
 -- what begins by the form of its first byte is a piece
 pub piece_by_first : (b : ℕ) (tail : List ℕ) (read : Read) → Reads (form_of b) (b ∷ tail) read → Reads piece_of (b ∷ tail) read

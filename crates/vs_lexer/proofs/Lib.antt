@@ -5,6 +5,8 @@ pub mod Forms
 pub mod LongestRuns
 pub mod Openings
 pub mod Pairs
+pub mod Readers
 pub mod Spelled
 pub mod Tables
+pub mod TextEnds
 pub mod Unique

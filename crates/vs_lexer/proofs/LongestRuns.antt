@@ -1,11 +1,11 @@
 -- Runs of bytes of a class are longest pieces.
-use Rattle.std.proofs.Common.{◌≡◌, ℕ, Bool, true, false, ◌&&◌, List, [], ◌∷◌, ◌++◌, Some, None, refl, sym, ap, ◌∙◌}
+use Rattle.std.proofs.Common.{◌≡◌, ℕ, Bool, true, false, ◌&&◌, List, [], ◌∷◌, ◌++◌, refl, sym, ap, ◌∙◌}
 use Rattle.std.specs.List.{list_all}
 use Rattle.vs_lexer.specs.declared.piece.Piece.{Piece}
 use Rattle.vs_lexer.specs.declared.piece.Read.{Read}
 use Rattle.vs_lexer.specs.Bytes.{begins}
 use Rattle.vs_lexer.specs.Pieces.{run_of}
-use Rattle.vs_lexer.specs.Spelling.{Longest, Begins}
+use Rattle.vs_lexer.specs.Spelling.{Longest}
 use Rattle.vs_lexer.specs.Reading.{Reads}
 
 -- a byte that fails, anywhere, fails the text

@@ -1,21 +1,17 @@
 -- What is skipped up to its close, what a slash or a parenthesis begins, and marks.
-use Rattle.std.proofs.Common.{◌≡◌, ◌≢◌, ℕ, ◌+◌, ◌<◌, ◌&&◌, Bool, true, false, not, if◌then◌else◌, nat_eq, List, [], ◌∷◌, ◌++◌, length, get_or, drop, Option, Some, None, refl, sym, ap, ◌∙◌, subst, append_assoc, arith, eq-eqb}
-use Rattle.std.proofs.Math.Bool.{and-false}
+use Rattle.std.proofs.Common.{◌≡◌, ℕ, ◌+◌, ◌<◌, ◌&&◌, Bool, true, false, not, nat_eq, List, [], ◌∷◌, ◌++◌, length, get_or, drop, Some, None, refl, sym, ap, ◌∙◌, append_assoc}
 use Rattle.std.proofs.lemmas.List.{append-nil, drop_more}
 use Rattle.std.proofs.lemmas.Bool.{false_from_ne_true}
-use Rattle.std.specs.Borrow.{Bor}
 use borrow.Author.Tests.{eqb-true}
 use Rattle.vs_lexer.specs.declared.fault.Refusal.TheVariants as r
-use Rattle.vs_lexer.specs.declared.piece.Piece.{Piece}
 use Rattle.vs_lexer.specs.declared.piece.Piece.TheVariants.{Skipped, Token, Refused}
 use Rattle.vs_lexer.specs.declared.piece.Read.{Read}
 use Rattle.vs_lexer.specs.declared.token.Kind.{Kind}
 use Rattle.vs_lexer.specs.declared.token.Kind.TheVariants as k
 use Rattle.vs_lexer.specs.declared.token.Mark.TheVariants as m
-use Rattle.vs_lexer.specs.Bytes.{is_white, in_line, in_comment, in_attribute, begins}
-use Rattle.vs_lexer.specs.Pieces.{Form, run_of, line_piece, among, after_pair, closed_piece, closed_by, slash_form, opens_attribute, parenthesis_form, mark_form, directive_form, token_of, one_byte_piece}
+use Rattle.vs_lexer.specs.Bytes.{is_white, in_line, in_comment, in_attribute}
+use Rattle.vs_lexer.specs.Pieces.{Form, run_of, line_piece, among, after_pair, closed_by, slash_form, opens_attribute, parenthesis_form, mark_form, token_of, one_byte_piece}
 use Rattle.vs_lexer.specs.Reserved.{kind_in, one_byte_marks, two_byte_marks, three_byte_marks}
-use Rattle.vs_lexer.specs.Spelling.{Longest, Begins}
 use Rattle.vs_lexer.specs.Reading.{Reads, HasNoMarkOfTwo, HasNoMarkOfThree}
 use Rattle.vs_lexer.proofs.Pairs.{after_pair-append}
 
@@ -144,7 +140,3 @@ mark_of_one a after bytes read splits at is none =
     longer b [] rest e = ap token_of (none.1 a b rest (splits ∙ ap (λ (u : List ℕ). a ∷ u) e))
     longer b (x ∷ []) rest e = ap token_of (none.0 a b x rest (splits ∙ ap (λ (u : List ℕ). a ∷ u) e))
     longer b (x ∷ y ∷ more) rest e = refl
-
-pub lone_backquote : (backquote : ℕ) (after : List ℕ) (read : Read) → read.rest.now ≡ after → read.piece ≡ Refused r.BadDirective → Reads directive_form (backquote ∷ after) read
-unfolding directive_form
-lone_backquote backquote after read at is = alone_reads directive_form backquote after read at (ap Some (sym is)) (λ b more rest e. refl)

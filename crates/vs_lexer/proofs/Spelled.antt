@@ -1,11 +1,11 @@
 -- How the tokens read so far and those to come make up the tokens of the source.
-use Rattle.std.proofs.Common.{◌≡◌, ℕ, ◌+◌, ◌-◌, ◌≤◌, ◌<◌, List, [], ◌∷◌, ◌++◌, length, map, take, drop, Some, None, refl, sym, ap, ◌∙◌, subst, append_assoc, arith, length-append}
+use Rattle.std.proofs.Common.{◌≡◌, ℕ, ◌+◌, ◌-◌, ◌≤◌, ◌<◌, List, [], ◌∷◌, ◌++◌, length, take, refl, sym, ap, ◌∙◌, subst, append_assoc, arith, length-append}
 use Rattle.std.proofs.lemmas.List.{append-nil, take_at}
 use Rattle.vs_lexer.specs.declared.fault.LexFault.{LexFault}
 use Rattle.vs_lexer.specs.declared.fault.LexFault.TheVariants as f
 use Rattle.vs_lexer.specs.declared.fault.Refusal.TheVariants as r
 use Rattle.vs_lexer.specs.declared.piece.Piece.{Piece}
-use Rattle.vs_lexer.specs.declared.piece.Piece.TheVariants.{Skipped, Token, Refused}
+use Rattle.vs_lexer.specs.declared.piece.Piece.TheVariants.{Skipped, Token}
 use Rattle.vs_lexer.specs.declared.token.Kind.{Kind}
 use Rattle.vs_lexer.specs.Pieces.{piece_of}
 use Rattle.vs_lexer.specs.Spelling.{Begins, Spells, Reaches, ends, skips, reads, stays, passes, takes, source_limit, IsSpelled, IsRefused, at_piece, at_limit, Fails}

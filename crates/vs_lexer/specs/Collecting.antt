@@ -1,5 +1,5 @@
 -- What has been collected of a vector's digits.
-use Rattle.std.specs.Prelude.{ℕ, ◌≡◌, List, [], ◌∷◌, length, take, min}
+use Rattle.std.specs.Prelude.{◌≡◌, List, length, take, min}
 use Rattle.vs_logic4.specs.declared.digit.Digit.{Digit}
 use Rattle.vs_logic4.specs.declared.digit.Digit.TheVariants.{Zero}
 use Rattle.vs_lexer.specs.declared.collector.Collector.{Collector}

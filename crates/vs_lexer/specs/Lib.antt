@@ -1,8 +1,10 @@
 pub mod Bytes
 pub mod Collecting
+pub mod Directives
 pub mod Numbers
 pub mod Pieces
 pub mod Reading
 pub mod Reserved
 pub mod Spelling
+pub mod Texts
 pub mod Tokens

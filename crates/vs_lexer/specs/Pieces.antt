@@ -1,20 +1,20 @@
 -- The pieces of a source: its tokens, what is skipped between them, and what is refused (IEEE 1364-2005, clause 3).
 -- Each form of piece says whether a text is one, given the bytes that follow it.
-use Rattle.std.specs.Prelude.{ℕ, ◌+◌, ◌-◌, ◌*◌, ◌^◌, ◌==◌, ◌&&◌, ◌||◌, Bool, true, false, not, List, [], ◌∷◌, ◌++◌, length, Option, None, Some, if◌then◌else◌, nat_lt}
+use Rattle.std.specs.Prelude.{ℕ, ◌^◌, ◌==◌, ◌&&◌, ◌||◌, Bool, true, false, not, List, [], ◌∷◌, ◌++◌, length, Option, None, Some, if◌then◌else◌, nat_lt}
 use Rattle.std.specs.Char.{is_ascii_digit, is_ascii_alphabetic}
 use Rattle.std.specs.List.{list_all}
-use Rattle.vs_logic4.specs.Vectors.{of_number}
-use Rattle.vs_lexer.specs.declared.fault.Refusal.{Refusal}
 use Rattle.vs_lexer.specs.declared.fault.Refusal.TheVariants as r
 use Rattle.vs_lexer.specs.declared.piece.Piece.{Piece}
 use Rattle.vs_lexer.specs.declared.piece.Piece.TheVariants.{Skipped, Token, Refused}
 use Rattle.vs_lexer.specs.declared.token.Kind.{Kind}
 use Rattle.vs_lexer.specs.declared.token.Kind.TheVariants as k
-use Rattle.vs_lexer.specs.declared.token.Literal.{Literal}
+use Rattle.vs_lexer.specs.declared.token.Directive.{Directive}
 use Rattle.vs_lexer.specs.declared.token.Mark.TheVariants as m
-use Rattle.vs_lexer.specs.Bytes.{is_white, starts_name, in_name, in_escaped, in_decimal, in_line, in_comment, in_attribute, begins, front_run, after_run}
+use Rattle.vs_lexer.specs.Bytes.{is_white, starts_name, in_name, in_escaped, in_decimal, in_line, in_comment, in_attribute, front_run, after_run}
 use Rattle.vs_lexer.specs.declared.base.Base.{Base}
 use Rattle.vs_lexer.specs.Numbers.{value_after, plain_literal, based_literal, is_well_formed, fits_unsized, starts_digits, in_digits, base_of, is_sign}
+use Rattle.vs_lexer.specs.Directives.{directive_at}
+use Rattle.vs_lexer.specs.Texts.{TextEnd, ended, open_yet, text_end}
 use Rattle.vs_lexer.specs.Reserved.{kind_in, words, left_out_words, one_byte_marks, two_byte_marks, three_byte_marks}
 
 -- a form of piece: what piece a text is, where these bytes follow it, or none
@@ -170,6 +170,17 @@ abbrev pub one_byte_piece : Option Kind → Piece
 one_byte_piece None = Refused r.BadByte
 one_byte_piece (Some kind) = Token kind
 
+-- a text that has ended at its end, or that is not closed
+abbrev pub text_piece : TextEnd → Option Piece
+text_piece (ended piece []) = Some piece
+text_piece (ended piece (_ ∷ _)) = None
+text_piece open_yet = Some (Refused r.Unclosed)
+
+-- what a quotation mark begins: a text (clause 3.6)
+unfoldable pub text_form : Form
+text_form [] rest = None
+text_form (b ∷ bs) rest = text_piece (text_end bs)
+
 -- a mark or an operator (clause 3.4)
 unfoldable pub mark_form : Form
 mark_form [] rest = None
@@ -178,11 +189,20 @@ mark_form (a ∷ b ∷ []) rest = token_of (kind_in two_byte_marks (a ∷ b ∷ 
 mark_form (a ∷ b ∷ c ∷ []) rest = token_of (kind_in three_byte_marks (a ∷ b ∷ c ∷ []))
 mark_form (a ∷ b ∷ c ∷ d ∷ bs) rest = None
 
+-- a directive that is all of the bytes
+abbrev pub directive_piece : Option (Directive × List ℕ) → Option Piece
+directive_piece None = None
+directive_piece (Some x) = whole x.0 x.1
+  where
+    whole : Directive → List ℕ → Option Piece
+    whole directive [] = Some (Token (k.Directive directive))
+    whole directive (_ ∷ _) = None
+
 -- a directive; no other backquote is in scope (clause 19, profile)
 unfoldable pub directive_form : Form
 directive_form [] rest = None
 directive_form (b ∷ []) rest = Some (Refused r.BadDirective)
-directive_form (b ∷ c ∷ bs) rest = None
+directive_form (b ∷ c ∷ bs) rest = directive_piece (directive_at (c ∷ bs))
 
 -- the form of a piece, by its first byte
 unfoldable pub form_of : ℕ → Form
@@ -190,13 +210,14 @@ form_of b =
     if is_white b then run_of is_white white_piece
     else (if starts_name b then run_of in_name name_piece
     else (if is_ascii_digit b then number_form
+    else (if b == 34 then text_form
     else (if b == 36 then run_of in_name system_piece
     else (if b == 39 then apostrophe_form
     else (if b == 40 then parenthesis_form
     else (if b == 47 then slash_form
     else (if b == 92 then run_of in_escaped escaped_piece
     else (if b == 96 then directive_form
-    else mark_form))))))))
+    else mark_form)))))))))
 
 -- what piece a text is, where these bytes follow it
 abbrev pub piece_of : Form

@@ -150,7 +150,7 @@ left_out_words =
     (codes "xor", k.LeftOut) ∷
     []
 
--- marks and operators of one byte (clauses 3.3 and 5)
+-- marks and operators of one byte (clauses 3.4 and 5)
 abbrev pub one_byte_marks : List (List ℕ × Kind)
 one_byte_marks =
     (codes "#", k.Mark m.Hash) ∷
@@ -181,7 +181,7 @@ one_byte_marks =
     (codes ">", k.Mark m.Greater) ∷
     []
 
--- marks and operators of two bytes (clauses 3.3 and 5)
+-- marks and operators of two bytes (clauses 3.4 and 5)
 abbrev pub two_byte_marks : List (List ℕ × Kind)
 two_byte_marks =
     (codes "+:", k.Mark m.PlusColon) ∷
@@ -204,7 +204,7 @@ two_byte_marks =
     (codes "*>", k.Mark m.FullPath) ∷
     []
 
--- marks and operators of three bytes (clauses 3.3 and 5)
+-- marks and operators of three bytes (clauses 3.4 and 5)
 abbrev pub three_byte_marks : List (List ℕ × Kind)
 three_byte_marks =
     (codes "<<<", k.Mark m.ArithmeticShiftLeft) ∷

@@ -1,5 +1,7 @@
 -- Tokens.
-use Rattle.std.specs.Prelude.{ℕ, ◌==◌, Bool, true, false, List, [], ◌∷◌, map, if◌then◌else◌}
+use Rattle.std.specs.Prelude.{ℕ, ◌==◌, Bool, true, false, List, [], ◌∷◌, map, if◌then◌else◌, codes}
+use Rattle.vs_lexer.specs.declared.fault.Refusal.{Refusal}
+use Rattle.vs_lexer.specs.declared.fault.Refusal.TheVariants as r
 use Rattle.vs_lexer.specs.declared.token.Kind.{Kind}
 use Rattle.vs_lexer.specs.declared.token.Mark.{Mark}
 use Rattle.vs_lexer.specs.declared.token.Mark.TheVariants as m
@@ -31,3 +33,12 @@ is_left_out m.ParallelPath = true
 is_left_out m.FullPath = true
 is_left_out m.EventAnd = true
 is_left_out _ = false
+
+-- the number of a refusal, as it is printed (profile)
+abbrev pub refusal_text : Refusal → List ℕ
+refusal_text r.BadByte = codes "L1"
+refusal_text r.Unclosed = codes "L2"
+refusal_text r.BadLiteral = codes "L3"
+refusal_text r.TooLarge = codes "L4"
+refusal_text r.BadDirective = codes "L5"
+refusal_text r.TooLong = codes "L6"

@@ -24,16 +24,20 @@ pub enum Refusal {
 }
 
 impl fmt::Display for Refusal {
+    ghost use Rattle.std.specs.Prelude.{Some};
+    ghost use Rattle.vs_lexer.specs.Tokens.{refusal_text};
+
+    ghost output = { λ refusal. Some (refusal_text refusal) };
+
     fn fmt<W: fmt::Write>(&self, f: &mut fmt::Formatter<W>) -> fmt::Result {
-        let text = match self {
-            Refusal::BadByte => "L1",
-            Refusal::Unclosed => "L2",
-            Refusal::BadLiteral => "L3",
-            Refusal::TooLarge => "L4",
-            Refusal::BadDirective => "L5",
-            Refusal::TooLong => "L6",
-        };
-        write!(f, "{text}")
+        match self {
+            Refusal::BadByte => f.write_str("L1"),
+            Refusal::Unclosed => f.write_str("L2"),
+            Refusal::BadLiteral => f.write_str("L3"),
+            Refusal::TooLarge => f.write_str("L4"),
+            Refusal::BadDirective => f.write_str("L5"),
+            Refusal::TooLong => f.write_str("L6"),
+        }
     }
 }
 

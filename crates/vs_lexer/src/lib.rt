@@ -4,6 +4,7 @@
 mod base;
 mod collector;
 mod comments;
+mod directives;
 mod fault;
 mod laws;
 mod lexing;
@@ -13,8 +14,10 @@ mod names;
 mod numbers;
 mod piece;
 mod reserved;
+mod resolving;
 mod runs;
 mod scan;
+mod texts;
 mod token;
 
 pub use fault::{LexFault, Refusal};

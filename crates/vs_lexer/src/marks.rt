@@ -1,6 +1,6 @@
-//! Marks and operators (IEEE 1364-2005, clauses 3.3 and 5).
+//! Marks and operators (IEEE 1364-2005, clauses 3.4 and 5).
 ghost use Rattle.std.specs.Prelude.{◌≡◌, ◌∷◌, MatchOption};
-ghost use Rattle.vs_lexer.specs.Pieces.{mark_form, directive_form};
+ghost use Rattle.vs_lexer.specs.Pieces.{mark_form};
 ghost use Rattle.vs_lexer.specs.Reading.{Reads, HasNoMarkOfTwo, HasNoMarkOfThree};
 
 use crate::fault::Refusal;
@@ -56,16 +56,6 @@ pub(crate) fn read_mark<'s>(first: u8, after: &'s [u8], bytes: &'s [u8]) -> Read
     };
     Read {
         piece: Piece::Token(kind),
-        rest: after,
-    }
-}
-
-/// Reads a directive, from the bytes after its backquote.
-pub(crate) fn read_directive(backquote: u8, after: &[u8]) -> Read<'_>
-    ensures { Reads directive_form (backquote ∷ after.now) result }
-{
-    Read {
-        piece: Piece::Refused(Refusal::BadDirective),
         rest: after,
     }
 }

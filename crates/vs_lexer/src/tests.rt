@@ -1,5 +1,5 @@
 //! Tokens of sources by hand: what the standard and the profile say of them.
-use crate::{Kind, Literal, Token, lex};
+use crate::{Kind, Literal, Mark, Token, lex};
 use std::alloc::{AllocError, Global};
 use std::test::Fail;
 use vs_logic4::Digit;
@@ -104,6 +104,7 @@ fn skipped(rt: HostRuntime) -> Result<(), Fail> {
         ("// \u{1}\n", "L1 at 0"),
         ("a /* \u{1} */", "L1 at 2"),
         ("/* \u{e9} */ a", "n9+1 "),
+        ("(* x = \"*) y\" *)", "L2 at 12"),
         ("(* full *) a", "n11+1 "),
         ("(**)a", "n4+1 "),
         ("@(*) a", "m0+1 m1+1 m2+1 m3+1 n5+1 "),
@@ -178,6 +179,60 @@ fn numbers(rt: HostRuntime) -> Result<(), Fail> {
 }
 
 #[test]
+fn texts(rt: HostRuntime) -> Result<(), Fail> {
+    for (source, wanted) in [
+        ("\"\" a", "t0+2 n3+1 "),
+        ("\"%d\", x", "t0+4 m4+1 n6+1 "),
+        ("\"a\\n\\t\\\\\\\"\"", "t0+11 "),
+        ("\"\\1\\12\\377\\18\"", "t0+14 "),
+        ("\"\u{e9}\u{7f}\t\"", "t0+6 "),
+        ("a \"b\rc\"", "n0+1 t2+5 "),
+        ("\"\\400\"", "L3 at 0"),
+        ("x \"\\q\"", "L3 at 2"),
+        ("\"\\8\"", "L3 at 0"),
+        ("\"\\\n\"", "L3 at 0"),
+        ("\"a\nb\"", "L2 at 0"),
+        ("a \"b", "L2 at 2"),
+        ("\"\\\"", "L2 at 0"),
+        ("\"b\\", "L2 at 0"),
+        ("\"\u{1}\"", "L1 at 0"),
+    ] {
+        assert_eq!(rt;
+            shown(rt.alloc(), source.as_bytes())?.as_str(),
+            wanted,
+            "of {source:?}"
+        );
+    }
+    Ok(())
+}
+
+#[test]
+fn directives(rt: HostRuntime) -> Result<(), Fail> {
+    for (source, wanted) in [
+        ("`timescale 1ns/1ps", "d0+18 "),
+        ("`timescale\t100 s / 10\nms a", "d0+24 n25+1 "),
+        ("`timescale 1ns/1psx", "d0+18 n18+1 "),
+        ("`default_nettype none", "d0+21 "),
+        ("`default_nettype wirex", "d0+21 n21+1 "),
+        ("`timescale 1ps/1ns", "L5 at 0"),
+        ("`timescale 1ps/10ps", "L5 at 0"),
+        ("`timescale 1000ns/1ns", "L5 at 0"),
+        ("`timescale 2ns/1ns", "L5 at 0"),
+        ("`timescale1ns/1ns", "L5 at 0"),
+        ("a `default_nettype tri", "L5 at 2"),
+        ("`define x", "L5 at 0"),
+        ("`", "L5 at 0"),
+    ] {
+        assert_eq!(rt;
+            shown(rt.alloc(), source.as_bytes())?.as_str(),
+            wanted,
+            "of {source:?}"
+        );
+    }
+    Ok(())
+}
+
+#[test]
 fn limits(rt: HostRuntime) -> Result<(), Fail> {
     let name = vec![in rt.alloc(); b'a'; 1024]?;
     assert_eq!(rt; shown(rt.alloc(), &name)?.as_str(), "n0+1024 ");
@@ -187,5 +242,27 @@ fn limits(rt: HostRuntime) -> Result<(), Fail> {
     assert_eq!(rt; shown(rt.alloc(), &spaces)?.as_str(), "");
     let spaces = vec![in rt.alloc(); b' '; 4194305]?;
     assert_eq!(rt; shown(rt.alloc(), &spaces)?.as_str(), "L6 at 4194304");
+    Ok(())
+}
+
+#[test]
+fn text_values(rt: HostRuntime) -> Result<(), Fail> {
+    let alloc = rt.alloc();
+    for (source, wanted) in [
+        ("\"\"", ""),
+        ("\"%d, ok\"", "%d, ok"),
+        ("\"a\\n\\t\\\\\\\"\"", "a\n\t\\\""),
+        ("\"\\1\\12\\1018\\45d\"", "\u{1}\nA8%d"),
+    ] {
+        for token in &lex(alloc, source.as_bytes())? {
+            let value = token.text(alloc)?;
+            assert_eq!(rt; value.as_slice(), wanted.as_bytes(), "of {source:?}");
+        }
+    }
+    let tokens = lex(alloc, b"\\a+b *")?;
+    assert_eq!(rt; tokens.len(), 2);
+    assert_eq!(rt; tokens[0].name(), b"a+b".as_slice());
+    assert_eq!(rt; tokens[1].kind, Kind::Mark(Mark::Star));
+    assert!(rt; !Mark::Star.is_left_out());
     Ok(())
 }

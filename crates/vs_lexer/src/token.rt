@@ -1,7 +1,11 @@
 //! Tokens: what a source is read as.
-ghost use Rattle.std.specs.Prelude.{◌≡◌};
+ghost use Rattle.std.specs.Prelude.{◌≡◌, ◌≤◌, IfOk};
+ghost use Rattle.vs_lexer.specs.Directives.{exponent};
+ghost use Rattle.vs_lexer.specs.Texts.{text_value};
 ghost use Rattle.vs_lexer.specs.Tokens.{name_of, is_left_out};
 
+use crate::resolving::resolve;
+use std::alloc::{AllocError, Global};
 use vs_logic4::Vec4;
 
 /// A token: what it is, where it begins in the source (in bytes), and the bytes that it is.
@@ -22,6 +26,13 @@ impl<'s> Token<'s> {
             [b'\\', name @ ..] => name,
             bytes => bytes,
         }
+    }
+
+    /// Of a text: the bytes that it stands for, its escapes resolved.
+    pub fn text(&self, alloc: Global) -> Result<Vec<u8>, AllocError>
+        ensures { IfOk result (λ v. v.items ≡ text_value self.now.bytes.now) }
+    {
+        resolve(alloc, self.bytes)
     }
 }
 
@@ -230,6 +241,29 @@ pub enum ImplicitNet {
 pub struct Time {
     pub number: Magnitude,
     pub unit: TimeUnit,
+}
+
+impl Time {
+    /// The power of ten that this time is in femtoseconds.
+    pub fn exponent(self) -> u32
+        ensures value { result ≡ exponent self }
+        ensures small { result ≤ 17 }
+    {
+        let unit = match self.unit {
+            TimeUnit::Seconds => 15,
+            TimeUnit::Milliseconds => 12,
+            TimeUnit::Microseconds => 9,
+            TimeUnit::Nanoseconds => 6,
+            TimeUnit::Picoseconds => 3,
+            TimeUnit::Femtoseconds => 0,
+        };
+        let number = match self.number {
+            Magnitude::One => 0,
+            Magnitude::Ten => 1,
+            Magnitude::Hundred => 2,
+        };
+        unit + number
+    }
 }
 
 /// The number of a time.

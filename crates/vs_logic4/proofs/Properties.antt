@@ -1,5 +1,5 @@
 -- The laws of vectors.
-use Rattle.std.proofs.Common.{◌≡◌, ℕ, zero, suc, ◌+◌, ◌-◌, ◌*◌, ◌%◌, ◌^◌, ◌<◌, ◌≤◌, ◌⊎◌, ℤ, pos, negsuc, ◌+ℤ◌, ◌-ℤ◌, neg_ℤ, Bool, true, false, List, [], ◌∷◌, ◌++◌, length, take, replicate, get_or, slice_get, Some, None, refl, sym, ap, ◌∙◌, ⊎_elim, arith}
+use Rattle.std.proofs.Common.{◌≡◌, ℕ, suc, ◌+◌, ◌-◌, ◌*◌, ◌^◌, ◌<◌, ◌≤◌, ◌⊎◌, ℤ, pos, negsuc, ◌+ℤ◌, ◌-ℤ◌, neg_ℤ, Bool, true, List, [], ◌∷◌, length, get_or, slice_get, Some, refl, sym, ap, ◌∙◌, ⊎_elim, arith}
 use Rattle.std.proofs.lemmas.Bool.{cases_lt}
 use Rattle.std.proofs.lemmas.Int.{ints}
 use Rattle.std.proofs.lemmas.List.{take_all, append-nil, ext_get_or, get_or_past, get_or_default}
@@ -7,11 +7,11 @@ use Rattle.std.proofs.lemmas.Option.{slice_get-get_or, slice_get_past, same_Some
 use Rattle.vs_logic4.specs.declared.digit.Digit.{Digit}
 use Rattle.vs_logic4.specs.declared.digit.Digit.TheVariants.{X}
 use Rattle.vs_logic4.specs.Planes.{digits_of_planes}
-use Rattle.vs_logic4.specs.PlaneLaws.{of_number_is, length-digits_of_planes}
-use Rattle.vs_logic4.specs.Vectors.{of_number, resized, extension_digit}
+use Rattle.vs_logic4.specs.PlaneLaws.{of_number_is}
+use Rattle.vs_logic4.specs.Vectors.{resized}
 use Rattle.vs_logic4.specs.Comparisons.{is_known}
 use Rattle.vs_logic4.specs.Arithmetic.{number, integer, of_integer}
-use Rattle.vs_logic4.specs.Parts.{digit_at, selected, replaced_from, with_part}
+use Rattle.vs_logic4.specs.Parts.{digit_at, selected, with_part}
 use Rattle.vs_logic4.proofs.Numbers.{of_number-number, number-lt, integer_is, sign_bit, of_integer_is}
 use Rattle.vs_logic4.proofs.Parts.{get_or-selected, get_or-replaced_from}
 use Rattle.vs_logic4.specs.Lengths.{length-selected, length-with_part}

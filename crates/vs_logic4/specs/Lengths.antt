@@ -1,9 +1,9 @@
 -- How long the result of each operator is.
-use Rattle.std.proofs.Common.{◌≡◌, ℕ, zero, suc, ◌+◌, ◌-◌, ◌*◌, min, ℤ, pos, ◌+ℤ◌, neg_ℤ, eqb, Bool, true, false, cond, ◌&&◌, List, [], ◌∷◌, ◌++◌, length, replicate, take, drop, refl, sym, ap, ◌∙◌, arith}
+use Rattle.std.proofs.Common.{◌≡◌, ℕ, zero, suc, ◌+◌, ◌-◌, ◌*◌, min, ℤ, pos, ◌+ℤ◌, neg_ℤ, eqb, Bool, true, false, cond, ◌&&◌, List, [], ◌∷◌, length, replicate, take, drop, refl, ap, arith}
 use Rattle.std.proofs.lemmas.List.{length-replicate, length-append, length-take, length-drop}
 use Rattle.vs_logic4.specs.declared.digit.Digit.{Digit}
 use Rattle.vs_logic4.specs.declared.digit.Digit.TheVariants.{Zero, X}
-use Rattle.vs_logic4.specs.Vectors.{of_number, all_unknown, extension_digit}
+use Rattle.vs_logic4.specs.Vectors.{all_unknown, extension_digit}
 use Rattle.vs_logic4.specs.PlaneLaws.{length-of_number}
 use Rattle.vs_logic4.specs.Comparisons.{is_known}
 use Rattle.vs_logic4.specs.Bitwise.{digitwise}

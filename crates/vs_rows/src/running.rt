@@ -20,17 +20,9 @@ pub struct Input<'s> {
 
 impl<'s> Read for Input<'s> {
     fn read(&mut self, buf: &mut [u8]) -> io::Result<usize> {
-        let mut n = 0;
-        for slot in buf.iter_mut() {
-            match self.rest.split_first() {
-                Some((byte, rest)) => {
-                    *slot = *byte;
-                    self.rest = rest;
-                    n += 1;
-                }
-                None => {}
-            }
-        }
+        let n = buf.len().min(self.rest.len());
+        buf[..n].copy_from_slice(&self.rest[..n]);
+        self.rest = &self.rest[n..];
         Ok(n)
     }
 }

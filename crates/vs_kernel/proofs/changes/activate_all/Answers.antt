@@ -1,4 +1,4 @@
-use Rattle.std.proofs.Common.{◌≡◌, ◌∙◌, ap, ◌<◌, length, slice_set, arith}
+use Rattle.std.proofs.Common.{◌∙◌, ap, ◌<◌, length, slice_set, arith}
 use Rattle.std.proofs.lemmas.List.Edits.{map_over_more}
 use Rattle.vs_process.specs.States.{activated}
 use Rattle.vs_kernel.proofs.changes.activate_all.Goals as goal

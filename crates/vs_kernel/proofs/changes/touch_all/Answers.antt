@@ -1,4 +1,4 @@
-use Rattle.std.proofs.Common.{◌≡◌, ◌∙◌, ap, ◌<◌, length, slice_set, arith}
+use Rattle.std.proofs.Common.{◌∙◌, ap, ◌<◌, length, slice_set, arith}
 use Rattle.std.proofs.lemmas.List.Edits.{map_over_more}
 use Rattle.vs_kernel.specs.Touches.{touched_by}
 use Rattle.vs_kernel.proofs.changes.touch_all.Goals as goal

@@ -1,4 +1,4 @@
-use Rattle.std.proofs.Common.{◌≡◌, ◌∙◌, ap, ◌<◌, length, slice_set, arith}
+use Rattle.std.proofs.Common.{◌∙◌, ap, ◌<◌, length, slice_set, arith}
 use Rattle.std.proofs.lemmas.List.Edits.{map_over_more}
 use Rattle.vs_process.specs.States.{woken_at}
 use Rattle.vs_kernel.proofs.changes.wake_all.Goals as goal

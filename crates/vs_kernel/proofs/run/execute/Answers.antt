@@ -1,4 +1,4 @@
-use Rattle.std.proofs.Common.{◌≡◌, ◌∙◌, ◌<◌, sym, false, subst, arith}
+use Rattle.std.proofs.Common.{◌≡◌, ◌∙◌, ◌<◌, sym, false, arith}
 use Rattle.std.proofs.lemmas.Bool.{false≢true}
 use Rattle.vs_kernel.proofs.Running.{begins, goes_on, reached, quiet, header_failed, move_failed, end_failed, part_failed, slots_whole, on_err}
 use Rattle.vs_kernel.proofs.run.execute.Goals as goal

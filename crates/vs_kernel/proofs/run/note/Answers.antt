@@ -1,11 +1,10 @@
-use Rattle.std.proofs.Common.{◌≡◌, ◌++◌, [], ◌∷◌, sym, ap, subst, List, ◌∙◌}
+use Rattle.std.proofs.Common.{◌++◌, [], sym, ap, subst, List, ◌∙◌}
 use Rattle.std.proofs.lemmas.List.{append-nil}
 use Rattle.vs_design.specs.Traces.{Slot}
 use Rattle.vs_process.specs.declared.moves.Move.{Move}
 use Rattle.vs_process.specs.Executions.{ended_slot}
 use Rattle.vs_vcd.specs.Progress.{HasWritten}
 use Rattle.vs_vcd.specs.Text.{vcd_slots, vcd_slot}
-use Rattle.vs_kernel.specs.Runs.{AppendsSlots}
 use Rattle.vs_kernel.proofs.Running.{not_ended, append_none, ended_here, slot_failed, on_err}
 use Rattle.vs_kernel.proofs.run.note.Goals as goal
 

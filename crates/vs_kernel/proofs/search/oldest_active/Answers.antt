@@ -1,4 +1,4 @@
-use Rattle.std.proofs.Common.{◌≡◌, ◌<◌, ◌∙◌, sym, true, Some, length, slice_get, refl, arith}
+use Rattle.std.proofs.Common.{◌≡◌, ◌<◌, ◌∙◌, sym, Some, length, slice_get, refl, arith}
 use Rattle.std.proofs.lemmas.Option.{slice_get_read}
 use Rattle.vs_kernel.proofs.Firsts.{oldest_is_first}
 use Rattle.vs_kernel.proofs.search.oldest_active.Goals as goal

@@ -1,4 +1,4 @@
-use Rattle.std.proofs.Common.{refl, sym, ◌∙◌}
+use Rattle.std.proofs.Common.{refl}
 use Rattle.vs_lexer.specs.Bytes.{in_line}
 use Rattle.vs_lexer.specs.Pieces.{line_piece}
 use Rattle.vs_lexer.proofs.LongestRuns.{run_reads}

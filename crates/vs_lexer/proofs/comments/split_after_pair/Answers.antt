@@ -1,4 +1,4 @@
-use Rattle.std.proofs.Common.{◌≡◌, ◌+◌, ◌≤◌, ◌<◌, None, length, take, arith, sym, ◌∙◌, take-append-drop}
+use Rattle.std.proofs.Common.{◌+◌, arith, sym, take-append-drop}
 use Rattle.vs_lexer.proofs.Pairs.{pair_found, pair_missing}
 use Rattle.vs_lexer.proofs.comments.split_after_pair.Goals as goal
 use Rattle.vs_lexer.proofs.comments.split_after_pair.Goals.{else-bytes-index-via-then-bytes-index+else-bytes-index-2, else-bytes-index-via-else-bytes-index}

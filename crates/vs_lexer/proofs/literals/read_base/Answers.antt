@@ -1,4 +1,4 @@
-use Rattle.std.proofs.Common.{◌≡◌, ◌++◌, refl, sym, ap, ◌∙◌}
+use Rattle.std.proofs.Common.{◌≡◌, ◌++◌, sym, ap, ◌∙◌}
 use Rattle.vs_lexer.proofs.BasedNumbers.{no_base_here, no_digit_here, base_reads, no_digits, other_digit}
 use Rattle.vs_lexer.proofs.literals.read_base.Goals as goal
 

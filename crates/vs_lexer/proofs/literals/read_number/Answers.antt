@@ -1,4 +1,4 @@
-use Rattle.std.proofs.Common.{refl, sym, ap, ◌∙◌}
+use Rattle.std.proofs.Common.{refl}
 use Rattle.vs_lexer.proofs.BasedNumbers.{plain_reads, sized_reads}
 use Rattle.vs_lexer.proofs.Openings.{other_byte}
 use Rattle.vs_lexer.proofs.literals.read_number.Goals as goal

@@ -1,4 +1,4 @@
-use Rattle.std.proofs.Common.{refl, sym, ◌∙◌}
+use Rattle.std.proofs.Common.{refl, sym}
 use Rattle.vs_lexer.proofs.Openings.{mark_of_three}
 use Rattle.vs_lexer.proofs.marks.read_three.Goals as goal
 

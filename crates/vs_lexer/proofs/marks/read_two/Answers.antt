@@ -1,4 +1,4 @@
-use Rattle.std.proofs.Common.{refl, sym, ◌∙◌}
+use Rattle.std.proofs.Common.{refl, sym}
 use Rattle.vs_lexer.proofs.Openings.{mark_of_two}
 use Rattle.vs_lexer.proofs.marks.read_two.Goals as goal
 

@@ -1,4 +1,3 @@
-use Rattle.std.proofs.Common.{refl}
 use Rattle.vs_lexer.specs.Bytes.{in_name}
 use Rattle.vs_lexer.specs.Pieces.{system_piece}
 use Rattle.vs_lexer.proofs.LongestRuns.{run_reads}

@@ -1,4 +1,4 @@
-use Rattle.std.proofs.Common.{◌≡◌, true, refl, sym, ap, ◌∙◌}
+use Rattle.std.proofs.Common.{◌≡◌, true, sym, ap, ◌∙◌}
 use Rattle.std.specs.List.{list_all}
 use Rattle.vs_logic4.specs.Vectors.{of_number}
 use Rattle.vs_lexer.specs.Bytes.{in_decimal}

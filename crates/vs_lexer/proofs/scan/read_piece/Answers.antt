@@ -1,4 +1,3 @@
-use Rattle.std.proofs.Common.{sym}
 use Rattle.vs_lexer.proofs.Forms.{piece_by_first}
 use Rattle.vs_lexer.proofs.scan.read_piece.Goals as goal
 

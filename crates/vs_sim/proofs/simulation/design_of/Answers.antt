@@ -14,7 +14,7 @@ returns-in_err-design c =
       read = record {
         tokens = lexemes c.in_ok-tokens.tokens.items;
         spelled = c.in_ok-tokens.ensures;
-        derived = subst (λ ts. Derives (symbols (lexemes ts)) c.in_ok-tree.tree) c.deref.ensures.value c.in_ok-tree.ensures;
+        derived = subst (λ ts. Derives (symbols (lexemes ts)) c.in_ok-tree.tree) c.deref.ensures.value c.in_ok-tree.ensures.exact;
       };
       refused = c.in_err-design.ensures.defined;
     })
@@ -25,7 +25,7 @@ returns c = record {
   read = record {
     tokens = lexemes c.in_ok-tokens.tokens.items;
     spelled = c.in_ok-tokens.ensures;
-    derived = subst (λ ts. Derives (symbols (lexemes ts)) c.in_ok-tree.tree) c.deref.ensures.value c.in_ok-tree.ensures;
+    derived = subst (λ ts. Derives (symbols (lexemes ts)) c.in_ok-tree.tree) c.deref.ensures.value c.in_ok-tree.ensures.exact;
   };
   defined = c.in_ok-design.ensures.defined;
 }

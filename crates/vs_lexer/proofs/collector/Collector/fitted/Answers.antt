@@ -1,4 +1,4 @@
-use Rattle.std.proofs.Common.{sym, ap, ◌∙◌}
+use Rattle.std.proofs.Common.{ap, ◌∙◌}
 use Rattle.vs_lexer.specs.Numbers.{filling}
 use Rattle.vs_lexer.proofs.CollectedDigits.{fitted_is}
 use Rattle.vs_lexer.proofs.collector.Collector.fitted.Goals as goal

@@ -1,4 +1,4 @@
-use Rattle.std.proofs.Common.{◌≤◌, length, drop}
+use Rattle.std.proofs.Common.{drop}
 use Rattle.vs_lexer.specs.Numbers.{digits_vector}
 use Rattle.vs_lexer.specs.Collecting.{Collects}
 use Rattle.vs_lexer.proofs.collector.Collector.of_text.Given as goal

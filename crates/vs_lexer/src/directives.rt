@@ -1,0 +1,176 @@
+//! Directives (IEEE 1364-2005, clause 19).
+ghost use Rattle.std.specs.Prelude.{◌≡◌, ◌∷◌, MatchOption, None, Some};
+ghost use Rattle.vs_lexer.specs.Directives.{behind, behind_white, next_is, next_is_white, number_at, unit_at, time_at, timescale_at, nettype_at, directive_at};
+ghost use Rattle.vs_lexer.specs.Pieces.{directive_form};
+ghost use Rattle.vs_lexer.specs.Reading.{Reads, Gives};
+
+use crate::fault::Refusal;
+use crate::piece::{Piece, Read};
+use crate::runs::{ByteClass, first_and_rest, is_white, split_run};
+use crate::token::{Directive, ImplicitNet, Kind, Magnitude, Time, TimeUnit};
+
+/// The bytes behind a text, if they begin with it.
+#[tactic(auto, unfolding(crate::specs::Directives::behind))]
+fn behind<'s>(text: &[u8], bytes: &'s [u8]) -> Option<&'s [u8]>
+    ensures { MatchOption result (behind text.now bytes.now ≡ None) (λ rest. behind text.now bytes.now ≡ Some rest.now) }
+{
+    let Some((wanted, more)) = first_and_rest(text) else {
+        return Some(bytes);
+    };
+    let Some((found, after)) = first_and_rest(bytes) else {
+        return None;
+    };
+    if found != wanted {
+        return None;
+    }
+    behind(more, after)
+}
+
+/// The bytes behind white space.
+fn behind_white(bytes: &[u8]) -> &[u8]
+    ensures { result.now ≡ behind_white bytes.now }
+{
+    let (_, rest) = split_run(bytes, ByteClass::White);
+    rest
+}
+
+/// Whether the next byte is this one.
+#[tactic(auto, unfolding(crate::specs::Directives::next_is))]
+fn next_is(bytes: &[u8], wanted: u8) -> bool
+    ensures { result ≡ next_is wanted bytes.now }
+{
+    match first_and_rest(bytes) {
+        Some((first, _)) => first == wanted,
+        None => false,
+    }
+}
+
+/// Whether white space comes next.
+#[tactic(auto, unfolding(crate::specs::Directives::next_is_white))]
+fn next_is_white(bytes: &[u8]) -> bool
+    ensures { result ≡ next_is_white bytes.now }
+{
+    match first_and_rest(bytes) {
+        Some((first, _)) => is_white(first),
+        None => false,
+    }
+}
+
+/// Reads the number of a time.
+#[tactic(auto, unfolding(crate::specs::Directives::number_at))]
+fn number_at(bytes: &[u8]) -> Option<(Magnitude, &[u8])>
+    ensures { Gives number_at bytes.now result }
+{
+    let one = behind(b"1", bytes)?;
+    if !next_is(one, b'0') {
+        return Some((Magnitude::One, one));
+    }
+    let ten = behind(b"0", one)?;
+    if !next_is(ten, b'0') {
+        return Some((Magnitude::Ten, ten));
+    }
+    let hundred = behind(b"0", ten)?;
+    Some((Magnitude::Hundred, hundred))
+}
+
+/// Reads the unit of a time.
+#[tactic(auto, unfolding(crate::specs::Directives::unit_at))]
+fn unit_at(bytes: &[u8]) -> Option<(TimeUnit, &[u8])>
+    ensures { Gives unit_at bytes.now result }
+{
+    if next_is(bytes, b's') {
+        let rest = behind(b"s", bytes)?;
+        return Some((TimeUnit::Seconds, rest));
+    }
+    if next_is(bytes, b'm') {
+        let rest = behind(b"ms", bytes)?;
+        return Some((TimeUnit::Milliseconds, rest));
+    }
+    if next_is(bytes, b'u') {
+        let rest = behind(b"us", bytes)?;
+        return Some((TimeUnit::Microseconds, rest));
+    }
+    if next_is(bytes, b'n') {
+        let rest = behind(b"ns", bytes)?;
+        return Some((TimeUnit::Nanoseconds, rest));
+    }
+    if next_is(bytes, b'p') {
+        let rest = behind(b"ps", bytes)?;
+        return Some((TimeUnit::Picoseconds, rest));
+    }
+    let rest = behind(b"fs", bytes)?;
+    Some((TimeUnit::Femtoseconds, rest))
+}
+
+/// Reads a number and a unit.
+#[tactic(auto, unfolding(crate::specs::Directives::time_at))]
+fn time_at(bytes: &[u8]) -> Option<(Time, &[u8])>
+    ensures { Gives time_at bytes.now result }
+{
+    let (number, after) = number_at(bytes)?;
+    let (unit, rest) = unit_at(behind_white(after))?;
+    Some((Time { number, unit }, rest))
+}
+
+/// Reads a timescale, behind its backquote.
+#[tactic(auto, unfolding(crate::specs::Directives::timescale_at))]
+fn timescale_at(bytes: &[u8]) -> Option<(Directive, &[u8])>
+    ensures { Gives timescale_at bytes.now result }
+{
+    let after = behind(b"timescale", bytes)?;
+    if !next_is_white(after) {
+        return None;
+    }
+    let (unit, after) = time_at(behind_white(after))?;
+    let after = behind(b"/", behind_white(after))?;
+    let (precision, rest) = time_at(behind_white(after))?;
+    if unit.exponent() < precision.exponent() {
+        return None;
+    }
+    Some((Directive::Timescale { unit, precision }, rest))
+}
+
+/// Reads what is said of undeclared names, behind its backquote.
+#[tactic(auto, unfolding(crate::specs::Directives::nettype_at))]
+fn nettype_at(bytes: &[u8]) -> Option<(Directive, &[u8])>
+    ensures { Gives nettype_at bytes.now result }
+{
+    let after = behind(b"default_nettype", bytes)?;
+    if !next_is_white(after) {
+        return None;
+    }
+    let after = behind_white(after);
+    if next_is(after, b'w') {
+        let rest = behind(b"wire", after)?;
+        return Some((Directive::DefaultNettype(ImplicitNet::Wire), rest));
+    }
+    let rest = behind(b"none", after)?;
+    Some((Directive::DefaultNettype(ImplicitNet::Forbidden), rest))
+}
+
+/// Reads a directive behind its backquote.
+#[tactic(auto, unfolding(crate::specs::Directives::directive_at))]
+fn directive_at(bytes: &[u8]) -> Option<(Directive, &[u8])>
+    ensures { Gives directive_at bytes.now result }
+{
+    if next_is(bytes, b't') {
+        return timescale_at(bytes);
+    }
+    nettype_at(bytes)
+}
+
+/// Reads a directive, from the bytes after its backquote.
+pub(crate) fn read_directive(backquote: u8, after: &[u8]) -> Read<'_>
+    ensures { Reads directive_form (backquote ∷ after.now) result }
+{
+    let Some((directive, rest)) = directive_at(after) else {
+        return Read {
+            piece: Piece::Refused(Refusal::BadDirective),
+            rest: after,
+        };
+    };
+    Read {
+        piece: Piece::Token(Kind::Directive(directive)),
+        rest,
+    }
+}
