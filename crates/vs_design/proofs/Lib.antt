@@ -1,1 +1,2 @@
+mod Drivers
 mod Stores

@@ -1,3 +1,4 @@
+pub mod Drivers
 pub mod Parts
 pub mod Stores
 pub mod Traces

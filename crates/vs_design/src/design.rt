@@ -69,11 +69,12 @@ pub struct Design {
 impl Model for Design {
     ghost use Rattle.std.specs.Coded.{codes};
     ghost use Rattle.vs_design.specs.Parts.{Parts};
+    ghost use Rattle.vs_design.specs.contracts.expression.Typed as expression;
     ghost use Rattle.vs_design.specs.contracts.statement.Statement as statement;
 
     ghost Value = { Parts };
 
-    ghost coded = { Prim.hlevel (codes, statement.the_row.coded) };
+    ghost coded = { Prim.hlevel (codes, statement.the_row.coded, expression.the_row.coded) };
 
     ghost view = { λ d. record { signals = d.signals.items; assigns = d.assigns.items; processes = d.processes.items; outline = d.outline.items } };
 }

@@ -16,6 +16,17 @@ pub struct Operand {
     pub ghost sized: { (0 < width) × (width ≤ 64) },
 }
 
+/// A bitwise operator of two operands (IEEE 1364-2005, clause 5.1.10).
+#[derive(Clone, Copy, PartialEq, Eq, Debug)]
+pub enum Operator {
+    /// `&`
+    And,
+    /// `^`
+    Xor,
+    /// `|`
+    Or,
+}
+
 /// An expression whose parts have the size and sign of their context.
 #[derive(Debug, Drop)]
 pub enum Typed {
@@ -23,4 +34,8 @@ pub enum Typed {
     Number(Vec4),
     /// A signal at the size of its context.
     Signal(Operand),
+    /// `~` and its operand (IEEE 1364-2005, clause 5.1.10).
+    Not(Box<Typed>),
+    /// A bitwise operator and its two operands.
+    Bitwise(Operator, Box<Typed>, Box<Typed>),
 }

@@ -11,7 +11,7 @@ mod statement;
 mod store;
 
 pub use design::{Assign, Design, Entry, Process, ProcessKind, ScopeKind};
-pub use expression::{Operand, Typed};
+pub use expression::{Operand, Operator, Typed};
 pub use signal::{Signal, SignalKind};
 pub use statement::{Statement, Target, Ticks};
 pub use store::Store;

@@ -1,6 +1,7 @@
 //! Stores.
-ghost use Rattle.std.specs.Prelude.{◌≡◌, ◌<◌, ◌≤◌, ◌∷◌, [], Some, length, slice_get, IfOk, take};
-ghost use Rattle.vs_design.specs.Stores.{word_of, put_part, start_store, start_word, start_words, is_driven};
+ghost use Rattle.std.specs.Prelude.{◌≡◌, true, slice_get, slice_set, IfOk};
+ghost use Rattle.vs_design.specs.Stores.{word_of, put_part, start_store, start_word};
+ghost use Rattle.vs_design.specs.Drivers.{IsTableOf};
 
 use crate::design::{Assign, Design};
 use crate::signal::{Signal, SignalKind};
@@ -25,16 +26,14 @@ impl Model for Store {
 
 impl Store {
     /// The store in which every execution of a design begins.
-    ///
-    /// It looks at every assignment for each net.
     pub fn start(alloc: Global, design: &Design) -> Result<Self, AllocError>
         ensures { IfOk result (λ s. s ≡ start_store design.now) }
     {
         let signals = design.signals();
-        let assigns = design.assigns();
+        let driven = driven_signals(alloc, design.assigns(), signals.len())?;
         let mut words = Vec::new(alloc);
         for i in 0..signals.len() {
-            words.push(start_vector(has_driver(assigns, i), &signals[i]))?;
+            words.push(start_vector(driven[i], &signals[i]))?;
         }
         Ok(Store { words })
     }
@@ -82,11 +81,28 @@ fn first_word(words: &[Vec4], signal: usize) -> Option<Vec4>
     }
 }
 
-// Whether a continuous assignment drives the signal.
-fn has_driver(assigns: &[Assign], signal: usize) -> bool
-    ensures { result ≡ is_driven assigns.now signal }
+// Notes that a signal is driven; a signal past the end is none of the table.
+fn mark(driven: &mut Vec<bool>, signal: usize)
+    ensures { driven.new.items ≡ slice_set driven.old.items signal true }
 {
-    assigns.iter().any(|a| a.target.signal == signal)
+    if signal < driven.len() {
+        driven[signal] = true;
+    }
+}
+
+// For each of so many signals, whether a continuous assignment drives it.
+fn driven_signals(
+    alloc: Global,
+    assigns: &[Assign],
+    signals: usize,
+) -> Result<Vec<bool>, AllocError>
+    ensures { IfOk result (λ driven. IsTableOf assigns.now signals driven.items) }
+{
+    let mut driven = vec![in alloc; false; signals]?;
+    for assign in assigns {
+        mark(&mut driven, assign.target.signal);
+    }
+    Ok(driven)
 }
 
 // What a signal holds before the first step.

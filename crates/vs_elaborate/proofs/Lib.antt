@@ -1,9 +1,12 @@
 pub mod NameLemmas
 pub mod Numbers
-pub mod Bodies
 pub mod Paths
-pub mod Members
+pub mod Folds
+pub mod Sizes
+pub mod Typing
+pub mod Bodies
 pub mod Meanings
+pub mod Members
 pub mod Modules
-pub mod Designs
 pub mod Soundness
+pub mod Designs

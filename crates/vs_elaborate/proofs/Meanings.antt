@@ -1,5 +1,5 @@
 -- From numbers to paths.
-use Rattle.std.proofs.Common.{◌≡◌, ℕ, suc, ◌+◌, Bool, true, false, cond, List, [], ◌∷◌, ◌++◌, Some, IsSome, length, map, slice_get, refl, ap, sym, subst, ◌∙◌, add-zero, zero-add, one-add, not, option_map, get_or, arith, true≢false}
+use Rattle.std.proofs.Common.{◌≡◌, ℕ, suc, ◌+◌, Bool, true, false, cond, List, [], ◌∷◌, ◌++◌, Option, Some, IsSome, length, map, slice_get, refl, ap, sym, subst, ◌∙◌, add-zero, zero-add, one-add, not, option_map, get_or, arith, true≢false}
 use Rattle.std.specs.List.{enumerate_from, AllZip, IsDistinct}
 use Rattle.std.specs.Str.{bytes_eq}
 use Rattle.std.proofs.lemmas.List.{append-nil}
@@ -7,37 +7,48 @@ use Rattle.std.proofs.lemmas.Option.{slice_get-map, slice_get_within, get_or_fro
 use Rattle.std.proofs.lemmas.Map.Keys.{apart_from_distinct}
 use Rattle.std.proofs.lemmas.Slice.Eq.{bytes_eq-Decides}
 use Rattle.vs_syntax.specs.declared.tree.Expr.{Expr}
-use Rattle.vs_syntax.specs.declared.tree.Expr.TheVariants as e
 use Rattle.vs_syntax.specs.declared.tree.Stmt.{Stmt}
+use Rattle.vs_design.specs.declared.expression.Operator.{Operator}
 use Rattle.vs_design.specs.declared.expression.Typed.{Typed}
-use Rattle.vs_design.specs.declared.expression.Typed.TheVariants as t
+use Rattle.vs_design.specs.declared.statement.Target.{Target}
 use Rattle.vs_design.specs.declared.statement.Statement.{Statement}
-use Rattle.vs_design.specs.declared.design.Process.{Process}
 use Rattle.vs_design.specs.declared.design.Entry.{Entry}
 use Rattle.vs_design.specs.declared.design.ScopeKind.TheVariants as kinds
 use Rattle.vs_design.specs.declared.design.Entry.TheVariants.{Enter, Leave}
+use Rattle.vs_elaborate.specs.declared.expressions.Meaning.{Meaning}
 use Rattle.vs_elaborate.specs.Names.{meaning_of, place_of}
 use Rattle.vs_elaborate.specs.Environment.{Environment}
-use Rattle.vs_elaborate.specs.Expressions.{IsTyped}
-use Rattle.vs_elaborate.specs.Statements.{IsStatement, is_null, is_assign, is_block, is_delay, AreStatements, are_none, are_more}
+use Rattle.vs_elaborate.specs.Expressions.{IsTyped, is_number, is_name, is_group, is_not, is_chain, IsChain, is_first, is_more}
+use Rattle.vs_elaborate.specs.Statements.{IsAssignment, IsStatement, is_null, is_assign, is_later, is_block, is_delay, AreStatements, are_none, are_more}
 use Rattle.vs_elaborate.specs.Resolved.{placed}
-use Rattle.vs_elaborate.specs.Scopes.{Scope, scalar, scalars, names_of, environment, named, IsNamed, IsNamedIn}
+use Rattle.vs_elaborate.specs.Scopes.{Scope, DeclaredName, Behavior, meaning_as, meanings, names_in, declarations_of, names_of, environment, named, IsNamed, IsNamedIn}
+use Rattle.vs_elaborate.specs.Processes.{IsBody, is_set, is_run, is_repeat}
 use Rattle.vs_elaborate.specs.Faults.{Repeated}
-use Rattle.vs_elaborate.specs.DesignOf.{IsProcessIn, declare, leave, IsEntry, outline_of, source_of}
-use Rattle.vs_elaborate.specs.Frames.{IsNumbered, declares_from, Outlines}
+use Rattle.vs_elaborate.specs.DesignOf.{Numbered, numbered_as, declare, leave, IsEntry, outline_of}
+use Rattle.vs_elaborate.specs.Frames.{declares_from, Outlines}
 
 module _ {N M : ℕ → List ℕ → Type 0} (f : (i : ℕ) (n : List ℕ) → N i n → M i n) where
-  typed_means : (w : ℕ) (g : Bool) (x : Expr) (y : Typed) → IsTyped N w g x y → IsTyped M w g x y
-  typed_means w g (e.Number l) (t.Number v) h = h
-  typed_means w g (e.Name n) (t.Signal o) h = (f _ _ h.0, h.1, h.2)
-  typed_means w g (e.Number l) (t.Signal o) h = h
-  typed_means w g (e.Name n) (t.Number v) h = h
+  mutual
+    typed_means : (w : ℕ) (g : Bool) (x : Expr) (y : Typed) → IsTyped N w g x y → IsTyped M w g x y
+    typed_means w g _ _ (is_number l v h) = is_number l v h
+    typed_means w g _ _ (is_name n o h p q) = is_name n o (f _ _ h) p q
+    typed_means w g _ _ (is_group x y h) = is_group x y (typed_means w g _ _ h)
+    typed_means w g _ _ (is_not x y h) = is_not x y (typed_means w g _ _ h)
+    typed_means w g _ _ (is_chain op xs y h) = is_chain op xs y (chain_means w g _ _ _ h)
+
+    chain_means : (w : ℕ) (g : Bool) (op : Operator) (xs : List Expr) (y : Typed) → IsChain N w g op xs y → IsChain M w g op xs y
+    chain_means w g _ _ _ (is_first op x y h) = is_first op x y (typed_means w g _ _ h)
+    chain_means w g _ _ _ (is_more op xs x l r h k) = is_more op xs x l r (chain_means w g _ _ _ h) (typed_means w g _ _ k)
+
+  pub assignment_means : (env : Environment) (n : List ℕ) (e : Expr) (t : Target) (x : Typed) → IsAssignment N env n e t x → IsAssignment M env n e t x
+  assignment_means env n e t x h = record { signal = f _ _ h.signal; width = h.width; source = typed_means _ _ e x h.source }
 
   -- a statement by one naming is the same by another
   mutual
-    pub statement_means : (env : Environment) (x : Stmt) (y : Statement) → IsStatement N env x y → IsStatement M env x y
+    statement_means : (env : Environment) (x : Stmt) (y : Statement) → IsStatement N env x y → IsStatement M env x y
     statement_means env _ _ is_null = is_null
-    statement_means env _ _ (is_assign n e t x h) = is_assign n e t x (record { signal = f _ _ h.signal; width = h.width; source = typed_means _ _ e x h.source })
+    statement_means env _ _ (is_assign n e t x h) = is_assign n e t x (assignment_means env n.items e t x h)
+    statement_means env _ _ (is_later n e t x h) = is_later n e t x (assignment_means env n.items e t x h)
     statement_means env _ _ (is_block xs ys h) = is_block xs ys (statements_mean env _ _ h)
     statement_means env _ _ (is_delay l n x y h k) = is_delay l n x y h (statement_means env _ _ k)
 
@@ -45,14 +56,31 @@ module _ {N M : ℕ → List ℕ → Type 0} (f : (i : ℕ) (n : List ℕ) → N
     statements_mean env _ _ are_none = are_none
     statements_mean env _ _ (are_more x y xs ys h k) = are_more x y xs ys (statement_means env x y h) (statements_mean env xs ys k)
 
--- a declared name stands at its place
-at_place : (ns : List (List ℕ)) (m n : List ℕ) (b : Bool) → bytes_eq n m ≡ b → (IsSome (meaning_of (scalars ns) n) → slice_get ns (place_of (scalars ns) n) ≡ Some n) → IsSome (cond b (Some scalar) (meaning_of (scalars ns) n)) → slice_get (m ∷ ns) (cond (not b) (1 + place_of (scalars ns) n) 0) ≡ Some n
-at_place ns m n true e rest h = ap Some (sym ((bytes_eq-Decides n m).0 e))
-at_place ns m n false e rest h = rw one-add (rest h)
+  pub body_means : (env : Environment) (b : Behavior) (y : Statement) → IsBody N env b y → IsBody M env b y
+  body_means env _ _ (is_set a t x h) = is_set a t x (assignment_means env a.target a.value t x h)
+  body_means env _ _ (is_run x y h) = is_run x y (statement_means env x y h)
+  body_means env _ _ (is_repeat x y h) = is_repeat x y (statement_means env x y.value h)
 
-pub placed_name : (ns : List (List ℕ)) (n : List ℕ) → IsSome (meaning_of (scalars ns) n) → slice_get ns (place_of (scalars ns) n) ≡ Some n
-placed_name [] n h = absurd (true≢false (sym h))
-placed_name (m ∷ ns) n h = at_place ns m n (bytes_eq n m) refl (placed_name ns n) h
+-- a name's declaration at a place, with what the name means
+pub record DeclaredAt (ds : List DeclaredName) (n : List ℕ) (place : ℕ) (meaning : Option Meaning) : Type 0 where
+  pub declared : DeclaredName
+  pub stands : slice_get ds place ≡ Some declared
+  pub name : declared.name ≡ n
+  pub means : meaning ≡ Some (meaning_as declared.kind)
+
+declared_first : (ds : List DeclaredName) (d : DeclaredName) (n : List ℕ) (b : Bool) → bytes_eq n d.name ≡ b → (IsSome (meaning_of (meanings ds) n) → DeclaredAt ds n (place_of (meanings ds) n) (meaning_of (meanings ds) n)) → IsSome (cond b (Some (meaning_as d.kind)) (meaning_of (meanings ds) n)) → DeclaredAt (d ∷ ds) n (cond (not b) (1 + place_of (meanings ds) n) 0) (cond b (Some (meaning_as d.kind)) (meaning_of (meanings ds) n))
+declared_first ds d n true e rest h = record { declared = d; stands = refl; name = sym ((bytes_eq-Decides n d.name).0 e); means = refl }
+declared_first ds d n false e rest h = let p = rest h in record { declared = p.declared; stands = rw one-add p.stands; name = p.name; means = p.means }
+
+-- a declared name stands at its place
+pub declared_at : (ds : List DeclaredName) (n : List ℕ) → IsSome (meaning_of (meanings ds) n) → DeclaredAt ds n (place_of (meanings ds) n) (meaning_of (meanings ds) n)
+declared_at [] n h = absurd (true≢false (sym h))
+declared_at (d ∷ ds) n h = declared_first ds d n (bytes_eq n d.name) refl (declared_at ds n) h
+
+pub placed_name : (ds : List DeclaredName) (n : List ℕ) → IsSome (meaning_of (meanings ds) n) → slice_get (names_in ds) (place_of (meanings ds) n) ≡ Some n
+placed_name ds n h =
+    let p = declared_at ds n h in
+    slice_get-map (λ (d : DeclaredName). d.name) ds (place_of (meanings ds) n) ∙ ap (option_map (λ (d : DeclaredName). d.name)) p.stands ∙ ap Some p.name
 
 -- the paths of one scope's signals
 one_scope_path : (s : Scope) (i : ℕ) (n : List ℕ) → slice_get (names_of s) i ≡ Some n → IsNamed (s ∷ []) i (named s n)
@@ -63,15 +91,14 @@ one_scope_path s i n h =
 pub named_by_place : (s : Scope) (i : ℕ) (n : List ℕ) → placed 0 (environment s) i n → IsNamedIn (s ∷ []) s i n
 named_by_place s i n h =
     let e : i ≡ place_of (environment s) n = h.1 ∙ zero-add (place_of (environment s) n) in
-    one_scope_path s i n (ap (slice_get (names_of s)) e ∙ placed_name (names_of s) n h.0)
+    one_scope_path s i n (ap (slice_get (names_of s)) e ∙ placed_name (declarations_of s) n h.0)
 
--- the processes of one scope
-pub processes_mean : (s : Scope) (ps : List Process) (k : ℕ) (xs : List Stmt) → AllZip (IsNumbered 0 (environment s)) ps (map (source_of s) (enumerate_from k xs)) → AllZip (IsProcessIn (s ∷ [])) ps (map (source_of s) (enumerate_from k xs))
-processes_mean s [] k [] h = tt
-processes_mean s [] k (x ∷ xs) h = h
-processes_mean s (p ∷ ps) k [] h = h
-processes_mean s (p ∷ ps) k (x ∷ xs) h =
-    (record { name = h.0.name; kind = h.0.kind; body = statement_means (named_by_place s) (environment s) x p.body h.0.body }, processes_mean s ps (k + 1) xs h.1)
+-- the parts of one scope
+pub parts_mean : {A P : Type 0} (R Q : P → Numbered A → Type 0) (s : Scope) → ((p : P) (k : ℕ) (x : A) → R p (record { scope = s; number = k; part = x }) → Q p (record { scope = s; number = k; part = x })) → (ps : List P) (k : ℕ) (xs : List A) → AllZip R ps (map (numbered_as s) (enumerate_from k xs)) → AllZip Q ps (map (numbered_as s) (enumerate_from k xs))
+parts_mean R Q s f [] k [] h = tt
+parts_mean R Q s f [] k (x ∷ xs) h = h
+parts_mean R Q s f (p ∷ ps) k [] h = h
+parts_mean R Q s f (p ∷ ps) k (x ∷ xs) h = (f p k x h.0, parts_mean R Q s f ps (k + 1) xs h.1)
 
 -- the declarations of one scope
 declarations_mean : (ss : List Scope) (s : Scope) (ns : List (List ℕ)) (base : ℕ) → ((j : ℕ) (n : List ℕ) → slice_get ns j ≡ Some n → IsNamed ss (base + j) (named s n)) → AllZip (IsEntry ss) (declares_from base (length ns) ++ Leave ∷ []) (map (λ m. declare (named s m)) ns ++ leave ∷ [])

@@ -1,5 +1,5 @@
 -- Modules by name.
-use Rattle.std.proofs.Common.{◌≡◌, ℕ, zero, suc, ◌+◌, ◌<◌, ◌≤◌, Bool, true, false, not, cond, List, [], ◌∷◌, ◌++◌, Some, None, IsSome, length, take, get_or, slice_get, refl, ap, sym, subst, ◌∙◌, one-add, arith, option_map}
+use Rattle.std.proofs.Common.{◌≡◌, ℕ, ◌+◌, ◌<◌, ◌≤◌, Bool, true, false, not, cond, List, [], ◌∷◌, ◌++◌, Some, None, IsSome, length, take, get_or, slice_get, refl, ap, sym, subst, ◌∙◌, one-add, arith, option_map}
 use Rattle.std.specs.List.{IsDistinct}
 use Rattle.std.specs.Map.{keys_of}
 use Rattle.std.specs.Str.{bytes_eq}
@@ -13,16 +13,11 @@ use Rattle.vs_elaborate.specs.Names.{meaning_of, place_of}
 use Rattle.vs_elaborate.specs.Printed.{printed_name}
 use Rattle.vs_elaborate.specs.Scopes.{module_named}
 use Rattle.vs_elaborate.specs.Frames.{IsFaultAt, module_names, listed, Lists, FaultsListing, Finds, FaultsFinding}
-use Rattle.vs_elaborate.proofs.Members.{known_key, slice_get-take}
+use Rattle.vs_elaborate.proofs.Members.{repeated_at, map-take}
 
 keys_of-listed : (ms : List Module) → keys_of (listed ms) ≡ module_names ms
 keys_of-listed [] = refl
 keys_of-listed (m ∷ ms) = ap (λ l. m.name.items ∷ l) (keys_of-listed ms)
-
-names-take : (i : ℕ) (ms : List Module) → module_names (take i ms) ≡ take i (module_names ms)
-names-take zero ms = refl
-names-take (suc i) [] = refl
-names-take (suc i) (m ∷ ms) = ap (λ l. m.name.items ∷ l) (names-take i ms)
 
 -- one more module
 pub listed_more : (ms : List Module) (i : ℕ) (m : Module) (n : List ℕ) (names new : List (List ℕ × Unit {0})) → i < length ms → m ≡ get_or ms i m → n ≡ m.name.items → names ≡ listed (take i ms) → new ≡ names ++ (n, tt) ∷ [] → new ≡ listed (take (i + 1) ms)
@@ -40,12 +35,9 @@ listed_all ms i names h e u =
 pub listing_faults : (ms : List Module) (i : ℕ) (m : Module) (n : List ℕ) (names : List (List ℕ × Unit {0})) (e : ElabFault) → i < length ms → m ≡ get_or ms i m → n ≡ m.name.items → names ≡ listed (take i ms) → IsSome (meaning_of names n) → IsFaultAt DeclaredTwice (printed_name n) e → FaultsListing ms e
 listing_faults ms i m n names Memory h e k l s f = tt
 listing_faults ms i m n names (At q p) h e k l s f =
-    let found = known_key names n s in
-    let front : keys_of names ≡ take i (module_names ms) = ap keys_of l ∙ keys_of-listed (take i ms) ∙ names-take i ms in
-    let P : List (List ℕ) → Type 0 = λ z. slice_get z found.0 ≡ Some n in
-    let first = slice_get-take (module_names ms) i found.0 n (subst P front found.1) in
+    let front : keys_of names ≡ take i (module_names ms) = ap keys_of l ∙ keys_of-listed (take i ms) ∙ map-take (λ (z : Module). z.name.items) i ms in
     let second : slice_get (module_names ms) i ≡ Some n = slice_get-map (λ (z : Module). z.name.items) ms i ∙ ap (option_map (λ (z : Module). z.name.items)) (slice_get-get_or ms i m h ∙ ap Some (sym e)) ∙ ap Some (sym k) in
-    subst (λ r. FaultsListing ms (At r p)) (sym f.0) (n ∷ [], f.1, record { name = n; repeated = record { first = found.0; second = i; before = first.0; one = first.1; other = second }; path = refl })
+    subst (λ r. FaultsListing ms (At r p)) (sym f.0) (n ∷ [], f.1, record { name = n; repeated = repeated_at (module_names ms) names i n front second s; path = refl })
 
 -- the module of a name stands at the name's place
 module_at : (ms : List Module) (m : Module) (n : List ℕ) (b : Bool) → module_named ms n ≡ slice_get ms (place_of (listed ms) n) → cond b (Some m) (module_named ms n) ≡ slice_get (m ∷ ms) (cond (not b) (1 + place_of (listed ms) n) 0)

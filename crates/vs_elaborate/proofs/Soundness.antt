@@ -1,52 +1,74 @@
 -- A design of one scope is well formed.
-use Rattle.std.proofs.Common.{◌≡◌, ℕ, zero, suc, ◌+◌, ◌^◌, ◌<◌, ◌≤◌, Bool, true, false, ◌&&◌, ◌==◌, cond, List, [], ◌∷◌, ◌++◌, Option, Some, None, IsSome, length, map, drop, get_or, slice_get, All, refl, ap, sym, subst, ◌∙◌, add-zero, zero-add, arith, true≢false, option_map, eq-eqb}
-use Rattle.std.specs.List.{list_all, enumerate_from, AllZip, IsDistinct}
+use Rattle.std.proofs.Common.{◌≡◌, ℕ, zero, suc, ◌+◌, ◌^◌, ◌<◌, ◌≤◌, Bool, true, false, ◌||◌, ◌&&◌, ◌==◌, not, nat_eq, cond, List, [], ◌∷◌, ◌++◌, Option, Some, None, length, map, drop, get_or, slice_get, All, refl, ap, sym, subst, ◌∙◌, add-zero, zero-add, arith, true≢false, option_map, eq-eqb, nat_lt}
+use Rattle.std.specs.List.{list_any, list_all, enumerate_from, AllZip, IsDistinct}
 use Rattle.std.specs.Fmt.{decimal}
 use Rattle.std.specs.Str.{bytes_eq}
 use Rattle.std.specs.Str.Parse.{digits_value}
 use Rattle.std.specs.declared.vec.Vec.{Vec}
 use Rattle.std.specs.declared.boxed.Box.{Box}
 use Rattle.std.specs.declared.alloc.Global.{Global}
-use Rattle.std.proofs.lemmas.Bool.{lt-ltb, false_from_ne_true}
+use Rattle.std.proofs.lemmas.Bool.{lt-ltb, ne_eqb, false_from_ne_true}
 use Rattle.std.proofs.lemmas.Fmt.{decimal_is_IsNumeral}
 use Rattle.std.proofs.lemmas.List.{length-map, length-append, get_or-map}
 use Rattle.std.proofs.lemmas.List.Elements.{All-nil, All-cons, All-append}
 use Rattle.std.proofs.lemmas.Map.Keys.{apart_from_distinct, IsDistinct-from_apart}
 use Rattle.std.proofs.lemmas.Option.{none-some, same_Some, slice_get-map, slice_get_within}
 use Rattle.std.proofs.lemmas.Slice.Eq.{bytes_eq-Decides}
+use Rattle.vs_logic4.specs.declared.digit.Digit.{Digit}
 use Rattle.vs_syntax.specs.declared.tree.Expr.{Expr}
-use Rattle.vs_syntax.specs.declared.tree.Expr.TheVariants as e
 use Rattle.vs_syntax.specs.declared.tree.Stmt.{Stmt}
 use Rattle.vs_design.specs.declared.signal.Signal.{Signal}
+use Rattle.vs_design.specs.declared.expression.Operand.{Operand}
+use Rattle.vs_design.specs.declared.expression.Operator.{Operator}
 use Rattle.vs_design.specs.declared.expression.Typed.{Typed}
 use Rattle.vs_design.specs.declared.expression.Typed.TheVariants as t
+use Rattle.vs_design.specs.declared.expression.Typed.TheVariants.{rolls-Number, rolls-Signal, rolls-Not, rolls-Bitwise}
+use Rattle.vs_design.specs.declared.expression.Typed.TheOpen as y
+use Rattle.vs_design.specs.declared.expression.Typed.TheFolds.{fold-roll-Typed}
 use Rattle.vs_design.specs.declared.statement.Ticks.{Ticks}
 use Rattle.vs_design.specs.declared.statement.Target.{Target}
 use Rattle.vs_design.specs.declared.statement.Statement.{Statement}
 use Rattle.vs_design.specs.declared.statement.Statement.TheVariants as d
-use Rattle.vs_design.specs.declared.statement.Statement.TheVariants.{rolls-Null, rolls-Assign, rolls-Block, rolls-Delay}
+use Rattle.vs_design.specs.declared.statement.Statement.TheVariants.{rolls-Null, rolls-Assign, rolls-Later, rolls-Block, rolls-Delay, rolls-Forever}
 use Rattle.vs_design.specs.declared.statement.Statement.TheOpen as f
 use Rattle.vs_design.specs.declared.statement.Statement.TheFolds.{fold-roll-Statement}
+use Rattle.vs_design.specs.declared.design.Assign.{Assign}
 use Rattle.vs_design.specs.declared.design.Process.{Process}
 use Rattle.vs_design.specs.declared.design.Entry.{Entry}
 use Rattle.vs_design.specs.declared.design.Entry.TheVariants.{Enter, Declare, Leave}
 use Rattle.vs_design.specs.declared.design.ScopeKind.TheVariants as kinds
+use Rattle.vs_elaborate.specs.declared.assignments.AssignmentKind.{AssignmentKind}
+use Rattle.vs_elaborate.specs.declared.assignments.AssignmentKind.TheVariants.{Procedural, Continuous}
+use Rattle.vs_elaborate.specs.declared.expressions.Meaning.{Meaning}
+use Rattle.vs_elaborate.specs.declared.faults.Reason.TheVariants.{Width}
+use Rattle.vs_elaborate.specs.declared.faults.WidthReason.TheVariants.{WrongKind}
 use Rattle.vs_elaborate.specs.Names.{meaning_of, place_of}
-use Rattle.vs_elaborate.specs.Environment.{Environment, shape_of}
+use Rattle.vs_elaborate.specs.Environment.{Environment}
 use Rattle.vs_elaborate.specs.Printed.{Path, is_simple, printed_name, printed}
-use Rattle.vs_elaborate.specs.Expressions.{width_of, IsTyped}
-use Rattle.vs_elaborate.specs.Statements.{IsStatement, is_null, is_assign, is_block, is_delay, AreStatements, are_none, are_more}
+use Rattle.vs_elaborate.specs.Expressions.{width_of, IsTyped, is_number, is_name, is_group, is_not, is_chain, IsChain, is_first, is_more}
+use Rattle.vs_elaborate.specs.Statements.{IsAssignment, IsStatement, is_null, is_assign, is_later, is_block, is_delay, AreStatements, are_none, are_more, takes, is_wrong_kind, assign_fault, delay_fault, has_fault}
 use Rattle.vs_elaborate.specs.Resolved.{placed}
-use Rattle.vs_elaborate.specs.Scopes.{Scope, scalar, scalars, names_of, environment, named}
-use Rattle.vs_elaborate.specs.DesignOf.{declared, reg_of, signals_of, process_name, source_of}
-use Rattle.vs_elaborate.specs.Frames.{IsNumbered, declares_from}
-use Rattle.vs_elaborate.specs.WellFormed.{writes_variable, is_variable, is_target, is_within, sound_step, is_sound_statement, is_sound_line}
-use Rattle.vs_elaborate.proofs.Meanings.{placed_name}
+use Rattle.vs_elaborate.specs.Scopes.{Scope, DeclaredName, Assignment, Behavior, meaning_as, meanings, names_in, targets_in, declarations_of, names_of, environment, named}
+use Rattle.vs_elaborate.specs.Processes.{IsBody, is_set, is_run, is_repeat, behavior_fault, driver_fault}
+use Rattle.vs_elaborate.specs.DesignOf.{declared, signal_of, signals_of, part_name, Numbered, numbered_as}
+use Rattle.vs_elaborate.specs.Frames.{IsNumbered, IsDriver, declares_from}
+use Rattle.vs_elaborate.specs.WellFormed.{writes_variable, is_target, drives_net, is_net_target, within_step, is_within, is_sound_assign, sound_step, is_sound_statement, is_sound_line}
+use Rattle.vs_elaborate.proofs.Bodies.{fault_Assign, fault_Later, fault_Block, fault_Delay}
+use Rattle.vs_elaborate.proofs.Folds.{all_of_map, both_true}
+use Rattle.vs_elaborate.proofs.Meanings.{declared_at, placed_name}
 use Rattle.vs_elaborate.proofs.Paths.{printed_push}
 
-all_of_map : {A : Type 0} (p : A → Bool) (xs : List A) → list_all (λ b. b) (map p xs) ≡ list_all p xs
-all_of_map p [] = refl
-all_of_map p (x ∷ xs) = ap (λ b. p x && b) (all_of_map p xs)
+within_Number : (ss : List Signal) (v : List Digit) → is_within ss (t.Number v) ≡ true
+within_Number ss v = ap (is_within ss) (sym (rolls-Number v)) ∙ fold-roll-Typed Bool (within_step ss) (y.Number v)
+
+within_Signal : (ss : List Signal) (o : Operand) → is_within ss (t.Signal o) ≡ nat_lt o.signal (length ss)
+within_Signal ss o = ap (is_within ss) (sym (rolls-Signal o)) ∙ fold-roll-Typed Bool (within_step ss) (y.Signal o)
+
+within_Not : (ss : List Signal) (x : Box Typed Global) → is_within ss (t.Not x) ≡ is_within ss x.value
+within_Not ss x = ap (is_within ss) (sym (rolls-Not x)) ∙ fold-roll-Typed Bool (within_step ss) (y.Not x)
+
+within_Bitwise : (ss : List Signal) (op : Operator) (a b : Box Typed Global) → is_within ss (t.Bitwise op a b) ≡ (is_within ss a.value && is_within ss b.value)
+within_Bitwise ss op a b = ap (is_within ss) (sym (rolls-Bitwise op a b)) ∙ fold-roll-Typed Bool (within_step ss) (y.Bitwise op a b)
 
 sound_Null : (ss : List Signal) → is_sound_statement ss d.Null ≡ true
 sound_Null ss = ap (is_sound_statement ss) (sym rolls-Null) ∙ fold-roll-Statement Bool (sound_step ss) f.Null
@@ -54,77 +76,119 @@ sound_Null ss = ap (is_sound_statement ss) (sym rolls-Null) ∙ fold-roll-Statem
 sound_Assign : (ss : List Signal) (t : Target) (x : Typed) → is_sound_statement ss (d.Assign t x) ≡ (is_target ss t && is_within ss x)
 sound_Assign ss t x = ap (is_sound_statement ss) (sym (rolls-Assign t x)) ∙ fold-roll-Statement Bool (sound_step ss) (f.Assign t x)
 
+sound_Later : (ss : List Signal) (t : Target) (x : Typed) → is_sound_statement ss (d.Later t x) ≡ (is_target ss t && is_within ss x)
+sound_Later ss t x = ap (is_sound_statement ss) (sym (rolls-Later t x)) ∙ fold-roll-Statement Bool (sound_step ss) (f.Later t x)
+
 sound_Block : (ss : List Signal) (xs : Vec Statement Global) → is_sound_statement ss (d.Block xs) ≡ list_all (is_sound_statement ss) xs.items
 sound_Block ss xs = ap (is_sound_statement ss) (sym (rolls-Block xs)) ∙ fold-roll-Statement Bool (sound_step ss) (f.Block xs) ∙ all_of_map (is_sound_statement ss) xs.items
 
 sound_Delay : (ss : List Signal) (n : Ticks) (x : Box Statement Global) → is_sound_statement ss (d.Delay n x) ≡ is_sound_statement ss x.value
 sound_Delay ss n x = ap (is_sound_statement ss) (sym (rolls-Delay n x)) ∙ fold-roll-Statement Bool (sound_step ss) (f.Delay n x)
 
--- a variable of this size has this number
-pub record IsVariable (ss : List Signal) (i w : ℕ) : Type 0 where
+sound_Forever : (ss : List Signal) (x : Box Statement Global) → is_sound_statement ss (d.Forever x) ≡ is_sound_statement ss x.value
+sound_Forever ss x = ap (is_sound_statement ss) (sym (rolls-Forever x)) ∙ fold-roll-Statement Bool (sound_step ss) (f.Forever x)
+
+-- the signal of this number is what a name means
+pub record IsMeant (ss : List Signal) (i : ℕ) (o : Option Meaning) : Type 0 where
+  pub meaning : Meaning
+  pub found : o ≡ Some meaning
   pub signal : Signal
   pub stands : slice_get ss i ≡ Some signal
-  pub variable : is_variable signal.kind ≡ true
-  pub width : signal.width ≡ w
+  pub kind : signal.kind ≡ meaning.kind
+  pub width : signal.width ≡ meaning.shape.width
 
-target_sound : (ss : List Signal) (t : Target) (w : ℕ) → t.width ≡ w → IsVariable ss t.signal w → is_target ss t ≡ true
-target_sound ss t w e g =
-    ap (λ o. writes_variable o t.width) g.stands ∙ ap (λ b. b && (g.signal.width == t.width)) g.variable ∙ eq-eqb g.signal.width t.width (g.width ∙ sym e)
+not_true : (b : Bool) → not b ≡ false → b ≡ true
+not_true true h = refl
+not_true false h = sym h
 
-both_true : (a b : Bool) → a ≡ true → b ≡ true → (a && b) ≡ true
-both_true a b h k = rw (h, k) refl
+left_false : (a b : Bool) → (a || b) ≡ false → a ≡ false
+left_false true b h = h
+left_false false b h = refl
 
-module _ {N : ℕ → List ℕ → Type 0} (ss : List Signal) (env : Environment) (good : (i : ℕ) (n : List ℕ) → N i n → IsVariable ss i (width_of (shape_of env n))) where
-  within_sound : (w : ℕ) (g : Bool) (x : Expr) (y : Typed) → IsTyped N w g x y → is_within ss y ≡ true
-  within_sound w g (e.Number l) (t.Number v) h = refl
-  within_sound w g (e.Name n) (t.Signal o) h = let p = good o.signal n.items h.0 in lt-ltb _ _ (slice_get_within ss o.signal p.signal p.stands)
-  within_sound w g (e.Number l) (t.Signal o) h = absurd h
-  within_sound w g (e.Name n) (t.Number v) h = absurd h
+right_false : (a b : Bool) → (a || b) ≡ false → b ≡ false
+right_false true b h = absurd (true≢false h)
+right_false false b h = h
+
+-- an assignment takes the kind of its target
+kind_taken : (ss : List Signal) (i : ℕ) (how : AssignmentKind) (o : Option Meaning) (g : IsMeant ss i o) → is_wrong_kind how o ≡ false → takes how g.signal.kind ≡ true
+kind_taken ss i how o g k = ap (takes how) g.kind ∙ not_true _ (ap (is_wrong_kind how) (sym g.found) ∙ k)
+
+same_width : (ss : List Signal) (i w : ℕ) (o : Option Meaning) (g : IsMeant ss i o) → w ≡ width_of (option_map (λ (m : Meaning). m.shape) o) → (g.signal.width == w) ≡ true
+same_width ss i w o g h = eq-eqb g.signal.width w (g.width ∙ sym (h ∙ ap (λ z. width_of (option_map (λ (m : Meaning). m.shape) z)) g.found))
+
+module _ {N : ℕ → List ℕ → Type 0} (ss : List Signal) (env : Environment) (good : (i : ℕ) (n : List ℕ) → N i n → IsMeant ss i (meaning_of env n)) where
+  mutual
+    within_sound : (w : ℕ) (g : Bool) (x : Expr) (y : Typed) → IsTyped N w g x y → is_within ss y ≡ true
+    within_sound w g _ _ (is_number l v h) = within_Number ss v
+    within_sound w g _ _ (is_name n o h p q) = let m = good o.signal n.items h in within_Signal ss o ∙ lt-ltb _ _ (slice_get_within ss o.signal m.signal m.stands)
+    within_sound w g _ _ (is_group x y h) = within_sound w g _ _ h
+    within_sound w g _ _ (is_not x y h) = within_Not ss y ∙ within_sound w g _ _ h
+    within_sound w g _ _ (is_chain op xs y h) = chain_sound w g _ _ _ h
+
+    chain_sound : (w : ℕ) (g : Bool) (op : Operator) (xs : List Expr) (y : Typed) → IsChain N w g op xs y → is_within ss y ≡ true
+    chain_sound w g _ _ _ (is_first op x y h) = within_sound w g _ _ h
+    chain_sound w g _ _ _ (is_more op xs x l r h k) = within_Bitwise ss op l r ∙ both_true _ _ (chain_sound w g _ _ _ h) (within_sound w g _ _ k)
+
+  target_sound : (n : List ℕ) (e : Expr) (t : Target) (x : Typed) → assign_fault (Width WrongKind) Procedural env n e ≡ false → IsAssignment N env n e t x → (is_target ss t && is_within ss x) ≡ true
+  target_sound n e t x k h =
+      let g = good t.signal n h.signal in
+      let target : is_target ss t ≡ true = ap (λ o. writes_variable o t.width) g.stands ∙ both_true _ _ (kind_taken ss t.signal Procedural _ g k) (same_width ss t.signal t.width _ g h.width) in
+      both_true _ _ target (within_sound _ _ e x h.source)
+
+  driver_sound : (n : List ℕ) (e : Expr) (t : Target) (x : Typed) → assign_fault (Width WrongKind) Continuous env n e ≡ false → IsAssignment N env n e t x → (is_net_target ss t && is_within ss x) ≡ true
+  driver_sound n e t x k h =
+      let g = good t.signal n h.signal in
+      let target : is_net_target ss t ≡ true = ap (λ o. drives_net o t.width) g.stands ∙ both_true _ _ (kind_taken ss t.signal Continuous _ g k) (same_width ss t.signal t.width _ g h.width) in
+      both_true _ _ target (within_sound _ _ e x h.source)
 
   mutual
-    pub statement_sound : (x : Stmt) (y : Statement) → IsStatement N env x y → is_sound_statement ss y ≡ true
-    statement_sound _ _ is_null = sound_Null ss
-    statement_sound _ _ (is_assign n e t x h) =
-        sound_Assign ss t x ∙ both_true _ _ (target_sound ss t _ h.width (good t.signal n.items h.signal)) (within_sound _ _ e x h.source)
-    statement_sound _ _ (is_block xs ys h) = sound_Block ss ys ∙ statements_sound _ _ h
-    statement_sound _ _ (is_delay l n x y h k) = sound_Delay ss n y ∙ statement_sound _ _ k
+    statement_sound : (x : Stmt) (y : Statement) → has_fault (Width WrongKind) env x ≡ false → IsStatement N env x y → is_sound_statement ss y ≡ true
+    statement_sound _ _ k is_null = sound_Null ss
+    statement_sound _ _ k (is_assign n e t x h) = sound_Assign ss t x ∙ target_sound n.items e t x (sym (fault_Assign (Width WrongKind) env n e) ∙ k) h
+    statement_sound _ _ k (is_later n e t x h) = sound_Later ss t x ∙ target_sound n.items e t x (sym (fault_Later (Width WrongKind) env n e) ∙ k) h
+    statement_sound _ _ k (is_block xs ys h) = sound_Block ss ys ∙ statements_sound _ _ (sym (fault_Block (Width WrongKind) env xs) ∙ k) h
+    statement_sound _ _ k (is_delay l n x y h g) =
+        sound_Delay ss n y ∙ statement_sound _ _ (right_false (delay_fault (Width WrongKind) l) _ (sym (fault_Delay (Width WrongKind) env l x) ∙ k)) g
 
-    statements_sound : (xs : List Stmt) (ys : List Statement) → AreStatements N env xs ys → list_all (is_sound_statement ss) ys ≡ true
-    statements_sound _ _ are_none = refl
-    statements_sound _ _ (are_more x y xs ys h k) = both_true _ _ (statement_sound x y h) (statements_sound xs ys k)
+    statements_sound : (xs : List Stmt) (ys : List Statement) → list_any (has_fault (Width WrongKind) env) xs ≡ false → AreStatements N env xs ys → list_all (is_sound_statement ss) ys ≡ true
+    statements_sound _ _ k are_none = refl
+    statements_sound _ _ k (are_more x y xs ys h g) = both_true _ _ (statement_sound x y (left_false _ _ k) h) (statements_sound xs ys (right_false (has_fault (Width WrongKind) env x) _ k) g)
 
--- a declared name is a scalar
-scalar_first : (ns : List (List ℕ)) (n : List ℕ) (b : Bool) → (IsSome (meaning_of (scalars ns) n) → meaning_of (scalars ns) n ≡ Some scalar) → IsSome (cond b (Some scalar) (meaning_of (scalars ns) n)) → cond b (Some scalar) (meaning_of (scalars ns) n) ≡ Some scalar
-scalar_first ns n true rest h = refl
-scalar_first ns n false rest h = rest h
+  body_sound : (b : Behavior) (y : Statement) → behavior_fault (Width WrongKind) env b ≡ false → IsBody N env b y → is_sound_statement ss y ≡ true
+  body_sound _ _ k (is_set a t x h) = sound_Assign ss t x ∙ target_sound a.target a.value t x k h
+  body_sound _ _ k (is_run x y h) = statement_sound x y k h
+  body_sound _ _ k (is_repeat x y h) = sound_Forever ss y ∙ statement_sound x y.value k h
 
-scalar_meaning : (ns : List (List ℕ)) (n : List ℕ) → IsSome (meaning_of (scalars ns) n) → meaning_of (scalars ns) n ≡ Some scalar
-scalar_meaning [] n h = absurd (true≢false (sym h))
-scalar_meaning (m ∷ ns) n h = scalar_first ns n (bytes_eq n m) (scalar_meaning ns n) h
-
-signal_shown : (s : Scope) (n : List ℕ) (o : Option Signal) → option_map declared o ≡ Some (reg_of s n) → (x : Signal) × (o ≡ Some x) × (declared x ≡ reg_of s n)
+signal_shown : (s : Scope) (n : DeclaredName) (o : Option Signal) → option_map declared o ≡ Some (signal_of s n) → (x : Signal) × (o ≡ Some x) × (declared x ≡ signal_of s n)
 signal_shown s n None h = absurd (none-some _ h)
 signal_shown s n (Some x) h = (x, refl, same_Some _ _ h)
 
--- each name of the scope is a variable of the design
-pub names_are_variables : (s : Scope) (now : List Signal) (env : Environment) → env ≡ environment s → map declared now ≡ signals_of s → (i : ℕ) (n : List ℕ) → placed 0 env i n → IsVariable now i (width_of (shape_of env n))
-names_are_variables s now env v shown i n h =
-    let P : Environment → Type 0 = λ z. placed 0 z i n in
-    let Q : Environment → Type 0 = λ z. IsVariable now i (width_of (shape_of z n)) in
-    let p = subst P v h in
-    let place : i ≡ place_of (environment s) n = p.1 ∙ zero-add (place_of (environment s) n) in
-    let stands : slice_get (names_of s) i ≡ Some n = ap (slice_get (names_of s)) place ∙ placed_name (names_of s) n p.0 in
-    let found = signal_shown s n (slice_get now i) (sym (slice_get-map declared now i) ∙ ap (λ l. slice_get l i) shown ∙ slice_get-map (reg_of s) (names_of s) i ∙ ap (option_map (reg_of s)) stands) in
-    let size : width_of (shape_of (environment s) n) ≡ 1 = ap width_of (scalar_meaning (names_of s) n p.0) in
-    subst Q (sym v) (record { signal = found.0; stands = found.1; variable = ap (λ z. is_variable z.kind) found.2; width = ap (λ z. z.width) found.2 ∙ sym size })
+-- each name of the scope is a signal of the design
+pub names_are_signals : (s : Scope) (now : List Signal) → map declared now ≡ signals_of s → (i : ℕ) (n : List ℕ) → placed 0 (environment s) i n → IsMeant now i (meaning_of (environment s) n)
+names_are_signals s now shown i n h =
+    let place : i ≡ place_of (environment s) n = h.1 ∙ zero-add (place_of (environment s) n) in
+    let p = declared_at (declarations_of s) n h.0 in
+    let stands : slice_get (declarations_of s) i ≡ Some p.declared = ap (slice_get (declarations_of s)) place ∙ p.stands in
+    let found = signal_shown s p.declared (slice_get now i) (sym (slice_get-map declared now i) ∙ ap (λ l. slice_get l i) shown ∙ slice_get-map (signal_of s) (declarations_of s) i ∙ ap (option_map (signal_of s)) stands) in
+    record { meaning = meaning_as p.declared.kind; found = p.means; signal = found.0; stands = found.1; kind = ap (λ z. z.kind) found.2; width = ap (λ z. z.width) found.2 }
 
 -- the processes of the scope
-pub processes_sound : (base : ℕ) (env : Environment) (s : Scope) (ss : List Signal) → ((i : ℕ) (n : List ℕ) → placed base env i n → IsVariable ss i (width_of (shape_of env n))) → (ps : List Process) (k : ℕ) (xs : List Stmt) → AllZip (IsNumbered base env) ps (map (source_of s) (enumerate_from k xs)) → All (λ (p : Process). is_sound_statement ss p.body ≡ true) ps
-processes_sound base env s ss good [] k [] h = All-nil (λ (p : Process). is_sound_statement ss p.body ≡ true)
-processes_sound base env s ss good [] k (x ∷ xs) h = absurd h
-processes_sound base env s ss good (p ∷ ps) k [] h = absurd h
-processes_sound base env s ss good (p ∷ ps) k (x ∷ xs) h =
-    All-cons (λ (p : Process). is_sound_statement ss p.body ≡ true) p ps (statement_sound ss env good x p.body h.0.body) (processes_sound base env s ss good ps (k + 1) xs h.1)
+pub processes_sound : (base : ℕ) (env : Environment) (s : Scope) (ss : List Signal) → ((i : ℕ) (n : List ℕ) → placed base env i n → IsMeant ss i (meaning_of env n)) → (ps : List Process) (k : ℕ) (xs : List Behavior) → list_any (behavior_fault (Width WrongKind) env) xs ≡ false → AllZip (IsNumbered base env) ps (map (numbered_as s) (enumerate_from k xs)) → All (λ (p : Process). is_sound_statement ss p.body ≡ true) ps
+processes_sound base env s ss good [] k [] u h = All-nil (λ (p : Process). is_sound_statement ss p.body ≡ true)
+processes_sound base env s ss good [] k (x ∷ xs) u h = absurd h
+processes_sound base env s ss good (p ∷ ps) k [] u h = absurd h
+processes_sound base env s ss good (p ∷ ps) k (x ∷ xs) u h =
+    let one : is_sound_statement ss p.body ≡ true = body_sound ss env good x p.body (left_false _ _ u) h.0.body in
+    All-cons (λ (p : Process). is_sound_statement ss p.body ≡ true) p ps one (processes_sound base env s ss good ps (k + 1) xs (right_false (behavior_fault (Width WrongKind) env x) _ u) h.1)
+
+-- its continuous assignments
+pub assigns_sound : (base : ℕ) (env : Environment) (s : Scope) (ss : List Signal) → ((i : ℕ) (n : List ℕ) → placed base env i n → IsMeant ss i (meaning_of env n)) → (ps : List Assign) (k : ℕ) (xs : List Assignment) → list_any (driver_fault (Width WrongKind) env) xs ≡ false → AllZip (IsDriver base env) ps (map (numbered_as s) (enumerate_from k xs)) → All (λ (a : Assign). is_sound_assign ss a ≡ true) ps
+assigns_sound base env s ss good [] k [] u h = All-nil (λ (a : Assign). is_sound_assign ss a ≡ true)
+assigns_sound base env s ss good [] k (x ∷ xs) u h = absurd h
+assigns_sound base env s ss good (p ∷ ps) k [] u h = absurd h
+assigns_sound base env s ss good (p ∷ ps) k (x ∷ xs) u h =
+    let one : is_sound_assign ss p ≡ true = driver_sound ss env good x.target x.value p.target p.source (left_false _ _ u) h.0.sides in
+    All-cons (λ (a : Assign). is_sound_assign ss a ≡ true) p ps one (assigns_sound base env s ss good ps (k + 1) xs (right_false (driver_fault (Width WrongKind) env x) _ u) h.1)
 
 -- the lines of the outline
 declares_sound : (ss : List Signal) (base count : ℕ) → base + count ≤ length ss → All (λ (l : Entry). is_sound_line ss l ≡ true) (declares_from base count)
@@ -182,38 +246,73 @@ distinct_map g ns keeps u = IsDistinct-from_apart bytes_eq (map g ns) (λ i j d 
     not_same _ _ (λ e. (let same : get_or ns i [] ≡ get_or ns j [] = keeps _ _ (sym one ∙ e ∙ other) in
     true≢false (sym ((bytes_eq-Decides (get_or ns i []) (get_or ns j [])).1 same) ∙ apart)))))
 
-paths_shown : (s : Scope) (ns : List (List ℕ)) (now : List Signal) → map declared now ≡ map (reg_of s) ns → map (λ (x : Signal). x.path.items) now ≡ map (λ n. printed (named s n)) ns
+paths_shown : (s : Scope) (ns : List DeclaredName) (now : List Signal) → map declared now ≡ map (signal_of s) ns → map (λ (x : Signal). x.path.items) now ≡ map (λ n. printed (named s n)) (names_in ns)
 paths_shown s [] [] h = refl
 paths_shown s [] (x ∷ now) h = absurd (none-some _ (sym (ap (λ l. slice_get l 0) h)))
 paths_shown s (n ∷ ns) [] h = absurd (none-some _ (ap (λ l. slice_get l 0) h))
 paths_shown s (n ∷ ns) (x ∷ now) h =
-    let head : declared x ≡ reg_of s n = same_Some _ _ (ap (λ l. slice_get l 0) h) in
+    let head : declared x ≡ signal_of s n = same_Some _ _ (ap (λ l. slice_get l 0) h) in
     let rest = paths_shown s ns now (ap (drop 1) h) in
-    ap (λ z. z ∷ map (λ (x : Signal). x.path.items) now) (ap (λ z. z.path) head) ∙ ap (λ l. printed (named s n) ∷ l) rest
+    ap (λ z. z ∷ map (λ (x : Signal). x.path.items) now) (ap (λ z. z.path) head) ∙ ap (λ l. printed (named s n.name) ∷ l) rest
 
 pub paths_differ : (s : Scope) (now : List Signal) → 0 < length s.path → map declared now ≡ signals_of s → IsDistinct bytes_eq (names_of s) → IsDistinct bytes_eq (map (λ (x : Signal). x.path.items) now)
 paths_differ s now l shown u =
-    subst (IsDistinct bytes_eq) (sym (paths_shown s (names_of s) now shown)) (distinct_map (λ n. printed (named s n)) (names_of s) (λ m n e. member_same s.path m n l e) u)
+    subst (IsDistinct bytes_eq) (sym (paths_shown s (declarations_of s) now shown)) (distinct_map (λ n. printed (named s n)) (names_of s) (λ m n e. member_same s.path m n l e) u)
 
 -- numbers that differ are printed differently
 decimal_same : (m n : ℕ) → m < 2 ^ 64 → n < 2 ^ 64 → decimal m ≡ decimal n → m ≡ n
 decimal_same m n h k e = sym (decimal_is_IsNumeral m h).1 ∙ ap (digits_value 10) e ∙ (decimal_is_IsNumeral n k).1
 
-process_same : (p : Path) (m n : ℕ) → m < 2 ^ 64 → n < 2 ^ 64 → process_name p m ≡ process_name p n → m ≡ n
-process_same p m n h k e = decimal_same m n h k (ap (drop 2) (front_same (printed p) _ _ e))
+part_same : (c : ℕ) (p : Path) (m n : ℕ) → m < 2 ^ 64 → n < 2 ^ 64 → part_name c p m ≡ part_name c p n → m ≡ n
+part_same c p m n h k e = decimal_same m n h k (ap (drop 2) (front_same (printed p) _ _ e))
 
-name_at : (base : ℕ) (env : Environment) (s : Scope) (ps : List Process) (k : ℕ) (xs : List Stmt) (j : ℕ) (d : List ℕ) → AllZip (IsNumbered base env) ps (map (source_of s) (enumerate_from k xs)) → j < length ps → get_or (map (λ (p : Process). p.name.items) ps) j d ≡ process_name s.path (k + j)
-name_at base env s [] k xs j d h l = absurd (omega arith)
-name_at base env s (p ∷ ps) k [] j d h l = absurd h
-name_at base env s (p ∷ ps) k (x ∷ xs) zero d h l = h.0.name ∙ ap (process_name s.path) (sym (add-zero k))
-name_at base env s (p ∷ ps) k (x ∷ xs) (suc j) d h l =
-    let e : k + 1 + j ≡ k + suc j = omega arith in
-    name_at base env s ps (k + 1) xs j d h.1 (omega arith) ∙ ap (process_name s.path) e
+module _ {A P : Type 0} (R : P → Numbered A → Type 0) (c : ℕ) (name : P → List ℕ) (named_so : (p : P) (q : Numbered A) → R p q → name p ≡ part_name c q.scope.path q.number) where
+  name_at : (s : Scope) (ps : List P) (k : ℕ) (xs : List A) (j : ℕ) (d : List ℕ) → AllZip R ps (map (numbered_as s) (enumerate_from k xs)) → j < length ps → get_or (map name ps) j d ≡ part_name c s.path (k + j)
+  name_at s [] k xs j d h l = absurd (omega arith)
+  name_at s (p ∷ ps) k [] j d h l = absurd h
+  name_at s (p ∷ ps) k (x ∷ xs) zero d h l = named_so p _ h.0 ∙ ap (part_name c s.path) (sym (add-zero k))
+  name_at s (p ∷ ps) k (x ∷ xs) (suc j) d h l =
+      let e : k + 1 + j ≡ k + suc j = omega arith in
+      name_at s ps (k + 1) xs j d h.1 (omega arith) ∙ ap (part_name c s.path) e
 
-pub processes_differ : (base : ℕ) (env : Environment) (s : Scope) (ps : List Process) (xs : List Stmt) → AllZip (IsNumbered base env) ps (map (source_of s) (enumerate_from 0 xs)) → length ps < 2 ^ 64 → IsDistinct bytes_eq (map (λ (p : Process). p.name.items) ps)
-processes_differ base env s ps xs h small = IsDistinct-from_apart bytes_eq (map (λ (p : Process). p.name.items) ps) (λ i j d k l.
+  pub parts_differ : (s : Scope) (ps : List P) (xs : List A) → AllZip R ps (map (numbered_as s) (enumerate_from 0 xs)) → length ps < 2 ^ 64 → IsDistinct bytes_eq (map name ps)
+  parts_differ s ps xs h small = IsDistinct-from_apart bytes_eq (map name ps) (λ i j d k l.
+      (let below : j < length ps = rw length-map at l in
+      let inside : i < length ps = omega arith in
+      let one = name_at s ps 0 xs i d h inside in
+      let other = name_at s ps 0 xs j d h below in
+      not_same _ _ (λ e. (let same : 0 + i ≡ 0 + j = part_same c s.path (0 + i) (0 + j) (omega arith) (omega arith) (sym one ∙ e ∙ other) in omega (arith, same)))))
+
+-- assignments of different names drive different signals
+driver_at : (base : ℕ) (env : Environment) (s : Scope) (ps : List Assign) (k : ℕ) (xs : List Assignment) (j d : ℕ) → AllZip (IsDriver base env) ps (map (numbered_as s) (enumerate_from k xs)) → j < length ps → placed base env (get_or (map (λ (a : Assign). a.target.signal) ps) j d) (get_or (targets_in xs) j [])
+driver_at base env s [] k xs j d h l = absurd (omega arith)
+driver_at base env s (p ∷ ps) k [] j d h l = absurd h
+driver_at base env s (p ∷ ps) k (x ∷ xs) zero d h l = h.0.sides.signal
+driver_at base env s (p ∷ ps) k (x ∷ xs) (suc j) d h l = driver_at base env s ps (k + 1) xs j d h.1 (omega arith)
+
+same_length : (base : ℕ) (env : Environment) (s : Scope) (ps : List Assign) (k : ℕ) (xs : List Assignment) → AllZip (IsDriver base env) ps (map (numbered_as s) (enumerate_from k xs)) → length ps ≡ length (targets_in xs)
+same_length base env s [] k [] h = refl
+same_length base env s [] k (x ∷ xs) h = absurd h
+same_length base env s (p ∷ ps) k [] h = absurd h
+same_length base env s (p ∷ ps) k (x ∷ xs) h = ap suc (same_length base env s ps (k + 1) xs h.1)
+
+-- a number has one name
+one_name : (ds : List DeclaredName) (i j : ℕ) (m n : List ℕ) → placed 0 (meanings ds) i m → placed 0 (meanings ds) j n → i ≡ j → m ≡ n
+one_name ds i j m n h k e =
+    let place : place_of (meanings ds) m ≡ place_of (meanings ds) n = omega (arith, h.1, k.1, e) in
+    same_Some m n (sym (placed_name ds m h.0) ∙ ap (slice_get (names_in ds)) place ∙ placed_name ds n k.0)
+
+numbers_apart : (i j : ℕ) → (i ≡ j → ⊥) → nat_eq i j ≡ false
+numbers_apart i j h = ne_eqb i j h
+
+pub drivers_differ : (s : Scope) (ps : List Assign) (xs : List Assignment) → AllZip (IsDriver 0 (environment s)) ps (map (numbered_as s) (enumerate_from 0 xs)) → IsDistinct bytes_eq (targets_in xs) → IsDistinct nat_eq (map (λ (a : Assign). a.target.signal) ps)
+drivers_differ s ps xs h u = IsDistinct-from_apart nat_eq (map (λ (a : Assign). a.target.signal) ps) (λ i j d k l.
     (let below : j < length ps = rw length-map at l in
     let inside : i < length ps = omega arith in
-    let one = name_at base env s ps 0 xs i d h inside in
-    let other = name_at base env s ps 0 xs j d h below in
-    not_same _ _ (λ e. (let same : 0 + i ≡ 0 + j = process_same s.path (0 + i) (0 + j) (omega arith) (omega arith) (sym one ∙ e ∙ other) in omega (arith, same)))))
+    let long = same_length 0 (environment s) s ps 0 xs h in
+    let reach : j < length (targets_in xs) = omega (arith, long, below) in
+    let one = driver_at 0 (environment s) s ps 0 xs i d h inside in
+    let other = driver_at 0 (environment s) s ps 0 xs j d h below in
+    let apart = apart_from_distinct bytes_eq (targets_in xs) i j [] u k reach in
+    numbers_apart _ _ (λ e. (let same : get_or (targets_in xs) i [] ≡ get_or (targets_in xs) j [] = one_name (declarations_of s) _ _ _ _ one other e in
+    true≢false (sym ((bytes_eq-Decides (get_or (targets_in xs) i []) (get_or (targets_in xs) j [])).1 same) ∙ apart)))))

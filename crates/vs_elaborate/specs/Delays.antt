@@ -3,8 +3,8 @@ use Rattle.std.specs.Prelude.{◌≡◌, true, false, Some}
 use Rattle.vs_lexer.specs.declared.token.Literal.{Literal}
 use Rattle.vs_design.specs.declared.statement.Ticks.{Ticks}
 use Rattle.vs_elaborate.specs.declared.faults.Reason.{Reason}
-use Rattle.vs_elaborate.specs.declared.statements.BodyFault.{BodyFault}
-use Rattle.vs_elaborate.specs.declared.statements.BodyFault.TheVariants.{Memory, Refused}
+use Rattle.vs_elaborate.specs.declared.faults.BodyFault.{BodyFault}
+use Rattle.vs_elaborate.specs.declared.faults.BodyFault.TheVariants.{Memory, Refused}
 use Rattle.vs_elaborate.specs.Literals.{delay_of}
 use Rattle.vs_elaborate.specs.Statements.{delay_fault}
 

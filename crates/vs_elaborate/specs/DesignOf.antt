@@ -3,12 +3,10 @@ use Rattle.std.specs.Prelude.{◌≡◌, ℕ, Bool, List, [], ◌∷◌, ◌++�
 use Rattle.std.specs.List.{flat_map, enumerate_from, AllZip}
 use Rattle.std.specs.Fmt.{decimal}
 use Rattle.vs_syntax.specs.declared.tree.Module.{Module}
-use Rattle.vs_syntax.specs.declared.tree.Stmt.{Stmt}
 use Rattle.vs_design.specs.declared.signal.Signal.{Signal}
 use Rattle.vs_design.specs.declared.signal.SignalKind.{SignalKind}
-use Rattle.vs_design.specs.declared.signal.SignalKind.TheVariants.{Reg}
 use Rattle.vs_design.specs.declared.design.Process.{Process}
-use Rattle.vs_design.specs.declared.design.ProcessKind.TheVariants.{Initial}
+use Rattle.vs_design.specs.declared.design.Assign.{Assign}
 use Rattle.vs_design.specs.declared.design.ScopeKind.{ScopeKind}
 use Rattle.vs_design.specs.declared.design.ScopeKind.TheVariants as k
 use Rattle.vs_design.specs.declared.design.Entry.{Entry}
@@ -17,8 +15,9 @@ use Rattle.vs_design.specs.Parts.{Parts}
 use Rattle.vs_elaborate.specs.declared.faults.Reason.{Reason}
 use Rattle.vs_elaborate.specs.Printed.{Path, printed, printed_name}
 use Rattle.vs_elaborate.specs.Environment.{Environment}
-use Rattle.vs_elaborate.specs.Statements.{IsStatement}
-use Rattle.vs_elaborate.specs.Scopes.{Scope, names_of, initials_of, scalar, environment, named, IsNamed, IsNamedIn}
+use Rattle.vs_elaborate.specs.Statements.{IsAssignment}
+use Rattle.vs_elaborate.specs.Scopes.{Scope, DeclaredName, Assignment, Behavior, declarations_of, names_of, drivers_of, behaviors_of, scalar, environment, named, IsNamed, IsNamedIn}
+use Rattle.vs_elaborate.specs.Processes.{IsBody, kind_of}
 use Rattle.vs_elaborate.specs.Faults.{scopes_of, Stands}
 
 -- what a signal of a design shows
@@ -32,45 +31,65 @@ pub record Declared : Type 0 where
 abbrev pub declared : Signal → Declared
 declared s = record { name = s.name.items; path = s.path.items; kind = s.kind; width = s.width; signed = s.signed }
 
--- the signal of a `reg` without a range (clauses 4.2.2 and 4.3.1)
-abbrev pub reg_of : Scope → List ℕ → Declared
-reg_of s n = record { name = printed_name n; path = printed (named s n); kind = Reg; width = scalar.width; signed = scalar.signed }
+-- the signal of a declared name without a range (clauses 4.2 and 4.3.1)
+abbrev pub signal_of : Scope → DeclaredName → Declared
+signal_of s d = record { name = printed_name d.name; path = printed (named s d.name); kind = d.kind; width = scalar.width; signed = scalar.signed }
 
 -- the signals that a scope declares, in text order
 abbrev pub signals_of : Scope → List Declared
-signals_of s = map (reg_of s) (names_of s)
+signals_of s = map (signal_of s) (declarations_of s)
 
--- a process of a source: its scope, its number there, and its statement
-pub record Source : Type 0 where
+-- a process or a continuous assignment of a source, with its scope and its number there
+pub record Numbered (A : Type 0) : Type 0 where
   pub scope : Scope
   pub number : ℕ
-  pub body : Stmt
+  pub part : A
 
--- a statement of a scope as its process of a number
-abbrev pub source_of : Scope → ℕ × Stmt → Source
-source_of s e = record { scope = s; number = e.0; body = e.1 }
+abbrev pub numbered_as : {A : Type 0} → Scope → ℕ × A → Numbered A
+numbered_as s e = record { scope = s; number = e.0; part = e.1 }
 
--- statements of a scope as its processes, numbered from 0 on
-abbrev pub sources : Scope → List Stmt → List Source
-sources s xs = map (source_of s) (enumerate_from 0 xs)
+-- parts of a scope, numbered from 0 on
+abbrev pub numbered : {A : Type 0} → Scope → List A → List (Numbered A)
+numbered s xs = map (numbered_as s) (enumerate_from 0 xs)
 
 -- the processes of a scope, in text order
-abbrev pub processes_of : Scope → List Source
-processes_of s = sources s (initials_of s)
+abbrev pub processes_of : Scope → List (Numbered Behavior)
+processes_of s = numbered s (behaviors_of s)
 
--- the name of a process as it is printed: the path, `#p` and the number (profile)
+-- the continuous assignments of a scope, in text order
+abbrev pub assigns_of : Scope → List (Numbered Assignment)
+assigns_of s = numbered s (drivers_of s)
+
+-- the name of a part of a scope as it is printed: the path, `#`, a letter and the number (profile)
+abbrev pub part_name : ℕ → Path → ℕ → List ℕ
+part_name letter p k = printed p ++ 35 ∷ letter ∷ decimal k
+
+-- a process has the letter `p` (profile)
 abbrev pub process_name : Path → ℕ → List ℕ
-process_name p k = printed p ++ 35 ∷ 112 ∷ decimal k
+process_name p k = part_name 112 p k
+
+-- a continuous assignment has the letter `a` (profile)
+abbrev pub assign_name : Path → ℕ → List ℕ
+assign_name p k = part_name 97 p k
 
 -- the process of a design that one of a source is, where N says which number a name has
-pub record IsProcess (N : ℕ → List ℕ → Type 0) (env : Environment) (p : Process) (q : Source) : Type 0 where
+pub record IsProcess (N : ℕ → List ℕ → Type 0) (env : Environment) (p : Process) (q : Numbered Behavior) : Type 0 where
   pub name : p.name.items ≡ process_name q.scope.path q.number
-  pub kind : p.kind ≡ Initial
-  pub body : IsStatement N env q.body p.body
+  pub kind : p.kind ≡ kind_of q.part
+  pub body : IsBody N env q.part p.body
 
 -- the same, by the names of the process's scope
-abbrev pub IsProcessIn : List Scope → Process → Source → Type 0
+abbrev pub IsProcessIn : List Scope → Process → Numbered Behavior → Type 0
 IsProcessIn ss p q = IsProcess (IsNamedIn ss q.scope) (environment q.scope) p q
+
+-- the continuous assignment of a design that one of a source is, where N says which number a name has
+pub record IsAssign (N : ℕ → List ℕ → Type 0) (env : Environment) (a : Assign) (q : Numbered Assignment) : Type 0 where
+  pub name : a.name.items ≡ assign_name q.scope.path q.number
+  pub sides : IsAssignment N env q.part.target q.part.value a.target a.source
+
+-- the same, by the names of the assignment's scope
+abbrev pub IsAssignIn : List Scope → Assign → Numbered Assignment → Type 0
+IsAssignIn ss a q = IsAssign (IsNamedIn ss q.scope) (environment q.scope) a q
 
 -- one line of an outline, with signals by their paths
 pub data Line : Type 0 where
@@ -93,10 +112,10 @@ IsEntry ss (Declare i) (declare p) = IsNamed ss i p
 IsEntry ss Leave leave = Unit {0}
 IsEntry ss _ _ = ⊥
 
--- The design has the signals and processes of these scopes in design order, where each signal stands by its number.
+-- The design has the signals, continuous assignments and processes of these scopes in design order, where each signal stands by its number.
 pub record Represents (d : Parts) (ss : List Scope) : Type 0 where
   pub signals : map declared d.signals ≡ flat_map signals_of ss
-  pub assigns : d.assigns ≡ []
+  pub assigns : AllZip (IsAssignIn ss) d.assigns (flat_map assigns_of ss)
   pub processes : AllZip (IsProcessIn ss) d.processes (flat_map processes_of ss)
   pub outline : AllZip (IsEntry ss) d.outline (flat_map top_outline ss)
 

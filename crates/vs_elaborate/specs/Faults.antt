@@ -3,12 +3,13 @@ use Rattle.std.specs.Prelude.{◌≡◌, ℕ, suc, ◌<◌, true, List, [], ◌�
 use Rattle.std.specs.List.{list_any}
 use Rattle.vs_syntax.specs.declared.tree.Module.{Module}
 use Rattle.vs_elaborate.specs.declared.faults.Reason.{Reason}
-use Rattle.vs_elaborate.specs.declared.faults.Reason.TheVariants.{NoModule, DeclaredTwice, Limit, Width}
+use Rattle.vs_elaborate.specs.declared.faults.Reason.TheVariants.{NoModule, DeclaredTwice, DrivenTwice, Limit, Width}
 use Rattle.vs_elaborate.specs.declared.faults.ElabFault.{ElabFault}
 use Rattle.vs_elaborate.specs.declared.faults.ElabFault.TheVariants.{Memory, At}
 use Rattle.vs_elaborate.specs.Printed.{Path, printed}
-use Rattle.vs_elaborate.specs.Statements.{has_fault}
-use Rattle.vs_elaborate.specs.Scopes.{Scope, module_named, all_scopes, names_of, initials_of, environment, named, signal_paths}
+use Rattle.vs_elaborate.specs.Environment.{is_net}
+use Rattle.vs_elaborate.specs.Scopes.{Scope, module_named, all_scopes, names_of, driven_of, drivers_of, behaviors_of, environment, named, signal_paths}
+use Rattle.vs_elaborate.specs.Processes.{behavior_fault, driver_fault}
 
 -- a name that stands twice among others
 pub record Repeated (names : List (List ℕ)) (n : List ℕ) : Type 0 where
@@ -22,6 +23,13 @@ pub record Repeated (names : List (List ℕ)) (n : List ℕ) : Type 0 where
 pub record DeclaresTwice (s : Scope) (p : Path) : Type 0 where
   pub name : List ℕ
   pub repeated : Repeated (names_of s) name
+  pub path : p ≡ named s name
+
+-- a net of a scope that two continuous assignments drive, by its path (profile)
+pub record DrivesTwice (s : Scope) (p : Path) : Type 0 where
+  pub name : List ℕ
+  pub net : is_net (environment s) name ≡ true
+  pub repeated : Repeated (driven_of s) name
   pub path : p ≡ named s name
 
 -- two modules of one name, by that name (clause 3.12)
@@ -38,13 +46,16 @@ pub record PassesLimit (ss : List Scope) (p : Path) : Type 0 where
   pub passed : 65536 < length (signal_paths (take (suc place) ss))
   pub path : p ≡ scope.path
 
--- a statement of a scope that has the fault, by the scope's path
+-- a process or a continuous assignment of a scope that has the fault, by the scope's path
 abbrev pub HasFault : Scope → Reason → Path → Type 0
-HasFault s r p = (list_any (has_fault r (environment s)) (initials_of s) ≡ true) × (p ≡ s.path)
+HasFault s r p =
+    ((list_any (behavior_fault r (environment s)) (behaviors_of s) ≡ true) ⊎ (list_any (driver_fault r (environment s)) (drivers_of s) ≡ true)) × (p ≡ s.path)
 
--- the condition of a fault in a scope, with its path: a name is declared twice, or a statement has the fault
+-- the condition of a fault in a scope, with its path: a name is declared twice, a net is driven twice, or a process or a
+-- continuous assignment has the fault
 abbrev pub Holds : Scope → Reason → Path → Type 0
 Holds s DeclaredTwice p = DeclaresTwice s p ⊎ HasFault s DeclaredTwice p
+Holds s DrivenTwice p = DrivesTwice s p ⊎ HasFault s DrivenTwice p
 Holds s r p = HasFault s r p
 
 -- a fault in one of these scopes
@@ -62,6 +73,7 @@ abbrev pub HoldsAbove : List Module → List ℕ → Reason → Path → Type 0
 HoldsAbove ms top NoModule p = (module_named ms top ≡ None) × (p ≡ top ∷ [])
 HoldsAbove ms top DeclaredTwice p = NamesTwice ms p
 HoldsAbove ms top Limit p = PassesLimit (scopes_of ms top) p
+HoldsAbove ms top DrivenTwice p = ⊥
 HoldsAbove ms top (Width w) p = ⊥
 
 -- the condition of a fault at a path, in a source with this top

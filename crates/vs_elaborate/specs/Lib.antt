@@ -4,9 +4,10 @@ pub mod Environment
 pub mod Literals
 pub mod Expressions
 pub mod Statements
+pub mod Scopes
+pub mod Processes
 pub mod Resolved
 pub mod Delays
-pub mod Scopes
 pub mod Faults
 pub mod DesignOf
 pub mod Frames

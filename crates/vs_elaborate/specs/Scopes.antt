@@ -2,11 +2,17 @@
 use Rattle.std.specs.Prelude.{◌≡◌, ℕ, false, List, [], ◌∷◌, ◌++◌, Option, Some, None, map, find, slice_get}
 use Rattle.std.specs.List.{flat_map}
 use Rattle.std.specs.Str.{bytes_eq}
+use Rattle.vs_syntax.specs.declared.tree.Declarator.{Declarator}
+use Rattle.vs_syntax.specs.declared.tree.NetAssignment.{NetAssignment}
+use Rattle.vs_syntax.specs.declared.tree.Expr.{Expr}
 use Rattle.vs_syntax.specs.declared.tree.Module.{Module}
 use Rattle.vs_syntax.specs.declared.tree.Item.{Item}
-use Rattle.vs_syntax.specs.declared.tree.Item.TheVariants.{Reg, Initial}
+use Rattle.vs_syntax.specs.declared.tree.Item.TheVariants.{Wire, Reg, Assign, Initial, Always}
 use Rattle.vs_syntax.specs.declared.tree.Stmt.{Stmt}
+use Rattle.vs_design.specs.declared.signal.SignalKind.{SignalKind}
+use Rattle.vs_design.specs.declared.signal.SignalKind.TheVariants as k
 use Rattle.vs_elaborate.specs.declared.expressions.Shape.{Shape}
+use Rattle.vs_elaborate.specs.declared.expressions.Meaning.{Meaning}
 use Rattle.vs_elaborate.specs.Printed.{Path}
 use Rattle.vs_elaborate.specs.Environment.{Environment}
 
@@ -28,35 +34,100 @@ abbrev pub all_scopes : Option Module → List Scope
 all_scopes None = []
 all_scopes (Some m) = top_scope m ∷ []
 
--- the names that an item declares (clause 4.2.2)
-abbrev pub declared_in : Item → List (List ℕ)
-declared_in (Reg names) = map (λ n. n.items) names.items
-declared_in (Initial x) = []
+-- a name that a scope declares, and as what (clause 4.2)
+pub record DeclaredName : Type 0 where
+  pub kind : SignalKind
+  pub name : List ℕ
 
--- the statement of an `initial` (clause 9.9.1)
-abbrev pub initial_in : Item → List Stmt
-initial_in (Reg names) = []
-initial_in (Initial x) = x ∷ []
+abbrev pub declared_as : SignalKind → List Declarator → List DeclaredName
+declared_as kind ds = map (λ (d : Declarator). record { kind = kind; name = d.name.items }) ds
+
+-- the names that an item declares (clauses 4.2.1 and 4.2.2)
+abbrev pub declared_in : Item → List DeclaredName
+declared_in (Wire ds) = declared_as k.Wire ds.items
+declared_in (Reg ds) = declared_as k.Reg ds.items
+declared_in (Assign xs) = []
+declared_in (Initial x) = []
+declared_in (Always x) = []
+
+-- an assignment of an expression to the signal of a name
+pub record Assignment : Type 0 where
+  pub target : List ℕ
+  pub value : Expr
+
+abbrev pub assignment_of : List ℕ → Option Expr → List Assignment
+assignment_of n None = []
+assignment_of n (Some e) = record { target = n; value = e } ∷ []
+
+-- the declaration assignments among names of a declaration (clauses 6.1.1 and 6.2.1)
+abbrev pub values_of : List Declarator → List Assignment
+values_of ds = flat_map (λ (d : Declarator). assignment_of d.name.items d.value) ds
+
+abbrev pub net_assignment : NetAssignment → Assignment
+net_assignment a = record { target = a.target.items; value = a.value }
+
+-- the continuous assignments of an item: those of an `assign`, and the declaration assignments of nets (clauses 6.1.1 and 6.1.2)
+abbrev pub drivers_in : Item → List Assignment
+drivers_in (Wire ds) = values_of ds.items
+drivers_in (Reg ds) = []
+drivers_in (Assign xs) = map net_assignment xs.items
+drivers_in (Initial x) = []
+drivers_in (Always x) = []
+
+-- what a process does: it sets a variable to the value in its declaration, runs a statement once, or runs it for ever
+pub data Behavior : Type 0 where
+  sets : Assignment → Behavior
+  runs : Stmt → Behavior
+  repeats : Stmt → Behavior
+
+-- the processes of an item: declaration assignments of variables, which act as `initial`, and an `initial` or `always`
+-- (clauses 6.2.1, 9.9.1 and 9.9.2)
+abbrev pub behaviors_in : Item → List Behavior
+behaviors_in (Wire ds) = []
+behaviors_in (Reg ds) = map sets (values_of ds.items)
+behaviors_in (Assign xs) = []
+behaviors_in (Initial x) = runs x ∷ []
+behaviors_in (Always x) = repeats x ∷ []
 
 -- the names that a scope declares, in text order
+abbrev pub declarations_of : Scope → List DeclaredName
+declarations_of s = flat_map declared_in s.body.items.items
+
+abbrev pub names_in : List DeclaredName → List (List ℕ)
+names_in ds = map (λ (d : DeclaredName). d.name) ds
+
 abbrev pub names_of : Scope → List (List ℕ)
-names_of s = flat_map declared_in s.body.items.items
+names_of s = names_in (declarations_of s)
 
--- the statements of a scope's `initial` items, in text order
-abbrev pub initials_of : Scope → List Stmt
-initials_of s = flat_map initial_in s.body.items.items
+-- the continuous assignments of a scope, in text order
+abbrev pub drivers_of : Scope → List Assignment
+drivers_of s = flat_map drivers_in s.body.items.items
 
--- the size and sign of a `reg` without a range (clause 4.3.1)
+abbrev pub targets_in : List Assignment → List (List ℕ)
+targets_in ds = map (λ (a : Assignment). a.target) ds
+
+-- the names that the continuous assignments of a scope drive, in text order
+abbrev pub driven_of : Scope → List (List ℕ)
+driven_of s = targets_in (drivers_of s)
+
+-- the processes of a scope, in text order
+abbrev pub behaviors_of : Scope → List Behavior
+behaviors_of s = flat_map behaviors_in s.body.items.items
+
+-- the size and sign of a signal without a range (clause 4.3.1)
 abbrev pub scalar : Shape
 scalar = record { width = 1; signed = false }
 
--- names of scalars
-abbrev pub scalars : List (List ℕ) → Environment
-scalars names = map (λ n. (n, scalar)) names
+-- what a declared name means
+abbrev pub meaning_as : SignalKind → Meaning
+meaning_as kind = record { kind = kind; shape = scalar }
+
+abbrev pub meanings : List DeclaredName → Environment
+meanings ds = map (λ (d : DeclaredName). (d.name, meaning_as d.kind)) ds
 
 -- what the names of a scope mean
 abbrev pub environment : Scope → Environment
-environment s = scalars (names_of s)
+environment s = meanings (declarations_of s)
 
 -- the path of a name of a scope (clause 12.4)
 abbrev pub named : Scope → List ℕ → Path

@@ -1,14 +1,14 @@
 //! Expressions with their sizes and signs.
-ghost use Rattle.std.specs.Prelude.{◌≡◌, ◌+◌, ◌<◌, ◌≤◌, ◌^◌, true, false, length, MatchOption};
-ghost use Rattle.vs_elaborate.specs.Expressions.{size_of, is_signed, is_unknown_in, IsTyped};
-ghost use Rattle.vs_elaborate.specs.Statements.{IsAssignment, assign_fault};
-ghost use Rattle.vs_elaborate.specs.Resolved.{placed, HasSizes};
-ghost use Rattle.vs_elaborate.specs.declared.faults.Reason.TheVariants.{Width};
-ghost use Rattle.vs_elaborate.specs.declared.faults.WidthReason.TheVariants.{Unknown};
+ghost use Rattle.std.specs.Prelude.{◌≡◌, ◌+◌, ◌<◌, ◌≤◌, ◌^◌, length, map, IfOk, MatchResult};
+ghost use Rattle.std.specs.List.{list_all};
+ghost use Rattle.vs_elaborate.specs.Expressions.{size_of, is_signed, is_unknown_in, largest, lacks_meaning, operator_of};
+ghost use Rattle.vs_elaborate.specs.Resolved.{HasShape, HasSize, HasSizes, MeansExpression, FaultsExpression, MeansChain, FaultsChain, Joins, joined_shape};
 
+use crate::faults::{BodyFault, Reason, WidthReason};
 use crate::names::Names;
-use vs_design::{Operand, Target, Typed};
-use vs_syntax::Expr;
+use std::alloc::{AllocFailed, Global};
+use vs_design::{Operand, Operator, SignalKind, Typed};
+use vs_syntax::{Bitwise, Expr};
 
 /// The size and sign of a signal or an expression.
 #[derive(Clone, Copy, PartialEq, Eq, Debug)]
@@ -19,11 +19,24 @@ pub struct Shape {
     pub signed: bool,
 }
 
-/// The size and sign of an expression, unless a name in it is unknown (IEEE 1364-2005, clauses 5.4.1 and 5.5.1).
-fn shape_of_expression(names: &Names<Shape>, e: &Expr) -> Option<Shape>
+/// What the name of a signal means.
+#[derive(Clone, Copy, PartialEq, Eq, Debug)]
+pub struct Meaning {
+    /// What the signal was declared as.
+    pub kind: SignalKind,
+    /// Its size and sign.
+    pub shape: Shape,
+}
+
+/// The fault of a name that is no signal.
+pub const UNKNOWN: BodyFault = BodyFault::Refused(Reason::Width(WidthReason::Unknown));
+
+/// The size and sign of an expression, unless it has no meaning (IEEE 1364-2005, clauses 5.4.1 and 5.5.1).
+#[cycle(shape_of_expression)]
+pub fn shape_of_expression(names: &Names<Meaning>, e: &Expr) -> Option<Shape>
     requires { HasSizes names.now }
-    ensures shape { MatchOption result (is_unknown_in names.now e.now ≡ true) (λ s. (s.width ≡ size_of names.now e.now) × (s.signed ≡ is_signed names.now e.now)) }
-    ensures size { MatchOption result (is_unknown_in names.now e.now ≡ true) (λ s. (0 < s.width) × (s.width ≤ 64)) }
+    ensures shape { HasShape (is_unknown_in names.now e.now) (size_of names.now e.now) (is_signed names.now e.now) result }
+    ensures size { HasSize result }
 {
     match e {
         Expr::Number(literal) => {
@@ -34,56 +47,133 @@ fn shape_of_expression(names: &Names<Shape>, e: &Expr) -> Option<Shape>
             })
         }
         Expr::Name(name) => {
-            let (_, shape) = names.find(name)?;
-            Some(shape)
+            let (_, meaning) = names.find(name)?;
+            Some(meaning.shape)
         }
+        Expr::Group(inner) => shape_of_expression(names, inner),
+        Expr::Not(operand) => shape_of_expression(names, operand),
+        Expr::Chain(_, operands) => shape_of_operands(names, operands),
     }
 }
 
-/// An expression at a size and a sign, unless a name in it is unknown. The scope's signals are numbered from `base` on.
-fn typed(names: &Names<Shape>, base: usize, shape: Shape, e: &Expr) -> Option<Typed>
+/// The size and sign of a chain of operands: the larger size, and signed where all are.
+#[cycle(shape_of_expression)]
+fn shape_of_operands(names: &Names<Meaning>, operands: &[Expr]) -> Option<Shape>
+    requires { HasSizes names.now }
+    ensures shape { HasShape (lacks_meaning (map (is_unknown_in names.now) operands.now)) (largest (map (size_of names.now) operands.now)) (list_all (is_signed names.now) operands.now) result }
+    ensures size { HasSize result }
+{
+    let mut all = None;
+    for e in operands {
+        let shape = shape_of_expression(names, e)?;
+        all = Some(join_shapes(all, shape));
+    }
+    all
+}
+
+/// The size and sign of operands and one more.
+fn join_shapes(before: Option<Shape>, last: Shape) -> Shape
+    ensures { result ≡ joined_shape before last }
+{
+    match before {
+        None => last,
+        Some(before) => Shape {
+            width: before.width.max(last.width),
+            signed: before.signed && last.signed,
+        },
+    }
+}
+
+/// The operator of a design that one of a source is.
+fn operator(op: Bitwise) -> Operator
+    ensures { result ≡ operator_of op }
+{
+    match op {
+        Bitwise::And => Operator::And,
+        Bitwise::Xor => Operator::Xor,
+        Bitwise::Or => Operator::Or,
+    }
+}
+
+/// An expression at a size and a sign. The scope's signals are numbered from `base` on.
+#[cycle(typed)]
+pub fn typed(
+    alloc: Global,
+    names: &Names<Meaning>,
+    base: usize,
+    shape: Shape,
+    e: &Expr,
+) -> Result<Typed, BodyFault>
     requires some { 0 < shape.width }
     requires most { shape.width ≤ 64 }
     requires numbers { base + length names.now < 2 ^ 64 }
-    ensures { MatchOption result (is_unknown_in names.now e.now ≡ true) (λ t. (is_unknown_in names.now e.now ≡ false) × IsTyped (placed base names.now) shape.width shape.signed e.now t) }
+    ensures { MatchResult result (MeansExpression base names.now shape e.now) (FaultsExpression names.now e.now) }
 {
     match e {
         Expr::Number(literal) => {
             let value = literal.value;
-            Some(Typed::Number(value.resize(shape.width, shape.signed)))
+            Ok(Typed::Number(value.resize(shape.width, shape.signed)))
         }
         Expr::Name(name) => {
-            let (place, _) = names.find(name)?;
-            Some(Typed::Signal(Operand {
+            let Some((place, _)) = names.find(name) else {
+                return Err(UNKNOWN);
+            };
+            Ok(Typed::Signal(Operand {
                 signal: base + place,
                 width: shape.width,
                 signed: shape.signed,
             }))
         }
+        Expr::Group(inner) => typed(alloc, names, base, shape, inner),
+        Expr::Not(operand) => {
+            let operand = typed(alloc, names, base, shape, operand)?;
+            Ok(Typed::Not(Box::new(alloc, operand)?))
+        }
+        Expr::Chain(op, operands) => typed_chain(alloc, names, base, shape, *op, operands),
     }
 }
 
-/// The two sides of an assignment, unless a name in it is unknown. The scope's signals are numbered from `base` on.
-pub fn assignment(
-    names: &Names<Shape>,
+/// Operands with one operator between them, from left to right.
+#[cycle(typed)]
+fn typed_chain(
+    alloc: Global,
+    names: &Names<Meaning>,
     base: usize,
-    target: &[u8],
-    e: &Expr,
-) -> Option<(Target, Typed)>
-    requires sizes { HasSizes names.now }
+    shape: Shape,
+    op: Bitwise,
+    operands: &[Expr],
+) -> Result<Typed, BodyFault>
+    requires some { 0 < shape.width }
+    requires most { shape.width ≤ 64 }
     requires numbers { base + length names.now < 2 ^ 64 }
-    ensures { MatchOption result (assign_fault (Width Unknown) names.now target.now e.now ≡ true) (λ p. (assign_fault (Width Unknown) names.now target.now e.now ≡ false) × IsAssignment (placed base names.now) names.now target.now e.now p.0 p.1) }
+    ensures { MatchResult result (MeansChain base names.now shape op operands.now) (FaultsChain names.now operands.now) }
 {
-    let (number, left) = names.find(target)?;
-    let right = shape_of_expression(names, e)?;
-    let context = Shape {
-        width: left.width.max(right.width),
-        signed: right.signed,
-    };
-    let source = typed(names, base, context, e)?;
-    let target = Target {
-        signal: base + number,
-        width: left.width,
-    };
-    Some((target, source))
+    let mut left = None;
+    for e in operands {
+        let right = typed(alloc, names, base, shape, e)?;
+        left = Some(join(alloc, operator(op), left, right)?);
+    }
+    match left {
+        Some(all) => Ok(all),
+        None => Err(UNKNOWN),
+    }
+}
+
+/// Operands and one more, with an operator between them.
+fn join(
+    alloc: Global,
+    op: Operator,
+    left: Option<Typed>,
+    right: Typed,
+) -> Result<Typed, AllocFailed<Typed>>
+    ensures { IfOk result (Joins op left right) }
+{
+    match left {
+        None => Ok(right),
+        Some(left) => {
+            let left = Box::new(alloc, left)?;
+            let right = Box::new(alloc, right)?;
+            Ok(Typed::Bitwise(op, left, right))
+        }
+    }
 }

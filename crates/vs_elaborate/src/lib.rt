@@ -1,6 +1,7 @@
 //! From a syntax tree and the name of a top module to the design that they define (IEEE 1364-2005, clause 12).
 #![tactic(auto)]
 
+mod assignments;
 mod expressions;
 mod faults;
 mod frames;

@@ -3,7 +3,7 @@ ghost use Rattle.std.specs.Prelude.{◌≡◌, ◌<◌, ◌++◌, ◌∷◌, [],
 ghost use Rattle.std.specs.List.{list_all};
 ghost use Rattle.vs_elaborate.specs.Printed.{is_letter, is_name_byte, is_simple, printed_name, printed};
 ghost use Rattle.vs_elaborate.specs.Frames.{borrowed};
-ghost use Rattle.vs_elaborate.specs.DesignOf.{process_name};
+ghost use Rattle.vs_elaborate.specs.DesignOf.{part_name};
 
 use std::alloc::{AllocError, Global};
 
@@ -88,12 +88,19 @@ pub fn print_member(alloc: Global, path: &[&[u8]], name: &[u8]) -> Result<Vec<u8
     Ok(text)
 }
 
-/// The name of a process of the scope of a path, as it is printed.
-pub fn print_process(alloc: Global, path: &[&[u8]], number: usize) -> Result<Vec<u8>, AllocError>
-    ensures { IfOk result (λ v. v.items ≡ process_name (borrowed path.now) number) }
+/// The name of an assignment or a process of the scope of a path, as it is printed: with a letter that says which of the two,
+/// and its number.
+pub fn print_part(
+    alloc: Global,
+    path: &[&[u8]],
+    letter: u8,
+    number: usize,
+) -> Result<Vec<u8>, AllocError>
+    ensures { IfOk result (λ v. v.items ≡ part_name letter (borrowed path.now) number) }
 {
     let mut text = print_path(alloc, path)?;
-    text.extend_from_slice(b"#p")?;
+    text.push(b'#')?;
+    text.push(letter)?;
     let digits = number.to_string(alloc)?;
     text.extend_from_slice(digits.as_bytes())?;
     Ok(text)

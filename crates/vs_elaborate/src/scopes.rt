@@ -1,42 +1,46 @@
 //! What a scope declares, as parts of a design.
-ghost use Rattle.std.specs.Prelude.{◌≡◌, ◌+◌, ◌<◌, ◌≤◌, ◌++◌, ◌∷◌, ◌^◌, [], length, IfOk, MatchResult, map};
-ghost use Rattle.std.specs.List.{AllZip};
-ghost use Rattle.vs_elaborate.specs.Statements.{IsStatement};
-ghost use Rattle.vs_elaborate.specs.Resolved.{placed, HasSizes, IsSoundBody, AreSoundBodies};
-ghost use Rattle.vs_elaborate.specs.Scopes.{initials_of};
-ghost use Rattle.vs_elaborate.specs.DesignOf.{declared, reg_of, processes_of, IsProcess};
-ghost use Rattle.vs_elaborate.specs.Frames.{scope_of, AddsSignal, FaultsAdding, AddsSignals, FaultsDeclaring, FaultsIn, IsNumbered, MeansBody, MeansProcess, Outlines};
+ghost use Rattle.std.specs.Prelude.{◌≡◌, ◌+◌, ◌<◌, ◌≤◌, ◌∷◌, ◌^◌, [], length, IfOk, MatchResult};
+ghost use Rattle.vs_elaborate.specs.Scopes.{behaviors_of};
+ghost use Rattle.vs_elaborate.specs.Resolved.{HasSizes};
+ghost use Rattle.vs_elaborate.specs.Processes.{kind_of};
+ghost use Rattle.vs_elaborate.specs.DesignOf.{declared, signal_of};
+ghost use Rattle.vs_elaborate.specs.Frames.{declaration, assigned_of, behavior, scope_of, AddsSignal, FaultsAdding, AddsSignals, FaultsDeclaring, IsRefusal, MeansProcess, MeansProcesses, FaultsProcesses, MeansDriver, FaultsDriver, MeansDrivers, FaultsDrivers, Outlines};
 
-use crate::expressions::Shape;
-use crate::faults::{ElabFault, Reason};
-use crate::frames::{Frame, declared_names, member_fault, scope_fault};
+use crate::assignments::{AssignmentKind, assignment};
+use crate::expressions::{Meaning, Shape};
+use crate::faults::{BodyFault, ElabFault, Reason};
+use crate::frames::{
+    Assigned, Declaration, Frame, Work, declared_names, drivers, member_fault, scope_fault, works,
+};
 use crate::names::Names;
-use crate::printed::{print_member, print_name, print_process};
-use crate::statements::{BodyFault, statement};
+use crate::printed::{print_member, print_name, print_part};
+use crate::statements::body_of;
 use std::alloc::{AllocError, Global};
-use vs_design::{Entry, Process, ProcessKind, ScopeKind, Signal, SignalKind, Statement};
-use vs_syntax::{Item, Stmt};
+use vs_design::{Assign, Entry, Process, ProcessKind, ScopeKind, Signal};
 
 /// A design has at most this many signals.
 const SIGNAL_LIMIT: usize = 65536;
 
-/// The size and sign of a `reg` without a range.
+/// The size and sign of a signal without a range.
 const SCALAR: Shape = Shape {
     width: 1,
     signed: false,
 };
 
-/// The signal of a `reg` without a range.
-fn reg_signal(alloc: Global, frame: &Frame, name: &[u8]) -> Result<Signal, AllocError>
+/// The kind of an assignment that drives a net.
+const CONTINUOUS: AssignmentKind = AssignmentKind::Continuous;
+
+/// The signal of a name without a range.
+fn signal(alloc: Global, frame: &Frame, new: Declaration) -> Result<Signal, AllocError>
     requires { 0 < length frame.now.path.items }
-    ensures { IfOk result (λ s. declared s ≡ reg_of (scope_of frame.now) name.now) }
+    ensures { IfOk result (λ s. declared s ≡ signal_of (scope_of frame.now) (declaration new.entry)) }
 {
-    let printed = print_name(alloc, name)?;
-    let path = print_member(alloc, &frame.path, name)?;
+    let name = print_name(alloc, new.name)?;
+    let path = print_member(alloc, &frame.path, new.name)?;
     Ok(Signal {
-        name: printed,
+        name,
         path,
-        kind: SignalKind::Reg,
+        kind: new.kind,
         width: SCALAR.width,
         signed: SCALAR.signed,
     })
@@ -46,20 +50,24 @@ fn reg_signal(alloc: Global, frame: &Frame, name: &[u8]) -> Result<Signal, Alloc
 fn declare_signal<'s>(
     alloc: Global,
     frame: &Frame,
-    name: &'s [u8],
-    names: &mut Names<'s, Shape>,
+    new: Declaration<'s>,
+    names: &mut Names<'s, Meaning>,
     signals: &mut Vec<Signal>,
 ) -> Result<(), ElabFault>
     requires { 0 < length frame.now.path.items }
-    ensures { MatchResult result (λ _. AddsSignal (scope_of frame.now) name.entry.now names.old names.new signals.old.items signals.new.items) (FaultsAdding (scope_of frame.now) name.entry.now names.old signals.old.items) }
+    ensures { MatchResult result (λ _. AddsSignal (scope_of frame.now) (declaration new.entry) names.old names.new signals.old.items signals.new.items) (FaultsAdding (scope_of frame.now) (declaration new.entry) names.old signals.old.items) }
 {
-    if !names.declare(name, SCALAR)? {
-        return Err(member_fault(alloc, frame, name, Reason::DeclaredTwice));
+    let meaning = Meaning {
+        kind: new.kind,
+        shape: SCALAR,
+    };
+    if !names.declare(new.name, meaning)? {
+        return Err(member_fault(alloc, frame, new.name, Reason::DeclaredTwice));
     }
     if signals.len() >= SIGNAL_LIMIT {
         return Err(scope_fault(alloc, frame, Reason::Limit));
     }
-    let signal = reg_signal(alloc, frame, name)?;
+    let signal = signal(alloc, frame, new)?;
     signals.push(signal)?;
     Ok(())
 }
@@ -69,7 +77,7 @@ pub fn declare<'s>(
     alloc: Global,
     frame: &Frame<'s>,
     signals: &mut Vec<Signal>,
-) -> Result<Names<'s, Shape>, ElabFault>
+) -> Result<Names<'s, Meaning>, ElabFault>
     requires rooted { 0 < length frame.now.path.items }
     requires room { length signals.old.items ≤ 65536 }
     ensures { MatchResult result (λ names. AddsSignals (scope_of frame.entry.now) names signals.old.items signals.new.items) (FaultsDeclaring (scope_of frame.entry.now) signals.old.items) }
@@ -83,22 +91,24 @@ pub fn declare<'s>(
     Ok(names)
 }
 
-/// The statement of a process of a scope whose signals are numbered from `base` on.
-fn process_body(
-    alloc: Global,
-    frame: &Frame,
-    names: &Names<Shape>,
-    base: usize,
-    body: &Stmt,
-) -> Result<Statement, ElabFault>
-    requires sizes { HasSizes names.now }
-    requires numbers { base + length names.now < 2 ^ 64 }
-    ensures { MatchResult result (MeansBody base names.now body.now) (FaultsIn (scope_of frame.now) names.now (body.now ∷ [])) }
+/// A fault of a part of a scope, at the scope.
+fn part_fault(alloc: Global, frame: &Frame, fault: BodyFault) -> ElabFault
+    ensures { IsRefusal (scope_of frame.now) fault result }
 {
-    match statement(alloc, names, base, body) {
-        Ok(body) => Ok(body),
-        Err(BodyFault::Memory) => Err(ElabFault::Memory),
-        Err(BodyFault::Refused(reason)) => Err(scope_fault(alloc, frame, reason)),
+    match fault {
+        BodyFault::Memory => ElabFault::Memory,
+        BodyFault::Refused(reason) => scope_fault(alloc, frame, reason),
+    }
+}
+
+/// Whether a process runs once or for ever.
+fn process_kind(work: Work) -> ProcessKind
+    ensures { result ≡ kind_of (behavior work.entry) }
+{
+    match work {
+        Work::Set(_) => ProcessKind::Initial,
+        Work::Run(_) => ProcessKind::Initial,
+        Work::Repeat(_) => ProcessKind::Always,
     }
 }
 
@@ -106,43 +116,97 @@ fn process_body(
 fn process(
     alloc: Global,
     frame: &Frame,
-    names: &Names<Shape>,
+    names: &Names<Meaning>,
     base: usize,
     number: usize,
-    body: &Stmt,
+    work: Work,
 ) -> Result<Process, ElabFault>
     requires sizes { HasSizes names.now }
     requires numbers { base + length names.now < 2 ^ 64 }
-    ensures { MatchResult result (MeansProcess base names.now (record { scope = scope_of frame.now; number = number; body = body.now })) (FaultsIn (scope_of frame.now) names.now (body.now ∷ [])) }
+    ensures { MatchResult result (MeansProcess base names.now (record { scope = scope_of frame.now; number = number; part = behavior work.entry })) (FaultsProcesses (scope_of frame.now) names.now (behavior work.entry ∷ [])) }
 {
-    let body = process_body(alloc, frame, names, base, body)?;
-    let name = print_process(alloc, &frame.path, number)?;
-    Ok(Process {
-        name,
-        kind: ProcessKind::Initial,
-        body,
-    })
+    match body_of(alloc, names, base, work) {
+        Ok(body) => {
+            let name = print_part(alloc, &frame.path, b'p', number)?;
+            Ok(Process {
+                name,
+                kind: process_kind(work),
+                body,
+            })
+        }
+        Err(fault) => Err(part_fault(alloc, frame, fault)),
+    }
 }
 
 /// The processes of a scope whose signals are numbered from `base` on.
 pub fn processes(
     alloc: Global,
     frame: &Frame,
-    names: &Names<Shape>,
+    names: &Names<Meaning>,
     base: usize,
 ) -> Result<Vec<Process>, ElabFault>
     requires sizes { HasSizes names.now }
     requires numbers { base + length names.now < 2 ^ 64 }
-    ensures { MatchResult result (λ v. AreSoundBodies names.now (initials_of (scope_of frame.now)) × AllZip (IsNumbered base names.now) v.items (processes_of (scope_of frame.now))) (FaultsIn (scope_of frame.now) names.now (initials_of (scope_of frame.now))) }
+    ensures { MatchResult result (λ v. MeansProcesses base names.now (scope_of frame.now) v.items) (FaultsProcesses (scope_of frame.now) names.now (behaviors_of (scope_of frame.now))) }
 {
+    let list = works(alloc, frame.body)?;
     let mut all = Vec::new(alloc);
-    for item in &frame.body.items {
-        let Item::Initial(body) = item else {
-            continue;
-        };
-        let process = process(alloc, frame, names, base, all.len(), body)?;
+    for work in &list {
+        let process = process(alloc, frame, names, base, all.len(), *work)?;
         all.push(process)?;
     }
+    Ok(all)
+}
+
+/// A continuous assignment of a scope whose signals are numbered from `base` on.
+fn assign(
+    alloc: Global,
+    frame: &Frame,
+    names: &Names<Meaning>,
+    base: usize,
+    number: usize,
+    driver: Assigned,
+) -> Result<Assign, ElabFault>
+    requires sizes { HasSizes names.now }
+    requires numbers { base + length names.now < 2 ^ 64 }
+    ensures { MatchResult result (MeansDriver base names.now (record { scope = scope_of frame.now; number = number; part = assigned_of driver.entry })) (FaultsDriver (scope_of frame.now) names.now (assigned_of driver.entry)) }
+{
+    match assignment(alloc, names, base, CONTINUOUS, driver.target, driver.value) {
+        Ok((target, source)) => {
+            let name = print_part(alloc, &frame.path, b'a', number)?;
+            Ok(Assign {
+                name,
+                target,
+                source,
+            })
+        }
+        Err(fault) => Err(part_fault(alloc, frame, fault)),
+    }
+}
+
+/// The continuous assignments of a scope whose signals are numbered from `base` on.
+pub fn assigns(
+    alloc: Global,
+    frame: &Frame,
+    names: &Names<Meaning>,
+    base: usize,
+) -> Result<Vec<Assign>, ElabFault>
+    requires rooted { 0 < length frame.now.path.items }
+    requires sizes { HasSizes names.now }
+    requires numbers { base + length names.now < 2 ^ 64 }
+    ensures { MatchResult result (λ v. MeansDrivers base names.now (scope_of frame.now) v.items) (FaultsDrivers (scope_of frame.now) names.now) }
+{
+    let list = drivers(alloc, frame.body)?;
+    let mut driven = Names::new(alloc);
+    let mut all = Vec::new(alloc);
+    for driver in &list {
+        let assign = assign(alloc, frame, names, base, all.len(), *driver)?;
+        if !driven.declare(driver.target, ())? {
+            return Err(member_fault(alloc, frame, driver.target, Reason::DrivenTwice));
+        }
+        all.push(assign)?;
+    }
+    let _ = driven.len();
     Ok(all)
 }
 

@@ -10,7 +10,7 @@ use crate::faults::{ElabFault, Reason};
 use crate::frames::Frame;
 use crate::names::Names;
 use crate::printed::print_name;
-use crate::scopes::{declare, outline, processes};
+use crate::scopes::{assigns, declare, outline, processes};
 use std::alloc::Global;
 use vs_design::Design;
 use vs_syntax::{Module, Source};
@@ -61,9 +61,10 @@ fn open(alloc: Global, frame: &Frame) -> Result<Design, ElabFault>
 {
     let mut signals = Vec::new(alloc);
     let names = declare(alloc, frame, &mut signals)?;
+    let assigns = assigns(alloc, frame, &names, 0)?;
     let processes = processes(alloc, frame, &names, 0)?;
     let outline = outline(alloc, frame, 0, names.len())?;
-    Ok(Design::new(signals, Vec::new(alloc), processes, outline))
+    Ok(Design::new(signals, assigns, processes, outline))
 }
 
 /// The design that a source and the name of its top module define (IEEE 1364-2005, clause 12): the name's own bytes, without

@@ -1,16 +1,17 @@
 //! Statements with names as numbers of signals and delays as ticks.
-ghost use Rattle.std.specs.Prelude.{◌≡◌, ◌+◌, ◌<◌, ◌^◌, true, false, length, MatchResult};
-ghost use Rattle.vs_elaborate.specs.Literals.{delay_of};
-ghost use Rattle.vs_elaborate.specs.Statements.{IsStatement, AreStatements, delay_fault};
-ghost use Rattle.vs_elaborate.specs.Resolved.{placed, HasSizes, IsSoundBody, AreSoundBodies, FaultsBody, FaultsBodies};
+ghost use Rattle.std.specs.Prelude.{◌+◌, ◌<◌, ◌^◌, length, MatchResult};
+ghost use Rattle.vs_elaborate.specs.Statements.{IsStatement, AreStatements};
+ghost use Rattle.vs_elaborate.specs.Resolved.{placed, HasSizes, IsSoundBody, AreSoundBodies, FaultsBody, FaultsBodies, FaultsProcess};
+ghost use Rattle.vs_elaborate.specs.Frames.{behavior, MeansBody};
 ghost use Rattle.vs_elaborate.specs.Delays.{IsDelay, FaultsDelay};
-ghost use Rattle.vs_elaborate.specs.declared.statements.BodyFault.TheVariants.{Memory};
 
-use crate::expressions::{Shape, assignment};
-use crate::faults::{Reason, WidthReason};
+use crate::assignments::{AssignmentKind, assignment};
+use crate::expressions::Meaning;
+use crate::faults::{BodyFault, Reason, WidthReason};
+use crate::frames::Work;
 use crate::literals::delay_ticks;
 use crate::names::Names;
-use std::alloc::{AllocError, AllocFailed, Global};
+use std::alloc::Global;
 use vs_design::{Statement, Ticks};
 use vs_lexer::Literal;
 use vs_syntax::Stmt;
@@ -18,30 +19,8 @@ use vs_syntax::Stmt;
 /// Delays reach fewer ticks than this.
 const DELAY_LIMIT: u64 = 1 << 62;
 
-/// Why a statement was refused, its scope apart.
-#[derive(Clone, Copy, PartialEq, Eq, Debug)]
-pub enum BodyFault {
-    /// A growth was refused.
-    Memory,
-    /// The statement has this fault.
-    Refused(Reason),
-}
-
-impl From<AllocError> for BodyFault {
-    ghost from_gives = { λ _ e. e ≡ Memory };
-
-    fn from(_e: AllocError) -> BodyFault {
-        BodyFault::Memory
-    }
-}
-
-impl<T: Drop> From<AllocFailed<T>> for BodyFault {
-    ghost from_gives = { λ _ e. e ≡ Memory };
-
-    fn from(_e: AllocFailed<T>) -> BodyFault {
-        BodyFault::Memory
-    }
-}
+/// The kind of an assignment that is a statement.
+const PROCEDURAL: AssignmentKind = AssignmentKind::Procedural;
 
 /// The ticks of a delay.
 fn delay(literal: Literal) -> Result<Ticks, BodyFault>
@@ -60,7 +39,7 @@ fn delay(literal: Literal) -> Result<Ticks, BodyFault>
 #[cycle(statement)]
 pub fn statement(
     alloc: Global,
-    names: &Names<Shape>,
+    names: &Names<Meaning>,
     base: usize,
     s: &Stmt,
 ) -> Result<Statement, BodyFault>
@@ -71,10 +50,12 @@ pub fn statement(
     match s {
         Stmt::Null => Ok(Statement::Null),
         Stmt::Assign(target, e) => {
-            let Some((target, source)) = assignment(names, base, target, e) else {
-                return Err(BodyFault::Refused(Reason::Width(WidthReason::Unknown)));
-            };
+            let (target, source) = assignment(alloc, names, base, PROCEDURAL, target, e)?;
             Ok(Statement::Assign(target, source))
+        }
+        Stmt::Later(target, e) => {
+            let (target, source) = assignment(alloc, names, base, PROCEDURAL, target, e)?;
+            Ok(Statement::Later(target, source))
         }
         Stmt::Block(inner) => {
             let inner = statements(alloc, names, base, inner)?;
@@ -89,11 +70,37 @@ pub fn statement(
     }
 }
 
+/// The body of a process of a scope whose signals are numbered from `base` on.
+pub fn body_of(
+    alloc: Global,
+    names: &Names<Meaning>,
+    base: usize,
+    work: Work,
+) -> Result<Statement, BodyFault>
+    requires sizes { HasSizes names.now }
+    requires numbers { base + length names.now < 2 ^ 64 }
+    ensures { MatchResult result (MeansBody base names.now (behavior work.entry)) (FaultsProcess names.now (behavior work.entry)) }
+{
+    match work {
+        Work::Set(one) => {
+            let (target, source) = assignment(
+                alloc, names, base, PROCEDURAL, one.target, one.value,
+            )?;
+            Ok(Statement::Assign(target, source))
+        }
+        Work::Run(body) => statement(alloc, names, base, body),
+        Work::Repeat(body) => {
+            let body = statement(alloc, names, base, body)?;
+            Ok(Statement::Forever(Box::new(alloc, body)?))
+        }
+    }
+}
+
 /// Statements one after another.
 #[cycle(statement)]
 fn statements(
     alloc: Global,
-    names: &Names<Shape>,
+    names: &Names<Meaning>,
     base: usize,
     all: &[Stmt],
 ) -> Result<Vec<Statement>, BodyFault>

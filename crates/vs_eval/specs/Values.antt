@@ -1,9 +1,13 @@
 -- The values of expressions and the writes of assignments.
-use Rattle.std.specs.Prelude.{ℕ, Bool, false, Option, Some, None, List, [], ◌∷◌}
+use Rattle.std.specs.Prelude.{ℕ, ◌==◌, Bool, false, Option, Some, None, List, [], ◌∷◌, ◌++◌, length}
+use Rattle.std.specs.List.{list_any}
 use Rattle.vs_logic4.specs.declared.digit.Digit.{Digit}
 use Rattle.vs_logic4.specs.Vectors.{all_unknown, resized}
-use Rattle.vs_design.specs.declared.expression.Typed.{Typed}
-use Rattle.vs_design.specs.declared.expression.Typed.TheVariants.{Number, Signal}
+use Rattle.vs_logic4.specs.Bitwise.{bitwise_and, bitwise_or, bitwise_xor, bitwise_not}
+use Rattle.vs_design.specs.declared.expression.Operator.{Operator}
+use Rattle.vs_design.specs.declared.expression.Operator.TheVariants as o
+use Rattle.vs_design.specs.declared.expression.Typed.{Typed, Typed-F, fold-Typed}
+use Rattle.vs_design.specs.declared.expression.Typed.TheOpen as t
 use Rattle.vs_design.specs.declared.statement.Target.{Target}
 use Rattle.vs_design.specs.Stores.{Store, word_of, Write}
 
@@ -12,15 +16,38 @@ abbrev pub operand_value : Bool → ℕ → Option (List Digit) → List Digit
 operand_value signed width None = all_unknown width
 operand_value signed width (Some word) = resized signed width word
 
+-- what an operator gives of two operands; of a design of a source they have one size, and a second one of another size is
+-- brought to that of the first (clause 5.1.10)
+abbrev pub bitwise : Operator → List Digit → List Digit → List Digit
+bitwise o.And ds es = bitwise_and ds (resized false (length ds) es)
+bitwise o.Xor ds es = bitwise_xor ds (resized false (length ds) es)
+bitwise o.Or ds es = bitwise_or ds (resized false (length ds) es)
+
+-- one layer of an expression: its value in a store, with the value of each inner expression in its place
+abbrev pub value_step : Store → Typed-F (List Digit) → List Digit
+value_step store (t.Number digits) = digits
+value_step store (t.Signal o) = operand_value o.signed o.width (word_of store o.signal 0)
+value_step store (t.Not x) = bitwise_not x.value
+value_step store (t.Bitwise op x y) = bitwise op x.value y.value
+
 -- the value of an expression in a store (clause 5)
 abbrev pub value_of : Typed → Store → List Digit
-value_of (Number digits) store = digits
-value_of (Signal o) store = operand_value o.signed o.width (word_of store o.signal 0)
+value_of e store = fold-Typed (List Digit) (value_step store) e
+
+-- one layer of an expression: the signals that it reads, with those of each inner expression in its place
+abbrev pub reads_step : Typed-F (List ℕ) → List ℕ
+reads_step (t.Number digits) = []
+reads_step (t.Signal o) = o.signal ∷ []
+reads_step (t.Not x) = x.value
+reads_step (t.Bitwise op x y) = x.value ++ y.value
 
 -- the signals that an expression reads
 abbrev pub reads : Typed → List ℕ
-reads (Number digits) = []
-reads (Signal o) = o.signal ∷ []
+reads e = fold-Typed (List ℕ) reads_step e
+
+-- whether an expression reads a signal
+abbrev pub reads_signal : Typed → ℕ → Bool
+reads_signal e signal = list_any (λ n. n == signal) (reads e)
 
 -- what a target gets of an expression: its value, cut to the target's size (clauses 5.4.1 and 6)
 abbrev pub target_value : Target → Typed → Store → List Digit

@@ -1,11 +1,11 @@
 //! The values of expressions in a store (IEEE 1364-2005, clause 5).
 #![tactic(auto)]
 
-ghost use Rattle.std.specs.Prelude.{◌≡◌, ◌<◌, ◌≤◌, Option, Bool, length};
-ghost use Rattle.vs_eval.specs.Values.{value_of, target_value, operand_value};
-ghost use Rattle.vs_design.specs.declared.expression.Typed.TheVariants.{Signal};
+ghost use Rattle.std.specs.Prelude.{◌≡◌};
+ghost use Rattle.vs_eval.specs.Values.{value_of, target_value, operand_value, bitwise, reads_signal};
+ghost use Rattle.vs_design.specs.Stores.{word_of};
 
-use vs_design::{Operand, Store, Target, Typed};
+use vs_design::{Operand, Operator, Store, Target, Typed};
 use vs_logic4::Vec4;
 
 /// The value of an expression in a store, at the size and with the sign of its context.
@@ -15,12 +15,42 @@ pub fn value(e: &Typed, store: &Store) -> Vec4
     match e {
         Typed::Number(digits) => *digits,
         Typed::Signal(o) => operand(*o, store),
+        Typed::Not(x) => value(x, store).not(),
+        Typed::Bitwise(operator, x, y) => {
+            let left = value(x, store);
+            let right = value(y, store);
+            combined(*operator, left, right)
+        }
+    }
+}
+
+/// Whether an expression reads a signal.
+pub fn reads_signal(e: &Typed, signal: usize) -> bool
+    ensures { result ≡ reads_signal e.now signal }
+{
+    match e {
+        Typed::Number(_) => false,
+        Typed::Signal(o) => o.signal == signal,
+        Typed::Not(x) => reads_signal(x, signal),
+        Typed::Bitwise(_, x, y) => reads_signal(x, signal) || reads_signal(y, signal),
+    }
+}
+
+// What an operator gives of two operands, of which the second one is brought to the size of the first.
+fn combined(operator: Operator, left: Vec4, right: Vec4) -> Vec4
+    ensures { result ≡ bitwise operator left right }
+{
+    let sized = right.resize(left.width(), false);
+    match operator {
+        Operator::And => left.and(sized),
+        Operator::Xor => left.xor(sized),
+        Operator::Or => left.or(sized),
     }
 }
 
 // The value of a signal where it stands in an expression.
 fn operand(o: Operand, store: &Store) -> Vec4
-    ensures { result ≡ value_of (Signal o) store.now }
+    ensures { result ≡ operand_value o.signed o.width (word_of store.now o.signal 0) }
 {
     match store.word(o.signal, 0) {
         Some(word) => word.resize(o.width, o.signed),

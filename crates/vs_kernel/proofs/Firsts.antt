@@ -8,7 +8,7 @@ use Rattle.vs_design.specs.declared.statement.Target.{Target}
 use Rattle.vs_design.specs.Stores.{Write}
 use Rattle.vs_process.specs.Effects.{whole}
 use Rattle.vs_process.specs.Executions.{if_some, shares, is_first}
-use Rattle.vs_process.specs.States.{State, Driver, Update, without, written, propagate, propagate_value, settled, make}
+use Rattle.vs_process.specs.States.{State, Driver, Update, without, written, evaluated, evaluate, propagate, propagate_value, settled, make}
 
 -- whether an update is activated and hides a newer one
 abbrev pub hides : Update → Update → Bool
@@ -68,6 +68,13 @@ make_at {s} {now} e i u us w here gone what =
     subst (λ (t : State). written (record s { updates = us }) w ≡ make t i (slice_get t.updates i)) e
     (ap (written (record s { updates = us })) (sym what)
     ∙ ap (λ (l : List Update). written (record s { updates = l }) u.what) (gone ∙ sym (without-remove s.updates i)) ∙ sym (ap (make s i) here))
+
+-- an evaluation
+pub evaluate_at : {s now : State} (e : s ≡ now) (j : ℕ) (x y : Driver) → slice_get s.drivers j ≡ Some x → y ≡ evaluated s.store x →
+    record s { drivers = slice_set s.drivers j y } ≡ evaluate now j (slice_get now.drivers j)
+evaluate_at {s} {now} e j x y here after =
+    subst (λ (t : State). record s { drivers = slice_set s.drivers j y } ≡ evaluate t j (slice_get t.drivers j)) e
+    (ap (λ (d : Driver). record s { drivers = slice_set s.drivers j d }) after ∙ sym (ap (evaluate s j) here))
 
 -- a pending value that is written
 pub propagate_at : {s now : State} (e : s ≡ now) (j : ℕ) (x y : Driver) (t : Target) (v : List Digit) → slice_get s.drivers j ≡ Some x → x.pending ≡ Some v →

@@ -1,18 +1,12 @@
 -- What a change of one signal does to continuous assignments, and what a step of a process does beyond its place.
-use Rattle.std.specs.Prelude.{ℕ, ◌==◌, ◌||◌, Bool, true, false, Option, Some, None, List, [], ◌∷◌, ◌++◌}
-use Rattle.std.specs.List.{list_any}
+use Rattle.std.specs.Prelude.{ℕ, ◌||◌, Bool, true, false, Option, Some, None, List, [], ◌∷◌, ◌++◌}
 use Rattle.vs_logic4.specs.declared.digit.Digit.{Digit}
 use Rattle.vs_logic4.specs.Vectors.{same_digits}
-use Rattle.vs_design.specs.declared.expression.Typed.{Typed}
-use Rattle.vs_eval.specs.Values.{reads}
+use Rattle.vs_eval.specs.Values.{reads_signal}
 use Rattle.vs_process.specs.declared.effect.Effect.{Effect}
 use Rattle.vs_process.specs.declared.effect.Effect.TheVariants.{Nothing, Write, Queue}
 use Rattle.vs_process.specs.Effects.{whole}
 use Rattle.vs_process.specs.States.{Driver, State, written}
-
--- whether an expression reads a signal
-abbrev pub reads_signal : Typed → ℕ → Bool
-reads_signal e signal = list_any (λ n. n == signal) (reads e)
 
 -- a continuous assignment behind a change of this signal alone
 abbrev pub touched_by : ℕ → Driver → Driver

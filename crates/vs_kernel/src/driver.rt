@@ -1,11 +1,12 @@
 //! Continuous assignments in a run.
 ghost use Rattle.std.specs.Prelude.{◌≡◌, ◌&&◌, not, is_some};
-ghost use Rattle.vs_kernel.specs.Touches.{reads_signal, touched_by};
+ghost use Rattle.vs_eval.specs.Values.{reads_signal};
+ghost use Rattle.vs_kernel.specs.Touches.{touched_by};
 ghost use Rattle.vs_process.specs.States as states;
 
 use std::marker::Model;
 use vs_design::{Assign, Store, Target, Typed};
-use vs_eval::cut_value;
+use vs_eval::{cut_value, reads_signal};
 use vs_logic4::Vec4;
 
 /// A continuous assignment: what it drives and evaluates, whether it has to be evaluated, and the value that waits to be
@@ -19,21 +20,15 @@ pub(crate) struct Driver<'a> {
 }
 
 impl<'a> Model for Driver<'a> {
+    ghost use Rattle.std.specs.Coded.{codes};
+    ghost use Rattle.vs_design.specs.contracts.expression.Typed as expression;
     ghost use Rattle.vs_process.specs.States as states;
 
     ghost Value = { states.Driver };
 
-    ghost view = { λ d. record { target = d.target; source = d.source.now; needs = d.needs; pending = d.pending } };
-}
+    ghost coded = { Prim.hlevel (codes, expression.the_row.coded) };
 
-/// Whether an expression reads a signal.
-fn reads_signal(source: &Typed, signal: usize) -> bool
-    ensures { result ≡ reads_signal source.now signal }
-{
-    match source {
-        Typed::Number(_) => false,
-        Typed::Signal(operand) => operand.signal == signal,
-    }
+    ghost view = { λ d. record { target = d.target; source = d.source.now; needs = d.needs; pending = d.pending } };
 }
 
 /// Whether a word has the value already; where there is no word, none is taken.

@@ -46,12 +46,13 @@ pub struct Kernel<'a, P> {
 
 impl<'a, P> Model for Kernel<'a, P> {
     ghost use Rattle.std.specs.Coded.{codes};
+    ghost use Rattle.vs_design.specs.contracts.expression.Typed as expression;
     ghost use Rattle.vs_design.specs.contracts.statement.Statement as statement;
     ghost use Rattle.vs_kernel.specs.Stages.{Course, status_of, IsAtStart};
 
     ghost Value = { Course };
 
-    ghost coded = { Prim.hlevel (codes, statement.the_row.coded) };
+    ghost coded = { Prim.hlevel (codes, statement.the_row.coded, expression.the_row.coded) };
 
     ghost view = { λ k. record { design = k.design.now; status = status_of k.stage } };
 

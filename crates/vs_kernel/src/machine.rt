@@ -30,12 +30,13 @@ pub(crate) struct Machine<'a> {
 impl<'a> Model for Machine<'a> {
     ghost use Rattle.std.specs.Prelude.{[], false};
     ghost use Rattle.std.specs.Coded.{codes};
+    ghost use Rattle.vs_design.specs.contracts.expression.Typed as expression;
     ghost use Rattle.vs_design.specs.contracts.statement.Statement as statement;
     ghost use Rattle.vs_process.specs.States as states;
 
     ghost Value = { states.State };
 
-    ghost coded = { Prim.hlevel (codes, statement.the_row.coded) };
+    ghost coded = { Prim.hlevel (codes, statement.the_row.coded, expression.the_row.coded) };
 
     ghost view = { λ m. record { store = m.store; places = m.spots.items; drivers = m.drivers.items; updates = m.updates.items; calls = []; time = m.time; finishing = false; over = m.over } };
 }

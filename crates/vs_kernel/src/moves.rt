@@ -84,9 +84,10 @@ impl<'a> Machine<'a> {
     fn evaluate(&mut self, assign: usize)
         ensures { self.new ≡ states.evaluate self.old assign (slice_get self.old.drivers assign) }
     {
-        if let Some(driver) = self.drivers.get_mut(assign) {
-            driver.evaluate(&self.store);
-        }
+        let Some(driver) = self.drivers.get_mut(assign) else {
+            return;
+        };
+        driver.evaluate(&self.store);
     }
 
     /// The update of a continuous assignment.

@@ -18,7 +18,7 @@ use vs_process::Move;
 use vs_vcd::{Sink, VcdFault, Writer};
 
 /// The next move: what the policy chooses of the list, where that is enabled; else a move that the state has.
-fn choose<P: Pick>(machine: &Machine, agenda: &mut Agenda, policy: &mut P) -> Choice
+pub(crate) fn choose<P: Pick>(machine: &Machine, agenda: &mut Agenda, policy: &mut P) -> Choice
     ensures { executions.is_enabled machine.now result.choice ≡ true }
 {
     if let Some(place) = agenda.pick(policy) {
@@ -59,7 +59,11 @@ fn note<V: Sink>(
 }
 
 /// Makes a move, and brings the list up to date.
-fn advance(machine: &mut Machine, agenda: &mut Agenda, next: Choice) -> Result<(), AllocError>
+pub(crate) fn advance(
+    machine: &mut Machine,
+    agenda: &mut Agenda,
+    next: Choice,
+) -> Result<(), AllocError>
     requires going { machine.old.over ≡ false }
     requires enabled { executions.is_enabled machine.old next.choice ≡ true }
     requires early { machine.old.time < 2 ^ 62 }

@@ -2,15 +2,19 @@
 
 ghost use Rattle.std.specs.Prelude.{◌<◌, ◌^◌};
 
-use crate::{Fifo, Kernel, Outcome, RunFault};
+use crate::agenda::Agenda;
+use crate::machine::Machine;
+use crate::run::{advance, choose};
+use crate::{Fifo, Kernel, Outcome, Pick, RunFault};
 use std::alloc::{AllocError, Global};
 use std::io;
 use std::test::Fail;
 use vs_design::{
-    Assign, Design, Entry, Operand, Process, ProcessKind, ScopeKind, Signal, SignalKind, Statement,
-    Target, Ticks, Typed,
+    Assign, Design, Entry, Operand, Operator, Process, ProcessKind, ScopeKind, Signal, SignalKind,
+    Statement, Target, Ticks, Typed,
 };
 use vs_logic4::Vec4;
+use vs_process::Move;
 use vs_vcd::{Counted, Sink};
 
 fn bytes(alloc: Global, text: &str) -> Result<Vec<u8>, AllocError> {
@@ -237,5 +241,194 @@ fn fails_with_its_sink_and_stays_failed(rt: HostRuntime) -> Result<(), Fail> {
         done.run(10, 100, &mut all, &mut lines),
         Err(RunFault::Done)
     );
+    Ok(())
+}
+
+/// A policy that makes the choices of a list, and chooses the first item behind its end.
+#[derive(Drop)]
+struct Script<'s> {
+    choices: &'s [usize],
+    next: usize,
+}
+
+impl<'s> Pick for Script<'s> {
+    fn pick(&mut self, n: usize) -> usize {
+        let choice = self.choices.get(self.next).copied().unwrap_or(0);
+        self.next = self.next.saturating_add(1);
+        choice.min(n - 1)
+    }
+}
+
+/// The moves of a run to its end, under a policy that makes these choices.
+fn moves(alloc: Global, design: &Design, choices: &[usize]) -> Result<Vec<Move>, AllocError> {
+    let mut policy = Script { choices, next: 0 };
+    let mut machine = Machine::start(alloc, design)?;
+    let mut agenda = Agenda::start(alloc, design.signals().len(), &machine)?;
+    let mut made = Vec::new(alloc);
+    for _ in 0..100 {
+        if machine.is_over() || machine.time() > 100 {
+            return Ok(made);
+        }
+        let next = choose(&machine, &mut agenda, &mut policy);
+        made.push(next.choice)?;
+        advance(&mut machine, &mut agenda, next)?;
+    }
+    Ok(made)
+}
+
+fn assign(alloc: Global, signal: usize, source: Typed) -> Result<Assign, AllocError> {
+    Ok(Assign {
+        name: bytes(alloc, "t#a")?,
+        target: target(signal),
+        source,
+    })
+}
+
+/// A process that makes blocking assignments.
+fn sets(alloc: Global, writes: &[(usize, u64)]) -> Result<Process, AllocError> {
+    let mut body = Vec::new(alloc);
+    for (signal, value) in writes {
+        body.push(Statement::Assign(target(*signal), number(*value)))?;
+    }
+    process(alloc, "t#p", Statement::Block(body))
+}
+
+/// A process that makes nonblocking assignments.
+fn schedules(alloc: Global, writes: &[(usize, u64)]) -> Result<Process, AllocError> {
+    let mut body = Vec::new(alloc);
+    for (signal, value) in writes {
+        body.push(Statement::Later(target(*signal), number(*value)))?;
+    }
+    process(alloc, "t#p", Statement::Block(body))
+}
+
+/// Two variables, the signals 0 and 1, and three nets, the signals 2 to 4.
+fn five(alloc: Global) -> Result<Vec<Signal>, AllocError> {
+    Ok(vec![in alloc;
+        signal(alloc, "a", SignalKind::Reg)?,
+        signal(alloc, "b", SignalKind::Reg)?,
+        signal(alloc, "x", SignalKind::Wire)?,
+        signal(alloc, "y", SignalKind::Wire)?,
+        signal(alloc, "z", SignalKind::Wire)?,
+    ]?)
+}
+
+// `assign x = 1; assign y = 1; initial a = 0; initial b = 0;`: an update enters behind the processes.
+#[test]
+fn lists_assignments_and_then_processes(rt: HostRuntime) -> Result<(), Fail> {
+    let alloc = rt.alloc();
+    let assigns = vec![in alloc; assign(alloc, 2, number(1))?, assign(alloc, 3, number(1))?]?;
+    let processes = vec![in alloc; sets(alloc, &[(0, 0)])?, sets(alloc, &[(1, 0)])?]?;
+    let design = Design::new(five(alloc)?, assigns, processes, Vec::new(alloc));
+    let made = moves(alloc, &design, &[])?;
+    let wanted = [
+        Move::Evaluate(0),
+        Move::Evaluate(1),
+        Move::Step(0),
+        Move::Step(1),
+        Move::Propagate(0),
+        Move::Propagate(1),
+        Move::EndSlot,
+    ];
+    assert_eq!(rt; made.as_slice(), wanted.as_slice());
+    Ok(())
+}
+
+// `assign x = b ^ a; assign y = b; assign z = ~a; initial a = 1; initial b = 0;`: the change of `a` lists the first and the
+// third assignment, that of `b` the second one alone, since the first keeps its place.
+#[test]
+fn lists_the_readers_of_a_change_at_the_end(rt: HostRuntime) -> Result<(), Fail> {
+    let alloc = rt.alloc();
+    let both = Typed::Bitwise(
+        Operator::Xor,
+        Box::new(alloc, value_of(1))?,
+        Box::new(alloc, value_of(0))?,
+    );
+    let inverse = Typed::Not(Box::new(alloc, value_of(0))?);
+    let assigns = vec![in alloc;
+        assign(alloc, 2, both)?,
+        assign(alloc, 3, value_of(1))?,
+        assign(alloc, 4, inverse)?,
+    ]?;
+    let processes = vec![in alloc; sets(alloc, &[(0, 1)])?, sets(alloc, &[(1, 0)])?]?;
+    let design = Design::new(five(alloc)?, assigns, processes, Vec::new(alloc));
+    let made = moves(alloc, &design, &[])?;
+    let wanted = [
+        Move::Evaluate(0),
+        Move::Evaluate(1),
+        Move::Evaluate(2),
+        Move::Step(0),
+        Move::Step(1),
+        Move::Evaluate(0),
+        Move::Evaluate(2),
+        Move::Evaluate(1),
+        Move::Propagate(0),
+        Move::Propagate(2),
+        Move::Propagate(1),
+        Move::EndSlot,
+    ];
+    assert_eq!(rt; made.as_slice(), wanted.as_slice());
+    Ok(())
+}
+
+// `assign x = a; assign y = b; initial begin a = 1; b = 1; a = 0; end`: the second value of `x` waits at the place of the first.
+#[test]
+fn keeps_the_place_of_a_pending_value(rt: HostRuntime) -> Result<(), Fail> {
+    let alloc = rt.alloc();
+    let assigns = vec![in alloc;
+        assign(alloc, 2, value_of(0))?,
+        assign(alloc, 3, value_of(1))?,
+    ]?;
+    let processes = vec![in alloc; sets(alloc, &[(0, 1), (1, 1), (0, 0)])?]?;
+    let design = Design::new(five(alloc)?, assigns, processes, Vec::new(alloc));
+    let made = moves(alloc, &design, &[0, 0, 0, 1, 0, 2, 0, 2, 0, 0])?;
+    let wanted = [
+        Move::Evaluate(0),
+        Move::Evaluate(1),
+        Move::Step(0),
+        Move::Evaluate(0),
+        Move::Step(0),
+        Move::Evaluate(1),
+        Move::Step(0),
+        Move::Evaluate(0),
+        Move::Propagate(0),
+        Move::Propagate(1),
+        Move::EndSlot,
+    ];
+    assert_eq!(rt; made.as_slice(), wanted.as_slice());
+    Ok(())
+}
+
+// `initial begin a <= 1; a <= 0; b <= 1; end`: the updates are numbered by their places among those that wait.
+#[test]
+fn makes_the_updates_of_a_signal_in_their_order(rt: HostRuntime) -> Result<(), Fail> {
+    let alloc = rt.alloc();
+    let processes = vec![in alloc; schedules(alloc, &[(0, 1), (0, 0), (1, 1)])?]?;
+    let design = Design::new(five(alloc)?, Vec::new(alloc), processes, Vec::new(alloc));
+    let first = moves(alloc, &design, &[])?;
+    let in_order = [
+        Move::Step(0),
+        Move::Step(0),
+        Move::Step(0),
+        Move::Activate,
+        Move::Make(0),
+        Move::Make(0),
+        Move::Make(0),
+        Move::EndSlot,
+    ];
+    assert_eq!(rt; first.as_slice(), in_order.as_slice());
+    // The newer update of `a` isn't offered beside the older one, so the second choice is that of `b`.
+    let second = moves(alloc, &design, &[0, 0, 0, 1])?;
+    let other = [
+        Move::Step(0),
+        Move::Step(0),
+        Move::Step(0),
+        Move::Activate,
+        Move::Make(2),
+        Move::Make(0),
+        Move::Make(0),
+        Move::EndSlot,
+    ];
+    assert_eq!(rt; second.as_slice(), other.as_slice());
     Ok(())
 }

@@ -1,6 +1,7 @@
 //! Tokens of sources by hand: what the standard and the profile say of them.
-use crate::{Kind, Literal, Mark, Token, lex};
+use crate::{Kind, LexFault, Literal, Mark, Token, lex};
 use std::alloc::{AllocError, Global};
+use std::process::Abort;
 use std::test::Fail;
 use vs_logic4::Digit;
 
@@ -25,7 +26,7 @@ fn show_number(text: &mut String, literal: Literal) -> Result<(), AllocError> {
 }
 
 /// A token: a letter for its kind, its place, and how many bytes it has.
-fn show(text: &mut String, token: &Token) -> Result<(), AllocError> {
+fn show_place(text: &mut String, token: &Token) -> Result<(), AllocError> {
     let letter = match token.kind {
         Kind::Mark(_) => 'm',
         Kind::Word(_) => 'w',
@@ -39,25 +40,148 @@ fn show(text: &mut String, token: &Token) -> Result<(), AllocError> {
     let place = token.place;
     let length = token.bytes.len();
     write!(text, "{letter}{place}+{length}")?;
-    if let Kind::Number(literal) = token.kind {
-        show_number(text, literal)?;
-    }
-    text.push(' ')?;
     Ok(())
 }
 
-/// The tokens of a source, or its refusal.
-fn shown(alloc: Global, source: &[u8]) -> Result<String, Fail> {
+/// The tokens of a source, with the values of numbers where they are wanted, or its refusal.
+fn written(alloc: Global, source: &[u8], values: bool) -> Result<String, AllocError> {
     let mut text = String::new(alloc);
     match lex(alloc, source) {
         Ok(tokens) => {
             for token in &tokens {
-                show(&mut text, token)?;
+                show_place(&mut text, token)?;
+                if let (Kind::Number(literal), true) = (token.kind, values) {
+                    show_number(&mut text, literal)?;
+                }
+                text.push(' ')?;
             }
         }
+        Err(LexFault::Memory) => return Err(AllocError),
         Err(fault) => write!(text, "{fault}")?,
     }
     Ok(text)
+}
+
+/// The tokens of a source, or its refusal.
+fn shown(alloc: Global, source: &[u8]) -> Result<String, AllocError> {
+    written(alloc, source, true)
+}
+
+/// What a letter says of the first `count` bytes of a source: the kind of the one token that they are, or the number of
+/// their refusal at 0, or `.` where they are nothing; `=` where the last of them adds nothing, `+` where it adds a mark.
+fn say(text: &mut String, letter: u8, count: usize) -> Result<(), AllocError> {
+    if letter == b'+' {
+        return write!(text, "m{}+1 ", count.saturating_sub(1));
+    }
+    if letter != b'=' {
+        text.clear();
+    }
+    match letter {
+        b'.' | b'=' => Ok(()),
+        b'1' | b'2' | b'3' | b'4' | b'5' => write!(text, "L{} at 0", letter as char),
+        _ => write!(text, "{}0+{count} ", letter as char),
+    }
+}
+
+/// What each byte alone is, by the letters of `say`.
+const BYTES: [u8; 256] = *b"\
+111111111..1..111111111111111111\
+.m2m1mm3mmmmmmmm##########mmmmmm\
+mnnnnnnnnnnnnnnnnnnnnnnnnnnm1mmn\
+5nnnnnnnnnnnnnnnnnnnnnnnnnnmmmm1\
+11111111111111111111111111111111\
+11111111111111111111111111111111\
+11111111111111111111111111111111\
+11111111111111111111111111111111";
+
+#[test]
+fn single_bytes(rt: HostRuntime) -> Result<(), Fail> {
+    for byte in 0..256 {
+        let mut wanted = String::new(rt.alloc());
+        say(&mut wanted, BYTES[byte], 1)?;
+        let told = written(rt.alloc(), &[byte as u8], false)?;
+        assert_eq!(rt; told.as_str(), wanted.as_str(), "of {byte}");
+    }
+    Ok(())
+}
+
+/// The tokens of each beginning of a source, where the letters of `say` are wanted.
+fn cut(rt: &impl Abort, alloc: Global, source: &str, letters: &str) -> Result<(), AllocError> {
+    let (source, letters) = (source.as_bytes(), letters.as_bytes());
+    assert_eq!(rt; source.len(), letters.len());
+    let mut wanted = String::new(alloc);
+    for end in 0..source.len() {
+        say(&mut wanted, letters[end], end + 1)?;
+        let told = written(alloc, &source[..end + 1], false)?;
+        assert_eq!(rt; told.as_str(), wanted.as_str(), "of {source:?} up to {end}");
+    }
+    Ok(())
+}
+
+#[test]
+fn cut_names_and_texts(rt: HostRuntime) -> Result<(), Fail> {
+    for (source, letters) in [
+        ("a$1_", "nnnn"),
+        ("regs", "nnwn"),
+        ("and_", "nnln"),
+        ("\\a+9 ", "1nnn="),
+        ("\\reg\n", "1nnn="),
+        ("$d$1_", "1ssss"),
+        ("\"a\\n\\t\\\\\\\"\"", "2222222222t"),
+        ("\"\\1018\" ", "222222t="),
+        ("\"\\q\"", "2233"),
+        ("\"\\400\"", "222233"),
+        ("// a\n ", "m....."),
+        ("/* * */ ", "m22222.."),
+        ("/*/*/", "m222."),
+        ("(* a *)", "m22222."),
+        ("(**)", "m22."),
+        ("`timescale 1ns/10 ps", "5555555555555555555d"),
+        ("`timescale\n100 s / 1 fs ", "5555555555555555555555d="),
+        ("`default_nettype wire", "55555555555555555555d"),
+        ("`default_nettype\tnone ", "55555555555555555555d="),
+    ] {
+        cut(&rt, rt.alloc(), source, letters)?;
+    }
+    Ok(())
+}
+
+#[test]
+fn cut_numbers_and_marks(rt: HostRuntime) -> Result<(), Fail> {
+    for (source, letters) in [
+        ("1_02 ", "####="),
+        ("12a", "##3"),
+        ("1.5", "#+3"),
+        ("5'sh1_f", "#333###"),
+        ("4 'B 1x_?", "#=333####"),
+        ("4\t'So\n7", "#=3333#"),
+        ("'d4_2", "33###"),
+        ("2'Dz_", "#33##"),
+        ("0'b1", "#334"),
+        ("65'b1", "##334"),
+        ("'h1_0000_0000", "33##########4"),
+        ("+::", "mm+"),
+        ("-::", "mm+"),
+        ("~&&", "mm+"),
+        ("~||", "mm+"),
+        ("~^~", "mm+"),
+        ("^~^", "mm+"),
+        ("<==", "mm+"),
+        (">==", "mm+"),
+        ("|||", "mm+"),
+        ("***", "mm+"),
+        ("->>", "mm+"),
+        ("=>>", "mm+"),
+        ("*>>", "mm+"),
+        ("<<<=", "mmm+"),
+        (">>>=", "mmm+"),
+        ("====", "mmm+"),
+        ("!===", "mmm+"),
+        ("&&&&", "mmm+"),
+    ] {
+        cut(&rt, rt.alloc(), source, letters)?;
+    }
+    Ok(())
 }
 
 #[test]
@@ -138,6 +262,9 @@ fn numbers(rt: HostRuntime) -> Result<(), Fail> {
         ),
         ("4'b1x0Z", "#0+7=b1x0z "),
         ("4 'B 1?", "#0+7=b001z "),
+        ("4 'B 1x_?", "#0+9=b01xz "),
+        ("4\t'So\n7", "#0+7=sb0111 "),
+        ("5'sh1_f", "#0+7=sb11111 "),
         ("4'b1?b", "#0+5=b001z n5+1 "),
         ("3'sd5", "#0+5=sb101 "),
         ("3'SD13", "#0+6=sb101 "),

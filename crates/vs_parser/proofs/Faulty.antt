@@ -1,13 +1,12 @@
 -- From where reading stopped to the fault that is answered.
-use Rattle.std.specs.Prelude.{◌≡◌, ℕ, suc, ◌-◌, ◌+◌, ◌<◌, ◌≤◌, ◌^◌, Bool, true, false, cond, List, [], ◌∷◌, ◌++◌, length, map, take, drop, refl}
-use Rattle.std.proofs.Common.{sym, ◌∙◌, ap, subst, inl, inr, append_assoc, arith}
+use Rattle.std.specs.Prelude.{◌≡◌, ℕ, ◌+◌, ◌<◌, ◌≤◌, ◌^◌, Bool, true, false, List, [], ◌∷◌, ◌++◌, length, take, drop, refl}
+use Rattle.std.proofs.Common.{sym, ◌∙◌, ap, subst, inr, append_assoc, arith}
 use Rattle.std.proofs.lemmas.List.{append-nil, length-append, length-map, map-append, take-append-drop}
 use Rattle.vs_lexer.specs.declared.token.Token.{Token}
 use Rattle.vs_lexer.specs.Tokens.{Lexeme, lexeme, lexemes}
-use Rattle.vs_syntax.specs.Symbols.{Symbol, a_mark, a_word, a_name, a_number, another, Class, no_token, class_of, first, symbol, symbols}
-use Rattle.vs_syntax.specs.Grammar.{Part, Grammar, part, a_source}
-use Rattle.vs_syntax.specs.Tables.{goes}
-use Rattle.vs_syntax.specs.Derivation.{Tree, empty, tokens, height, Is, is_part, is_stop}
+use Rattle.vs_syntax.specs.Symbols.{Symbol, a_mark, a_word, a_name, a_number, another, no_token, class_of, first, symbol, symbols}
+use Rattle.vs_syntax.specs.Grammar.{part, a_source}
+use Rattle.vs_syntax.specs.Derivation.{Tree, empty, tokens, Is, is_part, is_stop}
 use Rattle.vs_syntax.specs.Reading.{Gets, Stuck}
 use Rattle.vs_syntax.specs.Derives.{IsSource, Derives, Begins}
 use Rattle.vs_syntax.specs.Views.{source_tree}

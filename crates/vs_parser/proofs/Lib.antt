@@ -1,7 +1,10 @@
 pub mod Tokens
 pub mod Exits
-pub mod Statements
 pub mod Trees
 pub mod Rows
+pub mod Lists
+pub mod Expressions
+pub mod Statements
+pub mod Declarations
 pub mod Items
 pub mod Faulty

@@ -1,13 +1,13 @@
 -- Parts that follow one another, and loops that read them.
-use Rattle.std.specs.Prelude.{◌≡◌, ℕ, max, ◌<◌, ◌≤◌, Bool, true, false, List, [], ◌∷◌, ◌++◌, length, map, drop, refl}
+use Rattle.std.specs.Prelude.{◌≡◌, ℕ, max, ◌<◌, Bool, true, List, [], ◌∷◌, ◌++◌, length, map, drop, refl}
 use Rattle.std.proofs.Common.{sym, ◌∙◌, ap, subst, arith}
 use Rattle.std.proofs.lemmas.List.{length-append, map-append}
 use Rattle.vs_lexer.specs.declared.token.Token.{Token}
 use Rattle.vs_syntax.specs.Symbols.{Symbol}
 use Rattle.vs_syntax.specs.Grammar.{Grammar, many}
-use Rattle.vs_syntax.specs.Tables.{low, goes}
+use Rattle.vs_syntax.specs.Tables.{goes}
 use Rattle.vs_syntax.specs.Derivation.{Tree, empty, both, tokens, height}
-use Rattle.vs_syntax.specs.Reading.{Gets, Stuck, stuck_many, stuck_more}
+use Rattle.vs_syntax.specs.Reading.{Gets, Stuck, stuck_more}
 use Rattle.vs_syntax.specs.Views.{row_of}
 use Rattle.vs_parser.specs.Answers.{seen}
 use Rattle.vs_syntax.proofs.Fronts.{clash}

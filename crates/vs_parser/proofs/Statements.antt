@@ -1,32 +1,29 @@
 -- How the parts of a statement make it, and where it stops.
-use Rattle.std.specs.Prelude.{◌≡◌, ℕ, suc, ◌-◌, ◌<◌, ◌≤◌, Bool, true, false, List, [], ◌∷◌, refl}
-use Rattle.std.proofs.Common.{sym, ◌∙◌, ap, subst, arith}
+use Rattle.std.specs.Prelude.{◌≡◌, ℕ, ◌-◌, ◌<◌, ◌≤◌, Bool, true, false, List, ◌∷◌, refl}
+use Rattle.std.proofs.Common.{ap, arith}
 use Rattle.vs_lexer.specs.declared.token.Mark.TheVariants as m
 use Rattle.vs_lexer.specs.declared.token.Word.TheVariants as w
-use Rattle.vs_syntax.specs.Symbols.{Symbol, a_mark, a_word, Class, the_mark, the_word, any_name, first}
-use Rattle.vs_syntax.specs.Grammar.{Grammar, seq, either, ◌·◌, ◌or◌, many, node, part, mark, word, name, number, a_stmt, a_target, an_expr}
-use Rattle.vs_syntax.specs.Tables.{fronts, among, goes}
+use Rattle.vs_syntax.specs.Symbols.{Symbol, a_mark, a_word, the_mark, the_word, any_name, first}
+use Rattle.vs_syntax.specs.Grammar.{Grammar, ◌·◌, ◌or◌, many, part, mark, word, name, number, a_stmt, a_target, an_expr}
+use Rattle.vs_syntax.specs.Tables.{goes}
 use Rattle.vs_syntax.specs.Derivation.{Tree, leaf, both, down}
-use Rattle.vs_syntax.specs.Reading.{Gets, Stuck, stuck_here, stuck_deep, stuck_first, stuck_second, stuck_left, stuck_right, stuck_many, stuck_more, stuck_part, stuck_node}
+use Rattle.vs_syntax.specs.Reading.{Gets, Stuck, stuck_here, stuck_deep, stuck_second, stuck_left, stuck_right, stuck_many, stuck_part, stuck_node}
 use Rattle.vs_syntax.proofs.Gets.{gets_token, gets_seq, gets_left, gets_right, gets_part, gets_node}
 use Rattle.vs_syntax.proofs.Fronts.{clash}
 use Rattle.vs_parser.specs.declared.head.StatementHead.{StatementHead}
 use Rattle.vs_parser.specs.declared.head.StatementHead.TheVariants as h
 use Rattle.vs_parser.specs.Heads.{BeginsStatement}
+use Rattle.vs_parser.proofs.Exits.{goes_at}
 
 -- the parts of each statement
 abbrev pub assigned : Grammar
-assigned = part a_target · mark m.Assign · part an_expr · mark m.Semicolon
+assigned = part a_target · (mark m.Assign or mark m.LessEqual) · part an_expr · mark m.Semicolon
 
 abbrev pub blocked : Grammar
 blocked = word w.Begin · many (part a_stmt) · word w.End
 
 abbrev pub delayed : Grammar
 delayed = mark m.Hash · number · part a_stmt
-
--- whether the next token can begin the part, by its class
-pub goes_at : (g : Grammar) (ts : List Symbol) (c : Class) (b : Bool) → first ts ≡ c → among c (fronts g) ≡ b → goes g ts ≡ b
-goes_at g ts c b e h = ap (λ u. among u (fronts g)) e ∙ h
 
 -- `;`
 pub null_read : (room : ℕ) (ts after : List Symbol) → 0 < room → ts ≡ a_mark m.Semicolon ∷ after → Gets (part a_stmt) room ts (down (leaf (a_mark m.Semicolon))) after

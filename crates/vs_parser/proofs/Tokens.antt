@@ -6,12 +6,12 @@ use Rattle.vs_lexer.specs.declared.token.Kind.TheVariants as k
 use Rattle.vs_lexer.specs.declared.token.Literal.{Literal}
 use Rattle.vs_lexer.specs.declared.token.Token.{Token}
 use Rattle.vs_lexer.specs.Tokens.{name_of}
-use Rattle.vs_syntax.specs.Symbols.{Symbol, a_name, a_number, Class, any_name, any_number, class_of, first, symbol_of, same_class, same_flag}
-use Rattle.vs_syntax.specs.Grammar.{token, name, number, part, an_expr}
+use Rattle.vs_syntax.specs.Symbols.{Symbol, a_name, a_number, Class, any_name, any_number, class_of, symbol_of, same_class}
+use Rattle.vs_syntax.specs.Grammar.{token, name, number}
 use Rattle.vs_syntax.specs.Tables.{goes}
 use Rattle.vs_syntax.specs.Derivation.{leaf}
-use Rattle.vs_syntax.specs.Reading.{Gets, Stuck, stuck_here, stuck_part}
-use Rattle.vs_syntax.proofs.Gets.{gets_token, gets_left, gets_right, gets_part}
+use Rattle.vs_syntax.specs.Reading.{Gets}
+use Rattle.vs_syntax.proofs.Gets.{gets_token}
 use Rattle.vs_parser.specs.Answers.{seen}
 
 -- the first token's symbol is the first of the symbols
@@ -57,16 +57,6 @@ none_at ts g b e h = ap (λ u. goes g (seen u)) e ∙ h
 -- a next token that isn't of the class
 pub other_at : (c : Class) (ts : List Token) (t : Token) (rest : List Token) → ts ≡ t ∷ rest → same_class (class_of (symbol_of t.kind t.bytes.now)) c ≡ false → goes (token c) (seen ts) ≡ false
 other_at c ts t rest e h = ap (λ u. goes (token c) (seen u)) e ∙ rw h refl
-
--- what is no expression
-pub no_expr : (ts : List Token) (t : Token) (rest : List Token) → ts ≡ t ∷ rest → same_class (class_of (symbol_of t.kind t.bytes.now)) any_name ≡ false → same_class (class_of (symbol_of t.kind t.bytes.now)) (any_number false) ≡ false → goes (part an_expr) (seen ts) ≡ false
-no_expr ts t rest e h k = ap (λ u. goes (part an_expr) (seen u)) e ∙ rw (h, k) refl
-
-pub read_name_expr : (room : ℕ) (ts : List Token) (t : Token) (rest : List Token) (bytes : List ℕ) → ts ≡ t ∷ rest → t.kind ≡ k.Name → bytes ≡ name_of t.bytes.now → Gets (part an_expr) room (seen ts) (leaf (a_name bytes)) (seen rest)
-read_name_expr room ts t rest bytes e f g = gets_part (gets_right (ap (goes number) (seen_kind ts t rest k.Name e f)) (read_name room ts t rest bytes e f g))
-
-pub read_number_expr : (room : ℕ) (ts : List Token) (t : Token) (rest : List Token) (l : Literal) → ts ≡ t ∷ rest → t.kind ≡ k.Number l → l.based ≡ false → Gets (part an_expr) room (seen ts) (leaf (a_number l)) (seen rest)
-read_number_expr room ts t rest l e f g = gets_part (gets_left (ap (goes number) (seen_kind ts t rest (k.Number l) e f) ∙ rw g refl) (read_number room ts t rest l e f g))
 
 -- by the kind
 pub class_kind : (t : Token) (kind : Kind) (c : Class) → t.kind ≡ kind → same_class (class_of (symbol_of kind t.bytes.now)) c ≡ false → same_class (class_of (symbol_of t.kind t.bytes.now)) c ≡ false

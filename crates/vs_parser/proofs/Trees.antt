@@ -1,20 +1,41 @@
--- The tree of each statement.
-use Rattle.std.specs.Prelude.{◌≡◌, refl, map}
+-- The tree of each expression and statement.
+use Rattle.std.specs.Prelude.{◌≡◌, map}
 use Rattle.std.proofs.Common.{ap, sym, ◌∙◌}
 use Rattle.vs_lexer.specs.declared.token.Mark.TheVariants as m
 use Rattle.vs_lexer.specs.declared.token.Word.TheVariants as w
 use Rattle.vs_syntax.specs.Symbols.{a_mark, a_word, a_number}
 use Rattle.vs_syntax.specs.Derivation.{Tree, leaf, both, down}
-use Rattle.vs_syntax.specs.Views.{row_of, name_tree, expr_tree, stmt_step, stmt_tree}
+use Rattle.vs_syntax.specs.Views.{row_of, name_tree, mark_of, chain_tree, expr_step, expr_tree, assigned_tree, stmt_step, stmt_tree}
+use Rattle.vs_syntax.specs.declared.tree.Expr.{fold-roll-Expr}
+use Rattle.vs_syntax.specs.declared.tree.Expr.TheVariants as e
+use Rattle.vs_syntax.specs.declared.tree.Expr.TheVariants.{rolls-Number, rolls-Name, rolls-Group, rolls-Not, rolls-Chain}
 use Rattle.vs_syntax.specs.declared.tree.Stmt.{fold-roll-Stmt}
 use Rattle.vs_syntax.specs.declared.tree.Stmt.TheVariants as v
-use Rattle.vs_syntax.specs.declared.tree.Stmt.TheVariants.{rolls-Null, rolls-Assign, rolls-Block, rolls-Delay}
+use Rattle.vs_syntax.specs.declared.tree.Stmt.TheVariants.{rolls-Null, rolls-Assign, rolls-Later, rolls-Block, rolls-Delay}
+
+pub tree_Number : (l : _) → expr_tree (e.Number l) ≡ leaf (a_number l)
+tree_Number l = ap expr_tree (sym (rolls-Number l)) ∙ fold-roll-Expr Tree expr_step _
+
+pub tree_Name : (n : _) → expr_tree (e.Name n) ≡ name_tree n.items
+tree_Name n = ap expr_tree (sym (rolls-Name n)) ∙ fold-roll-Expr Tree expr_step _
+
+pub tree_Group : (x : _) → expr_tree (e.Group x) ≡ down (both (leaf (a_mark m.Open)) (both (expr_tree x.value) (leaf (a_mark m.Close))))
+tree_Group x = ap expr_tree (sym (rolls-Group x)) ∙ fold-roll-Expr Tree expr_step _
+
+pub tree_Not : (x : _) → expr_tree (e.Not x) ≡ down (both (leaf (a_mark m.Tilde)) (expr_tree x.value))
+tree_Not x = ap expr_tree (sym (rolls-Not x)) ∙ fold-roll-Expr Tree expr_step _
+
+pub tree_Chain : (op xs : _) → expr_tree (e.Chain op xs) ≡ chain_tree (mark_of op) (map expr_tree xs.items)
+tree_Chain op xs = ap expr_tree (sym (rolls-Chain op xs)) ∙ fold-roll-Expr Tree expr_step _
 
 pub tree_Null : stmt_tree v.Null ≡ down (leaf (a_mark m.Semicolon))
 tree_Null = ap stmt_tree (sym rolls-Null) ∙ fold-roll-Stmt Tree stmt_step _
 
-pub tree_Assign : (n x : _) → stmt_tree (v.Assign n x) ≡ down (both (down (name_tree n.items)) (both (leaf (a_mark m.Assign)) (both (expr_tree x) (leaf (a_mark m.Semicolon)))))
+pub tree_Assign : (n x : _) → stmt_tree (v.Assign n x) ≡ assigned_tree n.items m.Assign x
 tree_Assign n x = ap stmt_tree (sym (rolls-Assign n x)) ∙ fold-roll-Stmt Tree stmt_step _
+
+pub tree_Later : (n x : _) → stmt_tree (v.Later n x) ≡ assigned_tree n.items m.LessEqual x
+tree_Later n x = ap stmt_tree (sym (rolls-Later n x)) ∙ fold-roll-Stmt Tree stmt_step _
 
 pub tree_Block : (xs : _) → stmt_tree (v.Block xs) ≡ down (both (leaf (a_word w.Begin)) (both (row_of (map stmt_tree xs.items)) (leaf (a_word w.End))))
 tree_Block xs = ap stmt_tree (sym (rolls-Block xs)) ∙ fold-roll-Stmt Tree stmt_step _

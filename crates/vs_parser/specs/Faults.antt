@@ -1,11 +1,10 @@
 -- When each fault is answered.
-use Rattle.std.specs.Prelude.{◌≡◌, ℕ, ◌+◌, ◌<◌, ◌^◌, ◌≤◌, Bool, true, false, List, [], ◌∷◌, ◌++◌, length, Result, Ok, Err}
+use Rattle.std.specs.Prelude.{◌≡◌, ℕ, ◌+◌, ◌<◌, ◌^◌, ◌≤◌, Bool, true, false, List, [], ◌∷◌, ◌++◌, length}
 use Rattle.vs_lexer.specs.Tokens.{Lexeme}
 use Rattle.vs_syntax.specs.Symbols.{Symbol, no_token, first, symbols}
 use Rattle.vs_syntax.specs.Grammar.{part, a_source}
 use Rattle.vs_syntax.specs.Derivation.{Tree, tokens, height, Is}
-use Rattle.vs_syntax.specs.Derives.{IsSource, Derives, Begins}
-use Rattle.vs_syntax.specs.declared.tree.Source.{Source}
+use Rattle.vs_syntax.specs.Derives.{IsSource, Begins}
 use Rattle.vs_parser.specs.declared.fault.ParseFault.{ParseFault}
 use Rattle.vs_parser.specs.declared.fault.ParseFault.TheVariants as f
 use Rattle.vs_parser.specs.declared.reading.Stop.{Stop}

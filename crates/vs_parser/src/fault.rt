@@ -1,6 +1,6 @@
 //! Why tokens are refused.
 ghost use Rattle.std.specs.Prelude.{◌≡◌};
-ghost use Rattle.vs_parser.specs.LeftOut.{is_punctuation, is_in_grammar, is_left_out};
+ghost use Rattle.vs_parser.specs.LeftOut.{is_punctuation, is_operator_in_grammar, is_in_grammar, is_left_out};
 
 use thiserror::Error;
 use vs_lexer::{Kind, Mark, Word};
@@ -50,13 +50,31 @@ fn punctuation(mark: Mark) -> bool
     )
 }
 
+/// Whether the grammar has an operator somewhere; `<=` is the sign of a nonblocking assignment.
+fn operator_in_grammar(mark: Mark) -> bool
+    ensures { result ≡ is_operator_in_grammar mark }
+{
+    matches!(
+        mark,
+        Mark::Tilde | Mark::And | Mark::Xor | Mark::Or | Mark::LessEqual
+    )
+}
+
 /// Whether the grammar has a reserved word somewhere.
 fn in_grammar(word: Word) -> bool
     ensures { result ≡ is_in_grammar word }
 {
     matches!(
         word,
-        Word::Module | Word::Endmodule | Word::Reg | Word::Initial | Word::Begin | Word::End
+        Word::Module
+            | Word::Endmodule
+            | Word::Wire
+            | Word::Reg
+            | Word::Assign
+            | Word::Initial
+            | Word::Always
+            | Word::Begin
+            | Word::End
     )
 }
 
@@ -65,7 +83,7 @@ pub(crate) fn left_out(kind: Kind) -> bool
     ensures { result ≡ is_left_out kind }
 {
     match kind {
-        Kind::Mark(mark) => !punctuation(mark),
+        Kind::Mark(mark) => !punctuation(mark) && !operator_in_grammar(mark),
         Kind::Word(word) => !in_grammar(word),
         Kind::LeftOut => true,
         Kind::System => true,

@@ -1,12 +1,29 @@
-//! How statements and items begin.
-ghost use Rattle.std.specs.Prelude.{◌≡◌, false, MatchOption};
-ghost use Rattle.vs_syntax.specs.Grammar.{part, a_stmt, an_item};
+//! How operands, statements and items begin.
+ghost use Rattle.std.specs.Prelude.{◌≡◌, ℕ, false, MatchOption};
+ghost use Rattle.vs_lexer.specs.declared.token.Mark.TheVariants as m;
+ghost use Rattle.vs_syntax.specs.Symbols.{a_mark};
+ghost use Rattle.vs_syntax.specs.Grammar.{◌or◌, mark, part, an_operand, a_stmt, an_item};
 ghost use Rattle.vs_syntax.specs.Tables.{goes};
-ghost use Rattle.vs_parser.specs.Answers.{seen};
-ghost use Rattle.vs_parser.specs.Heads.{BeginsStatement, BeginsItem};
+ghost use Rattle.vs_syntax.specs.Derivation.{leaf};
+ghost use Rattle.vs_parser.specs.Answers.{seen, Answers};
+ghost use Rattle.vs_parser.specs.Heads.{BeginsOperand, BeginsStatement, BeginsItem, sign_of};
 
-use crate::token::next;
+use crate::reading::Stop;
+use crate::token::{expect_mark, mark_at, next};
 use vs_lexer::{Kind, Mark, Token, Word};
+
+/// What an operand begins with, and mostly the tokens behind that.
+#[derive(Debug, Drop)]
+pub(crate) enum OperandHead<'t, 's> {
+    /// A decimal number without a base.
+    Number,
+    /// A name.
+    Name,
+    /// `~`
+    Not(&'t [Token<'s>]),
+    /// `(`
+    Open(&'t [Token<'s>]),
+}
 
 /// What a statement begins with, and mostly the tokens behind that.
 #[derive(Debug, Drop)]
@@ -24,10 +41,48 @@ pub(crate) enum StatementHead<'t, 's> {
 /// What an item begins with, and the tokens behind that.
 #[derive(Debug, Drop)]
 pub(crate) enum ItemHead<'t, 's> {
+    /// `wire`
+    Wire(&'t [Token<'s>]),
     /// `reg`
     Reg(&'t [Token<'s>]),
+    /// `assign`
+    Assign(&'t [Token<'s>]),
     /// `initial`
     Initial(&'t [Token<'s>]),
+    /// `always`
+    Always(&'t [Token<'s>]),
+}
+
+/// When an assignment as a statement assigns.
+#[derive(Clone, Copy, Debug)]
+pub(crate) enum Timing {
+    /// `=`: at once (IEEE 1364-2005, clause 9.2.1).
+    Blocking,
+    /// `<=`: later in the same time step (IEEE 1364-2005, clause 9.2.2).
+    Nonblocking,
+}
+
+/// How the operand begins that is next, if one is.
+pub(crate) fn operand_head<'t, 's>(tokens: &'t [Token<'s>]) -> Option<OperandHead<'t, 's>>
+    ensures { MatchOption result (goes (part an_operand) (seen tokens.now) ≡ false) (λ head. BeginsOperand (seen tokens.now) head) }
+{
+    let (first, rest) = next(tokens)?;
+    match first.kind {
+        Kind::Name => Some(OperandHead::Name),
+        Kind::Number(literal) => {
+            if literal.based {
+                None
+            } else {
+                Some(OperandHead::Number)
+            }
+        }
+        Kind::Mark(mark) => match mark {
+            Mark::Tilde => Some(OperandHead::Not(rest)),
+            Mark::Open => Some(OperandHead::Open(rest)),
+            _ => None,
+        },
+        _ => None,
+    }
 }
 
 /// How the statement begins that is next, if one is.
@@ -57,10 +112,28 @@ pub(crate) fn item_head<'t, 's>(tokens: &'t [Token<'s>]) -> Option<ItemHead<'t, 
     let (first, rest) = next(tokens)?;
     match first.kind {
         Kind::Word(word) => match word {
+            Word::Wire => Some(ItemHead::Wire(rest)),
             Word::Reg => Some(ItemHead::Reg(rest)),
+            Word::Assign => Some(ItemHead::Assign(rest)),
             Word::Initial => Some(ItemHead::Initial(rest)),
+            Word::Always => Some(ItemHead::Always(rest)),
             _ => None,
         },
         _ => None,
+    }
+}
+
+/// Reads the sign of an assignment as a statement: when it assigns, and the tokens behind it.
+pub(crate) fn expect_timing<'t, 's>(
+    tokens: &'t [Token<'s>],
+) -> Result<(Timing, &'t [Token<'s>]), Stop<'t, 's>>
+    ensures { (room : ℕ) → Answers (mark m.Assign or mark m.LessEqual) room (seen tokens.now) (λ x. leaf (a_mark (sign_of x.0))) (λ x. seen x.1.now) result }
+{
+    match mark_at(tokens, Mark::Assign) {
+        Some(rest) => Ok((Timing::Blocking, rest)),
+        None => {
+            let rest = expect_mark(tokens, Mark::LessEqual)?;
+            Ok((Timing::Nonblocking, rest))
+        }
     }
 }

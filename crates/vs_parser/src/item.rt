@@ -8,10 +8,11 @@ ghost use Rattle.vs_syntax.specs.Views.{row_of, item_tree, module_tree, source_t
 ghost use Rattle.vs_parser.specs.Answers.{seen, Answers};
 ghost use Rattle.vs_parser.specs.Heads.{BeginsItem};
 
+use crate::declaration::{declarators, net_assignments};
 use crate::head::{ItemHead, item_head};
 use crate::reading::{Read, Stop};
 use crate::statement::stmt;
-use crate::token::{expect_mark, expect_name, expect_word, mark_at, word_at};
+use crate::token::{expect_mark, expect_name, expect_word, word_at};
 use std::alloc::Global;
 use vs_lexer::{Mark, Token, Word};
 use vs_syntax::{Item, Module, Source};
@@ -28,13 +29,38 @@ fn item<'t, 's>(
     ensures height { IfOk result (λ x. x.height ≡ height (item_tree x.tree)) }
 {
     match head {
-        ItemHead::Reg(after) => declaration(alloc, room, tokens, after),
+        ItemHead::Wire(after) => wire(alloc, room, tokens, after),
+        ItemHead::Reg(after) => reg(alloc, room, tokens, after),
+        ItemHead::Assign(after) => assign(alloc, room, tokens, after),
         ItemHead::Initial(after) => initial(alloc, room, tokens, after),
+        ItemHead::Always(after) => always(alloc, room, tokens, after),
     }
 }
 
+/// Reads a declaration of nets, behind whose `wire` `after` stands.
+fn wire<'t, 's>(
+    alloc: Global,
+    room: u32,
+    tokens: &'t [Token<'s>],
+    after: &'t [Token<'s>],
+) -> Result<Read<'t, 's, Item>, Stop<'t, 's>>
+    requires { seen tokens.now ≡ a_word w.Wire ∷ seen after.now }
+    ensures reads { Answers (part an_item) room (seen tokens.now) (λ x. item_tree x.tree) (λ x. seen x.rest.now) result }
+    ensures height { IfOk result (λ x. x.height ≡ height (item_tree x.tree)) }
+{
+    if room == 0 {
+        return Err(Stop::TooDeep(tokens));
+    }
+    let names = declarators(alloc, room - 1, after)?;
+    Ok(Read {
+        tree: Item::Wire(names.tree),
+        height: names.height + 1,
+        rest: names.rest,
+    })
+}
+
 /// Reads a declaration of variables, behind whose `reg` `after` stands.
-fn declaration<'t, 's>(
+fn reg<'t, 's>(
     alloc: Global,
     room: u32,
     tokens: &'t [Token<'s>],
@@ -47,20 +73,33 @@ fn declaration<'t, 's>(
     if room == 0 {
         return Err(Stop::TooDeep(tokens));
     }
-    let (first, after_first) = expect_name(alloc, after)?;
-    let mut names = Vec::new(alloc);
-    names.push(first)?;
-    let mut rest = after_first;
-    while let Some(after_comma) = mark_at(rest, Mark::Comma) {
-        let (name, after_name) = expect_name(alloc, after_comma)?;
-        names.push(name)?;
-        rest = after_name;
-    }
-    let behind = expect_mark(rest, Mark::Semicolon)?;
+    let names = declarators(alloc, room - 1, after)?;
     Ok(Read {
-        tree: Item::Reg(names),
-        height: 1,
-        rest: behind,
+        tree: Item::Reg(names.tree),
+        height: names.height + 1,
+        rest: names.rest,
+    })
+}
+
+/// Reads net assignments, behind whose `assign` `after` stands.
+fn assign<'t, 's>(
+    alloc: Global,
+    room: u32,
+    tokens: &'t [Token<'s>],
+    after: &'t [Token<'s>],
+) -> Result<Read<'t, 's, Item>, Stop<'t, 's>>
+    requires { seen tokens.now ≡ a_word w.Assign ∷ seen after.now }
+    ensures reads { Answers (part an_item) room (seen tokens.now) (λ x. item_tree x.tree) (λ x. seen x.rest.now) result }
+    ensures height { IfOk result (λ x. x.height ≡ height (item_tree x.tree)) }
+{
+    if room < 2 {
+        return Err(Stop::TooDeep(tokens));
+    }
+    let assignments = net_assignments(alloc, room - 1, after)?;
+    Ok(Read {
+        tree: Item::Assign(assignments.tree),
+        height: assignments.height + 1,
+        rest: assignments.rest,
     })
 }
 
@@ -83,6 +122,28 @@ fn initial<'t, 's>(
         tree: Item::Initial(inner.tree),
         height: inner.height + 1,
         rest: inner.rest,
+    })
+}
+
+/// Reads an always construct, behind whose `always` `after` stands.
+fn always<'t, 's>(
+    alloc: Global,
+    room: u32,
+    tokens: &'t [Token<'s>],
+    after: &'t [Token<'s>],
+) -> Result<Read<'t, 's, Item>, Stop<'t, 's>>
+    requires { seen tokens.now ≡ a_word w.Always ∷ seen after.now }
+    ensures reads { Answers (part an_item) room (seen tokens.now) (λ x. item_tree x.tree) (λ x. seen x.rest.now) result }
+    ensures height { IfOk result (λ x. x.height ≡ height (item_tree x.tree)) }
+{
+    if room < 2 {
+        return Err(Stop::TooDeep(tokens));
+    }
+    let repeated = stmt(alloc, room - 1, after)?;
+    Ok(Read {
+        tree: Item::Always(repeated.tree),
+        height: repeated.height + 1,
+        rest: repeated.rest,
     })
 }
 

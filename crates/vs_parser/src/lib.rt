@@ -1,6 +1,8 @@
 //! The parser: from tokens to the syntax tree of a source (IEEE 1364-2005, annex A).
 #![tactic(auto)]
 
+mod declaration;
+mod expression;
 mod fault;
 mod head;
 mod item;

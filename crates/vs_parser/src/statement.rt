@@ -1,43 +1,21 @@
-//! Reading statements and expressions.
-ghost use Rattle.std.specs.Prelude.{◌≡◌, ℕ, ◌∷◌, IfOk};
+//! Reading statements.
+ghost use Rattle.std.specs.Prelude.{◌≡◌, ◌∷◌, IfOk};
 ghost use Rattle.vs_lexer.specs.declared.token.Mark.TheVariants as m;
 ghost use Rattle.vs_lexer.specs.declared.token.Word.TheVariants as w;
 ghost use Rattle.vs_syntax.specs.Symbols.{a_mark, a_word, any_name, first};
-ghost use Rattle.vs_syntax.specs.Grammar.{part, a_stmt, an_expr};
+ghost use Rattle.vs_syntax.specs.Grammar.{part, a_stmt};
 ghost use Rattle.vs_syntax.specs.Derivation.{height};
-ghost use Rattle.vs_syntax.specs.Views.{expr_tree, stmt_tree};
+ghost use Rattle.vs_syntax.specs.Views.{assigned_tree, stmt_tree};
 ghost use Rattle.vs_parser.specs.Answers.{seen, Answers};
-ghost use Rattle.vs_parser.specs.Heads.{BeginsStatement};
+ghost use Rattle.vs_parser.specs.Heads.{BeginsStatement, sign_of};
 
-use crate::head::{StatementHead, statement_head};
+use crate::expression::expr;
+use crate::head::{StatementHead, Timing, expect_timing, statement_head};
 use crate::reading::{Read, Stop};
 use crate::token::{decimal, expect_mark, expect_name, expect_word, next};
 use std::alloc::Global;
-use vs_lexer::{Kind, Mark, Token, Word};
+use vs_lexer::{Mark, Token, Word};
 use vs_syntax::{Expr, Stmt};
-
-/// Reads an expression, and answers it with the tokens behind it. It has no nodes.
-pub(crate) fn expr<'t, 's>(
-    alloc: Global,
-    tokens: &'t [Token<'s>],
-) -> Result<(Expr, &'t [Token<'s>]), Stop<'t, 's>>
-    ensures { (room : ℕ) → Answers (part an_expr) room (seen tokens.now) (λ x. expr_tree x.0) (λ x. seen x.1.now) result }
-{
-    let Some((first, rest)) = next(tokens) else {
-        return Err(Stop::Unexpected(tokens));
-    };
-    match first.kind {
-        Kind::Name => Ok((Expr::Name(Vec::from_slice(alloc, first.name())?), rest)),
-        Kind::Number(literal) => {
-            if literal.based {
-                Err(Stop::Unexpected(tokens))
-            } else {
-                Ok((Expr::Number(literal), rest))
-            }
-        }
-        _ => Err(Stop::Unexpected(tokens)),
-    }
-}
 
 /// Reads a statement, in at most `room` nodes below one another.
 #[cycle(stmt)]
@@ -109,14 +87,25 @@ fn assignment<'t, 's>(
         return Err(Stop::TooDeep(tokens));
     }
     let (target, after_target) = expect_name(alloc, tokens)?;
-    let after_sign = expect_mark(after_target, Mark::Assign)?;
-    let (value, after_value) = expr(alloc, after_sign)?;
-    let rest = expect_mark(after_value, Mark::Semicolon)?;
+    let (timing, after_sign) = expect_timing(after_target)?;
+    let value = expr(alloc, room - 1, after_sign)?;
+    let rest = expect_mark(value.rest, Mark::Semicolon)?;
     Ok(Read {
-        tree: Stmt::Assign(target, value),
-        height: 2,
+        // The target is a node below the statement, beside the nodes of the value.
+        height: value.height.max(1) + 1,
+        tree: assigned(timing, target, value.tree),
         rest,
     })
+}
+
+/// The assignment of a value to a target.
+fn assigned(timing: Timing, target: Vec<u8>, value: Expr) -> Stmt
+    ensures { stmt_tree result ≡ assigned_tree target.items (sign_of timing) value }
+{
+    match timing {
+        Timing::Blocking => Stmt::Assign(target, value),
+        Timing::Nonblocking => Stmt::Later(target, value),
+    }
 }
 
 /// Reads a block, behind whose `begin` `after` stands.

@@ -2,6 +2,8 @@
 #![tactic(auto)]
 
 #[cfg(test)]
+mod assigns;
+#[cfg(test)]
 mod dumps;
 #[cfg(test)]
 mod orders;

@@ -4,11 +4,13 @@ use crate::running::{Answer, dump, run};
 use std::process::Abort;
 use std::test::Fail;
 
-const ROWS: [&str; 4] = [
+const ROWS: [&str; 6] = [
     "module t; endmodule",
     "module t; reg a; initial begin a = 0; #5 a = 1; end endmodule",
     "module t; reg a; reg b; initial begin a = 0; #3 b = a; end initial #3 a = 1; endmodule",
     "module t; reg a; initial a = 1 endmodule",
+    "module t; reg a, b; wire y = ~(a | b), z; assign z = a & b ^ y; endmodule",
+    "module t; reg a = 0; always begin #5 a <= ~a; end endmodule",
 ];
 
 // The source is refused with this line, and nothing is written.
@@ -78,6 +80,45 @@ fn grammar(rt: HostRuntime) -> Result<(), Fail> {
     Ok(())
 }
 
+// A net has one driver; a continuous assignment drives a net, and a procedural one writes a variable.
+#[test]
+fn drivers(rt: HostRuntime) -> Result<(), Fail> {
+    is_refused(
+        &rt,
+        &dump(
+            rt.alloc(),
+            "10",
+            "module t; wire n; assign n = 0, n = 1; endmodule",
+        ),
+        "vsim: E6 at t.n\n",
+    );
+    is_refused(
+        &rt,
+        &dump(
+            rt.alloc(),
+            "10",
+            "module t; wire n = 0; initial n = 1; endmodule",
+        ),
+        "vsim: E8 X4 at t\n",
+    );
+    is_refused(
+        &rt,
+        &dump(rt.alloc(), "10", "module t; reg a; assign a = 1; endmodule"),
+        "vsim: E8 X4 at t\n",
+    );
+    is_refused(
+        &rt,
+        &dump(rt.alloc(), "10", "module t; assign n = 1; endmodule"),
+        "vsim: E8 X2 at t\n",
+    );
+    is_refused(
+        &rt,
+        &dump(rt.alloc(), "10", "module t; wire a; reg a; endmodule"),
+        "vsim: E5 at t.a\n",
+    );
+    Ok(())
+}
+
 #[test]
 fn designs(rt: HostRuntime) -> Result<(), Fail> {
     is_refused(&rt, &dump(rt.alloc(), "10", ""), "vsim: E1 at t\n");
@@ -129,7 +170,7 @@ fn large_sources(rt: HostRuntime) -> Result<(), Fail> {
     is_refused(
         &rt,
         &run(rt.alloc(), words.as_slice(), &parentheses),
-        "vsim: P1 at 29\n",
+        "vsim: P3 at 283\n",
     );
     let spaces = repeated(&rt, "", " ", 4194305)?;
     is_refused(

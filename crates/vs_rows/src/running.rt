@@ -42,3 +42,11 @@ pub fn dump(alloc: Global, until: &str, source: &str) -> Answer {
     ];
     run(alloc, words.as_slice(), source.as_bytes())
 }
+
+/// The same, in at most so many steps.
+pub fn limited(alloc: Global, until: &str, steps: &str, source: &str) -> Answer {
+    let words = [
+        "vsim", "run", "--top", "t", "--until", until, "--steps", steps, "--out", "vcd",
+    ];
+    run(alloc, words.as_slice(), source.as_bytes())
+}

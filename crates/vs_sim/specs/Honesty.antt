@@ -13,7 +13,6 @@ use Rattle.vs_elaborate.specs.DesignOf.{DesignOf}
 use Rattle.vs_elaborate.specs.Faults.{Faults}
 use Rattle.vs_kernel.specs.Runs.{RanTo}
 use Rattle.vs_kernel.specs.declared.outcome.Outcome.{Outcome}
-use Rattle.vs_kernel.specs.declared.outcome.RunFault.{RunFault}
 use Rattle.vs_kernel.specs.declared.outcome.RunFault.TheVariants as run
 use Rattle.vs_sim.specs.declared.fault.SimFault.{SimFault}
 use Rattle.vs_sim.specs.declared.fault.SimFault.TheVariants.{Lex, Parse, Elab, Run, Memory}

@@ -1,1 +1,2 @@
 pub mod Honesty
+pub mod Statuses

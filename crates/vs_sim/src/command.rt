@@ -1,5 +1,6 @@
 //! The program: words, a reader and two writers in, an exit status out.
-ghost use Rattle.std.specs.Prelude.{◌<◌, ◌^◌};
+ghost use Rattle.std.specs.Prelude.{◌≡◌, ◌<◌, ◌^◌, true};
+ghost use Rattle.vs_sim.specs.Statuses.{is_status, outcome_status, lex_status, parse_status, elab_status, fault_status};
 
 use crate::dropped::Dropped;
 use crate::fault::SimFault;
@@ -36,7 +37,9 @@ pub fn program<R: Read + Drop, O: Write + Drop, E: Write + Drop>(
     input: R,
     out: O,
     err: E,
-) -> u8 {
+) -> u8
+    ensures { is_status result ≡ true }
+{
     match read_words(alloc, words) {
         Ok(Some(request)) => run_request(alloc, request, input, out, err),
         Ok(None) => MISUSED,
@@ -45,7 +48,9 @@ pub fn program<R: Read + Drop, O: Write + Drop, E: Write + Drop>(
 }
 
 // Prints what `clap` says of the words.
-fn tell_words<O: Write + Drop, E: Write + Drop>(error: &Error, mut out: O, mut err: E) -> u8 {
+fn tell_words<O: Write + Drop, E: Write + Drop>(error: &Error, mut out: O, mut err: E) -> u8
+    ensures { is_status result ≡ true }
+{
     if is_memory(error) {
         let _ = writeln!(err, "vsim: memory");
         return FAILED;
@@ -61,7 +66,9 @@ fn tell_words<O: Write + Drop, E: Write + Drop>(error: &Error, mut out: O, mut e
 }
 
 // One line on standard error, and the exit status that goes with it.
-fn tell<E: Write + Drop>(mut err: E, text: &str, status: u8) -> u8 {
+fn tell<E: Write + Drop>(mut err: E, text: &str, status: u8) -> u8
+    ensures { result ≡ status }
+{
     let _ = writeln!(err, "vsim: {text}");
     status
 }
@@ -73,7 +80,9 @@ fn run_request<R: Read + Drop, O: Write + Drop, E: Write + Drop>(
     mut input: R,
     out: O,
     err: E,
-) -> u8 {
+) -> u8
+    ensures { is_status result ≡ true }
+{
     let mut source = Vec::new(alloc);
     if let Err(error) = input.read_to_end(&mut source) {
         let text = if error.kind() == ErrorKind::OutOfMemory {
@@ -137,7 +146,9 @@ fn run_source<'s, W: Write>(
 }
 
 // What an outcome tells the user.
-fn tell_outcome<E: Write + Drop>(outcome: Outcome, mut err: E) -> u8 {
+fn tell_outcome<E: Write + Drop>(outcome: Outcome, mut err: E) -> u8
+    ensures { result ≡ outcome_status outcome }
+{
     match outcome {
         Outcome::StepLimit(time) => {
             let _ = writeln!(err, "vsim: step limit at {time}");
@@ -148,7 +159,9 @@ fn tell_outcome<E: Write + Drop>(outcome: Outcome, mut err: E) -> u8 {
 }
 
 // What a fault tells the user.
-fn tell_fault<E: Write + Drop>(fault: &SimFault, err: E) -> u8 {
+fn tell_fault<E: Write + Drop>(fault: &SimFault, err: E) -> u8
+    ensures { result ≡ fault_status fault.now }
+{
     match fault {
         SimFault::Memory => tell(err, "memory", FAILED),
         SimFault::Run(RunFault::Write) => tell(err, "write", FAILED),
@@ -159,7 +172,9 @@ fn tell_fault<E: Write + Drop>(fault: &SimFault, err: E) -> u8 {
     }
 }
 
-fn tell_lex<E: Write + Drop>(fault: &LexFault, mut err: E) -> u8 {
+fn tell_lex<E: Write + Drop>(fault: &LexFault, mut err: E) -> u8
+    ensures { result ≡ lex_status fault.now }
+{
     match fault {
         LexFault::Memory => tell(err, "memory", FAILED),
         _ => {
@@ -169,7 +184,9 @@ fn tell_lex<E: Write + Drop>(fault: &LexFault, mut err: E) -> u8 {
     }
 }
 
-fn tell_parse<E: Write + Drop>(fault: &ParseFault, mut err: E) -> u8 {
+fn tell_parse<E: Write + Drop>(fault: &ParseFault, mut err: E) -> u8
+    ensures { result ≡ parse_status fault.now }
+{
     match fault {
         ParseFault::Memory => tell(err, "memory", FAILED),
         ParseFault::LeftOut { place, text } => {
@@ -183,7 +200,9 @@ fn tell_parse<E: Write + Drop>(fault: &ParseFault, mut err: E) -> u8 {
     }
 }
 
-fn tell_elab<E: Write + Drop>(fault: &ElabFault, mut err: E) -> u8 {
+fn tell_elab<E: Write + Drop>(fault: &ElabFault, mut err: E) -> u8
+    ensures { result ≡ elab_status fault.now }
+{
     match fault {
         ElabFault::Memory => tell(err, "memory", FAILED),
         ElabFault::At(reason, path) => {
@@ -194,7 +213,9 @@ fn tell_elab<E: Write + Drop>(fault: &ElabFault, mut err: E) -> u8 {
 }
 
 // The last bytes of a refusal's line.
-fn end_line<E: Write + Drop>(mut err: E, text: &[u8]) -> u8 {
+fn end_line<E: Write + Drop>(mut err: E, text: &[u8]) -> u8
+    ensures { result ≡ 1 }
+{
     let _ = err.write_all(text);
     let _ = err.write_all(b"\n");
     REFUSED

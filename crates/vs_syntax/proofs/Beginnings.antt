@@ -1,10 +1,10 @@
 -- What is too deep is a token that is there.
-use Rattle.std.specs.Prelude.{◌≡◌, ℕ, Bool, true, false, ◌&&◌, ◌||◌, cond, List, [], ◌∷◌, ◌++◌, refl}
-use Rattle.std.proofs.Common.{sym, ◌∙◌, ap}
+use Rattle.std.specs.Prelude.{◌≡◌, ℕ, Bool, true, false, ◌||◌, List, [], refl}
+use Rattle.std.proofs.Common.{◌∙◌, ap}
 use Rattle.vs_syntax.specs.Symbols.{Symbol, Class, no_token, the_mark, the_word, any_name, any_number, any_other, same_class, first}
-use Rattle.vs_syntax.specs.Grammar.{Part, a_source, a_module, an_item, a_stmt, a_target, an_expr, Grammar, nothing, token, seq, either, many, part, node, chain, rule}
+use Rattle.vs_syntax.specs.Grammar.{Part, a_source, a_module, an_item, a_declarator, an_assignment, a_stmt, a_target, an_expr, a_parity, a_conjunction, an_operand, Grammar, nothing, token, seq, either, many, part, node, chain}
 use Rattle.vs_syntax.specs.Tables.{fronts_of, fronts, among, null, goes}
-use Rattle.vs_syntax.specs.Reading.{Gets, Stuck, stuck_here, stuck_deep, stuck_first, stuck_second, stuck_left, stuck_right, stuck_many, stuck_more, stuck_part, stuck_node, stuck_one, stuck_link, stuck_high}
+use Rattle.vs_syntax.specs.Reading.{Stuck, stuck_here, stuck_deep, stuck_first, stuck_second, stuck_left, stuck_right, stuck_many, stuck_more, stuck_part, stuck_node, stuck_one, stuck_link, stuck_high}
 use Rattle.vs_syntax.proofs.Fronts.{clash, and_false, goes-seq, goes-either, goes-node, goes-chain}
 use Rattle.vs_syntax.proofs.Least.{is_class, sound, rule_sound, sound_seq, sound_either, sound_many, sound_chain}
 
@@ -20,9 +20,14 @@ part_there : (p : Part) → among no_token (fronts_of p) ≡ false
 part_there a_source = refl
 part_there a_module = refl
 part_there an_item = refl
+part_there a_declarator = refl
+part_there an_assignment = refl
 part_there a_stmt = refl
 part_there a_target = refl
 part_there an_expr = refl
+part_there a_parity = refl
+part_there a_conjunction = refl
+part_there an_operand = refl
 
 -- the end begins no part
 pub end_begins_none : (g : Grammar) → sound g ≡ true → goes g [] ≡ false

@@ -1,8 +1,8 @@
 -- Where reading stops since it would be too deep, the symbols up to the place begin a part of a deeper nesting.
-use Rattle.std.specs.Prelude.{◌≡◌, ℕ, zero, suc, max, min, ◌-◌, ◌<◌, ◌≤◌, Bool, true, false, not, ◌&&◌, ◌||◌, ◌⊎◌, List, [], ◌∷◌, ◌++◌, refl}
+use Rattle.std.specs.Prelude.{◌≡◌, ℕ, zero, suc, max, ◌-◌, ◌<◌, ◌≤◌, Bool, true, false, not, ◌&&◌, ◌||◌, ◌⊎◌, List, [], ◌∷◌, ◌++◌, refl}
 use Rattle.std.proofs.Common.{sym, ◌∙◌, ap, subst, inl, inr, append_assoc, arith}
 use Rattle.vs_syntax.specs.Symbols.{Symbol, Class, class_of, first, same_class}
-use Rattle.vs_syntax.specs.Grammar.{Part, a_source, a_module, an_item, a_stmt, a_target, an_expr, Grammar, nothing, token, seq, either, many, part, node, chain, rule}
+use Rattle.vs_syntax.specs.Grammar.{Part, a_source, a_module, an_item, a_declarator, an_assignment, a_stmt, a_target, an_expr, a_parity, a_conjunction, an_operand, Grammar, nothing, token, seq, either, many, part, node, chain, rule}
 use Rattle.vs_syntax.specs.Tables.{Front, null_of, fronts_of, null, low, fronts, among, goes}
 use Rattle.vs_syntax.specs.Derivation.{Tree, empty, leaf, both, down, tokens, height, Is, is_nothing, is_token, is_seq, is_right, is_stop, is_part, is_node, is_one}
 use Rattle.vs_syntax.specs.Reading.{Gets, Stuck, stuck_here, stuck_deep, stuck_first, stuck_second, stuck_left, stuck_right, stuck_many, stuck_more, stuck_part, stuck_node, stuck_one, stuck_link, stuck_high}
@@ -85,6 +85,11 @@ part_nothing an_item n m h = absurd (clash n refl)
 part_nothing a_stmt n m h = absurd (clash n refl)
 part_nothing a_target n m h = absurd (clash n refl)
 part_nothing an_expr n m h = absurd (clash n refl)
+part_nothing an_assignment n m h = absurd (clash n refl)
+part_nothing a_declarator n m h = absurd (clash n refl)
+part_nothing an_operand n m h = absurd (clash n refl)
+part_nothing a_conjunction n m h = absurd (clash n refl)
+part_nothing a_parity n m h = absurd (clash n refl)
 
 or_other : (a b : Bool) → a ≡ false → (a || b) ≡ true → b ≡ true
 or_other a b p h = ap (λ u. u || b) (sym p) ∙ h
@@ -196,13 +201,18 @@ all_pass-among p c (f ∷ fs) h k =
     ] refl k
 
 -- each class that can begin a part is reached in it
-rule_reach : (p : Part) → all_pass (λ c. reach 3 c p) (fronts_of p) ≡ true
+rule_reach : (p : Part) → all_pass (λ c. reach 4 c p) (fronts_of p) ≡ true
 rule_reach a_source = refl
 rule_reach a_module = refl
 rule_reach an_item = refl
+rule_reach a_declarator = refl
+rule_reach an_assignment = refl
 rule_reach a_stmt = refl
 rule_reach a_target = refl
 rule_reach an_expr = refl
+rule_reach a_parity = refl
+rule_reach a_conjunction = refl
+rule_reach an_operand = refl
 
 front_seq : (ga na gb ra rb : Bool) → (ga ≡ true → ra ≡ true) → (gb ≡ true → rb ≡ true) → (ga || (na && gb)) ≡ true → (ra || (not ga && (na && rb))) ≡ true
 front_seq true na gb ra rb f g h = or_left ra (false && (na && rb)) (f refl)
@@ -239,7 +249,7 @@ front_reach (chain a b) s h k =
     front_reach a s t.0 (front_chain (goes a (s ∷ [])) (null a) (goes b (s ∷ [])) t.5 (sym (goes-chain a b (s ∷ [])) ∙ k))
 
 grown : (g : Grammar) (s : Symbol) → sound g ≡ true → goes g (s ∷ []) ≡ true → Begun g (s ∷ [])
-grown g s h k = grown_in (λ p. goes (part p) (s ∷ [])) s (λ q i. part_grown 3 q s (all_pass-among (λ c. reach 3 c q) (class_of s) (fronts_of q) (rule_reach q) i)) g h (front_reach g s h k)
+grown g s h k = grown_in (λ p. goes (part p) (s ∷ [])) s (λ q i. part_grown 4 q s (all_pass-among (λ c. reach 4 c q) (class_of s) (fronts_of q) (rule_reach q) i)) g h (front_reach g s h k)
 
 -- up to the place and on
 on_to : (ts front rest : List Symbol) (s : Symbol) (ss : List Symbol) → ts ≡ front ++ rest → rest ≡ s ∷ ss → ts ≡ (front ++ (s ∷ [])) ++ ss

@@ -1,9 +1,10 @@
 -- What can go on behind a part: another token may follow a tree where none of its parts could go on with it.
 use Rattle.std.specs.Prelude.{◌≡◌, Bool, true, false, ◌&&◌, ◌||◌, ◌⊎◌, List, [], ◌∷◌, ◌++◌, refl}
 use Rattle.std.proofs.Common.{sym, ◌∙◌, ap, inl, inr}
+use Rattle.vs_lexer.specs.declared.token.Mark.TheVariants as m
 use Rattle.vs_lexer.specs.declared.token.Word.TheVariants as w
-use Rattle.vs_syntax.specs.Symbols.{Symbol, Class, the_word, first}
-use Rattle.vs_syntax.specs.Grammar.{Part, a_source, a_module, an_item, a_stmt, a_target, an_expr, Grammar, nothing, token, seq, either, many, part, node, chain, rule}
+use Rattle.vs_syntax.specs.Symbols.{Symbol, Class, the_mark, the_word, same_class, first}
+use Rattle.vs_syntax.specs.Grammar.{Part, a_source, a_module, an_item, a_declarator, an_assignment, a_stmt, a_target, an_expr, a_parity, a_conjunction, an_operand, Grammar, nothing, token, seq, either, many, part, node, chain, rule}
 use Rattle.vs_syntax.specs.Tables.{Front, at_least, null, fronts, among, goes}
 use Rattle.vs_syntax.specs.Derivation.{Tree, tokens, Is, is_nothing, is_token, is_seq, is_left, is_right, is_stop, is_more, is_part, is_node, is_one, is_chain}
 use Rattle.vs_syntax.proofs.Fronts.{clash, or_false, goes_same}
@@ -12,6 +13,11 @@ use Rattle.vs_syntax.proofs.Starts.{quiet, is_null}
 -- with what a part can go on behind its last token
 abbrev pub lasts_of : Part → List Front
 lasts_of a_source = at_least (the_word w.Module) 0 ∷ []
+lasts_of a_declarator = at_least (the_mark m.Assign) 0 ∷ at_least (the_mark m.Or) 0 ∷ at_least (the_mark m.Xor) 0 ∷ at_least (the_mark m.And) 0 ∷ []
+lasts_of an_assignment = at_least (the_mark m.Or) 0 ∷ at_least (the_mark m.Xor) 0 ∷ at_least (the_mark m.And) 0 ∷ []
+lasts_of an_expr = at_least (the_mark m.Or) 0 ∷ at_least (the_mark m.Xor) 0 ∷ at_least (the_mark m.And) 0 ∷ []
+lasts_of a_parity = at_least (the_mark m.Xor) 0 ∷ at_least (the_mark m.And) 0 ∷ []
+lasts_of a_conjunction = at_least (the_mark m.And) 0 ∷ []
 lasts_of _ = []
 
 -- whether a part of the grammar can go on with a token of the class
@@ -25,13 +31,32 @@ goes_on (part p) c = among c (lasts_of p)
 goes_on (node a) c = goes_on a c
 goes_on (chain a b) c = goes_on a c || (goes_on b c || among c (fronts b))
 
+-- what can go on behind operands of one level: the operator, or what can go on behind an operand
+level_goes_on : (op low : Bool) → (op || low) ≡ false → (low || (((((low || false) || (op || false)) || low) || false) || (op || false))) ≡ false
+level_goes_on true low h = cc
+level_goes_on false true h = cc
+level_goes_on false false h = refl
+
+kept : (low : Bool) → low ≡ false → ((low || false) || false) ≡ false
+kept true h = cc
+kept false h = refl
+
+declarator_goes_on : (assign or xor and : Bool) → (assign || (or || (xor || (and || false)))) ≡ false → (((or || (xor || (and || false))) || false) || (assign || false) || false) ≡ false
+declarator_goes_on false false false false h = refl
+declarator_goes_on _ _ _ _ h = cc
+
 pub rule_goes_on : (p : Part) (c : Class) → among c (lasts_of p) ≡ false → goes_on (rule p) c ≡ false
 rule_goes_on a_source c h = h
 rule_goes_on a_module c h = refl
 rule_goes_on an_item c h = refl
 rule_goes_on a_stmt c h = refl
 rule_goes_on a_target c h = refl
-rule_goes_on an_expr c h = refl
+rule_goes_on a_declarator c h = declarator_goes_on (same_class c (the_mark m.Assign)) (same_class c (the_mark m.Or)) (same_class c (the_mark m.Xor)) (same_class c (the_mark m.And)) h
+rule_goes_on an_assignment c h = kept (among c (lasts_of an_assignment)) h
+rule_goes_on an_expr c h = level_goes_on (same_class c (the_mark m.Or)) (same_class c (the_mark m.Xor) || (same_class c (the_mark m.And) || false)) h
+rule_goes_on a_parity c h = level_goes_on (same_class c (the_mark m.Xor)) (same_class c (the_mark m.And) || false) h
+rule_goes_on a_conjunction c h = level_goes_on (same_class c (the_mark m.And)) false h
+rule_goes_on an_operand c h = refl
 
 -- in the place of the symbols m others may follow
 abbrev pub MayFollow : Grammar → List Symbol → List Symbol → Type 0

@@ -1,12 +1,11 @@
 -- Lists of what can begin a part.
 use Rattle.std.specs.Prelude.{◌≡◌, ℕ, suc, max, ◌≤◌, Bool, true, false, cond, ◌&&◌, ◌||◌, List, [], ◌∷◌, ◌++◌, refl}
-use Rattle.std.proofs.Common.{sym, ◌∙◌, ap, subst, append_assoc, arith}
-use Rattle.std.proofs.lemmas.List.{append_cancel_left}
+use Rattle.std.proofs.Common.{◌∙◌, ap, arith}
 use denote.Enum.Bare.{true_same}
 use Rattle.vs_lexer.specs.contracts.token.Mark as marks
 use Rattle.vs_lexer.specs.contracts.token.Word as words
 use Rattle.vs_syntax.specs.Symbols.{Symbol, Class, no_token, the_mark, the_word, any_name, any_number, any_other, same_flag, same_class, first}
-use Rattle.vs_syntax.specs.Grammar.{Part, Grammar, nothing, token, seq, either, many, part, node, chain}
+use Rattle.vs_syntax.specs.Grammar.{Grammar, seq, either, node, chain}
 use Rattle.vs_syntax.specs.Tables.{Front, null, low, beside, above, fronts, among, need, goes}
 
 -- a flag is not both

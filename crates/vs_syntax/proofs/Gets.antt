@@ -1,13 +1,11 @@
 -- What was read, by the operators of the grammar.
-use Rattle.std.specs.Prelude.{◌≡◌, ℕ, suc, max, ◌-◌, ◌<◌, ◌≤◌, Bool, true, false, List, [], ◌∷◌, ◌++◌, refl}
+use Rattle.std.specs.Prelude.{◌≡◌, ℕ, ◌-◌, ◌<◌, ◌≤◌, true, false, List, ◌∷◌, ◌++◌, refl}
 use Rattle.std.proofs.Common.{sym, ◌∙◌, ap, subst, append_assoc, arith}
 use Rattle.vs_syntax.specs.Symbols.{Symbol, Class, class_of}
 use Rattle.vs_syntax.specs.Grammar.{Part, Grammar, nothing, token, seq, either, many, part, node, chain, rule}
-use Rattle.vs_syntax.specs.Tables.{null, fronts, need, goes}
+use Rattle.vs_syntax.specs.Tables.{goes}
 use Rattle.vs_syntax.specs.Derivation.{Tree, empty, leaf, both, down, tokens, height, Is, is_nothing, is_token, is_seq, is_left, is_right, is_stop, is_more, is_part, is_node, is_one, is_chain}
-use Rattle.vs_syntax.specs.Reading.{Gets, Stuck, stuck_here, stuck_deep, stuck_part, stuck_node, stuck_many}
-use Rattle.vs_syntax.proofs.Fronts.{clash, goes-node}
-use Rattle.vs_syntax.proofs.Starts.{goes-part}
+use Rattle.vs_syntax.specs.Reading.{Gets}
 
 -- two parts in a row are the symbols of the one and of the other
 along : (x y : Tree) (ts mid rest : List Symbol) → ts ≡ tokens x ++ mid → mid ≡ tokens y ++ rest → ts ≡ (tokens x ++ tokens y) ++ rest

@@ -1,6 +1,6 @@
 -- A least tree of each part.
-use Rattle.std.specs.Prelude.{◌≡◌, ℕ, suc, max, min, ◌==◌, ◌≤◌, nat_le, not, Bool, true, false, cond, ◌&&◌, ◌||◌, List, [], ◌∷◌, ◌++◌, refl, replicate}
-use Rattle.std.proofs.Common.{sym, ◌∙◌, ap, subst, inl, inr, arith}
+use Rattle.std.specs.Prelude.{◌≡◌, ℕ, suc, min, ◌==◌, nat_le, not, Bool, true, false, cond, ◌&&◌, ◌||◌, List, [], ◌∷◌, ◌++◌, refl, replicate}
+use Rattle.std.proofs.Common.{◌∙◌, ap, inr, arith}
 use Rattle.std.proofs.lemmas.Bool.Decides.{nat_tests}
 use Rattle.std.proofs.lemmas.Bool.{eqb-true}
 use Rattle.vs_syntax.proofs.Fronts.{or_false}
@@ -9,9 +9,9 @@ use Rattle.vs_lexer.specs.declared.token.Literal.{Literal}
 use Rattle.vs_lexer.specs.declared.token.Mark.TheVariants as m
 use Rattle.vs_lexer.specs.declared.token.Word.TheVariants as w
 use Rattle.vs_syntax.specs.Symbols.{Symbol, a_mark, a_word, a_name, a_number, another, Class, no_token, the_mark, the_word, any_name, any_number, any_other, class_of, first}
-use Rattle.vs_syntax.specs.Grammar.{Part, a_source, a_module, an_item, a_stmt, a_target, an_expr, Grammar, nothing, token, seq, either, many, part, node, chain, rule}
+use Rattle.vs_syntax.specs.Grammar.{Part, a_source, a_module, an_item, a_declarator, an_assignment, a_stmt, a_target, an_expr, a_parity, a_conjunction, an_operand, Grammar, nothing, token, seq, either, many, part, node, chain, ◌·◌, mark, rule}
 use Rattle.vs_syntax.specs.Tables.{low_of, null, low, fronts, among, goes}
-use Rattle.vs_syntax.specs.Derivation.{Tree, empty, leaf, both, down, tokens, height, Is, is_nothing, is_token, is_seq, is_left, is_right, is_stop, is_more, is_part, is_node, is_one, is_chain}
+use Rattle.vs_syntax.specs.Derivation.{Tree, empty, leaf, both, down, tokens, height, Is, is_nothing, is_token, is_seq, is_left, is_right, is_stop, is_part, is_node, is_one}
 use Rattle.vs_syntax.proofs.Ends.{goes_on, again}
 
 -- a literal of 32 zeros
@@ -44,26 +44,53 @@ sample-class any_other h = refl
 abbrev pub least_of : Part → Tree
 least_of a_source = empty
 least_of a_module = both (leaf (a_word w.Module)) (both (leaf (sample any_name)) (both (leaf (a_mark m.Semicolon)) (both empty (leaf (a_word w.Endmodule)))))
-least_of an_item = down (both (leaf (a_word w.Reg)) (both (leaf (sample any_name)) (both empty (leaf (a_mark m.Semicolon)))))
+least_of an_item = down (both (leaf (a_word w.Reg)) (both (both (leaf (sample any_name)) empty) (both empty (leaf (a_mark m.Semicolon)))))
+least_of a_declarator = both (leaf (sample any_name)) empty
+least_of an_assignment = both (down (leaf (sample any_name))) (both (leaf (a_mark m.Assign)) (leaf (sample (any_number false))))
 least_of a_stmt = down (leaf (a_mark m.Semicolon))
 least_of a_target = down (leaf (sample any_name))
 least_of an_expr = leaf (sample (any_number false))
+least_of a_parity = leaf (sample (any_number false))
+least_of a_conjunction = leaf (sample (any_number false))
+least_of an_operand = leaf (sample (any_number false))
+
+least_operand : (more : List Symbol) → Is (part an_operand) (leaf (sample (any_number false))) more
+least_operand more = is_part (is_left refl (is_token refl))
+
+least_conjunction : (more : List Symbol) → goes (mark m.And · part an_operand · many (mark m.And · part an_operand)) more ≡ false → Is (part a_conjunction) (leaf (sample (any_number false))) more
+least_conjunction more h = is_part (is_one h (least_operand more))
+
+least_parity : Is (part a_parity) (leaf (sample (any_number false))) []
+least_parity = is_part (is_one refl (least_conjunction [] refl))
+
+least_expr : Is (part an_expr) (leaf (sample (any_number false))) []
+least_expr = is_part (is_one refl least_parity)
 
 pub rule_least : (p : Part) → Is (part p) (least_of p) []
 rule_least a_source = is_part (is_stop refl)
 rule_least a_module = is_part (is_seq (is_token refl) (is_seq (is_token refl) (is_seq (is_token refl) (is_seq (is_stop refl) (is_token refl)))))
-rule_least an_item = is_part (is_node (is_left refl (is_seq (is_token refl) (is_seq (is_token refl) (is_seq (is_stop refl) (is_token refl))))))
+rule_least an_item = is_part (is_node (is_right refl (is_left refl (is_seq (is_token refl) (is_seq (is_part (is_seq (is_token refl) (is_right refl is_nothing))) (is_seq (is_stop refl) (is_token refl)))))))
+rule_least a_declarator = is_part (is_seq (is_token refl) (is_right refl is_nothing))
+rule_least an_assignment = is_part (is_seq (is_part (is_node (is_token refl))) (is_seq (is_token refl) least_expr))
 rule_least a_stmt = is_part (is_node (is_left refl (is_token refl)))
 rule_least a_target = is_part (is_node (is_token refl))
-rule_least an_expr = is_part (is_left refl (is_token refl))
+rule_least an_expr = least_expr
+rule_least a_parity = least_parity
+rule_least a_conjunction = least_conjunction [] refl
+rule_least an_operand = least_operand []
 
 least_of-height : (p : Part) → height (least_of p) ≡ low_of p
 least_of-height a_source = refl
 least_of-height a_module = refl
 least_of-height an_item = refl
+least_of-height a_declarator = refl
+least_of-height an_assignment = refl
 least_of-height a_stmt = refl
 least_of-height a_target = refl
 least_of-height an_expr = refl
+least_of-height a_parity = refl
+least_of-height a_conjunction = refl
+least_of-height an_operand = refl
 
 -- a least tree of the grammar
 abbrev pub least : Grammar → Tree
@@ -91,9 +118,14 @@ pub rule_sound : (p : Part) → sound (rule p) ≡ true
 rule_sound a_source = refl
 rule_sound a_module = refl
 rule_sound an_item = refl
+rule_sound a_declarator = refl
+rule_sound an_assignment = refl
 rule_sound a_stmt = refl
 rule_sound a_target = refl
 rule_sound an_expr = refl
+rule_sound a_parity = refl
+rule_sound a_conjunction = refl
+rule_sound an_operand = refl
 
 pub and_left : (a b : Bool) → (a && b) ≡ true → a ≡ true
 and_left true b h = refl

@@ -1,17 +1,16 @@
 -- The plain reading of the grammar and the one with a look at the next token are the same.
-use Rattle.std.specs.Prelude.{◌≡◌, ℕ, Bool, true, false, not, cond, ◌&&◌, ◌||◌, ◌⊎◌, List, [], ◌∷◌, ◌++◌, refl}
+use Rattle.std.specs.Prelude.{◌≡◌, Bool, true, false, not, ◌&&◌, ◌||◌, ◌⊎◌, List, [], ◌∷◌, ◌++◌, refl}
 use Rattle.std.proofs.Common.{sym, ◌∙◌, ap, inl, inr, append_assoc}
-use Rattle.std.proofs.lemmas.List.{append-nil}
 use denote.Enum.Bare.{same_true}
 use Rattle.vs_lexer.specs.contracts.token.Mark as marks
 use Rattle.vs_lexer.specs.contracts.token.Word as words
 use Rattle.vs_syntax.specs.Symbols.{Symbol, Class, no_token, the_mark, the_word, any_name, any_number, any_other, class_of, first, same_flag, same_class}
-use Rattle.vs_syntax.specs.Grammar.{Part, a_source, a_module, an_item, a_stmt, a_target, an_expr, Grammar, nothing, token, seq, either, many, part, node, chain, rule}
-use Rattle.vs_syntax.specs.Tables.{Front, null, null_of, fronts, among, goes}
-use Rattle.vs_syntax.specs.Derivation.{Tree, empty, leaf, both, down, tokens, Is, is_nothing, is_token, is_seq, is_left, is_right, is_stop, is_more, is_part, is_node, is_one, is_chain}
+use Rattle.vs_syntax.specs.Grammar.{Part, a_source, a_module, an_item, a_declarator, an_assignment, a_stmt, a_target, an_expr, a_parity, a_conjunction, an_operand, Grammar, nothing, token, seq, either, many, part, node, chain, rule}
+use Rattle.vs_syntax.specs.Tables.{Front, null, fronts, among, goes}
+use Rattle.vs_syntax.specs.Derivation.{Tree, down, tokens, Is, is_nothing, is_token, is_seq, is_left, is_right, is_stop, is_more, is_part, is_node, is_one, is_chain}
 use Rattle.vs_syntax.specs.Plain.{IsPlain, plain_nothing, plain_token, plain_seq, plain_left, plain_right, plain_stop, plain_more, plain_part, plain_node, plain_one, plain_chain}
-use Rattle.vs_syntax.proofs.Checks.{rule_null, rule_fronts}
-use Rattle.vs_syntax.proofs.Fronts.{clash, or_false, or_left, or_right, and_false, same_class-refl, goes-seq, goes-either, goes-node, goes-chain}
+use Rattle.vs_syntax.proofs.Checks.{rule_null}
+use Rattle.vs_syntax.proofs.Fronts.{clash, or_false, or_left, or_right, same_class-refl, goes-seq, goes-either, goes-node, goes-chain}
 use Rattle.vs_syntax.proofs.Starts.{nil_left, nil_right, goes-part}
 use Rattle.vs_syntax.proofs.Ends.{goes_on, rule_goes_on}
 use Rattle.vs_syntax.proofs.Least.{and_left, and_right, not_true}
@@ -74,9 +73,14 @@ pub rule_decided : (p : Part) → decided (rule p) ≡ true
 rule_decided a_source = refl
 rule_decided a_module = refl
 rule_decided an_item = refl
+rule_decided a_declarator = refl
+rule_decided an_assignment = refl
 rule_decided a_stmt = refl
 rule_decided a_target = refl
 rule_decided an_expr = refl
+rule_decided a_parity = refl
+rule_decided a_conjunction = refl
+rule_decided an_operand = refl
 
 and_both : (a b : Bool) → a ≡ true → b ≡ true → (a && b) ≡ true
 and_both a b p q = rw p q

@@ -1,10 +1,10 @@
 -- Where reading a part stops, no tree of the part goes on.
-use Rattle.std.specs.Prelude.{◌≡◌, ℕ, suc, max, ◌-◌, ◌<◌, ◌≤◌, Bool, true, false, List, [], ◌∷◌, ◌++◌, refl}
-use Rattle.std.proofs.Common.{sym, ◌∙◌, ap, subst, append_assoc, arith}
+use Rattle.std.specs.Prelude.{◌≡◌, ℕ, suc, max, ◌≤◌, Bool, true, List, [], ◌++◌, refl}
+use Rattle.std.proofs.Common.{sym, ◌∙◌, ap, append_assoc, arith}
 use Rattle.vs_syntax.specs.Symbols.{Symbol, first}
-use Rattle.vs_syntax.specs.Grammar.{Part, Grammar, seq, either, many, part, node, chain, rule}
-use Rattle.vs_syntax.specs.Tables.{null, low, fronts, need, goes}
-use Rattle.vs_syntax.specs.Derivation.{Tree, empty, leaf, both, down, tokens, height, Is, is_nothing, is_token, is_seq, is_left, is_right, is_stop, is_more, is_part, is_node, is_one, is_chain}
+use Rattle.vs_syntax.specs.Grammar.{Grammar}
+use Rattle.vs_syntax.specs.Tables.{fronts, need}
+use Rattle.vs_syntax.specs.Derivation.{Tree, tokens, height, Is, is_seq, is_left, is_right, is_stop, is_more, is_part, is_node, is_one, is_chain}
 use Rattle.vs_syntax.specs.Reading.{Gets, Stuck, stuck_here, stuck_deep, stuck_first, stuck_second, stuck_left, stuck_right, stuck_many, stuck_more, stuck_part, stuck_node, stuck_one, stuck_link, stuck_high}
 use Rattle.vs_syntax.proofs.Fronts.{clash, first-append, goes_same}
 use Rattle.vs_syntax.proofs.Unique.{unique, after_same}

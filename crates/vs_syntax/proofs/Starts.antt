@@ -2,9 +2,9 @@
 use Rattle.std.specs.Prelude.{◌≡◌, ℕ, suc, max, ◌≤◌, Bool, true, false, cond, ◌&&◌, ◌||◌, List, [], ◌∷◌, ◌++◌, refl}
 use Rattle.std.proofs.Common.{sym, ◌∙◌, ap, subst, append_assoc, arith}
 use Rattle.vs_syntax.specs.Symbols.{Symbol, Class, class_of, same_class, first}
-use Rattle.vs_syntax.specs.Grammar.{Part, Grammar, seq, either, many, part, node, chain, rule}
-use Rattle.vs_syntax.specs.Tables.{Front, null_of, low_of, fronts_of, null, low, beside, above, fronts, among, need, goes}
-use Rattle.vs_syntax.specs.Derivation.{Tree, empty, leaf, both, down, tokens, height, Is, is_nothing, is_token, is_seq, is_left, is_right, is_stop, is_more, is_part, is_node, is_one, is_chain}
+use Rattle.vs_syntax.specs.Grammar.{Part, Grammar, seq, part, chain, rule}
+use Rattle.vs_syntax.specs.Tables.{Front, null, low, beside, above, fronts, among, need, goes}
+use Rattle.vs_syntax.specs.Derivation.{Tree, tokens, height, Is, is_nothing, is_token, is_seq, is_left, is_right, is_stop, is_more, is_part, is_node, is_one, is_chain}
 use Rattle.vs_syntax.proofs.Checks.{rule_null, rule_low, rule_fronts}
 use Rattle.vs_syntax.proofs.Fronts.{clash, or_false, or_right, or_left, and_false, same_class-refl, goes-seq, goes-either, goes-node, goes-chain, among-beside, among-above, need-append_le, need-beside_le, need-above_le}
 

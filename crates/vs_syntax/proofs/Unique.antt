@@ -1,11 +1,11 @@
 -- Symbols have at most one derivation tree.
-use Rattle.std.specs.Prelude.{◌≡◌, Bool, true, false, List, [], ◌∷◌, ◌++◌, refl}
+use Rattle.std.specs.Prelude.{◌≡◌, true, false, List, ◌++◌, refl}
 use Rattle.std.proofs.Common.{sym, ◌∙◌, ap, append_assoc}
 use Rattle.std.proofs.lemmas.List.{append_cancel_left}
 use Rattle.vs_syntax.specs.Symbols.{Symbol, first}
 use Rattle.vs_syntax.specs.Grammar.{Grammar}
 use Rattle.vs_syntax.specs.Tables.{goes}
-use Rattle.vs_syntax.specs.Derivation.{Tree, empty, leaf, both, down, tokens, Is, is_nothing, is_token, is_seq, is_left, is_right, is_stop, is_more, is_part, is_node, is_one, is_chain}
+use Rattle.vs_syntax.specs.Derivation.{Tree, down, tokens, Is, is_nothing, is_token, is_seq, is_left, is_right, is_stop, is_more, is_part, is_node, is_one, is_chain}
 use Rattle.vs_syntax.proofs.Fronts.{clash, first-append, goes_same}
 
 -- what follows equal trees in equal lists

@@ -1,16 +1,16 @@
 -- Where reading a part stops, the symbols before the place begin a part.
-use Rattle.std.specs.Prelude.{◌≡◌, ℕ, suc, max, min, ◌-◌, ◌<◌, ◌≤◌, Bool, true, false, cond, List, [], ◌∷◌, ◌++◌, refl}
+use Rattle.std.specs.Prelude.{◌≡◌, ℕ, suc, max, ◌-◌, ◌<◌, ◌≤◌, Bool, true, false, List, [], ◌∷◌, ◌++◌, refl}
 use Rattle.std.proofs.Common.{sym, ◌∙◌, ap, subst, inl, inr, append_assoc, arith}
 use Rattle.std.proofs.lemmas.List.{append-nil}
-use Rattle.vs_syntax.specs.Symbols.{Symbol, no_token, first}
-use Rattle.vs_syntax.specs.Grammar.{Part, Grammar, nothing, token, seq, either, many, part, node, chain, rule}
-use Rattle.vs_syntax.specs.Tables.{low_of, null, low, fronts, need, among, goes}
-use Rattle.vs_syntax.specs.Derivation.{Tree, empty, leaf, both, down, tokens, height, Is, is_nothing, is_token, is_seq, is_left, is_right, is_stop, is_more, is_part, is_node, is_one, is_chain}
+use Rattle.vs_syntax.specs.Symbols.{Symbol, first}
+use Rattle.vs_syntax.specs.Grammar.{Grammar, seq, either, many, chain}
+use Rattle.vs_syntax.specs.Tables.{low, goes}
+use Rattle.vs_syntax.specs.Derivation.{Tree, empty, both, down, tokens, height, Is, is_seq, is_left, is_right, is_stop, is_more, is_part, is_node, is_one, is_chain}
 use Rattle.vs_syntax.specs.Reading.{Gets, Stuck, stuck_here, stuck_deep, stuck_first, stuck_second, stuck_left, stuck_right, stuck_many, stuck_more, stuck_part, stuck_node, stuck_one, stuck_link, stuck_high}
 use Rattle.vs_syntax.proofs.Checks.{rule_low}
 use Rattle.vs_syntax.proofs.Fronts.{goes_same}
 use Rattle.vs_syntax.proofs.Starts.{quiet}
-use Rattle.vs_syntax.proofs.Ends.{goes_on, goes_again, again}
+use Rattle.vs_syntax.proofs.Ends.{goes_again, again}
 use Rattle.vs_syntax.proofs.Least.{least, sound, rule_sound, least_is, least-height, before_least, sound_seq, sound_either, sound_many, sound_chain, first_nil}
 use Rattle.vs_syntax.proofs.Refused.{front_of, front_text}
 

@@ -3,7 +3,7 @@ use Rattle.std.specs.Prelude.{ℕ, suc, max, min, Bool, true, false, cond, ◌&&
 use Rattle.vs_lexer.specs.declared.token.Mark.TheVariants as m
 use Rattle.vs_lexer.specs.declared.token.Word.TheVariants as w
 use Rattle.vs_syntax.specs.Symbols.{Symbol, Class, the_mark, the_word, any_name, any_number, same_class, first}
-use Rattle.vs_syntax.specs.Grammar.{Part, a_source, a_module, an_item, a_stmt, a_target, an_expr, Grammar, nothing, token, seq, either, many, part, node, chain}
+use Rattle.vs_syntax.specs.Grammar.{Part, a_source, a_module, an_item, a_declarator, an_assignment, a_stmt, a_target, an_expr, a_parity, a_conjunction, an_operand, Grammar, nothing, token, seq, either, many, part, node, chain}
 
 -- a class that can begin a part, and the least nesting of a part that it begins
 pub record Front : Type 0 where
@@ -24,18 +24,32 @@ abbrev pub low_of : Part → ℕ
 low_of a_source = 0
 low_of a_module = 0
 low_of an_item = 1
+low_of a_declarator = 0
+low_of an_assignment = 1
 low_of a_stmt = 1
 low_of a_target = 1
 low_of an_expr = 0
+low_of a_parity = 0
+low_of a_conjunction = 0
+low_of an_operand = 0
+
+-- what can begin an expression
+abbrev pub operand_fronts : List Front
+operand_fronts = at_least (any_number false) 0 ∷ at_least any_name 0 ∷ at_least (the_mark m.Tilde) 1 ∷ at_least (the_mark m.Open) 1 ∷ []
 
 -- what can begin a part
 abbrev pub fronts_of : Part → List Front
 fronts_of a_source = at_least (the_word w.Module) 0 ∷ []
 fronts_of a_module = at_least (the_word w.Module) 0 ∷ []
-fronts_of an_item = at_least (the_word w.Reg) 1 ∷ at_least (the_word w.Initial) 2 ∷ []
+fronts_of an_item = at_least (the_word w.Wire) 1 ∷ at_least (the_word w.Reg) 1 ∷ at_least (the_word w.Assign) 2 ∷ at_least (the_word w.Initial) 2 ∷ at_least (the_word w.Always) 2 ∷ []
+fronts_of a_declarator = at_least any_name 0 ∷ []
+fronts_of an_assignment = at_least any_name 1 ∷ []
 fronts_of a_stmt = at_least (the_mark m.Semicolon) 1 ∷ at_least any_name 2 ∷ at_least (the_word w.Begin) 1 ∷ at_least (the_mark m.Hash) 2 ∷ []
 fronts_of a_target = at_least any_name 1 ∷ []
-fronts_of an_expr = at_least (any_number false) 0 ∷ at_least any_name 0 ∷ []
+fronts_of an_expr = operand_fronts
+fronts_of a_parity = operand_fronts
+fronts_of a_conjunction = operand_fronts
+fronts_of an_operand = operand_fronts
 
 -- whether the grammar allows no token
 abbrev pub null : Grammar → Bool

@@ -1,13 +1,16 @@
 -- The tree of the grammar that a syntax tree stands for.
-use Rattle.std.specs.Prelude.{ℕ, List, [], ◌∷◌, map}
-use Rattle.std.specs.declared.alloc.Global.{Global}
-use Rattle.std.specs.declared.vec.Vec.{Vec}
+use Rattle.std.specs.Prelude.{ℕ, List, [], ◌∷◌, Option, None, Some, map}
+use Rattle.vs_lexer.specs.declared.token.Mark.{Mark}
 use Rattle.vs_lexer.specs.declared.token.Mark.TheVariants as m
 use Rattle.vs_lexer.specs.declared.token.Word.TheVariants as w
 use Rattle.vs_syntax.specs.Symbols.{a_mark, a_word, a_name, a_number}
 use Rattle.vs_syntax.specs.Derivation.{Tree, empty, leaf, both, down}
-use Rattle.vs_syntax.specs.declared.tree.Expr.{Expr}
-use Rattle.vs_syntax.specs.declared.tree.Expr.TheVariants as e
+use Rattle.vs_syntax.specs.declared.tree.Bitwise.{Bitwise}
+use Rattle.vs_syntax.specs.declared.tree.Bitwise.TheVariants as b
+use Rattle.vs_syntax.specs.declared.tree.Expr.{Expr, Expr-F, fold-Expr}
+use Rattle.vs_syntax.specs.declared.tree.Expr.TheOpen as e
+use Rattle.vs_syntax.specs.declared.tree.Declarator.{Declarator}
+use Rattle.vs_syntax.specs.declared.tree.NetAssignment.{NetAssignment}
 use Rattle.vs_syntax.specs.declared.tree.Stmt.{Stmt, Stmt-F, fold-Stmt}
 use Rattle.vs_syntax.specs.declared.tree.Stmt.TheOpen as s
 use Rattle.vs_syntax.specs.declared.tree.Item.{Item}
@@ -24,24 +27,61 @@ row_of (x ∷ xs) = both x (row_of xs)
 abbrev pub name_tree : List ℕ → Tree
 name_tree bytes = leaf (a_name bytes)
 
--- a comma and a name
-abbrev pub comma_name : Vec ℕ Global → Tree
-comma_name n = both (leaf (a_mark m.Comma)) (name_tree n.items)
+-- parts with commas between, and the semicolon behind them; without a part no tree of the grammar
+abbrev pub listed_tree : List Tree → Tree
+listed_tree [] = empty
+listed_tree (x ∷ xs) = both x (both (row_of (map (both (leaf (a_mark m.Comma))) xs)) (leaf (a_mark m.Semicolon)))
 
--- the name after `reg`, and then those after commas; without a name no tree of the grammar
-abbrev pub names_tree : List (Vec ℕ Global) → Tree
-names_tree [] = both empty (both empty (leaf (a_mark m.Semicolon)))
-names_tree (n ∷ ns) = both (name_tree n.items) (both (row_of (map comma_name ns)) (leaf (a_mark m.Semicolon)))
+-- the mark of a bitwise operator
+abbrev pub mark_of : Bitwise → Mark
+mark_of b.And = m.And
+mark_of b.Xor = m.Xor
+mark_of b.Or = m.Or
+
+-- operands of one level behind the first one; without a second one no tree of the grammar
+abbrev pub rest_tree : Mark → List Tree → Tree
+rest_tree op [] = empty
+rest_tree op (x ∷ xs) = both (leaf (a_mark op)) (both x (row_of (map (both (leaf (a_mark op))) xs)))
+
+-- operands of one level; without a first one no tree of the grammar
+abbrev pub chain_tree : Mark → List Tree → Tree
+chain_tree op [] = empty
+chain_tree op (x ∷ xs) = down (both x (rest_tree op xs))
+
+-- an expression, where the trees of the inner ones stand in their place
+abbrev pub expr_step : Expr-F Tree → Tree
+expr_step (e.Number l) = leaf (a_number l)
+expr_step (e.Name n) = name_tree n.items
+expr_step (e.Group x) = down (both (leaf (a_mark m.Open)) (both x.value (leaf (a_mark m.Close))))
+expr_step (e.Not x) = down (both (leaf (a_mark m.Tilde)) x.value)
+expr_step (e.Chain op xs) = chain_tree (mark_of op) xs.items
 
 -- an expression
 abbrev pub expr_tree : Expr → Tree
-expr_tree (e.Number l) = leaf (a_number l)
-expr_tree (e.Name n) = name_tree n.items
+expr_tree = fold-Expr Tree expr_step
+
+-- a declaration assignment, where there is one
+abbrev pub value_tree : Option Expr → Tree
+value_tree None = empty
+value_tree (Some x) = both (leaf (a_mark m.Assign)) (expr_tree x)
+
+-- a name of a declaration
+abbrev pub declarator_tree : Declarator → Tree
+declarator_tree d = both (name_tree d.name.items) (value_tree d.value)
+
+-- an assignment of an `assign` item
+abbrev pub net_assignment_tree : NetAssignment → Tree
+net_assignment_tree a = both (down (name_tree a.target.items)) (both (leaf (a_mark m.Assign)) (expr_tree a.value))
+
+-- an assignment as a statement
+abbrev pub assigned_tree : List ℕ → Mark → Expr → Tree
+assigned_tree n sign x = down (both (down (name_tree n)) (both (leaf (a_mark sign)) (both (expr_tree x) (leaf (a_mark m.Semicolon)))))
 
 -- a statement, where the trees of the inner ones stand in their place
 abbrev pub stmt_step : Stmt-F Tree → Tree
 stmt_step s.Null = down (leaf (a_mark m.Semicolon))
-stmt_step (s.Assign n x) = down (both (down (name_tree n.items)) (both (leaf (a_mark m.Assign)) (both (expr_tree x) (leaf (a_mark m.Semicolon)))))
+stmt_step (s.Assign n x) = assigned_tree n.items m.Assign x
+stmt_step (s.Later n x) = assigned_tree n.items m.LessEqual x
 stmt_step (s.Block xs) = down (both (leaf (a_word w.Begin)) (both (row_of xs.items) (leaf (a_word w.End))))
 stmt_step (s.Delay l x) = down (both (leaf (a_mark m.Hash)) (both (leaf (a_number l)) x.value))
 
@@ -51,8 +91,11 @@ stmt_tree = fold-Stmt Tree stmt_step
 
 -- an item of a module
 abbrev pub item_tree : Item → Tree
-item_tree (i.Reg ns) = down (both (leaf (a_word w.Reg)) (names_tree ns.items))
+item_tree (i.Wire ds) = down (both (leaf (a_word w.Wire)) (listed_tree (map declarator_tree ds.items)))
+item_tree (i.Reg ds) = down (both (leaf (a_word w.Reg)) (listed_tree (map declarator_tree ds.items)))
+item_tree (i.Assign xs) = down (both (leaf (a_word w.Assign)) (listed_tree (map net_assignment_tree xs.items)))
 item_tree (i.Initial x) = down (both (leaf (a_word w.Initial)) (stmt_tree x))
+item_tree (i.Always x) = down (both (leaf (a_word w.Always)) (stmt_tree x))
 
 -- a module
 abbrev pub module_tree : Module → Tree

@@ -5,4 +5,4 @@ mod law;
 mod tree;
 
 pub use law::{one_tree, plain_reading, tables_agree};
-pub use tree::{Expr, Item, Module, Source, Stmt};
+pub use tree::{Bitwise, Declarator, Expr, Item, Module, NetAssignment, Source, Stmt};

@@ -17,13 +17,37 @@ pub struct Module {
     pub items: Vec<Item>,
 }
 
+/// A name that a declaration declares (IEEE 1364-2005, clauses 6.1.1 and 6.2.1).
+#[derive(Debug, Drop)]
+pub struct Declarator {
+    /// The bytes of the name.
+    pub name: Vec<u8>,
+    /// The right side of its declaration assignment, where it has one.
+    pub value: Option<Expr>,
+}
+
+/// One assignment of an `assign` item (IEEE 1364-2005, clause 6.1.2).
+#[derive(Debug, Drop)]
+pub struct NetAssignment {
+    /// The bytes of the name of the net on the left.
+    pub target: Vec<u8>,
+    /// The right side.
+    pub value: Expr,
+}
+
 /// An item of a module (IEEE 1364-2005, clause A.1.4).
 #[derive(Debug, Drop)]
 pub enum Item {
+    /// `wire` with names of scalars, in the order of the text (clause 4.2.1).
+    Wire(Vec<Declarator>),
     /// `reg` with names of scalars, in the order of the text (clause 4.2.2).
-    Reg(Vec<Vec<u8>>),
+    Reg(Vec<Declarator>),
+    /// `assign` with its assignments, in the order of the text (clause 6.1.2).
+    Assign(Vec<NetAssignment>),
     /// `initial` and its statement (clause 9.9.1).
     Initial(Stmt),
+    /// `always` and its statement (clause 9.9.2).
+    Always(Stmt),
 }
 
 /// A statement (IEEE 1364-2005, clause A.6.4).
@@ -33,10 +57,23 @@ pub enum Stmt {
     Null,
     /// A blocking assignment of an expression to the variable of a name (clause 9.2.1).
     Assign(Vec<u8>, Expr),
+    /// A nonblocking assignment of an expression to the variable of a name (clause 9.2.2).
+    Later(Vec<u8>, Expr),
     /// `begin`, statements and `end` (clause 9.8.1).
     Block(Vec<Stmt>),
     /// `#` with a delay in units of time before a statement (clause 9.7.1).
     Delay(Literal, Box<Stmt>),
+}
+
+/// A bitwise operator of two operands (IEEE 1364-2005, clause 5.1.10).
+#[derive(Clone, Copy, PartialEq, Eq, Debug)]
+pub enum Bitwise {
+    /// `&`
+    And,
+    /// `^`
+    Xor,
+    /// `|`
+    Or,
 }
 
 /// An expression (IEEE 1364-2005, clause 5).
@@ -44,6 +81,12 @@ pub enum Stmt {
 pub enum Expr {
     /// A number (clause 3.5.1).
     Number(Literal),
-    /// The value of the variable of a name.
+    /// The value of the variable or net of a name.
     Name(Vec<u8>),
+    /// An expression in parentheses.
+    Group(Box<Expr>),
+    /// `~` and its operand (clause 5.1.10).
+    Not(Box<Expr>),
+    /// Two operands or more with one bitwise operator between them, from left to right (clause 5.1.10).
+    Chain(Bitwise, Vec<Expr>),
 }

@@ -1,16 +1,29 @@
 use Rattle.std.proofs.Common.{refl, arith}
-use Rattle.vs_elaborate.specs.Statements.{is_null, is_assign, is_block, are_none}
+use Rattle.vs_elaborate.specs.Statements.{is_null, is_block, are_none}
 use Rattle.std.proofs.lemmas.Result.{err_from_is_err_and}
-use Rattle.vs_elaborate.proofs.Bodies.{fault_Null, sound_Assign, sound_Block, faults_Block, delay_means, element_faults, bodies_more, bodies_all}
+use Rattle.vs_elaborate.proofs.Bodies.{fault_Null, assign_means, faults_Assign, later_means, faults_Later, sound_Block, faults_Block, delay_means, element_faults, bodies_more, bodies_all}
 use Rattle.vs_elaborate.proofs.statements.+statement.Goals as goal
 
 pub statement-returns-in-Null : goal.statement-returns-in-Null
 statement-returns-in-Null t c = rw c.in-Null.is (λ r. fault_Null r c.args.names.now, is_null)
 
-pub statement-returns-in-Some : goal.statement-returns-in-Some
-statement-returns-in-Some t c =
-    let q = rw c.deref.ensures.value at c.in-Some.ensures in
-    rw c.in-Assign.is (sound_Assign c.args.names.now c.in-Assign.target c.in-Assign.e q.0, is_assign c.in-Assign.target c.in-Assign.e c.in-Some.target c.in-Some.source q.1)
+pub statement-returns-in_ok-target-in-Assign : goal.statement-returns-in_ok-target-in-Assign
+statement-returns-in_ok-target-in-Assign t c =
+    rw c.in-Assign.is (assign_means c.args.base c.args.names.now c.in-Assign.target _ c.in-Assign.e c.in_ok-target-in-Assign.target c.in_ok-target-in-Assign.source c.deref.ensures.value c.in_ok-target-in-Assign.ensures)
+
+pub statement-returns-in_err-target-in-Assign : goal.statement-returns-in_err-target-in-Assign
+statement-returns-in_err-target-in-Assign t c =
+    let p = err_from_is_err_and c.from_residual.result c.from_residual.ensures.1 in
+    rw (p.1, p.2, c.in-Assign.is) (faults_Assign c.args.names.now c.in-Assign.target _ c.in-Assign.e c.in_err-target-in-Assign.field-0.0 c.deref.ensures.value c.in_err-target-in-Assign.ensures)
+
+pub statement-returns-in_ok-target-in-Later : goal.statement-returns-in_ok-target-in-Later
+statement-returns-in_ok-target-in-Later t c =
+    rw c.in-Later.is (later_means c.args.base c.args.names.now c.in-Later.target _ c.in-Later.e c.in_ok-target-in-Later.target c.in_ok-target-in-Later.source c.deref-in-Later.ensures.value c.in_ok-target-in-Later.ensures)
+
+pub statement-returns-in_err-target-in-Later : goal.statement-returns-in_err-target-in-Later
+statement-returns-in_err-target-in-Later t c =
+    let p = err_from_is_err_and c.from_residual-in_err-target-in-Later.result c.from_residual-in_err-target-in-Later.ensures.1 in
+    rw (p.1, p.2, c.in-Later.is) (faults_Later c.args.names.now c.in-Later.target _ c.in-Later.e c.in_err-target-in-Later.field-0.0 c.deref-in-Later.ensures.value c.in_err-target-in-Later.ensures)
 
 pub statement-returns-in_ok-inner-in-Block : goal.statement-returns-in_ok-inner-in-Block
 statement-returns-in_ok-inner-in-Block t c =
@@ -20,7 +33,7 @@ statement-returns-in_ok-inner-in-Block t c =
 pub statement-returns-in_err-inner-in-Block : goal.statement-returns-in_err-inner-in-Block
 statement-returns-in_err-inner-in-Block t c =
     let q = rw c.deref-in-Block.ensures.value at c.in_err-inner-in-Block.ensures in
-    let p = err_from_is_err_and c.from_residual.result c.from_residual.ensures.1 in
+    let p = err_from_is_err_and c.from_residual-in_err-inner-in-Block.result c.from_residual-in_err-inner-in-Block.ensures.1 in
     rw (p.1, p.2, c.in-Block.is) (faults_Block c.args.names.now c.in-Block.inner c.in_err-inner-in-Block.field-0.0 q)
 
 pub statement-returns-in_ok-body-in-Delay-2 : goal.statement-returns-in_ok-body-in-Delay-2

@@ -1,4 +1,4 @@
-use Rattle.std.proofs.Common.{◌≤◌, ◌<◌, refl, ap, sym, arith}
+use Rattle.std.proofs.Common.{◌≤◌, arith}
 use Rattle.std.proofs.lemmas.Result.{err_from_is_err_and}
 use Rattle.vs_syntax.specs.Grammar.{part, many, an_item}
 use Rattle.vs_syntax.specs.Views.{item_tree}

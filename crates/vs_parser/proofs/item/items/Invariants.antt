@@ -1,4 +1,4 @@
-use Rattle.std.proofs.Common.{◌≡◌, ◌≤◌, length, map}
+use Rattle.std.proofs.Common.{◌≡◌, length, map}
 use Rattle.vs_syntax.specs.Grammar.{part, an_item}
 use Rattle.vs_syntax.specs.Derivation.{height}
 use Rattle.vs_syntax.specs.Views.{row_of, item_tree}

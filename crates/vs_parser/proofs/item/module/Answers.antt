@@ -1,4 +1,3 @@
-use Rattle.std.proofs.Common.{refl, ap}
 use Rattle.std.proofs.lemmas.Result.{err_from_is_err_and}
 use Rattle.vs_lexer.specs.declared.token.Mark.TheVariants as m
 use Rattle.vs_lexer.specs.declared.token.Word.TheVariants as w

@@ -2,14 +2,14 @@ use Rattle.std.proofs.Common.{◌≤◌, refl, ap, arith, true}
 use Rattle.std.proofs.lemmas.Result.{err_from_is_err_and}
 use Rattle.vs_lexer.specs.declared.token.Word.TheVariants as w
 use Rattle.vs_syntax.specs.Symbols.{the_word, first}
-use Rattle.vs_syntax.specs.Grammar.{part, many, a_source, a_module}
+use Rattle.vs_syntax.specs.Grammar.{part, a_source, a_module}
 use Rattle.vs_syntax.specs.Views.{module_tree}
 use Rattle.vs_syntax.specs.Reading.{stuck_part, stuck_many}
 use Rattle.vs_syntax.proofs.Gets.{gets_part, gets_stop}
 use Rattle.vs_parser.specs.Answers.{seen}
 use Rattle.vs_parser.proofs.Exits.{fails_by}
 use Rattle.vs_parser.proofs.Rows.{along_start, along_push, shorter, all_read}
-use Rattle.vs_parser.proofs.Statements.{goes_at}
+use Rattle.vs_parser.proofs.Exits.{goes_at}
 use Rattle.vs_parser.proofs.item.source.Goals as goal
 
 pub loop-after-init : goal.loop-after-init

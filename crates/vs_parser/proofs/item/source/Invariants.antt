@@ -1,4 +1,4 @@
-use Rattle.std.proofs.Common.{◌≡◌, ◌≤◌, length, map}
+use Rattle.std.proofs.Common.{length, map}
 use Rattle.vs_syntax.specs.Grammar.{part, a_module}
 use Rattle.vs_syntax.specs.Views.{module_tree}
 use Rattle.vs_parser.specs.Answers.{seen}

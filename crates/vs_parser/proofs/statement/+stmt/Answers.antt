@@ -1,12 +1,10 @@
-use Rattle.std.proofs.Common.{◌≤◌, ◌<◌, ◌-◌, ℕ, refl, ap, sym, ◌∙◌, arith, true, false, map}
+use Rattle.std.proofs.Common.{◌≤◌, ◌<◌, ◌-◌, refl, ap, arith, false}
 use Rattle.std.proofs.lemmas.Result.{err_from_is_err_and}
 use Rattle.vs_lexer.specs.declared.token.Mark.TheVariants as m
 use Rattle.vs_lexer.specs.declared.token.Word.TheVariants as w
 use Rattle.vs_syntax.specs.Symbols.{the_mark, the_word, any_number, first}
 use Rattle.vs_syntax.specs.Grammar.{part, word, number, a_stmt}
-use Rattle.vs_syntax.specs.Tables.{goes}
-use Rattle.vs_syntax.specs.Derivation.{height}
-use Rattle.vs_syntax.specs.Views.{row_of, stmt_tree}
+use Rattle.vs_syntax.specs.Views.{stmt_tree}
 use Rattle.vs_syntax.specs.Reading.{stuck_here, stuck_first, stuck_second}
 use Rattle.vs_syntax.proofs.Gets.{gets_seq, gets_stop}
 use Rattle.vs_parser.specs.Answers.{seen}

@@ -1,4 +1,4 @@
-use Rattle.std.proofs.Common.{refl, ap, sym, arith}
+use Rattle.std.proofs.Common.{refl, ap, arith}
 use Rattle.vs_lexer.specs.declared.token.Mark.TheVariants as m
 use Rattle.vs_syntax.specs.Symbols.{the_mark, first}
 use Rattle.vs_syntax.specs.Grammar.{a_stmt}

@@ -3,7 +3,6 @@ use denote.Enum.Bare.{same_true}
 use Rattle.vs_lexer.specs.contracts.token.Mark.{the_type}
 use Rattle.vs_syntax.specs.Symbols.{a_mark}
 use Rattle.vs_parser.proofs.Tokens.{seen_is}
-use Rattle.vs_lexer.specs.declared.token.Kind.TheVariants as k
 use Rattle.vs_syntax.specs.Symbols.{symbol_of}
 use Rattle.vs_parser.proofs.token.mark_at.Goals as goal
 

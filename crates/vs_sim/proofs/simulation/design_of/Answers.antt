@@ -1,9 +1,8 @@
-use Rattle.std.proofs.Common.{◌≡◌, subst, List}
+use Rattle.std.proofs.Common.{subst}
 use Rattle.std.proofs.lemmas.Result.{err_from_is_err_and}
 use Rattle.vs_lexer.specs.Tokens.{lexemes}
 use Rattle.vs_syntax.specs.Symbols.{symbols}
 use Rattle.vs_syntax.specs.Derives.{Derives}
-use Rattle.vs_sim.specs.Honesty.{Reads, Defines, ElaboratesToNone}
 use Rattle.vs_sim.proofs.simulation.design_of.Goals as goal
 
 pub returns-in_err-design : goal.returns-in_err-design

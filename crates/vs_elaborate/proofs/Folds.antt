@@ -1,0 +1,45 @@
+-- Tests over lists, an element at a time.
+use Rattle.std.proofs.Common.{◌≡◌, ℕ, ◌+◌, ◌<◌, Bool, true, false, ◌||◌, ◌&&◌, List, [], ◌∷◌, ◌++◌, length, map, take, get_or, refl, ap, sym, ◌∙◌}
+use Rattle.std.specs.List.{list_any, list_all, flat_map}
+use Rattle.std.proofs.lemmas.List.{take_more, append-nil}
+use Rattle.std.proofs.lemmas.List.Concat.{flat_map-append}
+use Rattle.std.proofs.lemmas.List.Folds.{list_any-append, list_any-from_Any}
+
+pub any_of_map : {A : Type 0} (p : A → Bool) (xs : List A) → list_any (λ b. b) (map p xs) ≡ list_any p xs
+any_of_map p [] = refl
+any_of_map p (x ∷ xs) = ap (λ b. p x || b) (any_of_map p xs)
+
+pub all_of_map : {A : Type 0} (p : A → Bool) (xs : List A) → list_all (λ b. b) (map p xs) ≡ list_all p xs
+all_of_map p [] = refl
+all_of_map p (x ∷ xs) = ap (λ b. p x && b) (all_of_map p xs)
+
+pub both_false : (a b : Bool) → a ≡ false → b ≡ false → (a || b) ≡ false
+both_false a b h k = rw (h, k) refl
+
+pub both_true : (a b : Bool) → a ≡ true → b ≡ true → (a && b) ≡ true
+both_true a b h k = rw (h, k) refl
+
+pub left_true : (a b : Bool) → a ≡ true → (a || b) ≡ true
+left_true a b h = rw h refl
+
+pub right_true : (a b : Bool) → b ≡ true → (a || b) ≡ true
+right_true true b h = refl
+right_true false b h = h
+
+pub one_true : (b : Bool) → (b || false) ≡ true → b ≡ true
+one_true true h = refl
+one_true false h = h
+
+pub any_push : {A : Type 0} (p : A → Bool) (xs : List A) (x : A) → list_any p xs ≡ false → p x ≡ false → list_any p (xs ++ x ∷ []) ≡ false
+any_push p xs x h k = list_any-append p xs (x ∷ []) ∙ both_false _ _ h (both_false _ _ k refl)
+
+-- a test that one element passes
+pub any_at : {A : Type 0} (p : A → Bool) (xs : List A) (i : ℕ) (x : A) → i < length xs → x ≡ get_or xs i x → p x ≡ true → list_any p xs ≡ true
+any_at p xs i x h k f = list_any-from_Any p xs (i, x, h, sym k, f)
+
+-- one more element
+pub take_push : {A : Type 0} (xs : List A) (i : ℕ) (x : A) → i < length xs → x ≡ get_or xs i x → take (i + 1) xs ≡ take i xs ++ x ∷ []
+take_push xs i x h k = take_more xs i x h ∙ ap (λ z. take i xs ++ z ∷ []) (sym k)
+
+pub flat_more : {A B : Type 0} (f : A → List B) (xs : List A) (i : ℕ) (x : A) → i < length xs → x ≡ get_or xs i x → flat_map f (take (i + 1) xs) ≡ flat_map f (take i xs) ++ f x
+flat_more f xs i x h k = ap (flat_map f) (take_push xs i x h k) ∙ flat_map-append f (take i xs) (x ∷ []) ∙ ap (λ l. flat_map f (take i xs) ++ l) (append-nil (f x))
