@@ -36,6 +36,7 @@ pub enum Typed {
     Signal(Operand),
     /// `~` and its operand (IEEE 1364-2005, clause 5.1.10).
     Not(Box<Typed>),
-    /// A bitwise operator and its two operands.
-    Bitwise(Operator, Box<Typed>, Box<Typed>),
+    /// Operands with one bitwise operator between them, from left to right: the first one, and the others. A list, so that an expression of a
+    /// source is no deeper than its text is nested.
+    Bitwise(Operator, Box<Typed>, Vec<Typed>),
 }

@@ -18,7 +18,7 @@ use Rattle.vs_design.specs.declared.design.Entry.TheVariants.{Enter, Leave}
 use Rattle.vs_elaborate.specs.declared.expressions.Meaning.{Meaning}
 use Rattle.vs_elaborate.specs.Names.{meaning_of, place_of}
 use Rattle.vs_elaborate.specs.Environment.{Environment}
-use Rattle.vs_elaborate.specs.Expressions.{IsTyped, is_number, is_name, is_group, is_not, is_chain, IsChain, is_first, is_more}
+use Rattle.vs_elaborate.specs.Expressions.{IsTyped, is_number, is_name, is_group, is_not, is_chain, IsChain, is_operands, AreTyped, typed_none, typed_more}
 use Rattle.vs_elaborate.specs.Statements.{IsAssignment, IsStatement, is_null, is_assign, is_later, is_block, is_delay, AreStatements, are_none, are_more}
 use Rattle.vs_elaborate.specs.Resolved.{placed}
 use Rattle.vs_elaborate.specs.Scopes.{Scope, DeclaredName, Behavior, meaning_as, meanings, names_in, declarations_of, names_of, environment, named, IsNamed, IsNamedIn}
@@ -37,8 +37,11 @@ module _ {N M : ℕ → List ℕ → Type 0} (f : (i : ℕ) (n : List ℕ) → N
     typed_means w g _ _ (is_chain op xs y h) = is_chain op xs y (chain_means w g _ _ _ h)
 
     chain_means : (w : ℕ) (g : Bool) (op : Operator) (xs : List Expr) (y : Typed) → IsChain N w g op xs y → IsChain M w g op xs y
-    chain_means w g _ _ _ (is_first op x y h) = is_first op x y (typed_means w g _ _ h)
-    chain_means w g _ _ _ (is_more op xs x l r h k) = is_more op xs x l r (chain_means w g _ _ _ h) (typed_means w g _ _ k)
+    chain_means w g _ _ _ (is_operands op x xs y ys h k) = is_operands op x xs y ys (typed_means w g _ _ h) (operands_mean w g _ _ k)
+
+    operands_mean : (w : ℕ) (g : Bool) (xs : List Expr) (ys : List Typed) → AreTyped N w g xs ys → AreTyped M w g xs ys
+    operands_mean w g _ _ typed_none = typed_none
+    operands_mean w g _ _ (typed_more x y xs ys h k) = typed_more x y xs ys (typed_means w g x y h) (operands_mean w g xs ys k)
 
   pub assignment_means : (env : Environment) (n : List ℕ) (e : Expr) (t : Target) (x : Typed) → IsAssignment N env n e t x → IsAssignment M env n e t x
   assignment_means env n e t x h = record { signal = f _ _ h.signal; width = h.width; source = typed_means _ _ e x h.source }

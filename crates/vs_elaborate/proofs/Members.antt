@@ -28,13 +28,13 @@ use Rattle.vs_elaborate.specs.declared.frames.Work.{Work}
 use Rattle.vs_elaborate.specs.Names.{meaning_of}
 use Rattle.vs_elaborate.specs.Environment.{Environment, is_net_meaning, is_net}
 use Rattle.vs_elaborate.specs.Expressions.{is_unknown_in}
-use Rattle.vs_elaborate.specs.Printed.{printed, printed_name}
+use Rattle.vs_elaborate.specs.Printed.{printed_name}
 use Rattle.vs_elaborate.specs.Statements.{is_wrong_kind}
 use Rattle.vs_elaborate.specs.Scopes.{Scope, DeclaredName, Assignment, Behavior, meaning_as, meanings, names_in, targets_in, declarations_of, names_of, drivers_of, behaviors_of, named}
 use Rattle.vs_elaborate.specs.Processes.{behavior_fault, driver_fault}
 use Rattle.vs_elaborate.specs.Faults.{Repeated}
 use Rattle.vs_elaborate.specs.DesignOf.{declared, signal_of, Numbered, numbered_as, numbered}
-use Rattle.vs_elaborate.specs.Frames.{declaration, declarations, assigned_of, assignments, behavior, behaviors, IsFaultAt, IsRefusal, FaultsProcesses, FaultsDriver, FaultsDrivers, FaultsAdding, FaultsDeclaring, AddsSignal, AddsSignals, IsDriver, MeansDriver, MeansDrivers, declares_from, Outlines, OpensOutline}
+use Rattle.vs_elaborate.specs.Frames.{declaration, declarations, assigned_of, assignments, behavior, behaviors, IsRefusal, FaultsProcesses, FaultsDriver, FaultsMarking, FaultsDrivers, FaultsAdding, FaultsDeclaring, AddsSignal, AddsSignals, IsDriver, MeansDriver, MeansDrivers, declares_from, Outlines, OpensOutline}
 use Rattle.vs_elaborate.specs.Resolved.{FaultsProcess, FaultsAssignment}
 use Rattle.vs_elaborate.proofs.Folds.{any_push, any_at, one_true, take_push}
 
@@ -260,15 +260,19 @@ pub driven_is_net : (env : Environment) (a : Assignment) → ((r : Reason) → d
 driven_is_net env a h = net_of (is_unknown_in env a.value) (meaning_of env a.target) (h (Width Unknown)) (h (Width WrongKind))
 
 -- why the assignments of a scope were refused, where a net is driven already
-pub twice_driven : (base : ℕ) (env : Environment) (s : Scope) (xs : List Assigned) (i : ℕ) (d : Assigned) (driven : List (List ℕ × Unit {0})) (ps : List Assign) (e : ElabFault) → assignments xs ≡ drivers_of s → i < length xs → d ≡ get_or xs i d → Driving base env s xs i driven ps → ((r : Reason) → driver_fault r env (assigned_of d) ≡ false) → IsSome (meaning_of driven (assigned_of d).target) → IsFaultAt DrivenTwice (printed (named s (assigned_of d).target)) e → FaultsDrivers s env e
-twice_driven base env s xs i d driven ps Memory b h y g f m k = tt
-twice_driven base env s xs i d driven ps (At q p) b h y g f m k =
+pub twice_driven : (base : ℕ) (env : Environment) (s : Scope) (xs : List Assigned) (i : ℕ) (d : Assigned) (driven : List (List ℕ × Unit {0})) (ps : List Assign) (e : ElabFault) → assignments xs ≡ drivers_of s → i < length xs → d ≡ get_or xs i d → Driving base env s xs i driven ps → ((r : Reason) → driver_fault r env (assigned_of d) ≡ false) → FaultsMarking s (assigned_of d).target driven e → FaultsDrivers s env e
+twice_driven base env s xs i d driven ps Memory b h y g f m = tt
+twice_driven base env s xs i d driven ps (At DrivenTwice p) b h y g f m =
     let a = assigned_of d in
     let front : keys_of driven ≡ take i (targets_in (assignments xs)) = ap keys_of g.names ∙ keys_of-marked (targets_in (assignments (take i xs))) ∙ ap targets_in (map-take assigned_of i xs) ∙ map-take (λ (z : Assignment). z.target) i (assignments xs) in
     let stands : slice_get (assignments xs) i ≡ Some a = slice_get-map assigned_of xs i ∙ ap (option_map assigned_of) (slice_get-get_or xs i d h ∙ ap Some (sym y)) in
     let second : slice_get (targets_in (assignments xs)) i ≡ Some a.target = slice_get-map (λ (z : Assignment). z.target) (assignments xs) i ∙ ap (option_map (λ (z : Assignment). z.target)) stands in
     let P : List Assignment → Type 0 = λ z. Repeated (targets_in z) a.target in
-    inr (k.0, record { name = a.target; net = driven_is_net env a f; repeated = subst P b (repeated_at (targets_in (assignments xs)) driven i a.target front second m); path = k.1 })
+    inr (refl, record { name = a.target; net = driven_is_net env a f; repeated = subst P b (repeated_at (targets_in (assignments xs)) driven i a.target front second m.0); path = m.1 })
+twice_driven base env s xs i d driven ps (At NoModule p) b h y g f m = absurd m
+twice_driven base env s xs i d driven ps (At DeclaredTwice p) b h y g f m = absurd m
+twice_driven base env s xs i d driven ps (At Limit p) b h y g f m = absurd m
+twice_driven base env s xs i d driven ps (At (Width w) p) b h y g f m = absurd m
 
 -- the same of an element that is read by its place
 pub declare_faults_at : (s : Scope) (xs : List Declaration) (i : ℕ) (d : Declaration) (env : Environment) (old now : List Signal) (e : ElabFault) → declarations xs ≡ declarations_of s → i < length xs → env ≡ meanings (declarations (take i xs)) → length now ≡ length old + i → FaultsAdding s (declaration (get_or xs i d)) env now e → FaultsDeclaring s old e

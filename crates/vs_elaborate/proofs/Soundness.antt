@@ -45,7 +45,7 @@ use Rattle.vs_elaborate.specs.declared.faults.WidthReason.TheVariants.{WrongKind
 use Rattle.vs_elaborate.specs.Names.{meaning_of, place_of}
 use Rattle.vs_elaborate.specs.Environment.{Environment}
 use Rattle.vs_elaborate.specs.Printed.{Path, is_simple, printed_name, printed}
-use Rattle.vs_elaborate.specs.Expressions.{width_of, IsTyped, is_number, is_name, is_group, is_not, is_chain, IsChain, is_first, is_more}
+use Rattle.vs_elaborate.specs.Expressions.{width_of, IsTyped, is_number, is_name, is_group, is_not, is_chain, IsChain, is_operands, AreTyped, typed_none, typed_more}
 use Rattle.vs_elaborate.specs.Statements.{IsAssignment, IsStatement, is_null, is_assign, is_later, is_block, is_delay, AreStatements, are_none, are_more, takes, is_wrong_kind, assign_fault, delay_fault, has_fault}
 use Rattle.vs_elaborate.specs.Resolved.{placed}
 use Rattle.vs_elaborate.specs.Scopes.{Scope, DeclaredName, Assignment, Behavior, meaning_as, meanings, names_in, targets_in, declarations_of, names_of, environment, named}
@@ -67,8 +67,9 @@ within_Signal ss o = ap (is_within ss) (sym (rolls-Signal o)) ∙ fold-roll-Type
 within_Not : (ss : List Signal) (x : Box Typed Global) → is_within ss (t.Not x) ≡ is_within ss x.value
 within_Not ss x = ap (is_within ss) (sym (rolls-Not x)) ∙ fold-roll-Typed Bool (within_step ss) (y.Not x)
 
-within_Bitwise : (ss : List Signal) (op : Operator) (a b : Box Typed Global) → is_within ss (t.Bitwise op a b) ≡ (is_within ss a.value && is_within ss b.value)
-within_Bitwise ss op a b = ap (is_within ss) (sym (rolls-Bitwise op a b)) ∙ fold-roll-Typed Bool (within_step ss) (y.Bitwise op a b)
+within_Bitwise : (ss : List Signal) (op : Operator) (x : Box Typed Global) (xs : Vec Typed Global) → is_within ss (t.Bitwise op x xs) ≡ (is_within ss x.value && list_all (is_within ss) xs.items)
+within_Bitwise ss op x xs =
+    ap (is_within ss) (sym (rolls-Bitwise op x xs)) ∙ fold-roll-Typed Bool (within_step ss) (y.Bitwise op x xs) ∙ ap (λ b. is_within ss x.value && b) (all_of_map (is_within ss) xs.items)
 
 sound_Null : (ss : List Signal) → is_sound_statement ss d.Null ≡ true
 sound_Null ss = ap (is_sound_statement ss) (sym rolls-Null) ∙ fold-roll-Statement Bool (sound_step ss) f.Null
@@ -126,8 +127,11 @@ module _ {N : ℕ → List ℕ → Type 0} (ss : List Signal) (env : Environment
     within_sound w g _ _ (is_chain op xs y h) = chain_sound w g _ _ _ h
 
     chain_sound : (w : ℕ) (g : Bool) (op : Operator) (xs : List Expr) (y : Typed) → IsChain N w g op xs y → is_within ss y ≡ true
-    chain_sound w g _ _ _ (is_first op x y h) = within_sound w g _ _ h
-    chain_sound w g _ _ _ (is_more op xs x l r h k) = within_Bitwise ss op l r ∙ both_true _ _ (chain_sound w g _ _ _ h) (within_sound w g _ _ k)
+    chain_sound w g _ _ _ (is_operands op x xs y ys h k) = within_Bitwise ss op y ys ∙ both_true _ _ (within_sound w g _ _ h) (operands_sound w g _ _ k)
+
+    operands_sound : (w : ℕ) (g : Bool) (xs : List Expr) (ys : List Typed) → AreTyped N w g xs ys → list_all (is_within ss) ys ≡ true
+    operands_sound w g _ _ typed_none = refl
+    operands_sound w g _ _ (typed_more x y xs ys h k) = both_true _ _ (within_sound w g x y h) (operands_sound w g xs ys k)
 
   target_sound : (n : List ℕ) (e : Expr) (t : Target) (x : Typed) → assign_fault (Width WrongKind) Procedural env n e ≡ false → IsAssignment N env n e t x → (is_target ss t && is_within ss x) ≡ true
   target_sound n e t x k h =

@@ -1,9 +1,9 @@
 -- Expressions at a size and a sign, by their form.
-use Rattle.std.proofs.Common.{◌≡◌, ℕ, ◌+◌, ◌<◌, ◌≤◌, true, false, List, [], ◌∷◌, ◌++◌, Option, Some, None, option_map, is_none, is_some, IsSome, length, map, take, get_or, refl, ap, sym, subst, ◌∙◌}
+use Rattle.std.proofs.Common.{◌≡◌, ℕ, ◌+◌, ◌<◌, ◌≤◌, Bool, true, false, List, [], ◌∷◌, ◌++◌, Option, Some, None, option_map, is_none, is_some, IsSome, length, map, take, get_or, refl, ap, sym, subst, ◌∙◌}
 use Rattle.std.specs.declared.vec.Vec.{Vec}
 use Rattle.std.specs.declared.boxed.Box.{Box}
 use Rattle.std.specs.declared.alloc.Global.{Global}
-use Rattle.std.proofs.lemmas.List.{take_all, map-append}
+use Rattle.std.proofs.lemmas.List.{take_all}
 use Rattle.vs_logic4.specs.declared.digit.Digit.{Digit}
 use Rattle.vs_logic4.specs.Vectors.{resized}
 use Rattle.vs_lexer.specs.declared.token.Literal.{Literal}
@@ -20,10 +20,10 @@ use Rattle.vs_elaborate.specs.declared.expressions.Shape.{Shape}
 use Rattle.vs_elaborate.specs.declared.expressions.Meaning.{Meaning}
 use Rattle.vs_elaborate.specs.Names.{meaning_of, place_of}
 use Rattle.vs_elaborate.specs.Environment.{Environment}
-use Rattle.vs_elaborate.specs.Expressions.{lacks_meaning, is_unknown_in, operator_of, IsTyped, is_number, is_name, is_group, is_not, is_chain, IsChain, is_first, is_more}
-use Rattle.vs_elaborate.specs.Resolved.{placed, Joins, MeansExpression, FaultsExpression, MeansChain, FaultsChain}
-use Rattle.vs_elaborate.proofs.Folds.{both_false, take_push}
-use Rattle.vs_elaborate.proofs.Sizes.{unknown_Number, unknown_Name, unknown_Group, unknown_Not, unknown_Chain, lacks_push, operand_unknown}
+use Rattle.vs_elaborate.specs.Expressions.{lacks_meaning, is_unknown_in, operator_of, IsTyped, is_number, is_name, is_group, is_not, is_chain, IsChain, is_operands, AreTyped, typed_none, typed_more}
+use Rattle.vs_elaborate.specs.Resolved.{placed, MeansExpression, FaultsExpression, MeansChain, FaultsChain, MeansOperands, FaultsOperands}
+use Rattle.vs_elaborate.proofs.Folds.{any_of_map, both_false, left_true, right_true, any_push, any_at, take_push}
+use Rattle.vs_elaborate.proofs.Sizes.{unknown_Number, unknown_Name, unknown_Group, unknown_Not, unknown_Chain}
 
 pub found_some : (env : Environment) (n : List ℕ) (m : Meaning) → meaning_of env n ≡ Some m → IsSome (meaning_of env n)
 found_some env n m h = ap is_some h
@@ -63,38 +63,41 @@ pub faults_Chain : (env : Environment) (op : Bitwise) (xs : Vec Expr Global) (ys
 faults_Chain env op xs ys Memory h k = tt
 faults_Chain env op xs ys (Refused r) h k = (k.0, unknown_Chain env op xs ∙ ap (λ l. lacks_meaning (map (is_unknown_in env) l)) (sym h) ∙ k.1)
 
--- operands so far
-abbrev pub Joined : ℕ → Environment → Shape → Bitwise → List Expr → Option Typed → Type 0
-Joined base env s op xs None = xs ≡ []
-Joined base env s op xs (Some y) = MeansChain base env s op xs y
+-- a chain, from its first operand and the others
+pub means_operands : (base : ℕ) (env : Environment) (s : Shape) (op : Bitwise) (o : Operator) (xs : List Expr) (x : Expr) (rest : List Expr) (y : Typed) (b : Box Typed Global) (ys : Vec Typed Global) → xs ≡ x ∷ rest → o ≡ operator_of op → b.value ≡ y → MeansExpression base env s x y → MeansOperands base env s rest ys.items → MeansChain base env s op xs (t.Bitwise o b ys)
+means_operands base env s op o xs x rest y b ys e f g h k =
+    let X : List Expr → Type 0 = λ l. MeansChain base env s op l (t.Bitwise o b ys) in
+    let O : Operator → Type 0 = λ z. MeansChain base env s op (x ∷ rest) (t.Bitwise z b ys) in
+    let Y : Typed → Type 0 = λ z. IsTyped (placed base env) s.width s.signed x z in
+    let known : lacks_meaning (map (is_unknown_in env) (x ∷ rest)) ≡ false = both_false _ _ h.known (any_of_map (is_unknown_in env) rest ∙ k.known) in
+    let one : MeansChain base env s op (x ∷ rest) (t.Bitwise (operator_of op) b ys) =
+    record { known = known; typed = is_operands _ x rest b ys (subst Y (sym g) h.typed) k.typed } in
+    subst X (sym e) (subst O (sym f) one)
 
-joined_push : (base : ℕ) (env : Environment) (s : Shape) (op : Bitwise) (xs : List Expr) (x : Expr) (left : Option Typed) (right all : Typed) → Joined base env s op xs left → MeansExpression base env s x right → Joins (operator_of op) left right all → MeansChain base env s op (xs ++ x ∷ []) all
-joined_push base env s op xs x None right all h k j =
-    let P : List Expr → Type 0 = λ l. MeansChain base env s op (l ++ x ∷ []) all in
-    let Q : Typed → Type 0 = λ z. MeansChain base env s op (x ∷ []) z in
-    let one : MeansChain base env s op (x ∷ []) right = record { known = both_false _ _ k.known refl; typed = is_first _ x right k.typed } in
-    subst P (sym h) (subst Q (sym j) one)
-joined_push base env s op xs x (Some l) right all h k j =
-    let Q : Typed → Type 0 = λ z. MeansChain base env s op (xs ++ x ∷ []) z in
-    let L : Typed → Type 0 = λ z. IsChain (placed base env) s.width s.signed (operator_of op) xs z in
-    let R : Typed → Type 0 = λ z. IsTyped (placed base env) s.width s.signed x z in
-    let known : lacks_meaning (map (is_unknown_in env) (xs ++ x ∷ [])) ≡ false = ap lacks_meaning (map-append (is_unknown_in env) xs (x ∷ [])) ∙ lacks_push (map (is_unknown_in env) xs) (is_unknown_in env x) h.known k.known in
-    let more : MeansChain base env s op (xs ++ x ∷ []) (t.Bitwise (operator_of op) j.0 j.1) =
-    record { known = known; typed = is_more _ xs x j.0 j.1 (subst L (sym j.3) h.typed) (subst R (sym j.4) k.typed) } in
-    subst Q (sym j.2) more
+-- why a chain is refused: one of the others
+pub others_fault : (env : Environment) (xs : List Expr) (x : Expr) (rest : List Expr) (r : BodyFault) → xs ≡ x ∷ rest → FaultsOperands env rest r → FaultsChain env xs r
+others_fault env xs x rest Memory e f = tt
+others_fault env xs x rest (Refused r) e f =
+    (f.0, ap (λ l. lacks_meaning (map (is_unknown_in env) l)) e ∙ right_true (is_unknown_in env x) _ (any_of_map (is_unknown_in env) rest ∙ f.1))
+
+-- one more operand
+typed_push : {N : ℕ → List ℕ → Type 0} {w : ℕ} {g : Bool} (xs : List Expr) (ys : List Typed) (x : Expr) (y : Typed) → AreTyped N w g xs ys → IsTyped N w g x y → AreTyped N w g (xs ++ x ∷ []) (ys ++ y ∷ [])
+typed_push xs ys x y typed_none h = typed_more x y [] [] h typed_none
+typed_push _ _ x y (typed_more a b us vs f fs) h = typed_more a b _ _ f (typed_push us vs x y fs h)
 
 -- a loop's step over operands
-pub joined_more : (base : ℕ) (env : Environment) (s : Shape) (op : Bitwise) (o : Operator) (xs : List Expr) (i : ℕ) (x : Expr) (left : Option Typed) (right all : Typed) → i < length xs → x ≡ get_or xs i x → o ≡ operator_of op → Joined base env s op (take i xs) left → MeansExpression base env s x right → Joins o left right all → Joined base env s op (take (i + 1) xs) (Some all)
-joined_more base env s op o xs i x left right all h k e f m j =
-    let P : List Expr → Type 0 = λ l. MeansChain base env s op l all in
-    subst P (sym (take_push xs i x h k)) (joined_push base env s op (take i xs) x left right all f m (subst (λ z. Joins z left right all) e j))
+pub operands_more : (base : ℕ) (env : Environment) (s : Shape) (xs : List Expr) (i : ℕ) (x : Expr) (ys zs : List Typed) (y : Typed) → i < length xs → x ≡ get_or xs i x → zs ≡ ys ++ y ∷ [] → MeansOperands base env s (take i xs) ys → MeansExpression base env s x y → MeansOperands base env s (take (i + 1) xs) zs
+operands_more base env s xs i x ys zs y h k e m q =
+    let P : List Expr → Type 0 = λ l. MeansOperands base env s l zs in
+    let Q : List Typed → Type 0 = λ l. MeansOperands base env s (take i xs ++ x ∷ []) l in
+    let more : MeansOperands base env s (take i xs ++ x ∷ []) (ys ++ y ∷ []) =
+    record { known = any_push (is_unknown_in env) (take i xs) x m.known q.known; typed = typed_push (take i xs) ys x y m.typed q.typed } in
+    subst P (sym (take_push xs i x h k)) (subst Q (sym e) more)
 
-pub operand_faults : (env : Environment) (xs : List Expr) (i : ℕ) (x : Expr) (r : BodyFault) → i < length xs → x ≡ get_or xs i x → FaultsExpression env x r → FaultsChain env xs r
+-- and its end
+pub operands_all : (base : ℕ) (env : Environment) (s : Shape) (xs : List Expr) (i : ℕ) (ys : List Typed) → length xs ≤ i → MeansOperands base env s (take i xs) ys → MeansOperands base env s xs ys
+operands_all base env s xs i ys h m = let P : List Expr → Type 0 = λ l. MeansOperands base env s l ys in subst P (take_all i xs h) m
+
+pub operand_faults : (env : Environment) (xs : List Expr) (i : ℕ) (x : Expr) (r : BodyFault) → i < length xs → x ≡ get_or xs i x → FaultsExpression env x r → FaultsOperands env xs r
 operand_faults env xs i x Memory h k f = tt
-operand_faults env xs i x (Refused r) h k f = (f.0, operand_unknown env xs i x h k f.1)
-
-pub joined_all : (base : ℕ) (env : Environment) (s : Shape) (op : Bitwise) (xs : List Expr) (i : ℕ) (all : Typed) → length xs ≤ i → MeansChain base env s op (take i xs) all → MeansChain base env s op xs all
-joined_all base env s op xs i all h f = let P : List Expr → Type 0 = λ l. MeansChain base env s op l all in subst P (take_all i xs h) f
-
-pub joined_none : (env : Environment) (xs : List Expr) (i : ℕ) → length xs ≤ i → take i xs ≡ [] → lacks_meaning (map (is_unknown_in env) xs) ≡ true
-joined_none env xs i h f = ap (λ l. lacks_meaning (map (is_unknown_in env) l)) (sym (take_all i xs h) ∙ f)
+operand_faults env xs i x (Refused r) h k f = (f.0, any_at (is_unknown_in env) xs i x h k f.1)

@@ -94,11 +94,14 @@ mutual
     is_not : (x : Box Expr Global) (y : Box Typed Global) → IsTyped N width signed x.value y.value → IsTyped N width signed (e.Not x) (t.Not y)
     is_chain : (op : Bitwise) (xs : Vec Expr Global) (y : Typed) → IsChain N width signed (operator_of op) xs.items y → IsTyped N width signed (e.Chain op xs) y
 
-  -- operands with one operator between them, from left to right: the operator of all but the last one and of the last one
-  -- (clauses 5.1.2 and 5.1.10)
+  -- operands with one operator between them: the first one, and the others from left to right (clauses 5.1.2 and 5.1.10)
   pub data IsChain (N : ℕ → List ℕ → Type 0) (width : ℕ) (signed : Bool) : Operator → List Expr → Typed → Type 0 where
-    is_first : (op : Operator) (x : Expr) (y : Typed) → IsTyped N width signed x y → IsChain N width signed op (x ∷ []) y
-    is_more : (op : Operator) (xs : List Expr) (x : Expr) (left right : Box Typed Global) → IsChain N width signed op xs left.value → IsTyped N width signed x right.value → IsChain N width signed op (xs ++ x ∷ []) (t.Bitwise op left right)
+    is_operands : (op : Operator) (x : Expr) (xs : List Expr) (y : Box Typed Global) (ys : Vec Typed Global) → IsTyped N width signed x y.value → AreTyped N width signed xs ys.items → IsChain N width signed op (x ∷ xs) (t.Bitwise op y ys)
+
+  -- the same of expressions one after another: as many, each of them in its place
+  pub data AreTyped (N : ℕ → List ℕ → Type 0) (width : ℕ) (signed : Bool) : List Expr → List Typed → Type 0 where
+    typed_none : AreTyped N width signed [] []
+    typed_more : (x : Expr) (y : Typed) (xs : List Expr) (ys : List Typed) → IsTyped N width signed x y → AreTyped N width signed xs ys → AreTyped N width signed (x ∷ xs) (y ∷ ys)
 
 -- the size at which an assignment evaluates its right side: that of the larger side (clause 5.4.1)
 abbrev pub context : Environment → List ℕ → Expr → ℕ

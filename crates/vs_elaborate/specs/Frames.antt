@@ -158,6 +158,12 @@ abbrev pub FaultsDriver : Scope → Environment → Assignment → ElabFault →
 FaultsDriver s env a Memory = Unit {0}
 FaultsDriver s env a (At r p) = (driver_fault r env a ≡ true) × (p.items ≡ printed s.path)
 
+-- why a net was not marked as driven: it is already
+abbrev pub FaultsMarking : Scope → List ℕ → List (List ℕ × Unit {0}) → ElabFault → Type 0
+FaultsMarking s n driven Memory = Unit {0}
+FaultsMarking s n driven (At DrivenTwice p) = IsSome (meaning_of driven n) × (p.items ≡ printed (named s n))
+FaultsMarking s n driven (At _ p) = ⊥
+
 -- what the continuous assignments of a scope are
 pub record MeansDrivers (base : ℕ) (env : Environment) (s : Scope) (xs : List Assign) : Type 0 where
   pub sound : AreSoundDrivers env (drivers_of s)

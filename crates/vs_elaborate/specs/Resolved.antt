@@ -1,14 +1,10 @@
 -- What the functions on expressions and statements answer.
 use Rattle.std.specs.Prelude.{◌≡◌, ℕ, ◌+◌, ◌<◌, ◌≤◌, ◌&&◌, Bool, true, false, List, Option, Some, None, IsSome, All, length, map, max}
 use Rattle.std.specs.List.{list_any}
-use Rattle.std.specs.declared.boxed.Box.{Box}
-use Rattle.std.specs.declared.alloc.Global.{Global}
 use Rattle.vs_syntax.specs.declared.tree.Bitwise.{Bitwise}
 use Rattle.vs_syntax.specs.declared.tree.Expr.{Expr}
 use Rattle.vs_syntax.specs.declared.tree.Stmt.{Stmt}
-use Rattle.vs_design.specs.declared.expression.Operator.{Operator}
 use Rattle.vs_design.specs.declared.expression.Typed.{Typed}
-use Rattle.vs_design.specs.declared.expression.Typed.TheVariants as t
 use Rattle.vs_design.specs.declared.statement.Target.{Target}
 use Rattle.vs_elaborate.specs.declared.expressions.Shape.{Shape}
 use Rattle.vs_elaborate.specs.declared.assignments.AssignmentKind.{AssignmentKind}
@@ -19,7 +15,7 @@ use Rattle.vs_elaborate.specs.declared.faults.BodyFault.{BodyFault}
 use Rattle.vs_elaborate.specs.declared.faults.BodyFault.TheVariants.{Memory, Refused}
 use Rattle.vs_elaborate.specs.Names.{meaning_of, place_of}
 use Rattle.vs_elaborate.specs.Environment.{Environment, shape_of}
-use Rattle.vs_elaborate.specs.Expressions.{is_unknown_in, lacks_meaning, operator_of, IsTyped, IsChain}
+use Rattle.vs_elaborate.specs.Expressions.{is_unknown_in, lacks_meaning, operator_of, IsTyped, IsChain, AreTyped}
 use Rattle.vs_elaborate.specs.Statements.{IsAssignment, is_wrong_kind, assign_fault, has_fault}
 use Rattle.vs_elaborate.specs.Scopes.{Assignment, Behavior}
 use Rattle.vs_elaborate.specs.Processes.{behavior_fault, driver_fault}
@@ -47,11 +43,6 @@ abbrev pub joined_shape : Option Shape → Shape → Shape
 joined_shape None last = last
 joined_shape (Some before) last = record { width = max before.width last.width; signed = before.signed && last.signed }
 
--- operands and one more, with an operator between them
-abbrev pub Joins : Operator → Option Typed → Typed → Typed → Type 0
-Joins op None right all = all ≡ right
-Joins op (Some left) right all = (x : Box Typed Global) × (y : Box Typed Global) × (all ≡ t.Bitwise op x y) × (x.value ≡ left) × (y.value ≡ right)
-
 -- what an expression is
 pub record MeansExpression (base : ℕ) (env : Environment) (shape : Shape) (e : Expr) (x : Typed) : Type 0 where
   pub known : is_unknown_in env e ≡ false
@@ -71,6 +62,16 @@ pub record MeansChain (base : ℕ) (env : Environment) (shape : Shape) (op : Bit
 abbrev pub FaultsChain : Environment → List Expr → BodyFault → Type 0
 FaultsChain env xs Memory = Unit {0}
 FaultsChain env xs (Refused r) = (r ≡ Width Unknown) × (lacks_meaning (map (is_unknown_in env) xs) ≡ true)
+
+-- what operands one after another are
+pub record MeansOperands (base : ℕ) (env : Environment) (shape : Shape) (xs : List Expr) (ys : List Typed) : Type 0 where
+  pub known : list_any (is_unknown_in env) xs ≡ false
+  pub typed : AreTyped (placed base env) shape.width shape.signed xs ys
+
+-- why they were refused
+abbrev pub FaultsOperands : Environment → List Expr → BodyFault → Type 0
+FaultsOperands env xs Memory = Unit {0}
+FaultsOperands env xs (Refused r) = (r ≡ Width Unknown) × (list_any (is_unknown_in env) xs ≡ true)
 
 -- where the target of an assignment stands, and its size and sign
 pub record FindsTarget (how : AssignmentKind) (env : Environment) (n : List ℕ) (p : ℕ × Shape) : Type 0 where

@@ -40,7 +40,7 @@ abbrev pub within_step : List Signal → Typed-F Bool → Bool
 within_step ss (t.Number v) = true
 within_step ss (t.Signal o) = nat_lt o.signal (length ss)
 within_step ss (t.Not x) = x.value
-within_step ss (t.Bitwise op x y) = x.value && y.value
+within_step ss (t.Bitwise op x xs) = x.value && list_all (λ b. b) xs.items
 
 -- whether the signals of an expression are signals of the design
 abbrev pub is_within : List Signal → Typed → Bool

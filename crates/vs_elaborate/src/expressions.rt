@@ -1,12 +1,12 @@
 //! Expressions with their sizes and signs.
-ghost use Rattle.std.specs.Prelude.{◌≡◌, ◌+◌, ◌<◌, ◌≤◌, ◌^◌, length, map, IfOk, MatchResult};
+ghost use Rattle.std.specs.Prelude.{◌≡◌, ◌+◌, ◌<◌, ◌≤◌, ◌^◌, length, map, MatchResult};
 ghost use Rattle.std.specs.List.{list_all};
 ghost use Rattle.vs_elaborate.specs.Expressions.{size_of, is_signed, is_unknown_in, largest, lacks_meaning, operator_of};
-ghost use Rattle.vs_elaborate.specs.Resolved.{HasShape, HasSize, HasSizes, MeansExpression, FaultsExpression, MeansChain, FaultsChain, Joins, joined_shape};
+ghost use Rattle.vs_elaborate.specs.Resolved.{HasShape, HasSize, HasSizes, MeansExpression, FaultsExpression, MeansChain, FaultsChain, MeansOperands, FaultsOperands, joined_shape};
 
 use crate::faults::{BodyFault, Reason, WidthReason};
 use crate::names::Names;
-use std::alloc::{AllocFailed, Global};
+use std::alloc::Global;
 use vs_design::{Operand, Operator, SignalKind, Typed};
 use vs_syntax::{Bitwise, Expr};
 
@@ -148,32 +148,32 @@ fn typed_chain(
     requires numbers { base + length names.now < 2 ^ 64 }
     ensures { MatchResult result (MeansChain base names.now shape op operands.now) (FaultsChain names.now operands.now) }
 {
-    let mut left = None;
-    for e in operands {
-        let right = typed(alloc, names, base, shape, e)?;
-        left = Some(join(alloc, operator(op), left, right)?);
-    }
-    match left {
-        Some(all) => Ok(all),
-        None => Err(UNKNOWN),
-    }
+    let Some((first, others)) = operands.split_first() else {
+        return Err(UNKNOWN);
+    };
+    let first = typed(alloc, names, base, shape, first)?;
+    let others = typed_operands(alloc, names, base, shape, others)?;
+    Ok(Typed::Bitwise(operator(op), Box::new(alloc, first)?, others))
 }
 
-/// Operands and one more, with an operator between them.
-fn join(
+/// Operands one after another, each at a size and a sign.
+#[cycle(typed)]
+fn typed_operands(
     alloc: Global,
-    op: Operator,
-    left: Option<Typed>,
-    right: Typed,
-) -> Result<Typed, AllocFailed<Typed>>
-    ensures { IfOk result (Joins op left right) }
+    names: &Names<Meaning>,
+    base: usize,
+    shape: Shape,
+    operands: &[Expr],
+) -> Result<Vec<Typed>, BodyFault>
+    requires some { 0 < shape.width }
+    requires most { shape.width ≤ 64 }
+    requires numbers { base + length names.now < 2 ^ 64 }
+    ensures { MatchResult result (λ d. MeansOperands base names.now shape operands.now d.items) (FaultsOperands names.now operands.now) }
 {
-    match left {
-        None => Ok(right),
-        Some(left) => {
-            let left = Box::new(alloc, left)?;
-            let right = Box::new(alloc, right)?;
-            Ok(Typed::Bitwise(op, left, right))
-        }
+    let mut done = Vec::new(alloc);
+    for e in operands {
+        let one = typed(alloc, names, base, shape, e)?;
+        done.push(one)?;
     }
+    Ok(done)
 }

@@ -1,10 +1,10 @@
 //! What a scope declares, as parts of a design.
-ghost use Rattle.std.specs.Prelude.{◌≡◌, ◌+◌, ◌<◌, ◌≤◌, ◌∷◌, ◌^◌, [], length, IfOk, MatchResult};
+ghost use Rattle.std.specs.Prelude.{◌≡◌, ◌+◌, ◌<◌, ◌≤◌, ◌++◌, ◌∷◌, ◌^◌, [], length, IfOk, MatchResult};
 ghost use Rattle.vs_elaborate.specs.Scopes.{behaviors_of};
 ghost use Rattle.vs_elaborate.specs.Resolved.{HasSizes};
 ghost use Rattle.vs_elaborate.specs.Processes.{kind_of};
 ghost use Rattle.vs_elaborate.specs.DesignOf.{declared, signal_of};
-ghost use Rattle.vs_elaborate.specs.Frames.{declaration, assigned_of, behavior, scope_of, AddsSignal, FaultsAdding, AddsSignals, FaultsDeclaring, IsRefusal, MeansProcess, MeansProcesses, FaultsProcesses, MeansDriver, FaultsDriver, MeansDrivers, FaultsDrivers, Outlines};
+ghost use Rattle.vs_elaborate.specs.Frames.{declaration, assigned_of, behavior, scope_of, AddsSignal, FaultsAdding, AddsSignals, FaultsDeclaring, IsRefusal, MeansProcess, MeansProcesses, FaultsProcesses, MeansDriver, FaultsDriver, FaultsMarking, MeansDrivers, FaultsDrivers, Outlines};
 
 use crate::assignments::{AssignmentKind, assignment};
 use crate::expressions::{Meaning, Shape};
@@ -184,6 +184,22 @@ fn assign(
     }
 }
 
+/// Marks a net of a scope as driven, unless it is already.
+fn mark_driven<'s>(
+    alloc: Global,
+    frame: &Frame,
+    net: &'s [u8],
+    driven: &mut Names<'s, ()>,
+) -> Result<(), ElabFault>
+    requires { 0 < length frame.now.path.items }
+    ensures { MatchResult result (λ _. driven.new ≡ driven.old ++ (net.entry.now, tt) ∷ []) (FaultsMarking (scope_of frame.now) net.entry.now driven.old) }
+{
+    if !driven.declare(net, ())? {
+        return Err(member_fault(alloc, frame, net, Reason::DrivenTwice));
+    }
+    Ok(())
+}
+
 /// The continuous assignments of a scope whose signals are numbered from `base` on.
 pub fn assigns(
     alloc: Global,
@@ -201,9 +217,7 @@ pub fn assigns(
     let mut all = Vec::new(alloc);
     for driver in &list {
         let assign = assign(alloc, frame, names, base, all.len(), *driver)?;
-        if !driven.declare(driver.target, ())? {
-            return Err(member_fault(alloc, frame, driver.target, Reason::DrivenTwice));
-        }
+        mark_driven(alloc, frame, driver.target, &mut driven)?;
         all.push(assign)?;
     }
     let _ = driven.len();

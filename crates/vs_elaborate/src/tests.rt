@@ -132,7 +132,7 @@ fn nets_and_their_drivers(rt: HostRuntime) -> Result<(), Fail> {
     assert_eq!(rt; assigns[0].target.signal, 1);
     assert!(rt; assigns[1].name.as_slice() == b"t#a1".as_slice());
     assert_eq!(rt; assigns[1].target.signal, 2);
-    let Typed::Bitwise(operator, left, _) = &assigns[1].source else {
+    let Typed::Bitwise(operator, left, others) = &assigns[1].source else {
         panic!(rt; "no operator");
     };
     assert!(rt; *operator == Operator::Or);
@@ -141,6 +141,8 @@ fn nets_and_their_drivers(rt: HostRuntime) -> Result<(), Fail> {
         panic!(rt; "no operand");
     };
     assert_eq!(rt; operand.width, 32);
+    assert_eq!(rt; others.len(), 1);
+    assert!(rt; matches!(&others[0], Typed::Number(_)));
     let processes = design.processes();
     assert_eq!(rt; processes.len(), 2);
     assert!(rt; processes[0].name.as_slice() == b"t#p0".as_slice());

@@ -23,12 +23,22 @@ bitwise o.And ds es = bitwise_and ds (resized false (length ds) es)
 bitwise o.Xor ds es = bitwise_xor ds (resized false (length ds) es)
 bitwise o.Or ds es = bitwise_or ds (resized false (length ds) es)
 
+-- what an operator gives of operands, from left to right (clause 5.1.2)
+abbrev pub chained : Operator → List Digit → List (List Digit) → List Digit
+chained op first [] = first
+chained op first (v ∷ vs) = chained op (bitwise op first v) vs
+
+-- the elements of lists, one list after another
+abbrev pub joined : List (List ℕ) → List ℕ
+joined [] = []
+joined (xs ∷ xss) = xs ++ joined xss
+
 -- one layer of an expression: its value in a store, with the value of each inner expression in its place
 abbrev pub value_step : Store → Typed-F (List Digit) → List Digit
 value_step store (t.Number digits) = digits
 value_step store (t.Signal o) = operand_value o.signed o.width (word_of store o.signal 0)
 value_step store (t.Not x) = bitwise_not x.value
-value_step store (t.Bitwise op x y) = bitwise op x.value y.value
+value_step store (t.Bitwise op x xs) = chained op x.value xs.items
 
 -- the value of an expression in a store (clause 5)
 abbrev pub value_of : Typed → Store → List Digit
@@ -39,7 +49,7 @@ abbrev pub reads_step : Typed-F (List ℕ) → List ℕ
 reads_step (t.Number digits) = []
 reads_step (t.Signal o) = o.signal ∷ []
 reads_step (t.Not x) = x.value
-reads_step (t.Bitwise op x y) = x.value ++ y.value
+reads_step (t.Bitwise op x xs) = x.value ++ joined xs.items
 
 -- the signals that an expression reads
 abbrev pub reads : Typed → List ℕ

@@ -1,14 +1,16 @@
 //! The values of expressions in a store (IEEE 1364-2005, clause 5).
 #![tactic(auto)]
 
-ghost use Rattle.std.specs.Prelude.{◌≡◌};
-ghost use Rattle.vs_eval.specs.Values.{value_of, target_value, operand_value, bitwise, reads_signal};
+ghost use Rattle.std.specs.Prelude.{◌≡◌, map};
+ghost use Rattle.std.specs.List.{list_any};
+ghost use Rattle.vs_eval.specs.Values.{value_of, target_value, operand_value, bitwise, chained, reads_signal};
 ghost use Rattle.vs_design.specs.Stores.{word_of};
 
 use vs_design::{Operand, Operator, Store, Target, Typed};
 use vs_logic4::Vec4;
 
 /// The value of an expression in a store, at the size and with the sign of its context.
+#[cycle(value)]
 pub fn value(e: &Typed, store: &Store) -> Vec4
     ensures { result ≡ value_of e.now store.now }
 {
@@ -16,15 +18,26 @@ pub fn value(e: &Typed, store: &Store) -> Vec4
         Typed::Number(digits) => *digits,
         Typed::Signal(o) => operand(*o, store),
         Typed::Not(x) => value(x, store).not(),
-        Typed::Bitwise(operator, x, y) => {
-            let left = value(x, store);
-            let right = value(y, store);
-            combined(*operator, left, right)
+        Typed::Bitwise(operator, first, others) => {
+            chain(*operator, value(first, store), others, store)
         }
     }
 }
 
+// What an operator gives of a first value and those of further operands, from left to right.
+#[cycle(value)]
+fn chain(operator: Operator, first: Vec4, others: &[Typed], store: &Store) -> Vec4
+    ensures { result ≡ chained operator first (map (λ e. value_of e store.now) others.now) }
+{
+    let mut all = first;
+    for other in others {
+        all = combined(operator, all, value(other, store));
+    }
+    all
+}
+
 /// Whether an expression reads a signal.
+#[cycle(reads_signal)]
 pub fn reads_signal(e: &Typed, signal: usize) -> bool
     ensures { result ≡ reads_signal e.now signal }
 {
@@ -32,8 +45,23 @@ pub fn reads_signal(e: &Typed, signal: usize) -> bool
         Typed::Number(_) => false,
         Typed::Signal(o) => o.signal == signal,
         Typed::Not(x) => reads_signal(x, signal),
-        Typed::Bitwise(_, x, y) => reads_signal(x, signal) || reads_signal(y, signal),
+        Typed::Bitwise(_, first, others) => {
+            reads_signal(first, signal) || one_reads_signal(others, signal)
+        }
     }
+}
+
+// Whether one of several expressions reads a signal.
+#[cycle(reads_signal)]
+fn one_reads_signal(all: &[Typed], signal: usize) -> bool
+    ensures { result ≡ list_any (λ e. reads_signal e signal) all.now }
+{
+    for e in all {
+        if reads_signal(e, signal) {
+            return true;
+        }
+    }
+    false
 }
 
 // What an operator gives of two operands, of which the second one is brought to the size of the first.

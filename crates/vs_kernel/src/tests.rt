@@ -342,7 +342,7 @@ fn lists_the_readers_of_a_change_at_the_end(rt: HostRuntime) -> Result<(), Fail>
     let both = Typed::Bitwise(
         Operator::Xor,
         Box::new(alloc, value_of(1))?,
-        Box::new(alloc, value_of(0))?,
+        vec![in alloc; value_of(0)]?,
     );
     let inverse = Typed::Not(Box::new(alloc, value_of(0))?);
     let assigns = vec![in alloc;

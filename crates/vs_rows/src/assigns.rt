@@ -1,6 +1,6 @@
 //! Rows with continuous and nonblocking assignments, and with `always`.
 
-use crate::running::{Answer, dump, limited};
+use crate::running::{Answer, dump, limited, repeated, run};
 use std::process::Abort;
 use std::test::Fail;
 
@@ -144,6 +144,18 @@ fn precedence(rt: HostRuntime) -> Result<(), Fail> {
         VARIABLES,
         "#0\n$dumpvars\n1!\n0\"\n$end\n",
     );
+    Ok(())
+}
+
+// Operands of one level are one node, however many.
+#[test]
+fn a_long_chain(rt: HostRuntime) -> Result<(), Fail> {
+    let words = ["vsim", "run", "--top", "t", "--until", "0", "--out", "vcd"];
+    let front = "module t; reg a, b; initial begin a = 0; b = 1 ^ a";
+    let mut source = repeated(rt.alloc(), front, " ^ a", 100000)?;
+    source.extend_from_slice(b"; end endmodule")?;
+    let answer = run(rt.alloc(), words.as_slice(), &source);
+    is_dump(&rt, &answer, VARIABLES, "#0\n$dumpvars\n0!\n1\"\n$end\n");
     Ok(())
 }
 

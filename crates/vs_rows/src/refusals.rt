@@ -1,6 +1,6 @@
 //! Rows that are refused, and faults of the command line.
 
-use crate::running::{Answer, dump, run};
+use crate::running::{Answer, dump, repeated, run};
 use std::process::Abort;
 use std::test::Fail;
 
@@ -153,32 +153,22 @@ fn designs(rt: HostRuntime) -> Result<(), Fail> {
     Ok(())
 }
 
-// A source of this many pieces behind a beginning.
-fn repeated(rt: &HostRuntime, first: &str, piece: &str, count: usize) -> Result<Vec<u8>, Fail> {
-    let mut source = Vec::new(rt.alloc());
-    source.extend_from_slice(first.as_bytes())?;
-    for _ in 0..count {
-        source.extend_from_slice(piece.as_bytes())?;
-    }
-    Ok(source)
-}
-
 #[test]
 fn large_sources(rt: HostRuntime) -> Result<(), Fail> {
     let words = ["vsim", "run", "--top", "t", "--until", "10"];
-    let parentheses = repeated(&rt, "module t; reg a; initial a = ", "(", 100000)?;
+    let parentheses = repeated(rt.alloc(), "module t; reg a; initial a = ", "(", 100000)?;
     is_refused(
         &rt,
         &run(rt.alloc(), words.as_slice(), &parentheses),
         "vsim: P3 at 283\n",
     );
-    let spaces = repeated(&rt, "", " ", 4194305)?;
+    let spaces = repeated(rt.alloc(), "", " ", 4194305)?;
     is_refused(
         &rt,
         &run(rt.alloc(), words.as_slice(), &spaces),
         "vsim: L6 at 4194304\n",
     );
-    let deep = repeated(&rt, "module t; initial ", "#1 ", 255)?;
+    let deep = repeated(rt.alloc(), "module t; initial ", "#1 ", 255)?;
     is_refused(
         &rt,
         &run(rt.alloc(), words.as_slice(), &deep),

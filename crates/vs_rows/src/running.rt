@@ -50,3 +50,18 @@ pub fn limited(alloc: Global, until: &str, steps: &str, source: &str) -> Answer 
     ];
     run(alloc, words.as_slice(), source.as_bytes())
 }
+
+/// A source of this many pieces behind a beginning.
+pub fn repeated(
+    alloc: Global,
+    first: &str,
+    piece: &str,
+    count: usize,
+) -> Result<Vec<u8>, AllocError> {
+    let mut source = Vec::new(alloc);
+    source.extend_from_slice(first.as_bytes())?;
+    for _ in 0..count {
+        source.extend_from_slice(piece.as_bytes())?;
+    }
+    Ok(source)
+}
