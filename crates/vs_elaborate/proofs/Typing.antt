@@ -1,5 +1,5 @@
 -- Expressions at a size and a sign, by their form.
-use Rattle.std.proofs.Common.{◌≡◌, ℕ, ◌+◌, ◌<◌, ◌≤◌, Bool, true, false, List, [], ◌∷◌, ◌++◌, Option, Some, None, option_map, is_none, is_some, IsSome, length, map, take, get_or, refl, ap, sym, subst, ◌∙◌}
+use Rattle.std.proofs.Common.{◌≡◌, ℕ, ◌+◌, ◌<◌, ◌≤◌, Bool, false, List, [], ◌∷◌, ◌++◌, Some, option_map, is_none, is_some, IsSome, length, map, take, get_or, ap, sym, subst, ◌∙◌}
 use Rattle.std.specs.declared.vec.Vec.{Vec}
 use Rattle.std.specs.declared.boxed.Box.{Box}
 use Rattle.std.specs.declared.alloc.Global.{Global}
@@ -20,9 +20,9 @@ use Rattle.vs_elaborate.specs.declared.expressions.Shape.{Shape}
 use Rattle.vs_elaborate.specs.declared.expressions.Meaning.{Meaning}
 use Rattle.vs_elaborate.specs.Names.{meaning_of, place_of}
 use Rattle.vs_elaborate.specs.Environment.{Environment}
-use Rattle.vs_elaborate.specs.Expressions.{lacks_meaning, is_unknown_in, operator_of, IsTyped, is_number, is_name, is_group, is_not, is_chain, IsChain, is_operands, AreTyped, typed_none, typed_more}
+use Rattle.vs_elaborate.specs.Expressions.{lacks_meaning, is_unknown_in, operator_of, IsTyped, is_number, is_name, is_group, is_not, is_chain, is_operands, AreTyped, typed_none, typed_more}
 use Rattle.vs_elaborate.specs.Resolved.{placed, MeansExpression, FaultsExpression, MeansChain, FaultsChain, MeansOperands, FaultsOperands}
-use Rattle.vs_elaborate.proofs.Folds.{any_of_map, both_false, left_true, right_true, any_push, any_at, take_push}
+use Rattle.vs_elaborate.proofs.Folds.{any_of_map, both_false, right_true, any_push, any_at, take_push}
 use Rattle.vs_elaborate.proofs.Sizes.{unknown_Number, unknown_Name, unknown_Group, unknown_Not, unknown_Chain}
 
 pub found_some : (env : Environment) (n : List ℕ) (m : Meaning) → meaning_of env n ≡ Some m → IsSome (meaning_of env n)
