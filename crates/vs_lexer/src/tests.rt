@@ -360,15 +360,35 @@ fn directives(rt: HostRuntime) -> Result<(), Fail> {
 }
 
 #[test]
-fn limits(rt: HostRuntime) -> Result<(), Fail> {
-    let name = vec![in rt.alloc(); b'a'; 1024]?;
-    assert_eq!(rt; shown(rt.alloc(), &name)?.as_str(), "n0+1024 ");
-    let name = vec![in rt.alloc(); b'a'; 1025]?;
-    assert_eq!(rt; shown(rt.alloc(), &name)?.as_str(), "L6 at 0");
+fn limits_of_names(rt: HostRuntime) -> Result<(), Fail> {
+    // The backslash of an escaped name doesn't count, and the `$` of a system name does.
+    for (first, length, wanted) in [
+        (b'a', 1024, "n0+1024 "),
+        (b'a', 1025, "L6 at 0"),
+        (b'\\', 1025, "n0+1025 "),
+        (b'\\', 1026, "L6 at 0"),
+        (b'$', 1024, "s0+1024 "),
+        (b'$', 1025, "L6 at 0"),
+    ] {
+        let mut name = vec![in rt.alloc(); b'a'; length]?;
+        name[0] = first;
+        assert_eq!(rt;
+            shown(rt.alloc(), &name)?.as_str(),
+            wanted,
+            "of {first} {length}"
+        );
+    }
+    Ok(())
+}
+
+#[test]
+fn limit_of_a_source(rt: HostRuntime) -> Result<(), Fail> {
     let spaces = vec![in rt.alloc(); b' '; 4194304]?;
     assert_eq!(rt; shown(rt.alloc(), &spaces)?.as_str(), "");
-    let spaces = vec![in rt.alloc(); b' '; 4194305]?;
+    let mut spaces = vec![in rt.alloc(); b' '; 4194305]?;
     assert_eq!(rt; shown(rt.alloc(), &spaces)?.as_str(), "L6 at 4194304");
+    spaces[7] = b'$';
+    assert_eq!(rt; shown(rt.alloc(), &spaces)?.as_str(), "L1 at 7");
     Ok(())
 }
 
