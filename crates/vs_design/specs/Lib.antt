@@ -2,3 +2,4 @@ pub mod Drivers
 pub mod Parts
 pub mod Stores
 pub mod Traces
+pub mod Uses

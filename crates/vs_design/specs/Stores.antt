@@ -1,5 +1,5 @@
 -- Stores: the values of a design's variables and nets.
-use Rattle.std.specs.Prelude.{ℕ, pos, zero, suc, ◌==◌, Bool, true, false, Option, Some, None, List, [], ◌∷◌, map, slice_get}
+use Rattle.std.specs.Prelude.{ℕ, pos, zero, suc, Bool, true, false, Option, Some, None, List, [], ◌∷◌, map, slice_get}
 use Rattle.std.specs.List.{list_any}
 use Rattle.vs_logic4.specs.declared.digit.Digit.{Digit}
 use Rattle.vs_logic4.specs.Vectors.{all_unknown, all_high_impedance}
@@ -9,6 +9,7 @@ use Rattle.vs_design.specs.declared.signal.SignalKind.{SignalKind}
 use Rattle.vs_design.specs.declared.signal.SignalKind.TheVariants.{Wire, Reg, Integer}
 use Rattle.vs_design.specs.declared.design.Assign.{Assign}
 use Rattle.vs_design.specs.Parts.{Parts}
+use Rattle.vs_design.specs.Uses.{writes_signal}
 
 -- a vector for each word of each signal: by signal, by word, the digits, lowest first
 abbrev pub Store : Type 0
@@ -54,7 +55,7 @@ put store (p ∷ ps) = put (put_part store p) ps
 
 -- whether a continuous assignment drives the signal
 abbrev pub is_driven : List Assign → ℕ → Bool
-is_driven assigns signal = list_any (λ (a : Assign). a.target.signal == signal) assigns
+is_driven assigns signal = list_any (λ (a : Assign). writes_signal a.target signal) assigns
 
 -- what a signal holds before the first step: a variable x, a net z without a driver and x with one (clauses 4.2.2 and 4.6.1; the driven net: profile)
 abbrev pub start_word : Bool → SignalKind → ℕ → List Digit

@@ -9,9 +9,11 @@ mod expression;
 mod signal;
 mod statement;
 mod store;
+mod uses;
 
 pub use design::{Assign, Design, Entry, Process, ProcessKind, ScopeKind};
 pub use expression::{Operand, Operator, Typed};
 pub use signal::{Signal, SignalKind};
 pub use statement::{Statement, Target, Ticks};
 pub use store::Store;
+pub use uses::{reads, writes};

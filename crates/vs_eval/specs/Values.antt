@@ -1,6 +1,5 @@
 -- The values of expressions and the writes of assignments.
-use Rattle.std.specs.Prelude.{ℕ, ◌==◌, Bool, false, Option, Some, None, List, [], ◌∷◌, ◌++◌, length}
-use Rattle.std.specs.List.{list_any}
+use Rattle.std.specs.Prelude.{ℕ, Bool, false, Option, Some, None, List, [], ◌∷◌, length}
 use Rattle.vs_logic4.specs.declared.digit.Digit.{Digit}
 use Rattle.vs_logic4.specs.Vectors.{all_unknown, resized}
 use Rattle.vs_logic4.specs.Bitwise.{bitwise_and, bitwise_or, bitwise_xor, bitwise_not}
@@ -28,11 +27,6 @@ abbrev pub chained : Operator → List Digit → List (List Digit) → List Digi
 chained op first [] = first
 chained op first (v ∷ vs) = chained op (bitwise op first v) vs
 
--- the elements of lists, one list after another
-abbrev pub joined : List (List ℕ) → List ℕ
-joined [] = []
-joined (xs ∷ xss) = xs ++ joined xss
-
 -- one layer of an expression: its value in a store, with the value of each inner expression in its place
 abbrev pub value_step : Store → Typed-F (List Digit) → List Digit
 value_step store (t.Number digits) = digits
@@ -43,21 +37,6 @@ value_step store (t.Bitwise op x xs) = chained op x.value xs.items
 -- the value of an expression in a store (clause 5)
 abbrev pub value_of : Typed → Store → List Digit
 value_of e store = fold-Typed (List Digit) (value_step store) e
-
--- one layer of an expression: the signals that it reads, with those of each inner expression in its place
-abbrev pub reads_step : Typed-F (List ℕ) → List ℕ
-reads_step (t.Number digits) = []
-reads_step (t.Signal o) = o.signal ∷ []
-reads_step (t.Not x) = x.value
-reads_step (t.Bitwise op x xs) = x.value ++ joined xs.items
-
--- the signals that an expression reads
-abbrev pub reads : Typed → List ℕ
-reads e = fold-Typed (List ℕ) reads_step e
-
--- whether an expression reads a signal
-abbrev pub reads_signal : Typed → ℕ → Bool
-reads_signal e signal = list_any (λ n. n == signal) (reads e)
 
 -- what a target gets of an expression: its value, cut to the target's size (clauses 5.4.1 and 6)
 abbrev pub target_value : Target → Typed → Store → List Digit

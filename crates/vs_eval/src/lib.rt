@@ -2,8 +2,7 @@
 #![tactic(auto)]
 
 ghost use Rattle.std.specs.Prelude.{◌≡◌, map};
-ghost use Rattle.std.specs.List.{list_any};
-ghost use Rattle.vs_eval.specs.Values.{value_of, target_value, operand_value, bitwise, chained, reads_signal};
+ghost use Rattle.vs_eval.specs.Values.{value_of, target_value, operand_value, bitwise, chained};
 ghost use Rattle.vs_design.specs.Stores.{word_of};
 
 use vs_design::{Operand, Operator, Store, Target, Typed};
@@ -34,34 +33,6 @@ fn chain(operator: Operator, first: Vec4, others: &[Typed], store: &Store) -> Ve
         all = combined(operator, all, value(other, store));
     }
     all
-}
-
-/// Whether an expression reads a signal.
-#[cycle(reads_signal)]
-pub fn reads_signal(e: &Typed, signal: usize) -> bool
-    ensures { result ≡ reads_signal e.now signal }
-{
-    match e {
-        Typed::Number(_) => false,
-        Typed::Signal(o) => o.signal == signal,
-        Typed::Not(x) => reads_signal(x, signal),
-        Typed::Bitwise(_, first, others) => {
-            reads_signal(first, signal) || one_reads_signal(others, signal)
-        }
-    }
-}
-
-// Whether one of several expressions reads a signal.
-#[cycle(reads_signal)]
-fn one_reads_signal(all: &[Typed], signal: usize) -> bool
-    ensures { result ≡ list_any (λ e. reads_signal e signal) all.now }
-{
-    for e in all {
-        if reads_signal(e, signal) {
-            return true;
-        }
-    }
-    false
 }
 
 // What an operator gives of two operands, of which the second one is brought to the size of the first.

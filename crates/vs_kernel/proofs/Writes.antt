@@ -7,7 +7,7 @@ use Rattle.vs_logic4.specs.declared.digit.Digit.{Digit}
 use Rattle.vs_logic4.specs.Sameness.{same_digits_self}
 use Rattle.vs_logic4.specs.Vectors.{same_digits}
 use Rattle.vs_design.specs.Stores.{Store, word_of, put_part, overlaid, changed_at}
-use Rattle.vs_eval.specs.Values.{reads}
+use Rattle.vs_design.specs.Uses.{reads}
 use Rattle.vs_process.specs.States.{Driver, same_words, same_signal, is_changed, touched}
 use Rattle.vs_kernel.specs.Touches.{touched_by, is_kept}
 

@@ -2,7 +2,7 @@
 use Rattle.std.specs.Prelude.{ℕ, ◌||◌, Bool, true, false, Option, Some, None, List, [], ◌∷◌, ◌++◌}
 use Rattle.vs_logic4.specs.declared.digit.Digit.{Digit}
 use Rattle.vs_logic4.specs.Vectors.{same_digits}
-use Rattle.vs_eval.specs.Values.{reads_signal}
+use Rattle.vs_design.specs.Uses.{reads_signal}
 use Rattle.vs_process.specs.declared.effect.Effect.{Effect}
 use Rattle.vs_process.specs.declared.effect.Effect.TheVariants.{Nothing, Write, Queue}
 use Rattle.vs_process.specs.Effects.{whole}

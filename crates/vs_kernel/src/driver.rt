@@ -1,12 +1,12 @@
 //! Continuous assignments in a run.
 ghost use Rattle.std.specs.Prelude.{◌≡◌, ◌&&◌, not, is_some};
-ghost use Rattle.vs_eval.specs.Values.{reads_signal};
+ghost use Rattle.vs_design.specs.Uses.{reads_signal};
 ghost use Rattle.vs_kernel.specs.Touches.{touched_by};
 ghost use Rattle.vs_process.specs.States as states;
 
 use std::marker::Model;
-use vs_design::{Assign, Store, Target, Typed};
-use vs_eval::{cut_value, reads_signal};
+use vs_design::{Assign, Store, Target, Typed, reads};
+use vs_eval::cut_value;
 use vs_logic4::Vec4;
 
 /// A continuous assignment: what it drives and evaluates, whether it has to be evaluated, and the value that waits to be
@@ -107,7 +107,7 @@ impl<'a> Driver<'a> {
         ensures after { self.new ≡ touched_by signal self.old }
         ensures wakes { result ≡ (not self.old.needs && reads_signal self.old.source signal) }
     {
-        let wakes = !self.needs && reads_signal(self.source, signal);
+        let wakes = !self.needs && reads(self.source, signal);
         self.needs = self.needs || wakes;
         wakes
     }

@@ -9,7 +9,8 @@ use Rattle.vs_design.specs.declared.expression.Typed.{Typed}
 use Rattle.vs_design.specs.declared.statement.Target.{Target}
 use Rattle.vs_design.specs.Parts.{Parts}
 use Rattle.vs_design.specs.Stores.{Store, Write, word_of, put, start_store}
-use Rattle.vs_eval.specs.Values.{reads, target_value, assigned}
+use Rattle.vs_design.specs.Uses.{reads}
+use Rattle.vs_eval.specs.Values.{target_value, assigned}
 use Rattle.vs_process.specs.declared.moves.Gait.TheVariants.{Woken}
 use Rattle.vs_process.specs.Places.{Todo, Place, going, sleeping, inactive, ended, active_at, stepped_gait, start_place}
 use Rattle.vs_process.specs.Steps.{Call, Next, on, after, Out, step}

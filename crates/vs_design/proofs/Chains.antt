@@ -11,7 +11,7 @@ use Rattle.vs_design.specs.declared.expression.Typed.TheVariants as y
 use Rattle.vs_design.specs.declared.expression.Typed.TheVariants.{rolls-Bitwise}
 use Rattle.vs_design.specs.declared.expression.Typed.TheOpen as t
 use Rattle.vs_design.specs.declared.expression.Typed.TheFolds.{fold-roll-Typed}
-use Rattle.vs_eval.specs.Values.{reads, reads_step, reads_signal, joined}
+use Rattle.vs_design.specs.Uses.{reads, reads_step, reads_signal, joined}
 
 any_joined : (p : ℕ → Bool) (es : List Typed) → list_any p (joined (map reads es)) ≡ list_any (λ e. list_any p (reads e)) es
 any_joined p [] = refl
