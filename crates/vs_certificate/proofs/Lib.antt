@@ -7,3 +7,4 @@ pub mod Plain
 pub mod Law
 pub mod Only
 pub mod Images
+pub mod Sameness

@@ -1,6 +1,6 @@
 -- Within the limits no number is negative.
-use Rattle.std.proofs.Common.{◌≡◌, ℕ, ◌+◌, Bool, true, false, ◌&&◌, ◌||◌, nat_le, nat_lt, Option, Some, None, codes, is_some, option_and_then, true≢false, refl, ap, sym}
-use Rattle.std.proofs.lemmas.Bool.{and_parts}
+use Rattle.std.proofs.Common.{◌≡◌, ℕ, ◌+◌, Bool, true, false, ◌&&◌, ◌||◌, nat_le, nat_lt, Option, Some, None, codes, is_some, option_and_then, true≢false, refl, ap, sym, ◌∙◌}
+use Rattle.std.proofs.lemmas.Bool.{and_parts, false_from_ne_true}
 use Rattle.std.specs.Option.{option_map_or}
 use Rattle.serde_json.specs.Data.{Data, null, boolean, number, string, array, object, Items, no_items, item}
 use Rattle.serde_json.specs.Find.{get}
@@ -115,3 +115,7 @@ is_certificate-natural d h k =
     let modulus = modulus_natural (get (codes "modulus") d) q.0 q.1 in
     let processes = found_implies (is_list (is_process_entry is_whole)) (are_processes q.0) (is_list (is_process_entry is_natural)) (processes_natural q.0) (get (codes "processes") d) p.processes q.2.processes in
     both _ _ (both _ _ (both _ _ (both _ _ (both _ _ (both _ _ (both _ _ p.names p.edges) p.grain) modulus) p.order) processes) p.signals) p.version
+
+-- a negative number is over a limit
+pub is_within_limits-negative : (d : Data) → is_certificate is_whole d ≡ true → is_certificate is_natural d ≡ false → is_within_limits d ≡ false
+is_within_limits-negative d h k = false_from_ne_true (is_within_limits d) (λ within. true≢false (sym (is_certificate-natural d h within) ∙ k))

@@ -2,3 +2,4 @@ pub mod JsonValue
 pub mod Shape
 pub mod Limits
 pub mod Reading
+pub mod Sameness

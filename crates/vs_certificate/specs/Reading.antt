@@ -14,6 +14,14 @@ use Rattle.vs_certificate.specs.JsonValue.{value_of}
 use Rattle.vs_certificate.specs.Shape.{is_whole, is_certificate}
 use Rattle.vs_certificate.specs.Limits.{is_within_limits}
 
+-- what is printed of a fault (profile)
+abbrev pub fault_text : CertFault → List ℕ
+fault_text faults.NotJson = codes "C1"
+fault_text faults.Shape = codes "C2"
+fault_text faults.Version = codes "C3"
+fault_text faults.Limit = codes "C4"
+fault_text faults.Memory = codes "memory"
+
 -- 16 MiB
 abbrev pub max_len : ℕ
 max_len = 16777216

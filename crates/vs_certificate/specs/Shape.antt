@@ -3,6 +3,8 @@
 use Rattle.std.specs.Prelude.{List, ℕ, [], ◌∷◌, codes, Bool, true, false, ◌&&◌, ◌||◌, bytes_eq, is_some, Option, option_and_then, ◌==◌}
 use Rattle.std.specs.Option.{option_map_or}
 use Rattle.serde_json.specs.Data.{Data, Items, no_items, item, Members, no_members, member}
+use Rattle.vs_certificate.specs.declared.form.Numbers.{Numbers}
+use Rattle.vs_certificate.specs.declared.form.Numbers.TheVariants as numbers
 use Rattle.serde_json.specs.Find.{get, as_number, as_str, as_array, as_object, as_u64, as_integer}
 
 -- a whole number of 64 bits
@@ -15,6 +17,11 @@ natural d = option_and_then as_u64 (as_number d)
 
 abbrev pub is_natural : Data → Bool
 is_natural d = is_some (natural d)
+
+-- the number is one of these (profile)
+abbrev pub is_number_of : Numbers → Data → Bool
+is_number_of numbers.Whole d = is_whole d
+is_number_of numbers.Natural d = is_natural d
 
 -- this number
 abbrev pub is_number : ℕ → Data → Bool

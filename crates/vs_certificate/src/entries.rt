@@ -6,7 +6,7 @@ ghost use Rattle.vs_certificate.specs.JsonValue.{grain_value, start_word_value, 
 ghost use Rattle.vs_certificate.specs.Shape.{is_natural, is_whole, is_grain, is_start, is_mode, is_edge_signal, is_signal_entry};
 
 use crate::form::{
-    JsonForm, from_value_at, has_form_at, has_names, is_empty_list_at, is_word, is_word_at,
+    JsonForm, Numbers, from_value_at, has_form_at, has_names, is_empty_list_at, is_word, is_word_at,
 };
 use crate::members::{
     EdgeSignal, Grain, ProcessEntry, ProcessKind, SignalEntry, SignalMode, Start,
@@ -23,7 +23,7 @@ impl JsonForm for Grain {
         Value::try_from_str(alloc, self.word())
     }
 
-    fn has_form(json: &Value) -> bool {
+    fn has_form(json: &Value, _numbers: Numbers) -> bool {
         is_word(json, "block") || is_word(json, "statement")
     }
 
@@ -45,7 +45,7 @@ impl JsonForm for Start {
         Value::try_from_str(alloc, self.word())
     }
 
-    fn has_form(json: &Value) -> bool {
+    fn has_form(json: &Value, _numbers: Numbers) -> bool {
         is_word(json, "cold") || is_word(json, "sources")
     }
 
@@ -67,7 +67,7 @@ impl JsonForm for SignalMode {
         Value::try_from_str(alloc, self.word())
     }
 
-    fn has_form(json: &Value) -> bool {
+    fn has_form(json: &Value, _numbers: Numbers) -> bool {
         is_word(json, "net")
             || is_word(json, "unwritten")
             || is_word(json, "comb")
@@ -102,10 +102,10 @@ impl JsonForm for EdgeSignal {
         json!(in alloc; {"root": &self.root, "signal": &self.signal})
     }
 
-    fn has_form(json: &Value) -> bool {
+    fn has_form(json: &Value, numbers: Numbers) -> bool {
         has_names(json, &["root", "signal"])
-            && has_form_at::<String>(json, "root")
-            && has_form_at::<String>(json, "signal")
+            && has_form_at::<String>(json, "root", numbers)
+            && has_form_at::<String>(json, "signal", numbers)
     }
 
     fn from_value(alloc: Global, json: &Value) -> Result<EdgeSignal, AllocError> {
@@ -129,12 +129,12 @@ impl JsonForm for SignalEntry {
         })
     }
 
-    fn has_form(json: &Value) -> bool {
+    fn has_form(json: &Value, numbers: Numbers) -> bool {
         has_names(json, &["mode", "name", "second", "writer"])
-            && has_form_at::<SignalMode>(json, "mode")
-            && has_form_at::<String>(json, "name")
-            && has_form_at::<String>(json, "second")
-            && has_form_at::<String>(json, "writer")
+            && has_form_at::<SignalMode>(json, "mode", numbers)
+            && has_form_at::<String>(json, "name", numbers)
+            && has_form_at::<String>(json, "second", numbers)
+            && has_form_at::<String>(json, "writer", numbers)
     }
 
     fn from_value(alloc: Global, json: &Value) -> Result<SignalEntry, AllocError> {

@@ -1,23 +1,40 @@
 //! Why bytes are no certificate.
+ghost use Rattle.std.specs.Prelude.{◌≡◌};
+ghost use Rattle.vs_certificate.specs.Reading.{fault_text};
 
 use thiserror::Error;
 
 /// Why bytes are no certificate. The tests are made in the order C1, C3, C2, C4, and the first that fails is told.
-#[derive(Clone, Copy, Debug, Drop, PartialEq, Eq, Error)]
+#[derive(Clone, Copy, Debug, PartialEq, Eq, Error)]
 pub enum CertFault {
-    /// The bytes are no JSON text, or more than 16 MiB.
+    /// C1: the bytes are no JSON text, or more than 16 MiB.
     #[error("C1")]
     NotJson,
-    /// A member is missing, unknown or of the wrong kind, or goes against its process's kind.
+    /// C2: a member is missing, unknown or of the wrong kind, or goes against its process's kind.
     #[error("C2")]
     Shape,
-    /// A whole-number version other than 1.
+    /// C3: a whole-number version other than 1.
     #[error("C3")]
     Version,
-    /// A limit is passed, or residues don't rise.
+    /// C4: a limit is passed, or residues don't rise.
     #[error("C4")]
     Limit,
     /// A growth was refused.
     #[error("memory")]
     Memory,
+}
+
+impl CertFault {
+    /// The text that is to be printed of the fault: its number.
+    pub fn text(self) -> &'static str
+        ensures { result.now ≡ fault_text self }
+    {
+        match self {
+            CertFault::NotJson => "C1",
+            CertFault::Shape => "C2",
+            CertFault::Version => "C3",
+            CertFault::Limit => "C4",
+            CertFault::Memory => "memory",
+        }
+    }
 }

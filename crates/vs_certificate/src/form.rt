@@ -5,11 +5,20 @@ ghost use Rattle.serde_json.specs.Data.{Data};
 ghost use Rattle.serde_json.specs.Find.{get};
 ghost use Rattle.serde_json.specs.View.{view};
 ghost use Rattle.vs_certificate.specs.JsonValue.{text_value, whole_value, list_value};
-ghost use Rattle.vs_certificate.specs.Shape.{is_whole, is_natural, is_text, is_list, passes_at};
+ghost use Rattle.vs_certificate.specs.Shape.{is_natural, is_number_of, is_text, is_list, passes_at};
 ghost use Rattle.vs_certificate.specs.Shape as Shape;
 
 use serde_json::Value;
 use std::alloc::{AllocError, Global};
+
+/// Which numbers have the form of a number.
+#[derive(Clone, Copy)]
+pub(crate) enum Numbers {
+    /// The whole numbers of 64 bits.
+    Whole,
+    /// Those that aren't negative.
+    Natural,
+}
 
 /// What has a JSON form.
 pub(crate) trait JsonForm {
@@ -22,9 +31,9 @@ pub(crate) trait JsonForm {
     fn to_value(&self, alloc: Global) -> Result<Value, AllocError>
         ensures { IfOk result (λ v. view v ≡ json_value self.now) };
 
-    /// Whether a JSON value has the form, its numbers aside.
-    fn has_form(json: &Value) -> bool
-        ensures { result ≡ json_shape is_whole (view json.now) };
+    /// Whether a JSON value has the form, where numbers are of these.
+    fn has_form(json: &Value, numbers: Numbers) -> bool
+        ensures { result ≡ json_shape (is_number_of numbers) (view json.now) };
 
     /// What has this JSON value.
     fn from_value(alloc: Global, json: &Value) -> Result<Self, AllocError>
@@ -41,7 +50,7 @@ impl JsonForm for String {
         Value::try_from_str(alloc, self.as_str())
     }
 
-    fn has_form(json: &Value) -> bool {
+    fn has_form(json: &Value, _numbers: Numbers) -> bool {
         json.is_string()
     }
 
@@ -59,8 +68,11 @@ impl JsonForm for u64 {
         Ok(Value::from(*self))
     }
 
-    fn has_form(json: &Value) -> bool {
-        json.is_u64() || json.is_i64()
+    fn has_form(json: &Value, numbers: Numbers) -> bool {
+        match numbers {
+            Numbers::Whole => json.is_u64() || json.is_i64(),
+            Numbers::Natural => json.is_u64(),
+        }
     }
 
     fn from_value(_alloc: Global, json: &Value) -> Result<u64, AllocError> {
@@ -81,12 +93,12 @@ impl<T: JsonForm + Drop> JsonForm for Vec<T> {
         Ok(Value::Array(list))
     }
 
-    fn has_form(json: &Value) -> bool {
+    fn has_form(json: &Value, numbers: Numbers) -> bool {
         let Some(list) = json.as_array() else {
             return false;
         };
         for entry in list {
-            if !T::has_form(entry) {
+            if !T::has_form(entry, numbers) {
                 return false;
             }
         }
@@ -140,12 +152,12 @@ pub(crate) fn has_names(json: &Value, names: &[&str]) -> bool
     next == names.len()
 }
 
-/// Whether the member of this name is there, and has the form, its numbers aside.
-pub(crate) fn has_form_at<T: JsonForm>(json: &Value, name: &str) -> bool
-    ensures { result ≡ passes_at (T.json_shape is_whole) name.now (view json.now) }
+/// Whether the member of this name is there, and has the form, where numbers are of these.
+pub(crate) fn has_form_at<T: JsonForm>(json: &Value, name: &str, numbers: Numbers) -> bool
+    ensures { result ≡ passes_at (T.json_shape (is_number_of numbers)) name.now (view json.now) }
 {
     match json.get(name) {
-        Some(member) => T::has_form(member),
+        Some(member) => T::has_form(member, numbers),
         None => false,
     }
 }

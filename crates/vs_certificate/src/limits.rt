@@ -1,133 +1,96 @@
-//! The limits of a certificate, of a JSON value that has its form.
+//! The limits of a certificate.
 
-ghost use Rattle.std.specs.Prelude.{◌≡◌, ℕ, codes};
-ghost use Rattle.serde_json.specs.View.{view};
-ghost use Rattle.vs_certificate.specs.Shape.{passes_at};
+ghost use Rattle.std.specs.Prelude.{◌≡◌, ◌↔◌, ℕ, IsTrue};
+ghost use Rattle.vs_certificate.specs.JsonValue.{whole_value, residues_value, list_value, process_value, value_of};
+ghost use Rattle.vs_certificate.specs.Limits.{is_within, are_residues, are_slots, are_processes, is_within_limits};
 ghost use Rattle.vs_certificate.specs.Limits as Limits;
+ghost use Rattle.vs_certificate.specs.Reading.{IsSound};
 
-use serde_json::Value;
+use crate::form::JsonForm;
+use crate::members::{Certificate, ProcessEntry, ProcessKind};
 
-pub(crate) const MAX_ENTRIES: usize = 65_536;
+const MAX_ENTRIES: usize = 65_536;
 
-pub(crate) const MAX_RESIDUES: usize = 64;
+const MAX_RESIDUES: usize = 64;
 
 const MAX_MODULUS: u64 = 1 << 32;
 
-/// Whether a certificate's limits hold.
-pub(crate) fn is_within_limits(json: &Value) -> bool
-    ensures { result ≡ Limits.is_within_limits (view json.now) }
-{
-    match json.get("modulus").and_then(Value::as_u64) {
-        Some(modulus) => holds_by(json, modulus),
-        None => false,
+impl Certificate {
+    /// Whether the limits hold. Then no test fails of what is written of it, and a checker may be asked.
+    pub fn is_sound(&self) -> bool
+        ensures { IsTrue result ↔ IsSound (value_of self.now) }
+    {
+        self.is_within_limits()
+    }
+
+    /// Whether the limits hold, as they are tested of its JSON value.
+    pub(crate) fn is_within_limits(&self) -> bool
+        ensures { result ≡ is_within_limits (value_of self.now) }
+    {
+        is_modulus(self.modulus)
+            && is_short(&self.edges)
+            && is_short(&self.order)
+            && are_processes_within(&self.processes, self.modulus)
+            && is_short(&self.signals)
     }
 }
 
-fn holds_by(json: &Value, modulus: u64) -> bool
-    ensures { result ≡ Limits.holds_by (view json.now) modulus }
-{
-    is_modulus(modulus)
-        && is_within_at(json, "edges")
-        && is_within_at(json, "order")
-        && are_processes_at(json, modulus)
-        && is_within_at(json, "signals")
-}
-
 /// Whether a number may be a modulus.
-pub(crate) fn is_modulus(modulus: u64) -> bool
+fn is_modulus(modulus: u64) -> bool
     ensures { result ≡ Limits.is_modulus modulus }
 {
     1 <= modulus && modulus <= MAX_MODULUS
 }
 
-fn is_within(json: &Value, most: usize) -> bool
-    ensures { result ≡ Limits.is_within most (view json.now) }
+/// Whether a list has at most as many entries as a certificate's lists may have.
+fn is_short<T: JsonForm>(list: &[T]) -> bool
+    ensures { result ≡ is_within 65536 (list_value T.json_value list.now) }
 {
-    match json.as_array() {
-        Some(list) => list.len() <= most,
-        None => true,
-    }
+    list.len() <= MAX_ENTRIES
 }
 
-fn is_within_at(json: &Value, name: &str) -> bool
-    ensures { result ≡ passes_at (Limits.is_within 65536) name.now (view json.now) }
+fn are_processes_within(processes: &[ProcessEntry], modulus: u64) -> bool
+    ensures { result ≡ are_processes modulus (list_value process_value processes.now) }
 {
-    match json.get(name) {
-        Some(list) => is_within(list, MAX_ENTRIES),
-        None => false,
-    }
-}
-
-fn are_processes_at(json: &Value, modulus: u64) -> bool
-    ensures { result ≡ passes_at (Limits.are_processes modulus) (codes "processes") (view json.now) }
-{
-    match json.get("processes") {
-        Some(processes) => are_processes(processes, modulus),
-        None => false,
-    }
-}
-
-fn are_processes(json: &Value, modulus: u64) -> bool
-    ensures { result ≡ Limits.are_processes modulus (view json.now) }
-{
-    if !is_within(json, MAX_ENTRIES) {
+    if processes.len() > MAX_ENTRIES {
         return false;
     }
-    let Some(list) = json.as_array() else {
-        return true;
-    };
-    for process in list {
-        if !are_slots_at(process, modulus) {
+    for process in processes {
+        if let ProcessKind::Delay(slots) = &process.kind {
+            if !are_slots_within(slots, modulus) {
+                return false;
+            }
+        }
+    }
+    true
+}
+
+fn are_slots_within(slots: &[Vec<u64>], modulus: u64) -> bool
+    ensures { result ≡ are_slots modulus (list_value residues_value slots.now) }
+{
+    if slots.len() > MAX_ENTRIES {
+        return false;
+    }
+    for residues in slots {
+        if !are_residues_within(residues, modulus) {
             return false;
         }
     }
     true
 }
 
-fn are_slots_at(json: &Value, modulus: u64) -> bool
-    ensures { result ≡ passes_at (Limits.are_slots modulus) (codes "slots") (view json.now) }
+fn are_residues_within(residues: &[u64], modulus: u64) -> bool
+    ensures { result ≡ are_residues modulus (list_value whole_value residues.now) }
 {
-    match json.get("slots") {
-        Some(slots) => are_slots(slots, modulus),
-        None => false,
-    }
-}
-
-fn are_slots(json: &Value, modulus: u64) -> bool
-    ensures { result ≡ Limits.are_slots modulus (view json.now) }
-{
-    if !is_within(json, MAX_ENTRIES) {
+    if residues.len() > MAX_RESIDUES {
         return false;
     }
-    let Some(list) = json.as_array() else {
-        return true;
-    };
-    for residues in list {
-        if !are_residues(residues, modulus) {
-            return false;
-        }
-    }
-    true
-}
-
-fn are_residues(json: &Value, modulus: u64) -> bool
-    ensures { result ≡ Limits.are_residues modulus (view json.now) }
-{
-    if !is_within(json, MAX_RESIDUES) {
-        return false;
-    }
-    let Some(list) = json.as_array() else {
-        return true;
-    };
     let mut low = 0;
-    for residue in list {
-        let Some(residue) = residue.as_u64() else {
-            return false;
-        };
-        if residue < low || modulus <= residue {
+    for residue in residues {
+        if *residue < low || modulus <= *residue {
             return false;
         }
-        low = residue + 1;
+        low = *residue + 1;
     }
     true
 }

@@ -4,7 +4,7 @@ ghost use Rattle.std.specs.Prelude.{◌≡◌};
 ghost use Rattle.vs_certificate.specs.JsonValue.{grain_word, kind_word, start_word, mode_word};
 
 /// A claim about a design, by which a checker can tell that no choice of the simulator matters.
-#[derive(Debug, Drop)]
+#[derive(Drop)]
 pub struct Certificate {
     /// How finely processes may be interleaved.
     pub grain: Grain,
@@ -30,7 +30,7 @@ pub enum Grain {
 }
 
 /// A signal of an edge term, and the variable that it copies.
-#[derive(Debug, Drop)]
+#[derive(Drop)]
 pub struct EdgeSignal {
     /// The variable's name. It is the signal itself, or what the signal copies by way of assigns.
     pub root: String,
@@ -39,7 +39,7 @@ pub struct EdgeSignal {
 }
 
 /// A process of the design.
-#[derive(Debug, Drop)]
+#[derive(Drop)]
 pub struct ProcessEntry {
     /// What runs it.
     pub kind: ProcessKind,
@@ -48,7 +48,7 @@ pub struct ProcessEntry {
 }
 
 /// What runs a process, and what is claimed of it.
-#[derive(Debug, Drop)]
+#[derive(Drop)]
 pub enum ProcessKind {
     /// A combinational block, and how its first outputs are explained.
     Combinational(Start),
@@ -69,7 +69,7 @@ pub enum Start {
 }
 
 /// A signal of the design, and the processes that write it.
-#[derive(Debug, Drop)]
+#[derive(Drop)]
 pub struct SignalEntry {
     /// How the signal is written.
     pub mode: SignalMode,

@@ -4,10 +4,12 @@ ghost use Rattle.std.specs.Prelude.{◌≡◌, ℕ, ◌||◌, IsTrue, IfOk};
 ghost use Rattle.serde_json.specs.Data.{string};
 ghost use Rattle.serde_json.specs.View.{view};
 ghost use Rattle.vs_certificate.specs.JsonValue.{process_value, slots_value, start_value, IsKindOf};
-ghost use Rattle.vs_certificate.specs.Shape.{is_natural, is_whole, is_process_entry};
+ghost use Rattle.vs_certificate.specs.Shape.{is_natural, is_number_of, is_process_entry};
 ghost use Rattle.vs_certificate.specs.Shape as Shape;
 
-use crate::form::{JsonForm, from_value_at, has_form_at, has_names, is_empty_list_at, is_word_at};
+use crate::form::{
+    JsonForm, Numbers, from_value_at, has_form_at, has_names, is_empty_list_at, is_word_at,
+};
 use crate::members::{ProcessEntry, ProcessKind, Start};
 use serde_json::{Value, json};
 use std::alloc::{AllocError, Global};
@@ -27,10 +29,10 @@ impl JsonForm for ProcessEntry {
         })
     }
 
-    fn has_form(json: &Value) -> bool {
+    fn has_form(json: &Value, numbers: Numbers) -> bool {
         has_names(json, &["kind", "name", "slots", "start"])
-            && has_form_at::<String>(json, "name")
-            && (is_combinational(json) || is_edge_process(json) || is_delay_process(json))
+            && has_form_at::<String>(json, "name", numbers)
+            && (is_combinational(json) || is_edge_process(json) || is_delay_process(json, numbers))
     }
 
     fn from_value(alloc: Global, json: &Value) -> Result<ProcessEntry, AllocError> {
@@ -63,7 +65,7 @@ fn is_combinational(json: &Value) -> bool
 {
     is_word_at(json, "kind", "comb")
         && is_empty_list_at(json, "slots")
-        && has_form_at::<Start>(json, "start")
+        && has_form_at::<Start>(json, "start", Numbers::Whole)
 }
 
 fn is_edge_process(json: &Value) -> bool
@@ -74,11 +76,11 @@ fn is_edge_process(json: &Value) -> bool
         && is_word_at(json, "start", "none")
 }
 
-fn is_delay_process(json: &Value) -> bool
-    ensures { result ≡ Shape.is_delay_process is_whole (view json.now) }
+fn is_delay_process(json: &Value, numbers: Numbers) -> bool
+    ensures { result ≡ Shape.is_delay_process (is_number_of numbers) (view json.now) }
 {
     is_word_at(json, "kind", "delay")
-        && has_form_at::<Vec<Vec<u64>>>(json, "slots")
+        && has_form_at::<Vec<Vec<u64>>>(json, "slots", numbers)
         && is_word_at(json, "start", "none")
 }
 

@@ -8,8 +8,7 @@ ghost use Rattle.vs_certificate.specs.Reading.{IsJson, IsSound, FailsFirst, Pass
 ghost use Rattle.vs_certificate.specs.Reading as Reading;
 
 use crate::fault::CertFault;
-use crate::form::JsonForm;
-use crate::limits::is_within_limits;
+use crate::form::{JsonForm, Numbers};
 use crate::members::Certificate;
 use serde_json::Value;
 use std::alloc::Global;
@@ -58,13 +57,18 @@ fn certificate_from(alloc: Global, json: &Value) -> Result<Certificate, CertFaul
     if is_other_version(json) {
         return Err(CertFault::Version);
     }
-    if !Certificate::has_form(json) {
+    if !Certificate::has_form(json, Numbers::Whole) {
         return Err(CertFault::Shape);
     }
-    if !is_within_limits(json) {
+    // No limit lets a negative number through.
+    if !Certificate::has_form(json, Numbers::Natural) {
         return Err(CertFault::Limit);
     }
-    Certificate::from_value(alloc, json).map_err(|_| CertFault::Memory)
+    let certificate = Certificate::from_value(alloc, json).map_err(|_| CertFault::Memory)?;
+    if !certificate.is_within_limits() {
+        return Err(CertFault::Limit);
+    }
+    Ok(certificate)
 }
 
 /// Whether the version is a whole number other than 1.

@@ -5,7 +5,7 @@ ghost use Rattle.serde_json.specs.View.{view};
 ghost use Rattle.vs_certificate.specs.JsonValue.{value_of};
 ghost use Rattle.vs_certificate.specs.Shape.{is_natural, is_whole, is_certificate};
 
-use crate::form::{JsonForm, from_value_at, has_form_at, has_names, is_number_at};
+use crate::form::{JsonForm, Numbers, from_value_at, has_form_at, has_names, is_number_at};
 use crate::members::{Certificate, EdgeSignal, Grain, ProcessEntry, SignalEntry};
 use serde_json::{Value, json};
 use std::alloc::{AllocError, Global};
@@ -31,7 +31,7 @@ impl JsonForm for Certificate {
         })
     }
 
-    fn has_form(json: &Value) -> bool {
+    fn has_form(json: &Value, numbers: Numbers) -> bool {
         let names = [
             "edges",
             "grain",
@@ -42,12 +42,12 @@ impl JsonForm for Certificate {
             "version",
         ];
         has_names(json, &names)
-            && has_form_at::<Vec<EdgeSignal>>(json, "edges")
-            && has_form_at::<Grain>(json, "grain")
-            && has_form_at::<u64>(json, "modulus")
-            && has_form_at::<Vec<String>>(json, "order")
-            && has_form_at::<Vec<ProcessEntry>>(json, "processes")
-            && has_form_at::<Vec<SignalEntry>>(json, "signals")
+            && has_form_at::<Vec<EdgeSignal>>(json, "edges", numbers)
+            && has_form_at::<Grain>(json, "grain", numbers)
+            && has_form_at::<u64>(json, "modulus", numbers)
+            && has_form_at::<Vec<String>>(json, "order", numbers)
+            && has_form_at::<Vec<ProcessEntry>>(json, "processes", numbers)
+            && has_form_at::<Vec<SignalEntry>>(json, "signals", numbers)
             && is_number_at(json, "version", 1)
     }
 

@@ -34,6 +34,7 @@ at_marks (a ∷ rest) table i h =
     at_marks rest (slice_set table n true) i (subst (λ k. i < k) (sym (length-slice_set table n)) h)
     ∙ ap (λ b. b || is_driven rest i) (at_mark table n i h)
     ∙ or_assoc (get_or table i false) (n == i) (is_driven rest i)
+    ∙ ap (λ b. get_or table i false || (b || is_driven rest i)) (sym (or-false (n == i)))
 
 length-none : (n : ℕ) → length (replicate n false) ≡ n
 length-none n = length-replicate n false

@@ -1,5 +1,11 @@
 pub mod Drivers
+pub mod Kinds
+pub mod Laws
 pub mod Parts
+pub mod Readers
 pub mod Stores
+pub mod Tables
 pub mod Traces
 pub mod Uses
+pub mod WellFormed
+pub mod Writes

@@ -1,13 +1,18 @@
 //! A design.
-ghost use Rattle.std.specs.Prelude.{◌≡◌};
+ghost use Rattle.std.specs.Prelude.{◌≡◌, IfOk};
+ghost use Rattle.vs_design.specs.Readers.{readers};
+ghost use Rattle.vs_design.specs.WellFormed.{WellFormed};
 
 use crate::expression::Typed;
+use crate::readers::{Reader, table_of};
 use crate::signal::Signal;
 use crate::statement::{Statement, Target};
+use crate::timescale::Timescale;
+use std::alloc::{AllocError, Global};
 use std::marker::Model;
 
 /// A continuous assignment (IEEE 1364-2005, clause 6.1).
-#[derive(Debug, Drop)]
+#[derive(Drop)]
 pub struct Assign {
     /// The path and the number within its scope, as it is printed: `t#a0`.
     pub name: Vec<u8>,
@@ -27,7 +32,7 @@ pub enum ProcessKind {
 }
 
 /// A process.
-#[derive(Debug, Drop)]
+#[derive(Drop)]
 pub struct Process {
     /// The path and the number within its scope, as it is printed: `t#p0`.
     pub name: Vec<u8>,
@@ -47,7 +52,7 @@ pub enum ScopeKind {
 }
 
 /// One line of a design's outline: its scopes and signals in the order in which a value change dump declares them.
-#[derive(Debug, Drop)]
+#[derive(Drop)]
 pub enum Entry {
     /// A scope opens, with its name as it is printed.
     Enter(ScopeKind, Vec<u8>),
@@ -57,18 +62,23 @@ pub enum Entry {
     Leave,
 }
 
-/// A design. A contract sees it as what it consists of.
-#[derive(Debug, Drop)]
+/// A design. A contract sees it as what it consists of. Every design is well formed.
+#[derive(Drop)]
 pub struct Design {
+    timescale: Timescale,
     signals: Vec<Signal>,
     assigns: Vec<Assign>,
     processes: Vec<Process>,
     outline: Vec<Entry>,
+    // For each signal, which continuous assignments read it.
+    readers: Vec<Vec<Reader>>,
 }
 
 impl Model for Design {
     ghost use Rattle.std.specs.Coded.{codes};
     ghost use Rattle.vs_design.specs.Parts.{Parts};
+    ghost use Rattle.vs_design.specs.Tables.{AreReaders};
+    ghost use Rattle.vs_design.specs.WellFormed.{WellFormed};
     ghost use Rattle.vs_design.specs.contracts.expression.Typed as expression;
     ghost use Rattle.vs_design.specs.contracts.statement.Statement as statement;
 
@@ -76,25 +86,40 @@ impl Model for Design {
 
     ghost coded = { Prim.hlevel (codes, statement.the_row.coded, expression.the_row.coded) };
 
-    ghost view = { λ d. record { signals = d.signals.items; assigns = d.assigns.items; processes = d.processes.items; outline = d.outline.items } };
+    ghost view = { λ d. record { timescale = d.timescale; signals = d.signals.items; assigns = d.assigns.items; processes = d.processes.items; outline = d.outline.items } };
+
+    ghost invariant = { λ d. WellFormed (record { timescale = d.timescale; signals = d.signals.items; assigns = d.assigns.items; processes = d.processes.items; outline = d.outline.items }) × AreReaders d.assigns.items d.readers.items };
 }
 
 impl Design {
     /// The design that consists of these parts.
     pub fn new(
+        alloc: Global,
+        timescale: Timescale,
         signals: Vec<Signal>,
         assigns: Vec<Assign>,
         processes: Vec<Process>,
         outline: Vec<Entry>,
-    ) -> Self
-        ensures { result ≡ record { signals = signals.items; assigns = assigns.items; processes = processes.items; outline = outline.items } }
+    ) -> Result<Self, AllocError>
+        requires well_formed { WellFormed (record { timescale = timescale; signals = signals.items; assigns = assigns.items; processes = processes.items; outline = outline.items }) }
+        ensures parts { IfOk result (λ d. d ≡ record { timescale = timescale; signals = signals.items; assigns = assigns.items; processes = processes.items; outline = outline.items }) }
     {
-        Design {
+        let readers = table_of(alloc, &assigns, signals.len())?;
+        Ok(Design {
+            timescale,
             signals,
             assigns,
             processes,
             outline,
-        }
+            readers,
+        })
+    }
+
+    /// The unit and the precision in which its times are written.
+    pub fn timescale(&self) -> Timescale
+        ensures { result ≡ self.now.timescale }
+    {
+        self.timescale
     }
 
     /// The signals in design order.
@@ -123,5 +148,22 @@ impl Design {
         ensures { result.now ≡ self.now.outline }
     {
         &self.outline
+    }
+
+    /// Which continuous assignments read a signal, and which of its bits, in design order.
+    pub fn readers(&self, signal: usize) -> &[Reader]
+        ensures { result.now ≡ readers self.now.assigns signal }
+    {
+        match self.readers.get(signal) {
+            Some(row) => row,
+            None => &[],
+        }
+    }
+
+    /// Every design is well formed: this holds of each, and there is nothing to do.
+    pub fn is_well_formed(&self)
+        ensures { WellFormed self.now }
+    {
+        let _ = &self.signals;
     }
 }

@@ -2,10 +2,10 @@
 
 ghost use Rattle.std.specs.Prelude.{◌<◌, ◌≤◌};
 
-use vs_logic4::Vec4;
+use vs_logic4::{Binary, Unary, Vec4};
 
 /// The value of a signal where it stands in an expression.
-#[derive(Clone, Copy, Debug)]
+#[derive(Clone, Copy)]
 pub struct Operand {
     /// The signal's number in design order.
     pub signal: usize,
@@ -16,27 +16,28 @@ pub struct Operand {
     pub ghost sized: { (0 < width) × (width ≤ 64) },
 }
 
-/// A bitwise operator of two operands (IEEE 1364-2005, clause 5.1.10).
-#[derive(Clone, Copy, PartialEq, Eq, Debug)]
-pub enum Operator {
-    /// `&`
-    And,
-    /// `^`
-    Xor,
-    /// `|`
-    Or,
+/// An operator between the operands on its left and the one on its right.
+#[derive(Clone, Copy)]
+pub struct Link {
+    /// The operator.
+    pub operator: Binary,
+    /// The size in bits to which both sides are brought (IEEE 1364-2005, clause 5.4.1).
+    pub width: u32,
+    /// Whether both sides are signed numbers (IEEE 1364-2005, clause 5.5.1).
+    pub signed: bool,
+    pub ghost sized: { (0 < width) × (width ≤ 64) },
 }
 
 /// An expression whose parts have the size and sign of their context.
-#[derive(Debug, Drop)]
+#[derive(Drop)]
 pub enum Typed {
     /// A literal at the size of its context.
     Number(Vec4),
     /// A signal at the size of its context.
     Signal(Operand),
-    /// `~` and its operand (IEEE 1364-2005, clause 5.1.10).
-    Not(Box<Typed>),
-    /// Operands with one bitwise operator between them, from left to right: the first one, and the others. A list, so that an expression of a
-    /// source is no deeper than its text is nested.
-    Bitwise(Operator, Box<Typed>, Vec<Typed>),
+    /// An operator and its operand.
+    Unary(Unary, Box<Typed>),
+    /// Operands with operators of one level between them, from left to right (IEEE 1364-2005, clause 5.1.2): the first operand, and each other
+    /// one with the operator before it. A list, so that an expression of a source is no deeper than its text is nested.
+    Chain(Box<Typed>, Vec<(Link, Typed)>),
 }

@@ -6,14 +6,24 @@
 
 mod design;
 mod expression;
+mod laws;
+mod range;
+mod readers;
 mod signal;
 mod statement;
 mod store;
+mod timescale;
 mod uses;
+mod write;
 
 pub use design::{Assign, Design, Entry, Process, ProcessKind, ScopeKind};
-pub use expression::{Operand, Operator, Typed};
-pub use signal::{Signal, SignalKind};
+pub use expression::{Link, Operand, Typed};
+pub use laws::{names_hold, writes_hold};
+pub use range::{BitRange, Bits};
+pub use readers::Reader;
+pub use signal::{Bounds, Signal, SignalKind};
 pub use statement::{Statement, Target, Ticks};
 pub use store::Store;
+pub use timescale::{DEFAULT_TIMESCALE, Magnitude, TimeSpan, TimeUnit, Timescale};
 pub use uses::{reads, writes};
+pub use write::{Part, Write};

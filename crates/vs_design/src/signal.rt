@@ -12,8 +12,17 @@ pub enum SignalKind {
     Integer,
 }
 
+/// The bounds of a range, as they are written: `[left:right]` (IEEE 1364-2005, clauses 4.3.1 and 4.9).
+#[derive(Clone, Copy)]
+pub struct Bounds {
+    /// The number on the left.
+    pub left: i64,
+    /// The number on the right.
+    pub right: i64,
+}
+
 /// A variable or a net.
-#[derive(Debug, Drop)]
+#[derive(Drop)]
 pub struct Signal {
     /// The name as it is printed: an escaped name that isn't a simple one has its backslash and one space after it.
     pub name: Vec<u8>,
@@ -25,5 +34,9 @@ pub struct Signal {
     pub width: u32,
     /// Whether its value is a signed number.
     pub signed: bool,
+    /// The range of its bits, where it was declared with one.
+    pub range: Option<Bounds>,
+    /// The range of its words, where it is an array.
+    pub words: Option<Bounds>,
     pub ghost sized: { (0 < width) × (width ≤ 64) },
 }

@@ -5,7 +5,7 @@ ghost use Rattle.std.specs.Prelude.{◌<◌, ◌≤◌, ◌^◌};
 use crate::expression::Typed;
 
 /// A span of time in ticks, below 2^62. A tick is the precision of the source's time scale (IEEE 1364-2005, clause 19.8).
-#[derive(Clone, Copy, Debug)]
+#[derive(Clone, Copy)]
 pub struct Ticks {
     /// How many ticks.
     pub count: u64,
@@ -13,7 +13,7 @@ pub struct Ticks {
 }
 
 /// The left side of an assignment: a whole signal.
-#[derive(Clone, Copy, Debug)]
+#[derive(Clone, Copy)]
 pub struct Target {
     /// The signal's number in design order.
     pub signal: usize,
@@ -22,19 +22,20 @@ pub struct Target {
     pub ghost sized: { (0 < width) × (width ≤ 64) },
 }
 
-/// A statement (IEEE 1364-2005, clause 9), whose names are numbers of signals and whose delays are ticks.
-#[derive(Debug, Drop)]
+/// A statement (IEEE 1364-2005, clause 9), whose names are numbers of signals and whose delays are ticks. Each but a block has its number among
+/// the statements of its process that are no blocks, in the order of the text, from 0 on: so equal texts at two places are two statements.
+#[derive(Drop)]
 pub enum Statement {
     /// `;`
-    Null,
+    Null(u32),
     /// A blocking assignment.
-    Assign(Target, Typed),
+    Assign(u32, Target, Typed),
     /// A nonblocking assignment without a delay.
-    Later(Target, Typed),
+    Later(u32, Target, Typed),
     /// `begin .. end`
     Block(Vec<Statement>),
     /// A delay control, and the statement behind it.
-    Delay(Ticks, Box<Statement>),
+    Delay(u32, Ticks, Box<Statement>),
     /// `forever`; the body of an `always` too.
-    Forever(Box<Statement>),
+    Forever(u32, Box<Statement>),
 }

@@ -1,16 +1,17 @@
 //! Stores.
-ghost use Rattle.std.specs.Prelude.{◌≡◌, true, slice_get, slice_set, IfOk};
-ghost use Rattle.vs_design.specs.Stores.{word_of, put_part, start_store, start_word};
+ghost use Rattle.std.specs.Prelude.{◌≡◌, true, slice_set, IfOk};
+ghost use Rattle.vs_design.specs.Stores.{word_of, put, put_part, changes_nothing, start_store, start_word, one_word_each};
 ghost use Rattle.vs_design.specs.Drivers.{IsTableOf};
 
 use crate::design::{Assign, Design};
 use crate::signal::{Signal, SignalKind};
+use crate::write::{Part, Write};
 use std::alloc::{AllocError, Global};
 use std::marker::Model;
 use vs_logic4::Vec4;
 
 /// The values of a design's signals: one word for each, in design order.
-#[derive(Debug, Drop)]
+#[derive(Drop)]
 pub struct Store {
     words: Vec<Vec4>,
 }
@@ -42,19 +43,32 @@ impl Store {
     pub fn word(&self, signal: usize, word: usize) -> Option<Vec4>
         ensures { result ≡ word_of self.now signal word }
     {
-        let words = &self.words;
-        if word > 0 {
-            return None;
-        }
-        first_word(words, signal)
+        word_at(&self.words, signal, word)
     }
 
-    /// Writes a value over a signal's word from its lowest digit on; digits past its end are dropped, and so is a value without a word.
-    pub fn put(&mut self, signal: usize, value: Vec4)
-        ensures { self.new ≡ put_part self.old (record { signal = signal; word = 0; low = 0; digits = value }) }
+    /// Makes a write: its parts one after another, digits out of range dropped, and a part without a word too (IEEE 1364-2005, clause 5.2.1).
+    pub fn put(&mut self, write: &Write)
+        ensures { self.new ≡ put self.old write.now }
     {
-        if let Some(word) = first_word(&self.words, signal) {
-            self.words[signal] = word.put(0, value);
+        self.put_part(write.part());
+    }
+
+    fn put_part(&mut self, part: Part)
+        ensures { self.new ≡ put_part self.old part }
+    {
+        if let Some(word) = word_at(&self.words, part.signal, part.word) {
+            self.words[part.signal] = word.put(part.low, part.digits);
+        }
+    }
+
+    /// Whether a write would change nothing.
+    pub fn has(&self, write: &Write) -> bool
+        ensures { result ≡ changes_nothing self.now write.now }
+    {
+        let part = write.part();
+        match word_at(&self.words, part.signal, part.word) {
+            Some(word) => word == word.put(part.low, part.digits),
+            None => true,
         }
     }
 
@@ -70,15 +84,14 @@ impl Store {
     }
 }
 
-// The word of a signal.
-fn first_word(words: &[Vec4], signal: usize) -> Option<Vec4>
-    ensures { result ≡ slice_get words.now signal }
+// A word of a signal, of which each has one.
+fn word_at(words: &[Vec4], signal: usize, word: usize) -> Option<Vec4>
+    ensures { result ≡ word_of (one_word_each words.now) signal word }
 {
-    if signal < words.len() {
-        Some(words[signal])
-    } else {
-        None
+    if word > 0 || signal >= words.len() {
+        return None;
     }
+    Some(words[signal])
 }
 
 // Notes that a signal is driven; a signal past the end is none of the table.

@@ -1,40 +1,62 @@
-//! Which signals an expression reads and an assignment writes.
-ghost use Rattle.std.specs.Prelude.{◌≡◌};
-ghost use Rattle.std.specs.List.{list_any};
-ghost use Rattle.vs_design.specs.Uses.{reads_signal, writes_signal};
+//! Which bits an expression reads and an assignment writes.
+ghost use Rattle.std.specs.Prelude.{◌≡◌, ◌++◌, ◌∷◌, [], IfOk, OnOk, map};
+ghost use Rattle.vs_design.specs.Uses.{reads, writes, whole, joined};
 
-use crate::expression::Typed;
+use crate::expression::{Link, Typed};
+use crate::range::BitRange;
 use crate::statement::Target;
+use std::alloc::{AllocError, Global};
 
-/// Whether an expression reads a signal.
+/// The word 0 of a signal, all bits.
+fn whole(signal: usize) -> BitRange
+    ensures { result ≡ whole signal }
+{
+    BitRange {
+        signal,
+        word: Some(0),
+        bits: None,
+    }
+}
+
 #[cycle(reads)]
-pub fn reads(e: &Typed, signal: usize) -> bool
-    ensures { result ≡ reads_signal e.now signal }
+fn push_reads(out: &mut Vec<BitRange>, e: &Typed) -> Result<(), AllocError>
+    ensures { OnOk result (out.new.items ≡ out.old.items ++ reads e.now) }
 {
     match e {
-        Typed::Number(_) => false,
-        Typed::Signal(o) => o.signal == signal,
-        Typed::Not(x) => reads(x, signal),
-        Typed::Bitwise(_, first, others) => { reads(first, signal) || one_reads(others, signal) }
-    }
-}
-
-// Whether one of several expressions reads a signal.
-#[cycle(reads)]
-fn one_reads(all: &[Typed], signal: usize) -> bool
-    ensures { result ≡ list_any (λ e. reads_signal e signal) all.now }
-{
-    for e in all {
-        if reads(e, signal) {
-            return true;
+        Typed::Number(_) => Ok(()),
+        Typed::Signal(o) => Ok(out.push(whole(o.signal))?),
+        Typed::Unary(_, x) => push_reads(out, x),
+        Typed::Chain(first, links) => {
+            push_reads(out, first)?;
+            push_all_reads(out, links)
         }
     }
-    false
 }
 
-/// Whether an assignment to the target writes a signal.
-pub fn writes(target: Target, signal: usize) -> bool
-    ensures { result ≡ writes_signal target signal }
+#[cycle(reads)]
+fn push_all_reads(out: &mut Vec<BitRange>, links: &[(Link, Typed)]) -> Result<(), AllocError>
+    ensures { OnOk result (out.new.items ≡ out.old.items ++ joined (map (λ l. reads l.1) links.now)) }
 {
-    target.signal == signal
+    for (_, e) in links {
+        push_reads(out, e)?;
+    }
+    Ok(())
+}
+
+/// The ranges that an expression reads, those of its text: each name in it, in the order of the text (profile).
+pub fn reads(alloc: Global, e: &Typed) -> Result<Vec<BitRange>, AllocError>
+    ensures { IfOk result (λ ranges. ranges.items ≡ reads e.now) }
+{
+    let mut out = Vec::new(alloc);
+    push_reads(&mut out, e)?;
+    Ok(out)
+}
+
+/// The ranges that an assignment to a target writes (IEEE 1364-2005, clause 6).
+pub fn writes(alloc: Global, target: Target) -> Result<Vec<BitRange>, AllocError>
+    ensures { IfOk result (λ ranges. ranges.items ≡ writes target) }
+{
+    let mut out = Vec::new(alloc);
+    out.push(whole(target.signal))?;
+    Ok(out)
 }

@@ -1,23 +1,23 @@
 -- The faults of a source with a top.
-use Rattle.std.specs.Prelude.{◌≡◌, ℕ, suc, ◌<◌, true, List, [], ◌∷◌, Some, None, ◌⊎◌, length, map, take, slice_get}
-use Rattle.std.specs.List.{list_any}
+use Rattle.std.specs.Prelude.{◌≡◌, ℕ, suc, ◌<◌, true, List, [], ◌∷◌, Option, Some, None, ◌⊎◌, length, map, take, slice_get, if◌then◌else◌}
+use Rattle.std.specs.List.{list_any, flat_map}
 use Rattle.vs_syntax.specs.declared.tree.Module.{Module}
+use Rattle.vs_design.specs.Kinds.{is_variable}
 use Rattle.vs_elaborate.specs.declared.faults.Reason.{Reason}
 use Rattle.vs_elaborate.specs.declared.faults.Reason.TheVariants.{NoModule, DeclaredTwice, DrivenTwice, Limit, Width}
 use Rattle.vs_elaborate.specs.declared.faults.ElabFault.{ElabFault}
 use Rattle.vs_elaborate.specs.declared.faults.ElabFault.TheVariants.{Memory, At}
 use Rattle.vs_elaborate.specs.Printed.{Path, printed}
-use Rattle.vs_elaborate.specs.Environment.{is_net}
-use Rattle.vs_elaborate.specs.Scopes.{Scope, module_named, all_scopes, names_of, driven_of, drivers_of, behaviors_of, environment, named, signal_paths}
+use Rattle.vs_elaborate.specs.Scopes.{Scope, Assignment, Located, module_named, all_scopes, names_of, drivers_of, behaviors_of, environment, kinds, named, signal_paths}
 use Rattle.vs_elaborate.specs.Processes.{behavior_fault, driver_fault}
 
--- a name that stands twice among others
-pub record Repeated (names : List (List ℕ)) (n : List ℕ) : Type 0 where
+-- an element that stands twice among others
+pub record Repeated {A : Type 0} (xs : List A) (x : A) : Type 0 where
   pub first : ℕ
   pub second : ℕ
   pub before : first < second
-  pub one : slice_get names first ≡ Some n
-  pub other : slice_get names second ≡ Some n
+  pub one : slice_get xs first ≡ Some x
+  pub other : slice_get xs second ≡ Some x
 
 -- a name that a scope declares twice, by its path (clause 3.12)
 pub record DeclaresTwice (s : Scope) (p : Path) : Type 0 where
@@ -25,12 +25,18 @@ pub record DeclaresTwice (s : Scope) (p : Path) : Type 0 where
   pub repeated : Repeated (names_of s) name
   pub path : p ≡ named s name
 
--- a net of a scope that two continuous assignments drive, by its path (profile)
-pub record DrivesTwice (s : Scope) (p : Path) : Type 0 where
-  pub name : List ℕ
-  pub net : is_net (environment s) name ≡ true
-  pub repeated : Repeated (driven_of s) name
-  pub path : p ≡ named s name
+-- the path of a net; none of a variable, and where there is no signal (clause 4.2)
+abbrev pub net_path : Option Located → Option Path
+net_path None = None
+net_path (Some l) = if is_variable l.meaning.kind then None else Some l.path
+
+-- the nets that the continuous assignments of a scope drive, by their paths, in text order
+abbrev pub nets_driven : Scope → List (Option Path)
+nets_driven s = map (λ (a : Assignment). net_path (environment s a.target)) (drivers_of s)
+
+-- a net that two continuous assignments drive, by its path (profile)
+abbrev pub DrivesTwice : List Scope → Path → Type 0
+DrivesTwice ss p = Repeated (flat_map nets_driven ss) (Some p)
 
 -- two modules of one name, by that name (clause 3.12)
 pub record NamesTwice (ms : List Module) (p : Path) : Type 0 where
@@ -49,13 +55,12 @@ pub record PassesLimit (ss : List Scope) (p : Path) : Type 0 where
 -- a process or a continuous assignment of a scope that has the fault, by the scope's path
 abbrev pub HasFault : Scope → Reason → Path → Type 0
 HasFault s r p =
-    ((list_any (behavior_fault r (environment s)) (behaviors_of s) ≡ true) ⊎ (list_any (driver_fault r (environment s)) (drivers_of s) ≡ true)) × (p ≡ s.path)
+    ((list_any (behavior_fault r (kinds s)) (behaviors_of s) ≡ true) ⊎ (list_any (driver_fault r (kinds s)) (drivers_of s) ≡ true)) ×
+    (p ≡ s.path)
 
--- the condition of a fault in a scope, with its path: a name is declared twice, a net is driven twice, or a process or a
--- continuous assignment has the fault
+-- the condition of a fault in a scope, with its path: a name is declared twice, or a process or a continuous assignment has the fault
 abbrev pub Holds : Scope → Reason → Path → Type 0
 Holds s DeclaredTwice p = DeclaresTwice s p ⊎ HasFault s DeclaredTwice p
-Holds s DrivenTwice p = DrivesTwice s p ⊎ HasFault s DrivenTwice p
 Holds s r p = HasFault s r p
 
 -- a fault in one of these scopes
@@ -65,15 +70,15 @@ HoldsIn (s ∷ ss) r p = Holds s r p ⊎ HoldsIn ss r p
 
 -- the scopes of a source with a top
 abbrev pub scopes_of : List Module → List ℕ → List Scope
-scopes_of ms top = all_scopes (module_named ms top)
+scopes_of ms top = all_scopes ms (module_named ms top)
 
--- the condition of a fault that is none of a single scope: there is no such module, two modules have one name, or the signals
--- pass their limit
+-- the condition of a fault that is none of a single scope: there is no such module, two modules have one name, the signals pass their limit, or a
+-- net is driven twice
 abbrev pub HoldsAbove : List Module → List ℕ → Reason → Path → Type 0
 HoldsAbove ms top NoModule p = (module_named ms top ≡ None) × (p ≡ top ∷ [])
 HoldsAbove ms top DeclaredTwice p = NamesTwice ms p
 HoldsAbove ms top Limit p = PassesLimit (scopes_of ms top) p
-HoldsAbove ms top DrivenTwice p = ⊥
+HoldsAbove ms top DrivenTwice p = DrivesTwice (scopes_of ms top) p
 HoldsAbove ms top (Width w) p = ⊥
 
 -- the condition of a fault at a path, in a source with this top

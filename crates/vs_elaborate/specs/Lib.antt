@@ -6,9 +6,7 @@ pub mod Expressions
 pub mod Statements
 pub mod Scopes
 pub mod Processes
-pub mod Resolved
-pub mod Delays
 pub mod Faults
 pub mod DesignOf
-pub mod Frames
-pub mod WellFormed
+pub mod Texts
+pub mod passes

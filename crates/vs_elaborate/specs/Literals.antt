@@ -3,7 +3,7 @@ use Rattle.std.specs.Prelude.{ℕ, ◌+◌, ◌*◌, ◌^◌, Bool, true, false,
 use Rattle.vs_logic4.specs.declared.digit.Digit.{Digit}
 use Rattle.vs_logic4.specs.declared.digit.Digit.TheVariants.{Zero, One, X, Z}
 use Rattle.vs_logic4.specs.Vectors.{top_digit}
-use Rattle.vs_lexer.specs.declared.token.Literal.{Literal}
+use Rattle.vs_tokens.specs.declared.token.Literal.{Literal}
 
 -- the number that digits stand for without a sign, where none is x or z (clause 3.5.1)
 abbrev pub number_of : List Digit → Option ℕ

@@ -1,7 +1,8 @@
 -- Scopes of a source, and what they declare.
-use Rattle.std.specs.Prelude.{◌≡◌, ℕ, false, List, [], ◌∷◌, ◌++◌, Option, Some, None, map, find, slice_get}
+use Rattle.std.specs.Prelude.{◌≡◌, ℕ, zero, suc, Bool, false, List, [], ◌∷◌, ◌++◌, Option, Some, None, map, find, slice_get, option_map}
 use Rattle.std.specs.List.{flat_map}
 use Rattle.std.specs.Str.{bytes_eq}
+use Rattle.vs_logic4.specs.declared.digit.Digit.{Digit}
 use Rattle.vs_syntax.specs.declared.tree.Declarator.{Declarator}
 use Rattle.vs_syntax.specs.declared.tree.NetAssignment.{NetAssignment}
 use Rattle.vs_syntax.specs.declared.tree.Expr.{Expr}
@@ -11,15 +12,29 @@ use Rattle.vs_syntax.specs.declared.tree.Item.TheVariants.{Wire, Reg, Assign, In
 use Rattle.vs_syntax.specs.declared.tree.Stmt.{Stmt}
 use Rattle.vs_design.specs.declared.signal.SignalKind.{SignalKind}
 use Rattle.vs_design.specs.declared.signal.SignalKind.TheVariants as k
-use Rattle.vs_elaborate.specs.declared.expressions.Shape.{Shape}
-use Rattle.vs_elaborate.specs.declared.expressions.Meaning.{Meaning}
+use Rattle.vs_design.specs.declared.design.ScopeKind.{ScopeKind}
+use Rattle.vs_design.specs.declared.design.ScopeKind.TheVariants as scopes
+use Rattle.vs_elaborate.specs.declared.bindings.Shape.{Shape}
+use Rattle.vs_elaborate.specs.declared.bindings.Meaning.{Meaning}
 use Rattle.vs_elaborate.specs.Printed.{Path}
+use Rattle.vs_elaborate.specs.Names.{meaning_of}
 use Rattle.vs_elaborate.specs.Environment.{Environment}
 
--- a module where it is instantiated, by its path from the top (clause 12.4)
+-- a constant that a scope declares: its name, its digits with the lowest first, and its sign (clause 12.2)
+pub record Constant : Type 0 where
+  pub name : List ℕ
+  pub value : List Digit
+  pub signed : Bool
+
+-- A scope: its path from the top, its own name, what opened it, its items, the path of the scope around it, and its constants (clauses 12.4 and
+-- 12.7). Nothing declares a constant yet: profile.
 pub record Scope : Type 0 where
   pub path : Path
-  pub body : Module
+  pub name : List ℕ
+  pub kind : ScopeKind
+  pub items : List Item
+  pub around : Option Path
+  pub constants : List Constant
 
 -- the first module of a name
 abbrev pub module_named : List Module → List ℕ → Option Module
@@ -27,12 +42,32 @@ module_named ms n = find (λ m. bytes_eq n m.name.items) ms
 
 -- the scope of the top module, under the module's name (clause 12.1.1)
 abbrev pub top_scope : Module → Scope
-top_scope m = record { path = m.name.items ∷ []; body = m }
+top_scope m = record {
+  path = m.name.items ∷ [];
+  name = m.name.items;
+  kind = scopes.Module;
+  items = m.items.items;
+  around = None;
+  constants = [];
+}
 
--- the scopes below a top in design order (clause 12; without instances, the top alone: profile)
-abbrev pub all_scopes : Option Module → List Scope
-all_scopes None = []
-all_scopes (Some m) = top_scope m ∷ []
+-- the scopes right inside a scope, in design order; without instances and blocks there are none (clause 12; profile)
+abbrev pub inner : List Module → Scope → List Scope
+inner ms s = []
+
+-- a scope and those inside it down to so many levels, in design order
+abbrev pub scopes_within : ℕ → List Module → Scope → List Scope
+scopes_within zero ms s = s ∷ []
+scopes_within (suc n) ms s = s ∷ flat_map (scopes_within n ms) (inner ms s)
+
+-- a design has at most so many levels of scopes (profile)
+abbrev pub levels : ℕ
+levels = 64
+
+-- the scopes below a top in design order (clause 12)
+abbrev pub all_scopes : List Module → Option Module → List Scope
+all_scopes ms None = []
+all_scopes ms (Some m) = scopes_within levels ms (top_scope m)
 
 -- a name that a scope declares, and as what (clause 4.2)
 pub record DeclaredName : Type 0 where
@@ -80,18 +115,22 @@ pub data Behavior : Type 0 where
   runs : Stmt → Behavior
   repeats : Stmt → Behavior
 
+abbrev pub setting : List ℕ → Option Expr → List Behavior
+setting n None = []
+setting n (Some e) = sets (record { target = n; value = e }) ∷ []
+
 -- the processes of an item: declaration assignments of variables, which act as `initial`, and an `initial` or `always`
 -- (clauses 6.2.1, 9.9.1 and 9.9.2)
 abbrev pub behaviors_in : Item → List Behavior
 behaviors_in (Wire ds) = []
-behaviors_in (Reg ds) = map sets (values_of ds.items)
+behaviors_in (Reg ds) = flat_map (λ (d : Declarator). setting d.name.items d.value) ds.items
 behaviors_in (Assign xs) = []
 behaviors_in (Initial x) = runs x ∷ []
 behaviors_in (Always x) = repeats x ∷ []
 
 -- the names that a scope declares, in text order
 abbrev pub declarations_of : Scope → List DeclaredName
-declarations_of s = flat_map declared_in s.body.items.items
+declarations_of s = flat_map declared_in s.items
 
 abbrev pub names_in : List DeclaredName → List (List ℕ)
 names_in ds = map (λ (d : DeclaredName). d.name) ds
@@ -101,18 +140,11 @@ names_of s = names_in (declarations_of s)
 
 -- the continuous assignments of a scope, in text order
 abbrev pub drivers_of : Scope → List Assignment
-drivers_of s = flat_map drivers_in s.body.items.items
-
-abbrev pub targets_in : List Assignment → List (List ℕ)
-targets_in ds = map (λ (a : Assignment). a.target) ds
-
--- the names that the continuous assignments of a scope drive, in text order
-abbrev pub driven_of : Scope → List (List ℕ)
-driven_of s = targets_in (drivers_of s)
+drivers_of s = flat_map drivers_in s.items
 
 -- the processes of a scope, in text order
 abbrev pub behaviors_of : Scope → List Behavior
-behaviors_of s = flat_map behaviors_in s.body.items.items
+behaviors_of s = flat_map behaviors_in s.items
 
 -- the size and sign of a signal without a range (clause 4.3.1)
 abbrev pub scalar : Shape
@@ -122,16 +154,30 @@ scalar = record { width = 1; signed = false }
 abbrev pub meaning_as : SignalKind → Meaning
 meaning_as kind = record { kind = kind; shape = scalar }
 
-abbrev pub meanings : List DeclaredName → Environment
-meanings ds = map (λ (d : DeclaredName). (d.name, meaning_as d.kind)) ds
-
--- what the names of a scope mean
-abbrev pub environment : Scope → Environment
-environment s = meanings (declarations_of s)
-
 -- the path of a name of a scope (clause 12.4)
 abbrev pub named : Scope → List ℕ → Path
 named s n = s.path ++ n ∷ []
+
+-- what a name means, and the path of what it names
+pub record Located : Type 0 where
+  pub meaning : Meaning
+  pub path : Path
+
+-- declared names of a scope, each with what it means
+abbrev pub located : Scope → List DeclaredName → List (List ℕ × Located)
+located s ds = map (λ (d : DeclaredName). (d.name, record { meaning = meaning_as d.kind; path = named s d.name })) ds
+
+-- what each name means in a scope, with the path of what it names: what the scope declares (clause 12.7)
+abbrev pub environment : Scope → List ℕ → Option Located
+environment s n = meaning_of (located s (declarations_of s)) n
+
+-- the kinds, sizes and signs that names have in a scope
+abbrev pub kinds : Scope → Environment
+kinds s n = option_map (λ (l : Located). l.meaning) (environment s n)
+
+-- the path that a name has in a scope, where it means something
+abbrev pub path_of : Scope → List ℕ → Option Path
+path_of s n = option_map (λ (l : Located). l.path) (environment s n)
 
 -- the paths of the signals of scopes, in design order
 abbrev pub signal_paths : List Scope → List Path
@@ -141,6 +187,8 @@ signal_paths ss = flat_map (λ s. map (named s) (names_of s)) ss
 abbrev pub IsNamed : List Scope → ℕ → Path → Type 0
 IsNamed ss i p = slice_get (signal_paths ss) i ≡ Some p
 
--- the signal of this number is the one that a scope declares under this name
-abbrev pub IsNamedIn : List Scope → Scope → ℕ → List ℕ → Type 0
-IsNamedIn ss s i n = IsNamed ss i (named s n)
+-- the signal of this number is the one that a name means in a scope
+pub record IsNamedIn (ss : List Scope) (s : Scope) (i : ℕ) (n : List ℕ) : Type 0 where
+  pub path : Path
+  pub meant : path_of s n ≡ Some path
+  pub stands : IsNamed ss i path

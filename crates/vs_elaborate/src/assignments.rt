@@ -1,9 +1,11 @@
 //! Assignments with their targets as numbers of signals.
-ghost use Rattle.std.specs.Prelude.{◌≡◌, ◌+◌, ◌<◌, ◌^◌, length, MatchResult};
-ghost use Rattle.vs_elaborate.specs.Statements.{takes};
-ghost use Rattle.vs_elaborate.specs.Resolved.{HasSizes, FindsTarget, MeansAssignment, FaultsTarget, FaultsAssignment};
+ghost use Rattle.std.specs.Prelude.{◌≡◌};
+ghost use Rattle.vs_elaborate.specs.Statements.{takes, assign_fault, IsAssignment};
+ghost use Rattle.vs_elaborate.specs.passes.Answers.{Elaborates};
+ghost use Rattle.vs_elaborate.specs.passes.Bodies.{meanings, IsNumber, target_fault, IsTarget};
 
-use crate::expressions::{Meaning, Shape, UNKNOWN, shape_of_expression, typed};
+use crate::bindings::{Binding, Shape};
+use crate::expressions::{UNKNOWN, shape_of_expression, typed};
 use crate::faults::{BodyFault, Reason, WidthReason};
 use crate::names::Names;
 use std::alloc::Global;
@@ -31,48 +33,46 @@ fn takes_kind(how: AssignmentKind, kind: SignalKind) -> bool
     }
 }
 
-/// The target of an assignment: its place among the signals of the scope, and its size and sign.
+/// What the target of an assignment is bound to.
 fn target_of(
-    names: &Names<Meaning>,
+    names: &Names<Binding>,
     how: AssignmentKind,
     target: &[u8],
-) -> Result<(usize, Shape), BodyFault>
-    ensures { MatchResult result (FindsTarget how names.now target.now) (FaultsTarget how names.now target.now) }
+) -> Result<Binding, BodyFault>
+    ensures { Elaborates (target_fault how (meanings names.now) target.now) (IsTarget names.now target.now) result }
 {
-    let Some((place, meaning)) = names.find(target) else {
+    let Some(binding) = names.find(target) else {
         return Err(UNKNOWN);
     };
-    if !takes_kind(how, meaning.kind) {
+    if !takes_kind(how, binding.meaning.kind) {
         return Err(BodyFault::Refused(Reason::Width(WidthReason::WrongKind)));
     }
-    Ok((place, meaning.shape))
+    Ok(binding)
 }
 
-/// The two sides of an assignment of this kind. The scope's signals are numbered from `base` on.
+/// The two sides of an assignment of this kind.
 pub fn assignment(
     alloc: Global,
-    names: &Names<Meaning>,
-    base: usize,
+    names: &Names<Binding>,
     how: AssignmentKind,
     target: &[u8],
     e: &Expr,
 ) -> Result<(Target, Typed), BodyFault>
-    requires sizes { HasSizes names.now }
-    requires numbers { base + length names.now < 2 ^ 64 }
-    ensures { MatchResult result (λ p. MeansAssignment base how names.now target.now e.now p.0 p.1) (FaultsAssignment how names.now target.now e.now) }
+    ensures { Elaborates (λ r. assign_fault r how (meanings names.now) target.now e.now)
+        (λ p. IsAssignment (IsNumber names.now) (meanings names.now) target.now e.now p.0 p.1) result }
 {
-    let (place, left) = target_of(names, how, target)?;
+    let left = target_of(names, how, target)?;
     let Some(right) = shape_of_expression(names, e) else {
         return Err(UNKNOWN);
     };
     let context = Shape {
-        width: left.width.max(right.width),
+        width: left.meaning.shape.width.max(right.width),
         signed: right.signed,
     };
-    let source = typed(alloc, names, base, context, e)?;
+    let source = typed(alloc, names, context, e)?;
     let target = Target {
-        signal: base + place,
-        width: left.width,
+        signal: left.signal,
+        width: left.meaning.shape.width,
     };
     Ok((target, source))
 }

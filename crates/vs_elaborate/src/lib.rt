@@ -2,17 +2,20 @@
 #![tactic(auto)]
 
 mod assignments;
+mod bindings;
+mod declarations;
+mod drivers;
 mod expressions;
 mod faults;
-mod frames;
 mod literals;
 mod names;
+mod plans;
 mod printed;
-mod scopes;
+mod processes;
 mod source;
 mod statements;
-#[cfg(test)]
-mod tests;
+mod texts;
 
 pub use faults::{ElabFault, Reason, WidthReason};
 pub use source::elaborate;
+pub use texts::fault_text;

@@ -1,22 +1,19 @@
-//! Names and what they mean, in the order of their declarations.
-ghost use Rattle.std.specs.Prelude.{◌≡◌, ℕ, ◌<◌, ◌++◌, ◌∷◌, [], Some, None, length, map, IsSome, IfOk, MatchOption};
-ghost use Rattle.std.specs.List.{IsDistinct};
-ghost use Rattle.std.specs.Map.{keys_of};
-ghost use Rattle.std.specs.Str.{bytes_eq};
-ghost use Rattle.vs_elaborate.specs.Names.{meaning_of, place_of, Declares};
+//! Names and what they mean.
+ghost use Rattle.std.specs.Prelude.{◌≡◌, ℕ, [], Some, None, IfOk};
+ghost use Rattle.vs_elaborate.specs.Names.{meaning_of, Declares};
 
-use indexmap::IndexMap;
 use std::alloc::{AllocFailed, Global};
+use std::collections::BTreeMap;
 use std::marker::Model;
 
-/// Names, each with its meaning, in the order of their declarations.
+/// Names, each with its meaning. They are kept in order, so that no choice of names makes a look-up slow.
 #[derive(Drop)]
 pub struct Names<'s, V: Copy> {
-    meanings: IndexMap<&'s [u8], V>,
+    meanings: BTreeMap<&'s [u8], V>,
 }
 
 impl<'s, V: Copy> Model for Names<'s, V> {
-    ghost use Rattle.std.specs.Prelude.{List, ℕ, map};
+    ghost use Rattle.std.specs.Prelude.{List, ℕ};
     ghost use Rattle.vs_elaborate.specs.Names.{by_bytes};
 
     ghost Value = { List (List ℕ × V) };
@@ -30,7 +27,7 @@ impl<'s, V: Copy> Names<'s, V> {
         ensures { result ≡ [] }
     {
         Names {
-            meanings: IndexMap::new(alloc),
+            meanings: BTreeMap::new(alloc),
         }
     }
 
@@ -49,19 +46,13 @@ impl<'s, V: Copy> Names<'s, V> {
         Ok(true)
     }
 
-    /// How many names there are.
-    pub fn len(&self) -> usize
-        ensures len { result ≡ length self.now }
-        ensures unique { IsDistinct bytes_eq (keys_of self.now) }
+    /// What a name means, where it is declared.
+    pub fn find(&self, name: &[u8]) -> Option<V>
+        ensures { result ≡ meaning_of self.now name.now }
     {
-        self.meanings.len()
-    }
-
-    /// The place of a name in the order of declarations, and its meaning.
-    pub fn find(&self, name: &[u8]) -> Option<(usize, V)>
-        ensures { MatchOption result (meaning_of self.now name.now ≡ None) (λ p. (meaning_of self.now name.now ≡ Some p.1) × (p.0 ≡ place_of self.now name.now) × (p.0 < length self.now)) }
-    {
-        let (place, _, meaning) = self.meanings.get_full(name)?;
-        Some((place, *meaning))
+        match self.meanings.get(name) {
+            Some(meaning) => Some(*meaning),
+            None => None,
+        }
     }
 }

@@ -2,8 +2,8 @@
 ghost use Rattle.std.specs.Prelude.{◌≡◌, ◌<◌, ◌++◌, ◌∷◌, [], length, IfOk, OnOk};
 ghost use Rattle.std.specs.List.{list_all};
 ghost use Rattle.vs_elaborate.specs.Printed.{is_letter, is_name_byte, is_simple, printed_name, printed};
-ghost use Rattle.vs_elaborate.specs.Frames.{borrowed};
-ghost use Rattle.vs_elaborate.specs.DesignOf.{part_name};
+ghost use Rattle.vs_elaborate.specs.passes.Answers.{borrowed};
+ghost use Rattle.vs_elaborate.specs.DesignOf.{own_name, part_name};
 
 use std::alloc::{AllocError, Global};
 
@@ -96,7 +96,7 @@ pub fn print_part(
     letter: u8,
     number: usize,
 ) -> Result<Vec<u8>, AllocError>
-    ensures { IfOk result (λ v. v.items ≡ part_name letter (borrowed path.now) number) }
+    ensures { IfOk result (λ v. v.items ≡ part_name (borrowed path.now) (own_name letter number)) }
 {
     let mut text = print_path(alloc, path)?;
     text.push(b'#')?;

@@ -1,23 +1,26 @@
 //! Designs of sources.
-ghost use Rattle.std.specs.Prelude.{◌≡◌, ◌<◌, length, IfOk, MatchResult};
-ghost use Rattle.vs_elaborate.specs.Printed.{printed_name};
+ghost use Rattle.std.specs.Prelude.{◌≡◌, ◌<◌, ◌≤◌, ◌∷◌, [], length, IfOk, MatchResult, OnOk, IfErr, All};
+ghost use Rattle.std.specs.List.{IsDistinct};
+ghost use Rattle.std.specs.Prelude.{nat_eq};
 ghost use Rattle.vs_elaborate.specs.Faults.{Faults};
 ghost use Rattle.vs_elaborate.specs.DesignOf.{DesignOf};
-ghost use Rattle.vs_elaborate.specs.WellFormed.{WellFormed};
-ghost use Rattle.vs_elaborate.specs.Frames.{scope_of, IsFaultAt, Opens, FaultsScope, Lists, FaultsListing, Finds, FaultsFinding};
+ghost use Rattle.vs_elaborate.specs.passes.Answers.{IsFaultAt, Told};
+ghost use Rattle.vs_elaborate.specs.passes.Plans.{scope_of, Opens, OpensNot, Lists, ListsNot, Finds, FindsNot, driven_signals, IsDrivenTwice, DrivenTwiceOnly};
 
+use crate::declarations::declare;
+use crate::drivers::drive_items;
 use crate::faults::{ElabFault, Reason};
-use crate::frames::Frame;
 use crate::names::Names;
+use crate::plans::{Frame, Plan};
 use crate::printed::print_name;
-use crate::scopes::{assigns, declare, outline, processes};
+use crate::processes::run_items;
 use std::alloc::Global;
-use vs_design::Design;
+use vs_design::{DEFAULT_TIMESCALE, Design, Entry, ScopeKind};
 use vs_syntax::{Module, Source};
 
 /// A fault at a module's name.
 fn module_fault(alloc: Global, name: &[u8], reason: Reason) -> ElabFault
-    ensures { IsFaultAt reason (printed_name name.now) result }
+    ensures { IsFaultAt reason (name.now ∷ []) result }
 {
     match print_name(alloc, name) {
         Ok(path) => ElabFault::At(reason, path),
@@ -25,17 +28,19 @@ fn module_fault(alloc: Global, name: &[u8], reason: Reason) -> ElabFault
     }
 }
 
-/// The names of modules, which differ, in text order.
-fn list_modules<'s>(alloc: Global, modules: &'s [Module]) -> Result<Names<'s, ()>, ElabFault>
-    ensures { MatchResult result (Lists modules.entry.now) (FaultsListing modules.entry.now) }
+/// Modules by their names, which differ.
+fn list_modules<'s>(
+    alloc: Global,
+    modules: &'s [Module],
+) -> Result<Names<'s, &'s Module>, ElabFault>
+    ensures { MatchResult result (Lists modules.entry.now) (Told (ListsNot modules.entry.now)) }
 {
     let mut names = Names::new(alloc);
     for module in modules {
-        if !names.declare(&module.name, ())? {
+        if !names.declare(&module.name, module)? {
             return Err(module_fault(alloc, &module.name, Reason::DeclaredTwice));
         }
     }
-    let _ = names.len();
     Ok(names)
 }
 
@@ -45,38 +50,76 @@ fn find_module<'s>(
     modules: &'s [Module],
     top: &[u8],
 ) -> Result<&'s Module, ElabFault>
-    ensures { MatchResult result (λ m. Finds modules.entry.now top.now m.now) (FaultsFinding modules.entry.now top.now) }
+    ensures { MatchResult result (λ m. Finds modules.entry.now top.now m.now) (Told (FindsNot modules.entry.now top.now)) }
 {
     let names = list_modules(alloc, modules)?;
     match names.find(top) {
-        Some((place, _)) => Ok(&modules[place]),
+        Some(module) => Ok(module),
         None => Err(module_fault(alloc, top, Reason::NoModule)),
     }
 }
 
-/// The design of one scope.
-fn open(alloc: Global, frame: &Frame) -> Result<Design, ElabFault>
-    requires { 0 < length frame.now.path.items }
-    ensures { MatchResult result (Opens (scope_of frame.now)) (FaultsScope (scope_of frame.now)) }
+/// Adds a scope.
+fn open(alloc: Global, frame: &Frame, plan: &mut Plan) -> Result<(), ElabFault>
+    requires rooted { 0 < length frame.now.path.items }
+    requires room { length plan.old.signals.items ≤ 65536 }
+    ensures { MatchResult result (λ _. Opens (scope_of frame.now) plan.old plan.new) (Told (OpensNot (scope_of frame.now) plan.old)) }
 {
-    let mut signals = Vec::new(alloc);
-    let names = declare(alloc, frame, &mut signals)?;
-    let assigns = assigns(alloc, frame, &names, 0)?;
-    let processes = processes(alloc, frame, &names, 0)?;
-    let outline = outline(alloc, frame, 0, names.len())?;
-    Ok(Design::new(signals, assigns, processes, outline))
+    let title = print_name(alloc, frame.name)?;
+    plan.outline.push(Entry::Enter(frame.kind, title))?;
+    let mut names = Names::new(alloc);
+    declare(alloc, frame, frame.items, &mut names, plan)?;
+    let first = plan.assigns.len();
+    drive_items(alloc, frame, &names, first, frame.items, plan)?;
+    let first = plan.processes.len();
+    run_items(alloc, frame, &names, first, frame.items, plan)?;
+    plan.outline.push(Entry::Leave)?;
+    Ok(())
+}
+
+/// Sees that no two continuous assignments drive one net.
+fn check_drivers(alloc: Global, plan: &Plan) -> Result<(), ElabFault>
+    requires { All (λ n. n < length plan.now.signals.items) (driven_signals plan.now.assigns.items) }
+    ensures none { OnOk result (IsDistinct nat_eq (driven_signals plan.now.assigns.items)) }
+    ensures one { IfErr result (DrivenTwiceOnly plan.now) }
+{
+    let mut driven = vec![in alloc; false; plan.signals.len()]?;
+    for assign in &plan.assigns {
+        let number = assign.target.signal;
+        if driven[number] {
+            let path = plan.signals[number].path.clone()?;
+            return Err(ElabFault::At(Reason::DrivenTwice, path));
+        }
+        driven[number] = true;
+    }
+    Ok(())
 }
 
 /// The design that a source and the name of its top module define (IEEE 1364-2005, clause 12): the name's own bytes, without
 /// the backslash of an escaped one. A refusal has the printed path where its fault stands; where several stand, it names any
 /// one of them. `Memory` is answered only where a growth was refused.
 pub fn elaborate(alloc: Global, source: &Source, top: &[u8]) -> Result<Design, ElabFault>
-    ensures defined { MatchResult result (DesignOf source.now.modules.items top.now) (Faults source.now.modules.items top.now) }
-    ensures well_formed { IfOk result WellFormed }
+    ensures { MatchResult result (DesignOf source.now.modules.items top.now) (Faults source.now.modules.items top.now) }
 {
     let module = find_module(alloc, &source.modules, top)?;
     let mut path = Vec::new(alloc);
     path.push(module.name.as_slice())?;
-    let frame = Frame { path, body: module };
-    open(alloc, &frame)
+    let frame = Frame {
+        path,
+        name: &module.name,
+        kind: ScopeKind::Module,
+        items: &module.items,
+    };
+    let mut plan = Plan::new(alloc);
+    open(alloc, &frame, &mut plan)?;
+    check_drivers(alloc, &plan)?;
+    let design = Design::new(
+        alloc,
+        DEFAULT_TIMESCALE,
+        plan.signals,
+        plan.assigns,
+        plan.processes,
+        plan.outline,
+    )?;
+    Ok(design)
 }

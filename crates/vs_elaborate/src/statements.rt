@@ -1,14 +1,13 @@
-//! Statements with names as numbers of signals and delays as ticks.
-ghost use Rattle.std.specs.Prelude.{◌+◌, ◌<◌, ◌^◌, length, MatchResult};
-ghost use Rattle.vs_elaborate.specs.Statements.{IsStatement, AreStatements};
-ghost use Rattle.vs_elaborate.specs.Resolved.{placed, HasSizes, IsSoundBody, AreSoundBodies, FaultsBody, FaultsBodies, FaultsProcess};
-ghost use Rattle.vs_elaborate.specs.Frames.{behavior, MeansBody};
-ghost use Rattle.vs_elaborate.specs.Delays.{IsDelay, FaultsDelay};
+//! Statements with names as numbers of signals, delays as ticks, and numbers of their own.
+ghost use Rattle.std.specs.Prelude.{◌≡◌, ◌+◌, Some};
+ghost use Rattle.vs_elaborate.specs.Literals.{delay_of};
+ghost use Rattle.vs_elaborate.specs.Statements.{delay_fault};
+ghost use Rattle.vs_elaborate.specs.passes.Answers.{Elaborates};
+ghost use Rattle.vs_elaborate.specs.passes.Bodies.{MeansStatement, MeansStatements, statement_fault, statements_fault, overfull_fault, meanings};
 
 use crate::assignments::{AssignmentKind, assignment};
-use crate::expressions::Meaning;
+use crate::bindings::Binding;
 use crate::faults::{BodyFault, Reason, WidthReason};
-use crate::frames::Work;
 use crate::literals::delay_ticks;
 use crate::names::Names;
 use std::alloc::Global;
@@ -20,11 +19,11 @@ use vs_syntax::Stmt;
 const DELAY_LIMIT: u64 = 1 << 62;
 
 /// The kind of an assignment that is a statement.
-const PROCEDURAL: AssignmentKind = AssignmentKind::Procedural;
+pub const PROCEDURAL: AssignmentKind = AssignmentKind::Procedural;
 
 /// The ticks of a delay.
 fn delay(literal: Literal) -> Result<Ticks, BodyFault>
-    ensures { MatchResult result (IsDelay literal) (FaultsDelay literal) }
+    ensures { Elaborates (λ r. delay_fault r literal) (λ n. delay_of literal ≡ Some n.count) result }
 {
     let Some(ticks) = delay_ticks(literal) else {
         return Err(BodyFault::Refused(Reason::Width(WidthReason::NotConstant)));
@@ -35,63 +34,54 @@ fn delay(literal: Literal) -> Result<Ticks, BodyFault>
     Ok(Ticks { count: ticks })
 }
 
-/// A statement of a scope whose signals are numbered from `base` on.
-#[cycle(statement)]
-pub fn statement(
-    alloc: Global,
-    names: &Names<Meaning>,
-    base: usize,
-    s: &Stmt,
-) -> Result<Statement, BodyFault>
-    requires sizes { HasSizes names.now }
-    requires numbers { base + length names.now < 2 ^ 64 }
-    ensures { MatchResult result (λ d. IsSoundBody names.now s.now × IsStatement (placed base names.now) names.now s.now d) (FaultsBody names.now s.now) }
+/// The number of a statement, which is the next one.
+pub fn take_number(next: &mut u32) -> Result<u32, BodyFault>
+    ensures { Elaborates (overfull_fault next.old) (λ number. (number ≡ next.old) × (next.new ≡ next.old + 1)) result }
 {
-    match s {
-        Stmt::Null => Ok(Statement::Null),
-        Stmt::Assign(target, e) => {
-            let (target, source) = assignment(alloc, names, base, PROCEDURAL, target, e)?;
-            Ok(Statement::Assign(target, source))
+    let number = *next;
+    match number.checked_add(1) {
+        Some(more) => {
+            *next = more;
+            Ok(number)
         }
-        Stmt::Later(target, e) => {
-            let (target, source) = assignment(alloc, names, base, PROCEDURAL, target, e)?;
-            Ok(Statement::Later(target, source))
-        }
-        Stmt::Block(inner) => {
-            let inner = statements(alloc, names, base, inner)?;
-            Ok(Statement::Block(inner))
-        }
-        Stmt::Delay(literal, body) => {
-            let ticks = delay(*literal)?;
-            let body = statement(alloc, names, base, body)?;
-            let body = Box::new(alloc, body)?;
-            Ok(Statement::Delay(ticks, body))
-        }
+        None => Err(BodyFault::Refused(Reason::Limit)),
     }
 }
 
-/// The body of a process of a scope whose signals are numbered from `base` on.
-pub fn body_of(
+/// A statement, and those in it. Its number is `next`, which moves on behind those that are given away.
+#[cycle(statement)]
+pub fn statement(
     alloc: Global,
-    names: &Names<Meaning>,
-    base: usize,
-    work: Work,
+    names: &Names<Binding>,
+    next: &mut u32,
+    s: &Stmt,
 ) -> Result<Statement, BodyFault>
-    requires sizes { HasSizes names.now }
-    requires numbers { base + length names.now < 2 ^ 64 }
-    ensures { MatchResult result (MeansBody base names.now (behavior work.entry)) (FaultsProcess names.now (behavior work.entry)) }
+    ensures { Elaborates (statement_fault (meanings names.now) next.old s.now) (λ d. MeansStatement names.now next.old s.now d next.new) result }
 {
-    match work {
-        Work::Set(one) => {
-            let (target, source) = assignment(
-                alloc, names, base, PROCEDURAL, one.target, one.value,
-            )?;
-            Ok(Statement::Assign(target, source))
+    match s {
+        Stmt::Null => {
+            let number = take_number(next)?;
+            Ok(Statement::Null(number))
         }
-        Work::Run(body) => statement(alloc, names, base, body),
-        Work::Repeat(body) => {
-            let body = statement(alloc, names, base, body)?;
-            Ok(Statement::Forever(Box::new(alloc, body)?))
+        Stmt::Assign(target, e) => {
+            let number = take_number(next)?;
+            let (target, source) = assignment(alloc, names, PROCEDURAL, target, e)?;
+            Ok(Statement::Assign(number, target, source))
+        }
+        Stmt::Later(target, e) => {
+            let number = take_number(next)?;
+            let (target, source) = assignment(alloc, names, PROCEDURAL, target, e)?;
+            Ok(Statement::Later(number, target, source))
+        }
+        Stmt::Block(inner) => {
+            let inner = statements(alloc, names, next, inner)?;
+            Ok(Statement::Block(inner))
+        }
+        Stmt::Delay(literal, body) => {
+            let number = take_number(next)?;
+            let ticks = delay(*literal)?;
+            let body = statement(alloc, names, next, body)?;
+            Ok(Statement::Delay(number, ticks, Box::new(alloc, body)?))
         }
     }
 }
@@ -100,18 +90,17 @@ pub fn body_of(
 #[cycle(statement)]
 fn statements(
     alloc: Global,
-    names: &Names<Meaning>,
-    base: usize,
+    names: &Names<Binding>,
+    next: &mut u32,
     all: &[Stmt],
 ) -> Result<Vec<Statement>, BodyFault>
-    requires sizes { HasSizes names.now }
-    requires numbers { base + length names.now < 2 ^ 64 }
-    ensures { MatchResult result (λ d. AreSoundBodies names.now all.now × AreStatements (placed base names.now) names.now all.now d.items) (FaultsBodies names.now all.now) }
+    ensures { Elaborates (statements_fault (meanings names.now) next.old all.now) (λ d. MeansStatements names.now next.old all.now d.items next.new) result }
 {
     let mut done = Vec::new(alloc);
     for s in all {
-        let one = statement(alloc, names, base, s)?;
+        let one = statement(alloc, names, next, s)?;
         done.push(one)?;
     }
+    let _behind = *next;
     Ok(done)
 }

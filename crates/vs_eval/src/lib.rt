@@ -1,53 +1,52 @@
-//! The values of expressions in a store (IEEE 1364-2005, clause 5).
+//! The values of expressions in a store (IEEE 1364-2005, clause 5), and the writes of assignments.
 #![tactic(auto)]
 
 ghost use Rattle.std.specs.Prelude.{◌≡◌, map};
-ghost use Rattle.vs_eval.specs.Values.{value_of, target_value, operand_value, bitwise, chained};
+ghost use Rattle.vs_eval.specs.Laws.{ReadsHold};
+ghost use Rattle.vs_eval.specs.Targets.{assigned};
+ghost use Rattle.vs_eval.specs.Values.{value_of, target_value, operand_value, linked, chained};
 ghost use Rattle.vs_design.specs.Stores.{word_of};
 
-use vs_design::{Operand, Operator, Store, Target, Typed};
+use vs_design::{Link, Operand, Part, Store, Target, Typed, Write};
 use vs_logic4::Vec4;
 
-/// The value of an expression in a store, at the size and with the sign of its context.
+/// The value of an expression in a store at a time in ticks, at the size and with the sign of its context.
 #[cycle(value)]
-pub fn value(e: &Typed, store: &Store) -> Vec4
-    ensures { result ≡ value_of e.now store.now }
+pub fn value(e: &Typed, store: &Store, time: u64) -> Vec4
+    ensures { result ≡ value_of e.now store.now time }
 {
     match e {
         Typed::Number(digits) => *digits,
         Typed::Signal(o) => operand(*o, store),
-        Typed::Not(x) => value(x, store).not(),
-        Typed::Bitwise(operator, first, others) => {
-            chain(*operator, value(first, store), others, store)
-        }
+        Typed::Unary(operator, x) => operator.of(value(x, store, time)),
+        Typed::Chain(first, links) => chain(value(first, store, time), links, store, time),
     }
 }
 
-// What an operator gives of a first value and those of further operands, from left to right.
+/// What a first value and the links behind it give, from left to right.
 #[cycle(value)]
-fn chain(operator: Operator, first: Vec4, others: &[Typed], store: &Store) -> Vec4
-    ensures { result ≡ chained operator first (map (λ e. value_of e store.now) others.now) }
+fn chain(first: Vec4, links: &[(Link, Typed)], store: &Store, time: u64) -> Vec4
+    ensures { result ≡ chained first (map (λ l. (l.0, value_of l.1 store.now time)) links.now) }
 {
     let mut all = first;
-    for other in others {
-        all = combined(operator, all, value(other, store));
+    for (link, e) in links {
+        all = combined(all, *link, value(e, store, time));
     }
     all
 }
 
-// What an operator gives of two operands, of which the second one is brought to the size of the first.
-fn combined(operator: Operator, left: Vec4, right: Vec4) -> Vec4
-    ensures { result ≡ bitwise operator left right }
+/// What the operator of a link gives of the values on its two sides.
+fn combined(left: Vec4, link: Link, right: Vec4) -> Vec4
+    ensures { result ≡ linked left (link, right) }
 {
-    let sized = right.resize(left.width(), false);
-    match operator {
-        Operator::And => left.and(sized),
-        Operator::Xor => left.xor(sized),
-        Operator::Or => left.or(sized),
-    }
+    link.operator.of(
+        link.signed,
+        left.resize(link.width, false),
+        right.resize(link.width, false),
+    )
 }
 
-// The value of a signal where it stands in an expression.
+/// The value of a signal where it stands in an expression.
 fn operand(o: Operand, store: &Store) -> Vec4
     ensures { result ≡ operand_value o.signed o.width (word_of store.now o.signal 0) }
 {
@@ -57,9 +56,27 @@ fn operand(o: Operand, store: &Store) -> Vec4
     }
 }
 
-/// What a target gets of an expression: the value, cut to the target's size (IEEE 1364-2005, clause 5.4.1).
-pub fn cut_value(target: Target, e: &Typed, store: &Store) -> Vec4
-    ensures { result ≡ target_value target e.now store.now }
+/// What a target gets of an expression in a store at a time in ticks: the value, cut to the target's size (IEEE 1364-2005, clause 5.4.1).
+pub fn cut_value(target: Target, e: &Typed, store: &Store, time: u64) -> Vec4
+    ensures { result ≡ target_value target e.now store.now time }
 {
-    value(e, store).resize(target.width, false)
+    value(e, store, time).resize(target.width, false)
 }
+
+/// The write that gives a target these digits, its indices read in this store.
+pub fn write_of(target: Target, digits: Vec4, store: &Store) -> Write
+    ensures { result ≡ assigned target digits store.now }
+{
+    let _ = store;
+    Write::new(Part {
+        signal: target.signal,
+        word: 0,
+        low: 0,
+        digits,
+    })
+}
+
+/// The ranges that `reads` answers of an expression hold all that its value depends on.
+pub fn reads_hold()
+    ensures { ReadsHold }
+{}

@@ -1,3 +1,4 @@
-pub mod Firsts
-pub mod Running
-pub mod Writes
+pub mod ExecutionsLemmas
+pub mod RunsLemmas
+pub mod SourcesLemmas
+pub mod TouchesLemmas

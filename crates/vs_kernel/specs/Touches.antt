@@ -1,26 +1,32 @@
--- What a change of one signal does to continuous assignments, and what a step of a process does beyond its place.
-use Rattle.std.specs.Prelude.{ℕ, ◌||◌, Bool, true, false, Option, Some, None, List, [], ◌∷◌, ◌++◌}
-use Rattle.vs_logic4.specs.declared.digit.Digit.{Digit}
-use Rattle.vs_logic4.specs.Vectors.{same_digits}
-use Rattle.vs_design.specs.Uses.{reads_signal}
+-- Which continuous assignments a write wakes, and what a step of a process does beyond its place.
+use Rattle.std.specs.Prelude.{ℕ, ◌≡◌, true, false, List, [], ◌∷◌, ◌++◌, map}
+use Rattle.vs_design.specs.declared.design.Assign.{Assign}
+use Rattle.vs_design.specs.declared.readers.Reader.{Reader}
+use Rattle.vs_design.specs.Parts.{Parts}
+use Rattle.vs_design.specs.Stores.{changed_at}
 use Rattle.vs_process.specs.declared.effect.Effect.{Effect}
-use Rattle.vs_process.specs.declared.effect.Effect.TheVariants.{Nothing, Write, Queue}
-use Rattle.vs_process.specs.Effects.{whole}
-use Rattle.vs_process.specs.States.{Driver, State, written}
+use Rattle.vs_process.specs.declared.effect.Effect.TheVariants as e
+use Rattle.vs_process.specs.States.{AssignState, State, written}
 
--- a continuous assignment behind a change of this signal alone
-abbrev pub touched_by : ℕ → Driver → Driver
-touched_by signal x = record x { needs = x.needs || reads_signal x.source signal }
+-- a continuous assignment that has to be evaluated
+abbrev pub woken : AssignState → AssignState
+woken x = record x { needs = true }
 
--- whether a word is the same before and after
-abbrev pub is_kept : Option (List Digit) → Option (List Digit) → Bool
-is_kept None None = true
-is_kept (Some before) (Some after) = same_digits before after
-is_kept _ _ = false
+-- continuous assignments of which one has to be evaluated
+abbrev pub woken_in : ℕ → List AssignState → List AssignState
+woken_in assign xs = changed_at woken assign xs
+
+-- continuous assignments of which these readers have to be evaluated
+abbrev pub all_woken : List Reader → List AssignState → List AssignState
+all_woken [] xs = xs
+all_woken (r ∷ rs) xs = all_woken rs (woken_in r.assign xs)
+
+-- the continuous assignments of a state are those of the design: they evaluate the same expressions
+abbrev pub HasSources : Parts → State → Type 0
+HasSources d s = map (λ (x : AssignState). x.source) s.assigns ≡ map (λ (a : Assign). a.source) d.assigns
 
 -- the state behind what a step of a process does beyond its place
 abbrev pub behind_effect : State → ℕ → Effect → State
-behind_effect s process Nothing = s
-behind_effect s process (Write signal digits) = written s (whole signal digits)
-behind_effect s process (Queue signal digits) =
-    record s { updates = s.updates ++ record { by = process; due = s.time; active = false; what = whole signal digits } ∷ [] }
+behind_effect s process e.Nothing = s
+behind_effect s process (e.Write w) = written s w
+behind_effect s process (e.Update w) = record s { updates = s.updates ++ record { by = process; due = s.time; active = false; what = w } ∷ [] }

@@ -2,14 +2,14 @@
 //!
 //! It is a hint: what stands in it is tested before it is made, so that nothing of a run's contract rests on it.
 
-use crate::machine::Machine;
 use crate::policy::Pick;
+use crate::state::State;
 use std::alloc::{AllocError, Global};
 use std::collections::VecDeque;
 use vs_process::Move;
 
 /// An event of the list.
-#[derive(Clone, Copy, PartialEq, Eq, Debug)]
+#[derive(Clone, Copy, PartialEq, Eq)]
 pub(crate) enum Item {
     /// The evaluation of a continuous assignment, by its number.
     Evaluate(usize),
@@ -21,11 +21,11 @@ pub(crate) enum Item {
     Make(u64, usize),
 }
 
-/// A move and the place of its event in the list, where it stands in it.
+/// A move and the index of its event in the list, where it stands in it.
 #[derive(Clone, Copy)]
 pub(crate) struct Choice {
     pub(crate) choice: Move,
-    pub(crate) place: Option<usize>,
+    pub(crate) index: Option<usize>,
 }
 
 #[derive(Clone, Copy)]
@@ -56,29 +56,26 @@ pub(crate) struct Agenda {
 
 impl Agenda {
     /// The list at the start of a run: every continuous assignment, then every active process, in design order.
-    pub(crate) fn start(
-        alloc: Global,
-        signals: usize,
-        machine: &Machine,
-    ) -> Result<Self, AllocError> {
+    pub(crate) fn start(alloc: Global, signals: usize, state: &State) -> Result<Self, AllocError> {
         let mut agenda = Agenda {
             entries: VecDeque::new(alloc),
             hidden: 0,
             claims: vec![in alloc; 0; signals]?,
-            proposed: vec![in alloc; false; machine.assigns()]?,
+            proposed: vec![in alloc; false; state.assigns.len()]?,
             inactive: Vec::new(alloc),
             asleep: Vec::new(alloc),
         };
-        for assign in 0..machine.assigns() {
+        for assign in 0..state.assigns.len() {
             agenda.add(Item::Evaluate(assign))?;
         }
-        for process in 0..machine.processes() {
-            agenda.add_step(process, machine)?;
+        for process in 0..state.places.len() {
+            agenda.add_step(process, state)?;
         }
         Ok(agenda)
     }
 
-    fn add(&mut self, item: Item) -> Result<(), AllocError> {
+    /// Puts an event at the end.
+    pub(crate) fn add(&mut self, item: Item) -> Result<(), AllocError> {
         self.entries.push_back(Entry {
             item,
             hidden: false,
@@ -86,14 +83,9 @@ impl Agenda {
         Ok(())
     }
 
-    /// Puts the evaluation of an assignment at the end.
-    pub(crate) fn add_evaluation(&mut self, assign: usize) -> Result<(), AllocError> {
-        self.add(Item::Evaluate(assign))
-    }
-
     /// Puts a process at the end if it is active.
-    fn add_step(&mut self, process: usize, machine: &Machine) -> Result<(), AllocError> {
-        if machine.is_going(process) {
+    fn add_step(&mut self, process: usize, state: &State) -> Result<(), AllocError> {
+        if state.is_going(process) {
             self.add(Item::Step(process))?;
         }
         Ok(())
@@ -116,7 +108,7 @@ impl Agenda {
         Ok(())
     }
 
-    /// The place of the event that the policy chooses among those that aren't hidden.
+    /// The index of the event that the policy chooses among those that aren't hidden.
     pub(crate) fn pick<P: Pick>(&self, policy: &mut P) -> Option<usize> {
         let count = self.entries.len().saturating_sub(self.hidden);
         if count == 0 {
@@ -126,16 +118,16 @@ impl Agenda {
         if self.hidden == 0 {
             return Some(number);
         }
-        self.place_of(number)
+        self.index_of(number)
     }
 
-    /// The place of an event by its number among those that aren't hidden.
-    fn place_of(&self, number: usize) -> Option<usize> {
+    /// The index of an event by its number among those that aren't hidden.
+    fn index_of(&self, number: usize) -> Option<usize> {
         let mut left = number;
-        for (place, entry) in self.entries.iter().enumerate() {
+        for (index, entry) in self.entries.iter().enumerate() {
             if !entry.hidden {
                 if left == 0 {
-                    return Some(place);
+                    return Some(index);
                 }
                 left -= 1;
             }
@@ -143,22 +135,25 @@ impl Agenda {
         None
     }
 
-    /// The move of the event at a place of the list.
-    pub(crate) fn move_at(&self, place: usize, machine: &Machine) -> Option<Move> {
-        match self.entries.get(place)?.item {
+    /// The move of the event at an index of the list.
+    pub(crate) fn move_at(&self, index: usize, state: &State) -> Option<Move> {
+        match self.entries.get(index)?.item {
             Item::Evaluate(assign) => Some(Move::Evaluate(assign)),
             Item::Propagate(assign) => Some(Move::Propagate(assign)),
             Item::Step(process) => Some(Move::Step(process)),
-            Item::Make(serial, _) => Some(Move::Make(machine.place_of(serial)?)),
+            Item::Make(serial, _) => {
+                let mut updates = state.updates.iter();
+                Some(Move::Make(updates.position(|u| u.serial() == serial)?))
+            }
         }
     }
 
-    /// Takes the event at a place out of the list.
-    pub(crate) fn remove(&mut self, place: Option<usize>) {
-        let Some(place) = place else {
+    /// Takes the event at an index out of the list.
+    pub(crate) fn remove(&mut self, index: Option<usize>) {
+        let Some(index) = index else {
             return;
         };
-        let Some(entry) = self.entries.remove(place) else {
+        let Some(entry) = self.entries.remove(index) else {
             return;
         };
         if entry.hidden {
@@ -178,8 +173,8 @@ impl Agenda {
         if *count == 0 {
             return;
         }
-        for place in 0..self.entries.len() {
-            if let Some(entry) = self.entries.get_mut(place)
+        for index in 0..self.entries.len() {
+            if let Some(entry) = self.entries.get_mut(index)
                 && entry.hidden
                 && let Item::Make(_, other) = entry.item
                 && other == signal
@@ -193,38 +188,38 @@ impl Agenda {
 
     /// Brings the list up to date behind a move: an event that is no longer enabled leaves it, and what has become
     /// enabled enters at its end. The evaluations that a write asks for are listed by the write itself.
-    pub(crate) fn follow(&mut self, made: Choice, machine: &Machine) -> Result<(), AllocError> {
+    pub(crate) fn follow(&mut self, made: Choice, state: &State) -> Result<(), AllocError> {
         match made.choice {
-            Move::Step(process) => self.follow_step(process, made.place, machine),
-            Move::Evaluate(assign) => self.follow_evaluation(assign, made.place, machine),
+            Move::Step(process) => self.follow_step(process, made.index, state),
+            Move::Evaluate(assign) => self.follow_evaluation(assign, made.index, state),
             Move::Propagate(assign) => {
-                self.remove(made.place);
+                self.remove(made.index);
                 self.set_proposed(assign, false);
                 Ok(())
             }
             Move::Make(_) => {
-                self.remove(made.place);
+                self.remove(made.index);
                 Ok(())
             }
-            Move::Rouse => self.follow_rouse(machine),
-            Move::Activate => self.follow_activation(machine),
-            Move::EndSlot => self.follow_slot(machine),
+            Move::Rouse => self.follow_rouse(state),
+            Move::Activate => self.follow_activation(state),
+            Move::EndSlot => self.follow_slot(state),
         }
     }
 
     fn follow_step(
         &mut self,
         process: usize,
-        place: Option<usize>,
-        machine: &Machine,
+        index: Option<usize>,
+        state: &State,
     ) -> Result<(), AllocError> {
-        if machine.is_going(process) {
+        if state.is_going(process) {
             return Ok(());
         }
-        self.remove(place);
-        if machine.is_inactive(process) {
+        self.remove(index);
+        if state.is_inactive(process) {
             self.inactive.push(process)?;
-        } else if machine.is_asleep(process) {
+        } else if state.is_asleep(process) {
             self.asleep.push(process)?;
         }
         Ok(())
@@ -233,25 +228,22 @@ impl Agenda {
     fn follow_evaluation(
         &mut self,
         assign: usize,
-        place: Option<usize>,
-        machine: &Machine,
+        index: Option<usize>,
+        state: &State,
     ) -> Result<(), AllocError> {
-        self.remove(place);
+        self.remove(index);
         let listed = self.proposed.get(assign).copied().unwrap_or(false);
-        let pending = machine.is_pending(assign);
+        let pending = state.is_pending(assign);
         if pending && !listed {
             self.add(Item::Propagate(assign))?;
         }
         if !pending && listed {
-            let place = self.place_of_item(Item::Propagate(assign));
-            self.remove(place);
+            let update = Item::Propagate(assign);
+            let index = self.entries.iter().position(|entry| entry.item == update);
+            self.remove(index);
         }
         self.set_proposed(assign, pending);
         Ok(())
-    }
-
-    fn place_of_item(&self, item: Item) -> Option<usize> {
-        self.entries.iter().position(|entry| entry.item == item)
     }
 
     fn set_proposed(&mut self, assign: usize, value: bool) {
@@ -260,33 +252,35 @@ impl Agenda {
         }
     }
 
-    fn follow_rouse(&mut self, machine: &Machine) -> Result<(), AllocError> {
+    fn follow_rouse(&mut self, state: &State) -> Result<(), AllocError> {
         for i in 0..self.inactive.len() {
             if let Some(process) = self.inactive.get(i).copied() {
-                self.add_step(process, machine)?;
+                self.add_step(process, state)?;
             }
         }
         self.inactive.clear();
         Ok(())
     }
 
-    fn follow_activation(&mut self, machine: &Machine) -> Result<(), AllocError> {
-        for i in 0..machine.updates() {
-            if let Some((serial, signal)) = machine.active_update(i) {
-                self.add_update(serial, signal)?;
+    fn follow_activation(&mut self, state: &State) -> Result<(), AllocError> {
+        for i in 0..state.updates.len() {
+            if let Some(update) = state.updates.get(i)
+                && update.is_active()
+            {
+                self.add_update(update.serial(), update.signal())?;
             }
         }
         Ok(())
     }
 
     /// The processes whose delay has ended enter in the order in which they went to sleep.
-    fn follow_slot(&mut self, machine: &Machine) -> Result<(), AllocError> {
+    fn follow_slot(&mut self, state: &State) -> Result<(), AllocError> {
         for i in 0..self.asleep.len() {
             if let Some(process) = self.asleep.get(i).copied() {
-                self.add_step(process, machine)?;
+                self.add_step(process, state)?;
             }
         }
-        self.asleep.retain(|process| machine.is_asleep(*process));
+        self.asleep.retain(|process| state.is_asleep(*process));
         Ok(())
     }
 }

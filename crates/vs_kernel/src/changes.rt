@@ -1,46 +1,57 @@
-//! Changes of all assignments, places or updates at once. Each costs the whole list.
+//! Changes of assignments, places or updates.
 ghost use Rattle.std.specs.Prelude.{◌≡◌, map, OnOk};
-ghost use Rattle.vs_kernel.specs.Touches.{touched_by};
+ghost use Rattle.vs_kernel.specs.Touches.{all_woken, woken_in};
 ghost use Rattle.vs_process.specs.States as states;
 
-use crate::agenda::Agenda;
-use crate::driver::Driver;
+use crate::agenda::{Agenda, Item};
+use crate::assign::AssignState;
 use crate::update::Update;
 use std::alloc::AllocError;
 use std::collections::VecDeque;
-use vs_process::Spot;
+use vs_design::Reader;
+use vs_process::Place;
 
-/// After a change of a signal: the assignments that read it have to be evaluated.
-pub(crate) fn touch_all(
-    drivers: &mut Vec<Driver>,
-    signal: usize,
+/// A continuous assignment has to be evaluated, and the answer is whether that is new; one past the end is none.
+fn wake_assign(assigns: &mut Vec<AssignState>, assign: usize) -> bool
+    ensures { assigns.new.items ≡ woken_in assign assigns.old.items }
+{
+    match assigns.get_mut(assign) {
+        Some(x) => x.wake(),
+        None => false,
+    }
+}
+
+/// The continuous assignments that read a signal which has changed have to be evaluated.
+pub(crate) fn wake_readers(
+    assigns: &mut Vec<AssignState>,
+    readers: &[Reader],
     agenda: &mut Agenda,
 ) -> Result<(), AllocError>
-    ensures { OnOk result (drivers.new.items ≡ map (touched_by signal) drivers.old.items) }
+    ensures { OnOk result (assigns.new.items ≡ all_woken readers.now assigns.old.items) }
 {
-    for assign in 0..drivers.len() {
-        if drivers[assign].touch(signal) {
-            agenda.add_evaluation(assign)?;
+    for reader in readers {
+        if wake_assign(assigns, reader.assign) {
+            agenda.add(Item::Evaluate(reader.assign))?;
         }
     }
     Ok(())
 }
 
 /// The inactive processes become active.
-pub(crate) fn rouse_all(spots: &mut Vec<Spot>)
-    ensures { spots.new.items ≡ map states.roused spots.old.items }
+pub(crate) fn rouse_all(places: &mut Vec<Place>)
+    ensures { places.new.items ≡ map states.roused places.old.items }
 {
-    for process in 0..spots.len() {
-        spots[process].rouse();
+    for process in 0..places.len() {
+        places[process].rouse();
     }
 }
 
 /// The processes whose delay ends at this time become active.
-pub(crate) fn wake_all(spots: &mut Vec<Spot>, time: u64)
-    ensures { spots.new.items ≡ map (states.woken_at time) spots.old.items }
+pub(crate) fn wake_all(places: &mut Vec<Place>, time: u64)
+    ensures { places.new.items ≡ map (states.woken_at time) places.old.items }
 {
-    for process in 0..spots.len() {
-        spots[process].wake(time);
+    for process in 0..places.len() {
+        places[process].wake(time);
     }
 }
 

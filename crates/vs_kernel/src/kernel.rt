@@ -3,17 +3,19 @@ ghost use Rattle.std.specs.Prelude.{◌≡◌, ◌<◌, ◌^◌, IfOk, IfErr, On
 ghost use Rattle.vs_kernel.specs.Faults.{is_write, FaultAt, behind_fault};
 ghost use Rattle.vs_kernel.specs.Runs.{RanTo, HasBegun};
 ghost use Rattle.vs_kernel.specs.declared.kernel.Status.TheVariants as statuses;
+ghost use Rattle.vs_process.specs.Permitted.{NeverStuck};
 ghost use Rattle.vs_vcd.specs.Sinks.{failed_after};
 
 use crate::agenda::Agenda;
-use crate::machine::Machine;
 use crate::outcome::{Outcome, RunFault};
 use crate::policy::Pick;
 use crate::run::execute;
+use crate::state::State;
 use std::alloc::{AllocError, Global};
 use std::marker::Model;
 use std::mem;
 use vs_design::Design;
+use vs_process::never_stuck;
 use vs_vcd::Sink;
 
 /// Whether a kernel may run.
@@ -30,7 +32,7 @@ pub enum Status {
 /// How far a kernel has come.
 #[derive(Drop)]
 enum Stage<'a> {
-    Ready(Machine<'a>, Agenda),
+    Ready(State<'a>, Agenda),
     Done,
     Failed,
 }
@@ -64,13 +66,13 @@ impl<'a, P: Pick + Drop> Kernel<'a, P> {
     pub fn new(alloc: Global, design: &'a Design, policy: P) -> Result<Self, AllocError>
         ensures { IfOk result (λ kernel. kernel ≡ record { design = design.entry.now; status = statuses.Ready }) }
     {
-        let machine = Machine::start(alloc, design)?;
-        let agenda = Agenda::start(alloc, design.signals().len(), &machine)?;
+        let state = State::start(alloc, design)?;
+        let agenda = Agenda::start(alloc, design.signals().len(), &state)?;
         Ok(Kernel {
             alloc,
             design,
             policy,
-            stage: Stage::Ready(machine, agenda),
+            stage: Stage::Ready(state, agenda),
         })
     }
 
@@ -101,21 +103,25 @@ impl<'a, P: Pick + Drop> Kernel<'a, P> {
         requires steps { steps < 2 ^ 62 }
         ensures ran { IfOk result (λ outcome. RanTo self.old.design until steps outcome (V.bytes vcd.old) (V.bytes vcd.new)) }
         ensures ok { OnOk result ((self.old.status ≡ statuses.Ready) × (self.new.status ≡ statuses.Done)) }
-        ensures begun { OnErr result (self.old.status ≡ statuses.Ready → HasBegun self.old.design until steps (V.bytes vcd.old) (V.bytes vcd.new)) }
+        ensures begun { OnErr result (self.old.status ≡ statuses.Ready
+            → HasBegun self.old.design until steps (V.bytes vcd.old) (V.bytes vcd.new)) }
         ensures fault { IfErr result (λ fault. FaultAt self.old.status fault) }
         ensures err { OnErr result (self.new.status ≡ behind_fault self.old.status) }
         ensures design { self.new.design ≡ self.old.design }
         ensures again { (self.old.status ≡ statuses.Ready → ⊥) → vcd.new ≡ vcd.old }
         ensures failures { V.failed vcd.new ≡ failed_after (is_write result) (V.failed vcd.old) }
         ensures lines { lines.new ≡ lines.old }
+        // In every state that an execution reaches and that isn't the end there is a permitted step.
+        ensures never_stuck { NeverStuck }
     {
         let _ = lines;
+        never_stuck();
         match mem::replace(&mut self.stage, Stage::Failed) {
-            Stage::Ready(machine, agenda) => {
+            Stage::Ready(state, agenda) => {
                 let outcome = execute(
                     self.alloc,
                     self.design,
-                    machine,
+                    state,
                     agenda,
                     &mut self.policy,
                     until,

@@ -5,17 +5,15 @@
 #![tactic(auto)]
 
 mod agenda;
+mod assign;
 mod changes;
-mod driver;
 mod kernel;
-mod machine;
 mod moves;
 mod outcome;
 mod policy;
 mod run;
 mod search;
-#[cfg(test)]
-mod tests;
+mod state;
 mod update;
 
 pub use kernel::{Kernel, Status};

@@ -11,7 +11,7 @@ pub trait Pick {
 }
 
 /// The policy that always chooses the first.
-#[derive(Clone, Copy, PartialEq, Eq, Debug)]
+#[derive(Clone, Copy)]
 pub struct Fifo;
 
 impl Pick for Fifo {

@@ -3,38 +3,42 @@ ghost use Rattle.std.specs.Prelude.{◌≡◌, ◌<◌, ◌^◌, ◌++◌, false
 ghost use Rattle.vs_design.specs.Parts.{Parts};
 ghost use Rattle.vs_design.specs.Traces.{Slot};
 ghost use Rattle.vs_kernel.specs.Runs.{RanTo, HasBegun, AppendsSlots, AppendsSlotsPart};
+ghost use Rattle.vs_kernel.specs.Touches.{HasSources};
 ghost use Rattle.vs_process.specs.Executions as executions;
 ghost use Rattle.vs_process.specs.States as states;
 ghost use Rattle.vs_vcd.specs.Progress.{HasWritten, is_write_fault};
 ghost use Rattle.vs_vcd.specs.Sinks.{failed_after};
 
 use crate::agenda::{Agenda, Choice};
-use crate::machine::Machine;
 use crate::outcome::Outcome;
 use crate::policy::Pick;
+use crate::state::State;
 use std::alloc::{AllocError, Global};
 use vs_design::Design;
-use vs_process::Move;
+use vs_process::{Grain, Move};
 use vs_vcd::{Sink, VcdFault, Writer};
 
-/// The next move: what the policy chooses of the list, where that is enabled; else a move that the state has.
-pub(crate) fn choose<P: Pick>(machine: &Machine, agenda: &mut Agenda, policy: &mut P) -> Choice
-    ensures { executions.is_enabled machine.now result.choice ≡ true }
+/// The next move: what the policy chooses of the list, where that is enabled; else a move that the state has. It is allowed at both grains.
+pub(crate) fn choose<P: Pick>(state: &State, agenda: &mut Agenda, policy: &mut P) -> Choice
+    requires going { state.now.over ≡ false }
+    ensures enabled { executions.is_enabled state.now result.choice ≡ true }
+    ensures statement { (d : Parts) → executions.allowed Grain.Statement d state.now result.choice ≡ true }
+    ensures block { (d : Parts) → executions.allowed Grain.Block d state.now result.choice ≡ true }
 {
-    if let Some(place) = agenda.pick(policy) {
-        if let Some(choice) = agenda.move_at(place, machine)
-            && machine.is_enabled(choice)
+    if let Some(index) = agenda.pick(policy) {
+        if let Some(choice) = agenda.move_at(index, state)
+            && state.is_enabled(choice)
         {
             return Choice {
                 choice,
-                place: Some(place),
+                index: Some(index),
             };
         }
-        agenda.remove(Some(place));
+        agenda.remove(Some(index));
     }
     Choice {
-        choice: machine.enabled_move(),
-        place: None,
+        choice: state.enabled_move(),
+        index: None,
     }
 }
 
@@ -43,34 +47,39 @@ fn note<V: Sink>(
     alloc: Global,
     writer: &mut Writer,
     vcd: &mut V,
-    machine: &Machine,
+    state: &State,
     choice: Move,
 ) -> Result<(), VcdFault>
-    ensures written { OnOk result ((d : Parts) (before : List Slot) → HasWritten writer.old d before → HasWritten writer.new d (before ++ executions.ended_slot choice machine.now)) }
-    ensures bytes { OnOk result ((d : Parts) (before : List Slot) → HasWritten writer.old d before → AppendsSlots (V.bytes vcd.old) (V.bytes vcd.new) d before (executions.ended_slot choice machine.now)) }
-    ensures part { OnErr result ((d : Parts) (before : List Slot) → HasWritten writer.old d before → AppendsSlotsPart (V.bytes vcd.old) (V.bytes vcd.new) d before (executions.ended_slot choice machine.now)) }
+    ensures written { OnOk result ((d : Parts) (before : List Slot) → HasWritten writer.old d before
+        → HasWritten writer.new d (before ++ executions.ended_slot choice state.now)) }
+    ensures bytes { OnOk result ((d : Parts) (before : List Slot) → HasWritten writer.old d before
+        → AppendsSlots (V.bytes vcd.old) (V.bytes vcd.new) d before (executions.ended_slot choice state.now)) }
+    ensures part { OnErr result ((d : Parts) (before : List Slot) → HasWritten writer.old d before
+        → AppendsSlotsPart (V.bytes vcd.old) (V.bytes vcd.new) d before (executions.ended_slot choice state.now)) }
     ensures failures { V.failed vcd.new ≡ failed_after (is_write_fault result) (V.failed vcd.old) }
 {
     let Move::EndSlot = choice else {
         return Ok(());
     };
-    writer.slot(alloc, vcd, machine.time(), machine.store())?;
+    writer.slot(alloc, vcd, state.time(), state.store())?;
     Ok(())
 }
 
 /// Makes a move, and brings the list up to date.
 pub(crate) fn advance(
-    machine: &mut Machine,
+    state: &mut State,
+    design: &Design,
     agenda: &mut Agenda,
     next: Choice,
 ) -> Result<(), AllocError>
-    requires going { machine.old.over ≡ false }
-    requires enabled { executions.is_enabled machine.old next.choice ≡ true }
-    requires early { machine.old.time < 2 ^ 62 }
-    ensures { OnOk result (machine.new ≡ executions.apply next.choice machine.old) }
+    requires going { state.old.over ≡ false }
+    requires enabled { executions.is_enabled state.old next.choice ≡ true }
+    requires early { state.old.time < 2 ^ 62 }
+    requires sources { HasSources design.now state.old }
+    ensures { OnOk result (state.new ≡ executions.apply next.choice state.old) }
 {
-    machine.make(next.choice, agenda)?;
-    agenda.follow(next, machine)?;
+    state.make(design, next.choice, agenda)?;
+    agenda.follow(next, state)?;
     Ok(())
 }
 
@@ -78,14 +87,14 @@ pub(crate) fn advance(
 pub(crate) fn execute<P: Pick, V: Sink>(
     alloc: Global,
     design: &Design,
-    mut machine: Machine,
+    mut state: State,
     mut agenda: Agenda,
     policy: &mut P,
     until: u64,
     steps: u64,
     vcd: &mut V,
 ) -> Result<Outcome, VcdFault>
-    requires start { machine ≡ states.start design.now }
+    requires start { state ≡ states.start design.now }
     requires early { until < 2 ^ 62 }
     ensures ran { IfOk result (λ outcome. RanTo design.now until steps outcome (V.bytes vcd.old) (V.bytes vcd.new)) }
     ensures begun { OnErr result (HasBegun design.now until steps (V.bytes vcd.old) (V.bytes vcd.new)) }
@@ -93,17 +102,17 @@ pub(crate) fn execute<P: Pick, V: Sink>(
 {
     let mut writer = Writer::header(alloc, vcd, design)?;
     let mut count = 0;
-    while !machine.is_over() && machine.time() <= until {
+    while !state.is_over() && state.time() <= until {
         if count == steps {
-            return Ok(Outcome::StepLimit(machine.time()));
+            return Ok(Outcome::StepLimit(state.time()));
         }
-        let next = choose(&machine, &mut agenda, policy);
-        note(alloc, &mut writer, vcd, &machine, next.choice)?;
-        advance(&mut machine, &mut agenda, next)?;
+        let next = choose(&state, &mut agenda, policy);
+        note(alloc, &mut writer, vcd, &state, next.choice)?;
+        advance(&mut state, design, &mut agenda, next)?;
         count += 1;
     }
     writer.finish(vcd, until)?;
-    if machine.is_over() {
+    if state.is_over() {
         Ok(Outcome::Quiet)
     } else {
         Ok(Outcome::Reached)

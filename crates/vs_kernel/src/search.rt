@@ -2,21 +2,22 @@
 ghost use Rattle.std.specs.Prelude.{◌≡◌, ◌||◌, Bool, true, false, None, is_some, slice_get, MatchOption};
 ghost use Rattle.std.specs.List.{list_any};
 ghost use Rattle.vs_process.specs.Executions as executions;
-ghost use Rattle.vs_process.specs.Places as places;
+ghost use Rattle.vs_process.specs.Places.{is_going, is_inactive};
 ghost use Rattle.vs_process.specs.States as states;
 
-use crate::driver::Driver;
-use crate::machine::Machine;
+use crate::assign::AssignState;
+use crate::state::State;
 use crate::update::Update;
 use std::collections::VecDeque;
-use vs_process::{Move, Spot};
+use vs_process::{Move, Place};
 
 /// The first active process.
-fn active_process(spots: &Vec<Spot>) -> Option<usize>
-    ensures { MatchOption result (list_any places.is_going spots.now.items ≡ false) (λ i. executions.if_some places.is_going (slice_get spots.now.items i) ≡ true) }
+fn active_process(places: &Vec<Place>) -> Option<usize>
+    ensures { MatchOption result (list_any is_going places.now.items ≡ false)
+        (λ i. executions.if_some is_going (slice_get places.now.items i) ≡ true) }
 {
-    for process in 0..spots.len() {
-        if spots[process].is_going() {
+    for process in 0..places.len() {
+        if places[process].is_going() {
             return Some(process);
         }
     }
@@ -24,11 +25,12 @@ fn active_process(spots: &Vec<Spot>) -> Option<usize>
 }
 
 /// The first continuous assignment that has to be evaluated or has a value that waits to be written.
-fn busy_assign(drivers: &Vec<Driver>) -> Option<usize>
-    ensures { MatchOption result (list_any (λ d. d.needs || is_some d.pending) drivers.now.items ≡ false) (λ j. executions.if_some (λ d. d.needs || is_some d.pending) (slice_get drivers.now.items j) ≡ true) }
+fn busy_assign(assigns: &Vec<AssignState>) -> Option<usize>
+    ensures { MatchOption result (list_any (λ d. d.needs || is_some d.pending) assigns.now.items ≡ false)
+        (λ j. executions.if_some (λ d. d.needs || is_some d.pending) (slice_get assigns.now.items j) ≡ true) }
 {
-    for assign in 0..drivers.len() {
-        if drivers[assign].needs() || drivers[assign].is_pending() {
+    for assign in 0..assigns.len() {
+        if assigns[assign].needs() || assigns[assign].pending().is_some() {
             return Some(assign);
         }
     }
@@ -37,27 +39,28 @@ fn busy_assign(drivers: &Vec<Driver>) -> Option<usize>
 
 /// The oldest activated update.
 fn oldest_active(updates: &VecDeque<Update>) -> Option<usize>
-    ensures { MatchOption result (list_any (λ u. u.active) updates.now.items ≡ false) (λ i. executions.if_some (executions.is_first updates.now.items i) (slice_get updates.now.items i) ≡ true) }
+    ensures { MatchOption result (list_any (λ u. u.active) updates.now.items ≡ false)
+        (λ i. executions.if_some (executions.is_first updates.now.items i) (slice_get updates.now.items i) ≡ true) }
 {
-    for place in 0..updates.len() {
-        if updates[place].is_active() {
-            return Some(place);
+    for i in 0..updates.len() {
+        if updates[i].is_active() {
+            return Some(i);
         }
     }
     None
 }
 
-/// Whether an update is activated and no older activated one names its signal.
-fn is_first(updates: &VecDeque<Update>, place: usize) -> bool
-    ensures { result ≡ executions.if_some (executions.is_first updates.now.items place) (slice_get updates.now.items place) }
+/// Whether an update is activated and no older activated one names a signal that it names.
+fn is_first(updates: &VecDeque<Update>, index: usize) -> bool
+    ensures { result ≡ executions.if_some (executions.is_first updates.now.items index) (slice_get updates.now.items index) }
 {
-    let Some(update) = updates.get(place) else {
+    let Some(update) = updates.get(index) else {
         return false;
     };
     if !update.is_active() {
         return false;
     }
-    for older in 0..place {
+    for older in 0..index {
         if updates[older].hides(update) {
             return false;
         }
@@ -66,10 +69,10 @@ fn is_first(updates: &VecDeque<Update>, place: usize) -> bool
 }
 
 /// Whether a process is inactive.
-fn has_inactive(spots: &Vec<Spot>) -> bool
-    ensures { result ≡ list_any places.is_inactive spots.now.items }
+fn has_inactive(places: &Vec<Place>) -> bool
+    ensures { result ≡ list_any is_inactive places.now.items }
 {
-    spots.iter().any(|spot| spot.is_inactive())
+    places.iter().any(|place| place.is_inactive())
 }
 
 /// Whether an update is due at this time and not activated.
@@ -90,12 +93,12 @@ fn earlier(best: Option<u64>, time: u64) -> Option<u64>
 }
 
 /// The least time at which a delay ends.
-fn next_wake(spots: &Vec<Spot>) -> Option<u64>
-    ensures { result ≡ executions.next_wake None spots.now.items }
+fn next_wake(places: &Vec<Place>) -> Option<u64>
+    ensures { result ≡ executions.next_wake None places.now.items }
 {
     let mut best = None;
-    for process in 0..spots.len() {
-        if let Some(due) = spots[process].due() {
+    for process in 0..places.len() {
+        if let Some(due) = places[process].due() {
             best = earlier(best, due);
         }
     }
@@ -107,35 +110,35 @@ fn next_update(first: Option<u64>, updates: &VecDeque<Update>) -> Option<u64>
     ensures { result ≡ executions.next_update first updates.now.items }
 {
     let mut best = first;
-    for place in 0..updates.len() {
-        best = earlier(best, updates[place].due());
+    for i in 0..updates.len() {
+        best = earlier(best, updates[i].due());
     }
     best
 }
 
-impl<'a> Machine<'a> {
+impl<'a> State<'a> {
     /// The least due time, in ticks.
     pub(crate) fn next_time(&self) -> Option<u64>
         ensures { result ≡ executions.next_time self.now }
     {
-        next_update(next_wake(&self.spots), &self.updates)
+        next_update(next_wake(&self.places), &self.updates)
     }
 
     /// An active event, where there is one.
     fn active_event(&self) -> Option<Move>
         ensures { MatchOption result (executions.is_busy self.now ≡ false) (λ m. executions.is_enabled self.now m ≡ true) }
     {
-        if let Some(process) = active_process(&self.spots) {
+        if let Some(process) = active_process(&self.places) {
             return Some(Move::Step(process));
         }
-        if let Some(assign) = busy_assign(&self.drivers) {
+        if let Some(assign) = busy_assign(&self.assigns) {
             if self.needs(assign) {
                 return Some(Move::Evaluate(assign));
             }
             return Some(Move::Propagate(assign));
         }
-        if let Some(place) = oldest_active(&self.updates) {
-            return Some(Move::Make(place));
+        if let Some(index) = oldest_active(&self.updates) {
+            return Some(Move::Make(index));
         }
         None
     }
@@ -147,7 +150,7 @@ impl<'a> Machine<'a> {
         if let Some(choice) = self.active_event() {
             return choice;
         }
-        if has_inactive(&self.spots) {
+        if has_inactive(&self.places) {
             return Move::Rouse;
         }
         if has_due(&self.updates, self.time) {
@@ -164,7 +167,7 @@ impl<'a> Machine<'a> {
             Move::Step(process) => self.is_going(process),
             Move::Evaluate(assign) => self.needs(assign),
             Move::Propagate(assign) => self.is_pending(assign),
-            Move::Make(place) => is_first(&self.updates, place),
+            Move::Make(index) => is_first(&self.updates, index),
             Move::Rouse => false,
             Move::Activate => false,
             Move::EndSlot => false,

@@ -1,10 +1,11 @@
 //! Nonblocking updates in a run.
 ghost use Rattle.std.specs.Prelude.{◌≡◌, ◌&&◌, false, [], ◌∷◌};
-ghost use Rattle.vs_process.specs.Executions.{shares};
+ghost use Rattle.vs_design.specs.Writes.{shares};
+ghost use Rattle.vs_process.specs.Effects.{signals_of};
 ghost use Rattle.vs_process.specs.States as states;
 
 use std::marker::Model;
-use vs_logic4::Vec4;
+use vs_design::Write;
 
 /// A nonblocking update that waits (IEEE 1364-2005, clause 9.2.2).
 #[derive(Drop)]
@@ -14,23 +15,28 @@ pub(crate) struct Update {
     by: usize,
     due: u64,
     active: bool,
+    /// The signal that the write names.
     signal: usize,
-    value: Vec4,
+    what: Write,
 }
 
 impl Model for Update {
-    ghost use Rattle.std.specs.Prelude.{[], ◌∷◌};
+    ghost use Rattle.std.specs.Prelude.{◌≡◌, [], ◌∷◌};
+    ghost use Rattle.vs_process.specs.Effects.{signals_of};
     ghost use Rattle.vs_process.specs.States as states;
 
     ghost Value = { states.Update };
 
-    ghost view = { λ u. record { by = u.by; due = u.due; active = u.active; what = record { signal = u.signal; word = 0; low = 0; digits = u.value } ∷ [] } };
+    ghost view = { λ u. record { by = u.by; due = u.due; active = u.active; what = u.what } };
+
+    ghost invariant = { λ u. signals_of u.what ≡ u.signal ∷ [] };
 }
 
 impl Update {
-    /// An update of a whole signal that isn't activated yet.
-    pub(crate) fn new(serial: u64, by: usize, due: u64, signal: usize, value: Vec4) -> Self
-        ensures { result ≡ record { by = by; due = due; active = false; what = record { signal = signal; word = 0; low = 0; digits = value } ∷ [] } }
+    /// An update that isn't activated yet, of a write that names this signal.
+    pub(crate) fn new(serial: u64, by: usize, due: u64, signal: usize, what: Write) -> Self
+        requires { signals_of what ≡ signal ∷ [] }
+        ensures { result ≡ record { by = by; due = due; active = false; what = what } }
     {
         Update {
             serial,
@@ -38,7 +44,7 @@ impl Update {
             due,
             active: false,
             signal,
-            value,
+            what,
         }
     }
 
@@ -79,13 +85,20 @@ impl Update {
     pub(crate) fn hides(&self, newer: &Update) -> bool
         ensures { result ≡ (self.now.active && shares self.now.what newer.now.what) }
     {
-        self.active && newer.signal == self.signal
+        self.active && self.what.shares(&newer.what)
     }
 
-    /// The signal and the value that it writes.
-    pub(crate) fn write(&self) -> (usize, Vec4)
-        ensures { self.now.what ≡ record { signal = result.0; word = 0; low = 0; digits = result.1 } ∷ [] }
+    /// The signal that it names.
+    pub(crate) fn signal(&self) -> usize
+        ensures { signals_of self.now.what ≡ result ∷ [] }
     {
-        (self.signal, self.value)
+        self.signal
+    }
+
+    /// What it writes.
+    pub(crate) fn what(&self) -> &Write
+        ensures { result.now ≡ self.now.what }
+    {
+        &self.what
     }
 }

@@ -1,12 +1,8 @@
-pub mod BasedNumbers
-pub mod CollectedDigits
-pub mod DecimalValues
 pub mod Forms
-pub mod LongestRuns
+pub mod NameLines
 pub mod Openings
 pub mod Pairs
 pub mod Readers
 pub mod Spelled
 pub mod Tables
-pub mod TextEnds
 pub mod Unique

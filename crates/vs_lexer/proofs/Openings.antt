@@ -1,26 +1,24 @@
 -- What is skipped up to its close, what a slash or a parenthesis begins, and marks.
 use Rattle.std.proofs.Common.{◌≡◌, ℕ, ◌+◌, ◌<◌, ◌&&◌, Bool, true, false, not, nat_eq, List, [], ◌∷◌, ◌++◌, length, get_or, drop, Some, None, refl, sym, ap, ◌∙◌, append_assoc}
+use Rattle.std.proofs.lemmas.Bool.{ne_eqb}
 use Rattle.std.proofs.lemmas.List.{append-nil, drop_more}
-use Rattle.std.proofs.lemmas.Bool.{false_from_ne_true}
-use borrow.Author.Tests.{eqb-true}
-use Rattle.vs_lexer.specs.declared.fault.Refusal.TheVariants as r
-use Rattle.vs_lexer.specs.declared.piece.Piece.TheVariants.{Skipped, Token, Refused}
-use Rattle.vs_lexer.specs.declared.piece.Read.{Read}
-use Rattle.vs_lexer.specs.declared.token.Kind.{Kind}
-use Rattle.vs_lexer.specs.declared.token.Kind.TheVariants as k
-use Rattle.vs_lexer.specs.declared.token.Mark.TheVariants as m
-use Rattle.vs_lexer.specs.Bytes.{is_white, in_line, in_comment, in_attribute}
-use Rattle.vs_lexer.specs.Pieces.{Form, run_of, line_piece, among, after_pair, closed_by, slash_form, opens_attribute, parenthesis_form, mark_form, token_of, one_byte_piece}
+use Rattle.vs_tokens.specs.declared.refusal.Refusal.TheVariants as r
+use Rattle.vs_tokens.specs.declared.piece.Piece.TheVariants.{Skipped, Token, Refused}
+use Rattle.vs_tokens.specs.declared.piece.Read.{Read}
+use Rattle.vs_tokens.specs.declared.token.Kind.{Kind}
+use Rattle.vs_tokens.specs.declared.token.Kind.TheVariants as k
+use Rattle.vs_tokens.specs.declared.token.Mark.TheVariants as m
+use Rattle.vs_tokens.specs.Bytes.{is_white, in_line, in_comment, in_attribute}
+use Rattle.vs_tokens.specs.Forms.{Form, run_of}
+use Rattle.vs_lexer.specs.Pieces.{line_piece, among, after_pair, closed_by, slash_form, opens_attribute, parenthesis_form, mark_form, token_of, one_byte_piece}
 use Rattle.vs_lexer.specs.Reserved.{kind_in, one_byte_marks, two_byte_marks, three_byte_marks}
-use Rattle.vs_lexer.specs.Reading.{Reads, HasNoMarkOfTwo, HasNoMarkOfThree}
+use Rattle.vs_tokens.specs.Reading.{Reads}
+use Rattle.vs_lexer.specs.Taking.{HasNoMarkOfTwo, HasNoMarkOfThree}
 use Rattle.vs_lexer.proofs.Pairs.{after_pair-append}
-
-pub other_byte : (a b : ℕ) → (a ≡ b → ⊥) → nat_eq a b ≡ false
-other_byte a b h = false_from_ne_true _ (λ t. h (eqb-true _ _ t))
 
 -- one list has one first byte, and one rest
 pub heads_differ : (bytes body more : List ℕ) (x b n : ℕ) → bytes ≡ x ∷ body → bytes ≡ b ∷ more → (x ≡ n → ⊥) → nat_eq b n ≡ false
-heads_differ bytes body more x b n p q h = let same : x ≡ b = cc in other_byte b n (λ t. h (same ∙ t))
+heads_differ bytes body more x b n p q h = let same : x ≡ b = cc in ne_eqb b n (λ t. h (same ∙ t))
 
 pub rests_same : (bytes body more : List ℕ) (x b : ℕ) → bytes ≡ x ∷ body → bytes ≡ b ∷ more → more ≡ body
 rests_same bytes body more x b p q = cc

@@ -3,7 +3,7 @@ use Rattle.std.proofs.Common.{◌≡◌, ℕ, ◌+◌, ◌<◌, true, false, Som
 use Rattle.std.specs.Borrow.{Bor}
 use Rattle.std.specs.Str.{bytes_eq}
 use Rattle.std.proofs.lemmas.List.{drop_more}
-use Rattle.vs_lexer.specs.declared.token.Kind.{Kind}
+use Rattle.vs_tokens.specs.declared.token.Kind.{Kind}
 use Rattle.vs_lexer.specs.Reserved.{kind_in, table_of}
 
 module _ (table : List (Bor (List ℕ) × Kind)) (i : ℕ) (entry : Bor (List ℕ) × Kind) (text : List ℕ) (within : i < length table) (is : entry ≡ get_or table i entry) where

@@ -1,14 +1,15 @@
 -- Directives (IEEE 1364-2005, clause 19).
-use Rattle.std.specs.Prelude.{ℕ, ◌+◌, ◌==◌, Bool, List, [], ◌∷◌, Option, None, Some, if◌then◌else◌, codes, nat_lt}
-use Rattle.vs_lexer.specs.declared.token.Directive.{Directive}
-use Rattle.vs_lexer.specs.declared.token.Directive.TheVariants as d
-use Rattle.vs_lexer.specs.declared.token.ImplicitNet.TheVariants as i
-use Rattle.vs_lexer.specs.declared.token.Magnitude.{Magnitude}
-use Rattle.vs_lexer.specs.declared.token.Magnitude.TheVariants as m
-use Rattle.vs_lexer.specs.declared.token.Time.{Time}
-use Rattle.vs_lexer.specs.declared.token.TimeUnit.{TimeUnit}
-use Rattle.vs_lexer.specs.declared.token.TimeUnit.TheVariants as t
-use Rattle.vs_lexer.specs.Bytes.{is_white, begins, after_run}
+use Rattle.std.specs.Prelude.{ℕ, ◌==◌, Bool, List, [], ◌∷◌, Option, None, Some, if◌then◌else◌, codes, nat_lt}
+use Rattle.vs_tokens.specs.declared.token.Directive.{Directive}
+use Rattle.vs_tokens.specs.declared.token.Directive.TheVariants as d
+use Rattle.vs_tokens.specs.declared.token.ImplicitNet.TheVariants as i
+use Rattle.vs_tokens.specs.declared.token.Magnitude.{Magnitude}
+use Rattle.vs_tokens.specs.declared.token.Magnitude.TheVariants as m
+use Rattle.vs_tokens.specs.declared.token.Time.{Time}
+use Rattle.vs_tokens.specs.declared.token.TimeUnit.{TimeUnit}
+use Rattle.vs_tokens.specs.declared.token.TimeUnit.TheVariants as t
+use Rattle.vs_tokens.specs.Bytes.{is_white, begins, after_run}
+use Rattle.vs_tokens.specs.Times.{exponent}
 
 -- what the bytes begin with, and the bytes behind it; or they don't begin so
 abbrev pub Reader : Type 0 → Type 0
@@ -87,23 +88,6 @@ unit_at =
 -- a number and a unit
 unfoldable pub time_at : Reader Time
 time_at = number_at then λ number. white unit_at then λ unit. done (record { number = number; unit = unit })
-
--- the power of ten of a time in femtoseconds
-abbrev pub unit_exponent : TimeUnit → ℕ
-unit_exponent t.Seconds = 15
-unit_exponent t.Milliseconds = 12
-unit_exponent t.Microseconds = 9
-unit_exponent t.Nanoseconds = 6
-unit_exponent t.Picoseconds = 3
-unit_exponent t.Femtoseconds = 0
-
-abbrev pub number_exponent : Magnitude → ℕ
-number_exponent m.One = 0
-number_exponent m.Ten = 1
-number_exponent m.Hundred = 2
-
-abbrev pub exponent : Time → ℕ
-exponent time = unit_exponent time.unit + number_exponent time.number
 
 -- a unit and a precision that is not coarser (clause 19.8)
 abbrev pub timescale_of : Time → Time → Reader Directive

@@ -1,29 +1,20 @@
 -- The pieces of a source: its tokens, what is skipped between them, and what is refused (IEEE 1364-2005, clause 3).
--- Each form of piece says whether a text is one, given the bytes that follow it.
-use Rattle.std.specs.Prelude.{ℕ, ◌^◌, ◌==◌, ◌&&◌, ◌||◌, Bool, true, false, not, List, [], ◌∷◌, ◌++◌, length, Option, None, Some, if◌then◌else◌, nat_lt}
-use Rattle.std.specs.Char.{is_ascii_digit, is_ascii_alphabetic}
+use Rattle.std.specs.Prelude.{ℕ, ◌==◌, ◌&&◌, Bool, true, not, List, [], ◌∷◌, ◌++◌, length, Option, None, Some, if◌then◌else◌, nat_lt}
+use Rattle.std.specs.Char.{is_ascii_digit}
 use Rattle.std.specs.List.{list_all}
-use Rattle.vs_lexer.specs.declared.fault.Refusal.TheVariants as r
-use Rattle.vs_lexer.specs.declared.piece.Piece.{Piece}
-use Rattle.vs_lexer.specs.declared.piece.Piece.TheVariants.{Skipped, Token, Refused}
-use Rattle.vs_lexer.specs.declared.token.Kind.{Kind}
-use Rattle.vs_lexer.specs.declared.token.Kind.TheVariants as k
-use Rattle.vs_lexer.specs.declared.token.Directive.{Directive}
-use Rattle.vs_lexer.specs.declared.token.Mark.TheVariants as m
-use Rattle.vs_lexer.specs.Bytes.{is_white, starts_name, in_name, in_escaped, in_decimal, in_line, in_comment, in_attribute, front_run, after_run}
-use Rattle.vs_lexer.specs.declared.base.Base.{Base}
-use Rattle.vs_lexer.specs.Numbers.{value_after, plain_literal, based_literal, is_well_formed, fits_unsized, starts_digits, in_digits, base_of, is_sign}
+use Rattle.vs_tokens.specs.declared.refusal.Refusal.TheVariants as r
+use Rattle.vs_tokens.specs.declared.piece.Piece.{Piece}
+use Rattle.vs_tokens.specs.declared.piece.Piece.TheVariants.{Skipped, Token, Refused}
+use Rattle.vs_tokens.specs.declared.token.Kind.{Kind}
+use Rattle.vs_tokens.specs.declared.token.Kind.TheVariants as k
+use Rattle.vs_tokens.specs.declared.token.Directive.{Directive}
+use Rattle.vs_tokens.specs.declared.token.Mark.TheVariants as m
+use Rattle.vs_tokens.specs.Bytes.{is_white, starts_name, in_name, in_escaped, in_line, in_comment, in_attribute}
+use Rattle.vs_tokens.specs.Forms.{Form, run_of}
+use Rattle.vs_tokens.specs.Literals.{number_form, apostrophe_form}
+use Rattle.vs_tokens.specs.Texts.{text_form}
 use Rattle.vs_lexer.specs.Directives.{directive_at}
-use Rattle.vs_lexer.specs.Texts.{TextEnd, ended, open_yet, text_end}
-use Rattle.vs_lexer.specs.Reserved.{kind_in, words, left_out_words, one_byte_marks, two_byte_marks, three_byte_marks}
-
--- a form of piece: what piece a text is, where these bytes follow it, or none
-abbrev pub Form : Type 0
-Form = List ℕ → List ℕ → Option Piece
-
--- a text whose bytes all pass
-abbrev pub run_of : (ℕ → Bool) → (List ℕ → List ℕ → Piece) → Form
-run_of p piece text rest = if list_all p text then Some (piece text rest) else None
+use Rattle.vs_lexer.specs.Reserved.{kind_in, words, left_out_words_to_h, left_out_words_to_r, left_out_words_to_x, one_byte_marks, two_byte_marks, three_byte_marks}
 
 -- a token where there is one
 abbrev pub token_of : Option Kind → Option Piece
@@ -40,7 +31,11 @@ limited name kind = if nat_lt 1024 (length name) then Refused r.TooLong else Tok
 
 -- the kind of a simple name: a reserved word, or else a name (clauses 3.7 and 3.7.2)
 unfoldable pub word_or_name : List ℕ → Kind
-word_or_name text = word_or (kind_in words text) (word_or (kind_in left_out_words text) k.Name)
+word_or_name text =
+    word_or (kind_in words text)
+    (word_or (kind_in left_out_words_to_h text)
+    (word_or (kind_in left_out_words_to_r text)
+    (word_or (kind_in left_out_words_to_x text) k.Name)))
   where
     word_or : Option Kind → Kind → Kind
     word_or None kind = kind
@@ -59,66 +54,6 @@ abbrev pub escaped_piece : List ℕ → List ℕ → Piece
 escaped_piece [] rest = Refused r.BadByte
 escaped_piece (b ∷ bs) [] = if nat_lt 0 (length bs) then limited bs k.Name else Refused r.BadByte
 escaped_piece (b ∷ bs) (c ∷ cs) = if nat_lt 0 (length bs) && is_white c then limited bs k.Name else Refused r.BadByte
-
--- what may not follow a decimal number at once: a letter, or a point and a digit (profile)
-abbrev pub continues_number : List ℕ → Bool
-continues_number [] = false
-continues_number (b ∷ []) = is_ascii_alphabetic b
-continues_number (b ∷ c ∷ cs) = is_ascii_alphabetic b || (b == 46 && is_ascii_digit c)
-
--- a decimal number without size and base; one that needs more than 32 bits is refused (clause 3.5.1, profile)
-abbrev pub decimal_piece : List ℕ → List ℕ → Piece
-decimal_piece text rest =
-    if continues_number rest then Refused r.BadLiteral
-    else (if nat_lt (value_after 0 text) (2 ^ 32) then Token (k.Number (plain_literal (value_after 0 text)))
-    else Refused r.TooLarge)
-
--- the piece of well formed digits at a size of 1 to 64
-abbrev pub sized_piece : ℕ → Bool → Base → List ℕ → Piece
-sized_piece size signed base digits =
-    if size == 0 || nat_lt 64 size then Refused r.TooLarge else Token (k.Number (based_literal base size signed digits))
-
--- the piece of a base's digits: without a size it has 32 bits (clause 3.5.1, profile)
-unfoldable pub literal_piece : Option (List ℕ) → Bool → Base → List ℕ → Piece
-literal_piece None signed base digits =
-    if is_well_formed base digits then (if fits_unsized base digits then Token (k.Number (based_literal base 32 signed digits)) else Refused r.TooLarge)
-    else Refused r.BadLiteral
-literal_piece (Some size) signed base digits =
-    if is_well_formed base digits then sized_piece (value_after 0 size) signed base digits else Refused r.BadLiteral
-
--- digits of a base
-abbrev pub digits_form : Option (List ℕ) → Bool → Option Base → List ℕ → Option Piece
-digits_form size signed None digits = None
-digits_form size signed (Some base) [] = None
-digits_form size signed (Some base) (d ∷ ds) =
-    if starts_digits base d && list_all (in_digits base) ds then Some (literal_piece size signed base (d ∷ ds)) else None
-
--- a base's letter, white space, and its digits (clause 3.5.1)
-unfoldable pub base_form : Option (List ℕ) → Bool → Form
-base_form size signed [] rest = None
-base_form size signed (b ∷ bs) rest = digits_form size signed (base_of b) (after_run is_white bs)
-
--- what stands behind the quote of a number; with no literal there the quote is refused (clause 3.5.1, profile)
-unfoldable pub quote_form : Option (List ℕ) → Form
-quote_form size [] rest = Some (Refused r.BadLiteral)
-quote_form size (b ∷ bs) rest =
-    if is_sign b then base_form size true bs rest else base_form size false (b ∷ bs) rest
-
--- what stands behind a size and white space
-unfoldable pub behind_size : List ℕ → Form
-behind_size size [] rest = None
-behind_size size (b ∷ bs) rest = if b == 39 then quote_form (Some size) bs rest else None
-
--- what a digit begins: a decimal number, or one with a size and a base (clause 3.5.1)
-unfoldable pub number_form : Form
-number_form text rest =
-    if list_all in_decimal text then Some (decimal_piece text rest)
-    else behind_size (front_run in_decimal text) (after_run is_white (after_run in_decimal text)) rest
-
--- what a quote begins: a number with a base and without a size (clause 3.5.1)
-unfoldable pub apostrophe_form : Form
-apostrophe_form [] rest = None
-apostrophe_form (b ∷ bs) rest = quote_form None bs rest
 
 -- a text with a byte that may not stand in it is refused
 abbrev pub among : (ℕ → Bool) → List ℕ → Piece → Piece
@@ -169,17 +104,6 @@ parenthesis_form (b ∷ c ∷ bs) rest =
 abbrev pub one_byte_piece : Option Kind → Piece
 one_byte_piece None = Refused r.BadByte
 one_byte_piece (Some kind) = Token kind
-
--- a text that has ended at its end, or that is not closed
-abbrev pub text_piece : TextEnd → Option Piece
-text_piece (ended piece []) = Some piece
-text_piece (ended piece (_ ∷ _)) = None
-text_piece open_yet = Some (Refused r.Unclosed)
-
--- what a quotation mark begins: a text (clause 3.6)
-unfoldable pub text_form : Form
-text_form [] rest = None
-text_form (b ∷ bs) rest = text_piece (text_end bs)
 
 -- a mark or an operator (clause 3.4)
 unfoldable pub mark_form : Form

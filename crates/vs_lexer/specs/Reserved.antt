@@ -2,10 +2,10 @@
 use Rattle.std.specs.Prelude.{ℕ, List, [], ◌∷◌, Option, None, Some, if◌then◌else◌, codes, map}
 use Rattle.std.specs.Borrow.{Bor}
 use Rattle.std.specs.Str.{bytes_eq}
-use Rattle.vs_lexer.specs.declared.token.Kind.{Kind}
-use Rattle.vs_lexer.specs.declared.token.Kind.TheVariants as k
-use Rattle.vs_lexer.specs.declared.token.Mark.TheVariants as m
-use Rattle.vs_lexer.specs.declared.token.Word.TheVariants as w
+use Rattle.vs_tokens.specs.declared.token.Kind.{Kind}
+use Rattle.vs_tokens.specs.declared.token.Kind.TheVariants as k
+use Rattle.vs_tokens.specs.declared.token.Mark.TheVariants as m
+use Rattle.vs_tokens.specs.declared.token.Word.TheVariants as w
 
 -- what stands beside a text in a table
 abbrev pub kind_in : List (List ℕ × Kind) → List ℕ → Option Kind
@@ -53,9 +53,9 @@ words =
     (codes "wire", k.Word w.Wire) ∷
     []
 
--- the reserved words that the subset leaves out (annex B)
-abbrev pub left_out_words : List (List ℕ × Kind)
-left_out_words =
+-- the reserved words that the subset leaves out, those that begin with a letter up to h (annex B)
+abbrev pub left_out_words_to_h : List (List ℕ × Kind)
+left_out_words_to_h =
     (codes "and", k.LeftOut) ∷
     (codes "automatic", k.LeftOut) ∷
     (codes "buf", k.LeftOut) ∷
@@ -81,6 +81,11 @@ left_out_words =
     (codes "function", k.LeftOut) ∷
     (codes "highz0", k.LeftOut) ∷
     (codes "highz1", k.LeftOut) ∷
+    []
+
+-- the reserved words that the subset leaves out, those that begin with a letter from i to r (annex B)
+abbrev pub left_out_words_to_r : List (List ℕ × Kind)
+left_out_words_to_r =
     (codes "ifnone", k.LeftOut) ∷
     (codes "incdir", k.LeftOut) ∷
     (codes "include", k.LeftOut) ∷
@@ -116,6 +121,11 @@ left_out_words =
     (codes "rtran", k.LeftOut) ∷
     (codes "rtranif0", k.LeftOut) ∷
     (codes "rtranif1", k.LeftOut) ∷
+    []
+
+-- the reserved words that the subset leaves out, those that begin with a letter from s on (annex B)
+abbrev pub left_out_words_to_x : List (List ℕ × Kind)
+left_out_words_to_x =
     (codes "scalared", k.LeftOut) ∷
     (codes "showcancelled", k.LeftOut) ∷
     (codes "small", k.LeftOut) ∷

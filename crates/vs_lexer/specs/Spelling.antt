@@ -1,24 +1,14 @@
 -- What it is that bytes spell tokens: they are the longest pieces, one after another.
-use Rattle.std.specs.Prelude.{ℕ, ◌≡◌, ◌+◌, ◌<◌, ◌≤◌, List, [], ◌∷◌, ◌++◌, length, None, Some}
+use Rattle.std.specs.Prelude.{ℕ, ◌+◌, ◌<◌, ◌≤◌, List, [], ◌∷◌, length}
 use Rattle.vs_lexer.specs.declared.fault.LexFault.{LexFault}
 use Rattle.vs_lexer.specs.declared.fault.LexFault.TheVariants as f
-use Rattle.vs_lexer.specs.declared.fault.Refusal.{Refusal}
-use Rattle.vs_lexer.specs.declared.fault.Refusal.TheVariants as r
-use Rattle.vs_lexer.specs.declared.piece.Piece.{Piece}
-use Rattle.vs_lexer.specs.declared.piece.Piece.TheVariants.{Skipped, Token, Refused}
-use Rattle.vs_lexer.specs.declared.token.Kind.{Kind}
-use Rattle.vs_lexer.specs.Pieces.{Form, piece_of}
-use Rattle.vs_lexer.specs.Tokens.{Lexeme}
-
--- The text is a piece of the form, where the rest follows it, and no longer text at its place is one.
-pub record Longest (form : Form) (piece : Piece) (text rest : List ℕ) : Type 0 where
-  pub is : form text rest ≡ Some piece
-  pub longest : (b : ℕ) (more after : List ℕ) → rest ≡ b ∷ more ++ after → form (text ++ b ∷ more) after ≡ None
-
--- The bytes begin with such a piece, and the rest follows it.
-pub record Begins (form : Form) (piece : Piece) (text rest bytes : List ℕ) : Type 0 where
-  pub splits : bytes ≡ text ++ rest
-  pub reads : Longest form piece text rest
+use Rattle.vs_tokens.specs.declared.refusal.Refusal.{Refusal}
+use Rattle.vs_tokens.specs.declared.refusal.Refusal.TheVariants as r
+use Rattle.vs_tokens.specs.declared.piece.Piece.TheVariants.{Skipped, Token, Refused}
+use Rattle.vs_tokens.specs.declared.token.Kind.{Kind}
+use Rattle.vs_tokens.specs.Forms.{Begins}
+use Rattle.vs_lexer.specs.Pieces.{piece_of}
+use Rattle.vs_tokens.specs.Tokens.{Lexeme}
 
 -- The bytes from this place on are these tokens in order, with white space, comments and attributes between them.
 pub data Spells : ℕ → List ℕ → List Lexeme → Type 0 where

@@ -1,13 +1,15 @@
 //! Directives (IEEE 1364-2005, clause 19).
-ghost use Rattle.std.specs.Prelude.{◌≡◌, ◌∷◌, MatchOption, None, Some};
+ghost use Rattle.std.specs.Prelude.{◌≡◌, ◌∷◌, MatchOption, None, Some, nat_lt};
 ghost use Rattle.vs_lexer.specs.Directives.{behind, behind_white, next_is, next_is_white, number_at, unit_at, time_at, timescale_at, nettype_at, directive_at};
 ghost use Rattle.vs_lexer.specs.Pieces.{directive_form};
-ghost use Rattle.vs_lexer.specs.Reading.{Reads, Gives};
+ghost use Rattle.vs_tokens.specs.Reading.{Reads};
+ghost use Rattle.vs_tokens.specs.Times.{exponent};
+ghost use Rattle.vs_lexer.specs.Taking.{Gives};
 
-use crate::fault::Refusal;
-use crate::piece::{Piece, Read};
-use crate::runs::{ByteClass, first_and_rest, is_white, split_run};
-use crate::token::{Directive, ImplicitNet, Kind, Magnitude, Time, TimeUnit};
+use vs_tokens::{
+    ByteClass, Directive, ImplicitNet, Kind, Magnitude, Piece, Read, Refusal, Time, TimeUnit,
+    first_and_rest, is_white, split_run,
+};
 
 /// The bytes behind a text, if they begin with it.
 #[tactic(auto, unfolding(crate::specs::Directives::behind))]
@@ -112,6 +114,13 @@ fn time_at(bytes: &[u8]) -> Option<(Time, &[u8])>
     Some((Time { number, unit }, rest))
 }
 
+/// Whether a precision is coarser than its unit.
+fn is_coarser(precision: Time, unit: Time) -> bool
+    ensures { result ≡ nat_lt (exponent unit) (exponent precision) }
+{
+    unit.exponent() < precision.exponent()
+}
+
 /// Reads a timescale, behind its backquote.
 #[tactic(auto, unfolding(crate::specs::Directives::timescale_at))]
 fn timescale_at(bytes: &[u8]) -> Option<(Directive, &[u8])>
@@ -124,7 +133,7 @@ fn timescale_at(bytes: &[u8]) -> Option<(Directive, &[u8])>
     let (unit, after) = time_at(behind_white(after))?;
     let after = behind(b"/", behind_white(after))?;
     let (precision, rest) = time_at(behind_white(after))?;
-    if unit.exponent() < precision.exponent() {
+    if is_coarser(precision, unit) {
         return None;
     }
     Some((Directive::Timescale { unit, precision }, rest))

@@ -1,45 +1,11 @@
 //! Why a source is refused.
 ghost use Rattle.vs_lexer.specs.declared.fault.LexFault.TheVariants.{Memory};
-ghost use Rattle.std.specs.Prelude.{◌≡◌};
+ghost use Rattle.vs_lexer.specs.Faults.{fault_text};
+ghost use Rattle.std.specs.Prelude.{◌≡◌, IfOk};
 
-use std::alloc::{AllocError, AllocFailed};
-use std::fmt;
+use std::alloc::{AllocError, AllocFailed, Global};
 use thiserror::Error;
-
-/// What is wrong with a source, by its number.
-#[derive(Clone, Copy, PartialEq, Eq, Debug)]
-pub enum Refusal {
-    /// L1: a byte that no token has there.
-    BadByte,
-    /// L2: a comment, an attribute or a text that is not closed.
-    Unclosed,
-    /// L3: a literal that is not well formed.
-    BadLiteral,
-    /// L4: a literal that is too large: unsized past 32 bits, or of size 0 or over 64.
-    TooLarge,
-    /// L5: a directive out of scope.
-    BadDirective,
-    /// L6: a source over 4 MiB, or a name over 1,024 bytes.
-    TooLong,
-}
-
-impl fmt::Display for Refusal {
-    ghost use Rattle.std.specs.Prelude.{Some};
-    ghost use Rattle.vs_lexer.specs.Tokens.{refusal_text};
-
-    ghost output = { λ refusal. Some (refusal_text refusal) };
-
-    fn fmt<W: fmt::Write>(&self, f: &mut fmt::Formatter<W>) -> fmt::Result {
-        match self {
-            Refusal::BadByte => f.write_str("L1"),
-            Refusal::Unclosed => f.write_str("L2"),
-            Refusal::BadLiteral => f.write_str("L3"),
-            Refusal::TooLarge => f.write_str("L4"),
-            Refusal::BadDirective => f.write_str("L5"),
-            Refusal::TooLong => f.write_str("L6"),
-        }
-    }
-}
+use vs_tokens::Refusal;
 
 /// Why there are no tokens.
 #[derive(Clone, Copy, PartialEq, Eq, Debug, Error)]
@@ -50,6 +16,19 @@ pub enum LexFault {
     /// Memory ran out.
     #[error("out of memory")]
     Memory,
+}
+
+impl LexFault {
+    /// The text that the program prints of the fault: its number and its place.
+    pub fn text(&self, alloc: Global) -> Result<Vec<u8>, AllocError>
+        ensures { IfOk result (λ t. t.items ≡ fault_text self.now) }
+    {
+        let line = match self {
+            LexFault::Refused { why, place } => format!(in alloc; "{why} at {place}")?,
+            LexFault::Memory => format!(in alloc; "memory")?,
+        };
+        Ok(line.into_bytes())
+    }
 }
 
 impl From<AllocError> for LexFault {

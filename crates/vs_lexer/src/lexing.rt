@@ -1,14 +1,13 @@
 //! The tokens of a source.
 ghost use Rattle.std.specs.Prelude.{◌≡◌, ◌<◌, ◌≤◌, [], ◌∷◌, ◌++◌, length, MatchResult, OnOk};
 ghost use Rattle.vs_lexer.specs.Spelling.{IsSpelled, Fails};
-ghost use Rattle.vs_lexer.specs.Reading.{Takes, Stops};
-ghost use Rattle.vs_lexer.specs.Tokens.{lexemes};
+ghost use Rattle.vs_lexer.specs.Taking.{Takes, Stops};
+ghost use Rattle.vs_tokens.specs.Tokens.{lexemes};
 
-use crate::fault::{LexFault, Refusal};
-use crate::piece::{Piece, Read};
+use crate::fault::LexFault;
 use crate::scan::read_piece;
-use crate::token::{Kind, Token};
 use std::alloc::{AllocError, Global};
+use vs_tokens::{Kind, Piece, Read, Refusal, Token};
 
 /// The most bytes that a source has: 4 MiB.
 const SOURCE_LIMIT: usize = 4194304;
@@ -20,7 +19,8 @@ fn add<'s>(
     place: usize,
     bytes: &'s [u8],
 ) -> Result<(), AllocError>
-    ensures { OnOk result (lexemes tokens.new.items ≡ lexemes tokens.old.items ++ record { kind = kind; place = place; bytes = bytes.now } ∷ []) }
+    ensures { OnOk result (lexemes tokens.new.items
+        ≡ lexemes tokens.old.items ++ record { kind = kind; place = place; bytes = bytes.now } ∷ []) }
 {
     tokens.extend_from_slice(&[Token { kind, place, bytes }])
 }
@@ -33,7 +33,9 @@ fn take_piece<'s>(
     bytes: &'s [u8],
 ) -> Result<&'s [u8], LexFault>
     requires { 0 < length bytes.now }
-    ensures { MatchResult result (λ rest. Takes place bytes.now (lexemes tokens.old.items) (lexemes tokens.new.items) rest.now) (λ fault. Stops place bytes.now fault) }
+    ensures { MatchResult result
+        (λ rest. Takes place bytes.now (lexemes tokens.old.items) (lexemes tokens.new.items) rest.now)
+        (λ fault. Stops place bytes.now fault) }
 {
     let Read { piece, rest } = read_piece(bytes);
     match piece {
@@ -50,7 +52,9 @@ fn take_piece<'s>(
 /// The tokens of a source, or the first place where it is refused. Linear in the source.
 pub fn lex<'s>(alloc: Global, source: &'s [u8]) -> Result<Vec<Token<'s>>, LexFault>
     // Exactly the tokens that the source spells, and a refusal only of what stands first.
-    ensures { MatchResult result (λ tokens. IsSpelled source.now (lexemes tokens.items)) (λ fault. Fails source.now fault) }
+    ensures { MatchResult result
+        (λ tokens. IsSpelled source.now (lexemes tokens.items))
+        (λ fault. Fails source.now fault) }
 {
     let mut tokens = Vec::new(alloc);
     let mut rest = source;

@@ -1,12 +1,20 @@
 //! Marks and operators (IEEE 1364-2005, clauses 3.4 and 5).
-ghost use Rattle.std.specs.Prelude.{◌≡◌, ◌∷◌, MatchOption};
+ghost use Rattle.std.specs.Prelude.{◌≡◌, ◌<◌, ◌∷◌, length, MatchOption};
 ghost use Rattle.vs_lexer.specs.Pieces.{mark_form};
-ghost use Rattle.vs_lexer.specs.Reading.{Reads, HasNoMarkOfTwo, HasNoMarkOfThree};
+ghost use Rattle.vs_tokens.specs.Reading.{Reads};
+ghost use Rattle.vs_lexer.specs.Taking.{HasNoMarkOfTwo, HasNoMarkOfThree};
 
-use crate::fault::Refusal;
-use crate::piece::{Piece, Read};
 use crate::reserved::{one_byte_mark, three_byte_mark, two_byte_mark};
-use crate::runs::{first_three_and_rest, first_two_and_rest};
+use vs_tokens::{Piece, Read, Refusal, first_and_rest, first_two_and_rest};
+
+/// The first three bytes, and those after them.
+fn first_three_and_rest(bytes: &[u8]) -> Option<(u8, u8, u8, &[u8])>
+    ensures { MatchOption result (length bytes.now < 3) (λ x. bytes.now ≡ x.0 ∷ x.1 ∷ x.2 ∷ x.3.now) }
+{
+    let (first, second, after) = first_two_and_rest(bytes)?;
+    let (third, rest) = first_and_rest(after)?;
+    Some((first, second, third, rest))
+}
 
 /// Reads a mark of three bytes, if one stands there.
 fn read_three(bytes: &[u8]) -> Option<Read<'_>>

@@ -1,14 +1,12 @@
 //! White space, names and reserved words.
 ghost use Rattle.std.specs.Prelude.{◌≡◌, []};
-ghost use Rattle.vs_lexer.specs.Bytes.{is_white, in_name, in_escaped};
-ghost use Rattle.vs_lexer.specs.Pieces.{run_of, limited, word_or_name, white_piece, name_piece, system_piece, escaped_piece};
-ghost use Rattle.vs_lexer.specs.Reading.{Reads};
+ghost use Rattle.vs_tokens.specs.Bytes.{is_white, in_name, in_escaped};
+ghost use Rattle.vs_tokens.specs.Forms.{run_of};
+ghost use Rattle.vs_lexer.specs.Pieces.{limited, word_or_name, white_piece, name_piece, system_piece, escaped_piece};
+ghost use Rattle.vs_tokens.specs.Reading.{Reads};
 
-use crate::fault::Refusal;
-use crate::piece::{Piece, Read};
-use crate::reserved::{left_out_word, word};
-use crate::runs::{ByteClass, is_white, split_run};
-use crate::token::Kind;
+use crate::reserved::{left_out_to_h, left_out_to_r, left_out_to_x, word};
+use vs_tokens::{ByteClass, Kind, Piece, Read, Refusal, is_white, split_run};
 
 /// The most bytes that a name has.
 const NAME_LIMIT: usize = 1024;
@@ -31,7 +29,13 @@ fn word_or_name(text: &[u8]) -> Kind
     if let Some(kind) = word(text) {
         return kind;
     }
-    if let Some(kind) = left_out_word(text) {
+    if let Some(kind) = left_out_to_h(text) {
+        return kind;
+    }
+    if let Some(kind) = left_out_to_r(text) {
+        return kind;
+    }
+    if let Some(kind) = left_out_to_x(text) {
         return kind;
     }
     Kind::Name

@@ -1,8 +1,8 @@
 //! The texts that are tokens of their own: reserved words, marks and operators.
 ghost use Rattle.std.specs.Prelude.{◌≡◌};
-ghost use Rattle.vs_lexer.specs.Reserved.{kind_in, table_of, words, left_out_words, one_byte_marks, two_byte_marks, three_byte_marks};
+ghost use Rattle.vs_lexer.specs.Reserved.{kind_in, table_of, words, left_out_words_to_h, left_out_words_to_r, left_out_words_to_x, one_byte_marks, two_byte_marks, three_byte_marks};
 
-use crate::token::{Kind, Mark, Word};
+use vs_tokens::{Kind, Mark, Word};
 
 /// A text and what it is.
 type Entry = (&'static [u8], Kind);
@@ -43,8 +43,8 @@ const WORDS: [Entry; 32] = [
     (b"wire", Kind::Word(Word::Wire)),
 ];
 
-/// The reserved words that the subset leaves out (annex B).
-const LEFT_OUT_WORDS: [Entry; 92] = [
+/// The reserved words that the subset leaves out, those that begin with a letter up to h (annex B).
+const LEFT_OUT_TO_H: [Entry; 25] = [
     (b"and", Kind::LeftOut),
     (b"automatic", Kind::LeftOut),
     (b"buf", Kind::LeftOut),
@@ -70,6 +70,10 @@ const LEFT_OUT_WORDS: [Entry; 92] = [
     (b"function", Kind::LeftOut),
     (b"highz0", Kind::LeftOut),
     (b"highz1", Kind::LeftOut),
+];
+
+/// The reserved words that the subset leaves out, those that begin with a letter from i to r (annex B).
+const LEFT_OUT_TO_R: [Entry; 35] = [
     (b"ifnone", Kind::LeftOut),
     (b"incdir", Kind::LeftOut),
     (b"include", Kind::LeftOut),
@@ -105,6 +109,10 @@ const LEFT_OUT_WORDS: [Entry; 92] = [
     (b"rtran", Kind::LeftOut),
     (b"rtranif0", Kind::LeftOut),
     (b"rtranif1", Kind::LeftOut),
+];
+
+/// The reserved words that the subset leaves out, those that begin with a letter from s on (annex B).
+const LEFT_OUT_TO_X: [Entry; 32] = [
     (b"scalared", Kind::LeftOut),
     (b"showcancelled", Kind::LeftOut),
     (b"small", Kind::LeftOut),
@@ -219,11 +227,25 @@ pub(crate) fn word(text: &[u8]) -> Option<Kind>
     kind_in(&WORDS, text)
 }
 
-/// Whether this text is a reserved word that the subset leaves out.
-pub(crate) fn left_out_word(text: &[u8]) -> Option<Kind>
-    ensures { result ≡ kind_in left_out_words text.now }
+/// Of the words that the subset leaves out, those that begin with a letter up to h, the one that this text is.
+pub(crate) fn left_out_to_h(text: &[u8]) -> Option<Kind>
+    ensures { result ≡ kind_in left_out_words_to_h text.now }
 {
-    kind_in(&LEFT_OUT_WORDS, text)
+    kind_in(&LEFT_OUT_TO_H, text)
+}
+
+/// Of the words that the subset leaves out, those that begin with a letter from i to r, the one that this text is.
+pub(crate) fn left_out_to_r(text: &[u8]) -> Option<Kind>
+    ensures { result ≡ kind_in left_out_words_to_r text.now }
+{
+    kind_in(&LEFT_OUT_TO_R, text)
+}
+
+/// Of the words that the subset leaves out, those that begin with a letter from s on, the one that this text is.
+pub(crate) fn left_out_to_x(text: &[u8]) -> Option<Kind>
+    ensures { result ≡ kind_in left_out_words_to_x text.now }
+{
+    kind_in(&LEFT_OUT_TO_X, text)
 }
 
 /// The mark of one byte that this text is.

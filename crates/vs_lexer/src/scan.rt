@@ -1,16 +1,15 @@
 //! Reading one piece of a source.
 ghost use Rattle.std.specs.Prelude.{◌≡◌, ◌<◌, ◌∷◌, length};
 ghost use Rattle.vs_lexer.specs.Pieces.{form_of, piece_of};
-ghost use Rattle.vs_lexer.specs.Reading.{Reads};
+ghost use Rattle.vs_tokens.specs.Reading.{Reads};
 
 use crate::comments::{read_parenthesis, read_slash};
 use crate::directives::read_directive;
-use crate::literals::{read_apostrophe, read_number};
 use crate::marks::read_mark;
 use crate::names::{read_escaped, read_name, read_system, read_white};
-use crate::piece::Read;
-use crate::runs::{first_and_rest, is_white, starts_name};
-use crate::texts::read_text;
+use vs_tokens::{
+    Read, first_and_rest, is_white, read_apostrophe, read_number, read_text, starts_name,
+};
 
 /// Reads the piece that this first byte begins, with these bytes after it.
 fn read_form<'s>(first: u8, after: &'s [u8], bytes: &'s [u8]) -> Read<'s>

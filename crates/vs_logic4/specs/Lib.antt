@@ -8,6 +8,7 @@ pub mod Bitwise
 pub mod Comparisons
 pub mod Arithmetic
 pub mod Shifts
+pub mod Operators
 pub mod Parts
 pub mod Moves
 pub mod Changes

@@ -10,7 +10,8 @@ use std::simd::prelude::*;
 pub fn changed(old: &[u64], new: &[u64], out: &mut [u8])
     requires new_len { length new.now ≡ length old.now }
     requires out_len { length out.old ≡ length old.now }
-    ensures { (k : ℕ) → k < length old.now → slice_index out.new k ≡ change (slice_index old.now k) (slice_index new.now k) }
+    ensures { (k : ℕ) → k < length old.now
+        → slice_index out.new k ≡ change (slice_index old.now k) (slice_index new.now k) }
 {
     let done = changed_blocks(old, new, out);
     changed_rest(old, new, out, done);
@@ -21,7 +22,8 @@ fn changed_blocks(old: &[u64], new: &[u64], out: &mut [u8]) -> usize
     requires new_len { length new.now ≡ length old.now }
     requires out_len { length out.old ≡ length old.now }
     ensures within { result ≤ length old.now }
-    ensures done { (k : ℕ) → k < result → slice_index out.new k ≡ change (slice_index old.now k) (slice_index new.now k) }
+    ensures done { (k : ℕ) → k < result
+        → slice_index out.new k ≡ change (slice_index old.now k) (slice_index new.now k) }
 {
     let mut at = 0;
     while old.len() - at >= 8 {
@@ -51,7 +53,8 @@ fn changed_rest(old: &[u64], new: &[u64], out: &mut [u8], from: usize)
     requires out_len { length out.old ≡ length old.now }
     requires within { from ≤ length old.now }
     ensures before { (k : ℕ) → k < from → slice_index out.new k ≡ slice_index out.old k }
-    ensures done { (k : ℕ) → from ≤ k → k < length old.now → slice_index out.new k ≡ change (slice_index old.now k) (slice_index new.now k) }
+    ensures done { (k : ℕ) → from ≤ k → k < length old.now
+        → slice_index out.new k ≡ change (slice_index old.now k) (slice_index new.now k) }
 {
     for i in from..old.len() {
         out[i] = if old[i] == new[i] { 0 } else { 1 };

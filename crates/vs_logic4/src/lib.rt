@@ -4,6 +4,7 @@
 mod changes;
 mod digit;
 mod laws;
+mod operators;
 #[cfg(test)]
 mod tests;
 mod vector;
@@ -14,4 +15,5 @@ pub use laws::{
     digit_after_put, known_vector_is_its_number, resize_to_own_width, same_digits_make_equal,
     select_after_put,
 };
+pub use operators::{Binary, Unary};
 pub use vector::Vec4;

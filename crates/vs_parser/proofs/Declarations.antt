@@ -1,7 +1,7 @@
 -- How the parts of declarations and net assignments make them, and where they stop.
 use Rattle.std.specs.Prelude.{◌≡◌, ℕ, ◌-◌, ◌<◌, ◌≤◌, Bool, false, List, ◌∷◌, refl}
 use Rattle.std.proofs.Common.{arith}
-use Rattle.vs_lexer.specs.declared.token.Mark.TheVariants as m
+use Rattle.vs_tokens.specs.declared.token.Mark.TheVariants as m
 use Rattle.vs_syntax.specs.Symbols.{Symbol, a_mark}
 use Rattle.vs_syntax.specs.Grammar.{nothing, ◌·◌, ◌or◌, part, mark, name, a_target, an_expr}
 use Rattle.vs_syntax.specs.Tables.{goes}

@@ -3,6 +3,8 @@ pub mod Exits
 pub mod Trees
 pub mod Rows
 pub mod Lists
+pub mod OperatorLemmas
+pub mod Choices
 pub mod Expressions
 pub mod Statements
 pub mod Declarations

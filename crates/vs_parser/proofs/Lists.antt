@@ -1,18 +1,18 @@
 -- Parts with a separator before each but the first.
-use Rattle.std.specs.Prelude.{◌≡◌, ℕ, suc, max, ◌<◌, ◌≤◌, Bool, true, false, cond, List, [], ◌∷◌, ◌++◌, map, drop, refl}
+use Rattle.std.specs.Prelude.{◌≡◌, ℕ, ◌≤◌, Bool, true, false, List, [], ◌∷◌, ◌++◌, map, drop, refl}
 use Rattle.std.proofs.Common.{sym, ◌∙◌, ap, subst, append_assoc, arith}
 use Rattle.std.proofs.lemmas.List.{append-nil, map-append}
-use Rattle.vs_syntax.specs.Symbols.{Symbol, Class, a_mark, class_of, first, same_class}
-use Rattle.vs_lexer.specs.declared.token.Mark.{Mark}
-use Rattle.vs_lexer.specs.declared.token.Mark.TheVariants as m
-use Rattle.vs_syntax.specs.Grammar.{Part, Grammar, token, ◌·◌, many, part, mark, listed}
+use Rattle.vs_syntax.specs.Symbols.{Symbol, a_mark, class_of}
+use Rattle.vs_tokens.specs.declared.token.Mark.{Mark}
+use Rattle.vs_tokens.specs.declared.token.Mark.TheVariants as m
+use Rattle.vs_syntax.specs.Grammar.{Part, Grammar, ◌·◌, many, part, mark, listed}
 use Rattle.vs_syntax.specs.Tables.{low, low_of, goes}
-use Rattle.vs_syntax.specs.Derivation.{Tree, empty, leaf, both, down, tokens, height, Is, is_token, is_seq, is_stop, is_more}
-use Rattle.vs_syntax.specs.Reading.{Gets, Stuck, stuck_here, stuck_deep, stuck_first, stuck_second, stuck_many, stuck_more}
-use Rattle.vs_syntax.specs.Views.{row_of, listed_tree, rest_tree, chain_tree}
-use Rattle.vs_syntax.proofs.Fronts.{clash, or_left, same_class-refl}
+use Rattle.vs_syntax.specs.Derivation.{Tree, leaf, both}
+use Rattle.vs_syntax.specs.Reading.{Gets, Stuck, stuck_first, stuck_second, stuck_many}
+use Rattle.vs_syntax.specs.Views.{row_of, listed_tree}
+use Rattle.vs_syntax.proofs.Fronts.{or_left, same_class-refl}
 use Rattle.vs_syntax.proofs.Gets.{gets_token, gets_seq, gets_stop}
-use Rattle.vs_lexer.specs.declared.token.Token.{Token}
+use Rattle.vs_tokens.specs.declared.token.Token.{Token}
 use Rattle.vs_parser.specs.Answers.{seen}
 use Rattle.vs_parser.proofs.Rows.{Along, along_none, along_push, all_read}
 
@@ -49,45 +49,6 @@ behind_stuck sign p room deep start rest after at n l e s =
     let k : low (another sign p) ≤ room = omega (arith, n) in
     l.along.stops deep at (stuck_many (goes_another sign p rest after e) k (subst (λ (u : List Symbol). Stuck (another sign p) room deep u at) (sym e) (stuck_second (gets_token refl) s)))
 
--- the same, where one more at least is there
-first_alone : (c : Class) (p : Part) (room : ℕ) (deep : Bool) (ts at : List Symbol) → Stuck (token c · part p) room deep ts at → Stuck (token c · part p · many (token c · part p)) room deep ts at
-first_alone c p room deep ts at (stuck_here n i) = stuck_here refl i
-first_alone c p room deep ts at (stuck_deep i n) =
-    let k : max (low_of p) 0 ≡ max (max (low_of p) 0) 0 = omega arith in
-    stuck_deep i (subst (λ (u : ℕ). room < cond (same_class (first ts) c) u 0) k n)
-first_alone c p room deep ts at (stuck_first s) = stuck_first s
-first_alone c p room deep ts at (stuck_second q s) = stuck_second q (stuck_first s)
-
-first_read : (c : Class) (p : Part) (room : ℕ) (deep : Bool) (ts mid at : List Symbol) (x y : Tree) → Is (token c · part p) (both x y) mid → ts ≡ (tokens x ++ tokens y) ++ mid → max (height x) (height y) ≤ room → Stuck (many (token c · part p)) room deep mid at → Stuck (token c · part p · many (token c · part p)) room deep ts at
-first_read c p room deep ts mid at x y (is_seq i j) e h s =
-    stuck_second (record { is = i; text = e ∙ append_assoc (tokens x) (tokens y) mid; fits = omega (arith, h) }) (stuck_second (record { is = j; text = refl; fits = omega (arith, h) }) s)
-
-one_read : (c : Class) (p : Part) (room : ℕ) (deep : Bool) (ts mid at : List Symbol) (x : Tree) → Is (token c · part p) x mid → ts ≡ tokens x ++ mid → height x ≤ room → Stuck (many (token c · part p)) room deep mid at → Stuck (token c · part p · many (token c · part p)) room deep ts at
-one_read c p room deep ts mid at empty i e h s = elim i [ ]
-one_read c p room deep ts mid at (leaf z) i e h s = elim i [ ]
-one_read c p room deep ts mid at (down z) i e h s = elim i [ ]
-one_read c p room deep ts mid at (both x y) i e h s = first_read c p room deep ts mid at x y i e h s
-
-pub some_stuck : (c : Class) (p : Part) (room : ℕ) (deep : Bool) (ts at : List Symbol) → Stuck (many (token c · part p)) room deep ts at → Stuck (token c · part p · many (token c · part p)) room deep ts at
-some_stuck c p room deep ts at (stuck_here n i) = absurd (clash refl n)
-some_stuck c p room deep ts at (stuck_deep i n) =
-    let k : max (low_of p) 0 ≡ max (max (low_of p) 0) 0 = omega arith in
-    stuck_deep i (subst (λ (u : ℕ). room < cond (same_class (first ts) c) u 0) k n)
-some_stuck c p room deep ts at (stuck_many i n s) = first_alone c p room deep ts at s
-some_stuck c p room deep ts at (stuck_more i q s) = one_read c p room deep ts _ at _ q.is q.text q.fits s
-
-some_is : (c : Class) (p : Part) (s : Symbol) (x y : Tree) (at : List Symbol) → Is (many (token c · part p)) (both (both (leaf s) x) y) at → Is (token c · part p · many (token c · part p)) (both (leaf s) (both x y)) at
-some_is c p s x y at (is_more h (is_seq (is_token e) i) j) = is_seq (is_token e) (is_seq i j)
-
-none_is : (a : Grammar) (at : List Symbol) → Is (many a) empty at → goes a at ≡ false
-none_is a at (is_stop h) = h
-
-pub some_read : (sign : Mark) (p : Part) (room : ℕ) (ts after at : List Symbol) (xs : List Tree) → ts ≡ a_mark sign ∷ after → Gets (many (another sign p)) room ts (row_of (map (both (leaf (a_mark sign))) xs)) at → Gets (mark sign · part p · many (another sign p)) room ts (rest_tree sign xs) at
-some_read sign p room ts after at [] e q = absurd (clash (goes_another sign p ts after e) (ap (goes (another sign p)) q.text ∙ none_is (another sign p) at q.is))
-some_read sign p room ts after at (x ∷ xs) e q =
-    let h : height (row_of (map (both (leaf (a_mark sign))) (x ∷ xs))) ≤ room = q.fits in
-    record { is = some_is (class_of (a_mark sign)) p (a_mark sign) x (row_of (map (both (leaf (a_mark sign))) xs)) at q.is; text = q.text; fits = omega (arith, h) }
-
 -- all of them behind the first
 pub all_behind : {xs ys : List Tree} (sign : Mark) (p : Part) (room : ℕ) (start rest : List Symbol) → (l : Behind sign p room start rest xs ys) → goes (another sign p) rest ≡ false → Gets (many (another sign p)) room start (row_of (map (both (leaf (a_mark sign))) l.others)) rest
 all_behind sign p room start rest l h = all_read (another sign p) room start rest rest (map (both (leaf (a_mark sign))) l.others) l.along (gets_stop h)
@@ -108,30 +69,6 @@ listed_read p room ts start rest at x xs ys q l e h r =
 pub pushed_one : {X : Type 0} (tree : X → Tree) (xs ys : List X) (x : X) → ys ≡ xs ++ x ∷ [] → xs ≡ [] → map tree ys ≡ tree x ∷ []
 pushed_one tree xs ys x e f = ap (map tree) (e ∙ ap (λ u. u ++ x ∷ []) f)
 
-pub one_height : (xs : List Tree) (x : Tree) → xs ≡ x ∷ [] → height (row_of xs) ≡ height x
-one_height xs x e = ap (λ u. height (row_of u)) e ∙ omega arith
-
 -- the same, from where a loop starts
 pub gets_from : (a : Grammar) (room : ℕ) (ts : List Symbol) (x : Tree) (us vs : List Token) → vs ≡ drop 0 us → Gets a room ts x (seen us) → Gets a room ts x (seen vs)
 gets_from a room ts x us vs e q = subst (λ (u : List Token). Gets a room ts x (seen u)) (sym e) q
-
--- separators are no nodes
-separated : (sign : Mark) (xs : List Tree) → height (row_of (map (both (leaf (a_mark sign))) xs)) ≡ height (row_of xs)
-separated sign [] = refl
-separated sign (x ∷ xs) = let e : height (row_of (map (both (leaf (a_mark sign))) xs)) ≡ height (row_of xs) = separated sign xs in omega (arith, e)
-
-pub listed_height : (xs : List Tree) → height (listed_tree xs) ≡ height (row_of xs)
-listed_height [] = refl
-listed_height (x ∷ xs) = let e : height (row_of (map (both (leaf (a_mark m.Comma))) xs)) ≡ height (row_of xs) = separated m.Comma xs in omega (arith, e)
-
-rest_height : (sign : Mark) (xs : List Tree) → height (rest_tree sign xs) ≡ height (row_of xs)
-rest_height sign [] = refl
-rest_height sign (x ∷ xs) = let e : height (row_of (map (both (leaf (a_mark sign))) xs)) ≡ height (row_of xs) = separated sign xs in omega (arith, e)
-
-pub chain_height : (sign : Mark) (x : Tree) (xs : List Tree) → height (chain_tree sign (x ∷ xs)) ≡ suc (height (row_of (x ∷ xs)))
-chain_height sign x xs = let e : height (rest_tree sign xs) ≡ height (row_of xs) = rest_height sign xs in omega (arith, e)
-
-pub chained_height : {xs ys : List Tree} (sign : Mark) (p : Part) (room : ℕ) (start rest : List Symbol) (x : Tree) → Behind sign p room start rest xs ys → xs ≡ x ∷ [] → height (chain_tree sign ys) ≡ suc (height (row_of ys))
-chained_height {xs} {ys} sign p room start rest x l e =
-    let i : ys ≡ x ∷ l.others = l.all ∙ ap (λ u. u ++ l.others) e in
-    subst (λ (u : List Tree). height (chain_tree sign u) ≡ suc (height (row_of u))) (sym i) (chain_height sign x l.others)

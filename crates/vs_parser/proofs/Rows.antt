@@ -1,12 +1,12 @@
 -- Parts that follow one another, and loops that read them.
-use Rattle.std.specs.Prelude.{◌≡◌, ℕ, max, ◌<◌, Bool, true, List, [], ◌∷◌, ◌++◌, length, map, drop, refl}
+use Rattle.std.specs.Prelude.{◌≡◌, ℕ, ◌<◌, Bool, true, List, [], ◌∷◌, ◌++◌, length, map, drop, refl}
 use Rattle.std.proofs.Common.{sym, ◌∙◌, ap, subst, arith}
 use Rattle.std.proofs.lemmas.List.{length-append, map-append}
-use Rattle.vs_lexer.specs.declared.token.Token.{Token}
+use Rattle.vs_tokens.specs.declared.token.Token.{Token}
 use Rattle.vs_syntax.specs.Symbols.{Symbol}
 use Rattle.vs_syntax.specs.Grammar.{Grammar, many}
 use Rattle.vs_syntax.specs.Tables.{goes}
-use Rattle.vs_syntax.specs.Derivation.{Tree, empty, both, tokens, height}
+use Rattle.vs_syntax.specs.Derivation.{Tree, empty, both, tokens}
 use Rattle.vs_syntax.specs.Reading.{Gets, Stuck, stuck_more}
 use Rattle.vs_syntax.specs.Views.{row_of}
 use Rattle.vs_parser.specs.Answers.{seen}
@@ -27,10 +27,6 @@ pub row_onto-push : (xs : List Tree) (x y : Tree) → row_onto (xs ++ x ∷ []) 
 row_onto-push [] x y = refl
 row_onto-push (w ∷ ws) x y = ap (both w) (row_onto-push ws x y)
 
-pub height-row_push : (xs : List Tree) (x : Tree) → height (row_of (xs ++ x ∷ [])) ≡ max (height (row_of xs)) (height x)
-height-row_push [] x = omega arith
-height-row_push (w ∷ ws) x = let e : height (row_of (ws ++ x ∷ [])) ≡ max (height (row_of ws)) (height x) = height-row_push ws x in omega (arith, e)
-
 -- From the start to the rest these parts were read, so what is read next goes on with them.
 pub record Along (a : Grammar) (room : ℕ) (start rest : List Symbol) (xs : List Tree) : Type 0 where
   pub reads : (y : Tree) (at : List Symbol) → Gets (many a) room rest y at → Gets (many a) room start (row_onto xs y) at
@@ -50,9 +46,6 @@ pub along_push : {X : Type 0} (a : Grammar) (room : ℕ) (start rest behind : Li
 along_push a room start rest behind tree xs ys x e l h p =
     subst (λ (u : List Tree). Along a room start behind u) (sym (ap (map tree) e ∙ map-append tree xs (x ∷ []))) (along_one a room start rest behind (map tree xs) (tree x) l h p)
 
-pub height_push : {X : Type 0} (tree : X → Tree) (xs ys : List X) (x : X) → ys ≡ xs ++ x ∷ [] → height (row_of (map tree ys)) ≡ max (height (row_of (map tree xs))) (height (tree x))
-height_push tree xs ys x e = ap (λ u. height (row_of u)) (ap (map tree) e ∙ map-append tree xs (x ∷ [])) ∙ height-row_push (map tree xs) (tree x)
-
 shorter_by : (xs mid ts : List Symbol) → ts ≡ xs ++ mid → (xs ≡ [] → ⊥) → length mid < length ts
 shorter_by [] mid ts e f = absurd (f refl)
 shorter_by (z ∷ zs) mid ts e f = omega (arith, ap length e, length-append zs mid)
@@ -64,9 +57,6 @@ shorter a room ts mid x h p = shorter_by (tokens x) mid ts p.text (λ e. clash h
 -- before the first of them
 pub along_start : {X : Type 0} (a : Grammar) (room : ℕ) (ts us : List Token) (tree : X → Tree) (xs : List X) → us ≡ drop 0 ts → xs ≡ [] → Along a room (seen ts) (seen us) (map tree xs)
 along_start a room ts us tree xs e f = subst (λ (u : List Token). Along a room (seen ts) (seen u) (map tree xs)) (sym e) (subst (λ u. Along a room (seen ts) (seen ts) (map tree u)) (sym f) (along_none a room (seen ts)))
-
-pub height_start : {X : Type 0} (tree : X → Tree) (xs : List X) → xs ≡ [] → 0 ≡ height (row_of (map tree xs))
-height_start tree xs e = sym (ap (λ u. height (row_of (map tree u))) e)
 
 -- all of them
 pub all_read : (a : Grammar) (room : ℕ) (start rest at : List Symbol) (xs : List Tree) → Along a room start rest xs → Gets (many a) room rest empty at → Gets (many a) room start (row_of xs) at

@@ -1,10 +1,10 @@
 -- Single tokens as symbols.
 use Rattle.std.specs.Prelude.{◌≡◌, ℕ, Bool, true, false, List, [], ◌∷◌, refl}
 use Rattle.std.proofs.Common.{sym, ◌∙◌, ap}
-use Rattle.vs_lexer.specs.declared.token.Kind.{Kind}
-use Rattle.vs_lexer.specs.declared.token.Kind.TheVariants as k
-use Rattle.vs_lexer.specs.declared.token.Literal.{Literal}
-use Rattle.vs_lexer.specs.declared.token.Token.{Token}
+use Rattle.vs_tokens.specs.declared.token.Kind.{Kind}
+use Rattle.vs_tokens.specs.declared.token.Kind.TheVariants as k
+use Rattle.vs_tokens.specs.declared.token.Literal.{Literal}
+use Rattle.vs_tokens.specs.declared.token.Token.{Token}
 use Rattle.vs_lexer.specs.Tokens.{name_of}
 use Rattle.vs_syntax.specs.Symbols.{Symbol, a_name, a_number, Class, any_name, any_number, class_of, symbol_of, same_class}
 use Rattle.vs_syntax.specs.Grammar.{token, name, number}

@@ -1,14 +1,15 @@
 -- The tree of each expression and statement.
 use Rattle.std.specs.Prelude.{◌≡◌, map}
 use Rattle.std.proofs.Common.{ap, sym, ◌∙◌}
-use Rattle.vs_lexer.specs.declared.token.Mark.TheVariants as m
-use Rattle.vs_lexer.specs.declared.token.Word.TheVariants as w
+use Rattle.vs_tokens.specs.declared.token.Mark.TheVariants as m
+use Rattle.vs_tokens.specs.declared.token.Word.TheVariants as w
 use Rattle.vs_syntax.specs.Symbols.{a_mark, a_word, a_number}
-use Rattle.vs_syntax.specs.Derivation.{Tree, leaf, both, down}
-use Rattle.vs_syntax.specs.Views.{row_of, name_tree, mark_of, chain_tree, expr_step, expr_tree, assigned_tree, stmt_step, stmt_tree}
-use Rattle.vs_syntax.specs.declared.tree.Expr.{fold-roll-Expr}
+use Rattle.vs_syntax.specs.Derivation.{Tree, empty, leaf, both, down}
+use Rattle.vs_syntax.specs.Views.{row_of, name_tree, unary_mark, links_tree, expr_step, expr_tree, assigned_tree, stmt_step, stmt_tree}
+use Rattle.vs_logic4.specs.declared.operators.Binary.{Binary}
+use Rattle.vs_syntax.specs.declared.tree.Expr.{Expr, fold-roll-Expr}
 use Rattle.vs_syntax.specs.declared.tree.Expr.TheVariants as e
-use Rattle.vs_syntax.specs.declared.tree.Expr.TheVariants.{rolls-Number, rolls-Name, rolls-Group, rolls-Not, rolls-Chain}
+use Rattle.vs_syntax.specs.declared.tree.Expr.TheVariants.{rolls-Number, rolls-Name, rolls-Group, rolls-Unary, rolls-Chain}
 use Rattle.vs_syntax.specs.declared.tree.Stmt.{fold-roll-Stmt}
 use Rattle.vs_syntax.specs.declared.tree.Stmt.TheVariants as v
 use Rattle.vs_syntax.specs.declared.tree.Stmt.TheVariants.{rolls-Null, rolls-Assign, rolls-Later, rolls-Block, rolls-Delay}
@@ -22,13 +23,17 @@ tree_Name n = ap expr_tree (sym (rolls-Name n)) ∙ fold-roll-Expr Tree expr_ste
 pub tree_Group : (x : _) → expr_tree (e.Group x) ≡ down (both (leaf (a_mark m.Open)) (both (expr_tree x.value) (leaf (a_mark m.Close))))
 tree_Group x = ap expr_tree (sym (rolls-Group x)) ∙ fold-roll-Expr Tree expr_step _
 
-pub tree_Not : (x : _) → expr_tree (e.Not x) ≡ down (both (leaf (a_mark m.Tilde)) (expr_tree x.value))
-tree_Not x = ap expr_tree (sym (rolls-Not x)) ∙ fold-roll-Expr Tree expr_step _
+pub tree_Unary : (op x : _) → expr_tree (e.Unary op x) ≡ down (both (leaf (a_mark (unary_mark op))) (expr_tree x.value))
+tree_Unary op x = ap expr_tree (sym (rolls-Unary op x)) ∙ fold-roll-Expr Tree expr_step _
 
-pub tree_Chain : (op xs : _) → expr_tree (e.Chain op xs) ≡ chain_tree (mark_of op) (map expr_tree xs.items)
-tree_Chain op xs = ap expr_tree (sym (rolls-Chain op xs)) ∙ fold-roll-Expr Tree expr_step _
+-- an operator and its operand as trees
+abbrev pub linked : Binary × Expr → Binary × Tree
+linked l = (l.0, expr_tree l.1)
 
-pub tree_Null : stmt_tree v.Null ≡ down (leaf (a_mark m.Semicolon))
+pub tree_Chain : (x ls : _) → expr_tree (e.Chain x ls) ≡ down (both (expr_tree x.value) (links_tree (map linked ls.items)))
+tree_Chain x ls = ap expr_tree (sym (rolls-Chain x ls)) ∙ fold-roll-Expr Tree expr_step _
+
+pub tree_Null : stmt_tree v.Null ≡ down (both (leaf (a_mark m.Semicolon)) empty)
 tree_Null = ap stmt_tree (sym rolls-Null) ∙ fold-roll-Stmt Tree stmt_step _
 
 pub tree_Assign : (n x : _) → stmt_tree (v.Assign n x) ≡ assigned_tree n.items m.Assign x

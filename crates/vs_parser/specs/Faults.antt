@@ -1,5 +1,5 @@
 -- When each fault is answered.
-use Rattle.std.specs.Prelude.{◌≡◌, ℕ, ◌+◌, ◌<◌, ◌^◌, ◌≤◌, Bool, true, false, List, [], ◌∷◌, ◌++◌, length}
+use Rattle.std.specs.Prelude.{◌≡◌, ℕ, ◌+◌, ◌<◌, ◌^◌, ◌≤◌, Bool, true, false, List, [], ◌∷◌, ◌++◌, length, codes, decimal}
 use Rattle.vs_lexer.specs.Tokens.{Lexeme}
 use Rattle.vs_syntax.specs.Symbols.{Symbol, no_token, first, symbols}
 use Rattle.vs_syntax.specs.Grammar.{part, a_source}
@@ -65,3 +65,11 @@ abbrev pub StopsAt : List Symbol → Stop → Type 0
 StopsAt ts stop.Memory = Unit {0}
 StopsAt ts (stop.Unexpected at) = Halts false ts (seen at.now)
 StopsAt ts (stop.TooDeep at) = Halts true ts (seen at.now)
+
+-- the text of a fault: its number, its place, and what the grammar leaves out (profile)
+abbrev pub fault_text : ParseFault → List ℕ
+fault_text (f.Unexpected place) = codes "P1 at " ++ decimal place
+fault_text (f.LeftOut place text) = codes "P2 at " ++ decimal place ++ codes ": " ++ text.now
+fault_text (f.TooDeep place) = codes "P3 at " ++ decimal place
+fault_text (f.UnexpectedEnd place) = codes "P4 at " ++ decimal place
+fault_text f.Memory = codes "memory"

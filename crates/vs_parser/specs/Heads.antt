@@ -1,24 +1,32 @@
 -- How operands, statements and items begin.
-use Rattle.std.specs.Prelude.{◌≡◌, false, List, ◌∷◌}
-use Rattle.vs_lexer.specs.declared.token.Mark.{Mark}
-use Rattle.vs_lexer.specs.declared.token.Mark.TheVariants as m
-use Rattle.vs_lexer.specs.declared.token.Word.TheVariants as w
-use Rattle.vs_syntax.specs.Symbols.{Symbol, a_mark, a_word, any_name, any_number, first}
+use Rattle.std.specs.Prelude.{◌≡◌, ℕ, false, List, ◌∷◌}
+use Rattle.vs_tokens.specs.declared.token.Kind.{Kind}
+use Rattle.vs_tokens.specs.declared.token.Mark.{Mark}
+use Rattle.vs_tokens.specs.declared.token.Mark.TheVariants as m
+use Rattle.vs_tokens.specs.declared.token.Word.{Word}
+use Rattle.vs_tokens.specs.declared.token.Word.TheVariants as w
+use Rattle.vs_syntax.specs.Symbols.{Symbol, a_mark, a_word, Class, the_mark, the_word, any_name, any_number, class_of, same_class, symbol_of, first}
+use Rattle.vs_syntax.specs.Grammar.{Grammar, part, listed, a_declarator, an_assignment, a_stmt}
+use Rattle.vs_syntax.specs.Views.{unary_mark}
 use Rattle.vs_parser.specs.declared.head.OperandHead.{OperandHead}
 use Rattle.vs_parser.specs.declared.head.OperandHead.TheVariants as o
 use Rattle.vs_parser.specs.declared.head.StatementHead.{StatementHead}
 use Rattle.vs_parser.specs.declared.head.StatementHead.TheVariants as s
-use Rattle.vs_parser.specs.declared.head.ItemHead.{ItemHead}
-use Rattle.vs_parser.specs.declared.head.ItemHead.TheVariants as i
+use Rattle.vs_parser.specs.declared.head.ItemWord.{ItemWord}
+use Rattle.vs_parser.specs.declared.head.ItemWord.TheVariants as i
 use Rattle.vs_parser.specs.declared.head.Timing.{Timing}
 use Rattle.vs_parser.specs.declared.head.Timing.TheVariants as t
 use Rattle.vs_parser.specs.Answers.{seen}
+
+-- the token of these bytes is no decimal number without a base
+abbrev pub NoDecimal : Kind → List ℕ → Type 0
+NoDecimal kind bytes = same_class (class_of (symbol_of kind bytes)) (any_number false) ≡ false
 
 -- the symbols begin an operand so
 abbrev pub BeginsOperand : List Symbol → OperandHead → Type 0
 BeginsOperand ts o.Number = first ts ≡ any_number false
 BeginsOperand ts o.Name = first ts ≡ any_name
-BeginsOperand ts (o.Not rest) = ts ≡ a_mark m.Tilde ∷ seen rest.now
+BeginsOperand ts (o.Unary op rest) = ts ≡ a_mark (unary_mark op) ∷ seen rest.now
 BeginsOperand ts (o.Open rest) = ts ≡ a_mark m.Open ∷ seen rest.now
 
 -- the symbols begin a statement so
@@ -28,13 +36,32 @@ BeginsStatement ts s.Target = first ts ≡ any_name
 BeginsStatement ts (s.Block rest) = ts ≡ a_word w.Begin ∷ seen rest.now
 BeginsStatement ts (s.Delay rest) = ts ≡ a_mark m.Hash ∷ seen rest.now
 
--- the symbols begin an item so
-abbrev pub BeginsItem : List Symbol → ItemHead → Type 0
-BeginsItem ts (i.Wire rest) = ts ≡ a_word w.Wire ∷ seen rest.now
-BeginsItem ts (i.Reg rest) = ts ≡ a_word w.Reg ∷ seen rest.now
-BeginsItem ts (i.Assign rest) = ts ≡ a_word w.Assign ∷ seen rest.now
-BeginsItem ts (i.Initial rest) = ts ≡ a_word w.Initial ∷ seen rest.now
-BeginsItem ts (i.Always rest) = ts ≡ a_word w.Always ∷ seen rest.now
+-- the class of the first symbol of a statement that begins so
+abbrev pub class_of_statement : StatementHead → Class
+class_of_statement (s.Null rest) = the_mark m.Semicolon
+class_of_statement s.Target = any_name
+class_of_statement (s.Block rest) = the_word w.Begin
+class_of_statement (s.Delay rest) = the_mark m.Hash
+
+-- the word of an item that begins so
+abbrev pub word_of : ItemWord → Word
+word_of i.Wire = w.Wire
+word_of i.Reg = w.Reg
+word_of i.Assign = w.Assign
+word_of i.Initial = w.Initial
+word_of i.Always = w.Always
+
+-- the symbols begin an item so, and these stand behind its word
+abbrev pub BeginsItem : List Symbol → ItemWord → List Symbol → Type 0
+BeginsItem ts k after = ts ≡ a_word (word_of k) ∷ after
+
+-- what stands behind the word of an item that begins so
+abbrev pub body_of : ItemWord → Grammar
+body_of i.Wire = listed a_declarator
+body_of i.Reg = listed a_declarator
+body_of i.Assign = listed an_assignment
+body_of i.Initial = part a_stmt
+body_of i.Always = part a_stmt
 
 -- the sign of an assignment as a statement (IEEE 1364-2005, clauses 9.2.1 and 9.2.2)
 abbrev pub sign_of : Timing → Mark

@@ -1,11 +1,11 @@
 -- Tokens that the subset of the language leaves out (profile).
 use Rattle.std.specs.Prelude.{Bool, true, false, not, ◌&&◌}
-use Rattle.vs_lexer.specs.declared.token.Kind.{Kind}
-use Rattle.vs_lexer.specs.declared.token.Kind.TheVariants as k
-use Rattle.vs_lexer.specs.declared.token.Mark.{Mark}
-use Rattle.vs_lexer.specs.declared.token.Mark.TheVariants as m
-use Rattle.vs_lexer.specs.declared.token.Word.{Word}
-use Rattle.vs_lexer.specs.declared.token.Word.TheVariants as w
+use Rattle.vs_tokens.specs.declared.token.Kind.{Kind}
+use Rattle.vs_tokens.specs.declared.token.Kind.TheVariants as k
+use Rattle.vs_tokens.specs.declared.token.Mark.{Mark}
+use Rattle.vs_tokens.specs.declared.token.Mark.TheVariants as m
+use Rattle.vs_tokens.specs.declared.token.Word.{Word}
+use Rattle.vs_tokens.specs.declared.token.Word.TheVariants as w
 
 -- a mark that no expression has as an operator
 abbrev pub is_punctuation : Mark → Bool

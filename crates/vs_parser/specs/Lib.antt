@@ -1,5 +1,5 @@
 pub mod Answers
-pub mod Levels
+pub mod Operators
 pub mod Heads
 pub mod LeftOut
 pub mod Faults

@@ -1,108 +1,115 @@
 //! Reading expressions.
-ghost use Rattle.std.specs.Prelude.{◌≡◌, ℕ, ◌∷◌, false, IfOk};
-ghost use Rattle.vs_lexer.specs.declared.token.Mark.TheVariants as m;
+ghost use Rattle.std.specs.Prelude.{◌≡◌, ℕ, suc, ◌∷◌, false, IfOk};
+ghost use Rattle.vs_tokens.specs.declared.token.Mark.TheVariants as m;
 ghost use Rattle.vs_syntax.specs.Symbols.{a_mark, any_name, any_number, first};
-ghost use Rattle.vs_syntax.specs.Grammar.{part, an_expr, an_operand};
+ghost use Rattle.vs_syntax.specs.Grammar.{part, a_level, an_expr, an_operand};
 ghost use Rattle.vs_syntax.specs.Derivation.{height};
-ghost use Rattle.vs_syntax.specs.Views.{mark_of, expr_tree};
-ghost use Rattle.vs_parser.specs.Answers.{seen, Answers};
-ghost use Rattle.vs_parser.specs.Levels.{level_of, operand_of};
+ghost use Rattle.vs_syntax.specs.Views.{unary_mark, expr_tree};
+ghost use Rattle.vs_syntax.specs.Reading.{Gets};
+ghost use Rattle.vs_parser.specs.Answers.{seen, Reads, Nests};
 
 use crate::head::{OperandHead, operand_head};
+use crate::operator::{LEVELS, binary_at};
 use crate::reading::{Read, Stop};
-use crate::token::{decimal, expect_mark, expect_name, mark_at, next};
+use crate::token::{decimal, expect_mark, expect_name, next};
 use std::alloc::Global;
 use vs_lexer::{Mark, Token};
-use vs_syntax::{Bitwise, Expr};
+use vs_logic4::Unary;
+use vs_syntax::Expr;
 
-/// The mark of a bitwise operator.
-fn sign(operator: Bitwise) -> Mark
-    ensures { result ≡ mark_of operator }
-{
-    match operator {
-        Bitwise::And => Mark::And,
-        Bitwise::Xor => Mark::Xor,
-        Bitwise::Or => Mark::Or,
-    }
+/// An expression that was read: its syntax tree, its nesting (in nodes), and the tokens behind it.
+#[derive(Drop)]
+pub(crate) struct Nested<'t, 's> {
+    tree: Expr,
+    height: u32,
+    rest: &'t [Token<'s>],
 }
 
 /// Reads an expression, in at most `room` nodes below one another.
-#[cycle(expr)]
 pub(crate) fn expr<'t, 's>(
     alloc: Global,
     room: u32,
     tokens: &'t [Token<'s>],
 ) -> Result<Read<'t, 's, Expr>, Stop<'t, 's>>
-    ensures reads { Answers (part an_expr) room (seen tokens.now) (λ x. expr_tree x.tree) (λ x. seen x.rest.now) result }
-    ensures height { IfOk result (λ x. x.height ≡ height (expr_tree x.tree)) }
+    ensures { Reads (part an_expr) room tokens.now expr_tree result }
 {
-    operands(alloc, room, tokens, Bitwise::Or)
+    let read = operands(alloc, room, tokens, LEVELS)?;
+    Ok(Read {
+        tree: read.tree,
+        rest: read.rest,
+    })
 }
 
-/// Reads the operands of one level, with its operator between them: one alone, or a node of all
-/// of them.
+/// Reads operands with operators of the `top` tightest levels between them: an operand, and then
+/// level by level what goes on with it. So the depth of the stack doesn't grow with the levels.
 #[cycle(expr)]
 fn operands<'t, 's>(
     alloc: Global,
     room: u32,
     tokens: &'t [Token<'s>],
-    operator: Bitwise,
-) -> Result<Read<'t, 's, Expr>, Stop<'t, 's>>
-    ensures reads { Answers (part (level_of operator)) room (seen tokens.now) (λ x. expr_tree x.tree) (λ x. seen x.rest.now) result }
+    top: usize,
+) -> Result<Nested<'t, 's>, Stop<'t, 's>>
+    ensures reads { Nests (part (a_level top)) room (seen tokens.now) result }
     ensures height { IfOk result (λ x. x.height ≡ height (expr_tree x.tree)) }
 {
-    let mark = sign(operator);
-    let first = operand(alloc, room, tokens, operator)?;
-    let Some(_) = mark_at(first.rest, mark) else {
-        return Ok(first);
-    };
-    if first.height >= room {
-        return Err(Stop::TooDeep(first.rest));
+    let mut read = operand(alloc, room, tokens)?;
+    for level in 0..top {
+        read = chain(alloc, room, read.tree, read.height, read.rest, level)?;
     }
-    let mut height = first.height;
+    Ok(read)
+}
+
+/// Reads the operands behind the first one, which was read, with operators of the level between
+/// them: the first one alone, or a node of all of them.
+#[cycle(expr)]
+fn chain<'t, 's>(
+    alloc: Global,
+    room: u32,
+    first: Expr,
+    first_height: u32,
+    start: &'t [Token<'s>],
+    level: usize,
+) -> Result<Nested<'t, 's>, Stop<'t, 's>>
+    requires { first_height ≡ height (expr_tree first) }
+    ensures reads { (ts : _) → Gets (part (a_level level)) room ts (expr_tree first) (seen start.now)
+        → Nests (part (a_level (suc level))) room ts result }
+    ensures height { IfOk result (λ x. x.height ≡ height (expr_tree x.tree)) }
+{
+    let Some(_) = binary_at(start, level) else {
+        return Ok(Nested {
+            tree: first,
+            height: first_height,
+            rest: start,
+        });
+    };
+    if first_height >= room {
+        return Err(Stop::TooDeep(start));
+    }
+    let mut height = first_height;
     // All of them, but from a call: so the borrow checker can join it with what the loop sets.
-    let (_none, mut rest) = first.rest.split_at(0);
-    let mut operands = Vec::new(alloc);
-    operands.push(first.tree)?;
-    while let Some(after) = mark_at(rest, mark) {
-        let other = operand(alloc, room - 1, after, operator)?;
+    let (_none, mut rest) = start.split_at(0);
+    let mut links = Vec::new(alloc);
+    while let Some((operator, after)) = binary_at(rest, level) {
+        let other = operands(alloc, room - 1, after, level)?;
         height = height.max(other.height);
         rest = other.rest;
-        operands.push(other.tree)?;
+        links.push((operator, other.tree))?;
     }
-    Ok(Read {
-        tree: Expr::Chain(operator, operands),
+    Ok(Nested {
+        tree: Expr::Chain(Box::new(alloc, first)?, links),
         height: height + 1,
         rest,
     })
 }
 
-/// Reads one operand of the operator: the operands of the level that binds tighter.
+/// Reads a number, a name, an operator and its operand, or an expression in parentheses.
 #[cycle(expr)]
 fn operand<'t, 's>(
     alloc: Global,
     room: u32,
     tokens: &'t [Token<'s>],
-    operator: Bitwise,
-) -> Result<Read<'t, 's, Expr>, Stop<'t, 's>>
-    ensures reads { Answers (part (operand_of operator)) room (seen tokens.now) (λ x. expr_tree x.tree) (λ x. seen x.rest.now) result }
-    ensures height { IfOk result (λ x. x.height ≡ height (expr_tree x.tree)) }
-{
-    match operator {
-        Bitwise::Or => operands(alloc, room, tokens, Bitwise::Xor),
-        Bitwise::Xor => operands(alloc, room, tokens, Bitwise::And),
-        Bitwise::And => unary(alloc, room, tokens),
-    }
-}
-
-/// Reads a number, a name, `~` and its operand, or an expression in parentheses.
-#[cycle(expr)]
-fn unary<'t, 's>(
-    alloc: Global,
-    room: u32,
-    tokens: &'t [Token<'s>],
-) -> Result<Read<'t, 's, Expr>, Stop<'t, 's>>
-    ensures reads { Answers (part an_operand) room (seen tokens.now) (λ x. expr_tree x.tree) (λ x. seen x.rest.now) result }
+) -> Result<Nested<'t, 's>, Stop<'t, 's>>
+    ensures reads { Nests (part an_operand) room (seen tokens.now) result }
     ensures height { IfOk result (λ x. x.height ≡ height (expr_tree x.tree)) }
 {
     let Some(head) = operand_head(tokens) else {
@@ -111,15 +118,15 @@ fn unary<'t, 's>(
     match head {
         OperandHead::Number => number(tokens),
         OperandHead::Name => named(alloc, tokens),
-        OperandHead::Not(after) => complement(alloc, room, tokens, after),
+        OperandHead::Unary(operator, after) => prefixed(alloc, room, tokens, operator, after),
         OperandHead::Open(after) => group(alloc, room, tokens, after),
     }
 }
 
 /// Reads a number. It has no nodes.
-fn number<'t, 's>(tokens: &'t [Token<'s>]) -> Result<Read<'t, 's, Expr>, Stop<'t, 's>>
+fn number<'t, 's>(tokens: &'t [Token<'s>]) -> Result<Nested<'t, 's>, Stop<'t, 's>>
     requires { first (seen tokens.now) ≡ any_number false }
-    ensures reads { (room : ℕ) → Answers (part an_operand) room (seen tokens.now) (λ x. expr_tree x.tree) (λ x. seen x.rest.now) result }
+    ensures reads { (room : ℕ) → Nests (part an_operand) room (seen tokens.now) result }
     ensures height { IfOk result (λ x. x.height ≡ height (expr_tree x.tree)) }
 {
     let Some((first, rest)) = next(tokens) else {
@@ -128,7 +135,7 @@ fn number<'t, 's>(tokens: &'t [Token<'s>]) -> Result<Read<'t, 's, Expr>, Stop<'t
     let Some(literal) = decimal(first.kind) else {
         return Err(Stop::Unexpected(tokens));
     };
-    Ok(Read {
+    Ok(Nested {
         tree: Expr::Number(literal),
         height: 0,
         rest,
@@ -136,39 +143,40 @@ fn number<'t, 's>(tokens: &'t [Token<'s>]) -> Result<Read<'t, 's, Expr>, Stop<'t
 }
 
 /// Reads a name. It has no nodes.
-fn named<'t, 's>(alloc: Global, tokens: &'t [Token<'s>]) -> Result<Read<'t, 's, Expr>, Stop<'t, 's>>
+fn named<'t, 's>(alloc: Global, tokens: &'t [Token<'s>]) -> Result<Nested<'t, 's>, Stop<'t, 's>>
     requires { first (seen tokens.now) ≡ any_name }
-    ensures reads { (room : ℕ) → Answers (part an_operand) room (seen tokens.now) (λ x. expr_tree x.tree) (λ x. seen x.rest.now) result }
+    ensures reads { (room : ℕ) → Nests (part an_operand) room (seen tokens.now) result }
     ensures height { IfOk result (λ x. x.height ≡ height (expr_tree x.tree)) }
 {
     let (name, rest) = expect_name(alloc, tokens)?;
-    Ok(Read {
+    Ok(Nested {
         tree: Expr::Name(name),
         height: 0,
         rest,
     })
 }
 
-/// Reads a complement, behind whose `~` `after` stands.
+/// Reads an operator, behind which `after` stands, and its operand.
 #[cycle(expr)]
-fn complement<'t, 's>(
+fn prefixed<'t, 's>(
     alloc: Global,
     room: u32,
     tokens: &'t [Token<'s>],
+    operator: Unary,
     after: &'t [Token<'s>],
-) -> Result<Read<'t, 's, Expr>, Stop<'t, 's>>
-    requires { seen tokens.now ≡ a_mark m.Tilde ∷ seen after.now }
-    ensures reads { Answers (part an_operand) room (seen tokens.now) (λ x. expr_tree x.tree) (λ x. seen x.rest.now) result }
+) -> Result<Nested<'t, 's>, Stop<'t, 's>>
+    requires { seen tokens.now ≡ a_mark (unary_mark operator) ∷ seen after.now }
+    ensures reads { Nests (part an_operand) room (seen tokens.now) result }
     ensures height { IfOk result (λ x. x.height ≡ height (expr_tree x.tree)) }
 {
     if room == 0 {
         return Err(Stop::TooDeep(tokens));
     }
-    let negated = unary(alloc, room - 1, after)?;
-    let height = negated.height + 1;
-    let rest = negated.rest;
-    let tree = Expr::Not(Box::new(alloc, negated.tree)?);
-    Ok(Read { tree, height, rest })
+    let inner = operand(alloc, room - 1, after)?;
+    let height = inner.height + 1;
+    let rest = inner.rest;
+    let tree = Expr::Unary(operator, Box::new(alloc, inner.tree)?);
+    Ok(Nested { tree, height, rest })
 }
 
 /// Reads an expression in parentheses, behind whose `(` `after` stands.
@@ -178,17 +186,17 @@ fn group<'t, 's>(
     room: u32,
     tokens: &'t [Token<'s>],
     after: &'t [Token<'s>],
-) -> Result<Read<'t, 's, Expr>, Stop<'t, 's>>
+) -> Result<Nested<'t, 's>, Stop<'t, 's>>
     requires { seen tokens.now ≡ a_mark m.Open ∷ seen after.now }
-    ensures reads { Answers (part an_operand) room (seen tokens.now) (λ x. expr_tree x.tree) (λ x. seen x.rest.now) result }
+    ensures reads { Nests (part an_operand) room (seen tokens.now) result }
     ensures height { IfOk result (λ x. x.height ≡ height (expr_tree x.tree)) }
 {
     if room == 0 {
         return Err(Stop::TooDeep(tokens));
     }
-    let inner = expr(alloc, room - 1, after)?;
+    let inner = operands(alloc, room - 1, after, LEVELS)?;
     let rest = expect_mark(inner.rest, Mark::Close)?;
     let height = inner.height + 1;
     let tree = Expr::Group(Box::new(alloc, inner.tree)?);
-    Ok(Read { tree, height, rest })
+    Ok(Nested { tree, height, rest })
 }

@@ -1,7 +1,9 @@
 //! Why tokens are refused.
-ghost use Rattle.std.specs.Prelude.{◌≡◌};
+ghost use Rattle.std.specs.Prelude.{◌≡◌, IfOk};
+ghost use Rattle.vs_parser.specs.Faults.{fault_text};
 ghost use Rattle.vs_parser.specs.LeftOut.{is_punctuation, is_operator_in_grammar, is_in_grammar, is_left_out};
 
+use std::alloc::{AllocError, Global};
 use thiserror::Error;
 use vs_lexer::{Kind, Mark, Word};
 
@@ -24,6 +26,27 @@ pub enum ParseFault<'s> {
     /// Memory ran out.
     #[error("out of memory")]
     Memory,
+}
+
+impl<'s> ParseFault<'s> {
+    /// The text that the program prints of the fault: its number, its place, and what the grammar
+    /// leaves out, where it is that.
+    pub fn text(&self, alloc: Global) -> Result<Vec<u8>, AllocError>
+        ensures { IfOk result (λ t. t.items ≡ fault_text self.now) }
+    {
+        let line = match self {
+            ParseFault::Unexpected(place) => format!(in alloc; "P1 at {place}")?,
+            ParseFault::LeftOut { place, text: _ } => format!(in alloc; "P2 at {place}: ")?,
+            ParseFault::TooDeep(place) => format!(in alloc; "P3 at {place}")?,
+            ParseFault::UnexpectedEnd(place) => format!(in alloc; "P4 at {place}")?,
+            ParseFault::Memory => format!(in alloc; "memory")?,
+        };
+        let mut bytes = line.into_bytes();
+        if let ParseFault::LeftOut { place: _, text } = self {
+            bytes.extend_from_slice(text)?;
+        }
+        Ok(bytes)
+    }
 }
 
 /// Whether a mark is no operator of expressions.

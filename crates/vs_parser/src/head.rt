@@ -1,32 +1,34 @@
 //! How operands, statements and items begin.
 ghost use Rattle.std.specs.Prelude.{◌≡◌, ℕ, false, MatchOption};
-ghost use Rattle.vs_lexer.specs.declared.token.Mark.TheVariants as m;
-ghost use Rattle.vs_syntax.specs.Symbols.{a_mark};
+ghost use Rattle.vs_tokens.specs.declared.token.Mark.TheVariants as m;
+ghost use Rattle.vs_syntax.specs.Symbols.{a_mark, the_word};
 ghost use Rattle.vs_syntax.specs.Grammar.{◌or◌, mark, part, an_operand, a_stmt, an_item};
-ghost use Rattle.vs_syntax.specs.Tables.{goes};
+ghost use Rattle.vs_syntax.specs.Tables.{need, fronts_of, goes};
 ghost use Rattle.vs_syntax.specs.Derivation.{leaf};
 ghost use Rattle.vs_parser.specs.Answers.{seen, Answers};
-ghost use Rattle.vs_parser.specs.Heads.{BeginsOperand, BeginsStatement, BeginsItem, sign_of};
+ghost use Rattle.vs_parser.specs.Heads.{BeginsOperand, BeginsStatement, BeginsItem, class_of_statement, word_of, sign_of};
 
+use crate::operator::unary;
 use crate::reading::Stop;
 use crate::token::{expect_mark, mark_at, next};
 use vs_lexer::{Kind, Mark, Token, Word};
+use vs_logic4::Unary;
 
 /// What an operand begins with, and mostly the tokens behind that.
-#[derive(Debug, Drop)]
+#[derive(Drop)]
 pub(crate) enum OperandHead<'t, 's> {
     /// A decimal number without a base.
     Number,
     /// A name.
     Name,
-    /// `~`
-    Not(&'t [Token<'s>]),
+    /// An operator.
+    Unary(Unary, &'t [Token<'s>]),
     /// `(`
     Open(&'t [Token<'s>]),
 }
 
 /// What a statement begins with, and mostly the tokens behind that.
-#[derive(Debug, Drop)]
+#[derive(Drop)]
 pub(crate) enum StatementHead<'t, 's> {
     /// `;`
     Null(&'t [Token<'s>]),
@@ -38,19 +40,19 @@ pub(crate) enum StatementHead<'t, 's> {
     Delay(&'t [Token<'s>]),
 }
 
-/// What an item begins with, and the tokens behind that.
-#[derive(Debug, Drop)]
-pub(crate) enum ItemHead<'t, 's> {
+/// What an item begins with.
+#[derive(Clone, Copy, Debug)]
+pub(crate) enum ItemWord {
     /// `wire`
-    Wire(&'t [Token<'s>]),
+    Wire,
     /// `reg`
-    Reg(&'t [Token<'s>]),
+    Reg,
     /// `assign`
-    Assign(&'t [Token<'s>]),
+    Assign,
     /// `initial`
-    Initial(&'t [Token<'s>]),
+    Initial,
     /// `always`
-    Always(&'t [Token<'s>]),
+    Always,
 }
 
 /// When an assignment as a statement assigns.
@@ -77,9 +79,11 @@ pub(crate) fn operand_head<'t, 's>(tokens: &'t [Token<'s>]) -> Option<OperandHea
             }
         }
         Kind::Mark(mark) => match mark {
-            Mark::Tilde => Some(OperandHead::Not(rest)),
             Mark::Open => Some(OperandHead::Open(rest)),
-            _ => None,
+            _ => match unary(mark) {
+                Some(operator) => Some(OperandHead::Unary(operator, rest)),
+                None => None,
+            },
         },
         _ => None,
     }
@@ -105,21 +109,46 @@ pub(crate) fn statement_head<'t, 's>(tokens: &'t [Token<'s>]) -> Option<Statemen
     }
 }
 
-/// How the item begins that is next, if one is.
-pub(crate) fn item_head<'t, 's>(tokens: &'t [Token<'s>]) -> Option<ItemHead<'t, 's>>
-    ensures { MatchOption result (goes (part an_item) (seen tokens.now) ≡ false) (λ head. BeginsItem (seen tokens.now) head) }
+/// The least nesting of a statement that begins so, in nodes.
+pub(crate) fn least_statement(head: &StatementHead) -> u32
+    ensures { result ≡ need (class_of_statement head.now) (fronts_of a_stmt) }
+{
+    match head {
+        StatementHead::Null(_) => 1,
+        StatementHead::Target => 2,
+        StatementHead::Block(_) => 1,
+        StatementHead::Delay(_) => 2,
+    }
+}
+
+/// How the item begins that is next, if one is, and the tokens behind that word.
+pub(crate) fn item_head<'t, 's>(tokens: &'t [Token<'s>]) -> Option<(ItemWord, &'t [Token<'s>])>
+    ensures { MatchOption result (goes (part an_item) (seen tokens.now) ≡ false) (λ x. BeginsItem (seen tokens.now) x.0 (seen x.1.now)) }
 {
     let (first, rest) = next(tokens)?;
     match first.kind {
         Kind::Word(word) => match word {
-            Word::Wire => Some(ItemHead::Wire(rest)),
-            Word::Reg => Some(ItemHead::Reg(rest)),
-            Word::Assign => Some(ItemHead::Assign(rest)),
-            Word::Initial => Some(ItemHead::Initial(rest)),
-            Word::Always => Some(ItemHead::Always(rest)),
+            Word::Wire => Some((ItemWord::Wire, rest)),
+            Word::Reg => Some((ItemWord::Reg, rest)),
+            Word::Assign => Some((ItemWord::Assign, rest)),
+            Word::Initial => Some((ItemWord::Initial, rest)),
+            Word::Always => Some((ItemWord::Always, rest)),
             _ => None,
         },
         _ => None,
+    }
+}
+
+/// The least nesting of an item that begins so, in nodes.
+pub(crate) fn least_item(word: ItemWord) -> u32
+    ensures { result ≡ need (the_word (word_of word)) (fronts_of an_item) }
+{
+    match word {
+        ItemWord::Wire => 1,
+        ItemWord::Reg => 1,
+        ItemWord::Assign => 2,
+        ItemWord::Initial => 2,
+        ItemWord::Always => 2,
     }
 }
 
@@ -127,7 +156,8 @@ pub(crate) fn item_head<'t, 's>(tokens: &'t [Token<'s>]) -> Option<ItemHead<'t, 
 pub(crate) fn expect_timing<'t, 's>(
     tokens: &'t [Token<'s>],
 ) -> Result<(Timing, &'t [Token<'s>]), Stop<'t, 's>>
-    ensures { (room : ℕ) → Answers (mark m.Assign or mark m.LessEqual) room (seen tokens.now) (λ x. leaf (a_mark (sign_of x.0))) (λ x. seen x.1.now) result }
+    ensures { (room : ℕ) → Answers (mark m.Assign or mark m.LessEqual) room (seen tokens.now)
+        (λ x. leaf (a_mark (sign_of x.0))) (λ x. seen x.1.now) result }
 {
     match mark_at(tokens, Mark::Assign) {
         Some(rest) => Ok((Timing::Blocking, rest)),

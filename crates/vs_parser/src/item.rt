@@ -1,15 +1,15 @@
 //! Reading items, modules and sources.
-ghost use Rattle.std.specs.Prelude.{◌≡◌, ◌<◌, ◌∷◌, map, IfOk};
-ghost use Rattle.vs_lexer.specs.declared.token.Word.TheVariants as w;
+ghost use Rattle.std.specs.Prelude.{◌≡◌, ◌<◌, ◌≤◌, ◌∷◌, map, IfOk};
+ghost use Rattle.vs_tokens.specs.declared.token.Word.TheVariants as w;
 ghost use Rattle.vs_syntax.specs.Symbols.{a_word};
 ghost use Rattle.vs_syntax.specs.Grammar.{part, many, a_source, a_module, an_item};
-ghost use Rattle.vs_syntax.specs.Derivation.{height};
-ghost use Rattle.vs_syntax.specs.Views.{row_of, item_tree, module_tree, source_tree};
-ghost use Rattle.vs_parser.specs.Answers.{seen, Answers};
-ghost use Rattle.vs_parser.specs.Heads.{BeginsItem};
+ghost use Rattle.vs_syntax.specs.Tables.{low};
+ghost use Rattle.vs_syntax.specs.Views.{row_of, item_word, body_tree, item_tree, module_tree, source_tree};
+ghost use Rattle.vs_parser.specs.Answers.{seen, Reads};
+ghost use Rattle.vs_parser.specs.Heads.{word_of, BeginsItem, body_of};
 
-use crate::declaration::{declarators, net_assignments};
-use crate::head::{ItemHead, item_head};
+use crate::head::{ItemWord, item_head, least_item};
+use crate::list::listed;
 use crate::reading::{Read, Stop};
 use crate::statement::stmt;
 use crate::token::{expect_mark, expect_name, expect_word, word_at};
@@ -17,134 +17,57 @@ use std::alloc::Global;
 use vs_lexer::{Mark, Token, Word};
 use vs_syntax::{Item, Module, Source};
 
-/// Reads an item that begins as `head` says, in at most `room` nodes below one another.
+/// Reads an item, behind whose word `after` stands, in at most `room` nodes below one another.
 fn item<'t, 's>(
     alloc: Global,
     room: u32,
     tokens: &'t [Token<'s>],
-    head: ItemHead<'t, 's>,
+    word: ItemWord,
+    after: &'t [Token<'s>],
 ) -> Result<Read<'t, 's, Item>, Stop<'t, 's>>
-    requires { BeginsItem (seen tokens.now) head }
-    ensures reads { Answers (part an_item) room (seen tokens.now) (λ x. item_tree x.tree) (λ x. seen x.rest.now) result }
-    ensures height { IfOk result (λ x. x.height ≡ height (item_tree x.tree)) }
+    requires { BeginsItem (seen tokens.now) word (seen after.now) }
+    ensures { Reads (part an_item) room tokens.now item_tree result }
 {
-    match head {
-        ItemHead::Wire(after) => wire(alloc, room, tokens, after),
-        ItemHead::Reg(after) => reg(alloc, room, tokens, after),
-        ItemHead::Assign(after) => assign(alloc, room, tokens, after),
-        ItemHead::Initial(after) => initial(alloc, room, tokens, after),
-        ItemHead::Always(after) => always(alloc, room, tokens, after),
+    if room < least_item(word) {
+        return Err(Stop::TooDeep(tokens));
     }
+    body(alloc, room - 1, after, word)
 }
 
-/// Reads a declaration of nets, behind whose `wire` `after` stands.
-fn wire<'t, 's>(
+/// Reads what stands behind the word of an item.
+fn body<'t, 's>(
     alloc: Global,
     room: u32,
     tokens: &'t [Token<'s>],
-    after: &'t [Token<'s>],
+    word: ItemWord,
 ) -> Result<Read<'t, 's, Item>, Stop<'t, 's>>
-    requires { seen tokens.now ≡ a_word w.Wire ∷ seen after.now }
-    ensures reads { Answers (part an_item) room (seen tokens.now) (λ x. item_tree x.tree) (λ x. seen x.rest.now) result }
-    ensures height { IfOk result (λ x. x.height ≡ height (item_tree x.tree)) }
+    requires { low (body_of word) ≤ room }
+    ensures reads { Reads (body_of word) room tokens.now body_tree result }
+    ensures word { IfOk result (λ x. item_word x.tree ≡ word_of word) }
 {
-    if room == 0 {
-        return Err(Stop::TooDeep(tokens));
-    }
-    let names = declarators(alloc, room - 1, after)?;
-    Ok(Read {
-        tree: Item::Wire(names.tree),
-        height: names.height + 1,
-        rest: names.rest,
-    })
-}
-
-/// Reads a declaration of variables, behind whose `reg` `after` stands.
-fn reg<'t, 's>(
-    alloc: Global,
-    room: u32,
-    tokens: &'t [Token<'s>],
-    after: &'t [Token<'s>],
-) -> Result<Read<'t, 's, Item>, Stop<'t, 's>>
-    requires { seen tokens.now ≡ a_word w.Reg ∷ seen after.now }
-    ensures reads { Answers (part an_item) room (seen tokens.now) (λ x. item_tree x.tree) (λ x. seen x.rest.now) result }
-    ensures height { IfOk result (λ x. x.height ≡ height (item_tree x.tree)) }
-{
-    if room == 0 {
-        return Err(Stop::TooDeep(tokens));
-    }
-    let names = declarators(alloc, room - 1, after)?;
-    Ok(Read {
-        tree: Item::Reg(names.tree),
-        height: names.height + 1,
-        rest: names.rest,
-    })
-}
-
-/// Reads net assignments, behind whose `assign` `after` stands.
-fn assign<'t, 's>(
-    alloc: Global,
-    room: u32,
-    tokens: &'t [Token<'s>],
-    after: &'t [Token<'s>],
-) -> Result<Read<'t, 's, Item>, Stop<'t, 's>>
-    requires { seen tokens.now ≡ a_word w.Assign ∷ seen after.now }
-    ensures reads { Answers (part an_item) room (seen tokens.now) (λ x. item_tree x.tree) (λ x. seen x.rest.now) result }
-    ensures height { IfOk result (λ x. x.height ≡ height (item_tree x.tree)) }
-{
-    if room < 2 {
-        return Err(Stop::TooDeep(tokens));
-    }
-    let assignments = net_assignments(alloc, room - 1, after)?;
-    Ok(Read {
-        tree: Item::Assign(assignments.tree),
-        height: assignments.height + 1,
-        rest: assignments.rest,
-    })
-}
-
-/// Reads an initial construct, behind whose `initial` `after` stands.
-fn initial<'t, 's>(
-    alloc: Global,
-    room: u32,
-    tokens: &'t [Token<'s>],
-    after: &'t [Token<'s>],
-) -> Result<Read<'t, 's, Item>, Stop<'t, 's>>
-    requires { seen tokens.now ≡ a_word w.Initial ∷ seen after.now }
-    ensures reads { Answers (part an_item) room (seen tokens.now) (λ x. item_tree x.tree) (λ x. seen x.rest.now) result }
-    ensures height { IfOk result (λ x. x.height ≡ height (item_tree x.tree)) }
-{
-    if room < 2 {
-        return Err(Stop::TooDeep(tokens));
-    }
-    let inner = stmt(alloc, room - 1, after)?;
-    Ok(Read {
-        tree: Item::Initial(inner.tree),
-        height: inner.height + 1,
-        rest: inner.rest,
-    })
-}
-
-/// Reads an always construct, behind whose `always` `after` stands.
-fn always<'t, 's>(
-    alloc: Global,
-    room: u32,
-    tokens: &'t [Token<'s>],
-    after: &'t [Token<'s>],
-) -> Result<Read<'t, 's, Item>, Stop<'t, 's>>
-    requires { seen tokens.now ≡ a_word w.Always ∷ seen after.now }
-    ensures reads { Answers (part an_item) room (seen tokens.now) (λ x. item_tree x.tree) (λ x. seen x.rest.now) result }
-    ensures height { IfOk result (λ x. x.height ≡ height (item_tree x.tree)) }
-{
-    if room < 2 {
-        return Err(Stop::TooDeep(tokens));
-    }
-    let repeated = stmt(alloc, room - 1, after)?;
-    Ok(Read {
-        tree: Item::Always(repeated.tree),
-        height: repeated.height + 1,
-        rest: repeated.rest,
-    })
+    let (tree, rest) = match word {
+        ItemWord::Wire => {
+            let names = listed(alloc, room, tokens)?;
+            (Item::Wire(names.tree), names.rest)
+        }
+        ItemWord::Reg => {
+            let names = listed(alloc, room, tokens)?;
+            (Item::Reg(names.tree), names.rest)
+        }
+        ItemWord::Assign => {
+            let assignments = listed(alloc, room, tokens)?;
+            (Item::Assign(assignments.tree), assignments.rest)
+        }
+        ItemWord::Initial => {
+            let inner = stmt(alloc, room, tokens)?;
+            (Item::Initial(inner.tree), inner.rest)
+        }
+        ItemWord::Always => {
+            let repeated = stmt(alloc, room, tokens)?;
+            (Item::Always(repeated.tree), repeated.rest)
+        }
+    };
+    Ok(Read { tree, rest })
 }
 
 /// Reads the items that are next.
@@ -154,20 +77,17 @@ fn items<'t, 's>(
     tokens: &'t [Token<'s>],
 ) -> Result<Read<'t, 's, Vec<Item>>, Stop<'t, 's>>
     requires { 0 < room }
-    ensures reads { Answers (many (part an_item)) room (seen tokens.now) (λ x. row_of (map item_tree x.tree.items)) (λ x. seen x.rest.now) result }
-    ensures height { IfOk result (λ x. x.height ≡ height (row_of (map item_tree x.tree.items))) }
+    ensures { Reads (many (part an_item)) room tokens.now (λ xs. row_of (map item_tree xs.items)) result }
 {
     let mut tree = Vec::new(alloc);
-    let mut height: u32 = 0;
     // All of them, but from a call: so the borrow checker can join it with what the loop sets.
     let (_none, mut rest) = tokens.split_at(0);
-    while let Some(head) = item_head(rest) {
-        let inner = item(alloc, room, rest, head)?;
-        height = height.max(inner.height);
+    while let Some((word, after)) = item_head(rest) {
+        let inner = item(alloc, room, rest, word, after)?;
         rest = inner.rest;
         tree.push(inner.tree)?;
     }
-    Ok(Read { tree, height, rest })
+    Ok(Read { tree, rest })
 }
 
 /// Reads a module, behind whose first word `after` stands.
@@ -179,8 +99,7 @@ fn module<'t, 's>(
 ) -> Result<Read<'t, 's, Module>, Stop<'t, 's>>
     requires room { 0 < room }
     requires first { seen tokens.now ≡ a_word w.Module ∷ seen after.now }
-    ensures reads { Answers (part a_module) room (seen tokens.now) (λ x. module_tree x.tree) (λ x. seen x.rest.now) result }
-    ensures height { IfOk result (λ x. x.height ≡ height (module_tree x.tree)) }
+    ensures { Reads (part a_module) room tokens.now module_tree result }
 {
     let (name, after_name) = expect_name(alloc, after)?;
     let after_header = expect_mark(after_name, Mark::Semicolon)?;
@@ -191,7 +110,6 @@ fn module<'t, 's>(
             name,
             items: inner.tree,
         },
-        height: inner.height,
         rest,
     })
 }
@@ -203,21 +121,18 @@ pub(crate) fn source<'t, 's>(
     tokens: &'t [Token<'s>],
 ) -> Result<Read<'t, 's, Source>, Stop<'t, 's>>
     requires { 0 < room }
-    ensures reads { Answers (part a_source) room (seen tokens.now) (λ x. source_tree x.tree) (λ x. seen x.rest.now) result }
+    ensures { Reads (part a_source) room tokens.now source_tree result }
 {
     let mut modules = Vec::new(alloc);
-    let mut height: u32 = 0;
     // All of them, but from a call: so the borrow checker can join it with what the loop sets.
     let (_none, mut rest) = tokens.split_at(0);
     while let Some(after) = word_at(rest, Word::Module) {
         let inner = module(alloc, room, rest, after)?;
-        height = height.max(inner.height);
         rest = inner.rest;
         modules.push(inner.tree)?;
     }
     Ok(Read {
         tree: Source { modules },
-        height,
         rest,
     })
 }

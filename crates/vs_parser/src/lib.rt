@@ -6,11 +6,11 @@ mod expression;
 mod fault;
 mod head;
 mod item;
+mod list;
+mod operator;
 mod parser;
 mod reading;
 mod statement;
-#[cfg(test)]
-mod tests;
 mod token;
 
 pub use fault::ParseFault;

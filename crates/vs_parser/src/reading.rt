@@ -5,16 +5,15 @@ ghost use Rattle.vs_parser.specs.declared.reading.Stop.TheVariants.{Memory};
 use std::alloc::{AllocError, AllocFailed};
 use vs_lexer::Token;
 
-/// A part that was read: its syntax tree, its nesting (in nodes), and the tokens behind it.
-#[derive(Debug, Drop)]
+/// A part that was read: its syntax tree, and the tokens behind it.
+#[derive(Drop)]
 pub(crate) struct Read<'t, 's, T> {
     pub(crate) tree: T,
-    pub(crate) height: u32,
     pub(crate) rest: &'t [Token<'s>],
 }
 
 /// Why reading stopped, and the tokens from the place on.
-#[derive(Debug, Drop)]
+#[derive(Drop)]
 pub(crate) enum Stop<'t, 's> {
     /// Memory ran out.
     Memory,

@@ -1,12 +1,13 @@
 //! Reading single tokens.
 ghost use Rattle.std.specs.Prelude.{◌≡◌, ℕ, List, [], ◌∷◌, false, MatchOption};
-ghost use Rattle.vs_lexer.specs.declared.token.Kind.TheVariants as k;
-ghost use Rattle.vs_syntax.specs.Symbols.{a_mark, a_word, any_number, class_of, same_class, symbol_of};
+ghost use Rattle.vs_tokens.specs.declared.token.Kind.TheVariants as k;
+ghost use Rattle.vs_syntax.specs.Symbols.{a_mark, a_word};
 ghost use Rattle.vs_syntax.specs.Grammar.{mark, word, name};
 ghost use Rattle.vs_syntax.specs.Tables.{goes};
 ghost use Rattle.vs_syntax.specs.Derivation.{leaf};
 ghost use Rattle.vs_syntax.specs.Views.{name_tree};
 ghost use Rattle.vs_parser.specs.Answers.{seen, Answers};
+ghost use Rattle.vs_parser.specs.Heads.{NoDecimal};
 
 use crate::reading::Stop;
 use std::alloc::Global;
@@ -85,7 +86,7 @@ pub(crate) fn expect_name<'t, 's>(
 
 /// The number that the token is, if it is a decimal one without a base.
 pub(crate) fn decimal(kind: Kind) -> Option<Literal>
-    ensures { MatchOption result ((bytes : List ℕ) → same_class (class_of (symbol_of kind bytes)) (any_number false) ≡ false) (λ l. (kind ≡ k.Number l) × (l.based ≡ false)) }
+    ensures { MatchOption result ((bytes : List ℕ) → NoDecimal kind bytes) (λ l. (kind ≡ k.Number l) × (l.based ≡ false)) }
 {
     match kind {
         Kind::Number(literal) => { if literal.based { None } else { Some(literal) } }

@@ -1,2 +1,4 @@
+mod Blocks
 mod Permitted
+mod Times
 mod Todos

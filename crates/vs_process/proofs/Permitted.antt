@@ -4,26 +4,14 @@ use Rattle.std.specs.Prelude.{is_some}
 use Rattle.std.specs.List.{list_any}
 use Rattle.vs_logic4.specs.declared.digit.Digit.{Digit}
 use Rattle.vs_design.specs.Parts.{Parts}
-use Rattle.vs_design.specs.Stores.{Write}
-use Rattle.vs_design.specs.declared.design.Process.{Process}
+use Rattle.vs_design.specs.Writes.{Write, shares}
 use Rattle.vs_process.specs.declared.moves.Grain.{Grain}
-use Rattle.vs_process.specs.declared.moves.Grain.TheVariants.{Statement, Block}
 use Rattle.vs_process.specs.declared.moves.Move.{Move}
 use Rattle.vs_process.specs.declared.moves.Move.TheVariants.{Step, Evaluate, Propagate, Make, Rouse, Activate, EndSlot}
 use Rattle.vs_process.specs.Places.{Place, is_going}
-use Rattle.vs_process.specs.States.{State, Driver, Update, stepped, evaluate, propagate, propagate_value, make}
-use Rattle.vs_process.specs.Executions.{is_first, shares, is_busy, has_inactive, has_due, is_kept_out, is_free, is_enabled, if_some, allowed, apply}
+use Rattle.vs_process.specs.States.{State, AssignState, Update, stepped, evaluate, propagate, propagate_value, make}
+use Rattle.vs_process.specs.Executions.{is_first, is_busy, has_inactive, has_due, is_free, is_enabled, if_some, allowed, apply}
 use Rattle.vs_process.specs.Permitted.{Permitted, runs, evaluates, propagates, updates, rouses, activates, ends_slot, CanGo}
-
--- no process is a combinational block yet, so none keeps a move out
-pub never_kept_out : (ps : List Process) (places : List Place) (n : ℕ) (m : Move) → is_kept_out ps places n m ≡ false
-never_kept_out [] places n m = refl
-never_kept_out (p ∷ ps) [] n m = refl
-never_kept_out (p ∷ ps) (x ∷ xs) n m = never_kept_out ps xs (suc n) m
-
-pub always_free : (grain : Grain) (d : Parts) (s : State) (m : Move) → is_free grain d s m ≡ true
-always_free Statement d s m = refl
-always_free Block d s m = ap not (never_kept_out d.processes s.places 0 m)
 
 -- the first element that passes a test
 pub record Found {A : Type 0} (f : A → Bool) (xs : List A) : Type 0 where
@@ -48,25 +36,29 @@ or_cases : (a b : Bool) → a || b ≡ true → (a ≡ true) ⊎ (b ≡ true)
 or_cases true b h = inl refl
 or_cases false b h = inr h
 
-true_or_false : (b : Bool) → (b ≡ true) ⊎ (b ≡ false)
+pub true_or_false : (b : Bool) → (b ≡ true) ⊎ (b ≡ false)
 true_or_false true = inl refl
 true_or_false false = inr refl
 
-allow : (grain : Grain) (d : Parts) (s : State) (m : Move) → s.over ≡ false → is_enabled s m ≡ true → CanGo grain d s
-allow grain d s m o e =
-    (m, ap (λ b. not b && is_enabled s m && is_free grain d s m) o ∙ ap (λ b. b && is_free grain d s m) e ∙ always_free grain d s m)
+pub allow : (grain : Grain) (d : Parts) (s : State) (m : Move) → s.over ≡ false → is_enabled s m ≡ true → is_free grain d s m ≡ true → CanGo grain d s
+allow grain d s m o e free =
+    (m, ap (λ b. not b && is_enabled s m && is_free grain d s m) o ∙ ap (λ b. b && is_free grain d s m) e ∙ free)
+
+-- whether every move is free in a state: no combinational block keeps another one out
+abbrev pub AllFree : Grain → Parts → State → Type 0
+AllFree grain d s = (m : Move) → is_free grain d s m ≡ true
 
 -- an active process can step
-process_goes : (grain : Grain) (d : Parts) (s : State) → s.over ≡ false → list_any is_going s.places ≡ true → CanGo grain d s
-process_goes grain d s o h = let r = found is_going s.places h in allow grain d s (Step r.place) o (ap (if_some is_going) r.here ∙ r.passes)
+process_goes : (grain : Grain) (d : Parts) (s : State) → AllFree grain d s → s.over ≡ false → list_any is_going s.places ≡ true → CanGo grain d s
+process_goes grain d s free o h = let r = found is_going s.places h in allow grain d s (Step r.place) o (ap (if_some is_going) r.here ∙ r.passes) (free (Step r.place))
 
 -- an assignment that needs an evaluation or has a pending value can go
-driver_goes : (grain : Grain) (d : Parts) (s : State) → s.over ≡ false → list_any (λ (x : Driver). x.needs || is_some x.pending) s.drivers ≡ true → CanGo grain d s
-driver_goes grain d s o h =
-    let r = found (λ (x : Driver). x.needs || is_some x.pending) s.drivers h in
+assign_goes : (grain : Grain) (d : Parts) (s : State) → AllFree grain d s → s.over ≡ false → list_any (λ (x : AssignState). x.needs || is_some x.pending) s.assigns ≡ true → CanGo grain d s
+assign_goes grain d s free o h =
+    let r = found (λ (x : AssignState). x.needs || is_some x.pending) s.assigns h in
     elim (or_cases r.element.needs (is_some r.element.pending) r.passes) [
-      | inl needs ↦ allow grain d s (Evaluate r.place) o (ap (if_some (λ (x : Driver). x.needs)) r.here ∙ needs)
-      | inr pending ↦ allow grain d s (Propagate r.place) o (ap (if_some (λ (x : Driver). is_some x.pending)) r.here ∙ pending)
+      | inl needs ↦ allow grain d s (Evaluate r.place) o (ap (if_some (λ (x : AssignState). x.needs)) r.here ∙ needs) (free (Evaluate r.place))
+      | inr pending ↦ allow grain d s (Propagate r.place) o (ap (if_some (λ (x : AssignState). is_some x.pending)) r.here ∙ pending) (free (Propagate r.place))
     ]
 
 -- where no older update is activated, none that is activated shares a signal
@@ -83,34 +75,34 @@ none_shares (u ∷ us) what h = none_shares_by u us what u.active refl h (none_s
         ∙ later (subst (λ b. b || list_any (λ (v : Update). v.active) us ≡ false) e h)
 
 -- the oldest activated update can be made
-update_goes : (grain : Grain) (d : Parts) (s : State) → s.over ≡ false → list_any (λ (u : Update). u.active) s.updates ≡ true → CanGo grain d s
-update_goes grain d s o h =
+update_goes : (grain : Grain) (d : Parts) (s : State) → AllFree grain d s → s.over ≡ false → list_any (λ (u : Update). u.active) s.updates ≡ true → CanGo grain d s
+update_goes grain d s free o h =
     let r = found (λ (u : Update). u.active) s.updates h in
     allow grain d s (Make r.place) o
     (ap (if_some (is_first s.updates r.place)) r.here
     ∙ ap (λ b. b && not (list_any (λ (older : Update). older.active && shares older.what r.element.what) (take r.place s.updates))) r.passes
-    ∙ ap not (none_shares (take r.place s.updates) r.element.what r.none_before))
+    ∙ ap not (none_shares (take r.place s.updates) r.element.what r.none_before)) (free (Make r.place))
 
-busy_goes : (grain : Grain) (d : Parts) (s : State) → s.over ≡ false → is_busy s ≡ true → CanGo grain d s
-busy_goes grain d s o h =
-    elim (or_cases (list_any is_going s.places || list_any (λ (x : Driver). x.needs || is_some x.pending) s.drivers) (list_any (λ (u : Update). u.active) s.updates) h) [
-      | inl first ↦ elim (or_cases (list_any is_going s.places) (list_any (λ (x : Driver). x.needs || is_some x.pending) s.drivers) first) [
-        | inl process ↦ process_goes grain d s o process
-        | inr driver ↦ driver_goes grain d s o driver
+busy_goes : (grain : Grain) (d : Parts) (s : State) → AllFree grain d s → s.over ≡ false → is_busy s ≡ true → CanGo grain d s
+busy_goes grain d s free o h =
+    elim (or_cases (list_any is_going s.places || list_any (λ (x : AssignState). x.needs || is_some x.pending) s.assigns) (list_any (λ (u : Update). u.active) s.updates) h) [
+      | inl first ↦ elim (or_cases (list_any is_going s.places) (list_any (λ (x : AssignState). x.needs || is_some x.pending) s.assigns) first) [
+        | inl process ↦ process_goes grain d s free o process
+        | inr assign ↦ assign_goes grain d s free o assign
       ]
-      | inr update ↦ update_goes grain d s o update
+      | inr update ↦ update_goes grain d s free o update
     ]
 
--- a state that isn't over has a permitted step
-pub state_goes : (grain : Grain) (d : Parts) (s : State) → s.over ≡ false → CanGo grain d s
-state_goes grain d s o =
+-- a state that isn't over, and in which every move is free, has a permitted step
+pub state_goes : (grain : Grain) (d : Parts) (s : State) → AllFree grain d s → s.over ≡ false → CanGo grain d s
+state_goes grain d s free o =
     elim (true_or_false (is_busy s)) [
-      | inl busy ↦ busy_goes grain d s o busy
+      | inl busy ↦ busy_goes grain d s free o busy
       | inr quiet ↦ elim (true_or_false (has_inactive s)) [
-        | inl inactive ↦ allow grain d s Rouse o (ap (λ b. not b && has_inactive s) quiet ∙ inactive)
+        | inl inactive ↦ allow grain d s Rouse o (ap (λ b. not b && has_inactive s) quiet ∙ inactive) (free Rouse)
         | inr none ↦ elim (true_or_false (has_due s)) [
-          | inl due ↦ allow grain d s Activate o (ap (λ b. not b && not (has_inactive s) && has_due s) quiet ∙ ap (λ b. not b && has_due s) none ∙ due)
-          | inr idle ↦ allow grain d s EndSlot o (ap (λ b. not b && not (has_inactive s) && not (has_due s)) quiet ∙ ap (λ b. not b && not (has_due s)) none ∙ ap not idle)
+          | inl due ↦ allow grain d s Activate o (ap (λ b. not b && not (has_inactive s) && has_due s) quiet ∙ ap (λ b. not b && has_due s) none ∙ due) (free Activate)
+          | inr idle ↦ allow grain d s EndSlot o (ap (λ b. not b && not (has_inactive s) && not (has_due s)) quiet ∙ ap (λ b. not b && not (has_due s)) none ∙ ap not idle) (free EndSlot)
         ]
       ]
     ]
@@ -123,10 +115,10 @@ pub permitted_is_allowed : (grain : Grain) (d : Parts) (s t : State) → Permitt
 permitted_is_allowed grain d s _ (runs i place o here going free) =
     (Step i, allowed_from grain d s (Step i) o (ap (if_some is_going) here ∙ going) free, ap (stepped s i) here)
 permitted_is_allowed grain d s _ (evaluates j x o here needs free) =
-    (Evaluate j, allowed_from grain d s (Evaluate j) o (ap (if_some (λ (x : Driver). x.needs)) here ∙ needs) free, ap (evaluate s j) here)
+    (Evaluate j, allowed_from grain d s (Evaluate j) o (ap (if_some (λ (x : AssignState). x.needs)) here ∙ needs) free, ap (evaluate s j) here)
 permitted_is_allowed grain d s _ (propagates j x digits o here pending free) = (
   Propagate j,
-  allowed_from grain d s (Propagate j) o (ap (if_some (λ (x : Driver). is_some x.pending)) here ∙ ap is_some pending) free,
+  allowed_from grain d s (Propagate j) o (ap (if_some (λ (x : AssignState). is_some x.pending)) here ∙ ap is_some pending) free,
   ap (propagate s j) here ∙ ap (propagate_value s j x) pending,
 )
 permitted_is_allowed grain d s _ (updates i u o here first free) =
@@ -159,12 +151,12 @@ enabled_is_permitted grain d s (Step i) o e f =
     let r = some_of is_going (slice_get s.places i) e in
     subst (λ (p : Option Place). Permitted grain d s (stepped s i p)) (sym r.1) (runs i r.0 o r.1 r.2 f)
 enabled_is_permitted grain d s (Evaluate j) o e f =
-    let r = some_of (λ (x : Driver). x.needs) (slice_get s.drivers j) e in
-    subst (λ (x : Option Driver). Permitted grain d s (evaluate s j x)) (sym r.1) (evaluates j r.0 o r.1 r.2 f)
+    let r = some_of (λ (x : AssignState). x.needs) (slice_get s.assigns j) e in
+    subst (λ (x : Option AssignState). Permitted grain d s (evaluate s j x)) (sym r.1) (evaluates j r.0 o r.1 r.2 f)
 enabled_is_permitted grain d s (Propagate j) o e f =
-    let r = some_of (λ (x : Driver). is_some x.pending) (slice_get s.drivers j) e in
+    let r = some_of (λ (x : AssignState). is_some x.pending) (slice_get s.assigns j) e in
     let v = pending_of r.0.pending r.2 in
-    subst (λ (x : Option Driver). Permitted grain d s (propagate s j x)) (sym r.1)
+    subst (λ (x : Option AssignState). Permitted grain d s (propagate s j x)) (sym r.1)
     (subst (λ (p : Option (List Digit)). Permitted grain d s (propagate_value s j r.0 p)) (sym v.1) (propagates j r.0 v.0 o r.1 v.1 f))
 enabled_is_permitted grain d s (Make i) o e f =
     let r = some_of (is_first s.updates i) (slice_get s.updates i) e in

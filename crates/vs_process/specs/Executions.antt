@@ -1,23 +1,17 @@
 -- What is permitted at each moment, and executions.
-use Rattle.std.specs.Prelude.{ℕ, suc, ◌==◌, ◌≡◌, ◌<◌, ◌⊎◌, ◌&&◌, ◌||◌, not, Bool, true, false, Option, Some, None, List, [], ◌∷◌, ◌++◌, map, filter, take, is_some, is_none, leb, slice_get, if◌then◌else◌, min}
+use Rattle.std.specs.Prelude.{ℕ, suc, ◌==◌, ◌≡◌, ◌&&◌, ◌||◌, not, Bool, true, false, Option, Some, None, List, [], ◌∷◌, ◌++◌, map, filter, take, is_some, is_none, leb, slice_get, if◌then◌else◌, min, nat_lt}
 use Rattle.std.specs.List.{list_any}
 use Rattle.vs_design.specs.declared.design.Process.{Process}
 use Rattle.vs_design.specs.Parts.{Parts}
-use Rattle.vs_design.specs.Stores.{Store, Part, Write}
-use Rattle.vs_design.specs.Traces.{Slot, Trace}
+use Rattle.vs_design.specs.Stores.{Store}
+use Rattle.vs_design.specs.Traces.{Line, Slot, Trace}
+use Rattle.vs_design.specs.Writes.{shares}
 use Rattle.vs_process.specs.declared.moves.Grain.{Grain}
 use Rattle.vs_process.specs.declared.moves.Grain.TheVariants.{Statement, Block}
 use Rattle.vs_process.specs.declared.moves.Move.{Move}
 use Rattle.vs_process.specs.declared.moves.Move.TheVariants.{Step, Evaluate, Propagate, Make, Rouse, Activate, EndSlot}
 use Rattle.vs_process.specs.Places.{Place, sleeping, is_going, is_inactive, is_inside}
-use Rattle.vs_process.specs.States.{Driver, Update, Called, State, start, stepped, evaluate, propagate, make, roused, is_due, activated, woken_at}
-
--- whether a write names a signal, in range or not
-abbrev pub names : Write → ℕ → Bool
-names w signal = list_any (λ (p : Part). p.signal == signal) w
-
-abbrev pub shares : Write → Write → Bool
-shares a b = list_any (λ (p : Part). names b p.signal) a
+use Rattle.vs_process.specs.States.{AssignState, Update, Called, State, start, stepped, evaluate, propagate, make, roused, is_due, activated, woken_at}
 
 -- whether an update is activated and no older activated one names a signal that it names (clause 11.4.1; the free order between signals: profile)
 abbrev pub is_first : List Update → ℕ → Update → Bool
@@ -30,7 +24,7 @@ if_some f (Some x) = f x
 -- whether an active event is left in the slot (clause 11.3)
 abbrev pub is_busy : State → Bool
 is_busy s =
-    list_any is_going s.places || list_any (λ (x : Driver). x.needs || is_some x.pending) s.drivers || list_any (λ (u : Update). u.active) s.updates
+    list_any is_going s.places || list_any (λ (x : AssignState). x.needs || is_some x.pending) s.assigns || list_any (λ (u : Update). u.active) s.updates
 
 -- whether an inactive process is left in the slot
 abbrev pub has_inactive : State → Bool
@@ -43,8 +37,8 @@ has_due s = list_any (is_due s.time) s.updates
 -- whether the move is one of this state, whatever the grain (clauses 11.3 and 11.4)
 abbrev pub is_enabled : State → Move → Bool
 is_enabled s (Step i) = if_some is_going (slice_get s.places i)
-is_enabled s (Evaluate j) = if_some (λ (x : Driver). x.needs) (slice_get s.drivers j)
-is_enabled s (Propagate j) = if_some (λ (x : Driver). is_some x.pending) (slice_get s.drivers j)
+is_enabled s (Evaluate j) = if_some (λ (x : AssignState). x.needs) (slice_get s.assigns j)
+is_enabled s (Propagate j) = if_some (λ (x : AssignState). is_some x.pending) (slice_get s.assigns j)
 is_enabled s (Make i) = if_some (is_first s.updates i) (slice_get s.updates i)
 is_enabled s Rouse = not (is_busy s) && has_inactive s
 is_enabled s Activate = not (is_busy s) && not (has_inactive s) && has_due s
@@ -119,8 +113,8 @@ slot_behind s = record s {
 -- the state after a move; total, and meant where the move is allowed
 abbrev pub apply : Move → State → State
 apply (Step i) s = stepped s i (slice_get s.places i)
-apply (Evaluate j) s = evaluate s j (slice_get s.drivers j)
-apply (Propagate j) s = propagate s j (slice_get s.drivers j)
+apply (Evaluate j) s = evaluate s j (slice_get s.assigns j)
+apply (Propagate j) s = propagate s j (slice_get s.assigns j)
 apply (Make i) s = make s i (slice_get s.updates i)
 apply Rouse s = record s { places = map roused s.places }
 apply Activate s = record s { updates = map (activated s.time) s.updates }
@@ -136,13 +130,13 @@ abbrev pub Legal : Grain → Parts → List Move → Type 0
 Legal grain d [] = Unit {0}
 Legal grain d (m ∷ before) = Legal grain d before × (allowed grain d (after d before) m ≡ true)
 
--- the line of a strobe call at the end of its slot: there are no such calls yet
-abbrev pub strobe_line : Called → Store → List ℕ
-strobe_line c store = elim c.call [ ]
+-- the line of a strobe call at the end of its slot, of this store and this time: there are no such calls yet
+abbrev pub strobe_line : Called → Store → ℕ → Line
+strobe_line c store time = elim c.call [ ]
 
 -- the slot that a move ends
 abbrev pub ended_slot : Move → State → List Slot
-ended_slot EndSlot s = record { time = s.time; store = s.store; lines = map (λ c. strobe_line c s.store) s.calls } ∷ []
+ended_slot EndSlot s = record { time = s.time; store = s.store; lines = map (λ c. strobe_line c s.store s.time) s.calls } ∷ []
 ended_slot _ s = []
 
 -- the slots that ended, the earliest first
@@ -150,9 +144,9 @@ abbrev pub slots : Parts → List Move → List Slot
 slots d [] = []
 slots d (m ∷ before) = slots d before ++ ended_slot m (after d before)
 
--- an execution is complete to a moment where it is over or its time is past it
-abbrev pub IsComplete : ℕ → State → Type 0
-IsComplete until s = (s.over ≡ true) ⊎ (until < s.time)
+-- whether an execution is complete to a moment: it is over, or its time is past it
+abbrev pub is_complete : ℕ → State → Bool
+is_complete until s = s.over || nat_lt until s.time
 
 abbrev pub is_by : ℕ → Slot → Bool
 is_by until slot = leb slot.time until

@@ -7,7 +7,7 @@ use Rattle.vs_process.specs.declared.moves.Move.{Move}
 use Rattle.vs_process.specs.declared.moves.Move.TheVariants.{Step, Evaluate, Propagate, Make, Rouse, Activate, EndSlot}
 use Rattle.vs_process.specs.Places.{Place, is_going}
 use Rattle.vs_process.specs.Steps.{step}
-use Rattle.vs_process.specs.States.{State, Driver, Update, todo_of, performed, evaluate, propagate_value, make, roused, activated}
+use Rattle.vs_process.specs.States.{State, AssignState, Update, todo_of, performed, evaluate, propagate_value, make, roused, activated}
 use Rattle.vs_process.specs.Executions.{is_first, is_busy, has_inactive, has_due, is_free, slot_behind, allowed, apply, after, Legal}
 
 -- nothing is enabled but a change of region: no active event is left (clause 11.3)
@@ -20,10 +20,10 @@ pub data Permitted (grain : Grain) (d : Parts) (s : State) : State → Type 0 wh
   runs : (i : ℕ) (place : Place) → s.over ≡ false → slice_get s.places i ≡ Some place → is_going place ≡ true → is_free grain d s (Step i) ≡ true →
       Permitted grain d s (performed s i place (step (todo_of place) s.store s.time))
   -- one evaluation of a continuous assignment that needs it
-  evaluates : (j : ℕ) (x : Driver) → s.over ≡ false → slice_get s.drivers j ≡ Some x → x.needs ≡ true → is_free grain d s (Evaluate j) ≡ true →
+  evaluates : (j : ℕ) (x : AssignState) → s.over ≡ false → slice_get s.assigns j ≡ Some x → x.needs ≡ true → is_free grain d s (Evaluate j) ≡ true →
       Permitted grain d s (evaluate s j (Some x))
   -- one update of a continuous assignment that has a pending value
-  propagates : (j : ℕ) (x : Driver) (digits : List Digit) → s.over ≡ false → slice_get s.drivers j ≡ Some x → x.pending ≡ Some digits → is_free grain d s (Propagate j) ≡ true →
+  propagates : (j : ℕ) (x : AssignState) (digits : List Digit) → s.over ≡ false → slice_get s.assigns j ≡ Some x → x.pending ≡ Some digits → is_free grain d s (Propagate j) ≡ true →
       Permitted grain d s (propagate_value s j x (Some digits))
   -- one activated nonblocking update, where no older activated one names a signal that it names
   updates : (i : ℕ) (u : Update) → s.over ≡ false → slice_get s.updates i ≡ Some u → is_first s.updates i u ≡ true → is_free grain d s (Make i) ≡ true →

@@ -1,22 +1,23 @@
 -- The state of an execution, and what changes it.
-use Rattle.std.specs.Prelude.{ℕ, zero, suc, ◌+◌, ◌==◌, ◌&&◌, ◌||◌, not, Bool, true, false, Option, Some, None, List, [], ◌∷◌, ◌++◌, map, slice_get, slice_set, if◌then◌else◌}
+use Rattle.std.specs.Prelude.{ℕ, zero, suc, ◌+◌, ◌==◌, ◌&&◌, ◌||◌, not, Bool, true, false, Option, Some, None, List, [], ◌∷◌, ◌++◌, map, slice_set, if◌then◌else◌}
 use Rattle.std.specs.List.{list_any}
 use Rattle.vs_logic4.specs.declared.digit.Digit.{Digit}
-pub use Rattle.vs_logic4.specs.Vectors.{same_digit, same_digits}
 use Rattle.vs_design.specs.declared.design.Assign.{Assign}
 use Rattle.vs_design.specs.declared.design.Process.{Process}
 use Rattle.vs_design.specs.declared.expression.Typed.{Typed}
 use Rattle.vs_design.specs.declared.statement.Target.{Target}
 use Rattle.vs_design.specs.Parts.{Parts}
-use Rattle.vs_design.specs.Stores.{Store, Write, word_of, put, start_store}
+use Rattle.vs_design.specs.Stores.{Store, put, is_changed, changes_nothing, start_store}
 use Rattle.vs_design.specs.Uses.{reads}
-use Rattle.vs_eval.specs.Values.{target_value, assigned}
+use Rattle.vs_design.specs.Writes.{Write}
+use Rattle.vs_eval.specs.Targets.{assigned}
+use Rattle.vs_eval.specs.Values.{target_value}
 use Rattle.vs_process.specs.declared.moves.Gait.TheVariants.{Woken}
 use Rattle.vs_process.specs.Places.{Todo, Place, going, sleeping, inactive, ended, active_at, stepped_gait, start_place}
 use Rattle.vs_process.specs.Steps.{Call, Next, on, after, Out, step}
 
--- a continuous assignment: what it is, whether it has to be evaluated, and the value that waits to be written (clause 6.1; one pending value: profile)
-pub record Driver : Type 0 where
+-- a continuous assignment in a state: what it is, whether it has to be evaluated, and the value that waits to be written (clause 6.1; one pending value: profile)
+pub record AssignState : Type 0 where
   pub target : Target
   pub source : Typed
   pub needs : Bool
@@ -38,22 +39,22 @@ pub record Called : Type 0 where
 pub record State : Type 0 where
   pub store : Store
   pub places : List Place
-  pub drivers : List Driver
+  pub assigns : List AssignState
   pub updates : List Update
   pub calls : List Called
   pub time : ℕ
   pub finishing : Bool
   pub over : Bool
 
-abbrev pub start_driver : Assign → Driver
-start_driver a = record { target = a.target; source = a.source; needs = true; pending = None }
+abbrev pub start_assign : Assign → AssignState
+start_assign a = record { target = a.target; source = a.source; needs = true; pending = None }
 
 -- the state in which every execution of a design begins (clause 11.4; the evaluation of every assignment at time zero: profile)
 abbrev pub start : Parts → State
 start d = record {
   store = start_store d;
   places = map (λ (p : Process). start_place p.body) d.processes;
-  drivers = map start_driver d.assigns;
+  assigns = map start_assign d.assigns;
   updates = [];
   calls = [];
   time = 0;
@@ -61,40 +62,22 @@ start d = record {
   over = false;
 }
 
-abbrev pub same_words : List (List Digit) → List (List Digit) → Bool
-same_words [] [] = true
-same_words (a ∷ as') (b ∷ bs) = same_digits a b && same_words as' bs
-same_words _ _ = false
-
-abbrev pub same_signal : Option (List (List Digit)) → Option (List (List Digit)) → Bool
-same_signal None None = true
-same_signal (Some a) (Some b) = same_words a b
-same_signal _ _ = false
-
--- whether a signal differs between two stores
-abbrev pub is_changed : Store → Store → ℕ → Bool
-is_changed old new signal = not (same_signal (slice_get old signal) (slice_get new signal))
-
--- a continuous assignment behind a change of the store: it has to be evaluated where something that it reads differs (clause 6.1.2)
-abbrev pub touched : Store → Store → Driver → Driver
+-- a continuous assignment behind a change of the store: it has to be evaluated where a bit that it reads differs (clause 6.1.2)
+abbrev pub touched : Store → Store → AssignState → AssignState
 touched old new x = record x { needs = x.needs || list_any (is_changed old new) (reads x.source) }
 
--- a state after a write: who wakes is decided between the store before and the store behind the whole write
+-- a state whose store has changed: what has to be evaluated is decided between the store before and the store behind
+abbrev pub refreshed : Store → State → State
+refreshed new s = record s { store = new; assigns = map (touched s.store new) s.assigns }
+
+-- a state after a write, which is one change however many parts it has
 abbrev pub written : State → Write → State
-written s w = record s {
-  store = put s.store w;
-  drivers = map (touched s.store (put s.store w)) s.drivers;
-}
+written s w = refreshed (put s.store w) s
 
--- the store behind a step that may write
-abbrev pub store_behind : Store → Option Write → Store
-store_behind store None = store
-store_behind store (Some w) = put store w
-
--- the continuous assignments behind a step that may write
-abbrev pub drivers_behind : Store → Option Write → List Driver → List Driver
-drivers_behind store None drivers = drivers
-drivers_behind store (Some w) drivers = map (touched store (put store w)) drivers
+-- a state behind a step that may write
+abbrev pub written_behind : State → Option Write → State
+written_behind s None = s
+written_behind s (Some w) = written s w
 
 -- the updates behind a step of a process
 abbrev pub updates_behind : ℕ → ℕ → Option (ℕ × Write) → List Update → List Update
@@ -112,7 +95,7 @@ paused time ticks todo = if ticks == 0 then inactive todo else sleeping (time + 
 abbrev pub place_behind : Place → ℕ → Next → Place
 place_behind (going gait todo) time (on rest) = active_at (stepped_gait gait) rest
 place_behind _ time (on rest) = ended
-place_behind _ time (after ticks rest) = paused time ticks rest
+place_behind _ time (after number ticks rest) = paused time ticks rest
 
 abbrev pub todo_of : Place → Todo
 todo_of (going gait todo) = todo
@@ -122,43 +105,38 @@ todo_of ended = []
 
 -- a state after a step of a process, of which this came
 abbrev pub performed : State → ℕ → Place → Out → State
-performed s i place out = record s {
-  store = store_behind s.store out.write;
-  places = slice_set s.places i (place_behind place s.time out.next);
-  drivers = drivers_behind s.store out.write s.drivers;
-  updates = updates_behind i s.time out.update s.updates;
-  calls = calls_behind i out.call s.calls;
-  finishing = s.finishing || out.finish;
-}
+performed s i place out =
+    let t = written_behind s out.write in
+    record t {
+      places = slice_set t.places i (place_behind place s.time out.next);
+      updates = updates_behind i s.time out.update s.updates;
+      calls = calls_behind i out.call s.calls;
+      finishing = s.finishing || out.finish;
+    }
 
 abbrev pub stepped : State → ℕ → Option Place → State
 stepped s i None = s
 stepped s i (Some place) = performed s i place (step (todo_of place) s.store s.time)
 
--- whether the target has this value already; a target without a word takes none
-abbrev pub has_value : Option (List Digit) → List Digit → Bool
-has_value None digits = true
-has_value (Some word) digits = same_digits word digits
+-- a continuous assignment after its evaluation: a value that would change nothing leaves nothing pending, another one takes the place of an older one (profile)
+abbrev pub evaluated : Store → ℕ → AssignState → AssignState
+evaluated store time x =
+    let digits = target_value x.target x.source store time in
+    record x { needs = false; pending = if changes_nothing store (assigned x.target digits store) then None else Some digits }
 
--- a continuous assignment after its evaluation: a value that the target has leaves nothing pending, another one takes the place of an older one (profile)
-abbrev pub evaluated : Store → Driver → Driver
-evaluated store x =
-    let digits = target_value x.target x.source store in
-    record x { needs = false; pending = if has_value (word_of store x.target.signal 0) digits then None else Some digits }
-
-abbrev pub evaluate : State → ℕ → Option Driver → State
+abbrev pub evaluate : State → ℕ → Option AssignState → State
 evaluate s j None = s
-evaluate s j (Some x) = record s { drivers = slice_set s.drivers j (evaluated s.store x) }
+evaluate s j (Some x) = record s { assigns = slice_set s.assigns j (evaluated s.store s.time x) }
 
-abbrev pub settled : Driver → Driver
+abbrev pub settled : AssignState → AssignState
 settled x = record x { pending = None }
 
-abbrev pub propagate_value : State → ℕ → Driver → Option (List Digit) → State
+abbrev pub propagate_value : State → ℕ → AssignState → Option (List Digit) → State
 propagate_value s j x None = s
-propagate_value s j x (Some digits) = written (record s { drivers = slice_set s.drivers j (settled x) }) (assigned x.target digits)
+propagate_value s j x (Some digits) = written (record s { assigns = slice_set s.assigns j (settled x) }) (assigned x.target digits s.store)
 
 -- a state after the update of a continuous assignment
-abbrev pub propagate : State → ℕ → Option Driver → State
+abbrev pub propagate : State → ℕ → Option AssignState → State
 propagate s j None = s
 propagate s j (Some x) = propagate_value s j x x.pending
 

@@ -4,9 +4,9 @@
 mod effect;
 mod laws;
 mod moves;
-mod spot;
+mod place;
 
 pub use effect::Effect;
-pub use laws::{moves_are_permitted, never_stuck};
+pub use laws::{moves_are_permitted, never_stuck, times_rise};
 pub use moves::{Gait, Grain, Move};
-pub use spot::Spot;
+pub use place::Place;

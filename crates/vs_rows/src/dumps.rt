@@ -1,47 +1,61 @@
 //! Rows whose value change dump is given.
 
-use crate::running::dump;
+use crate::assigns::ASSIGNS;
+use crate::fifo::FIFO;
+use crate::headers::{EMPTY, ONE_VARIABLE, VARIABLES};
+use crate::running::{Row, compare_all};
 use std::test::Fail;
 
-const EMPTY: &str =
-    "$timescale 1 ns $end\n$scope module t $end\n$upscope $end\n$enddefinitions $end\n#0\n$dumpvars\n$end\n#10\n";
-
-const ONE: &str =
+/// The dump of `reg a` that is 0 at 0 and 1 from 5, to 10.
+pub const ONE: &str =
     "$timescale 1 ns $end\n$scope module t $end\n$var reg 1 ! a $end\n$upscope $end\n$enddefinitions $end\n#0\n$dumpvars\n0!\n$end\n#5\n1!\n#10\n";
 
-// The first process is at its delay before the second: at 3 it enters the list first, and reads a before it is written.
-const TWO: &str =
-    "$timescale 1 ns $end\n$scope module t $end\n$var reg 1 ! a $end\n$var reg 1 \" b $end\n$upscope $end\n$enddefinitions $end\n#0\n$dumpvars\n0!\nx\"\n$end\n#3\n1!\n0\"\n";
+/// One process, and two; the step limit; a run whose text isn't asked for.
+const DUMPS: &[Row] = &[
+    Row {
+        words: "vsim run --top t --until 10 --out vcd",
+        source: "module t; endmodule",
+        status: 0,
+        out: &[EMPTY, "#0\n$dumpvars\n$end\n#10\n"],
+        err: "",
+    },
+    Row {
+        words: "vsim run --top t --until 10 --out vcd",
+        source: "module t; reg a; initial begin a = 0; #5 a = 1; end endmodule",
+        status: 0,
+        out: &[ONE],
+        err: "",
+    },
+    // The first process is at its delay before the second: at 3 it enters the list first, and reads a before it is written.
+    Row {
+        words: "vsim run --top t --until 3 --out vcd",
+        source: "module t; reg a; reg b; initial begin a = 0; #3 b = a; end initial #3 a = 1; endmodule",
+        status: 0,
+        out: &[VARIABLES, "#0\n$dumpvars\n0!\nx\"\n$end\n", "#3\n1!\n0\"\n"],
+        err: "",
+    },
+    Row {
+        words: "vsim run --top t --until 10 --steps 4 --out vcd",
+        source: "module t; reg a; initial begin a = 0; #5 a = 1; end endmodule",
+        status: 2,
+        out: &[ONE_VARIABLE, "#0\n$dumpvars\n0!\n$end\n"],
+        err: "vsim: step limit at 5\n",
+    },
+    Row {
+        words: "vsim run --top t --until 10 --steps 5",
+        source: "module t; reg a; initial begin a = 0; #5 a = 1; end endmodule",
+        status: 0,
+        out: &[],
+        err: "",
+    },
+];
 
 #[test]
-fn a_module_without_items(rt: HostRuntime) -> Result<(), Fail> {
-    let answer = dump(rt.alloc(), "10", "module t; endmodule");
-    assert_eq!(rt; answer.status, 0);
-    assert_eq!(rt; answer.out.as_slice(), EMPTY.as_bytes());
-    assert_eq!(rt; answer.err.len(), 0);
-    Ok(())
-}
-
-#[test]
-fn one_process_with_a_delay(rt: HostRuntime) -> Result<(), Fail> {
-    let answer = dump(
-        rt.alloc(),
-        "10",
-        "module t; reg a; initial begin a = 0; #5 a = 1; end endmodule",
-    );
-    assert_eq!(rt; answer.status, 0);
-    assert_eq!(rt; answer.out.as_slice(), ONE.as_bytes());
-    assert_eq!(rt; answer.out.len(), 128);
-    assert_eq!(rt; answer.err.len(), 0);
-    Ok(())
-}
-
-#[test]
-fn two_processes_at_one_time(rt: HostRuntime) -> Result<(), Fail> {
-    let source =
-        "module t; reg a; reg b; initial begin a = 0; #3 b = a; end initial #3 a = 1; endmodule";
-    let answer = dump(rt.alloc(), "3", source);
-    assert_eq!(rt; answer.status, 0);
-    assert_eq!(rt; answer.out.as_slice(), TWO.as_bytes());
+fn dumps(rt: HostRuntime) -> Result<(), Fail> {
+    assert_eq!(rt; ONE.len(), 128);
+    assert_eq!(rt; ONE_VARIABLE.len(), 97);
+    for rows in [DUMPS, ASSIGNS, FIFO] {
+        compare_all(&rt, rt.alloc(), rows)?;
+    }
     Ok(())
 }

@@ -4,10 +4,20 @@
 #[cfg(test)]
 mod assigns;
 #[cfg(test)]
+mod devices;
+#[cfg(test)]
 mod dumps;
+#[cfg(test)]
+mod fifo;
+#[cfg(test)]
+mod headers;
+#[cfg(test)]
+mod large;
 #[cfg(test)]
 mod orders;
 #[cfg(test)]
 mod refusals;
 #[cfg(test)]
 mod running;
+#[cfg(test)]
+mod words;

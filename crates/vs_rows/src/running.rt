@@ -1,67 +1,132 @@
-//! How a row is run.
+//! How a row is run, and how an answer is compared with it.
 
 use std::alloc::{AllocError, Global};
-use std::io::{self, Read};
+use std::io::{self, ErrorKind, Read, Write};
+use std::process::Abort;
+use std::test::Fail;
+use vs_design::Design;
+use vs_elaborate::elaborate;
+use vs_lexer::lex;
+use vs_parser::parse;
 use vs_sim::program;
 
+/// A call of the program on a source, and what it answers.
+#[derive(Drop)]
+pub struct Row {
+    /// The words of the call, with spaces between them.
+    pub words: &'static str,
+    /// What is read.
+    pub source: &'static str,
+    /// The exit status.
+    pub status: u8,
+    /// What is written, in pieces that follow one another.
+    pub out: &'static [&'static str],
+    /// What is written to standard error.
+    pub err: &'static str,
+}
+
 /// What the program answered.
-#[derive(Debug, Drop)]
+#[derive(Drop)]
 pub struct Answer {
     pub status: u8,
     pub out: Vec<u8>,
     pub err: Vec<u8>,
 }
 
-/// A source as a reader.
-#[derive(Debug, Drop)]
+/// A source as a reader, which counts what it gave.
+#[derive(Drop)]
 pub struct Input<'s> {
-    rest: &'s [u8],
+    /// What is left.
+    pub rest: &'s [u8],
+    /// How many bytes it gave.
+    pub given: usize,
+    /// Whether it fails behind its last byte.
+    pub fails: bool,
+}
+
+impl<'s> Input<'s> {
+    /// A reader that gives a source and ends.
+    pub fn new(source: &'s [u8]) -> Self {
+        Input {
+            rest: source,
+            given: 0,
+            fails: false,
+        }
+    }
 }
 
 impl<'s> Read for Input<'s> {
     fn read(&mut self, buf: &mut [u8]) -> io::Result<usize> {
+        if self.fails && self.rest.is_empty() {
+            return Err(io::Error::from(ErrorKind::BrokenPipe));
+        }
         let n = buf.len().min(self.rest.len());
         buf[..n].copy_from_slice(&self.rest[..n]);
         self.rest = &self.rest[n..];
+        self.given = self.given.saturating_add(n);
         Ok(n)
     }
 }
 
-/// Runs the program on a source with these words.
-pub fn run(alloc: Global, words: &[&str], source: &[u8]) -> Answer {
-    let mut out = Vec::new(alloc);
-    let mut err = Vec::new(alloc);
-    let status = program(alloc, words, Input { rest: source }, &mut out, &mut err);
-    Answer { status, out, err }
-}
-
-/// Runs a source with the top `t` to a moment, and answers its value change dump.
-pub fn dump(alloc: Global, until: &str, source: &str) -> Answer {
-    let words = [
-        "vsim", "run", "--top", "t", "--until", until, "--out", "vcd",
-    ];
-    run(alloc, words.as_slice(), source.as_bytes())
-}
-
-/// The same, in at most so many steps.
-pub fn limited(alloc: Global, until: &str, steps: &str, source: &str) -> Answer {
-    let words = [
-        "vsim", "run", "--top", "t", "--until", until, "--steps", steps, "--out", "vcd",
-    ];
-    run(alloc, words.as_slice(), source.as_bytes())
-}
-
-/// A source of this many pieces behind a beginning.
-pub fn repeated(
+/// Runs the program with these words, a reader and a writer, and answers its status and what it told.
+pub fn call<R: Read + Drop, O: Write + Drop>(
     alloc: Global,
-    first: &str,
-    piece: &str,
-    count: usize,
-) -> Result<Vec<u8>, AllocError> {
-    let mut source = Vec::new(alloc);
-    source.extend_from_slice(first.as_bytes())?;
-    for _ in 0..count {
-        source.extend_from_slice(piece.as_bytes())?;
+    words: &str,
+    input: R,
+    out: O,
+) -> Result<(u8, Vec<u8>), AllocError> {
+    let mut list = Vec::new(alloc);
+    for word in words.split_whitespace() {
+        list.push(word)?;
     }
-    Ok(source)
+    let mut err = Vec::new(alloc);
+    let status = program(alloc, list.as_slice(), input, out, &mut err);
+    Ok((status, err))
+}
+
+/// Runs the program on a source with these words.
+pub fn run(alloc: Global, words: &str, source: &[u8]) -> Result<Answer, AllocError> {
+    let mut out = Vec::new(alloc);
+    let (status, err) = call(alloc, words, Input::new(source), &mut out)?;
+    Ok(Answer { status, out, err })
+}
+
+/// Whether a text is these pieces, one behind the other.
+pub fn is_text(text: &[u8], pieces: &[&str]) -> bool {
+    let mut rest = text;
+    for piece in pieces {
+        match rest.strip_prefix(piece.as_bytes()) {
+            Some(behind) => rest = behind,
+            None => return false,
+        }
+    }
+    rest.is_empty()
+}
+
+/// Ends the test if an answer isn't the row's.
+pub fn compare(rt: &impl Abort, row: &Row, answer: &Answer) {
+    let Row { words, source, .. } = row;
+    assert_eq!(rt;
+        answer.err.as_slice(),
+        row.err.as_bytes(),
+        "{words}: {source}"
+    );
+    assert_eq!(rt; answer.status, row.status, "{words}: {source}");
+    assert!(rt; is_text(&answer.out, row.out), "{words}: {source}");
+}
+
+/// Runs each row of a table, and compares.
+pub fn compare_all(rt: &impl Abort, alloc: Global, rows: &[Row]) -> Result<(), AllocError> {
+    for row in rows {
+        compare(rt, row, &run(alloc, row.words, row.source.as_bytes())?);
+    }
+    Ok(())
+}
+
+/// The design of a source with the top `t`.
+pub fn design_of(alloc: Global, source: &str) -> Result<Design, Fail> {
+    let tokens = lex(alloc, source.as_bytes()).ok().ok_or("lex")?;
+    let tree = parse(alloc, &tokens).ok().ok_or("parse")?;
+    let design = elaborate(alloc, &tree, b"t").ok().ok_or("elaborate")?;
+    Ok(design)
 }

@@ -1,5 +1,5 @@
 -- What a simulation is, from the bytes of a source to the bytes of its value change dump.
-use Rattle.std.specs.Prelude.{ℕ, ◌≡◌, ◌⊎◌, Bool, true, false, Option, List}
+use Rattle.std.specs.Prelude.{ℕ, ◌≡◌, ◌⊎◌, Bool, true, false, Option, Result, Ok, Err, List}
 use Rattle.vs_lexer.specs.Tokens.{Lexeme}
 use Rattle.vs_lexer.specs.Spelling.{IsSpelled, Fails as LexFails}
 use Rattle.vs_syntax.specs.Symbols.{symbols}
@@ -11,7 +11,7 @@ use Rattle.vs_elaborate.specs.declared.faults.ElabFault.{ElabFault}
 use Rattle.vs_design.specs.Parts.{Parts}
 use Rattle.vs_elaborate.specs.DesignOf.{DesignOf}
 use Rattle.vs_elaborate.specs.Faults.{Faults}
-use Rattle.vs_kernel.specs.Runs.{RanTo}
+use Rattle.vs_kernel.specs.Runs.{RanTo, HasBegun}
 use Rattle.vs_kernel.specs.declared.outcome.Outcome.{Outcome}
 use Rattle.vs_kernel.specs.declared.outcome.RunFault.TheVariants as run
 use Rattle.vs_sim.specs.declared.fault.SimFault.{SimFault}
@@ -68,3 +68,16 @@ pub record IsRun (bytes top : List ℕ) (until steps : ℕ) (outcome : Outcome) 
   pub design : Parts
   pub defined : Defines bytes top design
   pub ran : RanTo design until steps outcome old new
+
+-- whether a simulation failed because the sink of the value change dump did
+abbrev pub is_write : {A : Type 0} → Result A SimFault → Bool
+is_write (Ok x) = false
+is_write (Err (Run run.Write)) = true
+is_write (Err _) = false
+
+-- what a simulation leaves whose run failed: a beginning of the value change dump of an execution of the design that the bytes and the top define
+-- was appended to the known bytes of a sink
+pub record HasBegunRun (bytes top : List ℕ) (until steps : ℕ) (old new : Option (List ℕ)) : Type 0 where
+  pub design : Parts
+  pub defined : Defines bytes top design
+  pub begun : HasBegun design until steps old new

@@ -1,2 +1,6 @@
+pub mod Asks
+pub mod Ends
 pub mod Honesty
+pub mod Inputs
 pub mod Statuses
+pub mod Texts

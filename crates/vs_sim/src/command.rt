@@ -1,33 +1,30 @@
 //! The program: words, a reader and two writers in, an exit status out.
-ghost use Rattle.std.specs.Prelude.{◌≡◌, ◌<◌, ◌^◌, true};
-ghost use Rattle.vs_sim.specs.Statuses.{is_status, outcome_status, lex_status, parse_status, elab_status, fault_status};
+ghost use Rattle.std.specs.Prelude.{◌≡◌, ◌⊎◌, map, IfOk, IfErr};
+ghost use Rattle.vs_sim.specs.Asks.{WordsAsk};
+ghost use Rattle.vs_sim.specs.Ends.{Ends, EndsRun, Wrote, IsWordsStatus};
+ghost use Rattle.vs_sim.specs.Honesty.{Fails};
+ghost use Rattle.vs_sim.specs.Statuses.{outcome_status, fault_status};
 
 use crate::dropped::Dropped;
 use crate::fault::SimFault;
+use crate::input::{InputFault, read_source};
 use crate::simulation::{Policy, simulate};
+use crate::texts::{fault_status, fault_text};
 use crate::words::{Request, Text, is_help, is_memory, read_words};
 use clap::Error;
-use std::alloc::{AllocError, Global};
-use std::io::{BufWriter, ErrorKind, Read, Write};
-use vs_elaborate::ElabFault;
-use vs_kernel::{Outcome, RunFault};
-use vs_lexer::LexFault;
-use vs_parser::ParseFault;
+use std::alloc::Global;
+use std::io::{self, BufWriter, ErrorKind, Read, Write};
+use vs_kernel::Outcome;
 use vs_vcd::Counted;
 
 /// Done, or help.
 const DONE: u8 = 0;
-/// A source was refused.
-const REFUSED: u8 = 1;
 /// The step limit.
 const LIMITED: u8 = 2;
 /// Memory ran out, or a device failed.
 const FAILED: u8 = 3;
 /// A fault of the command line.
 const MISUSED: u8 = 64;
-
-/// The first number that is too large for a moment or a count of steps.
-const TIME_LIMIT: u64 = 4611686018427387904;
 
 /// Does what the words ask for; they begin with the program's own name. The source is read from `input`, the text that was asked for goes to `out`, and
 /// a refusal to `err`. The answer is the exit status: 0 done, 1 refused, 2 step limit, 3 memory or a device's fault, 64 command line.
@@ -38,7 +35,7 @@ pub fn program<R: Read + Drop, O: Write + Drop, E: Write + Drop>(
     out: O,
     err: E,
 ) -> u8
-    ensures { is_status result ≡ true }
+    ensures { Ends (map (λ w. w.now) words.entry.now) (R.remaining input) result }
 {
     match read_words(alloc, words) {
         Ok(Some(request)) => run_request(alloc, request, input, out, err),
@@ -47,18 +44,28 @@ pub fn program<R: Read + Drop, O: Write + Drop, E: Write + Drop>(
     }
 }
 
+/// Tells why the words of a call can't be read: 3 for want of memory or a device's fault, 64 for a word that is no text in UTF-8.
+pub fn refuse_start<E: Write + Drop>(error: &io::Error, err: E) -> u8
+    ensures { (result ≡ 3) ⊎ (result ≡ 64) }
+{
+    match error.kind() {
+        ErrorKind::OutOfMemory => tell(err, b"memory", FAILED),
+        ErrorKind::InvalidData => tell(err, b"a word is no text in UTF-8", MISUSED),
+        _ => tell(err, b"read", FAILED),
+    }
+}
+
 // Prints what `clap` says of the words.
 fn tell_words<O: Write + Drop, E: Write + Drop>(error: &Error, mut out: O, mut err: E) -> u8
-    ensures { is_status result ≡ true }
+    ensures { IsWordsStatus result }
 {
     if is_memory(error) {
-        let _ = writeln!(err, "vsim: memory");
-        return FAILED;
+        return tell(err, b"memory", FAILED);
     }
     if is_help(error) {
         return match write!(out, "{error}") {
             Ok(()) => DONE,
-            Err(_) => tell(err, "write", FAILED),
+            Err(_) => tell(err, b"write", FAILED),
         };
     }
     let _ = write!(err, "{error}");
@@ -66,10 +73,12 @@ fn tell_words<O: Write + Drop, E: Write + Drop>(error: &Error, mut out: O, mut e
 }
 
 // One line on standard error, and the exit status that goes with it.
-fn tell<E: Write + Drop>(mut err: E, text: &str, status: u8) -> u8
+fn tell<E: Write + Drop>(mut err: E, text: &[u8], status: u8) -> u8
     ensures { result ≡ status }
 {
-    let _ = writeln!(err, "vsim: {text}");
+    let _ = err.write_all(b"vsim: ");
+    let _ = err.write_all(text);
+    let _ = err.write_all(b"\n");
     status
 }
 
@@ -77,58 +86,53 @@ fn tell<E: Write + Drop>(mut err: E, text: &str, status: u8) -> u8
 fn run_request<R: Read + Drop, O: Write + Drop, E: Write + Drop>(
     alloc: Global,
     request: Request,
-    mut input: R,
+    input: R,
     out: O,
     err: E,
 ) -> u8
-    ensures { is_status result ≡ true }
+    ensures { EndsRun (R.remaining input) request.entry result }
 {
-    let mut source = Vec::new(alloc);
-    if let Err(error) = input.read_to_end(&mut source) {
-        let text = if error.kind() == ErrorKind::OutOfMemory {
-            "memory"
-        } else {
-            "read"
-        };
-        return tell(err, text, FAILED);
-    }
-    if request.until >= TIME_LIMIT || request.steps >= TIME_LIMIT {
-        return MISUSED;
-    }
-    let Ok(mut buffer) = BufWriter::new(alloc, out) else {
-        return tell(err, "memory", FAILED);
+    let source = match read_source(alloc, input) {
+        Ok(source) => source,
+        Err(InputFault::Memory) => return tell(err, b"memory", FAILED),
+        Err(InputFault::Read) => return tell(err, b"read", FAILED),
     };
-    let result = run_source(alloc, request, &source, &mut buffer);
+    let Ok(buffer) = BufWriter::new(alloc, out) else {
+        return tell(err, b"memory", FAILED);
+    };
+    let (result, mut buffer) = run_source(alloc, request, &source, buffer);
     match result {
         Ok(outcome) => match buffer.flush() {
             Ok(()) => tell_outcome(outcome, err),
-            Err(_) => tell(err, "write", FAILED),
+            Err(_) => tell(err, b"write", FAILED),
         },
-        Err(fault) => tell_fault(&fault, err),
+        Err(fault) => tell_fault(alloc, &fault, err),
     }
 }
 
-// Runs a source; the text that was asked for goes to the writer.
+// Runs a source; the text that was asked for goes to the writer, which comes back.
 fn run_source<'s, W: Write>(
     alloc: Global,
     request: Request,
     source: &'s [u8],
-    writer: &mut W,
-) -> Result<Outcome, SimFault<'s>>
-    requires until { request.until < 2 ^ 62 }
-    requires steps { request.steps < 2 ^ 62 }
+    writer: W,
+) -> (Result<Outcome, SimFault<'s>>, W)
+    ensures ok { IfOk result.0 (λ outcome. Wrote request.entry.text source.entry.now request.entry outcome (W.contents writer) (W.contents result.1)) }
+    ensures err { IfErr result.0 (λ fault. Fails source.entry.now request.entry.top.now fault) }
 {
     let mut shown = Counted::new(writer);
     let mut dropped = Dropped;
     let top = request.top.as_bytes();
-    match request.text {
+    let (until, steps) = (request.until.count, request.steps.count);
+    let policy = Policy::Fifo;
+    let result = match request.text {
         Text::Dump => simulate(
             alloc,
             source,
             top,
-            request.until,
-            request.steps,
-            &Policy::Fifo,
+            until,
+            steps,
+            &policy,
             &mut shown,
             &mut dropped,
         ),
@@ -136,13 +140,14 @@ fn run_source<'s, W: Write>(
             alloc,
             source,
             top,
-            request.until,
-            request.steps,
-            &Policy::Fifo,
+            until,
+            steps,
+            &policy,
             &mut dropped,
             &mut shown,
         ),
-    }
+    };
+    (result, shown.into_inner())
 }
 
 // What an outcome tells the user.
@@ -158,65 +163,12 @@ fn tell_outcome<E: Write + Drop>(outcome: Outcome, mut err: E) -> u8
     }
 }
 
-// What a fault tells the user.
-fn tell_fault<E: Write + Drop>(fault: &SimFault, err: E) -> u8
-    ensures { result ≡ fault_status fault.now }
+// What a fault tells the user; where there is no memory for its text, that is told.
+fn tell_fault<E: Write + Drop>(alloc: Global, fault: &SimFault, err: E) -> u8
+    ensures { (result ≡ fault_status fault.now) ⊎ (result ≡ 3) }
 {
-    match fault {
-        SimFault::Memory => tell(err, "memory", FAILED),
-        SimFault::Run(RunFault::Write) => tell(err, "write", FAILED),
-        SimFault::Run(_) => tell(err, "memory", FAILED),
-        SimFault::Lex(cause) => tell_lex(cause, err),
-        SimFault::Parse(cause) => tell_parse(cause, err),
-        SimFault::Elab(cause) => tell_elab(cause, err),
+    match fault_text(alloc, fault) {
+        Ok(text) => tell(err, &text, fault_status(fault)),
+        Err(_) => tell(err, b"memory", FAILED),
     }
-}
-
-fn tell_lex<E: Write + Drop>(fault: &LexFault, mut err: E) -> u8
-    ensures { result ≡ lex_status fault.now }
-{
-    match fault {
-        LexFault::Memory => tell(err, "memory", FAILED),
-        _ => {
-            let _ = writeln!(err, "vsim: {fault}");
-            REFUSED
-        }
-    }
-}
-
-fn tell_parse<E: Write + Drop>(fault: &ParseFault, mut err: E) -> u8
-    ensures { result ≡ parse_status fault.now }
-{
-    match fault {
-        ParseFault::Memory => tell(err, "memory", FAILED),
-        ParseFault::LeftOut { place, text } => {
-            let _ = write!(err, "vsim: P2 at {place}: ");
-            end_line(err, text)
-        }
-        _ => {
-            let _ = writeln!(err, "vsim: {fault}");
-            REFUSED
-        }
-    }
-}
-
-fn tell_elab<E: Write + Drop>(fault: &ElabFault, mut err: E) -> u8
-    ensures { result ≡ elab_status fault.now }
-{
-    match fault {
-        ElabFault::Memory => tell(err, "memory", FAILED),
-        ElabFault::At(reason, path) => {
-            let _ = write!(err, "vsim: {reason} at ");
-            end_line(err, path)
-        }
-    }
-}
-
-// The last bytes of a refusal's line.
-fn end_line<E: Write + Drop>(mut err: E, text: &[u8]) -> u8
-    ensures { result ≡ 1 }
-{
-    let _ = err.write_all(text);
-    let _ = err.write_all(b"\n");
-    REFUSED
 }

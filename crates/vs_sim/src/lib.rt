@@ -4,11 +4,14 @@
 mod command;
 mod dropped;
 mod fault;
+mod input;
 mod simulation;
+mod texts;
 mod words;
 
-pub use command::program;
+pub use command::{program, refuse_start};
 pub use dropped::Dropped;
 pub use fault::SimFault;
 pub use simulation::{Policy, simulate};
+pub use texts::fault_text;
 pub use words::{Request, Text, is_help, is_memory, read_words};

@@ -1,6 +1,8 @@
 //! One simulation.
-ghost use Rattle.std.specs.Prelude.{◌≡◌, ◌<◌, ◌^◌, true, IfOk, IfErr, MatchResult};
-ghost use Rattle.vs_sim.specs.Honesty.{Defines, DefinesNone, IsRun, Fails, is_refusal};
+ghost use Rattle.std.specs.Prelude.{◌≡◌, ◌<◌, ◌^◌, true, false, IfOk, IfErr, MatchResult};
+ghost use Rattle.vs_process.specs.Permitted.{NeverStuck};
+ghost use Rattle.vs_sim.specs.Honesty.{Defines, DefinesNone, IsRun, HasBegunRun, Fails, is_refusal, is_write};
+ghost use Rattle.vs_vcd.specs.Sinks.{failed_after};
 
 use crate::fault::SimFault;
 use std::alloc::Global;
@@ -9,6 +11,7 @@ use vs_elaborate::elaborate;
 use vs_kernel::{Fifo, Kernel, Outcome};
 use vs_lexer::lex;
 use vs_parser::parse;
+use vs_process::never_stuck;
 use vs_vcd::Sink;
 
 /// Which enabled item is next.
@@ -48,8 +51,13 @@ pub fn simulate<'s, V: Sink, L: Sink>(
     ensures honest { IfOk result (λ outcome. IsRun source.entry.now top.now until steps outcome (V.bytes vcd.old) (V.bytes vcd.new)) }
     ensures fault { IfErr result (λ fault. Fails source.entry.now top.now fault) }
     ensures refused { IfErr result (λ fault. is_refusal fault ≡ true → vcd.new ≡ vcd.old) }
+    ensures begun { IfErr result (λ fault. is_refusal fault ≡ false →
+        HasBegunRun source.entry.now top.now until steps (V.bytes vcd.old) (V.bytes vcd.new)) }
+    ensures failures { V.failed vcd.new ≡ failed_after (is_write result) (V.failed vcd.old) }
     ensures lines { lines.new ≡ lines.old }
+    ensures never_stuck { NeverStuck }
 {
+    never_stuck();
     let design = design_of(alloc, source, top)?;
     match policy {
         Policy::Fifo => {

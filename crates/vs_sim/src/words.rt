@@ -1,9 +1,12 @@
 //! The words of a command line.
-ghost use Rattle.std.specs.Prelude.{◌<◌, ◌^◌, IfOk};
+ghost use Rattle.std.specs.Prelude.{◌≡◌, IfOk, IfSome, map};
+ghost use Rattle.clap.specs.Words.{found_of};
+ghost use Rattle.vs_sim.specs.Asks.{Asks, WordsAsk};
 
 use clap::error::ErrorKind;
 use clap::{Arg, ArgAction, ArgMatches, Command, Error};
 use std::alloc::Global;
+use vs_design::Ticks;
 
 /// Which text goes to standard output.
 #[derive(Clone, Copy, PartialEq, Eq, Debug)]
@@ -15,14 +18,14 @@ pub enum Text {
 }
 
 /// What the words of `vsim run` ask for.
-#[derive(Clone, Copy, Debug)]
+#[derive(Clone, Copy)]
 pub struct Request<'a> {
     /// The top module's name.
     pub top: &'a str,
-    /// The moment up to which the design runs, in ticks.
-    pub until: u64,
-    /// The most steps that the run may take.
-    pub steps: u64,
+    /// The moment up to which the design runs.
+    pub until: Ticks,
+    /// The most steps that the run may take; there are fewer of them than of ticks.
+    pub steps: Ticks,
     /// The text that is asked for.
     pub text: Text,
 }
@@ -71,11 +74,24 @@ fn run_command<'a>(alloc: Global) -> Result<Command<'a>, Error> {
     )
 }
 
+// A number below 2^62.
+fn below_limit(count: u64) -> Option<Ticks>
+    ensures { IfSome result (λ ticks. ticks.count ≡ count) }
+{
+    if count < 1 << 62 {
+        Some(Ticks { count })
+    } else {
+        None
+    }
+}
+
 // What the matches of `run` ask for.
-fn asked<'a>(matches: &ArgMatches<'a>) -> Option<Request<'a>> {
+fn asked<'a>(matches: &ArgMatches<'a>) -> Option<Request<'a>>
+    ensures { IfSome result (λ q. Asks (found_of matches.now) q) }
+{
     let top = matches.get_str("top")?;
-    let until = matches.get_one::<u64>("until")?;
-    let steps = matches.get_one::<u64>("steps")?;
+    let until = below_limit(matches.get_one::<u64>("until")?)?;
+    let steps = below_limit(matches.get_one::<u64>("steps")?)?;
     let text = match matches.get_str("out")? {
         "vcd" => Text::Dump,
         _ => Text::Lines,
@@ -90,7 +106,9 @@ fn asked<'a>(matches: &ArgMatches<'a>) -> Option<Request<'a>> {
 
 /// What the words ask for; they begin with the program's own name. A fault of the words, and a call for help, is `clap`'s error, whose text is to
 /// be printed.
-pub fn read_words<'a>(alloc: Global, words: &'a [&'a str]) -> Result<Option<Request<'a>>, Error> {
+pub fn read_words<'a>(alloc: Global, words: &'a [&'a str]) -> Result<Option<Request<'a>>, Error>
+    ensures { IfOk result (λ request. IfSome request (λ q. WordsAsk (map (λ w. w.now) words.entry.now) q)) }
+{
     let command = Command::new(alloc, "vsim")
         .about("Simulates a Verilog design")
         .subcommand_required(true)

@@ -1,20 +1,12 @@
 -- What is too deep is a token that is there.
-use Rattle.std.specs.Prelude.{◌≡◌, ℕ, Bool, true, false, ◌||◌, List, [], refl}
+use Rattle.std.specs.Prelude.{◌≡◌, ℕ, Bool, true, false, List, [], refl}
 use Rattle.std.proofs.Common.{◌∙◌, ap}
-use Rattle.vs_syntax.specs.Symbols.{Symbol, Class, no_token, the_mark, the_word, any_name, any_number, any_other, same_class, first}
-use Rattle.vs_syntax.specs.Grammar.{Part, a_source, a_module, an_item, a_declarator, an_assignment, a_stmt, a_target, an_expr, a_parity, a_conjunction, an_operand, Grammar, nothing, token, seq, either, many, part, node, chain}
+use Rattle.vs_syntax.specs.Symbols.{Symbol, no_token, first}
+use Rattle.vs_syntax.specs.Grammar.{Part, a_source, a_module, an_item, a_declarator, an_assignment, a_stmt, a_target, a_level, Grammar, nothing, token, seq, either, many, part, node, chain, optional}
 use Rattle.vs_syntax.specs.Tables.{fronts_of, fronts, among, null, goes}
-use Rattle.vs_syntax.specs.Reading.{Stuck, stuck_here, stuck_deep, stuck_first, stuck_second, stuck_left, stuck_right, stuck_many, stuck_more, stuck_part, stuck_node, stuck_one, stuck_link, stuck_high}
+use Rattle.vs_syntax.specs.Reading.{Stuck, stuck_here, stuck_deep, stuck_first, stuck_second, stuck_left, stuck_right, stuck_many, stuck_more, stuck_part, stuck_node, stuck_one, stuck_link, stuck_high, stuck_behind}
 use Rattle.vs_syntax.proofs.Fronts.{clash, and_false, goes-seq, goes-either, goes-node, goes-chain}
-use Rattle.vs_syntax.proofs.Least.{is_class, sound, rule_sound, sound_seq, sound_either, sound_many, sound_chain}
-
-class_there : (c : Class) → is_class c ≡ true → (same_class no_token c || false) ≡ false
-class_there no_token h = cc
-class_there (the_mark m) h = refl
-class_there (the_word w) h = refl
-class_there any_name h = refl
-class_there (any_number b) h = refl
-class_there any_other h = refl
+use Rattle.vs_syntax.proofs.Least.{is_class, class_there, sound, rule_sound, and_left, and_right, sound_seq, sound_either, sound_many, sound_chain}
 
 part_there : (p : Part) → among no_token (fronts_of p) ≡ false
 part_there a_source = refl
@@ -24,10 +16,7 @@ part_there a_declarator = refl
 part_there an_assignment = refl
 part_there a_stmt = refl
 part_there a_target = refl
-part_there an_expr = refl
-part_there a_parity = refl
-part_there a_conjunction = refl
-part_there an_operand = refl
+part_there (a_level n) = refl
 
 -- the end begins no part
 pub end_begins_none : (g : Grammar) → sound g ≡ true → goes g [] ≡ false
@@ -39,6 +28,7 @@ end_begins_none (many a) h = end_begins_none a (sound_many a h).0
 end_begins_none (part p) h = part_there p
 end_begins_none (node a) h = goes-node a [] ∙ end_begins_none a h
 end_begins_none (chain a b) h = let s = sound_chain a b h in goes-chain a b [] ∙ rw (end_begins_none a s.0) (and_false (null a) (goes b []) (end_begins_none b s.1))
+end_begins_none (optional c a) h = class_there c (and_left (is_class c) (sound a) h)
 
 there_by : (g : Grammar) (ts : List Symbol) → sound g ≡ true → goes g ts ≡ true → first ts ≡ no_token → ⊥
 there_by g ts h i e = clash i (ap (λ c. among c (fronts g)) e ∙ end_begins_none g h)
@@ -58,3 +48,4 @@ stuck_there (stuck_node n s) i d e = stuck_there s i d e
 stuck_there (stuck_one {a = a} {b = b} s) i d e = stuck_there s (sound_chain a b i).0 d e
 stuck_there (stuck_link {a = a} {b = b} p n h s) i d e = stuck_there s (sound_chain a b i).1 d e
 stuck_there (stuck_high {a = a} {b = b} {mid = mid} p h n) i d e = there_by b mid (sound_chain a b i).1 h e
+stuck_there (stuck_behind {c = c} {a = a} h n s) i d e = stuck_there s (and_right (is_class c) (sound a) i) d e

@@ -1,7 +1,20 @@
 -- The tables are those of the rules.
-use Rattle.std.specs.Prelude.{◌≡◌, refl}
-use Rattle.vs_syntax.specs.Grammar.{Part, a_source, a_module, an_item, a_declarator, an_assignment, a_stmt, a_target, an_expr, a_parity, a_conjunction, an_operand, rule}
-use Rattle.vs_syntax.specs.Tables.{null_of, low_of, fronts_of, null, low, fronts}
+use Rattle.std.specs.Prelude.{◌≡◌, ℕ, zero, suc, List, [], ◌∷◌, refl}
+use Rattle.vs_tokens.specs.declared.token.Mark.{Mark}
+use Rattle.vs_syntax.specs.Grammar.{Part, a_source, a_module, an_item, a_declarator, an_assignment, a_stmt, a_target, a_level, operands, levels, level_at, rule}
+use Rattle.vs_syntax.specs.Tables.{null_of, low_of, operand_fronts, fronts_of, null, low, fronts}
+
+operands_null : (p : Part) (ops : List Mark) → null (operands p ops) ≡ null_of p
+operands_null p [] = refl
+operands_null p (op ∷ ops) = refl
+
+operands_low : (p : Part) (ops : List Mark) → low (operands p ops) ≡ low_of p
+operands_low p [] = refl
+operands_low p (op ∷ ops) = refl
+
+operands_fronts : (n : ℕ) (ops : List Mark) → fronts (operands (a_level n) ops) ≡ operand_fronts
+operands_fronts n [] = refl
+operands_fronts n (op ∷ ops) = refl
 
 pub rule_null : (p : Part) → null (rule p) ≡ null_of p
 rule_null a_source = refl
@@ -11,10 +24,8 @@ rule_null a_declarator = refl
 rule_null an_assignment = refl
 rule_null a_stmt = refl
 rule_null a_target = refl
-rule_null an_expr = refl
-rule_null a_parity = refl
-rule_null a_conjunction = refl
-rule_null an_operand = refl
+rule_null (a_level zero) = refl
+rule_null (a_level (suc n)) = operands_null (a_level n) (level_at levels n)
 
 pub rule_low : (p : Part) → low (rule p) ≡ low_of p
 rule_low a_source = refl
@@ -24,10 +35,8 @@ rule_low a_declarator = refl
 rule_low an_assignment = refl
 rule_low a_stmt = refl
 rule_low a_target = refl
-rule_low an_expr = refl
-rule_low a_parity = refl
-rule_low a_conjunction = refl
-rule_low an_operand = refl
+rule_low (a_level zero) = refl
+rule_low (a_level (suc n)) = operands_low (a_level n) (level_at levels n)
 
 pub rule_fronts : (p : Part) → fronts (rule p) ≡ fronts_of p
 rule_fronts a_source = refl
@@ -37,7 +46,5 @@ rule_fronts a_declarator = refl
 rule_fronts an_assignment = refl
 rule_fronts a_stmt = refl
 rule_fronts a_target = refl
-rule_fronts an_expr = refl
-rule_fronts a_parity = refl
-rule_fronts a_conjunction = refl
-rule_fronts an_operand = refl
+rule_fronts (a_level zero) = refl
+rule_fronts (a_level (suc n)) = operands_fronts n (level_at levels n)

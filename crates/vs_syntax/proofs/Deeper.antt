@@ -1,16 +1,17 @@
 -- Where reading stops since it would be too deep, the symbols up to the place begin a part of a deeper nesting.
 use Rattle.std.specs.Prelude.{◌≡◌, ℕ, zero, suc, max, ◌-◌, ◌<◌, ◌≤◌, Bool, true, false, not, ◌&&◌, ◌||◌, ◌⊎◌, List, [], ◌∷◌, ◌++◌, refl}
 use Rattle.std.proofs.Common.{sym, ◌∙◌, ap, subst, inl, inr, append_assoc, arith}
+use Rattle.vs_tokens.specs.declared.token.Mark.{Mark}
 use Rattle.vs_syntax.specs.Symbols.{Symbol, Class, class_of, first, same_class}
-use Rattle.vs_syntax.specs.Grammar.{Part, a_source, a_module, an_item, a_declarator, an_assignment, a_stmt, a_target, an_expr, a_parity, a_conjunction, an_operand, Grammar, nothing, token, seq, either, many, part, node, chain, rule}
-use Rattle.vs_syntax.specs.Tables.{Front, null_of, fronts_of, null, low, fronts, among, goes}
-use Rattle.vs_syntax.specs.Derivation.{Tree, empty, leaf, both, down, tokens, height, Is, is_nothing, is_token, is_seq, is_right, is_stop, is_part, is_node, is_one}
-use Rattle.vs_syntax.specs.Reading.{Gets, Stuck, stuck_here, stuck_deep, stuck_first, stuck_second, stuck_left, stuck_right, stuck_many, stuck_more, stuck_part, stuck_node, stuck_one, stuck_link, stuck_high}
+use Rattle.vs_syntax.specs.Grammar.{Part, a_source, a_module, an_item, a_declarator, an_assignment, a_stmt, a_target, a_level, Grammar, nothing, token, seq, either, many, part, node, chain, optional, operands, levels, level_at, rule}
+use Rattle.vs_syntax.specs.Tables.{Front, null_of, operand_fronts, fronts_of, null, low, fronts, among, goes}
+use Rattle.vs_syntax.specs.Derivation.{Tree, empty, leaf, both, down, tokens, height, Is, is_nothing, is_token, is_seq, is_right, is_stop, is_part, is_node, is_one, is_present, is_absent}
+use Rattle.vs_syntax.specs.Reading.{Gets, Stuck, stuck_here, stuck_deep, stuck_first, stuck_second, stuck_left, stuck_right, stuck_many, stuck_more, stuck_part, stuck_node, stuck_one, stuck_link, stuck_high, stuck_behind}
 use Rattle.vs_syntax.proofs.Fronts.{clash, or_false, or_left, or_right, goes-seq, goes-either, goes-node, goes-chain}
 use Rattle.vs_syntax.proofs.Starts.{silent, goes_behind, seq_first, seq_second}
-use Rattle.vs_syntax.proofs.Least.{sound, rule_sound, sound_seq, sound_either, sound_many, sound_chain, and_left, and_right, not_true, first_nil}
+use Rattle.vs_syntax.proofs.Least.{least, least_is, least-height, is_class, sound, rule_sound, sound_seq, sound_either, sound_many, sound_chain, and_left, and_right, not_true, first_nil}
 use Rattle.vs_syntax.proofs.Refused.{front_of, front_text}
-use Rattle.vs_syntax.proofs.Viable.{Viable, viable_first, viable_second, viable_left, viable_right, viable_many, viable_more, viable_link}
+use Rattle.vs_syntax.proofs.Viable.{Viable, viable_first, viable_second, viable_left, viable_right, viable_many, viable_more, viable_link, viable_behind}
 use Rattle.vs_syntax.proofs.Plainly.{same_class-true}
 
 -- The symbols begin a part of the grammar, of some nesting.
@@ -72,6 +73,9 @@ begun_link a b r ts mid w rest x h p i t v =
     let lower : height x < n = omega (arith, f) in
     record { room = n; viable = viable_link a b n ts mid w rest x h (raise_gets a r n ts mid x p (omega arith)) lower i t (raise b v.room (n - 1) w v.viable (omega arith)) }
 
+begun_behind : (c : Class) (a : Grammar) (s : Symbol) (w : List Symbol) → class_of s ≡ c → Begun a w → Begun (optional c a) (s ∷ w)
+begun_behind c a s w e v = record { room = v.room; viable = viable_behind c a v.room s w e v.viable }
+
 -- A tree without tokens, where what comes next can't begin the grammar.
 record Nothing (g : Grammar) (m : List Symbol) : Type 0 where
   tree : Tree
@@ -84,12 +88,9 @@ part_nothing a_module n m h = absurd (clash n refl)
 part_nothing an_item n m h = absurd (clash n refl)
 part_nothing a_stmt n m h = absurd (clash n refl)
 part_nothing a_target n m h = absurd (clash n refl)
-part_nothing an_expr n m h = absurd (clash n refl)
 part_nothing an_assignment n m h = absurd (clash n refl)
 part_nothing a_declarator n m h = absurd (clash n refl)
-part_nothing an_operand n m h = absurd (clash n refl)
-part_nothing a_conjunction n m h = absurd (clash n refl)
-part_nothing a_parity n m h = absurd (clash n refl)
+part_nothing (a_level k) n m h = absurd (clash n refl)
 
 or_other : (a b : Bool) → a ≡ false → (a || b) ≡ true → b ≡ true
 or_other a b p h = ap (λ u. u || b) (sym p) ∙ h
@@ -117,6 +118,7 @@ null_tree (node a) s n m h =
     let x = null_tree a s n m (sym (goes-node a m) ∙ h) in
     record { tree = down x.tree; is = is_node x.is; none = x.none }
 null_tree (chain a b) s n m h = absurd (clash n (sound_chain a b s).5)
+null_tree (optional c a) s n m h = record { tree = empty; is = is_absent h; none = refl }
 
 -- whether a part of the grammar can begin with the class, where r says so of the parts that have a rule
 abbrev pub reach_in : (Part → Bool) → Grammar → Class → Bool
@@ -128,11 +130,17 @@ reach_in r (many a) c = reach_in r a c
 reach_in r (part p) c = r p
 reach_in r (node a) c = reach_in r a c
 reach_in r (chain a b) c = reach_in r a c
+reach_in r (optional k a) c = same_class c k
+
+-- whether the part is operands that the class can begin
+abbrev pub reach_level : Class → Part → Bool
+reach_level c (a_level n) = among c operand_fronts
+reach_level c _ = false
 
 -- the same by rules within one another, at most so many
 abbrev pub reach : ℕ → Class → Part → Bool
-reach zero c p = false
-reach (suc n) c p = reach_in (reach n c) (rule p) c
+reach zero c p = reach_level c p
+reach (suc n) c p = reach_level c p || reach_in (reach n c) (rule p) c
 
 or_cases : (a b : Bool) → (a || b) ≡ true → (a ≡ true) ⊎ (b ≡ true)
 or_cases true b h = inl refl
@@ -182,10 +190,12 @@ grown_in r s f (many a) h k = let v = grown_in r s f a (sound_many a h).0 k in b
 grown_in r s f (part p) h k = f p k
 grown_in r s f (node a) h k = begun_node a (s ∷ []) (grown_in r s f a h k)
 grown_in r s f (chain a b) h k = begun_one a b (s ∷ []) h (grown_in r s f a (sound_chain a b h).0 k)
-
-part_grown : (n : ℕ) (p : Part) (s : Symbol) → reach n (class_of s) p ≡ true → Begun (part p) (s ∷ [])
-part_grown zero p s h = absurd (clash h refl)
-part_grown (suc n) p s h = begun_part p (s ∷ []) (grown_in (reach n (class_of s)) s (λ q i. part_grown n q s i) (rule p) (rule_sound p) h)
+grown_in r s f (optional c a) h k =
+    let e : height (least a) ≡ low a = least-height a in
+    record {
+      room = low a;
+      viable = record { tree = both (leaf s) (least a); tail = tokens (least a); is = is_present (same_class-true (class_of s) c k) (least_is a (and_right (is_class c) (sound a) h)); fits = omega (arith, e); text = refl };
+    }
 
 -- whether all of them pass
 abbrev pub all_pass : (Class → Bool) → List Front → Bool
@@ -200,6 +210,32 @@ all_pass-among p c (f ∷ fs) h k =
       | false ↦ λ e i. all_pass-among p c fs (and_right (p f.class) (all_pass p fs) h) i
     ] refl k
 
+-- operands begin as one operand does
+operand_reach : all_pass (λ c. reach_in (λ q. false) (rule (a_level zero)) c) operand_fronts ≡ true
+operand_reach = refl
+
+operands_grown : (n : ℕ) (ops : List Mark) (s : Symbol) → sound (operands (a_level n) ops) ≡ true → Begun (part (a_level n)) (s ∷ []) → Begun (operands (a_level n) ops) (s ∷ [])
+operands_grown n [] s h v = v
+operands_grown n (op ∷ ops) s h v = begun_one (part (a_level n)) _ (s ∷ []) h v
+
+level_grown : (n : ℕ) (s : Symbol) → among (class_of s) operand_fronts ≡ true → Begun (part (a_level n)) (s ∷ [])
+level_grown zero s h = begun_part (a_level zero) (s ∷ [])
+    (grown_in (λ q. false) s (λ q i. absurd (clash i refl)) (rule (a_level zero)) (rule_sound (a_level zero))
+    (all_pass-among (λ c. reach_in (λ q. false) (rule (a_level zero)) c) (class_of s) operand_fronts operand_reach h))
+level_grown (suc n) s h = begun_part (a_level (suc n)) (s ∷ []) (operands_grown n (level_at levels n) s (rule_sound (a_level (suc n))) (level_grown n s h))
+
+level_reached : (p : Part) (s : Symbol) → reach_level (class_of s) p ≡ true → Begun (part p) (s ∷ [])
+level_reached (a_level n) s h = level_grown n s h
+level_reached _ s h = absurd (clash h refl)
+
+part_grown : (n : ℕ) (p : Part) (s : Symbol) → reach n (class_of s) p ≡ true → Begun (part p) (s ∷ [])
+part_grown zero p s h = level_reached p s h
+part_grown (suc n) p s h =
+    elim (or_cases (reach_level (class_of s) p) (reach_in (reach n (class_of s)) (rule p) (class_of s)) h) as (λ _. Begun (part p) (s ∷ [])) [
+      | inl i ↦ level_reached p s i
+      | inr i ↦ begun_part p (s ∷ []) (grown_in (reach n (class_of s)) s (λ q k. part_grown n q s k) (rule p) (rule_sound p) i)
+    ]
+
 -- each class that can begin a part is reached in it
 rule_reach : (p : Part) → all_pass (λ c. reach 4 c p) (fronts_of p) ≡ true
 rule_reach a_source = refl
@@ -209,10 +245,7 @@ rule_reach a_declarator = refl
 rule_reach an_assignment = refl
 rule_reach a_stmt = refl
 rule_reach a_target = refl
-rule_reach an_expr = refl
-rule_reach a_parity = refl
-rule_reach a_conjunction = refl
-rule_reach an_operand = refl
+rule_reach (a_level n) = refl
 
 front_seq : (ga na gb ra rb : Bool) → (ga ≡ true → ra ≡ true) → (gb ≡ true → rb ≡ true) → (ga || (na && gb)) ≡ true → (ra || (not ga && (na && rb))) ≡ true
 front_seq true na gb ra rb f g h = or_left ra (false && (na && rb)) (f refl)
@@ -247,6 +280,7 @@ front_reach (node a) s h k = front_reach a s h (sym (goes-node a (s ∷ [])) ∙
 front_reach (chain a b) s h k =
     let t = sound_chain a b h in
     front_reach a s t.0 (front_chain (goes a (s ∷ [])) (null a) (goes b (s ∷ [])) t.5 (sym (goes-chain a b (s ∷ [])) ∙ k))
+front_reach (optional c a) s h k = or_nil (same_class (class_of s) c) k
 
 grown : (g : Grammar) (s : Symbol) → sound g ≡ true → goes g (s ∷ []) ≡ true → Begun g (s ∷ [])
 grown g s h k = grown_in (λ p. goes (part p) (s ∷ [])) s (λ q i. part_grown 4 q s (all_pass-among (λ c. reach 4 c q) (class_of s) (fronts_of q) (rule_reach q) i)) g h (front_reach g s h k)
@@ -277,3 +311,4 @@ deeper {room = room} (stuck_link {a = a} {b = b} {ts = ts} {mid = mid} {rest = r
     moved (chain a b) x (front_of st) s (begun_link a b room ts mid (front_of st ++ (s ∷ [])) ss x i p h (on_to mid (front_of st) rest s ss (front_text st) e) (deeper st d (sound_chain a b i).1 s ss e))
 deeper {room = room} (stuck_high {a = a} {b = b} {ts = ts} {mid = mid} {x = x} p h n) d i s ss e =
     begun_link a b room ts mid (s ∷ []) ss x i p h e (grown b s (sound_chain a b i).1 (ap (λ u. among (first u) (fronts b)) (sym e) ∙ h))
+deeper (stuck_behind {c = c} {a = a} {s = z} h n st) d i s ss e = begun_behind c a z (front_of st ++ (s ∷ [])) h (deeper st d (and_right (is_class c) (sound a) i) s ss e)

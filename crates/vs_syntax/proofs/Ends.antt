@@ -1,68 +1,99 @@
 -- What can go on behind a part: another token may follow a tree where none of its parts could go on with it.
-use Rattle.std.specs.Prelude.{◌≡◌, Bool, true, false, ◌&&◌, ◌||◌, ◌⊎◌, List, [], ◌∷◌, ◌++◌, refl}
+use Rattle.std.specs.Prelude.{◌≡◌, ℕ, zero, suc, Bool, true, false, not, ◌&&◌, ◌||◌, ◌⊎◌, List, [], ◌∷◌, ◌++◌, length, refl}
 use Rattle.std.proofs.Common.{sym, ◌∙◌, ap, inl, inr}
-use Rattle.vs_lexer.specs.declared.token.Mark.TheVariants as m
-use Rattle.vs_lexer.specs.declared.token.Word.TheVariants as w
+use Rattle.vs_tokens.specs.declared.token.Mark.{Mark}
+use Rattle.vs_tokens.specs.declared.token.Mark.TheVariants as m
+use Rattle.vs_tokens.specs.declared.token.Word.TheVariants as w
 use Rattle.vs_syntax.specs.Symbols.{Symbol, Class, the_mark, the_word, same_class, first}
-use Rattle.vs_syntax.specs.Grammar.{Part, a_source, a_module, an_item, a_declarator, an_assignment, a_stmt, a_target, an_expr, a_parity, a_conjunction, an_operand, Grammar, nothing, token, seq, either, many, part, node, chain, rule}
-use Rattle.vs_syntax.specs.Tables.{Front, at_least, null, fronts, among, goes}
-use Rattle.vs_syntax.specs.Derivation.{Tree, tokens, Is, is_nothing, is_token, is_seq, is_left, is_right, is_stop, is_more, is_part, is_node, is_one, is_chain}
-use Rattle.vs_syntax.proofs.Fronts.{clash, or_false, goes_same}
+use Rattle.vs_syntax.specs.Grammar.{Part, a_source, a_module, an_item, a_declarator, an_assignment, a_stmt, a_target, a_level, Grammar, nothing, token, seq, either, many, part, node, chain, optional, ◌·◌, one_mark, operands, levels, level_at, rule}
+use Rattle.vs_syntax.specs.Tables.{Front, at_least, mark_fronts, null, fronts, among, goes}
+use Rattle.vs_syntax.specs.Derivation.{Tree, tokens, Is, is_nothing, is_token, is_seq, is_left, is_right, is_stop, is_more, is_part, is_node, is_one, is_chain, is_present, is_absent}
+use Rattle.vs_syntax.proofs.Fronts.{clash, or_false, goes_same, among-append, among-seq}
 use Rattle.vs_syntax.proofs.Starts.{quiet, is_null}
 
--- with what a part can go on behind its last token
-abbrev pub lasts_of : Part → List Front
-lasts_of a_source = at_least (the_word w.Module) 0 ∷ []
-lasts_of a_declarator = at_least (the_mark m.Assign) 0 ∷ at_least (the_mark m.Or) 0 ∷ at_least (the_mark m.Xor) 0 ∷ at_least (the_mark m.And) 0 ∷ []
-lasts_of an_assignment = at_least (the_mark m.Or) 0 ∷ at_least (the_mark m.Xor) 0 ∷ at_least (the_mark m.And) 0 ∷ []
-lasts_of an_expr = at_least (the_mark m.Or) 0 ∷ at_least (the_mark m.Xor) 0 ∷ at_least (the_mark m.And) 0 ∷ []
-lasts_of a_parity = at_least (the_mark m.Xor) 0 ∷ at_least (the_mark m.And) 0 ∷ []
-lasts_of a_conjunction = at_least (the_mark m.And) 0 ∷ []
-lasts_of _ = []
+-- with what operands of so many levels can go on: the operators of these levels
+abbrev pub level_lasts : ℕ → List Front
+level_lasts zero = []
+level_lasts (suc n) = mark_fronts 0 (level_at levels n) ++ level_lasts n
+
+-- With what a part can go on behind its last token; in the plain reading without the classes of optional parts at its end,
+-- since that reading says itself that no such token stands behind.
+abbrev pub lasts_of : Bool → Part → List Front
+lasts_of plain a_source = at_least (the_word w.Module) 0 ∷ []
+lasts_of plain a_declarator = at_least (the_mark m.Assign) 0 ∷ level_lasts (length levels)
+lasts_of plain an_assignment = level_lasts (length levels)
+lasts_of plain (a_level n) = level_lasts n
+lasts_of plain _ = []
 
 -- whether a part of the grammar can go on with a token of the class
-abbrev pub goes_on : Grammar → Class → Bool
-goes_on nothing c = false
-goes_on (token k) c = false
-goes_on (seq a b) c = goes_on b c || (null b && goes_on a c)
-goes_on (either a b) c = goes_on a c || (goes_on b c || (null b && among c (fronts a)))
-goes_on (many a) c = goes_on a c || among c (fronts a)
-goes_on (part p) c = among c (lasts_of p)
-goes_on (node a) c = goes_on a c
-goes_on (chain a b) c = goes_on a c || (goes_on b c || among c (fronts b))
+abbrev pub goes_on : Bool → Grammar → Class → Bool
+goes_on plain nothing c = false
+goes_on plain (token k) c = false
+goes_on plain (seq a b) c = goes_on plain b c || (null b && goes_on plain a c)
+goes_on plain (either a b) c = goes_on plain a c || (goes_on plain b c || (null b && among c (fronts a)))
+goes_on plain (many a) c = goes_on plain a c || among c (fronts a)
+goes_on plain (part p) c = among c (lasts_of plain p)
+goes_on plain (node a) c = goes_on plain a c
+goes_on plain (chain a b) c = goes_on plain a c || (goes_on plain b c || among c (fronts b))
+goes_on plain (optional k a) c = goes_on plain a c || (not plain && same_class c k)
 
--- what can go on behind operands of one level: the operator, or what can go on behind an operand
-level_goes_on : (op low : Bool) → (op || low) ≡ false → (low || (((((low || false) || (op || false)) || low) || false) || (op || false))) ≡ false
-level_goes_on true low h = cc
-level_goes_on false true h = cc
-level_goes_on false false h = refl
+or_nothing : (b : Bool) → (b || false) ≡ b
+or_nothing true = refl
+or_nothing false = refl
+
+-- a mark of several
+pub one_mark-null : (op : Mark) (ops : List Mark) → null (one_mark op ops) ≡ false
+one_mark-null op [] = refl
+one_mark-null op (x ∷ xs) = one_mark-null x xs
+
+pub one_mark-fronts : (op : Mark) (ops : List Mark) → fronts (one_mark op ops) ≡ mark_fronts 0 (op ∷ ops)
+one_mark-fronts op [] = refl
+one_mark-fronts op (x ∷ xs) = ap (λ u. at_least (the_mark op) 0 ∷ u) (one_mark-fronts x xs)
+
+-- what can begin a part behind one of several marks
+pub marked_fronts : (op : Mark) (ops : List Mark) (a : Grammar) (c : Class) → among c (fronts (one_mark op ops · a)) ≡ among c (mark_fronts 0 (op ∷ ops))
+marked_fronts op ops a c = among-seq (one_mark op ops) a c
+    ∙ rw (one_mark-null op ops) (or_nothing (among c (fronts (one_mark op ops))))
+    ∙ ap (among c) (one_mark-fronts op ops)
+
+-- what can go on behind operands of one level: an operator of the level, or what can go on behind an operand
+level_none : (low next op : Bool) → low ≡ false → next ≡ false → op ≡ false → (low || (((((low || false) || next) || low) || false) || op)) ≡ false
+level_none true next op h k l = cc
+level_none false true op h k l = cc
+level_none false false true h k l = cc
+level_none false false false h k l = refl
+
+operands_go_on : (plain : Bool) (n : ℕ) (ops : List Mark) (c : Class) → among c (mark_fronts 0 ops ++ level_lasts n) ≡ false → goes_on plain (operands (a_level n) ops) c ≡ false
+operands_go_on plain n [] c h = h
+operands_go_on plain n (op ∷ ops) c h =
+    let o = or_false (among c (mark_fronts 0 (op ∷ ops))) (among c (level_lasts n)) (sym (among-append c (mark_fronts 0 (op ∷ ops)) (level_lasts n)) ∙ h) in
+    level_none (among c (level_lasts n)) (among c (fronts (one_mark op ops · part (a_level n)))) (among c (fronts (one_mark op ops · part (a_level n) · many (one_mark op ops · part (a_level n)))))
+    o.1 (marked_fronts op ops (part (a_level n)) c ∙ o.0) (marked_fronts op ops (part (a_level n) · many (one_mark op ops · part (a_level n))) c ∙ o.0)
 
 kept : (low : Bool) → low ≡ false → ((low || false) || false) ≡ false
 kept true h = cc
 kept false h = refl
 
-declarator_goes_on : (assign or xor and : Bool) → (assign || (or || (xor || (and || false)))) ≡ false → (((or || (xor || (and || false))) || false) || (assign || false) || false) ≡ false
-declarator_goes_on false false false false h = refl
-declarator_goes_on _ _ _ _ h = cc
+declarator_goes_on : (assign value : Bool) → (assign || value) ≡ false → ((value || false) || (assign || false) || false) ≡ false
+declarator_goes_on false false h = refl
+declarator_goes_on _ _ h = cc
 
-pub rule_goes_on : (p : Part) (c : Class) → among c (lasts_of p) ≡ false → goes_on (rule p) c ≡ false
-rule_goes_on a_source c h = h
-rule_goes_on a_module c h = refl
-rule_goes_on an_item c h = refl
-rule_goes_on a_stmt c h = refl
-rule_goes_on a_target c h = refl
-rule_goes_on a_declarator c h = declarator_goes_on (same_class c (the_mark m.Assign)) (same_class c (the_mark m.Or)) (same_class c (the_mark m.Xor)) (same_class c (the_mark m.And)) h
-rule_goes_on an_assignment c h = kept (among c (lasts_of an_assignment)) h
-rule_goes_on an_expr c h = level_goes_on (same_class c (the_mark m.Or)) (same_class c (the_mark m.Xor) || (same_class c (the_mark m.And) || false)) h
-rule_goes_on a_parity c h = level_goes_on (same_class c (the_mark m.Xor)) (same_class c (the_mark m.And) || false) h
-rule_goes_on a_conjunction c h = level_goes_on (same_class c (the_mark m.And)) false h
-rule_goes_on an_operand c h = refl
+pub rule_goes_on : (plain : Bool) (p : Part) (c : Class) → among c (lasts_of plain p) ≡ false → goes_on plain (rule p) c ≡ false
+rule_goes_on plain a_source c h = h
+rule_goes_on plain a_module c h = refl
+rule_goes_on plain an_item c h = refl
+rule_goes_on plain a_stmt c h = refl
+rule_goes_on plain a_target c h = refl
+rule_goes_on plain a_declarator c h = declarator_goes_on (same_class c (the_mark m.Assign)) (among c (level_lasts (length levels))) h
+rule_goes_on plain an_assignment c h = kept (among c (level_lasts (length levels))) h
+rule_goes_on plain (a_level zero) c h = refl
+rule_goes_on plain (a_level (suc n)) c h = operands_go_on plain n (level_at levels n) c h
 
 -- in the place of the symbols m others may follow
 abbrev pub MayFollow : Grammar → List Symbol → List Symbol → Type 0
-MayFollow g m n = (first n ≡ first m) ⊎ (goes_on g (first n) ≡ false)
+MayFollow g m n = (first n ≡ first m) ⊎ (goes_on false g (first n) ≡ false)
 
-follow_map : (g a : Grammar) (m n : List Symbol) → (goes_on g (first n) ≡ false → goes_on a (first n) ≡ false) → MayFollow g m n → MayFollow a m n
+follow_map : (g a : Grammar) (m n : List Symbol) → (goes_on false g (first n) ≡ false → goes_on false a (first n) ≡ false) → MayFollow g m n → MayFollow a m n
 follow_map g a m n f (inl e) = inl e
 follow_map g a m n f (inr h) = inr (f h)
 
@@ -79,7 +110,7 @@ none_again : (a : Grammar) (xs m n : List Symbol) → goes a (xs ++ m) ≡ false
 none_again a [] m n h k = k refl h
 none_again a (x ∷ xs) m n h k = h
 
-stops_again : (g a : Grammar) (m n : List Symbol) → (goes_on g (first n) ≡ false → goes a n ≡ false) → MayFollow g m n → goes a m ≡ false → goes a n ≡ false
+stops_again : (g a : Grammar) (m n : List Symbol) → (goes_on false g (first n) ≡ false → goes a n ≡ false) → MayFollow g m n → goes a m ≡ false → goes a n ≡ false
 stops_again g a m n f (inl e) h = goes_same a n m e ∙ h
 stops_again g a m n f (inr k) h = f k
 
@@ -92,27 +123,30 @@ again is_nothing n f = is_nothing
 again (is_token p) n f = is_token p
 again (is_seq {a = a} {b = b} {x = x} {y = y} {more = m} p q) n f =
     is_seq
-    (again p (tokens y ++ n) (follow_behind a (tokens y) m n (λ e. follow_map (seq a b) a m n (λ h. and_true (null b) (goes_on a (first n)) (is_null q e) (or_false (goes_on b (first n)) (null b && goes_on a (first n)) h).1) f)))
-    (again q n (follow_map (seq a b) b m n (λ h. (or_false (goes_on b (first n)) (null b && goes_on a (first n)) h).0) f))
+    (again p (tokens y ++ n) (follow_behind a (tokens y) m n (λ e. follow_map (seq a b) a m n (λ h. and_true (null b) (goes_on false a (first n)) (is_null q e) (or_false (goes_on false b (first n)) (null b && goes_on false a (first n)) h).1) f)))
+    (again q n (follow_map (seq a b) b m n (λ h. (or_false (goes_on false b (first n)) (null b && goes_on false a (first n)) h).0) f))
 again (is_left {a = a} {b = b} {x = x} {more = m} h p) n f =
     is_left (goes_again a (tokens x) m n h (λ e. quiet p e))
-    (again p n (follow_map (either a b) a m n (λ k. (or_false (goes_on a (first n)) (goes_on b (first n) || (null b && goes a n)) k).0) f))
+    (again p n (follow_map (either a b) a m n (λ k. (or_false (goes_on false a (first n)) (goes_on false b (first n) || (null b && goes a n)) k).0) f))
 again (is_right {a = a} {b = b} {x = x} {more = m} h p) n f =
     is_right
     (none_again a (tokens x) m n h (λ e i. stops_again (either a b) a m n
-    (λ k. and_true (null b) (goes a n) (is_null p e) (or_false (goes_on b (first n)) (null b && goes a n) (or_false (goes_on a (first n)) (goes_on b (first n) || (null b && goes a n)) k).1).1) f i))
-    (again p n (follow_map (either a b) b m n (λ k. (or_false (goes_on b (first n)) (null b && goes a n) (or_false (goes_on a (first n)) (goes_on b (first n) || (null b && goes a n)) k).1).0) f))
-again (is_stop {a = a} {more = m} h) n f = is_stop (stops_again (many a) a m n (λ k. (or_false (goes_on a (first n)) (goes a n) k).1) f h)
+    (λ k. and_true (null b) (goes a n) (is_null p e) (or_false (goes_on false b (first n)) (null b && goes a n) (or_false (goes_on false a (first n)) (goes_on false b (first n) || (null b && goes a n)) k).1).1) f i))
+    (again p n (follow_map (either a b) b m n (λ k. (or_false (goes_on false b (first n)) (null b && goes a n) (or_false (goes_on false a (first n)) (goes_on false b (first n) || (null b && goes a n)) k).1).0) f))
+again (is_stop {a = a} {more = m} h) n f = is_stop (stops_again (many a) a m n (λ k. (or_false (goes_on false a (first n)) (goes a n) k).1) f h)
 again (is_more {a = a} {x = x} {y = y} {more = m} h p q) n f =
     is_more (goes_again a (tokens x) (tokens y ++ m) (tokens y ++ n) h (λ e. quiet p e))
-    (again p (tokens y ++ n) (follow_behind a (tokens y) m n (λ e. follow_map (many a) a m n (λ k. (or_false (goes_on a (first n)) (goes a n) k).0) f)))
+    (again p (tokens y ++ n) (follow_behind a (tokens y) m n (λ e. follow_map (many a) a m n (λ k. (or_false (goes_on false a (first n)) (goes a n) k).0) f)))
     (again q n f)
-again (is_part {p = k} {more = m} p) n f = is_part (again p n (follow_map (part k) (rule k) m n (λ h. rule_goes_on k (first n) h) f))
+again (is_part {p = k} {more = m} p) n f = is_part (again p n (follow_map (part k) (rule k) m n (λ h. rule_goes_on false k (first n) h) f))
 again (is_node p) n f = is_node (again p n f)
 again (is_one {a = a} {b = b} {more = m} h p) n f =
-    is_one (stops_again (chain a b) b m n (λ k. (or_false (goes_on b (first n)) (goes b n) (or_false (goes_on a (first n)) (goes_on b (first n) || goes b n) k).1).1) f h)
-    (again p n (follow_map (chain a b) a m n (λ k. (or_false (goes_on a (first n)) (goes_on b (first n) || goes b n) k).0) f))
+    is_one (stops_again (chain a b) b m n (λ k. (or_false (goes_on false b (first n)) (goes b n) (or_false (goes_on false a (first n)) (goes_on false b (first n) || goes b n) k).1).1) f h)
+    (again p n (follow_map (chain a b) a m n (λ k. (or_false (goes_on false a (first n)) (goes_on false b (first n) || goes b n) k).0) f))
 again (is_chain {a = a} {b = b} {x = x} {y = y} {more = m} h p q) n f =
     is_chain (goes_again b (tokens y) m n h (λ e. quiet q e))
-    (again p (tokens y ++ n) (follow_behind a (tokens y) m n (λ e. follow_map (chain a b) a m n (λ k. (or_false (goes_on a (first n)) (goes_on b (first n) || goes b n) k).0) f)))
-    (again q n (follow_map (chain a b) b m n (λ k. (or_false (goes_on b (first n)) (goes b n) (or_false (goes_on a (first n)) (goes_on b (first n) || goes b n) k).1).0) f))
+    (again p (tokens y ++ n) (follow_behind a (tokens y) m n (λ e. follow_map (chain a b) a m n (λ k. (or_false (goes_on false a (first n)) (goes_on false b (first n) || goes b n) k).0) f)))
+    (again q n (follow_map (chain a b) b m n (λ k. (or_false (goes_on false b (first n)) (goes b n) (or_false (goes_on false a (first n)) (goes_on false b (first n) || goes b n) k).1).0) f))
+again (is_present {c = c} {a = a} {more = m} h p) n f = is_present h (again p n (follow_map (optional c a) a m n (λ k. (or_false (goes_on false a (first n)) (same_class (first n) c) k).0) f))
+again (is_absent {c = c} {a = a} {more = m} h) n f =
+    is_absent (stops_again (optional c a) (optional c a) m n (λ k. or_nothing (same_class (first n) c) ∙ (or_false (goes_on false a (first n)) (same_class (first n) c) k).1) f h)

@@ -1,11 +1,11 @@
 -- Lists of what can begin a part.
 use Rattle.std.specs.Prelude.{◌≡◌, ℕ, suc, max, ◌≤◌, Bool, true, false, cond, ◌&&◌, ◌||◌, List, [], ◌∷◌, ◌++◌, refl}
-use Rattle.std.proofs.Common.{◌∙◌, ap, arith}
+use Rattle.std.proofs.Common.{sym, ◌∙◌, ap, arith}
 use denote.Enum.Bare.{true_same}
-use Rattle.vs_lexer.specs.contracts.token.Mark as marks
-use Rattle.vs_lexer.specs.contracts.token.Word as words
-use Rattle.vs_syntax.specs.Symbols.{Symbol, Class, no_token, the_mark, the_word, any_name, any_number, any_other, same_flag, same_class, first}
-use Rattle.vs_syntax.specs.Grammar.{Grammar, seq, either, node, chain}
+use Rattle.vs_tokens.specs.contracts.token.Mark as marks
+use Rattle.vs_tokens.specs.contracts.token.Word as words
+use Rattle.vs_syntax.specs.Symbols.{Symbol, Class, class_of, no_token, the_mark, the_word, any_name, any_number, any_other, same_flag, same_class, first}
+use Rattle.vs_syntax.specs.Grammar.{Grammar, seq, either, node, chain, optional}
 use Rattle.vs_syntax.specs.Tables.{Front, null, low, beside, above, fronts, among, need, goes}
 
 -- a flag is not both
@@ -63,10 +63,13 @@ among-cond : (c : Class) (b : Bool) (fs : List Front) → among c (cond b fs [])
 among-cond c true fs = refl
 among-cond c false fs = refl
 
+pub among-seq : (a b : Grammar) (c : Class) → among c (fronts (seq a b)) ≡ (among c (fronts a) || (null a && among c (fronts b)))
+among-seq a b c = among-append c (beside (low b) (fronts a)) (cond (null a) (beside (low a) (fronts b)) [])
+    ∙ ap (λ u. u || among c (cond (null a) (beside (low a) (fronts b)) [])) (among-beside c (low b) (fronts a))
+    ∙ ap (λ u. among c (fronts a) || u) (among-cond c (null a) (beside (low a) (fronts b)) ∙ ap (λ u. null a && u) (among-beside c (low a) (fronts b)))
+
 pub goes-seq : (a b : Grammar) (ts : List Symbol) → goes (seq a b) ts ≡ (goes a ts || (null a && goes b ts))
-goes-seq a b ts = among-append (first ts) (beside (low b) (fronts a)) (cond (null a) (beside (low a) (fronts b)) [])
-    ∙ ap (λ u. u || among (first ts) (cond (null a) (beside (low a) (fronts b)) [])) (among-beside (first ts) (low b) (fronts a))
-    ∙ ap (λ u. goes a ts || u) (among-cond (first ts) (null a) (beside (low a) (fronts b)) ∙ ap (λ u. null a && u) (among-beside (first ts) (low a) (fronts b)))
+goes-seq a b ts = among-seq a b (first ts)
 
 pub goes-either : (a b : Grammar) (ts : List Symbol) → goes (either a b) ts ≡ (goes a ts || goes b ts)
 goes-either a b ts = among-append (first ts) (fronts a) (fronts b)
@@ -90,3 +93,7 @@ need-beside_le c k (f ∷ fs) = elim (same_class c f.class) as (λ s. cond s (ma
 pub need-above_le : (c : Class) (fs : List Front) → need c (above fs) ≤ suc (need c fs)
 need-above_le c [] = omega arith
 need-above_le c (f ∷ fs) = elim (same_class c f.class) as (λ s. cond s (suc f.need) (need c (above fs)) ≤ suc (cond s f.need (need c fs))) [ true ↦ omega arith | false ↦ need-above_le c fs ]
+
+-- an optional part begins with its class alone
+pub goes-present : (c : Class) (a : Grammar) (s : Symbol) (ts : List Symbol) → class_of s ≡ c → goes (optional c a) (s ∷ ts) ≡ true
+goes-present c a s ts e = or_left (same_class (class_of s) c) false (ap (λ u. same_class (class_of s) u) (sym e) ∙ same_class-refl (class_of s))

@@ -2,9 +2,9 @@
 use Rattle.std.specs.Prelude.{◌≡◌, ℕ, ◌-◌, ◌<◌, ◌≤◌, true, false, List, ◌∷◌, ◌++◌, refl}
 use Rattle.std.proofs.Common.{sym, ◌∙◌, ap, subst, append_assoc, arith}
 use Rattle.vs_syntax.specs.Symbols.{Symbol, Class, class_of}
-use Rattle.vs_syntax.specs.Grammar.{Part, Grammar, nothing, token, seq, either, many, part, node, chain, rule}
+use Rattle.vs_syntax.specs.Grammar.{Part, Grammar, nothing, token, seq, either, many, part, node, chain, optional, rule}
 use Rattle.vs_syntax.specs.Tables.{goes}
-use Rattle.vs_syntax.specs.Derivation.{Tree, empty, leaf, both, down, tokens, height, Is, is_nothing, is_token, is_seq, is_left, is_right, is_stop, is_more, is_part, is_node, is_one, is_chain}
+use Rattle.vs_syntax.specs.Derivation.{Tree, empty, leaf, both, down, tokens, height, Is, is_nothing, is_token, is_seq, is_left, is_right, is_stop, is_more, is_part, is_node, is_one, is_chain, is_present, is_absent}
 use Rattle.vs_syntax.specs.Reading.{Gets}
 
 -- two parts in a row are the symbols of the one and of the other
@@ -56,3 +56,10 @@ pub gets_chain : {a b : Grammar} {room : ℕ} {ts mid rest : List Symbol} {x y :
 gets_chain {a} {b} {room} {ts} {mid} {rest} {x} {y} p n h q =
     let k : height y ≤ room - 1 = q.fits in
     record { is = is_chain (ap (goes b) (sym q.text) ∙ h) (ahead a x y mid rest q.text p.is) q.is; text = along x y ts mid rest p.text q.text; fits = omega (arith, k, n) }
+
+pub gets_present : {c : Class} {a : Grammar} {room : ℕ} {s : Symbol} {ts rest : List Symbol} {x : Tree} → class_of s ≡ c → Gets a room ts x rest → Gets (optional c a) room (s ∷ ts) (both (leaf s) x) rest
+gets_present {room = room} {s = s} {x = x} e p =
+    let h : height x ≤ room = p.fits in record { is = is_present e p.is; text = ap (λ u. s ∷ u) p.text; fits = omega (arith, h) }
+
+pub gets_absent : {c : Class} {a : Grammar} {room : ℕ} {ts : List Symbol} → goes (optional c a) ts ≡ false → Gets (optional c a) room ts empty ts
+gets_absent h = record { is = is_absent h; text = refl; fits = omega arith }

@@ -1,18 +1,19 @@
 -- A least tree of each part.
-use Rattle.std.specs.Prelude.{◌≡◌, ℕ, suc, min, ◌==◌, nat_le, not, Bool, true, false, cond, ◌&&◌, ◌||◌, List, [], ◌∷◌, ◌++◌, refl, replicate}
-use Rattle.std.proofs.Common.{◌∙◌, ap, inr, arith}
+use Rattle.std.specs.Prelude.{◌≡◌, ℕ, zero, suc, min, ◌==◌, nat_le, not, Bool, true, false, cond, ◌&&◌, ◌||◌, List, [], ◌∷◌, ◌++◌, length, refl, replicate}
+use Rattle.std.proofs.Common.{sym, ◌∙◌, ap, inr, arith}
 use Rattle.std.proofs.lemmas.Bool.Decides.{nat_tests}
 use Rattle.std.proofs.lemmas.Bool.{eqb-true}
-use Rattle.vs_syntax.proofs.Fronts.{or_false}
+use Rattle.vs_syntax.proofs.Fronts.{or_false, among-append}
 use Rattle.vs_logic4.specs.declared.digit.Digit.TheVariants.{Zero}
-use Rattle.vs_lexer.specs.declared.token.Literal.{Literal}
-use Rattle.vs_lexer.specs.declared.token.Mark.TheVariants as m
-use Rattle.vs_lexer.specs.declared.token.Word.TheVariants as w
-use Rattle.vs_syntax.specs.Symbols.{Symbol, a_mark, a_word, a_name, a_number, another, Class, no_token, the_mark, the_word, any_name, any_number, any_other, class_of, first}
-use Rattle.vs_syntax.specs.Grammar.{Part, a_source, a_module, an_item, a_declarator, an_assignment, a_stmt, a_target, an_expr, a_parity, a_conjunction, an_operand, Grammar, nothing, token, seq, either, many, part, node, chain, ◌·◌, mark, rule}
-use Rattle.vs_syntax.specs.Tables.{low_of, null, low, fronts, among, goes}
-use Rattle.vs_syntax.specs.Derivation.{Tree, empty, leaf, both, down, tokens, height, Is, is_nothing, is_token, is_seq, is_left, is_right, is_stop, is_part, is_node, is_one}
-use Rattle.vs_syntax.proofs.Ends.{goes_on, again}
+use Rattle.vs_tokens.specs.declared.token.Literal.{Literal}
+use Rattle.vs_tokens.specs.declared.token.Mark.{Mark}
+use Rattle.vs_tokens.specs.declared.token.Mark.TheVariants as m
+use Rattle.vs_tokens.specs.declared.token.Word.TheVariants as w
+use Rattle.vs_syntax.specs.Symbols.{Symbol, a_mark, a_word, a_name, a_number, another, Class, no_token, the_mark, the_word, any_name, any_number, any_other, class_of, same_class, first}
+use Rattle.vs_syntax.specs.Grammar.{Part, a_source, a_module, an_item, a_declarator, an_assignment, a_stmt, a_target, a_level, Grammar, nothing, token, seq, either, many, part, node, chain, optional, ◌·◌, one_mark, operands, levels, level_at, rule}
+use Rattle.vs_syntax.specs.Tables.{low_of, mark_fronts, null, low, fronts, among, goes}
+use Rattle.vs_syntax.specs.Derivation.{Tree, empty, leaf, both, down, tokens, height, Is, is_nothing, is_token, is_seq, is_left, is_right, is_stop, is_part, is_node, is_one, is_absent}
+use Rattle.vs_syntax.proofs.Ends.{goes_on, again, level_lasts, marked_fronts}
 
 -- a literal of 32 zeros
 abbrev pub zero_literal : Bool → Literal
@@ -47,37 +48,39 @@ least_of a_module = both (leaf (a_word w.Module)) (both (leaf (sample any_name))
 least_of an_item = down (both (leaf (a_word w.Reg)) (both (both (leaf (sample any_name)) empty) (both empty (leaf (a_mark m.Semicolon)))))
 least_of a_declarator = both (leaf (sample any_name)) empty
 least_of an_assignment = both (down (leaf (sample any_name))) (both (leaf (a_mark m.Assign)) (leaf (sample (any_number false))))
-least_of a_stmt = down (leaf (a_mark m.Semicolon))
+least_of a_stmt = down (both (leaf (a_mark m.Semicolon)) empty)
 least_of a_target = down (leaf (sample any_name))
-least_of an_expr = leaf (sample (any_number false))
-least_of a_parity = leaf (sample (any_number false))
-least_of a_conjunction = leaf (sample (any_number false))
-least_of an_operand = leaf (sample (any_number false))
+least_of (a_level n) = leaf (sample (any_number false))
 
-least_operand : (more : List Symbol) → Is (part an_operand) (leaf (sample (any_number false))) more
-least_operand more = is_part (is_left refl (is_token refl))
+-- the end goes on with nothing
+pub mark_end : (ops : List Mark) → among no_token (mark_fronts 0 ops) ≡ false
+mark_end [] = refl
+mark_end (op ∷ ops) = mark_end ops
 
-least_conjunction : (more : List Symbol) → goes (mark m.And · part an_operand · many (mark m.And · part an_operand)) more ≡ false → Is (part a_conjunction) (leaf (sample (any_number false))) more
-least_conjunction more h = is_part (is_one h (least_operand more))
+level_end : (n : ℕ) → among no_token (level_lasts n) ≡ false
+level_end zero = refl
+level_end (suc n) = among-append no_token (mark_fronts 0 (level_at levels n)) (level_lasts n) ∙ rw (mark_end (level_at levels n)) (level_end n)
 
-least_parity : Is (part a_parity) (leaf (sample (any_number false))) []
-least_parity = is_part (is_one refl (least_conjunction [] refl))
+operands_least : (n : ℕ) (ops : List Mark) (x : Tree) (more : List Symbol) → among (first more) (mark_fronts 0 ops ++ level_lasts n) ≡ false → (among (first more) (level_lasts n) ≡ false → Is (part (a_level n)) x more) → Is (operands (a_level n) ops) x more
+operands_least n [] x more h f = f h
+operands_least n (op ∷ ops) x more h f =
+    let o = or_false (among (first more) (mark_fronts 0 (op ∷ ops))) (among (first more) (level_lasts n)) (sym (among-append (first more) (mark_fronts 0 (op ∷ ops)) (level_lasts n)) ∙ h) in
+    is_one (marked_fronts op ops (part (a_level n) · many (one_mark op ops · part (a_level n))) (first more) ∙ o.0) (f o.1)
 
-least_expr : Is (part an_expr) (leaf (sample (any_number false))) []
-least_expr = is_part (is_one refl least_parity)
+-- a number alone is an expression of each level, where no operator of the level follows it
+level_least : (n : ℕ) (more : List Symbol) → among (first more) (level_lasts n) ≡ false → Is (part (a_level n)) (leaf (sample (any_number false))) more
+level_least zero more h = is_part (is_left refl (is_token refl))
+level_least (suc n) more h = is_part (operands_least n (level_at levels n) (leaf (sample (any_number false))) more h (level_least n more))
 
 pub rule_least : (p : Part) → Is (part p) (least_of p) []
 rule_least a_source = is_part (is_stop refl)
 rule_least a_module = is_part (is_seq (is_token refl) (is_seq (is_token refl) (is_seq (is_token refl) (is_seq (is_stop refl) (is_token refl)))))
 rule_least an_item = is_part (is_node (is_right refl (is_left refl (is_seq (is_token refl) (is_seq (is_part (is_seq (is_token refl) (is_right refl is_nothing))) (is_seq (is_stop refl) (is_token refl)))))))
 rule_least a_declarator = is_part (is_seq (is_token refl) (is_right refl is_nothing))
-rule_least an_assignment = is_part (is_seq (is_part (is_node (is_token refl))) (is_seq (is_token refl) least_expr))
-rule_least a_stmt = is_part (is_node (is_left refl (is_token refl)))
+rule_least an_assignment = is_part (is_seq (is_part (is_node (is_token refl))) (is_seq (is_token refl) (level_least (length levels) [] refl)))
+rule_least a_stmt = is_part (is_node (is_right refl (is_left refl (is_seq (is_token refl) is_nothing))))
 rule_least a_target = is_part (is_node (is_token refl))
-rule_least an_expr = least_expr
-rule_least a_parity = least_parity
-rule_least a_conjunction = least_conjunction [] refl
-rule_least an_operand = least_operand []
+rule_least (a_level n) = level_least n [] (level_end n)
 
 least_of-height : (p : Part) → height (least_of p) ≡ low_of p
 least_of-height a_source = refl
@@ -87,10 +90,7 @@ least_of-height a_declarator = refl
 least_of-height an_assignment = refl
 least_of-height a_stmt = refl
 least_of-height a_target = refl
-least_of-height an_expr = refl
-least_of-height a_parity = refl
-least_of-height a_conjunction = refl
-least_of-height an_operand = refl
+least_of-height (a_level n) = refl
 
 -- a least tree of the grammar
 abbrev pub least : Grammar → Tree
@@ -102,17 +102,38 @@ least (many a) = empty
 least (part p) = least_of p
 least (node a) = down (least a)
 least (chain a b) = least a
+least (optional c a) = empty
 
 -- whether parts of the grammar can be ended by least ones
 abbrev pub sound : Grammar → Bool
 sound nothing = true
 sound (token c) = is_class c
-sound (seq a b) = sound a && (sound b && not (goes_on a (first (tokens (least b)))))
+sound (seq a b) = sound a && (sound b && not (goes_on false a (first (tokens (least b)))))
 sound (either a b) = sound a && (sound b && (not (null a) && cond (nat_le (low a) (low b)) (goes a (tokens (least a))) (not (goes a (tokens (least b))))))
-sound (many a) = sound a && not (goes_on a no_token || among no_token (fronts a))
+sound (many a) = sound a && not (goes_on false a no_token || among no_token (fronts a))
 sound (part p) = true
 sound (node a) = sound a
-sound (chain a b) = sound a && (sound b && (not (goes_on a no_token || among no_token (fronts b)) && (low b == 0 && not (null a))))
+sound (chain a b) = sound a && (sound b && (not (goes_on false a no_token || among no_token (fronts b)) && (low b == 0 && not (null a))))
+sound (optional c a) = is_class c && sound a
+
+pub and_left : (a b : Bool) → (a && b) ≡ true → a ≡ true
+and_left true b h = refl
+and_left false b h = h
+
+pub and_right : (a b : Bool) → (a && b) ≡ true → b ≡ true
+and_right true b h = h
+and_right false b h = cc
+
+-- whether each level of the table passes, by its number
+abbrev pub rows_pass : (ℕ → List Mark → Bool) → List (List Mark) → Bool
+rows_pass p [] = true
+rows_pass p (ops ∷ ls) = p zero ops && rows_pass (λ n. p (suc n)) ls
+
+-- what each level of the table passes, and one without operators, each level passes
+pub row_passes : (p : ℕ → List Mark → Bool) → ((n : ℕ) → p n [] ≡ true) → (ls : List (List Mark)) → rows_pass p ls ≡ true → (n : ℕ) → p n (level_at ls n) ≡ true
+row_passes p f [] h n = f n
+row_passes p f (ops ∷ ls) h zero = and_left (p zero ops) (rows_pass (λ n. p (suc n)) ls) h
+row_passes p f (ops ∷ ls) h (suc n) = row_passes (λ k. p (suc k)) (λ k. f (suc k)) ls (and_right (p zero ops) (rows_pass (λ n. p (suc n)) ls) h) n
 
 pub rule_sound : (p : Part) → sound (rule p) ≡ true
 rule_sound a_source = refl
@@ -122,18 +143,17 @@ rule_sound a_declarator = refl
 rule_sound an_assignment = refl
 rule_sound a_stmt = refl
 rule_sound a_target = refl
-rule_sound an_expr = refl
-rule_sound a_parity = refl
-rule_sound a_conjunction = refl
-rule_sound an_operand = refl
+rule_sound (a_level zero) = refl
+rule_sound (a_level (suc n)) = row_passes (λ k ops. sound (operands (a_level k) ops)) (λ k. refl) levels refl n
 
-pub and_left : (a b : Bool) → (a && b) ≡ true → a ≡ true
-and_left true b h = refl
-and_left false b h = h
-
-pub and_right : (a b : Bool) → (a && b) ≡ true → b ≡ true
-and_right true b h = h
-and_right false b h = cc
+-- a class that a symbol has is not that of the end
+pub class_there : (c : Class) → is_class c ≡ true → (same_class no_token c || false) ≡ false
+class_there no_token h = cc
+class_there (the_mark m) h = refl
+class_there (the_word w) h = refl
+class_there any_name h = refl
+class_there (any_number b) h = refl
+class_there any_other h = refl
 
 pub not_true : (a : Bool) → not a ≡ true → a ≡ false
 not_true true h = cc
@@ -148,14 +168,14 @@ least_either a b true p q h = is_left (ap (λ c. among c (fronts a)) (first_nil 
 least_either a b false p q h = is_right (ap (λ c. among c (fronts a)) (first_nil (tokens (least b))) ∙ not_true (goes a (tokens (least b))) h) q
 
 -- with the least tree of the next part
-pub before_least : (a b : Grammar) (x : Tree) (m : List Symbol) → Is a x m → goes_on a (first (tokens (least b))) ≡ false → Is a x (tokens (least b) ++ [])
-before_least a b x m p h = again p (tokens (least b) ++ []) (inr (ap (goes_on a) (first_nil (tokens (least b))) ∙ h))
+pub before_least : (a b : Grammar) (x : Tree) (m : List Symbol) → Is a x m → goes_on false a (first (tokens (least b))) ≡ false → Is a x (tokens (least b) ++ [])
+before_least a b x m p h = again p (tokens (least b) ++ []) (inr (ap (goes_on false a) (first_nil (tokens (least b))) ∙ h))
 
 -- the premises of a sequence
-pub sound_seq : (a b : Grammar) → sound (seq a b) ≡ true → (sound a ≡ true) × (sound b ≡ true) × (goes_on a (first (tokens (least b))) ≡ false)
+pub sound_seq : (a b : Grammar) → sound (seq a b) ≡ true → (sound a ≡ true) × (sound b ≡ true) × (goes_on false a (first (tokens (least b))) ≡ false)
 sound_seq a b h =
-    let r = and_right (sound a) (sound b && not (goes_on a (first (tokens (least b))))) h in
-    (and_left (sound a) (sound b && not (goes_on a (first (tokens (least b))))) h, and_left (sound b) (not (goes_on a (first (tokens (least b))))) r, not_true (goes_on a (first (tokens (least b)))) (and_right (sound b) (not (goes_on a (first (tokens (least b))))) r))
+    let r = and_right (sound a) (sound b && not (goes_on false a (first (tokens (least b))))) h in
+    (and_left (sound a) (sound b && not (goes_on false a (first (tokens (least b))))) h, and_left (sound b) (not (goes_on false a (first (tokens (least b))))) r, not_true (goes_on false a (first (tokens (least b)))) (and_right (sound b) (not (goes_on false a (first (tokens (least b))))) r))
 
 pub sound_either : (a b : Grammar) → sound (either a b) ≡ true → (sound a ≡ true) × (sound b ≡ true) × (cond (nat_le (low a) (low b)) (goes a (tokens (least a))) (not (goes a (tokens (least b)))) ≡ true) × (null a ≡ false)
 sound_either a b h =
@@ -165,21 +185,21 @@ sound_either a b h =
     let t = and_right (sound b) (n && c) r in
     (and_left (sound a) (sound b && (n && c)) h, and_left (sound b) (n && c) r, and_right n c t, not_true (null a) (and_left n c t))
 
-pub sound_chain : (a b : Grammar) → sound (chain a b) ≡ true → (sound a ≡ true) × (sound b ≡ true) × (goes_on a no_token ≡ false) × (among no_token (fronts b) ≡ false) × (low b ≡ 0) × (null a ≡ false)
+pub sound_chain : (a b : Grammar) → sound (chain a b) ≡ true → (sound a ≡ true) × (sound b ≡ true) × (goes_on false a no_token ≡ false) × (among no_token (fronts b) ≡ false) × (low b ≡ 0) × (null a ≡ false)
 sound_chain a b h =
-    let s = not (goes_on a no_token || among no_token (fronts b)) in
+    let s = not (goes_on false a no_token || among no_token (fronts b)) in
     let z = low b == 0 in
     let n = not (null a) in
     let r = and_right (sound a) (sound b && (s && (z && n))) h in
     let t = and_right (sound b) (s && (z && n)) r in
     let v = and_right s (z && n) t in
-    let o = or_false (goes_on a no_token) (among no_token (fronts b)) (not_true (goes_on a no_token || among no_token (fronts b)) (and_left s (z && n) t)) in
+    let o = or_false (goes_on false a no_token) (among no_token (fronts b)) (not_true (goes_on false a no_token || among no_token (fronts b)) (and_left s (z && n) t)) in
     (and_left (sound a) (sound b && (s && (z && n))) h, and_left (sound b) (s && (z && n)) r, o.0, o.1, eqb-true (low b) 0 (and_left z n v), not_true (null a) (and_right z n v))
 
-pub sound_many : (a : Grammar) → sound (many a) ≡ true → (sound a ≡ true) × (goes_on a no_token ≡ false) × (among no_token (fronts a) ≡ false)
+pub sound_many : (a : Grammar) → sound (many a) ≡ true → (sound a ≡ true) × (goes_on false a no_token ≡ false) × (among no_token (fronts a) ≡ false)
 sound_many a h =
-    let s = not (goes_on a no_token || among no_token (fronts a)) in
-    let o = or_false (goes_on a no_token) (among no_token (fronts a)) (not_true (goes_on a no_token || among no_token (fronts a)) (and_right (sound a) s h)) in
+    let s = not (goes_on false a no_token || among no_token (fronts a)) in
+    let o = or_false (goes_on false a no_token) (among no_token (fronts a)) (not_true (goes_on false a no_token || among no_token (fronts a)) (and_right (sound a) s h)) in
     (and_left (sound a) s h, o.0, o.1)
 
 -- The least tree is one of the grammar.
@@ -194,6 +214,7 @@ least_is (many a) h = is_stop (sound_many a h).2
 least_is (part p) h = rule_least p
 least_is (node a) h = is_node (least_is a h)
 least_is (chain a b) h = let s = sound_chain a b h in is_one s.3 (least_is a s.0)
+least_is (optional c a) h = is_absent (class_there c (and_left (is_class c) (sound a) h))
 
 height-cond : (s : Bool) (x y : Tree) → height (cond s x y) ≡ cond s (height x) (height y)
 height-cond true x y = refl
@@ -212,3 +233,4 @@ least-height (many a) = refl
 least-height (part p) = least_of-height p
 least-height (node a) = ap suc (least-height a)
 least-height (chain a b) = least-height a
+least-height (optional c a) = refl

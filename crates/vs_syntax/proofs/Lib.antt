@@ -10,3 +10,6 @@ pub mod Gets
 pub mod Beginnings
 pub mod Plainly
 pub mod Deeper
+pub mod Sameness
+pub mod SameSources
+pub mod SourceNamesLemmas

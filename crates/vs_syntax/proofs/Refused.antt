@@ -1,12 +1,12 @@
 -- Where reading a part stops, no tree of the part goes on.
-use Rattle.std.specs.Prelude.{◌≡◌, ℕ, suc, max, ◌≤◌, Bool, true, List, [], ◌++◌, refl}
+use Rattle.std.specs.Prelude.{◌≡◌, ℕ, suc, max, ◌≤◌, Bool, true, List, [], ◌∷◌, ◌++◌, refl}
 use Rattle.std.proofs.Common.{sym, ◌∙◌, ap, append_assoc, arith}
 use Rattle.vs_syntax.specs.Symbols.{Symbol, first}
-use Rattle.vs_syntax.specs.Grammar.{Grammar}
-use Rattle.vs_syntax.specs.Tables.{fronts, need}
-use Rattle.vs_syntax.specs.Derivation.{Tree, tokens, height, Is, is_seq, is_left, is_right, is_stop, is_more, is_part, is_node, is_one, is_chain}
-use Rattle.vs_syntax.specs.Reading.{Gets, Stuck, stuck_here, stuck_deep, stuck_first, stuck_second, stuck_left, stuck_right, stuck_many, stuck_more, stuck_part, stuck_node, stuck_one, stuck_link, stuck_high}
-use Rattle.vs_syntax.proofs.Fronts.{clash, first-append, goes_same}
+use Rattle.vs_syntax.specs.Grammar.{Grammar, optional}
+use Rattle.vs_syntax.specs.Tables.{fronts, need, goes}
+use Rattle.vs_syntax.specs.Derivation.{Tree, tokens, height, Is, is_seq, is_left, is_right, is_stop, is_more, is_part, is_node, is_one, is_chain, is_present, is_absent}
+use Rattle.vs_syntax.specs.Reading.{Gets, Stuck, stuck_here, stuck_deep, stuck_first, stuck_second, stuck_left, stuck_right, stuck_many, stuck_more, stuck_part, stuck_node, stuck_one, stuck_link, stuck_high, stuck_behind}
+use Rattle.vs_syntax.proofs.Fronts.{clash, first-append, goes_same, goes-present}
 use Rattle.vs_syntax.proofs.Unique.{unique, after_same}
 use Rattle.vs_syntax.proofs.Starts.{silent, is_null, enough, need_at}
 
@@ -25,6 +25,7 @@ front_of (stuck_node n s) = front_of s
 front_of (stuck_one s) = front_of s
 front_of (stuck_link {x = x} p n h s) = tokens x ++ front_of s
 front_of (stuck_high {x = x} p h n) = tokens x
+front_of (stuck_behind {s = z} h n s) = z ∷ front_of s
 
 -- the text of a part that was read, and of the front of what follows
 joined : (x : Tree) (ts mid w rest : List Symbol) → ts ≡ tokens x ++ mid → mid ≡ w ++ rest → ts ≡ (tokens x ++ w) ++ rest
@@ -44,6 +45,7 @@ front_text (stuck_node n s) = front_text s
 front_text (stuck_one s) = front_text s
 front_text (stuck_link {ts = ts} {mid = mid} {rest = rest} {x = x} p n h s) = joined x ts mid (front_of s) rest p.text (front_text s)
 front_text (stuck_high p h n) = p.text
+front_text (stuck_behind {s = z} h n s) = ap (λ u. z ∷ u) (front_text s)
 
 -- lists that begin as the symbols read do begin with the same symbol
 pub begins_same : {g : Grammar} {room : ℕ} {deep : Bool} {ts rest : List Symbol} → (s : Stuck g room deep ts rest) → (r : List Symbol) → first r ≡ first rest → first (front_of s ++ r) ≡ first ts
@@ -100,3 +102,7 @@ refused {room = room} (stuck_high {a = a} {b = b} {mid = mid} {x = z} g h n) _ m
     let j : x ≡ z = unique g.is p r (sym (sym (append_assoc (tokens x) (tokens y) more) ∙ e)) f in
     let k : suc (max (height x) (height y)) ≤ room = low_enough refl in
     let l : height x ≡ height z = ap height j in omega (arith, k, l, n)
+refused {room = room} (stuck_behind {s = z} h n s) _ more r (is_present {s = z'} {x = x} i p) low_enough e f =
+    let j : tokens x ++ more ≡ front_of s ++ r = cc in
+    refused s x more r p (λ d. let k : max 0 (height x) ≤ room = low_enough d in omega (arith, k)) j f
+refused (stuck_behind {c = c} {a = a} {s = z} h n s) _ more r (is_absent i) low_enough e f = clash (ap (goes (optional c a)) e ∙ goes-present c a z (front_of s ++ r) h) i

@@ -2,11 +2,11 @@
 use Rattle.std.specs.Prelude.{◌≡◌, ℕ, suc, max, ◌≤◌, Bool, true, false, cond, ◌&&◌, ◌||◌, List, [], ◌∷◌, ◌++◌, refl}
 use Rattle.std.proofs.Common.{sym, ◌∙◌, ap, subst, append_assoc, arith}
 use Rattle.vs_syntax.specs.Symbols.{Symbol, Class, class_of, same_class, first}
-use Rattle.vs_syntax.specs.Grammar.{Part, Grammar, seq, part, chain, rule}
+use Rattle.vs_syntax.specs.Grammar.{Part, Grammar, seq, part, chain, optional, rule}
 use Rattle.vs_syntax.specs.Tables.{Front, null, low, beside, above, fronts, among, need, goes}
-use Rattle.vs_syntax.specs.Derivation.{Tree, tokens, height, Is, is_nothing, is_token, is_seq, is_left, is_right, is_stop, is_more, is_part, is_node, is_one, is_chain}
+use Rattle.vs_syntax.specs.Derivation.{Tree, tokens, height, Is, is_nothing, is_token, is_seq, is_left, is_right, is_stop, is_more, is_part, is_node, is_one, is_chain, is_present, is_absent}
 use Rattle.vs_syntax.proofs.Checks.{rule_null, rule_low, rule_fronts}
-use Rattle.vs_syntax.proofs.Fronts.{clash, or_false, or_right, or_left, and_false, same_class-refl, goes-seq, goes-either, goes-node, goes-chain, among-beside, among-above, need-append_le, need-beside_le, need-above_le}
+use Rattle.vs_syntax.proofs.Fronts.{clash, or_false, or_right, or_left, and_false, same_class-refl, goes-seq, goes-either, goes-node, goes-chain, among-beside, among-above, goes-present, need-append_le, need-beside_le, need-above_le}
 
 -- parts of an empty list are empty
 pub nil_left : (xs ys : List Symbol) → xs ++ ys ≡ [] → xs ≡ []
@@ -51,6 +51,8 @@ quiet (is_one {a = a} {b = b} {more = m} h p) e = chain_none a b m (quiet p e) h
 quiet (is_chain {a = a} {b = b} {x = x} {y = y} {more = m} h p q) e =
     let ey : tokens y ≡ [] = nil_right (tokens x) (tokens y) e in
     absurd (clash h (goes_behind b (tokens y) m ey ∙ quiet q ey))
+quiet (is_present h p) e = cc
+quiet (is_absent h) e = h
 
 and_both : (a b : Bool) → a ≡ true → b ≡ true → (a && b) ≡ true
 and_both a b p q = rw p q
@@ -68,6 +70,8 @@ is_null (is_part {p = k} p) e = sym (rule_null k) ∙ is_null p e
 is_null (is_node p) e = is_null p e
 is_null (is_one h p) e = is_null p e
 is_null (is_chain {x = x} {y = y} h p q) e = is_null p (nil_left (tokens x) (tokens y) e)
+is_null (is_present h p) e = refl
+is_null (is_absent h) e = refl
 
 -- the tests of the parts, from that of a sequence that can't begin so
 pub seq_first : (a b : Grammar) (ts : List Symbol) → goes (seq a b) ts ≡ false → goes a ts ≡ false
@@ -104,6 +108,8 @@ silent (is_chain {a = a} {b = b} {x = x} {y = y} {more = m} h p q) k =
     let t : goes (chain a b) (tokens x ++ (tokens y ++ m)) ≡ false = ap (goes (chain a b)) (sym (append_assoc (tokens x) (tokens y) m)) ∙ k in
     let ex : tokens x ≡ [] = silent p (chain_first a b (tokens x ++ (tokens y ++ m)) t) in
     absurd (clash h (sym (goes_behind b (tokens x) (tokens y ++ m) ex) ∙ chain_second a b (tokens x ++ (tokens y ++ m)) (is_null p ex) t))
+silent (is_present {c = c} {a = a} {s = s} {x = x} {more = m} h p) k = absurd (clash (goes-present c a s (tokens x ++ m) h) k)
+silent (is_absent h) k = refl
 
 -- A tree is at least as high as the grammar's least.
 pub lowest : {g : Grammar} {x : Tree} {m : List Symbol} → Is g x m → low g ≤ height x
@@ -118,6 +124,8 @@ lowest (is_part {p = k} {x = x} p) = subst (λ (n : ℕ). n ≤ height x) (rule_
 lowest (is_node p) = omega (arith, lowest p)
 lowest (is_one h p) = lowest p
 lowest (is_chain h p q) = omega (arith, lowest p)
+lowest (is_present h p) = omega arith
+lowest (is_absent h) = omega arith
 
 -- the need at the first symbol
 abbrev pub need_at : Grammar → List Symbol → ℕ
@@ -189,3 +197,7 @@ enough (is_chain {a = a} {b = b} {x = x} {y = y} {more = m} h p q) =
     (need-chain_le a b (tokens x ++ (tokens y ++ m)) (suc (max (height x) (height y))) (λ u. omega (arith, i))
     (λ u n. let e : need_at b (tokens x ++ (tokens y ++ m)) ≡ need_at b (tokens y ++ m) = need_behind b (tokens x) (tokens y ++ m) (silent p u) in
     let f : need (first (tokens x ++ (tokens y ++ m))) (above (beside (low a) (fronts b))) ≤ suc (max (low a) (need_at b (tokens x ++ (tokens y ++ m)))) = need-link_le a b (tokens x ++ (tokens y ++ m)) in omega (arith, e, f, j, k)))
+enough (is_present {c = c} {a = a} {s = s} {x = x} h p) =
+    let i : low a ≤ height x = lowest p in
+    elim (same_class (class_of s) c) as (λ u. cond u (low a) 0 ≤ max 0 (height x)) [ true ↦ omega (arith, i) | false ↦ omega arith ]
+enough (is_absent {c = c} {a = a} {more = m} h) = rw (need_none (first m) (fronts (optional c a)) h) (omega arith)

@@ -3,10 +3,10 @@ use Rattle.std.specs.Prelude.{◌≡◌, true, false, List, ◌++◌, refl}
 use Rattle.std.proofs.Common.{sym, ◌∙◌, ap, append_assoc}
 use Rattle.std.proofs.lemmas.List.{append_cancel_left}
 use Rattle.vs_syntax.specs.Symbols.{Symbol, first}
-use Rattle.vs_syntax.specs.Grammar.{Grammar}
+use Rattle.vs_syntax.specs.Grammar.{Grammar, optional}
 use Rattle.vs_syntax.specs.Tables.{goes}
-use Rattle.vs_syntax.specs.Derivation.{Tree, down, tokens, Is, is_nothing, is_token, is_seq, is_left, is_right, is_stop, is_more, is_part, is_node, is_one, is_chain}
-use Rattle.vs_syntax.proofs.Fronts.{clash, first-append, goes_same}
+use Rattle.vs_syntax.specs.Derivation.{Tree, down, tokens, Is, is_nothing, is_token, is_seq, is_left, is_right, is_stop, is_more, is_part, is_node, is_one, is_chain, is_present, is_absent}
+use Rattle.vs_syntax.proofs.Fronts.{clash, first-append, goes_same, goes-present}
 
 -- what follows equal trees in equal lists
 pub after_same : (x x' : Tree) (r s : List Symbol) → x' ≡ x → tokens x ++ r ≡ tokens x' ++ s → r ≡ s
@@ -56,3 +56,10 @@ unique (is_chain {b = b} {x = x} {y = y} {more = m} h p q) (is_one {x = x'} {mor
 unique (is_chain {x = x} {y = y} {more = m} h p q) (is_chain {x = x'} {y = y'} {more = m'} h' p' q') r e f =
     let i : x' ≡ x = unique p p' (tokens y ++ r) (regroup x y x' y' r m' e) (first-append (tokens y) r m f) in
     let k : y' ≡ y = unique q q' r (after_same x x' (tokens y ++ r) (tokens y' ++ m') i (regroup x y x' y' r m' e)) f in cc
+unique (is_present {s = s} {x = x} {more = m} h p) (is_present {s = s'} {x = x'} {more = m'} h' p') r e f =
+    let i : tokens x ++ r ≡ tokens x' ++ m' = cc in
+    let k : x' ≡ x = unique p p' r i f in cc
+unique (is_present {c = c} {a = a} {s = s} {x = x} h p) (is_absent h') r e f = absurd (clash (ap (goes (optional c a)) (sym e) ∙ goes-present c a s (tokens x ++ r) h) h')
+unique (is_absent {c = c} {a = a} {more = m} h) (is_present {s = s'} {x = x'} {more = m'} h' p') r e f =
+    absurd (clash (ap (goes (optional c a)) e ∙ goes-present c a s' (tokens x' ++ m') h') (goes_same (optional c a) r m f ∙ h))
+unique (is_absent h) (is_absent h') r e f = refl

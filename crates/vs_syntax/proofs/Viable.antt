@@ -2,16 +2,16 @@
 use Rattle.std.specs.Prelude.{◌≡◌, ℕ, suc, max, ◌-◌, ◌<◌, ◌≤◌, Bool, true, false, List, [], ◌∷◌, ◌++◌, refl}
 use Rattle.std.proofs.Common.{sym, ◌∙◌, ap, subst, inl, inr, append_assoc, arith}
 use Rattle.std.proofs.lemmas.List.{append-nil}
-use Rattle.vs_syntax.specs.Symbols.{Symbol, first}
-use Rattle.vs_syntax.specs.Grammar.{Grammar, seq, either, many, chain}
+use Rattle.vs_syntax.specs.Symbols.{Symbol, Class, class_of, first}
+use Rattle.vs_syntax.specs.Grammar.{Grammar, seq, either, many, chain, optional}
 use Rattle.vs_syntax.specs.Tables.{low, goes}
-use Rattle.vs_syntax.specs.Derivation.{Tree, empty, both, down, tokens, height, Is, is_seq, is_left, is_right, is_stop, is_more, is_part, is_node, is_one, is_chain}
-use Rattle.vs_syntax.specs.Reading.{Gets, Stuck, stuck_here, stuck_deep, stuck_first, stuck_second, stuck_left, stuck_right, stuck_many, stuck_more, stuck_part, stuck_node, stuck_one, stuck_link, stuck_high}
+use Rattle.vs_syntax.specs.Derivation.{Tree, empty, leaf, both, down, tokens, height, Is, is_seq, is_left, is_right, is_stop, is_more, is_part, is_node, is_one, is_chain, is_present}
+use Rattle.vs_syntax.specs.Reading.{Gets, Stuck, stuck_here, stuck_deep, stuck_first, stuck_second, stuck_left, stuck_right, stuck_many, stuck_more, stuck_part, stuck_node, stuck_one, stuck_link, stuck_high, stuck_behind}
 use Rattle.vs_syntax.proofs.Checks.{rule_low}
 use Rattle.vs_syntax.proofs.Fronts.{goes_same}
 use Rattle.vs_syntax.proofs.Starts.{quiet}
 use Rattle.vs_syntax.proofs.Ends.{goes_again, again}
-use Rattle.vs_syntax.proofs.Least.{least, sound, rule_sound, least_is, least-height, before_least, sound_seq, sound_either, sound_many, sound_chain, first_nil}
+use Rattle.vs_syntax.proofs.Least.{least, is_class, sound, rule_sound, and_right, least_is, least-height, before_least, sound_seq, sound_either, sound_many, sound_chain, first_nil}
 use Rattle.vs_syntax.proofs.Refused.{front_of, front_text}
 
 -- These symbols begin a part of the grammar, of at most this nesting.
@@ -149,6 +149,12 @@ viable_link a b room ts mid (c ∷ cs) rest x h p n i t v =
       text = ap (λ u. tokens x ++ u) v.text ∙ sym (append_assoc (tokens x) (c ∷ cs) v.tail);
     }
 
+-- a part behind its token
+pub viable_behind : (c : Class) (a : Grammar) (room : ℕ) (s : Symbol) (w : List Symbol) → class_of s ≡ c → Viable a room w → Viable (optional c a) room (s ∷ w)
+viable_behind c a room s w e v =
+    let f : height v.tree ≤ room = v.fits in
+    record { tree = both (leaf s) v.tree; tail = v.tail; is = is_present e v.is; fits = omega (arith, f); text = ap (λ u. s ∷ u) v.text }
+
 -- The symbols before the place begin a part of the grammar.
 pub viable : {g : Grammar} {room : ℕ} {deep : Bool} {ts rest : List Symbol} → (s : Stuck g room deep ts rest) → sound g ≡ true → low g ≤ room → Viable g room (front_of s)
 viable {g} {room} (stuck_here n h) i l = from_least g room i l
@@ -178,3 +184,4 @@ viable {room = room} (stuck_link {a = a} {b = b} {ts = ts} {mid = mid} {rest = r
     let e : low b ≡ 0 = t.4 in
     viable_link a b room ts mid (front_of s) rest x i p n h (front_text s) (viable s t.1 (omega (arith, e)))
 viable {room = room} (stuck_high {a = a} {b = b} {ts = ts} {mid = mid} {x = x} p h n) i l = viable_one a b room ts mid x i p
+viable {room = room} (stuck_behind {c = c} {a = a} {s = z} h n s) i l = viable_behind c a room z (front_of s) h (viable s (and_right (is_class c) (sound a) i) n)

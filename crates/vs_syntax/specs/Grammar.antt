@@ -1,9 +1,9 @@
 -- The grammar of a source (IEEE 1364-2005, annex A; profile).
-use Rattle.std.specs.Prelude.{false}
-use Rattle.vs_lexer.specs.declared.token.Mark.{Mark}
-use Rattle.vs_lexer.specs.declared.token.Mark.TheVariants as m
-use Rattle.vs_lexer.specs.declared.token.Word.{Word}
-use Rattle.vs_lexer.specs.declared.token.Word.TheVariants as w
+use Rattle.std.specs.Prelude.{ℕ, zero, suc, false, List, [], ◌∷◌, length}
+use Rattle.vs_tokens.specs.declared.token.Mark.{Mark}
+use Rattle.vs_tokens.specs.declared.token.Mark.TheVariants as m
+use Rattle.vs_tokens.specs.declared.token.Word.{Word}
+use Rattle.vs_tokens.specs.declared.token.Word.TheVariants as w
 use Rattle.vs_syntax.specs.Symbols.{Class, the_mark, the_word, any_name, any_number}
 
 -- the parts of a source that have a rule
@@ -21,14 +21,8 @@ pub data Part : Type 0 where
   a_stmt : Part
   -- the left side of an assignment (clause A.8.5)
   a_target : Part
-  -- an expression: operands of `|` (clauses A.8.3 and 5.1.2)
-  an_expr : Part
-  -- an operand of `|`: operands of `^`
-  a_parity : Part
-  -- an operand of `^`: operands of `&`
-  a_conjunction : Part
-  -- an operand of `&`: a primary, or `~` and its operand
-  an_operand : Part
+  -- operands with operators of so many levels between them, the tightest ones; of none, one operand (clauses A.8.3 and 5.1.2)
+  a_level : ℕ → Part
 
 pub data Grammar : Type 0 where
   -- no token
@@ -47,6 +41,8 @@ pub data Grammar : Type 0 where
   node : Grammar → Grammar
   -- the first alone, or a node of the first and the second where the next token can begin the second
   chain : Grammar → Grammar → Grammar
+  -- a token of this class and the other behind it, or no token where the next one is of another class
+  optional : Class → Grammar → Grammar
 
 infixr 40 ◌·◌
 abbrev pub ◌·◌ : Grammar → Grammar → Grammar
@@ -76,29 +72,77 @@ number = token (any_number false)
 abbrev pub listed : Part → Grammar
 listed p = part p · many (mark m.Comma · part p) · mark m.Semicolon
 
--- operands of one level, with the operator between them: one alone, or a node of all of them (clause 5.1.2)
-abbrev pub operands : Part → Mark → Grammar
-operands p op = chain (part p) (mark op · part p · many (mark op · part p))
+-- one of these marks
+abbrev pub one_mark : Mark → List Mark → Grammar
+one_mark x [] = mark x
+one_mark x (y ∷ ys) = mark x or one_mark y ys
+
+abbrev pub any_mark : List Mark → Grammar
+any_mark [] = nothing
+any_mark (x ∷ xs) = one_mark x xs
+
+-- the operators before an operand (clause 5.1; profile)
+abbrev pub prefixes : List Mark
+prefixes = m.Tilde ∷ []
+
+-- operands with one of these operators between each two of them: one alone, or a node of all of them (clause 5.1.2)
+abbrev pub operands : Part → List Mark → Grammar
+operands p [] = part p
+operands p (op ∷ ops) = chain (part p) (one_mark op ops · part p · many (one_mark op ops · part p))
+
+-- the operators between operands, level by level, from the one that binds tightest (clause 5.1.2; profile)
+abbrev pub levels : List (List Mark)
+levels = (m.And ∷ []) ∷ (m.Xor ∷ []) ∷ (m.Or ∷ []) ∷ []
+
+-- the operators of the level of this number; above the last level none
+abbrev pub level_at : List (List Mark) → ℕ → List Mark
+level_at [] n = []
+level_at (ops ∷ ls) zero = ops
+level_at (ops ∷ ls) (suc n) = level_at ls n
+
+-- an expression: operands with operators of all levels between them (clause A.8.3)
+abbrev pub an_expr : Part
+an_expr = a_level (length levels)
+
+-- an operand: a primary, or an operator and its operand (clauses A.8.3 and A.8.4)
+abbrev pub an_operand : Part
+an_operand = a_level 0
+
+-- one of the parts, each of them behind a token of its class
+abbrev pub one_or : Class × Grammar → List (Class × Grammar) → Grammar
+one_or x [] = token x.0 · x.1
+one_or x (y ∷ ys) = token x.0 · x.1 or one_or y ys
+
+abbrev pub one_of : List (Class × Grammar) → Grammar
+one_of [] = nothing
+one_of (x ∷ xs) = one_or x xs
+
+-- the items of a module, each by its word (clause A.1.4; profile)
+abbrev pub items : List (Class × Grammar)
+items = (the_word w.Wire, listed a_declarator)
+    ∷ (the_word w.Reg, listed a_declarator)
+    ∷ (the_word w.Assign, listed an_assignment)
+    ∷ (the_word w.Initial, part a_stmt)
+    ∷ (the_word w.Always, part a_stmt)
+    ∷ []
+
+-- the statements that begin with a word or a mark of their own (clause A.6.4; profile)
+abbrev pub statements : List (Class × Grammar)
+statements = (the_mark m.Semicolon, nothing)
+    ∷ (the_word w.Begin, many (part a_stmt) · word w.End)
+    ∷ (the_mark m.Hash, number · part a_stmt)
+    ∷ []
 
 -- The rules of the grammar. A target is a node, though it is a name alone; the name and the number of an expression are none.
 abbrev pub rule : Part → Grammar
 rule a_source = many (part a_module)
 rule a_module = word w.Module · name · mark m.Semicolon · many (part an_item) · word w.Endmodule
-rule an_item = node (word w.Wire · listed a_declarator
-    or word w.Reg · listed a_declarator
-    or word w.Assign · listed an_assignment
-    or word w.Initial · part a_stmt
-    or word w.Always · part a_stmt)
+rule an_item = node (one_of items)
 rule a_declarator = name · (mark m.Assign · part an_expr or nothing)
 rule an_assignment = part a_target · mark m.Assign · part an_expr
-rule a_stmt = node (mark m.Semicolon
-    or part a_target · (mark m.Assign or mark m.LessEqual) · part an_expr · mark m.Semicolon
-    or word w.Begin · many (part a_stmt) · word w.End
-    or mark m.Hash · number · part a_stmt)
+rule a_stmt = node (part a_target · (mark m.Assign or mark m.LessEqual) · part an_expr · mark m.Semicolon or one_of statements)
 rule a_target = node name
-rule an_expr = operands a_parity m.Or
-rule a_parity = operands a_conjunction m.Xor
-rule a_conjunction = operands an_operand m.And
-rule an_operand = number or name
-    or node (mark m.Tilde · part an_operand)
+rule (a_level zero) = number or name
+    or node (any_mark prefixes · part an_operand)
     or node (mark m.Open · part an_expr · mark m.Close)
+rule (a_level (suc n)) = operands (a_level n) (level_at levels n)

@@ -6,3 +6,5 @@ pub mod Reading
 pub mod Views
 pub mod Derives
 pub mod Plain
+pub mod Same
+pub mod SourceNames

@@ -1,7 +1,7 @@
 -- What reading a part of a source answers: a tree of it, or why and where no tree goes on.
-use Rattle.std.specs.Prelude.{◌≡◌, ℕ, ◌-◌, ◌<◌, ◌≤◌, Bool, true, false, List, ◌++◌}
-use Rattle.vs_syntax.specs.Symbols.{Symbol, first}
-use Rattle.vs_syntax.specs.Grammar.{Part, Grammar, seq, either, many, part, node, chain, rule}
+use Rattle.std.specs.Prelude.{◌≡◌, ℕ, ◌-◌, ◌<◌, ◌≤◌, Bool, true, false, List, ◌∷◌, ◌++◌}
+use Rattle.vs_syntax.specs.Symbols.{Symbol, Class, class_of, first}
+use Rattle.vs_syntax.specs.Grammar.{Part, Grammar, seq, either, many, part, node, chain, optional, rule}
 use Rattle.vs_syntax.specs.Tables.{null, low, fronts, need, goes}
 use Rattle.vs_syntax.specs.Derivation.{Tree, tokens, height, Is}
 
@@ -14,15 +14,29 @@ pub record Gets (a : Grammar) (room : ℕ) (ts : List Symbol) (x : Tree) (rest :
 -- Reading a part from these symbols stops before the rest: it would be too deep there, or no such part goes on so.
 pub data Stuck : Grammar → ℕ → Bool → List Symbol → List Symbol → Type 0 where
   stuck_here : {a : Grammar} {room : ℕ} {ts : List Symbol} → null a ≡ false → goes a ts ≡ false → Stuck a room false ts ts
-  stuck_deep : {a : Grammar} {room : ℕ} {ts : List Symbol} → goes a ts ≡ true → room < need (first ts) (fronts a) → Stuck a room true ts ts
-  stuck_first : {a b : Grammar} {room : ℕ} {deep : Bool} {ts rest : List Symbol} → Stuck a room deep ts rest → Stuck (seq a b) room deep ts rest
-  stuck_second : {a b : Grammar} {room : ℕ} {deep : Bool} {ts mid rest : List Symbol} {x : Tree} → Gets a room ts x mid → Stuck b room deep mid rest → Stuck (seq a b) room deep ts rest
-  stuck_left : {a b : Grammar} {room : ℕ} {deep : Bool} {ts rest : List Symbol} → goes a ts ≡ true → low a ≤ room → Stuck a room deep ts rest → Stuck (either a b) room deep ts rest
-  stuck_right : {a b : Grammar} {room : ℕ} {deep : Bool} {ts rest : List Symbol} → goes a ts ≡ false → low b ≤ room → Stuck b room deep ts rest → Stuck (either a b) room deep ts rest
-  stuck_many : {a : Grammar} {room : ℕ} {deep : Bool} {ts rest : List Symbol} → goes a ts ≡ true → low a ≤ room → Stuck a room deep ts rest → Stuck (many a) room deep ts rest
-  stuck_more : {a : Grammar} {room : ℕ} {deep : Bool} {ts mid rest : List Symbol} {x : Tree} → goes a ts ≡ true → Gets a room ts x mid → Stuck (many a) room deep mid rest → Stuck (many a) room deep ts rest
-  stuck_part : {p : Part} {room : ℕ} {deep : Bool} {ts rest : List Symbol} → Stuck (rule p) room deep ts rest → Stuck (part p) room deep ts rest
-  stuck_node : {a : Grammar} {room : ℕ} {deep : Bool} {ts rest : List Symbol} → 0 < room → Stuck a (room - 1) deep ts rest → Stuck (node a) room deep ts rest
-  stuck_one : {a b : Grammar} {room : ℕ} {deep : Bool} {ts rest : List Symbol} → Stuck a room deep ts rest → Stuck (chain a b) room deep ts rest
-  stuck_link : {a b : Grammar} {room : ℕ} {deep : Bool} {ts mid rest : List Symbol} {x : Tree} → Gets a room ts x mid → height x < room → goes b mid ≡ true → Stuck b (room - 1) deep mid rest → Stuck (chain a b) room deep ts rest
-  stuck_high : {a b : Grammar} {room : ℕ} {ts mid : List Symbol} {x : Tree} → Gets a room ts x mid → goes b mid ≡ true → room ≤ height x → Stuck (chain a b) room true ts mid
+  stuck_deep : {a : Grammar} {room : ℕ} {ts : List Symbol} → goes a ts ≡ true → room < need (first ts) (fronts a) →
+      Stuck a room true ts ts
+  stuck_first : {a b : Grammar} {room : ℕ} {deep : Bool} {ts rest : List Symbol} → Stuck a room deep ts rest →
+      Stuck (seq a b) room deep ts rest
+  stuck_second : {a b : Grammar} {room : ℕ} {deep : Bool} {ts mid rest : List Symbol} {x : Tree} →
+      Gets a room ts x mid → Stuck b room deep mid rest → Stuck (seq a b) room deep ts rest
+  stuck_left : {a b : Grammar} {room : ℕ} {deep : Bool} {ts rest : List Symbol} → goes a ts ≡ true → low a ≤ room →
+      Stuck a room deep ts rest → Stuck (either a b) room deep ts rest
+  stuck_right : {a b : Grammar} {room : ℕ} {deep : Bool} {ts rest : List Symbol} → goes a ts ≡ false → low b ≤ room →
+      Stuck b room deep ts rest → Stuck (either a b) room deep ts rest
+  stuck_many : {a : Grammar} {room : ℕ} {deep : Bool} {ts rest : List Symbol} → goes a ts ≡ true → low a ≤ room →
+      Stuck a room deep ts rest → Stuck (many a) room deep ts rest
+  stuck_more : {a : Grammar} {room : ℕ} {deep : Bool} {ts mid rest : List Symbol} {x : Tree} → goes a ts ≡ true →
+      Gets a room ts x mid → Stuck (many a) room deep mid rest → Stuck (many a) room deep ts rest
+  stuck_part : {p : Part} {room : ℕ} {deep : Bool} {ts rest : List Symbol} → Stuck (rule p) room deep ts rest →
+      Stuck (part p) room deep ts rest
+  stuck_node : {a : Grammar} {room : ℕ} {deep : Bool} {ts rest : List Symbol} → 0 < room →
+      Stuck a (room - 1) deep ts rest → Stuck (node a) room deep ts rest
+  stuck_one : {a b : Grammar} {room : ℕ} {deep : Bool} {ts rest : List Symbol} → Stuck a room deep ts rest →
+      Stuck (chain a b) room deep ts rest
+  stuck_link : {a b : Grammar} {room : ℕ} {deep : Bool} {ts mid rest : List Symbol} {x : Tree} → Gets a room ts x mid →
+      height x < room → goes b mid ≡ true → Stuck b (room - 1) deep mid rest → Stuck (chain a b) room deep ts rest
+  stuck_high : {a b : Grammar} {room : ℕ} {ts mid : List Symbol} {x : Tree} → Gets a room ts x mid → goes b mid ≡ true →
+      room ≤ height x → Stuck (chain a b) room true ts mid
+  stuck_behind : {c : Class} {a : Grammar} {room : ℕ} {deep : Bool} {s : Symbol} {ts rest : List Symbol} →
+      class_of s ≡ c → low a ≤ room → Stuck a room deep ts rest → Stuck (optional c a) room deep (s ∷ ts) rest

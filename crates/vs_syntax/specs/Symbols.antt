@@ -1,12 +1,12 @@
 -- Tokens as the grammar sees them.
 use Rattle.std.specs.Prelude.{ℕ, Bool, true, false, cond, List, [], ◌∷◌, map}
-use Rattle.vs_lexer.specs.declared.token.Kind.{Kind}
-use Rattle.vs_lexer.specs.declared.token.Kind.TheVariants as k
-use Rattle.vs_lexer.specs.declared.token.Literal.{Literal}
-use Rattle.vs_lexer.specs.declared.token.Mark.{Mark}
-use Rattle.vs_lexer.specs.declared.token.Word.{Word}
-use Rattle.vs_lexer.specs.contracts.token.Mark as marks
-use Rattle.vs_lexer.specs.contracts.token.Word as words
+use Rattle.vs_tokens.specs.declared.token.Kind.{Kind}
+use Rattle.vs_tokens.specs.declared.token.Kind.TheVariants as k
+use Rattle.vs_tokens.specs.declared.token.Literal.{Literal}
+use Rattle.vs_tokens.specs.declared.token.Mark.{Mark}
+use Rattle.vs_tokens.specs.declared.token.Word.{Word}
+use Rattle.vs_tokens.specs.contracts.token.Mark as marks
+use Rattle.vs_tokens.specs.contracts.token.Word as words
 use Rattle.vs_lexer.specs.Tokens.{Lexeme, name_of}
 use denote.Enum.Bare.{sameb}
 

@@ -1,9 +1,10 @@
 -- What can begin and end each part of a source, and how high it is at least. Laws of the crate say that the tables are those of the rules.
 use Rattle.std.specs.Prelude.{ℕ, suc, max, min, Bool, true, false, cond, ◌&&◌, ◌||◌, List, [], ◌∷◌, ◌++◌}
-use Rattle.vs_lexer.specs.declared.token.Mark.TheVariants as m
-use Rattle.vs_lexer.specs.declared.token.Word.TheVariants as w
+use Rattle.vs_tokens.specs.declared.token.Mark.{Mark}
+use Rattle.vs_tokens.specs.declared.token.Mark.TheVariants as m
+use Rattle.vs_tokens.specs.declared.token.Word.TheVariants as w
 use Rattle.vs_syntax.specs.Symbols.{Symbol, Class, the_mark, the_word, any_name, any_number, same_class, first}
-use Rattle.vs_syntax.specs.Grammar.{Part, a_source, a_module, an_item, a_declarator, an_assignment, a_stmt, a_target, an_expr, a_parity, a_conjunction, an_operand, Grammar, nothing, token, seq, either, many, part, node, chain}
+use Rattle.vs_syntax.specs.Grammar.{Part, a_source, a_module, an_item, a_declarator, an_assignment, a_stmt, a_target, a_level, Grammar, nothing, token, seq, either, many, part, node, chain, optional, prefixes}
 
 -- a class that can begin a part, and the least nesting of a part that it begins
 pub record Front : Type 0 where
@@ -28,28 +29,36 @@ low_of a_declarator = 0
 low_of an_assignment = 1
 low_of a_stmt = 1
 low_of a_target = 1
-low_of an_expr = 0
-low_of a_parity = 0
-low_of a_conjunction = 0
-low_of an_operand = 0
+low_of (a_level n) = 0
 
--- what can begin an expression
+-- marks with a need
+abbrev pub mark_fronts : ℕ → List Mark → List Front
+mark_fronts n [] = []
+mark_fronts n (x ∷ xs) = at_least (the_mark x) n ∷ mark_fronts n xs
+
+-- what can begin an operand
 abbrev pub operand_fronts : List Front
-operand_fronts = at_least (any_number false) 0 ∷ at_least any_name 0 ∷ at_least (the_mark m.Tilde) 1 ∷ at_least (the_mark m.Open) 1 ∷ []
+operand_fronts = at_least (any_number false) 0 ∷ at_least any_name 0 ∷ (mark_fronts 1 prefixes ++ at_least (the_mark m.Open) 1 ∷ [])
 
 -- what can begin a part
 abbrev pub fronts_of : Part → List Front
 fronts_of a_source = at_least (the_word w.Module) 0 ∷ []
 fronts_of a_module = at_least (the_word w.Module) 0 ∷ []
-fronts_of an_item = at_least (the_word w.Wire) 1 ∷ at_least (the_word w.Reg) 1 ∷ at_least (the_word w.Assign) 2 ∷ at_least (the_word w.Initial) 2 ∷ at_least (the_word w.Always) 2 ∷ []
+fronts_of an_item = at_least (the_word w.Wire) 1
+    ∷ at_least (the_word w.Reg) 1
+    ∷ at_least (the_word w.Assign) 2
+    ∷ at_least (the_word w.Initial) 2
+    ∷ at_least (the_word w.Always) 2
+    ∷ []
 fronts_of a_declarator = at_least any_name 0 ∷ []
 fronts_of an_assignment = at_least any_name 1 ∷ []
-fronts_of a_stmt = at_least (the_mark m.Semicolon) 1 ∷ at_least any_name 2 ∷ at_least (the_word w.Begin) 1 ∷ at_least (the_mark m.Hash) 2 ∷ []
+fronts_of a_stmt = at_least any_name 2
+    ∷ at_least (the_mark m.Semicolon) 1
+    ∷ at_least (the_word w.Begin) 1
+    ∷ at_least (the_mark m.Hash) 2
+    ∷ []
 fronts_of a_target = at_least any_name 1 ∷ []
-fronts_of an_expr = operand_fronts
-fronts_of a_parity = operand_fronts
-fronts_of a_conjunction = operand_fronts
-fronts_of an_operand = operand_fronts
+fronts_of (a_level n) = operand_fronts
 
 -- whether the grammar allows no token
 abbrev pub null : Grammar → Bool
@@ -61,6 +70,7 @@ null (many a) = true
 null (part p) = null_of p
 null (node a) = null a
 null (chain a b) = null a
+null (optional c a) = true
 
 -- the least nesting
 abbrev pub low : Grammar → ℕ
@@ -72,6 +82,7 @@ low (many a) = 0
 low (part p) = low_of p
 low (node a) = suc (low a)
 low (chain a b) = low a
+low (optional c a) = 0
 
 -- the same classes, each beside a part of this nesting
 abbrev pub beside : ℕ → List Front → List Front
@@ -93,6 +104,7 @@ fronts (many a) = fronts a
 fronts (part p) = fronts_of p
 fronts (node a) = above (fronts a)
 fronts (chain a b) = fronts a ++ cond (null a) (above (beside (low a) (fronts b))) []
+fronts (optional c a) = at_least c (low a) ∷ []
 
 -- whether the class is among them
 abbrev pub among : Class → List Front → Bool

@@ -1,12 +1,15 @@
 -- The tree of the grammar that a syntax tree stands for.
 use Rattle.std.specs.Prelude.{ℕ, List, [], ◌∷◌, Option, None, Some, map}
-use Rattle.vs_lexer.specs.declared.token.Mark.{Mark}
-use Rattle.vs_lexer.specs.declared.token.Mark.TheVariants as m
-use Rattle.vs_lexer.specs.declared.token.Word.TheVariants as w
+use Rattle.vs_logic4.specs.declared.operators.Unary.{Unary}
+use Rattle.vs_logic4.specs.declared.operators.Unary.TheVariants as u
+use Rattle.vs_logic4.specs.declared.operators.Binary.{Binary}
+use Rattle.vs_logic4.specs.declared.operators.Binary.TheVariants as b
+use Rattle.vs_tokens.specs.declared.token.Mark.{Mark}
+use Rattle.vs_tokens.specs.declared.token.Mark.TheVariants as m
+use Rattle.vs_tokens.specs.declared.token.Word.{Word}
+use Rattle.vs_tokens.specs.declared.token.Word.TheVariants as w
 use Rattle.vs_syntax.specs.Symbols.{a_mark, a_word, a_name, a_number}
 use Rattle.vs_syntax.specs.Derivation.{Tree, empty, leaf, both, down}
-use Rattle.vs_syntax.specs.declared.tree.Bitwise.{Bitwise}
-use Rattle.vs_syntax.specs.declared.tree.Bitwise.TheVariants as b
 use Rattle.vs_syntax.specs.declared.tree.Expr.{Expr, Expr-F, fold-Expr}
 use Rattle.vs_syntax.specs.declared.tree.Expr.TheOpen as e
 use Rattle.vs_syntax.specs.declared.tree.Declarator.{Declarator}
@@ -32,29 +35,32 @@ abbrev pub listed_tree : List Tree → Tree
 listed_tree [] = empty
 listed_tree (x ∷ xs) = both x (both (row_of (map (both (leaf (a_mark m.Comma))) xs)) (leaf (a_mark m.Semicolon)))
 
--- the mark of a bitwise operator
-abbrev pub mark_of : Bitwise → Mark
-mark_of b.And = m.And
-mark_of b.Xor = m.Xor
-mark_of b.Or = m.Or
+-- the mark of an operator of one operand (clause 5.1)
+abbrev pub unary_mark : Unary → Mark
+unary_mark u.Not = m.Tilde
 
--- operands of one level behind the first one; without a second one no tree of the grammar
-abbrev pub rest_tree : Mark → List Tree → Tree
-rest_tree op [] = empty
-rest_tree op (x ∷ xs) = both (leaf (a_mark op)) (both x (row_of (map (both (leaf (a_mark op))) xs)))
+-- the mark of an operator of two operands (clause 5.1)
+abbrev pub binary_mark : Binary → Mark
+binary_mark b.And = m.And
+binary_mark b.Xor = m.Xor
+binary_mark b.Or = m.Or
 
--- operands of one level; without a first one no tree of the grammar
-abbrev pub chain_tree : Mark → List Tree → Tree
-chain_tree op [] = empty
-chain_tree op (x ∷ xs) = down (both x (rest_tree op xs))
+-- an operator and the operand behind it
+abbrev pub link_tree : Binary × Tree → Tree
+link_tree l = both (leaf (a_mark (binary_mark l.0))) l.1
+
+-- the operands of one level behind the first one; without one no tree of the grammar
+abbrev pub links_tree : List (Binary × Tree) → Tree
+links_tree [] = empty
+links_tree (l ∷ ls) = both (leaf (a_mark (binary_mark l.0))) (both l.1 (row_of (map link_tree ls)))
 
 -- an expression, where the trees of the inner ones stand in their place
 abbrev pub expr_step : Expr-F Tree → Tree
 expr_step (e.Number l) = leaf (a_number l)
 expr_step (e.Name n) = name_tree n.items
 expr_step (e.Group x) = down (both (leaf (a_mark m.Open)) (both x.value (leaf (a_mark m.Close))))
-expr_step (e.Not x) = down (both (leaf (a_mark m.Tilde)) x.value)
-expr_step (e.Chain op xs) = chain_tree (mark_of op) xs.items
+expr_step (e.Unary op x) = down (both (leaf (a_mark (unary_mark op))) x.value)
+expr_step (e.Chain x ls) = down (both x.value (links_tree ls.items))
 
 -- an expression
 abbrev pub expr_tree : Expr → Tree
@@ -79,7 +85,7 @@ assigned_tree n sign x = down (both (down (name_tree n)) (both (leaf (a_mark sig
 
 -- a statement, where the trees of the inner ones stand in their place
 abbrev pub stmt_step : Stmt-F Tree → Tree
-stmt_step s.Null = down (leaf (a_mark m.Semicolon))
+stmt_step s.Null = down (both (leaf (a_mark m.Semicolon)) empty)
 stmt_step (s.Assign n x) = assigned_tree n.items m.Assign x
 stmt_step (s.Later n x) = assigned_tree n.items m.LessEqual x
 stmt_step (s.Block xs) = down (both (leaf (a_word w.Begin)) (both (row_of xs.items) (leaf (a_word w.End))))
@@ -89,17 +95,30 @@ stmt_step (s.Delay l x) = down (both (leaf (a_mark m.Hash)) (both (leaf (a_numbe
 abbrev pub stmt_tree : Stmt → Tree
 stmt_tree = fold-Stmt Tree stmt_step
 
+-- the word of an item
+abbrev pub item_word : Item → Word
+item_word (i.Wire ds) = w.Wire
+item_word (i.Reg ds) = w.Reg
+item_word (i.Assign xs) = w.Assign
+item_word (i.Initial x) = w.Initial
+item_word (i.Always x) = w.Always
+
+-- what stands behind the word of an item
+abbrev pub body_tree : Item → Tree
+body_tree (i.Wire ds) = listed_tree (map declarator_tree ds.items)
+body_tree (i.Reg ds) = listed_tree (map declarator_tree ds.items)
+body_tree (i.Assign xs) = listed_tree (map net_assignment_tree xs.items)
+body_tree (i.Initial x) = stmt_tree x
+body_tree (i.Always x) = stmt_tree x
+
 -- an item of a module
 abbrev pub item_tree : Item → Tree
-item_tree (i.Wire ds) = down (both (leaf (a_word w.Wire)) (listed_tree (map declarator_tree ds.items)))
-item_tree (i.Reg ds) = down (both (leaf (a_word w.Reg)) (listed_tree (map declarator_tree ds.items)))
-item_tree (i.Assign xs) = down (both (leaf (a_word w.Assign)) (listed_tree (map net_assignment_tree xs.items)))
-item_tree (i.Initial x) = down (both (leaf (a_word w.Initial)) (stmt_tree x))
-item_tree (i.Always x) = down (both (leaf (a_word w.Always)) (stmt_tree x))
+item_tree x = down (both (leaf (a_word (item_word x))) (body_tree x))
 
 -- a module
 abbrev pub module_tree : Module → Tree
-module_tree x = both (leaf (a_word w.Module)) (both (name_tree x.name.items) (both (leaf (a_mark m.Semicolon)) (both (row_of (map item_tree x.items.items)) (leaf (a_word w.Endmodule)))))
+module_tree x = both (leaf (a_word w.Module)) (both (name_tree x.name.items)
+    (both (leaf (a_mark m.Semicolon)) (both (row_of (map item_tree x.items.items)) (leaf (a_word w.Endmodule)))))
 
 -- a source
 abbrev pub source_tree : Source → Tree

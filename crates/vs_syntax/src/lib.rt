@@ -4,5 +4,5 @@
 mod law;
 mod tree;
 
-pub use law::{one_tree, plain_reading, tables_agree};
-pub use tree::{Bitwise, Declarator, Expr, Item, Module, NetAssignment, Source, Stmt};
+pub use law::{names_are_tokens, one_source, one_tree, plain_reading, tables_agree};
+pub use tree::{Declarator, Expr, Item, Module, NetAssignment, Source, Stmt};

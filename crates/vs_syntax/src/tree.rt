@@ -1,15 +1,16 @@
 //! The syntax tree.
 use vs_lexer::Literal;
+use vs_logic4::{Binary, Unary};
 
 /// A source text: its modules, in the order of the text (IEEE 1364-2005, clause A.1.2).
-#[derive(Debug, Drop)]
+#[derive(Drop)]
 pub struct Source {
     /// The modules.
     pub modules: Vec<Module>,
 }
 
 /// A module (IEEE 1364-2005, clause 12.1).
-#[derive(Debug, Drop)]
+#[derive(Drop)]
 pub struct Module {
     /// The bytes of its name; those of an escaped name without the backslash.
     pub name: Vec<u8>,
@@ -18,7 +19,7 @@ pub struct Module {
 }
 
 /// A name that a declaration declares (IEEE 1364-2005, clauses 6.1.1 and 6.2.1).
-#[derive(Debug, Drop)]
+#[derive(Drop)]
 pub struct Declarator {
     /// The bytes of the name.
     pub name: Vec<u8>,
@@ -27,7 +28,7 @@ pub struct Declarator {
 }
 
 /// One assignment of an `assign` item (IEEE 1364-2005, clause 6.1.2).
-#[derive(Debug, Drop)]
+#[derive(Drop)]
 pub struct NetAssignment {
     /// The bytes of the name of the net on the left.
     pub target: Vec<u8>,
@@ -36,7 +37,7 @@ pub struct NetAssignment {
 }
 
 /// An item of a module (IEEE 1364-2005, clause A.1.4).
-#[derive(Debug, Drop)]
+#[derive(Drop)]
 pub enum Item {
     /// `wire` with names of scalars, in the order of the text (clause 4.2.1).
     Wire(Vec<Declarator>),
@@ -51,7 +52,7 @@ pub enum Item {
 }
 
 /// A statement (IEEE 1364-2005, clause A.6.4).
-#[derive(Debug, Drop)]
+#[derive(Drop)]
 pub enum Stmt {
     /// `;` alone.
     Null,
@@ -65,19 +66,8 @@ pub enum Stmt {
     Delay(Literal, Box<Stmt>),
 }
 
-/// A bitwise operator of two operands (IEEE 1364-2005, clause 5.1.10).
-#[derive(Clone, Copy, PartialEq, Eq, Debug)]
-pub enum Bitwise {
-    /// `&`
-    And,
-    /// `^`
-    Xor,
-    /// `|`
-    Or,
-}
-
 /// An expression (IEEE 1364-2005, clause 5).
-#[derive(Debug, Drop)]
+#[derive(Drop)]
 pub enum Expr {
     /// A number (clause 3.5.1).
     Number(Literal),
@@ -85,8 +75,9 @@ pub enum Expr {
     Name(Vec<u8>),
     /// An expression in parentheses.
     Group(Box<Expr>),
-    /// `~` and its operand (clause 5.1.10).
-    Not(Box<Expr>),
-    /// Two operands or more with one bitwise operator between them, from left to right (clause 5.1.10).
-    Chain(Bitwise, Vec<Expr>),
+    /// An operator and its operand (clause 5.1).
+    Unary(Unary, Box<Expr>),
+    /// Operands with operators of one level between them, from left to right (clause 5.1.2): the first operand, and each other one with the
+    /// operator before it.
+    Chain(Box<Expr>, Vec<(Binary, Expr)>),
 }

@@ -29,7 +29,8 @@ pub fn clear_flag(flags: &mut Flags, slot: usize)
 fn lowest_from(word: u64, low: usize) -> Option<usize>
     requires { low < 64 }
     ensures { MatchOption result ((i : ℕ) → low ≤ i → i < 64 → bit_at word i ≡ 0)
-        (λ found. (low ≤ found) × (found < 64) × (bit_at word found ≡ 1) × ((i : ℕ) → low ≤ i → i < found → bit_at word i ≡ 0)) }
+        (λ found. (low ≤ found) × (found < 64) × (bit_at word found ≡ 1)
+        × ((i : ℕ) → low ≤ i → i < found → bit_at word i ≡ 0)) }
 {
     let rest = word >> low;
     if rest == 0 {
@@ -42,7 +43,8 @@ fn lowest_from(word: u64, low: usize) -> Option<usize>
 pub fn next_flag(flags: &Flags, from: usize) -> Option<usize>
     requires { from < 256 }
     ensures { MatchOption result ((k : ℕ) → k < 256 → flag_at flags.now ((from + k) % 256) ≡ 0)
-        (λ found. (found < 256) × (flag_at flags.now ((from + found) % 256) ≡ 1) × ((k : ℕ) → k < found → flag_at flags.now ((from + k) % 256) ≡ 0)) }
+        (λ found. (found < 256) × (flag_at flags.now ((from + found) % 256) ≡ 1)
+        × ((k : ℕ) → k < found → flag_at flags.now ((from + k) % 256) ≡ 0)) }
 {
     let start = from / 64;
     let low = from % 64;

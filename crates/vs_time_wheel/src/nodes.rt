@@ -89,11 +89,11 @@ impl<T, A: Allocator> Nodes<T, A> {
             (event, Vacant { ptr, alloc })
         }
     }
-}
 
-// It frees nothing: the chain takes each node out first.
-impl<T, A: Allocator> Drop for Nodes<T, A> {
-    fn drop(self) {
+    // Lets a list without nodes go. There is no drop, so that none is let go that still has nodes.
+    pub fn destroy_empty(self)
+        requires { self.events ≡ [] }
+    {
         let Nodes { first: _, last: _ } = self;
     }
 }

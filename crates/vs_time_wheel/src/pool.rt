@@ -79,7 +79,8 @@ impl<E: Drop> Drop for Chain<E> {
         while let Some((_, room)) = self.unlink() {
             room.free();
         }
-        let Chain { nodes: _, len: _ } = self;
+        let Chain { nodes, len: _ } = self;
+        nodes.destroy_empty();
     }
 }
 

@@ -86,7 +86,8 @@ impl<E> Turn<E> {
     pub fn next(&self, from: usize) -> Option<usize>
         requires { from < 256 }
         ensures { MatchOption result ((k : ℕ) → k < 256 → slot_at self.now ((from + k) % 256) ≡ [])
-            (λ found. (found < 256) × (slot_at self.now ((from + found) % 256) ≢ []) × ((k : ℕ) → k < found → slot_at self.now ((from + k) % 256) ≡ [])) }
+            (λ found. (found < 256) × (slot_at self.now ((from + found) % 256) ≢ [])
+            × ((k : ℕ) → k < found → slot_at self.now ((from + k) % 256) ≡ [])) }
     {
         next_flag(&self.flags, from)
     }

@@ -93,8 +93,10 @@ fn first_time<E>(later: &Later<E>) -> Option<u64>
 // Takes the events of the first of the later times, where that time is near.
 fn take_near<E>(later: &mut Later<E>, now: u64) -> Option<(u64, Chain<E>)>
     requires { (t : ℕ) → t < now → get nat_cmp later.old t ≡ None }
-    ensures first { MatchOption result (((t : ℕ) → t < now + 256 → get nat_cmp later.old t ≡ None) × IsUnchanged later.old later.new)
-        (λ first. (now ≤ first.0) × (first.0 < now + 256) × (get nat_cmp later.old first.0 ≡ Some first.1) × Loses later.old later.new first.0) }
+    ensures first { MatchOption result
+        (((t : ℕ) → t < now + 256 → get nat_cmp later.old t ≡ None) × IsUnchanged later.old later.new)
+        (λ first. (now ≤ first.0) × (first.0 < now + 256) × (get nat_cmp later.old first.0 ≡ Some first.1)
+        × Loses later.old later.new first.0) }
     ensures small { IfSome result (λ first. first.0 < 2 ^ 64) }
     ensures fewer { OnSome result (btree_map_len later.new + 1 ≡ btree_map_len later.old) }
 {

@@ -1,20 +1,20 @@
 -- What the lines of a dump say.
 use Rattle.std.proofs.Common.{◌≡◌, ℕ, zero, suc, ◌^◌, ◌<◌, ◌≤◌, Bool, true, false, Option, Some, None, List, [], ◌∷◌, ◌++◌, map, reverse, refl, sym, ap, ◌∙◌, append_assoc, arith, inl, inr}
-use Rattle.std.proofs.lemmas.Bool.{cases_eq, cases_lt, cond-true, cond-false, le-leb, lt-leb, and_left, and_right, and_from, false_from_ne_true, cond_both}
+use Rattle.std.proofs.lemmas.Bool.{cases_lt, cond-true, cond-false, le-leb, lt-leb, and_left, and_right, and_from, false_from_ne_true, cond_both}
 use Rattle.std.proofs.lemmas.Slice.Eq.{bytes_eq-Decides}
 use Rattle.std.proofs.lemmas.Fmt.{decimal_is_IsNumeral}
-use Rattle.std.specs.Prelude.{◌==◌, ◌&&◌, nat_le, codes, unwrap_or, if◌then◌else◌}
+use Rattle.std.specs.Prelude.{◌+◌, ◌==◌, ◌&&◌, nat_le, slice_get, codes, unwrap_or, if◌then◌else◌}
 use Rattle.std.specs.Option.{option_or}
 use Rattle.std.specs.Str.{bytes_eq}
 use Rattle.vs_logic4.specs.declared.digit.Digit.{Digit}
 use Rattle.vs_logic4.specs.declared.digit.Digit.TheVariants.{Zero, One, X, Z}
 use Rattle.vs_logic4.specs.Sameness.{same_digits-true}
 use Rattle.vs_design.specs.Stores.{Store}
-use Rattle.vs_design.specs.Traces.{Slot}
+use Rattle.vs_design.specs.Traces.{Slot, AreRisingAfter, AreRising}
 use Rattle.vs_vcd.specs.Codes.{code}
 use Rattle.vs_vcd.specs.Values.{digit_character, shortened, value_change, shown_value}
-use Rattle.vs_vcd.specs.Text.{time_line, change_line, value_lines, is_same, changed_line, change_lines, first_lines, timed, lines_after, slots_lines, end_lines}
-use Rattle.vs_vcd.specs.Shown.{Time, Value, digits_part, code_part, meaning, Change, changes_by, time_by, changes_from, is_change, last_change, slot_at, AreRisingAfter, AreRising}
+use Rattle.vs_vcd.specs.Text.{time_line, coded_lines, change_line, value_line, value_lines, is_same, changed_line, change_lines, first_lines, timed, lines_after, slots_lines, end_lines}
+use Rattle.vs_vcd.specs.Shown.{Time, Value, digits_part, code_part, meaning, Change, changes_by, time_by, changes_from, is_change, last_change, slot_at}
 use Rattle.vs_vcd.proofs.CodeLemmas.{code-injective}
 
 -- ---- options
@@ -73,8 +73,8 @@ meaning_value (d ∷ e ∷ ds) cs = meaning_vector (shortened (reverse (d ∷ e 
 abbrev pub written : Store → ℕ → List Digit
 written store n = shortened (reverse (shown_value store n))
 
-meaning_change : (store : Store) (n : ℕ) → meaning (change_line store n) ≡ Value (written store n) (code n)
-meaning_change store n = meaning_value (shown_value store n) (code n)
+meaning_change : (store : Store) (n s : ℕ) → meaning (change_line store n s) ≡ Value (written store s) (code n)
+meaning_change store n s = meaning_value (shown_value store s) (code n)
 
 -- ---- lines one after another
 
@@ -99,7 +99,7 @@ last_change-append t c (x ∷ xs) ys =
     ap (λ o. option_or o (if is_change t c x then Some x.digits else None)) (last_change-append t c xs ys)
     ∙ option_or-assoc (last_change t c ys) (last_change t c xs) (if is_change t c x then Some x.digits else None)
 
--- what lines after a time tell of a signal at a moment
+-- what lines after a time tell of the code of a number at a moment
 abbrev pub told : ℕ → ℕ → ℕ → List (List ℕ) → Option (List Digit)
 told t n now ls = last_change t (code n) (changes_from now ls)
 
@@ -112,97 +112,113 @@ told-append_at t n now xs ys h = told-append t n now xs ys ∙ ap (λ w. option_
 
 -- ---- changes
 
-told_one : (t n now : ℕ) (store : Store) (m : ℕ) → told t n now (change_line store m ∷ []) ≡ (if nat_le now t && bytes_eq (code m) (code n) then Some (written store m) else None)
-told_one t n now store m = ap (λ w. last_change t (code n) (changes_by now w ++ [])) (meaning_change store m)
+told_one : (t n now : ℕ) (store : Store) (m s : ℕ)
+    → told t n now (change_line store m s ∷ []) ≡ (if nat_le now t && bytes_eq (code m) (code n) then Some (written store s) else None)
+told_one t n now store m s = ap (λ w. last_change t (code n) (changes_by now w ++ [])) (meaning_change store m s)
 
-told_same : (t n now : ℕ) (store : Store) → now ≤ t → told t n now (change_line store n ∷ []) ≡ Some (written store n)
-told_same t n now store h =
-    told_one t n now store n
-    ∙ cond-true (nat_le now t && bytes_eq (code n) (code n)) (Some (written store n)) None
+told_same : (t n now : ℕ) (store : Store) (s : ℕ) → now ≤ t → told t n now (change_line store n s ∷ []) ≡ Some (written store s)
+told_same t n now store s h =
+    told_one t n now store n s
+    ∙ cond-true (nat_le now t && bytes_eq (code n) (code n)) (Some (written store s)) None
     (and_from (nat_le now t) (bytes_eq (code n) (code n)) (le-leb now t h) ((bytes_eq-Decides (code n) (code n)).1 refl))
 
-told_other : (t n now : ℕ) (store : Store) (m : ℕ) → (n ≡ m → ⊥) → told t n now (change_line store m ∷ []) ≡ None
-told_other t n now store m ne =
-    told_one t n now store m
-    ∙ cond-false (nat_le now t && bytes_eq (code m) (code n)) (Some (written store m)) None
+told_other : (t n now : ℕ) (store : Store) (m s : ℕ) → (n ≡ m → ⊥) → told t n now (change_line store m s ∷ []) ≡ None
+told_other t n now store m s ne =
+    told_one t n now store m s
+    ∙ cond-false (nat_le now t && bytes_eq (code m) (code n)) (Some (written store s)) None
     (and_right (nat_le now t) (bytes_eq (code m) (code n))
     (false_from_ne_true (bytes_eq (code m) (code n)) (λ e. ne (sym (code-injective m n ((bytes_eq-Decides (code m) (code n)).0 e))))))
 
-told_late : (t n now : ℕ) (store : Store) (m : ℕ) → t < now → told t n now (change_line store m ∷ []) ≡ None
-told_late t n now store m h =
-    told_one t n now store m
-    ∙ cond-false (nat_le now t && bytes_eq (code m) (code n)) (Some (written store m)) None (and_left (nat_le now t) (bytes_eq (code m) (code n)) (lt-leb now t h))
+told_late : (t n now : ℕ) (store : Store) (m s : ℕ) → t < now → told t n now (change_line store m s ∷ []) ≡ None
+told_late t n now store m s h =
+    told_one t n now store m s
+    ∙ cond-false (nat_le now t && bytes_eq (code m) (code n)) (Some (written store s)) None (and_left (nat_le now t) (bytes_eq (code m) (code n)) (lt-leb now t h))
 
-through_change : (now : ℕ) (store : Store) (m : ℕ) → time_by now (meaning (change_line store m)) ≡ now
-through_change now store m = ap (time_by now) (meaning_change store m)
+through_change : (now : ℕ) (store : Store) (m s : ℕ) → time_through now (change_line store m s ∷ []) ≡ now
+through_change now store m s = ap (time_by now) (meaning_change store m s)
+
+-- ---- the lines of signals
+
+-- the lines of a signal are all of one time
+abbrev KeepsTime : (ℕ → ℕ → List (List ℕ)) → Type 0
+KeepsTime lines = (now m s : ℕ) → time_through now (lines m s) ≡ now
+
+through_coded : (lines : ℕ → ℕ → List (List ℕ)) → KeepsTime lines → (now m : ℕ) (ss : List ℕ) → time_through now (coded_lines lines m ss) ≡ now
+through_coded lines keeps now m [] = refl
+through_coded lines keeps now m (s ∷ ss) =
+    time_through-append now (lines m s) (coded_lines lines (suc m) ss)
+    ∙ ap (λ w. time_through w (coded_lines lines (suc m) ss)) (keeps now m s) ∙ through_coded lines keeps now (suc m) ss
+
+told_first_of : (lines : ℕ → ℕ → List (List ℕ)) → KeepsTime lines → (t n now m s : ℕ) (ss : List ℕ)
+    → told t n now (coded_lines lines m (s ∷ ss)) ≡ option_or (told t n now (coded_lines lines (suc m) ss)) (told t n now (lines m s))
+told_first_of lines keeps t n now m s ss = told-append_at t n now (lines m s) (coded_lines lines (suc m) ss) (keeps now m s)
+
+told_none : (lines : ℕ → ℕ → List (List ℕ)) → KeepsTime lines → (t n now m : ℕ) (ss : List ℕ)
+    → ((j s : ℕ) → m ≤ j → told t n now (lines j s) ≡ None) → told t n now (coded_lines lines m ss) ≡ None
+told_none lines keeps t n now m [] none = refl
+told_none lines keeps t n now m (s ∷ ss) none =
+    told_first_of lines keeps t n now m s ss
+    ∙ ap (λ o. option_or o (told t n now (lines m s))) (told_none lines keeps t n now (suc m) ss (λ j x h. none j x (omega (arith, h))))
+    ∙ none m s (omega arith)
+
+-- of a code only the lines of its signal tell
+told_at : (lines : ℕ → ℕ → List (List ℕ)) → KeepsTime lines → (t n now m i : ℕ) (ss : List ℕ) (signal : ℕ) → n ≡ m + i → slice_get ss i ≡ Some signal
+    → ((j s : ℕ) → (n ≡ j → ⊥) → told t n now (lines j s) ≡ None) → told t n now (coded_lines lines m ss) ≡ told t n now (lines n signal)
+told_at lines keeps t n now m i [] signal e h others = cc
+told_at lines keeps t n now m zero (s ∷ ss) signal e h others =
+    let at : m ≡ n = omega (arith, e) in
+    let same : s ≡ signal = cc in
+    told_first_of lines keeps t n now m s ss
+    ∙ ap (λ o. option_or o (told t n now (lines m s))) (told_none lines keeps t n now (suc m) ss (λ j x k. others j x (λ q. omega (arith, e, k, q))))
+    ∙ ap (λ j. told t n now (lines j s)) at ∙ ap (λ x. told t n now (lines n x)) same
+told_at lines keeps t n now m (suc i) (s ∷ ss) signal e h others =
+    told_first_of lines keeps t n now m s ss
+    ∙ ap (λ o. option_or o (told t n now (lines m s))) (told_at lines keeps t n now (suc m) i ss signal (omega (arith, e)) h others)
+    ∙ ap (λ o. option_or (told t n now (lines n signal)) o) (others m s (λ q. omega (arith, e, q)))
+    ∙ option_or-none (told t n now (lines n signal))
 
 -- ---- the values of all signals
 
-through_values : (now : ℕ) (store : Store) (m : ℕ) → time_through now (value_lines store m) ≡ now
-through_values now store zero = refl
-through_values now store (suc m) =
-    time_through-append now (value_lines store m) (change_line store m ∷ [])
-    ∙ ap (λ w. time_by w (meaning (change_line store m))) (through_values now store m) ∙ through_change now store m
+through_values : (now : ℕ) (store : Store) (ss : List ℕ) → time_through now (value_lines store ss) ≡ now
+through_values now store ss = through_coded (value_line store) (λ w m s. through_change w store m s) now 0 ss
 
-told_values : (t n now : ℕ) (store : Store) (m : ℕ) → now ≤ t → n < m → told t n now (value_lines store m) ≡ Some (written store n)
-told_values t n now store zero h k = absurd (omega arith)
-told_values t n now store (suc m) h k =
-    told-append_at t n now (value_lines store m) (change_line store m ∷ []) (through_values now store m)
-    ∙ elim (cases_eq n m) [
-      | inl same ↦ ap (λ o. option_or o (told t n now (value_lines store m))) (ap (λ i. told t n now (change_line store i ∷ [])) (sym same) ∙ told_same t n now store h)
-      | inr other ↦ ap (λ o. option_or o (told t n now (value_lines store m))) (told_other t n now store m other) ∙ told_values t n now store m h (omega arith)
-    ]
+told_values : (t n now : ℕ) (store : Store) (ss : List ℕ) (signal : ℕ) → now ≤ t → slice_get ss n ≡ Some signal → told t n now (value_lines store ss) ≡ Some (written store signal)
+told_values t n now store ss signal h k =
+    told_at (value_line store) (λ w m s. through_change w store m s) t n now 0 n ss signal (omega arith) k (λ j s ne. told_other t n now store j s ne)
+    ∙ told_same t n now store signal h
 
 -- ---- the values that changed
 
-through_changed : (now : ℕ) (before after : Store) (m : ℕ) (x : Bool) → time_through now (if x then [] else change_line after m ∷ []) ≡ now
-through_changed now before after m true = refl
-through_changed now before after m false = through_change now after m
+through_changed : (now : ℕ) (after : Store) (m s : ℕ) (x : Bool) → time_through now (if x then [] else change_line after m s ∷ []) ≡ now
+through_changed now after m s true = refl
+through_changed now after m s false = through_change now after m s
 
-through_changes : (now : ℕ) (before after : Store) (m : ℕ) → time_through now (change_lines before after m) ≡ now
-through_changes now before after zero = refl
-through_changes now before after (suc m) =
-    time_through-append now (change_lines before after m) (changed_line before after m)
-    ∙ ap (λ w. time_through w (changed_line before after m)) (through_changes now before after m)
-    ∙ through_changed now before after m (is_same before after m)
+changed_keeps : (before after : Store) → KeepsTime (changed_line before after)
+changed_keeps before after now m s = through_changed now after m s (is_same before after s)
 
-told_maybe : (t n now : ℕ) (after : Store) (m : ℕ) (o : Option (List Digit)) (x : Bool) → told t n now (change_line after m ∷ []) ≡ o → told t n now (if x then [] else change_line after m ∷ []) ≡ (if x then None else o)
-told_maybe t n now after m o true h = refl
-told_maybe t n now after m o false h = h
+through_changes : (now : ℕ) (before after : Store) (ss : List ℕ) → time_through now (change_lines before after ss) ≡ now
+through_changes now before after ss = through_coded (changed_line before after) (changed_keeps before after) now 0 ss
 
-told_nothing : (t n now : ℕ) (after : Store) (m : ℕ) (x : Bool) → told t n now (change_line after m ∷ []) ≡ None → told t n now (if x then [] else change_line after m ∷ []) ≡ None
-told_nothing t n now after m true h = refl
-told_nothing t n now after m false h = h
+told_maybe : (t n now : ℕ) (after : Store) (m s : ℕ) (o : Option (List Digit)) (x : Bool) → told t n now (change_line after m s ∷ []) ≡ o
+    → told t n now (if x then [] else change_line after m s ∷ []) ≡ (if x then None else o)
+told_maybe t n now after m s o true h = refl
+told_maybe t n now after m s o false h = h
 
-told_changes_past : (t n now : ℕ) (before after : Store) (m : ℕ) → m ≤ n → told t n now (change_lines before after m) ≡ None
-told_changes_past t n now before after zero h = refl
-told_changes_past t n now before after (suc m) h =
-    let other : n ≡ m → ⊥ = λ e. omega arith in
-    told-append_at t n now (change_lines before after m) (changed_line before after m) (through_changes now before after m)
-    ∙ ap (λ o. option_or o (told t n now (change_lines before after m))) (told_nothing t n now after m (is_same before after m) (told_other t n now after m other))
-    ∙ told_changes_past t n now before after m (omega arith)
+told_nothing : (t n now : ℕ) (after : Store) (m s : ℕ) (x : Bool) → told t n now (change_line after m s ∷ []) ≡ None → told t n now (if x then [] else change_line after m s ∷ []) ≡ None
+told_nothing t n now after m s true h = refl
+told_nothing t n now after m s false h = h
 
-told_changes_late : (t n now : ℕ) (before after : Store) (m : ℕ) → t < now → told t n now (change_lines before after m) ≡ None
-told_changes_late t n now before after zero h = refl
-told_changes_late t n now before after (suc m) h =
-    told-append_at t n now (change_lines before after m) (changed_line before after m) (through_changes now before after m)
-    ∙ ap (λ o. option_or o (told t n now (change_lines before after m))) (told_nothing t n now after m (is_same before after m) (told_late t n now after m h))
-    ∙ told_changes_late t n now before after m h
+told_changes_late : (t n now : ℕ) (before after : Store) (ss : List ℕ) → t < now → told t n now (change_lines before after ss) ≡ None
+told_changes_late t n now before after ss h =
+    told_none (changed_line before after) (changed_keeps before after) t n now 0 ss
+    (λ j s k. told_nothing t n now after j s (is_same before after s) (told_late t n now after j s h))
 
-told_changes : (t n now : ℕ) (before after : Store) (m : ℕ) → now ≤ t → n < m → told t n now (change_lines before after m) ≡ (if is_same before after n then None else Some (written after n))
-told_changes t n now before after zero h k = absurd (omega arith)
-told_changes t n now before after (suc m) h k =
-    told-append_at t n now (change_lines before after m) (changed_line before after m) (through_changes now before after m)
-    ∙ elim (cases_eq n m) [
-      | inl same ↦
-          ap (option_or (told t n now (changed_line before after m))) (told_changes_past t n now before after m (omega arith))
-          ∙ option_or-none (told t n now (changed_line before after m))
-          ∙ ap (λ i. told t n now (changed_line before after i)) (sym same)
-          ∙ told_maybe t n now after n (Some (written after n)) (is_same before after n) (told_same t n now after h)
-      | inr other ↦
-          ap (λ o. option_or o (told t n now (change_lines before after m))) (told_nothing t n now after m (is_same before after m) (told_other t n now after m other))
-          ∙ told_changes t n now before after m h (omega arith)
-    ]
+told_changes : (t n now : ℕ) (before after : Store) (ss : List ℕ) (signal : ℕ) → now ≤ t → slice_get ss n ≡ Some signal
+    → told t n now (change_lines before after ss) ≡ (if is_same before after signal then None else Some (written after signal))
+told_changes t n now before after ss signal h k =
+    told_at (changed_line before after) (changed_keeps before after) t n now 0 n ss signal (omega arith) k
+    (λ j s ne. told_nothing t n now after j s (is_same before after s) (told_other t n now after j s ne))
+    ∙ told_maybe t n now after n signal (Some (written after signal)) (is_same before after signal) (told_same t n now after signal h)
 
 -- after changes from one store to another, the value shown is that of the second
 changed_to : (before after : Store) (n : ℕ) (x : Bool) → is_same before after n ≡ x → option_or (if x then None else Some (written after n)) (Some (written before n)) ≡ Some (written after n)
@@ -218,14 +234,14 @@ told_timed t n now time [] rest h k = (now, sym (option_or-none (told t n now re
 told_timed t n now time (l ∷ ls) rest h k =
     (time, ap (λ w. last_change t (code n) (changes_by now w ++ changes_from (time_by now w) ((l ∷ ls) ++ rest))) (meaning_time time h) ∙ told-append_at t n time (l ∷ ls) rest k)
 
-late_slots : (t n count now time : ℕ) (before : Store) (ss : List Slot) → t < time → AreRisingAfter time ss → told t n now (lines_after count before ss) ≡ None
-late_slots t n count now time before [] h r = refl
-late_slots t n count now time before (s ∷ ss) h r =
-    let cs = change_lines before s.store count in
-    let split = told_timed t n now s.time cs (lines_after count s.store ss) r.1 (through_changes s.time before s.store count) in
+late_slots : (t n : ℕ) (signals : List ℕ) (now time : ℕ) (before : Store) (ss : List Slot) → t < time → AreRisingAfter time ss → told t n now (lines_after signals before ss) ≡ None
+late_slots t n signals now time before [] h r = refl
+late_slots t n signals now time before (s ∷ ss) h r =
+    let cs = change_lines before s.store signals in
+    let split = told_timed t n now s.time cs (lines_after signals s.store ss) r.1 (through_changes s.time before s.store signals) in
     split.1
-    ∙ ap (λ o. option_or o (told t n s.time cs)) (late_slots t n count split.0 s.time s.store ss (omega (arith, r.0)) r.2)
-    ∙ told_changes_late t n s.time before s.store count (omega (arith, r.0))
+    ∙ ap (λ o. option_or o (told t n s.time cs)) (late_slots t n signals split.0 s.time s.store ss (omega (arith, r.0)) r.2)
+    ∙ told_changes_late t n s.time before s.store signals (omega (arith, r.0))
 
 late_slot_at : (t time : ℕ) (ss : List Slot) → t < time → AreRisingAfter time ss → slot_at t ss ≡ None
 late_slot_at t time [] h r = refl
@@ -241,57 +257,57 @@ pub slot_at-before : (t : ℕ) (s : Slot) (ss : List Slot) → t < s.time → Ar
 slot_at-before t s ss h r =
     ap (λ o. option_or o (if nat_le s.time t then Some s else None)) (late_slot_at t s.time ss h r) ∙ cond-false (nat_le s.time t) (Some s) None (lt-leb s.time t h)
 
-told_slots : (t n count now : ℕ) (b : Slot) (ss : List Slot) → n < count → AreRisingAfter b.time ss
-    → option_or (told t n now (lines_after count b.store ss)) (Some (written b.store n)) ≡ Some (written (unwrap_or (slot_at t ss) b).store n)
-told_slots t n count now b [] k r = refl
-told_slots t n count now b (s ∷ ss) k r =
-    let cs = change_lines b.store s.store count in
-    let rest = lines_after count s.store ss in
-    let split = told_timed t n now s.time cs rest r.1 (through_changes s.time b.store s.store count) in
-    let before = Some (written b.store n) in
+told_slots : (t n : ℕ) (signals : List ℕ) (signal now : ℕ) (b : Slot) (ss : List Slot) → slice_get signals n ≡ Some signal → AreRisingAfter b.time ss
+    → option_or (told t n now (lines_after signals b.store ss)) (Some (written b.store signal)) ≡ Some (written (unwrap_or (slot_at t ss) b).store signal)
+told_slots t n signals signal now b [] k r = refl
+told_slots t n signals signal now b (s ∷ ss) k r =
+    let cs = change_lines b.store s.store signals in
+    let rest = lines_after signals s.store ss in
+    let split = told_timed t n now s.time cs rest r.1 (through_changes s.time b.store s.store signals) in
+    let before = Some (written b.store signal) in
     ap (λ o. option_or o before) split.1
     ∙ elim (cases_lt t s.time) [
       | inl early ↦
-          ap (λ o. option_or (option_or o (told t n s.time cs)) before) (late_slots t n count split.0 s.time s.store ss early r.2)
-          ∙ ap (λ o. option_or o before) (told_changes_late t n s.time b.store s.store count early)
-          ∙ ap (λ o. Some (written (unwrap_or o b).store n)) (sym (slot_at-before t s ss early r.2))
+          ap (λ o. option_or (option_or o (told t n s.time cs)) before) (late_slots t n signals split.0 s.time s.store ss early r.2)
+          ∙ ap (λ o. option_or o before) (told_changes_late t n s.time b.store s.store signals early)
+          ∙ ap (λ o. Some (written (unwrap_or o b).store signal)) (sym (slot_at-before t s ss early r.2))
       | inr there ↦
           option_or-assoc (told t n split.0 rest) (told t n s.time cs) before
-          ∙ ap (λ o. option_or (told t n split.0 rest) (option_or o before)) (told_changes t n s.time b.store s.store count there k)
-          ∙ ap (option_or (told t n split.0 rest)) (changed_to b.store s.store n (is_same b.store s.store n) refl)
-          ∙ told_slots t n count split.0 s ss k r.2
-          ∙ ap (λ o. Some (written (unwrap_or o b).store n)) (sym (slot_at-cons t s ss there))
+          ∙ ap (λ o. option_or (told t n split.0 rest) (option_or o before)) (told_changes t n s.time b.store s.store signals signal there k)
+          ∙ ap (option_or (told t n split.0 rest)) (changed_to b.store s.store signal (is_same b.store s.store signal) refl)
+          ∙ told_slots t n signals signal split.0 s ss k r.2
+          ∙ ap (λ o. Some (written (unwrap_or o b).store signal)) (sym (slot_at-cons t s ss there))
     ]
 
 -- the first slot's lines: what they tell, and then the rest
-told_first : (t n now count : ℕ) (s : Slot) (rest : List (List ℕ)) → s.time < 2 ^ 64 → s.time ≤ t → n < count
-    → told t n now (first_lines count s.time s.store ++ rest) ≡ option_or (told t n s.time rest) (Some (written s.store n))
-told_first t n now count s rest h k m =
-    let values = value_lines s.store count in
+told_first : (t n now : ℕ) (signals : List ℕ) (signal : ℕ) (s : Slot) (rest : List (List ℕ)) → s.time < 2 ^ 64 → s.time ≤ t → slice_get signals n ≡ Some signal
+    → told t n now (first_lines signals s.time s.store ++ rest) ≡ option_or (told t n s.time rest) (Some (written s.store signal))
+told_first t n now signals signal s rest h k m =
+    let values = value_lines s.store signals in
     let tail = codes "$end" ∷ rest in
     ap (told t n now) (append_assoc (time_line s.time ∷ codes "$dumpvars" ∷ values) (codes "$end" ∷ []) rest)
     ∙ ap (λ w. last_change t (code n) (changes_by now w ++ changes_from (time_by now w) (codes "$dumpvars" ∷ values ++ tail))) (meaning_time s.time h)
-    ∙ told-append_at t n s.time values tail (through_values s.time s.store count)
-    ∙ ap (option_or (told t n s.time rest)) (told_values t n s.time s.store count k m)
+    ∙ told-append_at t n s.time values tail (through_values s.time s.store signals)
+    ∙ ap (option_or (told t n s.time rest)) (told_values t n s.time s.store signals signal k m)
 
 -- lines that tell nothing
 abbrev pub IsSilent : List (List ℕ) → Type 0
 IsSilent ls = (t n now : ℕ) → told t n now ls ≡ None
 
-pub silent_end : (o : Option (ℕ × Store)) (e : ℕ) → IsSilent (end_lines o e ++ [] ∷ [])
+pub silent_end : (o : Option ℕ) (e : ℕ) → IsSilent (end_lines o e ++ [] ∷ [])
 silent_end None e t n now = refl
 silent_end (Some last) e t n now =
-    cond_both (last.0 == e) [] (time_line e ∷ []) (λ ls. told t n now (ls ++ [] ∷ []) ≡ None) (λ x. refl) (λ x. refl)
+    cond_both (last == e) [] (time_line e ∷ []) (λ ls. told t n now (ls ++ [] ∷ []) ≡ None) (λ x. refl) (λ x. refl)
 
 pub silent_nothing : IsSilent ([] ∷ [])
 silent_nothing t n now = refl
 
 -- what slots and then silent lines tell is what stands in the last slot at or before the moment
-pub told_whole : (t n count : ℕ) (s : Slot) (ss : List Slot) (tail : List (List ℕ)) → n < count → AreRising (s ∷ ss) → IsSilent tail → s.time ≤ t
-    → told t n 0 (slots_lines count (s ∷ ss) ++ tail) ≡ Some (written (unwrap_or (slot_at t ss) s).store n)
-told_whole t n count s ss tail k r quiet there =
-    let rest = lines_after count s.store ss in
-    ap (told t n 0) (append_assoc (first_lines count s.time s.store) rest tail)
-    ∙ told_first t n 0 count s (rest ++ tail) r.0 there k
-    ∙ ap (λ o. option_or o (Some (written s.store n))) (told-append t n s.time rest tail ∙ ap (λ o. option_or o (told t n s.time rest)) (quiet t n (time_through s.time rest)))
-    ∙ told_slots t n count s.time s ss k r.1
+pub told_whole : (t n : ℕ) (signals : List ℕ) (signal : ℕ) (s : Slot) (ss : List Slot) (tail : List (List ℕ)) → slice_get signals n ≡ Some signal → AreRising (s ∷ ss) → IsSilent tail → s.time ≤ t
+    → told t n 0 (slots_lines signals (s ∷ ss) ++ tail) ≡ Some (written (unwrap_or (slot_at t ss) s).store signal)
+told_whole t n signals signal s ss tail k r quiet there =
+    let rest = lines_after signals s.store ss in
+    ap (told t n 0) (append_assoc (first_lines signals s.time s.store) rest tail)
+    ∙ told_first t n 0 signals signal s (rest ++ tail) r.0 there k
+    ∙ ap (λ o. option_or o (Some (written s.store signal))) (told-append t n s.time rest tail ∙ ap (λ o. option_or o (told t n s.time rest)) (quiet t n (time_through s.time rest)))
+    ∙ told_slots t n signals signal s.time s ss k r.1

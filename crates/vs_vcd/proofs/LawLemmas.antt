@@ -1,17 +1,19 @@
 -- A dump shows the values at the ends of its slots.
-use Rattle.std.proofs.Common.{◌≡◌, ℕ, ◌<◌, true, Option, Some, None, IfSome, List, [], ◌∷◌, ◌++◌, length, reverse, refl, sym, ap, ◌∙◌, subst, append_assoc, inl, inr}
+use Rattle.std.proofs.Common.{◌≡◌, ℕ, true, Option, Some, None, IfSome, List, [], ◌∷◌, ◌++◌, length, reverse, refl, sym, ap, ◌∙◌, subst, append_assoc, inl, inr}
 use Rattle.std.proofs.lemmas.List.{length-reverse}
 use Rattle.std.proofs.lemmas.Bool.{cases_lt}
 use Rattle.std.specs.Prelude.{unwrap_or, slice_get}
-use Rattle.std.specs.List.{list_all}
+use Rattle.std.specs.List.{list_all, Contains}
 use Rattle.vs_design.specs.declared.signal.Signal.{Signal}
 use Rattle.vs_design.specs.declared.design.Entry.{Entry}
 use Rattle.vs_design.specs.declared.design.Entry.TheVariants.{Enter, Declare, Leave}
 use Rattle.vs_design.specs.Parts.{Parts}
-use Rattle.vs_design.specs.Traces.{Slot}
+use Rattle.vs_design.specs.Traces.{Slot, AreRising}
+use Rattle.vs_vcd.specs.Codes.{shown, place_of}
 use Rattle.vs_vcd.specs.Values.{shown_value}
-use Rattle.vs_vcd.specs.Text.{text_of, declaration, entry_lines, outline_lines, end_of_definitions, header_lines, slots_lines}
-use Rattle.vs_vcd.specs.Shown.{dump_lines, body_lines, Shows, slot_at, AreRising, is_one_line, HasNamesOfOneLine}
+use Rattle.vs_vcd.specs.Text.{text_of, declared, entry_lines, outline_lines, end_of_definitions, header_lines, slots_lines}
+use Rattle.vs_vcd.specs.Shown.{dump_lines, body_lines, Shows, slot_at, is_one_line, HasNamesOfOneLine}
+use Rattle.vs_vcd.proofs.CodeTableLemmas.{place_found}
 use Rattle.vs_vcd.proofs.LineLemmas.{text_of-append}
 use Rattle.vs_vcd.proofs.OneLineLemmas.{dump_lines-text_of, all-append, header_one_line, slots_one_line}
 use Rattle.vs_vcd.proofs.ExtendLemmas.{extended-shortened}
@@ -19,23 +21,24 @@ use Rattle.vs_vcd.proofs.ChangeLemmas.{written, told, IsSilent, told_whole, slot
 
 -- ---- past the header
 
-declaration_skipped : (o : Option Signal) (n : ℕ) (ls : List (List ℕ)) → body_lines (declaration o n ++ ls) ≡ body_lines ls
-declaration_skipped None n ls = refl
-declaration_skipped (Some s) n ls = refl
+declared_skipped : (o : Option Signal) (n : Option ℕ) (ls : List (List ℕ)) → body_lines (declared o n ++ ls) ≡ body_lines ls
+declared_skipped None n ls = refl
+declared_skipped (Some s) None ls = refl
+declared_skipped (Some s) (Some n) ls = refl
 
-entry_skipped : (signals : List Signal) (e : Entry) (ls : List (List ℕ)) → body_lines (entry_lines signals e ++ ls) ≡ body_lines ls
-entry_skipped signals (Enter k name) ls = refl
-entry_skipped signals (Declare i) ls = declaration_skipped (slice_get signals i) i ls
-entry_skipped signals Leave ls = refl
+entry_skipped : (d : Parts) (e : Entry) (ls : List (List ℕ)) → body_lines (entry_lines d e ++ ls) ≡ body_lines ls
+entry_skipped d (Enter k name) ls = refl
+entry_skipped d (Declare i) ls = declared_skipped (slice_get d.signals i) (place_of (shown d) i) ls
+entry_skipped d Leave ls = refl
 
-outline_skipped : (signals : List Signal) (es : List Entry) (ls : List (List ℕ)) → body_lines (outline_lines signals es ++ ls) ≡ body_lines ls
-outline_skipped signals [] ls = refl
-outline_skipped signals (e ∷ es) ls =
-    ap body_lines (append_assoc (entry_lines signals e) (outline_lines signals es) ls) ∙ entry_skipped signals e (outline_lines signals es ++ ls) ∙ outline_skipped signals es ls
+outline_skipped : (d : Parts) (es : List Entry) (ls : List (List ℕ)) → body_lines (outline_lines d es ++ ls) ≡ body_lines ls
+outline_skipped d [] ls = refl
+outline_skipped d (e ∷ es) ls =
+    ap body_lines (append_assoc (entry_lines d e) (outline_lines d es) ls) ∙ entry_skipped d e (outline_lines d es ++ ls) ∙ outline_skipped d es ls
 
 header_skipped : (d : Parts) (ls : List (List ℕ)) → body_lines (header_lines d ++ ls) ≡ ls
 header_skipped d ls =
-    ap body_lines (append_assoc (outline_lines d.signals d.outline) (end_of_definitions ∷ []) ls) ∙ outline_skipped d.signals d.outline (end_of_definitions ∷ ls)
+    ap body_lines (append_assoc (outline_lines d d.outline) (end_of_definitions ∷ []) ls) ∙ outline_skipped d d.outline (end_of_definitions ∷ ls)
 
 -- the lines of the body of a whole text
 body_of_text : (d : Parts) (slots ends : List (List ℕ)) → HasNamesOfOneLine d → list_all is_one_line slots ≡ true → list_all is_one_line ends ≡ true
@@ -51,28 +54,31 @@ body_of_text d slots ends names p q =
 
 -- the value of the last slot is shown
 shows_slots : (d : Parts) (text : List ℕ) (tail : List (List ℕ)) (slots : List Slot) (time signal : ℕ)
-    → body_lines (dump_lines text) ≡ slots_lines (length d.signals) slots ++ tail → IsSilent tail → AreRising slots → signal < length d.signals
-    → IfSome (slot_at time slots) (λ s. Shows text time signal (shown_value s.store signal))
+    → body_lines (dump_lines text) ≡ slots_lines (shown d) slots ++ tail → IsSilent tail → AreRising slots → Contains (shown d) signal
+    → IfSome (slot_at time slots) (λ s. Shows text d time signal (shown_value s.store signal))
 shows_slots d text tail [] time signal body quiet r k = tt
 shows_slots d text tail (s ∷ ss) time signal body quiet r k =
     elim (cases_lt time s.time) [
-      | inl early ↦ subst (λ o. IfSome o (λ (x : Slot). Shows text time signal (shown_value x.store signal))) (sym (slot_at-before time s ss early r.1)) tt
+      | inl early ↦ subst (λ o. IfSome o (λ (x : Slot). Shows text d time signal (shown_value x.store signal))) (sym (slot_at-before time s ss early r.1)) tt
       | inr there ↦
           let current = unwrap_or (slot_at time ss) s in
           let value = shown_value current.store signal in
-          let shown : Shows text time signal value = record {
+          let place = place_found (shown d) signal k in
+          let all : Shows text d time signal value = record {
+            number = place.0;
             digits = written current.store signal;
-            last = ap (λ ls. told time signal 0 ls) body ∙ told_whole time signal (length d.signals) s ss tail k r quiet there;
+            coded = place.1;
+            last = ap (λ ls. told time place.0 0 ls) body ∙ told_whole time place.0 (shown d) signal s ss tail place.2 r quiet there;
             extends = extended-shortened (length value) (reverse value) (sym (length-reverse value));
           } in
-          subst (λ o. IfSome o (λ (x : Slot). Shows text time signal (shown_value x.store signal))) (sym (slot_at-cons time s ss there)) shown
+          subst (λ o. IfSome o (λ (x : Slot). Shows text d time signal (shown_value x.store signal))) (sym (slot_at-cons time s ss there)) all
     ]
 
 -- a text of a header, of slots and of lines that tell nothing
 pub shows_text : (d : Parts) (ends : List (List ℕ)) (slots : List Slot) (time signal : ℕ) → list_all is_one_line ends ≡ true → IsSilent (ends ++ [] ∷ [])
-    → HasNamesOfOneLine d → AreRising slots → signal < length d.signals
-    → IfSome (slot_at time slots) (λ s. Shows (text_of (header_lines d) ++ text_of (slots_lines (length d.signals) slots) ++ text_of ends) time signal (shown_value s.store signal))
+    → HasNamesOfOneLine d → AreRising slots → Contains (shown d) signal
+    → IfSome (slot_at time slots) (λ s. Shows (text_of (header_lines d) ++ text_of (slots_lines (shown d) slots) ++ text_of ends) d time signal (shown_value s.store signal))
 shows_text d ends slots time signal plain quiet names r k =
-    let count = length d.signals in
-    shows_slots d (text_of (header_lines d) ++ text_of (slots_lines count slots) ++ text_of ends) (ends ++ [] ∷ []) slots time signal
-    (body_of_text d (slots_lines count slots) ends names (slots_one_line count slots) plain) quiet r k
+    let numbers = shown d in
+    shows_slots d (text_of (header_lines d) ++ text_of (slots_lines numbers slots) ++ text_of ends) (ends ++ [] ∷ []) slots time signal
+    (body_of_text d (slots_lines numbers slots) ends names (slots_one_line numbers slots) plain) quiet r k

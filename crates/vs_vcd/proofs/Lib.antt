@@ -1,5 +1,6 @@
 pub mod ChangeLemmas
 pub mod CodeLemmas
+pub mod CodeTableLemmas
 pub mod ExtendLemmas
 pub mod HeaderLemmas
 pub mod LawLemmas

@@ -1,4 +1,5 @@
 pub mod Codes
+pub mod CodeTables
 pub mod Sinks
 pub mod Values
 pub mod Text

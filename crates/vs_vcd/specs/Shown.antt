@@ -1,5 +1,6 @@
 -- What a value change dump shows: the plain reading of its text.
-use Rattle.std.specs.Prelude.{◌≡◌, ℕ, ◌-◌, ◌^◌, ◌<◌, ◌==◌, ◌&&◌, not, nat_le, Bool, true, IsTrue, Option, Some, None, List, [], ◌∷◌, ◌++◌, length, reverse, replicate, if◌then◌else◌}
+use Rattle.std.specs.Prelude.{◌≡◌, ℕ, ◌-◌, ◌==◌, ◌&&◌, not, nat_le, Bool, true, IsTrue, Option, Some, None, if◌then◌else◌}
+use Rattle.std.specs.Prelude.{List, [], ◌∷◌, ◌++◌, length, reverse, replicate}
 use Rattle.std.specs.Option.{option_or}
 use Rattle.std.specs.List.{list_all, slice_split, cons_option}
 use Rattle.std.specs.Str.{bytes_eq}
@@ -11,7 +12,7 @@ use Rattle.vs_design.specs.declared.design.Entry.{Entry}
 use Rattle.vs_design.specs.declared.design.Entry.TheVariants.{Enter, Declare, Leave}
 use Rattle.vs_design.specs.Parts.{Parts}
 use Rattle.vs_design.specs.Traces.{Slot}
-use Rattle.vs_vcd.specs.Codes.{code}
+use Rattle.vs_vcd.specs.Codes.{code, shown, place_of}
 use Rattle.vs_vcd.specs.Text.{end_of_definitions}
 
 -- ---- lines
@@ -27,7 +28,8 @@ body_lines (l ∷ ls) = if bytes_eq l end_of_definitions then ls else body_lines
 
 -- the digit that a character stands for (clause 18.2.2)
 abbrev pub digit_of : ℕ → Option Digit
-digit_of c = if c == 48 then Some Zero else (if c == 49 then Some One else (if c == 120 then Some X else (if c == 122 then Some Z else None)))
+digit_of c =
+    if c == 48 then Some Zero else (if c == 49 then Some One else (if c == 120 then Some X else (if c == 122 then Some Z else None)))
 
 -- the digits before the first space
 abbrev pub digits_part : List ℕ → List Digit
@@ -53,7 +55,8 @@ bit_meaning (Some d) code = Value (d ∷ []) code
 -- what a line of the body says (clauses 18.2.1 and 18.2.2)
 abbrev pub meaning : List ℕ → Meaning
 meaning [] = Neither
-meaning (c ∷ cs) = if c == 35 then Time (digits_value 10 cs) else (if c == 98 then Value (digits_part cs) (code_part cs) else bit_meaning (digit_of c) cs)
+meaning (c ∷ cs) =
+    if c == 35 then Time (digits_value 10 cs) else (if c == 98 then Value (digits_part cs) (code_part cs) else bit_meaning (digit_of c) cs)
 
 -- ---- changes
 
@@ -105,10 +108,13 @@ abbrev pub extended : ℕ → List Digit → List Digit
 extended size [] = []
 extended size (d ∷ ds) = replicate (size - length (d ∷ ds)) (left_digit d) ++ d ∷ ds
 
--- the text shows that a signal has a value, given lowest digit first, at a time: the last change of its code at or before the time, extended on the left to the value's size
-pub record Shows (text : List ℕ) (time signal : ℕ) (value : List Digit) : Type 0 where
+-- the text shows that a signal of a design has a value, given lowest digit first, at a time: the last change of its code
+-- at or before the time, extended on the left to the value's size
+pub record Shows (text : List ℕ) (d : Parts) (time signal : ℕ) (value : List Digit) : Type 0 where
+  pub number : ℕ
   pub digits : List Digit
-  pub last : last_change time (code signal) (changes_of text) ≡ Some digits
+  pub coded : place_of (shown d) signal ≡ Some number
+  pub last : last_change time (code number) (changes_of text) ≡ Some digits
   pub extends : extended (length value) digits ≡ reverse value
 
 -- ---- slots
@@ -117,16 +123,6 @@ pub record Shows (text : List ℕ) (time signal : ℕ) (value : List Digit) : Ty
 abbrev pub slot_at : ℕ → List Slot → Option Slot
 slot_at time [] = None
 slot_at time (s ∷ ss) = option_or (slot_at time ss) (if nat_le s.time time then Some s else None)
-
--- slots at rising times of 64 bits after a time
-abbrev pub AreRisingAfter : ℕ → List Slot → Type 0
-AreRisingAfter time [] = Unit {0}
-AreRisingAfter time (s ∷ ss) = (time < s.time) × (s.time < 2 ^ 64) × AreRisingAfter s.time ss
-
--- slots at rising times of 64 bits
-abbrev pub AreRising : List Slot → Type 0
-AreRising [] = Unit {0}
-AreRising (s ∷ ss) = (s.time < 2 ^ 64) × AreRisingAfter s.time ss
 
 -- ---- names
 

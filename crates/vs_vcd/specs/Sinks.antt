@@ -1,5 +1,6 @@
 -- Sinks: what a text is written to.
-use Rattle.std.specs.Prelude.{ℕ, ◌+◌, ◌-◌, ◌^◌, ◌==◌, ◌&&◌, not, min, Bool, true, Option, Result, Ok, Err, List, length, take, if◌then◌else◌}
+use Rattle.std.specs.Prelude.{ℕ, ◌+◌, ◌-◌, ◌^◌, ◌==◌, ◌&&◌, not, min, Bool, true, if◌then◌else◌}
+use Rattle.std.specs.Prelude.{Option, Result, Ok, Err, List, length, take}
 use Rattle.std.specs.Io.KnownBytes.{Appends}
 
 -- a count of 64 bits that rises by one and stays at its last value (profile)

@@ -11,7 +11,8 @@ digit_character One = 49
 digit_character X = 120
 digit_character Z = 122
 
--- whether extending on the left gives the first digit back where it stands before the second: 0 before 0 or 1, x before x, z before z (clause 18.2.2, table 18-1)
+-- whether extending on the left gives the first digit back where it stands before the second: 0 before 0 or 1, x before x,
+-- z before z (clause 18.2.2, table 18-1)
 abbrev pub is_extension : Digit → Digit → Bool
 is_extension Zero Zero = true
 is_extension Zero One = true
@@ -25,7 +26,8 @@ shortened [] = []
 shortened (d ∷ []) = d ∷ []
 shortened (d ∷ e ∷ ds) = if is_extension d e then shortened (e ∷ ds) else d ∷ e ∷ ds
 
--- the change of a signal to a value, given lowest digit first: of one bit the digit and the code, of more `b`, the digits, a space and the code (clause 18.2.2)
+-- the change of a signal to a value, given lowest digit first: of one bit the digit and the code, of more `b`, the digits,
+-- a space and the code (clause 18.2.2)
 abbrev pub value_change : List Digit → List ℕ → List ℕ
 value_change (d ∷ []) code = digit_character d ∷ code
 value_change ds code = codes "b" ++ map digit_character (shortened (reverse ds)) ++ codes " " ++ code

@@ -1,17 +1,50 @@
-//! The header: scopes and signals.
-ghost use Rattle.std.specs.Prelude.{◌≡◌, ◌++◌, ◌∷◌, [], OnOk, Some, codes};
-ghost use Rattle.vs_vcd.specs.Text.{text_of, precision, scope_word, kind_word, scope_line, declaration, entry_lines, header_lines, outline_lines};
+//! The header: the time scale, scopes and signals.
+ghost use Rattle.std.specs.Prelude.{◌≡◌, ◌++◌, ◌∷◌, [], OnOk, Some, slice_get};
+ghost use Rattle.std.specs.Fmt.{signed_decimal};
+ghost use Rattle.std.specs.Option.{option_flatten};
+ghost use Rattle.vs_vcd.specs.CodeTables.{code_table};
+ghost use Rattle.vs_vcd.specs.Text.{text_of, magnitude_word, unit_word, precision, scope_word, kind_word, scope_line, range_text, shape_text};
+ghost use Rattle.vs_vcd.specs.Text.{declaration, declared, entry_lines, header_lines, outline_lines};
 
 use crate::value::push_code;
 use itoa::Buffer;
 use std::alloc::AllocError;
-use vs_design::{Design, Entry, ScopeKind, Signal, SignalKind};
+use vs_design::{Bounds, Design, Entry, Magnitude, ScopeKind, Signal, SignalKind, TimeUnit};
 
-/// The time that a tick stands for.
-fn tick(_design: &Design) -> &'static [u8]
-    ensures { result.now ≡ precision _design.now }
+/// How many of a unit.
+fn magnitude_text(magnitude: Magnitude) -> &'static [u8]
+    ensures { result.now ≡ magnitude_word magnitude }
 {
-    b"1 ns"
+    match magnitude {
+        Magnitude::One => b"1",
+        Magnitude::Ten => b"10",
+        Magnitude::Hundred => b"100",
+    }
+}
+
+/// The word for a unit of time.
+fn unit_text(unit: TimeUnit) -> &'static [u8]
+    ensures { result.now ≡ unit_word unit }
+{
+    match unit {
+        TimeUnit::Second => b"s",
+        TimeUnit::Millisecond => b"ms",
+        TimeUnit::Microsecond => b"us",
+        TimeUnit::Nanosecond => b"ns",
+        TimeUnit::Picosecond => b"ps",
+        TimeUnit::Femtosecond => b"fs",
+    }
+}
+
+/// Appends the time that a tick stands for.
+fn push_tick(text: &mut Vec<u8>, design: &Design) -> Result<(), AllocError>
+    ensures { OnOk result (text.new.items ≡ text.old.items ++ precision design.now) }
+{
+    let span = design.timescale().precision;
+    text.extend_from_slice(magnitude_text(span.magnitude))?;
+    text.push(b' ')?;
+    text.extend_from_slice(unit_text(span.unit))?;
+    Ok(())
 }
 
 /// The word for a scope's kind.
@@ -47,37 +80,88 @@ fn push_scope(text: &mut Vec<u8>, kind: ScopeKind, name: &[u8]) -> Result<(), Al
     Ok(())
 }
 
-/// Appends the declaration of the signal of this number.
-fn push_declaration(text: &mut Vec<u8>, signal: &Signal, number: usize) -> Result<(), AllocError>
-    ensures { OnOk result (text.new.items ≡ text.old.items ++ text_of (declaration (Some signal.now) number)) }
+/// Appends a bound of a range, in decimal.
+fn push_bound(text: &mut Vec<u8>, bound: i64) -> Result<(), AllocError>
+    ensures { OnOk result (text.new.items ≡ text.old.items ++ signed_decimal bound) }
 {
     let mut buffer = Buffer::new();
-    text.extend_from_slice(b"$var ")?;
+    text.extend_from_slice(buffer.format(bound).as_bytes())?;
+    Ok(())
+}
+
+/// Appends the range of a signal's bits.
+fn push_range(text: &mut Vec<u8>, range: Option<Bounds>) -> Result<(), AllocError>
+    ensures { OnOk result (text.new.items ≡ text.old.items ++ range_text range) }
+{
+    let Some(bounds) = range else {
+        return Ok(());
+    };
+    text.extend_from_slice(b" [")?;
+    push_bound(text, bounds.left)?;
+    text.push(b':')?;
+    push_bound(text, bounds.right)?;
+    text.push(b']')?;
+    Ok(())
+}
+
+/// Appends what stands before the code in the declaration of a signal: its kind and its size.
+fn push_shape(text: &mut Vec<u8>, signal: &Signal) -> Result<(), AllocError>
+    ensures { OnOk result (text.new.items ≡ text.old.items ++ shape_text signal.now) }
+{
+    let mut buffer = Buffer::new();
     text.extend_from_slice(kind_text(signal.kind))?;
     text.push(b' ')?;
     text.extend_from_slice(buffer.format(signal.width).as_bytes())?;
+    Ok(())
+}
+
+/// Appends the declaration of a signal whose code has this number.
+fn push_declaration(text: &mut Vec<u8>, signal: &Signal, number: usize) -> Result<(), AllocError>
+    ensures { OnOk result (text.new.items ≡ text.old.items ++ text_of (declaration signal.now number ∷ [])) }
+{
+    text.extend_from_slice(b"$var ")?;
+    push_shape(text, signal)?;
     text.push(b' ')?;
     push_code(text, number)?;
     text.push(b' ')?;
     text.extend_from_slice(&signal.name)?;
+    push_range(text, signal.range)?;
     text.extend_from_slice(b" $end\n")?;
     Ok(())
 }
 
+/// Appends the declaration of the signal of this number, where it has a code.
+fn push_declared(
+    text: &mut Vec<u8>,
+    signals: &[Signal],
+    table: &[Option<usize>],
+    signal: usize,
+) -> Result<(), AllocError>
+    ensures { OnOk result (text.new.items ≡ text.old.items
+        ++ text_of (declared (slice_get signals.now signal) (option_flatten (slice_get table.now signal)))) }
+{
+    if signal >= signals.len() || signal >= table.len() {
+        return Ok(());
+    }
+    match table[signal] {
+        Some(number) => push_declaration(text, &signals[signal], number),
+        None => Ok(()),
+    }
+}
+
 /// Appends the lines of one entry of the outline.
-fn push_entry(text: &mut Vec<u8>, signals: &[Signal], entry: &Entry) -> Result<(), AllocError>
-    ensures { OnOk result (text.new.items ≡ text.old.items ++ text_of (entry_lines signals.now entry.now)) }
+fn push_entry(
+    text: &mut Vec<u8>,
+    design: &Design,
+    table: &[Option<usize>],
+    entry: &Entry,
+) -> Result<(), AllocError>
+    requires table { table.now ≡ code_table 0 design.now.signals }
+    ensures { OnOk result (text.new.items ≡ text.old.items ++ text_of (entry_lines design.now entry.now)) }
 {
     match entry {
         Entry::Enter(kind, name) => push_scope(text, *kind, name),
-        Entry::Declare(number) => {
-            let number = *number;
-            if number < signals.len() {
-                push_declaration(text, &signals[number], number)
-            } else {
-                Ok(())
-            }
-        }
+        Entry::Declare(signal) => push_declared(text, design.signals(), table, *signal),
         Entry::Leave => {
             text.extend_from_slice(b"$upscope $end\n")?;
             Ok(())
@@ -86,23 +170,33 @@ fn push_entry(text: &mut Vec<u8>, signals: &[Signal], entry: &Entry) -> Result<(
 }
 
 /// Appends the lines of the outline.
-fn push_outline(text: &mut Vec<u8>, signals: &[Signal], outline: &[Entry]) -> Result<(), AllocError>
-    ensures { OnOk result (text.new.items ≡ text.old.items ++ text_of (outline_lines signals.now outline.now)) }
+fn push_outline(
+    text: &mut Vec<u8>,
+    design: &Design,
+    table: &[Option<usize>],
+) -> Result<(), AllocError>
+    requires table { table.now ≡ code_table 0 design.now.signals }
+    ensures { OnOk result (text.new.items ≡ text.old.items ++ text_of (outline_lines design.now design.now.outline)) }
 {
-    for entry in outline {
-        push_entry(text, signals, entry)?;
+    for entry in design.outline() {
+        push_entry(text, design, table, entry)?;
     }
     Ok(())
 }
 
-/// Appends the header of a design.
-pub(crate) fn push_header(text: &mut Vec<u8>, design: &Design) -> Result<(), AllocError>
+/// Appends the header of a design. The table has of each signal the number of its code.
+pub(crate) fn push_header(
+    text: &mut Vec<u8>,
+    design: &Design,
+    table: &[Option<usize>],
+) -> Result<(), AllocError>
+    requires table { table.now ≡ code_table 0 design.now.signals }
     ensures { OnOk result (text.new.items ≡ text.old.items ++ text_of (header_lines design.now)) }
 {
     text.extend_from_slice(b"$timescale ")?;
-    text.extend_from_slice(tick(design))?;
+    push_tick(text, design)?;
     text.extend_from_slice(b" $end\n")?;
-    push_outline(text, design.signals(), design.outline())?;
+    push_outline(text, design, table)?;
     text.extend_from_slice(b"$enddefinitions $end\n")?;
     Ok(())
 }

@@ -1,13 +1,12 @@
 //! Value change dumps (IEEE 1364-2005, clause 18): the text of a trace, its writer, and the sinks that take it.
 #![tactic(auto)]
 
+mod codes;
 mod fault;
 mod header;
 mod law;
 mod lines;
 mod sink;
-#[cfg(test)]
-mod tests;
 mod value;
 mod writer;
 

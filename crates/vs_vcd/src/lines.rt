@@ -1,7 +1,8 @@
 //! The lines of slots.
 ghost use Rattle.std.specs.Prelude.{◌≡◌, ◌++◌, ◌∷◌, [], OnOk, IfOk};
 ghost use Rattle.vs_vcd.specs.Values.{shown_value};
-ghost use Rattle.vs_vcd.specs.Text.{text_of, time_line, change_line, value_lines, is_same, changed_line, change_lines, first_lines, timed, is_written, later_lines};
+ghost use Rattle.vs_vcd.specs.Text.{text_of, time_line, value_line, value_lines, is_same, changed_line, change_lines};
+ghost use Rattle.vs_vcd.specs.Text.{first_lines, is_written, later_lines};
 
 use crate::value::push_value;
 use itoa::Buffer;
@@ -37,51 +38,57 @@ fn is_unchanged(before: &Store, after: &Store, signal: usize) -> bool
     shown(before, signal) == shown(after, signal)
 }
 
-/// Appends the line of a signal's value in a store.
-fn push_change(text: &mut Vec<u8>, store: &Store, signal: usize) -> Result<(), AllocError>
-    ensures { OnOk result (text.new.items ≡ text.old.items ++ text_of (change_line store.now signal ∷ [])) }
+/// Appends the line of a signal's value in a store. `number` is that of its code.
+fn push_change(
+    text: &mut Vec<u8>,
+    store: &Store,
+    number: usize,
+    signal: usize,
+) -> Result<(), AllocError>
+    ensures { OnOk result (text.new.items ≡ text.old.items ++ text_of (value_line store.now number signal)) }
 {
-    push_value(text, shown(store, signal), signal)?;
+    push_value(text, shown(store, signal), number)?;
     text.push(b'\n')?;
     Ok(())
 }
 
-/// Appends the values of the signals below `count`.
-fn push_values(text: &mut Vec<u8>, store: &Store, count: usize) -> Result<(), AllocError>
-    ensures { OnOk result (text.new.items ≡ text.old.items ++ text_of (value_lines store.now count)) }
+/// Appends the values of these signals.
+fn push_values(text: &mut Vec<u8>, store: &Store, signals: &[usize]) -> Result<(), AllocError>
+    ensures { OnOk result (text.new.items ≡ text.old.items ++ text_of (value_lines store.now signals.now)) }
 {
-    for signal in 0..count {
-        push_change(text, store, signal)?;
+    for number in 0..signals.len() {
+        push_change(text, store, number, signals[number])?;
     }
     Ok(())
 }
 
-/// Appends the line of a signal where its value changed.
+/// Appends the line of a signal where its value changed. `number` is that of its code.
 fn push_changed(
     text: &mut Vec<u8>,
     before: &Store,
     after: &Store,
+    number: usize,
     signal: usize,
 ) -> Result<(), AllocError>
-    ensures { OnOk result (text.new.items ≡ text.old.items ++ text_of (changed_line before.now after.now signal)) }
+    ensures { OnOk result (text.new.items ≡ text.old.items ++ text_of (changed_line before.now after.now number signal)) }
 {
     if is_unchanged(before, after, signal) {
         return Ok(());
     }
-    push_change(text, after, signal)
+    push_change(text, after, number, signal)
 }
 
-/// Appends the lines of the signals below `count` whose values changed. It looks at each of them.
+/// Appends the lines of those of these signals whose values changed. It looks at each of them.
 fn push_changes(
     text: &mut Vec<u8>,
     before: &Store,
     after: &Store,
-    count: usize,
+    signals: &[usize],
 ) -> Result<(), AllocError>
-    ensures { OnOk result (text.new.items ≡ text.old.items ++ text_of (change_lines before.now after.now count)) }
+    ensures { OnOk result (text.new.items ≡ text.old.items ++ text_of (change_lines before.now after.now signals.now)) }
 {
-    for signal in 0..count {
-        push_changed(text, before, after, signal)?;
+    for number in 0..signals.len() {
+        push_changed(text, before, after, number, signals[number])?;
     }
     Ok(())
 }
@@ -89,15 +96,15 @@ fn push_changes(
 /// Appends the first slot of a dump.
 pub(crate) fn push_first(
     text: &mut Vec<u8>,
-    count: usize,
+    signals: &[usize],
     time: u64,
     store: &Store,
 ) -> Result<(), AllocError>
-    ensures { OnOk result (text.new.items ≡ text.old.items ++ text_of (first_lines count time store.now)) }
+    ensures { OnOk result (text.new.items ≡ text.old.items ++ text_of (first_lines signals.now time store.now)) }
 {
     push_time(text, time)?;
     text.extend_from_slice(b"$dumpvars\n")?;
-    push_values(text, store, count)?;
+    push_values(text, store, signals)?;
     text.extend_from_slice(b"$end\n")?;
     Ok(())
 }
@@ -105,18 +112,18 @@ pub(crate) fn push_first(
 /// Appends a slot after another one, and answers whether it has a line.
 pub(crate) fn push_later(
     text: &mut Vec<u8>,
-    count: usize,
+    signals: &[usize],
     before: &Store,
     time: u64,
     store: &Store,
 ) -> Result<bool, AllocError>
-    ensures text { OnOk result (text.new.items ≡ text.old.items ++ text_of (later_lines count before.now time store.now)) }
-    ensures written { IfOk result (λ written. written ≡ is_written (later_lines count before.now time store.now)) }
+    ensures text { OnOk result (text.new.items ≡ text.old.items ++ text_of (later_lines signals.now before.now time store.now)) }
+    ensures written { IfOk result (λ written. written ≡ is_written (later_lines signals.now before.now time store.now)) }
 {
     let start = text.len();
     push_time(text, time)?;
     let mark = text.len();
-    push_changes(text, before, store, count)?;
+    push_changes(text, before, store, signals)?;
     if text.len() == mark {
         text.truncate(start);
         return Ok(false);

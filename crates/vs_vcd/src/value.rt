@@ -6,7 +6,7 @@ ghost use Rattle.vs_vcd.specs.Values.{digit_character, is_extension, shortened, 
 use std::alloc::AllocError;
 use vs_logic4::{Digit, Vec4};
 
-/// Appends the identifier code of the signal of this number.
+/// Appends the identifier code of this number.
 pub(crate) fn push_code(text: &mut Vec<u8>, number: usize) -> Result<(), AllocError>
     ensures { OnOk result (text.new.items ≡ text.old.items ++ code number) }
 {
@@ -71,9 +71,9 @@ fn push_digits(text: &mut Vec<u8>, value: Vec4, count: u32) -> Result<(), AllocE
     Ok(())
 }
 
-/// Appends the change of the signal of this number to a value, without the line's end.
-pub(crate) fn push_value(text: &mut Vec<u8>, value: Vec4, signal: usize) -> Result<(), AllocError>
-    ensures { OnOk result (text.new.items ≡ text.old.items ++ value_change value (code signal)) }
+/// Appends the change to a value of the signal whose code has this number, without the line's end.
+pub(crate) fn push_value(text: &mut Vec<u8>, value: Vec4, number: usize) -> Result<(), AllocError>
+    ensures { OnOk result (text.new.items ≡ text.old.items ++ value_change value (code number)) }
 {
     if value.width() == 1 {
         text.push(character(value.digit(0)))?;
@@ -82,5 +82,5 @@ pub(crate) fn push_value(text: &mut Vec<u8>, value: Vec4, signal: usize) -> Resu
         push_digits(text, value, kept_digits(value))?;
         text.push(b' ')?;
     }
-    push_code(text, signal)
+    push_code(text, number)
 }

@@ -3,9 +3,10 @@ ghost use Rattle.std.specs.Prelude.{◌≡◌, ℕ, ◌++◌, ◌∷◌, [], Lis
 ghost use Rattle.vs_design.specs.Parts.{Parts};
 ghost use Rattle.vs_design.specs.Traces.{Slot};
 ghost use Rattle.vs_vcd.specs.Sinks.{failed_after};
-ghost use Rattle.vs_vcd.specs.Text.{text_of, next_lines, end_lines, time_after, vcd_header, vcd_slots, vcd_slot, vcd_end};
-ghost use Rattle.vs_vcd.specs.Progress.{HasWritten, IsSlotAt, is_write_fault, WritesPiece};
+ghost use Rattle.vs_vcd.specs.Text.{text_of, end_lines, vcd_header, vcd_slots, vcd_end};
+ghost use Rattle.vs_vcd.specs.Progress.{time_of, next_lines, time_after, vcd_slot, HasWritten, IsSlotAt, is_write_fault, WritesPiece};
 
+use crate::codes::{code_numbers, shown_signals};
 use crate::fault::VcdFault;
 use crate::header::push_header;
 use crate::lines::{push_first, push_later, push_time};
@@ -17,21 +18,21 @@ use vs_design::{Design, Store};
 /// Appends the lines of the next slot, and answers the last time written.
 fn push_slot(
     text: &mut Vec<u8>,
-    count: usize,
+    signals: &[usize],
     last: &Option<(u64, Store)>,
     time: u64,
     store: &Store,
 ) -> Result<u64, AllocError>
-    ensures text { OnOk result (text.new.items ≡ text.old.items ++ text_of (next_lines count last.now time store.now)) }
-    ensures time { IfOk result (λ written. written ≡ time_after count last.now time store.now) }
+    ensures text { OnOk result (text.new.items ≡ text.old.items ++ text_of (next_lines signals.now last.now time store.now)) }
+    ensures time { IfOk result (λ written. written ≡ time_after signals.now last.now time store.now) }
 {
     match last {
         None => {
-            push_first(text, count, time, store)?;
+            push_first(text, signals, time, store)?;
             Ok(time)
         }
         Some(last) => {
-            if push_later(text, count, &last.1, time, store)? {
+            if push_later(text, signals, &last.1, time, store)? {
                 Ok(time)
             } else {
                 Ok(last.0)
@@ -42,7 +43,7 @@ fn push_slot(
 
 /// Appends the line of the end, unless its time is the last one written.
 fn push_end(text: &mut Vec<u8>, last: &Option<(u64, Store)>, time: u64) -> Result<(), AllocError>
-    ensures { OnOk result (text.new.items ≡ text.old.items ++ text_of (end_lines last.now time)) }
+    ensures { OnOk result (text.new.items ≡ text.old.items ++ text_of (end_lines (time_of last.now) time)) }
 {
     match last {
         None => push_time(text, time),
@@ -60,17 +61,17 @@ fn push_end(text: &mut Vec<u8>, last: &Option<(u64, Store)>, time: u64) -> Resul
 fn write_slot<S: Sink>(
     sink: &mut S,
     text: &mut Vec<u8>,
-    count: usize,
+    signals: &[usize],
     last: &Option<(u64, Store)>,
     time: u64,
     store: &Store,
 ) -> Result<u64, VcdFault>
-    ensures time { IfOk result (λ written. written ≡ time_after count last.now time store.now) }
-    ensures bytes { WritesPiece result (S.bytes sink.old) (S.bytes sink.new) (text_of (next_lines count last.now time store.now)) }
+    ensures time { IfOk result (λ written. written ≡ time_after signals.now last.now time store.now) }
+    ensures bytes { WritesPiece result (S.bytes sink.old) (S.bytes sink.new) (text_of (next_lines signals.now last.now time store.now)) }
     ensures failures { S.failed sink.new ≡ failed_after (is_write_fault result) (S.failed sink.old) }
 {
     text.clear();
-    let written = push_slot(text, count, last, time, store)?;
+    let written = push_slot(text, signals, last, time, store)?;
     write_all(sink, text)?;
     Ok(written)
 }
@@ -82,7 +83,7 @@ fn write_end<S: Sink>(
     last: &Option<(u64, Store)>,
     time: u64,
 ) -> Result<(), VcdFault>
-    ensures bytes { WritesPiece result (S.bytes sink.old) (S.bytes sink.new) (text_of (end_lines last.now time)) }
+    ensures bytes { WritesPiece result (S.bytes sink.old) (S.bytes sink.new) (text_of (end_lines (time_of last.now) time)) }
     ensures failures { S.failed sink.new ≡ failed_after (is_write_fault result) (S.failed sink.old) }
 {
     text.clear();
@@ -94,7 +95,8 @@ fn write_end<S: Sink>(
 /// The writer of a design's value change dump, slot by slot. A contract sees how far it has come.
 #[derive(Drop)]
 pub struct Writer {
-    signals: usize,
+    // The numbers of the signals that are shown.
+    signals: Vec<usize>,
     last: Option<(u64, Store)>,
     text: Vec<u8>,
 }
@@ -104,7 +106,7 @@ impl Model for Writer {
 
     ghost Value = { Progress };
 
-    ghost view = { λ w. record { signals = w.signals; last = w.last } };
+    ghost view = { λ w. record { signals = w.signals.items; last = w.last } };
 }
 
 impl Writer {
@@ -114,11 +116,13 @@ impl Writer {
         ensures bytes { WritesPiece result (S.bytes sink.old) (S.bytes sink.new) (vcd_header design.now) }
         ensures failures { S.failed sink.new ≡ failed_after (is_write_fault result) (S.failed sink.old) }
     {
+        let signals = shown_signals(alloc, design.signals())?;
+        let table = code_numbers(alloc, design.signals())?;
         let mut text = Vec::new(alloc);
-        push_header(&mut text, design)?;
+        push_header(&mut text, design, &table)?;
         write_all(sink, &text)?;
         Ok(Writer {
-            signals: design.signals().len(),
+            signals,
             last: None,
             text,
         })
@@ -126,7 +130,7 @@ impl Writer {
 
     /// Writes a slot that ended at a time in ticks with a store. On an error the writer is as before.
     ///
-    /// It looks at every signal, and copies the store.
+    /// It looks at every signal that is shown, and copies the store.
     pub fn slot<S: Sink>(
         &mut self,
         alloc: Global,
@@ -134,17 +138,19 @@ impl Writer {
         time: u64,
         store: &Store,
     ) -> Result<(), VcdFault>
-        ensures written { OnOk result ((d : Parts) (slots : List Slot) (s : Slot) → HasWritten self.old d slots → IsSlotAt s time store.now
+        ensures written { OnOk result ((d : Parts) (slots : List Slot) (s : Slot)
+            → HasWritten self.old d slots → IsSlotAt s time store.now
             → HasWritten self.new d (slots ++ s ∷ [])) }
         ensures bytes { (d : Parts) (slots : List Slot) (s : Slot) → HasWritten self.old d slots → IsSlotAt s time store.now
             → WritesPiece result (S.bytes sink.old) (S.bytes sink.new) (vcd_slot d slots s) }
         ensures failures { S.failed sink.new ≡ failed_after (is_write_fault result) (S.failed sink.old) }
         ensures err { OnErr result (self.new ≡ self.old) }
         // The pieces of the slots make up the text of the slots.
-        ensures pieces { (d : Parts) (slots : List Slot) (s : Slot) → vcd_slots d (slots ++ s ∷ []) ≡ vcd_slots d slots ++ vcd_slot d slots s }
+        ensures pieces { (d : Parts) (slots : List Slot) (s : Slot)
+            → vcd_slots d (slots ++ s ∷ []) ≡ vcd_slots d slots ++ vcd_slot d slots s }
     {
         let copy = store.copy(alloc)?;
-        let written = write_slot(sink, &mut self.text, self.signals, &self.last, time, store)?;
+        let written = write_slot(sink, &mut self.text, &self.signals, &self.last, time, store)?;
         self.last = Some((written, copy));
         Ok(())
     }

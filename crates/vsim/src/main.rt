@@ -3,15 +3,23 @@
 
 use std::process::ExitCode;
 use std::{env, io};
-use vs_sim::program;
+use vs_sim::{program, refuse_start};
 
-fn main(rt: HostRuntime) -> io::Result<ExitCode> {
+/// Runs the program on the words of the call and the standard streams, and answers its exit status.
+fn run(rt: &HostRuntime) -> io::Result<u8> {
     let alloc = rt.alloc();
-    let words: Vec<String> = env::args(&rt)?.collect(alloc)?;
+    let words: Vec<String> = env::args(rt)?.collect(alloc)?;
     let mut texts = Vec::new(alloc);
     for word in &words {
         texts.push(word.as_str())?;
     }
-    let status = program(alloc, &texts, rt.stdin(), rt.stdout(), rt.stderr());
-    Ok(ExitCode::from(status))
+    Ok(program(alloc, &texts, rt.stdin(), rt.stdout(), rt.stderr()))
+}
+
+fn main(rt: HostRuntime) -> ExitCode {
+    let status = match run(&rt) {
+        Ok(status) => status,
+        Err(error) => refuse_start(&error, rt.stderr()),
+    };
+    ExitCode::from(status)
 }

@@ -1,17 +1,18 @@
-use Rattle.std.proofs.Common.{◌≡◌, ◌||◌, false, ap, sym, ◌∙◌}
-use Rattle.std.specs.List.{list_any}
-use Rattle.vs_design.specs.Uses.{reads_signal}
-use Rattle.vs_design.proofs.Chains.{reads_Bitwise}
+use Rattle.std.proofs.Common.{◌++◌, ◌∙◌, sym, ap, map, append_assoc}
+use Rattle.std.proofs.lemmas.Result.{on_ok_weaker}
+use Rattle.vs_design.specs.Uses.{reads, joined}
+use Rattle.vs_design.proofs.Chains.{reads_Chain}
 use Rattle.vs_design.proofs.uses.+reads.Goals as goal
 
-pub reads-returns-else-reads : goal.reads-returns-else-reads
-reads-returns-else-reads t c =
-    let first = c.in-Bitwise.first in
-    let others = c.in-Bitwise.others in
-    let n = c.args.signal in
-    let unread : reads_signal first.value n ≡ false = ap (λ x. reads_signal x n) (sym c.deref-in-Bitwise.ensures) ∙ sym c.reads-in-Bitwise.ensures ∙ c.if-reads.false in
-    rw c.in-Bitwise.is
-    (c.one_reads.ensures
-    ∙ ap (list_any (λ e. reads_signal e n)) c.deref-else-reads.ensures.value
-    ∙ sym (ap (λ b. b || list_any (λ e. reads_signal e n) others.items) unread)
-    ∙ sym (reads_Bitwise c.in-Bitwise.field-0 first others n))
+pub push_reads-returns-in_ok-push_reads-in-Chain : goal.push_reads-returns-in_ok-push_reads-in-Chain
+push_reads-returns-in_ok-push_reads-in-Chain t c =
+    on_ok_weaker c.push_all_reads.result
+    (λ is.
+    let first = c.in-Chain.first in
+    let links = c.in-Chain.links in
+    is
+    ∙ ap (λ ls. c.push_reads-in-Chain.new.out.items ++ joined (map (λ l. reads l.1) ls)) c.deref-in-Chain-2.ensures.value
+    ∙ ap (λ rs. rs ++ joined (map (λ l. reads l.1) links.items)) (c.in_ok-push_reads-in-Chain.ensures ∙ ap (λ e. c.args.out.now.items ++ reads e) c.deref-in-Chain.ensures)
+    ∙ append_assoc c.args.out.now.items (reads first.value) (joined (map (λ l. reads l.1) links.items))
+    ∙ ap (λ rs. c.args.out.now.items ++ rs) (sym (reads_Chain first links) ∙ ap reads (sym c.in-Chain.is)))
+    c.push_all_reads.ensures

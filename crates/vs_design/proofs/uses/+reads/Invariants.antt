@@ -1,7 +1,6 @@
-use Rattle.std.proofs.Common.{◌≡◌, drop}
-use Rattle.std.specs.List.{list_any}
-use Rattle.vs_design.specs.Uses.{reads_signal}
+use Rattle.std.proofs.Common.{◌≡◌, ◌++◌, map, drop}
+use Rattle.vs_design.specs.Uses.{reads, joined}
 use Rattle.vs_design.proofs.uses.+reads.Given as goal
 
-abbrev pub invariant-one_reads-loop-e : goal.invariant-one_reads-loop-e
-invariant-one_reads-loop-e l = list_any (λ e. reads_signal e l.signal) (drop l.e-index l.all) ≡ list_any (λ e. reads_signal e l.signal) l.all
+abbrev pub invariant-push_all_reads-loop-e : goal.invariant-push_all_reads-loop-e
+invariant-push_all_reads-loop-e l = l.out.items ++ joined (map (λ l. reads l.1) (drop l.e-index l.links)) ≡ l.fn.out.items ++ joined (map (λ l. reads l.1) l.links)

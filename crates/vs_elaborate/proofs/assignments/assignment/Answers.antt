@@ -1,9 +1,6 @@
-use Rattle.std.proofs.Common.{arith}
-use Rattle.vs_elaborate.proofs.Sizes.{size_found}
+use Rattle.std.proofs.Common.{refl}
+use Rattle.vs_elaborate.proofs.ExpressionLemmas.{assigns}
 use Rattle.vs_elaborate.proofs.assignments.assignment.Goals as goal
 
-pub typed-requires-clause-most : goal.typed-requires-clause-most
-typed-requires-clause-most c = let p = size_found _ _ _ c.requires.sizes c.in_ok-place.ensures.shape in omega (arith, p.1, c.max.ensures, c.in-Some.ensures.size.1)
-
-pub invariant_of-target : goal.invariant_of-target
-invariant_of-target c = record { sized = size_found _ _ _ c.requires.sizes c.in_ok-place.ensures.shape }
+pub returns : goal.returns
+returns c = assigns c.args.names.now c.args.how c.args.target.now c.args.e.now c.in_ok-left.left c.in-Some.right _ _ c.in_ok-source.source c.in_ok-left.ensures c.in-Some.ensures.shape c.max.ensures c.in_ok-source.ensures refl refl

@@ -1,56 +1,45 @@
-use Rattle.std.proofs.Common.{refl, ap, arith}
-use Rattle.std.proofs.lemmas.Result.{err_from_is_err_and, MatchResult-weaker}
-use Rattle.vs_syntax.proofs.tree.Expr.TheLaws.{the_size}
-use denote.Param.Weighed.{most}
-use Rattle.vs_elaborate.specs.Expressions.{typed_none}
-use Rattle.vs_elaborate.proofs.Typing.{means_Number, means_Name, means_Group, faults_Group, means_Not, means_Chain, faults_Chain, means_operands, others_fault, operand_faults, operands_more, operands_all}
+use Rattle.std.proofs.Common.{refl, arith}
+use Rattle.std.proofs.lemmas.Result.{err_from_is_err_and}
+use Rattle.vs_elaborate.specs.Expressions.{links_none}
+use Rattle.vs_elaborate.proofs.ExpressionLemmas.{types_Number, types_Name, types_Group, types_Unary, first_refused, links_refused, types_Chain, link_refused, links_step}
 use Rattle.vs_elaborate.proofs.expressions.+typed.Goals as goal
 
 pub typed-returns-in-Number : goal.typed-returns-in-Number
-typed-returns-in-Number t c = rw c.in-Number.is (means_Number c.args.base c.args.names.now c.args.shape c.in-Number.literal c.resize.result c.resize.ensures)
+typed-returns-in-Number t c = rw c.in-Number.is (types_Number c.args.names.now _ _ c.in-Number.literal c.resize.result c.resize.ensures)
 
 pub typed-returns-in-Some : goal.typed-returns-in-Some
-typed-returns-in-Some t c =
-    let q = rw c.deref.ensures.value at c.in-Some.ensures in
-    rw c.in-Name.is (means_Name c.args.base c.args.names.now c.args.shape c.in-Name.name c.in-Some.field-0-1 _ c.in-Some.place q.0 q.1 refl refl refl)
+typed-returns-in-Some t c = rw c.in-Name.is (types_Name c.args.names.now _ _ c.in-Name.name c.deref.result.now c.in-Some.binding _ c.deref.ensures.value c.in-Some.ensures refl refl refl)
 
 pub typed-returns-in-Group : goal.typed-returns-in-Group
-typed-returns-in-Group t c =
-    rw c.in-Group.is (MatchResult-weaker c.typed.result c.typed.ensures (λ y p. means_Group c.args.base c.args.names.now c.args.shape c.in-Group.inner _ y c.deref-in-Group.ensures p) (λ e f. faults_Group c.args.names.now c.in-Group.inner _ e c.deref-in-Group.ensures f))
+typed-returns-in-Group t c = rw c.in-Group.is (types_Group c.args.names.now _ _ c.in-Group.inner _ c.typed.result c.deref-in-Group.ensures c.typed.ensures)
 
-pub typed-returns-in_ok-new-in-Not : goal.typed-returns-in_ok-new-in-Not
-typed-returns-in_ok-new-in-Not t c =
-    rw c.in-Not.is (means_Not c.args.base c.args.names.now c.args.shape c.in-Not.operand _ c.in_ok-operand-in-Not.operand c.in_ok-new-in-Not.field-0 c.deref-in-Not.ensures c.in_ok-new-in-Not.ensures.ok c.in_ok-operand-in-Not.ensures)
+pub typed-returns-in_ok-new-in-Unary : goal.typed-returns-in_ok-new-in-Unary
+typed-returns-in_ok-new-in-Unary t c =
+    rw c.in-Unary.is (types_Unary c.args.names.now _ _ c.in-Unary.operator c.in-Unary.operand _ c.in_ok-operand-in-Unary.operand c.in_ok-new-in-Unary.field-0 c.deref-in-Unary.ensures c.in_ok-new-in-Unary.ensures.ok c.in_ok-operand-in-Unary.ensures)
 
-pub typed-returns-in-Chain : goal.typed-returns-in-Chain
-typed-returns-in-Chain t c =
-    rw c.in-Chain.is (MatchResult-weaker c.typed_chain.result c.typed_chain.ensures (λ y p. means_Chain c.args.base c.args.names.now c.args.shape c.in-Chain.op c.in-Chain.operands _ y c.deref-in-Chain.ensures.value p) (λ e f. faults_Chain c.args.names.now c.in-Chain.op c.in-Chain.operands _ e c.deref-in-Chain.ensures.value f))
+pub typed-returns-in_err-first-in-Chain : goal.typed-returns-in_err-first-in-Chain
+typed-returns-in_err-first-in-Chain t c =
+    let p = err_from_is_err_and c.from_residual-in_err-first-in-Chain.result c.from_residual-in_err-first-in-Chain.ensures.1 in
+    rw (p.1, p.2, c.in-Chain.is) (first_refused _ c.in-Chain.first c.in-Chain.links _ c.in_err-first-in-Chain.field-0.0 c.deref-in-Chain.ensures c.in_err-first-in-Chain.ensures)
 
-pub typed_operands-loop-e-init : goal.typed_operands-loop-e-init
-typed_operands-loop-e-init t c = rw c.new-done.ensures.items (record { known = refl; typed = typed_none })
+pub typed-returns-in_err-links-in-Chain : goal.typed-returns-in_err-links-in-Chain
+typed-returns-in_err-links-in-Chain t c =
+    let p = err_from_is_err_and c.from_residual-in_err-links-in-Chain.result c.from_residual-in_err-links-in-Chain.ensures.1 in
+    rw (p.1, p.2, c.in-Chain.is) (links_refused _ c.in-Chain.first c.in-Chain.links c.deref-in-Chain-2.result.now c.in_err-links-in-Chain.field-0.0 c.deref-in-Chain-2.ensures.value c.in_err-links-in-Chain.ensures)
 
-pub typed_operands-returns-in_err-one : goal.typed_operands-returns-in_err-one
-typed_operands-returns-in_err-one t c =
+pub typed-returns-in_ok-new-in-Chain : goal.typed-returns-in_ok-new-in-Chain
+typed-returns-in_ok-new-in-Chain t c =
+    rw c.in-Chain.is (types_Chain c.args.names.now _ _ c.in-Chain.first c.in-Chain.links _ c.deref-in-Chain-2.result.now c.in_ok-first-in-Chain.first c.in_ok-new-in-Chain.field-0 c.in_ok-links-in-Chain.links c.deref-in-Chain.ensures c.deref-in-Chain-2.ensures.value c.in_ok-new-in-Chain.ensures.ok c.in_ok-first-in-Chain.ensures c.in_ok-links-in-Chain.ensures)
+
+pub typed_links-loop-operator-init : goal.typed_links-loop-operator-init
+typed_links-loop-operator-init t c = record { sound = λ r. refl; means = rw c.new-done.ensures.items links_none }
+
+pub typed_links-returns-in_err-operand : goal.typed_links-returns-in_err-operand
+typed_links-returns-in_err-operand t c =
     let p = err_from_is_err_and c.from_residual.result c.from_residual.ensures.1 in
-    rw (p.1, p.2) (operand_faults c.args.names.now c.args.operands.now c.loop-e.e-index c.e-item.result c.in_err-one.field-0.0 (omega arith) c.e-item.is c.in_err-one.ensures)
+    rw (p.1, p.2) (link_refused _ c.args.links.now c.loop-operator.operator-index c.loop-operator-item.result c.in_err-operand.field-0.0 (omega arith) c.loop-operator-item.is c.in_err-operand.ensures)
 
-pub typed_operands-loop-e-preserved : goal.typed_operands-loop-e-preserved
-typed_operands-loop-e-preserved t c =
-    operands_more c.args.base c.args.names.now c.args.shape c.args.operands.now c.loop-e.e-index _ _ _ _ (omega arith) c.e-item.is c.in_ok-push.ensures.items c.loop-e.invariant c.in_ok-one.ensures
-
-pub typed_operands-returns : goal.typed_operands-returns
-typed_operands-returns t c = operands_all c.args.base c.args.names.now c.args.shape c.args.operands.now c.loop-e.e-index _ (omega arith) c.loop-e.invariant
-
-pub typed_chain-typed_operands-requires : goal.typed_chain-typed_operands-requires
-typed_chain-typed_operands-requires t c =
-    let same = ap (λ l. most (λ x. the_size x) l) c.in-Some.ensures.cases.0 in
-    (omega (arith, c.decreases, same), (c.requires.some, (c.requires.most, c.requires.numbers)))
-
-pub typed_chain-returns-in_err-others : goal.typed_chain-returns-in_err-others
-typed_chain-returns-in_err-others t c =
-    let p = err_from_is_err_and c.from_residual-in_err-others.result c.from_residual-in_err-others.ensures.1 in
-    rw (p.1, p.2) (others_fault c.args.names.now c.args.operands.now c.in-Some.first.now c.in-Some.others.now c.in_err-others.field-0.0 c.in-Some.ensures.cases.0 c.in_err-others.ensures)
-
-pub typed_chain-returns : goal.typed_chain-returns
-typed_chain-returns t c =
-    means_operands c.args.base c.args.names.now c.args.shape c.args.op c.operator.result c.args.operands.now c.in-Some.first.now c.in-Some.others.now c.in_ok-first.first c.in_ok-new.field-0 c.in_ok-others.others c.in-Some.ensures.cases.0 c.operator.ensures c.in_ok-new.ensures.ok c.in_ok-first.ensures c.in_ok-others.ensures
+pub typed_links-loop-operator-preserved : goal.typed_links-loop-operator-preserved
+typed_links-loop-operator-preserved t c =
+    let p = links_step c.args.names.now c.args.shape.width c.args.shape.signed c.args.links.now c.loop-operator.operator-index c.loop-operator-item.result _ _ _ (omega arith) c.loop-operator-item.is c.in_ok-push.ensures.items refl refl refl c.loop-operator.invariant.sound c.loop-operator.invariant.means c.in_ok-operand.ensures in
+    record { sound = p.0; means = p.1 }

@@ -1,15 +1,11 @@
-use Rattle.std.proofs.Common.{◌+◌, ◌*◌, take}
-use Rattle.vs_elaborate.specs.Resolved.{MeansOperands}
+use Rattle.std.proofs.Common.{◌≡◌, false, take}
+use Rattle.vs_elaborate.specs.declared.faults.Reason.{Reason}
+use Rattle.vs_elaborate.specs.Expressions.{AreLinks}
+use Rattle.vs_elaborate.specs.passes.Bodies.{meanings, IsNumber, links_fault}
 use Rattle.vs_elaborate.proofs.expressions.+typed.Given as goal
 
-abbrev pub decreases-typed : goal.decreases-typed
-decreases-typed l = 3 * goal.size-typed l
-
-abbrev pub decreases-typed_chain : goal.decreases-typed_chain
-decreases-typed_chain l = 3 * goal.size-typed_chain l + 2
-
-abbrev pub decreases-typed_operands : goal.decreases-typed_operands
-decreases-typed_operands l = 3 * goal.size-typed_operands l + 1
-
-abbrev pub invariant-typed_operands-loop-e : goal.invariant-typed_operands-loop-e
-invariant-typed_operands-loop-e l = MeansOperands l.base l.names l.shape (take l.e-index l.operands) l.done.items
+abbrev pub invariant-typed_links-loop-operator : goal.invariant-typed_links-loop-operator
+invariant-typed_links-loop-operator l = record {
+  sound : (r : Reason) → links_fault (meanings l.names) (take l.operator-index l.links) r ≡ false;
+  means : AreLinks (IsNumber l.names) l.shape.width l.shape.signed (take l.operator-index l.links) l.done.items;
+}

@@ -1,5 +1,5 @@
 use Rattle.std.proofs.Common.{◌<◌, ◌+◌, ◌*◌, ◌^◌, ◌-◌, length, arith}
-use Rattle.vs_elaborate.proofs.Numbers.{number_zero, number_one, number_fits, no_number}
+use Rattle.vs_elaborate.proofs.LiteralLemmas.{number_zero, number_one, number_fits, no_number}
 use Rattle.vs_elaborate.proofs.literals.unsigned_number.Goals as goal
 
 pub loop-i-preserved-in-Zero : goal.loop-i-preserved-in-Zero

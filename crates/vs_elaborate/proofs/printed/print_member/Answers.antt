@@ -1,7 +1,7 @@
 use Rattle.std.proofs.Common.{◌<◌, length}
 use Rattle.std.proofs.lemmas.List.{length-map}
-use Rattle.vs_elaborate.specs.Frames.{borrowed}
-use Rattle.vs_elaborate.proofs.Paths.{member_text}
+use Rattle.vs_elaborate.specs.passes.Answers.{borrowed}
+use Rattle.vs_elaborate.proofs.PrintedLemmas.{member_text}
 use Rattle.vs_elaborate.proofs.printed.print_member.Goals as goal
 
 pub returns : goal.returns

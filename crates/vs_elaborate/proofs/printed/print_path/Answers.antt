@@ -1,7 +1,7 @@
 use Rattle.std.proofs.Common.{ap, sym, ◌∙◌, ◌++◌, arith}
 use Rattle.vs_elaborate.specs.Printed.{printed, printed_name}
-use Rattle.vs_elaborate.specs.Frames.{borrowed}
-use Rattle.vs_elaborate.proofs.Paths.{path_more, path_all, path_first}
+use Rattle.vs_elaborate.specs.passes.Answers.{borrowed}
+use Rattle.vs_elaborate.proofs.PrintedLemmas.{path_more, path_all, path_first}
 use Rattle.vs_elaborate.proofs.printed.print_path.Goals as goal
 
 pub loop-name-init : goal.loop-name-init

@@ -1,6 +1,6 @@
 use Rattle.std.proofs.Common.{◌≡◌, ◌+◌, take}
 use Rattle.vs_elaborate.specs.Printed.{printed}
-use Rattle.vs_elaborate.specs.Frames.{borrowed}
+use Rattle.vs_elaborate.specs.passes.Answers.{borrowed}
 use Rattle.vs_elaborate.proofs.printed.print_path.Given as goal
 
 abbrev pub invariant-loop-name : goal.invariant-loop-name

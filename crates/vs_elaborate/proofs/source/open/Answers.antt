@@ -1,36 +1,45 @@
-use Rattle.std.proofs.Common.{◌<◌, length, sym, subst, arith}
-use Rattle.std.proofs.lemmas.List.{length-map}
+use Rattle.std.proofs.Common.{[], refl, arith}
 use Rattle.std.proofs.lemmas.Result.{err_from_is_err_and}
-use Rattle.vs_elaborate.specs.Resolved.{HasSizes}
-use Rattle.vs_elaborate.specs.Scopes.{declarations_of}
-use Rattle.vs_elaborate.specs.Frames.{scope_of, borrowed}
-use Rattle.vs_elaborate.proofs.Designs.{meanings_have_sizes, declaring_faults, driver_scope_faults, process_scope_faults, opens}
+use Rattle.vs_elaborate.specs.declared.plans.Plan.{Plan}
+use Rattle.vs_elaborate.specs.passes.Plans.{scope_of}
+use Rattle.vs_elaborate.proofs.FaultLemmas.{declares_told, drives_told, runs_told, declares_none, drives_none, runs_none, opens}
 use Rattle.vs_elaborate.proofs.source.open.Goals as goal
 
-pub returns-in_err-names : goal.returns-in_err-names
-returns-in_err-names c =
-    let p = err_from_is_err_and c.from_residual.result c.from_residual.ensures.1 in
-    rw (p.1, p.2) (declaring_faults (scope_of c.args.frame.now) _ c.in_err-names.field-0.0 c.new-signals.ensures.items c.in_err-names.ensures)
+pub returns-in_err-declare : goal.returns-in_err-declare
+returns-in_err-declare c =
+    let p = err_from_is_err_and c.from_residual-in_err-declare.result c.from_residual-in_err-declare.ensures.1 in
+    let s = scope_of c.args.frame.now in
+    let p1 : Plan = record { signals = c.args.plan.now.signals; assigns = c.args.plan.now.assigns; processes = c.args.plan.now.processes; outline = c.push.new.self } in
+    rw (p.1, p.2) (declares_told s c.args.plan.now p1 c.in_err-declare.field-0.0 refl (c.in_err-declare.ensures p1 [] (declares_none s c.new-names.result p1 c.new-names.ensures c.requires.room)))
 
-pub assigns-requires-clause-sizes : goal.assigns-requires-clause-sizes
-assigns-requires-clause-sizes c = subst HasSizes (sym c.in_ok-names.ensures.meaning) (meanings_have_sizes (declarations_of (scope_of c.args.frame.now)))
+pub returns-in_err-drive_items : goal.returns-in_err-drive_items
+returns-in_err-drive_items c =
+    let p = err_from_is_err_and c.from_residual-in_err-drive_items.result c.from_residual-in_err-drive_items.ensures.1 in
+    let s = scope_of c.args.frame.now in
+    let p1 : Plan = record { signals = c.args.plan.now.signals; assigns = c.args.plan.now.assigns; processes = c.args.plan.now.processes; outline = c.push.new.self } in
+    let p2 = c.declare.new.plan in
+    let d = c.in_ok-declare.ensures p1 [] (declares_none s c.new-names.result p1 c.new-names.ensures c.requires.room) in
+    rw (p.1, p.2) (drives_told s c.declare.new.names _ c.args.plan.now p2 c.in_err-drive_items.field-0.0 d.bound (c.in_err-drive_items.ensures p2 [] (drives_none s c.declare.new.names c.len-first.result p2 (omega (arith, c.len-first.ensures, p2.assigns.ok.0)))))
 
-pub returns-in_err-assigns : goal.returns-in_err-assigns
-returns-in_err-assigns c =
-    let p = err_from_is_err_and c.from_residual-in_err-assigns.result c.from_residual-in_err-assigns.ensures.1 in
-    rw (p.1, p.2) (driver_scope_faults (scope_of c.args.frame.now) c.in_ok-names.names c.in_err-assigns.field-0.0 c.in_ok-names.ensures.meaning c.in_err-assigns.ensures)
-
-pub processes-requires-clause-sizes : goal.processes-requires-clause-sizes
-processes-requires-clause-sizes c = subst HasSizes (sym c.in_ok-names.ensures.meaning) (meanings_have_sizes (declarations_of (scope_of c.args.frame.now)))
-
-pub returns-in_err-processes : goal.returns-in_err-processes
-returns-in_err-processes c =
-    let p = err_from_is_err_and c.from_residual-in_err-processes.result c.from_residual-in_err-processes.ensures.1 in
-    rw (p.1, p.2) (process_scope_faults (scope_of c.args.frame.now) c.in_ok-names.names c.in_err-processes.field-0.0 c.in_ok-names.ensures.meaning c.in_err-processes.ensures)
+pub returns-in_err-run_items : goal.returns-in_err-run_items
+returns-in_err-run_items c =
+    let p = err_from_is_err_and c.from_residual-in_err-run_items.result c.from_residual-in_err-run_items.ensures.1 in
+    let s = scope_of c.args.frame.now in
+    let p1 : Plan = record { signals = c.args.plan.now.signals; assigns = c.args.plan.now.assigns; processes = c.args.plan.now.processes; outline = c.push.new.self } in
+    let p3 = c.drive_items.new.plan in
+    let d = c.in_ok-declare.ensures p1 [] (declares_none s c.new-names.result p1 c.new-names.ensures c.requires.room) in
+    rw (p.1, p.2) (runs_told s c.declare.new.names _ c.args.plan.now p3 c.in_err-run_items.field-0.0 d.bound (c.in_err-run_items.ensures p3 [] (runs_none s c.declare.new.names c.len-first-2.result p3 (omega (arith, c.len-first-2.ensures, p3.processes.ok.0)))))
 
 pub returns : goal.returns
 returns c =
-    let rooted : 0 < length (borrowed c.args.frame.now.path.items) = rw length-map c.requires in
-    let v = c.in_ok-processes.processes in
-    let u = c.in_ok-assigns.assigns in
-    rw c.new.ensures (opens (scope_of c.args.frame.now) c.in_ok-names.names c.new-signals.result.items c.declare.new.signals.items u.items v.items c.len.result c.in_ok-outline.outline.items rooted (omega (arith, u.ok.0, u.ok.1, u.small)) (omega (arith, v.ok.0, v.ok.1, v.small)) c.new-signals.ensures.items c.in_ok-names.ensures c.in_ok-assigns.ensures c.in_ok-processes.ensures c.len.ensures.len c.in_ok-outline.ensures)
+    let s = scope_of c.args.frame.now in
+    let p1 : Plan = record { signals = c.args.plan.now.signals; assigns = c.args.plan.now.assigns; processes = c.args.plan.now.processes; outline = c.push.new.self } in
+    let p2 = c.declare.new.plan in
+    let p3 = c.drive_items.new.plan in
+    let p4 = c.run_items.new.plan in
+    let p5 : Plan = record { signals = p4.signals; assigns = p4.assigns; processes = p4.processes; outline = c.push-2.new.self } in
+    let names = c.declare.new.names in
+    let d = c.in_ok-declare.ensures p1 [] (declares_none s c.new-names.result p1 c.new-names.ensures c.requires.room) in
+    let e = c.in_ok-drive_items.ensures p2 [] (drives_none s names c.len-first.result p2 (omega (arith, c.len-first.ensures, p2.assigns.ok.0))) in
+    let f = c.in_ok-run_items.ensures p3 [] (runs_none s names c.len-first-2.result p3 (omega (arith, c.len-first-2.ensures, p3.processes.ok.0))) in
+    opens s names c.args.plan.now p1 p2 p3 p4 p5 c.len-first.result c.len-first-2.result c.in_ok-title.title c.in_ok-title.ensures refl refl refl c.in_ok-push.ensures.items d e f refl refl refl c.in_ok-push-2.ensures.items

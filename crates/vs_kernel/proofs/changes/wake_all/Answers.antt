@@ -5,6 +5,6 @@ use Rattle.vs_kernel.proofs.changes.wake_all.Goals as goal
 
 pub loop-process-preserved : goal.loop-process-preserved
 loop-process-preserved c =
-    let within : c.loop-process.process < length c.args.spots.now.items = omega (arith, c.args.spots.now.ok.0, c.len-process-end.ensures) in
-    ap (slice_set c.loop-process.spots.items c.loop-process.process) c.wake.ensures
-    ∙ map_over_more (woken_at c.args.time) c.args.spots.now.items c.loop-process.spots.items c.loop-process.process _ within c.loop-process.invariant c.index_mut.ensures.value
+    let within : c.loop-process.process < length c.args.places.now.items = omega (arith, c.args.places.now.ok.0, c.len-process-end.ensures) in
+    ap (slice_set c.loop-process.places.items c.loop-process.process) c.wake.ensures
+    ∙ map_over_more (woken_at c.args.time) c.args.places.now.items c.loop-process.places.items c.loop-process.process _ within c.loop-process.invariant c.index_mut.ensures.value

@@ -1,52 +1,86 @@
-use Rattle.std.proofs.Common.{◌≡◌, ◌∙◌, ◌<◌, sym, false, arith}
+use Rattle.std.proofs.Common.{◌≡◌, ◌∙◌, ◌<◌, ◌≤◌, sym, false, true, subst, arith}
 use Rattle.std.proofs.lemmas.Bool.{false≢true}
-use Rattle.vs_kernel.proofs.Running.{begins, goes_on, reached, quiet, header_failed, move_failed, end_failed, part_failed, slots_whole, on_err}
+use Rattle.vs_process.specs.Executions.{is_complete}
+use Rattle.vs_process.specs.States.{State}
+use Rattle.vs_kernel.specs.Touches.{HasSources}
+use Rattle.vs_kernel.proofs.RunsLemmas.{begins, goes_on, limited, incomplete, complete_past, complete_over, reached, quiet, header_failed, move_failed, end_failed, part_failed, slots_whole, on_err}
+use Rattle.vs_kernel.proofs.SourcesLemmas.{has_sources}
 use Rattle.vs_kernel.proofs.run.execute.Goals as goal
-use Rattle.vs_kernel.proofs.run.execute.Goals.{then-loop-machine-test+else-time-until, else-loop-machine-test}
+use Rattle.vs_kernel.proofs.run.execute.Goals.{then-loop-state-test+else-time-until, else-loop-state-test}
 
-pub loop-machine-init : goal.loop-machine-init
-loop-machine-init g c = record {
+pub loop-state-init : goal.loop-state-init
+loop-state-init g c = record {
   run = begins c.requires.start c.in_ok-writer.ensures.written c.in_ok-writer.ensures.bytes;
   failures = c.in_ok-writer.ensures.failures;
 }
 
-pub loop-machine-preserved : goal.loop-machine-preserved
-loop-machine-preserved g c = record {
-  run =
-      goes_on c.loop-machine.invariant.run c.choose-next.result.choice (sym c.is_over.ensures.over ∙ c.loop-machine-test.true) c.choose-next.ensures
-      (omega (arith, c.time.ensures, c.if-time-until.true)) c.if-count-steps.false c.in_ok-advance.ensures
-      (c.in_ok-note.ensures.written c.args.design.now) (c.in_ok-note.ensures.bytes c.args.design.now);
-  failures = c.in_ok-note.ensures.failures ∙ c.loop-machine.invariant.failures;
+pub choose-next-requires : goal.choose-next-requires
+choose-next-requires g c = record { going = sym c.is_over.ensures.over ∙ c.loop-state-test.true }
+
+pub advance-requires : goal.advance-requires
+advance-requires g c = record {
+  going = sym c.is_over.ensures.over ∙ c.loop-state-test.true;
+  enabled = c.choose-next.ensures.enabled;
+  early = omega (arith, c.requires.early, c.time.ensures, c.if-time-until.true);
+  sources = subst (λ (s : State). HasSources c.args.design.now s) c.loop-state.invariant.run.state (has_sources c.args.design.now c.loop-state.invariant.run.moves);
 }
+
+pub loop-state-preserved : goal.loop-state-preserved
+loop-state-preserved g c =
+    let over = sym c.is_over.ensures.over ∙ c.loop-state-test.true in
+    let early : c.loop-state.state.time ≤ c.args.until = omega (arith, c.time.ensures, c.if-time-until.true) in
+    record {
+      run =
+          goes_on c.loop-state.invariant.run c.choose-next.result.choice (c.choose-next.ensures.statement c.args.design.now) (c.choose-next.ensures.block c.args.design.now)
+          (incomplete c.args.until c.loop-state.state over early) c.if-count-steps.false c.in_ok-advance.ensures
+          (c.in_ok-note.ensures.written c.args.design.now) (c.in_ok-note.ensures.bytes c.args.design.now);
+      failures = c.in_ok-note.ensures.failures ∙ c.loop-state.invariant.failures;
+    }
+
+pub returns-then-count-steps-clause-ran : goal.returns-then-count-steps-clause-ran
+returns-then-count-steps-clause-ran g c =
+    let early : c.loop-state.state.time ≤ c.args.until = omega (arith, c.time.ensures, c.if-time-until.true) in
+    limited c.time-then-count-steps.result c.loop-state.invariant.run (incomplete c.args.until c.loop-state.state (sym c.is_over.ensures.over ∙ c.loop-state-test.true) early)
+    c.time-then-count-steps.ensures c.if-count-steps.true
 
 pub returns-then-is_over-clause-ran : goal.returns-then-is_over-clause-ran
 returns-then-is_over-clause-ran g c =
-    quiet c.loop-machine.invariant.run (sym c.is_over-2.ensures.over ∙ c.if-is_over.true) c.is_over-2.ensures.finishing (c.in_ok-finish.ensures.bytes c.args.design.now)
+    quiet c.loop-state.invariant.run (sym c.is_over-2.ensures.over ∙ c.if-is_over.true) c.is_over-2.ensures.finishing (c.in_ok-finish.ensures.bytes c.args.design.now)
 
 pub returns-clause-ran : goal.returns-clause-ran
 returns-clause-ran g c =
-    let going : c.loop-machine.machine.over ≡ false = sym c.is_over-2.ensures.over ∙ c.if-is_over.false in
-    let late : c.args.until < c.loop-machine.machine.time =
-    elim c.loop-machine-test.branch [ then-loop-machine-test+else-time-until w ↦ omega (arith, w.time.ensures, w.if-time-until.false) | else-loop-machine-test w ↦ absurd (false≢true (sym going ∙ sym c.is_over.ensures.over ∙ w.loop-machine-test.false)) ]
+    let going : c.loop-state.state.over ≡ false = sym c.is_over-2.ensures.over ∙ c.if-is_over.false in
+    let late : c.args.until < c.loop-state.state.time =
+    elim c.loop-state-test.branch [ then-loop-state-test+else-time-until w ↦ omega (arith, w.time.ensures, w.if-time-until.false) | else-loop-state-test w ↦ absurd (false≢true (sym going ∙ sym c.is_over.ensures.over ∙ w.loop-state-test.false)) ]
     in
-    reached c.loop-machine.invariant.run going late c.is_over-2.ensures.finishing (c.in_ok-finish.ensures.bytes c.args.design.now)
+    reached c.loop-state.invariant.run going late c.is_over-2.ensures.finishing (c.in_ok-finish.ensures.bytes c.args.design.now)
 
 pub returns-in_err-writer-clause-begun : goal.returns-in_err-writer-clause-begun
 returns-in_err-writer-clause-begun g c = on_err _ (header_failed (part_failed _ _ _ _ c.in_err-writer.ensures.bytes))
 
 pub returns-in_err-note-clause-begun : goal.returns-in_err-note-clause-begun
 returns-in_err-note-clause-begun g c =
+    let over = sym c.is_over.ensures.over ∙ c.loop-state-test.true in
+    let early : c.loop-state.state.time ≤ c.args.until = omega (arith, c.time.ensures, c.if-time-until.true) in
     on_err _
-    (move_failed c.loop-machine.invariant.run c.choose-next.result.choice (sym c.is_over.ensures.over ∙ c.loop-machine-test.true) c.is_over.ensures.finishing c.choose-next.ensures
-    (omega (arith, c.time.ensures, c.if-time-until.true)) c.if-count-steps.false (c.in_err-note.ensures.part c.args.design.now))
+    (move_failed c.loop-state.invariant.run c.choose-next.result.choice (c.choose-next.ensures.statement c.args.design.now) (c.choose-next.ensures.block c.args.design.now) over c.is_over.ensures.finishing
+    (incomplete c.args.until c.loop-state.state over early) c.if-count-steps.false (c.in_err-note.ensures.part c.args.design.now))
 
 pub returns-in_err-advance-clause-begun : goal.returns-in_err-advance-clause-begun
 returns-in_err-advance-clause-begun g c =
+    let over = sym c.is_over.ensures.over ∙ c.loop-state-test.true in
+    let early : c.loop-state.state.time ≤ c.args.until = omega (arith, c.time.ensures, c.if-time-until.true) in
     on_err _
-    (move_failed c.loop-machine.invariant.run c.choose-next.result.choice (sym c.is_over.ensures.over ∙ c.loop-machine-test.true) c.is_over.ensures.finishing c.choose-next.ensures
-    (omega (arith, c.time.ensures, c.if-time-until.true)) c.if-count-steps.false (λ before h. slots_whole _ _ c.args.design.now before _ (c.in_ok-note.ensures.bytes c.args.design.now before h)))
+    (move_failed c.loop-state.invariant.run c.choose-next.result.choice (c.choose-next.ensures.statement c.args.design.now) (c.choose-next.ensures.block c.args.design.now) over c.is_over.ensures.finishing
+    (incomplete c.args.until c.loop-state.state over early) c.if-count-steps.false (λ before h. slots_whole _ _ c.args.design.now before _ (c.in_ok-note.ensures.bytes c.args.design.now before h)))
 
 pub returns-in_err-finish-clause-begun : goal.returns-in_err-finish-clause-begun
 returns-in_err-finish-clause-begun g c =
+    let complete : is_complete c.args.until c.loop-state.state ≡ true =
+    elim c.loop-state-test.branch [
+      | then-loop-state-test+else-time-until w ↦ complete_past c.args.until c.loop-state.state (sym c.is_over.ensures.over ∙ w.loop-state-test.true) (omega (arith, w.time.ensures, w.if-time-until.false))
+      | else-loop-state-test w ↦ complete_over c.args.until c.loop-state.state (sym c.is_over.ensures.over ∙ w.loop-state-test.false)
+    ]
+    in
     on_err _
-    (end_failed c.loop-machine.invariant.run c.is_over.ensures.finishing (λ before h. part_failed _ _ _ _ (c.in_err-finish.ensures.bytes c.args.design.now before h)))
+    (end_failed c.loop-state.invariant.run complete c.is_over.ensures.finishing (λ before h. part_failed _ _ _ _ (c.in_err-finish.ensures.bytes c.args.design.now before h)))

@@ -4,4 +4,4 @@ use Rattle.vs_process.specs.Places.{is_going}
 use Rattle.vs_kernel.proofs.search.active_process.Given as goal
 
 abbrev pub invariant-loop-process : goal.invariant-loop-process
-invariant-loop-process l = list_any is_going (take l.process l.spots.items) ≡ false
+invariant-loop-process l = list_any is_going (take l.process l.places.items) ≡ false

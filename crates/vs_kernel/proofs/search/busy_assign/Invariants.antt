@@ -3,4 +3,4 @@ use Rattle.std.specs.List.{list_any}
 use Rattle.vs_kernel.proofs.search.busy_assign.Given as goal
 
 abbrev pub invariant-loop-assign : goal.invariant-loop-assign
-invariant-loop-assign l = list_any (λ d. d.needs || is_some d.pending) (take l.assign l.drivers.items) ≡ false
+invariant-loop-assign l = list_any (λ d. d.needs || is_some d.pending) (take l.assign l.assigns.items) ≡ false

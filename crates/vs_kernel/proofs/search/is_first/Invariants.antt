@@ -1,6 +1,6 @@
 use Rattle.std.proofs.Common.{◌≡◌, ◌&&◌, false, take}
 use Rattle.std.specs.List.{list_any}
-use Rattle.vs_process.specs.Executions.{shares}
+use Rattle.vs_design.specs.Writes.{shares}
 use Rattle.vs_kernel.proofs.search.is_first.Given as goal
 
 abbrev pub invariant-loop-older : goal.invariant-loop-older

@@ -3,4 +3,4 @@ use Rattle.vs_process.specs.Executions as executions
 use Rattle.vs_kernel.proofs.search.next_wake.Given as goal
 
 abbrev pub invariant-loop-process : goal.invariant-loop-process
-invariant-loop-process l = executions.next_wake l.best (drop l.process l.spots.items) ≡ executions.next_wake None l.spots.items
+invariant-loop-process l = executions.next_wake l.best (drop l.process l.places.items) ≡ executions.next_wake None l.places.items

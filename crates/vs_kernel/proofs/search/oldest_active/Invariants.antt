@@ -2,5 +2,5 @@ use Rattle.std.proofs.Common.{◌≡◌, false, take}
 use Rattle.std.specs.List.{list_any}
 use Rattle.vs_kernel.proofs.search.oldest_active.Given as goal
 
-abbrev pub invariant-loop-place : goal.invariant-loop-place
-invariant-loop-place l = list_any (λ u. u.active) (take l.place l.updates.items) ≡ false
+abbrev pub invariant-loop-i : goal.invariant-loop-i
+invariant-loop-i l = list_any (λ u. u.active) (take l.i l.updates.items) ≡ false

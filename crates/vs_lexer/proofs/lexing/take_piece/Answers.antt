@@ -1,4 +1,4 @@
-use Rattle.vs_lexer.specs.Reading.{nothing, one}
+use Rattle.vs_lexer.specs.Taking.{nothing, one}
 use Rattle.vs_lexer.proofs.Spelled.{text_cut, token_added}
 use Rattle.vs_lexer.proofs.lexing.take_piece.Goals as goal
 

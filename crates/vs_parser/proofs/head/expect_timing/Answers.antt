@@ -1,6 +1,6 @@
 use Rattle.std.proofs.Common.{◌≤◌, refl, ap, arith, true}
 use Rattle.std.proofs.lemmas.Result.{err_from_is_err_and}
-use Rattle.vs_lexer.specs.declared.token.Mark.TheVariants as m
+use Rattle.vs_tokens.specs.declared.token.Mark.TheVariants as m
 use Rattle.vs_syntax.specs.Symbols.{the_mark, first}
 use Rattle.vs_syntax.specs.Grammar.{mark, ◌or◌}
 use Rattle.vs_syntax.specs.Reading.{stuck_right}

@@ -1,16 +1,14 @@
-use Rattle.std.proofs.Common.{◌≡◌, length, map}
+use Rattle.std.proofs.Common.{length, map}
 use Rattle.vs_syntax.specs.Grammar.{part, an_item}
-use Rattle.vs_syntax.specs.Derivation.{height}
-use Rattle.vs_syntax.specs.Views.{row_of, item_tree}
+use Rattle.vs_syntax.specs.Views.{item_tree}
 use Rattle.vs_parser.specs.Answers.{seen}
 use Rattle.vs_parser.proofs.Rows.{Along}
 use Rattle.vs_parser.proofs.item.items.Given as goal
 
-abbrev pub invariant-loop-head : goal.invariant-loop-head
-invariant-loop-head l = record {
+abbrev pub invariant-loop-word : goal.invariant-loop-word
+invariant-loop-word l = record {
   along : Along (part an_item) l.room (seen l.tokens) (seen l.rest) (map item_tree l.tree.items);
-  height : l.height ≡ height (row_of (map item_tree l.tree.items));
 }
 
-abbrev pub decreases-loop-head : goal.decreases-loop-head
-decreases-loop-head l = length (seen l.rest)
+abbrev pub decreases-loop-word : goal.decreases-loop-word
+decreases-loop-word l = length (seen l.rest)

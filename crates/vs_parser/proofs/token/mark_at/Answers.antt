@@ -1,6 +1,6 @@
 use Rattle.std.proofs.Common.{ap, sym, ◌∙◌}
 use denote.Enum.Bare.{same_true}
-use Rattle.vs_lexer.specs.contracts.token.Mark.{the_type}
+use Rattle.vs_tokens.specs.contracts.token.Mark.{the_type}
 use Rattle.vs_syntax.specs.Symbols.{a_mark}
 use Rattle.vs_parser.proofs.Tokens.{seen_is}
 use Rattle.vs_syntax.specs.Symbols.{symbol_of}

@@ -15,7 +15,7 @@ returns-in_err-design c =
         spelled = c.in_ok-tokens.ensures;
         derived = subst (λ ts. Derives (symbols (lexemes ts)) c.in_ok-tree.tree) c.deref.ensures.value c.in_ok-tree.ensures.exact;
       };
-      refused = c.in_err-design.ensures.defined;
+      refused = c.in_err-design.ensures;
     })
 
 pub returns : goal.returns
@@ -26,5 +26,5 @@ returns c = record {
     spelled = c.in_ok-tokens.ensures;
     derived = subst (λ ts. Derives (symbols (lexemes ts)) c.in_ok-tree.tree) c.deref.ensures.value c.in_ok-tree.ensures.exact;
   };
-  defined = c.in_ok-design.ensures.defined;
+  defined = c.in_ok-design.ensures;
 }

@@ -1,7 +1,8 @@
-use Rattle.std.proofs.Common.{IfSome, ◌++◌, [], length, refl, subst, append-nil}
+use Rattle.std.proofs.Common.{IfSome, ◌++◌, [], refl, subst, append-nil}
 use Rattle.vs_design.specs.Traces.{Slot}
+use Rattle.vs_vcd.specs.Codes.{shown}
 use Rattle.vs_vcd.specs.Values.{shown_value}
-use Rattle.vs_vcd.specs.Text.{vcd_header, vcd_slots, last_of, end_time, end_lines}
+use Rattle.vs_vcd.specs.Text.{vcd_header, vcd_slots, last_time, end_time, end_lines}
 use Rattle.vs_vcd.specs.Shown.{Shows, slot_at}
 use Rattle.vs_vcd.proofs.OneLineLemmas.{end_one_line}
 use Rattle.vs_vcd.proofs.ChangeLemmas.{silent_end, silent_nothing}
@@ -11,12 +12,12 @@ use Rattle.vs_vcd.proofs.law.shows_values_at_slot_ends.Goals as goal
 pub returns-clause-whole : goal.returns-clause-whole
 returns-clause-whole c =
     λ d trace until time signal names rising within.
-    let last = last_of (length d.signals) trace.slots in
+    let last = last_time (shown d) trace.slots in
     let end = end_time trace until in
     shows_text d (end_lines last end) trace.slots time signal (end_one_line last end) (silent_end last end) names rising within
 
 pub returns-clause-begun : goal.returns-clause-begun
 returns-clause-begun c =
     λ d slots time signal names rising within.
-    subst (λ l. IfSome (slot_at time slots) (λ (s : Slot). Shows l time signal (shown_value s.store signal))) (append-nil (vcd_header d ++ vcd_slots d slots))
+    subst (λ l. IfSome (slot_at time slots) (λ (s : Slot). Shows l d time signal (shown_value s.store signal))) (append-nil (vcd_header d ++ vcd_slots d slots))
     (shows_text d [] slots time signal refl silent_nothing names rising within)

@@ -1,6 +1,6 @@
-use Rattle.std.proofs.Common.{◌≡◌, ◌++◌}
-use Rattle.vs_vcd.specs.Text.{text_of, change_lines}
+use Rattle.std.proofs.Common.{◌≡◌, ◌++◌, take}
+use Rattle.vs_vcd.specs.Text.{text_of, coded_lines, changed_line}
 use Rattle.vs_vcd.proofs.lines.push_changes.Given as goal
 
-abbrev pub invariant-loop-signal : goal.invariant-loop-signal
-invariant-loop-signal l = l.text.items ≡ l.initial.text.items ++ text_of (change_lines l.before l.after l.signal)
+abbrev pub invariant-loop-number : goal.invariant-loop-number
+invariant-loop-number l = l.text.items ≡ l.initial.text.items ++ text_of (coded_lines (changed_line l.before l.after) 0 (take l.number l.signals))

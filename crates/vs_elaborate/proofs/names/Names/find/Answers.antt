@@ -1,8 +1,8 @@
-use Rattle.vs_elaborate.proofs.NameLemmas.{finds, finds_none}
+use Rattle.vs_elaborate.proofs.NameLemmas.{finds}
 use Rattle.vs_elaborate.proofs.names.Names.find.Goals as goal
 
-pub returns-in_err-place : goal.returns-in_err-place
-returns-in_err-place g c = rw c.from_residual.ensures (finds_none _ _ _ c.self.view_is c.in_err-place.ensures.value)
+pub returns-in-Some : goal.returns-in-Some
+returns-in-Some g c = finds c.self.inside.meanings _ c.args.name.now _ c.self.view_is c.in-Some.ensures.value
 
-pub returns : goal.returns
-returns g c = finds _ _ _ _ _ c.self.view_is c.in_ok-place.ensures.index c.in_ok-place.ensures.value
+pub returns-in-None : goal.returns-in-None
+returns-in-None g c = finds c.self.inside.meanings _ c.args.name.now _ c.self.view_is c.in-None.ensures.value

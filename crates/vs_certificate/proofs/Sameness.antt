@@ -1,0 +1,242 @@
+-- The members of a certificate are read off its JSON value.
+use Rattle.std.proofs.Common.{◌≡◌, ℕ, Bool, if◌then◌else◌, List, [], ◌∷◌, map, codes, String, string_bytes, Vec, Global, Option, Some, None, true≢false, refl, ap, ap₂, sym, ◌∙◌}
+use Rattle.serde_json.specs.Data.{Data, string, array, object, Members, Items, member}
+use Rattle.serde_json.specs.View.{items_of}
+use Rattle.vs_certificate.specs.declared.members.Certificate.{Certificate}
+use Rattle.vs_certificate.specs.declared.members.EdgeSignal.{EdgeSignal}
+use Rattle.vs_certificate.specs.declared.members.Grain.{Grain}
+use Rattle.vs_certificate.specs.declared.members.Grain.TheVariants as grains
+use Rattle.vs_certificate.specs.declared.members.ProcessEntry.{ProcessEntry}
+use Rattle.vs_certificate.specs.declared.members.ProcessKind.{ProcessKind}
+use Rattle.vs_certificate.specs.declared.members.ProcessKind.TheVariants as kinds
+use Rattle.vs_certificate.specs.declared.members.SignalEntry.{SignalEntry}
+use Rattle.vs_certificate.specs.declared.members.SignalMode.{SignalMode}
+use Rattle.vs_certificate.specs.declared.members.SignalMode.TheVariants as modes
+use Rattle.vs_certificate.specs.declared.members.Start.{Start}
+use Rattle.vs_certificate.specs.declared.members.Start.TheVariants as starts
+use Rattle.vs_certificate.specs.JsonValue.{kind_word, grain_value, mode_value, text_value, list_value, whole_value, residues_value, slots_value, start_word_value, start_value, edge_value, process_value, signal_value, value_of}
+use Rattle.vs_certificate.specs.Shape.{is_word}
+use Rattle.vs_certificate.specs.Sameness.{start_of, residues_of, edge_parts, process_parts, signal_parts, IsSame}
+
+-- ---- lists
+
+-- entries of the same values have the same parts, where one entry does
+parts_from_values : {A B : Type 0} (value : A → Data) (parts : A → B) → ((x y : A) → value x ≡ value y → parts x ≡ parts y) → (xs ys : List A) → items_of (map value xs) ≡ items_of (map value ys) → map parts xs ≡ map parts ys
+parts_from_values value parts each [] [] h = refl
+parts_from_values value parts each [] (y ∷ ys) h = absurd cc
+parts_from_values value parts each (x ∷ xs) [] h = absurd cc
+parts_from_values value parts each (x ∷ xs) (y ∷ ys) h =
+    let first : value x ≡ value y = cc in
+    let rest : items_of (map value xs) ≡ items_of (map value ys) = cc in
+    ap₂ (λ p ps. p ∷ ps) (each x y first) (parts_from_values value parts each xs ys rest)
+
+-- and the other way round
+values_from_parts : {A B : Type 0} (value : A → Data) (parts : A → B) → ((x y : A) → parts x ≡ parts y → value x ≡ value y) → (xs ys : List A) → map parts xs ≡ map parts ys → list_value value xs ≡ list_value value ys
+values_from_parts value parts each [] [] h = refl
+values_from_parts value parts each [] (y ∷ ys) h = absurd cc
+values_from_parts value parts each (x ∷ xs) [] h = absurd cc
+values_from_parts value parts each (x ∷ xs) (y ∷ ys) h =
+    let first : parts x ≡ parts y = cc in
+    let rest : map parts xs ≡ map parts ys = cc in
+    let value_of_rest : list_value value xs ≡ list_value value ys = values_from_parts value parts each xs ys rest in
+    let same_first = each x y first in
+    cc
+
+array_items : {ds es : Items} → array ds ≡ array es → ds ≡ es
+array_items h = cc
+
+parts_from_list : {A B : Type 0} (value : A → Data) (parts : A → B) → ((x y : A) → value x ≡ value y → parts x ≡ parts y) → (xs ys : List A) → list_value value xs ≡ list_value value ys → map parts xs ≡ map parts ys
+parts_from_list value parts each xs ys h = parts_from_values value parts each xs ys (array_items h)
+
+-- ---- words
+
+abbrev grain_in : Data → Option Grain
+grain_in d = if is_word (codes "block") d then Some grains.Block else Some grains.Statement
+
+grain_again : (g : Grain) → grain_in (grain_value g) ≡ Some g
+grain_again grains.Block = refl
+grain_again grains.Statement = refl
+
+grain_from_value : (g h : Grain) → grain_value g ≡ grain_value h → g ≡ h
+grain_from_value g h e = let same : Some g ≡ Some h = sym (grain_again g) ∙ ap grain_in e ∙ grain_again h in cc
+
+abbrev mode_in : Data → Option SignalMode
+mode_in d =
+    if is_word (codes "net") d then Some modes.Net else if is_word (codes "unwritten") d then Some modes.Unwritten else if is_word (codes "comb") d then Some modes.Combinational
+    else if is_word (codes "nonblocking") d then Some modes.Nonblocking else if is_word (codes "blocking") d then Some modes.Blocking else Some modes.Private
+
+mode_again : (m : SignalMode) → mode_in (mode_value m) ≡ Some m
+mode_again modes.Net = refl
+mode_again modes.Unwritten = refl
+mode_again modes.Combinational = refl
+mode_again modes.Nonblocking = refl
+mode_again modes.Blocking = refl
+mode_again modes.Private = refl
+
+mode_from_value : (m n : SignalMode) → mode_value m ≡ mode_value n → m ≡ n
+mode_from_value m n e = let same : Some m ≡ Some n = sym (mode_again m) ∙ ap mode_in e ∙ mode_again n in cc
+
+abbrev start_in : Data → Option Start
+start_in d = if is_word (codes "cold") d then Some starts.Cold else if is_word (codes "sources") d then Some starts.Sources else None
+
+start_again : (k : ProcessKind) → start_in (start_value k) ≡ start_of k
+start_again (kinds.Combinational starts.Cold) = refl
+start_again (kinds.Combinational starts.Sources) = refl
+start_again kinds.Edge = refl
+start_again (kinds.Delay slots) = refl
+
+start_from_value : (j k : ProcessKind) → start_value j ≡ start_value k → start_of j ≡ start_of k
+start_from_value j k e = sym (start_again j) ∙ ap start_in e ∙ start_again k
+
+-- ---- residues
+
+number_from_value : (m n : ℕ) → whole_value m ≡ whole_value n → m ≡ n
+number_from_value m n e = cc
+
+map_itself : (ns : List ℕ) → map (λ n. n) ns ≡ ns
+map_itself [] = refl
+map_itself (n ∷ ns) = ap (λ ms. n ∷ ms) (map_itself ns)
+
+numbers_from_value : (a b : Vec ℕ Global) → residues_value a ≡ residues_value b → a.items ≡ b.items
+numbers_from_value a b e = sym (map_itself a.items) ∙ parts_from_list whole_value (λ n. n) number_from_value a.items b.items e ∙ map_itself b.items
+
+abbrev is_delay : Data → Bool
+is_delay = is_word (codes "delay")
+
+residues_from_value : (j k : ProcessKind) → string (kind_word j) ≡ string (kind_word k) → slots_value j ≡ slots_value k → residues_of j ≡ residues_of k
+residues_from_value (kinds.Combinational s) (kinds.Combinational t) w e = refl
+residues_from_value (kinds.Combinational s) kinds.Edge w e = refl
+residues_from_value (kinds.Combinational s) (kinds.Delay b) w e = absurd (true≢false (sym (ap is_delay w)))
+residues_from_value kinds.Edge (kinds.Combinational t) w e = refl
+residues_from_value kinds.Edge kinds.Edge w e = refl
+residues_from_value kinds.Edge (kinds.Delay b) w e = absurd (true≢false (sym (ap is_delay w)))
+residues_from_value (kinds.Delay a) (kinds.Combinational t) w e = absurd (true≢false (ap is_delay w))
+residues_from_value (kinds.Delay a) kinds.Edge w e = absurd (true≢false (ap is_delay w))
+residues_from_value (kinds.Delay a) (kinds.Delay b) w e = ap Some (parts_from_list residues_value (λ r. r.items) numbers_from_value a.items b.items e)
+
+-- ---- entries
+
+first_member : {k : List ℕ} {d e : Data} {ms ns : Members} → member k d ms ≡ member k e ns → d ≡ e
+first_member h = cc
+
+other_members : {k : List ℕ} {d e : Data} {ms ns : Members} → member k d ms ≡ member k e ns → ms ≡ ns
+other_members h = cc
+
+members_of : {ms ns : Members} → object ms ≡ object ns → ms ≡ ns
+members_of h = cc
+
+text_from_value : (s t : String Global) → text_value s ≡ text_value t → string_bytes s ≡ string_bytes t
+text_from_value s t h = cc
+
+edge_from_value : (e f : EdgeSignal) → edge_value e ≡ edge_value f → edge_parts e ≡ edge_parts f
+edge_from_value e f h =
+    let root = members_of h in
+    let signal = other_members root in
+    rw (text_from_value e.root f.root (first_member root), text_from_value e.signal f.signal (first_member signal)) refl
+
+process_from_value : (p q : ProcessEntry) → process_value p ≡ process_value q → process_parts p ≡ process_parts q
+process_from_value p q h =
+    let kind = members_of h in
+    let name = other_members kind in
+    let slots = other_members name in
+    let start = other_members slots in
+    let residues = residues_from_value p.kind q.kind (first_member kind) (first_member slots) in
+    rw (text_from_value p.name q.name (first_member name), start_from_value p.kind q.kind (first_member start), residues) refl
+
+signal_from_value : (s t : SignalEntry) → signal_value s ≡ signal_value t → signal_parts s ≡ signal_parts t
+signal_from_value s t h =
+    let mode = members_of h in
+    let name = other_members mode in
+    let second = other_members name in
+    let writer = other_members second in
+    rw (mode_from_value s.mode t.mode (first_member mode), text_from_value s.name t.name (first_member name), text_from_value s.second t.second (first_member second), text_from_value s.writer t.writer (first_member writer)) refl
+
+-- ---- the whole
+
+pub same_from_value : (c d : Certificate) → value_of c ≡ value_of d → IsSame c d
+same_from_value c d h =
+    let edges = members_of h in
+    let grain = other_members edges in
+    let modulus = other_members grain in
+    let order = other_members modulus in
+    let processes = other_members order in
+    let signals = other_members processes in
+    record {
+      edges = parts_from_list edge_value edge_parts edge_from_value c.edges.items d.edges.items (first_member edges);
+      grain = grain_from_value c.grain d.grain (first_member grain);
+      modulus = number_from_value c.modulus d.modulus (first_member modulus);
+      order = parts_from_list text_value string_bytes text_from_value c.order.items d.order.items (first_member order);
+      processes = parts_from_list process_value process_parts process_from_value c.processes.items d.processes.items (first_member processes);
+      signals = parts_from_list signal_value signal_parts signal_from_value c.signals.items d.signals.items (first_member signals);
+    }
+
+-- ---- the other way round
+
+text_from_parts : (s t : String Global) → string_bytes s ≡ string_bytes t → text_value s ≡ text_value t
+text_from_parts s t h = ap string h
+
+edge_from_parts : (e f : EdgeSignal) → edge_parts e ≡ edge_parts f → edge_value e ≡ edge_value f
+edge_from_parts e f h =
+    let root : string_bytes e.root ≡ string_bytes f.root = ap (λ p. p.0) h in
+    let signal : string_bytes e.signal ≡ string_bytes f.signal = ap (λ p. p.1) h in
+    rw (root, signal) refl
+
+signal_from_parts : (s t : SignalEntry) → signal_parts s ≡ signal_parts t → signal_value s ≡ signal_value t
+signal_from_parts s t h =
+    let mode : s.mode ≡ t.mode = ap (λ p. p.0) h in
+    let name : string_bytes s.name ≡ string_bytes t.name = ap (λ p. p.1) h in
+    let second : string_bytes s.second ≡ string_bytes t.second = ap (λ p. p.2) h in
+    let writer : string_bytes s.writer ≡ string_bytes t.writer = ap (λ p. p.3) h in
+    rw (mode, name, second, writer) refl
+
+abbrev kind_word_by : Option Start → Option (List (List ℕ)) → List ℕ
+kind_word_by (Some start) residues = codes "comb"
+kind_word_by None None = codes "edge"
+kind_word_by None (Some residues) = codes "delay"
+
+kind_word_of : (k : ProcessKind) → kind_word k ≡ kind_word_by (start_of k) (residues_of k)
+kind_word_of (kinds.Combinational start) = refl
+kind_word_of kinds.Edge = refl
+kind_word_of (kinds.Delay slots) = refl
+
+abbrev start_value_by : Option Start → Data
+start_value_by (Some start) = start_word_value start
+start_value_by None = string (codes "none")
+
+start_value_of : (k : ProcessKind) → start_value k ≡ start_value_by (start_of k)
+start_value_of (kinds.Combinational start) = refl
+start_value_of kinds.Edge = refl
+start_value_of (kinds.Delay slots) = refl
+
+slots_from_residues : (j k : ProcessKind) → residues_of j ≡ residues_of k → slots_value j ≡ slots_value k
+slots_from_residues (kinds.Combinational s) (kinds.Combinational t) h = refl
+slots_from_residues (kinds.Combinational s) kinds.Edge h = refl
+slots_from_residues (kinds.Combinational s) (kinds.Delay b) h = absurd cc
+slots_from_residues kinds.Edge (kinds.Combinational t) h = refl
+slots_from_residues kinds.Edge kinds.Edge h = refl
+slots_from_residues kinds.Edge (kinds.Delay b) h = absurd cc
+slots_from_residues (kinds.Delay a) (kinds.Combinational t) h = absurd cc
+slots_from_residues (kinds.Delay a) kinds.Edge h = absurd cc
+slots_from_residues (kinds.Delay a) (kinds.Delay b) h =
+    let same : map (λ r. r.items) a.items ≡ map (λ r. r.items) b.items = cc in
+    values_from_parts residues_value (λ r. r.items) (λ r s e. ap (list_value whole_value) e) a.items b.items same
+
+process_from_parts : (p q : ProcessEntry) → process_parts p ≡ process_parts q → process_value p ≡ process_value q
+process_from_parts p q h =
+    let name : string_bytes p.name ≡ string_bytes q.name = ap (λ r. r.0) h in
+    let start : start_of p.kind ≡ start_of q.kind = ap (λ r. r.1) h in
+    let residues : residues_of p.kind ≡ residues_of q.kind = ap (λ r. r.2) h in
+    let word : kind_word p.kind ≡ kind_word q.kind = kind_word_of p.kind ∙ ap₂ kind_word_by start residues ∙ sym (kind_word_of q.kind) in
+    let begins : start_value p.kind ≡ start_value q.kind = start_value_of p.kind ∙ ap start_value_by start ∙ sym (start_value_of q.kind) in
+    rw (word, name, slots_from_residues p.kind q.kind residues, begins) refl
+
+pub value_from_same : (c d : Certificate) → IsSame c d → value_of c ≡ value_of d
+value_from_same c d h =
+    rw (
+      values_from_parts edge_value edge_parts edge_from_parts c.edges.items d.edges.items h.edges,
+      h.grain,
+      h.modulus,
+      values_from_parts text_value string_bytes text_from_parts c.order.items d.order.items h.order,
+      values_from_parts process_value process_parts process_from_parts c.processes.items d.processes.items h.processes,
+      values_from_parts signal_value signal_parts signal_from_parts c.signals.items d.signals.items h.signals,
+    ) refl

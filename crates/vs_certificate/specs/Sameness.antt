@@ -1,0 +1,44 @@
+-- When two certificates are the same in all that is read of them: their members, entry by entry. (A vector and a text
+-- have an address besides, of which nothing is said.)
+use Rattle.std.specs.Prelude.{◌≡◌, ℕ, List, map, Option, None, Some, string_bytes}
+use Rattle.vs_certificate.specs.declared.members.Certificate.{Certificate}
+use Rattle.vs_certificate.specs.declared.members.EdgeSignal.{EdgeSignal}
+use Rattle.vs_certificate.specs.declared.members.ProcessEntry.{ProcessEntry}
+use Rattle.vs_certificate.specs.declared.members.ProcessKind.{ProcessKind}
+use Rattle.vs_certificate.specs.declared.members.ProcessKind.TheVariants as kinds
+use Rattle.vs_certificate.specs.declared.members.Start.{Start}
+use Rattle.vs_certificate.specs.declared.members.SignalEntry.{SignalEntry}
+use Rattle.vs_certificate.specs.declared.members.SignalMode.{SignalMode}
+
+-- the start of a combinational block (profile)
+abbrev pub start_of : ProcessKind → Option Start
+start_of (kinds.Combinational start) = Some start
+start_of kinds.Edge = None
+start_of (kinds.Delay slots) = None
+
+-- the residues of a process that waits for times, a list for each of its delay controls (profile)
+abbrev pub residues_of : ProcessKind → Option (List (List ℕ))
+residues_of (kinds.Combinational start) = None
+residues_of kinds.Edge = None
+residues_of (kinds.Delay slots) = Some (map (λ residues. residues.items) slots.items)
+
+-- the root and the signal (profile)
+abbrev pub edge_parts : EdgeSignal → List ℕ × List ℕ
+edge_parts e = (string_bytes e.root, string_bytes e.signal)
+
+-- the name, the start and the residues (profile)
+abbrev pub process_parts : ProcessEntry → List ℕ × Option Start × Option (List (List ℕ))
+process_parts p = (string_bytes p.name, start_of p.kind, residues_of p.kind)
+
+-- the mode, the name, the second and the writer (profile)
+abbrev pub signal_parts : SignalEntry → SignalMode × List ℕ × List ℕ × List ℕ
+signal_parts s = (s.mode, string_bytes s.name, string_bytes s.second, string_bytes s.writer)
+
+-- the same members (profile)
+pub record IsSame (c d : Certificate) : Type 0 where
+  pub edges : map edge_parts c.edges.items ≡ map edge_parts d.edges.items
+  pub grain : c.grain ≡ d.grain
+  pub modulus : c.modulus ≡ d.modulus
+  pub order : map string_bytes c.order.items ≡ map string_bytes d.order.items
+  pub processes : map process_parts c.processes.items ≡ map process_parts d.processes.items
+  pub signals : map signal_parts c.signals.items ≡ map signal_parts d.signals.items

@@ -1,0 +1,248 @@
+-- Plans, a part at a time.
+use Rattle.std.proofs.Common.{◌≡◌, ℕ, zero, suc, ◌+◌, ◌-◌, ◌<◌, ◌≤◌, ◌&&◌, ◌||◌, ◌==◌, Bool, true, false, cond, not, List, [], ◌∷◌, ◌++◌, Option, Some, None, IsSome, is_some, length, map, take, get_or, slice_get, option_map, refl, ap, sym, subst, ◌∙◌, append_assoc, arith, true≢false, eq-eqb}
+use Rattle.std.specs.List.{list_any, flat_map, AllZip, IsDistinct}
+use Rattle.std.specs.Map.{lookup, keys_of, update}
+use Rattle.std.specs.Str.{bytes_eq}
+use Rattle.std.proofs.lemmas.List.{append-nil, map-append, length-map, length-append}
+use Rattle.std.proofs.lemmas.Option.{none-some, same_Some, slice_get-map}
+use Rattle.std.proofs.lemmas.Slice.Zip.{all_zipped_more, AllZip-long}
+use Rattle.std.proofs.lemmas.Slice.Eq.{bytes_eq-Decides}
+use Rattle.std.proofs.lemmas.Map.Keys.{IsDistinct-push}
+use Rattle.std.specs.Cmp.{IsEquivalence}
+use Rattle.vs_syntax.specs.declared.tree.Expr.{Expr}
+use Rattle.vs_design.specs.WellFormed.{counts_from}
+use Rattle.vs_design.specs.declared.signal.Signal.{Signal}
+use Rattle.vs_design.specs.declared.signal.SignalKind.{SignalKind}
+use Rattle.vs_design.specs.declared.design.Assign.{Assign}
+use Rattle.vs_design.specs.declared.design.Process.{Process}
+use Rattle.vs_design.specs.declared.design.Entry.{Entry}
+use Rattle.vs_design.specs.declared.design.Entry.TheVariants.{Declare}
+use Rattle.vs_elaborate.specs.declared.bindings.Meaning.{Meaning}
+use Rattle.vs_elaborate.specs.declared.bindings.Binding.{Binding}
+use Rattle.vs_elaborate.specs.declared.plans.Plan.{Plan}
+use Rattle.vs_elaborate.specs.declared.faults.Reason.{Reason}
+use Rattle.vs_elaborate.specs.declared.faults.Reason.TheVariants.{NoModule, DeclaredTwice, DrivenTwice, Limit, Width}
+use Rattle.vs_elaborate.specs.declared.faults.ElabFault.{ElabFault}
+use Rattle.vs_elaborate.specs.Names.{meaning_of, Declares as NamesDeclare}
+use Rattle.vs_elaborate.specs.Printed.{Path}
+use Rattle.vs_elaborate.specs.Statements.{IsAssignment}
+use Rattle.vs_elaborate.specs.Scopes.{Scope, DeclaredName, Assignment, assignment_of, Behavior, sets, setting, names_in, meaning_as, named}
+use Rattle.vs_elaborate.specs.Processes.{kind_of, statements_of, behavior_fault, driver_fault}
+use Rattle.vs_elaborate.specs.Faults.{Repeated}
+use Rattle.vs_elaborate.specs.DesignOf.{declared, signal_of, PartOf, own_name, part_name, parts_from, IsProcess, IsAssign}
+use Rattle.vs_elaborate.specs.passes.Answers.{Told, IsFaultAt}
+use Rattle.vs_elaborate.specs.passes.Bodies.{Bindings, meanings, IsNumber, counting, MeansBody}
+use Rattle.vs_elaborate.specs.passes.Plans.{shown_binding, numbered_names, Binds, SameBodies, Declares, DeclaresNot, SameSignals, Drives, DrivesNot, Runs, RunsNot}
+use Rattle.std.proofs.lemmas.List.Folds.{list_any-append}
+use Rattle.vs_elaborate.proofs.Folds.{any_push, left_true, right_true}
+use Rattle.vs_elaborate.proofs.StatementLemmas.{counting_more, left_false, right_false}
+use Rattle.vs_elaborate.proofs.AnswerLemmas.{told_at}
+
+-- ---- parts with their names
+
+length_parts : {A : Type 0} (letter : ℕ) (s : Scope) (k : ℕ) (xs : List A) → length (parts_from letter s k xs) ≡ length xs
+length_parts letter s k [] = refl
+length_parts letter s k (x ∷ xs) = ap suc (length_parts letter s (suc k) xs)
+
+parts_more : {A : Type 0} (letter : ℕ) (s : Scope) (k : ℕ) (xs : List A) (x : A) → parts_from letter s k (xs ++ x ∷ []) ≡ parts_from letter s k xs ++ record { scope = s; name = own_name letter (k + length xs); part = x } ∷ []
+parts_more {A} letter s k [] x =
+    let P : ℕ → List (PartOf A) = λ n. record { scope = s; name = own_name letter n; part = x } ∷ [] in
+    let e : k ≡ k + 0 = omega arith in ap P e
+parts_more {A} letter s k (y ∷ ys) x =
+    let Q : List (PartOf A) → List (PartOf A) = λ z. record { scope = s; name = own_name letter k; part = y } ∷ z in
+    let P : ℕ → List (PartOf A) = λ n. Q (parts_from letter s (suc k) ys ++ record { scope = s; name = own_name letter n; part = x } ∷ []) in
+    let e : suc k + length ys ≡ k + suc (length ys) = omega arith in
+    ap Q (parts_more letter s (suc k) ys x) ∙ ap P e
+
+parts_push : {A P : Type 0} (R : P → PartOf A → Type 0) (letter : ℕ) (s : Scope) (xs : List A) (x : A) (ps : List P) (p : P) (number : ℕ) → number ≡ length ps → R p (record { scope = s; name = own_name letter number; part = x }) → AllZip R ps (parts_from letter s 0 xs) → AllZip R (ps ++ p ∷ []) (parts_from letter s 0 (xs ++ x ∷ []))
+parts_push {A} {P} R letter s xs x ps p number n r zipped =
+    let long : length xs ≡ length ps = sym (length_parts letter s 0 xs) ∙ AllZip-long R ps (parts_from letter s 0 xs) zipped in
+    let at : number ≡ 0 + length xs = omega (arith, n, long) in
+    let Q : ℕ → Type 0 = λ k. R p (record { scope = s; name = own_name letter k; part = x }) in
+    let Z : List (PartOf A) → Type 0 = λ z. AllZip R (ps ++ p ∷ []) z in
+    subst Z (sym (parts_more letter s 0 xs x)) (all_zipped_more R ps (parts_from letter s 0 xs) p _ zipped (subst Q at r))
+
+-- ---- processes and continuous assignments
+
+counts_counting : (a n : ℕ) → counts_from a (counting a n) ≡ true
+counts_counting a zero = refl
+counts_counting a (suc n) = rw (eq-eqb a a refl) (counts_counting (suc a) n)
+
+pub runs_push : (s : Scope) (names : Bindings) (first number : ℕ) (plan new start : Plan) (done : List Behavior) (b : Behavior) (p : Process) → new.processes.items ≡ plan.processes.items ++ p ∷ [] → new.assigns.items ≡ plan.assigns.items → SameSignals plan new → number ≡ length plan.processes.items - first → p.name.items ≡ part_name s.path (own_name 112 number) → p.kind ≡ kind_of b → ((r : Reason) → behavior_fault r (meanings names) b ≡ false) × MeansBody names b p.body → Runs s names first plan start done → Runs s names first new start (done ++ b ∷ [])
+runs_push s names first number plan new start done b p h a same n text kind body r =
+    let R : Process → PartOf Behavior → Type 0 = IsProcess (IsNumber names) (meanings names) in
+    let long : length plan.processes.items ≡ length start.processes.items + length r.added = ap length r.processes ∙ length-append start.processes.items r.added in
+    let at : number ≡ length r.added = omega (arith, n, long, r.begun) in
+    let one : R p (record { scope = s; name = own_name 112 number; part = b }) = record { name = text; kind = kind; body = body.1.means; numbered = ap (counts_from 0) body.1.numbered ∙ counts_counting 0 (statements_of b) } in
+    record {
+      begun = r.begun;
+      sound = λ q. any_push (behavior_fault q (meanings names)) done b (r.sound q) (body.0 q);
+      added = r.added ++ p ∷ [];
+      processes = h ∙ ap (λ z. z ++ p ∷ []) r.processes ∙ append_assoc start.processes.items r.added (p ∷ []);
+      means = parts_push R 112 s done b r.added p number at one r.means;
+      assigns = a ∙ r.assigns;
+      same = record { signals = same.signals ∙ r.same.signals; outline = same.outline ∙ r.same.outline };
+    }
+
+pub drives_push : (s : Scope) (names : Bindings) (first number : ℕ) (plan new start : Plan) (done : List Assignment) (b : Assignment) (p : Assign) → new.assigns.items ≡ plan.assigns.items ++ p ∷ [] → new.processes.items ≡ plan.processes.items → SameSignals plan new → number ≡ length plan.assigns.items - first → p.name.items ≡ part_name s.path (own_name 97 number) → ((r : Reason) → driver_fault r (meanings names) b ≡ false) × IsAssignment (IsNumber names) (meanings names) b.target b.value p.target p.source → Drives s names first plan start done → Drives s names first new start (done ++ b ∷ [])
+drives_push s names first number plan new start done b p h a same n text body r =
+    let R : Assign → PartOf Assignment → Type 0 = IsAssign (IsNumber names) (meanings names) in
+    let long : length plan.assigns.items ≡ length start.assigns.items + length r.added = ap length r.assigns ∙ length-append start.assigns.items r.added in
+    let at : number ≡ length r.added = omega (arith, n, long, r.begun) in
+    let one : R p (record { scope = s; name = own_name 97 number; part = b }) = record { name = text; sides = body.1 } in
+    record {
+      begun = r.begun;
+      sound = λ q. any_push (driver_fault q (meanings names)) done b (r.sound q) (body.0 q);
+      added = r.added ++ p ∷ [];
+      assigns = h ∙ ap (λ z. z ++ p ∷ []) r.assigns ∙ append_assoc start.assigns.items r.added (p ∷ []);
+      means = parts_push R 97 s done b r.added p number at one r.means;
+      processes = a ∙ r.processes;
+      same = record { signals = same.signals ∙ r.same.signals; outline = same.outline ∙ r.same.outline };
+    }
+
+any_front : {A : Type 0} (p : A → Bool) (xs ys : List A) → list_any p xs ≡ true → list_any p (xs ++ ys) ≡ true
+any_front p xs ys h = list_any-append p xs ys ∙ left_true (list_any p xs) (list_any p ys) h
+
+pub any_last : {A : Type 0} (p : A → Bool) (xs : List A) (x : A) → p x ≡ true → list_any p (xs ++ x ∷ []) ≡ true
+any_last p xs x h = list_any-append p xs (x ∷ []) ∙ right_true (list_any p xs) _ (left_true (p x) false h)
+
+pub runs_not_more : (s : Scope) (names : Bindings) (start : Plan) (xs ys : List Behavior) (r : Reason) (p : Path) → RunsNot s names start xs r p → RunsNot s names start (xs ++ ys) r p
+runs_not_more s names start xs ys r p h = (any_front (behavior_fault r (meanings names)) xs ys h.0, h.1)
+
+pub drives_not_more : (s : Scope) (names : Bindings) (start : Plan) (xs ys : List Assignment) (r : Reason) (p : Path) → DrivesNot s names start xs r p → DrivesNot s names start (xs ++ ys) r p
+drives_not_more s names start xs ys r p h = (any_front (driver_fault r (meanings names)) xs ys h.0, h.1)
+
+-- a declaration assignment, where there is one
+pub setting_some : (n m : List ℕ) (o : Option Expr) (e : Expr) → m ≡ n → o ≡ Some e → sets (record { target = m; value = e }) ∷ [] ≡ setting n o
+setting_some n m o e h k = ap (λ z. sets (record { target = z; value = e }) ∷ []) h ∙ ap (setting n) (sym k)
+
+pub assignment_some : (n m : List ℕ) (o : Option Expr) (e : Expr) → m ≡ n → o ≡ Some e → record { target = m; value = e } ∷ [] ≡ assignment_of n o
+assignment_some n m o e h k = (let P : List ℕ → List Assignment = λ z. record { target = z; value = e } ∷ [] in ap P h) ∙ ap (assignment_of n) (sym k)
+
+-- ---- signals
+
+pub bytes_eq_equiv : IsEquivalence bytes_eq
+bytes_eq_equiv = record {
+  refl = λ x. (bytes_eq-Decides x x).1 refl;
+  symm = λ x y. symm x y (bytes_eq x y) (bytes_eq y x) refl refl;
+  congr = λ x y z h. ap (λ w. bytes_eq w z) ((bytes_eq-Decides x y).0 h);
+}
+  where
+    symm : (x y : List ℕ) (a b : Bool) → bytes_eq x y ≡ a → bytes_eq y x ≡ b → bytes_eq x y ≡ bytes_eq y x
+    symm x y true b h k = h ∙ sym ((bytes_eq-Decides y x).1 (sym ((bytes_eq-Decides x y).0 h)))
+    symm x y false true h k = absurd (true≢false (sym ((bytes_eq-Decides x y).1 (sym ((bytes_eq-Decides y x).0 k))) ∙ h))
+    symm x y false false h k = h ∙ sym k
+
+-- a name is declared among others where it means something
+is_declared : (base : ℕ) (ds : List DeclaredName) (n : List ℕ) → is_some (meaning_of (numbered_names base ds) n) ≡ list_any (bytes_eq n) (names_in ds)
+is_declared base [] n = refl
+is_declared base (d ∷ ds) n = by (bytes_eq n d.name) (is_declared (suc base) ds n)
+  where
+    by : (b : Bool) → is_some (meaning_of (numbered_names (suc base) ds) n) ≡ list_any (bytes_eq n) (names_in ds) → is_some (cond b (Some (meaning_as d.kind, base)) (meaning_of (numbered_names (suc base) ds) n)) ≡ (b || list_any (bytes_eq n) (names_in ds))
+    by true rest = refl
+    by false rest = rest
+
+pub place_of_any : (ns : List (List ℕ)) (n : List ℕ) → list_any (bytes_eq n) ns ≡ true → (k : ℕ) × (slice_get ns k ≡ Some n)
+place_of_any [] n h = absurd (true≢false (sym h))
+place_of_any (m ∷ ms) n h = by (bytes_eq n m) refl (place_of_any ms n) h
+  where
+    by : (b : Bool) → bytes_eq n m ≡ b → (list_any (bytes_eq n) ms ≡ true → (k : ℕ) × (slice_get ms k ≡ Some n)) → (b || list_any (bytes_eq n) ms) ≡ true → (k : ℕ) × (slice_get (m ∷ ms) k ≡ Some n)
+    by true e rest h = (0, ap Some (sym ((bytes_eq-Decides n m).0 e)))
+    by false e rest h = let p = rest h in (suc p.0, p.1)
+
+some_shown : (o : Option Binding) → is_some (option_map shown_binding o) ≡ is_some o
+some_shown None = refl
+some_shown (Some b) = refl
+
+known_is_declared : (names : Bindings) (base : ℕ) (ds : List DeclaredName) (n : List ℕ) → Binds names base ds → is_some (meaning_of names n) ≡ list_any (bytes_eq n) (names_in ds)
+known_is_declared names base ds n h = sym (some_shown (meaning_of names n)) ∙ ap is_some (h n) ∙ is_declared base ds n
+
+pub at_front : {A : Type 0} (xs ys : List A) (k : ℕ) (x : A) → slice_get xs k ≡ Some x → (k < length xs) × (slice_get (xs ++ ys) k ≡ Some x)
+at_front [] ys k x h = absurd (none-some x h)
+at_front (z ∷ zs) ys zero x h = (omega arith, h)
+at_front (z ∷ zs) ys (suc k) x h = let p = at_front zs ys k x h in (omega (arith, p.0), p.1)
+
+pub at_end : {A : Type 0} (xs : List A) (x : A) → slice_get (xs ++ x ∷ []) (length xs) ≡ Some x
+at_end [] x = refl
+at_end (z ∷ zs) x = at_end zs x
+
+names_push : (ds : List DeclaredName) (d : DeclaredName) → names_in (ds ++ d ∷ []) ≡ names_in ds ++ d.name ∷ []
+names_push ds d = map-append (λ (z : DeclaredName). z.name) ds (d ∷ [])
+
+-- a name that is declared already
+pub declared_twice : (s : Scope) (names : Bindings) (plan start : Plan) (done : List DeclaredName) (d : DeclaredName) (e : ElabFault) → IsFaultAt DeclaredTwice (named s d.name) e → IsSome (meaning_of names d.name) → Declares s names plan start done → Told (DeclaresNot s start (done ++ d ∷ [])) e
+declared_twice s names plan start done d e f k h =
+    let any : list_any (bytes_eq d.name) (names_in done) ≡ true = sym (known_is_declared names (length start.signals.items) done d.name h.bound) ∙ k in
+    let first = place_of_any (names_in done) d.name any in
+    let front = at_front (names_in done) (d.name ∷ []) first.0 d.name first.1 in
+    let repeated : Repeated (names_in done ++ d.name ∷ []) d.name = record { first = first.0; second = length (names_in done); before = front.0; one = front.1; other = at_end (names_in done) d.name } in
+    told_at (DeclaresNot s start (done ++ d ∷ [])) DeclaredTwice (named s d.name) e (d.name, refl, subst (λ z. Repeated z d.name) (sym (names_push done d)) repeated) f
+
+count_signals : (s : Scope) (names : Bindings) (plan start : Plan) (done : List DeclaredName) → Declares s names plan start done → length plan.signals.items ≡ length start.signals.items + length done
+count_signals s names plan start done h =
+    sym (length-map plan.signals.items declared) ∙ ap length h.shown ∙ length-append (map declared start.signals.items) (map (signal_of s) done) ∙ ap (λ n. n + length (map (signal_of s) done)) (length-map start.signals.items declared) ∙ ap (λ n. length start.signals.items + n) (length-map done (signal_of s))
+
+-- a signal too many
+pub declared_over : (s : Scope) (names : Bindings) (plan start : Plan) (done : List DeclaredName) (d : DeclaredName) (e : ElabFault) → IsFaultAt Limit s.path e → 65536 ≤ length plan.signals.items → Declares s names plan start done → Told (DeclaresNot s start (done ++ d ∷ [])) e
+declared_over s names plan start done d e f k h =
+    let count = count_signals s names plan start done h in
+    told_at (DeclaresNot s start (done ++ d ∷ [])) Limit s.path e (omega (arith, k, count, length-append done (d ∷ [])), refl) f
+
+lookup_push : (base : ℕ) (ds : List DeclaredName) (d : DeclaredName) (n : List ℕ) → list_any (bytes_eq d.name) (names_in ds) ≡ false → meaning_of (numbered_names base (ds ++ d ∷ [])) n ≡ cond (bytes_eq d.name n) (Some (meaning_as d.kind, base + length ds)) (meaning_of (numbered_names base ds) n)
+lookup_push base [] d n h =
+    let e : base ≡ base + 0 = omega arith in
+    ap (λ b. cond b (Some (meaning_as d.kind, base)) None) (bytes_eq_equiv.symm n d.name) ∙ ap (λ k. cond (bytes_eq d.name n) (Some (meaning_as d.kind, k)) None) e
+lookup_push base (c ∷ ds) d n h =
+    let e : suc base + length ds ≡ base + suc (length ds) = omega arith in
+    let rest = lookup_push (suc base) ds d n (right_false (bytes_eq d.name c.name) _ h) in
+    ap (cond (bytes_eq n c.name) (Some (meaning_as c.kind, base))) (rest ∙ ap (λ k. cond (bytes_eq d.name n) (Some (meaning_as d.kind, k)) (meaning_of (numbered_names (suc base) ds) n)) e) ∙ swap (bytes_eq n c.name) (bytes_eq d.name n) refl refl
+  where
+    swap : (a b : Bool) → bytes_eq n c.name ≡ a → bytes_eq d.name n ≡ b → cond a (Some (meaning_as c.kind, base)) (cond b (Some (meaning_as d.kind, base + suc (length ds))) (meaning_of (numbered_names (suc base) ds) n)) ≡ cond b (Some (meaning_as d.kind, base + suc (length ds))) (cond a (Some (meaning_as c.kind, base)) (meaning_of (numbered_names (suc base) ds) n))
+    swap true true p q =
+        let same : d.name ≡ c.name = (bytes_eq-Decides d.name n).0 q ∙ (bytes_eq-Decides n c.name).0 p in
+        absurd (true≢false (sym ((bytes_eq-Decides d.name c.name).1 same) ∙ left_false (bytes_eq d.name c.name) _ h))
+    swap true false p q = refl
+    swap false true p q = refl
+    swap false false p q = refl
+
+none_is_none : {A : Type 0} (o : Option A) → o ≡ None → is_some o ≡ false
+none_is_none o h = ap is_some h
+
+-- the number of a fresh name
+abbrev pub last : ℕ → List DeclaredName → List ℕ
+last base done = (base + length done) ∷ []
+
+-- a fresh name
+pub declares_push : (s : Scope) (names new : Bindings) (plan after start : Plan) (done : List DeclaredName) (d : DeclaredName) (b : Binding) (x : Signal) → NamesDeclare true names new d.name b → b.meaning ≡ meaning_as d.kind → b.signal ≡ length plan.signals.items → length plan.signals.items < 65536 → after.signals.items ≡ plan.signals.items ++ x ∷ [] → declared x ≡ signal_of s d → after.outline.items ≡ plan.outline.items ++ Declare b.signal ∷ [] → SameBodies plan after → Declares s names plan start done → Declares s new after start (done ++ d ∷ [])
+declares_push s names new plan after start done d b x fresh m k room sig shown line same h =
+    let base = length start.signals.items in
+    let count = count_signals s names plan start done h in
+    let at : b.signal ≡ base + length done = k ∙ count in
+    let apart : list_any (bytes_eq d.name) (names_in done) ≡ false = sym (known_is_declared names base done d.name h.bound) ∙ none_is_none (meaning_of names d.name) fresh.0 in
+    let push : (c : Bool) (n : List ℕ) → option_map shown_binding (cond c (Some b) (meaning_of names n)) ≡ cond c (Some (b.meaning, b.signal)) (option_map shown_binding (meaning_of names n)) = λ c n. mapped b c (meaning_of names n) in
+    let one : base + length done + 1 ≡ base + (length done + 1) = omega arith in
+    record {
+      bound = λ n. ap (option_map shown_binding) (fresh.1 n) ∙ push (bytes_eq d.name n) n ∙ ap (λ z. cond (bytes_eq d.name n) (Some (z, b.signal)) (option_map shown_binding (meaning_of names n))) m ∙ ap (λ z. cond (bytes_eq d.name n) (Some (meaning_as d.kind, z)) (option_map shown_binding (meaning_of names n))) at
+          ∙ ap (cond (bytes_eq d.name n) (Some (meaning_as d.kind, base + length done))) (h.bound n) ∙ sym (lookup_push base done d n apart);
+      distinct = subst (IsDistinct bytes_eq) (sym (names_push done d)) (IsDistinct-push bytes_eq_equiv (names_in done) d.name h.distinct apart);
+      shown = ap (map declared) sig ∙ map-append declared plan.signals.items (x ∷ []) ∙ ap (λ z. z ++ declared x ∷ []) h.shown ∙ ap (λ z. (map declared start.signals.items ++ map (signal_of s) done) ++ z ∷ []) shown
+          ∙ append_assoc (map declared start.signals.items) (map (signal_of s) done) (signal_of s d ∷ []) ∙ ap (λ z. map declared start.signals.items ++ z) (sym (map-append (signal_of s) done (d ∷ [])));
+      lines = line ∙ ap (λ z. z ++ Declare b.signal ∷ []) h.lines ∙ append_assoc start.outline.items (map Declare (counting base (length done))) (Declare b.signal ∷ [])
+          ∙ ap (λ z. start.outline.items ++ z) (ap (λ z. map Declare (counting base (length done)) ++ Declare z ∷ []) at ∙ sym (map-append Declare (counting base (length done)) (last base done)) ∙ ap (map Declare) (counting_more base (length done) 1 ∙ ap (counting base) (sym (length-append done (d ∷ [])))));
+      room = omega (arith, ap length sig, length-append plan.signals.items (x ∷ []), room);
+      same = record { assigns = same.assigns ∙ h.same.assigns; processes = same.processes ∙ h.same.processes };
+    }
+  where
+    mapped : (b : Binding) (c : Bool) (o : Option Binding) → option_map shown_binding (cond c (Some b) o) ≡ cond c (Some (b.meaning, b.signal)) (option_map shown_binding o)
+    mapped b true o = refl
+    mapped b false o = refl
+
+repeated_more : (xs ys : List (List ℕ)) (n : List ℕ) → Repeated xs n → Repeated (xs ++ ys) n
+repeated_more xs ys n h = record { first = h.first; second = h.second; before = h.before; one = (at_front xs ys h.first n h.one).1; other = (at_front xs ys h.second n h.other).1 }
+
+pub declares_not_more : (s : Scope) (start : Plan) (xs ys : List DeclaredName) (r : Reason) (p : Path) → DeclaresNot s start xs r p → DeclaresNot s start (xs ++ ys) r p
+declares_not_more s start xs ys DeclaredTwice p h = (h.0, h.1, subst (λ z. Repeated z h.0) (sym (map-append (λ (z : DeclaredName). z.name) xs ys)) (repeated_more (names_in xs) (names_in ys) h.0 h.2))
+declares_not_more s start xs ys Limit p h = (omega (arith, h.0, length-append xs ys), h.1)
+declares_not_more s start xs ys NoModule p h = h
+declares_not_more s start xs ys DrivenTwice p h = h
+declares_not_more s start xs ys (Width w) p h = h

@@ -1,0 +1,20 @@
+use Rattle.std.proofs.Common.{◌++◌, refl, subst, arith}
+use Rattle.std.proofs.lemmas.Result.{err_from_is_err_and}
+use Rattle.vs_syntax.specs.declared.tree.Declarator.{Declarator}
+use Rattle.vs_elaborate.specs.Scopes.{Assignment, assignment_of}
+use Rattle.vs_elaborate.specs.passes.Answers.{Told}
+use Rattle.vs_elaborate.specs.passes.Plans.{scope_of, Drives, DrivesNot}
+use Rattle.vs_elaborate.proofs.AnswerLemmas.{kept_all, kept_fault}
+use Rattle.vs_elaborate.proofs.PlanLemmas.{drives_not_more, assignment_some}
+use Rattle.vs_elaborate.proofs.drivers.drive_declared.Goals as goal
+
+pub returns-in_err-drive : goal.returns-in_err-drive
+returns-in_err-drive c =
+    let p = err_from_is_err_and c.from_residual.result c.from_residual.ensures.1 in
+    let s = scope_of c.args.frame.now in
+    rw (p.1, p.2) (kept_fault (λ (d : Declarator). assignment_of d.name.items d.value) (Drives s c.args.names.now c.args.first c.args.plan.now) (Drives s c.args.names.now c.args.first c.loop-declarator.plan) (DrivesNot s c.args.names.now) c.args.declarators.now c.loop-declarator.declarator-index c.declarator-item.result c.in_err-drive.field-0.0 (omega arith) c.declarator-item.is (drives_not_more s c.args.names.now) c.loop-declarator.invariant (λ start done h. subst (λ z. Told (DrivesNot s c.args.names.now start (done ++ z)) c.in_err-drive.field-0.0) (assignment_some c.declarator-item.result.name.items _ c.declarator-item.result.value c.in-Some.value c.deref.ensures.value c.in-Some.is) (c.in_err-drive.ensures start done h)))
+
+pub returns : goal.returns
+returns c =
+    let s = scope_of c.args.frame.now in
+    kept_all (λ (d : Declarator). assignment_of d.name.items d.value) (Drives s c.args.names.now c.args.first c.args.plan.now) (Drives s c.args.names.now c.args.first c.loop-declarator.plan) c.args.declarators.now c.loop-declarator.declarator-index (omega arith) c.loop-declarator.invariant

@@ -1,0 +1,4 @@
+-- What the functions of this crate tell one another: nothing that is promised rests on these.
+pub mod Answers
+pub mod Bodies
+pub mod Plans

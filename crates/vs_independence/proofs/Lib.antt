@@ -1,0 +1,16 @@
+pub mod Lists
+pub mod Stores
+pub mod Values
+pub mod Threads
+pub mod Assigns
+pub mod Settle
+pub mod Running
+pub mod Steps
+pub mod Nets
+pub mod Moves
+pub mod Making
+pub mod Ends
+pub mod Times
+pub mod WellFormed
+pub mod Whole
+pub mod Race

@@ -1,0 +1,121 @@
+-- Two processes that write one signal at once: their design is well formed and not independent. So `Independent` says something.
+use Rattle.std.proofs.Common.{◌≡◌, ℕ, true, Option, Some, None, List, [], ◌∷◌, length, refl, sym, ◌∙◌, ap, lit<, arith, nat_lt}
+use Rattle.std.specs.Prelude.{◌==◌}
+use Rattle.std.specs.declared.alloc.Global.{Global}
+use Rattle.std.specs.List.{IsDistinct}
+use Rattle.std.proofs.lemmas.List.Elements.{All-nil, All-cons}
+use Rattle.vs_logic4.specs.declared.digit.Digit.{Digit}
+use Rattle.vs_logic4.specs.declared.digit.Digit.TheVariants.{Zero, One}
+use Rattle.vs_design.specs.declared.design.Process.{Process}
+use Rattle.vs_design.specs.declared.signal.Signal.{Signal}
+use Rattle.vs_design.specs.declared.statement.Statement.{out-Statement}
+use Rattle.vs_design.specs.declared.statement.Statement.TheVariants as y
+use Rattle.vs_design.specs.declared.statement.Statement.TheOpen as f
+use Rattle.vs_design.specs.declared.statement.Statement.TheFolds.{fold-roll-Statement}
+use Rattle.vs_design.specs.declared.statement.Target.{Target}
+use Rattle.vs_design.specs.declared.expression.Typed.{Typed, fold-roll-Typed}
+use Rattle.vs_design.specs.declared.expression.Typed.TheVariants as e
+use Rattle.vs_design.specs.declared.expression.Typed.TheOpen as t
+use Rattle.vs_design.specs.Stores.{Store, word_of}
+use Rattle.vs_design.specs.Traces.{Slot, SameSlots}
+use Rattle.vs_design.specs.WellFormed.{WellFormed, width_step, width_of, sized_step, is_sized, within_step, is_within, is_sound_assignment, sound_step, is_sound_statement, numbers_step, numbers, is_sound_process}
+use Rattle.vs_eval.specs.Values.{value_of, value_step}
+use Rattle.vs_process.specs.declared.moves.Grain.{Grain}
+use Rattle.vs_process.specs.declared.moves.Grain.TheVariants.{Statement, Block}
+use Rattle.vs_process.specs.declared.moves.Move.{Move}
+use Rattle.vs_process.specs.declared.moves.Move.TheVariants.{Step, EndSlot}
+use Rattle.vs_process.specs.Executions.{after, Legal, is_complete, trace}
+use Rattle.vs_independence.specs.Discipline.{Independent}
+use Rattle.vs_independence.specs.Race.{racing, writer, name}
+
+-- ---- what folds give at a number and at an assignment
+
+pub value_number : (ds : List Digit) (store : Store) (time : ℕ) → value_of (e.Number ds) store time ≡ ds
+value_number ds store time = ap (λ x. value_of x store time) (sym (e.rolls-Number ds)) ∙ fold-roll-Typed (List Digit) (value_step store time) (t.Number ds)
+
+pub width_number : (ds : List Digit) → width_of (e.Number ds) ≡ length ds
+width_number ds = ap width_of (sym (e.rolls-Number ds)) ∙ fold-roll-Typed ℕ width_step (t.Number ds)
+
+pub sized_number : (width : ℕ) (ds : List Digit) → is_sized width (e.Number ds) ≡ (length ds == width)
+sized_number width ds = ap (is_sized width) (sym (e.rolls-Number ds)) ∙ fold-roll-Typed _ (sized_step width) (t.Number ds)
+
+pub within_number : (ss : List Signal) (ds : List Digit) → is_within ss (e.Number ds) ≡ true
+within_number ss ds = ap (is_within ss) (sym (e.rolls-Number ds)) ∙ fold-roll-Typed _ (within_step ss) (t.Number ds)
+
+pub sound_assign : (ss : List Signal) (n : ℕ) (x : Target) (v : Typed) → is_sound_statement ss (y.Assign n x v) ≡ is_sound_assignment ss x v
+sound_assign ss n x v = ap (is_sound_statement ss) (sym (y.rolls-Assign n x v)) ∙ fold-roll-Statement _ (sound_step ss) (f.Assign n x v)
+
+pub numbers_assign : (n : ℕ) (x : Target) (v : Typed) → numbers (y.Assign n x v) ≡ n ∷ []
+numbers_assign n x v = ap numbers (sym (y.rolls-Assign n x v)) ∙ fold-roll-Statement (List ℕ) numbers_step (f.Assign n x v)
+
+-- ---- the race is well formed
+
+sound_writer : (g : Global) (d : ℕ) (digit : Digit) → is_sound_process (racing g).signals (writer (name g 116 35 112 d) digit) ≡ true
+sound_writer g d digit =
+    simp (sound_assign, numbers_assign, within_number, sized_number, width_number)
+
+pub formed : (g : Global) → WellFormed (racing g)
+unfolding IsDistinct
+formed g = record {
+  processes = All-cons (λ (p : Process). is_sound_process (racing g).signals p ≡ true) (writer (name g 116 35 112 48) Zero) (writer (name g 116 35 112 49) One ∷ []) (sound_writer g 48 Zero)
+      (All-cons (λ (p : Process). is_sound_process (racing g).signals p ≡ true) (writer (name g 116 35 112 49) One) [] (sound_writer g 49 One) (All-nil (λ (p : Process). is_sound_process (racing g).signals p ≡ true)));
+  assigns = All-nil _;
+  drivers = tt;
+  declared = All-cons (λ n. nat_lt n 1 ≡ true) 0 [] refl (All-nil (λ n. nat_lt n 1 ≡ true));
+  declared_once = (tt, tt);
+  all_declared = λ n lt. let z : n ≡ 0 = omega (arith, lt) in (0, lit< tt, sym z);
+  paths = (tt, tt);
+  names = ((refl, tt), (tt, tt));
+  assign_names = tt;
+}
+
+-- ---- its two executions
+
+first_then_second : List Move
+first_then_second = EndSlot ∷ Step 1 ∷ Step 0 ∷ []
+
+second_then_first : List Move
+second_then_first = EndSlot ∷ Step 0 ∷ Step 1 ∷ []
+
+legal_one : (g : Global) (grain : Grain) → Legal grain (racing g) first_then_second
+unfolding out-Statement denote.Hole.Carrier.out first_then_second
+legal_one g Statement = (((tt, refl), refl), refl)
+legal_one g Block = (((tt, refl), refl), refl)
+
+legal_two : (g : Global) (grain : Grain) → Legal grain (racing g) second_then_first
+unfolding out-Statement denote.Hole.Carrier.out second_then_first
+legal_two g Statement = (((tt, refl), refl), refl)
+legal_two g Block = (((tt, refl), refl), refl)
+
+abbrev seen_in : List Slot → Option (List Digit)
+seen_in [] = None
+seen_in (s ∷ ss) = word_of s.store 0 0
+
+seen_same : (as' bs : List Slot) → SameSlots as' bs → seen_in as' ≡ seen_in bs
+seen_same [] [] h = refl
+seen_same [] (b ∷ bs) h = absurd h
+seen_same (a ∷ as') [] h = absurd h
+seen_same (a ∷ as') (b ∷ bs) h = ap (λ (s : Store). word_of s 0 0) h.0.store
+
+sees_one : (g : Global) → seen_in (trace (racing g) first_then_second 0).slots ≡ Some (One ∷ [])
+unfolding out-Statement denote.Hole.Carrier.out first_then_second
+sees_one g = simp value_number
+
+sees_zero : (g : Global) → seen_in (trace (racing g) second_then_first 0).slots ≡ Some (Zero ∷ [])
+unfolding out-Statement denote.Hole.Carrier.out second_then_first
+sees_zero g = simp value_number
+
+complete_one : (g : Global) → is_complete 0 (after (racing g) first_then_second) ≡ true
+unfolding out-Statement denote.Hole.Carrier.out first_then_second
+complete_one g = refl
+
+complete_two : (g : Global) → is_complete 0 (after (racing g) second_then_first) ≡ true
+unfolding out-Statement denote.Hole.Carrier.out second_then_first
+complete_two g = refl
+
+pub race : (g : Global) (grain : Grain) → Independent grain (racing g) → ⊥
+race g grain free =
+    let same = free 0 first_then_second second_then_first (legal_one g grain) (legal_two g grain) (complete_one g) (complete_two g) in
+    let e : Some (One ∷ []) ≡ Some (Zero ∷ []) =
+    sym (sees_one g) ∙ seen_same (trace (racing g) first_then_second 0).slots (trace (racing g) second_then_first 0).slots same.slots ∙ sees_zero g in
+    cc

@@ -1,0 +1,74 @@
+-- A design with a race.
+use Rattle.std.specs.Prelude.{ℕ, Vec, false, None, [], ◌∷◌}
+use Rattle.std.specs.declared.alloc.Global.{Global}
+use Rattle.std.proofs.Common.{lit<, lit≤, refl}
+use denote.RawPtr.{null_ptr}
+use Rattle.vs_logic4.specs.declared.digit.Digit.{Digit}
+use Rattle.vs_logic4.specs.declared.digit.Digit.TheVariants.{Zero, One}
+use Rattle.vs_design.specs.declared.signal.Signal.{Signal}
+use Rattle.vs_design.specs.declared.signal.SignalKind.{SignalKind}
+use Rattle.vs_design.specs.declared.signal.SignalKind.TheVariants.{Reg}
+use Rattle.vs_design.specs.declared.design.Entry.TheVariants.{Enter, Declare, Leave}
+use Rattle.vs_design.specs.declared.design.Process.{Process}
+use Rattle.vs_design.specs.declared.design.ProcessKind.TheVariants.{Initial}
+use Rattle.vs_design.specs.declared.design.ScopeKind.TheVariants.{Module}
+use Rattle.vs_design.specs.declared.statement.Target.{Target}
+use Rattle.vs_design.specs.declared.statement.Statement.TheVariants as y
+use Rattle.vs_design.specs.declared.expression.Typed.TheVariants as e
+use Rattle.vs_design.specs.declared.timescale.TimeSpan.{TimeSpan}
+use Rattle.vs_design.specs.declared.timescale.TimeUnit.TheVariants.{Nanosecond}
+use Rattle.vs_design.specs.declared.timescale.Magnitude.TheVariants as m
+use Rattle.vs_design.specs.Parts.{Parts}
+use Rattle.vs_design.specs.WellFormed.{WellFormed}
+use Rattle.vs_process.specs.declared.moves.Grain.{Grain}
+use Rattle.vs_independence.specs.Discipline.{Independent}
+
+-- a text of one byte
+abbrev pub letter : Global → ℕ → Vec ℕ Global
+letter g a = record { ptr = null_ptr; len = 1; cap = 1; alloc = g; items = a ∷ []; ok = (refl, lit≤ tt); small = lit< tt }
+
+-- a text of three bytes
+abbrev pub path : Global → ℕ → ℕ → ℕ → Vec ℕ Global
+path g a b c = record { ptr = null_ptr; len = 3; cap = 3; alloc = g; items = a ∷ b ∷ c ∷ []; ok = (refl, lit≤ tt); small = lit< tt }
+
+-- a text of four bytes
+abbrev pub name : Global → ℕ → ℕ → ℕ → ℕ → Vec ℕ Global
+name g a b c d = record { ptr = null_ptr; len = 4; cap = 4; alloc = g; items = a ∷ b ∷ c ∷ d ∷ []; ok = (refl, lit≤ tt); small = lit< tt }
+
+-- a signal of one bit of the module t, named by one letter
+abbrev pub bit : Global → ℕ → SignalKind → Signal
+bit g a kind = record {
+  name = letter g a;
+  path = path g 116 46 a;
+  kind = kind;
+  width = 1;
+  signed = false;
+  range = None;
+  words = None;
+  sized = (lit< tt, lit≤ tt);
+}
+
+abbrev pub nanosecond : TimeSpan
+nanosecond = record { magnitude = m.One; unit = Nanosecond }
+
+-- a target of one bit
+abbrev pub target : ℕ → Target
+target signal = record { signal = signal; width = 1; sized = (lit< tt, lit≤ tt) }
+
+-- `initial a = DIGIT;`
+abbrev pub writer : Vec ℕ Global → Digit → Process
+writer called digit = record { name = called; kind = Initial; body = y.Assign 0 (target 0) (e.Number (digit ∷ [])) }
+
+-- `module t; reg a; initial a = 0; initial a = 1; endmodule`
+abbrev pub racing : Global → Parts
+racing g = record {
+  timescale = record { unit = nanosecond; precision = nanosecond };
+  signals = bit g 97 Reg ∷ [];
+  assigns = [];
+  processes = writer (name g 116 35 112 48) Zero ∷ writer (name g 116 35 112 49) One ∷ [];
+  outline = Enter Module (letter g 116) ∷ Declare 0 ∷ Leave ∷ [];
+}
+
+-- two processes that write one signal at once: a well formed design that is independent at no grain
+abbrev pub ARaceIsSeen : Type 0
+ARaceIsSeen = (g : Global) (grain : Grain) → WellFormed (racing g) × (Independent grain (racing g) → ⊥)

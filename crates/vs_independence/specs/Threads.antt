@@ -1,0 +1,90 @@
+-- Threads: a process alone, within one time slot.
+use Rattle.std.specs.Prelude.{◌||◌, ℕ, zero, suc, ◌≡◌, Bool, false, Option, Some, None, List, [], ◌∷◌, get_or}
+use Rattle.std.specs.List.{list_any}
+use Rattle.vs_design.specs.declared.statement.Statement.TheOpen.{Statement-F}
+use Rattle.vs_design.specs.declared.statement.Statement.{Statement}
+use Rattle.vs_design.specs.declared.statement.Statement.TheViews.{out-Statement}
+use Rattle.vs_design.specs.Stores.{Store, put}
+use Rattle.vs_design.specs.Uses.{reads_signal}
+use Rattle.vs_design.specs.Writes.{Write, names}
+use Rattle.vs_process.specs.Places.{perform, turns, Todo, Place, going, sleeping, inactive, ended}
+use Rattle.vs_process.specs.Steps.{Out, step}
+use Rattle.vs_process.specs.States.{State, Update, place_behind, updates_behind, roused}
+
+-- a process on a store of its own: where it is, its store, what it has written by blocking assignments, the updates that it has made, and
+-- whether it has called `$finish`
+pub record Thread : Type 0 where
+  pub place : Place
+  pub view : Store
+  pub log : List Write
+  pub made : List Update
+  pub fin : Bool
+
+-- a store behind a step that may write
+abbrev pub store_behind : Store → Option Write → Store
+store_behind store None = store
+store_behind store (Some w) = put store w
+
+abbrev pub log_behind : List Write → Option Write → List Write
+log_behind log None = log
+log_behind log (Some w) = w ∷ log
+
+-- a thread after a step of its process, of which this came
+abbrev pub moved : ℕ → ℕ → Place → Out → Thread → Thread
+moved time i place out th = record {
+  place = place_behind place time out.next;
+  view = store_behind th.view out.write;
+  log = log_behind th.log out.write;
+  made = updates_behind i time out.update th.made;
+  fin = th.fin || out.finish;
+}
+
+abbrev pub turn_at : ℕ → ℕ → Place → Thread → Thread
+turn_at time i (going gait todo) th = moved time i (going gait todo) (step todo th.view time) th
+turn_at time i (inactive todo) th = record th { place = roused (inactive todo) }
+turn_at time i (sleeping due todo) th = th
+turn_at time i ended th = th
+
+-- a thread one turn later: a step, or the end of a delay of zero; a stopped thread stays
+abbrev pub turn : ℕ → ℕ → Thread → Thread
+turn time i th = turn_at time i th.place th
+
+abbrev pub iterate : {A : Type 0} → ℕ → (A → A) → A → A
+iterate zero f x = x
+iterate (suc n) f x = f (iterate n f x)
+
+-- a process as the slot that begins with the state `b` finds it
+abbrev pub opening : State → ℕ → Thread
+opening b i = record { place = get_or b.places i ended; view = b.store; log = []; made = []; fin = false }
+
+-- it is the process i, alone in the slot that begins with the state `b`, after some turns
+pub record IsThread (b : State) (i : ℕ) (th : Thread) : Type 0 where
+  pub count : ℕ
+  pub is : iterate count (turn b.time i) (opening b i) ≡ th
+
+-- whether a blocking assignment of the thread names a signal
+abbrev pub writes : Thread → ℕ → Bool
+writes th v = list_any (λ w. names w v) th.log
+
+-- whether one of the updates names a signal
+abbrev pub any_names : List Update → ℕ → Bool
+any_names us v = list_any (λ (u : Update). names u.what v) us
+
+-- whether the step of a statement reads a signal
+abbrev pub statement_reads : Statement-F Statement → ℕ → Bool
+statement_reads (Statement-F.Null n) v = false
+statement_reads (Statement-F.Assign n t e) v = reads_signal e v
+statement_reads (Statement-F.Later n t e) v = reads_signal e v
+statement_reads (Statement-F.Block all) v = false
+statement_reads (Statement-F.Delay n ticks body) v = false
+statement_reads (Statement-F.Forever n body) v = false
+
+-- whether the next step of what is to be done reads a signal
+abbrev pub todo_reads : Todo → ℕ → Bool
+todo_reads [] v = false
+todo_reads (perform s ∷ rest) v = statement_reads (out-Statement s) v
+todo_reads (turns n s ∷ rest) v = false
+
+abbrev pub place_reads : Place → ℕ → Bool
+place_reads (going gait todo) v = todo_reads todo v
+place_reads _ v = false

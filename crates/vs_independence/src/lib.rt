@@ -1,0 +1,6 @@
+//! That the traces of a disciplined design do not depend on the order in which its permitted steps are taken.
+#![tactic(auto)]
+
+mod laws;
+
+pub use laws::{a_race_is_seen, discipline_makes_independent};

@@ -1,0 +1,416 @@
+-- A run that goes on, and where it ends.
+use Rattle.std.proofs.Common.{◌≡◌, ℕ, ◌+◌, ◌<◌, ◌≤◌, ◌&&◌, not, cond, Bool, true, false, Option, Some, None, List, [], ◌∷◌, ◌++◌, Result, Ok, Err, take, slice_get, zero, zero-add, map, length, refl, sym, ◌∙◌, ap, subst, arith, leb, append_assoc, suc}
+use Rattle.std.specs.Prelude.{filter, unwrap_or, OnErr, ◌||◌, nat_lt, if◌then◌else◌}
+use Rattle.std.specs.Io.KnownBytes.{Appends}
+use Rattle.std.proofs.lemmas.Bool.{le-leb, le-ltb, lt-ltb, ltb-false}
+use Rattle.std.proofs.lemmas.List.{append-nil}
+use Rattle.std.proofs.lemmas.List.Elements.{filter-append}
+use Rattle.vs_logic4.specs.declared.digit.Digit.{Digit}
+use Rattle.vs_design.specs.declared.design.Process.{Process}
+use Rattle.vs_design.specs.Parts.{Parts}
+use Rattle.vs_design.specs.Stores.{Store}
+use Rattle.vs_design.specs.Traces.{Slot}
+use Rattle.vs_design.specs.Writes.{Write}
+use Rattle.vs_process.specs.declared.moves.Grain.{Grain}
+use Rattle.vs_process.specs.declared.moves.Grain.TheVariants.{Statement, Block}
+use Rattle.vs_process.specs.declared.moves.Move.{Move}
+use Rattle.vs_process.specs.declared.moves.Move.TheVariants.{Step, Evaluate, Propagate, Make, Rouse, Activate, EndSlot}
+use Rattle.vs_process.specs.Executions.{after, Legal, slots, trace, is_by, is_enabled, is_kept_out, is_free, allowed, apply, ended_slot, finish_time, strobe_line, is_complete, next_time, time_at}
+use Rattle.vs_process.specs.Places.{Place}
+use Rattle.vs_process.specs.States.{State, AssignState, Update, start, stepped, evaluate, propagate, propagate_value, make, written_behind, todo_of}
+use Rattle.vs_process.specs.Steps.{step}
+use Rattle.vs_vcd.specs.Progress.{Progress, HasWritten, IsSlotAt, WritesPiece, vcd_slot}
+use Rattle.vs_vcd.specs.Sinks.{AppendsPart}
+use Rattle.vs_vcd.specs.declared.fault.VcdFault.{VcdFault}
+use Rattle.vs_vcd.specs.declared.fault.VcdFault.TheVariants as fault
+use Rattle.vs_vcd.specs.Text.{vcd_header, vcd_slots, vcd_end, vcd_text}
+use Rattle.vs_kernel.specs.Runs.{RanTo, HasBegun, StopsAt, text_so_far, AppendsSlots, AppendsSlotsPart}
+use Rattle.vs_kernel.specs.declared.outcome.Outcome.TheVariants.{Reached, Quiet, StepLimit}
+
+-- a run of so many steps that isn't at its end: the execution so far, whose slots a writer has written and a sink has
+pub record HasRun (d : Parts) (until steps taken : ℕ) (now : State) (writer : Progress) (old new : Option (List ℕ)) : Type 0 where
+  pub moves : List Move
+  pub statement : Legal Statement d moves
+  pub block : Legal Block d moves
+  pub stops : StopsAt until d moves
+  pub count : length moves ≡ taken
+  pub within : taken ≤ steps
+  pub state : after d moves ≡ now
+  pub written : HasWritten writer d (slots d moves)
+  pub text : Appends old new (vcd_header d ++ vcd_slots d (slots d moves))
+
+-- no process is a combinational block, so none keeps a move out
+kept_out : (ps : List Process) (xs : List Place) (first : ℕ) (m : Move) → is_kept_out ps xs first m ≡ false
+kept_out [] xs first m = refl
+kept_out (p ∷ ps) [] first m = refl
+kept_out (p ∷ ps) (x ∷ xs) first m = kept_out ps xs (suc first) m
+
+free : (grain : Grain) (d : Parts) (s : State) (m : Move) → is_free grain d s m ≡ true
+free Statement d s m = refl
+free Block d s m = ap not (kept_out d.processes s.places 0 m)
+
+three : (over enabled free : Bool) → over ≡ false → enabled ≡ true → free ≡ true → (not over && enabled && free) ≡ true
+three false true true p q r = refl
+three _ _ _ p q r = cc
+
+-- an enabled move is permitted at both grains
+pub permitted : (grain : Grain) (d : Parts) (s : State) (m : Move) → s.over ≡ false → is_enabled s m ≡ true → allowed grain d s m ≡ true
+permitted grain d s m over enabled = three s.over (is_enabled s m) (is_free grain d s m) over enabled (free grain d s m)
+
+pub append_none : (old : Option (List ℕ)) → Appends old old []
+append_none None = tt
+append_none (Some xs) = sym (append-nil xs)
+
+append_more : (old mid new : Option (List ℕ)) (xs ys : List ℕ) → Appends old mid xs → Appends mid new ys → Appends old new (xs ++ ys)
+append_more None mid new xs ys h k = tt
+append_more (Some a) None new xs ys h k = absurd h
+append_more (Some a) (Some b) None xs ys h k = absurd k
+append_more (Some a) (Some b) (Some c) xs ys h k = k ∙ ap (λ (l : List ℕ). l ++ ys) h ∙ append_assoc a xs ys
+
+-- only the end of a slot ends one
+pub not_ended : (m : Move) (s : State) → (m ≡ EndSlot → ⊥) → ended_slot m s ≡ []
+not_ended EndSlot s h = absurd (h refl)
+not_ended (Step i) s h = refl
+not_ended (Evaluate j) s h = refl
+not_ended (Propagate j) s h = refl
+not_ended (Make i) s h = refl
+not_ended Rouse s h = refl
+not_ended Activate s h = refl
+
+-- the slot that a state ends
+abbrev pub ended_here : State → Slot
+ended_here s = record { time = s.time; store = s.store; lines = map (λ c. strobe_line c s.store s.time) s.calls }
+
+-- a slot that ends by the moment is one of the trace
+ended_kept : (until : ℕ) (m : Move) (s : State) → s.time ≤ until → filter (is_by until) (ended_slot m s) ≡ ended_slot m s
+ended_kept until EndSlot s h = ap (λ (b : Bool). cond b (ended_slot EndSlot s) []) (le-leb s.time until h)
+ended_kept until (Step i) s h = refl
+ended_kept until (Evaluate j) s h = refl
+ended_kept until (Propagate j) s h = refl
+ended_kept until (Make i) s h = refl
+ended_kept until Rouse s h = refl
+ended_kept until Activate s h = refl
+
+kept_more : (p : Slot → Bool) (xs ys : List Slot) → filter p xs ≡ xs → filter p ys ≡ ys → filter p (xs ++ ys) ≡ xs ++ ys
+kept_more p xs ys h k = filter-append p xs ys ∙ ap (λ (l : List Slot). l ++ filter p ys) h ∙ ap (λ (l : List Slot). xs ++ l) k
+
+or_false_left : (a b : Bool) → a || b ≡ false → a ≡ false
+or_false_left true b h = cc
+or_false_left false b h = refl
+
+or_false_right : (a b : Bool) → a || b ≡ false → b ≡ false
+or_false_right true b h = cc
+or_false_right false b h = h
+
+-- an execution that isn't complete isn't past the moment
+by_then : (until : ℕ) (s : State) → is_complete until s ≡ false → s.time ≤ until
+by_then until s h = ltb-false until s.time (or_false_right s.over (nat_lt until s.time) h)
+
+-- an execution that isn't over and not past the moment isn't complete
+pub incomplete : (until : ℕ) (s : State) → s.over ≡ false → s.time ≤ until → is_complete until s ≡ false
+incomplete until s over early = ap (λ b. b || nat_lt until s.time) over ∙ le-ltb until s.time early
+
+-- each slot that ended is one of the trace
+all_kept : (until : ℕ) (d : Parts) (moves : List Move) → StopsAt until d moves → filter (is_by until) (slots d moves) ≡ slots d moves
+all_kept until d [] h = refl
+all_kept until d (m ∷ before) h =
+    kept_more (is_by until) (slots d before) (ended_slot m (after d before)) (all_kept until d before h.0) (ended_kept until m (after d before) (by_then until (after d before) h.1))
+
+-- before the first move
+pub begins : {d : Parts} {until steps : ℕ} {now : State} {writer : Progress} {old new : Option (List ℕ)} → now ≡ start d → HasWritten writer d [] → Appends old new (vcd_header d) →
+    HasRun d until steps 0 now writer old new
+begins {d} {until} {steps} {now} {writer} {old} {new} here written text = record {
+  moves = [];
+  statement = tt;
+  block = tt;
+  stops = tt;
+  count = refl;
+  within = omega arith;
+  state = sym here;
+  written = written;
+  text = subst (Appends old new) (sym (append-nil (vcd_header d))) text;
+}
+
+-- the text of one more slot
+more_text : (d : Parts) (before more more' : List Slot) (piece : List ℕ) → more ≡ more' → vcd_slots d (before ++ more) ≡ vcd_slots d before ++ piece →
+    (vcd_header d ++ vcd_slots d before) ++ piece ≡ vcd_header d ++ vcd_slots d (before ++ more')
+more_text d before more more' piece same is =
+    append_assoc (vcd_header d) (vcd_slots d before) piece ∙ ap (λ (l : List ℕ). vcd_header d ++ l) (sym is) ∙ ap (λ (l : List Slot). vcd_header d ++ vcd_slots d (before ++ l)) same
+
+-- behind one more move
+pub goes_on : {d : Parts} {until steps taken : ℕ} {now now' : State} {writer writer' : Progress} {old new new' : Option (List ℕ)} →
+    (r : HasRun d until steps taken now writer old new) (m : Move) → allowed Statement d now m ≡ true → allowed Block d now m ≡ true → is_complete until now ≡ false → (taken ≡ steps → ⊥) → now' ≡ apply m now →
+    ((before : List Slot) → HasWritten writer d before → HasWritten writer' d (before ++ ended_slot m now)) →
+    ((before : List Slot) → HasWritten writer d before → AppendsSlots new new' d before (ended_slot m now)) →
+    HasRun d until steps (taken + 1) now' writer' old new'
+goes_on {d} {until} {steps} {taken} {now} {now'} {writer} {writer'} {old} {new} {new'} r m statement block going more next written appended =
+    let s = after d r.moves in
+    let slot : ended_slot m now ≡ ended_slot m s = ap (ended_slot m) (sym r.state) in
+    let piece = appended (slots d r.moves) r.written in
+    record {
+      moves = m ∷ r.moves;
+      statement = (r.statement, ap (λ (t : State). allowed Statement d t m) r.state ∙ statement);
+      block = (r.block, ap (λ (t : State). allowed Block d t m) r.state ∙ block);
+      stops = (r.stops, ap (is_complete until) r.state ∙ going);
+      count = omega (arith, r.count);
+      within = omega (arith, r.within, more);
+      state = ap (apply m) r.state ∙ sym next;
+      written = subst (λ (l : List Slot). HasWritten writer' d (slots d r.moves ++ l)) slot (written (slots d r.moves) r.written);
+      text =
+          subst (Appends old new') (more_text d (slots d r.moves) (ended_slot m now) (ended_slot m s) piece.0 slot piece.1)
+          (append_more old new new' (vcd_header d ++ vcd_slots d (slots d r.moves)) piece.0 r.text piece.2);
+    }
+
+unfinished : (over finishing early : Bool) → finishing ≡ false → (over && finishing && early) ≡ false
+unfinished true false early h = refl
+unfinished false false early h = refl
+unfinished _ _ early h = cc
+
+no_finish : (until : ℕ) (s : State) → s.finishing ≡ false → finish_time until s ≡ None
+no_finish until s h = ap (λ (b : Bool). cond b (Some s.time) None) (unfinished s.over s.finishing (leb s.time until) h)
+
+-- the text of the trace, where each slot that ended is one of it and `$finish` took no effect
+whole_text : (d : Parts) (moves : List Move) (until : ℕ) → filter (is_by until) (slots d moves) ≡ slots d moves → finish_time until (after d moves) ≡ None →
+    (vcd_header d ++ vcd_slots d (slots d moves)) ++ vcd_end d (slots d moves) until ≡ vcd_text d (trace d moves until) until
+whole_text d moves until kept finish =
+    sym (ap (λ (l : List Slot). (vcd_header d ++ vcd_slots d l) ++ vcd_end d l (unwrap_or (finish_time until (after d moves)) until)) kept
+    ∙ ap (λ (o : Option ℕ). (vcd_header d ++ vcd_slots d (slots d moves)) ++ vcd_end d (slots d moves) (unwrap_or o until)) finish)
+
+-- the text so far of an execution that isn't complete, and of one that is
+so_far : (d : Parts) (moves : List Move) (until : ℕ) (b : Bool) → is_complete until (after d moves) ≡ b →
+    text_so_far d moves until ≡ (if b then vcd_text d (trace d moves until) until else vcd_header d ++ vcd_slots d (slots d moves))
+so_far d moves until b h = ap (λ (c : Bool). if c then vcd_text d (trace d moves until) until else vcd_header d ++ vcd_slots d (slots d moves)) h
+
+-- at the step limit
+pub limited : {d : Parts} {until steps taken : ℕ} {now : State} {writer : Progress} {old new : Option (List ℕ)} (time : ℕ) →
+    (r : HasRun d until steps taken now writer old new) → is_complete until now ≡ false → time ≡ now.time → taken ≡ steps → RanTo d until steps (StepLimit time) old new
+limited {d} {until} {steps} {taken} {now} {writer} {old} {new} time r going here all =
+    let open_end : is_complete until (after d r.moves) ≡ false = ap (is_complete until) r.state ∙ going in
+    record {
+      moves = r.moves;
+      statement = r.statement;
+      block = r.block;
+      stops = r.stops;
+      end = (open_end, ap (λ (t : State). t.time) r.state ∙ sym here, r.count ∙ all);
+      text = subst (Appends old new) (sym (so_far d r.moves until false open_end)) r.text;
+    }
+
+-- the whole text
+all_text : {d : Parts} {until steps taken : ℕ} {now : State} {writer : Progress} (old new new' : Option (List ℕ)) →
+    (r : HasRun d until steps taken now writer old new) → is_complete until now ≡ true → now.finishing ≡ false →
+    ((before : List Slot) → HasWritten writer d before → Appends new new' (vcd_end d before until)) → Appends old new' (text_so_far d r.moves until)
+all_text {d} {until} {steps} {taken} {now} {writer} old new new' r complete going ends =
+    subst (Appends old new')
+    (whole_text d r.moves until (all_kept until d r.moves r.stops) (no_finish until (after d r.moves) (ap (λ (t : State). t.finishing) r.state ∙ going))
+    ∙ sym (so_far d r.moves until true (ap (is_complete until) r.state ∙ complete)))
+    (append_more old new new' (vcd_header d ++ vcd_slots d (slots d r.moves)) (vcd_end d (slots d r.moves) until) r.text (ends (slots d r.moves) r.written))
+
+pub complete_past : (until : ℕ) (s : State) → s.over ≡ false → until < s.time → is_complete until s ≡ true
+complete_past until s over late = ap (λ b. b || nat_lt until s.time) over ∙ lt-ltb until s.time late
+
+pub complete_over : (until : ℕ) (s : State) → s.over ≡ true → is_complete until s ≡ true
+complete_over until s over = ap (λ b. b || nat_lt until s.time) over
+
+behind_over : (s : State) (w : Option Write) → (written_behind s w).over ≡ s.over
+behind_over s None = refl
+behind_over s (Some w) = refl
+
+stepped_over : (s : State) (i : ℕ) (o : Option Place) → (stepped s i o).over ≡ s.over
+stepped_over s i None = refl
+stepped_over s i (Some x) = behind_over s (step (todo_of x) s.store s.time).write
+
+evaluate_over : (s : State) (j : ℕ) (o : Option AssignState) → (evaluate s j o).over ≡ s.over
+evaluate_over s j None = refl
+evaluate_over s j (Some x) = refl
+
+value_over : (s : State) (j : ℕ) (x : AssignState) (o : Option (List Digit)) → (propagate_value s j x o).over ≡ s.over
+value_over s j x None = refl
+value_over s j x (Some v) = refl
+
+propagate_over : (s : State) (j : ℕ) (o : Option AssignState) → (propagate s j o).over ≡ s.over
+propagate_over s j None = refl
+propagate_over s j (Some x) = value_over s j x x.pending
+
+make_over : (s : State) (i : ℕ) (o : Option Update) → (make s i o).over ≡ s.over
+make_over s i None = refl
+make_over s i (Some u) = refl
+
+not_over : (a : Bool) {P : Type 0} → a ≡ true → a ≡ false → P
+not_over true h k = cc
+not_over false h k = cc
+
+stays_by : (until : ℕ) (s : State) (b : Bool) → b ≡ true → s.time ≤ until → time_at b (next_time s) s.time ≤ until
+stays_by until s true h early = early
+stays_by until s false h early = cc
+
+-- an execution that is over by a move wasn't past the moment
+over_behind : (until : ℕ) (m : Move) (s : State) → s.over ≡ false → s.time ≤ until → (apply m s).over ≡ true → (apply m s).time ≤ until
+over_behind until (Step i) s going early over = not_over _ over (stepped_over s i (slice_get s.places i) ∙ going)
+over_behind until (Evaluate j) s going early over = not_over _ over (evaluate_over s j (slice_get s.assigns j) ∙ going)
+over_behind until (Propagate j) s going early over = not_over _ over (propagate_over s j (slice_get s.assigns j) ∙ going)
+over_behind until (Make i) s going early over = not_over _ over (make_over s i (slice_get s.updates i) ∙ going)
+over_behind until Rouse s going early over = not_over _ over going
+over_behind until Activate s going early over = not_over _ over going
+over_behind until EndSlot s going early over = stays_by until s _ over early
+
+-- an execution that goes on until it is complete is over by the moment, or not at all
+over_by : (until : ℕ) (d : Parts) (moves : List Move) → StopsAt until d moves → (after d moves).over ≡ true → (after d moves).time ≤ until
+over_by until d [] stops over = cc
+over_by until d (m ∷ before) stops over =
+    over_behind until m (after d before) (or_false_left (after d before).over (nat_lt until (after d before).time) stops.1) (by_then until (after d before) stops.1) over
+
+-- past the moment
+pub reached : {d : Parts} {until steps taken : ℕ} {now : State} {writer : Progress} {old new new' : Option (List ℕ)} →
+    (r : HasRun d until steps taken now writer old new) → now.over ≡ false → until < now.time → now.finishing ≡ false →
+    ((before : List Slot) → HasWritten writer d before → Appends new new' (vcd_end d before until)) → RanTo d until steps Reached old new'
+reached {d} {until} {steps} {taken} {now} {writer} {old} {new} {new'} r over late going ends = record {
+  moves = r.moves;
+  statement = r.statement;
+  block = r.block;
+  stops = r.stops;
+  end = (ap (λ (t : State). t.over) r.state ∙ over, ap (is_complete until) r.state ∙ complete_past until now over late, omega (arith, r.count, r.within));
+  text = all_text old new new' r (complete_past until now over late) going ends;
+}
+
+-- over
+pub quiet : {d : Parts} {until steps taken : ℕ} {now : State} {writer : Progress} {old new new' : Option (List ℕ)} →
+    (r : HasRun d until steps taken now writer old new) → now.over ≡ true → now.finishing ≡ false →
+    ((before : List Slot) → HasWritten writer d before → Appends new new' (vcd_end d before until)) → RanTo d until steps Quiet old new'
+quiet {d} {until} {steps} {taken} {now} {writer} {old} {new} {new'} r over going ends =
+    let done : (after d r.moves).over ≡ true = ap (λ (t : State). t.over) r.state ∙ over in
+    record {
+      moves = r.moves;
+      statement = r.statement;
+      block = r.block;
+      stops = r.stops;
+      end = (done, ap (λ (t : State). t.finishing) r.state ∙ going, over_by until d r.moves r.stops done, omega (arith, r.count, r.within));
+      text = all_text old new new' r (complete_over until now over) going ends;
+    }
+
+take_whole : (xs ys : List ℕ) → take (length xs) (xs ++ ys) ≡ xs
+take_whole [] ys = refl
+take_whole (x ∷ xs) ys = ap (λ (l : List ℕ). x ∷ l) (take_whole xs ys)
+
+take_front : (xs ys : List ℕ) (n : ℕ) → take (length (take n xs)) (xs ++ ys) ≡ take n xs
+take_front [] ys zero = refl
+take_front [] ys (suc n) = refl
+take_front (x ∷ xs) ys zero = refl
+take_front (x ∷ xs) ys (suc n) = ap (λ (l : List ℕ). x ∷ l) (take_front xs ys n)
+
+take_past : (xs ys : List ℕ) (n : ℕ) → take (length xs + n) (xs ++ ys) ≡ xs ++ take n ys
+take_past [] ys n = ap (λ (k : ℕ). take k ys) (zero-add n)
+take_past (x ∷ xs) ys n =
+    let e : suc (length xs) + n ≡ suc (length xs + n) = omega arith in
+    ap (λ (k : ℕ). take k (x ∷ (xs ++ ys))) e ∙ ap (λ (l : List ℕ). x ∷ l) (take_past xs ys n)
+
+-- a beginning of a text is one of a longer text
+part_front : (old new : Option (List ℕ)) (xs ys : List ℕ) → AppendsPart old new xs → AppendsPart old new (xs ++ ys)
+part_front old new xs ys h = (length (take h.0 xs), subst (Appends old new) (sym (take_front xs ys h.0)) h.1)
+
+-- a text, and then a beginning of another one
+part_more : (old mid new : Option (List ℕ)) (xs ys : List ℕ) → Appends old mid xs → AppendsPart mid new ys → AppendsPart old new (xs ++ ys)
+part_more old mid new xs ys h k = (length xs + k.0, subst (Appends old new) (sym (take_past xs ys k.0)) (append_more old mid new xs (take k.0 ys) h k.1))
+
+-- a text is a beginning of itself
+part_all : (old new : Option (List ℕ)) (xs : List ℕ) → Appends old new xs → AppendsPart old new xs
+part_all old new xs h = (length xs, subst (Appends old new) (sym (ap (take (length xs)) (sym (append-nil xs)) ∙ take_whole xs [])) h)
+
+-- a piece that wasn't written whole
+pub part_failed : (cause : VcdFault) (old new : Option (List ℕ)) (piece : List ℕ) → WritesPiece {A = ℕ} (Err cause) old new piece → AppendsPart old new piece
+part_failed fault.Memory old new piece h = (0, subst (λ (o : Option (List ℕ)). Appends old o []) (sym h) (append_none old))
+part_failed fault.Write old new piece h = h
+
+still_going : (until : ℕ) (s : State) → s.over ≡ false → finish_time until s ≡ None
+still_going until s h = ap (λ (b : Bool). cond (b && s.finishing && leb s.time until) (Some s.time) None) h
+
+-- `$finish` takes no effect behind a move
+finish_behind : (until : ℕ) (m : Move) (s : State) → s.over ≡ false → s.finishing ≡ false → finish_time until (apply m s) ≡ None
+finish_behind until (Step i) s over going = still_going until (apply (Step i) s) (stepped_over s i (slice_get s.places i) ∙ over)
+finish_behind until (Evaluate j) s over going = still_going until (apply (Evaluate j) s) (evaluate_over s j (slice_get s.assigns j) ∙ over)
+finish_behind until (Propagate j) s over going = still_going until (apply (Propagate j) s) (propagate_over s j (slice_get s.assigns j) ∙ over)
+finish_behind until (Make i) s over going = still_going until (apply (Make i) s) (make_over s i (slice_get s.updates i) ∙ over)
+finish_behind until Rouse s over going = still_going until (apply Rouse s) over
+finish_behind until Activate s over going = still_going until (apply Activate s) over
+finish_behind until EndSlot s over going = no_finish until (apply EndSlot s) going
+
+part_by : (b : Bool) (old new : Option (List ℕ)) (whole front tail : List ℕ) → front ++ tail ≡ whole → AppendsPart old new front → AppendsPart old new (if b then whole else front)
+part_by true old new whole front tail is h = subst (AppendsPart old new) is (part_front old new front tail h)
+part_by false old new whole front tail is h = h
+
+-- a beginning of the header and the slots that ended is one of the text so far
+part_so_far : (old new : Option (List ℕ)) (d : Parts) (moves : List Move) (until : ℕ) → StopsAt until d moves → finish_time until (after d moves) ≡ None →
+    AppendsPart old new (vcd_header d ++ vcd_slots d (slots d moves)) → AppendsPart old new (text_so_far d moves until)
+part_so_far old new d moves until stops finish h =
+    part_by (is_complete until (after d moves)) old new (vcd_text d (trace d moves until) until) (vcd_header d ++ vcd_slots d (slots d moves)) (vcd_end d (slots d moves) until)
+    (whole_text d moves until (all_kept until d moves stops) finish) h
+
+-- the header wasn't written whole
+pub header_failed : {d : Parts} {until steps : ℕ} {old new : Option (List ℕ)} → AppendsPart old new (vcd_header d) → HasBegun d until steps old new
+header_failed {d} {until} {steps} {old} {new} h = record {
+  moves = [];
+  statement = tt;
+  block = tt;
+  stops = tt;
+  within = omega arith;
+  text = part_so_far old new d [] until tt refl (part_front old new (vcd_header d) [] h);
+}
+
+-- a move wasn't made, or the slot that it ends not written whole
+pub move_failed : {d : Parts} {until steps taken : ℕ} {now : State} {writer : Progress} {old new new' : Option (List ℕ)} →
+    (r : HasRun d until steps taken now writer old new) (m : Move) → allowed Statement d now m ≡ true → allowed Block d now m ≡ true → now.over ≡ false → now.finishing ≡ false → is_complete until now ≡ false → (taken ≡ steps → ⊥) →
+    ((before : List Slot) → HasWritten writer d before → AppendsSlotsPart new new' d before (ended_slot m now)) → HasBegun d until steps old new'
+move_failed {d} {until} {steps} {taken} {now} {writer} {old} {new} {new'} r m statement block over finishing going more appended =
+    let s = after d r.moves in
+    let slot : ended_slot m now ≡ ended_slot m s = ap (ended_slot m) (sym r.state) in
+    let piece = appended (slots d r.moves) r.written in
+    let stops : StopsAt until d (m ∷ r.moves) = (r.stops, ap (is_complete until) r.state ∙ going) in
+    let front : AppendsPart old new' (vcd_header d ++ vcd_slots d (slots d (m ∷ r.moves))) =
+    subst (AppendsPart old new') (more_text d (slots d r.moves) (ended_slot m now) (ended_slot m s) piece.0 slot piece.1)
+    (part_more old new new' (vcd_header d ++ vcd_slots d (slots d r.moves)) piece.0 r.text piece.2)
+    in
+    record {
+      moves = m ∷ r.moves;
+      statement = (r.statement, ap (λ (t : State). allowed Statement d t m) r.state ∙ statement);
+      block = (r.block, ap (λ (t : State). allowed Block d t m) r.state ∙ block);
+      stops = stops;
+      within = omega (arith, r.count, r.within, more);
+      text =
+          part_so_far old new' d (m ∷ r.moves) until stops
+          (finish_behind until m s (ap (λ (t : State). t.over) r.state ∙ over) (ap (λ (t : State). t.finishing) r.state ∙ finishing)) front;
+    }
+
+-- a slot that was written whole
+pub slots_whole : (old new : Option (List ℕ)) (d : Parts) (before more : List Slot) → AppendsSlots old new d before more → AppendsSlotsPart old new d before more
+slots_whole old new d before more h = (h.0, h.1, part_all old new h.0 h.2)
+
+-- a slot that wasn't written whole
+pub slot_failed : (fault : VcdFault) (writer : Progress) (old new : Option (List ℕ)) (now : State) (m : Move) (time : ℕ) (store : Store) → m ≡ EndSlot → time ≡ now.time → store ≡ now.store →
+    ((d : Parts) (before : List Slot) (s : Slot) → HasWritten writer d before → IsSlotAt s time store → WritesPiece {A = ℕ} (Err fault) old new (vcd_slot d before s)) →
+    ((d : Parts) (before : List Slot) (s : Slot) → vcd_slots d (before ++ s ∷ []) ≡ vcd_slots d before ++ vcd_slot d before s) →
+    (d : Parts) (before : List Slot) → HasWritten writer d before → AppendsSlotsPart old new d before (ended_slot m now)
+slot_failed fault writer old new now m time store ends here values bytes pieces d before h = (
+  vcd_slot d before (ended_here now),
+  ap (λ (l : Move). vcd_slots d (before ++ ended_slot l now)) ends ∙ pieces d before (ended_here now),
+  part_failed fault old new (vcd_slot d before (ended_here now)) (bytes d before (ended_here now) h (record { time = sym here; values = sym values })),
+)
+
+-- the end wasn't written whole
+pub end_failed : {d : Parts} {until steps taken : ℕ} {now : State} {writer : Progress} {old new new' : Option (List ℕ)} →
+    (r : HasRun d until steps taken now writer old new) → is_complete until now ≡ true → now.finishing ≡ false →
+    ((before : List Slot) → HasWritten writer d before → AppendsPart new new' (vcd_end d before until)) → HasBegun d until steps old new'
+end_failed {d} {until} {steps} {taken} {now} {writer} {old} {new} {new'} r complete going ends = record {
+  moves = r.moves;
+  statement = r.statement;
+  block = r.block;
+  stops = r.stops;
+  within = omega (arith, r.count, r.within);
+  text =
+      subst (AppendsPart old new')
+      (whole_text d r.moves until (all_kept until d r.moves r.stops) (no_finish until (after d r.moves) (ap (λ (t : State). t.finishing) r.state ∙ going))
+      ∙ sym (so_far d r.moves until true (ap (is_complete until) r.state ∙ complete)))
+      (part_more old new new' (vcd_header d ++ vcd_slots d (slots d r.moves)) (vcd_end d (slots d r.moves) until) r.text (ends (slots d r.moves) r.written));
+}
+
+pub on_err : {T E P : Type 0} (r : Result T E) → P → OnErr r P
+on_err (Ok x) p = tt
+on_err (Err e) p = p

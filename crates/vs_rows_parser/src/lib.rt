@@ -1,0 +1,7 @@
+//! Worked rows of the parser: sources, and the faults and syntax trees that they give.
+#![tactic(auto)]
+
+#[cfg(test)]
+mod refused;
+#[cfg(test)]
+mod trees;

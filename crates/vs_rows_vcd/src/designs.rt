@@ -1,0 +1,104 @@
+//! A design made by hand, and a run of it.
+ghost use Rattle.std.specs.Prelude.{◌≡◌, ◌<◌, ◌≤◌, IfOk};
+ghost use Rattle.vs_rows_vcd.specs.ThreeSignals.{IsOutline};
+
+use std::alloc::{AllocError, Global};
+use vs_design::{
+    Bounds, DEFAULT_TIMESCALE, Design, Entry, Magnitude, Part, ScopeKind, Signal, SignalKind,
+    Store, TimeSpan, TimeUnit, Timescale, Write,
+};
+use vs_logic4::Vec4;
+use vs_vcd::{Sink, VcdFault, Writer};
+
+fn variable(
+    alloc: Global,
+    path: &[u8],
+    width: u32,
+    range: Option<Bounds>,
+    words: Option<Bounds>,
+) -> Result<Signal, AllocError>
+    requires { (0 < width) × (width ≤ 64) }
+    ensures { IfOk result (λ s. s.path.items ≡ path.now) }
+{
+    let name = if path.len() > 2 { &path[2..] } else { path };
+    Ok(Signal {
+        name: Vec::from_slice(alloc, name)?,
+        path: Vec::from_slice(alloc, path)?,
+        kind: SignalKind::Reg,
+        width,
+        signed: false,
+        range,
+        words,
+    })
+}
+
+fn outline(alloc: Global) -> Result<Vec<Entry>, AllocError>
+    ensures { IfOk result (λ o. IsOutline o.items) }
+{
+    let name = Vec::from_slice(alloc, b"t")?;
+    let mut outline = Vec::new(alloc);
+    outline.push(Entry::Enter(ScopeKind::Module, name))?;
+    outline.push(Entry::Declare(0))?;
+    outline.push(Entry::Declare(1))?;
+    outline.push(Entry::Declare(2))?;
+    outline.push(Entry::Leave)?;
+    Ok(outline)
+}
+
+// A module `t` with the array `m`, the variable `a` of one bit and the variable `b [-1:2]`; a tick is 10 ps.
+pub fn three_signals(alloc: Global) -> Result<Design, AllocError> {
+    let range = Bounds { left: -1, right: 2 };
+    let words = Bounds { left: 0, right: 7 };
+    let precision = TimeSpan {
+        magnitude: Magnitude::Ten,
+        unit: TimeUnit::Picosecond,
+    };
+    let timescale = Timescale {
+        unit: DEFAULT_TIMESCALE.unit,
+        precision,
+    };
+    let mut signals = Vec::new(alloc);
+    signals.push(variable(alloc, b"t.m", 8, None, Some(words))?)?;
+    signals.push(variable(alloc, b"t.a", 1, None, None)?)?;
+    signals.push(variable(alloc, b"t.b", 4, Some(range), None)?)?;
+    let outline = outline(alloc)?;
+    Design::new(
+        alloc,
+        timescale,
+        signals,
+        Vec::new(alloc),
+        Vec::new(alloc),
+        outline,
+    )
+}
+
+// A write of a whole signal.
+pub fn whole(signal: usize, digits: Vec4) -> Write {
+    Write::new(Part {
+        signal,
+        word: 0,
+        low: 0,
+        digits,
+    })
+}
+
+pub const HEADER: &[u8] =
+    b"$timescale 10 ps $end\n$scope module t $end\n$var reg 1 ! a $end\n$var reg 4 \" b [-1:2] $end\n$upscope $end\n$enddefinitions $end\n";
+
+pub const DUMP: &[u8] =
+    b"$timescale 10 ps $end\n$scope module t $end\n$var reg 1 ! a $end\n$var reg 4 \" b [-1:2] $end\n$upscope $end\n$enddefinitions $end\n#0\n$dumpvars\n0!\nbx \"\n$end\n#5\n1!\n#7\nb101 \"\n#10\n";
+
+// `a` is 0 from the start and 1 from 5 on, `b` is 0101 from 7 on; at 3 nothing changes.
+pub fn write_dump<S: Sink>(alloc: Global, sink: &mut S) -> Result<(), VcdFault> {
+    let design = three_signals(alloc)?;
+    let mut store = Store::start(alloc, &design)?;
+    let mut writer = Writer::header(alloc, sink, &design)?;
+    store.put(&whole(1, Vec4::from_number(1, 0)));
+    writer.slot(alloc, sink, 0, &store)?;
+    writer.slot(alloc, sink, 3, &store)?;
+    store.put(&whole(1, Vec4::from_number(1, 1)));
+    writer.slot(alloc, sink, 5, &store)?;
+    store.put(&whole(2, Vec4::from_number(4, 5)));
+    writer.slot(alloc, sink, 7, &store)?;
+    writer.finish(sink, 10)
+}

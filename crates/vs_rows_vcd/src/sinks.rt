@@ -1,0 +1,63 @@
+//! Sinks that fail, and sinks that take little.
+use crate::designs::{DUMP, write_dump};
+use std::io;
+use std::io::{ErrorKind, Write};
+use std::test::Fail;
+use vs_vcd::{Counted, Sink, VcdFault, write_all};
+
+// A writer that takes at most three bytes at a time, and fails once it holds `room` bytes.
+#[derive(Drop)]
+struct Narrow {
+    got: Vec<u8>,
+    room: usize,
+    full: Option<ErrorKind>,
+}
+
+impl Write for Narrow {
+    fn write(&mut self, piece: &[u8]) -> io::Result<usize> {
+        let left = self.room.saturating_sub(self.got.len());
+        if left == 0 {
+            return match self.full {
+                Some(kind) => Err(io::Error::from(kind)),
+                None => Ok(0),
+            };
+        }
+        let most = piece.len().min(3).min(left);
+        self.got.extend_from_slice(&piece[..most])?;
+        Ok(most)
+    }
+
+    fn flush(&mut self) -> io::Result<()> {
+        Ok(())
+    }
+}
+
+#[test]
+fn a_failing_sink_holds_a_beginning(rt: HostRuntime) -> Result<(), Fail> {
+    for room in [0, 1, 20, 21, 124, 125, 126, 153, 170] {
+        for full in [None, Some(ErrorKind::Other)] {
+            let got = Vec::new(rt.alloc());
+            let mut sink = Counted::new(Narrow { got, room, full });
+            let result = write_dump(rt.alloc(), &mut sink);
+            assert_eq!(rt; result, Err(VcdFault::Write), "at {room}");
+            assert_eq!(rt; sink.failures(), 1, "at {room}");
+            assert!(rt; DUMP.starts_with(&sink.into_inner().got), "at {room}");
+        }
+    }
+    Ok(())
+}
+
+#[test]
+fn a_sink_that_takes_little_gets_all(rt: HostRuntime) -> Result<(), Fail> {
+    let got = Vec::new(rt.alloc());
+    let mut sink = Counted::new(Narrow {
+        got,
+        room: 171,
+        full: None,
+    });
+    assert_eq!(rt; write_all(&mut sink, b""), Ok(()));
+    write_dump(rt.alloc(), &mut sink)?;
+    assert_eq!(rt; sink.failures(), 0);
+    assert_eq!(rt; sink.into_inner().got.as_slice(), DUMP);
+    Ok(())
+}

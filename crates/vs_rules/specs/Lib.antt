@@ -1,0 +1,5 @@
+pub mod Points
+pub mod Claims
+pub mod Rules
+pub mod Laws
+pub mod Clocked

@@ -1,0 +1,34 @@
+-- The names that a source declares.
+use Rattle.std.specs.Prelude.{ℕ, ◌≡◌, Bool, true, List, [], ◌∷◌, map}
+use Rattle.std.specs.List.{flat_map, list_all}
+use Rattle.vs_syntax.specs.declared.tree.Declarator.{Declarator}
+use Rattle.vs_syntax.specs.declared.tree.Item.{Item}
+use Rattle.vs_syntax.specs.declared.tree.Item.TheVariants as i
+use Rattle.vs_syntax.specs.declared.tree.Module.{Module}
+use Rattle.vs_syntax.specs.declared.tree.Source.{Source}
+use Rattle.vs_syntax.specs.Symbols.{Symbol, a_name}
+use Rattle.vs_syntax.specs.Derives.{Derives}
+
+abbrev pub declarator_names : List Declarator → List (List ℕ)
+declarator_names ds = map (λ (d : Declarator). d.name.items) ds
+
+-- the names that an item declares (clause A.2)
+abbrev pub item_names : Item → List (List ℕ)
+item_names (i.Wire ds) = declarator_names ds.items
+item_names (i.Reg ds) = declarator_names ds.items
+item_names (i.Assign xs) = []
+item_names (i.Initial x) = []
+item_names (i.Always x) = []
+
+-- a module's own name, and those that its items declare (clause 12.1)
+abbrev pub module_names : Module → List (List ℕ)
+module_names m = m.name.items ∷ flat_map item_names m.items.items
+
+-- the names that modules declare, their own among them
+abbrev pub declared_names : List Module → List (List ℕ)
+declared_names ms = flat_map module_names ms
+
+-- what holds of each token of a text holds of each name that the source declares, as a token
+abbrev pub NamesAreTokens : Type 0
+NamesAreTokens = (p : Symbol → Bool) (ts : List Symbol) (s : Source) → Derives ts s → list_all p ts ≡ true →
+    list_all (λ n. p (a_name n)) (declared_names s.modules.items) ≡ true

@@ -1,0 +1,5 @@
+pub mod BasedNumbers
+pub mod CollectedDigits
+pub mod DecimalValues
+pub mod LongestRuns
+pub mod TextEnds
