@@ -1,6 +1,7 @@
 pub mod Drivers
 pub mod Kinds
 pub mod Laws
+pub mod OneLine
 pub mod Parts
 pub mod Readers
 pub mod Stores

@@ -101,8 +101,20 @@ impl Design {
         processes: Vec<Process>,
         outline: Vec<Entry>,
     ) -> Result<Self, AllocError>
-        requires well_formed { WellFormed (record { timescale = timescale; signals = signals.items; assigns = assigns.items; processes = processes.items; outline = outline.items }) }
-        ensures parts { IfOk result (λ d. d ≡ record { timescale = timescale; signals = signals.items; assigns = assigns.items; processes = processes.items; outline = outline.items }) }
+        requires well_formed { WellFormed (record {
+          timescale = timescale;
+          signals = signals.items;
+          assigns = assigns.items;
+          processes = processes.items;
+          outline = outline.items;
+        }) }
+        ensures parts { IfOk result (λ d. d ≡ record {
+          timescale = timescale;
+          signals = signals.items;
+          assigns = assigns.items;
+          processes = processes.items;
+          outline = outline.items;
+        }) }
     {
         let readers = table_of(alloc, &assigns, signals.len())?;
         Ok(Design {

@@ -1,5 +1,5 @@
 -- From numbers to paths.
-use Rattle.std.proofs.Common.{◌≡◌, ℕ, zero, suc, ◌+◌, Bool, List, [], ◌∷◌, ◌++◌, Some, length, map, slice_get, refl, ap, sym, subst, ◌∙◌, add-zero, zero-add, arith}
+use Rattle.std.proofs.Common.{◌≡◌, ℕ, suc, ◌+◌, Bool, List, [], ◌∷◌, ◌++◌, Some, length, map, slice_get, refl, sym, subst, add-zero, zero-add, arith}
 use Rattle.std.specs.List.{AllZip}
 use Rattle.std.proofs.lemmas.List.{append-nil}
 use Rattle.std.specs.declared.vec.Vec.{Vec}
@@ -13,15 +13,14 @@ use Rattle.vs_design.specs.declared.statement.Target.{Target}
 use Rattle.vs_design.specs.declared.statement.Statement.{Statement}
 use Rattle.vs_design.specs.declared.design.Assign.{Assign}
 use Rattle.vs_design.specs.declared.design.Process.{Process}
-use Rattle.vs_design.specs.declared.design.Entry.{Entry}
 use Rattle.vs_design.specs.declared.design.Entry.TheVariants.{Enter, Declare, Leave}
 use Rattle.vs_elaborate.specs.Environment.{Environment}
 use Rattle.vs_elaborate.specs.Printed.{printed_name}
 use Rattle.vs_elaborate.specs.Expressions.{IsTyped, is_number, is_name, is_group, is_unary, is_chain, AreLinks, links_none, links_more}
 use Rattle.vs_elaborate.specs.Statements.{IsAssignment, IsStatement, is_null, is_assign, is_later, is_block, is_delay, AreStatements, are_none, are_more}
-use Rattle.vs_elaborate.specs.Scopes.{Scope, Assignment, Behavior, declarations_of, drivers_of, behaviors_of, names_of, names_in, named, kinds, IsNamed, IsNamedIn}
+use Rattle.vs_elaborate.specs.Scopes.{Scope, Behavior, declarations_of, drivers_of, behaviors_of, names_of, named, kinds, IsNamed}
 use Rattle.vs_elaborate.specs.Processes.{IsBody, is_set, is_run, is_repeat}
-use Rattle.vs_elaborate.specs.DesignOf.{PartOf, own_name, parts_from, IsProcess, IsProcessIn, IsAssign, IsAssignIn, Line, declare, leave, outline_around, IsEntry}
+use Rattle.vs_elaborate.specs.DesignOf.{PartOf, parts_from, IsProcess, IsProcessIn, IsAssign, IsAssignIn, Line, declare, leave, outline_around, IsEntry}
 use Rattle.vs_elaborate.specs.passes.Bodies.{Bindings, meanings, IsNumber, counting}
 use Rattle.vs_elaborate.specs.passes.Plans.{Binds}
 use Rattle.vs_elaborate.proofs.ScopeLemmas.{meanings_are, named_in, one_scope_path}

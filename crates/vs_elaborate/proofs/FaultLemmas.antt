@@ -1,14 +1,13 @@
 -- Faults of a source, and that a design has none.
-use Rattle.std.proofs.Common.{◌≡◌, ℕ, zero, suc, ◌+◌, ◌<◌, ◌≤◌, Bool, true, false, ◌||◌, not, nat_eq, cond, List, [], ◌∷◌, ◌++◌, Option, Some, None, IsSome, is_some, ◌⊎◌, inl, inr, length, map, take, slice_get, get_or, option_map, replicate, refl, ap, sym, subst, ◌∙◌, arith, true≢false, ⊎_elim, Bor, All, Result, Ok, Err, MatchResult}
-use Rattle.std.specs.Prelude.{slice_set, find}
+use Rattle.std.proofs.Common.{◌≡◌, ℕ, zero, suc, ◌+◌, ◌<◌, ◌≤◌, Bool, true, false, ◌||◌, not, nat_eq, cond, List, [], ◌∷◌, ◌++◌, Option, Some, None, IsSome, is_some, ◌⊎◌, inl, inr, length, map, take, slice_get, get_or, option_map, replicate, refl, ap, sym, subst, ◌∙◌, arith, true≢false, ⊎_elim, Bor, All}
+use Rattle.std.specs.Prelude.{slice_set}
 use Rattle.std.specs.List.{list_any, flat_map, AllZip, IsDistinct}
-use Rattle.std.specs.Map.{update}
 use Rattle.std.specs.Str.{bytes_eq}
 use Rattle.std.specs.declared.vec.Vec.{Vec}
 use Rattle.std.specs.declared.alloc.Global.{Global}
 use Rattle.std.proofs.lemmas.Cmp.{nat_eq_equiv}
 use Rattle.std.proofs.lemmas.Option.{none-some, same_Some, slice_get-map, slice_get-get_or, slice_get_within, get_or_from_slice_get}
-use Rattle.std.proofs.lemmas.List.{append-nil, map-append, take_more, take_all, length-map, length-append, length-set, length-replicate, get_or-replicate, get_or-set_same, get_or-set_other, get_or_default, get_or-map}
+use Rattle.std.proofs.lemmas.List.{append-nil, map-append, take_all, length-map, length-set, length-replicate, get_or-replicate, get_or-set_same, get_or-set_other, get_or_default, get_or-map}
 use Rattle.std.proofs.lemmas.Map.Keys.{apart_from_distinct, IsDistinct-push}
 use Rattle.std.proofs.lemmas.Slice.Eq.{bytes_eq-Decides}
 use Rattle.std.proofs.lemmas.Bool.Decides.{eqb_tells}
@@ -20,10 +19,8 @@ use Rattle.vs_design.specs.declared.design.ScopeKind.TheVariants as scopes
 use Rattle.vs_design.specs.Kinds.{is_variable}
 use Rattle.vs_design.specs.declared.signal.Signal.{Signal}
 use Rattle.vs_design.specs.declared.design.Assign.{Assign}
-use Rattle.vs_design.specs.declared.design.Process.{Process}
 use Rattle.vs_design.specs.declared.design.Entry.{Entry}
 use Rattle.vs_design.specs.declared.design.Entry.TheVariants.{Enter, Declare, Leave}
-use Rattle.vs_elaborate.specs.declared.bindings.Meaning.{Meaning}
 use Rattle.vs_elaborate.specs.declared.faults.Reason.{Reason}
 use Rattle.vs_elaborate.specs.declared.faults.Reason.TheVariants.{NoModule, DeclaredTwice, DrivenTwice, Limit, Width}
 use Rattle.vs_elaborate.specs.declared.faults.WidthReason.TheVariants.{WrongKind}
@@ -35,20 +32,20 @@ use Rattle.vs_elaborate.specs.Names.{meaning_of, Declares as NamesDeclare}
 use Rattle.vs_elaborate.specs.Environment.{Environment}
 use Rattle.vs_elaborate.specs.Printed.{Path, printed, printed_name}
 use Rattle.vs_elaborate.specs.Statements.{is_wrong_kind}
-use Rattle.vs_elaborate.specs.Scopes.{Scope, DeclaredName, Assignment, Behavior, Located, module_named, top_scope, all_scopes, declarations_of, drivers_of, behaviors_of, names_of, names_in, environment, kinds, named, signal_paths}
+use Rattle.vs_elaborate.specs.Scopes.{Scope, DeclaredName, Assignment, Located, module_named, top_scope, all_scopes, declarations_of, drivers_of, behaviors_of, names_of, environment, kinds, named, signal_paths}
 use Rattle.vs_elaborate.specs.Processes.{behavior_fault, driver_fault}
-use Rattle.vs_elaborate.specs.Faults.{Repeated, DeclaresTwice, net_path, nets_driven, DrivesTwice, NamesTwice, PassesLimit, HasFault, Holds, HoldsIn, HoldsAbove, Stands, StandsAt, Faults}
-use Rattle.vs_elaborate.specs.DesignOf.{declared, signal_of, signals_of, PartOf, parts_from, processes_of, assigns_of, IsAssign, IsAssignIn, IsProcessIn, IsEntry, Represents, DesignOf, outline_below, Line}
+use Rattle.vs_elaborate.specs.Faults.{Repeated, net_path, nets_driven, DrivesTwice, PassesLimit, HasFault, Holds, HoldsIn, HoldsAbove, Stands, Faults}
+use Rattle.vs_elaborate.specs.DesignOf.{declared, signals_of, PartOf, parts_from, processes_of, assigns_of, IsAssign, IsAssignIn, IsProcess, IsProcessIn, IsEntry, Represents, DesignOf, outline_below}
 use Rattle.vs_elaborate.specs.passes.Answers.{Told, IsFaultAt, borrowed}
 use Rattle.vs_elaborate.specs.passes.Bodies.{Bindings, meanings, IsNumber, counting}
-use Rattle.vs_elaborate.specs.passes.Plans.{Binds, SameBodies, Declares, DeclaresNot, SameSignals, Drives, DrivesNot, Runs, RunsNot, IsSoundScope, Opens, OpensNot, driven_signals, IsDrivenTwice, DrivenTwiceOnly, module_names, Lists, ListsNot, Finds, FindsNot}
+use Rattle.vs_elaborate.specs.passes.Plans.{Binds, Declares, DeclaresNot, Adds, Drives, DrivesNot, Runs, RunsNot, Opens, OpensNot, driven_signals, IsDrivenTwice, DrivenTwiceOnly, module_names, Lists, ListsNot, Finds, FindsNot}
 use Rattle.vs_elaborate.proofs.Folds.{take_push}
 use Rattle.vs_elaborate.proofs.AnswerLemmas.{told_at, told_by}
 use Rattle.vs_elaborate.proofs.StatementLemmas.{left_false, right_false}
-use Rattle.vs_elaborate.proofs.PlanLemmas.{place_of_any, at_front, at_end, bytes_eq_equiv, any_last}
-use Rattle.vs_elaborate.proofs.ScopeLemmas.{located_as, BoundAt, number_at, meanings_are}
+use Rattle.vs_elaborate.proofs.PlanLemmas.{place_of_any, bytes_eq_equiv}
+use Rattle.vs_elaborate.proofs.ScopeLemmas.{located_as, number_at, meanings_are}
 use Rattle.vs_elaborate.proofs.DesignOfLemmas.{assigns_mean, processes_mean, outline_means}
-use Rattle.vs_elaborate.proofs.WellFormedLemmas.{Made, parts_of, signal_at, front_same}
+use Rattle.vs_elaborate.proofs.WellFormedLemmas.{Made, parts_of, signal_at}
 
 -- ---- a scope that is opened
 
@@ -100,24 +97,19 @@ declares_none s names plan h room = record {
   same = record { assigns = refl; processes = refl };
 }
 
+adds_none : {A P : Type 0} (fault : Reason → A → Bool) (R : P → PartOf A → Type 0) (letter : ℕ) (s : Scope) (first : ℕ) (all : List P) → length all ≡ first → Adds fault R letter s first all all []
+adds_none fault R letter s first all h = record { begun = h; sound = λ r. refl; added = []; parts = sym (append-nil all); means = tt }
+
 pub drives_none : (s : Scope) (names : Bindings) (first : ℕ) (plan : Plan) → length plan.assigns.items ≡ first → Drives s names first plan plan []
 drives_none s names first plan h = record {
-  begun = h;
-  sound = λ r. refl;
-  added = [];
-  assigns = sym (append-nil plan.assigns.items);
-  means = tt;
+  adds = adds_none (λ r. driver_fault r (meanings names)) (IsAssign (IsNumber names) (meanings names)) 97 s first plan.assigns.items h;
   processes = refl;
   same = record { signals = refl; outline = refl };
 }
 
 pub runs_none : (s : Scope) (names : Bindings) (first : ℕ) (plan : Plan) → length plan.processes.items ≡ first → Runs s names first plan plan []
 runs_none s names first plan h = record {
-  begun = h;
-  sound = λ r. refl;
-  added = [];
-  processes = sym (append-nil plan.processes.items);
-  means = tt;
+  adds = adds_none (λ r. behavior_fault r (meanings names)) (IsProcess (IsNumber names) (meanings names)) 112 s first plan.processes.items h;
   assigns = refl;
   same = record { signals = refl; outline = refl };
 }
@@ -134,15 +126,15 @@ opens s names old p1 p2 p3 p4 p5 m n title t a1 b1 c1 d1 de dr ru a5 b5 c5 d5 =
     record {
       names = names;
       bound = subst (λ z. Binds names z (declarations_of s)) base de.bound;
-      sound = record { distinct = de.distinct; processes = ru.sound; drivers = dr.sound };
+      sound = record { distinct = de.distinct; processes = ru.adds.sound; drivers = dr.adds.sound };
       room = subst (λ (z : List Signal). length z ≤ 65536) (sym signals) de.room;
       shown = ap (map declared) signals ∙ de.shown ∙ ap (λ z. map declared z ++ signals_of s) a1;
-      assigns_added = dr.added;
-      assigns = b5 ∙ ru.assigns ∙ dr.assigns ∙ ap (λ z. z ++ dr.added) (de.same.assigns ∙ b1);
-      drivers_mean = dr.means;
-      processes_added = ru.added;
-      processes = c5 ∙ ru.processes ∙ ap (λ z. z ++ ru.added) (dr.processes ∙ de.same.processes ∙ c1);
-      behaviors_mean = ru.means;
+      assigns_added = dr.adds.added;
+      assigns = b5 ∙ ru.assigns ∙ dr.adds.parts ∙ ap (λ z. z ++ dr.adds.added) (de.same.assigns ∙ b1);
+      drivers_mean = dr.adds.means;
+      processes_added = ru.adds.added;
+      processes = c5 ∙ ru.adds.parts ∙ ap (λ z. z ++ ru.adds.added) (dr.processes ∙ de.same.processes ∙ c1);
+      behaviors_mean = ru.adds.means;
       title = title;
       title_is = t;
       lines = d5 ∙ ap (λ z. z ++ Leave ∷ []) (ru.same.outline ∙ dr.same.outline ∙ de.lines ∙ ap (λ z. z ++ inner) d1) ∙ lines_joined old.outline.items (Enter s.kind title) inner Leave
@@ -182,7 +174,7 @@ from_made R letter s (p ∷ ps) k (y ∷ ys) (suc j) x h g =
     let q = from_made R letter s ps (suc k) ys j x h.1 g in
     record { made = q.made; part = q.part; name = q.name; made_stands = q.made_stands; part_stands = q.part_stands; means = q.means }
 
-mapped_some : {A B : Type 0} (f : A → B) (xs : List A) (j : ℕ) (y : B) → slice_get (map f xs) j ≡ Some y → (x : A) × (slice_get xs j ≡ Some x) × (f x ≡ y)
+pub mapped_some : {A B : Type 0} (f : A → B) (xs : List A) (j : ℕ) (y : B) → slice_get (map f xs) j ≡ Some y → (x : A) × (slice_get xs j ≡ Some x) × (f x ≡ y)
 mapped_some f [] j y h = absurd (none-some y h)
 mapped_some f (x ∷ xs) zero y h = (x, refl, same_Some (f x) y h)
 mapped_some f (x ∷ xs) (suc j) y h = mapped_some f xs j y h
@@ -195,7 +187,7 @@ net_means o l p h k = by (is_variable l.meaning.kind) refl (ap net_path (sym h) 
     by true e g = absurd (none-some p (sym (ap (λ z. cond z None (Some l.path)) e) ∙ g))
     by false e g = same_Some l.path p (sym (ap (λ z. cond z None (Some l.path)) e) ∙ g)
 
-last_same : (xs : Path) (m n : List ℕ) → xs ++ m ∷ [] ≡ xs ++ n ∷ [] → m ≡ n
+pub last_same : (xs : Path) (m n : List ℕ) → xs ++ m ∷ [] ≡ xs ++ n ∷ [] → m ≡ n
 last_same [] m n h = ap (λ (z : Path). get_or z 0 []) h
 last_same (x ∷ xs) m n h = last_same xs m n (ap tail h)
   where

@@ -10,3 +10,8 @@ pub mod ScopeLemmas
 pub mod DesignOfLemmas
 pub mod WellFormedLemmas
 pub mod FaultLemmas
+pub mod OneLineLemmas
+pub mod SameTypedLemmas
+pub mod SameStatementLemmas
+pub mod SameDesignLemmas
+pub mod ItselfLemmas

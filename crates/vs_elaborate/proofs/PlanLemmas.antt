@@ -1,10 +1,9 @@
 -- Plans, a part at a time.
-use Rattle.std.proofs.Common.{◌≡◌, ℕ, zero, suc, ◌+◌, ◌-◌, ◌<◌, ◌≤◌, ◌&&◌, ◌||◌, ◌==◌, Bool, true, false, cond, not, List, [], ◌∷◌, ◌++◌, Option, Some, None, IsSome, is_some, length, map, take, get_or, slice_get, option_map, refl, ap, sym, subst, ◌∙◌, append_assoc, arith, true≢false, eq-eqb}
-use Rattle.std.specs.List.{list_any, flat_map, AllZip, IsDistinct}
-use Rattle.std.specs.Map.{lookup, keys_of, update}
+use Rattle.std.proofs.Common.{◌≡◌, ℕ, zero, suc, ◌+◌, ◌-◌, ◌<◌, ◌≤◌, ◌||◌, Bool, true, false, cond, List, [], ◌∷◌, ◌++◌, Option, Some, None, IsSome, is_some, length, map, slice_get, option_map, refl, ap, sym, subst, ◌∙◌, append_assoc, arith, true≢false, eq-eqb}
+use Rattle.std.specs.List.{list_any, AllZip, IsDistinct}
 use Rattle.std.specs.Str.{bytes_eq}
-use Rattle.std.proofs.lemmas.List.{append-nil, map-append, length-map, length-append}
-use Rattle.std.proofs.lemmas.Option.{none-some, same_Some, slice_get-map}
+use Rattle.std.proofs.lemmas.List.{map-append, length-map, length-append}
+use Rattle.std.proofs.lemmas.Option.{none-some}
 use Rattle.std.proofs.lemmas.Slice.Zip.{all_zipped_more, AllZip-long}
 use Rattle.std.proofs.lemmas.Slice.Eq.{bytes_eq-Decides}
 use Rattle.std.proofs.lemmas.Map.Keys.{IsDistinct-push}
@@ -12,12 +11,9 @@ use Rattle.std.specs.Cmp.{IsEquivalence}
 use Rattle.vs_syntax.specs.declared.tree.Expr.{Expr}
 use Rattle.vs_design.specs.WellFormed.{counts_from}
 use Rattle.vs_design.specs.declared.signal.Signal.{Signal}
-use Rattle.vs_design.specs.declared.signal.SignalKind.{SignalKind}
 use Rattle.vs_design.specs.declared.design.Assign.{Assign}
 use Rattle.vs_design.specs.declared.design.Process.{Process}
-use Rattle.vs_design.specs.declared.design.Entry.{Entry}
 use Rattle.vs_design.specs.declared.design.Entry.TheVariants.{Declare}
-use Rattle.vs_elaborate.specs.declared.bindings.Meaning.{Meaning}
 use Rattle.vs_elaborate.specs.declared.bindings.Binding.{Binding}
 use Rattle.vs_elaborate.specs.declared.plans.Plan.{Plan}
 use Rattle.vs_elaborate.specs.declared.faults.Reason.{Reason}
@@ -32,7 +28,7 @@ use Rattle.vs_elaborate.specs.Faults.{Repeated}
 use Rattle.vs_elaborate.specs.DesignOf.{declared, signal_of, PartOf, own_name, part_name, parts_from, IsProcess, IsAssign}
 use Rattle.vs_elaborate.specs.passes.Answers.{Told, IsFaultAt}
 use Rattle.vs_elaborate.specs.passes.Bodies.{Bindings, meanings, IsNumber, counting, MeansBody}
-use Rattle.vs_elaborate.specs.passes.Plans.{shown_binding, numbered_names, Binds, SameBodies, Declares, DeclaresNot, SameSignals, Drives, DrivesNot, Runs, RunsNot}
+use Rattle.vs_elaborate.specs.passes.Plans.{shown_binding, numbered_names, Binds, SameBodies, Declares, DeclaresNot, Adds, AddsNot, SameSignals, Drives, DrivesNot, Runs, RunsNot}
 use Rattle.std.proofs.lemmas.List.Folds.{list_any-append}
 use Rattle.vs_elaborate.proofs.Folds.{any_push, left_true, right_true}
 use Rattle.vs_elaborate.proofs.StatementLemmas.{counting_more, left_false, right_false}
@@ -68,36 +64,39 @@ counts_counting : (a n : ℕ) → counts_from a (counting a n) ≡ true
 counts_counting a zero = refl
 counts_counting a (suc n) = rw (eq-eqb a a refl) (counts_counting (suc a) n)
 
+same_signals_over : (start plan new : Plan) → SameSignals start plan → SameSignals plan new → SameSignals start new
+same_signals_over start plan new h k = record { signals = k.signals ∙ h.signals; outline = k.outline ∙ h.outline }
+
+-- one more part
+adds_push : {A P : Type 0} (fault : Reason → A → Bool) (R : P → PartOf A → Type 0) (letter : ℕ) (s : Scope) (first number : ℕ) (all new start : List P) (done : List A) (b : A) (p : P) → new ≡ all ++ p ∷ [] → number ≡ length all - first → ((r : Reason) → fault r b ≡ false) → R p (record { scope = s; name = own_name letter number; part = b }) → Adds fault R letter s first all start done → Adds fault R letter s first new start (done ++ b ∷ [])
+adds_push fault R letter s first number all new start done b p h n sound one r =
+    let long : length all ≡ length start + length r.added = ap length r.parts ∙ length-append start r.added in
+    let at : number ≡ length r.added = omega (arith, n, long, r.begun) in
+    record {
+      begun = r.begun;
+      sound = λ q. any_push (fault q) done b (r.sound q) (sound q);
+      added = r.added ++ p ∷ [];
+      parts = h ∙ ap (λ z. z ++ p ∷ []) r.parts ∙ append_assoc start r.added (p ∷ []);
+      means = parts_push R letter s done b r.added p number at one r.means;
+    }
+
 pub runs_push : (s : Scope) (names : Bindings) (first number : ℕ) (plan new start : Plan) (done : List Behavior) (b : Behavior) (p : Process) → new.processes.items ≡ plan.processes.items ++ p ∷ [] → new.assigns.items ≡ plan.assigns.items → SameSignals plan new → number ≡ length plan.processes.items - first → p.name.items ≡ part_name s.path (own_name 112 number) → p.kind ≡ kind_of b → ((r : Reason) → behavior_fault r (meanings names) b ≡ false) × MeansBody names b p.body → Runs s names first plan start done → Runs s names first new start (done ++ b ∷ [])
 runs_push s names first number plan new start done b p h a same n text kind body r =
     let R : Process → PartOf Behavior → Type 0 = IsProcess (IsNumber names) (meanings names) in
-    let long : length plan.processes.items ≡ length start.processes.items + length r.added = ap length r.processes ∙ length-append start.processes.items r.added in
-    let at : number ≡ length r.added = omega (arith, n, long, r.begun) in
     let one : R p (record { scope = s; name = own_name 112 number; part = b }) = record { name = text; kind = kind; body = body.1.means; numbered = ap (counts_from 0) body.1.numbered ∙ counts_counting 0 (statements_of b) } in
     record {
-      begun = r.begun;
-      sound = λ q. any_push (behavior_fault q (meanings names)) done b (r.sound q) (body.0 q);
-      added = r.added ++ p ∷ [];
-      processes = h ∙ ap (λ z. z ++ p ∷ []) r.processes ∙ append_assoc start.processes.items r.added (p ∷ []);
-      means = parts_push R 112 s done b r.added p number at one r.means;
+      adds = adds_push (λ r. behavior_fault r (meanings names)) R 112 s first number plan.processes.items new.processes.items start.processes.items done b p h n body.0 one r.adds;
       assigns = a ∙ r.assigns;
-      same = record { signals = same.signals ∙ r.same.signals; outline = same.outline ∙ r.same.outline };
+      same = same_signals_over start plan new r.same same;
     }
 
 pub drives_push : (s : Scope) (names : Bindings) (first number : ℕ) (plan new start : Plan) (done : List Assignment) (b : Assignment) (p : Assign) → new.assigns.items ≡ plan.assigns.items ++ p ∷ [] → new.processes.items ≡ plan.processes.items → SameSignals plan new → number ≡ length plan.assigns.items - first → p.name.items ≡ part_name s.path (own_name 97 number) → ((r : Reason) → driver_fault r (meanings names) b ≡ false) × IsAssignment (IsNumber names) (meanings names) b.target b.value p.target p.source → Drives s names first plan start done → Drives s names first new start (done ++ b ∷ [])
 drives_push s names first number plan new start done b p h a same n text body r =
     let R : Assign → PartOf Assignment → Type 0 = IsAssign (IsNumber names) (meanings names) in
-    let long : length plan.assigns.items ≡ length start.assigns.items + length r.added = ap length r.assigns ∙ length-append start.assigns.items r.added in
-    let at : number ≡ length r.added = omega (arith, n, long, r.begun) in
-    let one : R p (record { scope = s; name = own_name 97 number; part = b }) = record { name = text; sides = body.1 } in
     record {
-      begun = r.begun;
-      sound = λ q. any_push (driver_fault q (meanings names)) done b (r.sound q) (body.0 q);
-      added = r.added ++ p ∷ [];
-      assigns = h ∙ ap (λ z. z ++ p ∷ []) r.assigns ∙ append_assoc start.assigns.items r.added (p ∷ []);
-      means = parts_push R 97 s done b r.added p number at one r.means;
+      adds = adds_push (λ r. driver_fault r (meanings names)) R 97 s first number plan.assigns.items new.assigns.items start.assigns.items done b p h n body.0 (record { name = text; sides = body.1 }) r.adds;
       processes = a ∙ r.processes;
-      same = record { signals = same.signals ∙ r.same.signals; outline = same.outline ∙ r.same.outline };
+      same = same_signals_over start plan new r.same same;
     }
 
 any_front : {A : Type 0} (p : A → Bool) (xs ys : List A) → list_any p xs ≡ true → list_any p (xs ++ ys) ≡ true
@@ -106,11 +105,14 @@ any_front p xs ys h = list_any-append p xs ys ∙ left_true (list_any p xs) (lis
 pub any_last : {A : Type 0} (p : A → Bool) (xs : List A) (x : A) → p x ≡ true → list_any p (xs ++ x ∷ []) ≡ true
 any_last p xs x h = list_any-append p xs (x ∷ []) ∙ right_true (list_any p xs) _ (left_true (p x) false h)
 
+adds_not_more : {A : Type 0} (fault : Reason → A → Bool) (s : Scope) (xs ys : List A) (r : Reason) (p : Path) → AddsNot fault s xs r p → AddsNot fault s (xs ++ ys) r p
+adds_not_more fault s xs ys r p h = (any_front (fault r) xs ys h.0, h.1)
+
 pub runs_not_more : (s : Scope) (names : Bindings) (start : Plan) (xs ys : List Behavior) (r : Reason) (p : Path) → RunsNot s names start xs r p → RunsNot s names start (xs ++ ys) r p
-runs_not_more s names start xs ys r p h = (any_front (behavior_fault r (meanings names)) xs ys h.0, h.1)
+runs_not_more s names start = adds_not_more (λ r. behavior_fault r (meanings names)) s
 
 pub drives_not_more : (s : Scope) (names : Bindings) (start : Plan) (xs ys : List Assignment) (r : Reason) (p : Path) → DrivesNot s names start xs r p → DrivesNot s names start (xs ++ ys) r p
-drives_not_more s names start xs ys r p h = (any_front (driver_fault r (meanings names)) xs ys h.0, h.1)
+drives_not_more s names start = adds_not_more (λ r. driver_fault r (meanings names)) s
 
 -- a declaration assignment, where there is one
 pub setting_some : (n m : List ℕ) (o : Option Expr) (e : Expr) → m ≡ n → o ≡ Some e → sets (record { target = m; value = e }) ∷ [] ≡ setting n o

@@ -1,5 +1,5 @@
 -- What names mean in a scope, from what they are bound to.
-use Rattle.std.proofs.Common.{◌≡◌, ℕ, zero, suc, ◌+◌, ◌<◌, Bool, true, false, cond, List, [], ◌∷◌, ◌++◌, Option, Some, None, length, map, slice_get, option_map, refl, ap, sym, subst, ◌∙◌, arith}
+use Rattle.std.proofs.Common.{◌≡◌, ℕ, suc, ◌+◌, Bool, true, false, cond, List, [], ◌∷◌, Option, Some, None, map, slice_get, option_map, refl, ap, sym, subst, ◌∙◌, arith}
 use Rattle.std.proofs.Math.Path.{fun_ext}
 use Rattle.std.specs.Str.{bytes_eq}
 use Rattle.std.proofs.lemmas.List.{append-nil}
@@ -8,8 +8,7 @@ use Rattle.std.proofs.lemmas.Slice.Eq.{bytes_eq-Decides}
 use Rattle.vs_elaborate.specs.declared.bindings.Meaning.{Meaning}
 use Rattle.vs_elaborate.specs.declared.bindings.Binding.{Binding}
 use Rattle.vs_elaborate.specs.Names.{meaning_of}
-use Rattle.vs_elaborate.specs.Printed.{Path}
-use Rattle.vs_elaborate.specs.Scopes.{Scope, DeclaredName, Located, located, environment, kinds, path_of, declarations_of, names_of, names_in, meaning_as, named, signal_paths, IsNamed, IsNamedIn}
+use Rattle.vs_elaborate.specs.Scopes.{Scope, DeclaredName, Located, located, kinds, declarations_of, names_of, names_in, meaning_as, named, IsNamed, IsNamedIn}
 use Rattle.vs_elaborate.specs.passes.Bodies.{Bindings, meanings, IsNumber}
 use Rattle.vs_elaborate.specs.passes.Plans.{shown_binding, numbered_names, Binds}
 

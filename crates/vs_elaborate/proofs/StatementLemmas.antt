@@ -1,5 +1,5 @@
 -- Statements, by their form.
-use Rattle.std.proofs.Common.{◌≡◌, ℕ, zero, suc, ◌+◌, ◌<◌, ◌≤◌, ◌^◌, Bool, true, false, ◌||◌, List, [], ◌∷◌, ◌++◌, Option, Some, Result, Ok, Err, length, map, take, get_or, refl, ap, sym, subst, ◌∙◌, arith, append_assoc, nat_le}
+use Rattle.std.proofs.Common.{◌≡◌, ℕ, zero, suc, ◌+◌, ◌<◌, ◌≤◌, ◌^◌, Bool, true, false, ◌||◌, List, [], ◌∷◌, ◌++◌, Some, Result, length, map, take, get_or, refl, ap, sym, subst, ◌∙◌, arith, append_assoc, nat_le}
 use Rattle.std.specs.List.{list_any}
 use Rattle.std.specs.declared.vec.Vec.{Vec}
 use Rattle.std.specs.declared.boxed.Box.{Box}
@@ -85,22 +85,22 @@ counts_within (y ∷ ys) (suc i) x h k = omega (arith, counts_within ys i x (ome
 
 -- ---- numbers, by form
 
-numbers_Null : (k : ℕ) → numbers (d.Null k) ≡ k ∷ []
+pub numbers_Null : (k : ℕ) → numbers (d.Null k) ≡ k ∷ []
 numbers_Null k = ap numbers (sym (drolls-Null k)) ∙ fold-roll-Statement (List ℕ) numbers_step (g.Null k)
 
 pub numbers_Assign : (k : ℕ) (t : Target) (x : Typed) → numbers (d.Assign k t x) ≡ k ∷ []
 numbers_Assign k t x = ap numbers (sym (drolls-Assign k t x)) ∙ fold-roll-Statement (List ℕ) numbers_step (g.Assign k t x)
 
-numbers_Later : (k : ℕ) (t : Target) (x : Typed) → numbers (d.Later k t x) ≡ k ∷ []
+pub numbers_Later : (k : ℕ) (t : Target) (x : Typed) → numbers (d.Later k t x) ≡ k ∷ []
 numbers_Later k t x = ap numbers (sym (drolls-Later k t x)) ∙ fold-roll-Statement (List ℕ) numbers_step (g.Later k t x)
 
-numbers_Block : (xs : Vec Statement Global) → numbers (d.Block xs) ≡ joined (map numbers xs.items)
+pub numbers_Block : (xs : Vec Statement Global) → numbers (d.Block xs) ≡ joined (map numbers xs.items)
 numbers_Block xs = ap numbers (sym (drolls-Block xs)) ∙ fold-roll-Statement (List ℕ) numbers_step (g.Block xs)
 
-numbers_Delay : (k : ℕ) (n : Ticks) (x : Box Statement Global) → numbers (d.Delay k n x) ≡ k ∷ numbers x.value
+pub numbers_Delay : (k : ℕ) (n : Ticks) (x : Box Statement Global) → numbers (d.Delay k n x) ≡ k ∷ numbers x.value
 numbers_Delay k n x = ap numbers (sym (drolls-Delay k n x)) ∙ fold-roll-Statement (List ℕ) numbers_step (g.Delay k n x)
 
-numbers_Forever : (k : ℕ) (x : Box Statement Global) → numbers (d.Forever k x) ≡ k ∷ numbers x.value
+pub numbers_Forever : (k : ℕ) (x : Box Statement Global) → numbers (d.Forever k x) ≡ k ∷ numbers x.value
 numbers_Forever k x = ap numbers (sym (drolls-Forever k x)) ∙ fold-roll-Statement (List ℕ) numbers_step (g.Forever k x)
 
 joined_push : (xs : List (List ℕ)) (x : List ℕ) → joined (xs ++ x ∷ []) ≡ joined xs ++ x

@@ -1,6 +1,6 @@
 -- A design of one scope is well formed.
-use Rattle.std.proofs.Common.{◌≡◌, ℕ, zero, suc, ◌+◌, ◌^◌, ◌<◌, ◌≤◌, Bool, true, false, ◌||◌, ◌&&◌, ◌==◌, not, nat_eq, nat_le, nat_lt, cond, max, List, [], ◌∷◌, ◌++◌, Option, Some, None, length, map, drop, get_or, slice_get, All, refl, ap, sym, subst, ◌∙◌, add-zero, zero-add, arith, true≢false, option_map, eq-eqb}
-use Rattle.std.specs.List.{list_any, list_all, flat_map, AllZip, IsDistinct, Contains}
+use Rattle.std.proofs.Common.{◌≡◌, ℕ, zero, suc, ◌+◌, ◌^◌, ◌<◌, ◌≤◌, Bool, true, false, ◌&&◌, ◌==◌, not, nat_eq, nat_lt, cond, List, [], ◌∷◌, ◌++◌, Option, Some, None, length, map, drop, get_or, slice_get, All, refl, ap, sym, subst, ◌∙◌, add-zero, zero-add, arith, true≢false, option_map, eq-eqb}
+use Rattle.std.specs.List.{list_any, list_all, AllZip, IsDistinct, Contains}
 use Rattle.std.specs.Str.{bytes_eq}
 use Rattle.std.specs.Fmt.{decimal}
 use Rattle.std.specs.declared.vec.Vec.{Vec}
@@ -12,9 +12,8 @@ use Rattle.vs_logic4.specs.declared.operators.Binary.{Binary}
 use Rattle.vs_logic4.specs.Extensions.{length-resized}
 use Rattle.vs_syntax.specs.declared.tree.Expr.{Expr}
 use Rattle.vs_syntax.specs.declared.tree.Stmt.{Stmt}
-use Rattle.vs_design.specs.Kinds.{is_variable}
 use Rattle.vs_design.specs.Parts.{Parts}
-use Rattle.vs_design.specs.WellFormed.{WellFormed, width_step, width_of as typed_width, sized_step, is_sized, within_step, is_within, writes_variable, drives_net, is_source, is_sound_assignment, is_sound_assign, sound_step, is_sound_statement, numbers, counts_from, is_forever, is_body_of, is_sound_process, declared_by, declared_in}
+use Rattle.vs_design.specs.WellFormed.{WellFormed, width_step, width_of as typed_width, sized_step, is_sized, within_step, is_within, writes_variable, drives_net, is_source, is_sound_assignment, is_sound_assign, sound_step, is_sound_statement, is_forever, is_body_of, is_sound_process, declared_in}
 use Rattle.vs_design.specs.declared.timescale.TheConstants.{DEFAULT_TIMESCALE}
 use Rattle.vs_design.specs.declared.signal.Signal.{Signal}
 use Rattle.vs_design.specs.declared.expression.Operand.{Operand}
@@ -34,12 +33,10 @@ use Rattle.vs_design.specs.declared.statement.Statement.TheFolds.{fold-roll-Stat
 use Rattle.vs_design.specs.declared.statement.Statement.TheViews.{out-Statement}
 use Rattle.vs_design.specs.declared.design.Assign.{Assign}
 use Rattle.vs_design.specs.declared.design.Process.{Process}
-use Rattle.vs_design.specs.declared.design.ProcessKind.{ProcessKind}
-use Rattle.vs_design.specs.declared.design.Entry.{Entry}
 use Rattle.vs_design.specs.declared.design.Entry.TheVariants.{Enter, Declare, Leave}
 use Rattle.std.proofs.lemmas.Bool.{le-leb}
 use Rattle.std.proofs.lemmas.Option.{none-some, same_Some, slice_get-map, slice_get_within}
-use Rattle.std.proofs.lemmas.List.{length-map, length-append, get_or-map, append-nil}
+use Rattle.std.proofs.lemmas.List.{length-map, length-append, get_or-map}
 use Rattle.std.proofs.lemmas.List.Elements.{All-nil, All-cons, Contains-get_or}
 use Rattle.std.proofs.lemmas.Map.Keys.{apart_from_distinct, IsDistinct-from_apart}
 use Rattle.std.proofs.lemmas.Slice.Eq.{bytes_eq-Decides}
@@ -54,10 +51,10 @@ use Rattle.vs_elaborate.specs.declared.faults.Reason.TheVariants.{Width}
 use Rattle.vs_elaborate.specs.declared.faults.WidthReason.TheVariants.{WrongKind}
 use Rattle.vs_elaborate.specs.declared.plans.Plan.{Plan}
 use Rattle.vs_elaborate.specs.Printed.{Path, printed, printed_name, is_simple}
-use Rattle.vs_elaborate.specs.Environment.{Environment, signal_shape}
+use Rattle.vs_elaborate.specs.Environment.{Environment}
 use Rattle.vs_elaborate.specs.Expressions.{shape_of, width_of, sign_of, IsTyped, is_number, is_name, is_group, is_unary, is_chain, AreLinks, links_none, links_more, context}
 use Rattle.vs_elaborate.specs.Statements.{IsAssignment, IsStatement, is_null, is_assign, is_later, is_block, is_delay, AreStatements, are_none, are_more, takes, is_wrong_kind, assign_fault, delay_fault, has_fault}
-use Rattle.vs_elaborate.specs.Scopes.{Scope, DeclaredName, Assignment, Behavior, Located, declarations_of, drivers_of, behaviors_of, names_of, names_in, kinds, meaning_as, named}
+use Rattle.vs_elaborate.specs.Scopes.{Scope, DeclaredName, Assignment, Behavior, Located, declarations_of, drivers_of, behaviors_of, names_of, names_in, meaning_as, named}
 use Rattle.vs_elaborate.specs.Processes.{IsBody, is_set, is_run, is_repeat, kind_of, part_fault, behavior_fault, driver_fault}
 use Rattle.vs_elaborate.specs.DesignOf.{declared, signal_of, signals_of, PartOf, own_name, part_name, parts_from, IsProcess, IsAssign}
 use Rattle.vs_elaborate.specs.passes.Bodies.{Bindings, meanings, IsNumber, counting}
@@ -65,7 +62,7 @@ use Rattle.vs_elaborate.specs.passes.Plans.{Binds, Opens, driven_signals}
 use Rattle.vs_elaborate.proofs.Folds.{all_of_map, both_true}
 use Rattle.vs_elaborate.proofs.PrintedLemmas.{printed_push}
 use Rattle.vs_elaborate.proofs.StatementLemmas.{fault_Assign, fault_Later, fault_Block, fault_Delay, left_false, right_false}
-use Rattle.vs_elaborate.proofs.ScopeLemmas.{BoundAt, number_at, meanings_are}
+use Rattle.vs_elaborate.proofs.ScopeLemmas.{number_at, meanings_are}
 
 -- ---- expressions
 

@@ -39,7 +39,8 @@ fn target_of(
     how: AssignmentKind,
     target: &[u8],
 ) -> Result<Binding, BodyFault>
-    ensures { Elaborates (target_fault how (meanings names.now) target.now) (IsTarget names.now target.now) result }
+    ensures { Elaborates (target_fault how (meanings names.now) target.now)
+        (IsTarget names.now target.now) result }
 {
     let Some(binding) = names.find(target) else {
         return Err(UNKNOWN);
@@ -59,7 +60,8 @@ pub fn assignment(
     e: &Expr,
 ) -> Result<(Target, Typed), BodyFault>
     ensures { Elaborates (λ r. assign_fault r how (meanings names.now) target.now e.now)
-        (λ p. IsAssignment (IsNumber names.now) (meanings names.now) target.now e.now p.0 p.1) result }
+        (λ p. IsAssignment (IsNumber names.now) (meanings names.now)
+        target.now e.now p.0 p.1) result }
 {
     let left = target_of(names, how, target)?;
     let Some(right) = shape_of_expression(names, e) else {

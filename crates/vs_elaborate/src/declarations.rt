@@ -27,7 +27,8 @@ const SCALAR: Shape = Shape {
 /// The signal of a name without a range.
 fn signal(alloc: Global, frame: &Frame, kind: SignalKind, name: &[u8]) -> Result<Signal, AllocError>
     requires { 0 < length frame.now.path.items }
-    ensures { IfOk result (λ s. declared s ≡ signal_of (scope_of frame.now) (record { kind = kind; name = name.now })) }
+    ensures { IfOk result (λ s. declared s ≡
+        signal_of (scope_of frame.now) (record { kind = kind; name = name.now })) }
 {
     let printed = print_name(alloc, name)?;
     let path = print_member(alloc, &frame.path, name)?;
@@ -52,8 +53,10 @@ fn declare_name<'s>(
     plan: &mut Plan,
 ) -> Result<(), ElabFault>
     requires { 0 < length frame.now.path.items }
-    ensures { Grows (Declares (scope_of frame.now) names.old plan.old) (Declares (scope_of frame.now) names.new plan.new)
-        (DeclaresNot (scope_of frame.now)) (record { kind = kind; name = name.entry.now } ∷ []) result }
+    ensures { Grows (Declares (scope_of frame.now) names.old plan.old)
+        (Declares (scope_of frame.now) names.new plan.new)
+        (DeclaresNot (scope_of frame.now))
+        (record { kind = kind; name = name.entry.now } ∷ []) result }
 {
     let number = plan.signals.len();
     let binding = Binding {
@@ -85,7 +88,8 @@ fn declare_names<'s>(
     plan: &mut Plan,
 ) -> Result<(), ElabFault>
     requires { 0 < length frame.now.path.items }
-    ensures { Grows (Declares (scope_of frame.now) names.old plan.old) (Declares (scope_of frame.now) names.new plan.new)
+    ensures { Grows (Declares (scope_of frame.now) names.old plan.old)
+        (Declares (scope_of frame.now) names.new plan.new)
         (DeclaresNot (scope_of frame.now)) (declared_as kind declarators.entry.now) result }
 {
     for declarator in declarators {
@@ -103,7 +107,8 @@ fn declare_item<'s>(
     plan: &mut Plan,
 ) -> Result<(), ElabFault>
     requires { 0 < length frame.now.path.items }
-    ensures { Grows (Declares (scope_of frame.now) names.old plan.old) (Declares (scope_of frame.now) names.new plan.new)
+    ensures { Grows (Declares (scope_of frame.now) names.old plan.old)
+        (Declares (scope_of frame.now) names.new plan.new)
         (DeclaresNot (scope_of frame.now)) (declared_in item.entry.now) result }
 {
     match item {
@@ -124,7 +129,8 @@ pub fn declare<'s>(
     plan: &mut Plan,
 ) -> Result<(), ElabFault>
     requires { 0 < length frame.now.path.items }
-    ensures { Grows (Declares (scope_of frame.now) names.old plan.old) (Declares (scope_of frame.now) names.new plan.new)
+    ensures { Grows (Declares (scope_of frame.now) names.old plan.old)
+        (Declares (scope_of frame.now) names.new plan.new)
         (DeclaresNot (scope_of frame.now)) (flat_map declared_in items.entry.now) result }
 {
     for item in items {

@@ -28,8 +28,10 @@ fn drive(
     value: &Expr,
     plan: &mut Plan,
 ) -> Result<(), ElabFault>
-    ensures { Grows (Drives (scope_of frame.now) names.now first plan.old) (Drives (scope_of frame.now) names.now first plan.new)
-        (DrivesNot (scope_of frame.now) names.now) (record { target = target.now; value = value.now } ∷ []) result }
+    ensures { Grows (Drives (scope_of frame.now) names.now first plan.old)
+        (Drives (scope_of frame.now) names.now first plan.new)
+        (DrivesNot (scope_of frame.now) names.now)
+        (record { target = target.now; value = value.now } ∷ []) result }
 {
     match assignment(alloc, names, CONTINUOUS, target, value) {
         Ok((target, source)) => {
@@ -55,7 +57,8 @@ fn drive_declared(
     declarators: &[Declarator],
     plan: &mut Plan,
 ) -> Result<(), ElabFault>
-    ensures { Grows (Drives (scope_of frame.now) names.now first plan.old) (Drives (scope_of frame.now) names.now first plan.new)
+    ensures { Grows (Drives (scope_of frame.now) names.now first plan.old)
+        (Drives (scope_of frame.now) names.now first plan.new)
         (DrivesNot (scope_of frame.now) names.now) (values_of declarators.now) result }
 {
     for declarator in declarators {
@@ -75,7 +78,8 @@ fn drive_assigned(
     list: &[NetAssignment],
     plan: &mut Plan,
 ) -> Result<(), ElabFault>
-    ensures { Grows (Drives (scope_of frame.now) names.now first plan.old) (Drives (scope_of frame.now) names.now first plan.new)
+    ensures { Grows (Drives (scope_of frame.now) names.now first plan.old)
+        (Drives (scope_of frame.now) names.now first plan.new)
         (DrivesNot (scope_of frame.now) names.now) (map net_assignment list.now) result }
 {
     for one in list {
@@ -93,7 +97,8 @@ fn drive_item(
     item: &Item,
     plan: &mut Plan,
 ) -> Result<(), ElabFault>
-    ensures { Grows (Drives (scope_of frame.now) names.now first plan.old) (Drives (scope_of frame.now) names.now first plan.new)
+    ensures { Grows (Drives (scope_of frame.now) names.now first plan.old)
+        (Drives (scope_of frame.now) names.now first plan.new)
         (DrivesNot (scope_of frame.now) names.now) (drivers_in item.now) result }
 {
     match item {
@@ -114,7 +119,8 @@ pub fn drive_items(
     items: &[Item],
     plan: &mut Plan,
 ) -> Result<(), ElabFault>
-    ensures { Grows (Drives (scope_of frame.now) names.now first plan.old) (Drives (scope_of frame.now) names.now first plan.new)
+    ensures { Grows (Drives (scope_of frame.now) names.now first plan.old)
+        (Drives (scope_of frame.now) names.now first plan.new)
         (DrivesNot (scope_of frame.now) names.now) (flat_map drivers_in items.now) result }
 {
     for item in items {

@@ -47,7 +47,8 @@ pub fn shape_of_expression(names: &Names<Binding>, e: &Expr) -> Option<Shape>
 fn shape_of_links(names: &Names<Binding>, first: Shape, links: &[(Binary, Expr)]) -> Option<Shape>
     requires some { 0 < first.width }
     requires most { first.width ≤ 64 }
-    ensures shape { result ≡ joined (Some first) (map (λ l. (l.0, shape_of (meanings names.now) l.1)) links.now) }
+    ensures shape { result ≡
+        joined (Some first) (map (λ l. (l.0, shape_of (meanings names.now) l.1)) links.now) }
     ensures size { HasSize result }
 {
     let mut all = first;
@@ -78,7 +79,8 @@ pub fn typed(
 ) -> Result<Typed, BodyFault>
     requires some { 0 < shape.width }
     requires most { shape.width ≤ 64 }
-    ensures { Elaborates (expression_fault (meanings names.now) e.now) (IsTyped (IsNumber names.now) shape.width shape.signed e.now) result }
+    ensures { Elaborates (expression_fault (meanings names.now) e.now)
+        (IsTyped (IsNumber names.now) shape.width shape.signed e.now) result }
 {
     match e {
         Expr::Number(literal) => {
@@ -118,7 +120,8 @@ fn typed_links(
 ) -> Result<Vec<(Link, Typed)>, BodyFault>
     requires some { 0 < shape.width }
     requires most { shape.width ≤ 64 }
-    ensures { Elaborates (links_fault (meanings names.now) links.now) (λ d. AreLinks (IsNumber names.now) shape.width shape.signed links.now d.items) result }
+    ensures { Elaborates (links_fault (meanings names.now) links.now)
+        (λ d. AreLinks (IsNumber names.now) shape.width shape.signed links.now d.items) result }
 {
     let mut done = Vec::new(alloc);
     for (operator, e) in links {

@@ -7,6 +7,7 @@ mod declarations;
 mod drivers;
 mod expressions;
 mod faults;
+mod laws;
 mod literals;
 mod names;
 mod plans;
@@ -17,5 +18,6 @@ mod statements;
 mod texts;
 
 pub use faults::{ElabFault, Reason, WidthReason};
+pub use laws::{names_of_one_line, one_design};
 pub use source::elaborate;
 pub use texts::fault_text;

@@ -96,7 +96,8 @@ pub fn print_part(
     letter: u8,
     number: usize,
 ) -> Result<Vec<u8>, AllocError>
-    ensures { IfOk result (λ v. v.items ≡ part_name (borrowed path.now) (own_name letter number)) }
+    ensures { IfOk result (λ v. v.items ≡
+        part_name (borrowed path.now) (own_name letter number)) }
 {
     let mut text = print_path(alloc, path)?;
     text.push(b'#')?;

@@ -34,7 +34,8 @@ fn set_body(
 
 /// The body of a process that runs a statement once.
 fn run_body(alloc: Global, names: &Names<Binding>, s: &Stmt) -> Result<Statement, BodyFault>
-    ensures { Elaborates (λ r. behavior_fault r (meanings names.now) (runs s.now)) (MeansBody names.now (runs s.now)) result }
+    ensures { Elaborates (λ r. behavior_fault r (meanings names.now) (runs s.now))
+        (MeansBody names.now (runs s.now)) result }
 {
     let mut next = 0;
     statement(alloc, names, &mut next, s)
@@ -42,7 +43,8 @@ fn run_body(alloc: Global, names: &Names<Binding>, s: &Stmt) -> Result<Statement
 
 /// The body of a process that runs a statement for ever.
 fn repeat_body(alloc: Global, names: &Names<Binding>, s: &Stmt) -> Result<Statement, BodyFault>
-    ensures { Elaborates (λ r. behavior_fault r (meanings names.now) (repeats s.now)) (MeansBody names.now (repeats s.now)) result }
+    ensures { Elaborates (λ r. behavior_fault r (meanings names.now) (repeats s.now))
+        (MeansBody names.now (repeats s.now)) result }
 {
     let mut next = 0;
     let number = take_number(&mut next)?;
@@ -61,7 +63,8 @@ fn run(
 ) -> Result<(), ElabFault>
     ensures { (names : Bindings) (b : Behavior) → kind ≡ kind_of b →
         Elaborates (λ r. behavior_fault r (meanings names) b) (MeansBody names b) body →
-        Grows (Runs (scope_of frame.now) names first plan.old) (Runs (scope_of frame.now) names first plan.new)
+        Grows (Runs (scope_of frame.now) names first plan.old)
+        (Runs (scope_of frame.now) names first plan.new)
         (RunsNot (scope_of frame.now) names) (b ∷ []) result }
 {
     match body {
@@ -84,8 +87,10 @@ fn run_setting(
     declarator: &Declarator,
     plan: &mut Plan,
 ) -> Result<(), ElabFault>
-    ensures { Grows (Runs (scope_of frame.now) names.now first plan.old) (Runs (scope_of frame.now) names.now first plan.new)
-        (RunsNot (scope_of frame.now) names.now) (setting declarator.now.name.items declarator.now.value) result }
+    ensures { Grows (Runs (scope_of frame.now) names.now first plan.old)
+        (Runs (scope_of frame.now) names.now first plan.new)
+        (RunsNot (scope_of frame.now) names.now)
+        (setting declarator.now.name.items declarator.now.value) result }
 {
     match &declarator.value {
         Some(value) => {
@@ -105,8 +110,10 @@ fn run_declared(
     declarators: &[Declarator],
     plan: &mut Plan,
 ) -> Result<(), ElabFault>
-    ensures { Grows (Runs (scope_of frame.now) names.now first plan.old) (Runs (scope_of frame.now) names.now first plan.new)
-        (RunsNot (scope_of frame.now) names.now) (flat_map (λ d. setting d.name.items d.value) declarators.now) result }
+    ensures { Grows (Runs (scope_of frame.now) names.now first plan.old)
+        (Runs (scope_of frame.now) names.now first plan.new)
+        (RunsNot (scope_of frame.now) names.now)
+        (flat_map (λ d. setting d.name.items d.value) declarators.now) result }
 {
     for declarator in declarators {
         run_setting(alloc, frame, names, first, declarator, plan)?;
@@ -123,7 +130,8 @@ fn run_item(
     item: &Item,
     plan: &mut Plan,
 ) -> Result<(), ElabFault>
-    ensures { Grows (Runs (scope_of frame.now) names.now first plan.old) (Runs (scope_of frame.now) names.now first plan.new)
+    ensures { Grows (Runs (scope_of frame.now) names.now first plan.old)
+        (Runs (scope_of frame.now) names.now first plan.new)
         (RunsNot (scope_of frame.now) names.now) (behaviors_in item.now) result }
 {
     match item {
@@ -150,7 +158,8 @@ pub fn run_items(
     items: &[Item],
     plan: &mut Plan,
 ) -> Result<(), ElabFault>
-    ensures { Grows (Runs (scope_of frame.now) names.now first plan.old) (Runs (scope_of frame.now) names.now first plan.new)
+    ensures { Grows (Runs (scope_of frame.now) names.now first plan.old)
+        (Runs (scope_of frame.now) names.now first plan.new)
         (RunsNot (scope_of frame.now) names.now) (flat_map behaviors_in items.now) result }
 {
     for item in items {

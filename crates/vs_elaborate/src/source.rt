@@ -50,7 +50,8 @@ fn find_module<'s>(
     modules: &'s [Module],
     top: &[u8],
 ) -> Result<&'s Module, ElabFault>
-    ensures { MatchResult result (λ m. Finds modules.entry.now top.now m.now) (Told (FindsNot modules.entry.now top.now)) }
+    ensures { MatchResult result (λ m. Finds modules.entry.now top.now m.now)
+        (Told (FindsNot modules.entry.now top.now)) }
 {
     let names = list_modules(alloc, modules)?;
     match names.find(top) {
@@ -63,7 +64,8 @@ fn find_module<'s>(
 fn open(alloc: Global, frame: &Frame, plan: &mut Plan) -> Result<(), ElabFault>
     requires rooted { 0 < length frame.now.path.items }
     requires room { length plan.old.signals.items ≤ 65536 }
-    ensures { MatchResult result (λ _. Opens (scope_of frame.now) plan.old plan.new) (Told (OpensNot (scope_of frame.now) plan.old)) }
+    ensures { MatchResult result (λ _. Opens (scope_of frame.now) plan.old plan.new)
+        (Told (OpensNot (scope_of frame.now) plan.old)) }
 {
     let title = print_name(alloc, frame.name)?;
     plan.outline.push(Entry::Enter(frame.kind, title))?;
@@ -79,7 +81,8 @@ fn open(alloc: Global, frame: &Frame, plan: &mut Plan) -> Result<(), ElabFault>
 
 /// Sees that no two continuous assignments drive one net.
 fn check_drivers(alloc: Global, plan: &Plan) -> Result<(), ElabFault>
-    requires { All (λ n. n < length plan.now.signals.items) (driven_signals plan.now.assigns.items) }
+    requires { All (λ n. n < length plan.now.signals.items)
+        (driven_signals plan.now.assigns.items) }
     ensures none { OnOk result (IsDistinct nat_eq (driven_signals plan.now.assigns.items)) }
     ensures one { IfErr result (DrivenTwiceOnly plan.now) }
 {
@@ -99,7 +102,8 @@ fn check_drivers(alloc: Global, plan: &Plan) -> Result<(), ElabFault>
 /// the backslash of an escaped one. A refusal has the printed path where its fault stands; where several stand, it names any
 /// one of them. `Memory` is answered only where a growth was refused.
 pub fn elaborate(alloc: Global, source: &Source, top: &[u8]) -> Result<Design, ElabFault>
-    ensures { MatchResult result (DesignOf source.now.modules.items top.now) (Faults source.now.modules.items top.now) }
+    ensures { MatchResult result (DesignOf source.now.modules.items top.now)
+        (Faults source.now.modules.items top.now) }
 {
     let module = find_module(alloc, &source.modules, top)?;
     let mut path = Vec::new(alloc);

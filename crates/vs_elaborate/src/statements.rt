@@ -23,7 +23,8 @@ pub const PROCEDURAL: AssignmentKind = AssignmentKind::Procedural;
 
 /// The ticks of a delay.
 fn delay(literal: Literal) -> Result<Ticks, BodyFault>
-    ensures { Elaborates (λ r. delay_fault r literal) (λ n. delay_of literal ≡ Some n.count) result }
+    ensures { Elaborates (λ r. delay_fault r literal)
+        (λ n. delay_of literal ≡ Some n.count) result }
 {
     let Some(ticks) = delay_ticks(literal) else {
         return Err(BodyFault::Refused(Reason::Width(WidthReason::NotConstant)));
@@ -36,7 +37,8 @@ fn delay(literal: Literal) -> Result<Ticks, BodyFault>
 
 /// The number of a statement, which is the next one.
 pub fn take_number(next: &mut u32) -> Result<u32, BodyFault>
-    ensures { Elaborates (overfull_fault next.old) (λ number. (number ≡ next.old) × (next.new ≡ next.old + 1)) result }
+    ensures { Elaborates (overfull_fault next.old)
+        (λ number. (number ≡ next.old) × (next.new ≡ next.old + 1)) result }
 {
     let number = *next;
     match number.checked_add(1) {
@@ -56,7 +58,8 @@ pub fn statement(
     next: &mut u32,
     s: &Stmt,
 ) -> Result<Statement, BodyFault>
-    ensures { Elaborates (statement_fault (meanings names.now) next.old s.now) (λ d. MeansStatement names.now next.old s.now d next.new) result }
+    ensures { Elaborates (statement_fault (meanings names.now) next.old s.now)
+        (λ d. MeansStatement names.now next.old s.now d next.new) result }
 {
     match s {
         Stmt::Null => {
@@ -94,7 +97,8 @@ fn statements(
     next: &mut u32,
     all: &[Stmt],
 ) -> Result<Vec<Statement>, BodyFault>
-    ensures { Elaborates (statements_fault (meanings names.now) next.old all.now) (λ d. MeansStatements names.now next.old all.now d.items next.new) result }
+    ensures { Elaborates (statements_fault (meanings names.now) next.old all.now)
+        (λ d. MeansStatements names.now next.old all.now d.items next.new) result }
 {
     let mut done = Vec::new(alloc);
     for s in all {

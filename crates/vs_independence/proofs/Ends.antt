@@ -3,6 +3,7 @@ use Rattle.std.proofs.Common.{◌≡◌, ℕ, zero, suc, ◌==◌, ◌<◌, ◌�
 use Rattle.std.specs.List.{list_any, list_all}
 use Rattle.std.proofs.lemmas.Bool.{and_parts, and_from, or_parts, or_cases, not-true, not_from_true, not_from_false, true≢false, false≢true}
 use Rattle.std.proofs.lemmas.List.{ext_get_or}
+use Rattle.std.specs.Prelude.{is_none}
 use Rattle.vs_logic4.specs.declared.digit.Digit.{Digit}
 use Rattle.vs_design.specs.Parts.{Parts}
 use Rattle.vs_design.specs.Stores.{Store, put, is_driven}
@@ -11,9 +12,9 @@ use Rattle.vs_process.specs.declared.moves.Move.TheVariants.{Step, Evaluate, Pro
 use Rattle.vs_process.specs.Places.{Place, going, sleeping, inactive, ended, is_going, is_inactive}
 use Rattle.vs_process.specs.States.{State, AssignState, Update, is_due, activated, stepped, evaluate, propagate, propagate_value, make}
 use Rattle.vs_process.specs.Executions.{is_first, if_some, is_busy, has_inactive, has_due, is_enabled, apply, ends, next_time, slot_behind, places_at, time_at}
+use Rattle.vs_process.proofs.Lists.{any_at, none_at}
 use Rattle.vs_independence.specs.Threads.{Thread, IsThread, iterate, turn, opening, writes, any_names}
 use Rattle.vs_independence.proofs.Assigns.{DrivesWell}
-use Rattle.vs_independence.proofs.Lists.{any_at, none_at}
 use Rattle.vs_independence.proofs.Stores.{names_some, by, left, put_active, put_active_local, put_active_by, by-left, by-activated, filter_hit}
 use Rattle.vs_independence.proofs.Threads.{is_stopped, stopped_unique}
 use Rattle.vs_independence.proofs.Settle.{AllIdle, settled_unique, idle_unique}
@@ -21,7 +22,6 @@ use Rattle.vs_independence.proofs.Moves.{Runs, step_runs, evaluate_runs, propaga
 use Rattle.vs_independence.proofs.Making.{Making, is_settled, activate_makes, none_makes, make_makes, evaluate_makes, propagate_makes, stopped_at}
 use Rattle.vs_independence.proofs.Times.{is_future, same_next}
 use Rattle.vs_independence.proofs.Running.{Apart, is_waiting}
-use Rattle.std.specs.Prelude.{is_none}
 
 -- a state of the slot that begins with `b`
 abbrev pub InSlot : Parts → State → State → Type 0

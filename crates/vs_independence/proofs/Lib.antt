@@ -1,6 +1,6 @@
 pub mod Lists
 pub mod Stores
-pub mod Values
+pub mod StepReads
 pub mod Threads
 pub mod Assigns
 pub mod Settle

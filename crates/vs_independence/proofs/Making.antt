@@ -13,11 +13,13 @@ use Rattle.vs_eval.specs.Targets.{assigned}
 use Rattle.vs_process.specs.Places.{Place, ended, is_going, is_inactive}
 use Rattle.vs_process.specs.States.{State, AssignState, Update, without, make, evaluate, propagate_value, is_due, activated}
 use Rattle.vs_process.specs.Executions.{is_first}
+use Rattle.vs_process.proofs.Lists.{any_without, at_any, any_at, none_at, list_all_like}
+use Rattle.vs_process.proofs.Assigns.{AssignsSound, sound_written, sound_evaluated, sound_propagated}
+use Rattle.vs_process.proofs.WellFormed.{any_activated}
 use Rattle.vs_independence.specs.Threads.{Thread, any_names}
-use Rattle.vs_independence.proofs.Lists.{at_any, any_at, none_at, list_all_like}
 use Rattle.vs_independence.proofs.Stores.{put_swap, names_some, put_active, put_active_local, by, left, filter_miss}
 use Rattle.vs_independence.proofs.Threads.{is_stopped, stopped_from}
-use Rattle.vs_independence.proofs.Assigns.{DrivesWell, AssignsSound, sound_written, sound_evaluated, sound_propagated}
+use Rattle.vs_independence.proofs.Assigns.{DrivesWell}
 use Rattle.vs_independence.proofs.Running.{WithinSlot, is_waiting, Running}
 use Rattle.vs_independence.proofs.Moves.{Runs, propagated_undriven}
 
@@ -49,10 +51,6 @@ none_get p (y ∷ xs) (suc i) x h g = none_get p xs i x h (or_parts (p y) (list_
 pub all_still : (d : Parts) (b s : State) (th : ℕ → Thread) → Running d b s th → list_any is_going s.places ≡ false → list_any is_inactive s.places ≡ false → (i : ℕ) → is_stopped (th i).place ≡ true
 all_still d b s th r going inactive i =
     ap is_stopped (sym (r.places i)) ∙ stopped_from (get_or s.places i ended) (none_get is_going s.places i ended refl going) (none_get is_inactive s.places i ended refl inactive)
-
-any_activated : (time : ℕ) (us : List Update) (v : ℕ) → any_names (map (activated time) us) v ≡ any_names us v
-any_activated time [] v = refl
-any_activated time (u ∷ us) v = ap (λ b. names u.what v || b) (any_activated time us v)
 
 settled_activated : (time : ℕ) (u : Update) → is_waiting time u ≡ true → is_settled time (activated time u) ≡ true
 settled_activated time u h =
@@ -159,15 +157,6 @@ all_without p i [] h = refl
 all_without p zero (x ∷ xs) h = (and_parts (p x) (list_all p xs) h).1
 all_without p (suc i) (x ∷ xs) h = let parts = and_parts (p x) (list_all p xs) h in and_from (p x) (list_all p (without i xs)) parts.0 (all_without p i xs parts.1)
 
-any_without : {A : Type 0} (p : A → Bool) (i : ℕ) (xs : List A) → list_any p (without i xs) ≡ true → list_any p xs ≡ true
-any_without p i [] h = h
-any_without p zero (x ∷ xs) h = or_right (p x) (list_any p xs) h
-any_without p (suc i) (x ∷ xs) h =
-    elim (cases_Bool (p x)) [
-      | inl hit ↦ or_left (p x) (list_any p xs) hit
-      | inr miss ↦ or_right (p x) (list_any p xs) (any_without p i xs (sym (ap (λ b. b || list_any p (without i xs)) miss) ∙ h))
-    ]
-
 -- an activated update is made
 pub make_makes : (d : Parts) (b s : State) → Making d b s → (i : ℕ) (u : Update) → slice_get s.updates i ≡ Some u → is_first s.updates i u ≡ true → Making d b (make s i (Some u))
 make_makes d b s m i u is first = record {
@@ -215,7 +204,7 @@ propagate_makes d well b s m j x digits is waits = record {
   runs = m.runs;
   still = m.still;
   slot = record { time = m.slot.time; over = m.slot.over; calls = m.slot.calls; count = m.slot.count };
-  sound = sound_propagated d well s.store s.assigns j x digits is waits m.sound;
+  sound = sound_propagated d well.one s.store s.assigns j x digits is waits m.sound;
   places = m.places;
   finishing = m.finishing;
   store = λ v undriven. put_active_local (put s.store (assigned x.target digits s.store)) s.store s.updates v (propagated_undriven d s.store s.assigns m.sound j x digits is v undriven) ∙ m.store v undriven;

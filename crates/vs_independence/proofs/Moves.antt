@@ -14,11 +14,13 @@ use Rattle.vs_process.specs.Places.{Todo, Place, going, sleeping, inactive, ende
 use Rattle.vs_process.specs.declared.moves.Gait.{Gait}
 use Rattle.vs_process.specs.Steps.{Out, step}
 use Rattle.vs_process.specs.States.{State, AssignState, place_behind, todo_of, performed, written_behind, calls_behind, updates_behind, evaluate, propagate_value, roused}
+use Rattle.vs_process.proofs.Values.{Agree}
+use Rattle.vs_process.proofs.Assigns.{AssignsSound, IsUndriven, assign_driven, assigned_other, sound_behind, sound_evaluated, sound_propagated}
 use Rattle.vs_independence.specs.Threads.{store_behind, Thread, IsThread, log_behind, moved, turn_at, writes, place_reads, todo_reads}
 use Rattle.vs_independence.proofs.Lists.{at, at_each}
-use Rattle.vs_independence.proofs.Values.{Agree, step_reads, IsPlain, step_plain}
+use Rattle.vs_independence.proofs.StepReads.{step_reads, IsPlain, step_plain}
 use Rattle.vs_independence.proofs.Threads.{thread_turns, rouse_thread, thread_rouses}
-use Rattle.vs_independence.proofs.Assigns.{DrivesWell, assigns_behind, AssignsSound, IsUndriven, assign_driven, assigned_other, sound_behind, sound_evaluated, sound_propagated}
+use Rattle.vs_independence.proofs.Assigns.{DrivesWell, assigns_behind}
 use Rattle.vs_independence.proofs.Running.{Apart, AllThreads, Sources, Mades, Running, reads_agree}
 use Rattle.vs_independence.proofs.Steps.{at_this, all_at, sources_step, mades_step, finishes_step}
 use Rattle.vs_independence.proofs.Nets.{stirred_more, nets_behind, nets_evaluated, nets_propagated}
@@ -68,7 +70,7 @@ stepped_runs d b s th apart r i gait todo out is plain turned = record {
     calls = ap (λ c. calls_behind i c s.calls) plain.call ∙ r.slot.calls;
     count = length-set s.places i (place_behind (going gait todo) s.time out.next) ∙ r.slot.count;
   };
-  sound = sound_behind d s.store s.assigns out.write undriven r.sound;
+  sound = subst (λ (t : State). AssignsSound d t.store t.assigns) (written_is s out.write) (sound_behind d s out.write undriven r.sound);
   threads = all_at b th i tn r.threads turned;
   places = at_each (λ k t. get_or (slice_set s.places i (place_behind (going gait todo) s.time out.next)) k ended ≡ t.place) th i tn
       (get_or-set_same s.places i (place_behind (going gait todo) s.time out.next) ended within ∙ ap (λ t. place_behind (going gait todo) t out.next) r.slot.time)
@@ -153,7 +155,7 @@ propagate_runs d well b s apart (th, r) j x digits is waits = (
   th,
   record {
     slot = record { time = r.slot.time; over = r.slot.over; calls = r.slot.calls; count = r.slot.count };
-    sound = sound_propagated d well s.store s.assigns j x digits is waits r.sound;
+    sound = sound_propagated d well.one s.store s.assigns j x digits is waits r.sound;
     threads = r.threads;
     places = r.places;
     sources = sources_other d b apart s.store (put s.store (assigned x.target digits s.store)) th r.threads (propagated_undriven d s.store s.assigns r.sound j x digits is) r.sources;

@@ -6,20 +6,19 @@ use Rattle.vs_logic4.specs.declared.digit.Digit.{Digit}
 use Rattle.vs_design.specs.declared.design.Assign.{Assign}
 use Rattle.vs_design.specs.declared.statement.Target.{Target}
 use Rattle.vs_design.specs.Parts.{Parts}
-use Rattle.vs_design.specs.Stores.{Store, put}
+use Rattle.vs_design.specs.Stores.{Store, put, is_changed}
 use Rattle.vs_design.specs.Writes.{Write, names}
 use Rattle.vs_design.specs.Uses.{reads, reads_signal}
 use Rattle.vs_eval.specs.Targets.{assigned}
-use Rattle.vs_design.specs.Stores.{is_changed}
 use Rattle.vs_process.specs.States.{State, AssignState, touched, evaluated, settled}
-use Rattle.vs_independence.specs.Threads.{store_behind}
-use Rattle.vs_independence.specs.Threads.{Thread, writes}
+use Rattle.vs_process.proofs.Lists.{map_cases, set_cases}
+use Rattle.vs_process.proofs.Stores.{put_other}
+use Rattle.vs_process.proofs.Values.{changed_read}
+use Rattle.vs_process.proofs.Assigns.{AssignsSound, link_of, assign_driven, IsUndriven, misses, assigned_other, apart_targets}
+use Rattle.vs_independence.specs.Threads.{store_behind, Thread, writes}
 use Rattle.vs_independence.specs.Discipline.{here, through}
-use Rattle.vs_independence.proofs.Lists.{map_cases, set_cases}
-use Rattle.vs_independence.proofs.Stores.{put_other}
-use Rattle.vs_independence.proofs.Values.{changed_read}
-use Rattle.vs_independence.proofs.Assigns.{DrivesWell, assigns_behind, AssignsSound, link_of, assign_driven, IsUndriven, misses, assigned_other, apart_targets}
-use Rattle.vs_independence.proofs.Running.{Stirred, by_write, by_start, IsCalm, Nets}
+use Rattle.vs_independence.proofs.Assigns.{DrivesWell, assigns_behind}
+use Rattle.vs_independence.proofs.Running.{Stirred, IsCalm, Nets, by_write, by_start}
 
 -- more that threads have written stirs more
 pub stirred_more : (d : Parts) (b : State) (th more : ℕ → Thread) → ((i u : ℕ) → writes (th i) u ≡ true → writes (more i) u ≡ true) → (s : ℕ) → Stirred d b th s → Stirred d b more s
@@ -116,7 +115,7 @@ nets_propagated d well b store assigns th sound j x digits is waits nets k y at_
     calm_or_stirred : (z : AssignState) → (k ≡ j → ⊥) → slice_get assigns k ≡ Some z → (IsCalm b store z ⊎ Stirred d b th z.target.signal) → IsCalm b new (touched store new z) ⊎ Stirred d b th z.target.signal
     calm_or_stirred z ne at_z (inr stirred) = inr stirred
     calm_or_stirred z ne at_z (inl calm) =
-        elim (calm_touched b store new z (assigned_other store x.target digits z.target.signal (λ e. ne (apart_targets d well assigns sound.linked j k x z is at_z e))) calm) [
+        elim (calm_touched b store new z (assigned_other store x.target digits z.target.signal (λ e. ne (apart_targets d well.one assigns sound.linked j k x z is at_z e))) calm) [
           | inl still ↦ inl still
           | inr read ↦ inr (read_written z at_z read)
         ]

@@ -9,14 +9,14 @@ use Rattle.vs_design.specs.Stores.{Store, is_driven}
 use Rattle.vs_design.specs.Uses.{writes_signal}
 use Rattle.vs_process.specs.Places.{Place, ended}
 use Rattle.vs_process.specs.States.{State, AssignState, Update}
+use Rattle.vs_process.proofs.Lists.{any_at}
+use Rattle.vs_process.proofs.Values.{Agree}
+use Rattle.vs_process.proofs.Assigns.{AssignsSound, target_is, assign_of}
 use Rattle.vs_independence.specs.Threads.{Thread, IsThread, writes, any_names, place_reads}
 use Rattle.vs_independence.specs.Discipline.{Reaches, here, KeepsApart}
-use Rattle.vs_independence.proofs.Lists.{any_at, filter_none}
+use Rattle.vs_independence.proofs.Lists.{filter_none}
 use Rattle.vs_independence.proofs.Stores.{by, names_some}
-use Rattle.vs_independence.proofs.Values.{Agree}
 use Rattle.vs_independence.proofs.Threads.{unwritten}
-use Rattle.vs_independence.proofs.Assigns.{AssignsSound, target_is}
-use Rattle.vs_independence.proofs.Settle.{assign_of}
 
 -- the processes of a slot keep apart, and write no driven signal
 pub record Apart (d : Parts) (b : State) : Type 0 where

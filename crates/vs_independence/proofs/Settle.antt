@@ -1,6 +1,6 @@
 -- Where every continuous assignment is idle, the undriven signals fix the store.
-use Rattle.std.proofs.Common.{◌≡◌, ℕ, zero, suc, ◌<◌, Bool, true, false, Option, Some, None, List, [], ◌∷◌, map, option_map, length, pos, slice_get, refl, sym, ◌∙◌, ap, ap₂, inl, inr, arith}
-use Rattle.std.proofs.lemmas.Bool.{cases_Bool, true≢false}
+use Rattle.std.proofs.Common.{◌≡◌, ℕ, zero, suc, ◌<◌, Bool, true, false, Option, Some, List, [], ◌∷◌, option_map, length, pos, slice_get, refl, sym, ◌∙◌, ap, ap₂, inl, inr, arith}
+use Rattle.std.proofs.lemmas.Bool.{cases_Bool}
 use Rattle.vs_logic4.specs.Extensions.{length-resized}
 use Rattle.vs_logic4.specs.declared.digit.Digit.{Digit}
 use Rattle.vs_design.specs.declared.design.Assign.{Assign}
@@ -10,32 +10,21 @@ use Rattle.vs_design.specs.Parts.{Parts}
 use Rattle.vs_design.specs.Stores.{Store, changed_at, overlaid, is_driven}
 use Rattle.vs_design.specs.Uses.{writes_signal}
 use Rattle.vs_eval.specs.Values.{value_of, target_value}
-use Rattle.vs_process.specs.States.{AssignState, start_assign}
-use Rattle.vs_independence.proofs.Lists.{map_cases, map_at, any_at, same_gets}
-use Rattle.vs_independence.proofs.Stores.{changed_same}
-use Rattle.vs_independence.proofs.Values.{target_value_reads}
-use Rattle.vs_independence.proofs.Assigns.{DrivesWell, link_at, links, wanted, HasValue, Consistent, AssignsSound, overlaid_whole, target_is, word_at}
+use Rattle.vs_process.specs.States.{AssignState}
+use Rattle.vs_process.specs.Idle.{IsIdle}
+use Rattle.vs_process.proofs.Lists.{any_at}
+use Rattle.vs_process.proofs.Stores.{changed_same}
+use Rattle.vs_process.proofs.Values.{target_value_reads}
+use Rattle.vs_process.proofs.Assigns.{link_at, links, wanted, LeavesTarget, AssignsSound, target_is, assign_of, idle_leaves}
+use Rattle.vs_independence.proofs.Lists.{same_gets}
+use Rattle.vs_independence.proofs.Assigns.{DrivesWell, overlaid_whole, word_at}
 
 -- no assignment has to be evaluated or waits to be written
 abbrev pub AllIdle : List AssignState → Type 0
-AllIdle xs = (j : ℕ) (x : AssignState) → slice_get xs j ≡ Some x → (x.needs ≡ false) × (x.pending ≡ None)
-
--- what an assignment of the design is in a state
-pub assign_of : (assigns : List Assign) (xs : List AssignState) (j : ℕ) (a : Assign) → links xs ≡ links (map start_assign assigns) → slice_get assigns j ≡ Some a →
-    (x : AssignState) × (slice_get xs j ≡ Some x) × (x.target ≡ a.target) × (x.source ≡ a.source)
-assign_of assigns xs j a same is =
-    let there : slice_get (links xs) j ≡ Some (a.target, a.source) =
-    ap (λ l. slice_get l j) same ∙ map_at (λ (x : AssignState). (x.target, x.source)) (map start_assign assigns) j (start_assign a) (map_at start_assign assigns j a is) in
-    let x = map_cases (λ (x : AssignState). (x.target, x.source)) xs j (a.target, a.source) there in
-    (x.0, x.1, ap (λ p. p.0) x.2, ap (λ p. p.1) x.2)
-
-idle_value : (store : Store) (x : AssignState) → (x.needs ≡ false) × (x.pending ≡ None) → Consistent store x → HasValue store x
-idle_value store x idle (inl needs) = absurd (true≢false (sym needs ∙ idle.0))
-idle_value store x idle (inr (inl fed)) = fed.1
-idle_value store x idle (inr (inr waits)) = let e : None ≡ Some (wanted store x) = sym idle.1 ∙ waits in cc
+AllIdle xs = (j : ℕ) (x : AssignState) → slice_get xs j ≡ Some x → IsIdle x
 
 -- a signal of one word, whose assignment has put its value, holds it
-held_word : (store : Store) (x : AssignState) (word : List Digit) → slice_get store x.target.signal ≡ Some (word ∷ []) → length word ≡ x.target.width → HasValue store x → word ≡ wanted store x
+held_word : (store : Store) (x : AssignState) (word : List Digit) → slice_get store x.target.signal ≡ Some (word ∷ []) → length word ≡ x.target.width → LeavesTarget store x → word ≡ wanted store x
 held_word store x word is long has =
     let f : List (List Digit) → List (List Digit) = changed_at (overlaid (pos 0) (wanted store x)) 0 in
     let whole : overlaid (pos 0) (wanted store x) word ≡ wanted store x = overlaid_whole (wanted store x) word (length-resized false x.target.width (value_of x.source store 0) ∙ sym long) in
@@ -49,7 +38,7 @@ pub driven_word : (d : Parts) → DrivesWell d → (store : Store) (assigns : Li
 driven_word d well store assigns sound idle j a is =
     let x = assign_of d.assigns assigns j a sound.linked is in
     let word = word_at d well store assigns sound j x.0 x.1 in
-    let value = held_word store x.0 word.0 word.1 word.2 (idle_value store x.0 (idle j x.0 x.1) (sound.consistent j x.0 x.1)) in
+    let value = held_word store x.0 word.0 word.1 word.2 (idle_leaves store x.0 (idle j x.0 x.1) (sound.consistent j x.0 x.1)) in
     ap (λ (t : Target). slice_get store t.signal) (sym x.2) ∙ word.1 ∙ ap (λ w. Some (w ∷ [])) (value ∙ ap₂ (λ t e. target_value t e store 0) x.2 x.3)
 
 -- two settled stores that agree on the undriven signals agree on all: by the order in which assignments read one another

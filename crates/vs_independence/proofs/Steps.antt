@@ -9,10 +9,10 @@ use Rattle.vs_design.specs.Stores.{Store, put}
 use Rattle.vs_design.specs.Writes.{Write, names}
 use Rattle.vs_process.specs.Places.{Place}
 use Rattle.vs_process.specs.States.{State, Update, updates_behind}
-use Rattle.vs_independence.specs.Threads.{store_behind}
-use Rattle.vs_independence.specs.Threads.{Thread, IsThread, log_behind, writes, any_names}
+use Rattle.vs_process.proofs.Stores.{put_other, put_local}
+use Rattle.vs_independence.specs.Threads.{store_behind, Thread, IsThread, log_behind, writes, any_names}
 use Rattle.vs_independence.proofs.Lists.{at, at_same, at_each, at_some}
-use Rattle.vs_independence.proofs.Stores.{names_some, by, put_other, put_local}
+use Rattle.vs_independence.proofs.Stores.{names_some, by}
 use Rattle.vs_independence.proofs.Running.{Apart, Finishes, is_waiting, AllThreads, Sources, Mades, agrees, same_made}
 
 -- what one of the functions has, where it is the changed one

@@ -1,44 +1,10 @@
--- Lemmas on stores: what a write leaves, and what the store behind it depends on.
-use Rattle.std.proofs.Common.{not, Bool, ◌≡◌, ℕ, zero, suc, ◌==◌, true, false, option_map, List, [], ◌∷◌, map, filter, cond, length, slice_get, refl, sym, ◌∙◌, ap, ap₂, subst, inl, inr, pos, negsuc, ◌+ℤ◌, neg_ℤ, ℤ}
-use Rattle.std.specs.Prelude.{slice_index_or}
-use Rattle.std.proofs.lemmas.Bool.{eqb-false, cases_eq, cases_Bool, or_parts}
-use Rattle.vs_logic4.specs.declared.digit.Digit.{Digit}
-use Rattle.vs_logic4.specs.Parts.{digit_at, replaced_from}
-use Rattle.vs_design.specs.declared.write.Part.{Part}
-use Rattle.vs_design.specs.Stores.{Store, changed_at, overlaid, put_part, put}
+-- Stores behind updates.
+use Rattle.std.proofs.Common.{not, Bool, ◌≡◌, ℕ, true, false, List, [], ◌∷◌, map, filter, cond, slice_get, refl, sym, ◌∙◌, ap, inl, inr}
+use Rattle.std.proofs.lemmas.Bool.{cases_Bool}
+use Rattle.vs_design.specs.Stores.{Store, put}
 use Rattle.vs_design.specs.Writes.{Write, names}
 use Rattle.vs_process.specs.States.{Update, activated}
-
-pub changed_other : {A : Type 0} (f : A → A) (i v : ℕ) (xs : List A) → (v ≡ i → ⊥) → slice_get (changed_at f i xs) v ≡ slice_get xs v
-changed_other f i v [] h = refl
-changed_other f zero zero (x ∷ xs) h = absurd (h refl)
-changed_other f zero (suc v) (x ∷ xs) h = refl
-changed_other f (suc i) zero (x ∷ xs) h = refl
-changed_other f (suc i) (suc v) (x ∷ xs) h = changed_other f i v xs (λ e. h (ap suc e))
-
-pub changed_same : {A : Type 0} (f : A → A) (i : ℕ) (xs : List A) → slice_get (changed_at f i xs) i ≡ option_map f (slice_get xs i)
-changed_same f i [] = refl
-changed_same f zero (x ∷ xs) = refl
-changed_same f (suc i) (x ∷ xs) = changed_same f i xs
-
-changed_local : {A : Type 0} (f : A → A) (i v : ℕ) (xs ys : List A) → slice_get xs v ≡ slice_get ys v → slice_get (changed_at f i xs) v ≡ slice_get (changed_at f i ys) v
-changed_local f i v xs ys h =
-    elim (cases_eq v i) [
-      | inl e ↦ subst (λ n. slice_get (changed_at f n xs) v ≡ slice_get (changed_at f n ys) v) e (changed_same f v xs ∙ ap (option_map f) h ∙ sym (changed_same f v ys))
-      | inr ne ↦ changed_other f i v xs ne ∙ h ∙ sym (changed_other f i v ys ne)
-    ]
-
--- a signal that a write doesn't name stays
-pub put_other : (store : Store) (w : Write) (v : ℕ) → names w v ≡ false → slice_get (put store w) v ≡ slice_get store v
-put_other store [] v h = refl
-put_other store (p ∷ ps) v h =
-    let parts = or_parts (p.signal == v) (names ps v) h in
-    put_other (put_part store p) ps v parts.1 ∙ changed_other (changed_at (overlaid p.low p.digits) p.word) p.signal v store (λ e. eqb-false p.signal v parts.0 (sym e))
-
--- a signal behind a write depends on the write and on that signal alone
-pub put_local : (a b : Store) (w : Write) (v : ℕ) → slice_get a v ≡ slice_get b v → slice_get (put a w) v ≡ slice_get (put b w) v
-put_local a b [] v h = h
-put_local a b (p ∷ ps) v h = put_local (put_part a p) (put_part b p) ps v (changed_local (changed_at (overlaid p.low p.digits) p.word) p.signal v a b h)
+use Rattle.vs_process.proofs.Stores.{put_other, put_local}
 
 -- two writes of which one names a signal at most leave it the same in either order
 pub put_swap : (store : Store) (w u : Write) (v : ℕ) → ((names w v ≡ true) → names u v ≡ false) → slice_get (put (put store w) u) v ≡ slice_get (put (put store u) w) v
@@ -120,51 +86,3 @@ by-activated time (u ∷ us) v =
       | inr miss ↦ ap (λ b. cond b (activated time u ∷ by v (map (activated time) us)) (by v (map (activated time) us))) miss ∙ by-activated time us v
           ∙ ap (λ b. map (activated time) (cond b (u ∷ by v us) (by v us))) (sym miss)
     ]
-
--- how many signals, words and digits a store has
-abbrev pub shape : Store → List (List ℕ)
-shape store = map (λ words. map length words) store
-
-map_changed : {A B : Type 0} (g : A → B) (f : A → A) → ((x : A) → g (f x) ≡ g x) → (i : ℕ) (xs : List A) → map g (changed_at f i xs) ≡ map g xs
-map_changed g f h i [] = refl
-map_changed g f h zero (x ∷ xs) = ap (λ y. y ∷ map g xs) (h x)
-map_changed g f h (suc i) (x ∷ xs) = ap (λ ys. g x ∷ ys) (map_changed g f h i xs)
-
-length-replaced_from : (place : ℤ) (part ds : List Digit) → length (replaced_from place part ds) ≡ length ds
-length-replaced_from place part [] = refl
-length-replaced_from place part (d ∷ ds) = ap suc (length-replaced_from (place +ℤ pos 1) part ds)
-
-pub length-overlaid : (low : ℤ) (digits word : List Digit) → length (overlaid low digits word) ≡ length word
-length-overlaid low digits word = length-replaced_from (neg_ℤ low) digits word
-
--- a write keeps the shape
-pub shape-put : (store : Store) (w : Write) → shape (put store w) ≡ shape store
-shape-put store [] = refl
-shape-put store (p ∷ ps) =
-    shape-put (put_part store p) ps
-    ∙ map_changed (λ words. map length words) (changed_at (overlaid p.low p.digits) p.word)
-    (λ words. map_changed length (overlaid p.low p.digits) (length-overlaid p.low p.digits) p.word words) p.signal store
-
-index_again : (ds : List Digit) (n : ℕ) (d : Digit) → slice_index_or ds n (slice_index_or ds n d) ≡ slice_index_or ds n d
-index_again [] n d = refl
-index_again (x ∷ ds) zero d = refl
-index_again (x ∷ ds) (suc n) d = index_again ds n d
-
-digit_again : (place : ℤ) (part : List Digit) (d : Digit) → digit_at place part (digit_at place part d) ≡ digit_at place part d
-digit_again (pos n) part d = index_again part n d
-digit_again (negsuc n) part d = refl
-
-replaced_again : (place : ℤ) (part ds : List Digit) → replaced_from place part (replaced_from place part ds) ≡ replaced_from place part ds
-replaced_again place part [] = refl
-replaced_again place part (d ∷ ds) = ap₂ (λ e es. e ∷ es) (digit_again place part d) (replaced_again (place +ℤ pos 1) part ds)
-
-changed_again : {A : Type 0} (f : A → A) → ((x : A) → f (f x) ≡ f x) → (i : ℕ) (xs : List A) → changed_at f i (changed_at f i xs) ≡ changed_at f i xs
-changed_again f h i [] = refl
-changed_again f h zero (x ∷ xs) = ap (λ y. y ∷ xs) (h x)
-changed_again f h (suc i) (x ∷ xs) = ap (λ ys. x ∷ ys) (changed_again f h i xs)
-
--- a part that is put twice
-pub put_part_again : (store : Store) (p : Part) → put_part (put_part store p) p ≡ put_part store p
-put_part_again store p =
-    changed_again (changed_at (overlaid p.low p.digits) p.word)
-    (λ words. changed_again (overlaid p.low p.digits) (λ word. replaced_again (neg_ℤ p.low) p.digits word) p.word words) p.signal store

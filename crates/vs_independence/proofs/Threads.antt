@@ -7,9 +7,8 @@ use Rattle.vs_design.specs.Writes.{Write, names}
 use Rattle.vs_process.specs.Places.{Place, going, sleeping, inactive, ended, is_going, is_inactive}
 use Rattle.vs_process.specs.Steps.{step}
 use Rattle.vs_process.specs.States.{State, roused}
-use Rattle.vs_independence.specs.Threads.{store_behind}
-use Rattle.vs_independence.specs.Threads.{Thread, log_behind, turn_at, turn, iterate, opening, IsThread, writes}
-use Rattle.vs_independence.proofs.Stores.{put_other}
+use Rattle.vs_process.proofs.Stores.{put_other}
+use Rattle.vs_independence.specs.Threads.{store_behind, Thread, log_behind, turn_at, turn, iterate, opening, IsThread, writes}
 
 abbrev pub is_stopped : Place → Bool
 is_stopped (going gait todo) = false

@@ -11,10 +11,10 @@ use Rattle.vs_process.specs.Places.{Todo, Place, going, sleeping, inactive, ende
 use Rattle.vs_process.specs.Steps.{Next, on, after, step}
 use Rattle.vs_process.specs.States.{State, Update, place_behind, paused, woken_at}
 use Rattle.vs_process.specs.Executions.{earlier, next_wake, next_update, next_time, ends, slot_behind, places_at, time_at}
+use Rattle.vs_process.proofs.Lists.{list_all_like}
 use Rattle.vs_independence.specs.Threads.{Thread, IsThread, turn_at, turn, iterate, opening}
 use Rattle.vs_independence.proofs.Stores.{names_some, by, filter_hit, filter_miss}
 use Rattle.vs_independence.proofs.Running.{is_waiting}
-use Rattle.vs_independence.proofs.Lists.{list_all_like}
 
 -- a delay ends later than this time
 abbrev pub is_later : ℕ → Place → Bool

@@ -1,70 +1,29 @@
--- What a well formed design says of its continuous assignments and of what its processes write.
-use Rattle.std.proofs.Common.{◌≡◌, ℕ, zero, suc, ◌+◌, ◌==◌, ◌&&◌, not, Bool, true, false, Option, Some, None, List, [], ◌∷◌, ◌++◌, map, length, slice_get, refl, sym, ◌∙◌, ap, subst, inl, inr, eq-eqb, eqb-true, rules, nat_eq}
-use Rattle.std.specs.Prelude.{Vec}
-use Rattle.std.specs.declared.alloc.Global.{Global}
-use Rattle.std.specs.List.{list_any, list_all, IsDistinct, AllByRecursion}
-use Rattle.std.proofs.lemmas.Bool.{and_parts, and_from, cases_Bool, cond_both, or_cases, true≢false, false≢true, not-true}
-use Rattle.std.proofs.lemmas.Map.Keys.{IsDistinct-head, IsDistinct-tail}
+-- What a well formed design says of its continuous assignments and of its threads.
+use Rattle.std.proofs.Common.{◌≡◌, ℕ, zero, suc, Bool, true, false, Option, Some, None, List, [], ◌∷◌, length, slice_get, refl, ◌∙◌, ap, subst, inl, inr}
+use Rattle.std.specs.List.{list_any, list_all}
+use Rattle.std.proofs.lemmas.Bool.{or_cases, false≢true}
 use Rattle.std.proofs.lemmas.List.{length-replicate}
-use Rattle.std.proofs.lemmas.List.Folds.{list_all-append, list_all-map, list_any-append}
-use mathlib.Core.Former.{Count}
 use Rattle.vs_logic4.specs.declared.digit.Digit.{Digit}
 use Rattle.vs_logic4.specs.declared.digit.Digit.TheVariants.{X, Z}
 use Rattle.vs_design.specs.declared.signal.Signal.{Signal}
 use Rattle.vs_design.specs.declared.signal.SignalKind.{SignalKind}
 use Rattle.vs_design.specs.declared.signal.SignalKind.TheVariants.{Wire, Reg, Integer}
 use Rattle.vs_design.specs.declared.design.Assign.{Assign}
-use Rattle.vs_design.specs.declared.design.Process.{Process}
-use Rattle.vs_design.specs.declared.expression.Typed.{Typed}
-use Rattle.vs_design.specs.declared.statement.Target.{Target}
-use Rattle.vs_design.specs.declared.statement.Statement.{Statement, Row_of-Statement, end_of-Statement, more_of-Statement, items-the_row-Statement}
-use Rattle.vs_design.specs.declared.statement.Statement.TheVariants.{Block, rolls-Block}
-use Rattle.vs_design.specs.declared.statement.Statement.TheViews.{the_lemmas, roll-Statement, out-Statement}
-use Rattle.vs_design.specs.declared.statement.Statement.TheOpen.{Statement-F}
-use Rattle.vs_design.specs.declared.statement.Statement.TheFolds.{fold-roll-Statement, fold_out-Statement, ind-Statement, map-Statement}
-use Rattle.vs_design.specs.Kinds.{is_variable}
 use Rattle.vs_design.specs.Parts.{Parts}
-use Rattle.vs_design.specs.Stores.{Store, is_driven, start_word, start_words}
-use Rattle.vs_design.specs.Uses.{writes_signal}
-use Rattle.vs_design.specs.WellFormed.{WellFormed, writes_variable, drives_net, is_source, is_sound_assignment, is_sound_assign, sound_step, is_sound_statement, is_sound_process, counts_from, numbers, is_body_of}
+use Rattle.vs_design.specs.Stores.{is_driven, start_word, start_words}
+use Rattle.vs_design.specs.WellFormed.{WellFormed}
 use Rattle.vs_design.specs.Writes.{Write, names}
-use Rattle.vs_process.specs.declared.moves.Gait.{Gait}
-use Rattle.vs_process.specs.declared.moves.Gait.TheVariants.{Fresh, Woken}
-use Rattle.vs_process.specs.Places.{Item, perform, turns, Todo, Place, going, sleeping, inactive, ended, active_at, stepped_gait, start_place, flat, flat_row}
-use Rattle.vs_process.specs.Stacks.{flat_all}
-use Rattle.vs_process.specs.Steps.{Next, on, after, Out, step, statement_step, assignment}
-use Rattle.vs_process.specs.States.{State, Update, todo_of, place_behind, paused, updates_behind, woken_at}
-use Rattle.vs_process.specs.Executions.{places_at}
+use Rattle.vs_process.specs.declared.moves.Gait.TheVariants.{Woken}
+use Rattle.vs_process.specs.Places.{Place, going, sleeping, inactive, ended}
+use Rattle.vs_process.specs.Steps.{step}
+use Rattle.vs_process.specs.States.{State}
+use Rattle.vs_process.proofs.WellFormed.{IsVariable, is_sound_place, net_of, one_driver, sound_active, sound_next, sound_made, sound_place_behind, step_names}
 use Rattle.vs_independence.specs.Threads.{Thread, IsThread, log_behind, turn_at, turn, iterate, opening, writes, any_names}
 use Rattle.vs_independence.specs.Discipline.{IsOrdered}
-use Rattle.vs_independence.proofs.Assigns.{DrivesWell, target_is}
-use Rattle.vs_independence.proofs.Lists.{any_at, all_slice, map_at, list_all_like}
+use Rattle.vs_independence.proofs.Assigns.{DrivesWell}
 use Rattle.vs_independence.proofs.Times.{get_from_all}
 
 -- ---- continuous assignments
-
-all_of : {A : Type 0} (P : A → Type 0) (xs : List A) (i : ℕ) (x : A) → slice_get xs i ≡ Some x → AllByRecursion P xs → P x
-all_of P [] i x is h = cc
-all_of P (y ∷ xs) zero x is h = let e : y ≡ x = cc in subst P e h.0
-all_of P (y ∷ xs) (suc i) x is h = all_of P xs i x is h.1
-
--- equal elements of a list whose elements differ stand at one place
-pub distinct_place : {K : Type 0} (eq : K → K → Bool) → ((x z : K) → x ≡ z → eq x z ≡ true) → (ks : List K) (j k : ℕ) (x z : K) → IsDistinct eq ks → slice_get ks j ≡ Some x → slice_get ks k ≡ Some z → x ≡ z → j ≡ k
-distinct_place eq same [] j k x z h at_j at_k e = cc
-distinct_place eq same (y ∷ ks) zero zero x z h at_j at_k e = refl
-distinct_place eq same (y ∷ ks) zero (suc k) x z h at_j at_k e =
-    let s : y ≡ z = cc in
-    absurd (true≢false (sym (same y z s) ∙ all_of (λ q. eq y q ≡ false) ks k z at_k (IsDistinct-head eq y ks h)))
-distinct_place eq same (y ∷ ks) (suc j) zero x z h at_j at_k e =
-    let s : y ≡ x = cc in
-    absurd (true≢false (sym (same y x s) ∙ all_of (λ q. eq y q ≡ false) ks j x at_j (IsDistinct-head eq y ks h)))
-distinct_place eq same (y ∷ ks) (suc j) (suc k) x z h at_j at_k e = ap suc (distinct_place eq same ks j k x z (IsDistinct-tail eq y ks h) at_j at_k e)
-
--- assignments that drive one signal are one
-pub one_driver : (d : Parts) → WellFormed d → (j k : ℕ) (a c : Assign) → slice_get d.assigns j ≡ Some a → slice_get d.assigns k ≡ Some c → a.target.signal ≡ c.target.signal → j ≡ k
-one_driver d formed j k a c at_j at_k same =
-    distinct_place nat_eq eq-eqb (map (λ (a : Assign). a.target.signal) d.assigns) j k a.target.signal c.target.signal formed.drivers
-    (map_at (λ (a : Assign). a.target.signal) d.assigns j a at_j) (map_at (λ (a : Assign). a.target.signal) d.assigns k c at_k) same
 
 length-start_word : (driven : Bool) (kind : SignalKind) (width : ℕ) → length (start_word driven kind width) ≡ width
 length-start_word driven Reg width = length-replicate width X
@@ -80,23 +39,6 @@ started assigns first (z ∷ ss) zero s is =
     (start_word (is_driven assigns first) z.kind z.width, refl, length-start_word (is_driven assigns first) z.kind z.width ∙ ap (λ (x : Signal). x.width) e)
 started assigns first (z ∷ ss) (suc v) s is = started assigns (suc first) ss v s is
 
-driven_net : (o : Option Signal) (width : ℕ) → drives_net o width ≡ true → (s : Signal) × (o ≡ Some s) × (is_variable s.kind ≡ false) × (s.width ≡ width)
-driven_net None width h = absurd (false≢true h)
-driven_net (Some s) width h =
-    let parts = and_parts (not (is_variable s.kind)) (s.width == width) h in
-    (s, refl, not-true (is_variable s.kind) parts.0, eqb-true s.width width parts.1)
-
-written_variable : (o : Option Signal) (width : ℕ) → writes_variable o width ≡ true → (s : Signal) × (o ≡ Some s) × (is_variable s.kind ≡ true)
-written_variable None width h = absurd (false≢true h)
-written_variable (Some s) width h = (s, refl, (and_parts (is_variable s.kind) (s.width == width) h).0)
-
--- what a continuous assignment drives
-net_of : (d : Parts) → WellFormed d → (j : ℕ) (a : Assign) → slice_get d.assigns j ≡ Some a →
-    (s : Signal) × (slice_get d.signals a.target.signal ≡ Some s) × (is_variable s.kind ≡ false) × (s.width ≡ a.target.width)
-net_of d formed j a is =
-    let sound = all_slice (λ (a : Assign). is_sound_assign d.signals a ≡ true) d.assigns j a is formed.assigns in
-    driven_net (slice_get d.signals a.target.signal) a.target.width (and_parts (drives_net (slice_get d.signals a.target.signal) a.target.width) (is_source d.signals a.target a.source) sound).0
-
 -- a well formed design whose assignments have an order
 pub drives_well : (d : Parts) → WellFormed d → IsOrdered d → DrivesWell d
 drives_well d formed order = record {
@@ -109,154 +51,6 @@ drives_well d formed order = record {
   falls = order.falls;
 }
 
--- ---- statements
-
-abbrev pub is_sound_item : List Signal → Item → Bool
-is_sound_item ss (perform s) = is_sound_statement ss s
-is_sound_item ss (turns n s) = is_sound_statement ss s
-
-abbrev pub is_sound_todo : List Signal → Todo → Bool
-is_sound_todo ss todo = list_all (is_sound_item ss) todo
-
-abbrev pub is_sound_place : List Signal → Place → Bool
-is_sound_place ss place = is_sound_todo ss (todo_of place)
-
-flat_row-all : (n : Count) (row : Row_of-Statement n) → flat_row row ≡ flat_all (items-the_row-Statement n row)
-flat_row-all _ end_of-Statement = refl
-flat_row-all _ (more_of-Statement s rest) = ap (λ l. flat s ++ l) (flat_row-all _ rest)
-
-pub flat-Block : (v : Vec Statement Global) → flat (Block v) ≡ flat_all v.items
-flat-Block v = search (rules, the_lemmas, flat_row-all)
-
--- the statements of a block
-abbrev block_items : Statement-F Statement → Option (List Statement)
-block_items (Statement-F.Block v) = Some v.items
-block_items _ = None
-
-flat-leaf : (x : Statement-F Statement) → block_items x ≡ None → flat (roll-Statement x) ≡ perform (roll-Statement x) ∷ []
-unfolding roll-Statement denote.Hole.Carrier.roll
-flat-leaf (Statement-F.Block v) h = cc
-flat-leaf _ h = refl
-
-flat-rolled_block : (x : Statement-F Statement) (xs : List Statement) → block_items x ≡ Some xs → flat (roll-Statement x) ≡ flat_all xs
-flat-rolled_block (Statement-F.Null n) xs h = cc
-flat-rolled_block (Statement-F.Assign n t e) xs h = cc
-flat-rolled_block (Statement-F.Later n t e) xs h = cc
-flat-rolled_block (Statement-F.Block v) xs h = let e : v.items ≡ xs = cc in ap flat (rolls-Block v) ∙ flat-Block v ∙ ap flat_all e
-flat-rolled_block (Statement-F.Delay n ticks body) xs h = cc
-flat-rolled_block (Statement-F.Forever n body) xs h = cc
-
-abbrev FlatSound : List Signal → Statement → Type 0
-FlatSound ss s = is_sound_statement ss s ≡ true → is_sound_todo ss (flat s) ≡ true
-
-abbrev WithSound : List Signal → Type 0
-WithSound ss = (s : Statement) × FlatSound ss s
-
-sound_leaf : (ss : List Signal) (x : Statement-F Statement) → block_items x ≡ None → FlatSound ss (roll-Statement x)
-sound_leaf ss x none h = ap (is_sound_todo ss) (flat-leaf x none) ∙ and_from (is_sound_statement ss (roll-Statement x)) true h refl
-
-sound_rows : (ss : List Signal) (ps : List (WithSound ss)) → list_all (λ b. b) (map (is_sound_statement ss) (map (λ (p : WithSound ss). p.0) ps)) ≡ true →
-    is_sound_todo ss (flat_all (map (λ (p : WithSound ss). p.0) ps)) ≡ true
-sound_rows ss [] h = refl
-sound_rows ss (p ∷ ps) h =
-    let parts = and_parts (is_sound_statement ss p.0) (list_all (λ b. b) (map (is_sound_statement ss) (map (λ (p : WithSound ss). p.0) ps))) h in
-    list_all-append (is_sound_item ss) (flat p.0) (flat_all (map (λ (p : WithSound ss). p.0) ps))
-    ∙ and_from (is_sound_todo ss (flat p.0)) (is_sound_todo ss (flat_all (map (λ (p : WithSound ss). p.0) ps))) (p.1 parts.0) (sound_rows ss ps parts.1)
-
-sound_layer : (ss : List Signal) (y : Statement-F (WithSound ss)) → FlatSound ss (roll-Statement (map-Statement (WithSound ss) Statement (λ p. p.0) y))
-sound_layer ss (Statement-F.Null n) = sound_leaf ss (Statement-F.Null n) refl
-sound_layer ss (Statement-F.Assign n t e) = sound_leaf ss (Statement-F.Assign n t e) refl
-sound_layer ss (Statement-F.Later n t e) = sound_leaf ss (Statement-F.Later n t e) refl
-sound_layer ss (Statement-F.Delay n ticks body) = sound_leaf ss (map-Statement (WithSound ss) Statement (λ p. p.0) (Statement-F.Delay n ticks body)) refl
-sound_layer ss (Statement-F.Forever n body) = sound_leaf ss (map-Statement (WithSound ss) Statement (λ p. p.0) (Statement-F.Forever n body)) refl
-sound_layer ss (Statement-F.Block all) = λ h.
-    let x : Statement-F Statement = map-Statement (WithSound ss) Statement (λ p. p.0) (Statement-F.Block all) in
-    ap (is_sound_todo ss) (flat-rolled_block x (map (λ (p : WithSound ss). p.0) all.items) refl)
-    ∙ sound_rows ss all.items (sym (fold-roll-Statement Bool (sound_step ss) x) ∙ h)
-
--- what a sound statement has to do is sound
-pub sound_flat : (ss : List Signal) (s : Statement) → is_sound_statement ss s ≡ true → is_sound_todo ss (flat s) ≡ true
-sound_flat ss s = ind-Statement (FlatSound ss) (λ x y is. subst (λ z. FlatSound ss (roll-Statement z)) is (sound_layer ss y)) s
-
-pub next_todo : Next → Todo
-next_todo (on rest) = rest
-next_todo (after n ticks rest) = rest
-
-abbrev sound_out : List Signal → Statement-F Statement → Bool
-sound_out ss f = sound_step ss (map-Statement Statement Bool (is_sound_statement ss) f)
-
-sound_statement_next : (ss : List Signal) (s : Statement) (f : Statement-F Statement) (rest : Todo) (store : Store) (time : ℕ) →
-    is_sound_statement ss s ≡ true → sound_out ss f ≡ true → is_sound_todo ss rest ≡ true → is_sound_todo ss (next_todo (statement_step s f rest store time).next) ≡ true
-unfolding next_todo
-sound_statement_next ss s (Statement-F.Null n) rest store time whole h r = r
-sound_statement_next ss s (Statement-F.Assign n t e) rest store time whole h r = r
-sound_statement_next ss s (Statement-F.Later n t e) rest store time whole h r = r
-sound_statement_next ss s (Statement-F.Block all) rest store time whole h r =
-    list_all-append (is_sound_item ss) (flat s) rest ∙ and_from (is_sound_todo ss (flat s)) (is_sound_todo ss rest) (sound_flat ss s whole) r
-sound_statement_next ss s (Statement-F.Delay n ticks body) rest store time whole h r =
-    list_all-append (is_sound_item ss) (flat body.value) rest ∙ and_from (is_sound_todo ss (flat body.value)) (is_sound_todo ss rest) (sound_flat ss body.value h) r
-sound_statement_next ss s (Statement-F.Forever n body) rest store time whole h r =
-    list_all-append (is_sound_item ss) (flat body.value) (perform s ∷ rest)
-    ∙ and_from (is_sound_todo ss (flat body.value)) (is_sound_todo ss (perform s ∷ rest)) (sound_flat ss body.value h) (and_from (is_sound_statement ss s) (is_sound_todo ss rest) whole r)
-
-opened : (ss : List Signal) (s : Statement) → is_sound_statement ss s ≡ true → sound_out ss (out-Statement s) ≡ true
-opened ss s h = sym (fold_out-Statement Bool (sound_step ss) s) ∙ h
-
--- so is what it has to do behind a step
-pub sound_next : (ss : List Signal) (todo : Todo) (store : Store) (time : ℕ) → is_sound_todo ss todo ≡ true → is_sound_todo ss (next_todo (step todo store time).next) ≡ true
-unfolding next_todo
-sound_next ss [] store time h = refl
-sound_next ss (perform s ∷ rest) store time h =
-    let parts = and_parts (is_sound_statement ss s) (is_sound_todo ss rest) h in
-    sound_statement_next ss s (out-Statement s) rest store time parts.0 (opened ss s parts.0) parts.1
-sound_next ss (turns zero s ∷ rest) store time h = (and_parts (is_sound_statement ss s) (is_sound_todo ss rest) h).1
-sound_next ss (turns (suc n) s ∷ rest) store time h =
-    let parts = and_parts (is_sound_statement ss s) (is_sound_todo ss rest) h in
-    list_all-append (is_sound_item ss) (flat s) (turns n s ∷ rest)
-    ∙ and_from (is_sound_todo ss (flat s)) (is_sound_todo ss (turns n s ∷ rest)) (sound_flat ss s parts.0) (and_from (is_sound_statement ss s) (is_sound_todo ss rest) parts.0 parts.1)
-
--- the signal is a variable of the design
-abbrev pub IsVariable : List Signal → ℕ → Type 0
-IsVariable ss v = (s : Signal) × (slice_get ss v ≡ Some s) × (is_variable s.kind ≡ true)
-
--- the writes and updates of a step name variables alone
-pub record NamesVariables (ss : List Signal) (out : Out) : Type 0 where
-  pub write : (w : Write) → out.write ≡ Some w → (v : ℕ) → names w v ≡ true → IsVariable ss v
-  pub update : (u : ℕ × Write) → out.update ≡ Some u → (v : ℕ) → names u.1 v ≡ true → IsVariable ss v
-
-assigned_variable : (ss : List Signal) (t : Target) (e : Typed) (store : Store) (time v : ℕ) → is_sound_assignment ss t e ≡ true → names (assignment t e store time) v ≡ true → IsVariable ss v
-assigned_variable ss t e store time v h named =
-    let parts = and_parts (writes_variable (slice_get ss t.signal) t.width) (is_source ss t e) h in
-    elim (or_cases (t.signal == v) false named) [
-      | inl hit ↦ subst (IsVariable ss) (eqb-true t.signal v hit) (written_variable (slice_get ss t.signal) t.width parts.0)
-      | inr none ↦ absurd (false≢true none)
-    ]
-
-names_none : (ss : List Signal) (out : Out) → out.write ≡ None → out.update ≡ None → NamesVariables ss out
-names_none ss out w u = record { write = λ x h. let e : None ≡ Some x = sym w ∙ h in cc; update = λ x h. let e : None ≡ Some x = sym u ∙ h in cc }
-
-statement_names : (ss : List Signal) (s : Statement) (f : Statement-F Statement) (rest : Todo) (store : Store) (time : ℕ) → sound_out ss f ≡ true → NamesVariables ss (statement_step s f rest store time)
-statement_names ss s (Statement-F.Null n) rest store time h = names_none ss (statement_step s (Statement-F.Null n) rest store time) refl refl
-statement_names ss s (Statement-F.Assign n t e) rest store time h = record {
-  write = λ w is v named. let p : assignment t e store time ≡ w = cc in assigned_variable ss t e store time v h (ap (λ x. names x v) p ∙ named);
-  update = λ u is. cc;
-}
-statement_names ss s (Statement-F.Later n t e) rest store time h = record {
-  write = λ w is. cc;
-  update = λ u is v named. let p : (0, assignment t e store time) ≡ u = cc in assigned_variable ss t e store time v h (ap (λ x. names x.1 v) p ∙ named);
-}
-statement_names ss s (Statement-F.Block all) rest store time h = names_none ss (statement_step s (Statement-F.Block all) rest store time) refl refl
-statement_names ss s (Statement-F.Delay n ticks body) rest store time h = names_none ss (statement_step s (Statement-F.Delay n ticks body) rest store time) refl refl
-statement_names ss s (Statement-F.Forever n body) rest store time h = names_none ss (statement_step s (Statement-F.Forever n body) rest store time) refl refl
-
-step_names : (ss : List Signal) (todo : Todo) (store : Store) (time : ℕ) → is_sound_todo ss todo ≡ true → NamesVariables ss (step todo store time)
-step_names ss [] store time h = names_none ss (step [] store time) refl refl
-step_names ss (perform s ∷ rest) store time h =
-    let parts = and_parts (is_sound_statement ss s) (is_sound_todo ss rest) h in
-    statement_names ss s (out-Statement s) rest store time (opened ss s parts.0)
-step_names ss (turns zero s ∷ rest) store time h = names_none ss (step (turns zero s ∷ rest) store time) refl refl
-step_names ss (turns (suc n) s ∷ rest) store time h = names_none ss (step (turns (suc n) s ∷ rest) store time) refl refl
-
 -- ---- threads
 
 -- a thread whose process is at a sound place, and which has written and updated variables alone
@@ -264,18 +58,6 @@ pub record SoundThread (ss : List Signal) (th : Thread) : Type 0 where
   pub place : is_sound_place ss th.place ≡ true
   pub log : (v : ℕ) → writes th v ≡ true → IsVariable ss v
   pub made : (v : ℕ) → any_names th.made v ≡ true → IsVariable ss v
-
-sound_active : (ss : List Signal) (gait : Gait) (todo : Todo) → is_sound_todo ss todo ≡ true → is_sound_place ss (active_at gait todo) ≡ true
-sound_active ss gait [] h = refl
-sound_active ss gait (i ∷ rest) h = h
-
-sound_paused : (ss : List Signal) (time ticks : ℕ) (todo : Todo) → is_sound_todo ss todo ≡ true → is_sound_place ss (paused time ticks todo) ≡ true
-sound_paused ss time ticks todo h = cond_both (ticks == 0) (inactive todo) (sleeping (time + ticks) todo) (λ p. is_sound_place ss p ≡ true) (λ e. h) (λ e. h)
-
-sound_behind : (ss : List Signal) (gait : Gait) (todo : Todo) (time : ℕ) (next : Next) → is_sound_todo ss (next_todo next) ≡ true → is_sound_place ss (place_behind (going gait todo) time next) ≡ true
-unfolding next_todo
-sound_behind ss gait todo time (on rest) h = sound_active ss (stepped_gait gait) rest h
-sound_behind ss gait todo time (after n ticks rest) h = sound_paused ss time ticks rest h
 
 sound_log : (ss : List Signal) (log : List Write) (o : Option Write) → ((w : Write) → o ≡ Some w → (v : ℕ) → names w v ≡ true → IsVariable ss v) →
     ((v : ℕ) → list_any (λ w. names w v) log ≡ true → IsVariable ss v) → (v : ℕ) → list_any (λ w. names w v) (log_behind log o) ≡ true → IsVariable ss v
@@ -285,25 +67,12 @@ sound_log ss log (Some w) new old v h = elim (or_cases (names w v) (list_any (λ
   | inr more ↦ old v more
 ]
 
-sound_made : (ss : List Signal) (i time : ℕ) (us : List Update) (o : Option (ℕ × Write)) → ((u : ℕ × Write) → o ≡ Some u → (v : ℕ) → names u.1 v ≡ true → IsVariable ss v) →
-    ((v : ℕ) → any_names us v ≡ true → IsVariable ss v) → (v : ℕ) → any_names (updates_behind i time o us) v ≡ true → IsVariable ss v
-sound_made ss i time us None new old v h = old v h
-sound_made ss i time us (Some u) new old v h =
-    let more : List Update = record { by = i; due = time + u.0; active = false; what = u.1 } ∷ [] in
-    elim (or_cases (any_names us v) (any_names more v) (sym (list_any-append (λ (x : Update). names x.what v) us more) ∙ h)) [
-      | inl hit ↦ old v hit
-      | inr last ↦ elim (or_cases (names u.1 v) false last) [
-        | inl hit ↦ new u refl v hit
-        | inr none ↦ absurd (false≢true none)
-      ]
-    ]
-
 sound_turn : (ss : List Signal) (time i : ℕ) (p : Place) (th : Thread) → is_sound_place ss p ≡ true → SoundThread ss th → SoundThread ss (turn_at time i p th)
 sound_turn ss time i (going gait todo) th p h =
     let out = step todo th.view time in
     let named = step_names ss todo th.view time p in
     record {
-      place = sound_behind ss gait todo time out.next (sound_next ss todo th.view time p);
+      place = sound_place_behind ss (going gait todo) time out.next (sound_next ss todo th.view time p);
       log = sound_log ss th.log out.write named.write h.log;
       made = sound_made ss i time th.made out.update named.update h.made;
     }
@@ -326,45 +95,3 @@ sound_thread ss b i th h is =
       log = λ v w. absurd (false≢true w);
       made = λ v w. absurd (false≢true w);
     }))
-
--- no continuous assignment drives a variable
-pub variable_undriven : (d : Parts) → WellFormed d → (v : ℕ) → IsVariable d.signals v → is_driven d.assigns v ≡ false
-variable_undriven d formed v (s, is, variable) =
-    elim (cases_Bool (is_driven d.assigns v)) [
-      | inl hit ↦ absurd (not_both (any_at (λ (a : Assign). writes_signal a.target v) d.assigns hit))
-      | inr miss ↦ miss
-    ]
-  where
-    not_both : ((j : ℕ) × (a : Assign) × (slice_get d.assigns j ≡ Some a) × (writes_signal a.target v ≡ true)) → ⊥
-    not_both (j, a, at_j, drives) =
-        let net = net_of d formed j a at_j in
-        let same : a.target.signal ≡ v = target_is a.target v drives in
-        let e : Some net.0 ≡ Some s = sym net.1 ∙ ap (slice_get d.signals) same ∙ is in
-        let f : net.0 ≡ s = cc in
-        true≢false (sym variable ∙ ap (λ (z : Signal). is_variable z.kind) (sym f) ∙ net.2)
-
--- ---- whole executions
-
-pub sound_start_places : (d : Parts) → WellFormed d → list_all (is_sound_place d.signals) (map (λ (p : Process). start_place p.body) d.processes) ≡ true
-sound_start_places d formed =
-    list_all-map (is_sound_place d.signals) (λ (p : Process). start_place p.body) d.processes
-    ∙ all_starts d.processes (λ i p is. all_slice (λ (p : Process). is_sound_process d.signals p ≡ true) d.processes i p is formed.processes)
-  where
-    all_starts : (ps : List Process) → ((i : ℕ) (p : Process) → slice_get ps i ≡ Some p → is_sound_process d.signals p ≡ true) → list_all (λ (p : Process). is_sound_place d.signals (start_place p.body)) ps ≡ true
-    all_starts [] h = refl
-    all_starts (p ∷ ps) h =
-        let parts = and_parts (is_sound_statement d.signals p.body && counts_from 0 (numbers p.body)) (is_body_of p.kind p.body) (h 0 p refl) in
-        let body = (and_parts (is_sound_statement d.signals p.body) (counts_from 0 (numbers p.body)) parts.0).0 in
-        and_from (is_sound_place d.signals (start_place p.body)) (list_all (λ (p : Process). is_sound_place d.signals (start_place p.body)) ps)
-        (sound_active d.signals Fresh (flat p.body) (sound_flat d.signals p.body body)) (all_starts ps (λ i. h (suc i)))
-
-sound_woken : (ss : List Signal) (t : ℕ) (p : Place) → is_sound_place ss p ≡ true → is_sound_place ss (woken_at t p) ≡ true
-sound_woken ss t (going gait todo) h = h
-sound_woken ss t (inactive todo) h = h
-sound_woken ss t ended h = h
-sound_woken ss t (sleeping due todo) h = cond_both (due == t) (active_at Woken todo) (sleeping due todo) (λ p. is_sound_place ss p ≡ true) (λ e. sound_active ss Woken todo h) (λ e. h)
-
-pub sound_places_at : (ss : List Signal) (over : Bool) (next : Option ℕ) (places : List Place) → list_all (is_sound_place ss) places ≡ true → list_all (is_sound_place ss) (places_at over next places) ≡ true
-sound_places_at ss true next places h = h
-sound_places_at ss false None places h = h
-sound_places_at ss false (Some t) places h = list_all-map (is_sound_place ss) (woken_at t) places ∙ list_all_like (is_sound_place ss) (λ p. is_sound_place ss (woken_at t p)) places (sound_woken ss t) h

@@ -4,27 +4,30 @@ use Rattle.std.specs.List.{list_all}
 use Rattle.std.proofs.lemmas.Bool.{and_parts, and_right, or_cases, cases_Bool, not-true, lt-leb, true≢false, false≢true, cases_lt}
 use Rattle.std.proofs.lemmas.List.Elements.{filter-append}
 use Rattle.vs_design.specs.Parts.{Parts}
+use Rattle.vs_design.specs.Stores.{Store}
+use Rattle.vs_design.specs.Traces.{Line, Slot, Trace, SameSlots, SameTrace}
+use Rattle.vs_design.specs.WellFormed.{WellFormed}
 use Rattle.vs_process.specs.declared.moves.Grain.{Grain}
 use Rattle.vs_process.specs.declared.moves.Move.{Move}
 use Rattle.vs_process.specs.declared.moves.Move.TheVariants.{Step, Evaluate, Propagate, Make, Rouse, Activate, EndSlot}
 use Rattle.vs_process.specs.Places.{ended}
 use Rattle.vs_process.specs.States.{State, AssignState, Called, start, start_assign}
-use Rattle.vs_process.specs.Executions.{is_enabled, is_free, allowed, apply, after, Legal, ends, next_time, slot_behind, strobe_line, ended_slot, slots, is_complete, is_by, finish_time, trace}
+use Rattle.vs_process.specs.Executions.{is_enabled, is_free, allowed, apply, after, Legal, slot_behind, strobe_line, ended_slot, slots, is_complete, is_by, finish_time, trace}
+use Rattle.vs_process.proofs.Times.{enabled_of}
+use Rattle.vs_process.proofs.Lists.{map_cases}
+use Rattle.vs_process.proofs.Assigns.{sound_start}
+use Rattle.vs_process.proofs.WellFormed.{is_sound_place, variable_undriven}
+use Rattle.vs_process.proofs.Idle.{after_sound}
 use Rattle.vs_independence.specs.Threads.{opening}
 use Rattle.vs_independence.specs.Discipline.{Independent, here, IsAtStart, Begins, KeepsApart, Disciplined}
-use Rattle.vs_independence.proofs.Lists.{map_cases}
 use Rattle.vs_independence.proofs.Threads.{thread_opens}
-use Rattle.vs_independence.proofs.Assigns.{sound_start}
 use Rattle.vs_independence.proofs.Running.{WithinSlot, Apart, is_waiting, by_start}
 use Rattle.vs_independence.proofs.Moves.{Runs}
 use Rattle.vs_independence.proofs.Making.{Making}
 use Rattle.vs_independence.proofs.Ends.{InSlot, IsInner, inner_kept, Ends, slot_ends, all_future, Alike, ends_unique, behind_alike}
 use Rattle.vs_independence.proofs.Times.{is_later, all_from_get, later_thread, later_start, goes_on}
-use Rattle.vs_design.specs.Stores.{Store}
-use Rattle.vs_design.specs.Traces.{Line, Slot, Trace, SameSlots, SameTrace}
-use Rattle.vs_design.specs.WellFormed.{WellFormed}
 use Rattle.vs_independence.proofs.Assigns.{DrivesWell}
-use Rattle.vs_independence.proofs.WellFormed.{drives_well, is_sound_place, sound_thread, variable_undriven, sound_start_places, sound_places_at}
+use Rattle.vs_independence.proofs.WellFormed.{drives_well, sound_thread}
 
 -- the moves up to the beginning of the slot that goes on
 abbrev pub cut : List Move → List Move
@@ -74,9 +77,6 @@ pub record Fits (grain : Grain) (d : Parts) : Type 0 where
   pub drives : DrivesWell d
   pub apart : (b : State) → Begins grain d b → KeepsApart d b
 
-apart_at : (grain : Grain) (d : Parts) → Fits grain d → (moves : List Move) → Legal grain d moves → KeepsApart d (after d (cut moves))
-apart_at grain d dis moves l = dis.apart (after d (cut moves)) (record { moves = cut moves; legal = cut_legal grain d moves l; at_start = cut_starts moves; is = refl })
-
 -- the state at the beginning of all runs
 start_runs : (d : Parts) → Runs d (start d) (start d)
 start_runs d = (
@@ -114,7 +114,6 @@ behind_runs d b s e waiting = (
 -- what holds at a moment of an execution
 pub record Holds (d : Parts) (b s : State) : Type 0 where
   pub later : list_all (is_later b.time) b.places ≡ true
-  pub sound : list_all (is_sound_place d.signals) b.places ≡ true
   pub in_slot : InSlot d b s
 
 slot_later : (d : Parts) (b s : State) → list_all (is_later b.time) b.places ≡ true → Making d b s → list_all (is_later s.time) s.places ≡ true
@@ -124,12 +123,6 @@ slot_later d b s later m =
     ∙ ap (is_later b.time) (ap (λ l. get_or l i ended) m.places ∙ m.runs.places i)
     ∙ later_thread b i (m.th i) later (m.runs.threads i))
 
-pub enabled_of : (grain : Grain) (d : Parts) (s : State) (m : Move) → allowed grain d s m ≡ true → (s.over ≡ false) × (is_enabled s m ≡ true)
-enabled_of grain d s m h =
-    let r = and_parts (not s.over && is_enabled s m) (is_free grain d s m) h in
-    let q = and_parts (not s.over) (is_enabled s m) r.0 in
-    (not-true s.over q.0, q.1)
-
 -- the processes of a slot that begins with them at sound places
 apart_in : (d : Parts) → WellFormed d → (b : State) → list_all (is_sound_place d.signals) b.places ≡ true → KeepsApart d b → Apart d b
 apart_in d formed b sound keeps = record {
@@ -138,22 +131,20 @@ apart_in d formed b sound keeps = record {
   variables_later = λ i v th is h. variable_undriven d formed v ((sound_thread d.signals b i th sound is).made v h);
 }
 
--- the processes at the end of a slot
-slot_sound : (d : Parts) (b s : State) → list_all (is_sound_place d.signals) b.places ≡ true → Making d b s → list_all (is_sound_place d.signals) s.places ≡ true
-slot_sound d b s sound m =
-    all_from_get (is_sound_place d.signals) s.places ended (λ i.
-    ap (is_sound_place d.signals) (ap (λ l. get_or l i ended) m.places ∙ m.runs.places i)
-    ∙ (sound_thread d.signals b i (m.th i) sound (m.runs.threads i)).place)
+-- those of the slot that goes on
+apart_at : (grain : Grain) (d : Parts) → Fits grain d → (moves : List Move) → Legal grain d moves → Apart d (after d (cut moves))
+apart_at grain d dis moves l =
+    apart_in d dis.formed (after d (cut moves)) (after_sound d dis.formed (cut moves)).places
+    (dis.apart (after d (cut moves)) (record { moves = cut moves; legal = cut_legal grain d moves l; at_start = cut_starts moves; is = refl }))
 
-inner_holds : (grain : Grain) (d : Parts) → Fits grain d → (b s : State) → KeepsApart d b → (m : Move) → IsInner m → allowed grain d s m ≡ true → Holds d b s → Holds d b (apply m s)
-inner_holds grain d dis b s keeps m inner h holds = record {
+inner_holds : (grain : Grain) (d : Parts) → Fits grain d → (b s : State) → Apart d b → (m : Move) → IsInner m → allowed grain d s m ≡ true → Holds d b s → Holds d b (apply m s)
+inner_holds grain d dis b s apart m inner h holds = record {
   later = holds.later;
-  sound = holds.sound;
-  in_slot = inner_kept d dis.drives b s (apart_in d dis.formed b holds.sound keeps) m inner (enabled_of grain d s m h).1 holds.in_slot;
+  in_slot = inner_kept d dis.drives b s apart m inner (enabled_of grain d s m h).1 holds.in_slot;
 }
 
 pub holds : (grain : Grain) (d : Parts) → Fits grain d → (moves : List Move) → Legal grain d moves → Holds d (after d (cut moves)) (after d moves)
-holds grain d dis [] l = record { later = later_start d.processes 0; sound = sound_start_places d dis.formed; in_slot = inl (start_runs d) }
+holds grain d dis [] l = record { later = later_start d.processes 0; in_slot = inl (start_runs d) }
 holds grain d dis (Step i ∷ moves) l = inner_holds grain d dis (after d (cut moves)) (after d moves) (apart_at grain d dis moves l.0) (Step i) tt l.1 (holds grain d dis moves l.0)
 holds grain d dis (Evaluate j ∷ moves) l = inner_holds grain d dis (after d (cut moves)) (after d moves) (apart_at grain d dis moves l.0) (Evaluate j) tt l.1 (holds grain d dis moves l.0)
 holds grain d dis (Propagate j ∷ moves) l = inner_holds grain d dis (after d (cut moves)) (after d moves) (apart_at grain d dis moves l.0) (Propagate j) tt l.1 (holds grain d dis moves l.0)
@@ -168,7 +159,6 @@ holds grain d dis (EndSlot ∷ moves) l =
     let g = goes_on s (slot_later d b s h.later e.making) (all_future d b s e) in
     record {
       later = g.later;
-      sound = sound_places_at d.signals (ends s) (next_time s) s.places (slot_sound d b s h.sound e.making);
       in_slot = inl (behind_runs d b s e g.waiting);
     }
 

@@ -111,7 +111,7 @@ pub incomplete : (until : ℕ) (s : State) → s.over ≡ false → s.time ≤ u
 incomplete until s over early = ap (λ b. b || nat_lt until s.time) over ∙ le-ltb until s.time early
 
 -- each slot that ended is one of the trace
-all_kept : (until : ℕ) (d : Parts) (moves : List Move) → StopsAt until d moves → filter (is_by until) (slots d moves) ≡ slots d moves
+pub all_kept : (until : ℕ) (d : Parts) (moves : List Move) → StopsAt until d moves → filter (is_by until) (slots d moves) ≡ slots d moves
 all_kept until d [] h = refl
 all_kept until d (m ∷ before) h =
     kept_more (is_by until) (slots d before) (ended_slot m (after d before)) (all_kept until d before h.0) (ended_kept until m (after d before) (by_then until (after d before) h.1))

@@ -8,6 +8,7 @@ mod agenda;
 mod assign;
 mod changes;
 mod kernel;
+mod laws;
 mod moves;
 mod outcome;
 mod policy;
@@ -17,5 +18,6 @@ mod state;
 mod update;
 
 pub use kernel::{Kernel, Status};
+pub use laws::dumps_show_slot_ends;
 pub use outcome::{Outcome, RunFault};
 pub use policy::{Fifo, Pick};

@@ -1,20 +1,21 @@
 -- At grain block at most one combinational block has taken a step since its control, and it can take the next.
 use Rattle.std.proofs.Common.{◌≡◌, ℕ, zero, suc, ◌+◌, ◌==◌, ◌||◌, ◌&&◌, not, Bool, true, false, Option, Some, None, List, [], ◌∷◌, map, slice_get, slice_set, if◌then◌else◌, refl, sym, ◌∙◌, ap, subst, inl, inr, ◌⊎◌, ⊎_elim, arith, eq-eqb}
+use Rattle.std.proofs.lemmas.Bool.{cases_Bool, or_parts, not-true}
 use Rattle.std.proofs.lemmas.Bool.Decides.{eqb_tells}
 use Rattle.vs_logic4.specs.declared.digit.Digit.{Digit}
 use Rattle.vs_design.specs.declared.design.Process.{Process}
 use Rattle.vs_design.specs.Parts.{Parts}
-use Rattle.vs_design.specs.Writes.{Write}
 use Rattle.vs_process.specs.declared.moves.Gait.TheVariants.{Fresh, Woken}
 use Rattle.vs_process.specs.declared.moves.Grain.TheVariants.{Block}
 use Rattle.vs_process.specs.declared.moves.Move.{Move}
 use Rattle.vs_process.specs.declared.moves.Move.TheVariants.{Step, Evaluate, Propagate, Make, Rouse, Activate, EndSlot}
 use Rattle.vs_process.specs.Places.{Todo, Place, going, sleeping, inactive, ended, active_at, is_going, is_inside, start_place, flat}
-use Rattle.vs_process.specs.States.{State, AssignState, Update, stepped, evaluate, propagate, propagate_value, make, roused, woken_at, written_behind, todo_of, place_behind}
+use Rattle.vs_process.specs.States.{State, AssignState, Update, stepped, evaluate, propagate, propagate_value, make, roused, woken_at, todo_of, place_behind}
 use Rattle.vs_process.specs.Steps.{step}
 use Rattle.vs_process.specs.Executions.{after, apply, Legal, is_enabled, is_free, is_kept_out, is_step_of, is_combinational, if_some, ends, next_time, places_at}
 use Rattle.vs_process.specs.Permitted.{CanGo}
-use Rattle.vs_process.proofs.Permitted.{AllFree, allow, true_or_false}
+use Rattle.vs_process.proofs.Permitted.{AllFree, allow}
+use Rattle.vs_process.proofs.Times.{behind_places}
 
 -- whether the process at an index passes a test and is inside
 abbrev inside_at : (Process → Bool) → List Process → List Place → ℕ → Bool
@@ -33,10 +34,6 @@ kept_out-same : (ps : List Process) (xs : List Place) (first : ℕ) (m : Move) �
 kept_out-same [] xs first m = refl
 kept_out-same (p ∷ ps) [] first m = refl
 kept_out-same (p ∷ ps) (x ∷ xs) first m = ap (λ b. is_combinational p && is_inside x && not (is_step_of first m) || b) (kept_out-same ps xs (suc first) m)
-
-or_parts : (a b : Bool) → a || b ≡ false → (a ≡ false) × (b ≡ false)
-or_parts true b h = cc
-or_parts false b h = (refl, h)
 
 and_not : (a b : Bool) → (a && not b) ≡ false → a ≡ true → b ≡ true
 and_not a true h e = refl
@@ -163,10 +160,6 @@ one_stepped test ps s i None h one = one
 one_stepped test ps s i (Some x) h one =
     subst (λ (xs : List Place). AtMostOne test ps (slice_set xs i (place_behind x s.time (step (todo_of x) s.store s.time).next))) (sym (behind_places s (step (todo_of x) s.store s.time).write))
     (one_behind test ps s.places i (place_behind x s.time (step (todo_of x) s.store s.time).next) h)
-  where
-    behind_places : (s : State) (w : Option Write) → (written_behind s w).places ≡ s.places
-    behind_places s None = refl
-    behind_places s (Some w) = refl
 
 evaluate_places : (s : State) (j : ℕ) (o : Option AssignState) → (evaluate s j o).places ≡ s.places
 evaluate_places s j None = refl
@@ -198,16 +191,12 @@ and_last true true c h = h
 and_last true false c h = cc
 and_last false b c h = cc
 
-not_true : (b : Bool) → not b ≡ true → b ≡ false
-not_true true h = cc
-not_true false h = refl
-
 -- at grain block at most one combinational block is inside
 pub one_inside : (d : Parts) (moves : List Move) → Legal Block d moves → AtMostOne is_combinational d.processes (after d moves).places
 one_inside d [] h = λ i k hi hk. let no_way : false ≡ true = sym (inside_at-start is_combinational d.processes i) ∙ hi in cc
 one_inside d (m ∷ before) h =
     one_applied is_combinational d.processes m (after d before)
-    (sym (kept_out-same d.processes (after d before).places 0 m) ∙ not_true _ (and_last (not (after d before).over) (is_enabled (after d before) m) (is_free Block d (after d before) m) h.1))
+    (sym (kept_out-same d.processes (after d before).places 0 m) ∙ not-true _ (and_last (not (after d before).over) (is_enabled (after d before) m) (is_free Block d (after d before) m) h.1))
     (one_inside d before h.0)
 
 -- some such process is inside, or none is
@@ -215,7 +204,7 @@ some_inside : (test : Process → Bool) (ps : List Process) (xs : List Place) �
 some_inside test [] xs = inr (λ i. refl)
 some_inside test (p ∷ ps) [] = inr (λ i. refl)
 some_inside test (p ∷ ps) (x ∷ xs) =
-    elim (true_or_false (test p && is_inside x)) [
+    elim (cases_Bool (test p && is_inside x)) [
       | inl here ↦ inl (0, here)
       | inr not_here ↦ elim (some_inside test ps xs) [
         | inl later ↦ inl (suc later.0, later.1)

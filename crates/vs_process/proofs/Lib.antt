@@ -1,4 +1,10 @@
+pub mod Assigns
 mod Blocks
+pub mod Idle
+pub mod Lists
 mod Permitted
-mod Times
-mod Todos
+pub mod Stores
+pub mod Times
+pub mod Todos
+pub mod Values
+pub mod WellFormed

@@ -1,5 +1,6 @@
 -- That something is always permitted, and that moves are the permitted steps.
-use Rattle.std.proofs.Common.{◌≡◌, ℕ, suc, Bool, true, false, ◌&&◌, ◌||◌, not, Option, Some, None, List, [], ◌∷◌, take, slice_get, refl, sym, ◌∙◌, ap, subst, inl, inr, ◌⊎◌}
+use Rattle.std.proofs.Common.{◌≡◌, ℕ, suc, Bool, true, false, ◌&&◌, ◌||◌, not, Option, Some, None, List, [], ◌∷◌, take, slice_get, refl, sym, ◌∙◌, ap, subst, inl, inr}
+use Rattle.std.proofs.lemmas.Bool.{cases_Bool, or_cases, and_parts, not-true}
 use Rattle.std.specs.Prelude.{is_some}
 use Rattle.std.specs.List.{list_any}
 use Rattle.vs_logic4.specs.declared.digit.Digit.{Digit}
@@ -31,14 +32,6 @@ found_by f x xs false e h later = found_later f x xs e (later (subst (λ b. b ||
 pub found : {A : Type 0} (f : A → Bool) (xs : List A) → list_any f xs ≡ true → Found f xs
 found f [] h = cc
 found f (x ∷ xs) h = found_by f x xs (f x) refl h (found f xs)
-
-or_cases : (a b : Bool) → a || b ≡ true → (a ≡ true) ⊎ (b ≡ true)
-or_cases true b h = inl refl
-or_cases false b h = inr h
-
-pub true_or_false : (b : Bool) → (b ≡ true) ⊎ (b ≡ false)
-true_or_false true = inl refl
-true_or_false false = inr refl
 
 pub allow : (grain : Grain) (d : Parts) (s : State) (m : Move) → s.over ≡ false → is_enabled s m ≡ true → is_free grain d s m ≡ true → CanGo grain d s
 allow grain d s m o e free =
@@ -96,11 +89,11 @@ busy_goes grain d s free o h =
 -- a state that isn't over, and in which every move is free, has a permitted step
 pub state_goes : (grain : Grain) (d : Parts) (s : State) → AllFree grain d s → s.over ≡ false → CanGo grain d s
 state_goes grain d s free o =
-    elim (true_or_false (is_busy s)) [
+    elim (cases_Bool (is_busy s)) [
       | inl busy ↦ busy_goes grain d s free o busy
-      | inr quiet ↦ elim (true_or_false (has_inactive s)) [
+      | inr quiet ↦ elim (cases_Bool (has_inactive s)) [
         | inl inactive ↦ allow grain d s Rouse o (ap (λ b. not b && has_inactive s) quiet ∙ inactive) (free Rouse)
-        | inr none ↦ elim (true_or_false (has_due s)) [
+        | inr none ↦ elim (cases_Bool (has_due s)) [
           | inl due ↦ allow grain d s Activate o (ap (λ b. not b && not (has_inactive s) && has_due s) quiet ∙ ap (λ b. not b && has_due s) none ∙ due) (free Activate)
           | inr idle ↦ allow grain d s EndSlot o (ap (λ b. not b && not (has_inactive s) && not (has_due s)) quiet ∙ ap (λ b. not b && not (has_due s)) none ∙ ap not idle) (free EndSlot)
         ]
@@ -130,14 +123,6 @@ permitted_is_allowed grain d s _ (activates o quiet none due free) =
 permitted_is_allowed grain d s _ (ends_slot o quiet none idle free) =
     (EndSlot, allowed_from grain d s EndSlot o (ap (λ b. not b && not (has_inactive s) && not (has_due s)) quiet ∙ ap (λ b. not b && not (has_due s)) none ∙ ap not idle) free, refl)
 
-both : (a b : Bool) → a && b ≡ true → (a ≡ true) × (b ≡ true)
-both true b h = (refl, h)
-both false b h = absurd (let no_way : false ≡ true = h in cc)
-
-is_not : (b : Bool) → not b ≡ true → b ≡ false
-is_not true h = absurd (let no_way : false ≡ true = h in cc)
-is_not false h = refl
-
 some_of : {A : Type 0} (f : A → Bool) (o : Option A) → if_some f o ≡ true → (x : A) × (o ≡ Some x) × (f x ≡ true)
 some_of f None h = absurd (let no_way : false ≡ true = h in cc)
 some_of f (Some x) h = (x, refl, h)
@@ -162,20 +147,20 @@ enabled_is_permitted grain d s (Make i) o e f =
     let r = some_of (is_first s.updates i) (slice_get s.updates i) e in
     subst (λ (u : Option Update). Permitted grain d s (make s i u)) (sym r.1) (updates i r.0 o r.1 r.2 f)
 enabled_is_permitted grain d s Rouse o e f =
-    let r = both (not (is_busy s)) (has_inactive s) e in
-    rouses o (is_not (is_busy s) r.0) r.1 f
+    let r = and_parts (not (is_busy s)) (has_inactive s) e in
+    rouses o (not-true (is_busy s) r.0) r.1 f
 enabled_is_permitted grain d s Activate o e f =
-    let r = both (not (is_busy s) && not (has_inactive s)) (has_due s) e in
-    let q = both (not (is_busy s)) (not (has_inactive s)) r.0 in
-    activates o (is_not (is_busy s) q.0) (is_not (has_inactive s) q.1) r.1 f
+    let r = and_parts (not (is_busy s) && not (has_inactive s)) (has_due s) e in
+    let q = and_parts (not (is_busy s)) (not (has_inactive s)) r.0 in
+    activates o (not-true (is_busy s) q.0) (not-true (has_inactive s) q.1) r.1 f
 enabled_is_permitted grain d s EndSlot o e f =
-    let r = both (not (is_busy s) && not (has_inactive s)) (not (has_due s)) e in
-    let q = both (not (is_busy s)) (not (has_inactive s)) r.0 in
-    ends_slot o (is_not (is_busy s) q.0) (is_not (has_inactive s) q.1) (is_not (has_due s) r.1) f
+    let r = and_parts (not (is_busy s) && not (has_inactive s)) (not (has_due s)) e in
+    let q = and_parts (not (is_busy s)) (not (has_inactive s)) r.0 in
+    ends_slot o (not-true (is_busy s) q.0) (not-true (has_inactive s) q.1) (not-true (has_due s) r.1) f
 
 -- an allowed move is a permitted step
 pub allowed_is_permitted : (grain : Grain) (d : Parts) (s : State) (m : Move) → allowed grain d s m ≡ true → Permitted grain d s (apply m s)
 allowed_is_permitted grain d s m h =
-    let r = both (not s.over && is_enabled s m) (is_free grain d s m) h in
-    let q = both (not s.over) (is_enabled s m) r.0 in
-    enabled_is_permitted grain d s m (is_not s.over q.0) q.1 r.1
+    let r = and_parts (not s.over && is_enabled s m) (is_free grain d s m) h in
+    let q = and_parts (not s.over) (is_enabled s m) r.0 in
+    enabled_is_permitted grain d s m (not-true s.over q.0) q.1 r.1

@@ -2,7 +2,7 @@
 use Rattle.std.proofs.Common.{◌≡◌, ℕ, zero, suc, ◌+◌, ◌<◌, ◌≤◌, ◌^◌, ◌==◌, ◌||◌, ◌&&◌, not, Bool, true, false, Option, Some, None, List, [], ◌∷◌, ◌++◌, map, slice_get, slice_set, leb, refl, sym, ◌∙◌, subst, ⊎_elim, arith}
 use Rattle.std.specs.Prelude.{filter, is_none, is_some, if◌then◌else◌}
 use Rattle.std.specs.List.{list_any}
-use Rattle.std.proofs.lemmas.Bool.{leb-true}
+use Rattle.std.proofs.lemmas.Bool.{leb-true, or_parts, and_parts, not-true}
 use Rattle.std.proofs.lemmas.Bool.Decides.{eqb_tells}
 use Rattle.std.proofs.lemmas.List.{append-nil}
 use Rattle.std.proofs.lemmas.List.Elements.{filter-append}
@@ -110,7 +110,7 @@ behind_time : (s : State) (w : Option Write) → (written_behind s w).time ≡ s
 behind_time s None = refl
 behind_time s (Some w) = refl
 
-behind_places : (s : State) (w : Option Write) → (written_behind s w).places ≡ s.places
+pub behind_places : (s : State) (w : Option Write) → (written_behind s w).places ≡ s.places
 behind_places s None = refl
 behind_places s (Some w) = refl
 
@@ -212,18 +212,6 @@ each_update best (u ∷ us) = (least_update (earlier best u.due) us u.due (new_e
 
 -- ---- the end of a slot
 
-or_parts : (a b : Bool) → a || b ≡ false → (a ≡ false) × (b ≡ false)
-or_parts true b h = cc
-or_parts false b h = (refl, h)
-
-and_parts : (a b : Bool) → a && b ≡ true → (a ≡ true) × (b ≡ true)
-and_parts true b h = (refl, h)
-and_parts false b h = cc
-
-is_not : (b : Bool) → not b ≡ true → b ≡ false
-is_not true h = cc
-is_not false h = refl
-
 past_due : (time due : ℕ) (active : Bool) → active ≡ false → (not active && due == time) ≡ false → time ≤ due → time < due
 past_due time due true h k early = cc
 past_due time due false h k early =
@@ -274,11 +262,12 @@ timed_applied EndSlot s e h =
     (each-to (NotAfter (next_wake None s.places)) (NotAfter (next_time s)) (not_after_more (next_wake None s.places) s.updates) s.places (each_wake None s.places))
     (each_update (next_wake None s.places) s.updates)
 
-enabled_of : (grain : Grain) (d : Parts) (s : State) (m : Move) → allowed grain d s m ≡ true → (s.over ≡ false) × (is_enabled s m ≡ true)
+-- what an allowed move asks for
+pub enabled_of : (grain : Grain) (d : Parts) (s : State) (m : Move) → allowed grain d s m ≡ true → (s.over ≡ false) × (is_enabled s m ≡ true)
 enabled_of grain d s m h =
     let first = and_parts (not s.over && is_enabled s m) (is_free grain d s m) h in
     let second = and_parts (not s.over) (is_enabled s m) first.0 in
-    (is_not s.over second.0, second.1)
+    (not-true s.over second.0, second.1)
 
 timed : (grain : Grain) (d : Parts) (moves : List Move) → Legal grain d moves → Timed (after d moves)
 timed grain d [] h = record { places = later_start d.processes; updates = tt }
@@ -289,9 +278,9 @@ next_above : (s : State) → is_enabled s EndSlot ≡ true → Timed s → Above
 next_above s e h =
     let a = and_parts (not (is_busy s) && not (has_inactive s)) (not (has_due s)) e in
     let b = and_parts (not (is_busy s)) (not (has_inactive s)) a.0 in
-    let quiet = or_parts (list_any is_going s.places || list_any (λ (x : AssignState). x.needs || is_some x.pending) s.assigns) (list_any (λ (u : Update). u.active) s.updates) (is_not (is_busy s) b.0) in
+    let quiet = or_parts (list_any is_going s.places || list_any (λ (x : AssignState). x.needs || is_some x.pending) s.assigns) (list_any (λ (u : Update). u.active) s.updates) (not-true (is_busy s) b.0) in
     above_update s.time (next_wake None s.places) s.updates (above_wake s.time None s.places tt h.places)
-    (all_past s.time s.updates quiet.1 (is_not (has_due s) a.1) h.updates)
+    (all_past s.time s.updates quiet.1 (not-true (has_due s) a.1) h.updates)
 
 -- ---- the slots
 

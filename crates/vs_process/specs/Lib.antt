@@ -1,5 +1,6 @@
 pub mod Effects
 pub mod Executions
+pub mod Idle
 pub mod Laws
 pub mod Permitted
 pub mod Places

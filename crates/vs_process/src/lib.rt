@@ -7,6 +7,6 @@ mod moves;
 mod place;
 
 pub use effect::Effect;
-pub use laws::{moves_are_permitted, never_stuck, times_rise};
+pub use laws::{idle_assigns_have_values, moves_are_permitted, never_stuck, times_rise};
 pub use moves::{Gait, Grain, Move};
 pub use place::Place;

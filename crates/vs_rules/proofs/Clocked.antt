@@ -29,11 +29,11 @@ use Rattle.vs_design.specs.Uses.{whole, is_of, reads, reads_step, reads_signal, 
 use Rattle.vs_design.specs.WellFormed.{WellFormed, width_step, width_of, sized_step, is_sized, within_step, is_within, is_sound_assignment, is_sound_assign, sound_step, is_sound_statement, numbers_step, numbers, is_sound_process}
 use Rattle.vs_process.specs.Places.{Todo, perform, turns, flat}
 use Rattle.vs_process.specs.Steps.{Next, on, after, step, statement_step}
+use Rattle.vs_process.proofs.Todos.{flat-Block}
 use Rattle.vs_independence.specs.Race.{name, bit, target}
 use Rattle.vs_independence.specs.Threads.{todo_reads}
 use Rattle.vs_independence.specs.Discipline.{Reaches, here, through}
 use Rattle.vs_independence.proofs.Race.{width_number, sized_number, within_number, sound_assign, numbers_assign}
-use Rattle.vs_independence.proofs.WellFormed.{flat-Block}
 use Rattle.vs_independence.proofs.Whole.{independent}
 use Rattle.vs_rules.specs.Points.{Among, statement_nexts, Goes, first_todo, WritesNow, WritesLater, Point, Late, Slot0, RunsAt}
 use Rattle.vs_rules.specs.Claims.{Name, SignalClaim, controls_step, controls_in, controls_of, slots_of, list_of, ends_at, claim_of, writer_in, second_in, is_writer, is_second}

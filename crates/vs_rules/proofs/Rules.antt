@@ -3,10 +3,10 @@ use Rattle.std.proofs.Common.{◌≡◌, ℕ, zero, suc, ◌%◌, ◌<◌, ◌�
 use Rattle.std.specs.Str.{bytes_eq}
 use Rattle.std.proofs.lemmas.Slice.Eq.{bytes_eq-Decides}
 use Rattle.std.proofs.Math.ListN.{get_or-map}
-use Rattle.vs_independence.proofs.Lists.{map_at}
 use Rattle.std.proofs.lemmas.Bool.{cond_both, cases_Bool, or_left, cases_eq, eqb-true, eqb-false, true≢false, false≢true}
 use Rattle.std.proofs.lemmas.List.{get_or-set_same, get_or-set_other}
 use Rattle.std.proofs.lemmas.Option.{slice_get_within, get_or_from_slice_get}
+use Rattle.vs_logic4.specs.declared.digit.Digit.{Digit}
 use Rattle.vs_design.specs.declared.design.Assign.{Assign}
 use Rattle.vs_design.specs.declared.design.Process.{Process}
 use Rattle.vs_design.specs.declared.statement.Target.{Target}
@@ -16,7 +16,6 @@ use Rattle.vs_design.specs.Uses.{reads_signal, writes_signal}
 use Rattle.vs_design.specs.WellFormed.{WellFormed}
 use Rattle.vs_design.specs.Writes.{Write}
 use Rattle.vs_eval.specs.Targets.{assigned}
-use Rattle.vs_logic4.specs.declared.digit.Digit.{Digit}
 use Rattle.vs_process.specs.declared.moves.Gait.{Gait}
 use Rattle.vs_process.specs.declared.moves.Gait.TheVariants.{Woken, Fresh}
 use Rattle.vs_process.specs.declared.moves.Grain.{Grain}
@@ -26,20 +25,22 @@ use Rattle.vs_process.specs.Places.{Todo, Place, going, sleeping, inactive, ende
 use Rattle.vs_process.specs.Steps.{step}
 use Rattle.vs_process.specs.States.{State, AssignState, Update, start, todo_of, place_behind, performed, stepped, evaluate, propagate, propagate_value, make, roused, woken_at, start_assign, evaluated, settled}
 use Rattle.vs_process.specs.Executions.{after, Legal, ends, next_time, slot_behind, places_at, time_at}
+use Rattle.vs_process.proofs.Lists.{map_at, distinct_place}
+use Rattle.vs_process.proofs.Assigns.{links, link_of, driven, links_touched, links_set, target_is}
+use Rattle.vs_process.proofs.WellFormed.{one_driver, variable_undriven}
+use Rattle.vs_process.proofs.Times.{enabled_of}
 use Rattle.vs_independence.specs.Threads.{Thread, IsThread, place_reads, todo_reads}
 use Rattle.vs_independence.specs.Discipline.{Reaches, here, through, IsAtStart, Begins, IsOrdered, KeepsApart, Disciplined}
-use Rattle.vs_rules.specs.Points.{Point, Late, Slot0, WritesNow, WritesLater, Hot, RunsAt, first_todo}
-use Rattle.vs_rules.specs.Claims.{Name, Claims, claim_of, writer_in, second_in, names_process, is_writer, is_second, place_of, ends_at}
-use Rattle.vs_rules.specs.Rules.{now, later, by, K2, K4, K10, Ruled}
-use Rattle.vs_independence.proofs.Assigns.{assigns_behind, links, link_of, driven, links_touched, links_set, target_is}
+use Rattle.vs_independence.proofs.Assigns.{assigns_behind}
 use Rattle.vs_independence.proofs.Settle.{AllIdle}
 use Rattle.vs_independence.proofs.Threads.{is_stopped, stopped_from}
 use Rattle.vs_independence.proofs.Making.{none_get}
 use Rattle.vs_independence.proofs.Ends.{AtEnd, at_end, all_idle, some_of}
 use Rattle.vs_independence.proofs.Times.{is_after, after_next, get_from_all}
-use Rattle.vs_independence.proofs.Whole.{enabled_of}
 use Rattle.vs_independence.proofs.Moves.{performed_at, performed_is}
-use Rattle.vs_independence.proofs.WellFormed.{distinct_place, one_driver, variable_undriven}
+use Rattle.vs_rules.specs.Points.{Point, Late, Slot0, WritesNow, WritesLater, Hot, RunsAt, first_todo}
+use Rattle.vs_rules.specs.Claims.{Name, Claims, claim_of, writer_in, second_in, names_process, is_writer, is_second, place_of, ends_at}
+use Rattle.vs_rules.specs.Rules.{now, later, by, K2, K4, K10, Ruled}
 use Rattle.vs_rules.proofs.Points.{At, at_zero, at_later, Here, Stands, Closed, stands_step, stands_roused, stands_active, HotAt, Walked, walked}
 
 -- every process stands where the rules say

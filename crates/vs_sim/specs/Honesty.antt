@@ -12,6 +12,7 @@ use Rattle.vs_design.specs.Parts.{Parts}
 use Rattle.vs_elaborate.specs.DesignOf.{DesignOf}
 use Rattle.vs_elaborate.specs.Faults.{Faults}
 use Rattle.vs_kernel.specs.Runs.{RanTo, HasBegun}
+use Rattle.vs_kernel.specs.Shows.{ShowsSlotEnds}
 use Rattle.vs_kernel.specs.declared.outcome.Outcome.{Outcome}
 use Rattle.vs_kernel.specs.declared.outcome.RunFault.TheVariants as run
 use Rattle.vs_sim.specs.declared.fault.SimFault.{SimFault}
@@ -63,11 +64,13 @@ is_refusal (Run fault) = false
 is_refusal _ = true
 
 -- a simulation that answered an outcome: the design that the bytes and the top define ran to the moment in at most so many steps, and the value
--- change dump of this run was appended to the known bytes of a sink
+-- change dump of this run was appended to the known bytes of a sink; it shows, of each signal that is no array, at each time, the value at the end
+-- of the last slot at or before that time
 pub record IsRun (bytes top : List ℕ) (until steps : ℕ) (outcome : Outcome) (old new : Option (List ℕ)) : Type 0 where
   pub design : Parts
   pub defined : Defines bytes top design
   pub ran : RanTo design until steps outcome old new
+  pub shows : ShowsSlotEnds design ran.moves until
 
 -- whether a simulation failed because the sink of the value change dump did
 abbrev pub is_write : {A : Type 0} → Result A SimFault → Bool

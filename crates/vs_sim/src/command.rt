@@ -117,7 +117,8 @@ fn run_source<'s, W: Write>(
     source: &'s [u8],
     writer: W,
 ) -> (Result<Outcome, SimFault<'s>>, W)
-    ensures ok { IfOk result.0 (λ outcome. Wrote request.entry.text source.entry.now request.entry outcome (W.contents writer) (W.contents result.1)) }
+    ensures ok { IfOk result.0 (λ outcome. Wrote request.entry.text source.entry.now request.entry
+        outcome (W.contents writer) (W.contents result.1)) }
     ensures err { IfErr result.0 (λ fault. Fails source.entry.now request.entry.top.now fault) }
 {
     let mut shown = Counted::new(writer);

@@ -9,7 +9,7 @@ use vs_lexer::LexFault;
 use vs_parser::ParseFault;
 
 /// Why a simulation gave no outcome.
-#[derive(Debug, Drop)]
+#[derive(Drop)]
 pub enum SimFault<'s> {
     /// The bytes spell no tokens: L1 to L6, or memory.
     Lex(LexFault),

@@ -7,11 +7,12 @@ ghost use Rattle.vs_vcd.specs.Sinks.{failed_after};
 use crate::fault::SimFault;
 use std::alloc::Global;
 use vs_design::Design;
-use vs_elaborate::elaborate;
-use vs_kernel::{Fifo, Kernel, Outcome};
-use vs_lexer::lex;
+use vs_elaborate::{elaborate, names_of_one_line as defined_of_one_line};
+use vs_kernel::{Fifo, Kernel, Outcome, dumps_show_slot_ends};
+use vs_lexer::{lex, names_of_one_line as spelled_of_one_line};
 use vs_parser::parse;
 use vs_process::never_stuck;
+use vs_syntax::names_are_tokens;
 use vs_vcd::Sink;
 
 /// Which enabled item is next.
@@ -23,7 +24,8 @@ pub enum Policy {
 
 // The design that a source and a top define.
 fn design_of<'s>(alloc: Global, source: &'s [u8], top: &[u8]) -> Result<Design, SimFault<'s>>
-    ensures { MatchResult result (λ d. Defines source.entry.now top.now d) (λ fault. DefinesNone source.entry.now top.now fault) }
+    ensures { MatchResult result (λ d. Defines source.entry.now top.now d)
+        (λ fault. DefinesNone source.entry.now top.now fault) }
 {
     let tokens = lex(alloc, source)?;
     let tree = parse(alloc, &tokens)?;
@@ -34,8 +36,8 @@ fn design_of<'s>(alloc: Global, source: &'s [u8], top: &[u8]) -> Result<Design, 
 /// Runs the design that a source and the name of a top module define, until its time is past `until`, in ticks, or no event is left, in at most `steps`
 /// steps. The value change dump is written to `vcd`; `lines` takes no byte, since the language has no system task that prints.
 ///
-/// Where it answers an outcome, the run is an execution of the design that the source defines, and the dump is that execution's. Where the source
-/// is refused, nothing is written.
+/// Where it answers an outcome, the run is an execution of the design that the source defines, and the dump is that execution's: it shows, of each
+/// signal at each time, the value at the end of the last slot at or before that time. Where the source is refused, nothing is written.
 pub fn simulate<'s, V: Sink, L: Sink>(
     alloc: Global,
     source: &'s [u8],
@@ -48,7 +50,8 @@ pub fn simulate<'s, V: Sink, L: Sink>(
 ) -> Result<Outcome, SimFault<'s>>
     requires until { until < 2 ^ 62 }
     requires steps { steps < 2 ^ 62 }
-    ensures honest { IfOk result (λ outcome. IsRun source.entry.now top.now until steps outcome (V.bytes vcd.old) (V.bytes vcd.new)) }
+    ensures honest { IfOk result (λ outcome.
+        IsRun source.entry.now top.now until steps outcome (V.bytes vcd.old) (V.bytes vcd.new)) }
     ensures fault { IfErr result (λ fault. Fails source.entry.now top.now fault) }
     ensures refused { IfErr result (λ fault. is_refusal fault ≡ true → vcd.new ≡ vcd.old) }
     ensures begun { IfErr result (λ fault. is_refusal fault ≡ false →
@@ -58,6 +61,10 @@ pub fn simulate<'s, V: Sink, L: Sink>(
     ensures never_stuck { NeverStuck }
 {
     never_stuck();
+    dumps_show_slot_ends();
+    spelled_of_one_line();
+    names_are_tokens();
+    defined_of_one_line();
     let design = design_of(alloc, source, top)?;
     match policy {
         Policy::Fifo => {

@@ -12,7 +12,8 @@ use Rattle.vs_design.specs.Traces.{Slot, AreRising}
 use Rattle.vs_vcd.specs.Codes.{shown, place_of}
 use Rattle.vs_vcd.specs.Values.{shown_value}
 use Rattle.vs_vcd.specs.Text.{text_of, declared, entry_lines, outline_lines, end_of_definitions, header_lines, slots_lines}
-use Rattle.vs_vcd.specs.Shown.{dump_lines, body_lines, Shows, slot_at, is_one_line, HasNamesOfOneLine}
+use Rattle.vs_vcd.specs.Shown.{dump_lines, body_lines, Shows, slot_at}
+use Rattle.vs_design.specs.OneLine.{is_one_line, HasNamesOfOneLine}
 use Rattle.vs_vcd.proofs.CodeTableLemmas.{place_found}
 use Rattle.vs_vcd.proofs.LineLemmas.{text_of-append}
 use Rattle.vs_vcd.proofs.OneLineLemmas.{dump_lines-text_of, all-append, header_one_line, slots_one_line}

@@ -26,7 +26,8 @@ use Rattle.vs_design.specs.Traces.{Slot}
 use Rattle.vs_vcd.specs.Codes.{code, code_with_fuel, shown, place_of}
 use Rattle.vs_vcd.specs.Values.{digit_character, shortened, value_change, shown_value}
 use Rattle.vs_vcd.specs.Text.{text_of, magnitude_word, unit_word, span_text, precision, scope_word, kind_word, scope_line, range_text, shape_text, declaration, declared, entry_lines, outline_lines, end_of_definitions, header_lines, time_line, coded_lines, change_line, value_line, value_lines, is_same, changed_line, change_lines, first_lines, timed, later_lines, lines_after, slots_lines, end_lines}
-use Rattle.vs_vcd.specs.Shown.{dump_lines, is_one_line, is_one_line_entry, HasNamesOfOneLine}
+use Rattle.vs_design.specs.OneLine.{is_one_line, is_one_line_entry, HasNamesOfOneLine}
+use Rattle.vs_vcd.specs.Shown.{dump_lines}
 
 -- ---- reading lines back
 

@@ -1,15 +1,12 @@
 -- What a value change dump shows: the plain reading of its text.
-use Rattle.std.specs.Prelude.{◌≡◌, ℕ, ◌-◌, ◌==◌, ◌&&◌, not, nat_le, Bool, true, IsTrue, Option, Some, None, if◌then◌else◌}
+use Rattle.std.specs.Prelude.{◌≡◌, ℕ, ◌-◌, ◌==◌, ◌&&◌, nat_le, Bool, Option, Some, None, if◌then◌else◌}
 use Rattle.std.specs.Prelude.{List, [], ◌∷◌, ◌++◌, length, reverse, replicate}
 use Rattle.std.specs.Option.{option_or}
-use Rattle.std.specs.List.{list_all, slice_split, cons_option}
+use Rattle.std.specs.List.{slice_split, cons_option}
 use Rattle.std.specs.Str.{bytes_eq}
 use Rattle.std.specs.Str.Parse.{digits_value}
 use Rattle.vs_logic4.specs.declared.digit.Digit.{Digit}
 use Rattle.vs_logic4.specs.declared.digit.Digit.TheVariants.{Zero, One, X, Z}
-use Rattle.vs_design.specs.declared.signal.Signal.{Signal}
-use Rattle.vs_design.specs.declared.design.Entry.{Entry}
-use Rattle.vs_design.specs.declared.design.Entry.TheVariants.{Enter, Declare, Leave}
 use Rattle.vs_design.specs.Parts.{Parts}
 use Rattle.vs_design.specs.Traces.{Slot}
 use Rattle.vs_vcd.specs.Codes.{code, shown, place_of}
@@ -123,20 +120,3 @@ pub record Shows (text : List ℕ) (d : Parts) (time signal : ℕ) (value : List
 abbrev pub slot_at : ℕ → List Slot → Option Slot
 slot_at time [] = None
 slot_at time (s ∷ ss) = option_or (slot_at time ss) (if nat_le s.time time then Some s else None)
-
--- ---- names
-
--- whether no byte is a line feed
-abbrev pub is_one_line : List ℕ → Bool
-is_one_line bytes = list_all (λ b. not (b == 10)) bytes
-
--- whether a scope that is opened has a name without line feed
-abbrev pub is_one_line_entry : Entry → Bool
-is_one_line_entry (Enter kind name) = is_one_line name.items
-is_one_line_entry (Declare number) = true
-is_one_line_entry Leave = true
-
--- no name of the design holds a line feed
-pub record HasNamesOfOneLine (d : Parts) : Type 0 where
-  pub signals : IsTrue (list_all (λ (s : Signal). is_one_line s.name.items) d.signals)
-  pub scopes : IsTrue (list_all is_one_line_entry d.outline)

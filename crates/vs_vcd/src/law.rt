@@ -1,12 +1,13 @@
 //! Laws of the text of a value change dump.
 ghost use Rattle.std.specs.Prelude.{ℕ, ◌++◌, List, IfSome};
 ghost use Rattle.std.specs.List.{Contains};
+ghost use Rattle.vs_design.specs.OneLine.{HasNamesOfOneLine};
 ghost use Rattle.vs_design.specs.Parts.{Parts};
 ghost use Rattle.vs_design.specs.Traces.{Slot, Trace, AreRising};
 ghost use Rattle.vs_vcd.specs.Codes.{shown};
 ghost use Rattle.vs_vcd.specs.Values.{shown_value};
 ghost use Rattle.vs_vcd.specs.Text.{vcd_text, vcd_header, vcd_slots};
-ghost use Rattle.vs_vcd.specs.Shown.{Shows, slot_at, HasNamesOfOneLine};
+ghost use Rattle.vs_vcd.specs.Shown.{Shows, slot_at};
 
 /// A dump shows of each signal that is no array, at each time, its value at the end of the last slot at or before that time.
 /// It does so with its end, and without it.

@@ -1,17 +1,12 @@
 -- What the functions on expressions and statements answer.
-use Rattle.std.specs.Prelude.{◌≡◌, ℕ, zero, suc, ◌+◌, ◌<◌, ◌≤◌, Bool, true, false, ◌||◌, List, [], ◌∷◌, Option, Some, None, map, option_map, is_none}
+use Rattle.std.specs.Prelude.{◌≡◌, ℕ, zero, suc, ◌+◌, ◌<◌, ◌≤◌, Bool, false, ◌||◌, List, [], ◌∷◌, Option, Some, None, map, option_map, is_none}
 use Rattle.std.specs.List.{list_any}
-use Rattle.vs_tokens.specs.declared.token.Literal.{Literal}
 use Rattle.vs_syntax.specs.declared.tree.Expr.{Expr}
 use Rattle.vs_syntax.specs.declared.tree.Stmt.{Stmt}
 use Rattle.vs_design.specs.Uses.{joined}
-use Rattle.vs_design.specs.declared.expression.Typed.{Typed}
-use Rattle.vs_design.specs.declared.statement.Target.{Target}
 use Rattle.vs_design.specs.declared.statement.Statement.{Statement}
-use Rattle.vs_design.specs.declared.statement.Ticks.{Ticks}
 use Rattle.vs_design.specs.WellFormed.{numbers}
 use Rattle.vs_elaborate.specs.declared.bindings.Shape.{Shape}
-use Rattle.vs_elaborate.specs.declared.bindings.Meaning.{Meaning}
 use Rattle.vs_elaborate.specs.declared.bindings.Binding.{Binding}
 use Rattle.vs_elaborate.specs.declared.assignments.AssignmentKind.{AssignmentKind}
 use Rattle.vs_elaborate.specs.declared.faults.Reason.{Reason}
@@ -19,9 +14,8 @@ use Rattle.vs_elaborate.specs.declared.faults.Reason.TheVariants.{Width}
 use Rattle.vs_elaborate.specs.declared.faults.WidthReason.TheVariants.{Unknown, WrongKind}
 use Rattle.vs_elaborate.specs.Names.{meaning_of}
 use Rattle.vs_elaborate.specs.Environment.{Environment}
-use Rattle.vs_elaborate.specs.Literals.{delay_of}
-use Rattle.vs_elaborate.specs.Expressions.{shape_of, is_unknown}
-use Rattle.vs_elaborate.specs.Statements.{IsAssignment, IsStatement, AreStatements, is_wrong_kind, has_fault, is_overfull, count_of, total}
+use Rattle.vs_elaborate.specs.Expressions.{is_unknown}
+use Rattle.vs_elaborate.specs.Statements.{IsStatement, AreStatements, is_wrong_kind, has_fault, is_overfull, count_of, total}
 use Rattle.vs_elaborate.specs.Scopes.{Behavior}
 use Rattle.vs_elaborate.specs.Processes.{IsBody, statements_of}
 

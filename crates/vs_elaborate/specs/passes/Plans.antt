@@ -1,5 +1,5 @@
 -- What a plan holds, a pass at a time.
-use Rattle.std.specs.Prelude.{◌≡◌, ℕ, suc, ◌+◌, ◌<◌, ◌≤◌, ◌⊎◌, Bool, true, false, List, [], ◌∷◌, ◌++◌, Option, Some, None, length, map, option_map, slice_get, All}
+use Rattle.std.specs.Prelude.{◌≡◌, ℕ, suc, ◌+◌, ◌<◌, ◌≤◌, ◌⊎◌, Bool, true, false, List, [], ◌∷◌, ◌++◌, Some, None, length, map, option_map, slice_get}
 use Rattle.std.specs.List.{list_any, AllZip, IsDistinct}
 use Rattle.std.specs.Str.{bytes_eq}
 use Rattle.std.specs.Borrow.{Bor}
@@ -9,23 +9,21 @@ use Rattle.vs_syntax.specs.declared.tree.Module.{Module}
 use Rattle.vs_design.specs.declared.signal.Signal.{Signal}
 use Rattle.vs_design.specs.declared.design.Assign.{Assign}
 use Rattle.vs_design.specs.declared.design.Process.{Process}
-use Rattle.vs_design.specs.declared.design.Entry.{Entry}
 use Rattle.vs_design.specs.declared.design.Entry.TheVariants.{Enter, Declare, Leave}
-use Rattle.vs_design.specs.declared.design.ScopeKind.TheVariants as k
 use Rattle.vs_elaborate.specs.declared.bindings.Meaning.{Meaning}
 use Rattle.vs_elaborate.specs.declared.bindings.Binding.{Binding}
 use Rattle.vs_elaborate.specs.declared.faults.Reason.{Reason}
-use Rattle.vs_elaborate.specs.declared.faults.Reason.TheVariants.{NoModule, DeclaredTwice, DrivenTwice, Limit, Width}
+use Rattle.vs_elaborate.specs.declared.faults.Reason.TheVariants.{NoModule, DeclaredTwice, DrivenTwice, Limit}
 use Rattle.vs_elaborate.specs.declared.faults.ElabFault.{ElabFault}
 use Rattle.vs_elaborate.specs.declared.faults.ElabFault.TheVariants.{Memory, At}
 use Rattle.vs_elaborate.specs.declared.plans.Frame.{Frame}
 use Rattle.vs_elaborate.specs.declared.plans.Plan.{Plan}
 use Rattle.vs_elaborate.specs.Names.{meaning_of}
-use Rattle.vs_elaborate.specs.Printed.{Path, printed, printed_name}
+use Rattle.vs_elaborate.specs.Printed.{Path, printed_name}
 use Rattle.vs_elaborate.specs.Scopes.{Scope, DeclaredName, Assignment, Behavior, module_named, names_in, meaning_as, drivers_of, behaviors_of, declarations_of, named}
 use Rattle.vs_elaborate.specs.Processes.{behavior_fault, driver_fault}
-use Rattle.vs_elaborate.specs.Faults.{Repeated, NamesTwice, PassesLimit, HoldsIn}
-use Rattle.vs_elaborate.specs.DesignOf.{declared, signal_of, signals_of, parts_from, IsProcess, IsAssign}
+use Rattle.vs_elaborate.specs.Faults.{Repeated, NamesTwice, HoldsIn}
+use Rattle.vs_elaborate.specs.DesignOf.{declared, signal_of, signals_of, PartOf, parts_from, IsProcess, IsAssign}
 use Rattle.vs_elaborate.specs.passes.Answers.{borrowed}
 use Rattle.vs_elaborate.specs.passes.Bodies.{Bindings, meanings, IsNumber, counting}
 
@@ -75,7 +73,19 @@ DeclaresNot s start ds DeclaredTwice p = (n : List ℕ) × (p ≡ named s n) × 
 DeclaresNot s start ds Limit p = (65536 < length start.signals.items + length ds) × (p ≡ s.path)
 DeclaresNot s start ds _ p = ⊥
 
--- ---- continuous assignments
+-- ---- parts of a scope
+
+-- parts that were added behind a start, one for each that is done: none of those has a fault, and each is what its own means
+pub record Adds {A P : Type 0} (fault : Reason → A → Bool) (R : P → PartOf A → Type 0) (letter : ℕ) (s : Scope) (first : ℕ) (all start : List P) (done : List A) : Type 0 where
+  pub begun : length start ≡ first
+  pub sound : (r : Reason) → list_any (fault r) done ≡ false
+  pub added : List P
+  pub parts : all ≡ start ++ added
+  pub means : AllZip R added (parts_from letter s 0 done)
+
+-- why they weren't: one has a fault
+abbrev pub AddsNot : {A : Type 0} → (Reason → A → Bool) → Scope → List A → Reason → Path → Type 0
+AddsNot fault s xs r p = (list_any (fault r) xs ≡ true) × (p ≡ s.path)
 
 -- the parts of a plan that a pass over bodies leaves alone
 pub record SameSignals (start plan : Plan) : Type 0 where
@@ -84,33 +94,23 @@ pub record SameSignals (start plan : Plan) : Type 0 where
 
 -- continuous assignments of a scope that were added, from a start on
 pub record Drives (s : Scope) (names : Bindings) (first : ℕ) (plan start : Plan) (done : List Assignment) : Type 0 where
-  pub begun : length start.assigns.items ≡ first
-  pub sound : (r : Reason) → list_any (driver_fault r (meanings names)) done ≡ false
-  pub added : List Assign
-  pub assigns : plan.assigns.items ≡ start.assigns.items ++ added
-  pub means : AllZip (IsAssign (IsNumber names) (meanings names)) added (parts_from 97 s 0 done)
+  pub adds : Adds (λ r. driver_fault r (meanings names)) (IsAssign (IsNumber names) (meanings names)) 97 s first plan.assigns.items start.assigns.items done
   pub processes : plan.processes.items ≡ start.processes.items
   pub same : SameSignals start plan
 
 -- why they weren't: one has a fault
 abbrev pub DrivesNot : Scope → Bindings → Plan → List Assignment → Reason → Path → Type 0
-DrivesNot s names start xs r p = (list_any (driver_fault r (meanings names)) xs ≡ true) × (p ≡ s.path)
-
--- ---- processes
+DrivesNot s names start = AddsNot (λ r. driver_fault r (meanings names)) s
 
 -- processes of a scope that were added, from a start on
 pub record Runs (s : Scope) (names : Bindings) (first : ℕ) (plan start : Plan) (done : List Behavior) : Type 0 where
-  pub begun : length start.processes.items ≡ first
-  pub sound : (r : Reason) → list_any (behavior_fault r (meanings names)) done ≡ false
-  pub added : List Process
-  pub processes : plan.processes.items ≡ start.processes.items ++ added
-  pub means : AllZip (IsProcess (IsNumber names) (meanings names)) added (parts_from 112 s 0 done)
+  pub adds : Adds (λ r. behavior_fault r (meanings names)) (IsProcess (IsNumber names) (meanings names)) 112 s first plan.processes.items start.processes.items done
   pub assigns : plan.assigns.items ≡ start.assigns.items
   pub same : SameSignals start plan
 
 -- why they weren't: one has a fault
 abbrev pub RunsNot : Scope → Bindings → Plan → List Behavior → Reason → Path → Type 0
-RunsNot s names start xs r p = (list_any (behavior_fault r (meanings names)) xs ≡ true) × (p ≡ s.path)
+RunsNot s names start = AddsNot (λ r. behavior_fault r (meanings names)) s
 
 -- ---- scopes
 

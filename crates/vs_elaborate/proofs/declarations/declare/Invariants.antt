@@ -1,4 +1,4 @@
-use Rattle.std.proofs.Common.{◌∷◌, [], take}
+use Rattle.std.proofs.Common.{take}
 use Rattle.std.specs.List.{flat_map}
 use Rattle.vs_elaborate.specs.Scopes.{declared_in}
 use Rattle.vs_elaborate.specs.passes.Plans.{scope_of, Declares}

@@ -2,7 +2,7 @@ use Rattle.std.proofs.Common.{arith}
 use Rattle.std.proofs.lemmas.Result.{err_from_is_err_and}
 use Rattle.vs_elaborate.specs.Scopes.{net_assignment}
 use Rattle.vs_elaborate.specs.passes.Plans.{scope_of, Drives, DrivesNot}
-use Rattle.vs_elaborate.proofs.AnswerLemmas.{one_all, one_fault}
+use Rattle.vs_elaborate.proofs.AnswerLemmas.{one_more, one_all, one_fault}
 use Rattle.vs_elaborate.proofs.PlanLemmas.{drives_not_more}
 use Rattle.vs_elaborate.proofs.drivers.drive_assigned.Goals as goal
 
@@ -16,3 +16,8 @@ pub returns : goal.returns
 returns c =
     let s = scope_of c.args.frame.now in
     one_all net_assignment (Drives s c.args.names.now c.args.first c.args.plan.now) (Drives s c.args.names.now c.args.first c.loop-one.plan) c.args.list.now c.loop-one.one-index (omega arith) c.loop-one.invariant
+
+pub loop-one-preserved : goal.loop-one-preserved
+loop-one-preserved c =
+    let s = scope_of c.args.frame.now in
+    one_more net_assignment (Drives s c.args.names.now c.args.first c.args.plan.now) (Drives s c.args.names.now c.args.first c.loop-one.plan) (Drives s c.args.names.now c.args.first c.drive.new.plan) c.args.list.now c.loop-one.one-index c.one-item.result (omega arith) c.one-item.is c.loop-one.invariant (rw c.deref.ensures.value at c.in_ok-drive.ensures)

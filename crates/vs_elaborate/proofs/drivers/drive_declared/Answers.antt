@@ -1,12 +1,14 @@
-use Rattle.std.proofs.Common.{◌++◌, refl, subst, arith}
+use Rattle.std.proofs.Common.{◌++◌, subst, arith}
+use Rattle.std.proofs.lemmas.List.{append-nil}
 use Rattle.std.proofs.lemmas.Result.{err_from_is_err_and}
 use Rattle.vs_syntax.specs.declared.tree.Declarator.{Declarator}
-use Rattle.vs_elaborate.specs.Scopes.{Assignment, assignment_of}
+use Rattle.vs_elaborate.specs.Scopes.{assignment_of}
 use Rattle.vs_elaborate.specs.passes.Answers.{Told}
 use Rattle.vs_elaborate.specs.passes.Plans.{scope_of, Drives, DrivesNot}
-use Rattle.vs_elaborate.proofs.AnswerLemmas.{kept_all, kept_fault}
+use Rattle.vs_elaborate.proofs.AnswerLemmas.{kept_more, kept_all, kept_fault}
 use Rattle.vs_elaborate.proofs.PlanLemmas.{drives_not_more, assignment_some}
 use Rattle.vs_elaborate.proofs.drivers.drive_declared.Goals as goal
+use Rattle.vs_elaborate.proofs.drivers.drive_declared.Goals.{in-Some+in_ok-drive, in_default}
 
 pub returns-in_err-drive : goal.returns-in_err-drive
 returns-in_err-drive c =
@@ -18,3 +20,10 @@ pub returns : goal.returns
 returns c =
     let s = scope_of c.args.frame.now in
     kept_all (λ (d : Declarator). assignment_of d.name.items d.value) (Drives s c.args.names.now c.args.first c.args.plan.now) (Drives s c.args.names.now c.args.first c.loop-declarator.plan) c.args.declarators.now c.loop-declarator.declarator-index (omega arith) c.loop-declarator.invariant
+
+pub loop-declarator-preserved : goal.loop-declarator-preserved
+loop-declarator-preserved c =
+    let s = scope_of c.args.frame.now in
+    let d = c.declarator-item.result in
+    kept_more (λ (d : Declarator). assignment_of d.name.items d.value) (Drives s c.args.names.now c.args.first c.args.plan.now) (Drives s c.args.names.now c.args.first c.loop-declarator.plan) (Drives s c.args.names.now c.args.first c.match-declarator.plan) c.args.declarators.now c.loop-declarator.declarator-index d (omega arith) c.declarator-item.is c.loop-declarator.invariant
+    (elim c.match-declarator.branch [ in-Some+in_ok-drive w ↦ λ start done h. rw w.plan-is (subst (λ z. Drives s c.args.names.now c.args.first w.drive.new.plan start (done ++ z)) (assignment_some d.name.items _ d.value w.in-Some.value w.deref.ensures.value w.in-Some.is) (w.in_ok-drive.ensures start done h)) | in_default w ↦ λ start done h. rw (w.plan-is, w.in_default.is, append-nil) h ])

@@ -1,7 +1,5 @@
-use Rattle.std.proofs.Common.{◌≡◌, ◌++◌, Result, MatchResult, refl, subst}
-use Rattle.vs_elaborate.specs.declared.plans.Plan.{Plan}
-use Rattle.vs_elaborate.specs.Scopes.{Behavior, sets}
-use Rattle.vs_elaborate.specs.passes.Answers.{Told}
+use Rattle.std.proofs.Common.{refl}
+use Rattle.vs_elaborate.specs.Scopes.{sets}
 use Rattle.vs_elaborate.specs.passes.Plans.{scope_of, Runs, RunsNot}
 use Rattle.vs_elaborate.proofs.AnswerLemmas.{grows_same}
 use Rattle.vs_elaborate.proofs.PlanLemmas.{setting_some}

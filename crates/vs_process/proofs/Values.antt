@@ -1,5 +1,5 @@
--- A value depends on what its expression reads, and a step on what it reads.
-use Rattle.std.proofs.Common.{◌≡◌, ℕ, zero, suc, not, Bool, true, false, Some, None, List, [], ◌∷◌, map, slice_get, refl, sym, ◌∙◌, ap, ap₂, eq-eqb}
+-- A value depends on what its expression reads.
+use Rattle.std.proofs.Common.{◌≡◌, ℕ, not, Bool, true, false, List, [], ◌∷◌, map, slice_get, refl, sym, ◌∙◌, ap, ap₂, eq-eqb}
 use Rattle.std.specs.List.{list_any}
 use Rattle.std.proofs.lemmas.Bool.{and_parts, not-false, not_from_true, false≢true}
 use Rattle.vs_logic4.specs.declared.digit.Digit.{Digit}
@@ -8,20 +8,11 @@ use Rattle.vs_logic4.specs.Sameness.{same_digits-true, same_digits_self}
 use Rattle.vs_design.specs.declared.expression.Typed.{Typed}
 use Rattle.vs_design.specs.declared.range.BitRange.{BitRange}
 use Rattle.vs_design.specs.declared.statement.Target.{Target}
-use Rattle.vs_design.specs.declared.statement.Statement.{Statement}
-use Rattle.vs_design.specs.declared.statement.Statement.TheOpen.{Statement-F}
-use Rattle.vs_design.specs.declared.statement.Statement.TheViews.{out-Statement}
 use Rattle.vs_design.specs.Stores.{Store, same_words, words_in, chosen_words, chosen_bits, content, is_changed}
 use Rattle.vs_design.specs.Uses.{reads, reads_signal, is_of}
-use Rattle.vs_design.specs.Writes.{Write}
-use Rattle.vs_eval.specs.Targets.{assigned}
 use Rattle.vs_eval.specs.Values.{value_of, target_value}
 use Rattle.vs_eval.proofs.ReadsHold.{value_kept}
-use Rattle.vs_process.specs.Places.{perform, turns, Todo}
-use Rattle.vs_process.specs.Steps.{Out, step, statement_step, goes, on}
-use Rattle.vs_independence.specs.Threads.{statement_reads, todo_reads}
-use Rattle.vs_independence.proofs.Stores.{names_some}
-use Rattle.vs_independence.proofs.Lists.{any_at, at_any, none_from}
+use Rattle.vs_process.proofs.Lists.{any_at, at_any, none_from}
 
 -- ---- changes of ranges
 
@@ -85,39 +76,3 @@ target_value_unchanged a b m n t e h = ap (resized false t.width) (value_unchang
 
 pub target_value_reads : (a b : Store) (m n : ℕ) (t : Target) (e : Typed) → Agree (reads_signal e) a b → target_value t e a m ≡ target_value t e b n
 target_value_reads a b m n t e h = ap (resized false t.width) (value_reads a b m n e h)
-
--- ---- steps
-
-statement_step_reads : (a b : Store) (s : Statement) (f : Statement-F Statement) (rest : Todo) (time : ℕ) → Agree (statement_reads f) a b → statement_step s f rest a time ≡ statement_step s f rest b time
-statement_step_reads a b s (Statement-F.Null n) rest time h = refl
-statement_step_reads a b s (Statement-F.Assign n t e) rest time h = ap (λ v. record (goes (on rest)) { write = Some (assigned t v a) }) (target_value_reads a b time time t e h)
-statement_step_reads a b s (Statement-F.Later n t e) rest time h = ap (λ v. record (goes (on rest)) { update = Some (0, assigned t v a) }) (target_value_reads a b time time t e h)
-statement_step_reads a b s (Statement-F.Block all) rest time h = refl
-statement_step_reads a b s (Statement-F.Delay n ticks body) rest time h = refl
-statement_step_reads a b s (Statement-F.Forever n body) rest time h = refl
-
--- a step of a process is the same in two stores that agree on what it reads
-pub step_reads : (a b : Store) (todo : Todo) (time : ℕ) → Agree (todo_reads todo) a b → step todo a time ≡ step todo b time
-step_reads a b [] time h = refl
-step_reads a b (perform s ∷ rest) time h = statement_step_reads a b s (out-Statement s) rest time h
-step_reads a b (turns zero s ∷ rest) time h = refl
-step_reads a b (turns (suc n) s ∷ rest) time h = refl
-
--- the language has no calls of `$strobe` yet; each update names a signal
-pub record IsPlain (out : Out) : Type 0 where
-  pub call : out.call ≡ None
-  pub update : (w : ℕ × Write) → out.update ≡ Some w → names_some w.1 ≡ true
-
-statement_plain : (s : Statement) (f : Statement-F Statement) (rest : Todo) (store : Store) (time : ℕ) → IsPlain (statement_step s f rest store time)
-statement_plain s (Statement-F.Null n) rest store time = record { call = refl; update = λ w h. cc }
-statement_plain s (Statement-F.Assign n t e) rest store time = record { call = refl; update = λ w h. cc }
-statement_plain s (Statement-F.Later n t e) rest store time = record { call = refl; update = λ w h. let p : (0, assigned t (target_value t e store time) store) ≡ w = cc in ap (λ x. names_some x.1) (sym p) }
-statement_plain s (Statement-F.Block all) rest store time = record { call = refl; update = λ w h. cc }
-statement_plain s (Statement-F.Delay n ticks body) rest store time = record { call = refl; update = λ w h. cc }
-statement_plain s (Statement-F.Forever n body) rest store time = record { call = refl; update = λ w h. cc }
-
-pub step_plain : (todo : Todo) (store : Store) (time : ℕ) → IsPlain (step todo store time)
-step_plain [] store time = record { call = refl; update = λ w h. cc }
-step_plain (perform s ∷ rest) store time = statement_plain s (out-Statement s) rest store time
-step_plain (turns zero s ∷ rest) store time = record { call = refl; update = λ w h. cc }
-step_plain (turns (suc n) s ∷ rest) store time = record { call = refl; update = λ w h. cc }

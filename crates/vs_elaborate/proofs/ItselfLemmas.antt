@@ -1,0 +1,87 @@
+-- A source says the same as itself.
+use Rattle.std.proofs.Common.{◌≡◌, List, [], ◌∷◌, Option, Some, None, map, refl, subst}
+use Rattle.vs_logic4.specs.declared.operators.Binary.{Binary}
+use Rattle.vs_syntax.specs.declared.tree.Expr.{Expr, Expr-F, roll-Expr, ind-Expr, map-Expr}
+use Rattle.vs_syntax.specs.declared.tree.Expr.TheOpen as f
+use Rattle.vs_syntax.specs.declared.tree.Expr.TheVariants.{rolls-Number, rolls-Name, rolls-Group, rolls-Unary, rolls-Chain}
+use Rattle.vs_syntax.specs.declared.tree.Stmt.{Stmt, Stmt-F, roll-Stmt, ind-Stmt, map-Stmt}
+use Rattle.vs_syntax.specs.declared.tree.Stmt.TheOpen as g
+use Rattle.vs_syntax.specs.declared.tree.Stmt.TheVariants.{rolls-Null, rolls-Assign, rolls-Later, rolls-Block, rolls-Delay}
+use Rattle.vs_syntax.specs.declared.tree.Declarator.{Declarator}
+use Rattle.vs_syntax.specs.declared.tree.Item.{Item}
+use Rattle.vs_syntax.specs.declared.tree.Item.TheVariants as i
+use Rattle.vs_syntax.specs.declared.tree.Module.{Module}
+use Rattle.vs_syntax.specs.Same.{SameExpr, same_number, same_name, same_group, same_unary, same_chain, SameLinks, same_no_link, same_link, SameStmt, same_null, same_assign, same_later, same_block, same_delay, SameStmts, same_no_stmt, same_more_stmts, Pairwise, no_pair, pair_more, SameValue, same_no_value, same_value, SameDeclarator, SameAssignment, SameItem, same_wire, same_reg, same_assigns, same_initial, same_always, SameModule}
+
+-- ---- expressions
+
+abbrev InnerExpr : Type 0
+InnerExpr = (x : Expr) × SameExpr x x
+
+abbrev bare_expr : Expr-F InnerExpr → Expr-F Expr
+bare_expr y = map-Expr InnerExpr Expr (λ p. p.0) y
+
+links_themselves : (ls : List (Binary × InnerExpr)) → SameLinks (map (λ l. (l.0, l.1.0)) ls) (map (λ l. (l.0, l.1.0)) ls)
+links_themselves [] = same_no_link
+links_themselves (l ∷ ls) = same_link _ _ _ _ refl l.1.1 (links_themselves ls)
+
+expr_layer : (y : Expr-F InnerExpr) → SameExpr (roll-Expr (bare_expr y)) (roll-Expr (bare_expr y))
+expr_layer (f.Number l) = rw (rolls-Number l) (same_number l)
+expr_layer (f.Name n) = rw (rolls-Name n) (same_name n n refl)
+expr_layer (f.Group x) = rw (rolls-Group _) (same_group _ _ x.value.1)
+expr_layer (f.Unary op x) = rw (rolls-Unary op _) (same_unary op _ _ x.value.1)
+expr_layer (f.Chain x ls) = rw (rolls-Chain _ _) (same_chain _ _ _ _ x.value.1 (links_themselves ls.items))
+
+expr_settled : (x : Expr-F Expr) (y : Expr-F InnerExpr) → bare_expr y ≡ x → SameExpr (roll-Expr x) (roll-Expr x)
+expr_settled x y is = subst (λ (u : Expr-F Expr). SameExpr (roll-Expr u) (roll-Expr u)) is (expr_layer y)
+
+expr_itself : (x : Expr) → SameExpr x x
+expr_itself = ind-Expr (λ x. SameExpr x x) expr_settled
+
+-- ---- statements
+
+abbrev InnerStmt : Type 0
+InnerStmt = (x : Stmt) × SameStmt x x
+
+abbrev bare_stmt : Stmt-F InnerStmt → Stmt-F Stmt
+bare_stmt y = map-Stmt InnerStmt Stmt (λ p. p.0) y
+
+stmts_themselves : (xs : List InnerStmt) → SameStmts (map (λ p. p.0) xs) (map (λ p. p.0) xs)
+stmts_themselves [] = same_no_stmt
+stmts_themselves (x ∷ xs) = same_more_stmts _ _ _ _ x.1 (stmts_themselves xs)
+
+stmt_layer : (y : Stmt-F InnerStmt) → SameStmt (roll-Stmt (bare_stmt y)) (roll-Stmt (bare_stmt y))
+stmt_layer g.Null = rw rolls-Null same_null
+stmt_layer (g.Assign n v) = rw (rolls-Assign n v) (same_assign n n v v refl (expr_itself v))
+stmt_layer (g.Later n v) = rw (rolls-Later n v) (same_later n n v v refl (expr_itself v))
+stmt_layer (g.Block xs) = rw (rolls-Block _) (same_block _ _ (stmts_themselves xs.items))
+stmt_layer (g.Delay l x) = rw (rolls-Delay l _) (same_delay l _ _ x.value.1)
+
+stmt_settled : (x : Stmt-F Stmt) (y : Stmt-F InnerStmt) → bare_stmt y ≡ x → SameStmt (roll-Stmt x) (roll-Stmt x)
+stmt_settled x y is = subst (λ (u : Stmt-F Stmt). SameStmt (roll-Stmt u) (roll-Stmt u)) is (stmt_layer y)
+
+stmt_itself : (x : Stmt) → SameStmt x x
+stmt_itself = ind-Stmt (λ x. SameStmt x x) stmt_settled
+
+-- ---- modules
+
+all_themselves : {A : Type 0} (R : A → A → Type 0) → ((x : A) → R x x) → (xs : List A) → Pairwise R xs xs
+all_themselves R h [] = no_pair
+all_themselves R h (x ∷ xs) = pair_more x x xs xs (h x) (all_themselves R h xs)
+
+value_itself : (o : Option Expr) → SameValue o o
+value_itself None = same_no_value
+value_itself (Some x) = same_value x x (expr_itself x)
+
+declarators_themselves : (ds : List Declarator) → Pairwise SameDeclarator ds ds
+declarators_themselves ds = all_themselves SameDeclarator (λ d. record { name = refl; value = value_itself d.value }) ds
+
+item_itself : (x : Item) → SameItem x x
+item_itself (i.Wire ds) = same_wire ds ds (declarators_themselves ds.items)
+item_itself (i.Reg ds) = same_reg ds ds (declarators_themselves ds.items)
+item_itself (i.Assign xs) = same_assigns xs xs (all_themselves SameAssignment (λ a. record { target = refl; value = expr_itself a.value }) xs.items)
+item_itself (i.Initial x) = same_initial x x (stmt_itself x)
+item_itself (i.Always x) = same_always x x (stmt_itself x)
+
+pub modules_themselves : (ms : List Module) → Pairwise SameModule ms ms
+modules_themselves ms = all_themselves SameModule (λ m. record { name = refl; items = all_themselves SameItem item_itself m.items.items }) ms

@@ -1,0 +1,132 @@
+-- Statements of sources that say the same are one in a design.
+use Rattle.std.proofs.Common.{◌≡◌, ℕ, suc, ◌+◌, ◌==◌, true, List, [], ◌∷◌, Some, length, map, max, refl, ap, sym, subst, ◌∙◌, arith}
+use Rattle.std.proofs.lemmas.List.{length-append}
+use Rattle.std.proofs.lemmas.Bool.{and_parts, eqb-true}
+use Rattle.std.proofs.lemmas.Option.{same_Some}
+use Rattle.std.specs.declared.vec.Vec.{Vec}
+use Rattle.std.specs.declared.boxed.Box.{Box}
+use Rattle.std.specs.declared.alloc.Global.{Global}
+use Rattle.vs_tokens.specs.declared.token.Literal.{Literal}
+use Rattle.vs_syntax.specs.declared.tree.Expr.{Expr}
+use Rattle.vs_syntax.specs.declared.tree.Stmt.{Stmt}
+use Rattle.vs_syntax.specs.declared.tree.Stmt.TheVariants as s
+use Rattle.vs_syntax.specs.declared.tree.Stmt.TheVariants.{rolls-Null, rolls-Assign, rolls-Later, rolls-Block, rolls-Delay}
+use Rattle.vs_syntax.specs.declared.tree.Stmt.TheOpen as g
+use Rattle.vs_syntax.specs.declared.tree.Stmt.TheOpen.{Stmt-F}
+use Rattle.vs_syntax.specs.declared.tree.Stmt.TheViews.{out-Stmt, out-roll-Stmt}
+use Rattle.vs_syntax.specs.Same.{SameExpr, SameStmt, same_null, same_assign, same_later, same_block, same_delay, SameStmts, same_no_stmt, same_more_stmts}
+use Rattle.vs_design.specs.Uses.{joined}
+use Rattle.vs_design.specs.WellFormed.{numbers, counts_from}
+use Rattle.vs_design.specs.declared.expression.Typed.{Typed}
+use Rattle.vs_design.specs.declared.statement.Target.{Target}
+use Rattle.vs_design.specs.declared.statement.Ticks.{Ticks}
+use Rattle.vs_design.specs.declared.statement.Statement.{Statement}
+use Rattle.vs_design.specs.declared.statement.Statement.TheVariants as d
+use Rattle.vs_elaborate.specs.Environment.{Environment, signal_shape}
+use Rattle.vs_elaborate.specs.Literals.{delay_of}
+use Rattle.vs_elaborate.specs.Expressions.{shape_of, width_of, sign_of, IsTyped, context}
+use Rattle.vs_elaborate.specs.Statements.{IsAssignment, IsStatement, is_null, is_assign, is_later, is_block, is_delay, AreStatements, are_none, are_more}
+use Rattle.vs_elaborate.specs.Same.{SameSides, SameStatement, null_same, assign_same, later_same, block_same, delay_same, forever_same, SameStatements, statements_end, statement_same}
+use Rattle.vs_elaborate.proofs.StatementLemmas.{numbers_Null, numbers_Assign, numbers_Later, numbers_Block, numbers_Delay, numbers_Forever}
+use Rattle.vs_elaborate.proofs.SameTypedLemmas.{by_both, same_number_of, one_typed, same_shape}
+
+out_Null : out-Stmt s.Null ≡ g.Null
+out_Null = ap out-Stmt (sym rolls-Null) ∙ out-roll-Stmt g.Null
+
+out_Assign : (n : Vec ℕ Global) (v : Expr) → out-Stmt (s.Assign n v) ≡ g.Assign n v
+out_Assign n v = ap out-Stmt (sym (rolls-Assign n v)) ∙ out-roll-Stmt (g.Assign n v)
+
+out_Later : (n : Vec ℕ Global) (v : Expr) → out-Stmt (s.Later n v) ≡ g.Later n v
+out_Later n v = ap out-Stmt (sym (rolls-Later n v)) ∙ out-roll-Stmt (g.Later n v)
+
+out_Block : (xs : Vec Stmt Global) → out-Stmt (s.Block xs) ≡ g.Block xs
+out_Block xs = ap out-Stmt (sym (rolls-Block xs)) ∙ out-roll-Stmt (g.Block xs)
+
+out_Delay : (l : Literal) (x : Box Stmt Global) → out-Stmt (s.Delay l x) ≡ g.Delay l x
+out_Delay l x = ap out-Stmt (sym (rolls-Delay l x)) ∙ out-roll-Stmt (g.Delay l x)
+
+-- what the statement of a design is, by the form of the source's
+abbrev StatementLayer : (ℕ → List ℕ → Type 0) → Environment → Stmt-F Stmt → Statement → Type 0
+StatementLayer N env g.Null y = (k : ℕ) × (y ≡ d.Null k)
+StatementLayer N env (g.Assign n v) y = (k : ℕ) × (u : Target) × (x : Typed) × IsAssignment N env n.items v u x × (y ≡ d.Assign k u x)
+StatementLayer N env (g.Later n v) y = (k : ℕ) × (u : Target) × (x : Typed) × IsAssignment N env n.items v u x × (y ≡ d.Later k u x)
+StatementLayer N env (g.Block xs) y = (ys : Vec Statement Global) × AreStatements N env xs.items ys.items × (y ≡ d.Block ys)
+StatementLayer N env (g.Delay l x) y = (k : ℕ) × (n : Ticks) × (z : Box Statement Global) × (delay_of l ≡ Some n.count) × IsStatement N env x.value z.value × (y ≡ d.Delay k n z)
+
+statement_layer : (N : ℕ → List ℕ → Type 0) (env : Environment) (x : Stmt) (y : Statement) → IsStatement N env x y → StatementLayer N env (out-Stmt x) y
+statement_layer N env _ _ (is_null k) = subst (λ z. StatementLayer N env z (d.Null k)) (sym out_Null) (k, refl)
+statement_layer N env _ _ (is_assign n v k u x h) = subst (λ z. StatementLayer N env z (d.Assign k u x)) (sym (out_Assign n v)) (k, u, x, h, refl)
+statement_layer N env _ _ (is_later n v k u x h) = subst (λ z. StatementLayer N env z (d.Later k u x)) (sym (out_Later n v)) (k, u, x, h, refl)
+statement_layer N env _ _ (is_block xs ys h) = subst (λ z. StatementLayer N env z (d.Block ys)) (sym (out_Block xs)) (ys, h, refl)
+statement_layer N env _ _ (is_delay l k n x y h j) = subst (λ z. StatementLayer N env z (d.Delay k n y)) (sym (out_Delay l x)) (k, n, y, h, j, refl)
+
+module _ {N : ℕ → List ℕ → Type 0} (one : (i j : ℕ) (n : List ℕ) → N i n → N j n → i ≡ j) where
+  -- the sides of assignments that say the same
+  pub one_sides : (env : Environment) (n n' : List ℕ) (v v' : Expr) (u u' : Target) (x x' : Typed) → n ≡ n' → SameExpr v v' → IsAssignment N env n v u x → IsAssignment N env n' v' u' x' → SameSides u u' x x'
+  one_sides env n n' v v' u u' x x' i m h k =
+      let shape : shape_of env v ≡ shape_of env v' = same_shape env v v' m in
+      let width : context env n v ≡ context env n' v' = ap (λ z. max (width_of (signal_shape env z)) (width_of (shape_of env v))) i ∙ ap (λ z. max (width_of (signal_shape env n')) (width_of z)) shape in
+      let source : IsTyped N (context env n v) (sign_of (shape_of env v)) v' x' =
+      subst (λ z. IsTyped N z (sign_of (shape_of env v)) v' x') (sym width) (subst (λ z. IsTyped N (context env n' v') (sign_of z) v' x') (sym shape) k.source) in
+      record {
+        signal = same_number_of one u.signal u'.signal n n' i h.signal k.signal;
+        width = h.width ∙ ap (λ z. width_of (signal_shape env z)) i ∙ sym k.width;
+        source = one_typed one (context env n v) (sign_of (shape_of env v)) v v' x x' m h.source source;
+      }
+
+  mutual
+    -- statements that say the same are one in a design
+    pub one_statement : (env : Environment) (x x' : Stmt) (y y' : Statement) → SameStmt x x' → IsStatement N env x y → IsStatement N env x' y' → SameStatement y y'
+    one_statement env _ _ y y' same_null h k =
+        let p = subst (λ z. StatementLayer N env z y) out_Null (statement_layer N env s.Null y h) in
+        let q = subst (λ z. StatementLayer N env z y') out_Null (statement_layer N env s.Null y' k) in
+        by_both SameStatement y y' _ _ p.1 q.1 (null_same p.0 q.0)
+    one_statement env _ _ y y' (same_assign n n' v v' i m) h k =
+        let p = subst (λ z. StatementLayer N env z y) (out_Assign n v) (statement_layer N env (s.Assign n v) y h) in
+        let q = subst (λ z. StatementLayer N env z y') (out_Assign n' v') (statement_layer N env (s.Assign n' v') y' k) in
+        by_both SameStatement y y' _ _ p.4 q.4 (assign_same p.0 q.0 p.1 q.1 p.2 q.2 (one_sides env n.items n'.items v v' p.1 q.1 p.2 q.2 i m p.3 q.3))
+    one_statement env _ _ y y' (same_later n n' v v' i m) h k =
+        let p = subst (λ z. StatementLayer N env z y) (out_Later n v) (statement_layer N env (s.Later n v) y h) in
+        let q = subst (λ z. StatementLayer N env z y') (out_Later n' v') (statement_layer N env (s.Later n' v') y' k) in
+        by_both SameStatement y y' _ _ p.4 q.4 (later_same p.0 q.0 p.1 q.1 p.2 q.2 (one_sides env n.items n'.items v v' p.1 q.1 p.2 q.2 i m p.3 q.3))
+    one_statement env _ _ y y' (same_block xs xs' m) h k =
+        let p = subst (λ z. StatementLayer N env z y) (out_Block xs) (statement_layer N env (s.Block xs) y h) in
+        let q = subst (λ z. StatementLayer N env z y') (out_Block xs') (statement_layer N env (s.Block xs') y' k) in
+        by_both SameStatement y y' _ _ p.2 q.2 (block_same p.0 q.0 (one_statements env xs.items xs'.items p.0.items q.0.items m p.1 q.1))
+    one_statement env _ _ y y' (same_delay l x x' m) h k =
+        let p = subst (λ z. StatementLayer N env z y) (out_Delay l x) (statement_layer N env (s.Delay l x) y h) in
+        let q = subst (λ z. StatementLayer N env z y') (out_Delay l x') (statement_layer N env (s.Delay l x') y' k) in
+        by_both SameStatement y y' _ _ p.5 q.5 (delay_same p.0 q.0 p.1 q.1 p.2 q.2 (same_Some p.1.count q.1.count (sym p.3 ∙ q.3)) (one_statement env x.value x'.value p.2.value q.2.value m p.4 q.4))
+
+    one_statements : (env : Environment) (xs xs' : List Stmt) (ys ys' : List Statement) → SameStmts xs xs' → AreStatements N env xs ys → AreStatements N env xs' ys' → SameStatements ys ys'
+    one_statements env _ _ _ _ same_no_stmt are_none are_none = statements_end
+    one_statements env _ _ _ _ (same_more_stmts x x' xs xs' m r) (are_more _ y _ ys h k) (are_more _ y' _ ys' h' k') =
+        statement_same y y' ys ys' (one_statement env x x' y y' m h h') (one_statements env xs xs' ys ys' r k k')
+
+-- ---- the numbers of statements
+
+mutual
+  pub same_count : (y y' : Statement) → SameStatement y y' → length (numbers y) ≡ length (numbers y')
+  same_count _ _ (null_same k k') = ap length (numbers_Null k) ∙ sym (ap length (numbers_Null k'))
+  same_count _ _ (assign_same k k' u u' x x' m) = ap length (numbers_Assign k u x) ∙ sym (ap length (numbers_Assign k' u' x'))
+  same_count _ _ (later_same k k' u u' x x' m) = ap length (numbers_Later k u x) ∙ sym (ap length (numbers_Later k' u' x'))
+  same_count _ _ (block_same xs xs' m) = ap length (numbers_Block xs) ∙ same_counts xs.items xs'.items m ∙ sym (ap length (numbers_Block xs'))
+  same_count _ _ (delay_same k k' n n' x x' c m) = ap length (numbers_Delay k n x) ∙ ap suc (same_count x.value x'.value m) ∙ sym (ap length (numbers_Delay k' n' x'))
+  same_count _ _ (forever_same k k' x x' m) = ap length (numbers_Forever k x) ∙ ap suc (same_count x.value x'.value m) ∙ sym (ap length (numbers_Forever k' x'))
+
+  same_counts : (xs xs' : List Statement) → SameStatements xs xs' → length (joined (map numbers xs)) ≡ length (joined (map numbers xs'))
+  same_counts _ _ statements_end = refl
+  same_counts _ _ (statement_same x x' xs xs' m r) =
+      length-append (numbers x) (joined (map numbers xs)) ∙ ap (λ z. z + length (joined (map numbers xs))) (same_count x x' m) ∙ ap (λ z. length (numbers x') + z) (same_counts xs xs' r) ∙ sym (length-append (numbers x') (joined (map numbers xs')))
+
+-- numbers that count up from one on are determined by how many they are
+pub one_count : (a : ℕ) (ns ms : List ℕ) → length ns ≡ length ms → counts_from a ns ≡ true → counts_from a ms ≡ true → ns ≡ ms
+one_count a [] [] h p q = refl
+one_count a [] (m ∷ ms) h p q = absurd (omega (arith, h))
+one_count a (n ∷ ns) [] h p q = absurd (omega (arith, h))
+one_count a (n ∷ ns) (m ∷ ms) h p q =
+    let u = and_parts (n == a) (counts_from (suc a) ns) p in
+    let v = and_parts (m == a) (counts_from (suc a) ms) q in
+    let i : n ≡ m = eqb-true n a u.0 ∙ sym (eqb-true m a v.0) in
+    let long : length ns ≡ length ms = omega (arith, h) in
+    ap (λ z. z ∷ ns) i ∙ ap (λ z. m ∷ z) (one_count (suc a) ns ms long u.1 v.1)

@@ -1,0 +1,113 @@
+//! Sources with the parts of the designs that they define.
+use crate::elaborating::design_of;
+use crate::showing::{assigns_shown, outline_shown, processes_shown, signals_shown};
+use std::test::Fail;
+
+/// Sources and their signals, in the order of the text.
+const SIGNALS: &[(&str, &str)] = &[
+    ("module t; endmodule", ""),
+    (
+        "module t; wire w = a; initial a = 1; reg b, a; endmodule",
+        "wire w t.w 1;reg b t.b 1;reg a t.a 1;",
+    ),
+    (
+        "module t; reg \\a+b , \\c , t; endmodule",
+        "reg \\a+b  t.\\a+b  1;reg c t.c 1;reg t t.t 1;",
+    ),
+    // The names of another module are none of these.
+    (
+        "module s; reg a; endmodule module t; reg b; endmodule",
+        "reg b t.b 1;",
+    ),
+];
+
+#[test]
+fn signals(rt: HostRuntime) -> Result<(), Fail> {
+    for (source, text) in SIGNALS {
+        let design = design_of(rt.alloc(), source, "t")?;
+        let shown = signals_shown(rt.alloc(), &design)?;
+        assert_eq!(rt; shown.as_slice(), text.as_bytes(), "{source}");
+    }
+    Ok(())
+}
+
+/// Sources and their continuous assignments. The right side has the size of the larger side (clause 5.4.1).
+const ASSIGNS: &[(&str, &str)] = &[
+    ("module t; wire w; reg a = 1; endmodule", ""),
+    (
+        "module t; wire w = a, x, y; reg a; assign y = x, x = ~w; endmodule",
+        "t#a0 t.w = t.a:1;t#a1 t.y = t.x:1;t#a2 t.x = ~t.w:1;",
+    ),
+    (
+        "module t; wire w; reg a, b; assign w = a & (9 | b) & a; endmodule",
+        "t#a0 t.w = (t.a:32 & (32' | t.b:32) & t.a:32);",
+    ),
+    (
+        "module t; wire w; reg a; assign w = ~a ^ 0; endmodule",
+        "t#a0 t.w = (~t.a:32 ^ 32');",
+    ),
+];
+
+#[test]
+fn assigns(rt: HostRuntime) -> Result<(), Fail> {
+    for (source, text) in ASSIGNS {
+        let design = design_of(rt.alloc(), source, "t")?;
+        let shown = assigns_shown(rt.alloc(), &design)?;
+        assert_eq!(rt; shown.as_slice(), text.as_bytes(), "{source}");
+    }
+    Ok(())
+}
+
+/// Sources and their processes: a declaration assignment of a variable is one (clause 6.2.1), and an `always` is a `forever`.
+const PROCESSES: &[(&str, &str)] = &[
+    ("module t; wire w = 1; reg a; endmodule", ""),
+    (
+        "module t; reg a = 0, b; always #5 a <= ~a; initial b = a; reg c = b; endmodule",
+        "t#p0 initial 0: t.a = 32';t#p1 always 0: forever 1: #5 2: t.a <= ~t.a:1;\
+         t#p2 initial 0: t.b = t.a:1;t#p3 initial 0: t.c = t.b:1;",
+    ),
+    (
+        "module t; reg a; initial begin ; #3 begin a = a; a <= a; end begin end #0 ; end endmodule",
+        "t#p0 initial {0: ;1: #3 {2: t.a = t.a:1;3: t.a <= t.a:1;}{}4: #0 5: ;}",
+    ),
+];
+
+#[test]
+fn processes(rt: HostRuntime) -> Result<(), Fail> {
+    for (source, text) in PROCESSES {
+        let design = design_of(rt.alloc(), source, "t")?;
+        let shown = processes_shown(rt.alloc(), &design)?;
+        assert_eq!(rt; shown.as_slice(), text.as_bytes(), "{source}");
+    }
+    Ok(())
+}
+
+/// Sources with their tops, and their outlines.
+const OUTLINES: &[(&str, &str, &str)] = &[
+    ("module t; endmodule", "t", "module t;end;"),
+    (
+        "module s; reg a; endmodule module t; reg b; wire c; endmodule",
+        "t",
+        "module t;t.b;t.c;end;",
+    ),
+    (
+        "module s; reg a; endmodule module t; reg b; wire c; endmodule",
+        "s",
+        "module s;s.a;end;",
+    ),
+    (
+        "module \\a+b ; reg c; endmodule",
+        "a+b",
+        "module \\a+b ;\\a+b .c;end;",
+    ),
+];
+
+#[test]
+fn outlines(rt: HostRuntime) -> Result<(), Fail> {
+    for (source, top, text) in OUTLINES {
+        let design = design_of(rt.alloc(), source, top)?;
+        let shown = outline_shown(rt.alloc(), &design)?;
+        assert_eq!(rt; shown.as_slice(), text.as_bytes(), "{source}");
+    }
+    Ok(())
+}

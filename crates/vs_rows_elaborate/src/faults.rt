@@ -1,0 +1,143 @@
+//! Sources that define no design, with the text of the fault, and sources next to them that define one.
+use crate::elaborating::elaborated;
+use std::alloc::Global;
+use std::process::Abort;
+use std::test::Fail;
+use vs_elaborate::fault_text;
+
+/// What is told of a source that defines a design.
+const DESIGN: &str = "a design";
+
+/// Sources with the name of a top, and what is told of them.
+const ROWS: &[(&str, &str, &str)] = &[
+    // The top is one of the modules, by its name's own bytes.
+    ("", "t", "E1 at t"),
+    ("module t; endmodule", "u", "E1 at u"),
+    ("module t; endmodule", "a+b", "E1 at \\a+b "),
+    ("module s; endmodule module t; endmodule", "t", DESIGN),
+    ("module \\a+b ; endmodule", "a+b", DESIGN),
+    // Modules have different names, and so do the signals of a scope.
+    (
+        "module s; endmodule module s; endmodule module t; endmodule",
+        "t",
+        "E5 at s",
+    ),
+    ("module t; reg a; reg a; endmodule", "t", "E5 at t.a"),
+    ("module t; reg b, a; wire c, a; endmodule", "t", "E5 at t.a"),
+    (
+        "module t; reg \\a+b , \\a+b ; endmodule",
+        "t",
+        "E5 at t.\\a+b ",
+    ),
+    ("module t; reg a, \\a ; endmodule", "t", "E5 at t.a"),
+    ("module t; reg t; endmodule", "t", DESIGN),
+    // The faults of a module that is not below the top do not stand.
+    (
+        "module s; reg a, a; endmodule module t; endmodule",
+        "t",
+        DESIGN,
+    ),
+    // A net has one driver.
+    (
+        "module t; wire w; assign w = 0, w = 1; endmodule",
+        "t",
+        "E6 at t.w",
+    ),
+    (
+        "module t; wire v, w = 0; assign v = w; assign w = 1; endmodule",
+        "t",
+        "E6 at t.w",
+    ),
+    (
+        "module t; wire v, w = 0; assign v = w; endmodule",
+        "t",
+        DESIGN,
+    ),
+    // Names are signals, of either side.
+    (
+        "module t; reg a; initial a = ~(a & b); endmodule",
+        "t",
+        "E8 X2 at t",
+    ),
+    (
+        "module t; reg b; initial #1 a <= b; endmodule",
+        "t",
+        "E8 X2 at t",
+    ),
+    ("module t; assign w = 1; endmodule", "t", "E8 X2 at t"),
+    ("module t; reg a = b; endmodule", "t", "E8 X2 at t"),
+    ("module t; initial a = 1; reg a; endmodule", "t", DESIGN),
+    // A delay is a number from 0 on; a decimal one without a size has 32 bits and a sign.
+    (
+        "module t; initial #4294967295 ; endmodule",
+        "t",
+        "E8 X3 at t",
+    ),
+    (
+        "module t; initial #2147483648 ; endmodule",
+        "t",
+        "E8 X3 at t",
+    ),
+    ("module t; initial #2147483647 ; endmodule", "t", DESIGN),
+    // A procedural assignment writes a variable, and a continuous one drives a net.
+    (
+        "module t; wire w; initial w = 1; endmodule",
+        "t",
+        "E8 X4 at t",
+    ),
+    (
+        "module t; wire w; always #1 w <= 1; endmodule",
+        "t",
+        "E8 X4 at t",
+    ),
+    (
+        "module t; reg a; assign a = 1; endmodule",
+        "t",
+        "E8 X4 at t",
+    ),
+];
+
+/// What is told of a source with this top: the text of its fault, or that there is a design.
+fn told(alloc: Global, source: &str, top: &str) -> Result<Vec<u8>, Fail> {
+    match elaborated(alloc, source, top)? {
+        Ok(_design) => Ok(Vec::from_slice(alloc, DESIGN.as_bytes())?),
+        Err(fault) => Ok(fault_text(alloc, &fault)?),
+    }
+}
+
+/// This is told of the source.
+fn is_told(rt: &impl Abort, alloc: Global, row: &(&str, &str, &str)) -> Result<(), Fail> {
+    let (source, top, text) = *row;
+    let answer = told(alloc, source, top)?;
+    assert_eq!(rt; answer.as_slice(), text.as_bytes(), "{source}");
+    Ok(())
+}
+
+#[test]
+fn faults(rt: HostRuntime) -> Result<(), Fail> {
+    for row in ROWS {
+        is_told(&rt, rt.alloc(), row)?;
+    }
+    Ok(())
+}
+
+/// A module that declares one variable and so many more.
+fn declaring(alloc: Global, count: usize) -> Result<String, Fail> {
+    let mut source = String::new(alloc);
+    source.push_str("module t; reg a")?;
+    for i in 0..count {
+        let name = format!(in alloc; ", a{i}")?;
+        source.push_str(&name)?;
+    }
+    source.push_str("; endmodule")?;
+    Ok(source)
+}
+
+// A design has at most 65,536 signals.
+#[test]
+fn signal_limit(rt: HostRuntime) -> Result<(), Fail> {
+    let most = declaring(rt.alloc(), 65535)?;
+    is_told(&rt, rt.alloc(), &(most.as_str(), "t", DESIGN))?;
+    let over = declaring(rt.alloc(), 65536)?;
+    is_told(&rt, rt.alloc(), &(over.as_str(), "t", "E7 at t"))
+}

@@ -1,0 +1,197 @@
+//! Parts of a design in one line, with each signal by its path.
+use std::alloc::Global;
+use std::test::Fail;
+use vs_design::{
+    Design, Entry, Process, ProcessKind, ScopeKind, SignalKind, Statement, Target, Typed,
+};
+use vs_logic4::{Binary, Unary};
+
+/// The path of the signal of a number.
+fn path_of<'d>(design: &'d Design, number: usize) -> &'d [u8] {
+    match design.signals().get(number) {
+        Some(signal) => &signal.path,
+        None => b"none",
+    }
+}
+
+fn kind_word(kind: SignalKind) -> &'static [u8] {
+    match kind {
+        SignalKind::Wire => b"wire ",
+        SignalKind::Reg => b"reg ",
+        SignalKind::Integer => b"integer ",
+    }
+}
+
+/// The signals: the kind, the name, the path and the size in bits of each.
+pub fn signals_shown(alloc: Global, design: &Design) -> Result<Vec<u8>, Fail> {
+    let mut text = Vec::new(alloc);
+    for signal in design.signals() {
+        text.extend_from_slice(kind_word(signal.kind))?;
+        text.extend_from_slice(&signal.name)?;
+        text.extend_from_slice(b" ")?;
+        text.extend_from_slice(&signal.path)?;
+        let size = format!(in alloc; " {};", signal.width)?;
+        text.extend_from_slice(size.as_bytes())?;
+    }
+    Ok(text)
+}
+
+fn operator(operator: Binary) -> &'static [u8] {
+    match operator {
+        Binary::And => b" & ",
+        Binary::Xor => b" ^ ",
+        Binary::Or => b" | ",
+    }
+}
+
+/// Appends an expression: each number by its size, and each signal by its path and the size that it is brought to.
+fn show_expression(
+    alloc: Global,
+    design: &Design,
+    e: &Typed,
+    text: &mut Vec<u8>,
+) -> Result<(), Fail> {
+    match e {
+        Typed::Number(v) => {
+            let size = format!(in alloc; "{}'", v.width())?;
+            text.extend_from_slice(size.as_bytes())?;
+        }
+        Typed::Signal(operand) => {
+            text.extend_from_slice(path_of(design, operand.signal))?;
+            let size = format!(in alloc; ":{}", operand.width)?;
+            text.extend_from_slice(size.as_bytes())?;
+        }
+        Typed::Unary(Unary::Not, inner) => {
+            text.push(b'~')?;
+            show_expression(alloc, design, inner, text)?;
+        }
+        Typed::Chain(first, links) => {
+            text.push(b'(')?;
+            show_expression(alloc, design, first, text)?;
+            for (link, operand) in links {
+                text.extend_from_slice(operator(link.operator))?;
+                show_expression(alloc, design, operand, text)?;
+            }
+            text.push(b')')?;
+        }
+    }
+    Ok(())
+}
+
+/// Appends an assignment with this sign between its sides.
+fn show_assignment(
+    alloc: Global,
+    design: &Design,
+    sides: (&Target, &[u8], &Typed),
+    text: &mut Vec<u8>,
+) -> Result<(), Fail> {
+    let (target, sign, source) = sides;
+    text.extend_from_slice(path_of(design, target.signal))?;
+    text.extend_from_slice(sign)?;
+    show_expression(alloc, design, source, text)?;
+    text.push(b';')?;
+    Ok(())
+}
+
+/// The continuous assignments, with their names.
+pub fn assigns_shown(alloc: Global, design: &Design) -> Result<Vec<u8>, Fail> {
+    let mut text = Vec::new(alloc);
+    for assign in design.assigns() {
+        text.extend_from_slice(&assign.name)?;
+        text.extend_from_slice(b" ")?;
+        let sides = (&assign.target, b" = ".as_slice(), &assign.source);
+        show_assignment(alloc, design, sides, &mut text)?;
+    }
+    Ok(text)
+}
+
+/// Appends the number of a statement.
+fn show_number(alloc: Global, number: u32, text: &mut Vec<u8>) -> Result<(), Fail> {
+    let shown = format!(in alloc; "{number}: ")?;
+    text.extend_from_slice(shown.as_bytes())?;
+    Ok(())
+}
+
+/// Appends a statement, and those in it, each with its number.
+fn show_statement(
+    alloc: Global,
+    design: &Design,
+    s: &Statement,
+    text: &mut Vec<u8>,
+) -> Result<(), Fail> {
+    match s {
+        Statement::Null(number) => {
+            show_number(alloc, *number, text)?;
+            text.push(b';')?;
+        }
+        Statement::Assign(number, target, source) => {
+            show_number(alloc, *number, text)?;
+            show_assignment(alloc, design, (target, b" = ", source), text)?;
+        }
+        Statement::Later(number, target, source) => {
+            show_number(alloc, *number, text)?;
+            show_assignment(alloc, design, (target, b" <= ", source), text)?;
+        }
+        Statement::Block(all) => {
+            text.push(b'{')?;
+            for one in all {
+                show_statement(alloc, design, one, text)?;
+            }
+            text.push(b'}')?;
+        }
+        Statement::Delay(number, ticks, inner) => {
+            show_number(alloc, *number, text)?;
+            let delay = format!(in alloc; "#{} ", ticks.count)?;
+            text.extend_from_slice(delay.as_bytes())?;
+            show_statement(alloc, design, inner, text)?;
+        }
+        Statement::Forever(number, inner) => {
+            show_number(alloc, *number, text)?;
+            text.extend_from_slice(b"forever ")?;
+            show_statement(alloc, design, inner, text)?;
+        }
+    }
+    Ok(())
+}
+
+fn process_word(process: &Process) -> &'static [u8] {
+    match process.kind {
+        ProcessKind::Initial => b" initial ",
+        ProcessKind::Always => b" always ",
+    }
+}
+
+/// The processes, with their names.
+pub fn processes_shown(alloc: Global, design: &Design) -> Result<Vec<u8>, Fail> {
+    let mut text = Vec::new(alloc);
+    for process in design.processes() {
+        text.extend_from_slice(&process.name)?;
+        text.extend_from_slice(process_word(process))?;
+        show_statement(alloc, design, &process.body, &mut text)?;
+    }
+    Ok(text)
+}
+
+fn scope_word(kind: ScopeKind) -> &'static [u8] {
+    match kind {
+        ScopeKind::Module => b"module ",
+        ScopeKind::Begin => b"begin ",
+    }
+}
+
+/// The outline.
+pub fn outline_shown(alloc: Global, design: &Design) -> Result<Vec<u8>, Fail> {
+    let mut text = Vec::new(alloc);
+    for entry in design.outline() {
+        match entry {
+            Entry::Enter(kind, name) => {
+                text.extend_from_slice(scope_word(*kind))?;
+                text.extend_from_slice(name)?;
+            }
+            Entry::Declare(number) => text.extend_from_slice(path_of(design, *number))?,
+            Entry::Leave => text.extend_from_slice(b"end")?,
+        }
+        text.push(b';')?;
+    }
+    Ok(text)
+}

@@ -1,0 +1,42 @@
+-- The names of a design that bytes define hold no line feed.
+use Rattle.std.proofs.Common.{◌≡◌, ℕ, ◌&&◌, Bool, true, List, [], ◌∷◌, refl, ap₂, ◌∙◌}
+use Rattle.std.specs.List.{list_all}
+use Rattle.vs_tokens.specs.declared.token.Kind.{Kind}
+use Rattle.vs_tokens.specs.declared.token.Kind.TheVariants as k
+use Rattle.vs_lexer.specs.NameLines.{is_one_line, has_one_line_name, is_one_line_token}
+use Rattle.vs_lexer.specs.Spelling.{IsSpelled}
+use Rattle.vs_lexer.specs.Tokens.{Lexeme}
+use Rattle.vs_syntax.specs.Symbols.{Symbol, a_name, symbol_of, symbol, symbols}
+use Rattle.vs_syntax.specs.SourceNames.{NamesAreTokens}
+use Rattle.vs_syntax.specs.declared.tree.Module.{Module}
+use Rattle.vs_design.specs.OneLine.{HasNamesOfOneLine}
+use Rattle.vs_design.specs.Parts.{Parts}
+use Rattle.vs_elaborate.specs.DesignOf.{DesignOf}
+use Rattle.vs_elaborate.specs.OneLine.{HasModulesOfOneLine}
+use Rattle.vs_sim.specs.Honesty.{Defines}
+
+-- whether a symbol is no name, or a name without line feed
+abbrev is_one_line_symbol : Symbol → Bool
+is_one_line_symbol (a_name n) = is_one_line n
+is_one_line_symbol _ = true
+
+of_kind : (kind : Kind) (bytes : List ℕ) → is_one_line_symbol (symbol_of kind bytes) ≡ has_one_line_name kind bytes
+of_kind (k.Mark m) bytes = refl
+of_kind (k.Word w) bytes = refl
+of_kind k.Name bytes = refl
+of_kind (k.Number l) bytes = refl
+of_kind _ bytes = refl
+
+of_tokens : (ts : List Lexeme) → list_all is_one_line_symbol (symbols ts) ≡ list_all is_one_line_token ts
+of_tokens [] = refl
+of_tokens (t ∷ ts) = ap₂ (λ (a b : Bool). a && b) (of_kind t.kind t.bytes) (of_tokens ts)
+
+-- by the laws of the tokens, of the syntax and of the elaboration
+pub names_hold : ((source : List ℕ) (tokens : List Lexeme) → IsSpelled source tokens → list_all is_one_line_token tokens ≡ true) → NamesAreTokens →
+    ((ms : List Module) (top : List ℕ) (d : Parts) → HasModulesOfOneLine ms → DesignOf ms top d → HasNamesOfOneLine d) →
+    (bytes top : List ℕ) (d : Parts) → Defines bytes top d → HasNamesOfOneLine d
+names_hold spelled names defined bytes top d h =
+    let tokens = h.read.tokens in
+    defined h.source.modules.items top d
+    (names is_one_line_symbol (symbols tokens) h.source h.read.derived (of_tokens tokens ∙ spelled bytes tokens h.read.spelled))
+    h.defined
