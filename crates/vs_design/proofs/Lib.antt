@@ -1,5 +1,5 @@
-mod Chains
 mod Drivers
 mod Kept
 mod Stores
 mod Tables
+mod UsesLemmas

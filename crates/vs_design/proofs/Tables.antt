@@ -1,5 +1,5 @@
 -- Lemmas on the table of readers.
-use Rattle.std.proofs.Common.{◌≡◌, ◌≢◌, ℕ, zero, suc, ◌<◌, ◌≤◌, true, ◌&&◌, nat_le, if◌then◌else◌, List, [], ◌∷◌, ◌++◌, Some, None, length, get_or, slice_get, refl, sym, ◌∙◌, ap, subst, ⊎_elim, arith, append_assoc}
+use Rattle.std.proofs.Common.{◌≡◌, ◌≢◌, ℕ, zero, suc, ◌<◌, ◌≤◌, Bool, true, nat_lt, if◌then◌else◌, List, [], ◌∷◌, ◌++◌, Some, None, length, get_or, slice_get, refl, sym, ◌∙◌, ap, subst, ⊎_elim, arith, append_assoc}
 use Rattle.std.specs.Prelude.{slice_set}
 use Rattle.std.specs.declared.vec.Vec.{Vec}
 use Rattle.std.specs.declared.alloc.Global.{Global}
@@ -18,8 +18,7 @@ use Rattle.vs_design.specs.Stores.{changed_at}
 use Rattle.vs_design.specs.Uses.{reads}
 use Rattle.vs_design.specs.Readers.{readings, readers_from, readers}
 use Rattle.vs_design.specs.Tables.{rows, noted, all_noted, tabled, empty_rows, AreReaders}
-use Rattle.vs_design.specs.WellFormed.{is_within, is_sized, width_of, drives_net, is_sound_assign}
-use Rattle.vs_design.proofs.Chains.{is_below, reads_below}
+use Rattle.vs_design.specs.WellFormed.{is_within, size_of, is_at_least, drives_net, is_sound_assign}
 use Rattle.vs_design.proofs.Stores.{length-changed_at}
 
 append-none : {A : Type 0} (xs : List A) → xs ++ [] ≡ xs
@@ -103,6 +102,10 @@ at_tabled number (a ∷ rest) table s h =
 
 -- ---- what the table tells
 
+-- whether a range is of a signal below this number
+abbrev is_below : ℕ → BitRange → Bool
+is_below n r = nat_lt r.signal n
+
 readings-past : (n number : ℕ) (rs : List BitRange) (s : ℕ) → list_all (is_below n) rs ≡ true → n ≤ s → readings number rs s ≡ []
 readings-past n number [] s h le = refl
 readings-past n number (r ∷ rs) s h le =
@@ -117,9 +120,8 @@ readers-past : (ss : List Signal) (number : ℕ) (assigns : List Assign) (s : �
 readers-past ss number [] s h le = refl
 readers-past ss number (a ∷ rest) s h le =
     let sound = and_parts (drives_net (slice_get ss a.target.signal) a.target.width) _ h.0 in
-    let source = and_parts (is_within ss a.source && is_sized (width_of a.source) a.source) (nat_le a.target.width (width_of a.source)) sound.1 in
-    let within = and_parts (is_within ss a.source) (is_sized (width_of a.source) a.source) source.0 in
-    ap (λ rs. rs ++ readers_from (suc number) rest s) (readings-past (length ss) number (reads a.source) s (reads_below ss a.source within.0) le)
+    let source = and_parts (is_within ss a.source) (is_at_least a.target.width (size_of a.source)) sound.1 in
+    ap (λ rs. rs ++ readers_from (suc number) rest s) (readings-past (length ss) number (reads a.source) s source.0 le)
     ∙ readers-past ss (suc number) rest s h.1 le
 
 none_at : (n s : ℕ) → get_or (empty_rows n) s [] ≡ []

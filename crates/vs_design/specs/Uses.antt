@@ -23,6 +23,10 @@ reads_step (t.Number digits) = []
 reads_step (t.Signal o) = whole o.signal ∷ []
 reads_step (t.Unary op x) = x.value
 reads_step (t.Chain x links) = x.value ++ joined (map (λ (l : Link × List BitRange). l.1) links.items)
+reads_step (t.Choice pairs last) = joined (map (λ (p : List BitRange × List BitRange). p.0 ++ p.1) pairs.items) ++ last.value
+reads_step (t.Concat x xs) = x.value ++ joined xs.items
+reads_step (t.Repeat n x) = x.value
+reads_step (t.Resized size x) = x.value
 
 -- the ranges that an expression reads, those of its text (profile)
 abbrev pub reads : Typed → List BitRange

@@ -1,7 +1,10 @@
 -- What holds of every design.
-use Rattle.std.specs.Prelude.{◌≡◌, ℕ, suc, Bool, true, false, ◌&&◌, ◌==◌, not, nat_lt, nat_le, nat_eq, List, [], ◌∷◌, Option, Some, None, length, map, slice_get, ◌<◌}
+use Rattle.std.specs.Prelude.{◌≡◌, ℕ, suc, ◌+◌, ◌*◌, Bool, true, false, ◌&&◌, ◌==◌, not, if◌then◌else◌, nat_lt, nat_le, nat_eq, List, [], ◌∷◌, Option, Some, None, option_map, length, map, slice_get, ◌<◌}
 use Rattle.std.specs.List.{list_all, flat_map, IsDistinct, All, Contains}
 use Rattle.std.specs.Str.{bytes_eq}
+use Rattle.vs_logic4.specs.declared.operators.Sizing.{Sizing}
+use Rattle.vs_logic4.specs.declared.operators.Sizing.TheVariants.{Alike, Shift, Comparison, Logical}
+use Rattle.vs_logic4.specs.Operators.{gives_bit, sizing_of}
 use Rattle.vs_design.specs.declared.signal.Signal.{Signal}
 use Rattle.vs_design.specs.declared.expression.Link.{Link}
 use Rattle.vs_design.specs.declared.expression.Typed.{Typed, Typed-F, fold-Typed}
@@ -20,44 +23,75 @@ use Rattle.vs_design.specs.declared.design.Entry.{Entry}
 use Rattle.vs_design.specs.declared.design.Entry.TheVariants.{Enter, Declare, Leave}
 use Rattle.vs_design.specs.Kinds.{is_variable}
 use Rattle.vs_design.specs.Parts.{Parts}
-use Rattle.vs_design.specs.Uses.{joined}
+use Rattle.vs_design.specs.declared.range.BitRange.{BitRange}
+use Rattle.vs_design.specs.Uses.{joined, reads}
 
 -- ---- sizes
 
--- one layer of an expression: the size of its first operand, with that of each inner expression in its place
-abbrev pub width_step : Typed-F ℕ → ℕ
-width_step (t.Number digits) = length digits
-width_step (t.Signal o) = o.width
-width_step (t.Unary op x) = x.value
-width_step (t.Chain x links) = x.value
+-- the size of an operator's result at the operands' sizes, where the operands of a link of this size have the right ones (clause 5.4.1); the left
+-- operand of a comparison may be a smaller one, which has no sign
+abbrev pub sized_by : Sizing → ℕ → ℕ → ℕ → Option ℕ
+sized_by Alike width left right = if (left == width) && (right == width) then Some width else None
+sized_by Shift width left right = if left == width then Some width else None
+sized_by Comparison width left right = if nat_le left width && (right == width) then Some 1 else None
+sized_by Logical width left right = Some 1
 
--- the size of an expression, where its operands have one
-abbrev pub width_of : Typed → ℕ
-width_of = fold-Typed ℕ width_step
+-- the size of what a link gives of what stands on its left and of the operand on its right, where both have one
+abbrev pub linked_size : Option ℕ → Link × Option ℕ → Option ℕ
+linked_size (Some left) (l, Some right) = sized_by (sizing_of l.operator) l.width left right
+linked_size _ _ = None
 
--- one layer of an expression: whether its operands have this size, with the answer for each inner expression in its place
-abbrev pub sized_step : ℕ → Typed-F Bool → Bool
-sized_step width (t.Number digits) = length digits == width
-sized_step width (t.Signal o) = o.width == width
-sized_step width (t.Unary op x) = x.value
-sized_step width (t.Chain x links) = x.value && list_all (λ (l : Link × Bool). (l.0.width == width) && l.1) links.items
+-- the size of a chain, from left to right (clause 5.1.2)
+abbrev pub chain_size : Option ℕ → List (Link × Option ℕ) → Option ℕ
+chain_size first [] = first
+chain_size first (l ∷ ls) = chain_size (linked_size first l) ls
 
--- whether all operands of an expression have this size (clause 5.4.1)
-abbrev pub is_sized : ℕ → Typed → Bool
-is_sized width = fold-Typed Bool (sized_step width)
+-- the size of an operand behind a condition, where the condition has a size and the other operand the same one (clause 5.4.1)
+abbrev pub picked_size : Option ℕ → Option ℕ → Option ℕ → Option ℕ
+picked_size (Some condition) (Some value) (Some other) = if value == other then Some value else None
+picked_size _ _ _ = None
+
+-- the one size of the operands of a `?:` (clauses 5.1.13 and 5.4.1)
+abbrev pub choice_size : List (Option ℕ × Option ℕ) → Option ℕ → Option ℕ
+choice_size [] last = last
+choice_size (p ∷ ps) last = picked_size p.0 p.1 (choice_size ps last)
+
+-- the sum of sizes, where each is known
+abbrev pub sum_size : List (Option ℕ) → Option ℕ
+sum_size [] = Some 0
+sum_size (None ∷ sizes) = None
+sum_size (Some n ∷ sizes) = option_map (λ m. n + m) (sum_size sizes)
+
+-- a size of at most 64 bits (profile)
+abbrev pub at_most_64 : Option ℕ → Option ℕ
+at_most_64 None = None
+at_most_64 (Some n) = if nat_le n 64 then Some n else None
+
+-- one layer of an expression: its size, where its operands have those that they must have, with that of each inner expression in its place
+abbrev pub size_step : Typed-F (Option ℕ) → Option ℕ
+size_step (t.Number digits) = Some (length digits)
+size_step (t.Signal o) = Some o.width
+size_step (t.Unary op x) = option_map (λ n. if gives_bit op then 1 else n) x.value
+size_step (t.Chain x links) = chain_size x.value links.items
+size_step (t.Choice pairs last) = choice_size pairs.items last.value
+size_step (t.Concat x xs) = at_most_64 (sum_size (x.value ∷ xs.items))
+size_step (t.Repeat n x) = at_most_64 (option_map (λ m. n.times * m) x.value)
+size_step (t.Resized size x) = option_map (λ n. size.width) x.value
+
+-- the size of an expression in bits, where its operands have those that they must have (clause 5.4.1)
+abbrev pub size_of : Typed → Option ℕ
+size_of = fold-Typed (Option ℕ) size_step
+
+-- whether a size is known, and isn't below this one
+abbrev pub is_at_least : ℕ → Option ℕ → Bool
+is_at_least width None = false
+is_at_least width (Some n) = nat_le width n
 
 -- ---- names
 
--- one layer of an expression: whether its signals are signals of the design, with the answer for each inner expression in its place
-abbrev pub within_step : List Signal → Typed-F Bool → Bool
-within_step ss (t.Number digits) = true
-within_step ss (t.Signal o) = nat_lt o.signal (length ss)
-within_step ss (t.Unary op x) = x.value
-within_step ss (t.Chain x links) = x.value && list_all (λ (l : Link × Bool). l.1) links.items
-
 -- whether the signals of an expression are signals of the design
 abbrev pub is_within : List Signal → Typed → Bool
-is_within ss = fold-Typed Bool (within_step ss)
+is_within ss e = list_all (λ (r : BitRange). nat_lt r.signal (length ss)) (reads e)
 
 -- ---- assignments
 
@@ -71,9 +105,9 @@ abbrev pub drives_net : Option Signal → ℕ → Bool
 drives_net None width = false
 drives_net (Some s) width = not (is_variable s.kind) && (s.width == width)
 
--- whether a right side reads signals of the design alone, at one size that isn't below the target's (clause 5.4.1)
+-- whether a right side reads signals of the design alone, and has a size that isn't below the target's (clause 5.4.1)
 abbrev pub is_source : List Signal → Target → Typed → Bool
-is_source ss t e = is_within ss e && is_sized (width_of e) e && nat_le t.width (width_of e)
+is_source ss t e = is_within ss e && is_at_least t.width (size_of e)
 
 -- whether an assignment of a process writes a variable of the design at its own size (clauses 6.2 and 9.2)
 abbrev pub is_sound_assignment : List Signal → Target → Typed → Bool

@@ -17,7 +17,7 @@ mod uses;
 mod write;
 
 pub use design::{Assign, Design, Entry, Process, ProcessKind, ScopeKind};
-pub use expression::{Link, Operand, Typed};
+pub use expression::{Count, Extension, Link, Operand, Typed};
 pub use laws::{names_hold, writes_hold};
 pub use range::{BitRange, Bits};
 pub use readers::Reader;

@@ -28,16 +28,47 @@ fn push_reads(out: &mut Vec<BitRange>, e: &Typed) -> Result<(), AllocError>
         Typed::Unary(_, x) => push_reads(out, x),
         Typed::Chain(first, links) => {
             push_reads(out, first)?;
-            push_all_reads(out, links)
+            push_link_reads(out, links)
         }
+        Typed::Choice(pairs, last) => {
+            push_pair_reads(out, pairs)?;
+            push_reads(out, last)
+        }
+        Typed::Concat(first, others) => {
+            push_reads(out, first)?;
+            push_all_reads(out, others)
+        }
+        Typed::Repeat(_, x) => push_reads(out, x),
+        Typed::Resized(_, x) => push_reads(out, x),
     }
 }
 
 #[cycle(reads)]
-fn push_all_reads(out: &mut Vec<BitRange>, links: &[(Link, Typed)]) -> Result<(), AllocError>
+fn push_link_reads(out: &mut Vec<BitRange>, links: &[(Link, Typed)]) -> Result<(), AllocError>
     ensures { OnOk result (out.new.items ≡ out.old.items ++ joined (map (λ l. reads l.1) links.now)) }
 {
     for (_, e) in links {
+        push_reads(out, e)?;
+    }
+    Ok(())
+}
+
+#[cycle(reads)]
+fn push_pair_reads(out: &mut Vec<BitRange>, pairs: &[(Typed, Typed)]) -> Result<(), AllocError>
+    ensures { OnOk result (out.new.items ≡ out.old.items ++ joined (map (λ p. reads p.0 ++ reads p.1) pairs.now)) }
+{
+    for (condition, e) in pairs {
+        push_reads(out, condition)?;
+        push_reads(out, e)?;
+    }
+    Ok(())
+}
+
+#[cycle(reads)]
+fn push_all_reads(out: &mut Vec<BitRange>, all: &[Typed]) -> Result<(), AllocError>
+    ensures { OnOk result (out.new.items ≡ out.old.items ++ joined (map reads all.now)) }
+{
+    for e in all {
         push_reads(out, e)?;
     }
     Ok(())

@@ -1,5 +1,5 @@
 -- Faults of a source, and that a design has none.
-use Rattle.std.proofs.Common.{◌≡◌, ℕ, zero, suc, ◌+◌, ◌<◌, ◌≤◌, Bool, true, false, ◌||◌, not, nat_eq, cond, List, [], ◌∷◌, ◌++◌, Option, Some, None, IsSome, is_some, ◌⊎◌, inl, inr, length, map, take, slice_get, get_or, option_map, replicate, refl, ap, sym, subst, ◌∙◌, arith, true≢false, ⊎_elim, Bor, All}
+use Rattle.std.proofs.Common.{◌≡◌, ℕ, zero, suc, ◌+◌, ◌<◌, ◌≤◌, Bool, true, false, ◌||◌, not, nat_eq, cond, List, [], ◌∷◌, ◌++◌, Option, Some, None, IsSome, is_some, ◌⊎◌, inl, inr, length, map, take, slice_get, get_or, option_map, replicate, refl, ap, sym, subst, ◌∙◌, arith, zero-add, true≢false, ⊎_elim, Bor, All}
 use Rattle.std.specs.Prelude.{slice_set}
 use Rattle.std.specs.List.{list_any, flat_map, AllZip, IsDistinct}
 use Rattle.std.specs.Str.{bytes_eq}
@@ -13,6 +13,7 @@ use Rattle.std.proofs.lemmas.Slice.Eq.{bytes_eq-Decides}
 use Rattle.std.proofs.lemmas.Bool.Decides.{eqb_tells}
 use Rattle.std.proofs.lemmas.List.Folds.{list_any-append}
 use Rattle.std.proofs.Math.Bool.{or-true, or-false}
+use Rattle.vs_syntax.specs.declared.tree.Expr.{Expr}
 use Rattle.vs_syntax.specs.declared.tree.Module.{Module}
 use Rattle.vs_syntax.specs.declared.tree.Item.{Item}
 use Rattle.vs_design.specs.declared.design.ScopeKind.TheVariants as scopes
@@ -23,60 +24,62 @@ use Rattle.vs_design.specs.declared.design.Entry.{Entry}
 use Rattle.vs_design.specs.declared.design.Entry.TheVariants.{Enter, Declare, Leave}
 use Rattle.vs_elaborate.specs.declared.faults.Reason.{Reason}
 use Rattle.vs_elaborate.specs.declared.faults.Reason.TheVariants.{NoModule, DeclaredTwice, DrivenTwice, Limit, Width}
-use Rattle.vs_elaborate.specs.declared.faults.WidthReason.TheVariants.{WrongKind}
+use Rattle.vs_widths.specs.declared.faults.WidthReason.TheVariants.{WrongKind}
 use Rattle.vs_elaborate.specs.declared.assignments.AssignmentKind.TheVariants.{Continuous}
 use Rattle.vs_elaborate.specs.declared.faults.ElabFault.{ElabFault}
 use Rattle.vs_elaborate.specs.declared.faults.ElabFault.TheVariants.{Memory, At}
 use Rattle.vs_elaborate.specs.declared.plans.Plan.{Plan}
-use Rattle.vs_elaborate.specs.Names.{meaning_of, Declares as NamesDeclare}
-use Rattle.vs_elaborate.specs.Environment.{Environment}
+use Rattle.vs_widths.specs.declared.bindings.Meaning.{Meaning}
+use Rattle.vs_widths.specs.declared.bindings.Binding.{Binding}
+use Rattle.vs_widths.specs.Names.{meaning_of, Declares as NamesDeclare}
+use Rattle.vs_widths.specs.Findings.{stands}
+use Rattle.vs_widths.specs.Expressions.{meant}
+use Rattle.vs_widths.specs.Environment.{Environment}
 use Rattle.vs_elaborate.specs.Printed.{Path, printed, printed_name}
-use Rattle.vs_elaborate.specs.Statements.{is_wrong_kind}
-use Rattle.vs_elaborate.specs.Scopes.{Scope, DeclaredName, Assignment, Located, module_named, top_scope, all_scopes, declarations_of, drivers_of, behaviors_of, names_of, environment, kinds, named, signal_paths}
+use Rattle.vs_elaborate.specs.Statements.{target_fault, assign_fault}
+use Rattle.vs_elaborate.specs.Scopes.{Scope, DeclaredName, Assignment, Located, module_named, top_scope, all_scopes, declarations_of, drivers_of, behaviors_of, names_of, environment, environment_in, meaning_as, named, signal_paths}
 use Rattle.vs_elaborate.specs.Processes.{behavior_fault, driver_fault}
 use Rattle.vs_elaborate.specs.Faults.{Repeated, net_path, nets_driven, DrivesTwice, PassesLimit, HasFault, Holds, HoldsIn, HoldsAbove, Stands, Faults}
 use Rattle.vs_elaborate.specs.DesignOf.{declared, signals_of, PartOf, parts_from, processes_of, assigns_of, IsAssign, IsAssignIn, IsProcess, IsProcessIn, IsEntry, Represents, DesignOf, outline_below}
 use Rattle.vs_elaborate.specs.passes.Answers.{Told, IsFaultAt, borrowed}
-use Rattle.vs_elaborate.specs.passes.Bodies.{Bindings, meanings, IsNumber, counting}
-use Rattle.vs_elaborate.specs.passes.Plans.{Binds, Declares, DeclaresNot, Adds, Drives, DrivesNot, Runs, RunsNot, Opens, OpensNot, driven_signals, IsDrivenTwice, DrivenTwiceOnly, module_names, Lists, ListsNot, Finds, FindsNot}
+use Rattle.vs_elaborate.specs.passes.Bodies.{Bindings, counting}
+use Rattle.vs_elaborate.specs.passes.Plans.{environment_from, Binds, Declares, DeclaresNot, Adds, Drives, DrivesNot, Runs, RunsNot, Opens, OpensNot, driven_signals, IsDrivenTwice, DrivenTwiceOnly, module_names, Lists, ListsNot, Finds, FindsNot}
 use Rattle.vs_elaborate.proofs.Folds.{take_push}
 use Rattle.vs_elaborate.proofs.AnswerLemmas.{told_at, told_by}
 use Rattle.vs_elaborate.proofs.StatementLemmas.{left_false, right_false}
 use Rattle.vs_elaborate.proofs.PlanLemmas.{place_of_any, bytes_eq_equiv}
-use Rattle.vs_elaborate.proofs.ScopeLemmas.{located_as, number_at, meanings_are}
+use Rattle.vs_elaborate.proofs.ScopeLemmas.{located_as, number_at, bindings_are, names_are, environment_is}
 use Rattle.vs_elaborate.proofs.DesignOfLemmas.{assigns_mean, processes_mean, outline_means}
 use Rattle.vs_elaborate.proofs.WellFormedLemmas.{Made, parts_of, signal_at}
 
 -- ---- a scope that is opened
 
--- a fault of a part of a scope
-abbrev pub PartHasFault : Scope → Reason → Type 0
-PartHasFault s r = (list_any (behavior_fault r (kinds s)) (behaviors_of s) ≡ true) ⊎ (list_any (driver_fault r (kinds s)) (drivers_of s) ≡ true)
-
-part_stands : (s : Scope) (old : Plan) (r : Reason) (p : Path) → PartHasFault s r × (p ≡ s.path) → OpensNot s old r p
-part_stands s old DeclaredTwice p h = inl (inr h)
-part_stands s old Limit p h = inr (inl h)
-part_stands s old NoModule p h = inl h
-part_stands s old DrivenTwice p h = inl h
-part_stands s old (Width w) p h = inl h
+part_stands : (s : Scope) (old : Plan) (r : Reason) (p : Path) → HasFault (environment_from (length old.signals.items) s) s r p → OpensNot s old r p
+part_stands s old DeclaredTwice p h = inr h
+part_stands s old Limit p h = inr h
+part_stands s old NoModule p h = h
+part_stands s old DrivenTwice p h = h
+part_stands s old (Width w) p h = inr h
 
 pub declares_told : (s : Scope) (old start : Plan) (e : ElabFault) → start.signals.items ≡ old.signals.items → Told (DeclaresNot s start (declarations_of s)) e → Told (OpensNot s old) e
 declares_told s old start e k h = told_by (DeclaresNot s start (declarations_of s)) (OpensNot s old) e by h
   where
     by : (r : Reason) (p : Path) → DeclaresNot s start (declarations_of s) r p → OpensNot s old r p
-    by DeclaredTwice p h = inl (inl (record { name = h.0; repeated = h.2; path = h.1 }))
+    by DeclaredTwice p h = inl (record { name = h.0; repeated = h.2; path = h.1 })
     by Limit p h = let same : length start.signals.items ≡ length old.signals.items = ap length k in inl (omega (arith, h.0, same), h.1)
     by NoModule p h = absurd h
     by DrivenTwice p h = absurd h
-    by (Width w) p h = absurd h
+    by (Width w) p h = inl h
 
-pub drives_told : (s : Scope) (names : Bindings) (base : ℕ) (old start : Plan) (e : ElabFault) → Binds names base (declarations_of s) → Told (DrivesNot s names start (drivers_of s)) e → Told (OpensNot s old) e
-drives_told s names base old start e b h =
-    told_by (DrivesNot s names start (drivers_of s)) (OpensNot s old) e (λ r p f. part_stands s old r p (inr (ap (λ (z : Environment). list_any (driver_fault r z) (drivers_of s)) (sym (meanings_are s names base b)) ∙ f.0), f.1)) h
+pub drives_told : (s : Scope) (names : Bindings) (old start : Plan) (e : ElabFault) → Binds names (length old.signals.items) (declarations_of s) → Told (DrivesNot s names start (drivers_of s)) e → Told (OpensNot s old) e
+drives_told s names old start e b h =
+    told_by (DrivesNot s names start (drivers_of s)) (OpensNot s old) e
+    (λ r p f. part_stands s old r p (inr (ap (λ (z : Environment). list_any (driver_fault r z) (drivers_of s)) (sym (bindings_are s names (length old.signals.items) b)) ∙ f.0), f.1)) h
 
-pub runs_told : (s : Scope) (names : Bindings) (base : ℕ) (old start : Plan) (e : ElabFault) → Binds names base (declarations_of s) → Told (RunsNot s names start (behaviors_of s)) e → Told (OpensNot s old) e
-runs_told s names base old start e b h =
-    told_by (RunsNot s names start (behaviors_of s)) (OpensNot s old) e (λ r p f. part_stands s old r p (inl (ap (λ (z : Environment). list_any (behavior_fault r z) (behaviors_of s)) (sym (meanings_are s names base b)) ∙ f.0), f.1)) h
+pub runs_told : (s : Scope) (names : Bindings) (old start : Plan) (e : ElabFault) → Binds names (length old.signals.items) (declarations_of s) → Told (RunsNot s names start (behaviors_of s)) e → Told (OpensNot s old) e
+runs_told s names old start e b h =
+    told_by (RunsNot s names start (behaviors_of s)) (OpensNot s old) e
+    (λ r p f. part_stands s old r p (inl (ap (λ (z : Environment). list_any (behavior_fault r z) (behaviors_of s)) (sym (bindings_are s names (length old.signals.items) b)) ∙ f.0), f.1)) h
 
 names_none : IsDistinct bytes_eq []
 unfolding IsDistinct
@@ -89,8 +92,9 @@ numbers_none = tt
 -- before a pass over declarations, continuous assignments or processes
 pub declares_none : (s : Scope) (names : Bindings) (plan : Plan) → names ≡ [] → length plan.signals.items ≤ 65536 → Declares s names plan plan []
 declares_none s names plan h room = record {
-  bound = λ n. ap (λ (z : Bindings). option_map (λ b. (b.meaning, b.signal)) (meaning_of z n)) h;
+  bound = λ n. ap (λ (z : Bindings). meaning_of z n) h;
   distinct = names_none;
+  sized = λ w. refl;
   shown = sym (append-nil (map declared plan.signals.items));
   lines = sym (append-nil plan.outline.items);
   room = room;
@@ -102,14 +106,14 @@ adds_none fault R letter s first all h = record { begun = h; sound = λ r. refl;
 
 pub drives_none : (s : Scope) (names : Bindings) (first : ℕ) (plan : Plan) → length plan.assigns.items ≡ first → Drives s names first plan plan []
 drives_none s names first plan h = record {
-  adds = adds_none (λ r. driver_fault r (meanings names)) (IsAssign (IsNumber names) (meanings names)) 97 s first plan.assigns.items h;
+  adds = adds_none (λ r. driver_fault r (meaning_of names)) (IsAssign (meaning_of names)) 97 s first plan.assigns.items h;
   processes = refl;
   same = record { signals = refl; outline = refl };
 }
 
 pub runs_none : (s : Scope) (names : Bindings) (first : ℕ) (plan : Plan) → length plan.processes.items ≡ first → Runs s names first plan plan []
 runs_none s names first plan h = record {
-  adds = adds_none (λ r. behavior_fault r (meanings names)) (IsProcess (IsNumber names) (meanings names)) 112 s first plan.processes.items h;
+  adds = adds_none (λ r. behavior_fault r (meaning_of names)) (IsProcess (meaning_of names)) 112 s first plan.processes.items h;
   assigns = refl;
   same = record { signals = refl; outline = refl };
 }
@@ -126,7 +130,7 @@ opens s names old p1 p2 p3 p4 p5 m n title t a1 b1 c1 d1 de dr ru a5 b5 c5 d5 =
     record {
       names = names;
       bound = subst (λ z. Binds names z (declarations_of s)) base de.bound;
-      sound = record { distinct = de.distinct; processes = ru.adds.sound; drivers = dr.adds.sound };
+      sound = record { distinct = de.distinct; sized = de.sized; processes = ru.adds.sound; drivers = dr.adds.sound };
       room = subst (λ (z : List Signal). length z ≤ 65536) (sym signals) de.room;
       shown = ap (map declared) signals ∙ de.shown ∙ ap (λ z. map declared z ++ signals_of s) a1;
       assigns_added = dr.adds.added;
@@ -196,19 +200,19 @@ last_same (x ∷ xs) m n h = last_same xs m n (ap tail h)
     tail (y ∷ ys) = ys
 
 -- two nets of one path are one signal
-same_net : (s : Scope) (names : Bindings) (i j : ℕ) (m n : List ℕ) (p : Path) → Binds names 0 (declarations_of s) → IsNumber names i m → IsNumber names j n → net_path (environment s m) ≡ Some p → net_path (environment s n) ≡ Some p → i ≡ j
-same_net s names i j m n p b h k u v =
-    let x = number_at s names 0 i m b h in
-    let y = number_at s names 0 j n b k in
+same_net : (s : Scope) (names : Bindings) (a b : Binding) (m n : List ℕ) (p : Path) → Binds names 0 (declarations_of s) → meaning_of names m ≡ Some a → meaning_of names n ≡ Some b → net_path (environment s m) ≡ Some p → net_path (environment s n) ≡ Some p → a.signal ≡ b.signal
+same_net s names a b m n p h i k u v =
+    let x = number_at s names 0 m a h i in
+    let y = number_at s names 0 n b h k in
     let one : named s x.declared.name ≡ p = net_means (environment s m) (located_as s x.declared) p x.means u in
     let other : named s y.declared.name ≡ p = net_means (environment s n) (located_as s y.declared) p y.means v in
     let same : m ≡ n = sym x.name ∙ last_same s.path x.declared.name y.declared.name (one ∙ sym other) ∙ y.name in
-    same_Some i j (sym h ∙ ap (λ (z : List ℕ). option_map (λ b. b.signal) (meaning_of names z)) same ∙ k)
+    ap (λ (z : Binding). z.signal) (same_Some a b (sym i ∙ ap (meaning_of names) same ∙ k))
 
 -- where no two continuous assignments drive one signal, no net is driven twice
 driven_once : (s : Scope) (p : Plan) (m : Made s p) (q : Path) → IsDistinct nat_eq (driven_signals p.assigns.items) → DrivesTwice (s ∷ []) q → ⊥
 driven_once s p m q u r =
-    let R : Assign → PartOf Assignment → Type 0 = IsAssign (IsNumber m.names) (meanings m.names) in
+    let R : Assign → PartOf Assignment → Type 0 = IsAssign (meaning_of m.names) in
     let whole : flat_map nets_driven (s ∷ []) ≡ nets_driven s = append-nil (nets_driven s) in
     let f : Assignment → Option Path = λ a. net_path (environment s a.target) in
     let a = mapped_some f (drivers_of s) r.first (Some q) (sym (ap (λ (z : List (Option Path)). slice_get z r.first) whole) ∙ r.one) in
@@ -217,7 +221,7 @@ driven_once s p m q u r =
     let y = from_part R 97 s p.assigns.items 0 (drivers_of s) r.second b.0 m.drivers_mean b.1 in
     let sx : x.part ≡ a.0 = same_Some _ _ (sym x.part_stands ∙ a.1) in
     let sy : y.part ≡ b.0 = same_Some _ _ (sym y.part_stands ∙ b.1) in
-    let same : x.made.target.signal ≡ y.made.target.signal = same_net s m.names x.made.target.signal y.made.target.signal x.part.target y.part.target q m.bound x.means.sides.signal y.means.sides.signal (ap f sx ∙ a.2) (ap f sy ∙ b.2) in
+    let same : x.made.target.signal ≡ y.made.target.signal = x.means.sides.signal ∙ same_net s m.names x.means.sides.binding y.means.sides.binding x.part.target y.part.target q m.bound x.means.sides.found y.means.sides.found (ap f sx ∙ a.2) (ap f sy ∙ b.2) ∙ sym y.means.sides.signal in
     let g : Assign → ℕ = λ z. z.target.signal in
     let one : slice_get (driven_signals p.assigns.items) r.first ≡ Some x.made.target.signal = slice_get-map g p.assigns.items r.first ∙ ap (option_map g) x.made_stands in
     let other : slice_get (driven_signals p.assigns.items) r.second ≡ Some y.made.target.signal = slice_get-map g p.assigns.items r.second ∙ ap (option_map g) y.made_stands in
@@ -234,37 +238,41 @@ not_not true h = sym (true_false h)
     true_false h = sym h
 not_not false h = refl
 
-net_of : (o : Option Located) (l : Located) → o ≡ Some l → is_wrong_kind Continuous (option_map (λ (z : Located). z.meaning) o) ≡ false → net_path o ≡ Some l.path
-net_of o l h k =
-    let net : is_variable l.meaning.kind ≡ false = not_not _ (ap (λ z. is_wrong_kind Continuous (option_map (λ (z : Located). z.meaning) z)) (sym h) ∙ k) in
-    ap net_path h ∙ ap (λ z. cond z None (Some l.path)) net
+net_of : (s : Scope) (d : DeclaredName) (b : Binding) (o : Option Located) → b.meaning ≡ meaning_as d → o ≡ Some (located_as s d) → target_fault WrongKind Continuous (Some b) ≡ false → net_path o ≡ Some (named s d.name)
+net_of s d b o m h k =
+    let net : is_variable d.kind ≡ false = ap (λ (z : Meaning). is_variable z.kind) (sym m) ∙ not_not _ k in
+    ap net_path h ∙ ap (λ z. cond z None (Some (named s d.name))) net
+
+-- the target of a continuous assignment without faults
+target_sound : (env : Environment) (n : List ℕ) (e : Expr) (b : Binding) → env n ≡ Some b → assign_fault (Width WrongKind) Continuous env n e ≡ false → target_fault WrongKind Continuous (Some b) ≡ false
+target_sound env n e b h k = ap (target_fault WrongKind Continuous) (sym h) ∙ left_false _ (stands WrongKind (meant env e).finding) k
 
 -- a signal that is driven twice is a net that is
 driven_twice : (s : Scope) (p : Plan) (bytes : List ℕ) → Made s p → IsDrivenTwice p bytes → (q : Path) × (bytes ≡ printed q) × DrivesTwice (s ∷ []) q
 driven_twice s p bytes m t =
-    let R : Assign → PartOf Assignment → Type 0 = IsAssign (IsNumber m.names) (meanings m.names) in
+    let R : Assign → PartOf Assignment → Type 0 = IsAssign (meaning_of m.names) in
     let g : Assign → ℕ = λ z. z.target.signal in
-    let env = meanings m.names in
+    let env = meaning_of m.names in
     let a = mapped_some g p.assigns.items t.repeated.first t.number t.repeated.one in
     let b = mapped_some g p.assigns.items t.repeated.second t.number t.repeated.other in
     let x = from_made R 97 s p.assigns.items 0 (drivers_of s) t.repeated.first a.0 m.drivers_mean a.1 in
     let y = from_made R 97 s p.assigns.items 0 (drivers_of s) t.repeated.second b.0 m.drivers_mean b.1 in
     let nx : x.made.target.signal ≡ t.number = ap g (same_Some _ _ (sym x.made_stands ∙ a.1)) ∙ a.2 in
     let ny : y.made.target.signal ≡ t.number = ap g (same_Some _ _ (sym y.made_stands ∙ b.1)) ∙ b.2 in
-    let u = number_at s m.names 0 t.number x.part.target m.bound (subst (λ z. IsNumber m.names z x.part.target) nx x.means.sides.signal) in
-    let v = number_at s m.names 0 t.number y.part.target m.bound (subst (λ z. IsNumber m.names z y.part.target) ny y.means.sides.signal) in
-    let place : u.place ≡ v.place = omega (arith, u.number, v.number) in
+    let u = number_at s m.names 0 x.part.target x.means.sides.binding m.bound x.means.sides.found in
+    let v = number_at s m.names 0 y.part.target y.means.sides.binding m.bound y.means.sides.found in
+    let ux : t.number ≡ u.place = sym nx ∙ x.means.sides.signal ∙ u.number ∙ zero-add u.place in
+    let uy : t.number ≡ v.place = sym ny ∙ y.means.sides.signal ∙ v.number ∙ zero-add v.place in
+    let place : u.place ≡ v.place = sym ux ∙ uy in
     let same : u.declared ≡ v.declared = same_Some _ _ (sym u.stands ∙ ap (slice_get (declarations_of s)) place ∙ v.stands) in
-    let sound : (n : List ℕ) → is_wrong_kind Continuous (env n) ≡ false → is_wrong_kind Continuous (kinds s n) ≡ false = λ n h. ap (λ (z : Environment). is_wrong_kind Continuous (z n)) (sym (meanings_are s m.names 0 m.bound)) ∙ h in
-    let wx = sound x.part.target (any_false_at (driver_fault (Width WrongKind) env) (drivers_of s) t.repeated.first x.part (m.sound (Width WrongKind)).1 x.part_stands) in
-    let wy = sound y.part.target (any_false_at (driver_fault (Width WrongKind) env) (drivers_of s) t.repeated.second y.part (m.sound (Width WrongKind)).1 y.part_stands) in
+    let wx = target_sound env x.part.target x.part.value x.means.sides.binding x.means.sides.found (any_false_at (driver_fault (Width WrongKind) env) (drivers_of s) t.repeated.first x.part (m.sound (Width WrongKind)).1 x.part_stands) in
+    let wy = target_sound env y.part.target y.part.value y.means.sides.binding y.means.sides.found (any_false_at (driver_fault (Width WrongKind) env) (drivers_of s) t.repeated.second y.part (m.sound (Width WrongKind)).1 y.part_stands) in
     let path = named s u.declared.name in
     let f : Assignment → Option Path = λ z. net_path (environment s z.target) in
     let whole : nets_driven s ≡ flat_map nets_driven (s ∷ []) = sym (append-nil (nets_driven s)) in
-    let one : slice_get (nets_driven s) t.repeated.first ≡ Some (Some path) = slice_get-map f (drivers_of s) t.repeated.first ∙ ap (option_map f) x.part_stands ∙ ap Some (net_of (environment s x.part.target) (located_as s u.declared) u.means wx) in
-    let other : slice_get (nets_driven s) t.repeated.second ≡ Some (Some path) = slice_get-map f (drivers_of s) t.repeated.second ∙ ap (option_map f) y.part_stands ∙ ap Some (net_of (environment s y.part.target) (located_as s v.declared) v.means wy) ∙ ap (λ (z : DeclaredName). Some (Some (named s z.name))) (sym same) in
-    let at : t.number ≡ u.place = omega (arith, u.number) in
-    let shown = signal_at s p.signals.items t.number u.declared m.shown (ap (slice_get (declarations_of s)) at ∙ u.stands) in
+    let one : slice_get (nets_driven s) t.repeated.first ≡ Some (Some path) = slice_get-map f (drivers_of s) t.repeated.first ∙ ap (option_map f) x.part_stands ∙ ap Some (net_of s u.declared x.means.sides.binding (environment s x.part.target) u.meaning u.means wx) in
+    let other : slice_get (nets_driven s) t.repeated.second ≡ Some (Some path) = slice_get-map f (drivers_of s) t.repeated.second ∙ ap (option_map f) y.part_stands ∙ ap Some (net_of s v.declared y.means.sides.binding (environment s y.part.target) v.meaning v.means wy) ∙ ap (λ (z : DeclaredName). Some (Some (named s z.name))) (sym same) in
+    let shown = signal_at s p.signals.items t.number u.declared m.shown (ap (slice_get (declarations_of s)) ux ∙ u.stands) in
     let signal : shown.0 ≡ t.signal = same_Some _ _ (sym shown.1 ∙ t.stands) in (
       path,
       t.path ∙ ap (λ (z : Signal). z.path.items) (sym signal) ∙ ap (λ z. z.path) shown.2,
@@ -412,19 +420,20 @@ not_repeated ns n u r =
     let same : bytes_eq n n ≡ false = sym (ap (λ z. bytes_eq z n) one) ∙ sym (ap (bytes_eq (get_or ns r.first [])) other) ∙ apart in
     true≢false (sym ((bytes_eq-Decides n n).1 refl) ∙ same)
 
-no_part : (s : Scope) (p : Plan) (r : Reason) (q : Path) → Made s p → HasFault s r q → ⊥
-no_part s p r q m (inl f, e) = true≢false (sym f ∙ ap (λ (z : Environment). list_any (behavior_fault r z) (behaviors_of s)) (sym (meanings_are s m.names 0 m.bound)) ∙ (m.sound r).0)
-no_part s p r q m (inr f, e) = true≢false (sym f ∙ ap (λ (z : Environment). list_any (driver_fault r z) (drivers_of s)) (sym (meanings_are s m.names 0 m.bound)) ∙ (m.sound r).1)
+no_part : (s : Scope) (p : Plan) (r : Reason) (q : Path) → Made s p → HasFault (environment_in (s ∷ []) s) s r q → ⊥
+no_part s p r q m (inl f, e) = true≢false (sym f ∙ ap (λ (z : Environment). list_any (behavior_fault r z) (behaviors_of s)) (sym (names_are s m.names m.bound)) ∙ (m.sound r).0)
+no_part s p r q m (inr f, e) = true≢false (sym f ∙ ap (λ (z : Environment). list_any (driver_fault r z) (drivers_of s)) (sym (names_are s m.names m.bound)) ∙ (m.sound r).1)
 
-none_holds : (s : Scope) (p : Plan) (r : Reason) (q : Path) → Made s p → Holds s r q → ⊥
+none_holds : (s : Scope) (p : Plan) (r : Reason) (q : Path) → Made s p → Holds (environment_in (s ∷ []) s) s r q → ⊥
 none_holds s p DeclaredTwice q m (inl d) = not_repeated (names_of s) d.name m.distinct d.repeated
 none_holds s p DeclaredTwice q m (inr f) = no_part s p DeclaredTwice q m f
 none_holds s p DrivenTwice q m f = no_part s p DrivenTwice q m f
 none_holds s p NoModule q m f = no_part s p NoModule q m f
 none_holds s p Limit q m f = no_part s p Limit q m f
-none_holds s p (Width w) q m f = no_part s p (Width w) q m f
+none_holds s p (Width w) q m (inl f) = true≢false (sym f.0 ∙ m.sized w)
+none_holds s p (Width w) q m (inr f) = no_part s p (Width w) q m f
 
-none_in : (s : Scope) (p : Plan) (r : Reason) (q : Path) → Made s p → HoldsIn (s ∷ []) r q → ⊥
+none_in : (s : Scope) (p : Plan) (r : Reason) (q : Path) → Made s p → HoldsIn (s ∷ []) (s ∷ []) r q → ⊥
 none_in s p r q m (inl f) = none_holds s p r q m f
 none_in s p r q m (inr f) = f
 
@@ -448,7 +457,7 @@ nothing_stands ms top m p f d u r q (inl h) = above r h
     above Limit h = within_limit (top_scope m) p q d (let P : Option Module → Type 0 = λ o. PassesLimit (all_scopes ms o) q in subst P f.found h)
     above DrivenTwice h = driven_once (top_scope m) p d q u (let P : Option Module → Type 0 = λ o. DrivesTwice (all_scopes ms o) q in subst P f.found h)
     above (Width w) h = h
-nothing_stands ms top m p f d u r q (inr h) = none_in (top_scope m) p r q d (let P : Option Module → Type 0 = λ o. HoldsIn (all_scopes ms o) r q in subst P f.found h)
+nothing_stands ms top m p f d u r q (inr h) = none_in (top_scope m) p r q d (let P : Option Module → Type 0 = λ o. HoldsIn (all_scopes ms o) (all_scopes ms o) r q in subst P f.found h)
 
 -- the design of the top's scope is that of the source
 pub designed : (ms : List Module) (top : List ℕ) (m : Module) (p : Plan) → Finds ms top m → Made (top_scope m) p → IsDistinct nat_eq (driven_signals p.assigns.items) → DesignOf ms top (parts_of p)
@@ -483,12 +492,18 @@ finding_stands ms top e h = stands_at ms top e (told_by (FindsNot ms top) (Stand
 pub opening_stands : (ms : List Module) (top : List ℕ) (m : Module) (old : Plan) (e : ElabFault) → old.signals.items ≡ [] → Finds ms top m → Told (OpensNot (top_scope m) old) e → Faults ms top e
 opening_stands ms top m old e o f h = stands_at ms top e (told_by (OpensNot (top_scope m) old) (Stands ms top) e by h)
   where
-    inside : (r : Reason) (p : Path) → HoldsIn (top_scope m ∷ []) r p → Stands ms top r p
-    inside r p h = inr (let P : Option Module → Type 0 = λ z. HoldsIn (all_scopes ms z) r p in subst P (sym f.found) h)
+    none : length old.signals.items ≡ 0
+    none = ap length o
+
+    inside : (r : Reason) (p : Path) → Holds (environment_from (length old.signals.items) (top_scope m)) (top_scope m) r p → Stands ms top r p
+    inside r p h =
+        let s = top_scope m in
+        let env : environment_from (length old.signals.items) s ≡ environment_in (s ∷ []) s = ap (λ k. environment_from k s) none ∙ environment_is s in
+        let P : Option Module → Type 0 = λ z. HoldsIn (all_scopes ms z) (all_scopes ms z) r p in
+        inr (subst P (sym f.found) (inl (subst (λ z. Holds z s r p) env h)))
 
     by : (r : Reason) (p : Path) → OpensNot (top_scope m) old r p → Stands ms top r p
     by Limit p (inl h) =
-        let none : length old.signals.items ≡ 0 = ap length o in
         let paths = one_scope_paths (top_scope m) in
         let names : length (names_of (top_scope m)) ≡ length (declarations_of (top_scope m)) = length-map (declarations_of (top_scope m)) (λ (z : DeclaredName). z.name) in
         let P : Option Module → Type 0 = λ z. PassesLimit (all_scopes ms z) p in

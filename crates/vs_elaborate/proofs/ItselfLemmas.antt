@@ -3,15 +3,17 @@ use Rattle.std.proofs.Common.{◌≡◌, List, [], ◌∷◌, Option, Some, None
 use Rattle.vs_logic4.specs.declared.operators.Binary.{Binary}
 use Rattle.vs_syntax.specs.declared.tree.Expr.{Expr, Expr-F, roll-Expr, ind-Expr, map-Expr}
 use Rattle.vs_syntax.specs.declared.tree.Expr.TheOpen as f
-use Rattle.vs_syntax.specs.declared.tree.Expr.TheVariants.{rolls-Number, rolls-Name, rolls-Group, rolls-Unary, rolls-Chain}
+use Rattle.vs_syntax.specs.declared.tree.Expr.TheVariants.{rolls-Number, rolls-Name, rolls-Group, rolls-Unary, rolls-Chain, rolls-Choice, rolls-Concat, rolls-Repeat, rolls-Cast}
 use Rattle.vs_syntax.specs.declared.tree.Stmt.{Stmt, Stmt-F, roll-Stmt, ind-Stmt, map-Stmt}
 use Rattle.vs_syntax.specs.declared.tree.Stmt.TheOpen as g
 use Rattle.vs_syntax.specs.declared.tree.Stmt.TheVariants.{rolls-Null, rolls-Assign, rolls-Later, rolls-Block, rolls-Delay}
 use Rattle.vs_syntax.specs.declared.tree.Declarator.{Declarator}
+use Rattle.vs_syntax.specs.declared.tree.Form.{Form}
+use Rattle.vs_syntax.specs.declared.tree.Range.{Range}
 use Rattle.vs_syntax.specs.declared.tree.Item.{Item}
 use Rattle.vs_syntax.specs.declared.tree.Item.TheVariants as i
 use Rattle.vs_syntax.specs.declared.tree.Module.{Module}
-use Rattle.vs_syntax.specs.Same.{SameExpr, same_number, same_name, same_group, same_unary, same_chain, SameLinks, same_no_link, same_link, SameStmt, same_null, same_assign, same_later, same_block, same_delay, SameStmts, same_no_stmt, same_more_stmts, Pairwise, no_pair, pair_more, SameValue, same_no_value, same_value, SameDeclarator, SameAssignment, SameItem, same_wire, same_reg, same_assigns, same_initial, same_always, SameModule}
+use Rattle.vs_syntax.specs.Same.{SameExpr, same_number, same_name, same_group, same_unary, same_chain, same_choice, same_concat, same_repeat, same_cast, SameLinks, same_no_link, same_link, SamePairs, same_no_pair, same_pair, SameExprs, same_no_expr, same_more_exprs, SameStmt, same_null, same_assign, same_later, same_block, same_delay, SameStmts, same_no_stmt, same_more_stmts, Pairwise, no_pair, pair_more, SameValue, same_no_value, same_value, SameDeclarator, SameAssignment, SameRange, same_no_range, same_range, SameForm, SameItem, same_wire, same_reg, same_integer, same_assigns, same_initial, same_always, SameModule}
 
 -- ---- expressions
 
@@ -25,12 +27,24 @@ links_themselves : (ls : List (Binary × InnerExpr)) → SameLinks (map (λ l. (
 links_themselves [] = same_no_link
 links_themselves (l ∷ ls) = same_link _ _ _ _ refl l.1.1 (links_themselves ls)
 
+pairs_themselves : (ps : List (InnerExpr × InnerExpr)) → SamePairs (map (λ p. (p.0.0, p.1.0)) ps) (map (λ p. (p.0.0, p.1.0)) ps)
+pairs_themselves [] = same_no_pair
+pairs_themselves (p ∷ ps) = same_pair _ _ _ _ p.0.1 p.1.1 (pairs_themselves ps)
+
+exprs_themselves : (xs : List InnerExpr) → SameExprs (map (λ p. p.0) xs) (map (λ p. p.0) xs)
+exprs_themselves [] = same_no_expr
+exprs_themselves (x ∷ xs) = same_more_exprs _ _ _ _ x.1 (exprs_themselves xs)
+
 expr_layer : (y : Expr-F InnerExpr) → SameExpr (roll-Expr (bare_expr y)) (roll-Expr (bare_expr y))
 expr_layer (f.Number l) = rw (rolls-Number l) (same_number l)
 expr_layer (f.Name n) = rw (rolls-Name n) (same_name n n refl)
 expr_layer (f.Group x) = rw (rolls-Group _) (same_group _ _ x.value.1)
 expr_layer (f.Unary op x) = rw (rolls-Unary op _) (same_unary op _ _ x.value.1)
 expr_layer (f.Chain x ls) = rw (rolls-Chain _ _) (same_chain _ _ _ _ x.value.1 (links_themselves ls.items))
+expr_layer (f.Choice ps x) = rw (rolls-Choice _ _) (same_choice _ _ _ _ (pairs_themselves ps.items) x.value.1)
+expr_layer (f.Concat x xs) = rw (rolls-Concat _ _) (same_concat _ _ _ _ x.value.1 (exprs_themselves xs.items))
+expr_layer (f.Repeat n x xs) = rw (rolls-Repeat _ _ _) (same_repeat _ _ _ _ _ _ n.value.1 x.value.1 (exprs_themselves xs.items))
+expr_layer (f.Cast s x) = rw (rolls-Cast s _) (same_cast s _ _ x.value.1)
 
 expr_settled : (x : Expr-F Expr) (y : Expr-F InnerExpr) → bare_expr y ≡ x → SameExpr (roll-Expr x) (roll-Expr x)
 expr_settled x y is = subst (λ (u : Expr-F Expr). SameExpr (roll-Expr u) (roll-Expr u)) is (expr_layer y)
@@ -76,9 +90,17 @@ value_itself (Some x) = same_value x x (expr_itself x)
 declarators_themselves : (ds : List Declarator) → Pairwise SameDeclarator ds ds
 declarators_themselves ds = all_themselves SameDeclarator (λ d. record { name = refl; value = value_itself d.value }) ds
 
+range_itself : (o : Option Range) → SameRange o o
+range_itself None = same_no_range
+range_itself (Some r) = same_range r r (expr_itself r.left) (expr_itself r.right)
+
+form_itself : (f : Form) → SameForm f f
+form_itself f = record { signed = refl; range = range_itself f.range }
+
 item_itself : (x : Item) → SameItem x x
-item_itself (i.Wire ds) = same_wire ds ds (declarators_themselves ds.items)
-item_itself (i.Reg ds) = same_reg ds ds (declarators_themselves ds.items)
+item_itself (i.Wire f ds) = same_wire f f ds ds (form_itself f) (declarators_themselves ds.items)
+item_itself (i.Reg f ds) = same_reg f f ds ds (form_itself f) (declarators_themselves ds.items)
+item_itself (i.Integer ds) = same_integer ds ds (declarators_themselves ds.items)
 item_itself (i.Assign xs) = same_assigns xs xs (all_themselves SameAssignment (λ a. record { target = refl; value = expr_itself a.value }) xs.items)
 item_itself (i.Initial x) = same_initial x x (stmt_itself x)
 item_itself (i.Always x) = same_always x x (stmt_itself x)

@@ -1,13 +1,13 @@
-pub mod NameLemmas
-pub mod LiteralLemmas
 pub mod PrintedLemmas
 pub mod Folds
 pub mod AnswerLemmas
-pub mod ExpressionLemmas
+pub mod AssignmentLemmas
 pub mod StatementLemmas
-pub mod PlanLemmas
 pub mod ScopeLemmas
+pub mod PlanLemmas
+pub mod SizeLemmas
 pub mod DesignOfLemmas
+pub mod ReadLemmas
 pub mod WellFormedLemmas
 pub mod FaultLemmas
 pub mod OneLineLemmas

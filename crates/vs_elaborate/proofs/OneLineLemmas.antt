@@ -18,8 +18,10 @@ use Rattle.vs_design.specs.declared.design.Entry.{Entry}
 use Rattle.vs_design.specs.declared.design.Entry.TheVariants.{Enter, Declare, Leave}
 use Rattle.vs_design.specs.OneLine.{is_one_line_entry, HasNamesOfOneLine}
 use Rattle.vs_design.specs.Parts.{Parts}
+use Rattle.vs_widths.specs.Environment.{Environment}
 use Rattle.vs_elaborate.specs.Printed.{printed_name, is_simple}
-use Rattle.vs_elaborate.specs.Scopes.{Scope, DeclaredName, module_named, all_scopes, top_scope, declared_as, declared_in, declarations_of, names_in, names_of, named}
+use Rattle.vs_elaborate.specs.Ranges.{Sized}
+use Rattle.vs_elaborate.specs.Scopes.{Scope, DeclaredName, module_named, all_scopes, top_scope, declared_as, declared_in, unsized_in, declarations_of, names_in, names_of, named}
 use Rattle.vs_elaborate.specs.DesignOf.{Declared, declared, signal_of, signals_of, Line, enter, declare, leave, outline_around, outline_below, IsEntry, Represents}
 use Rattle.vs_elaborate.specs.OneLine.{HasModulesOfOneLine}
 
@@ -29,22 +31,23 @@ both p xs ys h k = list_all-append p xs ys ∙ and_from (list_all p xs) (list_al
 -- ---- names of a source
 
 -- the names that an item declares
-names_of_declarators : (k : SignalKind) (ds : List Declarator) → names_in (declared_as k ds) ≡ declarator_names ds
-names_of_declarators k [] = refl
-names_of_declarators k (d ∷ ds) = ap (λ ns. d.name.items ∷ ns) (names_of_declarators k ds)
+names_of_declarators : (k : SignalKind) (z : Sized) (ds : List Declarator) → names_in (declared_as k z ds) ≡ declarator_names ds
+names_of_declarators k z [] = refl
+names_of_declarators k z (d ∷ ds) = ap (λ ns. d.name.items ∷ ns) (names_of_declarators k z ds)
 
-names_of_item : (x : Item) → names_in (declared_in x) ≡ item_names x
-names_of_item (i.Wire ds) = names_of_declarators _ ds.items
-names_of_item (i.Reg ds) = names_of_declarators _ ds.items
-names_of_item (i.Assign xs) = refl
-names_of_item (i.Initial x) = refl
-names_of_item (i.Always x) = refl
+names_of_item : (env : Environment) (x : Item) → names_in (declared_in env x) ≡ item_names x
+names_of_item env (i.Wire f ds) = names_of_declarators _ _ ds.items
+names_of_item env (i.Reg f ds) = names_of_declarators _ _ ds.items
+names_of_item env (i.Integer ds) = names_of_declarators _ _ ds.items
+names_of_item env (i.Assign xs) = refl
+names_of_item env (i.Initial x) = refl
+names_of_item env (i.Always x) = refl
 
-names_of_items : (xs : List Item) → names_in (flat_map declared_in xs) ≡ flat_map item_names xs
-names_of_items [] = refl
-names_of_items (x ∷ xs) =
-    map-append (λ (d : DeclaredName). d.name) (declared_in x) (flat_map declared_in xs)
-    ∙ ap (λ ns. ns ++ names_in (flat_map declared_in xs)) (names_of_item x) ∙ ap (λ ns. item_names x ++ ns) (names_of_items xs)
+names_of_items : (env : Environment) (xs : List Item) → names_in (flat_map (declared_in env) xs) ≡ flat_map item_names xs
+names_of_items env [] = refl
+names_of_items env (x ∷ xs) =
+    map-append (λ (d : DeclaredName). d.name) (declared_in env x) (flat_map (declared_in env) xs)
+    ∙ ap (λ ns. ns ++ names_in (flat_map (declared_in env) xs)) (names_of_item env x) ∙ ap (λ ns. item_names x ++ ns) (names_of_items env xs)
 
 -- the names of the module that is found
 found_one_line : (ms : List Module) (top : List ℕ) (m : Module) → list_all is_one_line (declared_names ms) ≡ true → module_named ms top ≡ Some m → list_all is_one_line (module_names m) ≡ true
@@ -67,7 +70,7 @@ record IsOneLineScope (s : Scope) : Type 0 where
 top_one_line : (m : Module) → list_all is_one_line (module_names m) ≡ true → IsOneLineScope (top_scope m)
 top_one_line m h =
     let parts = and_parts (is_one_line m.name.items) (list_all is_one_line (flat_map item_names m.items.items)) h in
-    record { own = parts.0; names = ap (list_all is_one_line) (names_of_items m.items.items) ∙ parts.1 }
+    record { own = parts.0; names = ap (list_all is_one_line) (names_of_items (unsized_in m.items.items) m.items.items) ∙ parts.1 }
 
 printed_one_line : (n : List ℕ) → is_one_line n ≡ true → is_one_line (printed_name n) ≡ true
 printed_one_line n h =

@@ -14,25 +14,30 @@ use Rattle.vs_design.specs.declared.signal.Signal.{Signal}
 use Rattle.vs_design.specs.declared.design.Assign.{Assign}
 use Rattle.vs_design.specs.declared.design.Process.{Process}
 use Rattle.vs_design.specs.declared.design.Entry.TheVariants.{Declare}
-use Rattle.vs_elaborate.specs.declared.bindings.Binding.{Binding}
+use Rattle.vs_widths.specs.declared.bindings.Meaning.{Meaning}
+use Rattle.vs_widths.specs.declared.faults.WidthReason.{WidthReason}
+use Rattle.vs_widths.specs.declared.bindings.Binding.{Binding}
 use Rattle.vs_elaborate.specs.declared.plans.Plan.{Plan}
 use Rattle.vs_elaborate.specs.declared.faults.Reason.{Reason}
 use Rattle.vs_elaborate.specs.declared.faults.Reason.TheVariants.{NoModule, DeclaredTwice, DrivenTwice, Limit, Width}
+use Rattle.vs_elaborate.specs.declared.faults.BodyFault.{BodyFault}
 use Rattle.vs_elaborate.specs.declared.faults.ElabFault.{ElabFault}
-use Rattle.vs_elaborate.specs.Names.{meaning_of, Declares as NamesDeclare}
+use Rattle.vs_widths.specs.Names.{meaning_of, Declares as NamesDeclare}
 use Rattle.vs_elaborate.specs.Printed.{Path}
 use Rattle.vs_elaborate.specs.Statements.{IsAssignment}
 use Rattle.vs_elaborate.specs.Scopes.{Scope, DeclaredName, Assignment, assignment_of, Behavior, sets, setting, names_in, meaning_as, named}
 use Rattle.vs_elaborate.specs.Processes.{kind_of, statements_of, behavior_fault, driver_fault}
 use Rattle.vs_elaborate.specs.Faults.{Repeated}
 use Rattle.vs_elaborate.specs.DesignOf.{declared, signal_of, PartOf, own_name, part_name, parts_from, IsProcess, IsAssign}
-use Rattle.vs_elaborate.specs.passes.Answers.{Told, IsFaultAt}
-use Rattle.vs_elaborate.specs.passes.Bodies.{Bindings, meanings, IsNumber, counting, MeansBody}
-use Rattle.vs_elaborate.specs.passes.Plans.{shown_binding, numbered_names, Binds, SameBodies, Declares, DeclaresNot, Adds, AddsNot, SameSignals, Drives, DrivesNot, Runs, RunsNot}
+use Rattle.vs_elaborate.specs.passes.Answers.{Refuses, Told, IsFaultAt, IsRefusal}
+use Rattle.vs_elaborate.specs.passes.Bodies.{Bindings, counting, MeansBody}
+use Rattle.vs_elaborate.specs.passes.Plans.{numbered_names, Binds, SameBodies, Declares, DeclaresNot, Adds, AddsNot, SameSignals, Drives, DrivesNot, Runs, RunsNot}
+use Rattle.vs_elaborate.specs.passes.Sizes.{width_faults}
 use Rattle.std.proofs.lemmas.List.Folds.{list_any-append}
 use Rattle.vs_elaborate.proofs.Folds.{any_push, left_true, right_true}
 use Rattle.vs_elaborate.proofs.StatementLemmas.{counting_more, left_false, right_false}
-use Rattle.vs_elaborate.proofs.AnswerLemmas.{told_at}
+use Rattle.vs_elaborate.proofs.AnswerLemmas.{told_at, told_part}
+use Rattle.vs_elaborate.proofs.ScopeLemmas.{binding_as}
 
 -- ---- parts with their names
 
@@ -80,21 +85,21 @@ adds_push fault R letter s first number all new start done b p h n sound one r =
       means = parts_push R letter s done b r.added p number at one r.means;
     }
 
-pub runs_push : (s : Scope) (names : Bindings) (first number : ℕ) (plan new start : Plan) (done : List Behavior) (b : Behavior) (p : Process) → new.processes.items ≡ plan.processes.items ++ p ∷ [] → new.assigns.items ≡ plan.assigns.items → SameSignals plan new → number ≡ length plan.processes.items - first → p.name.items ≡ part_name s.path (own_name 112 number) → p.kind ≡ kind_of b → ((r : Reason) → behavior_fault r (meanings names) b ≡ false) × MeansBody names b p.body → Runs s names first plan start done → Runs s names first new start (done ++ b ∷ [])
+pub runs_push : (s : Scope) (names : Bindings) (first number : ℕ) (plan new start : Plan) (done : List Behavior) (b : Behavior) (p : Process) → new.processes.items ≡ plan.processes.items ++ p ∷ [] → new.assigns.items ≡ plan.assigns.items → SameSignals plan new → number ≡ length plan.processes.items - first → p.name.items ≡ part_name s.path (own_name 112 number) → p.kind ≡ kind_of b → ((r : Reason) → behavior_fault r (meaning_of names) b ≡ false) × MeansBody names b p.body → Runs s names first plan start done → Runs s names first new start (done ++ b ∷ [])
 runs_push s names first number plan new start done b p h a same n text kind body r =
-    let R : Process → PartOf Behavior → Type 0 = IsProcess (IsNumber names) (meanings names) in
+    let R : Process → PartOf Behavior → Type 0 = IsProcess (meaning_of names) in
     let one : R p (record { scope = s; name = own_name 112 number; part = b }) = record { name = text; kind = kind; body = body.1.means; numbered = ap (counts_from 0) body.1.numbered ∙ counts_counting 0 (statements_of b) } in
     record {
-      adds = adds_push (λ r. behavior_fault r (meanings names)) R 112 s first number plan.processes.items new.processes.items start.processes.items done b p h n body.0 one r.adds;
+      adds = adds_push (λ r. behavior_fault r (meaning_of names)) R 112 s first number plan.processes.items new.processes.items start.processes.items done b p h n body.0 one r.adds;
       assigns = a ∙ r.assigns;
       same = same_signals_over start plan new r.same same;
     }
 
-pub drives_push : (s : Scope) (names : Bindings) (first number : ℕ) (plan new start : Plan) (done : List Assignment) (b : Assignment) (p : Assign) → new.assigns.items ≡ plan.assigns.items ++ p ∷ [] → new.processes.items ≡ plan.processes.items → SameSignals plan new → number ≡ length plan.assigns.items - first → p.name.items ≡ part_name s.path (own_name 97 number) → ((r : Reason) → driver_fault r (meanings names) b ≡ false) × IsAssignment (IsNumber names) (meanings names) b.target b.value p.target p.source → Drives s names first plan start done → Drives s names first new start (done ++ b ∷ [])
+pub drives_push : (s : Scope) (names : Bindings) (first number : ℕ) (plan new start : Plan) (done : List Assignment) (b : Assignment) (p : Assign) → new.assigns.items ≡ plan.assigns.items ++ p ∷ [] → new.processes.items ≡ plan.processes.items → SameSignals plan new → number ≡ length plan.assigns.items - first → p.name.items ≡ part_name s.path (own_name 97 number) → ((r : Reason) → driver_fault r (meaning_of names) b ≡ false) × IsAssignment (meaning_of names) b.target b.value p.target p.source → Drives s names first plan start done → Drives s names first new start (done ++ b ∷ [])
 drives_push s names first number plan new start done b p h a same n text body r =
-    let R : Assign → PartOf Assignment → Type 0 = IsAssign (IsNumber names) (meanings names) in
+    let R : Assign → PartOf Assignment → Type 0 = IsAssign (meaning_of names) in
     record {
-      adds = adds_push (λ r. driver_fault r (meanings names)) R 97 s first number plan.assigns.items new.assigns.items start.assigns.items done b p h n body.0 (record { name = text; sides = body.1 }) r.adds;
+      adds = adds_push (λ r. driver_fault r (meaning_of names)) R 97 s first number plan.assigns.items new.assigns.items start.assigns.items done b p h n body.0 (record { name = text; sides = body.1 }) r.adds;
       processes = a ∙ r.processes;
       same = same_signals_over start plan new r.same same;
     }
@@ -109,10 +114,10 @@ adds_not_more : {A : Type 0} (fault : Reason → A → Bool) (s : Scope) (xs ys 
 adds_not_more fault s xs ys r p h = (any_front (fault r) xs ys h.0, h.1)
 
 pub runs_not_more : (s : Scope) (names : Bindings) (start : Plan) (xs ys : List Behavior) (r : Reason) (p : Path) → RunsNot s names start xs r p → RunsNot s names start (xs ++ ys) r p
-runs_not_more s names start = adds_not_more (λ r. behavior_fault r (meanings names)) s
+runs_not_more s names start = adds_not_more (λ r. behavior_fault r (meaning_of names)) s
 
 pub drives_not_more : (s : Scope) (names : Bindings) (start : Plan) (xs ys : List Assignment) (r : Reason) (p : Path) → DrivesNot s names start xs r p → DrivesNot s names start (xs ++ ys) r p
-drives_not_more s names start = adds_not_more (λ r. driver_fault r (meanings names)) s
+drives_not_more s names start = adds_not_more (λ r. driver_fault r (meaning_of names)) s
 
 -- a declaration assignment, where there is one
 pub setting_some : (n m : List ℕ) (o : Option Expr) (e : Expr) → m ≡ n → o ≡ Some e → sets (record { target = m; value = e }) ∷ [] ≡ setting n o
@@ -140,7 +145,7 @@ is_declared : (base : ℕ) (ds : List DeclaredName) (n : List ℕ) → is_some (
 is_declared base [] n = refl
 is_declared base (d ∷ ds) n = by (bytes_eq n d.name) (is_declared (suc base) ds n)
   where
-    by : (b : Bool) → is_some (meaning_of (numbered_names (suc base) ds) n) ≡ list_any (bytes_eq n) (names_in ds) → is_some (cond b (Some (meaning_as d.kind, base)) (meaning_of (numbered_names (suc base) ds) n)) ≡ (b || list_any (bytes_eq n) (names_in ds))
+    by : (b : Bool) → is_some (meaning_of (numbered_names (suc base) ds) n) ≡ list_any (bytes_eq n) (names_in ds) → is_some (cond b (Some (binding_as d base)) (meaning_of (numbered_names (suc base) ds) n)) ≡ (b || list_any (bytes_eq n) (names_in ds))
     by true rest = refl
     by false rest = rest
 
@@ -152,12 +157,8 @@ place_of_any (m ∷ ms) n h = by (bytes_eq n m) refl (place_of_any ms n) h
     by true e rest h = (0, ap Some (sym ((bytes_eq-Decides n m).0 e)))
     by false e rest h = let p = rest h in (suc p.0, p.1)
 
-some_shown : (o : Option Binding) → is_some (option_map shown_binding o) ≡ is_some o
-some_shown None = refl
-some_shown (Some b) = refl
-
 known_is_declared : (names : Bindings) (base : ℕ) (ds : List DeclaredName) (n : List ℕ) → Binds names base ds → is_some (meaning_of names n) ≡ list_any (bytes_eq n) (names_in ds)
-known_is_declared names base ds n h = sym (some_shown (meaning_of names n)) ∙ ap is_some (h n) ∙ is_declared base ds n
+known_is_declared names base ds n h = ap is_some (h n) ∙ is_declared base ds n
 
 pub at_front : {A : Type 0} (xs ys : List A) (k : ℕ) (x : A) → slice_get xs k ≡ Some x → (k < length xs) × (slice_get (xs ++ ys) k ≡ Some x)
 at_front [] ys k x h = absurd (none-some x h)
@@ -190,16 +191,16 @@ declared_over s names plan start done d e f k h =
     let count = count_signals s names plan start done h in
     told_at (DeclaresNot s start (done ++ d ∷ [])) Limit s.path e (omega (arith, k, count, length-append done (d ∷ [])), refl) f
 
-lookup_push : (base : ℕ) (ds : List DeclaredName) (d : DeclaredName) (n : List ℕ) → list_any (bytes_eq d.name) (names_in ds) ≡ false → meaning_of (numbered_names base (ds ++ d ∷ [])) n ≡ cond (bytes_eq d.name n) (Some (meaning_as d.kind, base + length ds)) (meaning_of (numbered_names base ds) n)
+lookup_push : (base : ℕ) (ds : List DeclaredName) (d : DeclaredName) (n : List ℕ) → list_any (bytes_eq d.name) (names_in ds) ≡ false → meaning_of (numbered_names base (ds ++ d ∷ [])) n ≡ cond (bytes_eq d.name n) (Some (binding_as d (base + length ds))) (meaning_of (numbered_names base ds) n)
 lookup_push base [] d n h =
     let e : base ≡ base + 0 = omega arith in
-    ap (λ b. cond b (Some (meaning_as d.kind, base)) None) (bytes_eq_equiv.symm n d.name) ∙ ap (λ k. cond (bytes_eq d.name n) (Some (meaning_as d.kind, k)) None) e
+    ap (λ b. cond b (Some (binding_as d base)) None) (bytes_eq_equiv.symm n d.name) ∙ ap (λ k. cond (bytes_eq d.name n) (Some (binding_as d k)) None) e
 lookup_push base (c ∷ ds) d n h =
     let e : suc base + length ds ≡ base + suc (length ds) = omega arith in
     let rest = lookup_push (suc base) ds d n (right_false (bytes_eq d.name c.name) _ h) in
-    ap (cond (bytes_eq n c.name) (Some (meaning_as c.kind, base))) (rest ∙ ap (λ k. cond (bytes_eq d.name n) (Some (meaning_as d.kind, k)) (meaning_of (numbered_names (suc base) ds) n)) e) ∙ swap (bytes_eq n c.name) (bytes_eq d.name n) refl refl
+    ap (cond (bytes_eq n c.name) (Some (binding_as c base))) (rest ∙ ap (λ k. cond (bytes_eq d.name n) (Some (binding_as d k)) (meaning_of (numbered_names (suc base) ds) n)) e) ∙ swap (bytes_eq n c.name) (bytes_eq d.name n) refl refl
   where
-    swap : (a b : Bool) → bytes_eq n c.name ≡ a → bytes_eq d.name n ≡ b → cond a (Some (meaning_as c.kind, base)) (cond b (Some (meaning_as d.kind, base + suc (length ds))) (meaning_of (numbered_names (suc base) ds) n)) ≡ cond b (Some (meaning_as d.kind, base + suc (length ds))) (cond a (Some (meaning_as c.kind, base)) (meaning_of (numbered_names (suc base) ds) n))
+    swap : (a b : Bool) → bytes_eq n c.name ≡ a → bytes_eq d.name n ≡ b → cond a (Some (binding_as c base)) (cond b (Some (binding_as d (base + suc (length ds)))) (meaning_of (numbered_names (suc base) ds) n)) ≡ cond b (Some (binding_as d (base + suc (length ds)))) (cond a (Some (binding_as c base)) (meaning_of (numbered_names (suc base) ds) n))
     swap true true p q =
         let same : d.name ≡ c.name = (bytes_eq-Decides d.name n).0 q ∙ (bytes_eq-Decides n c.name).0 p in
         absurd (true≢false (sym ((bytes_eq-Decides d.name c.name).1 same) ∙ left_false (bytes_eq d.name c.name) _ h))
@@ -214,19 +215,31 @@ none_is_none o h = ap is_some h
 abbrev pub last : ℕ → List DeclaredName → List ℕ
 last base done = (base + length done) ∷ []
 
+-- a range that has a fault
+pub declared_wrong : (s : Scope) (start : Plan) (done : List DeclaredName) (d : DeclaredName) (f : BodyFault) (e : ElabFault) → Refuses (width_faults d.size.faults) f → IsRefusal s.path f e → Told (DeclaresNot s start (done ++ d ∷ [])) e
+declared_wrong s start done d f e h k = told_part (DeclaresNot s start (done ++ d ∷ [])) (width_faults d.size.faults) s.path f e by h k
+  where
+    by : (r : Reason) → width_faults d.size.faults r ≡ true → DeclaresNot s start (done ++ d ∷ []) r s.path
+    by (Width w) u = (any_last (λ (z : DeclaredName). z.size.faults w) done d u, refl)
+    by NoModule u = absurd (true≢false (sym u))
+    by DeclaredTwice u = absurd (true≢false (sym u))
+    by DrivenTwice u = absurd (true≢false (sym u))
+    by Limit u = absurd (true≢false (sym u))
+
 -- a fresh name
-pub declares_push : (s : Scope) (names new : Bindings) (plan after start : Plan) (done : List DeclaredName) (d : DeclaredName) (b : Binding) (x : Signal) → NamesDeclare true names new d.name b → b.meaning ≡ meaning_as d.kind → b.signal ≡ length plan.signals.items → length plan.signals.items < 65536 → after.signals.items ≡ plan.signals.items ++ x ∷ [] → declared x ≡ signal_of s d → after.outline.items ≡ plan.outline.items ++ Declare b.signal ∷ [] → SameBodies plan after → Declares s names plan start done → Declares s new after start (done ++ d ∷ [])
-declares_push s names new plan after start done d b x fresh m k room sig shown line same h =
+pub declares_push : (s : Scope) (names new : Bindings) (plan after start : Plan) (done : List DeclaredName) (d : DeclaredName) (b : Binding) (x : Signal) → ((w : WidthReason) → d.size.faults w ≡ false) → NamesDeclare true names new d.name b → b.meaning ≡ meaning_as d → b.signal ≡ length plan.signals.items → length plan.signals.items < 65536 → after.signals.items ≡ plan.signals.items ++ x ∷ [] → declared x ≡ signal_of s d → after.outline.items ≡ plan.outline.items ++ Declare b.signal ∷ [] → SameBodies plan after → Declares s names plan start done → Declares s new after start (done ++ d ∷ [])
+declares_push s names new plan after start done d b x right fresh m k room sig shown line same h =
     let base = length start.signals.items in
     let count = count_signals s names plan start done h in
     let at : b.signal ≡ base + length done = k ∙ count in
     let apart : list_any (bytes_eq d.name) (names_in done) ≡ false = sym (known_is_declared names base done d.name h.bound) ∙ none_is_none (meaning_of names d.name) fresh.0 in
-    let push : (c : Bool) (n : List ℕ) → option_map shown_binding (cond c (Some b) (meaning_of names n)) ≡ cond c (Some (b.meaning, b.signal)) (option_map shown_binding (meaning_of names n)) = λ c n. mapped b c (meaning_of names n) in
+    let made : b ≡ binding_as d (base + length done) = (let P : Meaning → Binding = λ z. record { meaning = z; signal = b.signal } in ap P m) ∙ ap (binding_as d) at in
     let one : base + length done + 1 ≡ base + (length done + 1) = omega arith in
     record {
-      bound = λ n. ap (option_map shown_binding) (fresh.1 n) ∙ push (bytes_eq d.name n) n ∙ ap (λ z. cond (bytes_eq d.name n) (Some (z, b.signal)) (option_map shown_binding (meaning_of names n))) m ∙ ap (λ z. cond (bytes_eq d.name n) (Some (meaning_as d.kind, z)) (option_map shown_binding (meaning_of names n))) at
-          ∙ ap (cond (bytes_eq d.name n) (Some (meaning_as d.kind, base + length done))) (h.bound n) ∙ sym (lookup_push base done d n apart);
+      bound = λ n. fresh.1 n ∙ ap (λ (z : Binding). cond (bytes_eq d.name n) (Some z) (meaning_of names n)) made
+          ∙ ap (cond (bytes_eq d.name n) (Some (binding_as d (base + length done)))) (h.bound n) ∙ sym (lookup_push base done d n apart);
       distinct = subst (IsDistinct bytes_eq) (sym (names_push done d)) (IsDistinct-push bytes_eq_equiv (names_in done) d.name h.distinct apart);
+      sized = λ w. any_push (λ (z : DeclaredName). z.size.faults w) done d (h.sized w) (right w);
       shown = ap (map declared) sig ∙ map-append declared plan.signals.items (x ∷ []) ∙ ap (λ z. z ++ declared x ∷ []) h.shown ∙ ap (λ z. (map declared start.signals.items ++ map (signal_of s) done) ++ z ∷ []) shown
           ∙ append_assoc (map declared start.signals.items) (map (signal_of s) done) (signal_of s d ∷ []) ∙ ap (λ z. map declared start.signals.items ++ z) (sym (map-append (signal_of s) done (d ∷ [])));
       lines = line ∙ ap (λ z. z ++ Declare b.signal ∷ []) h.lines ∙ append_assoc start.outline.items (map Declare (counting base (length done))) (Declare b.signal ∷ [])
@@ -234,10 +247,6 @@ declares_push s names new plan after start done d b x fresh m k room sig shown l
       room = omega (arith, ap length sig, length-append plan.signals.items (x ∷ []), room);
       same = record { assigns = same.assigns ∙ h.same.assigns; processes = same.processes ∙ h.same.processes };
     }
-  where
-    mapped : (b : Binding) (c : Bool) (o : Option Binding) → option_map shown_binding (cond c (Some b) o) ≡ cond c (Some (b.meaning, b.signal)) (option_map shown_binding o)
-    mapped b true o = refl
-    mapped b false o = refl
 
 repeated_more : (xs ys : List (List ℕ)) (n : List ℕ) → Repeated xs n → Repeated (xs ++ ys) n
 repeated_more xs ys n h = record { first = h.first; second = h.second; before = h.before; one = (at_front xs ys h.first n h.one).1; other = (at_front xs ys h.second n h.other).1 }
@@ -247,4 +256,4 @@ declares_not_more s start xs ys DeclaredTwice p h = (h.0, h.1, subst (λ z. Repe
 declares_not_more s start xs ys Limit p h = (omega (arith, h.0, length-append xs ys), h.1)
 declares_not_more s start xs ys NoModule p h = h
 declares_not_more s start xs ys DrivenTwice p h = h
-declares_not_more s start xs ys (Width w) p h = h
+declares_not_more s start xs ys (Width w) p h = (any_front (λ (z : DeclaredName). z.size.faults w) xs ys h.0, h.1)

@@ -1,6 +1,7 @@
 -- A source and a top define one design.
-use Rattle.std.proofs.Common.{◌≡◌, ℕ, suc, ◌<◌, Bool, true, false, true≢false, cond, inl, inr, ⊎_elim, List, [], ◌∷◌, ◌++◌, Option, Some, None, map, slice_get, option_map, refl, ap, sym, subst, ◌∙◌}
-use Rattle.std.specs.List.{flat_map, AllZip}
+use Rattle.std.proofs.Common.{◌≡◌, ℕ, suc, ◌<◌, Bool, true, false, ◌&&◌, ◌||◌, true≢false, cond, inl, inr, ⊎_elim, List, [], ◌∷◌, ◌++◌, Option, Some, None, map, slice_get, option_map, refl, ap, ap₂, sym, subst, ◌∙◌}
+use Rattle.std.specs.List.{flat_map, AllZip, position_or_len}
+use Rattle.std.specs.Cmp.Lexicographic.{pointwise}
 use Rattle.std.specs.Str.{bytes_eq}
 use Rattle.std.proofs.lemmas.Bool.{cases_order}
 use Rattle.std.proofs.lemmas.Option.{same_Some}
@@ -8,10 +9,13 @@ use Rattle.std.proofs.lemmas.List.{append-nil}
 use Rattle.vs_syntax.specs.declared.tree.Declarator.{Declarator}
 use Rattle.vs_syntax.specs.declared.tree.NetAssignment.{NetAssignment}
 use Rattle.vs_syntax.specs.declared.tree.Expr.{Expr}
+use Rattle.vs_syntax.specs.declared.tree.Form.{Form}
+use Rattle.vs_syntax.specs.declared.tree.Range.{Range}
 use Rattle.vs_syntax.specs.declared.tree.Item.{Item}
 use Rattle.vs_syntax.specs.declared.tree.Module.{Module}
-use Rattle.vs_syntax.specs.Same.{SameExpr, SameStmt, Pairwise, no_pair, pair_more, SameValue, same_no_value, same_value, SameDeclarator, SameAssignment, SameItem, same_wire, same_reg, same_assigns, same_initial, same_always, SameModule}
+use Rattle.vs_syntax.specs.Same.{SameExpr, SameStmt, Pairwise, no_pair, pair_more, SameValue, same_no_value, same_value, SameDeclarator, SameAssignment, SameRange, same_no_range, same_range, SameForm, SameItem, same_wire, same_reg, same_integer, same_assigns, same_initial, same_always, SameModule}
 use Rattle.vs_design.specs.declared.signal.SignalKind.{SignalKind}
+use Rattle.vs_design.specs.declared.signal.SignalKind.TheVariants as k
 use Rattle.vs_design.specs.declared.statement.Statement.{Statement}
 use Rattle.vs_design.specs.declared.design.Assign.{Assign}
 use Rattle.vs_design.specs.declared.design.Process.{Process}
@@ -20,18 +24,21 @@ use Rattle.vs_design.specs.declared.design.Entry.TheVariants.{Enter, Declare, Le
 use Rattle.vs_design.specs.Parts.{Parts}
 use Rattle.vs_design.specs.WellFormed.{numbers}
 use Rattle.vs_elaborate.specs.declared.faults.Reason.TheVariants.{NoModule, DeclaredTwice}
-use Rattle.vs_elaborate.specs.Environment.{Environment}
+use Rattle.vs_widths.specs.Environment.{Environment}
+use Rattle.vs_widths.specs.Names.{meaning_of}
+use Rattle.vs_widths.specs.Findings.{too_wide}
+use Rattle.vs_widths.specs.Expressions.{Meant, own, constant_finding}
 use Rattle.vs_elaborate.specs.Printed.{Path, printed, printed_name}
-use Rattle.vs_elaborate.specs.Scopes.{Scope, DeclaredName, Located, Assignment, Behavior, sets, runs, repeats, module_named, all_scopes, top_scope, declared_as, declared_in, assignment_of, net_assignment, setting, drivers_in, behaviors_in, declarations_of, drivers_of, behaviors_of, names_in, names_of, environment, kinds, meaning_as, named, signal_paths, IsNamed, IsNamedIn}
-use Rattle.vs_elaborate.specs.Names.{meaning_of}
+use Rattle.vs_elaborate.specs.Ranges.{Sized, whole_at, number_fault, both_bounds, is_over_64, shape_with, distance_or, sized_as}
+use Rattle.vs_elaborate.specs.Scopes.{Scope, DeclaredName, Located, Assignment, Behavior, sets, runs, repeats, module_named, all_scopes, top_scope, declared_as, declared_in, unsized_names, unsized_in, assignment_of, net_assignment, setting, drivers_in, behaviors_in, declarations_of, drivers_of, behaviors_of, names_in, names_of, environment, environment_in, bound_to, meaning_as, named, signal_paths, IsNamed}
 use Rattle.vs_elaborate.specs.Processes.{kind_of, IsBody, is_set, is_run, is_repeat}
 use Rattle.vs_elaborate.specs.Statements.{IsAssignment}
 use Rattle.vs_elaborate.specs.Faults.{DeclaresTwice, HoldsIn}
 use Rattle.vs_elaborate.specs.DesignOf.{signal_of, signals_of, PartOf, part_name, parts_from, assigns_of, processes_of, IsProcessIn, IsAssignIn, Line, enter, declare, leave, outline_below, IsEntry, Represents, DesignOf}
 use Rattle.vs_elaborate.specs.Same.{SameStatement, assign_same, forever_same, SameAssign, SameProcess, SameEntry, SameDesign}
-use Rattle.vs_elaborate.proofs.DesignOfLemmas.{assignment_means, body_means}
 use Rattle.vs_elaborate.proofs.FaultLemmas.{mapped_some, last_same}
 use Rattle.vs_elaborate.proofs.SameStatementLemmas.{one_sides, one_statement, same_count, one_count}
+use Rattle.vs_elaborate.proofs.SameTypedLemmas.{same_meant}
 
 -- ---- lists in step
 
@@ -57,23 +64,49 @@ SameBehavior (runs x) (runs y) = SameStmt x y
 SameBehavior (repeats x) (repeats y) = SameStmt x y
 SameBehavior _ _ = ⊥
 
-declarators_declare : (k : SignalKind) (ds ds' : List Declarator) → Pairwise SameDeclarator ds ds' → declared_as k ds ≡ declared_as k ds'
-declarators_declare k _ _ no_pair = refl
-declarators_declare k _ _ (pair_more x x' xs xs' h r) =
-    (let P : List ℕ → List DeclaredName = λ z. record { kind = k; name = z } ∷ declared_as k xs in ap P h.name)
-    ∙ (let Q : List DeclaredName → List DeclaredName = λ z. record { kind = k; name = x'.name.items } ∷ z in ap Q (declarators_declare k xs xs' r))
+-- sizes by what the bounds of a range mean
+abbrev sized_by : Bool → Meant → Meant → Sized
+sized_by g a b =
+    let m = whole_at (constant_finding a) (own a [] 0) in
+    let n = whole_at (constant_finding b) (own b [] 0) in
+    record {
+      shape = shape_with (distance_or 0 (both_bounds m n)) g;
+      bounds = both_bounds m n;
+      faults = λ w. number_fault w (constant_finding a) m || (number_fault w (constant_finding b) n || (too_wide w && is_over_64 (both_bounds m n)));
+    }
 
-item_declares : (x x' : Item) → SameItem x x' → declared_in x ≡ declared_in x'
-item_declares _ _ (same_wire ds ds' p) = declarators_declare _ ds.items ds'.items p
-item_declares _ _ (same_reg ds ds' p) = declarators_declare _ ds.items ds'.items p
-item_declares _ _ (same_assigns xs xs' p) = refl
-item_declares _ _ (same_initial x x' p) = refl
-item_declares _ _ (same_always x x' p) = refl
+range_sizes : (env : Environment) (g : Bool) (o o' : Option Range) → SameRange o o' → sized_as env g 0 o ≡ sized_as env g 0 o'
+range_sizes env g _ _ same_no_range = refl
+range_sizes env g _ _ (same_range r r' h k) = ap₂ (sized_by g) (same_meant env r.left r'.left h) (same_meant env r.right r'.right k)
 
-items_declare : (xs xs' : List Item) → Pairwise SameItem xs xs' → flat_map declared_in xs ≡ flat_map declared_in xs'
-items_declare _ _ no_pair = refl
-items_declare _ _ (pair_more x x' xs xs' h r) =
-    ap (λ z. z ++ flat_map declared_in xs) (item_declares x x' h) ∙ ap (λ z. declared_in x' ++ z) (items_declare xs xs' r)
+form_sizes : (env : Environment) (f f' : Form) → SameForm f f' → sized_as env f.signed 0 f.range ≡ sized_as env f'.signed 0 f'.range
+form_sizes env f f' h = ap (λ g. sized_as env g 0 f.range) h.signed ∙ range_sizes env f'.signed f.range f'.range h.range
+
+declarators_declare : (k : SignalKind) (z : Sized) (ds ds' : List Declarator) → Pairwise SameDeclarator ds ds' → declared_as k z ds ≡ declared_as k z ds'
+declarators_declare k z _ _ no_pair = refl
+declarators_declare k z _ _ (pair_more x x' xs xs' h r) =
+    (let P : List ℕ → List DeclaredName = λ n. record { kind = k; size = z; name = n } ∷ declared_as k z xs in ap P h.name)
+    ∙ (let Q : List DeclaredName → List DeclaredName = λ ds. record { kind = k; size = z; name = x'.name.items } ∷ ds in ap Q (declarators_declare k z xs xs' r))
+
+item_declares : (env : Environment) (x x' : Item) → SameItem x x' → declared_in env x ≡ declared_in env x'
+item_declares env _ _ (same_wire f f' ds ds' g p) = ap (λ z. declared_as k.Wire z ds.items) (form_sizes env f f' g) ∙ declarators_declare _ _ ds.items ds'.items p
+item_declares env _ _ (same_reg f f' ds ds' g p) = ap (λ z. declared_as k.Reg z ds.items) (form_sizes env f f' g) ∙ declarators_declare _ _ ds.items ds'.items p
+item_declares env _ _ (same_integer ds ds' p) = declarators_declare _ _ ds.items ds'.items p
+item_declares env _ _ (same_assigns xs xs' p) = refl
+item_declares env _ _ (same_initial x x' p) = refl
+item_declares env _ _ (same_always x x' p) = refl
+
+items_declare : (env : Environment) (xs xs' : List Item) → Pairwise SameItem xs xs' → flat_map (declared_in env) xs ≡ flat_map (declared_in env) xs'
+items_declare env _ _ no_pair = refl
+items_declare env _ _ (pair_more x x' xs xs' h r) =
+    ap (λ z. z ++ flat_map (declared_in env) xs) (item_declares env x x' h) ∙ ap (λ z. declared_in env x' ++ z) (items_declare env xs xs' r)
+
+-- names are bound to the same in ranges
+same_unsized : (xs xs' : List Item) → Pairwise SameItem xs xs' → unsized_in xs ≡ unsized_in xs'
+same_unsized xs xs' h = (let P : List DeclaredName → Environment = λ ds n. meaning_of (unsized_names ds) n in ap P (items_declare (λ m. None) xs xs' h))
+
+all_declared : (xs xs' : List Item) → Pairwise SameItem xs xs' → flat_map (declared_in (unsized_in xs)) xs ≡ flat_map (declared_in (unsized_in xs')) xs'
+all_declared xs xs' h = items_declare (unsized_in xs) xs xs' h ∙ ap (λ (env : Environment). flat_map (declared_in env) xs') (same_unsized xs xs' h)
 
 assignment_same : (n n' : List ℕ) (o o' : Option Expr) → n ≡ n' → SameValue o o' → AllZip SameDriver (assignment_of n o) (assignment_of n' o')
 assignment_same n n' _ _ i same_no_value = tt
@@ -88,17 +121,22 @@ net_assignments_same _ _ no_pair = tt
 net_assignments_same _ _ (pair_more x x' xs xs' h r) = ((h.target, h.value), net_assignments_same xs xs' r)
 
 item_drives : (x x' : Item) → SameItem x x' → AllZip SameDriver (drivers_in x) (drivers_in x')
-item_drives _ _ (same_wire ds ds' p) =
+item_drives _ _ (same_wire f f' ds ds' g p) =
     flat_same (λ (d : Declarator). assignment_of d.name.items d.value) SameDeclarator SameDriver (λ d d' h. assignment_same d.name.items d'.name.items d.value d'.value h.name h.value) ds.items ds'.items p
-item_drives _ _ (same_reg ds ds' p) = tt
+item_drives _ _ (same_reg f f' ds ds' g p) = tt
+item_drives _ _ (same_integer ds ds' p) = tt
 item_drives _ _ (same_assigns xs xs' p) = net_assignments_same xs.items xs'.items p
 item_drives _ _ (same_initial x x' p) = tt
 item_drives _ _ (same_always x x' p) = tt
 
+settings_same : (ds ds' : List Declarator) → Pairwise SameDeclarator ds ds' → AllZip SameBehavior (flat_map (λ (d : Declarator). setting d.name.items d.value) ds) (flat_map (λ (d : Declarator). setting d.name.items d.value) ds')
+settings_same ds ds' p =
+    flat_same (λ (d : Declarator). setting d.name.items d.value) SameDeclarator SameBehavior (λ d d' h. setting_same d.name.items d'.name.items d.value d'.value h.name h.value) ds ds' p
+
 item_behaves : (x x' : Item) → SameItem x x' → AllZip SameBehavior (behaviors_in x) (behaviors_in x')
-item_behaves _ _ (same_wire ds ds' p) = tt
-item_behaves _ _ (same_reg ds ds' p) =
-    flat_same (λ (d : Declarator). setting d.name.items d.value) SameDeclarator SameBehavior (λ d d' h. setting_same d.name.items d'.name.items d.value d'.value h.name h.value) ds.items ds'.items p
+item_behaves _ _ (same_wire f f' ds ds' g p) = tt
+item_behaves _ _ (same_reg f f' ds ds' g p) = settings_same ds.items ds'.items p
+item_behaves _ _ (same_integer ds ds' p) = settings_same ds.items ds'.items p
 item_behaves _ _ (same_assigns xs xs' p) = tt
 item_behaves _ _ (same_initial x x' p) = (p, tt)
 item_behaves _ _ (same_always x x' p) = (p, tt)
@@ -118,7 +156,7 @@ same_top m m' h = record {
   path = (let P : List ℕ → Path = λ n. n ∷ [] in ap P h.name);
   name = h.name;
   kind = refl;
-  declarations = items_declare m.items.items m'.items.items h.items;
+  declarations = all_declared m.items.items m'.items.items h.items;
   drivers = flat_same drivers_in SameItem SameDriver item_drives m.items.items m'.items.items h.items;
   behaviors = flat_same behaviors_in SameItem SameBehavior item_behaves m.items.items m'.items.items h.items;
 }
@@ -140,27 +178,22 @@ same_found _ _ top (pair_more m m' ms ms' h r) = by (bytes_eq top m.name.items) 
     by false false i rest = rest
 
 abbrev environment_of : Path → List DeclaredName → List ℕ → Option Located
-environment_of p ds n = meaning_of (map (λ (d : DeclaredName). (d.name, record { meaning = meaning_as d.kind; path = p ++ d.name ∷ [] })) ds) n
+environment_of p ds n = meaning_of (map (λ (d : DeclaredName). (d.name, record { meaning = meaning_as d; path = p ++ d.name ∷ [] })) ds) n
 
 module _ (s s' : Scope) (same : SameScope s s') where
   same_environment : environment s ≡ environment s'
   same_environment = ap (λ p. environment_of p (declarations_of s)) same.path ∙ ap (environment_of s'.path) same.declarations
-
-  same_kinds : kinds s ≡ kinds s'
-  same_kinds = (let P : (List ℕ → Option Located) → Environment = λ v n. option_map (λ (l : Located). l.meaning) (v n) in ap P same_environment)
 
   same_paths : signal_paths (s ∷ []) ≡ signal_paths (s' ∷ [])
   same_paths =
       (let P : Path → List Path = λ p. map (λ n. p ++ n ∷ []) (names_of s) ++ [] in ap P same.path)
       ∙ (let Q : List DeclaredName → List Path = λ ds. map (λ n. s'.path ++ n ∷ []) (names_in ds) ++ [] in ap Q same.declarations)
 
-  -- a name's number in the one is its number in the other
-  same_named : (i : ℕ) (n : List ℕ) → IsNamedIn (s' ∷ []) s' i n → IsNamedIn (s ∷ []) s i n
-  same_named i n h = record {
-    path = h.path;
-    meant = ap (λ (v : List ℕ → Option Located). option_map (λ (l : Located). l.path) (v n)) same_environment ∙ h.meant;
-    stands = ap (λ (ps : List Path). slice_get ps i) same_paths ∙ h.stands;
-  }
+  -- names are bound to the same
+  same_bindings : environment_in (s ∷ []) s ≡ environment_in (s' ∷ []) s'
+  same_bindings =
+      (let P : List Path → Environment = λ ps n. option_map (λ (l : Located). record { meaning = l.meaning; signal = position_or_len (pointwise bytes_eq l.path) ps }) (environment s n) in ap P same_paths)
+      ∙ (let Q : (List ℕ → Option Located) → Environment = λ v n. option_map (bound_to (s' ∷ [])) (v n) in ap Q same_environment)
 
   same_lines : (ls : List Line) → ls ≡ enter s.kind (printed_name s.name) ∷ map (λ m. declare (named s m)) (names_of s) ++ [] ++ leave ∷ [] → ls ≡ enter s'.kind (printed_name s'.name) ∷ map (λ m. declare (named s' m)) (names_of s') ++ [] ++ leave ∷ []
   same_lines ls h =
@@ -172,7 +205,7 @@ module _ (s s' : Scope) (same : SameScope s s') where
 
   same_signals : flat_map signals_of (s ∷ []) ≡ flat_map signals_of (s' ∷ [])
   same_signals =
-      (let P : Path → List _ = λ p. map (λ (d : DeclaredName). record { name = printed_name d.name; path = printed (p ++ d.name ∷ []); kind = d.kind; width = 1; signed = false; range = None; words = None }) (declarations_of s) ++ [] in ap P same.path)
+      (let P : Path → List _ = λ p. map (λ (d : DeclaredName). record { name = printed_name d.name; path = printed (p ++ d.name ∷ []); kind = d.kind; width = d.size.shape.width; signed = d.size.shape.signed; range = d.size.bounds; words = None }) (declarations_of s) ++ [] in ap P same.path)
       ∙ (let Q : List DeclaredName → List _ = λ ds. map (signal_of s') ds ++ [] in ap Q same.declarations)
 
 -- ---- numbers
@@ -190,24 +223,18 @@ module _ (s : Scope) (distinct : (p : Path) → DeclaresTwice s p → ⊥) where
   one_number : (i j : ℕ) (p : Path) → IsNamed (s ∷ []) i p → IsNamed (s ∷ []) j p → i ≡ j
   one_number i j p h k = ⊎_elim (λ e. e) (λ o. ⊎_elim (λ l. absurd (twice i j p l h k)) (λ l. absurd (twice j i p l k h)) o) (cases_order i j)
 
-  one_name : (i j : ℕ) (n : List ℕ) → IsNamedIn (s ∷ []) s i n → IsNamedIn (s ∷ []) s j n → i ≡ j
-  one_name i j n h k =
-      let same : k.path ≡ h.path = same_Some k.path h.path (sym k.meant ∙ h.meant) in
-      one_number i j h.path h.stands (subst (IsNamed (s ∷ []) j) same k.stands)
-
 -- ---- parts of a design
 
-module _ {N : ℕ → List ℕ → Type 0} (one : (i j : ℕ) (n : List ℕ) → N i n → N j n → i ≡ j) where
-  one_body : (env : Environment) (b b' : Behavior) (y y' : Statement) → SameBehavior b b' → IsBody N env b y → IsBody N env b' y' → SameStatement y y'
-  one_body env _ _ _ _ m (is_set a k u x h) (is_set a' k' u' x' h') = assign_same k k' u u' x x' (one_sides one env a.target a'.target a.value a'.value u u' x x' m.0 m.1 h h')
-  one_body env _ _ _ _ m (is_set a k u x h) (is_run z y' h') = absurd m
-  one_body env _ _ _ _ m (is_set a k u x h) (is_repeat z k' y' h') = absurd m
-  one_body env _ _ _ _ m (is_run x y h) (is_set a' k' u' x' h') = absurd m
-  one_body env _ _ _ _ m (is_run x y h) (is_run x' y' h') = one_statement one env x x' y y' m h h'
-  one_body env _ _ _ _ m (is_run x y h) (is_repeat x' k' y' h') = absurd m
-  one_body env _ _ _ _ m (is_repeat x k y h) (is_set a' k' u' x' h') = absurd m
-  one_body env _ _ _ _ m (is_repeat x k y h) (is_run x' y' h') = absurd m
-  one_body env _ _ _ _ m (is_repeat x k y h) (is_repeat x' k' y' h') = forever_same k k' y y' (one_statement one env x x' y.value y'.value m h h')
+one_body : (env : Environment) (b b' : Behavior) (y y' : Statement) → SameBehavior b b' → IsBody env b y → IsBody env b' y' → SameStatement y y'
+one_body env _ _ _ _ m (is_set a k u x h) (is_set a' k' u' x' h') = assign_same k k' u u' x x' (one_sides env a.target a'.target a.value a'.value u u' x x' m.0 m.1 h h')
+one_body env _ _ _ _ m (is_set a k u x h) (is_run z y' h') = absurd m
+one_body env _ _ _ _ m (is_set a k u x h) (is_repeat z k' y' h') = absurd m
+one_body env _ _ _ _ m (is_run x y h) (is_set a' k' u' x' h') = absurd m
+one_body env _ _ _ _ m (is_run x y h) (is_run x' y' h') = one_statement env x x' y y' m h h'
+one_body env _ _ _ _ m (is_run x y h) (is_repeat x' k' y' h') = absurd m
+one_body env _ _ _ _ m (is_repeat x k y h) (is_set a' k' u' x' h') = absurd m
+one_body env _ _ _ _ m (is_repeat x k y h) (is_run x' y' h') = absurd m
+one_body env _ _ _ _ m (is_repeat x k y h) (is_repeat x' k' y' h') = forever_same k k' y y' (one_statement env x x' y.value y'.value m h h')
 
 kind_same : (b b' : Behavior) → SameBehavior b b' → kind_of b ≡ kind_of b'
 kind_same (sets a) (sets a') m = refl
@@ -239,18 +266,17 @@ module _ (s s' : Scope) (same : SameScope s s') (distinct : (p : Path) → Decla
 
   one_assign : (p p' : Assign) (n : List ℕ) (x x' : Assignment) → SameDriver x x' → IsAssignIn (s ∷ []) p (record { scope = s; name = n; part = x }) → IsAssignIn (s' ∷ []) p' (record { scope = s'; name = n; part = x' }) → SameAssign p p'
   one_assign p p' n x x' m h k =
-      let sides : IsAssignment (IsNamedIn (s ∷ []) s) (kinds s) x'.target x'.value p'.target p'.source =
-      subst (λ v. IsAssignment (IsNamedIn (s ∷ []) s) v x'.target x'.value p'.target p'.source) (sym (same_kinds s s' same)) (assignment_means (same_named s s' same) (kinds s') x'.target x'.value p'.target p'.source k.sides) in
+      let sides : IsAssignment (environment_in (s ∷ []) s) x'.target x'.value p'.target p'.source =
+      subst (λ v. IsAssignment v x'.target x'.value p'.target p'.source) (sym (same_bindings s s' same)) k.sides in
       record {
         name = same_text n p.name.items p'.name.items h.name k.name;
-        sides = one_sides (one_name s distinct) (kinds s) x.target x'.target x.value x'.value p.target p'.target p.source p'.source m.0 m.1 h.sides sides;
+        sides = one_sides (environment_in (s ∷ []) s) x.target x'.target x.value x'.value p.target p'.target p.source p'.source m.0 m.1 h.sides sides;
       }
 
   one_process : (p p' : Process) (n : List ℕ) (x x' : Behavior) → SameBehavior x x' → IsProcessIn (s ∷ []) p (record { scope = s; name = n; part = x }) → IsProcessIn (s' ∷ []) p' (record { scope = s'; name = n; part = x' }) → SameProcess p p'
   one_process p p' n x x' m h k =
-      let other : IsBody (IsNamedIn (s ∷ []) s) (kinds s) x' p'.body =
-      subst (λ v. IsBody (IsNamedIn (s ∷ []) s) v x' p'.body) (sym (same_kinds s s' same)) (body_means (same_named s s' same) (kinds s') x' p'.body k.body) in
-      let body = one_body (one_name s distinct) (kinds s) x x' p.body p'.body m h.body other in
+      let other : IsBody (environment_in (s ∷ []) s) x' p'.body = subst (λ v. IsBody v x' p'.body) (sym (same_bindings s s' same)) k.body in
+      let body = one_body (environment_in (s ∷ []) s) x x' p.body p'.body m h.body other in
       record {
         name = same_text n p.name.items p'.name.items h.name k.name;
         kind = h.kind ∙ kind_same x x' m ∙ sym k.kind;
@@ -310,5 +336,5 @@ one_design ms ms' top d d' same h k = by (module_named ms top) (module_named ms'
     by (Some m) (Some m') i i' f =
         let P : Option Module → Type 0 = λ o. Represents d (all_scopes ms o) (outline_below ms o) in
         let P' : Option Module → Type 0 = λ o. Represents d' (all_scopes ms' o) (outline_below ms' o) in
-        let distinct : (p : Path) → DeclaresTwice (top_scope m) p → ⊥ = λ p t. h.none DeclaredTwice p (inr (let H : Option Module → Type 0 = λ o. HoldsIn (all_scopes ms o) DeclaredTwice p in subst H (sym i) (inl (inl t)))) in
+        let distinct : (p : Path) → DeclaresTwice (top_scope m) p → ⊥ = λ p t. h.none DeclaredTwice p (inr (let H : Option Module → Type 0 = λ o. HoldsIn (all_scopes ms o) (all_scopes ms o) DeclaredTwice p in subst H (sym i) (inl (inl t)))) in
         scopes_same ms ms' m m' d d' (same_top m m' f) distinct (subst P i h.found) (subst P' i' k.found)

@@ -1,5 +1,5 @@
 -- Statements of sources that say the same are one in a design.
-use Rattle.std.proofs.Common.{◌≡◌, ℕ, suc, ◌+◌, ◌==◌, true, List, [], ◌∷◌, Some, length, map, max, refl, ap, sym, subst, ◌∙◌, arith}
+use Rattle.std.proofs.Common.{◌≡◌, ℕ, suc, ◌+◌, ◌==◌, Bool, true, false, List, [], ◌∷◌, Some, length, map, max, refl, ap, ap₂, sym, subst, ◌∙◌, arith}
 use Rattle.std.proofs.lemmas.List.{length-append}
 use Rattle.std.proofs.lemmas.Bool.{and_parts, eqb-true}
 use Rattle.std.proofs.lemmas.Option.{same_Some}
@@ -22,13 +22,15 @@ use Rattle.vs_design.specs.declared.statement.Target.{Target}
 use Rattle.vs_design.specs.declared.statement.Ticks.{Ticks}
 use Rattle.vs_design.specs.declared.statement.Statement.{Statement}
 use Rattle.vs_design.specs.declared.statement.Statement.TheVariants as d
-use Rattle.vs_elaborate.specs.Environment.{Environment, signal_shape}
-use Rattle.vs_elaborate.specs.Literals.{delay_of}
-use Rattle.vs_elaborate.specs.Expressions.{shape_of, width_of, sign_of, IsTyped, context}
-use Rattle.vs_elaborate.specs.Statements.{IsAssignment, IsStatement, is_null, is_assign, is_later, is_block, is_delay, AreStatements, are_none, are_more}
+use Rattle.vs_widths.specs.declared.bindings.Binding.{Binding}
+use Rattle.vs_widths.specs.Environment.{Environment}
+use Rattle.vs_widths.specs.Findings.{Finding, Has, Lacks}
+use Rattle.vs_widths.specs.Expressions.{Meant, meant}
+use Rattle.vs_widths.specs.Typing.{IsTyped}
+use Rattle.vs_elaborate.specs.Statements.{IsAssignment, delay_of, IsStatement, is_null, is_assign, is_later, is_block, is_delay, AreStatements, are_none, are_more}
 use Rattle.vs_elaborate.specs.Same.{SameSides, SameStatement, null_same, assign_same, later_same, block_same, delay_same, forever_same, SameStatements, statements_end, statement_same}
 use Rattle.vs_elaborate.proofs.StatementLemmas.{numbers_Null, numbers_Assign, numbers_Later, numbers_Block, numbers_Delay, numbers_Forever}
-use Rattle.vs_elaborate.proofs.SameTypedLemmas.{by_both, same_number_of, one_typed, same_shape}
+use Rattle.vs_elaborate.proofs.SameTypedLemmas.{by_both, same_meant, one_typed}
 
 out_Null : out-Stmt s.Null ≡ g.Null
 out_Null = ap out-Stmt (sym rolls-Null) ∙ out-roll-Stmt g.Null
@@ -46,62 +48,73 @@ out_Delay : (l : Literal) (x : Box Stmt Global) → out-Stmt (s.Delay l x) ≡ g
 out_Delay l x = ap out-Stmt (sym (rolls-Delay l x)) ∙ out-roll-Stmt (g.Delay l x)
 
 -- what the statement of a design is, by the form of the source's
-abbrev StatementLayer : (ℕ → List ℕ → Type 0) → Environment → Stmt-F Stmt → Statement → Type 0
-StatementLayer N env g.Null y = (k : ℕ) × (y ≡ d.Null k)
-StatementLayer N env (g.Assign n v) y = (k : ℕ) × (u : Target) × (x : Typed) × IsAssignment N env n.items v u x × (y ≡ d.Assign k u x)
-StatementLayer N env (g.Later n v) y = (k : ℕ) × (u : Target) × (x : Typed) × IsAssignment N env n.items v u x × (y ≡ d.Later k u x)
-StatementLayer N env (g.Block xs) y = (ys : Vec Statement Global) × AreStatements N env xs.items ys.items × (y ≡ d.Block ys)
-StatementLayer N env (g.Delay l x) y = (k : ℕ) × (n : Ticks) × (z : Box Statement Global) × (delay_of l ≡ Some n.count) × IsStatement N env x.value z.value × (y ≡ d.Delay k n z)
+abbrev StatementLayer : Environment → Stmt-F Stmt → Statement → Type 0
+StatementLayer env g.Null y = (k : ℕ) × (y ≡ d.Null k)
+StatementLayer env (g.Assign n v) y = (k : ℕ) × (u : Target) × (x : Typed) × IsAssignment env n.items v u x × (y ≡ d.Assign k u x)
+StatementLayer env (g.Later n v) y = (k : ℕ) × (u : Target) × (x : Typed) × IsAssignment env n.items v u x × (y ≡ d.Later k u x)
+StatementLayer env (g.Block xs) y = (ys : Vec Statement Global) × AreStatements env xs.items ys.items × (y ≡ d.Block ys)
+StatementLayer env (g.Delay l x) y = (k : ℕ) × (n : Ticks) × (z : Box Statement Global) × (delay_of l ≡ Some n.count) × IsStatement env x.value z.value × (y ≡ d.Delay k n z)
 
-statement_layer : (N : ℕ → List ℕ → Type 0) (env : Environment) (x : Stmt) (y : Statement) → IsStatement N env x y → StatementLayer N env (out-Stmt x) y
-statement_layer N env _ _ (is_null k) = subst (λ z. StatementLayer N env z (d.Null k)) (sym out_Null) (k, refl)
-statement_layer N env _ _ (is_assign n v k u x h) = subst (λ z. StatementLayer N env z (d.Assign k u x)) (sym (out_Assign n v)) (k, u, x, h, refl)
-statement_layer N env _ _ (is_later n v k u x h) = subst (λ z. StatementLayer N env z (d.Later k u x)) (sym (out_Later n v)) (k, u, x, h, refl)
-statement_layer N env _ _ (is_block xs ys h) = subst (λ z. StatementLayer N env z (d.Block ys)) (sym (out_Block xs)) (ys, h, refl)
-statement_layer N env _ _ (is_delay l k n x y h j) = subst (λ z. StatementLayer N env z (d.Delay k n y)) (sym (out_Delay l x)) (k, n, y, h, j, refl)
+statement_layer : (env : Environment) (x : Stmt) (y : Statement) → IsStatement env x y → StatementLayer env (out-Stmt x) y
+statement_layer env _ _ (is_null k) = subst (λ z. StatementLayer env z (d.Null k)) (sym out_Null) (k, refl)
+statement_layer env _ _ (is_assign n v k u x h) = subst (λ z. StatementLayer env z (d.Assign k u x)) (sym (out_Assign n v)) (k, u, x, h, refl)
+statement_layer env _ _ (is_later n v k u x h) = subst (λ z. StatementLayer env z (d.Later k u x)) (sym (out_Later n v)) (k, u, x, h, refl)
+statement_layer env _ _ (is_block xs ys h) = subst (λ z. StatementLayer env z (d.Block ys)) (sym (out_Block xs)) (ys, h, refl)
+statement_layer env _ _ (is_delay l k n x y h j) = subst (λ z. StatementLayer env z (d.Delay k n y)) (sym (out_Delay l x)) (k, n, y, h, j, refl)
 
-module _ {N : ℕ → List ℕ → Type 0} (one : (i j : ℕ) (n : List ℕ) → N i n → N j n → i ≡ j) where
-  -- the sides of assignments that say the same
-  pub one_sides : (env : Environment) (n n' : List ℕ) (v v' : Expr) (u u' : Target) (x x' : Typed) → n ≡ n' → SameExpr v v' → IsAssignment N env n v u x → IsAssignment N env n' v' u' x' → SameSides u u' x x'
-  one_sides env n n' v v' u u' x x' i m h k =
-      let shape : shape_of env v ≡ shape_of env v' = same_shape env v v' m in
-      let width : context env n v ≡ context env n' v' = ap (λ z. max (width_of (signal_shape env z)) (width_of (shape_of env v))) i ∙ ap (λ z. max (width_of (signal_shape env n')) (width_of z)) shape in
-      let source : IsTyped N (context env n v) (sign_of (shape_of env v)) v' x' =
-      subst (λ z. IsTyped N z (sign_of (shape_of env v)) v' x') (sym width) (subst (λ z. IsTyped N (context env n' v') (sign_of z) v' x') (sym shape) k.source) in
-      record {
-        signal = same_number_of one u.signal u'.signal n n' i h.signal k.signal;
-        width = h.width ∙ ap (λ z. width_of (signal_shape env z)) i ∙ sym k.width;
-        source = one_typed one (context env n v) (sign_of (shape_of env v)) v v' x x' m h.source source;
-      }
+-- a size and a sign that were found
+abbrev found_width : Finding → ℕ
+found_width (Has w g) = w
+found_width (Lacks faults) = 0
 
-  mutual
-    -- statements that say the same are one in a design
-    pub one_statement : (env : Environment) (x x' : Stmt) (y y' : Statement) → SameStmt x x' → IsStatement N env x y → IsStatement N env x' y' → SameStatement y y'
-    one_statement env _ _ y y' same_null h k =
-        let p = subst (λ z. StatementLayer N env z y) out_Null (statement_layer N env s.Null y h) in
-        let q = subst (λ z. StatementLayer N env z y') out_Null (statement_layer N env s.Null y' k) in
-        by_both SameStatement y y' _ _ p.1 q.1 (null_same p.0 q.0)
-    one_statement env _ _ y y' (same_assign n n' v v' i m) h k =
-        let p = subst (λ z. StatementLayer N env z y) (out_Assign n v) (statement_layer N env (s.Assign n v) y h) in
-        let q = subst (λ z. StatementLayer N env z y') (out_Assign n' v') (statement_layer N env (s.Assign n' v') y' k) in
-        by_both SameStatement y y' _ _ p.4 q.4 (assign_same p.0 q.0 p.1 q.1 p.2 q.2 (one_sides env n.items n'.items v v' p.1 q.1 p.2 q.2 i m p.3 q.3))
-    one_statement env _ _ y y' (same_later n n' v v' i m) h k =
-        let p = subst (λ z. StatementLayer N env z y) (out_Later n v) (statement_layer N env (s.Later n v) y h) in
-        let q = subst (λ z. StatementLayer N env z y') (out_Later n' v') (statement_layer N env (s.Later n' v') y' k) in
-        by_both SameStatement y y' _ _ p.4 q.4 (later_same p.0 q.0 p.1 q.1 p.2 q.2 (one_sides env n.items n'.items v v' p.1 q.1 p.2 q.2 i m p.3 q.3))
-    one_statement env _ _ y y' (same_block xs xs' m) h k =
-        let p = subst (λ z. StatementLayer N env z y) (out_Block xs) (statement_layer N env (s.Block xs) y h) in
-        let q = subst (λ z. StatementLayer N env z y') (out_Block xs') (statement_layer N env (s.Block xs') y' k) in
-        by_both SameStatement y y' _ _ p.2 q.2 (block_same p.0 q.0 (one_statements env xs.items xs'.items p.0.items q.0.items m p.1 q.1))
-    one_statement env _ _ y y' (same_delay l x x' m) h k =
-        let p = subst (λ z. StatementLayer N env z y) (out_Delay l x) (statement_layer N env (s.Delay l x) y h) in
-        let q = subst (λ z. StatementLayer N env z y') (out_Delay l x') (statement_layer N env (s.Delay l x') y' k) in
-        by_both SameStatement y y' _ _ p.5 q.5 (delay_same p.0 q.0 p.1 q.1 p.2 q.2 (same_Some p.1.count q.1.count (sym p.3 ∙ q.3)) (one_statement env x.value x'.value p.2.value q.2.value m p.4 q.4))
+abbrev found_sign : Finding → Bool
+found_sign (Has w g) = g
+found_sign (Lacks faults) = false
 
-    one_statements : (env : Environment) (xs xs' : List Stmt) (ys ys' : List Statement) → SameStmts xs xs' → AreStatements N env xs ys → AreStatements N env xs' ys' → SameStatements ys ys'
-    one_statements env _ _ _ _ same_no_stmt are_none are_none = statements_end
-    one_statements env _ _ _ _ (same_more_stmts x x' xs xs' m r) (are_more _ y _ ys h k) (are_more _ y' _ ys' h' k') =
-        statement_same y y' ys ys' (one_statement env x x' y y' m h h') (one_statements env xs xs' ys ys' r k k')
+-- the sides of assignments that say the same
+pub one_sides : (env : Environment) (n n' : List ℕ) (v v' : Expr) (u u' : Target) (x x' : Typed) → n ≡ n' → SameExpr v v' → IsAssignment env n v u x → IsAssignment env n' v' u' x' → SameSides u u' x x'
+one_sides env n n' v v' u u' x x' i m h k =
+    let bound : h.binding ≡ k.binding = same_Some h.binding k.binding (sym h.found ∙ ap env i ∙ k.found) in
+    let one : Has h.source.width h.source.signed ≡ Has k.source.width k.source.signed = sym h.source.has ∙ ap (λ (z : Meant). z.finding) (same_meant env v v' m) ∙ k.source.has in
+    let width : max h.binding.meaning.shape.width h.source.width ≡ max k.binding.meaning.shape.width k.source.width =
+    ap₂ max (ap (λ (z : Binding). z.meaning.shape.width) bound) (ap found_width one) in
+    let sign : h.source.signed ≡ k.source.signed = ap found_sign one in
+    let typed : IsTyped env v' (max h.binding.meaning.shape.width h.source.width) h.source.signed x' =
+    subst (λ z. IsTyped env v' z h.source.signed x') (sym width) (subst (λ z. IsTyped env v' (max k.binding.meaning.shape.width k.source.width) z x') (sym sign) k.source.typed) in
+    record {
+      signal = h.signal ∙ ap (λ (z : Binding). z.signal) bound ∙ sym k.signal;
+      width = h.width ∙ ap (λ (z : Binding). z.meaning.shape.width) bound ∙ sym k.width;
+      source = one_typed env (max h.binding.meaning.shape.width h.source.width) h.source.signed v v' x x' m h.source.typed typed;
+    }
+
+mutual
+  -- statements that say the same are one in a design
+  pub one_statement : (env : Environment) (x x' : Stmt) (y y' : Statement) → SameStmt x x' → IsStatement env x y → IsStatement env x' y' → SameStatement y y'
+  one_statement env _ _ y y' same_null h k =
+      let p = subst (λ z. StatementLayer env z y) out_Null (statement_layer env s.Null y h) in
+      let q = subst (λ z. StatementLayer env z y') out_Null (statement_layer env s.Null y' k) in
+      by_both SameStatement y y' _ _ p.1 q.1 (null_same p.0 q.0)
+  one_statement env _ _ y y' (same_assign n n' v v' i m) h k =
+      let p = subst (λ z. StatementLayer env z y) (out_Assign n v) (statement_layer env (s.Assign n v) y h) in
+      let q = subst (λ z. StatementLayer env z y') (out_Assign n' v') (statement_layer env (s.Assign n' v') y' k) in
+      by_both SameStatement y y' _ _ p.4 q.4 (assign_same p.0 q.0 p.1 q.1 p.2 q.2 (one_sides env n.items n'.items v v' p.1 q.1 p.2 q.2 i m p.3 q.3))
+  one_statement env _ _ y y' (same_later n n' v v' i m) h k =
+      let p = subst (λ z. StatementLayer env z y) (out_Later n v) (statement_layer env (s.Later n v) y h) in
+      let q = subst (λ z. StatementLayer env z y') (out_Later n' v') (statement_layer env (s.Later n' v') y' k) in
+      by_both SameStatement y y' _ _ p.4 q.4 (later_same p.0 q.0 p.1 q.1 p.2 q.2 (one_sides env n.items n'.items v v' p.1 q.1 p.2 q.2 i m p.3 q.3))
+  one_statement env _ _ y y' (same_block xs xs' m) h k =
+      let p = subst (λ z. StatementLayer env z y) (out_Block xs) (statement_layer env (s.Block xs) y h) in
+      let q = subst (λ z. StatementLayer env z y') (out_Block xs') (statement_layer env (s.Block xs') y' k) in
+      by_both SameStatement y y' _ _ p.2 q.2 (block_same p.0 q.0 (one_statements env xs.items xs'.items p.0.items q.0.items m p.1 q.1))
+  one_statement env _ _ y y' (same_delay l x x' m) h k =
+      let p = subst (λ z. StatementLayer env z y) (out_Delay l x) (statement_layer env (s.Delay l x) y h) in
+      let q = subst (λ z. StatementLayer env z y') (out_Delay l x') (statement_layer env (s.Delay l x') y' k) in
+      by_both SameStatement y y' _ _ p.5 q.5 (delay_same p.0 q.0 p.1 q.1 p.2 q.2 (same_Some p.1.count q.1.count (sym p.3 ∙ q.3)) (one_statement env x.value x'.value p.2.value q.2.value m p.4 q.4))
+
+  one_statements : (env : Environment) (xs xs' : List Stmt) (ys ys' : List Statement) → SameStmts xs xs' → AreStatements env xs ys → AreStatements env xs' ys' → SameStatements ys ys'
+  one_statements env _ _ _ _ same_no_stmt are_none are_none = statements_end
+  one_statements env _ _ _ _ (same_more_stmts x x' xs xs' m r) (are_more _ y _ ys h k) (are_more _ y' _ ys' h' k') =
+      statement_same y y' ys ys' (one_statement env x x' y y' m h h') (one_statements env xs xs' ys ys' r k k')
 
 -- ---- the numbers of statements
 

@@ -27,13 +27,13 @@ use Rattle.vs_elaborate.specs.declared.assignments.AssignmentKind.TheVariants.{P
 use Rattle.vs_elaborate.specs.declared.faults.Reason.{Reason}
 use Rattle.vs_elaborate.specs.declared.faults.Reason.TheVariants.{NoModule, DeclaredTwice, DrivenTwice, Limit, Width}
 use Rattle.vs_elaborate.specs.declared.faults.BodyFault.{BodyFault}
-use Rattle.vs_elaborate.specs.Environment.{Environment}
-use Rattle.vs_elaborate.specs.Literals.{delay_of}
-use Rattle.vs_elaborate.specs.Statements.{IsAssignment, IsStatement, is_null, is_assign, is_later, is_block, is_delay, AreStatements, are_none, are_more, assign_fault, delay_fault, fault_step, has_fault, count_step, count_of, total, is_overfull}
+use Rattle.vs_widths.specs.Environment.{Environment}
+use Rattle.vs_widths.specs.Names.{meaning_of}
+use Rattle.vs_elaborate.specs.Statements.{IsAssignment, IsStatement, is_null, is_assign, is_later, is_block, is_delay, AreStatements, are_none, are_more, assign_fault, delay_of, delay_fault, fault_step, has_fault, count_step, count_of, total, is_overfull}
 use Rattle.vs_elaborate.specs.Scopes.{Assignment, sets, runs, repeats}
 use Rattle.vs_elaborate.specs.Processes.{is_set, is_run, is_repeat, behavior_fault}
 use Rattle.vs_elaborate.specs.passes.Answers.{Refuses, Elaborates}
-use Rattle.vs_elaborate.specs.passes.Bodies.{Bindings, meanings, IsNumber, counting, MeansStatement, MeansStatements, MeansBody, statement_fault, statements_fault, overfull_fault}
+use Rattle.vs_elaborate.specs.passes.Bodies.{Bindings, counting, MeansStatement, MeansStatements, MeansBody, statement_fault, statements_fault, overfull_fault}
 use Rattle.vs_elaborate.proofs.Folds.{any_of_map, both_false, left_true, right_true, any_push, any_at, take_push}
 use Rattle.vs_elaborate.proofs.AnswerLemmas.{refused_by, answered_by}
 
@@ -138,42 +138,42 @@ not_overfull (Width w) n h = refl
 -- ---- forms
 
 abbrev pub States : Bindings → ℕ → Stmt → Statement → ℕ → Type 0
-States names first x y next = ((r : Reason) → statement_fault (meanings names) first x r ≡ false) × MeansStatement names first x y next
+States names first x y next = ((r : Reason) → statement_fault (meaning_of names) first x r ≡ false) × MeansStatement names first x y next
 
 -- a number that was taken
 abbrev pub Takes : ℕ → ℕ → ℕ → Type 0
 Takes first k next = ((r : Reason) → overfull_fault first r ≡ false) × ((k ≡ first) × (next ≡ first + 1))
 
 -- a statement without others in it
-one_statement : (names : Bindings) (first k next : ℕ) (x : Stmt) (y : Statement) → Takes first k next → count_of x ≡ 1 → ((r : Reason) → has_fault r (meanings names) x ≡ false) → IsStatement (IsNumber names) (meanings names) x y → numbers y ≡ k ∷ [] → States names first x y next
+one_statement : (names : Bindings) (first k next : ℕ) (x : Stmt) (y : Statement) → Takes first k next → count_of x ≡ 1 → ((r : Reason) → has_fault r (meaning_of names) x ≡ false) → IsStatement (meaning_of names) x y → numbers y ≡ k ∷ [] → States names first x y next
 one_statement names first k next x y h c u m n = (
   λ r. both_false _ _ (u r) (ap (λ z. is_overfull r (first + z)) c ∙ h.0 r),
   record { means = m; next_is = h.1.1 ∙ ap (λ z. first + z) (sym c); numbered = n ∙ ap (λ z. z ∷ []) h.1.0 ∙ ap (counting first) (sym c) },
 )
 
 pub states_Null : (names : Bindings) (first k next : ℕ) → Takes first k next → States names first s.Null (d.Null k) next
-states_Null names first k next h = one_statement names first k next s.Null (d.Null k) h count_Null (λ r. fault_Null r (meanings names)) (is_null k) (numbers_Null k)
+states_Null names first k next h = one_statement names first k next s.Null (d.Null k) h count_Null (λ r. fault_Null r (meaning_of names)) (is_null k) (numbers_Null k)
 
 abbrev pub Assigns : Bindings → List ℕ → Expr → Target → Typed → Type 0
-Assigns names n e t x = ((r : Reason) → assign_fault r Procedural (meanings names) n e ≡ false) × IsAssignment (IsNumber names) (meanings names) n e t x
+Assigns names n e t x = ((r : Reason) → assign_fault r Procedural (meaning_of names) n e ≡ false) × IsAssignment (meaning_of names) n e t x
 
 pub states_Assign : (names : Bindings) (first k next : ℕ) (n : Vec ℕ Global) (m : List ℕ) (e : Expr) (t : Target) (x : Typed) → Takes first k next → m ≡ n.items → Assigns names m e t x → States names first (s.Assign n e) (d.Assign k t x) next
 states_Assign names first k next n m e t x h q a =
     let p : Assigns names n.items e t x = subst (λ z. Assigns names z e t x) q a in
-    one_statement names first k next (s.Assign n e) (d.Assign k t x) h (count_Assign n e) (λ r. fault_Assign r (meanings names) n e ∙ p.0 r) (is_assign n e k t x p.1) (numbers_Assign k t x)
+    one_statement names first k next (s.Assign n e) (d.Assign k t x) h (count_Assign n e) (λ r. fault_Assign r (meaning_of names) n e ∙ p.0 r) (is_assign n e k t x p.1) (numbers_Assign k t x)
 
 pub states_Later : (names : Bindings) (first k next : ℕ) (n : Vec ℕ Global) (m : List ℕ) (e : Expr) (t : Target) (x : Typed) → Takes first k next → m ≡ n.items → Assigns names m e t x → States names first (s.Later n e) (d.Later k t x) next
 states_Later names first k next n m e t x h q a =
     let p : Assigns names n.items e t x = subst (λ z. Assigns names z e t x) q a in
-    one_statement names first k next (s.Later n e) (d.Later k t x) h (count_Later n e) (λ r. fault_Later r (meanings names) n e ∙ p.0 r) (is_later n e k t x p.1) (numbers_Later k t x)
+    one_statement names first k next (s.Later n e) (d.Later k t x) h (count_Later n e) (λ r. fault_Later r (meaning_of names) n e ∙ p.0 r) (is_later n e k t x p.1) (numbers_Later k t x)
 
 abbrev pub StateAll : Bindings → ℕ → List Stmt → List Statement → ℕ → Type 0
-StateAll names first xs ys next = ((r : Reason) → statements_fault (meanings names) first xs r ≡ false) × MeansStatements names first xs ys next
+StateAll names first xs ys next = ((r : Reason) → statements_fault (meaning_of names) first xs r ≡ false) × MeansStatements names first xs ys next
 
 pub states_Block : (names : Bindings) (first next : ℕ) (xs : Vec Stmt Global) (ks : List Stmt) (ys : Vec Statement Global) → ks ≡ xs.items → StateAll names first ks ys.items next → States names first (s.Block xs) (d.Block ys) next
 states_Block names first next xs ks ys k h =
     let p : StateAll names first xs.items ys.items next = subst (λ z. StateAll names first z ys.items next) k h in (
-      λ r. ap (λ z. z || is_overfull r (first + count_of (s.Block xs))) (fault_Block r (meanings names) xs) ∙ ap (λ z. list_any (has_fault r (meanings names)) xs.items || is_overfull r (first + z)) (count_Block xs) ∙ p.0 r,
+      λ r. ap (λ z. z || is_overfull r (first + count_of (s.Block xs))) (fault_Block r (meaning_of names) xs) ∙ ap (λ z. list_any (has_fault r (meaning_of names)) xs.items || is_overfull r (first + z)) (count_Block xs) ∙ p.0 r,
       record {
         means = is_block xs ys p.1.means;
         next_is = p.1.next_is ∙ ap (λ z. first + z) (sym (count_Block xs));
@@ -200,13 +200,13 @@ right_false false b h = h
 pub states_Delay : (names : Bindings) (first k mid next : ℕ) (l : Literal) (n : Ticks) (x : Box Stmt Global) (y : Box Statement Global) (a : Stmt) (b : Statement) → Takes first k mid → ((r : Reason) → delay_fault r l ≡ false) × (delay_of l ≡ Some n.count) → a ≡ x.value → y.value ≡ b → States names mid a b next → States names first (s.Delay l x) (d.Delay k n y) next
 states_Delay names first k mid next l n x y a b h t i j p =
     let q : States names mid x.value b next = subst (λ z. States names mid z b next) i p in
-    let env = meanings names in
+    let env = meaning_of names in
     let whole : mid + count_of x.value ≡ first + count_of (s.Delay l x) = ap (λ z. z + count_of x.value) h.1.1 ∙ (let e : first + 1 + count_of x.value ≡ first + (1 + count_of x.value) = omega arith in e) ∙ ap (λ z. first + z) (sym (count_Delay l x)) in
     let one : suc (count_of x.value) ≡ 1 + count_of x.value = omega arith in
     let next_number : mid ≡ suc first = h.1.1 ∙ (let e : first + 1 ≡ suc first = omega arith in e) in (
       λ r. both_false _ _ (fault_Delay r env l x ∙ both_false _ _ (t.0 r) (left_false _ _ (q.0 r))) (ap (is_overfull r) (sym whole) ∙ right_false (has_fault r env x.value) _ (q.0 r)),
       record {
-        means = is_delay l k n x y t.1 (subst (λ z. IsStatement (IsNumber names) env x.value z) (sym j) q.1.means);
+        means = is_delay l k n x y t.1 (subst (λ z. IsStatement env x.value z) (sym j) q.1.means);
         next_is = q.1.next_is ∙ whole;
         numbered = numbers_Delay k n y ∙ ap (λ z. k ∷ numbers z) j ∙ ap (λ z. k ∷ z) q.1.numbered ∙ ap (λ z. z ∷ counting mid (count_of x.value)) h.1.0 ∙ ap (λ z. first ∷ counting z (count_of x.value)) next_number ∙ ap (counting first) (one ∙ sym (count_Delay l x));
       },
@@ -214,7 +214,7 @@ states_Delay names first k mid next l n x y a b h t i j p =
 
 -- ---- several
 
-are_push : {N : ℕ → List ℕ → Type 0} {env : Environment} (xs : List Stmt) (ys : List Statement) (x : Stmt) (y : Statement) → AreStatements N env xs ys → IsStatement N env x y → AreStatements N env (xs ++ x ∷ []) (ys ++ y ∷ [])
+are_push : {env : Environment} (xs : List Stmt) (ys : List Statement) (x : Stmt) (y : Statement) → AreStatements env xs ys → IsStatement env x y → AreStatements env (xs ++ x ∷ []) (ys ++ y ∷ [])
 are_push xs ys x y are_none h = are_more x y [] [] h are_none
 are_push _ _ x y (are_more a b us vs g gs) h = are_more a b _ _ g (are_push us vs x y gs h)
 
@@ -228,17 +228,17 @@ statement_refused env first mid xs i x e h k m f =
 
 -- what a pass over statements keeps
 pub record Stated (names : Bindings) (first : ℕ) (xs : List Stmt) (ys : List Statement) (next : ℕ) : Type 0 where
-  pub sound : (r : Reason) → list_any (has_fault r (meanings names)) xs ≡ false
+  pub sound : (r : Reason) → list_any (has_fault r (meaning_of names)) xs ≡ false
   pub means : MeansStatements names first xs ys next
 
 pub stated_none : (names : Bindings) (first : ℕ) (ys : List Statement) → ys ≡ [] → Stated names first [] ys first
 stated_none names first ys h =
     let e : first ≡ first + 0 = omega arith in
-    record { sound = λ r. refl; means = record { means = subst (λ z. AreStatements (IsNumber names) (meanings names) [] z) (sym h) are_none; next_is = e; numbered = ap (λ z. joined (map numbers z)) h } }
+    record { sound = λ r. refl; means = record { means = subst (λ z. AreStatements (meaning_of names) [] z) (sym h) are_none; next_is = e; numbered = ap (λ z. joined (map numbers z)) h } }
 
 pub stated_more : (names : Bindings) (first mid next : ℕ) (xs : List Stmt) (i : ℕ) (x : Stmt) (ys zs : List Statement) (y : Statement) → i < length xs → x ≡ get_or xs i x → zs ≡ ys ++ y ∷ [] → Stated names first (take i xs) ys mid → States names mid x y next → Stated names first (take (i + 1) xs) zs next
 stated_more names first mid next xs i x ys zs y h k e p q =
-    let env = meanings names in
+    let env = meaning_of names in
     let front = take i xs in
     let more : counts (front ++ x ∷ []) ≡ counts front + count_of x = counts_push front x in
     let at : next ≡ first + counts (front ++ x ∷ []) = q.1.next_is ∙ ap (λ z. z + count_of x) p.means.next_is ∙ (let e : first + counts front + count_of x ≡ first + (counts front + count_of x) = omega arith in e) ∙ ap (λ z. first + z) (sym more) in
@@ -257,12 +257,12 @@ stated_all names first next xs i ys h small p =
 
 -- ---- bodies of processes
 
-pub means_set : (names : Bindings) (a : Assignment) (t : Target) (x : Typed) → Assigns names a.target a.value t x → ((r : Reason) → behavior_fault r (meanings names) (sets a) ≡ false) × MeansBody names (sets a) (d.Assign 0 t x)
+pub means_set : (names : Bindings) (a : Assignment) (t : Target) (x : Typed) → Assigns names a.target a.value t x → ((r : Reason) → behavior_fault r (meaning_of names) (sets a) ≡ false) × MeansBody names (sets a) (d.Assign 0 t x)
 means_set names a t x h = (λ r. both_false _ _ (h.0 r) (not_overfull r 1 (omega arith)), record { means = is_set a 0 t x h.1; numbered = numbers_Assign 0 t x })
 
-pub means_run : (names : Bindings) (x : Stmt) (next : ℕ) (y : Result Statement BodyFault) → Elaborates (statement_fault (meanings names) 0 x) (λ z. MeansStatement names 0 x z next) y → Elaborates (λ r. behavior_fault r (meanings names) (runs x)) (MeansBody names (runs x)) y
+pub means_run : (names : Bindings) (x : Stmt) (next : ℕ) (y : Result Statement BodyFault) → Elaborates (statement_fault (meaning_of names) 0 x) (λ z. MeansStatement names 0 x z next) y → Elaborates (λ r. behavior_fault r (meaning_of names) (runs x)) (MeansBody names (runs x)) y
 means_run names x next y h =
-    let env = meanings names in
+    let env = meaning_of names in
     let same : (r : Reason) → behavior_fault r env (runs x) ≡ statement_fault env 0 x r = λ r. (let e : count_of x ≡ 0 + count_of x = omega arith in ap (λ z. has_fault r env x || is_overfull r z) e) in
     answered_by (statement_fault env 0 x) (λ r. behavior_fault r env (runs x)) (λ z. MeansStatement names 0 x z next) (MeansBody names (runs x)) y
     (λ z s m. (λ r. same r ∙ s r, record { means = is_run x z m.means; numbered = m.numbered })) (λ r s. same r ∙ s) h
@@ -270,14 +270,14 @@ means_run names x next y h =
 one_more : (n : ℕ) → suc n ≡ 1 + n
 one_more n = omega arith
 
-pub means_repeat : (names : Bindings) (k mid : ℕ) (x : Stmt) (next : ℕ) (y : Statement) (b : Box Statement Global) → Takes 0 k mid → b.value ≡ y → States names mid x y next → ((r : Reason) → behavior_fault r (meanings names) (repeats x) ≡ false) × MeansBody names (repeats x) (d.Forever k b)
+pub means_repeat : (names : Bindings) (k mid : ℕ) (x : Stmt) (next : ℕ) (y : Statement) (b : Box Statement Global) → Takes 0 k mid → b.value ≡ y → States names mid x y next → ((r : Reason) → behavior_fault r (meaning_of names) (repeats x) ≡ false) × MeansBody names (repeats x) (d.Forever k b)
 means_repeat names k mid x next y b t j h =
-    let env = meanings names in
+    let env = meaning_of names in
     let at : mid ≡ 1 = t.1.1 ∙ (let e : 0 + 1 ≡ 1 = omega arith in e) in
     let p : States names 1 x y next = subst (λ z. States names z x y next) at h in (
       p.0,
       record {
-        means = is_repeat x k b (subst (λ z. IsStatement (IsNumber names) env x z) (sym j) p.1.means);
+        means = is_repeat x k b (subst (λ z. IsStatement env x z) (sym j) p.1.means);
         numbered = numbers_Forever k b ∙ ap (λ z. z ∷ numbers b.value) t.1.0 ∙ ap (λ z. 0 ∷ numbers z) j ∙ ap (λ z. 0 ∷ z) p.1.numbered ∙ ap (counting 0) (one_more (count_of x));
       },
     )

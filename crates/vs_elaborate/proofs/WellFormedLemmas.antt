@@ -1,28 +1,19 @@
 -- A design of one scope is well formed.
-use Rattle.std.proofs.Common.{◌≡◌, ℕ, zero, suc, ◌+◌, ◌^◌, ◌<◌, ◌≤◌, Bool, true, false, ◌&&◌, ◌==◌, not, nat_eq, nat_lt, cond, List, [], ◌∷◌, ◌++◌, Option, Some, None, length, map, drop, get_or, slice_get, All, refl, ap, sym, subst, ◌∙◌, add-zero, zero-add, arith, true≢false, option_map, eq-eqb}
+use Rattle.std.proofs.Common.{◌≡◌, ℕ, zero, suc, ◌+◌, ◌^◌, ◌<◌, ◌≤◌, Bool, true, false, ◌&&◌, ◌==◌, not, nat_eq, nat_lt, cond, List, [], ◌∷◌, ◌++◌, Option, Some, None, length, map, max, drop, get_or, slice_get, All, refl, ap, sym, subst, ◌∙◌, add-zero, zero-add, arith, true≢false, option_map, eq-eqb}
 use Rattle.std.specs.List.{list_any, list_all, AllZip, IsDistinct, Contains}
 use Rattle.std.specs.Str.{bytes_eq}
 use Rattle.std.specs.Fmt.{decimal}
 use Rattle.std.specs.declared.vec.Vec.{Vec}
 use Rattle.std.specs.declared.boxed.Box.{Box}
 use Rattle.std.specs.declared.alloc.Global.{Global}
-use Rattle.vs_logic4.specs.declared.digit.Digit.{Digit}
-use Rattle.vs_logic4.specs.declared.operators.Unary.{Unary}
-use Rattle.vs_logic4.specs.declared.operators.Binary.{Binary}
-use Rattle.vs_logic4.specs.Extensions.{length-resized}
 use Rattle.vs_syntax.specs.declared.tree.Expr.{Expr}
 use Rattle.vs_syntax.specs.declared.tree.Stmt.{Stmt}
 use Rattle.vs_design.specs.Parts.{Parts}
-use Rattle.vs_design.specs.WellFormed.{WellFormed, width_step, width_of as typed_width, sized_step, is_sized, within_step, is_within, writes_variable, drives_net, is_source, is_sound_assignment, is_sound_assign, sound_step, is_sound_statement, is_forever, is_body_of, is_sound_process, declared_in}
+use Rattle.vs_design.specs.declared.range.BitRange.{BitRange}
+use Rattle.vs_design.specs.WellFormed.{WellFormed, is_at_least, is_within, writes_variable, drives_net, is_source, is_sound_assignment, is_sound_assign, sound_step, is_sound_statement, is_forever, is_body_of, is_sound_process, declared_in}
 use Rattle.vs_design.specs.declared.timescale.TheConstants.{DEFAULT_TIMESCALE}
 use Rattle.vs_design.specs.declared.signal.Signal.{Signal}
-use Rattle.vs_design.specs.declared.expression.Operand.{Operand}
-use Rattle.vs_design.specs.declared.expression.Link.{Link}
 use Rattle.vs_design.specs.declared.expression.Typed.{Typed}
-use Rattle.vs_design.specs.declared.expression.Typed.TheVariants as t
-use Rattle.vs_design.specs.declared.expression.Typed.TheVariants.{rolls-Number, rolls-Signal, rolls-Unary, rolls-Chain}
-use Rattle.vs_design.specs.declared.expression.Typed.TheOpen as y
-use Rattle.vs_design.specs.declared.expression.Typed.TheFolds.{fold-roll-Typed}
 use Rattle.vs_design.specs.declared.statement.Target.{Target}
 use Rattle.vs_design.specs.declared.statement.Ticks.{Ticks}
 use Rattle.vs_design.specs.declared.statement.Statement.{Statement}
@@ -43,70 +34,29 @@ use Rattle.std.proofs.lemmas.Slice.Eq.{bytes_eq-Decides}
 use Rattle.std.specs.Str.Parse.{digits_value}
 use Rattle.std.proofs.lemmas.Bool.{lt-ltb, ne_eqb, false_from_ne_true}
 use Rattle.std.proofs.lemmas.Fmt.{decimal_is_IsNumeral}
-use Rattle.vs_elaborate.specs.declared.bindings.Meaning.{Meaning}
+use Rattle.vs_widths.specs.declared.bindings.Meaning.{Meaning}
+use Rattle.vs_widths.specs.declared.bindings.Binding.{Binding}
 use Rattle.vs_elaborate.specs.declared.assignments.AssignmentKind.{AssignmentKind}
 use Rattle.vs_elaborate.specs.declared.assignments.AssignmentKind.TheVariants.{Procedural, Continuous}
 use Rattle.vs_elaborate.specs.declared.faults.Reason.{Reason}
 use Rattle.vs_elaborate.specs.declared.faults.Reason.TheVariants.{Width}
-use Rattle.vs_elaborate.specs.declared.faults.WidthReason.TheVariants.{WrongKind}
+use Rattle.vs_widths.specs.declared.faults.WidthReason.{WidthReason}
+use Rattle.vs_widths.specs.declared.faults.WidthReason.TheVariants.{WrongKind}
 use Rattle.vs_elaborate.specs.declared.plans.Plan.{Plan}
 use Rattle.vs_elaborate.specs.Printed.{Path, printed, printed_name, is_simple}
-use Rattle.vs_elaborate.specs.Environment.{Environment}
-use Rattle.vs_elaborate.specs.Expressions.{shape_of, width_of, sign_of, IsTyped, is_number, is_name, is_group, is_unary, is_chain, AreLinks, links_none, links_more, context}
-use Rattle.vs_elaborate.specs.Statements.{IsAssignment, IsStatement, is_null, is_assign, is_later, is_block, is_delay, AreStatements, are_none, are_more, takes, is_wrong_kind, assign_fault, delay_fault, has_fault}
-use Rattle.vs_elaborate.specs.Scopes.{Scope, DeclaredName, Assignment, Behavior, Located, declarations_of, drivers_of, behaviors_of, names_of, names_in, meaning_as, named}
+use Rattle.vs_widths.specs.Environment.{Environment}
+use Rattle.vs_widths.specs.Names.{meaning_of}
+use Rattle.vs_elaborate.specs.Statements.{IsAssignment, IsStatement, is_null, is_assign, is_later, is_block, is_delay, AreStatements, are_none, are_more, takes, target_fault, assign_fault, delay_fault, has_fault}
+use Rattle.vs_elaborate.specs.Scopes.{Scope, DeclaredName, Assignment, Behavior, declarations_of, drivers_of, behaviors_of, names_of, names_in, named}
 use Rattle.vs_elaborate.specs.Processes.{IsBody, is_set, is_run, is_repeat, kind_of, part_fault, behavior_fault, driver_fault}
-use Rattle.vs_elaborate.specs.DesignOf.{declared, signal_of, signals_of, PartOf, own_name, part_name, parts_from, IsProcess, IsAssign}
-use Rattle.vs_elaborate.specs.passes.Bodies.{Bindings, meanings, IsNumber, counting}
+use Rattle.vs_elaborate.specs.DesignOf.{Declared, declared, signal_of, signals_of, PartOf, own_name, part_name, parts_from, IsProcess, IsAssign}
+use Rattle.vs_elaborate.specs.passes.Bodies.{Bindings, counting}
 use Rattle.vs_elaborate.specs.passes.Plans.{Binds, Opens, driven_signals}
 use Rattle.vs_elaborate.proofs.Folds.{all_of_map, both_true}
 use Rattle.vs_elaborate.proofs.PrintedLemmas.{printed_push}
 use Rattle.vs_elaborate.proofs.StatementLemmas.{fault_Assign, fault_Later, fault_Block, fault_Delay, left_false, right_false}
-use Rattle.vs_elaborate.proofs.ScopeLemmas.{number_at, meanings_are}
-
--- ---- expressions
-
-list_all_map : {A B : Type 0} (p : B → Bool) (g : A → B) (xs : List A) → list_all p (map g xs) ≡ list_all (λ x. p (g x)) xs
-list_all_map p g [] = refl
-list_all_map p g (x ∷ xs) = ap (λ b. p (g x) && b) (list_all_map p g xs)
-
-within_Number : (ss : List Signal) (v : List Digit) → is_within ss (t.Number v) ≡ true
-within_Number ss v = ap (is_within ss) (sym (rolls-Number v)) ∙ fold-roll-Typed Bool (within_step ss) (y.Number v)
-
-within_Signal : (ss : List Signal) (o : Operand) → is_within ss (t.Signal o) ≡ nat_lt o.signal (length ss)
-within_Signal ss o = ap (is_within ss) (sym (rolls-Signal o)) ∙ fold-roll-Typed Bool (within_step ss) (y.Signal o)
-
-within_Unary : (ss : List Signal) (op : Unary) (x : Box Typed Global) → is_within ss (t.Unary op x) ≡ is_within ss x.value
-within_Unary ss op x = ap (is_within ss) (sym (rolls-Unary op x)) ∙ fold-roll-Typed Bool (within_step ss) (y.Unary op x)
-
-within_Chain : (ss : List Signal) (x : Box Typed Global) (ls : Vec (Link × Typed) Global) → is_within ss (t.Chain x ls) ≡ (is_within ss x.value && list_all (λ (l : Link × Typed). is_within ss l.1) ls.items)
-within_Chain ss x ls =
-    ap (is_within ss) (sym (rolls-Chain x ls)) ∙ fold-roll-Typed Bool (within_step ss) (y.Chain x ls) ∙ ap (λ b. is_within ss x.value && b) (list_all_map (λ (l : Link × Bool). l.1) (λ (l : Link × Typed). (l.0, is_within ss l.1)) ls.items)
-
-sized_Number : (w : ℕ) (v : List Digit) → is_sized w (t.Number v) ≡ (length v == w)
-sized_Number w v = ap (is_sized w) (sym (rolls-Number v)) ∙ fold-roll-Typed Bool (sized_step w) (y.Number v)
-
-sized_Signal : (w : ℕ) (o : Operand) → is_sized w (t.Signal o) ≡ (o.width == w)
-sized_Signal w o = ap (is_sized w) (sym (rolls-Signal o)) ∙ fold-roll-Typed Bool (sized_step w) (y.Signal o)
-
-sized_Unary : (w : ℕ) (op : Unary) (x : Box Typed Global) → is_sized w (t.Unary op x) ≡ is_sized w x.value
-sized_Unary w op x = ap (is_sized w) (sym (rolls-Unary op x)) ∙ fold-roll-Typed Bool (sized_step w) (y.Unary op x)
-
-sized_Chain : (w : ℕ) (x : Box Typed Global) (ls : Vec (Link × Typed) Global) → is_sized w (t.Chain x ls) ≡ (is_sized w x.value && list_all (λ (l : Link × Typed). (l.0.width == w) && is_sized w l.1) ls.items)
-sized_Chain w x ls =
-    ap (is_sized w) (sym (rolls-Chain x ls)) ∙ fold-roll-Typed Bool (sized_step w) (y.Chain x ls) ∙ ap (λ b. is_sized w x.value && b) (list_all_map (λ (l : Link × Bool). (l.0.width == w) && l.1) (λ (l : Link × Typed). (l.0, is_sized w l.1)) ls.items)
-
-width_Number : (v : List Digit) → typed_width (t.Number v) ≡ length v
-width_Number v = ap typed_width (sym (rolls-Number v)) ∙ fold-roll-Typed ℕ width_step (y.Number v)
-
-width_Signal : (o : Operand) → typed_width (t.Signal o) ≡ o.width
-width_Signal o = ap typed_width (sym (rolls-Signal o)) ∙ fold-roll-Typed ℕ width_step (y.Signal o)
-
-width_Unary : (op : Unary) (x : Box Typed Global) → typed_width (t.Unary op x) ≡ typed_width x.value
-width_Unary op x = ap typed_width (sym (rolls-Unary op x)) ∙ fold-roll-Typed ℕ width_step (y.Unary op x)
-
-width_Chain : (x : Box Typed Global) (ls : Vec (Link × Typed) Global) → typed_width (t.Chain x ls) ≡ typed_width x.value
-width_Chain x ls = ap typed_width (sym (rolls-Chain x ls)) ∙ fold-roll-Typed ℕ width_step (y.Chain x ls)
+use Rattle.vs_elaborate.proofs.ScopeLemmas.{number_at}
+use Rattle.vs_elaborate.proofs.ReadLemmas.{reads_within}
 
 -- ---- statements
 
@@ -134,83 +84,57 @@ forever_body k x = refl
 
 -- ---- what names mean
 
--- the signal of this number is what a name means
-pub record IsMeant (ss : List Signal) (i : ℕ) (o : Option Meaning) : Type 0 where
-  pub meaning : Meaning
-  pub found : o ≡ Some meaning
+-- the signal of a binding is what the binding says
+pub record IsMeant (ss : List Signal) (b : Binding) : Type 0 where
   pub signal : Signal
-  pub stands : slice_get ss i ≡ Some signal
-  pub kind : signal.kind ≡ meaning.kind
-  pub width : signal.width ≡ meaning.shape.width
+  pub stands : slice_get ss b.signal ≡ Some signal
+  pub kind : signal.kind ≡ b.meaning.kind
+  pub width : signal.width ≡ b.meaning.shape.width
 
 not_true : (b : Bool) → not b ≡ false → b ≡ true
 not_true true h = refl
 not_true false h = sym h
 
--- an assignment takes the kind of its target
-kind_taken : (ss : List Signal) (i : ℕ) (how : AssignmentKind) (o : Option Meaning) (g : IsMeant ss i o) → is_wrong_kind how o ≡ false → takes how g.signal.kind ≡ true
-kind_taken ss i how o g k = ap (takes how) g.kind ∙ not_true _ (ap (is_wrong_kind how) (sym g.found) ∙ k)
+module _ (ss : List Signal) (env : Environment) (good : (n : List ℕ) (b : Binding) → env n ≡ Some b → IsMeant ss b) where
+  -- the target's signal, which has the kind that the assignment takes, and the target's size
+  pub record IsTargetOf (how : AssignmentKind) (u : Target) : Type 0 where
+    pub signal : Signal
+    pub stands : slice_get ss u.signal ≡ Some signal
+    pub taken : takes how signal.kind ≡ true
+    pub width : (signal.width == u.width) ≡ true
 
-same_width : (ss : List Signal) (i w : ℕ) (o : Option Meaning) (g : IsMeant ss i o) → w ≡ width_of (option_map (λ (m : Meaning). m.shape) o) → (g.signal.width == w) ≡ true
-same_width ss i w o g h = eq-eqb g.signal.width w (g.width ∙ sym (h ∙ ap (λ z. width_of (option_map (λ (m : Meaning). m.shape) z)) g.found))
+  target_of : (how : AssignmentKind) (n : List ℕ) (e : Expr) (u : Target) (x : Typed) → assign_fault (Width WrongKind) how env n e ≡ false → IsAssignment env n e u x → IsTargetOf how u
+  target_of how n e u x k h =
+      let g = good n h.binding h.found in
+      let kind : target_fault WrongKind how (Some h.binding) ≡ false = ap (target_fault WrongKind how) (sym h.found) ∙ left_false _ _ k in
+      record {
+        signal = g.signal;
+        stands = ap (slice_get ss) h.signal ∙ g.stands;
+        taken = ap (takes how) g.kind ∙ not_true _ kind;
+        width = eq-eqb g.signal.width u.width (g.width ∙ sym h.width);
+      }
 
--- what holds of an expression at a size
-pub record IsSoundTyped (ss : List Signal) (w : ℕ) (x : Typed) : Type 0 where
-  pub within : is_within ss x ≡ true
-  pub sized : is_sized w x ≡ true
-  pub width : typed_width x ≡ w
-
--- the same of operands behind the first one
-pub record AreSoundLinks (ss : List Signal) (w : ℕ) (ls : List (Link × Typed)) : Type 0 where
-  pub within : list_all (λ (l : Link × Typed). is_within ss l.1) ls ≡ true
-  pub sized : list_all (λ (l : Link × Typed). (l.0.width == w) && is_sized w l.1) ls ≡ true
-
-module _ {N : ℕ → List ℕ → Type 0} (ss : List Signal) (env : Environment) (good : (i : ℕ) (n : List ℕ) → N i n → IsMeant ss i (env n)) where
-  mutual
-    typed_sound : (w : ℕ) (g : Bool) (x : Expr) (z : Typed) → IsTyped N w g x z → IsSoundTyped ss w z
-    typed_sound w g _ _ (is_number l v h) =
-        let long : length v ≡ w = ap length h ∙ length-resized g w l.value in
-        record { within = within_Number ss v; sized = sized_Number w v ∙ eq-eqb (length v) w long; width = width_Number v ∙ long }
-    typed_sound w g _ _ (is_name n o h p q) =
-        let m = good o.signal n.items h in
-        record { within = within_Signal ss o ∙ lt-ltb _ _ (slice_get_within ss o.signal m.signal m.stands); sized = sized_Signal w o ∙ eq-eqb o.width w p; width = width_Signal o ∙ p }
-    typed_sound w g _ _ (is_group x z h) = typed_sound w g _ _ h
-    typed_sound w g _ _ (is_unary op x z h) =
-        let p = typed_sound w g _ _ h in
-        record { within = within_Unary ss op z ∙ p.within; sized = sized_Unary w op z ∙ p.sized; width = width_Unary op z ∙ p.width }
-    typed_sound w g _ _ (is_chain x xs z zs h k) =
-        let p = typed_sound w g _ _ h in
-        let q = links_sound w g _ _ k in
-        record { within = within_Chain ss z zs ∙ both_true _ _ p.within q.within; sized = sized_Chain w z zs ∙ both_true _ _ p.sized q.sized; width = width_Chain z zs ∙ p.width }
-
-    links_sound : (w : ℕ) (g : Bool) (xs : List (Binary × Expr)) (zs : List (Link × Typed)) → AreLinks N w g xs zs → AreSoundLinks ss w zs
-    links_sound w g _ _ links_none = record { within = refl; sized = refl }
-    links_sound w g _ _ (links_more x z xs zs o p q h k) =
-        let u = typed_sound w g x.1 z.1 h in
-        let v = links_sound w g xs zs k in
-        record { within = both_true _ _ u.within v.within; sized = both_true _ _ (both_true _ _ (eq-eqb z.0.width w p) u.sized) v.sized }
-
-  source_sound : (n : List ℕ) (e : Expr) (u : Target) (x : Typed) → IsAssignment N env n e u x → is_source ss u x ≡ true
+  source_sound : (n : List ℕ) (e : Expr) (u : Target) (x : Typed) → IsAssignment env n e u x → is_source ss u x ≡ true
   source_sound n e u x h =
-      let p = typed_sound (context env n e) (sign_of (shape_of env e)) e x h.source in
-      let wide : u.width ≤ typed_width x = omega (arith, h.width, p.width) in
-      both_true _ _ (both_true _ _ p.within (ap (λ w. is_sized w x) p.width ∙ p.sized)) (le-leb u.width (typed_width x) wide)
+      let y = h.source.typed in
+      let within : is_within ss x ≡ true =
+      ap (list_all (λ (r : BitRange). nat_lt r.signal (length ss))) y.ranges
+      ∙ reads_within (length ss) env (λ m b k. (let g = good m b k in slice_get_within ss b.signal g.signal g.stands)) e in
+      let wide : u.width ≤ max h.binding.meaning.shape.width h.source.width = omega (arith, h.width) in
+      both_true _ _ within (ap (is_at_least u.width) y.size ∙ le-leb u.width (max h.binding.meaning.shape.width h.source.width) wide)
 
-  target_sound : (n : List ℕ) (e : Expr) (u : Target) (x : Typed) → assign_fault (Width WrongKind) Procedural env n e ≡ false → IsAssignment N env n e u x → is_sound_assignment ss u x ≡ true
+  target_sound : (n : List ℕ) (e : Expr) (u : Target) (x : Typed) → assign_fault (Width WrongKind) Procedural env n e ≡ false → IsAssignment env n e u x → is_sound_assignment ss u x ≡ true
   target_sound n e u x k h =
-      let g = good u.signal n h.signal in
-      let target : writes_variable (slice_get ss u.signal) u.width ≡ true = ap (λ o. writes_variable o u.width) g.stands ∙ both_true _ _ (kind_taken ss u.signal Procedural _ g k) (same_width ss u.signal u.width _ g h.width) in
-      both_true _ _ target (source_sound n e u x h)
+      let t = target_of Procedural n e u x k h in
+      both_true _ _ (ap (λ o. writes_variable o u.width) t.stands ∙ both_true _ _ t.taken t.width) (source_sound n e u x h)
 
-  pub driver_sound : (n : List ℕ) (e : Expr) (a : Assign) → assign_fault (Width WrongKind) Continuous env n e ≡ false → IsAssignment N env n e a.target a.source → is_sound_assign ss a ≡ true
+  pub driver_sound : (n : List ℕ) (e : Expr) (a : Assign) → assign_fault (Width WrongKind) Continuous env n e ≡ false → IsAssignment env n e a.target a.source → is_sound_assign ss a ≡ true
   driver_sound n e a k h =
-      let u = a.target in
-      let g = good u.signal n h.signal in
-      let target : drives_net (slice_get ss u.signal) u.width ≡ true = ap (λ o. drives_net o u.width) g.stands ∙ both_true _ _ (kind_taken ss u.signal Continuous _ g k) (same_width ss u.signal u.width _ g h.width) in
-      both_true _ _ target (source_sound n e u a.source h)
+      let t = target_of Continuous n e a.target a.source k h in
+      both_true _ _ (ap (λ o. drives_net o a.target.width) t.stands ∙ both_true _ _ t.taken t.width) (source_sound n e a.target a.source h)
 
   mutual
-    statement_sound : (x : Stmt) (z : Statement) → has_fault (Width WrongKind) env x ≡ false → IsStatement N env x z → is_sound_statement ss z ≡ true
+    statement_sound : (x : Stmt) (z : Statement) → has_fault (Width WrongKind) env x ≡ false → IsStatement env x z → is_sound_statement ss z ≡ true
     statement_sound _ _ k (is_null j) = sound_Null ss j
     statement_sound _ _ k (is_assign n e j u x h) = sound_Assign ss j u x ∙ target_sound n.items e u x (sym (fault_Assign (Width WrongKind) env n e) ∙ k) h
     statement_sound _ _ k (is_later n e j u x h) = sound_Later ss j u x ∙ target_sound n.items e u x (sym (fault_Later (Width WrongKind) env n e) ∙ k) h
@@ -218,16 +142,16 @@ module _ {N : ℕ → List ℕ → Type 0} (ss : List Signal) (env : Environment
     statement_sound _ _ k (is_delay l j n x z h g) =
         sound_Delay ss j n z ∙ statement_sound _ _ (right_false (delay_fault (Width WrongKind) l) _ (sym (fault_Delay (Width WrongKind) env l x) ∙ k)) g
 
-    statements_sound : (xs : List Stmt) (zs : List Statement) → list_any (has_fault (Width WrongKind) env) xs ≡ false → AreStatements N env xs zs → list_all (is_sound_statement ss) zs ≡ true
+    statements_sound : (xs : List Stmt) (zs : List Statement) → list_any (has_fault (Width WrongKind) env) xs ≡ false → AreStatements env xs zs → list_all (is_sound_statement ss) zs ≡ true
     statements_sound _ _ k are_none = refl
     statements_sound _ _ k (are_more x z xs zs h g) = both_true _ _ (statement_sound x z (left_false _ _ k) h) (statements_sound xs zs (right_false (has_fault (Width WrongKind) env x) _ k) g)
 
-  body_sound : (b : Behavior) (z : Statement) → part_fault (Width WrongKind) env b ≡ false → IsBody N env b z → (is_sound_statement ss z ≡ true) × (is_body_of (kind_of b) z ≡ true)
+  body_sound : (b : Behavior) (z : Statement) → part_fault (Width WrongKind) env b ≡ false → IsBody env b z → (is_sound_statement ss z ≡ true) × (is_body_of (kind_of b) z ≡ true)
   body_sound _ _ k (is_set a j u x h) = (sound_Assign ss j u x ∙ target_sound a.target a.value u x k h, refl)
   body_sound _ _ k (is_run x z h) = (statement_sound x z k h, refl)
   body_sound _ _ k (is_repeat x j z h) = (sound_Forever ss j z ∙ statement_sound x z.value k h, forever_body j z)
 
-  pub process_sound : (p : Process) (q : PartOf Behavior) → behavior_fault (Width WrongKind) env q.part ≡ false → IsProcess N env p q → is_sound_process ss p ≡ true
+  pub process_sound : (p : Process) (q : PartOf Behavior) → behavior_fault (Width WrongKind) env q.part ≡ false → IsProcess env p q → is_sound_process ss p ≡ true
   process_sound p q k h =
       let b = body_sound q.part p.body (left_false _ _ k) h.body in
       both_true _ _ (both_true _ _ b.0 h.numbered) (ap (λ z. is_body_of z p.body) h.kind ∙ b.1)
@@ -241,18 +165,16 @@ pub signal_at : (s : Scope) (now : List Signal) (i : ℕ) (n : DeclaredName) →
 signal_at s now i n shown stands = signal_shown s n (slice_get now i) (sym (slice_get-map declared now i) ∙ ap (λ l. slice_get l i) shown ∙ slice_get-map (signal_of s) (declarations_of s) i ∙ ap (option_map (signal_of s)) stands)
 
 -- each name of the scope is a signal of the design
-pub names_are_signals : (s : Scope) (names : Bindings) (now : List Signal) → Binds names 0 (declarations_of s) → map declared now ≡ signals_of s → (i : ℕ) (n : List ℕ) → IsNumber names i n → IsMeant now i (meanings names n)
-names_are_signals s names now b shown i n h =
-    let p = number_at s names 0 i n b h in
-    let at : i ≡ p.place = omega (arith, p.number) in
-    let found = signal_at s now i p.declared shown (ap (slice_get (declarations_of s)) at ∙ p.stands) in
+pub names_are_signals : (s : Scope) (names : Bindings) (now : List Signal) → Binds names 0 (declarations_of s) → map declared now ≡ signals_of s → (n : List ℕ) (b : Binding) → meaning_of names n ≡ Some b → IsMeant now b
+names_are_signals s names now h shown n b k =
+    let p = number_at s names 0 n b h k in
+    let at : b.signal ≡ p.place = p.number ∙ zero-add p.place in
+    let found = signal_at s now b.signal p.declared shown (ap (slice_get (declarations_of s)) at ∙ p.stands) in
     record {
-      meaning = meaning_as p.declared.kind;
-      found = ap (λ (e : Environment). e n) (meanings_are s names 0 b) ∙ ap (option_map (λ (l : Located). l.meaning)) p.means;
       signal = found.0;
       stands = found.1;
-      kind = ap (λ z. z.kind) found.2;
-      width = ap (λ z. z.width) found.2;
+      kind = ap (λ (z : Declared). z.kind) found.2 ∙ ap (λ (z : Meaning). z.kind) (sym p.meaning);
+      width = ap (λ (z : Declared). z.width) found.2 ∙ ap (λ (z : Meaning). z.shape.width) (sym p.meaning);
     }
 
 -- the parts of a scope
@@ -408,14 +330,15 @@ pub record Made (s : Scope) (p : Plan) : Type 0 where
   pub names : Bindings
   pub bound : Binds names 0 (declarations_of s)
   pub shown : map declared p.signals.items ≡ signals_of s
-  pub drivers_mean : AllZip (IsAssign (IsNumber names) (meanings names)) p.assigns.items (parts_from 97 s 0 (drivers_of s))
-  pub behaviors_mean : AllZip (IsProcess (IsNumber names) (meanings names)) p.processes.items (parts_from 112 s 0 (behaviors_of s))
+  pub drivers_mean : AllZip (IsAssign (meaning_of names)) p.assigns.items (parts_from 97 s 0 (drivers_of s))
+  pub behaviors_mean : AllZip (IsProcess (meaning_of names)) p.processes.items (parts_from 112 s 0 (behaviors_of s))
   pub title : Vec ℕ Global
   pub title_is : title.items ≡ printed_name s.name
   pub lines : p.outline.items ≡ Enter s.kind title ∷ map Declare (counting 0 (length (names_of s))) ++ Leave ∷ []
   pub count : length p.signals.items ≡ length (names_of s)
-  pub sound : (r : Reason) → (list_any (behavior_fault r (meanings names)) (behaviors_of s) ≡ false) × (list_any (driver_fault r (meanings names)) (drivers_of s) ≡ false)
+  pub sound : (r : Reason) → (list_any (behavior_fault r (meaning_of names)) (behaviors_of s) ≡ false) × (list_any (driver_fault r (meaning_of names)) (drivers_of s) ≡ false)
   pub distinct : IsDistinct bytes_eq (names_of s)
+  pub sized : (w : WidthReason) → list_any (λ (d : DeclaredName). d.size.faults w) (declarations_of s) ≡ false
   pub room : length p.signals.items ≤ 65536
 
 pub made : (s : Scope) (old new : Plan) → IsEmpty old → Opens s old new → Made s new
@@ -425,14 +348,13 @@ made s old new e o =
     let named_once : length (declarations_of s) ≡ length (names_of s) = sym (length-map (declarations_of s) (λ (z : DeclaredName). z.name)) in
     let assigns : o.assigns_added ≡ new.assigns.items = sym (o.assigns ∙ ap (λ z. z ++ o.assigns_added) e.assigns) in
     let processes : o.processes_added ≡ new.processes.items = sym (o.processes ∙ ap (λ z. z ++ o.processes_added) e.processes) in
-    let N = IsNumber o.names in
-    let env = meanings o.names in
+    let env = meaning_of o.names in
     record {
       names = o.names;
       bound = subst (λ z. Binds o.names z (declarations_of s)) none o.bound;
       shown = shown;
-      drivers_mean = subst (λ z. AllZip (IsAssign N env) z (parts_from 97 s 0 (drivers_of s))) assigns o.drivers_mean;
-      behaviors_mean = subst (λ z. AllZip (IsProcess N env) z (parts_from 112 s 0 (behaviors_of s))) processes o.behaviors_mean;
+      drivers_mean = subst (λ z. AllZip (IsAssign env) z (parts_from 97 s 0 (drivers_of s))) assigns o.drivers_mean;
+      behaviors_mean = subst (λ z. AllZip (IsProcess env) z (parts_from 112 s 0 (behaviors_of s))) processes o.behaviors_mean;
       title = o.title;
       title_is = o.title_is;
       lines = o.lines ∙ ap (λ z. z ++ Enter s.kind o.title ∷ map Declare (counting (length old.signals.items) (length (declarations_of s))) ++ Leave ∷ []) e.outline
@@ -440,15 +362,16 @@ made s old new e o =
       count = sym (length-map new.signals.items declared) ∙ ap length shown ∙ length-map (declarations_of s) (signal_of s) ∙ named_once;
       sound = λ r. (o.sound.processes r, o.sound.drivers r);
       distinct = o.sound.distinct;
+      sized = o.sound.sized;
       room = o.room;
     }
 
 pub well_formed : (s : Scope) (p : Plan) → 0 < length s.path → length p.assigns.items < 2 ^ 64 → length p.processes.items < 2 ^ 64 → Made s p → IsDistinct nat_eq (driven_signals p.assigns.items) → WellFormed (parts_of p)
 well_formed s p rooted short small m drivers =
-    let env = meanings m.names in
+    let env = meaning_of m.names in
     let ss = p.signals.items in
-    let R : Process → PartOf Behavior → Type 0 = IsProcess (IsNumber m.names) env in
-    let S : Assign → PartOf Assignment → Type 0 = IsAssign (IsNumber m.names) env in
+    let R : Process → PartOf Behavior → Type 0 = IsProcess env in
+    let S : Assign → PartOf Assignment → Type 0 = IsAssign env in
     let good = names_are_signals s m.names ss m.bound m.shown in
     let declares : declared_in p.outline.items ≡ counting 0 (length ss) = ap declared_in m.lines ∙ lines_declare (counting 0 (length (names_of s))) ∙ ap (counting 0) (sym m.count) in
     let from_zero : 0 + length ss ≤ length ss = omega arith in
@@ -467,7 +390,7 @@ well_formed s p rooted short small m drivers =
 -- the signals that are driven are signals of the design
 pub drivers_within : (s : Scope) (p : Plan) → Made s p → All (λ n. n < length p.signals.items) (driven_signals p.assigns.items)
 drivers_within s p m =
-    let R : Assign → PartOf Assignment → Type 0 = IsAssign (IsNumber m.names) (meanings m.names) in
+    let R : Assign → PartOf Assignment → Type 0 = IsAssign (meaning_of m.names) in
     let one : (a : Assign) (q : PartOf Assignment) → R a q → a.target.signal < length p.signals.items =
-    λ a q r. (let g = names_are_signals s m.names p.signals.items m.bound m.shown a.target.signal q.part.target r.sides.signal in slice_get_within p.signals.items a.target.signal g.signal g.stands) in
+    λ a q r. (let g = names_are_signals s m.names p.signals.items m.bound m.shown q.part.target r.sides.binding r.sides.found in slice_get_within p.signals.items a.target.signal g.signal (ap (slice_get p.signals.items) r.sides.signal ∙ g.stands)) in
     all_within R 97 s (length p.signals.items) one p.assigns.items 0 (drivers_of s) m.drivers_mean

@@ -14,11 +14,11 @@ use Rattle.vs_design.specs.declared.design.Entry.{Entry}
 use Rattle.vs_design.specs.declared.design.Entry.TheVariants.{Enter, Declare, Leave}
 use Rattle.vs_design.specs.Parts.{Parts}
 use Rattle.vs_design.specs.WellFormed.{numbers, counts_from}
+use Rattle.vs_widths.specs.Environment.{Environment}
 use Rattle.vs_elaborate.specs.declared.faults.Reason.{Reason}
 use Rattle.vs_elaborate.specs.Printed.{Path, printed, printed_name}
-use Rattle.vs_elaborate.specs.Environment.{Environment}
 use Rattle.vs_elaborate.specs.Statements.{IsAssignment}
-use Rattle.vs_elaborate.specs.Scopes.{Scope, DeclaredName, Assignment, Behavior, module_named, inner, levels, top_scope, declarations_of, names_of, drivers_of, behaviors_of, scalar, named, kinds, IsNamed, IsNamedIn}
+use Rattle.vs_elaborate.specs.Scopes.{Scope, DeclaredName, Assignment, Behavior, module_named, inner, levels, top_scope, declarations_of, names_of, drivers_of, behaviors_of, named, environment_in, IsNamed}
 use Rattle.vs_elaborate.specs.Processes.{IsBody, kind_of}
 use Rattle.vs_elaborate.specs.Faults.{scopes_of, Stands}
 
@@ -43,15 +43,15 @@ declared s = record {
   words = s.words;
 }
 
--- the signal of a declared name without a range (clauses 4.2 and 4.3.1)
+-- the signal of a declared name (clauses 4.2, 4.3.1 and 4.8)
 abbrev pub signal_of : Scope → DeclaredName → Declared
 signal_of s d = record {
   name = printed_name d.name;
   path = printed (named s d.name);
   kind = d.kind;
-  width = scalar.width;
-  signed = scalar.signed;
-  range = None;
+  width = d.size.shape.width;
+  signed = d.size.shape.signed;
+  range = d.size.bounds;
   words = None;
 }
 
@@ -86,25 +86,25 @@ assigns_of s = parts_from 97 s 0 (drivers_of s)
 abbrev pub part_name : Path → List ℕ → List ℕ
 part_name p n = printed p ++ n
 
--- the process of a design that one of a source is, where N says which number a name has; its statements are numbered from 0 on, in text order
-pub record IsProcess (N : ℕ → List ℕ → Type 0) (env : Environment) (p : Process) (q : PartOf Behavior) : Type 0 where
+-- the process of a design that one of a source is; its statements are numbered from 0 on, in text order
+pub record IsProcess (env : Environment) (p : Process) (q : PartOf Behavior) : Type 0 where
   pub name : p.name.items ≡ part_name q.scope.path q.name
   pub kind : p.kind ≡ kind_of q.part
-  pub body : IsBody N env q.part p.body
+  pub body : IsBody env q.part p.body
   pub numbered : counts_from 0 (numbers p.body) ≡ true
 
--- the same, by the names of the process's scope
+-- the same, by what the names of the process's scope are bound to
 abbrev pub IsProcessIn : List Scope → Process → PartOf Behavior → Type 0
-IsProcessIn ss p q = IsProcess (IsNamedIn ss q.scope) (kinds q.scope) p q
+IsProcessIn ss p q = IsProcess (environment_in ss q.scope) p q
 
--- the continuous assignment of a design that one of a source is, where N says which number a name has
-pub record IsAssign (N : ℕ → List ℕ → Type 0) (env : Environment) (a : Assign) (q : PartOf Assignment) : Type 0 where
+-- the continuous assignment of a design that one of a source is
+pub record IsAssign (env : Environment) (a : Assign) (q : PartOf Assignment) : Type 0 where
   pub name : a.name.items ≡ part_name q.scope.path q.name
-  pub sides : IsAssignment N env q.part.target q.part.value a.target a.source
+  pub sides : IsAssignment env q.part.target q.part.value a.target a.source
 
--- the same, by the names of the assignment's scope
+-- the same, by what the names of the assignment's scope are bound to
 abbrev pub IsAssignIn : List Scope → Assign → PartOf Assignment → Type 0
-IsAssignIn ss a q = IsAssign (IsNamedIn ss q.scope) (kinds q.scope) a q
+IsAssignIn ss a q = IsAssign (environment_in ss q.scope) a q
 
 -- one line of an outline, with signals by their paths
 pub data Line : Type 0 where

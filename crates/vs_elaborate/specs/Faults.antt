@@ -3,12 +3,14 @@ use Rattle.std.specs.Prelude.{◌≡◌, ℕ, suc, ◌<◌, true, List, [], ◌�
 use Rattle.std.specs.List.{list_any, flat_map}
 use Rattle.vs_syntax.specs.declared.tree.Module.{Module}
 use Rattle.vs_design.specs.Kinds.{is_variable}
+use Rattle.vs_widths.specs.declared.faults.WidthReason.{WidthReason}
+use Rattle.vs_widths.specs.Environment.{Environment}
 use Rattle.vs_elaborate.specs.declared.faults.Reason.{Reason}
 use Rattle.vs_elaborate.specs.declared.faults.Reason.TheVariants.{NoModule, DeclaredTwice, DrivenTwice, Limit, Width}
 use Rattle.vs_elaborate.specs.declared.faults.ElabFault.{ElabFault}
 use Rattle.vs_elaborate.specs.declared.faults.ElabFault.TheVariants.{Memory, At}
 use Rattle.vs_elaborate.specs.Printed.{Path, printed}
-use Rattle.vs_elaborate.specs.Scopes.{Scope, Assignment, Located, module_named, all_scopes, names_of, drivers_of, behaviors_of, environment, kinds, named, signal_paths}
+use Rattle.vs_elaborate.specs.Scopes.{Scope, DeclaredName, Assignment, Located, module_named, all_scopes, declarations_of, names_of, drivers_of, behaviors_of, environment, environment_in, named, signal_paths}
 use Rattle.vs_elaborate.specs.Processes.{behavior_fault, driver_fault}
 
 -- an element that stands twice among others
@@ -52,21 +54,27 @@ pub record PassesLimit (ss : List Scope) (p : Path) : Type 0 where
   pub passed : 65536 < length (signal_paths (take (suc place) ss))
   pub path : p ≡ scope.path
 
--- a process or a continuous assignment of a scope that has the fault, by the scope's path
-abbrev pub HasFault : Scope → Reason → Path → Type 0
-HasFault s r p =
-    ((list_any (behavior_fault r (kinds s)) (behaviors_of s) ≡ true) ⊎ (list_any (driver_fault r (kinds s)) (drivers_of s) ≡ true)) ×
+-- a process or a continuous assignment of a scope that has the fault where names are bound so, by the scope's path
+abbrev pub HasFault : Environment → Scope → Reason → Path → Type 0
+HasFault env s r p =
+    ((list_any (behavior_fault r env) (behaviors_of s) ≡ true) ⊎ (list_any (driver_fault r env) (drivers_of s) ≡ true)) ×
     (p ≡ s.path)
 
--- the condition of a fault in a scope, with its path: a name is declared twice, or a process or a continuous assignment has the fault
-abbrev pub Holds : Scope → Reason → Path → Type 0
-Holds s DeclaredTwice p = DeclaresTwice s p ⊎ HasFault s DeclaredTwice p
-Holds s r p = HasFault s r p
+-- a range of a declaration of a scope that has the fault, by the scope's path
+abbrev pub HasRangeFault : Scope → WidthReason → Path → Type 0
+HasRangeFault s w p = (list_any (λ (d : DeclaredName). d.size.faults w) (declarations_of s) ≡ true) × (p ≡ s.path)
 
--- a fault in one of these scopes
-abbrev pub HoldsIn : List Scope → Reason → Path → Type 0
-HoldsIn [] r p = ⊥
-HoldsIn (s ∷ ss) r p = Holds s r p ⊎ HoldsIn ss r p
+-- the condition of a fault in a scope where names are bound so, with its path: a name is declared twice, or a range, a process or a continuous
+-- assignment has the fault
+abbrev pub Holds : Environment → Scope → Reason → Path → Type 0
+Holds env s DeclaredTwice p = DeclaresTwice s p ⊎ HasFault env s DeclaredTwice p
+Holds env s (Width w) p = HasRangeFault s w p ⊎ HasFault env s (Width w) p
+Holds env s r p = HasFault env s r p
+
+-- a fault in one of these scopes, among all
+abbrev pub HoldsIn : List Scope → List Scope → Reason → Path → Type 0
+HoldsIn all [] r p = ⊥
+HoldsIn all (s ∷ ss) r p = Holds (environment_in all s) s r p ⊎ HoldsIn all ss r p
 
 -- the scopes of a source with a top
 abbrev pub scopes_of : List Module → List ℕ → List Scope
@@ -83,7 +91,7 @@ HoldsAbove ms top (Width w) p = ⊥
 
 -- the condition of a fault at a path, in a source with this top
 abbrev pub Stands : List Module → List ℕ → Reason → Path → Type 0
-Stands ms top r p = HoldsAbove ms top r p ⊎ HoldsIn (scopes_of ms top) r p
+Stands ms top r p = HoldsAbove ms top r p ⊎ HoldsIn (scopes_of ms top) (scopes_of ms top) r p
 
 -- a fault that stands at some path, and has that path as it is printed
 pub record StandsAt (ms : List Module) (top : List ℕ) (r : Reason) (bytes : List ℕ) : Type 0 where

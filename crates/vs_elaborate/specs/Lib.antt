@@ -1,9 +1,6 @@
 pub mod Printed
-pub mod Names
-pub mod Environment
-pub mod Literals
-pub mod Expressions
 pub mod Statements
+pub mod Ranges
 pub mod Scopes
 pub mod Processes
 pub mod Faults

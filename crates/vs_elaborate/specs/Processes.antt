@@ -11,7 +11,7 @@ use Rattle.vs_design.specs.declared.design.ProcessKind.{ProcessKind}
 use Rattle.vs_design.specs.declared.design.ProcessKind.TheVariants.{Initial, Always}
 use Rattle.vs_elaborate.specs.declared.assignments.AssignmentKind.TheVariants.{Procedural, Continuous}
 use Rattle.vs_elaborate.specs.declared.faults.Reason.{Reason}
-use Rattle.vs_elaborate.specs.Environment.{Environment}
+use Rattle.vs_widths.specs.Environment.{Environment}
 use Rattle.vs_elaborate.specs.Statements.{IsAssignment, IsStatement, assign_fault, has_fault, count_of, is_overfull}
 use Rattle.vs_elaborate.specs.Scopes.{Assignment, Behavior, sets, runs, repeats}
 
@@ -21,12 +21,11 @@ kind_of (sets a) = Initial
 kind_of (runs x) = Initial
 kind_of (repeats x) = Always
 
--- The body of a process, where N says which number a name has: a declaration assignment is a blocking assignment, and an `always` is a `forever`
--- (clauses 6.2.1 and 9.9).
-pub data IsBody (N : ℕ → List ℕ → Type 0) (env : Environment) : Behavior → Statement → Type 0 where
-  is_set : (a : Assignment) (k : ℕ) (t : Target) (x : Typed) → IsAssignment N env a.target a.value t x → IsBody N env (sets a) (d.Assign k t x)
-  is_run : (x : Stmt) (y : Statement) → IsStatement N env x y → IsBody N env (runs x) y
-  is_repeat : (x : Stmt) (k : ℕ) (y : Box Statement Global) → IsStatement N env x y.value → IsBody N env (repeats x) (d.Forever k y)
+-- The body of a process: a declaration assignment is a blocking assignment, and an `always` is a `forever` (clauses 6.2.1 and 9.9).
+pub data IsBody (env : Environment) : Behavior → Statement → Type 0 where
+  is_set : (a : Assignment) (k : ℕ) (t : Target) (x : Typed) → IsAssignment env a.target a.value t x → IsBody env (sets a) (d.Assign k t x)
+  is_run : (x : Stmt) (y : Statement) → IsStatement env x y → IsBody env (runs x) y
+  is_repeat : (x : Stmt) (k : ℕ) (y : Box Statement Global) → IsStatement env x y.value → IsBody env (repeats x) (d.Forever k y)
 
 -- how many statements a process has, blocks apart
 abbrev pub statements_of : Behavior → ℕ

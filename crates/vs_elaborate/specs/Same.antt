@@ -4,12 +4,7 @@ use Rattle.std.specs.List.{AllZip}
 use Rattle.std.specs.declared.vec.Vec.{Vec}
 use Rattle.std.specs.declared.boxed.Box.{Box}
 use Rattle.std.specs.declared.alloc.Global.{Global}
-use Rattle.vs_logic4.specs.declared.digit.Digit.{Digit}
-use Rattle.vs_logic4.specs.declared.operators.Unary.{Unary}
-use Rattle.vs_design.specs.declared.expression.Operand.{Operand}
-use Rattle.vs_design.specs.declared.expression.Link.{Link}
 use Rattle.vs_design.specs.declared.expression.Typed.{Typed}
-use Rattle.vs_design.specs.declared.expression.Typed.TheVariants as t
 use Rattle.vs_design.specs.declared.statement.Target.{Target}
 use Rattle.vs_design.specs.declared.statement.Ticks.{Ticks}
 use Rattle.vs_design.specs.declared.statement.Statement.{Statement}
@@ -19,23 +14,17 @@ use Rattle.vs_design.specs.declared.design.Process.{Process}
 use Rattle.vs_design.specs.declared.design.Entry.{Entry}
 use Rattle.vs_design.specs.declared.design.Entry.TheVariants.{Enter, Declare, Leave}
 use Rattle.vs_design.specs.Parts.{Parts}
-use Rattle.vs_design.specs.WellFormed.{numbers}
+use Rattle.vs_design.specs.Stores.{Store}
+use Rattle.vs_design.specs.Uses.{reads}
+use Rattle.vs_design.specs.WellFormed.{size_of, numbers}
+use Rattle.vs_eval.specs.Values.{value_of}
 use Rattle.vs_elaborate.specs.DesignOf.{declared}
 
-mutual
-  -- The expressions say the same: equal digits, and equal signals, operators, sizes and signs (clauses 5.4 and 5.5).
-  pub data SameTyped : Typed → Typed → Type 0 where
-    number_same : (v : List Digit) → SameTyped (t.Number v) (t.Number v)
-    signal_same : (o o' : Operand) → o.signal ≡ o'.signal → o.width ≡ o'.width → o.signed ≡ o'.signed → SameTyped (t.Signal o) (t.Signal o')
-    unary_same : (op : Unary) (x x' : Box Typed Global) → SameTyped x.value x'.value → SameTyped (t.Unary op x) (t.Unary op x')
-    chain_same : (x x' : Box Typed Global) (ls ls' : Vec (Link × Typed) Global) →
-        SameTyped x.value x'.value → SameOperands ls.items ls'.items → SameTyped (t.Chain x ls) (t.Chain x' ls')
-
-  -- The same of operands, each with the operator before it: as many, each of them in its place (clause 5.1.2).
-  pub data SameOperands : List (Link × Typed) → List (Link × Typed) → Type 0 where
-    operands_end : SameOperands [] []
-    operand_same : (l l' : Link × Typed) (ls ls' : List (Link × Typed)) → l.0.operator ≡ l'.0.operator → l.0.width ≡ l'.0.width →
-        l.0.signed ≡ l'.0.signed → SameTyped l.1 l'.1 → SameOperands ls ls' → SameOperands (l ∷ ls) (l' ∷ ls')
+-- The expressions say the same: one size, one value in every store, and the same ranges read (clauses 5.4 and 5.5).
+pub record SameTyped (x x' : Typed) : Type 0 where
+  pub size : size_of x ≡ size_of x'
+  pub value : (store : Store) (time : ℕ) → value_of x store time ≡ value_of x' store time
+  pub ranges : reads x ≡ reads x'
 
 -- The sides of two assignments say the same (clause 6).
 pub record SameSides (t t' : Target) (x x' : Typed) : Type 0 where

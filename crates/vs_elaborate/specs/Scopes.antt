@@ -1,6 +1,8 @@
 -- Scopes of a source, and what they declare.
-use Rattle.std.specs.Prelude.{◌≡◌, ℕ, zero, suc, Bool, false, List, [], ◌∷◌, ◌++◌, Option, Some, None, map, find, slice_get, option_map}
-use Rattle.std.specs.List.{flat_map}
+use Rattle.std.specs.Prelude.{◌≡◌, ℕ, zero, suc, Bool, true, false, List, [], ◌∷◌, ◌++◌, Option, Some, None, map, find, slice_get, option_map}
+use Rattle.std.proofs.Common.{lit<, lit≤}
+use Rattle.std.specs.List.{flat_map, position_or_len}
+use Rattle.std.specs.Cmp.Lexicographic.{pointwise}
 use Rattle.std.specs.Str.{bytes_eq}
 use Rattle.vs_logic4.specs.declared.digit.Digit.{Digit}
 use Rattle.vs_syntax.specs.declared.tree.Declarator.{Declarator}
@@ -8,17 +10,19 @@ use Rattle.vs_syntax.specs.declared.tree.NetAssignment.{NetAssignment}
 use Rattle.vs_syntax.specs.declared.tree.Expr.{Expr}
 use Rattle.vs_syntax.specs.declared.tree.Module.{Module}
 use Rattle.vs_syntax.specs.declared.tree.Item.{Item}
-use Rattle.vs_syntax.specs.declared.tree.Item.TheVariants.{Wire, Reg, Assign, Initial, Always}
+use Rattle.vs_syntax.specs.declared.tree.Item.TheVariants.{Wire, Reg, Integer, Assign, Initial, Always}
 use Rattle.vs_syntax.specs.declared.tree.Stmt.{Stmt}
 use Rattle.vs_design.specs.declared.signal.SignalKind.{SignalKind}
 use Rattle.vs_design.specs.declared.signal.SignalKind.TheVariants as k
 use Rattle.vs_design.specs.declared.design.ScopeKind.{ScopeKind}
 use Rattle.vs_design.specs.declared.design.ScopeKind.TheVariants as scopes
-use Rattle.vs_elaborate.specs.declared.bindings.Shape.{Shape}
-use Rattle.vs_elaborate.specs.declared.bindings.Meaning.{Meaning}
+use Rattle.vs_widths.specs.declared.bindings.Shape.{Shape}
+use Rattle.vs_widths.specs.declared.bindings.Meaning.{Meaning}
+use Rattle.vs_widths.specs.declared.bindings.Binding.{Binding}
+use Rattle.vs_widths.specs.Names.{meaning_of}
+use Rattle.vs_widths.specs.Environment.{Environment}
 use Rattle.vs_elaborate.specs.Printed.{Path}
-use Rattle.vs_elaborate.specs.Names.{meaning_of}
-use Rattle.vs_elaborate.specs.Environment.{Environment}
+use Rattle.vs_elaborate.specs.Ranges.{Sized, sized_as}
 
 -- a constant that a scope declares: its name, its digits with the lowest first, and its sign (clause 12.2)
 pub record Constant : Type 0 where
@@ -69,21 +73,24 @@ abbrev pub all_scopes : List Module → Option Module → List Scope
 all_scopes ms None = []
 all_scopes ms (Some m) = scopes_within levels ms (top_scope m)
 
--- a name that a scope declares, and as what (clause 4.2)
+-- a name that a scope declares, as what, and with which size and sign (clauses 4.2 and 4.3)
 pub record DeclaredName : Type 0 where
   pub kind : SignalKind
+  pub size : Sized
   pub name : List ℕ
 
-abbrev pub declared_as : SignalKind → List Declarator → List DeclaredName
-declared_as kind ds = map (λ (d : Declarator). record { kind = kind; name = d.name.items }) ds
+abbrev pub declared_as : SignalKind → Sized → List Declarator → List DeclaredName
+declared_as kind size ds = map (λ (d : Declarator). record { kind = kind; size = size; name = d.name.items }) ds
 
--- the names that an item declares (clauses 4.2.1 and 4.2.2)
-abbrev pub declared_in : Item → List DeclaredName
-declared_in (Wire ds) = declared_as k.Wire ds.items
-declared_in (Reg ds) = declared_as k.Reg ds.items
-declared_in (Assign xs) = []
-declared_in (Initial x) = []
-declared_in (Always x) = []
+-- the names that an item declares, with ranges in which names are bound so: a scalar has one bit, an `integer` 32 bits and a sign
+-- (clauses 4.2.1, 4.2.2, 4.3.1 and 4.8; 32: profile)
+abbrev pub declared_in : Environment → Item → List DeclaredName
+declared_in env (Wire f ds) = declared_as k.Wire (sized_as env f.signed 0 f.range) ds.items
+declared_in env (Reg f ds) = declared_as k.Reg (sized_as env f.signed 0 f.range) ds.items
+declared_in env (Integer ds) = declared_as k.Integer (sized_as env true 31 None) ds.items
+declared_in env (Assign xs) = []
+declared_in env (Initial x) = []
+declared_in env (Always x) = []
 
 -- an assignment of an expression to the signal of a name
 pub record Assignment : Type 0 where
@@ -103,8 +110,9 @@ net_assignment a = record { target = a.target.items; value = a.value }
 
 -- the continuous assignments of an item: those of an `assign`, and the declaration assignments of nets (clauses 6.1.1 and 6.1.2)
 abbrev pub drivers_in : Item → List Assignment
-drivers_in (Wire ds) = values_of ds.items
-drivers_in (Reg ds) = []
+drivers_in (Wire f ds) = values_of ds.items
+drivers_in (Reg f ds) = []
+drivers_in (Integer ds) = []
 drivers_in (Assign xs) = map net_assignment xs.items
 drivers_in (Initial x) = []
 drivers_in (Always x) = []
@@ -122,15 +130,31 @@ setting n (Some e) = sets (record { target = n; value = e }) ∷ []
 -- the processes of an item: declaration assignments of variables, which act as `initial`, and an `initial` or `always`
 -- (clauses 6.2.1, 9.9.1 and 9.9.2)
 abbrev pub behaviors_in : Item → List Behavior
-behaviors_in (Wire ds) = []
-behaviors_in (Reg ds) = flat_map (λ (d : Declarator). setting d.name.items d.value) ds.items
+behaviors_in (Wire f ds) = []
+behaviors_in (Reg f ds) = flat_map (λ (d : Declarator). setting d.name.items d.value) ds.items
+behaviors_in (Integer ds) = flat_map (λ (d : Declarator). setting d.name.items d.value) ds.items
 behaviors_in (Assign xs) = []
 behaviors_in (Initial x) = runs x ∷ []
 behaviors_in (Always x) = repeats x ∷ []
 
+-- the size and sign of a signal without a range (clause 4.3.1)
+abbrev pub scalar : Shape
+scalar = record { width = 1; signed = false; sized = (lit< tt, lit≤ tt) }
+
+-- what a declared name is bound to in a range: a signal, whose size and number don't matter there, since it is no constant (clause 4.3.1)
+abbrev pub unsized_as : DeclaredName → Binding
+unsized_as d = record { meaning = record { kind = d.kind; shape = scalar }; signal = 0 }
+
+abbrev pub unsized_names : List DeclaredName → List (List ℕ × Binding)
+unsized_names ds = map (λ (d : DeclaredName). (d.name, unsized_as d)) ds
+
+-- what names are bound to in the ranges of declarations (clause 12.7)
+abbrev pub unsized_in : List Item → Environment
+unsized_in items n = meaning_of (unsized_names (flat_map (declared_in (λ m. None)) items)) n
+
 -- the names that a scope declares, in text order
 abbrev pub declarations_of : Scope → List DeclaredName
-declarations_of s = flat_map declared_in s.items
+declarations_of s = flat_map (declared_in (unsized_in s.items)) s.items
 
 abbrev pub names_in : List DeclaredName → List (List ℕ)
 names_in ds = map (λ (d : DeclaredName). d.name) ds
@@ -146,13 +170,9 @@ drivers_of s = flat_map drivers_in s.items
 abbrev pub behaviors_of : Scope → List Behavior
 behaviors_of s = flat_map behaviors_in s.items
 
--- the size and sign of a signal without a range (clause 4.3.1)
-abbrev pub scalar : Shape
-scalar = record { width = 1; signed = false }
-
 -- what a declared name means
-abbrev pub meaning_as : SignalKind → Meaning
-meaning_as kind = record { kind = kind; shape = scalar }
+abbrev pub meaning_as : DeclaredName → Meaning
+meaning_as d = record { kind = d.kind; shape = d.size.shape }
 
 -- the path of a name of a scope (clause 12.4)
 abbrev pub named : Scope → List ℕ → Path
@@ -165,19 +185,11 @@ pub record Located : Type 0 where
 
 -- declared names of a scope, each with what it means
 abbrev pub located : Scope → List DeclaredName → List (List ℕ × Located)
-located s ds = map (λ (d : DeclaredName). (d.name, record { meaning = meaning_as d.kind; path = named s d.name })) ds
+located s ds = map (λ (d : DeclaredName). (d.name, record { meaning = meaning_as d; path = named s d.name })) ds
 
 -- what each name means in a scope, with the path of what it names: what the scope declares (clause 12.7)
 abbrev pub environment : Scope → List ℕ → Option Located
 environment s n = meaning_of (located s (declarations_of s)) n
-
--- the kinds, sizes and signs that names have in a scope
-abbrev pub kinds : Scope → Environment
-kinds s n = option_map (λ (l : Located). l.meaning) (environment s n)
-
--- the path that a name has in a scope, where it means something
-abbrev pub path_of : Scope → List ℕ → Option Path
-path_of s n = option_map (λ (l : Located). l.path) (environment s n)
 
 -- the paths of the signals of scopes, in design order
 abbrev pub signal_paths : List Scope → List Path
@@ -187,8 +199,14 @@ signal_paths ss = flat_map (λ s. map (named s) (names_of s)) ss
 abbrev pub IsNamed : List Scope → ℕ → Path → Type 0
 IsNamed ss i p = slice_get (signal_paths ss) i ≡ Some p
 
--- the signal of this number is the one that a name means in a scope
-pub record IsNamedIn (ss : List Scope) (s : Scope) (i : ℕ) (n : List ℕ) : Type 0 where
-  pub path : Path
-  pub meant : path_of s n ≡ Some path
-  pub stands : IsNamed ss i path
+-- the number of the signal of a path: its place in design order; past the end where there is none
+abbrev pub number_of : List Scope → Path → ℕ
+number_of ss p = position_or_len (pointwise bytes_eq p) (signal_paths ss)
+
+-- what a name is bound to that means this, among these scopes
+abbrev pub bound_to : List Scope → Located → Binding
+bound_to ss l = record { meaning = l.meaning; signal = number_of ss l.path }
+
+-- what the names of a scope among these are bound to: the kind, size and sign of each, and the number of its signal (clause 12.7)
+abbrev pub environment_in : List Scope → Scope → Environment
+environment_in ss s n = option_map (bound_to ss) (environment s n)

@@ -1,5 +1,5 @@
 -- Statements of a design.
-use Rattle.std.specs.Prelude.{◌≡◌, ℕ, ◌+◌, ◌^◌, Bool, false, ◌||◌, not, nat_le, List, [], ◌∷◌, Option, Some, None, is_none}
+use Rattle.std.specs.Prelude.{◌≡◌, ℕ, ◌+◌, ◌^◌, Bool, true, false, ◌||◌, not, max, nat_le, List, [], ◌∷◌, Option, Some, None, is_none}
 use Rattle.std.specs.List.{list_any}
 use Rattle.std.specs.declared.vec.Vec.{Vec}
 use Rattle.std.specs.declared.boxed.Box.{Box}
@@ -18,40 +18,60 @@ use Rattle.vs_design.specs.declared.statement.Target.{Target}
 use Rattle.vs_design.specs.declared.statement.Ticks.{Ticks}
 use Rattle.vs_design.specs.declared.statement.Statement.{Statement}
 use Rattle.vs_design.specs.declared.statement.Statement.TheVariants as d
-use Rattle.vs_elaborate.specs.declared.bindings.Meaning.{Meaning}
+use Rattle.vs_widths.specs.declared.bindings.Binding.{Binding}
+use Rattle.vs_widths.specs.declared.faults.WidthReason.{WidthReason}
+use Rattle.vs_widths.specs.declared.faults.WidthReason.TheVariants.{Unknown, NotConstant, WrongKind}
+use Rattle.vs_widths.specs.Environment.{Environment}
+use Rattle.vs_widths.specs.Findings.{Has, stands}
+use Rattle.vs_widths.specs.Expressions.{meant, natural_number}
+use Rattle.vs_widths.specs.Typing.{IsTyped}
 use Rattle.vs_elaborate.specs.declared.assignments.AssignmentKind.{AssignmentKind}
 use Rattle.vs_elaborate.specs.declared.assignments.AssignmentKind.TheVariants.{Procedural, Continuous}
 use Rattle.vs_elaborate.specs.declared.faults.Reason.{Reason}
 use Rattle.vs_elaborate.specs.declared.faults.Reason.TheVariants.{Limit, Width}
-use Rattle.vs_elaborate.specs.declared.faults.WidthReason.TheVariants.{Unknown, NotConstant, WrongKind}
-use Rattle.vs_elaborate.specs.Environment.{Environment, signal_shape}
-use Rattle.vs_elaborate.specs.Literals.{delay_of, is_too_long}
-use Rattle.vs_elaborate.specs.Expressions.{shape_of, is_unknown, width_of, sign_of, IsTyped, context}
 
--- The two sides of an assignment, where N says which number a name has: the right side is evaluated at the size of the larger side and at its own
+-- The right side of an assignment to a target of this size, as an expression of a design: at the larger of that size and its own, and at its own
 -- sign (clauses 5.4.1 and 5.5.1).
-pub record IsAssignment (N : ℕ → List ℕ → Type 0) (env : Environment) (n : List ℕ) (e : Expr) (t : Target) (x : Typed) : Type 0 where
-  pub signal : N t.signal n
-  pub width : t.width ≡ width_of (signal_shape env n)
-  pub source : IsTyped N (context env n e) (sign_of (shape_of env e)) e x
+pub record IsSource (env : Environment) (e : Expr) (target : ℕ) (x : Typed) : Type 0 where
+  pub width : ℕ
+  pub signed : Bool
+  pub has : (meant env e).finding ≡ Has width signed
+  pub typed : IsTyped env e (max target width) signed x
+
+-- The two sides of an assignment: the whole signal of a name, and the expression (clause 6).
+pub record IsAssignment (env : Environment) (n : List ℕ) (e : Expr) (t : Target) (x : Typed) : Type 0 where
+  pub binding : Binding
+  pub found : env n ≡ Some binding
+  pub signal : t.signal ≡ binding.signal
+  pub width : t.width ≡ binding.meaning.shape.width
+  pub source : IsSource env e binding.meaning.shape.width x
+
+-- the ticks of a delay, where its literal is a number from 0 on (clause 9.7.1; a negative one is refused: profile)
+abbrev pub delay_of : Literal → Option ℕ
+delay_of l = natural_number l.signed l.value
+
+-- whether a delay reaches 2^62 ticks (profile)
+abbrev pub is_too_long : Option ℕ → Bool
+is_too_long None = false
+is_too_long (Some n) = nat_le (2 ^ 62) n
 
 mutual
-  -- the statement of a design that one of a source is, whatever its number k, where N says which number a name has; a delay is its ticks (clause 9)
-  pub data IsStatement (N : ℕ → List ℕ → Type 0) (env : Environment) : Stmt → Statement → Type 0 where
-    is_null : (k : ℕ) → IsStatement N env s.Null (d.Null k)
-    is_assign : (n : Vec ℕ Global) (e : Expr) (k : ℕ) (t : Target) (x : Typed) → IsAssignment N env n.items e t x →
-        IsStatement N env (s.Assign n e) (d.Assign k t x)
-    is_later : (n : Vec ℕ Global) (e : Expr) (k : ℕ) (t : Target) (x : Typed) → IsAssignment N env n.items e t x →
-        IsStatement N env (s.Later n e) (d.Later k t x)
-    is_block : (xs : Vec Stmt Global) (ys : Vec Statement Global) → AreStatements N env xs.items ys.items → IsStatement N env (s.Block xs) (d.Block ys)
+  -- the statement of a design that one of a source is, whatever its number k; a delay is its ticks (clause 9)
+  pub data IsStatement (env : Environment) : Stmt → Statement → Type 0 where
+    is_null : (k : ℕ) → IsStatement env s.Null (d.Null k)
+    is_assign : (n : Vec ℕ Global) (e : Expr) (k : ℕ) (t : Target) (x : Typed) → IsAssignment env n.items e t x →
+        IsStatement env (s.Assign n e) (d.Assign k t x)
+    is_later : (n : Vec ℕ Global) (e : Expr) (k : ℕ) (t : Target) (x : Typed) → IsAssignment env n.items e t x →
+        IsStatement env (s.Later n e) (d.Later k t x)
+    is_block : (xs : Vec Stmt Global) (ys : Vec Statement Global) → AreStatements env xs.items ys.items → IsStatement env (s.Block xs) (d.Block ys)
     is_delay : (l : Literal) (k : ℕ) (n : Ticks) (x : Box Stmt Global) (y : Box Statement Global) → delay_of l ≡ Some n.count →
-        IsStatement N env x.value y.value → IsStatement N env (s.Delay l x) (d.Delay k n y)
+        IsStatement env x.value y.value → IsStatement env (s.Delay l x) (d.Delay k n y)
 
   -- the same of statements one after another
-  pub data AreStatements (N : ℕ → List ℕ → Type 0) (env : Environment) : List Stmt → List Statement → Type 0 where
-    are_none : AreStatements N env [] []
-    are_more : (x : Stmt) (y : Statement) (xs : List Stmt) (ys : List Statement) → IsStatement N env x y → AreStatements N env xs ys →
-        AreStatements N env (x ∷ xs) (y ∷ ys)
+  pub data AreStatements (env : Environment) : List Stmt → List Statement → Type 0 where
+    are_none : AreStatements env [] []
+    are_more : (x : Stmt) (y : Statement) (xs : List Stmt) (ys : List Statement) → IsStatement env x y → AreStatements env xs ys →
+        AreStatements env (x ∷ xs) (y ∷ ys)
 
 -- the sum of numbers
 abbrev pub total : List ℕ → ℕ
@@ -81,15 +101,15 @@ abbrev pub takes : AssignmentKind → SignalKind → Bool
 takes Procedural kind = is_variable kind
 takes Continuous kind = not (is_variable kind)
 
--- whether a target is a signal of the wrong kind
-abbrev pub is_wrong_kind : AssignmentKind → Option Meaning → Bool
-is_wrong_kind how None = false
-is_wrong_kind how (Some m) = not (takes how m.kind)
+-- a fault of a target: a name that is no signal (clause 12.7), or a signal of the wrong kind (clauses 6.1 and 9.2)
+abbrev pub target_fault : WidthReason → AssignmentKind → Option Binding → Bool
+target_fault Unknown how None = true
+target_fault WrongKind how (Some b) = not (takes how b.meaning.kind)
+target_fault _ how b = false
 
--- a fault of an assignment: a name that is no signal (clause 12.7), or a target of the wrong kind (clauses 6.1 and 9.2)
+-- a fault of an assignment: one of its target, or one of its expression (clause 6)
 abbrev pub assign_fault : Reason → AssignmentKind → Environment → List ℕ → Expr → Bool
-assign_fault (Width Unknown) how env n e = is_none (env n) || is_unknown env e
-assign_fault (Width WrongKind) how env n e = is_wrong_kind how (env n)
+assign_fault (Width w) how env n e = target_fault w how (env n) || stands w (meant env e).finding
 assign_fault _ how env n e = false
 
 -- a fault of a delay: it is no number from 0 on, or it has 2^62 ticks or more (clause 9.7.1; profile)

@@ -3,7 +3,7 @@ use Rattle.std.specs.Prelude.{ℕ, ◌+◌, ◌/◌, ◌%◌, ◌==◌, ◌||◌
 use Rattle.std.specs.List.{flat_map}
 use Rattle.vs_elaborate.specs.declared.faults.Reason.{Reason}
 use Rattle.vs_elaborate.specs.declared.faults.Reason.TheVariants.{NoModule, DeclaredTwice, DrivenTwice, Limit, Width}
-use Rattle.vs_elaborate.specs.declared.faults.WidthReason.TheVariants.{Unknown, NotConstant, WrongKind}
+use Rattle.vs_widths.specs.declared.faults.WidthReason.TheVariants.{TooWide, Unknown, NotConstant, WrongKind}
 use Rattle.vs_elaborate.specs.declared.faults.ElabFault.{ElabFault}
 use Rattle.vs_elaborate.specs.declared.faults.ElabFault.TheVariants.{Memory, At}
 
@@ -13,6 +13,7 @@ reason_text NoModule = codes "E1"
 reason_text DeclaredTwice = codes "E5"
 reason_text DrivenTwice = codes "E6"
 reason_text Limit = codes "E7"
+reason_text (Width TooWide) = codes "E8 X1"
 reason_text (Width Unknown) = codes "E8 X2"
 reason_text (Width NotConstant) = codes "E8 X3"
 reason_text (Width WrongKind) = codes "E8 X4"

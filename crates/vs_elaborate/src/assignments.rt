@@ -1,16 +1,15 @@
 //! Assignments with their targets as numbers of signals.
-ghost use Rattle.std.specs.Prelude.{◌≡◌};
+ghost use Rattle.std.specs.Prelude.{◌≡◌, Some};
+ghost use Rattle.vs_widths.specs.Names.{meaning_of};
 ghost use Rattle.vs_elaborate.specs.Statements.{takes, assign_fault, IsAssignment};
 ghost use Rattle.vs_elaborate.specs.passes.Answers.{Elaborates};
-ghost use Rattle.vs_elaborate.specs.passes.Bodies.{meanings, IsNumber, target_fault, IsTarget};
+ghost use Rattle.vs_elaborate.specs.passes.Bodies.{target_faults};
 
-use crate::bindings::{Binding, Shape};
-use crate::expressions::{UNKNOWN, shape_of_expression, typed};
-use crate::faults::{BodyFault, Reason, WidthReason};
-use crate::names::Names;
+use crate::faults::{BodyFault, Reason};
 use std::alloc::Global;
 use vs_design::{SignalKind, Target, Typed};
 use vs_syntax::Expr;
+use vs_widths::{Binding, Names, Shape, WidthReason, shape_of, typed};
 
 /// Whether an assignment is a statement or drives a net (IEEE 1364-2005, clause 6).
 #[derive(Clone, Copy, PartialEq, Eq, Debug)]
@@ -39,11 +38,11 @@ fn target_of(
     how: AssignmentKind,
     target: &[u8],
 ) -> Result<Binding, BodyFault>
-    ensures { Elaborates (target_fault how (meanings names.now) target.now)
-        (IsTarget names.now target.now) result }
+    ensures { Elaborates (target_faults how (meaning_of names.now target.now))
+        (λ b. meaning_of names.now target.now ≡ Some b) result }
 {
     let Some(binding) = names.find(target) else {
-        return Err(UNKNOWN);
+        return Err(BodyFault::Refused(Reason::Width(WidthReason::Unknown)));
     };
     if !takes_kind(how, binding.meaning.kind) {
         return Err(BodyFault::Refused(Reason::Width(WidthReason::WrongKind)));
@@ -59,22 +58,21 @@ pub fn assignment(
     target: &[u8],
     e: &Expr,
 ) -> Result<(Target, Typed), BodyFault>
-    ensures { Elaborates (λ r. assign_fault r how (meanings names.now) target.now e.now)
-        (λ p. IsAssignment (IsNumber names.now) (meanings names.now)
-        target.now e.now p.0 p.1) result }
+    ensures { let env = meaning_of names.now in
+        Elaborates (λ r. assign_fault r how env target.now e.now)
+        (λ p. IsAssignment env target.now e.now p.0 p.1) result }
 {
     let left = target_of(names, how, target)?;
-    let Some(right) = shape_of_expression(names, e) else {
-        return Err(UNKNOWN);
-    };
+    let width = left.meaning.shape.width;
+    let right = shape_of(alloc, names, e)?;
     let context = Shape {
-        width: left.meaning.shape.width.max(right.width),
+        width: width.max(right.width),
         signed: right.signed,
     };
     let source = typed(alloc, names, context, e)?;
     let target = Target {
         signal: left.signal,
-        width: left.meaning.shape.width,
+        width,
     };
     Ok((target, source))
 }

@@ -1,34 +1,37 @@
 //! What a scope declares, as signals of a design.
 ghost use Rattle.std.specs.Prelude.{◌≡◌, ◌<◌, ◌∷◌, [], length, IfOk};
 ghost use Rattle.std.specs.List.{flat_map};
+ghost use Rattle.vs_widths.specs.Names.{meaning_of};
+ghost use Rattle.vs_elaborate.specs.Ranges.{Sized};
 ghost use Rattle.vs_elaborate.specs.Scopes.{declared_as, declared_in};
 ghost use Rattle.vs_elaborate.specs.DesignOf.{declared, signal_of};
-ghost use Rattle.vs_elaborate.specs.passes.Answers.{Grows};
+ghost use Rattle.vs_elaborate.specs.passes.Answers.{Elaborates, Grows};
 ghost use Rattle.vs_elaborate.specs.passes.Plans.{scope_of, Declares, DeclaresNot};
+ghost use Rattle.vs_elaborate.specs.passes.Sizes.{width_faults, IsSize};
 
-use crate::bindings::{Binding, Meaning, Shape};
-use crate::faults::{ElabFault, Reason};
-use crate::names::Names;
-use crate::plans::{Frame, Plan, member_fault, scope_fault};
+use crate::faults::{BodyFault, ElabFault, Reason};
+use crate::plans::{Frame, Plan, member_fault, part_fault, scope_fault};
 use crate::printed::{print_member, print_name};
+use crate::sizes::{INTEGER, Size, declared_size};
 use std::alloc::{AllocError, Global};
 use vs_design::{Entry, Signal, SignalKind};
 use vs_syntax::{Declarator, Item};
+use vs_widths::{Binding, Meaning, Names};
 
 /// A design has at most this many signals.
 const SIGNAL_LIMIT: usize = 65536;
 
-/// The size and sign of a signal without a range.
-const SCALAR: Shape = Shape {
-    width: 1,
-    signed: false,
-};
-
-/// The signal of a name without a range.
-fn signal(alloc: Global, frame: &Frame, kind: SignalKind, name: &[u8]) -> Result<Signal, AllocError>
+/// The signal of a name.
+fn signal(
+    alloc: Global,
+    frame: &Frame,
+    kind: SignalKind,
+    size: Size,
+    name: &[u8],
+) -> Result<Signal, AllocError>
     requires { 0 < length frame.now.path.items }
-    ensures { IfOk result (λ s. declared s ≡
-        signal_of (scope_of frame.now) (record { kind = kind; name = name.now })) }
+    ensures { (z : Sized) → IsSize z size → IfOk result (λ s. declared s ≡
+        signal_of (scope_of frame.now) (record { kind = kind; size = z; name = name.now })) }
 {
     let printed = print_name(alloc, name)?;
     let path = print_member(alloc, &frame.path, name)?;
@@ -36,9 +39,9 @@ fn signal(alloc: Global, frame: &Frame, kind: SignalKind, name: &[u8]) -> Result
         name: printed,
         path,
         kind,
-        width: SCALAR.width,
-        signed: SCALAR.signed,
-        range: None,
+        width: size.shape.width,
+        signed: size.shape.signed,
+        range: size.bounds,
         words: None,
     })
 }
@@ -48,22 +51,29 @@ fn declare_name<'s>(
     alloc: Global,
     frame: &Frame,
     kind: SignalKind,
+    size: &Result<Size, BodyFault>,
     name: &'s [u8],
     names: &mut Names<'s, Binding>,
     plan: &mut Plan,
 ) -> Result<(), ElabFault>
     requires { 0 < length frame.now.path.items }
-    ensures { Grows (Declares (scope_of frame.now) names.old plan.old)
+    ensures { (z : Sized) → Elaborates (width_faults z.faults) (IsSize z) size.now →
+        Grows (Declares (scope_of frame.now) names.old plan.old)
         (Declares (scope_of frame.now) names.new plan.new)
         (DeclaresNot (scope_of frame.now))
-        (record { kind = kind; name = name.entry.now } ∷ []) result }
+        (record { kind = kind; size = z; name = name.entry.now } ∷ []) result }
 {
+    let size = match size {
+        Ok(size) => *size,
+        Err(fault) => return Err(part_fault(alloc, frame, *fault)),
+    };
     let number = plan.signals.len();
+    let meaning = Meaning {
+        kind,
+        shape: size.shape,
+    };
     let binding = Binding {
-        meaning: Meaning {
-            kind,
-            shape: SCALAR,
-        },
+        meaning,
         signal: number,
     };
     if !names.declare(name, binding)? {
@@ -72,7 +82,7 @@ fn declare_name<'s>(
     if number >= SIGNAL_LIMIT {
         return Err(scope_fault(alloc, frame, Reason::Limit));
     }
-    let signal = signal(alloc, frame, kind, name)?;
+    let signal = signal(alloc, frame, kind, size, name)?;
     plan.signals.push(signal)?;
     plan.outline.push(Entry::Declare(number))?;
     Ok(())
@@ -83,25 +93,28 @@ fn declare_names<'s>(
     alloc: Global,
     frame: &Frame,
     kind: SignalKind,
+    size: &Result<Size, BodyFault>,
     declarators: &'s [Declarator],
     names: &mut Names<'s, Binding>,
     plan: &mut Plan,
 ) -> Result<(), ElabFault>
     requires { 0 < length frame.now.path.items }
-    ensures { Grows (Declares (scope_of frame.now) names.old plan.old)
+    ensures { (z : Sized) → Elaborates (width_faults z.faults) (IsSize z) size.now →
+        Grows (Declares (scope_of frame.now) names.old plan.old)
         (Declares (scope_of frame.now) names.new plan.new)
-        (DeclaresNot (scope_of frame.now)) (declared_as kind declarators.entry.now) result }
+        (DeclaresNot (scope_of frame.now)) (declared_as kind z declarators.entry.now) result }
 {
     for declarator in declarators {
-        declare_name(alloc, frame, kind, &declarator.name, names, plan)?;
+        declare_name(alloc, frame, kind, size, &declarator.name, names, plan)?;
     }
     Ok(())
 }
 
-/// Gives the names of an item their signals.
+/// Gives the names of an item their signals. In its range names are bound as before sizes are known.
 fn declare_item<'s>(
     alloc: Global,
     frame: &Frame,
+    before: &Names<Binding>,
     item: &'s Item,
     names: &mut Names<'s, Binding>,
     plan: &mut Plan,
@@ -109,21 +122,33 @@ fn declare_item<'s>(
     requires { 0 < length frame.now.path.items }
     ensures { Grows (Declares (scope_of frame.now) names.old plan.old)
         (Declares (scope_of frame.now) names.new plan.new)
-        (DeclaresNot (scope_of frame.now)) (declared_in item.entry.now) result }
+        (DeclaresNot (scope_of frame.now))
+        (declared_in (meaning_of before.now) item.entry.now) result }
 {
     match item {
-        Item::Wire(list) => declare_names(alloc, frame, SignalKind::Wire, list, names, plan),
-        Item::Reg(list) => declare_names(alloc, frame, SignalKind::Reg, list, names, plan),
+        Item::Wire(form, list) => {
+            let size = declared_size(alloc, before, form);
+            declare_names(alloc, frame, SignalKind::Wire, &size, list, names, plan)
+        }
+        Item::Reg(form, list) => {
+            let size = declared_size(alloc, before, form);
+            declare_names(alloc, frame, SignalKind::Reg, &size, list, names, plan)
+        }
+        Item::Integer(list) => {
+            let size = Ok(INTEGER);
+            declare_names(alloc, frame, SignalKind::Integer, &size, list, names, plan)
+        }
         Item::Assign(_) => Ok(()),
         Item::Initial(_) => Ok(()),
         Item::Always(_) => Ok(()),
     }
 }
 
-/// Gives the names of items their signals.
+/// Gives the names of items their signals. In their ranges names are bound as before sizes are known.
 pub fn declare<'s>(
     alloc: Global,
     frame: &Frame,
+    before: &Names<Binding>,
     items: &'s [Item],
     names: &mut Names<'s, Binding>,
     plan: &mut Plan,
@@ -131,10 +156,11 @@ pub fn declare<'s>(
     requires { 0 < length frame.now.path.items }
     ensures { Grows (Declares (scope_of frame.now) names.old plan.old)
         (Declares (scope_of frame.now) names.new plan.new)
-        (DeclaresNot (scope_of frame.now)) (flat_map declared_in items.entry.now) result }
+        (DeclaresNot (scope_of frame.now))
+        (flat_map (declared_in (meaning_of before.now)) items.entry.now) result }
 {
     for item in items {
-        declare_item(alloc, frame, item, names, plan)?;
+        declare_item(alloc, frame, before, item, names, plan)?;
     }
     Ok(())
 }

@@ -6,14 +6,13 @@ ghost use Rattle.vs_elaborate.specs.passes.Answers.{Grows};
 ghost use Rattle.vs_elaborate.specs.passes.Plans.{scope_of, Drives, DrivesNot};
 
 use crate::assignments::{AssignmentKind, assignment};
-use crate::bindings::Binding;
 use crate::faults::ElabFault;
-use crate::names::Names;
 use crate::plans::{Frame, Plan, part_fault};
 use crate::printed::print_part;
 use std::alloc::Global;
 use vs_design::Assign;
 use vs_syntax::{Declarator, Expr, Item, NetAssignment};
+use vs_widths::{Binding, Names};
 
 /// The kind of an assignment that drives a net.
 const CONTINUOUS: AssignmentKind = AssignmentKind::Continuous;
@@ -102,8 +101,9 @@ fn drive_item(
         (DrivesNot (scope_of frame.now) names.now) (drivers_in item.now) result }
 {
     match item {
-        Item::Wire(list) => drive_declared(alloc, frame, names, first, list, plan),
-        Item::Reg(_) => Ok(()),
+        Item::Wire(_, list) => drive_declared(alloc, frame, names, first, list, plan),
+        Item::Reg(_, _) => Ok(()),
+        Item::Integer(_) => Ok(()),
         Item::Assign(list) => drive_assigned(alloc, frame, names, first, list, plan),
         Item::Initial(_) => Ok(()),
         Item::Always(_) => Ok(()),

@@ -2,23 +2,11 @@
 ghost use Rattle.std.specs.Prelude.{◌≡◌};
 ghost use Rattle.vs_elaborate.specs.declared.faults.ElabFault.TheVariants as elaboration;
 ghost use Rattle.vs_elaborate.specs.declared.faults.BodyFault.TheVariants as body;
+ghost use Rattle.vs_elaborate.specs.passes.Answers.{body_fault};
 
 use std::alloc::{AllocError, AllocFailed};
 use thiserror::Error;
-
-/// Why an expression, an assignment or a delay has no meaning.
-#[derive(Clone, Copy, PartialEq, Eq, Debug, Error)]
-pub enum WidthReason {
-    /// A name that is no signal. There are no implicit nets (IEEE 1364-2005, clause 4.5): each net has a declaration.
-    #[error("X2")]
-    Unknown,
-    /// No constant where one is wanted, or one out of its range: a delay that is negative or has an x or z digit.
-    #[error("X3")]
-    NotConstant,
-    /// A net that a procedural assignment assigns to, or a variable that a continuous one does.
-    #[error("X4")]
-    WrongKind,
-}
+use vs_widths::{WidthFault, WidthReason};
 
 /// Why there is no design, as it is printed.
 #[derive(Clone, Copy, PartialEq, Eq, Debug, Error)]
@@ -89,5 +77,16 @@ impl<T: Drop> From<AllocFailed<T>> for BodyFault {
 
     fn from(_e: AllocFailed<T>) -> BodyFault {
         BodyFault::Memory
+    }
+}
+
+impl From<WidthFault> for BodyFault {
+    ghost from_gives = { λ fault e. e ≡ body_fault fault };
+
+    fn from(fault: WidthFault) -> BodyFault {
+        match fault {
+            WidthFault::Memory => BodyFault::Memory,
+            WidthFault::Refused(reason) => BodyFault::Refused(Reason::Width(reason)),
+        }
     }
 }

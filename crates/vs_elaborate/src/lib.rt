@@ -2,22 +2,20 @@
 #![tactic(auto)]
 
 mod assignments;
-mod bindings;
 mod declarations;
 mod drivers;
-mod expressions;
+mod early;
 mod faults;
 mod laws;
-mod literals;
-mod names;
 mod plans;
 mod printed;
 mod processes;
+mod sizes;
 mod source;
 mod statements;
 mod texts;
 
-pub use faults::{ElabFault, Reason, WidthReason};
+pub use faults::{ElabFault, Reason};
 pub use laws::{names_of_one_line, one_design};
 pub use source::elaborate;
 pub use texts::fault_text;

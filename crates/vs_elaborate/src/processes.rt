@@ -1,22 +1,22 @@
 //! The processes of a scope, as parts of a design.
 ghost use Rattle.std.specs.Prelude.{◌≡◌, ◌∷◌, []};
 ghost use Rattle.std.specs.List.{flat_map};
+ghost use Rattle.vs_widths.specs.Names.{meaning_of};
 ghost use Rattle.vs_elaborate.specs.Scopes.{Behavior, sets, runs, repeats, setting, behaviors_in};
 ghost use Rattle.vs_elaborate.specs.Processes.{kind_of, behavior_fault};
 ghost use Rattle.vs_elaborate.specs.passes.Answers.{Elaborates, Grows};
-ghost use Rattle.vs_elaborate.specs.passes.Bodies.{Bindings, meanings, MeansBody};
+ghost use Rattle.vs_elaborate.specs.passes.Bodies.{Bindings, MeansBody};
 ghost use Rattle.vs_elaborate.specs.passes.Plans.{scope_of, Runs, RunsNot};
 
 use crate::assignments::assignment;
-use crate::bindings::Binding;
 use crate::faults::{BodyFault, ElabFault};
-use crate::names::Names;
 use crate::plans::{Frame, Plan, part_fault};
 use crate::printed::print_part;
 use crate::statements::{PROCEDURAL, statement, take_number};
 use std::alloc::Global;
 use vs_design::{Process, ProcessKind, Statement};
 use vs_syntax::{Declarator, Expr, Item, Stmt};
+use vs_widths::{Binding, Names};
 
 /// The body of a process that sets a variable to the value in its declaration.
 fn set_body(
@@ -26,7 +26,7 @@ fn set_body(
     value: &Expr,
 ) -> Result<Statement, BodyFault>
     ensures { let b = sets (record { target = target.now; value = value.now }) in
-        Elaborates (λ r. behavior_fault r (meanings names.now) b) (MeansBody names.now b) result }
+        Elaborates (λ r. behavior_fault r (meaning_of names.now) b) (MeansBody names.now b) result }
 {
     let (target, source) = assignment(alloc, names, PROCEDURAL, target, value)?;
     Ok(Statement::Assign(0, target, source))
@@ -34,7 +34,7 @@ fn set_body(
 
 /// The body of a process that runs a statement once.
 fn run_body(alloc: Global, names: &Names<Binding>, s: &Stmt) -> Result<Statement, BodyFault>
-    ensures { Elaborates (λ r. behavior_fault r (meanings names.now) (runs s.now))
+    ensures { Elaborates (λ r. behavior_fault r (meaning_of names.now) (runs s.now))
         (MeansBody names.now (runs s.now)) result }
 {
     let mut next = 0;
@@ -43,7 +43,7 @@ fn run_body(alloc: Global, names: &Names<Binding>, s: &Stmt) -> Result<Statement
 
 /// The body of a process that runs a statement for ever.
 fn repeat_body(alloc: Global, names: &Names<Binding>, s: &Stmt) -> Result<Statement, BodyFault>
-    ensures { Elaborates (λ r. behavior_fault r (meanings names.now) (repeats s.now))
+    ensures { Elaborates (λ r. behavior_fault r (meaning_of names.now) (repeats s.now))
         (MeansBody names.now (repeats s.now)) result }
 {
     let mut next = 0;
@@ -62,7 +62,7 @@ fn run(
     plan: &mut Plan,
 ) -> Result<(), ElabFault>
     ensures { (names : Bindings) (b : Behavior) → kind ≡ kind_of b →
-        Elaborates (λ r. behavior_fault r (meanings names) b) (MeansBody names b) body →
+        Elaborates (λ r. behavior_fault r (meaning_of names) b) (MeansBody names b) body →
         Grows (Runs (scope_of frame.now) names first plan.old)
         (Runs (scope_of frame.now) names first plan.new)
         (RunsNot (scope_of frame.now) names) (b ∷ []) result }
@@ -135,8 +135,9 @@ fn run_item(
         (RunsNot (scope_of frame.now) names.now) (behaviors_in item.now) result }
 {
     match item {
-        Item::Wire(_) => Ok(()),
-        Item::Reg(list) => run_declared(alloc, frame, names, first, list, plan),
+        Item::Wire(_, _) => Ok(()),
+        Item::Reg(_, list) => run_declared(alloc, frame, names, first, list, plan),
+        Item::Integer(list) => run_declared(alloc, frame, names, first, list, plan),
         Item::Assign(_) => Ok(()),
         Item::Initial(s) => {
             let body = run_body(alloc, names, s);

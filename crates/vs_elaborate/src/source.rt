@@ -9,14 +9,15 @@ ghost use Rattle.vs_elaborate.specs.passes.Plans.{scope_of, Opens, OpensNot, Lis
 
 use crate::declarations::declare;
 use crate::drivers::drive_items;
+use crate::early::early_names;
 use crate::faults::{ElabFault, Reason};
-use crate::names::Names;
 use crate::plans::{Frame, Plan};
 use crate::printed::print_name;
 use crate::processes::run_items;
 use std::alloc::Global;
 use vs_design::{DEFAULT_TIMESCALE, Design, Entry, ScopeKind};
 use vs_syntax::{Module, Source};
+use vs_widths::Names;
 
 /// A fault at a module's name.
 fn module_fault(alloc: Global, name: &[u8], reason: Reason) -> ElabFault
@@ -69,8 +70,9 @@ fn open(alloc: Global, frame: &Frame, plan: &mut Plan) -> Result<(), ElabFault>
 {
     let title = print_name(alloc, frame.name)?;
     plan.outline.push(Entry::Enter(frame.kind, title))?;
+    let before = early_names(alloc, frame.items)?;
     let mut names = Names::new(alloc);
-    declare(alloc, frame, frame.items, &mut names, plan)?;
+    declare(alloc, frame, &before, frame.items, &mut names, plan)?;
     let first = plan.assigns.len();
     drive_items(alloc, frame, &names, first, frame.items, plan)?;
     let first = plan.processes.len();

@@ -1,19 +1,17 @@
 //! Statements with names as numbers of signals, delays as ticks, and numbers of their own.
 ghost use Rattle.std.specs.Prelude.{◌≡◌, ◌+◌, Some};
-ghost use Rattle.vs_elaborate.specs.Literals.{delay_of};
-ghost use Rattle.vs_elaborate.specs.Statements.{delay_fault};
+ghost use Rattle.vs_widths.specs.Names.{meaning_of};
+ghost use Rattle.vs_elaborate.specs.Statements.{delay_of, delay_fault};
 ghost use Rattle.vs_elaborate.specs.passes.Answers.{Elaborates};
-ghost use Rattle.vs_elaborate.specs.passes.Bodies.{MeansStatement, MeansStatements, statement_fault, statements_fault, overfull_fault, meanings};
+ghost use Rattle.vs_elaborate.specs.passes.Bodies.{MeansStatement, MeansStatements, statement_fault, statements_fault, overfull_fault};
 
 use crate::assignments::{AssignmentKind, assignment};
-use crate::bindings::Binding;
-use crate::faults::{BodyFault, Reason, WidthReason};
-use crate::literals::delay_ticks;
-use crate::names::Names;
+use crate::faults::{BodyFault, Reason};
 use std::alloc::Global;
 use vs_design::{Statement, Ticks};
 use vs_lexer::Literal;
 use vs_syntax::Stmt;
+use vs_widths::{Binding, Const, Names, WidthReason};
 
 /// Delays reach fewer ticks than this.
 const DELAY_LIMIT: u64 = 1 << 62;
@@ -26,7 +24,11 @@ fn delay(literal: Literal) -> Result<Ticks, BodyFault>
     ensures { Elaborates (λ r. delay_fault r literal)
         (λ n. delay_of literal ≡ Some n.count) result }
 {
-    let Some(ticks) = delay_ticks(literal) else {
+    let number = Const {
+        value: literal.value,
+        signed: literal.signed,
+    };
+    let Some(ticks) = number.natural() else {
         return Err(BodyFault::Refused(Reason::Width(WidthReason::NotConstant)));
     };
     if ticks >= DELAY_LIMIT {
@@ -58,7 +60,7 @@ pub fn statement(
     next: &mut u32,
     s: &Stmt,
 ) -> Result<Statement, BodyFault>
-    ensures { Elaborates (statement_fault (meanings names.now) next.old s.now)
+    ensures { Elaborates (statement_fault (meaning_of names.now) next.old s.now)
         (λ d. MeansStatement names.now next.old s.now d next.new) result }
 {
     match s {
@@ -97,7 +99,7 @@ fn statements(
     next: &mut u32,
     all: &[Stmt],
 ) -> Result<Vec<Statement>, BodyFault>
-    ensures { Elaborates (statements_fault (meanings names.now) next.old all.now)
+    ensures { Elaborates (statements_fault (meaning_of names.now) next.old all.now)
         (λ d. MeansStatements names.now next.old all.now d.items next.new) result }
 {
     let mut done = Vec::new(alloc);

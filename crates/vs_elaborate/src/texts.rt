@@ -3,8 +3,9 @@ ghost use Rattle.std.specs.Prelude.{◌≡◌, ◌++◌, ◌<◌, IfOk, OnOk};
 ghost use Rattle.std.specs.List.{flat_map};
 ghost use Rattle.vs_elaborate.specs.Texts.{reason_text, is_control, hexadecimal, shown_byte, fault_text};
 
-use crate::faults::{ElabFault, Reason, WidthReason};
+use crate::faults::{ElabFault, Reason};
 use std::alloc::{AllocError, Global};
+use vs_widths::WidthReason;
 
 /// The number of a fault.
 fn reason_text(reason: Reason) -> &'static [u8]
@@ -15,6 +16,7 @@ fn reason_text(reason: Reason) -> &'static [u8]
         Reason::DeclaredTwice => b"E5",
         Reason::DrivenTwice => b"E6",
         Reason::Limit => b"E7",
+        Reason::Width(WidthReason::TooWide) => b"E8 X1",
         Reason::Width(WidthReason::Unknown) => b"E8 X2",
         Reason::Width(WidthReason::NotConstant) => b"E8 X3",
         Reason::Width(WidthReason::WrongKind) => b"E8 X4",

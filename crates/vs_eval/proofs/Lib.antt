@@ -1,1 +1,2 @@
 pub mod ReadsHold
+pub mod SizesHold

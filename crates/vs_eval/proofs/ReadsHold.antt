@@ -1,18 +1,19 @@
 -- A value depends on what its expression reads alone.
-use Rattle.std.proofs.Common.{◌≡◌, ℕ, ◌||◌, ◌&&◌, not, Bool, true, false, Option, Some, None, List, [], ◌∷◌, ◌++◌, map, slice_get, refl, sym, ◌∙◌, ap, ap₂, subst}
+use Rattle.std.proofs.Common.{◌≡◌, ℕ, ◌||◌, ◌&&◌, not, Bool, true, false, Option, Some, None, List, [], ◌∷◌, ◌++◌, map, take, slice_get, refl, sym, ◌∙◌, ap, ap₂, subst}
 use Rattle.std.specs.List.{list_any}
 use Rattle.std.proofs.lemmas.List.Folds.{list_any-append}
 use Rattle.vs_logic4.specs.declared.digit.Digit.{Digit}
 use Rattle.vs_logic4.specs.Operators.{unary}
 use Rattle.vs_logic4.specs.Sameness.{same_digits-true}
-use Rattle.vs_logic4.specs.Vectors.{same_digits}
+use Rattle.vs_logic4.specs.Parts.{replication}
+use Rattle.vs_logic4.specs.Vectors.{same_digits, resized}
 use Rattle.vs_design.specs.declared.expression.Link.{Link}
 use Rattle.vs_design.specs.declared.expression.Typed.{Typed, Typed-F, fold-roll-Typed, map-Typed, ind-Typed, roll-Typed}
 use Rattle.vs_design.specs.declared.expression.Typed.TheOpen as t
 use Rattle.vs_design.specs.declared.range.BitRange.{BitRange}
 use Rattle.vs_design.specs.Stores.{Store, word_of, word_in, words_in, one_word, chosen_bits, same_words, is_changed}
 use Rattle.vs_design.specs.Uses.{reads, reads_step, joined, whole}
-use Rattle.vs_eval.specs.Values.{value_of, value_step, operand_value, chained}
+use Rattle.vs_eval.specs.Values.{value_of, value_step, operand_value, chained, chosen, concatenated}
 
 not_false : (b : Bool) → not b ≡ false → b ≡ true
 not_false true h = refl
@@ -47,6 +48,10 @@ word_kept old new signal h =
     ∙ same_one (slice_get (words_in (slice_get old signal)) 0) (slice_get (words_in (slice_get new signal)) 0) (not_false _ (or_false_left (is_changed old new (whole signal)) false h))
     ∙ sym (word_in-words (slice_get new signal) 0)
 
+map_map : {A B C : Type 0} (f : B → C) (g : A → B) (xs : List A) → map f (map g xs) ≡ map (λ x. f (g x)) xs
+map_map f g [] = refl
+map_map f g (x ∷ xs) = ap (λ ys. f (g x) ∷ ys) (map_map f g xs)
+
 module _ (old new : Store) (time : ℕ) where
   -- an expression with one value in both stores, where they agree on what it reads
   abbrev pub Same : Typed → Type 0
@@ -58,25 +63,66 @@ module _ (old new : Store) (time : ℕ) where
   rest_kept : (front back : List BitRange) → list_any (is_changed old new) (front ++ back) ≡ false → list_any (is_changed old new) back ≡ false
   rest_kept front back h = or_false_right (list_any (is_changed old new) front) (list_any (is_changed old new) back) (sym (list_any-append (is_changed old new) front back) ∙ h)
 
-  abbrev bare : Link × ((e : Typed) × Same e) → Link × Typed
-  bare l = (l.0, l.1.0)
+  abbrev bare : (e : Typed) × Same e → Typed
+  bare e = e.0
 
-  abbrev read_of : Link × Typed → Link × List BitRange
-  read_of l = (l.0, reads l.1)
+  abbrev bare_link : Link × ((e : Typed) × Same e) → Link × Typed
+  bare_link l = (l.0, l.1.0)
 
-  abbrev value_at : Store → Link × Typed → Link × List Digit
-  value_at store l = (l.0, value_of l.1 store time)
+  abbrev bare_pair : ((e : Typed) × Same e) × ((e : Typed) × Same e) → Typed × Typed
+  bare_pair p = (p.0.0, p.1.0)
 
-  abbrev read_by : List (Link × ((e : Typed) × Same e)) → List BitRange
-  read_by links = joined (map (λ (l : Link × List BitRange). l.1) (map read_of (map bare links)))
+  abbrev read_of_link : Link × Typed → Link × List BitRange
+  read_of_link l = (l.0, reads l.1)
+
+  abbrev read_of_pair : Typed × Typed → List BitRange × List BitRange
+  read_of_pair p = (reads p.0, reads p.1)
+
+  abbrev value_at : Store → Typed → List Digit
+  value_at store e = value_of e store time
+
+  abbrev link_at : Store → Link × Typed → Link × List Digit
+  link_at store l = (l.0, value_of l.1 store time)
+
+  abbrev pair_at : Store → Typed × Typed → List Digit × List Digit
+  pair_at store p = (value_of p.0 store time, value_of p.1 store time)
+
+  -- the elements of a list, each of which has one value in both stores where they agree on what it reads
+  each_kept : {T V : Type 0} (read : T → List BitRange) (f g : T → V) → ((x : T) → list_any (is_changed old new) (read x) ≡ false → f x ≡ g x) →
+      (xs : List T) → list_any (is_changed old new) (joined (map read xs)) ≡ false → map f xs ≡ map g xs
+  each_kept read f g each [] h = refl
+  each_kept read f g each (x ∷ xs) h =
+      ap₂ (λ v vs. v ∷ vs) (each x (first_kept (read x) (joined (map read xs)) h)) (each_kept read f g each xs (rest_kept (read x) (joined (map read xs)) h))
 
   -- the operands behind the first one of a chain
-  links_kept : (links : List (Link × ((e : Typed) × Same e))) → list_any (is_changed old new) (read_by links) ≡ false →
-      map (value_at old) (map bare links) ≡ map (value_at new) (map bare links)
-  links_kept [] h = refl
-  links_kept (l ∷ ls) h =
-      let first : value_of l.1.0 old time ≡ value_of l.1.0 new time = l.1.1 (first_kept (reads l.1.0) (read_by ls) h) in
-      ap₂ (λ (v : List Digit) (vs : List (Link × List Digit)). (l.0, v) ∷ vs) first (links_kept ls (rest_kept (reads l.1.0) (read_by ls) h))
+  links_kept : (links : List (Link × ((e : Typed) × Same e))) →
+      list_any (is_changed old new) (joined (map (λ (l : Link × List BitRange). l.1) (map read_of_link (map bare_link links)))) ≡ false →
+      map (link_at old) (map bare_link links) ≡ map (link_at new) (map bare_link links)
+  links_kept links h =
+      map_map (link_at old) bare_link links
+      ∙ each_kept (λ l. reads l.1.0) (λ l. link_at old (bare_link l)) (λ l. link_at new (bare_link l)) (λ l none. ap (λ v. (l.0, v)) (l.1.1 none)) links
+      (ap (λ rs. list_any (is_changed old new) (joined rs)) (sym (ap (map (λ (l : Link × List BitRange). l.1)) (map_map read_of_link bare_link links) ∙ map_map (λ (l : Link × List BitRange). l.1) (λ l. read_of_link (bare_link l)) links)) ∙ h)
+      ∙ sym (map_map (link_at new) bare_link links)
+
+  -- the conditions and operands of a `?:`
+  pairs_kept : (pairs : List (((e : Typed) × Same e) × ((e : Typed) × Same e))) →
+      list_any (is_changed old new) (joined (map (λ (p : List BitRange × List BitRange). p.0 ++ p.1) (map read_of_pair (map bare_pair pairs)))) ≡ false →
+      map (pair_at old) (map bare_pair pairs) ≡ map (pair_at new) (map bare_pair pairs)
+  pairs_kept pairs h =
+      map_map (pair_at old) bare_pair pairs
+      ∙ each_kept (λ p. reads p.0.0 ++ reads p.1.0) (λ p. pair_at old (bare_pair p)) (λ p. pair_at new (bare_pair p))
+      (λ p none. ap₂ (λ v w. (v, w)) (p.0.1 (first_kept (reads p.0.0) (reads p.1.0) none)) (p.1.1 (rest_kept (reads p.0.0) (reads p.1.0) none))) pairs
+      (ap (λ rs. list_any (is_changed old new) (joined rs)) (sym (ap (map (λ (p : List BitRange × List BitRange). p.0 ++ p.1)) (map_map read_of_pair bare_pair pairs) ∙ map_map (λ (p : List BitRange × List BitRange). p.0 ++ p.1) (λ p. read_of_pair (bare_pair p)) pairs)) ∙ h)
+      ∙ sym (map_map (pair_at new) bare_pair pairs)
+
+  -- the parts behind the first one of a concatenation
+  parts_kept : (parts : List ((e : Typed) × Same e)) → list_any (is_changed old new) (joined (map reads (map bare parts))) ≡ false →
+      map (value_at old) (map bare parts) ≡ map (value_at new) (map bare parts)
+  parts_kept parts h =
+      map_map (value_at old) bare parts
+      ∙ each_kept (λ e. reads e.0) (λ e. value_at old e.0) (λ e. value_at new e.0) (λ e. e.1) parts
+      (ap (λ rs. list_any (is_changed old new) (joined rs)) (sym (map_map reads bare parts)) ∙ h)
+      ∙ sym (map_map (value_at new) bare parts)
 
   inner : (y : Typed-F ((e : Typed) × Same e)) →
       list_any (is_changed old new) (reads_step (map-Typed Typed (List BitRange) reads (map-Typed ((e : Typed) × Same e) Typed (λ e. e.0) y))) ≡ false →
@@ -86,7 +132,16 @@ module _ (old new : Store) (time : ℕ) where
   inner (t.Signal o) h = ap (operand_value o.signed o.width) (word_kept old new o.signal h)
   inner (t.Unary op x) h = ap (unary op) (x.value.1 h)
   inner (t.Chain x links) h =
-      ap₂ chained (x.value.1 (first_kept (reads x.value.0) (read_by links.items) h)) (links_kept links.items (rest_kept (reads x.value.0) (read_by links.items) h))
+      let others = joined (map (λ (l : Link × List BitRange). l.1) (map read_of_link (map bare_link links.items))) in
+      ap₂ chained (x.value.1 (first_kept (reads x.value.0) others h)) (links_kept links.items (rest_kept (reads x.value.0) others h))
+  inner (t.Choice pairs last) h =
+      let others = joined (map (λ (p : List BitRange × List BitRange). p.0 ++ p.1) (map read_of_pair (map bare_pair pairs.items))) in
+      ap₂ chosen (pairs_kept pairs.items (first_kept others (reads last.value.0) h)) (last.value.1 (rest_kept others (reads last.value.0) h))
+  inner (t.Concat x parts) h =
+      let others = joined (map reads (map bare parts.items)) in
+      ap₂ concatenated (x.value.1 (first_kept (reads x.value.0) others h)) (parts_kept parts.items (rest_kept (reads x.value.0) others h))
+  inner (t.Repeat n x) h = ap (λ v. take 64 (replication n.times v)) (x.value.1 h)
+  inner (t.Resized size x) h = ap (resized size.signed size.width) (x.value.1 h)
 
   layer : (y : Typed-F ((e : Typed) × Same e)) → Same (roll-Typed (map-Typed ((e : Typed) × Same e) Typed (λ e. e.0) y))
   layer y h =

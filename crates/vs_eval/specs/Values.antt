@@ -1,7 +1,13 @@
 -- The values of expressions.
-use Rattle.std.specs.Prelude.{ℕ, Bool, false, Option, Some, None, List, [], ◌∷◌}
+use Rattle.std.specs.Prelude.{ℕ, Bool, false, Option, Some, None, List, [], ◌∷◌, length, take}
 use Rattle.vs_logic4.specs.declared.digit.Digit.{Digit}
-use Rattle.vs_logic4.specs.Operators.{unary, binary}
+use Rattle.vs_logic4.specs.declared.digit.Digit.TheVariants.{Zero, One, X, Z}
+use Rattle.vs_logic4.specs.declared.operators.Sizing.{Sizing}
+use Rattle.vs_logic4.specs.declared.operators.Sizing.TheVariants.{Alike, Shift, Comparison, Logical}
+use Rattle.vs_logic4.specs.Bitwise.{merged}
+use Rattle.vs_logic4.specs.Comparisons.{truth}
+use Rattle.vs_logic4.specs.Operators.{unary, binary, sizing_of}
+use Rattle.vs_logic4.specs.Parts.{concatenation, replication}
 use Rattle.vs_logic4.specs.Vectors.{all_unknown, resized}
 use Rattle.vs_design.specs.declared.expression.Link.{Link}
 use Rattle.vs_design.specs.declared.expression.Typed.{Typed, Typed-F, fold-Typed}
@@ -14,14 +20,47 @@ abbrev pub operand_value : Bool → ℕ → Option (List Digit) → List Digit
 operand_value signed width None = all_unknown width
 operand_value signed width (Some word) = resized signed width word
 
--- what the operator of a link gives of what stands on its left and of the operand on its right, both at the link's size (clauses 5.1 and 5.4.1)
+-- what stands on the left of a link at the size at which the operator takes it: at that of the link, or as it is (clause 5.4.1)
+abbrev pub left_side : Sizing → ℕ → List Digit → List Digit
+left_side Alike width left = resized false width left
+left_side Shift width left = resized false width left
+left_side Comparison width left = resized false width left
+left_side Logical width left = left
+
+-- what stands on the right of a link at the size at which the operator takes it: at that of the link, or as it is (clause 5.4.1)
+abbrev pub right_side : Sizing → ℕ → List Digit → List Digit
+right_side Alike width right = resized false width right
+right_side Shift width right = right
+right_side Comparison width right = resized false width right
+right_side Logical width right = right
+
+-- what the operator of a link gives of what stands on its left and of the operand on its right (clauses 5.1 and 5.4.1)
 abbrev pub linked : List Digit → Link × List Digit → List Digit
-linked left l = binary l.0.operator l.0.signed (resized false l.0.width left) (resized false l.0.width l.1)
+linked left l =
+    let sizing = sizing_of l.0.operator in
+    binary l.0.operator l.0.signed (left_side sizing l.0.width left) (right_side sizing l.0.width l.1)
 
 -- what operands and the operators between them give, from left to right (clause 5.1.2)
 abbrev pub chained : List Digit → List (Link × List Digit) → List Digit
 chained first [] = first
 chained first (l ∷ ls) = chained (linked first l) ls
+
+-- what `?:` gives by the truth of its condition: an operand, or where it is unknown both merged (clause 5.1.13)
+abbrev pub picked : Digit → List Digit → List Digit → List Digit
+picked One value other = value
+picked Zero value other = other
+picked X value other = merged value (resized false (length value) other)
+picked Z value other = merged value (resized false (length value) other)
+
+-- what operands, each behind a condition, and a last one give (clause 5.1.13)
+abbrev pub chosen : List (List Digit × List Digit) → List Digit → List Digit
+chosen [] last = last
+chosen (p ∷ ps) last = picked (truth p.0) p.1 (chosen ps last)
+
+-- what parts give, the first of them the highest, cut to the lowest 64 bits (clause 5.1.14; the cut: profile)
+abbrev pub concatenated : List Digit → List (List Digit) → List Digit
+concatenated high [] = high
+concatenated high (low ∷ rest) = concatenated (take 64 (concatenation high low)) rest
 
 -- one layer of an expression: its value in a store at a time, with the value of each inner expression in its place
 abbrev pub value_step : Store → ℕ → Typed-F (List Digit) → List Digit
@@ -29,6 +68,10 @@ value_step store time (t.Number digits) = digits
 value_step store time (t.Signal o) = operand_value o.signed o.width (word_of store o.signal 0)
 value_step store time (t.Unary op x) = unary op x.value
 value_step store time (t.Chain x links) = chained x.value links.items
+value_step store time (t.Choice pairs last) = chosen pairs.items last.value
+value_step store time (t.Concat x xs) = concatenated x.value xs.items
+value_step store time (t.Repeat n x) = take 64 (replication n.times x.value)
+value_step store time (t.Resized size x) = resized size.signed size.width x.value
 
 -- the value of an expression in a store at a time in ticks (clause 5)
 abbrev pub value_of : Typed → Store → ℕ → List Digit

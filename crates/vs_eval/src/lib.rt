@@ -2,13 +2,15 @@
 #![tactic(auto)]
 
 ghost use Rattle.std.specs.Prelude.{◌≡◌, map};
-ghost use Rattle.vs_eval.specs.Laws.{ReadsHold};
+ghost use Rattle.vs_logic4.specs.Comparisons.{truth};
+ghost use Rattle.vs_logic4.specs.Operators.{sizing_of};
+ghost use Rattle.vs_eval.specs.Laws.{ReadsHold, SizesHold};
 ghost use Rattle.vs_eval.specs.Targets.{assigned};
-ghost use Rattle.vs_eval.specs.Values.{value_of, target_value, operand_value, linked, chained};
+ghost use Rattle.vs_eval.specs.Values.{value_of, target_value, operand_value, left_side, right_side, linked, chained, picked, chosen, concatenated};
 ghost use Rattle.vs_design.specs.Stores.{word_of};
 
 use vs_design::{Link, Operand, Part, Store, Target, Typed, Write};
-use vs_logic4::Vec4;
+use vs_logic4::{Digit, Sizing, Vec4};
 
 /// The value of an expression in a store at a time in ticks, at the size and with the sign of its context.
 #[cycle(value)]
@@ -20,6 +22,12 @@ pub fn value(e: &Typed, store: &Store, time: u64) -> Vec4
         Typed::Signal(o) => operand(*o, store),
         Typed::Unary(operator, x) => operator.of(value(x, store, time)),
         Typed::Chain(first, links) => chain(value(first, store, time), links, store, time),
+        Typed::Choice(pairs, last) => choice(pairs, value(last, store, time), store, time),
+        Typed::Concat(first, others) => {
+            concatenation(value(first, store, time), others, store, time)
+        }
+        Typed::Repeat(count, x) => value(x, store, time).repeated(count.times),
+        Typed::Resized(size, x) => value(x, store, time).resize(size.width, size.signed),
     }
 }
 
@@ -35,15 +43,70 @@ fn chain(first: Vec4, links: &[(Link, Typed)], store: &Store, time: u64) -> Vec4
     all
 }
 
+/// What operands, each behind a condition, and a last one give. An operand is evaluated only where its condition isn't known to be false.
+#[cycle(value)]
+fn choice(pairs: &[(Typed, Typed)], last: Vec4, store: &Store, time: u64) -> Vec4
+    ensures { result ≡ chosen (map (λ p. (value_of p.0 store.now time, value_of p.1 store.now time)) pairs.now) last }
+{
+    let mut all = last;
+    for i in (0..pairs.len()).rev() {
+        let (condition, e) = &pairs[i];
+        let truth = value(condition, store, time).truth();
+        if truth != Digit::Zero {
+            all = picked(truth, value(e, store, time), all);
+        }
+    }
+    all
+}
+
+/// What an operand and the one behind its `:` give by the truth of the condition (IEEE 1364-2005, clause 5.1.13).
+fn picked(truth: Digit, value: Vec4, other: Vec4) -> Vec4
+    ensures { result ≡ picked truth value other }
+{
+    match truth {
+        Digit::One => value,
+        Digit::Zero => other,
+        Digit::X | Digit::Z => value.merge(other.resize(value.width(), false)),
+    }
+}
+
+/// What a first value and the parts behind it give, each below those before it.
+#[cycle(value)]
+fn concatenation(first: Vec4, others: &[Typed], store: &Store, time: u64) -> Vec4
+    ensures { result ≡ concatenated first (map (λ e. value_of e store.now time) others.now) }
+{
+    let mut all = first;
+    for e in others {
+        all = all.join(value(e, store, time));
+    }
+    all
+}
+
 /// What the operator of a link gives of the values on its two sides.
 fn combined(left: Vec4, link: Link, right: Vec4) -> Vec4
     ensures { result ≡ linked left (link, right) }
 {
-    link.operator.of(
-        link.signed,
-        left.resize(link.width, false),
-        right.resize(link.width, false),
-    )
+    link.operator.of(link.signed, left_side(link, left), right_side(link, right))
+}
+
+/// The value on the left of a link at the size at which its operator takes it.
+fn left_side(link: Link, left: Vec4) -> Vec4
+    ensures { result ≡ left_side (sizing_of link.operator) link.width left }
+{
+    match link.operator.sizing() {
+        Sizing::Alike | Sizing::Shift | Sizing::Comparison => left.resize(link.width, false),
+        Sizing::Logical => left,
+    }
+}
+
+/// The value on the right of a link at the size at which its operator takes it.
+fn right_side(link: Link, right: Vec4) -> Vec4
+    ensures { result ≡ right_side (sizing_of link.operator) link.width right }
+{
+    match link.operator.sizing() {
+        Sizing::Alike | Sizing::Comparison => right.resize(link.width, false),
+        Sizing::Shift | Sizing::Logical => right,
+    }
 }
 
 /// The value of a signal where it stands in an expression.
@@ -79,4 +142,9 @@ pub fn write_of(target: Target, digits: Vec4, store: &Store) -> Write
 /// The ranges that `reads` answers of an expression hold all that its value depends on.
 pub fn reads_hold()
     ensures { ReadsHold }
+{}
+
+/// An expression that has a size has values of that size.
+pub fn sizes_hold()
+    ensures { SizesHold }
 {}

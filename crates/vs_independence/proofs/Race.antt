@@ -1,12 +1,12 @@
 -- Two processes that write one signal at once: their design is well formed and not independent. So `Independent` says something.
 use Rattle.std.proofs.Common.{◌≡◌, ℕ, true, Option, Some, None, List, [], ◌∷◌, length, refl, sym, ◌∙◌, ap, lit<, arith, nat_lt}
-use Rattle.std.specs.Prelude.{◌==◌}
 use Rattle.std.specs.declared.alloc.Global.{Global}
 use Rattle.std.specs.List.{IsDistinct}
 use Rattle.std.proofs.lemmas.List.Elements.{All-nil, All-cons}
 use Rattle.vs_logic4.specs.declared.digit.Digit.{Digit}
 use Rattle.vs_logic4.specs.declared.digit.Digit.TheVariants.{Zero, One}
 use Rattle.vs_design.specs.declared.design.Process.{Process}
+use Rattle.vs_design.specs.declared.range.BitRange.{BitRange}
 use Rattle.vs_design.specs.declared.signal.Signal.{Signal}
 use Rattle.vs_design.specs.declared.statement.Statement.{out-Statement}
 use Rattle.vs_design.specs.declared.statement.Statement.TheVariants as y
@@ -18,7 +18,8 @@ use Rattle.vs_design.specs.declared.expression.Typed.TheVariants as e
 use Rattle.vs_design.specs.declared.expression.Typed.TheOpen as t
 use Rattle.vs_design.specs.Stores.{Store, word_of}
 use Rattle.vs_design.specs.Traces.{Slot, SameSlots}
-use Rattle.vs_design.specs.WellFormed.{WellFormed, width_step, width_of, sized_step, is_sized, within_step, is_within, is_sound_assignment, sound_step, is_sound_statement, numbers_step, numbers, is_sound_process}
+use Rattle.vs_design.specs.Uses.{reads, reads_step}
+use Rattle.vs_design.specs.WellFormed.{WellFormed, size_step, size_of, is_sound_assignment, sound_step, is_sound_statement, numbers_step, numbers, is_sound_process}
 use Rattle.vs_eval.specs.Values.{value_of, value_step}
 use Rattle.vs_process.specs.declared.moves.Grain.{Grain}
 use Rattle.vs_process.specs.declared.moves.Grain.TheVariants.{Statement, Block}
@@ -33,14 +34,11 @@ use Rattle.vs_independence.specs.Race.{racing, writer, name}
 pub value_number : (ds : List Digit) (store : Store) (time : ℕ) → value_of (e.Number ds) store time ≡ ds
 value_number ds store time = ap (λ x. value_of x store time) (sym (e.rolls-Number ds)) ∙ fold-roll-Typed (List Digit) (value_step store time) (t.Number ds)
 
-pub width_number : (ds : List Digit) → width_of (e.Number ds) ≡ length ds
-width_number ds = ap width_of (sym (e.rolls-Number ds)) ∙ fold-roll-Typed ℕ width_step (t.Number ds)
+pub size_number : (ds : List Digit) → size_of (e.Number ds) ≡ Some (length ds)
+size_number ds = ap size_of (sym (e.rolls-Number ds)) ∙ fold-roll-Typed (Option ℕ) size_step (t.Number ds)
 
-pub sized_number : (width : ℕ) (ds : List Digit) → is_sized width (e.Number ds) ≡ (length ds == width)
-sized_number width ds = ap (is_sized width) (sym (e.rolls-Number ds)) ∙ fold-roll-Typed _ (sized_step width) (t.Number ds)
-
-pub within_number : (ss : List Signal) (ds : List Digit) → is_within ss (e.Number ds) ≡ true
-within_number ss ds = ap (is_within ss) (sym (e.rolls-Number ds)) ∙ fold-roll-Typed _ (within_step ss) (t.Number ds)
+pub reads_number : (ds : List Digit) → reads (e.Number ds) ≡ []
+reads_number ds = ap reads (sym (e.rolls-Number ds)) ∙ fold-roll-Typed (List BitRange) reads_step (t.Number ds)
 
 pub sound_assign : (ss : List Signal) (n : ℕ) (x : Target) (v : Typed) → is_sound_statement ss (y.Assign n x v) ≡ is_sound_assignment ss x v
 sound_assign ss n x v = ap (is_sound_statement ss) (sym (y.rolls-Assign n x v)) ∙ fold-roll-Statement _ (sound_step ss) (f.Assign n x v)
@@ -52,7 +50,7 @@ numbers_assign n x v = ap numbers (sym (y.rolls-Assign n x v)) ∙ fold-roll-Sta
 
 sound_writer : (g : Global) (d : ℕ) (digit : Digit) → is_sound_process (racing g).signals (writer (name g 116 35 112 d) digit) ≡ true
 sound_writer g d digit =
-    simp (sound_assign, numbers_assign, within_number, sized_number, width_number)
+    simp (sound_assign, numbers_assign, reads_number, size_number)
 
 pub formed : (g : Global) → WellFormed (racing g)
 unfolding IsDistinct

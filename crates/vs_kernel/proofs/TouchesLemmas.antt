@@ -94,21 +94,46 @@ whole-append (r ∷ rs) qs h k = (h.0, whole-append rs qs h.1 k)
 abbrev ReadsWhole : Typed → Type 0
 ReadsWhole e = AreWhole (reads e)
 
-abbrev bare : Link × ((e : Typed) × ReadsWhole e) → Link × Typed
-bare l = (l.0, l.1.0)
+abbrev bare : (e : Typed) × ReadsWhole e → Typed
+bare e = e.0
 
-abbrev read_of : Link × Typed → Link × List BitRange
-read_of l = (l.0, reads l.1)
+abbrev bare_link : Link × ((e : Typed) × ReadsWhole e) → Link × Typed
+bare_link l = (l.0, l.1.0)
 
-links_whole : (links : List (Link × ((e : Typed) × ReadsWhole e))) → AreWhole (joined (map (λ (l : Link × List BitRange). l.1) (map read_of (map bare links))))
+abbrev bare_pair : ((e : Typed) × ReadsWhole e) × ((e : Typed) × ReadsWhole e) → Typed × Typed
+bare_pair p = (p.0.0, p.1.0)
+
+-- what the operands behind the first one of a chain read, what those of a `?:`, and what the parts behind the first one of a concatenation
+abbrev read_by_links : List (Link × ((e : Typed) × ReadsWhole e)) → List BitRange
+read_by_links links = joined (map (λ (l : Link × List BitRange). l.1) (map (λ (l : Link × Typed). (l.0, reads l.1)) (map bare_link links)))
+
+abbrev read_by_pairs : List (((e : Typed) × ReadsWhole e) × ((e : Typed) × ReadsWhole e)) → List BitRange
+read_by_pairs pairs = joined (map (λ (p : List BitRange × List BitRange). p.0 ++ p.1) (map (λ (p : Typed × Typed). (reads p.0, reads p.1)) (map bare_pair pairs)))
+
+abbrev read_by_parts : List ((e : Typed) × ReadsWhole e) → List BitRange
+read_by_parts parts = joined (map reads (map bare parts))
+
+links_whole : (links : List (Link × ((e : Typed) × ReadsWhole e))) → AreWhole (read_by_links links)
 links_whole [] = tt
-links_whole (l ∷ ls) = whole-append (reads l.1.0) (joined (map (λ (l : Link × List BitRange). l.1) (map read_of (map bare ls)))) l.1.1 (links_whole ls)
+links_whole (l ∷ ls) = whole-append (reads l.1.0) (read_by_links ls) l.1.1 (links_whole ls)
+
+pairs_whole : (pairs : List (((e : Typed) × ReadsWhole e) × ((e : Typed) × ReadsWhole e))) → AreWhole (read_by_pairs pairs)
+pairs_whole [] = tt
+pairs_whole (p ∷ ps) = whole-append (reads p.0.0 ++ reads p.1.0) (read_by_pairs ps) (whole-append (reads p.0.0) (reads p.1.0) p.0.1 p.1.1) (pairs_whole ps)
+
+parts_whole : (parts : List ((e : Typed) × ReadsWhole e)) → AreWhole (read_by_parts parts)
+parts_whole [] = tt
+parts_whole (e ∷ es) = whole-append (reads e.0) (read_by_parts es) e.1 (parts_whole es)
 
 inner_whole : (y : Typed-F ((e : Typed) × ReadsWhole e)) → AreWhole (reads_step (map-Typed Typed (List BitRange) reads (map-Typed ((e : Typed) × ReadsWhole e) Typed (λ e. e.0) y)))
 inner_whole (t.Number digits) = tt
 inner_whole (t.Signal o) = (refl, tt)
 inner_whole (t.Unary op x) = x.value.1
-inner_whole (t.Chain x links) = whole-append (reads x.value.0) (joined (map (λ (l : Link × List BitRange). l.1) (map read_of (map bare links.items)))) x.value.1 (links_whole links.items)
+inner_whole (t.Chain x links) = whole-append (reads x.value.0) (read_by_links links.items) x.value.1 (links_whole links.items)
+inner_whole (t.Choice pairs last) = whole-append (read_by_pairs pairs.items) (reads last.value.0) (pairs_whole pairs.items) last.value.1
+inner_whole (t.Concat x parts) = whole-append (reads x.value.0) (read_by_parts parts.items) x.value.1 (parts_whole parts.items)
+inner_whole (t.Repeat n x) = x.value.1
+inner_whole (t.Resized size x) = x.value.1
 
 layer_whole : (y : Typed-F ((e : Typed) × ReadsWhole e)) → ReadsWhole (roll-Typed (map-Typed ((e : Typed) × ReadsWhole e) Typed (λ e. e.0) y))
 layer_whole y =

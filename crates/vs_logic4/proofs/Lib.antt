@@ -10,5 +10,6 @@ pub mod Order
 pub mod Moves
 pub mod Shifts
 pub mod Parts
+pub mod Joins
 pub mod Lanes
 pub mod Properties

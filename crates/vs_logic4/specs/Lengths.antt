@@ -1,6 +1,6 @@
 -- How long the result of each operator is.
-use Rattle.std.proofs.Common.{◌≡◌, ℕ, zero, suc, ◌+◌, ◌-◌, ◌*◌, min, ℤ, pos, ◌+ℤ◌, neg_ℤ, eqb, Bool, true, false, cond, ◌&&◌, List, [], ◌∷◌, length, replicate, take, drop, refl, ap, arith}
-use Rattle.std.proofs.lemmas.List.{length-replicate, length-append, length-take, length-drop}
+use Rattle.std.proofs.Common.{◌≡◌, ℕ, zero, suc, ◌+◌, ◌-◌, ◌*◌, min, ℤ, pos, ◌+ℤ◌, neg_ℤ, ◌-ℤ◌, ◌*ℤ◌, int_div, int_rem, eqb, Bool, true, false, cond, ◌&&◌, List, [], ◌∷◌, length, replicate, take, drop, refl, ap, arith}
+use Rattle.std.proofs.lemmas.List.{length-replicate, length-append, length-take, length-drop, length-map}
 use Rattle.vs_logic4.specs.declared.digit.Digit.{Digit}
 use Rattle.vs_logic4.specs.declared.digit.Digit.TheVariants.{Zero, X}
 use Rattle.vs_logic4.specs.Vectors.{all_unknown, extension_digit}
@@ -9,6 +9,12 @@ use Rattle.vs_logic4.specs.Comparisons.{is_known}
 use Rattle.vs_logic4.specs.Bitwise.{digitwise}
 use Rattle.vs_logic4.specs.Arithmetic.{number, integer, of_integer, arithmetic, division, negation, unary_plus}
 use Rattle.vs_logic4.specs.Shifts.{moved_left, moved_right, left_shift, right_shift}
+use Rattle.vs_logic4.specs.declared.operators.Unary.{Unary}
+use Rattle.vs_logic4.specs.declared.operators.Unary.TheVariants as u
+use Rattle.vs_logic4.specs.declared.operators.Binary.{Binary}
+use Rattle.vs_logic4.specs.declared.operators.Binary.TheVariants as b
+use Rattle.vs_logic4.specs.Tables.{and_digit, or_digit, xor_digit, xnor_digit, not_digit}
+use Rattle.vs_logic4.specs.Operators.{gives_bit, sizing_of, is_even, is_one_bit, unary, binary}
 use Rattle.vs_logic4.specs.Parts.{selected, replaced_from, with_part, concatenation, replication}
 
 -- a choice of two vectors of one length
@@ -80,3 +86,42 @@ length-concatenation high low = omega (arith, length-append low high)
 pub length-replication : (count : ℕ) (ds : List Digit) → length (replication count ds) ≡ count * length ds
 length-replication zero ds = omega arith
 length-replication (suc count) ds = omega (arith, length-append ds (replication count ds), length-replication count ds)
+
+-- one bit where the operator gives one, else the operand's size
+pub length-unary : (op : Unary) (ds : List Digit) → length (unary op ds) ≡ cond (gives_bit op) 1 (length ds)
+length-unary u.Plus ds = length-unary_plus ds
+length-unary u.Minus ds = length-negation false ds
+length-unary u.Not ds = length-map ds not_digit
+length-unary u.LogicalNot ds = refl
+length-unary u.ReduceAnd ds = refl
+length-unary u.ReduceNand ds = refl
+length-unary u.ReduceOr ds = refl
+length-unary u.ReduceNor ds = refl
+length-unary u.ReduceXor ds = refl
+length-unary u.ReduceXnor ds = refl
+
+-- one bit where the operator gives one, else the left operand's size
+pub length-binary : (op : Binary) (signed : Bool) (ds es : List Digit) → (is_even (sizing_of op) ≡ true → length ds ≡ length es) → length (binary op signed ds es) ≡ cond (is_one_bit (sizing_of op)) 1 (length ds)
+length-binary b.Multiply signed ds es h = length-arithmetic (λ a c. a *ℤ c) signed ds es
+length-binary b.Divide signed ds es h = length-division int_div signed ds es
+length-binary b.Remainder signed ds es h = length-division int_rem signed ds es
+length-binary b.Add signed ds es h = length-arithmetic (λ a c. a +ℤ c) signed ds es
+length-binary b.Subtract signed ds es h = length-arithmetic (λ a c. a -ℤ c) signed ds es
+length-binary b.ShiftLeft signed ds es h = length-left_shift ds es
+length-binary b.ShiftRight signed ds es h = length-right_shift false ds es
+length-binary b.SignedShiftLeft signed ds es h = length-left_shift ds es
+length-binary b.SignedShiftRight signed ds es h = length-right_shift signed ds es
+length-binary b.Less signed ds es h = refl
+length-binary b.LessEqual signed ds es h = refl
+length-binary b.Greater signed ds es h = refl
+length-binary b.GreaterEqual signed ds es h = refl
+length-binary b.Equal signed ds es h = refl
+length-binary b.NotEqual signed ds es h = refl
+length-binary b.CaseEqual signed ds es h = refl
+length-binary b.CaseNotEqual signed ds es h = refl
+length-binary b.And signed ds es h = length-digitwise and_digit ds es (h refl)
+length-binary b.Xor signed ds es h = length-digitwise xor_digit ds es (h refl)
+length-binary b.Xnor signed ds es h = length-digitwise xnor_digit ds es (h refl)
+length-binary b.Or signed ds es h = length-digitwise or_digit ds es (h refl)
+length-binary b.LogicalAnd signed ds es h = refl
+length-binary b.LogicalOr signed ds es h = refl

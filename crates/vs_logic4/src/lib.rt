@@ -15,5 +15,5 @@ pub use laws::{
     digit_after_put, known_vector_is_its_number, resize_to_own_width, same_digits_make_equal,
     select_after_put,
 };
-pub use operators::{Binary, Unary};
+pub use operators::{Binary, Sizing, Unary};
 pub use vector::Vec4;

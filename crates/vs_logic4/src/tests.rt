@@ -2,7 +2,7 @@
 ghost use Rattle.std.specs.Prelude.{◌≡◌, ◌<◌, ◌≤◌, length};
 
 use crate::digit::Digit;
-use crate::{Vec4, changed};
+use crate::{Binary, Sizing, Unary, Vec4, changed};
 use std::process::Abort;
 use std::test::Fail;
 
@@ -159,7 +159,7 @@ fn comparisons_of_one_digit(rt: HostRuntime) {
         for j in 0..4 {
             let (a, b) = (one(i), one(j));
             assert_eq!(rt; a.eq(b), entry(&EQ, i, j));
-            assert_eq!(rt; Digit::from_test(a.case_eq(b)), entry(&CASE_EQ, i, j));
+            assert_eq!(rt; Digit::from_test(a == b), entry(&CASE_EQ, i, j));
             assert_eq!(rt; Digit::from_test(a.casez_eq(b)), entry(&CASEZ_EQ, i, j));
             assert_eq!(rt; Digit::from_test(a.casex_eq(b)), entry(&CASEX_EQ, i, j));
             assert_eq!(rt; a.less(b, false), entry(&LESS, i, j));
@@ -284,9 +284,6 @@ fn reductions_of_two_digits(rt: HostRuntime) {
         assert_eq!(rt; a.reduce_and(), digit_of(REDUCED[0][i]));
         assert_eq!(rt; a.reduce_or(), digit_of(REDUCED[1][i]));
         assert_eq!(rt; a.reduce_xor(), digit_of(REDUCED[2][i]));
-        assert_eq!(rt; a.reduce_nand(), digit_of(REDUCED[0][i]).not());
-        assert_eq!(rt; a.reduce_nor(), digit_of(REDUCED[1][i]).not());
-        assert_eq!(rt; a.reduce_xnor(), digit_of(REDUCED[2][i]).not());
         assert_eq!(rt; a.truth(), digit_of(REDUCED[1][i]));
     }
 }
@@ -314,6 +311,339 @@ fn widest_product(rt: HostRuntime) {
     assert_eq!(rt; product, Vec4::from_number(64, u64::MAX - 1));
 }
 
+/// One of nine vectors of four digits, from a row of texts.
+fn column(row: &[u8; 44], index: usize) -> Vec4
+    requires { index < 9 }
+    ensures { length result ≡ 4 }
+{
+    of(&row[5 * index..5 * index + 4])
+}
+
+/// Operands of the operators of one operand.
+const OPERANDS: [u8; 44] = *b"0101 0111 0000 1111 10x1 00z0 zzzz 1000 x000";
+
+/// What the operators that keep their operand's size give of `OPERANDS`.
+const UNARY: [(Unary, [u8; 44]); 3] = [
+    (
+        Unary::Plus,
+        *b"0101 0111 0000 1111 xxxx xxxx xxxx 1000 xxxx",
+    ),
+    (
+        Unary::Minus,
+        *b"1011 1001 0000 0001 xxxx xxxx xxxx 1000 xxxx",
+    ),
+    (Unary::Not, *b"1010 1000 1111 0000 01x0 11x1 xxxx 0111 x111"),
+];
+
+/// What the operators that give one bit give of `OPERANDS`.
+const UNARY_BITS: [(Unary, [u8; 9]); 7] = [
+    (Unary::LogicalNot, *b"00100xx0x"),
+    (Unary::ReduceAnd, *b"000100x00"),
+    (Unary::ReduceNand, *b"111011x11"),
+    (Unary::ReduceOr, *b"11011xx1x"),
+    (Unary::ReduceNor, *b"00100xx0x"),
+    (Unary::ReduceXor, *b"0100xxx1x"),
+    (Unary::ReduceXnor, *b"1011xxx0x"),
+];
+
+#[test]
+fn operators_of_one_operand(rt: HostRuntime) {
+    for (operator, wants) in UNARY {
+        assert!(rt; !operator.gives_bit());
+        for i in 0..9 {
+            let result = operator.of(column(&OPERANDS, i));
+            assert_eq!(rt; result, column(&wants, i));
+        }
+    }
+    for (operator, wants) in UNARY_BITS {
+        assert!(rt; operator.gives_bit());
+        for i in 0..9 {
+            let result = operator.of(column(&OPERANDS, i));
+            assert_eq!(rt; result, Vec4::from_digit(digit_of(wants[i])));
+        }
+    }
+}
+
+/// Left and right operands of the operators of two operands.
+const LEFT: [u8; 44] = *b"1010 1000 0110 10x0 1100 0101 1x0z 00x0 000z";
+
+const RIGHT: [u8; 44] = *b"0011 1111 0000 0001 1z00 0101 1x0z 0000 0110";
+
+/// What the operators that keep their left operand's size give of `LEFT` and `RIGHT`, whether the
+/// numbers are signed or not.
+const EITHER: [(Binary, [u8; 44]); 10] = [
+    (
+        Binary::Multiply,
+        *b"1110 1000 0000 xxxx xxxx 1001 xxxx xxxx xxxx",
+    ),
+    (
+        Binary::Add,
+        *b"1101 0111 0110 xxxx xxxx 1010 xxxx xxxx xxxx",
+    ),
+    (
+        Binary::Subtract,
+        *b"0111 1001 0110 xxxx xxxx 0000 xxxx xxxx xxxx",
+    ),
+    (
+        Binary::ShiftLeft,
+        *b"0000 0000 0110 0x00 xxxx 0000 xxxx 00x0 0000",
+    ),
+    (
+        Binary::ShiftRight,
+        *b"0001 0000 0110 010x xxxx 0000 xxxx 00x0 0000",
+    ),
+    (
+        Binary::SignedShiftLeft,
+        *b"0000 0000 0110 0x00 xxxx 0000 xxxx 00x0 0000",
+    ),
+    (
+        Binary::And,
+        *b"0010 1000 0000 0000 1x00 0101 1x0x 0000 0000",
+    ),
+    (
+        Binary::Xor,
+        *b"1001 0111 0110 10x1 0x00 0000 0x0x 00x0 011x",
+    ),
+    (
+        Binary::Xnor,
+        *b"0110 1000 1001 01x0 1x11 1111 1x1x 11x1 100x",
+    ),
+    (Binary::Or, *b"1011 1111 0110 10x1 1100 0101 1x0x 00x0 011x"),
+];
+
+/// The same of those that read the sign: of unsigned numbers.
+const UNSIGNED: [(Binary, [u8; 44]); 3] = [
+    (
+        Binary::Divide,
+        *b"0011 0000 xxxx xxxx xxxx 0001 xxxx xxxx xxxx",
+    ),
+    (
+        Binary::Remainder,
+        *b"0001 1000 xxxx xxxx xxxx 0000 xxxx xxxx xxxx",
+    ),
+    (
+        Binary::SignedShiftRight,
+        *b"0001 0000 0110 010x xxxx 0000 xxxx 00x0 0000",
+    ),
+];
+
+/// And of signed numbers.
+const SIGNED: [(Binary, [u8; 44]); 3] = [
+    (
+        Binary::Divide,
+        *b"1110 1000 xxxx xxxx xxxx 0001 xxxx xxxx xxxx",
+    ),
+    (
+        Binary::Remainder,
+        *b"0000 0000 xxxx xxxx xxxx 0000 xxxx xxxx xxxx",
+    ),
+    (
+        Binary::SignedShiftRight,
+        *b"1111 1111 0110 110x xxxx 0000 xxxx 00x0 0000",
+    ),
+];
+
+/// What the operators that give one bit give of `LEFT` and `RIGHT`: of unsigned and of signed numbers.
+const BINARY_BITS: [(Binary, [u8; 9], [u8; 9]); 10] = [
+    (Binary::Less, *b"010xx0xxx", *b"110xx0xxx"),
+    (Binary::LessEqual, *b"010xx1xxx", *b"110xx1xxx"),
+    (Binary::Greater, *b"101xx0xxx", *b"001xx0xxx"),
+    (Binary::GreaterEqual, *b"101xx1xxx", *b"001xx1xxx"),
+    (Binary::Equal, *b"0000x1xx0", *b"0000x1xx0"),
+    (Binary::NotEqual, *b"1111x0xx1", *b"1111x0xx1"),
+    (Binary::CaseEqual, *b"000001100", *b"000001100"),
+    (Binary::CaseNotEqual, *b"111110011", *b"111110011"),
+    (Binary::LogicalAnd, *b"11011110x", *b"11011110x"),
+    (Binary::LogicalOr, *b"1111111x1", *b"1111111x1"),
+];
+
+/// An operator's results of `LEFT` and `RIGHT`.
+fn results(rt: &impl Abort, operator: Binary, signed: bool, wants: &[u8; 44]) {
+    for i in 0..9 {
+        let result = operator.of(signed, column(&LEFT, i), column(&RIGHT, i));
+        assert_eq!(rt; result, column(wants, i));
+    }
+}
+
+/// An operator's results of `LEFT` and `RIGHT`, of one bit.
+fn bits(rt: &impl Abort, operator: Binary, signed: bool, wants: &[u8; 9]) {
+    for i in 0..9 {
+        let result = operator.of(signed, column(&LEFT, i), column(&RIGHT, i));
+        assert_eq!(rt; result, Vec4::from_digit(digit_of(wants[i])));
+    }
+}
+
+#[test]
+fn operators_of_two_operands(rt: HostRuntime) {
+    for (operator, wants) in EITHER {
+        results(&rt, operator, false, &wants);
+        results(&rt, operator, true, &wants);
+    }
+    for (operator, wants) in UNSIGNED {
+        results(&rt, operator, false, &wants);
+    }
+    for (operator, wants) in SIGNED {
+        results(&rt, operator, true, &wants);
+    }
+    for (operator, unsigned, signed) in BINARY_BITS {
+        bits(&rt, operator, false, &unsigned);
+        bits(&rt, operator, true, &signed);
+    }
+}
+
+#[test]
+fn operands_of_their_own_size(rt: HostRuntime) {
+    assert_eq!(rt; Binary::Add.sizing(), Sizing::Alike);
+    assert_eq!(rt; Binary::SignedShiftRight.sizing(), Sizing::Shift);
+    assert_eq!(rt; Binary::CaseNotEqual.sizing(), Sizing::Comparison);
+    assert_eq!(rt; Binary::LogicalOr.sizing(), Sizing::Logical);
+    let (one, wide) = (of(b"1"), Vec4::from_number(64, u64::MAX));
+    assert_eq!(rt;
+        Binary::ShiftLeft.of(true, of(b"01"), of(b"0000001")),
+        of(b"10")
+    );
+    assert_eq!(rt;
+        Binary::SignedShiftRight.of(true, of(b"10"), wide),
+        of(b"11")
+    );
+    assert_eq!(rt; Binary::LogicalAnd.of(false, wide, one), one);
+    assert_eq!(rt; Binary::LogicalAnd.of(false, of(b"0xz"), wide), of(b"x"));
+    assert_eq!(rt;
+        Binary::LogicalAnd.of(false, of(b"0xz"), of(b"0")),
+        of(b"0")
+    );
+    assert_eq!(rt; Binary::LogicalOr.of(false, of(b"0xz"), of(b"0")), of(b"x"));
+    assert_eq!(rt; Binary::LogicalOr.of(false, of(b"0xz"), one), one);
+}
+
+/// The vector of a number, wrapped to `width` digits.
+fn number(width: u32, number: u64) -> Vec4
+    requires some { 0 < width }
+    requires most { width ≤ 64 }
+    ensures { length result ≡ width }
+{
+    Vec4::from_number(width, number)
+}
+
+/// x in each of `width` places.
+fn unknown(width: u32) -> Vec4
+    requires some { 0 < width }
+    requires most { width ≤ 64 }
+    ensures { length result ≡ width }
+{
+    Vec4::unknown(width)
+}
+
+/// An operator, whether the operands are signed, the operands and the result, as numbers.
+type Row = (Binary, bool, u64, u64, u64);
+
+/// Rows of one width.
+fn rows_at(rt: &impl Abort, width: u32, rows: &[Row])
+    requires some { 0 < width }
+    requires most { width ≤ 64 }
+{
+    for (operator, signed, left, right, want) in rows {
+        let result = operator.of(*signed, number(width, *left), number(width, *right));
+        assert_eq!(rt; result.to_number(), Some(*want));
+    }
+}
+
+/// The rows of a wide vector, by the number of all ones and that of its top bit.
+fn wide_rows(width: u64, ones: u64, top: u64) -> [Row; 26]
+    requires { 0 < width }
+{
+    [
+        (Binary::Add, false, ones, 1, 0),
+        (Binary::Subtract, false, 0, 1, ones),
+        (Binary::Multiply, false, ones, 2, ones ^ 1),
+        (Binary::Divide, false, ones, 2, ones ^ top),
+        (Binary::Divide, true, ones, 2, 0),
+        (Binary::Divide, true, top, ones, top),
+        (Binary::Remainder, false, ones, 2, 1),
+        (Binary::Remainder, true, ones, 2, ones),
+        (Binary::ShiftLeft, false, 1, width - 1, top),
+        (Binary::SignedShiftLeft, true, 1, width, 0),
+        (Binary::ShiftRight, true, top, width - 1, 1),
+        (Binary::SignedShiftRight, true, top, width - 1, ones),
+        (Binary::SignedShiftRight, true, top, width, ones),
+        (Binary::SignedShiftRight, false, top, width - 1, 1),
+        (Binary::Less, true, top, 0, 1),
+        (Binary::Less, false, top, 0, 0),
+        (Binary::LessEqual, true, 0, ones, 0),
+        (Binary::GreaterEqual, true, ones, top, 1),
+        (Binary::Greater, false, ones, 0, 1),
+        (Binary::Equal, false, ones, ones, 1),
+        (Binary::CaseNotEqual, false, ones, top, 1),
+        (Binary::And, false, ones, top, top),
+        (Binary::Xor, false, ones, top, ones ^ top),
+        (Binary::Xnor, false, ones, top, top),
+        (Binary::Or, false, top, 1, top | 1),
+        (Binary::LogicalAnd, false, top, ones, 1),
+    ]
+}
+
+/// The rows of one bit.
+const NARROW: [Row; 12] = [
+    (Binary::Add, false, 1, 1, 0),
+    (Binary::Subtract, false, 0, 1, 1),
+    (Binary::Multiply, true, 1, 1, 1),
+    (Binary::Divide, true, 1, 1, 1),
+    (Binary::Remainder, true, 1, 1, 0),
+    (Binary::ShiftLeft, false, 1, 1, 0),
+    (Binary::SignedShiftRight, true, 1, 1, 1),
+    (Binary::SignedShiftRight, false, 1, 1, 0),
+    (Binary::Less, false, 0, 1, 1),
+    (Binary::Less, true, 0, 1, 0),
+    (Binary::Xnor, false, 1, 1, 1),
+    (Binary::LogicalOr, false, 0, 1, 1),
+];
+
+#[test]
+fn numbers_at_the_widths_of_a_word(rt: HostRuntime) {
+    rows_at(&rt, 1, &NARROW);
+    rows_at(&rt, 63, &wide_rows(63, u64::MAX >> 1, 1 << 62));
+    rows_at(&rt, 64, &wide_rows(64, u64::MAX, 1 << 63));
+}
+
+/// Operands of one width, all x on the left.
+fn unknown_at(rt: &impl Abort, width: u32)
+    requires some { 0 < width }
+    requires most { width ≤ 64 }
+{
+    let (x, zero, one) = (unknown(width), number(width, 0), number(width, 1));
+    for operator in [
+        Binary::Multiply,
+        Binary::Divide,
+        Binary::Remainder,
+        Binary::Add,
+        Binary::Subtract,
+    ] {
+        assert_eq!(rt; operator.of(true, x, one), x);
+    }
+    for operator in [
+        Binary::Less,
+        Binary::LessEqual,
+        Binary::Equal,
+        Binary::NotEqual,
+    ] {
+        assert_eq!(rt; operator.of(true, x, one), of(b"x"));
+    }
+    assert_eq!(rt; Binary::ShiftLeft.of(false, one, x), x);
+    assert_eq!(rt; Binary::SignedShiftRight.of(true, x, one), x);
+    assert_eq!(rt; Binary::And.of(false, x, zero), zero);
+    assert_eq!(rt; Binary::CaseEqual.of(false, x, x), of(b"1"));
+    assert_eq!(rt; Unary::Not.of(Vec4::high_impedance(width)), x);
+    assert_eq!(rt; Unary::Plus.of(x), x);
+    assert_eq!(rt; Unary::ReduceNand.of(x), of(b"x"));
+}
+
+#[test]
+fn unknown_digits_at_the_widths_of_a_word(rt: HostRuntime) {
+    for width in [1, 63, 64] {
+        unknown_at(&rt, width);
+    }
+}
+
 #[test]
 fn worked_parts(rt: HostRuntime) {
     let a = of(b"1010");
@@ -329,6 +659,11 @@ fn worked_parts(rt: HostRuntime) {
     assert_eq!(rt; of(b"1x").concat(of(b"z0")), of(b"1xz0"));
     assert_eq!(rt; of(b"1x0").repeat(3), of(b"1x01x01x0"));
     assert_eq!(rt; of(b"1").repeat(64), Vec4::from_number(64, u64::MAX));
+    assert_eq!(rt; of(b"1x").join(of(b"z0")), of(b"1xz0"));
+    assert_eq!(rt; Vec4::unknown(64).join(of(b"10")).select(0, 4), of(b"xx10"));
+    assert_eq!(rt; of(b"10").join(Vec4::unknown(64)), Vec4::unknown(64));
+    assert_eq!(rt; of(b"1x0").repeated(3), of(b"1x01x01x0"));
+    assert_eq!(rt; of(b"1x0").repeated(64).select(60, 4), of(b"01x0"));
 }
 
 #[test]

@@ -45,6 +45,7 @@ impl Model for Vec4 {
     ghost inverse_ok = { λ v h. Prim.rw (length-digits_of_planes v.width v.value v.unknown, value_plane-digits_of_planes v.width v.value v.unknown h.value_below, unknown_plane-digits_of_planes v.width v.value v.unknown h.unknown_below) refl };
 }
 
+/// `===` (IEEE 1364-2005, clause 5.1.8): the same digits, x and z too.
 impl PartialEq for Vec4 {
     ghost eq = { same_digits };
 

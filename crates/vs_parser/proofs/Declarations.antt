@@ -1,25 +1,37 @@
 -- How the parts of declarations and net assignments make them, and where they stop.
-use Rattle.std.specs.Prelude.{◌≡◌, ℕ, ◌-◌, ◌<◌, ◌≤◌, Bool, false, List, ◌∷◌, refl}
+use Rattle.std.specs.Prelude.{◌≡◌, ℕ, max, ◌-◌, ◌<◌, ◌≤◌, Bool, true, false, List, ◌∷◌, refl}
 use Rattle.std.proofs.Common.{arith}
-use Rattle.vs_tokens.specs.declared.token.Mark.TheVariants as m
-use Rattle.vs_syntax.specs.Symbols.{Symbol, a_mark}
-use Rattle.vs_syntax.specs.Grammar.{nothing, ◌·◌, ◌or◌, part, mark, name, a_target, an_expr}
-use Rattle.vs_syntax.specs.Tables.{goes}
+use Rattle.vs_tokens.specs.declared.token.Mark.{Mark}
+use Rattle.vs_tokens.specs.declared.token.Word.TheVariants as w
+use Rattle.vs_syntax.specs.Symbols.{Symbol, a_mark, a_word, the_mark, same_class}
+use Rattle.vs_syntax.specs.Grammar.{Grammar, nothing, ◌·◌, ◌or◌, part, mark, word, name, a_target}
+use Rattle.vs_syntax.specs.Tables.{low, goes}
 use Rattle.vs_syntax.specs.Derivation.{Tree, empty, leaf, both, down}
 use Rattle.vs_syntax.specs.Reading.{Gets, Stuck, stuck_second, stuck_left, stuck_part, stuck_node}
+use Rattle.vs_syntax.proofs.Fronts.{or_left, same_class-refl}
 use Rattle.vs_syntax.proofs.Gets.{gets_nothing, gets_token, gets_seq, gets_left, gets_right, gets_part, gets_node}
 
--- the value of a declaration
-pub no_value : (room : ℕ) (ts : List Symbol) → goes (mark m.Assign) ts ≡ false → Gets (mark m.Assign · part an_expr or nothing) room ts empty ts
-no_value room ts h = gets_right h gets_nothing
+-- a part behind its mark, which may be absent
+pub absent : (x : Mark) (g : Grammar) (room : ℕ) (ts : List Symbol) → goes (mark x) ts ≡ false → Gets (mark x · g or nothing) room ts empty ts
+absent x g room ts h = gets_right h gets_nothing
 
-pub value_stuck : (room : ℕ) (deep : Bool) (ts after at : List Symbol) → ts ≡ a_mark m.Assign ∷ after → Stuck (part an_expr) room deep after at → Stuck (mark m.Assign · part an_expr or nothing) room deep ts at
-value_stuck room deep ts after at e s =
-    let none : 0 ≤ room = omega arith in
-    rw e (stuck_left refl none (stuck_second (gets_token refl) s))
+goes_present : (x : Mark) (g : Grammar) (after : List Symbol) → goes (mark x · g) (a_mark x ∷ after) ≡ true
+goes_present x g after = or_left (same_class (the_mark x) (the_mark x)) false (same_class-refl (the_mark x))
 
-pub value_read : (room : ℕ) (ts after rest : List Symbol) (x : Tree) → ts ≡ a_mark m.Assign ∷ after → Gets (part an_expr) room after x rest → Gets (mark m.Assign · part an_expr or nothing) room ts (both (leaf (a_mark m.Assign)) x) rest
-value_read room ts after rest x e p = rw e (gets_left refl (gets_seq (gets_token refl) p))
+pub present_stuck : (x : Mark) (g : Grammar) (room : ℕ) (deep : Bool) (ts after at : List Symbol) → low g ≡ 0 → ts ≡ a_mark x ∷ after → Stuck g room deep after at → Stuck (mark x · g or nothing) room deep ts at
+present_stuck x g room deep ts after at n e s =
+    let none : max 0 (low g) ≤ room = omega (arith, n) in
+    rw e (stuck_left (goes_present x g after) none (stuck_second (gets_token refl) s))
+
+pub present_read : (x : Mark) (g : Grammar) (room : ℕ) (ts after rest : List Symbol) (y : Tree) → ts ≡ a_mark x ∷ after → Gets g room after y rest → Gets (mark x · g or nothing) room ts (both (leaf (a_mark x)) y) rest
+present_read x g room ts after rest y e p = rw e (gets_left (goes_present x g after) (gets_seq (gets_token refl) p))
+
+-- the word of signed names
+pub is_signed : (room : ℕ) (ts after : List Symbol) → ts ≡ a_word w.Signed ∷ after → Gets (word w.Signed or nothing) room ts (leaf (a_word w.Signed)) after
+is_signed room ts after e = rw e (gets_left refl (gets_token refl))
+
+pub no_sign : (room : ℕ) (ts : List Symbol) → goes (word w.Signed) ts ≡ false → Gets (word w.Signed or nothing) room ts empty ts
+no_sign room ts h = gets_right h gets_nothing
 
 -- the target of a net assignment
 pub net_stuck : (room : ℕ) (deep : Bool) (ts at : List Symbol) → 0 < room → Stuck name (room - 1) deep ts at → Stuck (part a_target) room deep ts at

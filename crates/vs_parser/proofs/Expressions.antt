@@ -1,28 +1,30 @@
 -- How the parts of an expression make it, and where it stops.
-use Rattle.std.specs.Prelude.{◌≡◌, ℕ, zero, suc, max, ◌+◌, ◌-◌, ◌<◌, ◌≤◌, Bool, true, false, ◌||◌, List, [], ◌∷◌, ◌++◌, map, refl}
-use Rattle.std.proofs.Common.{sym, ◌∙◌, ap, subst, append_assoc, arith}
+use Rattle.std.specs.Prelude.{◌≡◌, ℕ, zero, suc, max, ◌+◌, ◌-◌, ◌<◌, ◌≤◌, Bool, true, false, ◌||◌, List, [], ◌∷◌, ◌++◌, Some, map, refl}
+use Rattle.std.proofs.Common.{sym, ◌∙◌, ap, subst, arith}
 use Rattle.std.proofs.lemmas.List.{map-append}
 use Rattle.vs_logic4.specs.declared.operators.Unary.{Unary}
 use Rattle.vs_logic4.specs.declared.operators.Unary.TheVariants as u
 use Rattle.vs_logic4.specs.declared.operators.Binary.{Binary}
 use Rattle.vs_tokens.specs.declared.token.Mark.{Mark}
 use Rattle.vs_tokens.specs.declared.token.Mark.TheVariants as m
-use Rattle.vs_syntax.specs.Symbols.{Symbol, a_mark, the_mark, any_name, any_number, same_class, first}
-use Rattle.vs_syntax.specs.Grammar.{Grammar, ◌·◌, many, part, node, mark, name, number, a_level, an_expr, an_operand, one_mark, any_mark, prefixes, operands, levels, level_at}
-use Rattle.vs_syntax.specs.Tables.{low, mark_fronts, operand_fronts, fronts, among, need, goes}
-use Rattle.vs_syntax.specs.Derivation.{Tree, empty, leaf, both, down, tokens, height, Is, is_seq, is_stop, is_more}
-use Rattle.vs_syntax.specs.Reading.{Gets, Stuck, stuck_here, stuck_deep, stuck_first, stuck_second, stuck_left, stuck_right, stuck_many, stuck_more, stuck_part, stuck_node, stuck_one, stuck_link, stuck_high}
-use Rattle.vs_syntax.specs.Views.{row_of, unary_mark, binary_mark, link_tree, links_tree, expr_tree}
+use Rattle.vs_syntax.specs.Symbols.{Symbol, a_mark, a_cast, the_mark, any_name, any_number, class_of, same_class, first}
+use Rattle.vs_syntax.specs.Grammar.{Grammar, nothing, ◌·◌, ◌or◌, part, mark, name, number, a_level, a_condition, an_expr, an_operand, arm, other_parts, compounds, one_or_more, one_mark, operands, levels, level_at}
+use Rattle.vs_syntax.specs.Tables.{low, mark_fronts, operand_fronts, among, need, goes}
+use Rattle.vs_syntax.specs.Derivation.{Tree, leaf, both, down, height}
+use Rattle.vs_syntax.specs.Reading.{Gets, Stuck, stuck_first, stuck_second, stuck_left, stuck_right, stuck_many, stuck_part, stuck_node, stuck_one, stuck_link, stuck_high}
+use Rattle.vs_syntax.specs.Views.{row_of, commas_tree, unary_mark, binary_mark, link_tree, head_of, arm_tree, arms_of, choice_tree, others_tree, expr_tree}
 use Rattle.vs_syntax.specs.declared.tree.Expr.{Expr}
-use Rattle.vs_syntax.proofs.Fronts.{clash, goes-node}
-use Rattle.vs_syntax.proofs.Ends.{one_mark-null, marked_fronts}
+use Rattle.vs_syntax.proofs.Fronts.{clash}
+use Rattle.vs_syntax.proofs.Ends.{marked_fronts, link_fronts}
 use Rattle.vs_syntax.proofs.Plainly.{same_class-true}
 use Rattle.vs_syntax.proofs.Gets.{gets_token, gets_seq, gets_left, gets_right, gets_part, gets_node, gets_stop, gets_one, gets_chain}
 use Rattle.vs_parser.specs.Operators.{NoOperator, BeginsLink}
+use Rattle.vs_parser.proofs.Choices as choices
+use Rattle.vs_parser.proofs.Choices.{branch}
 use Rattle.vs_parser.proofs.Exits.{deep_at, goes_at}
-use Rattle.vs_parser.proofs.Rows.{Along, all_read}
-use Rattle.vs_parser.proofs.Trees.{linked}
-use Rattle.vs_parser.proofs.OperatorLemmas.{is_prefix}
+use Rattle.vs_parser.proofs.Lists.{another, goes_another}
+use Rattle.vs_parser.proofs.Rows.{Along, along_one, all_read, more_read, more_stuck, some_there, height-row_push}
+use Rattle.vs_parser.proofs.Trees.{linked, paired}
 
 -- one of several marks
 one_mark-low : (op : Mark) (ops : List Mark) → low (one_mark op ops) ≡ 0
@@ -40,6 +42,11 @@ mark_read op (y ∷ ys) room x after h =
       | true ↦ λ e i. gets_left (ap (λ b. b || false) e) (gets_token (same_class-true (the_mark x) (the_mark op) e))
       | false ↦ λ e i. gets_right (ap (λ b. b || false) e) (mark_read y ys room x after i)
     ] refl h
+
+-- the same of a list of them
+abbrev pub any_mark : List Mark → Grammar
+any_mark [] = nothing
+any_mark (x ∷ xs) = one_mark x xs
 
 any_read : (ops : List Mark) (room : ℕ) (x : Mark) (after : List Symbol) → among (the_mark x) (mark_fronts 0 ops) ≡ true → Gets (any_mark ops) room (a_mark x ∷ after) (leaf (a_mark x)) after
 any_read [] room x after h = absurd (clash h refl)
@@ -73,44 +80,6 @@ link_read n room ts after rest op x l p = rw (l.text) (gets_seq (any_read (level
 link_stuck : (n room : ℕ) (deep : Bool) (ts after at : List Symbol) (op : Binary) → BeginsLink n ts op after → Stuck (part (a_level n)) room deep after at → Stuck (link_at n) room deep ts at
 link_stuck n room deep ts after at op l s = rw (l.text) (stuck_second (any_read (level_at levels n) room (binary_mark op) after l.level) s)
 
--- The same of several links, one of which at least is there.
-same_need : (n : ℕ) (op : Mark) (ops : List Mark) → fronts (one_mark op ops · part (a_level n) · many (one_mark op ops · part (a_level n))) ≡ fronts (one_mark op ops · part (a_level n))
-same_need n op ops = rw (one_mark-null op ops) refl
-
-first_alone : (n : ℕ) (op : Mark) (ops : List Mark) (room : ℕ) (deep : Bool) (ts at : List Symbol) → Stuck (one_mark op ops · part (a_level n)) room deep ts at → Stuck (one_mark op ops · part (a_level n) · many (one_mark op ops · part (a_level n))) room deep ts at
-first_alone n op ops room deep ts at (stuck_here h i) = stuck_here (rw (one_mark-null op ops) refl) (ap (among (first ts)) (same_need n op ops) ∙ i)
-first_alone n op ops room deep ts at (stuck_deep i h) = stuck_deep (ap (among (first ts)) (same_need n op ops) ∙ i) (subst (λ u. room < need (first ts) u) (sym (same_need n op ops)) h)
-first_alone n op ops room deep ts at (stuck_first s) = stuck_first s
-first_alone n op ops room deep ts at (stuck_second q s) = stuck_second q (stuck_first s)
-
-first_read : (n : ℕ) (a : Grammar) (room : ℕ) (deep : Bool) (ts mid at : List Symbol) (x y : Tree) → Is (a · part (a_level n)) (both x y) mid → ts ≡ (tokens x ++ tokens y) ++ mid → max (height x) (height y) ≤ room → Stuck (many (a · part (a_level n))) room deep mid at → Stuck (a · part (a_level n) · many (a · part (a_level n))) room deep ts at
-first_read n a room deep ts mid at x y (is_seq i j) e h s =
-    stuck_second (record { is = i; text = e ∙ append_assoc (tokens x) (tokens y) mid; fits = omega (arith, h) }) (stuck_second (record { is = j; text = refl; fits = omega (arith, h) }) s)
-
-one_read : (n : ℕ) (a : Grammar) (room : ℕ) (deep : Bool) (ts mid at : List Symbol) (x : Tree) → Is (a · part (a_level n)) x mid → ts ≡ tokens x ++ mid → height x ≤ room → Stuck (many (a · part (a_level n))) room deep mid at → Stuck (a · part (a_level n) · many (a · part (a_level n))) room deep ts at
-one_read n a room deep ts mid at empty i e h s = elim i [ ]
-one_read n a room deep ts mid at (leaf z) i e h s = elim i [ ]
-one_read n a room deep ts mid at (down z) i e h s = elim i [ ]
-one_read n a room deep ts mid at (both x y) i e h s = first_read n a room deep ts mid at x y i e h s
-
-some_stuck : (n : ℕ) (op : Mark) (ops : List Mark) (room : ℕ) (deep : Bool) (ts at : List Symbol) → Stuck (many (one_mark op ops · part (a_level n))) room deep ts at → Stuck (one_mark op ops · part (a_level n) · many (one_mark op ops · part (a_level n))) room deep ts at
-some_stuck n op ops room deep ts at (stuck_here h i) = absurd (clash refl h)
-some_stuck n op ops room deep ts at (stuck_deep i h) = stuck_deep (ap (among (first ts)) (same_need n op ops) ∙ i) (subst (λ u. room < need (first ts) u) (sym (same_need n op ops)) h)
-some_stuck n op ops room deep ts at (stuck_many i h s) = first_alone n op ops room deep ts at s
-some_stuck n op ops room deep ts at (stuck_more i q s) = one_read n (one_mark op ops) room deep ts _ at _ q.is q.text q.fits s
-
-some_is : (a b : Grammar) (x y z : Tree) (at : List Symbol) → Is (many (a · b)) (both (both x y) z) at → Is (a · b · many (a · b)) (both x (both y z)) at
-some_is a b x y z at (is_more {more = at'} h (is_seq i j) k) = is_seq (subst (λ (u : List Symbol). Is a x u) (sym (append_assoc (tokens y) (tokens z) at')) i) (is_seq j k)
-
-none_is : (a : Grammar) (at : List Symbol) → Is (many a) empty at → goes a at ≡ false
-none_is a at (is_stop h) = h
-
-some_read : (a b : Grammar) (room : ℕ) (ts at : List Symbol) (ls : List (Binary × Tree)) → goes (a · b) ts ≡ true → Gets (many (a · b)) room ts (row_of (map link_tree ls)) at → Gets (a · b · many (a · b)) room ts (links_tree ls) at
-some_read a b room ts at [] e q = absurd (clash e (ap (goes (a · b)) q.text ∙ none_is (a · b) at q.is))
-some_read a b room ts at (l ∷ ls) e q =
-    let h : height (row_of (map link_tree (l ∷ ls))) ≤ room = q.fits in
-    record { is = some_is a b (leaf (a_mark (binary_mark l.0))) l.1 (row_of (map link_tree ls)) at q.is; text = q.text; fits = omega (arith, h) }
-
 -- one level more
 first_stuck : (n : ℕ) (ops : List Mark) (room : ℕ) (deep : Bool) (ts at : List Symbol) → Stuck (part (a_level n)) room deep ts at → Stuck (operands (a_level n) ops) room deep ts at
 first_stuck n [] room deep ts at s = s
@@ -123,7 +92,7 @@ climb (suc d) n top room deep ts at e s = climb d (suc n) top room deep ts at (o
 
 alone : (n : ℕ) (ops : List Mark) (room : ℕ) (ts rest : List Symbol) (x : Tree) → among (first rest) (mark_fronts 0 ops) ≡ false → Gets (part (a_level n)) room ts x rest → Gets (operands (a_level n) ops) room ts x rest
 alone n [] room ts rest x h p = p
-alone n (op ∷ ops) room ts rest x h p = gets_one (marked_fronts op ops (part (a_level n) · many (one_mark op ops · part (a_level n))) (first rest) ∙ h) p
+alone n (op ∷ ops) room ts rest x h p = gets_one (link_fronts n op ops (first rest) ∙ h) p
 
 -- an operand with no operator of its level behind it
 pub level_alone : (n room : ℕ) (ts rest : List Symbol) (x : Tree) → NoOperator n rest → Gets (part (a_level n)) room ts x rest → Gets (part (a_level (suc n))) room ts x rest
@@ -131,7 +100,7 @@ level_alone n room ts rest x h p = gets_part (alone n (level_at levels n) room t
 
 high : (n : ℕ) (ops : List Mark) (room : ℕ) (ts mid : List Symbol) (x : Tree) → among (first mid) (mark_fronts 0 ops) ≡ true → Gets (part (a_level n)) room ts x mid → room ≤ height x → Stuck (operands (a_level n) ops) room true ts mid
 high n [] room ts mid x h p k = absurd (clash h refl)
-high n (op ∷ ops) room ts mid x h p k = stuck_high p (marked_fronts op ops (part (a_level n) · many (one_mark op ops · part (a_level n))) (first mid) ∙ h) k
+high n (op ∷ ops) room ts mid x h p k = stuck_high p (link_fronts n op ops (first mid) ∙ h) k
 
 -- an operator behind a first operand that has all of the nodes
 pub too_high : (n room : ℕ) (ts mid after : List Symbol) (op : Binary) (x : Tree) → BeginsLink n mid op after → Gets (part (a_level n)) room ts x mid → room ≤ height x → Stuck (part (a_level (suc n))) room true ts mid
@@ -141,56 +110,97 @@ later_stuck : (n : ℕ) (ops : List Mark) (room : ℕ) (deep : Bool) (ts start r
 later_stuck n [] room deep ts start rest at x xs h k p l g s = absurd (clash h refl)
 later_stuck n (op ∷ ops) room deep ts start rest at x xs h k p l g s =
     let low_enough : max (low (one_mark op ops)) 0 ≤ room - 1 = omega (arith, one_mark-low op ops) in
-    stuck_link p l (marked_fronts op ops (part (a_level n) · many (one_mark op ops · part (a_level n))) (first start) ∙ h) (some_stuck n op ops (room - 1) deep start at (g.stops deep at (stuck_many (marked_fronts op ops (part (a_level n)) (first rest) ∙ k) low_enough s)))
+    stuck_link p l (link_fronts n op ops (first start) ∙ h) (more_stuck (g.stops deep at (stuck_many (marked_fronts op ops (part (a_level n)) (first rest) ∙ k) low_enough s)))
 
 -- the operands behind the first
 pub chain_stuck : (n room : ℕ) (deep : Bool) (ts start behind rest after at : List Symbol) (op op' : Binary) (x : Tree) (xs : List Tree) → BeginsLink n start op behind → BeginsLink n rest op' after → Gets (part (a_level n)) room ts x start → height x < room → Along (link_at n) (room - 1) start rest xs → Stuck (part (a_level n)) (room - 1) deep after at → Stuck (part (a_level (suc n))) room deep ts at
 chain_stuck n room deep ts start behind rest after at op op' x xs b l p h g s =
     stuck_part (later_stuck n (level_at levels n) room deep ts start rest at x xs (next_is n start behind op b) (next_is n rest after op' l) p h g (link_stuck n (room - 1) deep rest after at op' l s))
 
-chained : (n : ℕ) (ops : List Mark) (room : ℕ) (ts start rest : List Symbol) (x : Tree) (ls : List (Binary × Tree)) → among (first start) (mark_fronts 0 ops) ≡ true → among (first rest) (mark_fronts 0 ops) ≡ false → Gets (part (a_level n)) room ts x start → height x < room → Along (any_mark ops · part (a_level n)) (room - 1) start rest (map link_tree ls) → Gets (operands (a_level n) ops) room ts (down (both x (links_tree ls))) rest
-chained n [] room ts start rest x ls h k p l g = absurd (clash h refl)
-chained n (op ∷ ops) room ts start rest x ls h k p l g =
-    gets_chain p l (marked_fronts op ops (part (a_level n) · many (one_mark op ops · part (a_level n))) (first start) ∙ h)
-    (some_read (one_mark op ops) (part (a_level n)) (room - 1) start rest ls (marked_fronts op ops (part (a_level n)) (first start) ∙ h)
-    (all_read (one_mark op ops · part (a_level n)) (room - 1) start rest rest (map link_tree ls) g (gets_stop (marked_fronts op ops (part (a_level n)) (first rest) ∙ k))))
+chained : (n : ℕ) (ops : List Mark) (room : ℕ) (ts start rest : List Symbol) (x : Tree) (xs : List Tree) → among (first start) (mark_fronts 0 ops) ≡ true → among (first rest) (mark_fronts 0 ops) ≡ false → Gets (part (a_level n)) room ts x start → height x < room → Along (any_mark ops · part (a_level n)) (room - 1) start rest xs → Gets (operands (a_level n) ops) room ts (down (both x (row_of xs))) rest
+chained n [] room ts start rest x xs h k p l g = absurd (clash h refl)
+chained n (op ∷ ops) room ts start rest x xs h k p l g =
+    gets_chain p l (link_fronts n op ops (first start) ∙ h)
+    (more_read (one_mark op ops · part (a_level n)) (room - 1) start rest (row_of xs) (marked_fronts op ops (part (a_level n)) (first start) ∙ h)
+    (all_read (one_mark op ops · part (a_level n)) (room - 1) start rest rest xs g (gets_stop (marked_fronts op ops (part (a_level n)) (first rest) ∙ k))))
 
-pub chain_read : (n room : ℕ) (ts start behind rest : List Symbol) (op : Binary) (x : Tree) (ls : List (Binary × Expr)) → BeginsLink n start op behind → NoOperator n rest → Gets (part (a_level n)) room ts x start → height x < room → Along (link_at n) (room - 1) start rest (map link_of ls) → Gets (part (a_level (suc n))) room ts (down (both x (links_tree (map linked ls)))) rest
+pub chain_read : (n room : ℕ) (ts start behind rest : List Symbol) (op : Binary) (x : Tree) (ls : List (Binary × Expr)) → BeginsLink n start op behind → NoOperator n rest → Gets (part (a_level n)) room ts x start → height x < room → Along (link_at n) (room - 1) start rest (map link_of ls) → Gets (part (a_level (suc n))) room ts (down (both x (row_of (map link_tree (map linked ls))))) rest
 chain_read n room ts start behind rest op x ls b k p h g =
-    gets_part (chained n (level_at levels n) room ts start rest x (map linked ls) (next_is n start behind op b) k p h (subst (λ (u : List Tree). Along (link_at n) (room - 1) start rest u) (sym (links_are ls)) g))
+    gets_part (chained n (level_at levels n) room ts start rest x (map link_tree (map linked ls)) (next_is n start behind op b) k p h (subst (λ (u : List Tree). Along (link_at n) (room - 1) start rest u) (sym (links_are ls)) g))
 
--- the nesting of the operands behind the first
-height-row_push : (xs : List Tree) (x : Tree) → height (row_of (xs ++ x ∷ [])) ≡ max (height (row_of xs)) (height x)
-height-row_push [] x = omega arith
-height-row_push (w ∷ ws) x = let e : height (row_of (ws ++ x ∷ [])) ≡ max (height (row_of ws)) (height x) = height-row_push ws x in omega (arith, e)
+-- the nesting of the operands and the first one
+pub chain_height : (x : Tree) (ls : List (Binary × Expr)) → height (down (both x (row_of (map link_tree (map linked ls))))) ≡ suc (max (height x) (height (row_of (map link_of ls))))
+chain_height x ls = ap (λ u. suc (max (height x) (height (row_of u)))) (links_are ls)
 
-pub links_none : (ls : List (Binary × Expr)) → ls ≡ [] → height (row_of (map link_of ls)) ≡ 0
-links_none ls e = ap (λ u. height (row_of (map link_of u))) e
+-- conditions, each with the operand for it
+head_push : (ps : List (Tree × Tree)) (x v y : Tree) → head_of (ps ++ (x, v) ∷ []) y ≡ head_of ps x
+head_push [] x v y = refl
+head_push (p ∷ ps) x v y = refl
 
-pub links_push : (ls ks : List (Binary × Expr)) (op : Binary) (x : Expr) → ks ≡ ls ++ (op, x) ∷ [] → height (row_of (map link_of ks)) ≡ max (height (row_of (map link_of ls))) (height (expr_tree x))
-links_push ls ks op x e =
-    let h : height (row_of (map link_of ls ++ link_of (op, x) ∷ [])) ≡ max (height (row_of (map link_of ls))) (max 0 (height (expr_tree x))) = height-row_push (map link_of ls) (link_of (op, x)) in
-    let k : height (row_of (map link_of ks)) ≡ height (row_of (map link_of ls ++ link_of (op, x) ∷ [])) = ap (λ u. height (row_of u)) (ap (map link_of) e ∙ map-append link_of ls ((op, x) ∷ [])) in
+arms_push : (ps : List (Tree × Tree)) (x v y : Tree) → arms_of (ps ++ (x, v) ∷ []) y ≡ arms_of ps x ++ arm_tree v y ∷ []
+arms_push [] x v y = refl
+arms_push (p ∷ ps) x v y = rw (head_push ps x v y, arms_push ps x v y) refl
+
+pushed_pairs : (ps qs : List (Expr × Expr)) (x v : Expr) → qs ≡ ps ++ (x, v) ∷ [] → map paired qs ≡ map paired ps ++ (expr_tree x, expr_tree v) ∷ []
+pushed_pairs ps qs x v e = ap (map paired) e ∙ map-append paired ps ((x, v) ∷ [])
+
+pub head_pushed : (ps qs : List (Expr × Expr)) (x v y : Expr) (z : Tree) → qs ≡ ps ++ (x, v) ∷ [] → head_of (map paired ps) (expr_tree x) ≡ z → head_of (map paired qs) (expr_tree y) ≡ z
+head_pushed ps qs x v y z e h = ap (λ u. head_of u (expr_tree y)) (pushed_pairs ps qs x v e) ∙ head_push (map paired ps) (expr_tree x) (expr_tree v) (expr_tree y) ∙ h
+
+arms_pushed : (ps qs : List (Expr × Expr)) (x v y : Expr) → qs ≡ ps ++ (x, v) ∷ [] → arms_of (map paired qs) (expr_tree y) ≡ arms_of (map paired ps) (expr_tree x) ++ arm_tree (expr_tree v) (expr_tree y) ∷ []
+arms_pushed ps qs x v y e = ap (λ u. arms_of u (expr_tree y)) (pushed_pairs ps qs x v e) ∙ arms_push (map paired ps) (expr_tree x) (expr_tree v) (expr_tree y)
+
+pub arms_height : (ps qs : List (Expr × Expr)) (x v y : Expr) → qs ≡ ps ++ (x, v) ∷ [] → height (row_of (arms_of (map paired qs) (expr_tree y))) ≡ max (height (row_of (arms_of (map paired ps) (expr_tree x)))) (max (height (expr_tree v)) (height (expr_tree y)))
+arms_height ps qs x v y e =
+    let h : height (row_of (arms_of (map paired qs) (expr_tree y))) ≡ height (row_of (arms_of (map paired ps) (expr_tree x) ++ arm_tree (expr_tree v) (expr_tree y) ∷ [])) = ap (λ u. height (row_of u)) (arms_pushed ps qs x v y e) in
+    let k : height (row_of (arms_of (map paired ps) (expr_tree x) ++ arm_tree (expr_tree v) (expr_tree y) ∷ [])) ≡ max (height (row_of (arms_of (map paired ps) (expr_tree x)))) (height (arm_tree (expr_tree v) (expr_tree y))) = height-row_push (arms_of (map paired ps) (expr_tree x)) (arm_tree (expr_tree v) (expr_tree y)) in
     omega (arith, h, k)
 
-linked_height : (ls : List (Binary × Tree)) → height (links_tree ls) ≡ height (row_of (map link_tree ls))
-linked_height [] = refl
-linked_height (l ∷ ls) = omega arith
+question_goes : (ts after : List Symbol) → ts ≡ a_mark m.Question ∷ after → goes arm ts ≡ true
+question_goes ts after e = ap (goes arm) e
 
-pub chain_height : (x : Tree) (ls : List (Binary × Expr)) → height (down (both x (links_tree (map linked ls)))) ≡ suc (max (height x) (height (row_of (map link_of ls))))
-chain_height x ls =
-    let h : height (links_tree (map linked ls)) ≡ height (row_of (map link_tree (map linked ls))) = linked_height (map linked ls) in
-    let k : height (row_of (map link_tree (map linked ls))) ≡ height (row_of (map link_of ls)) = ap (λ u. height (row_of u)) (links_are ls) in
-    omega (arith, h, k)
+pub arms_along : (room : ℕ) (start rest after behind : List Symbol) (ps qs : List (Expr × Expr)) (x v y : Expr) → qs ≡ ps ++ (x, v) ∷ [] → Along arm room start rest (arms_of (map paired ps) (expr_tree x)) → rest ≡ a_mark m.Question ∷ after → Gets (part an_expr · mark m.Colon · part a_condition) room after (both (expr_tree v) (both (leaf (a_mark m.Colon)) (expr_tree y))) behind → Along arm room start behind (arms_of (map paired qs) (expr_tree y))
+arms_along room start rest after behind ps qs x v y e l f p =
+    subst (λ (u : List Tree). Along arm room start behind u) (sym (arms_pushed ps qs x v y e))
+    (along_one arm room start rest behind (arms_of (map paired ps) (expr_tree x)) (arm_tree (expr_tree v) (expr_tree y)) l (question_goes rest after f) (rw f (gets_seq (gets_token refl) p)))
+
+pub choice_alone : (room : ℕ) (ts rest : List Symbol) (x : Tree) → goes (mark m.Question) rest ≡ false → Gets (part a_condition) room ts x rest → Gets (part an_expr) room ts x rest
+choice_alone room ts rest x h p = gets_part (gets_one h p)
+
+pub condition_stuck : (room : ℕ) (deep : Bool) (ts at : List Symbol) → Stuck (part a_condition) room deep ts at → Stuck (part an_expr) room deep ts at
+condition_stuck room deep ts at s = stuck_part (stuck_one s)
+
+pub choice_high : (room : ℕ) (ts mid after : List Symbol) (x : Tree) → mid ≡ a_mark m.Question ∷ after → Gets (part a_condition) room ts x mid → room ≤ height x → Stuck (part an_expr) room true ts mid
+choice_high room ts mid after x e p k = stuck_part (stuck_high p (ap (goes (one_or_more arm)) e) k)
+
+pub choice_stuck : (room : ℕ) (deep : Bool) (ts start behind rest after at : List Symbol) (x : Tree) (xs : List Tree) → start ≡ a_mark m.Question ∷ behind → rest ≡ a_mark m.Question ∷ after → Gets (part a_condition) room ts x start → height x < room → Along arm (room - 1) start rest xs → Stuck (part an_expr · mark m.Colon · part a_condition) (room - 1) deep after at → Stuck (part an_expr) room deep ts at
+choice_stuck room deep ts start behind rest after at x xs e f p h l s =
+    let none : 0 ≤ room - 1 = omega arith in
+    let one : Stuck arm (room - 1) deep rest at = rw f (stuck_second (gets_token refl) s) in
+    stuck_part (stuck_link p h (ap (goes (one_or_more arm)) e) (more_stuck (l.stops deep at (stuck_many (question_goes rest after f) none one))))
+
+pub choice_read : (room : ℕ) (ts start behind rest : List Symbol) (ps : List (Tree × Tree)) (x y : Tree) → start ≡ a_mark m.Question ∷ behind → goes (mark m.Question) rest ≡ false → Gets (part a_condition) room ts x start → height x < room → head_of ps y ≡ x → Along arm (room - 1) start rest (arms_of ps y) → Gets (part an_expr) room ts (choice_tree ps y) rest
+choice_read room ts start behind rest [] x y e f p h i l =
+    absurd (some_there arm (room - 1) start rest (question_goes start behind e) (all_read arm (room - 1) start rest rest [] l (gets_stop f)))
+choice_read room ts start behind rest (q ∷ ps) x y e f p h i l =
+    let p' : Gets (part a_condition) room ts q.0 start = subst (λ (u : Tree). Gets (part a_condition) room ts u start) (sym i) p in
+    let h' : height q.0 < room = subst (λ (u : Tree). height u < room) (sym i) h in
+    gets_part (gets_chain p' h' (ap (goes (one_or_more arm)) e)
+    (more_read arm (room - 1) start rest (row_of (arms_of (q ∷ ps) y)) (question_goes start behind e) (all_read arm (room - 1) start rest rest (arms_of (q ∷ ps) y) l (gets_stop f))))
+
+pub choice_height : (room : ℕ) (start behind rest : List Symbol) (ps : List (Tree × Tree)) (x y : Tree) → start ≡ a_mark m.Question ∷ behind → goes (mark m.Question) rest ≡ false → head_of ps y ≡ x → Along arm room start rest (arms_of ps y) → height (choice_tree ps y) ≡ suc (max (height x) (height (row_of (arms_of ps y))))
+choice_height room start behind rest [] x y e f i l =
+    absurd (some_there arm room start rest (question_goes start behind e) (all_read arm room start rest rest [] l (gets_stop f)))
+choice_height room start behind rest (q ∷ ps) x y e f i l = ap (λ u. suc (max (height u) (height (row_of (arms_of (q ∷ ps) y))))) i
 
 -- a number and a name
-pub number_stuck : (room : ℕ) (deep : Bool) (ts at : List Symbol) → first ts ≡ any_number false → Stuck number room deep ts at → Stuck (part an_operand) room deep ts at
+pub number_stuck : (room : ℕ) (deep : Bool) (ts at : List Symbol) → first ts ≡ any_number → Stuck number room deep ts at → Stuck (part an_operand) room deep ts at
 number_stuck room deep ts at e s =
     let none : 0 ≤ room = omega arith in
-    stuck_part (stuck_left (goes_at number ts (any_number false) true e refl) none s)
+    stuck_part (stuck_left (goes_at number ts any_number true e refl) none s)
 
-pub number_read : (room : ℕ) (ts rest : List Symbol) (x : Tree) → first ts ≡ any_number false → Gets number room ts x rest → Gets (part an_operand) room ts x rest
-number_read room ts rest x e p = gets_part (gets_left (goes_at number ts (any_number false) true e refl) p)
+pub number_read : (room : ℕ) (ts rest : List Symbol) (x : Tree) → first ts ≡ any_number → Gets number room ts x rest → Gets (part an_operand) room ts x rest
+number_read room ts rest x e p = gets_part (gets_left (goes_at number ts any_number true e refl) p)
 
 pub name_stuck : (room : ℕ) (deep : Bool) (ts at : List Symbol) → first ts ≡ any_name → Stuck name room deep ts at → Stuck (part an_operand) room deep ts at
 name_stuck room deep ts at e s =
@@ -200,37 +210,101 @@ name_stuck room deep ts at e s =
 pub name_read : (room : ℕ) (ts rest : List Symbol) (x : Tree) → first ts ≡ any_name → Gets name room ts x rest → Gets (part an_operand) room ts x rest
 name_read room ts rest x e p = gets_part (gets_right (goes_at number ts any_name false e refl) (gets_left (goes_at name ts any_name true e refl) p))
 
--- an operator and its operand
-prefix_goes : (op : Unary) (after : List Symbol) → goes (any_mark prefixes · part an_operand) (a_mark (unary_mark op) ∷ after) ≡ true
-prefix_goes op after = any_goes prefixes (part an_operand) (a_mark (unary_mark op) ∷ after) (is_prefix op)
+-- an operand that is a node, by its first symbol
+compound_stuck : (g : Grammar) (room : ℕ) (deep : Bool) (s : Symbol) (ts after at : List Symbol) → 0 < room → ts ≡ s ∷ after → goes number (s ∷ after) ≡ false → goes name (s ∷ after) ≡ false → branch (class_of s) compounds ≡ Some g → low g ≡ 0 → Stuck g (room - 1) deep after at → Stuck (part an_operand) room deep ts at
+compound_stuck g room deep s ts after at h e i j b l p =
+    let none : 0 ≤ room = omega arith in
+    rw e (stuck_part (stuck_right i none (stuck_right j h (stuck_node h (choices.choice_stuck compounds g (room - 1) deep s after at b (omega (arith, l)) p)))))
 
-goes_prefix : (op : Unary) (after : List Symbol) → goes (node (any_mark prefixes · part an_operand)) (a_mark (unary_mark op) ∷ after) ≡ true
-goes_prefix op after = goes-node (any_mark prefixes · part an_operand) (a_mark (unary_mark op) ∷ after) ∙ prefix_goes op after
+compound_read : (g : Grammar) (room : ℕ) (s : Symbol) (ts after rest : List Symbol) (x : Tree) → 0 < room → ts ≡ s ∷ after → goes number (s ∷ after) ≡ false → goes name (s ∷ after) ≡ false → branch (class_of s) compounds ≡ Some g → Gets g (room - 1) after x rest → Gets (part an_operand) room ts (down (both (leaf s) x)) rest
+compound_read g room s ts after rest x h e i j b p = rw e (gets_part (gets_right i (gets_right j (gets_node h (choices.choice_read compounds g (room - 1) s after rest x b p)))))
+
+-- an operator and its operand
+prefix_branch : (op : Unary) → branch (the_mark (unary_mark op)) compounds ≡ Some (part an_operand)
+prefix_branch u.Not = refl
+prefix_branch _ = refl
 
 pub prefixed_stuck : (op : Unary) (room : ℕ) (deep : Bool) (ts after at : List Symbol) → 0 < room → ts ≡ a_mark (unary_mark op) ∷ after → Stuck (part an_operand) (room - 1) deep after at → Stuck (part an_operand) room deep ts at
-prefixed_stuck op room deep ts after at h e s =
-    let none : 0 ≤ room = omega arith in
-    rw e (stuck_part (stuck_right refl none (stuck_right refl h (stuck_left (goes_prefix op after) h (stuck_node h (stuck_second (any_read prefixes (room - 1) (unary_mark op) after (is_prefix op)) s))))))
+prefixed_stuck op room deep ts after at h e s = compound_stuck (part an_operand) room deep (a_mark (unary_mark op)) ts after at h e refl refl (prefix_branch op) refl s
 
 pub prefixed_read : (op : Unary) (room : ℕ) (ts after rest : List Symbol) (x : Tree) → 0 < room → ts ≡ a_mark (unary_mark op) ∷ after → Gets (part an_operand) (room - 1) after x rest → Gets (part an_operand) room ts (down (both (leaf (a_mark (unary_mark op))) x)) rest
-prefixed_read op room ts after rest x h e p =
-    rw e (gets_part (gets_right refl (gets_right refl (gets_left (goes_prefix op after) (gets_node h (gets_seq (any_read prefixes (room - 1) (unary_mark op) after (is_prefix op)) p))))))
+prefixed_read op room ts after rest x h e p = compound_read (part an_operand) room (a_mark (unary_mark op)) ts after rest x h e refl refl (prefix_branch op) p
 
 -- an expression in parentheses
 pub group_stuck : (room : ℕ) (deep : Bool) (ts after at : List Symbol) → 0 < room → ts ≡ a_mark m.Open ∷ after → Stuck (part an_expr · mark m.Close) (room - 1) deep after at → Stuck (part an_operand) room deep ts at
-group_stuck room deep ts after at h e s =
-    let none : 0 ≤ room = omega arith in
-    rw e (stuck_part (stuck_right refl none (stuck_right refl h (stuck_right refl h (stuck_node h (stuck_second (gets_token refl) s))))))
+group_stuck room deep ts after at h e s = compound_stuck (part an_expr · mark m.Close) room deep (a_mark m.Open) ts after at h e refl refl refl refl s
 
 pub group_read : (room : ℕ) (ts after rest : List Symbol) (x : Tree) → 0 < room → ts ≡ a_mark m.Open ∷ after → Gets (part an_expr · mark m.Close) (room - 1) after x rest → Gets (part an_operand) room ts (down (both (leaf (a_mark m.Open)) x)) rest
-group_read room ts after rest x h e p = rw e (gets_part (gets_right refl (gets_right refl (gets_right refl (gets_node h (gets_seq (gets_token refl) p))))))
+group_read room ts after rest x h e p = compound_read (part an_expr · mark m.Close) room (a_mark m.Open) ts after rest x h e refl refl refl p
+
+-- a conversion
+pub cast_stuck : (signed : Bool) (room : ℕ) (deep : Bool) (ts after at : List Symbol) → 0 < room → ts ≡ a_cast signed ∷ after → Stuck (mark m.Open · part an_expr · mark m.Close) (room - 1) deep after at → Stuck (part an_operand) room deep ts at
+cast_stuck signed room deep ts after at h e s = compound_stuck (mark m.Open · part an_expr · mark m.Close) room deep (a_cast signed) ts after at h e refl refl refl refl s
+
+pub cast_read : (signed : Bool) (room : ℕ) (ts after rest : List Symbol) (x : Tree) → 0 < room → ts ≡ a_cast signed ∷ after → Gets (mark m.Open · part an_expr · mark m.Close) (room - 1) after x rest → Gets (part an_operand) room ts (down (both (leaf (a_cast signed)) x)) rest
+cast_read signed room ts after rest x h e p = compound_read (mark m.Open · part an_expr · mark m.Close) room (a_cast signed) ts after rest x h e refl refl refl p
+
+-- what stands in braces behind the first expression
+abbrev pub braced : Grammar
+braced = mark m.OpenBrace · part an_expr · other_parts · mark m.CloseBrace or other_parts
+
+pub braces_stuck : (room : ℕ) (deep : Bool) (ts after at : List Symbol) → 0 < room → ts ≡ a_mark m.OpenBrace ∷ after → Stuck (part an_expr · braced) (room - 1) deep after at → Stuck (part an_operand) room deep ts at
+braces_stuck room deep ts after at h e s = compound_stuck (part an_expr · braced) room deep (a_mark m.OpenBrace) ts after at h e refl refl refl refl s
+
+pub braces_read : (room : ℕ) (ts after rest : List Symbol) (x : Tree) → 0 < room → ts ≡ a_mark m.OpenBrace ∷ after → Gets (part an_expr · braced) (room - 1) after x rest → Gets (part an_operand) room ts (down (both (leaf (a_mark m.OpenBrace)) x)) rest
+braces_read room ts after rest x h e p = compound_read (part an_expr · braced) room (a_mark m.OpenBrace) ts after rest x h e refl refl refl p
+
+no_inner : (ts : List Symbol) → goes (mark m.OpenBrace) ts ≡ false → goes (mark m.OpenBrace · part an_expr · other_parts · mark m.CloseBrace) ts ≡ false
+no_inner ts h = h
+
+pub others_stuck : (room : ℕ) (deep : Bool) (ts at : List Symbol) → goes (mark m.OpenBrace) ts ≡ false → Stuck other_parts room deep ts at → Stuck braced room deep ts at
+others_stuck room deep ts at h s =
+    let none : 0 ≤ room = omega arith in
+    stuck_right (no_inner ts h) none s
+
+pub others_read : (room : ℕ) (ts rest : List Symbol) (x : Tree) → goes (mark m.OpenBrace) ts ≡ false → Gets other_parts room ts x rest → Gets braced room ts x rest
+others_read room ts rest x h p = gets_right (no_inner ts h) p
+
+pub repeated_stuck : (room : ℕ) (deep : Bool) (ts after at : List Symbol) → ts ≡ a_mark m.OpenBrace ∷ after → Stuck (part an_expr · other_parts · mark m.CloseBrace) room deep after at → Stuck braced room deep ts at
+repeated_stuck room deep ts after at e s =
+    let none : 0 ≤ room = omega arith in
+    rw e (stuck_left refl none (stuck_second (gets_token refl) s))
+
+pub repeated_read : (room : ℕ) (ts after rest : List Symbol) (x : Tree) → ts ≡ a_mark m.OpenBrace ∷ after → Gets (part an_expr · other_parts · mark m.CloseBrace) room after x rest → Gets braced room ts (both (leaf (a_mark m.OpenBrace)) x) rest
+repeated_read room ts after rest x e p = rw e (gets_left refl (gets_seq (gets_token refl) p))
+
+-- a part behind its comma
+abbrev pub comma_of : Expr → Tree
+comma_of x = both (leaf (a_mark m.Comma)) (expr_tree x)
+
+commas_are : (xs : List Expr) → commas_tree (map expr_tree xs) ≡ row_of (map comma_of xs)
+commas_are [] = refl
+commas_are (x ∷ xs) = ap (both (comma_of x)) (commas_are xs)
+
+pub parts_height : (xs : List Expr) → height (others_tree (map expr_tree xs)) ≡ height (row_of (map comma_of xs))
+parts_height xs = let e : height (commas_tree (map expr_tree xs)) ≡ height (row_of (map comma_of xs)) = ap height (commas_are xs) in omega (arith, e)
+
+pub parts_read : (room : ℕ) (start rest at : List Symbol) (xs : List Expr) → Along (another m.Comma an_expr) room start rest (map comma_of xs) → goes (mark m.Comma) rest ≡ false → Gets (mark m.CloseBrace) room rest (leaf (a_mark m.CloseBrace)) at → Gets other_parts room start (others_tree (map expr_tree xs)) at
+parts_read room start rest at xs l h p =
+    subst (λ (u : Tree). Gets other_parts room start (both u (leaf (a_mark m.CloseBrace))) at) (sym (commas_are xs))
+    (gets_seq (all_read (another m.Comma an_expr) room start rest rest (map comma_of xs) l (gets_stop h)) p)
+
+pub part_stuck : (room : ℕ) (deep : Bool) (start rest after at : List Symbol) (xs : List Tree) → Along (another m.Comma an_expr) room start rest xs → rest ≡ a_mark m.Comma ∷ after → Stuck (part an_expr) room deep after at → Stuck other_parts room deep start at
+part_stuck room deep start rest after at xs l e s =
+    let none : 0 ≤ room = omega arith in
+    stuck_first (l.stops deep at (stuck_many (goes_another m.Comma an_expr rest after e) none (subst (λ (u : List Symbol). Stuck (another m.Comma an_expr) room deep u at) (sym e) (stuck_second (gets_token refl) s))))
+
+pub end_of_parts : (room : ℕ) (deep : Bool) (start rest at : List Symbol) (xs : List Tree) → Along (another m.Comma an_expr) room start rest xs → goes (mark m.Comma) rest ≡ false → Stuck (mark m.CloseBrace) room deep rest at → Stuck other_parts room deep start at
+end_of_parts room deep start rest at xs l h s = stuck_second (all_read (another m.Comma an_expr) room start rest rest xs l (gets_stop h)) s
 
 -- an operator that has no room
 prefix_among : (op : Unary) → among (the_mark (unary_mark op)) operand_fronts ≡ true
 prefix_among u.Not = refl
+prefix_among _ = refl
 
 prefix_need : (op : Unary) → need (the_mark (unary_mark op)) operand_fronts ≡ 1
 prefix_need u.Not = refl
+prefix_need _ = refl
 
 pub prefixed_deep : (op : Unary) (room : ℕ) (ts after : List Symbol) → ts ≡ a_mark (unary_mark op) ∷ after → room ≡ 0 → Stuck (part an_operand) room true ts ts
 prefixed_deep op room ts after e h = deep_at an_operand room ts (the_mark (unary_mark op)) (ap first e) (prefix_among op) (omega (arith, h, prefix_need op))

@@ -3,23 +3,17 @@ use Rattle.std.specs.Prelude.{◌≡◌, ℕ, ◌==◌, Bool, true, false, ◌&&
 use Rattle.std.proofs.Common.{sym, ◌∙◌, ap}
 use Rattle.std.proofs.lemmas.Bool.{eqb-true}
 use Rattle.vs_logic4.specs.declared.operators.Unary.{Unary}
-use Rattle.vs_logic4.specs.declared.operators.Unary.TheVariants as u
 use Rattle.vs_logic4.specs.declared.operators.Binary.{Binary}
-use Rattle.vs_tokens.specs.declared.token.Kind.{Kind}
-use Rattle.vs_tokens.specs.declared.token.Kind.TheVariants as k
 use Rattle.vs_tokens.specs.declared.token.Mark.{Mark}
 use Rattle.vs_tokens.specs.declared.token.Mark.TheVariants as m
-use Rattle.vs_tokens.specs.declared.token.Token.{Token}
-use Rattle.vs_syntax.specs.Symbols.{a_mark, the_mark, class_of, same_class, symbol_of, first}
-use Rattle.vs_syntax.specs.Grammar.{prefixes, levels, level_at}
-use Rattle.vs_syntax.specs.Tables.{mark_fronts, among}
+use Rattle.vs_syntax.specs.Symbols.{Symbol, a_mark, the_mark, same_class, first}
+use Rattle.vs_syntax.specs.Grammar.{mark, levels, level_at}
+use Rattle.vs_syntax.specs.Tables.{mark_fronts, operand_fronts, among, goes}
 use Rattle.vs_syntax.specs.Views.{unary_mark, binary_mark}
-use Rattle.vs_syntax.proofs.Fronts.{clash}
-use Rattle.vs_syntax.proofs.Least.{mark_end, and_left, and_right, row_passes}
+use Rattle.vs_syntax.proofs.Fronts.{clash, or_false}
+use Rattle.vs_syntax.proofs.Least.{and_left, and_right, row_passes}
 use Rattle.vs_syntax.proofs.Plainly.{same_class-true}
-use Rattle.vs_parser.specs.Answers.{seen}
-use Rattle.vs_parser.specs.Operators.{binary_of, NoOperator, BeginsLink}
-use Rattle.vs_parser.proofs.Tokens.{seen_kind}
+use Rattle.vs_parser.specs.Operators.{unary_of, binary_of, NoOperator, BeginsLink}
 
 -- whether the table gives each of the marks this level
 abbrev level_is : ℕ → Option (ℕ × Binary) → Bool
@@ -54,47 +48,59 @@ right_of _ = refl
 none_or : (n : ℕ) (x : Mark) → (among (the_mark x) (mark_fronts 0 (level_at levels n)) ≡ true → ⊥) → among (the_mark x) (mark_fronts 0 (level_at levels n)) ≡ false
 none_or n x f = elim (among (the_mark x) (mark_fronts 0 (level_at levels n))) as (λ b. (b ≡ true → ⊥) → b ≡ false) [ true ↦ λ g. absurd (g refl) | false ↦ λ g. refl ] f
 
--- no token
-pub none_at_end : (n : ℕ) (ts : List Token) → ts ≡ [] → NoOperator n (seen ts)
-none_at_end n ts e = ap (λ u. among (first (seen u)) (mark_fronts 0 (level_at levels n))) e ∙ mark_end (level_at levels n)
+-- no mark
+pub no_operator_at : (ops : List Mark) (ts : List Symbol) → ((x : Mark) → goes (mark x) ts ≡ false) → among (first ts) (mark_fronts 0 ops) ≡ false
+no_operator_at [] ts f = refl
+no_operator_at (op ∷ ops) ts f = rw ((or_false (same_class (first ts) (the_mark op)) false (f op)).0) (no_operator_at ops ts f)
 
--- a token that is no mark
-other_class : (kind : Kind) (bytes : List ℕ) (xs : List Mark) → ((x : Mark) → kind ≡ k.Mark x → ⊥) → among (class_of (symbol_of kind bytes)) (mark_fronts 0 xs) ≡ false
-other_class (k.Mark x) bytes xs f = absurd (f x refl)
-other_class k.Name bytes [] f = refl
-other_class k.Name bytes (y ∷ ys) f = other_class k.Name bytes ys f
-other_class (k.Word w) bytes [] f = refl
-other_class (k.Word w) bytes (y ∷ ys) f = other_class (k.Word w) bytes ys f
-other_class (k.Number l) bytes [] f = refl
-other_class (k.Number l) bytes (y ∷ ys) f = other_class (k.Number l) bytes ys f
-other_class _ bytes [] f = refl
-other_class kind bytes (y ∷ ys) f = other_class kind bytes ys f
-
-pub no_mark : (n : ℕ) (ts : List Token) (t : Token) (rest : List Token) → ts ≡ t ∷ rest → ((x : Mark) → t.kind ≡ k.Mark x → ⊥) → NoOperator n (seen ts)
-no_mark n ts t rest e f = ap (λ u. among (first (seen u)) (mark_fronts 0 (level_at levels n))) e ∙ other_class t.kind t.bytes.now (level_at levels n) f
-
-marked : (n : ℕ) (ts : List Token) (t : Token) (rest : List Token) (x : Mark) → ts ≡ t ∷ rest → t.kind ≡ k.Mark x → among (the_mark x) (mark_fronts 0 (level_at levels n)) ≡ false → NoOperator n (seen ts)
-marked n ts t rest x e f h = ap (λ u. among (first u) (mark_fronts 0 (level_at levels n))) (seen_kind ts t rest (k.Mark x) e f) ∙ h
+marked : (n : ℕ) (ts rest : List Symbol) (x : Mark) → ts ≡ a_mark x ∷ rest → among (the_mark x) (mark_fronts 0 (level_at levels n)) ≡ false → NoOperator n ts
+marked n ts rest x e h = ap (λ u. among (first u) (mark_fronts 0 (level_at levels n))) e ∙ h
 
 -- a mark that is no operator, or one of another level
-pub no_operator : (n : ℕ) (ts : List Token) (t : Token) (rest : List Token) (x : Mark) → ts ≡ t ∷ rest → t.kind ≡ k.Mark x → binary_of x ≡ None → NoOperator n (seen ts)
-no_operator n ts t rest x e f g = marked n ts t rest x e f (none_or n x (λ i. clash (level_found n x i) (ap (level_is n) g)))
+pub no_operator : (n : ℕ) (ts rest : List Symbol) (x : Mark) → ts ≡ a_mark x ∷ rest → binary_of x ≡ None → NoOperator n ts
+no_operator n ts rest x e g = marked n ts rest x e (none_or n x (λ i. clash (level_found n x i) (ap (level_is n) g)))
 
-pub other_level : (n : ℕ) (ts : List Token) (t : Token) (rest : List Token) (x : Mark) (y : ℕ × Binary) → ts ≡ t ∷ rest → t.kind ≡ k.Mark x → Some y ≡ binary_of x → (y.0 ≡ n → ⊥) → NoOperator n (seen ts)
-other_level n ts t rest x y e f g h = marked n ts t rest x e f (none_or n x (λ i. h (eqb-true y.0 n (ap (level_is n) g ∙ level_found n x i))))
+pub other_level : (n : ℕ) (ts rest : List Symbol) (x : Mark) (y : ℕ × Binary) → ts ≡ a_mark x ∷ rest → Some y ≡ binary_of x → (y.0 ≡ n → ⊥) → NoOperator n ts
+other_level n ts rest x y e g h = marked n ts rest x e (none_or n x (λ i. h (eqb-true y.0 n (ap (level_is n) g ∙ level_found n x i))))
 
 -- an operator of the level
-pub link_begins : (n : ℕ) (ts : List Token) (t : Token) (rest : List Token) (x : Mark) (y : ℕ × Binary) → ts ≡ t ∷ rest → t.kind ≡ k.Mark x → Some y ≡ binary_of x → y.0 ≡ n → BeginsLink n (seen ts) y.1 (seen rest)
-link_begins n ts t rest x y e f g h =
+pub link_begins : (n : ℕ) (ts rest : List Symbol) (x : Mark) (y : ℕ × Binary) → ts ≡ a_mark x ∷ rest → Some y ≡ binary_of x → y.0 ≡ n → BeginsLink n ts y.1 rest
+link_begins n ts rest x y e g h =
     let r : is_right x (Some y) ≡ true = ap (is_right x) g ∙ right_of x in
     let i = and_left (among (the_mark x) (mark_fronts 0 (level_at levels y.0))) (same_class (the_mark (binary_mark y.1)) (the_mark x)) r in
     let j : the_mark (binary_mark y.1) ≡ the_mark x = same_class-true (the_mark (binary_mark y.1)) (the_mark x) (and_right (among (the_mark x) (mark_fronts 0 (level_at levels y.0))) (same_class (the_mark (binary_mark y.1)) (the_mark x)) r) in
     let l : binary_mark y.1 ≡ x = cc in
     record {
       level = ap (λ z. among (the_mark z) (mark_fronts 0 (level_at levels n))) l ∙ ap (λ z. among (the_mark x) (mark_fronts 0 (level_at levels z))) (sym h) ∙ i;
-      text = seen_kind ts t rest (k.Mark x) e f ∙ ap (λ z. a_mark z ∷ seen rest) (sym l);
+      text = e ∙ ap (λ z. a_mark z ∷ rest) (sym l);
     }
 
--- the operators before operands
-pub is_prefix : (op : Unary) → among (the_mark (unary_mark op)) (mark_fronts 0 prefixes) ≡ true
-is_prefix u.Not = refl
+-- an operator before an operand, by its mark
+abbrev is_marked : Mark → Option Unary → Bool
+is_marked x None = true
+is_marked x (Some op) = same_class (the_mark (unary_mark op)) (the_mark x)
+
+unary_right : (x : Mark) → is_marked x (unary_of x) ≡ true
+unary_right m.And = refl
+unary_right _ = refl
+
+pub unary_begins : (x : Mark) (op : Unary) → Some op ≡ unary_of x → a_mark x ≡ a_mark (unary_mark op)
+unary_begins x op e =
+    let j : the_mark (unary_mark op) ≡ the_mark x = same_class-true (the_mark (unary_mark op)) (the_mark x) (ap (is_marked x) e ∙ unary_right x) in
+    cc
+
+-- a mark that begins no operand
+pub no_operand : (x : Mark) → (x ≡ m.Open → ⊥) → (x ≡ m.OpenBrace → ⊥) → unary_of x ≡ None → among (the_mark x) operand_fronts ≡ false
+no_operand m.Open f g h = absurd (f refl)
+no_operand m.OpenBrace f g h = absurd (g refl)
+no_operand m.Plus f g h = cc
+no_operand m.Minus f g h = cc
+no_operand m.Not f g h = cc
+no_operand m.Tilde f g h = cc
+no_operand m.And f g h = cc
+no_operand m.Nand f g h = cc
+no_operand m.Or f g h = cc
+no_operand m.Nor f g h = cc
+no_operand m.Xor f g h = cc
+no_operand m.Xnor f g h = cc
+no_operand _ f g h = refl

@@ -29,7 +29,8 @@ pub record IsTooDeep (ts : List Lexeme) (x : Lexeme) : Type 0 where
   pub ends : Begins 256 (symbols (front ++ x ∷ [])) → ⊥
   pub deeper : (most : ℕ) × Begins most (symbols (front ++ x ∷ []))
 
--- The tokens begin a source of a nesting of at most 256 and are none, and this is where the last of them ends, where that is a number of 64 bits.
+-- The tokens begin a source of a nesting of at most 256 and are none, and this is where the last of them ends, where that is
+-- a number of 64 bits.
 pub record IsUnfinished (ts : List Lexeme) (place : ℕ) : Type 0 where
   pub begins : Begins 256 (symbols ts)
   pub ends : (most : ℕ) (x : Tree) → IsSource most x → tokens x ≡ symbols ts → ⊥
@@ -40,8 +41,9 @@ pub record IsUnfinished (ts : List Lexeme) (place : ℕ) : Type 0 where
 
 -- the condition of each fault; none of want of memory
 abbrev pub IsRefused : List Lexeme → ParseFault → Type 0
-IsRefused ts (f.Unexpected place) = (x : Lexeme) × IsWrong ts x × (place ≡ x.place) × (is_left_out x.kind ≡ false)
-IsRefused ts (f.LeftOut place text) = (x : Lexeme) × IsWrong ts x × (place ≡ x.place) × (is_left_out x.kind ≡ true) × (text.now ≡ x.bytes)
+IsRefused ts (f.Unexpected place) = (x : Lexeme) × IsWrong ts x × (place ≡ x.place) × (is_left_out x.kind x.bytes ≡ false)
+IsRefused ts (f.LeftOut place text) =
+    (x : Lexeme) × IsWrong ts x × (place ≡ x.place) × (is_left_out x.kind x.bytes ≡ true) × (text.now ≡ x.bytes)
 IsRefused ts (f.TooDeep place) = (x : Lexeme) × IsTooDeep ts x × (place ≡ x.place)
 IsRefused ts (f.UnexpectedEnd place) = IsUnfinished ts place
 IsRefused ts f.Memory = Unit {0}
@@ -56,7 +58,8 @@ pub record Halts (deep : Bool) (ts rest : List Symbol) : Type 0 where
   pub front : List Symbol
   pub text : ts ≡ front ++ rest
   pub begins : Begins 256 front
-  pub ends : (x : Tree) (r : List Symbol) → Is (part a_source) x [] → (deep ≡ true → height x ≤ 256) → tokens x ≡ front ++ r → first r ≡ first rest → ⊥
+  pub ends : (x : Tree) (r : List Symbol) → Is (part a_source) x [] → (deep ≡ true → height x ≤ 256) →
+      tokens x ≡ front ++ r → first r ≡ first rest → ⊥
   pub there : deep ≡ true → first rest ≡ no_token → ⊥
   pub deeper : deep ≡ true → (s : Symbol) (ss : List Symbol) → rest ≡ s ∷ ss → (most : ℕ) × Begins most (front ++ s ∷ [])
 

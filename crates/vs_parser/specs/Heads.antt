@@ -5,8 +5,8 @@ use Rattle.vs_tokens.specs.declared.token.Mark.{Mark}
 use Rattle.vs_tokens.specs.declared.token.Mark.TheVariants as m
 use Rattle.vs_tokens.specs.declared.token.Word.{Word}
 use Rattle.vs_tokens.specs.declared.token.Word.TheVariants as w
-use Rattle.vs_syntax.specs.Symbols.{Symbol, a_mark, a_word, Class, the_mark, the_word, any_name, any_number, class_of, same_class, symbol_of, first}
-use Rattle.vs_syntax.specs.Grammar.{Grammar, part, listed, a_declarator, an_assignment, a_stmt}
+use Rattle.vs_syntax.specs.Symbols.{Symbol, a_mark, a_word, a_cast, Class, the_mark, the_word, any_name, any_number, class_of, same_class, symbol_of, first}
+use Rattle.vs_syntax.specs.Grammar.{Grammar, ◌·◌, part, form, listed, a_declarator, an_assignment, a_stmt}
 use Rattle.vs_syntax.specs.Views.{unary_mark}
 use Rattle.vs_parser.specs.declared.head.OperandHead.{OperandHead}
 use Rattle.vs_parser.specs.declared.head.OperandHead.TheVariants as o
@@ -18,16 +18,18 @@ use Rattle.vs_parser.specs.declared.head.Timing.{Timing}
 use Rattle.vs_parser.specs.declared.head.Timing.TheVariants as t
 use Rattle.vs_parser.specs.Answers.{seen}
 
--- the token of these bytes is no decimal number without a base
-abbrev pub NoDecimal : Kind → List ℕ → Type 0
-NoDecimal kind bytes = same_class (class_of (symbol_of kind bytes)) (any_number false) ≡ false
+-- the token of these bytes is no number
+abbrev pub NoNumber : Kind → List ℕ → Type 0
+NoNumber kind bytes = same_class (class_of (symbol_of kind bytes)) any_number ≡ false
 
 -- the symbols begin an operand so
 abbrev pub BeginsOperand : List Symbol → OperandHead → Type 0
-BeginsOperand ts o.Number = first ts ≡ any_number false
+BeginsOperand ts o.Number = first ts ≡ any_number
 BeginsOperand ts o.Name = first ts ≡ any_name
 BeginsOperand ts (o.Unary op rest) = ts ≡ a_mark (unary_mark op) ∷ seen rest.now
 BeginsOperand ts (o.Open rest) = ts ≡ a_mark m.Open ∷ seen rest.now
+BeginsOperand ts (o.Brace rest) = ts ≡ a_mark m.OpenBrace ∷ seen rest.now
+BeginsOperand ts (o.Cast s rest) = ts ≡ a_cast s ∷ seen rest.now
 
 -- the symbols begin a statement so
 abbrev pub BeginsStatement : List Symbol → StatementHead → Type 0
@@ -47,6 +49,7 @@ class_of_statement (s.Delay rest) = the_mark m.Hash
 abbrev pub word_of : ItemWord → Word
 word_of i.Wire = w.Wire
 word_of i.Reg = w.Reg
+word_of i.Integer = w.Integer
 word_of i.Assign = w.Assign
 word_of i.Initial = w.Initial
 word_of i.Always = w.Always
@@ -57,8 +60,9 @@ BeginsItem ts k after = ts ≡ a_word (word_of k) ∷ after
 
 -- what stands behind the word of an item that begins so
 abbrev pub body_of : ItemWord → Grammar
-body_of i.Wire = listed a_declarator
-body_of i.Reg = listed a_declarator
+body_of i.Wire = form · listed a_declarator
+body_of i.Reg = form · listed a_declarator
+body_of i.Integer = listed a_declarator
 body_of i.Assign = listed an_assignment
 body_of i.Initial = part a_stmt
 body_of i.Always = part a_stmt

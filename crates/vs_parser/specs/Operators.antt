@@ -13,14 +13,43 @@ use Rattle.vs_syntax.specs.Views.{binary_mark}
 
 -- the operator that a mark is before an operand
 abbrev pub unary_of : Mark → Option Unary
+unary_of m.Plus = Some u.Plus
+unary_of m.Minus = Some u.Minus
+unary_of m.Not = Some u.LogicalNot
 unary_of m.Tilde = Some u.Not
+unary_of m.And = Some u.ReduceAnd
+unary_of m.Nand = Some u.ReduceNand
+unary_of m.Or = Some u.ReduceOr
+unary_of m.Nor = Some u.ReduceNor
+unary_of m.Xor = Some u.ReduceXor
+unary_of m.Xnor = Some u.ReduceXnor
 unary_of _ = None
 
 -- the level and the operator that a mark is between operands
 abbrev pub binary_of : Mark → Option (ℕ × Binary)
-binary_of m.And = Some (0, b.And)
-binary_of m.Xor = Some (1, b.Xor)
-binary_of m.Or = Some (2, b.Or)
+binary_of m.Star = Some (0, b.Multiply)
+binary_of m.Slash = Some (0, b.Divide)
+binary_of m.Percent = Some (0, b.Remainder)
+binary_of m.Plus = Some (1, b.Add)
+binary_of m.Minus = Some (1, b.Subtract)
+binary_of m.ShiftLeft = Some (2, b.ShiftLeft)
+binary_of m.ShiftRight = Some (2, b.ShiftRight)
+binary_of m.ArithmeticShiftLeft = Some (2, b.SignedShiftLeft)
+binary_of m.ArithmeticShiftRight = Some (2, b.SignedShiftRight)
+binary_of m.Less = Some (3, b.Less)
+binary_of m.LessEqual = Some (3, b.LessEqual)
+binary_of m.Greater = Some (3, b.Greater)
+binary_of m.GreaterEqual = Some (3, b.GreaterEqual)
+binary_of m.Equal = Some (4, b.Equal)
+binary_of m.NotEqual = Some (4, b.NotEqual)
+binary_of m.CaseEqual = Some (4, b.CaseEqual)
+binary_of m.CaseNotEqual = Some (4, b.CaseNotEqual)
+binary_of m.And = Some (5, b.And)
+binary_of m.Xor = Some (6, b.Xor)
+binary_of m.Xnor = Some (6, b.Xnor)
+binary_of m.Or = Some (7, b.Or)
+binary_of m.LogicalAnd = Some (8, b.LogicalAnd)
+binary_of m.LogicalOr = Some (9, b.LogicalOr)
 binary_of _ = None
 
 -- the next symbol is no operator of the level

@@ -1,17 +1,21 @@
-//! Reading names of declarations and net assignments.
-ghost use Rattle.std.specs.Prelude.{◌<◌};
+//! Reading declarations and net assignments.
+ghost use Rattle.std.specs.Prelude.{ℕ, ◌<◌};
 ghost use Rattle.vs_tokens.specs.declared.token.Mark.TheVariants as m;
-ghost use Rattle.vs_syntax.specs.Grammar.{nothing, part, mark, ◌·◌, ◌or◌, a_declarator, an_assignment, an_expr};
+ghost use Rattle.vs_tokens.specs.declared.token.Word.TheVariants as w;
+ghost use Rattle.vs_syntax.specs.Grammar.{nothing, part, mark, word, ◌·◌, ◌or◌, form, range, a_declarator, an_assignment, an_expr};
+ghost use Rattle.vs_syntax.specs.Grammar as g;
+ghost use Rattle.vs_syntax.specs.Views.{signed_tree, range_tree, form_tree, declared_tree};
 ghost use Rattle.vs_syntax.specs.Views.{value_tree, declarator_tree, net_assignment_tree};
-ghost use Rattle.vs_parser.specs.Answers.{Reads};
+ghost use Rattle.vs_syntax.specs.Reading.{Gets};
+ghost use Rattle.vs_parser.specs.Answers.{seen, Reads};
 
 use crate::expression::expr;
-use crate::list::Element;
+use crate::list::{Element, listed};
 use crate::reading::{Read, Stop};
-use crate::token::{expect_mark, expect_name, mark_at};
+use crate::token::{expect_mark, expect_name, mark_at, word_at};
 use std::alloc::Global;
-use vs_lexer::{Mark, Token};
-use vs_syntax::{Declarator, Expr, NetAssignment};
+use vs_lexer::{Mark, Token, Word};
+use vs_syntax::{Declarator, Expr, Form, NetAssignment, Range};
 
 impl Element for Declarator {
     ghost kind = { a_declarator };
@@ -39,6 +43,80 @@ impl Element for NetAssignment {
     ) -> Result<Read<'t, 's, NetAssignment>, Stop<'t, 's>> {
         net_assignment(alloc, room, tokens)
     }
+}
+
+/// Reads what a declaration says of its names, and they, and the semicolon behind them.
+pub(crate) fn declared<'t, 's>(
+    alloc: Global,
+    room: u32,
+    tokens: &'t [Token<'s>],
+) -> Result<Read<'t, 's, (Form, Vec<Declarator>)>, Stop<'t, 's>>
+    ensures { Reads (form · g.listed a_declarator) room tokens.now
+        (λ x. declared_tree x.0 x.1.items) result }
+{
+    let said = declared_form(alloc, room, tokens)?;
+    let names = listed(alloc, room, said.rest)?;
+    Ok(Read {
+        tree: (said.tree, names.tree),
+        rest: names.rest,
+    })
+}
+
+/// Reads what a declaration says of its names.
+fn declared_form<'t, 's>(
+    alloc: Global,
+    room: u32,
+    tokens: &'t [Token<'s>],
+) -> Result<Read<'t, 's, Form>, Stop<'t, 's>>
+    ensures { Reads form room tokens.now form_tree result }
+{
+    let (signed, after) = signed_at(tokens);
+    let range = declared_range(alloc, room, after)?;
+    Ok(Read {
+        tree: Form {
+            signed,
+            range: range.tree,
+        },
+        rest: range.rest,
+    })
+}
+
+/// Whether the word `signed` is next, and the tokens behind it.
+fn signed_at<'t, 's>(tokens: &'t [Token<'s>]) -> (bool, &'t [Token<'s>])
+    ensures { (room : ℕ) → Gets (word w.Signed or nothing) room (seen tokens.now)
+        (signed_tree result.0) (seen result.1.now) }
+{
+    match word_at(tokens, Word::Signed) {
+        Some(rest) => (true, rest),
+        None => (false, tokens),
+    }
+}
+
+/// Reads the range that is next, if one is.
+fn declared_range<'t, 's>(
+    alloc: Global,
+    room: u32,
+    tokens: &'t [Token<'s>],
+) -> Result<Read<'t, 's, Option<Range>>, Stop<'t, 's>>
+    ensures { Reads (range or nothing) room tokens.now range_tree result }
+{
+    let Some(after) = mark_at(tokens, Mark::OpenBracket) else {
+        return Ok(Read {
+            tree: None,
+            rest: tokens,
+        });
+    };
+    let left = expr(alloc, room, after)?;
+    let middle = expect_mark(left.rest, Mark::Colon)?;
+    let right = expr(alloc, room, middle)?;
+    let rest = expect_mark(right.rest, Mark::CloseBracket)?;
+    Ok(Read {
+        tree: Some(Range {
+            left: left.tree,
+            right: right.tree,
+        }),
+        rest,
+    })
 }
 
 /// Reads a name of a declaration, with its declaration assignment where it has one.

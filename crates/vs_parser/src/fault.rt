@@ -1,11 +1,12 @@
 //! Why tokens are refused.
 ghost use Rattle.std.specs.Prelude.{◌≡◌, IfOk};
 ghost use Rattle.vs_parser.specs.Faults.{fault_text};
-ghost use Rattle.vs_parser.specs.LeftOut.{is_punctuation, is_operator_in_grammar, is_in_grammar, is_left_out};
+ghost use Rattle.vs_parser.specs.LeftOut.{is_in_grammar, is_left_out};
 
+use crate::token::cast;
 use std::alloc::{AllocError, Global};
 use thiserror::Error;
-use vs_lexer::{Kind, Mark, Word};
+use vs_lexer::{Kind, Token, Word};
 
 /// What is wrong with the tokens. The place of a token is that of its first byte in the source.
 #[derive(Clone, Copy, PartialEq, Eq, Debug, Error)]
@@ -49,40 +50,6 @@ impl<'s> ParseFault<'s> {
     }
 }
 
-/// Whether a mark is no operator of expressions.
-fn punctuation(mark: Mark) -> bool
-    ensures { result ≡ is_punctuation mark }
-{
-    matches!(
-        mark,
-        Mark::Hash
-            | Mark::Open
-            | Mark::Close
-            | Mark::Semicolon
-            | Mark::Comma
-            | Mark::Assign
-            | Mark::OpenBracket
-            | Mark::CloseBracket
-            | Mark::Colon
-            | Mark::Dot
-            | Mark::At
-            | Mark::OpenBrace
-            | Mark::CloseBrace
-            | Mark::PlusColon
-            | Mark::MinusColon
-    )
-}
-
-/// Whether the grammar has an operator somewhere; `<=` is the sign of a nonblocking assignment.
-fn operator_in_grammar(mark: Mark) -> bool
-    ensures { result ≡ is_operator_in_grammar mark }
-{
-    matches!(
-        mark,
-        Mark::Tilde | Mark::And | Mark::Xor | Mark::Or | Mark::LessEqual
-    )
-}
-
 /// Whether the grammar has a reserved word somewhere.
 fn in_grammar(word: Word) -> bool
     ensures { result ≡ is_in_grammar word }
@@ -93,6 +60,8 @@ fn in_grammar(word: Word) -> bool
             | Word::Endmodule
             | Word::Wire
             | Word::Reg
+            | Word::Integer
+            | Word::Signed
             | Word::Assign
             | Word::Initial
             | Word::Always
@@ -102,14 +71,14 @@ fn in_grammar(word: Word) -> bool
 }
 
 /// Whether a token is an operator, a reserved word or a system name that the grammar leaves out.
-pub(crate) fn left_out(kind: Kind) -> bool
-    ensures { result ≡ is_left_out kind }
+pub(crate) fn left_out(token: &Token) -> bool
+    ensures { result ≡ is_left_out token.now.kind token.now.bytes.now }
 {
-    match kind {
-        Kind::Mark(mark) => !punctuation(mark) && !operator_in_grammar(mark),
+    match token.kind {
+        Kind::Mark(mark) => mark.is_left_out(),
         Kind::Word(word) => !in_grammar(word),
         Kind::LeftOut => true,
-        Kind::System => true,
+        Kind::System => cast(token.bytes).is_none(),
         _ => false,
     }
 }

@@ -1,23 +1,23 @@
 //! How operands, statements and items begin.
-ghost use Rattle.std.specs.Prelude.{◌≡◌, ℕ, false, MatchOption};
+ghost use Rattle.std.specs.Prelude.{◌≡◌, ℕ, false, ◌∷◌, MatchOption};
 ghost use Rattle.vs_tokens.specs.declared.token.Mark.TheVariants as m;
-ghost use Rattle.vs_syntax.specs.Symbols.{a_mark, the_word};
+ghost use Rattle.vs_syntax.specs.Symbols.{a_mark, the_mark, the_word};
 ghost use Rattle.vs_syntax.specs.Grammar.{◌or◌, mark, part, an_operand, a_stmt, an_item};
-ghost use Rattle.vs_syntax.specs.Tables.{need, fronts_of, goes};
+ghost use Rattle.vs_syntax.specs.Tables.{among, need, operand_fronts, fronts_of, goes};
 ghost use Rattle.vs_syntax.specs.Derivation.{leaf};
 ghost use Rattle.vs_parser.specs.Answers.{seen, Answers};
 ghost use Rattle.vs_parser.specs.Heads.{BeginsOperand, BeginsStatement, BeginsItem, class_of_statement, word_of, sign_of};
 
 use crate::operator::unary;
 use crate::reading::Stop;
-use crate::token::{expect_mark, mark_at, next};
+use crate::token::{cast, expect_mark, mark_at, next, spelled};
 use vs_lexer::{Kind, Mark, Token, Word};
 use vs_logic4::Unary;
 
 /// What an operand begins with, and mostly the tokens behind that.
 #[derive(Drop)]
 pub(crate) enum OperandHead<'t, 's> {
-    /// A decimal number without a base.
+    /// A number.
     Number,
     /// A name.
     Name,
@@ -25,6 +25,10 @@ pub(crate) enum OperandHead<'t, 's> {
     Unary(Unary, &'t [Token<'s>]),
     /// `(`
     Open(&'t [Token<'s>]),
+    /// `{`
+    Brace(&'t [Token<'s>]),
+    /// `$signed`, else `$unsigned`.
+    Cast(bool, &'t [Token<'s>]),
 }
 
 /// What a statement begins with, and mostly the tokens behind that.
@@ -47,6 +51,8 @@ pub(crate) enum ItemWord {
     Wire,
     /// `reg`
     Reg,
+    /// `integer`
+    Integer,
     /// `assign`
     Assign,
     /// `initial`
@@ -66,32 +72,41 @@ pub(crate) enum Timing {
 
 /// How the operand begins that is next, if one is.
 pub(crate) fn operand_head<'t, 's>(tokens: &'t [Token<'s>]) -> Option<OperandHead<'t, 's>>
-    ensures { MatchOption result (goes (part an_operand) (seen tokens.now) ≡ false) (λ head. BeginsOperand (seen tokens.now) head) }
+    ensures { MatchOption result (goes (part an_operand) (seen tokens.now) ≡ false)
+        (λ head. BeginsOperand (seen tokens.now) head) }
 {
     let (first, rest) = next(tokens)?;
     match first.kind {
         Kind::Name => Some(OperandHead::Name),
-        Kind::Number(literal) => {
-            if literal.based {
-                None
-            } else {
-                Some(OperandHead::Number)
-            }
-        }
-        Kind::Mark(mark) => match mark {
-            Mark::Open => Some(OperandHead::Open(rest)),
-            _ => match unary(mark) {
-                Some(operator) => Some(OperandHead::Unary(operator, rest)),
-                None => None,
-            },
+        Kind::Number(_) => Some(OperandHead::Number),
+        Kind::Mark(found) => marked_operand(spelled(found), rest),
+        Kind::System => match cast(first.bytes) {
+            Some(signed) => Some(OperandHead::Cast(signed, rest)),
+            None => None,
         },
         _ => None,
     }
 }
 
+/// How the operand begins that the mark begins, behind which `rest` stands, if it begins one.
+fn marked_operand<'t, 's>(mark: Mark, rest: &'t [Token<'s>]) -> Option<OperandHead<'t, 's>>
+    ensures { MatchOption result (among (the_mark mark) operand_fronts ≡ false)
+        (λ head. BeginsOperand (a_mark mark ∷ seen rest.now) head) }
+{
+    match mark {
+        Mark::Open => Some(OperandHead::Open(rest)),
+        Mark::OpenBrace => Some(OperandHead::Brace(rest)),
+        _ => match unary(mark) {
+            Some(operator) => Some(OperandHead::Unary(operator, rest)),
+            None => None,
+        },
+    }
+}
+
 /// How the statement begins that is next, if one is.
 pub(crate) fn statement_head<'t, 's>(tokens: &'t [Token<'s>]) -> Option<StatementHead<'t, 's>>
-    ensures { MatchOption result (goes (part a_stmt) (seen tokens.now) ≡ false) (λ head. BeginsStatement (seen tokens.now) head) }
+    ensures { MatchOption result (goes (part a_stmt) (seen tokens.now) ≡ false)
+        (λ head. BeginsStatement (seen tokens.now) head) }
 {
     let (first, rest) = next(tokens)?;
     match first.kind {
@@ -123,13 +138,15 @@ pub(crate) fn least_statement(head: &StatementHead) -> u32
 
 /// How the item begins that is next, if one is, and the tokens behind that word.
 pub(crate) fn item_head<'t, 's>(tokens: &'t [Token<'s>]) -> Option<(ItemWord, &'t [Token<'s>])>
-    ensures { MatchOption result (goes (part an_item) (seen tokens.now) ≡ false) (λ x. BeginsItem (seen tokens.now) x.0 (seen x.1.now)) }
+    ensures { MatchOption result (goes (part an_item) (seen tokens.now) ≡ false)
+        (λ x. BeginsItem (seen tokens.now) x.0 (seen x.1.now)) }
 {
     let (first, rest) = next(tokens)?;
     match first.kind {
         Kind::Word(word) => match word {
             Word::Wire => Some((ItemWord::Wire, rest)),
             Word::Reg => Some((ItemWord::Reg, rest)),
+            Word::Integer => Some((ItemWord::Integer, rest)),
             Word::Assign => Some((ItemWord::Assign, rest)),
             Word::Initial => Some((ItemWord::Initial, rest)),
             Word::Always => Some((ItemWord::Always, rest)),
@@ -146,6 +163,7 @@ pub(crate) fn least_item(word: ItemWord) -> u32
     match word {
         ItemWord::Wire => 1,
         ItemWord::Reg => 1,
+        ItemWord::Integer => 1,
         ItemWord::Assign => 2,
         ItemWord::Initial => 2,
         ItemWord::Always => 2,

@@ -8,6 +8,7 @@ ghost use Rattle.vs_syntax.specs.Views.{row_of, item_word, body_tree, item_tree,
 ghost use Rattle.vs_parser.specs.Answers.{seen, Reads};
 ghost use Rattle.vs_parser.specs.Heads.{word_of, BeginsItem, body_of};
 
+use crate::declaration::declared;
 use crate::head::{ItemWord, item_head, least_item};
 use crate::list::listed;
 use crate::reading::{Read, Stop};
@@ -47,12 +48,19 @@ fn body<'t, 's>(
 {
     let (tree, rest) = match word {
         ItemWord::Wire => {
-            let names = listed(alloc, room, tokens)?;
-            (Item::Wire(names.tree), names.rest)
+            let nets = declared(alloc, room, tokens)?;
+            (Item::Wire(nets.tree.0, nets.tree.1), nets.rest)
         }
         ItemWord::Reg => {
-            let names = listed(alloc, room, tokens)?;
-            (Item::Reg(names.tree), names.rest)
+            let variables = declared(alloc, room, tokens)?;
+            (
+                Item::Reg(variables.tree.0, variables.tree.1),
+                variables.rest,
+            )
+        }
+        ItemWord::Integer => {
+            let integers = listed(alloc, room, tokens)?;
+            (Item::Integer(integers.tree), integers.rest)
         }
         ItemWord::Assign => {
             let assignments = listed(alloc, room, tokens)?;

@@ -24,9 +24,11 @@ const NESTING: u32 = 256;
 /// which no source goes on.
 pub fn parse<'s>(alloc: Global, tokens: &[Token<'s>]) -> Result<Source, ParseFault<'s>>
     // What is answered holds: the tokens derive the source, or the condition of the fault stands.
-    ensures exact { MatchResult result (λ s. Derives (symbols (lexemes tokens.now)) s) (λ e. IsRefused (lexemes tokens.now) e) }
+    ensures exact { MatchResult result (λ s. Derives (symbols (lexemes tokens.now)) s)
+        (λ e. IsRefused (lexemes tokens.now) e) }
     // What holds is answered: each source of the tokens, unless memory runs out.
-    ensures complete { (x : Tree) → IsTreeOf (lexemes tokens.now) x → MatchResult result (λ s. source_tree s ≡ x) (λ e. e ≡ Memory) }
+    ensures complete { (x : Tree) → IsTreeOf (lexemes tokens.now) x →
+        MatchResult result (λ s. source_tree s ≡ x) (λ e. e ≡ Memory) }
 {
     match whole(alloc, tokens) {
         Ok(tree) => Ok(tree),
@@ -66,7 +68,7 @@ fn unexpected<'s>(tokens: &[Token<'s>], rest: &[Token<'s>]) -> ParseFault<'s>
     let Some((token, _others)) = next(after) else {
         return unfinished(tokens);
     };
-    if left_out(token.kind) {
+    if left_out(token) {
         ParseFault::LeftOut {
             place: token.place,
             text: token.bytes,

@@ -11,7 +11,7 @@ ghost use Rattle.vs_parser.specs.Heads.{BeginsStatement, sign_of};
 use crate::expression::expr;
 use crate::head::{StatementHead, Timing, expect_timing, least_statement, statement_head};
 use crate::reading::{Read, Stop};
-use crate::token::{decimal, expect_mark, expect_name, expect_word, next};
+use crate::token::{expect_mark, expect_name, expect_word, literal, next};
 use std::alloc::Global;
 use vs_lexer::{Literal, Mark, Token, Word};
 use vs_syntax::{Expr, Stmt};
@@ -127,12 +127,13 @@ fn delay<'t, 's>(
     room: u32,
     tokens: &'t [Token<'s>],
 ) -> Result<Read<'t, 's, (Literal, Box<Stmt>)>, Stop<'t, 's>>
-    ensures { Reads (number · part a_stmt) room tokens.now (λ x. both (leaf (a_number x.0)) (stmt_tree x.1.value)) result }
+    ensures { Reads (number · part a_stmt) room tokens.now
+        (λ x. both (leaf (a_number x.0)) (stmt_tree x.1.value)) result }
 {
     let Some((first, after)) = next(tokens) else {
         return Err(Stop::Unexpected(tokens));
     };
-    let Some(time) = decimal(first.kind) else {
+    let Some(time) = literal(first.kind) else {
         return Err(Stop::Unexpected(tokens));
     };
     let inner = stmt(alloc, room, after)?;

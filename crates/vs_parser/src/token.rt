@@ -1,17 +1,24 @@
 //! Reading single tokens.
 ghost use Rattle.std.specs.Prelude.{◌≡◌, ℕ, List, [], ◌∷◌, false, MatchOption};
 ghost use Rattle.vs_tokens.specs.declared.token.Kind.TheVariants as k;
-ghost use Rattle.vs_syntax.specs.Symbols.{a_mark, a_word};
+ghost use Rattle.vs_tokens.specs.declared.token.Mark.{Mark};
+ghost use Rattle.vs_syntax.specs.Symbols.{a_mark, a_word, spelled, cast_of};
 ghost use Rattle.vs_syntax.specs.Grammar.{mark, word, name};
 ghost use Rattle.vs_syntax.specs.Tables.{goes};
 ghost use Rattle.vs_syntax.specs.Derivation.{leaf};
 ghost use Rattle.vs_syntax.specs.Views.{name_tree};
 ghost use Rattle.vs_parser.specs.Answers.{seen, Answers};
-ghost use Rattle.vs_parser.specs.Heads.{NoDecimal};
+ghost use Rattle.vs_parser.specs.Heads.{NoNumber};
 
 use crate::reading::Stop;
 use std::alloc::Global;
 use vs_lexer::{Kind, Literal, Mark, Token, Word};
+
+/// The name of the conversion to signed (IEEE 1364-2005, clause 5.5).
+const SIGNED: &[u8] = b"$signed";
+
+/// The name of the conversion to unsigned (IEEE 1364-2005, clause 5.5).
+const UNSIGNED: &[u8] = b"$unsigned";
 
 /// The next token and those behind it.
 pub(crate) fn next<'t, 's>(tokens: &'t [Token<'s>]) -> Option<(&'t Token<'s>, &'t [Token<'s>])>
@@ -20,20 +27,41 @@ pub(crate) fn next<'t, 's>(tokens: &'t [Token<'s>]) -> Option<(&'t Token<'s>, &'
     tokens.split_first()
 }
 
-/// The tokens behind the mark, if it is next.
-pub(crate) fn mark_at<'t, 's>(tokens: &'t [Token<'s>], wanted: Mark) -> Option<&'t [Token<'s>]>
-    ensures { MatchOption result (goes (mark wanted) (seen tokens.now) ≡ false) (λ rest. seen tokens.now ≡ a_mark wanted ∷ seen rest.now) }
+/// The mark that an operator is written by: `^~` is another spelling of `~^`.
+pub(crate) fn spelled(mark: Mark) -> Mark
+    ensures { result ≡ spelled mark }
+{
+    match mark {
+        Mark::XorNot => Mark::Xnor,
+        _ => mark,
+    }
+}
+
+/// The mark that is next, if one is, and the tokens behind it.
+pub(crate) fn next_mark<'t, 's>(tokens: &'t [Token<'s>]) -> Option<(Mark, &'t [Token<'s>])>
+    ensures { MatchOption result ((x : Mark) → goes (mark x) (seen tokens.now) ≡ false)
+        (λ x. seen tokens.now ≡ a_mark x.0 ∷ seen x.1.now) }
 {
     let (first, rest) = next(tokens)?;
     match first.kind {
-        Kind::Mark(found) => { if found == wanted { Some(rest) } else { None } }
+        Kind::Mark(found) => Some((spelled(found), rest)),
         _ => None,
     }
 }
 
+/// The tokens behind the mark, if it is next.
+pub(crate) fn mark_at<'t, 's>(tokens: &'t [Token<'s>], wanted: Mark) -> Option<&'t [Token<'s>]>
+    ensures { MatchOption result (goes (mark wanted) (seen tokens.now) ≡ false)
+        (λ rest. seen tokens.now ≡ a_mark wanted ∷ seen rest.now) }
+{
+    let (found, rest) = next_mark(tokens)?;
+    if found == wanted { Some(rest) } else { None }
+}
+
 /// The tokens behind the reserved word, if it is next.
 pub(crate) fn word_at<'t, 's>(tokens: &'t [Token<'s>], wanted: Word) -> Option<&'t [Token<'s>]>
-    ensures { MatchOption result (goes (word wanted) (seen tokens.now) ≡ false) (λ rest. seen tokens.now ≡ a_word wanted ∷ seen rest.now) }
+    ensures { MatchOption result (goes (word wanted) (seen tokens.now) ≡ false)
+        (λ rest. seen tokens.now ≡ a_word wanted ∷ seen rest.now) }
 {
     let (first, rest) = next(tokens)?;
     match first.kind {
@@ -47,7 +75,8 @@ pub(crate) fn expect_mark<'t, 's>(
     tokens: &'t [Token<'s>],
     wanted: Mark,
 ) -> Result<&'t [Token<'s>], Stop<'t, 's>>
-    ensures { (room : ℕ) → Answers (mark wanted) room (seen tokens.now) (λ _. leaf (a_mark wanted)) (λ rest. seen rest.now) result }
+    ensures { (room : ℕ) → Answers (mark wanted) room (seen tokens.now)
+        (λ _. leaf (a_mark wanted)) (λ rest. seen rest.now) result }
 {
     match mark_at(tokens, wanted) {
         Some(rest) => Ok(rest),
@@ -60,7 +89,8 @@ pub(crate) fn expect_word<'t, 's>(
     tokens: &'t [Token<'s>],
     wanted: Word,
 ) -> Result<&'t [Token<'s>], Stop<'t, 's>>
-    ensures { (room : ℕ) → Answers (word wanted) room (seen tokens.now) (λ _. leaf (a_word wanted)) (λ rest. seen rest.now) result }
+    ensures { (room : ℕ) → Answers (word wanted) room (seen tokens.now)
+        (λ _. leaf (a_word wanted)) (λ rest. seen rest.now) result }
 {
     match word_at(tokens, wanted) {
         Some(rest) => Ok(rest),
@@ -73,7 +103,8 @@ pub(crate) fn expect_name<'t, 's>(
     alloc: Global,
     tokens: &'t [Token<'s>],
 ) -> Result<(Vec<u8>, &'t [Token<'s>]), Stop<'t, 's>>
-    ensures { (room : ℕ) → Answers name room (seen tokens.now) (λ x. name_tree x.0.items) (λ x. seen x.1.now) result }
+    ensures { (room : ℕ) → Answers name room (seen tokens.now)
+        (λ x. name_tree x.0.items) (λ x. seen x.1.now) result }
 {
     let Some((first, rest)) = next(tokens) else {
         return Err(Stop::Unexpected(tokens));
@@ -84,12 +115,25 @@ pub(crate) fn expect_name<'t, 's>(
     }
 }
 
-/// The number that the token is, if it is a decimal one without a base.
-pub(crate) fn decimal(kind: Kind) -> Option<Literal>
-    ensures { MatchOption result ((bytes : List ℕ) → NoDecimal kind bytes) (λ l. (kind ≡ k.Number l) × (l.based ≡ false)) }
+/// The number that the token is, if it is one.
+pub(crate) fn literal(kind: Kind) -> Option<Literal>
+    ensures { MatchOption result ((bytes : List ℕ) → NoNumber kind bytes) (λ l. kind ≡ k.Number l) }
 {
     match kind {
-        Kind::Number(literal) => { if literal.based { None } else { Some(literal) } }
+        Kind::Number(found) => Some(found),
         _ => None,
+    }
+}
+
+/// Whether a system name is `$signed`, if it is this or `$unsigned`.
+pub(crate) fn cast(name: &[u8]) -> Option<bool>
+    ensures { result ≡ cast_of name.now }
+{
+    if SIGNED == name {
+        Some(true)
+    } else if UNSIGNED == name {
+        Some(false)
+    } else {
+        None
     }
 }

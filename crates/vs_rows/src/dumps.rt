@@ -4,6 +4,7 @@ use crate::assigns::ASSIGNS;
 use crate::fifo::FIFO;
 use crate::headers::{EMPTY, ONE_VARIABLE, VARIABLES};
 use crate::running::{Row, compare_all};
+use crate::vectors::VECTORS;
 use std::test::Fail;
 
 /// The dump of `reg a` that is 0 at 0 and 1 from 5, to 10.
@@ -54,7 +55,7 @@ const DUMPS: &[Row] = &[
 fn dumps(rt: HostRuntime) -> Result<(), Fail> {
     assert_eq!(rt; ONE.len(), 128);
     assert_eq!(rt; ONE_VARIABLE.len(), 97);
-    for rows in [DUMPS, ASSIGNS, FIFO] {
+    for rows in [DUMPS, ASSIGNS, FIFO, VECTORS] {
         compare_all(&rt, rt.alloc(), rows)?;
     }
     Ok(())

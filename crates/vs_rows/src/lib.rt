@@ -20,4 +20,6 @@ mod refusals;
 #[cfg(test)]
 mod running;
 #[cfg(test)]
+mod vectors;
+#[cfg(test)]
 mod words;

@@ -24,8 +24,8 @@ const REFUSALS: &[(&str, &str)] = &[
         "vsim: P2 at 18: fork\n",
     ),
     (
-        "module t; initial a = b + 1; endmodule",
-        "vsim: P2 at 24: +\n",
+        "module t; initial a = b ** 1; endmodule",
+        "vsim: P2 at 24: **\n",
     ),
     (
         "module t; initial $finish; endmodule",
@@ -58,6 +58,40 @@ const REFUSALS: &[(&str, &str)] = &[
     (
         "module t; initial #4294967295 ; endmodule",
         "vsim: E8 X3 at t\n",
+    ),
+    ("module t; initial #4'b1x ; endmodule", "vsim: E8 X3 at t\n"),
+    ("module t; initial #(-1) ; endmodule", "vsim: P1 at 19\n"),
+    // Sizes and constants of expressions.
+    (
+        "module t; wire a = {64'd0, 1'b1}; endmodule",
+        "vsim: E8 X1 at t\n",
+    ),
+    (
+        "module t; wire a = {33{2'b0}}; endmodule",
+        "vsim: E8 X1 at t\n",
+    ),
+    (
+        "module t; wire a = {0{1'b1}}; endmodule",
+        "vsim: E8 X3 at t\n",
+    ),
+    (
+        "module t; wire a = {4'b1x{1'b1}}; endmodule",
+        "vsim: E8 X3 at t\n",
+    ),
+    (
+        "module t; reg n; wire a = {n{1'b1}}; endmodule",
+        "vsim: E8 X3 at t\n",
+    ),
+    ("module t; reg [64:0] a; endmodule", "vsim: E8 X1 at t\n"),
+    ("module t; reg [n:0] a; endmodule", "vsim: E8 X2 at t\n"),
+    (
+        "module t; reg n; wire [n:0] a; endmodule",
+        "vsim: E8 X3 at t\n",
+    ),
+    ("module t; wire [1'bx:0] a; endmodule", "vsim: E8 X3 at t\n"),
+    (
+        "module t; wire a = $signed(b); endmodule",
+        "vsim: E8 X2 at t\n",
     ),
 ];
 

@@ -36,15 +36,33 @@ const ASSIGNS: &[(&str, &str)] = &[
     ("module t; wire w; reg a = 1; endmodule", ""),
     (
         "module t; wire w = a, x, y; reg a; assign y = x, x = ~w; endmodule",
-        "t#a0 t.w = t.a:1;t#a1 t.y = t.x:1;t#a2 t.x = ~t.w:1;",
+        "t#a0 t.w = 1(t.a);t#a1 t.y = 1(t.x);t#a2 t.x = 1(t.w);",
     ),
     (
         "module t; wire w; reg a, b; assign w = a & (9 | b) & a; endmodule",
-        "t#a0 t.w = (t.a:32 & (32' | t.b:32) & t.a:32);",
+        "t#a0 t.w = 32(t.a t.b t.a);",
     ),
     (
         "module t; wire w; reg a; assign w = ~a ^ 0; endmodule",
-        "t#a0 t.w = (~t.a:32 ^ 32');",
+        "t#a0 t.w = 32(t.a);",
+    ),
+    (
+        "module t; wire w; reg a, b; assign w = {a, b, 3'd1}; endmodule",
+        "t#a0 t.w = 5(t.a t.b);",
+    ),
+    // A comparison gives one bit, whatever its operands' size; a count is no operand.
+    (
+        "module t; wire w; reg a, b; assign w = {2{a}} == {b, 40'd0}; endmodule",
+        "t#a0 t.w = 1(t.a t.b);",
+    ),
+    (
+        "module t; wire w; reg a, b; assign w = a ? b : 8'd1; endmodule",
+        "t#a0 t.w = 8(t.a t.b);",
+    ),
+    // A shift has the size of its left operand.
+    (
+        "module t; wire w; reg a, b; assign w = $signed(a) >>> {3{b}}; endmodule",
+        "t#a0 t.w = 1(t.a t.b);",
     ),
 ];
 
@@ -63,12 +81,12 @@ const PROCESSES: &[(&str, &str)] = &[
     ("module t; wire w = 1; reg a; endmodule", ""),
     (
         "module t; reg a = 0, b; always #5 a <= ~a; initial b = a; reg c = b; endmodule",
-        "t#p0 initial 0: t.a = 32';t#p1 always 0: forever 1: #5 2: t.a <= ~t.a:1;\
-         t#p2 initial 0: t.b = t.a:1;t#p3 initial 0: t.c = t.b:1;",
+        "t#p0 initial 0: t.a = 32();t#p1 always 0: forever 1: #5 2: t.a <= 1(t.a);\
+         t#p2 initial 0: t.b = 1(t.a);t#p3 initial 0: t.c = 1(t.b);",
     ),
     (
         "module t; reg a; initial begin ; #3 begin a = a; a <= a; end begin end #0 ; end endmodule",
-        "t#p0 initial {0: ;1: #3 {2: t.a = t.a:1;3: t.a <= t.a:1;}{}4: #0 5: ;}",
+        "t#p0 initial {0: ;1: #3 {2: t.a = 1(t.a);3: t.a <= 1(t.a);}{}4: #0 5: ;}",
     ),
 ];
 

@@ -79,6 +79,57 @@ const ROWS: &[(&str, &str, &str)] = &[
         "E8 X3 at t",
     ),
     ("module t; initial #2147483647 ; endmodule", "t", DESIGN),
+    ("module t; initial #4'b1x0 ; endmodule", "t", "E8 X3 at t"),
+    ("module t; initial #2'sb10 ; endmodule", "t", "E8 X3 at t"),
+    ("module t; initial #2'b10 ; endmodule", "t", DESIGN),
+    // It has less than 2^62 ticks.
+    (
+        "module t; initial #64'h4000000000000000 ; endmodule",
+        "t",
+        "E7 at t",
+    ),
+    (
+        "module t; initial #64'h3fffffffffffffff ; endmodule",
+        "t",
+        DESIGN,
+    ),
+    // A count is a known number from 1 on, without signals.
+    (
+        "module t; reg a; initial a = {0{a}}; endmodule",
+        "t",
+        "E8 X3 at t",
+    ),
+    (
+        "module t; reg a; initial a = {a{1'b0}}; endmodule",
+        "t",
+        "E8 X3 at t",
+    ),
+    (
+        "module t; reg a; initial a = {1'bx{a}}; endmodule",
+        "t",
+        "E8 X3 at t",
+    ),
+    (
+        "module t; reg a; initial a = {2'd1 + 2'd1{a}}; endmodule",
+        "t",
+        DESIGN,
+    ),
+    // A size is at most 64 bits.
+    (
+        "module t; wire w = {65{a}}; reg a; endmodule",
+        "t",
+        "E8 X1 at t",
+    ),
+    (
+        "module t; wire w = {{60{a}}, 5'd0}; reg a; endmodule",
+        "t",
+        "E8 X1 at t",
+    ),
+    (
+        "module t; wire w = {{60{a}}, 4'd0}; reg a; endmodule",
+        "t",
+        DESIGN,
+    ),
     // A procedural assignment writes a variable, and a continuous one drives a net.
     (
         "module t; wire w; initial w = 1; endmodule",

@@ -2,9 +2,10 @@
 use std::alloc::Global;
 use std::test::Fail;
 use vs_design::{
-    Design, Entry, Process, ProcessKind, ScopeKind, SignalKind, Statement, Target, Typed,
+    Design, Entry, Process, ProcessKind, ScopeKind, SignalKind, Statement, Store, Target, Typed,
+    reads,
 };
-use vs_logic4::{Binary, Unary};
+use vs_eval::value;
 
 /// The path of the signal of a number.
 fn path_of<'d>(design: &'d Design, number: usize) -> &'d [u8] {
@@ -36,45 +37,23 @@ pub fn signals_shown(alloc: Global, design: &Design) -> Result<Vec<u8>, Fail> {
     Ok(text)
 }
 
-fn operator(operator: Binary) -> &'static [u8] {
-    match operator {
-        Binary::And => b" & ",
-        Binary::Xor => b" ^ ",
-        Binary::Or => b" | ",
-    }
-}
-
-/// Appends an expression: each number by its size, and each signal by its path and the size that it is brought to.
+/// Appends an expression: its size in bits, and the paths of the signals that it reads.
 fn show_expression(
     alloc: Global,
     design: &Design,
     e: &Typed,
     text: &mut Vec<u8>,
 ) -> Result<(), Fail> {
-    match e {
-        Typed::Number(v) => {
-            let size = format!(in alloc; "{}'", v.width())?;
-            text.extend_from_slice(size.as_bytes())?;
-        }
-        Typed::Signal(operand) => {
-            text.extend_from_slice(path_of(design, operand.signal))?;
-            let size = format!(in alloc; ":{}", operand.width)?;
-            text.extend_from_slice(size.as_bytes())?;
-        }
-        Typed::Unary(Unary::Not, inner) => {
-            text.push(b'~')?;
-            show_expression(alloc, design, inner, text)?;
-        }
-        Typed::Chain(first, links) => {
-            text.push(b'(')?;
-            show_expression(alloc, design, first, text)?;
-            for (link, operand) in links {
-                text.extend_from_slice(operator(link.operator))?;
-                show_expression(alloc, design, operand, text)?;
-            }
-            text.push(b')')?;
-        }
+    let store = Store::start(alloc, design)?;
+    let size = format!(in alloc; "{}(", value(e, &store, 0).width())?;
+    text.extend_from_slice(size.as_bytes())?;
+    let mut space: &[u8] = b"";
+    for range in &reads(alloc, e)? {
+        text.extend_from_slice(space)?;
+        text.extend_from_slice(path_of(design, range.signal))?;
+        space = b" ";
     }
+    text.push(b')')?;
     Ok(())
 }
 

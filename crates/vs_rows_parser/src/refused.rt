@@ -6,18 +6,50 @@ use vs_lexer::lex;
 use vs_parser::parse;
 
 /// Sources, and the texts of their faults.
-const ROWS: [(&str, &str); 8] = [
+const ROWS: [(&str, &str); 43] = [
     ("module t; initial fork join endmodule", "P2 at 18: fork"),
     ("module t; initial a = 1 endmodule", "P1 at 24"),
     ("module t; reg a; endmodule ;", "P1 at 27"),
-    (
-        "module t; reg a; initial begin a <= a + 1; end endmodule",
-        "P2 at 38: +",
-    ),
-    ("module t; initial #4'd5 ; endmodule", "P1 at 19"),
+    ("module t; initial a <= b ** 2; endmodule", "P2 at 25: **"),
+    ("module t; initial a = b -> c; endmodule", "P2 at 24: ->"),
+    ("module t; wire w = a &&& b; endmodule", "P2 at 21: &&&"),
+    ("module t; wire w = $time; endmodule", "P2 at 19: $time"),
+    ("module t; wire w = a $signed(b); endmodule", "P1 at 21"),
+    ("module t; wire w = $signed a; endmodule", "P1 at 27"),
+    ("module t; wire w = $unsigned(); endmodule", "P1 at 29"),
+    ("module t; wire w = $signed(a, b); endmodule", "P1 at 28"),
+    ("module t; wire w = a + * b; endmodule", "P1 at 23"),
+    ("module t; wire w = a ! b; endmodule", "P1 at 21"),
+    ("module t; wire w = a ? b; endmodule", "P1 at 24"),
+    ("module t; wire w = a ? b : c : d; endmodule", "P1 at 29"),
+    ("module t; wire w = a ? : b; endmodule", "P1 at 23"),
+    ("module t; wire w = {}; endmodule", "P1 at 20"),
+    ("module t; wire w = {a, }; endmodule", "P1 at 23"),
+    ("module t; wire w = {2{}}; endmodule", "P1 at 22"),
+    ("module t; wire w = {2{a}, b}; endmodule", "P1 at 24"),
+    ("module t; wire w = {2{a}; endmodule", "P1 at 24"),
+    ("module t; wire w = {a b}; endmodule", "P1 at 22"),
     ("module t; reg a end endmodule", "P1 at 16"),
     ("module t;", "P4 at 9"),
     ("module t; wire w = a &", "P4 at 22"),
+    ("module t; wire w = a ? b :", "P4 at 26"),
+    ("module t; wire w = {2{a, b", "P4 at 26"),
+    ("module t; wire w = $signed(a", "P4 at 28"),
+    ("module t; wire [3] a; endmodule", "P1 at 17"),
+    ("module t; reg [3:0 a; endmodule", "P1 at 19"),
+    ("module t; reg [3:] a; endmodule", "P1 at 17"),
+    ("module t; reg [] a; endmodule", "P1 at 15"),
+    ("module t; integer [3:0] a; endmodule", "P1 at 18"),
+    ("module t; integer signed a; endmodule", "P1 at 18"),
+    ("module t; wire signed signed a; endmodule", "P1 at 22"),
+    ("module t; wire [3:0] signed a; endmodule", "P1 at 21"),
+    ("module t; reg a [3:0]; endmodule", "P1 at 16"),
+    ("module t; signed a; endmodule", "P1 at 10"),
+    ("module t; reg integer a; endmodule", "P1 at 14"),
+    ("module t; wire signed", "P4 at 21"),
+    ("module t; reg [3", "P4 at 16"),
+    ("module t; reg [3:0", "P4 at 18"),
+    ("module t; integer a", "P4 at 19"),
 ];
 
 /// The text of what is answered of a source: of its fault, or `read`.
@@ -46,48 +78,72 @@ fn refused(rt: HostRuntime) -> Result<(), Fail> {
     Ok(())
 }
 
-/// A module whose one statement assigns `a` in this many parentheses.
-fn nested(alloc: Global, count: usize) -> Result<Vec<u8>, Fail> {
+/// A module whose one statement assigns `a` behind this many of the one text and before as many of the other.
+fn nested(alloc: Global, open: &str, close: &str, count: usize) -> Result<Vec<u8>, Fail> {
     let mut source = Vec::new(alloc);
     source.extend_from_slice(b"module t; initial x = ")?;
     for _ in 0..count {
-        source.push(b'(')?;
+        source.extend_from_slice(open.as_bytes())?;
     }
     source.push(b'a')?;
     for _ in 0..count {
-        source.push(b')')?;
+        source.extend_from_slice(close.as_bytes())?;
     }
     source.extend_from_slice(b"; endmodule")?;
     Ok(source)
 }
 
-// The item, the statement and 254 parentheses are 256 nodes.
+/// What stands before and behind an inner expression, how often it may be nested (the item, the statement and 254 nodes are 256),
+/// and the place of the token that is too deep where it is nested once more.
+const NESTED: [(&str, &str, usize, usize); 10] = [
+    ("(", ")", 254, 276),
+    ("~", "", 254, 276),
+    ("- ", "", 254, 530),
+    ("$signed(", ")", 254, 2054),
+    ("{", "}", 254, 276),
+    ("{a, ", "}", 254, 1038),
+    ("{1{", "}}", 254, 784),
+    ("a ? ", " : a", 254, 1040),
+    ("a + (", ")", 127, 659),
+    ("a ? b : (", ")", 127, 1167),
+];
+
 #[test]
-fn deepest_expression(rt: HostRuntime) -> Result<(), Fail> {
-    let source = nested(rt.alloc(), 254)?;
+fn deepest_expressions(rt: HostRuntime) -> Result<(), Fail> {
+    for (open, close, count, place) in &NESTED {
+        let deepest = nested(rt.alloc(), open, close, *count)?;
+        is_answered(&rt, rt.alloc(), deepest.as_slice(), b"read")?;
+        let deeper = nested(rt.alloc(), open, close, count.saturating_add(1))?;
+        let text = format!(in rt.alloc(); "P3 at {place}")?;
+        is_answered(&rt, rt.alloc(), deeper.as_slice(), text.as_bytes())?;
+    }
+    Ok(())
+}
+
+#[test]
+fn far_too_deep(rt: HostRuntime) -> Result<(), Fail> {
+    let source = nested(rt.alloc(), "(", ")", 100_000)?;
+    is_answered(&rt, rt.alloc(), source.as_slice(), b"P3 at 276")
+}
+
+/// As many parentheses as may be, each of them the last operand of a chain of each level and of a conditional.
+#[test]
+fn deepest_operands(rt: HostRuntime) -> Result<(), Fail> {
+    let levels = "a ? a : a || a && a | a ^ a & a == a < a << a + a * (";
+    let source = nested(rt.alloc(), levels, ")", 21)?;
     is_answered(&rt, rt.alloc(), source.as_slice(), b"read")
 }
 
+/// A conditional of many conditions, and a concatenation of many parts, are one node each.
 #[test]
-fn deeper_expression(rt: HostRuntime) -> Result<(), Fail> {
-    let one_more = nested(rt.alloc(), 255)?;
-    is_answered(&rt, rt.alloc(), one_more.as_slice(), b"P3 at 276")?;
-    let far_more = nested(rt.alloc(), 100_000)?;
-    is_answered(&rt, rt.alloc(), far_more.as_slice(), b"P3 at 276")
-}
-
-/// As many parentheses as may be, each of them the last operand of a chain of each level.
-#[test]
-fn deepest_operands(rt: HostRuntime) -> Result<(), Fail> {
+fn longest_lists(rt: HostRuntime) -> Result<(), Fail> {
+    let conditions = nested(rt.alloc(), "a ? a : ", "", 2_000)?;
+    is_answered(&rt, rt.alloc(), conditions.as_slice(), b"read")?;
     let mut source = Vec::new(rt.alloc());
-    source.extend_from_slice(b"module t; initial x = ")?;
-    for _ in 0..63 {
-        source.extend_from_slice(b"a | a ^ a & (")?;
+    source.extend_from_slice(b"module t; initial x = {a")?;
+    for _ in 0..2_000 {
+        source.extend_from_slice(b", a")?;
     }
-    source.push(b'a')?;
-    for _ in 0..63 {
-        source.push(b')')?;
-    }
-    source.extend_from_slice(b"; endmodule")?;
+    source.extend_from_slice(b"}; endmodule")?;
     is_answered(&rt, rt.alloc(), source.as_slice(), b"read")
 }

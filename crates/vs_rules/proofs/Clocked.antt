@@ -1,11 +1,10 @@
 -- A clocked design keeps the rules, so it is independent: the rules are not empty.
-use Rattle.std.proofs.Common.{◌≡◌, ℕ, zero, suc, ◌+◌, ◌%◌, ◌<◌, ◌==◌, ◌||◌, ◌⊎◌, ◌++◌, Bool, true, false, Some, List, [], ◌∷◌, length, slice_get, refl, sym, ◌∙◌, ap, subst, inl, inr, arith, lit<, lit≤, nat_lt}
+use Rattle.std.proofs.Common.{◌≡◌, ℕ, zero, suc, ◌+◌, ◌%◌, ◌<◌, ◌==◌, ◌||◌, ◌⊎◌, ◌++◌, Bool, true, false, Option, Some, option_map, List, [], ◌∷◌, length, slice_get, refl, sym, ◌∙◌, ap, subst, inl, inr, arith, lit<, lit≤, nat_lt}
 use Rattle.std.proofs.lemmas.Option.{none-some, same_Some}
 use Rattle.std.proofs.lemmas.Bool.{or_cases, eqb-true, eq-eqb, false≢true, true≢false}
 use Rattle.std.proofs.lemmas.List.Elements.{All-nil, All-cons}
 use Rattle.std.specs.declared.alloc.Global.{Global}
 use Rattle.std.specs.List.{list_any, IsDistinct, Contains}
-use Rattle.vs_logic4.specs.declared.digit.Digit.{Digit}
 use Rattle.vs_logic4.specs.declared.digit.Digit.TheVariants.{Zero}
 use Rattle.vs_logic4.specs.declared.operators.Unary.{Unary}
 use Rattle.vs_logic4.specs.declared.operators.Unary.TheVariants as u
@@ -26,14 +25,14 @@ use Rattle.vs_design.specs.declared.expression.Typed.{Typed, fold-roll-Typed}
 use Rattle.vs_design.specs.declared.expression.Typed.TheVariants as e
 use Rattle.vs_design.specs.declared.expression.Typed.TheOpen as t
 use Rattle.vs_design.specs.Uses.{whole, is_of, reads, reads_step, reads_signal, writes_signal}
-use Rattle.vs_design.specs.WellFormed.{WellFormed, width_step, width_of, sized_step, is_sized, within_step, is_within, is_sound_assignment, is_sound_assign, sound_step, is_sound_statement, numbers_step, numbers, is_sound_process}
+use Rattle.vs_design.specs.WellFormed.{WellFormed, size_step, size_of, is_sound_assignment, is_sound_assign, sound_step, is_sound_statement, numbers_step, numbers, is_sound_process}
 use Rattle.vs_process.specs.Places.{Todo, perform, turns, flat}
 use Rattle.vs_process.specs.Steps.{Next, on, after, step, statement_step}
 use Rattle.vs_process.proofs.Todos.{flat-Block}
 use Rattle.vs_independence.specs.Race.{name, bit, target}
 use Rattle.vs_independence.specs.Threads.{todo_reads}
 use Rattle.vs_independence.specs.Discipline.{Reaches, here, through}
-use Rattle.vs_independence.proofs.Race.{width_number, sized_number, within_number, sound_assign, numbers_assign}
+use Rattle.vs_independence.proofs.Race.{size_number, reads_number, sound_assign, numbers_assign}
 use Rattle.vs_independence.proofs.Whole.{independent}
 use Rattle.vs_rules.specs.Points.{Among, statement_nexts, Goes, first_todo, WritesNow, WritesLater, Point, Late, Slot0, RunsAt}
 use Rattle.vs_rules.specs.Claims.{Name, SignalClaim, controls_step, controls_in, controls_of, slots_of, list_of, ends_at, claim_of, writer_in, second_in, is_writer, is_second}
@@ -354,9 +353,6 @@ reads_operand s =
 reads_unary : (g : Global) (op : Unary) (x : Typed) → reads (e.Unary op (boxed g x)) ≡ reads x
 reads_unary g op x = ap reads (sym (e.rolls-Unary op (boxed g x))) ∙ fold-roll-Typed (List BitRange) reads_step (t.Unary op (boxed g x))
 
-reads_number : (ds : List Digit) → reads (e.Number ds) ≡ []
-reads_number ds = ap reads (sym (e.rolls-Number ds)) ∙ fold-roll-Typed (List BitRange) reads_step (t.Number ds)
-
 reads_one : (x : Typed) (s v : ℕ) → reads x ≡ whole s ∷ [] → reads_signal x v ≡ true → s ≡ v
 reads_one x s v is h = named s v (ap (list_any (is_of v)) (sym is) ∙ h)
 
@@ -607,29 +603,15 @@ ruled g = record {
 
 -- ---- it is well formed
 
-width_operand : (s : ℕ) → width_of (operand s) ≡ 1
-width_operand s =
-    ap width_of (sym (e.rolls-Signal (record { signal = s; width = 1; signed = false; sized = (lit< tt, lit≤ tt) })))
-    ∙ fold-roll-Typed ℕ width_step (t.Signal (record { signal = s; width = 1; signed = false; sized = (lit< tt, lit≤ tt) }))
+size_operand : (s : ℕ) → size_of (operand s) ≡ Some 1
+size_operand s =
+    ap size_of (sym (e.rolls-Signal (record { signal = s; width = 1; signed = false; sized = (lit< tt, lit≤ tt) })))
+    ∙ fold-roll-Typed (Option ℕ) size_step (t.Signal (record { signal = s; width = 1; signed = false; sized = (lit< tt, lit≤ tt) }))
 
-sized_operand : (width s : ℕ) → is_sized width (operand s) ≡ (1 == width)
-sized_operand width s =
-    ap (is_sized width) (sym (e.rolls-Signal (record { signal = s; width = 1; signed = false; sized = (lit< tt, lit≤ tt) })))
-    ∙ fold-roll-Typed Bool (sized_step width) (t.Signal (record { signal = s; width = 1; signed = false; sized = (lit< tt, lit≤ tt) }))
-
-within_operand : (ss : List Signal) (s : ℕ) → is_within ss (operand s) ≡ nat_lt s (length ss)
-within_operand ss s =
-    ap (is_within ss) (sym (e.rolls-Signal (record { signal = s; width = 1; signed = false; sized = (lit< tt, lit≤ tt) })))
-    ∙ fold-roll-Typed Bool (within_step ss) (t.Signal (record { signal = s; width = 1; signed = false; sized = (lit< tt, lit≤ tt) }))
-
-width_unary : (g : Global) (op : Unary) (x : Typed) → width_of (e.Unary op (boxed g x)) ≡ width_of x
-width_unary g op x = ap width_of (sym (e.rolls-Unary op (boxed g x))) ∙ fold-roll-Typed ℕ width_step (t.Unary op (boxed g x))
-
-sized_unary : (width : ℕ) (g : Global) (op : Unary) (x : Typed) → is_sized width (e.Unary op (boxed g x)) ≡ is_sized width x
-sized_unary width g op x = ap (is_sized width) (sym (e.rolls-Unary op (boxed g x))) ∙ fold-roll-Typed Bool (sized_step width) (t.Unary op (boxed g x))
-
-within_unary : (ss : List Signal) (g : Global) (op : Unary) (x : Typed) → is_within ss (e.Unary op (boxed g x)) ≡ is_within ss x
-within_unary ss g op x = ap (is_within ss) (sym (e.rolls-Unary op (boxed g x))) ∙ fold-roll-Typed Bool (within_step ss) (t.Unary op (boxed g x))
+size_inverse : (g : Global) (s : ℕ) → size_of (inverse g s) ≡ Some 1
+size_inverse g s =
+    ap size_of (sym (e.rolls-Unary u.Not (boxed g (operand s)))) ∙ fold-roll-Typed (Option ℕ) size_step (t.Unary u.Not (boxed g (operand s)))
+    ∙ ap (option_map (λ n. n)) (size_operand s)
 
 sound_later : (ss : List Signal) (n : ℕ) (x : Target) (v : Typed) → is_sound_statement ss (y.Later n x v) ≡ is_sound_assignment ss x v
 sound_later ss n x v = ap (is_sound_statement ss) (sym (y.rolls-Later n x v)) ∙ fold-roll-Statement Bool (sound_step ss) (f.Later n x v)
@@ -666,13 +648,13 @@ signals_of g = (clocked g).signals
 
 sound_turned : (g : Global) → is_sound_statement (signals_of g) (turned g) ≡ true
 sound_turned g = sound_assign (signals_of g) 2 (target 0) (inverse g 0)
-    ∙ rw (within_unary (signals_of g) g u.Not (operand 0), within_operand (signals_of g) 0, width_unary g u.Not (operand 0), width_operand 0, sized_unary 1 g u.Not (operand 0), sized_operand 1 0) refl
+    ∙ rw (reads_unary g u.Not (operand 0), reads_operand 0, size_inverse g 0) refl
 
 sound_taken : (g : Global) → is_sound_statement (signals_of g) taken ≡ true
-sound_taken g = sound_later (signals_of g) 2 (target 1) (operand 2) ∙ rw (within_operand (signals_of g) 2, width_operand 2, sized_operand 1 2) refl
+sound_taken g = sound_later (signals_of g) 2 (target 1) (operand 2) ∙ rw (reads_operand 2, size_operand 2) refl
 
 sound_cleared : (g : Global) → is_sound_statement (signals_of g) cleared ≡ true
-sound_cleared g = sound_assign (signals_of g) 0 (target 0) (e.Number (Zero ∷ [])) ∙ rw (within_number (signals_of g) (Zero ∷ []), width_number (Zero ∷ []), sized_number 1 (Zero ∷ [])) refl
+sound_cleared g = sound_assign (signals_of g) 0 (target 0) (e.Number (Zero ∷ [])) ∙ rw (reads_number (Zero ∷ []), size_number (Zero ∷ [])) refl
 
 sound_clock : (g : Global) → is_sound_statement (signals_of g) (clock g) ≡ true
 sound_clock g = sound_forever (signals_of g) g 0 (half g) ∙ sound_delay (signals_of g) g 1 five (turned g) ∙ sound_turned g
@@ -704,7 +686,7 @@ clears_process g = rw (sound_cleared g, numbers_assign 0 (target 0) (e.Number (Z
 
 sound_net : (g : Global) → is_sound_assign (signals_of g) (the_assign g) ≡ true
 sound_net g =
-    rw (within_unary (signals_of g) g u.Not (operand 0), within_operand (signals_of g) 0, width_unary g u.Not (operand 0), width_operand 0, sized_unary 1 g u.Not (operand 0), sized_operand 1 0) refl
+    rw (reads_unary g u.Not (operand 0), reads_operand 0, size_inverse g 0) refl
 
 declared_at : (n : ℕ) → n < 3 → Contains (0 ∷ 1 ∷ 2 ∷ []) n
 declared_at zero h = (0, lit< tt, refl)

@@ -1,7 +1,7 @@
 -- The tables are those of the rules.
 use Rattle.std.specs.Prelude.{◌≡◌, ℕ, zero, suc, List, [], ◌∷◌, refl}
 use Rattle.vs_tokens.specs.declared.token.Mark.{Mark}
-use Rattle.vs_syntax.specs.Grammar.{Part, a_source, a_module, an_item, a_declarator, an_assignment, a_stmt, a_target, a_level, operands, levels, level_at, rule}
+use Rattle.vs_syntax.specs.Grammar.{Part, a_source, a_module, an_item, a_declarator, an_assignment, a_stmt, a_target, an_expr, a_level, operands, levels, level_at, rule}
 use Rattle.vs_syntax.specs.Tables.{null_of, low_of, operand_fronts, fronts_of, null, low, fronts}
 
 operands_null : (p : Part) (ops : List Mark) → null (operands p ops) ≡ null_of p
@@ -24,6 +24,7 @@ rule_null a_declarator = refl
 rule_null an_assignment = refl
 rule_null a_stmt = refl
 rule_null a_target = refl
+rule_null an_expr = refl
 rule_null (a_level zero) = refl
 rule_null (a_level (suc n)) = operands_null (a_level n) (level_at levels n)
 
@@ -35,6 +36,7 @@ rule_low a_declarator = refl
 rule_low an_assignment = refl
 rule_low a_stmt = refl
 rule_low a_target = refl
+rule_low an_expr = refl
 rule_low (a_level zero) = refl
 rule_low (a_level (suc n)) = operands_low (a_level n) (level_at levels n)
 
@@ -46,5 +48,6 @@ rule_fronts a_declarator = refl
 rule_fronts an_assignment = refl
 rule_fronts a_stmt = refl
 rule_fronts a_target = refl
+rule_fronts an_expr = refl
 rule_fronts (a_level zero) = refl
 rule_fronts (a_level (suc n)) = operands_fronts n (level_at levels n)

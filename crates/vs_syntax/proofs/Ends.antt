@@ -5,7 +5,7 @@ use Rattle.vs_tokens.specs.declared.token.Mark.{Mark}
 use Rattle.vs_tokens.specs.declared.token.Mark.TheVariants as m
 use Rattle.vs_tokens.specs.declared.token.Word.TheVariants as w
 use Rattle.vs_syntax.specs.Symbols.{Symbol, Class, the_mark, the_word, same_class, first}
-use Rattle.vs_syntax.specs.Grammar.{Part, a_source, a_module, an_item, a_declarator, an_assignment, a_stmt, a_target, a_level, Grammar, nothing, token, seq, either, many, part, node, chain, optional, ◌·◌, one_mark, operands, levels, level_at, rule}
+use Rattle.vs_syntax.specs.Grammar.{Part, a_source, a_module, an_item, a_declarator, an_assignment, a_stmt, a_target, an_expr, a_level, Grammar, nothing, token, seq, either, many, part, node, chain, optional, ◌·◌, one_or_more, one_mark, operands, a_condition, arm, levels, level_at, rule}
 use Rattle.vs_syntax.specs.Tables.{Front, at_least, mark_fronts, null, fronts, among, goes}
 use Rattle.vs_syntax.specs.Derivation.{Tree, tokens, Is, is_nothing, is_token, is_seq, is_left, is_right, is_stop, is_more, is_part, is_node, is_one, is_chain, is_present, is_absent}
 use Rattle.vs_syntax.proofs.Fronts.{clash, or_false, goes_same, among-append, among-seq}
@@ -16,12 +16,17 @@ abbrev pub level_lasts : ℕ → List Front
 level_lasts zero = []
 level_lasts (suc n) = mark_fronts 0 (level_at levels n) ++ level_lasts n
 
+-- with what an expression can go on
+abbrev pub expr_lasts : List Front
+expr_lasts = at_least (the_mark m.Question) 0 ∷ level_lasts (length levels)
+
 -- With what a part can go on behind its last token; in the plain reading without the classes of optional parts at its end,
 -- since that reading says itself that no such token stands behind.
 abbrev pub lasts_of : Bool → Part → List Front
 lasts_of plain a_source = at_least (the_word w.Module) 0 ∷ []
-lasts_of plain a_declarator = at_least (the_mark m.Assign) 0 ∷ level_lasts (length levels)
-lasts_of plain an_assignment = level_lasts (length levels)
+lasts_of plain a_declarator = at_least (the_mark m.Assign) 0 ∷ expr_lasts
+lasts_of plain an_assignment = expr_lasts
+lasts_of plain an_expr = expr_lasts
 lasts_of plain (a_level n) = level_lasts n
 lasts_of plain _ = []
 
@@ -56,19 +61,34 @@ marked_fronts op ops a c = among-seq (one_mark op ops) a c
     ∙ rw (one_mark-null op ops) (or_nothing (among c (fronts (one_mark op ops))))
     ∙ ap (among c) (one_mark-fronts op ops)
 
--- what can go on behind operands of one level: an operator of the level, or what can go on behind an operand
-level_none : (low next op : Bool) → low ≡ false → next ≡ false → op ≡ false → (low || (((((low || false) || next) || low) || false) || op)) ≡ false
-level_none true next op h k l = cc
-level_none false true op h k l = cc
-level_none false false true h k l = cc
-level_none false false false h k l = refl
+-- what can begin one or more
+pub more_fronts : (a : Grammar) (c : Class) → null a ≡ false → among c (fronts (one_or_more a)) ≡ among c (fronts a)
+more_fronts a c n = among-seq a (many a) c ∙ rw n (or_nothing (among c (fronts a)))
+
+-- the operators of one level and their operands
+pub link_fronts : (n : ℕ) (op : Mark) (ops : List Mark) (c : Class) → among c (fronts (one_or_more (one_mark op ops · part (a_level n)))) ≡ among c (mark_fronts 0 (op ∷ ops))
+link_fronts n op ops c = more_fronts (one_mark op ops · part (a_level n)) c (rw (one_mark-null op ops) refl) ∙ marked_fronts op ops (part (a_level n)) c
+
+-- what can go on behind a part and one or more others
+chain_none : (first link next all : Bool) → first ≡ false → link ≡ false → next ≡ false → all ≡ false → (first || (((link || next) || link) || all)) ≡ false
+chain_none first link next all p q r s = rw (p, q, r, s) refl
+
+chain_goes_on : (plain : Bool) (a l : Grammar) (c : Class) → null l ≡ false → goes_on plain a c ≡ false → goes_on plain l c ≡ false → among c (fronts l) ≡ false → goes_on plain (chain a (one_or_more l)) c ≡ false
+chain_goes_on plain a l c n p q r = chain_none (goes_on plain a c) (goes_on plain l c) (among c (fronts l)) (among c (fronts (one_or_more l))) p q r (more_fronts l c n ∙ r)
 
 operands_go_on : (plain : Bool) (n : ℕ) (ops : List Mark) (c : Class) → among c (mark_fronts 0 ops ++ level_lasts n) ≡ false → goes_on plain (operands (a_level n) ops) c ≡ false
 operands_go_on plain n [] c h = h
 operands_go_on plain n (op ∷ ops) c h =
     let o = or_false (among c (mark_fronts 0 (op ∷ ops))) (among c (level_lasts n)) (sym (among-append c (mark_fronts 0 (op ∷ ops)) (level_lasts n)) ∙ h) in
-    level_none (among c (level_lasts n)) (among c (fronts (one_mark op ops · part (a_level n)))) (among c (fronts (one_mark op ops · part (a_level n) · many (one_mark op ops · part (a_level n)))))
-    o.1 (marked_fronts op ops (part (a_level n)) c ∙ o.0) (marked_fronts op ops (part (a_level n) · many (one_mark op ops · part (a_level n))) c ∙ o.0)
+    chain_goes_on plain (part (a_level n)) (one_mark op ops · part (a_level n)) c (rw (one_mark-null op ops) refl) o.1 (or_nothing (among c (level_lasts n)) ∙ o.1) (marked_fronts op ops (part (a_level n)) c ∙ o.0)
+
+behind_three : (low : Bool) → low ≡ false → (((low || false) || false) || false) ≡ false
+behind_three low h = rw h refl
+
+expr_goes_on : (plain : Bool) (c : Class) → among c expr_lasts ≡ false → goes_on plain (rule an_expr) c ≡ false
+expr_goes_on plain c h =
+    let o = or_false (same_class c (the_mark m.Question)) (among c (level_lasts (length levels))) h in
+    chain_goes_on plain (part a_condition) arm c refl o.1 (behind_three (among c (level_lasts (length levels))) o.1) (or_nothing (same_class c (the_mark m.Question)) ∙ o.0)
 
 kept : (low : Bool) → low ≡ false → ((low || false) || false) ≡ false
 kept true h = cc
@@ -84,8 +104,9 @@ rule_goes_on plain a_module c h = refl
 rule_goes_on plain an_item c h = refl
 rule_goes_on plain a_stmt c h = refl
 rule_goes_on plain a_target c h = refl
-rule_goes_on plain a_declarator c h = declarator_goes_on (same_class c (the_mark m.Assign)) (among c (level_lasts (length levels))) h
-rule_goes_on plain an_assignment c h = kept (among c (level_lasts (length levels))) h
+rule_goes_on plain a_declarator c h = declarator_goes_on (same_class c (the_mark m.Assign)) (among c expr_lasts) h
+rule_goes_on plain an_assignment c h = kept (among c expr_lasts) h
+rule_goes_on plain an_expr c h = expr_goes_on plain c h
 rule_goes_on plain (a_level zero) c h = refl
 rule_goes_on plain (a_level (suc n)) c h = operands_go_on plain n (level_at levels n) c h
 

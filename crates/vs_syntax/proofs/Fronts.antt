@@ -4,7 +4,7 @@ use Rattle.std.proofs.Common.{sym, ◌∙◌, ap, arith}
 use denote.Enum.Bare.{true_same}
 use Rattle.vs_tokens.specs.contracts.token.Mark as marks
 use Rattle.vs_tokens.specs.contracts.token.Word as words
-use Rattle.vs_syntax.specs.Symbols.{Symbol, Class, class_of, no_token, the_mark, the_word, any_name, any_number, any_other, same_flag, same_class, first}
+use Rattle.vs_syntax.specs.Symbols.{Symbol, Class, class_of, no_token, the_mark, the_word, any_name, any_number, the_cast, any_other, same_class, first}
 use Rattle.vs_syntax.specs.Grammar.{Grammar, seq, either, node, chain, optional}
 use Rattle.vs_syntax.specs.Tables.{Front, null, low, beside, above, fronts, among, need, goes}
 
@@ -27,16 +27,13 @@ pub and_false : (a b : Bool) → b ≡ false → (a && b) ≡ false
 and_false true b p = p
 and_false false b p = refl
 
-pub same_flag-refl : (a : Bool) → same_flag a a ≡ true
-same_flag-refl true = refl
-same_flag-refl false = refl
-
 pub same_class-refl : (c : Class) → same_class c c ≡ true
 same_class-refl no_token = refl
 same_class-refl (the_mark m) = true_same marks.the_type m m refl
 same_class-refl (the_word w) = true_same words.the_type w w refl
 same_class-refl any_name = refl
-same_class-refl (any_number b) = same_flag-refl b
+same_class-refl any_number = refl
+same_class-refl the_cast = refl
 same_class-refl any_other = refl
 
 pub first-append : (ts r m : List Symbol) → first r ≡ first m → first (ts ++ r) ≡ first (ts ++ m)

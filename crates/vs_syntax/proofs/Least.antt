@@ -9,15 +9,15 @@ use Rattle.vs_tokens.specs.declared.token.Literal.{Literal}
 use Rattle.vs_tokens.specs.declared.token.Mark.{Mark}
 use Rattle.vs_tokens.specs.declared.token.Mark.TheVariants as m
 use Rattle.vs_tokens.specs.declared.token.Word.TheVariants as w
-use Rattle.vs_syntax.specs.Symbols.{Symbol, a_mark, a_word, a_name, a_number, another, Class, no_token, the_mark, the_word, any_name, any_number, any_other, class_of, same_class, first}
-use Rattle.vs_syntax.specs.Grammar.{Part, a_source, a_module, an_item, a_declarator, an_assignment, a_stmt, a_target, a_level, Grammar, nothing, token, seq, either, many, part, node, chain, optional, ◌·◌, one_mark, operands, levels, level_at, rule}
+use Rattle.vs_syntax.specs.Symbols.{Symbol, a_mark, a_word, a_name, a_number, a_cast, another, Class, no_token, the_mark, the_word, any_name, any_number, the_cast, any_other, class_of, same_class, first}
+use Rattle.vs_syntax.specs.Grammar.{Part, a_source, a_module, an_item, a_declarator, an_assignment, a_stmt, a_target, an_expr, a_level, Grammar, nothing, token, seq, either, many, part, node, chain, optional, operands, levels, level_at, rule}
 use Rattle.vs_syntax.specs.Tables.{low_of, mark_fronts, null, low, fronts, among, goes}
 use Rattle.vs_syntax.specs.Derivation.{Tree, empty, leaf, both, down, tokens, height, Is, is_nothing, is_token, is_seq, is_left, is_right, is_stop, is_part, is_node, is_one, is_absent}
-use Rattle.vs_syntax.proofs.Ends.{goes_on, again, level_lasts, marked_fronts}
+use Rattle.vs_syntax.proofs.Ends.{goes_on, again, level_lasts, link_fronts}
 
 -- a literal of 32 zeros
-abbrev pub zero_literal : Bool → Literal
-zero_literal based = record { value = replicate 32 Zero; signed = true; based = based }
+abbrev pub zero_literal : Literal
+zero_literal = record { value = replicate 32 Zero; signed = true; based = false }
 
 -- a symbol of the class
 abbrev pub sample : Class → Symbol
@@ -25,7 +25,8 @@ sample no_token = another
 sample (the_mark x) = a_mark x
 sample (the_word x) = a_word x
 sample any_name = a_name (97 ∷ [])
-sample (any_number b) = a_number (zero_literal b)
+sample any_number = a_number zero_literal
+sample the_cast = a_cast true
 sample any_other = another
 
 -- whether a symbol has the class
@@ -38,19 +39,21 @@ sample-class no_token h = cc
 sample-class (the_mark x) h = refl
 sample-class (the_word x) h = refl
 sample-class any_name h = refl
-sample-class (any_number b) h = refl
+sample-class any_number h = refl
+sample-class the_cast h = refl
 sample-class any_other h = refl
 
 -- a least tree of each part
 abbrev pub least_of : Part → Tree
 least_of a_source = empty
 least_of a_module = both (leaf (a_word w.Module)) (both (leaf (sample any_name)) (both (leaf (a_mark m.Semicolon)) (both empty (leaf (a_word w.Endmodule)))))
-least_of an_item = down (both (leaf (a_word w.Reg)) (both (both (leaf (sample any_name)) empty) (both empty (leaf (a_mark m.Semicolon)))))
+least_of an_item = down (both (leaf (a_word w.Reg)) (both (both empty empty) (both (both (leaf (sample any_name)) empty) (both empty (leaf (a_mark m.Semicolon))))))
 least_of a_declarator = both (leaf (sample any_name)) empty
-least_of an_assignment = both (down (leaf (sample any_name))) (both (leaf (a_mark m.Assign)) (leaf (sample (any_number false))))
+least_of an_assignment = both (down (leaf (sample any_name))) (both (leaf (a_mark m.Assign)) (leaf (sample any_number)))
 least_of a_stmt = down (both (leaf (a_mark m.Semicolon)) empty)
 least_of a_target = down (leaf (sample any_name))
-least_of (a_level n) = leaf (sample (any_number false))
+least_of an_expr = leaf (sample any_number)
+least_of (a_level n) = leaf (sample any_number)
 
 -- the end goes on with nothing
 pub mark_end : (ops : List Mark) → among no_token (mark_fronts 0 ops) ≡ false
@@ -65,21 +68,26 @@ operands_least : (n : ℕ) (ops : List Mark) (x : Tree) (more : List Symbol) →
 operands_least n [] x more h f = f h
 operands_least n (op ∷ ops) x more h f =
     let o = or_false (among (first more) (mark_fronts 0 (op ∷ ops))) (among (first more) (level_lasts n)) (sym (among-append (first more) (mark_fronts 0 (op ∷ ops)) (level_lasts n)) ∙ h) in
-    is_one (marked_fronts op ops (part (a_level n) · many (one_mark op ops · part (a_level n))) (first more) ∙ o.0) (f o.1)
+    is_one (link_fronts n op ops (first more) ∙ o.0) (f o.1)
 
 -- a number alone is an expression of each level, where no operator of the level follows it
-level_least : (n : ℕ) (more : List Symbol) → among (first more) (level_lasts n) ≡ false → Is (part (a_level n)) (leaf (sample (any_number false))) more
+level_least : (n : ℕ) (more : List Symbol) → among (first more) (level_lasts n) ≡ false → Is (part (a_level n)) (leaf (sample any_number)) more
 level_least zero more h = is_part (is_left refl (is_token refl))
-level_least (suc n) more h = is_part (operands_least n (level_at levels n) (leaf (sample (any_number false))) more h (level_least n more))
+level_least (suc n) more h = is_part (operands_least n (level_at levels n) (leaf (sample any_number)) more h (level_least n more))
+
+expr_least : Is (part an_expr) (leaf (sample any_number)) []
+expr_least = is_part (is_one refl (level_least (length levels) [] refl))
 
 pub rule_least : (p : Part) → Is (part p) (least_of p) []
 rule_least a_source = is_part (is_stop refl)
 rule_least a_module = is_part (is_seq (is_token refl) (is_seq (is_token refl) (is_seq (is_token refl) (is_seq (is_stop refl) (is_token refl)))))
-rule_least an_item = is_part (is_node (is_right refl (is_left refl (is_seq (is_token refl) (is_seq (is_part (is_seq (is_token refl) (is_right refl is_nothing))) (is_seq (is_stop refl) (is_token refl)))))))
+rule_least an_item = is_part (is_node (is_right refl (is_left refl (is_seq (is_token refl) (is_seq (is_seq (is_right refl is_nothing) (is_right refl is_nothing))
+    (is_seq (is_part (is_seq (is_token refl) (is_right refl is_nothing))) (is_seq (is_stop refl) (is_token refl))))))))
 rule_least a_declarator = is_part (is_seq (is_token refl) (is_right refl is_nothing))
-rule_least an_assignment = is_part (is_seq (is_part (is_node (is_token refl))) (is_seq (is_token refl) (level_least (length levels) [] refl)))
+rule_least an_assignment = is_part (is_seq (is_part (is_node (is_token refl))) (is_seq (is_token refl) expr_least))
 rule_least a_stmt = is_part (is_node (is_right refl (is_left refl (is_seq (is_token refl) is_nothing))))
 rule_least a_target = is_part (is_node (is_token refl))
+rule_least an_expr = expr_least
 rule_least (a_level n) = level_least n [] (level_end n)
 
 least_of-height : (p : Part) → height (least_of p) ≡ low_of p
@@ -90,6 +98,7 @@ least_of-height a_declarator = refl
 least_of-height an_assignment = refl
 least_of-height a_stmt = refl
 least_of-height a_target = refl
+least_of-height an_expr = refl
 least_of-height (a_level n) = refl
 
 -- a least tree of the grammar
@@ -143,6 +152,7 @@ rule_sound a_declarator = refl
 rule_sound an_assignment = refl
 rule_sound a_stmt = refl
 rule_sound a_target = refl
+rule_sound an_expr = refl
 rule_sound (a_level zero) = refl
 rule_sound (a_level (suc n)) = row_passes (λ k ops. sound (operands (a_level k) ops)) (λ k. refl) levels refl n
 
@@ -152,7 +162,8 @@ class_there no_token h = cc
 class_there (the_mark m) h = refl
 class_there (the_word w) h = refl
 class_there any_name h = refl
-class_there (any_number b) h = refl
+class_there any_number h = refl
+class_there the_cast h = refl
 class_there any_other h = refl
 
 pub not_true : (a : Bool) → not a ≡ true → a ≡ false

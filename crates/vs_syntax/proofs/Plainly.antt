@@ -4,8 +4,8 @@ use Rattle.std.proofs.Common.{sym, ◌∙◌, ap, inl, inr, append_assoc}
 use denote.Enum.Bare.{same_true}
 use Rattle.vs_tokens.specs.contracts.token.Mark as marks
 use Rattle.vs_tokens.specs.contracts.token.Word as words
-use Rattle.vs_syntax.specs.Symbols.{Symbol, Class, no_token, the_mark, the_word, any_name, any_number, any_other, class_of, first, same_flag, same_class}
-use Rattle.vs_syntax.specs.Grammar.{Part, a_source, a_module, an_item, a_declarator, an_assignment, a_stmt, a_target, a_level, Grammar, nothing, token, seq, either, many, part, node, chain, optional, operands, levels, rule}
+use Rattle.vs_syntax.specs.Symbols.{Symbol, Class, no_token, the_mark, the_word, any_name, any_number, the_cast, any_other, class_of, first, same_class}
+use Rattle.vs_syntax.specs.Grammar.{Part, a_source, a_module, an_item, a_declarator, an_assignment, a_stmt, a_target, an_expr, a_level, Grammar, nothing, token, seq, either, many, part, node, chain, optional, operands, levels, rule}
 use Rattle.vs_syntax.specs.Tables.{Front, null, fronts, among, goes}
 use Rattle.vs_syntax.specs.Derivation.{Tree, down, tokens, Is, is_nothing, is_token, is_seq, is_left, is_right, is_stop, is_more, is_part, is_node, is_one, is_chain, is_present, is_absent}
 use Rattle.vs_syntax.specs.Plain.{IsPlain, plain_nothing, plain_token, plain_seq, plain_left, plain_right, plain_stop, plain_more, plain_part, plain_node, plain_one, plain_chain, plain_present, plain_absent}
@@ -31,19 +31,14 @@ plainly (is_chain h p q) = plain_chain (plainly p) (plainly q)
 plainly (is_present h p) = plain_present h (plainly p)
 plainly (is_absent {c = c} {more = m} h) = plain_absent (λ e. clash (or_left (same_class (first m) c) false (ap (λ u. same_class (first m) u) (sym e) ∙ same_class-refl (first m))) h)
 
-same_flag-true : (a b : Bool) → same_flag a b ≡ true → a ≡ b
-same_flag-true true true h = refl
-same_flag-true true false h = cc
-same_flag-true false true h = cc
-same_flag-true false false h = refl
-
 -- two classes of which the test says that they are equal
 pub same_class-true : (c d : Class) → same_class c d ≡ true → c ≡ d
 same_class-true no_token no_token h = refl
 same_class-true (the_mark m) (the_mark n) h = ap the_mark (same_true marks.the_type tt m n h)
 same_class-true (the_word v) (the_word w) h = ap the_word (same_true words.the_type tt v w h)
 same_class-true any_name any_name h = refl
-same_class-true (any_number a) (any_number b) h = ap any_number (same_flag-true a b h)
+same_class-true any_number any_number h = refl
+same_class-true the_cast the_cast h = refl
 same_class-true any_other any_other h = refl
 same_class-true _ _ h = cc
 
@@ -80,6 +75,7 @@ rule_decided a_declarator = refl
 rule_decided an_assignment = refl
 rule_decided a_stmt = refl
 rule_decided a_target = refl
+rule_decided an_expr = refl
 rule_decided (a_level zero) = refl
 rule_decided (a_level (suc n)) = row_passes (λ k ops. decided (operands (a_level k) ops)) (λ k. refl) levels refl n
 

@@ -1,10 +1,12 @@
 -- Statements, items and sources of one tree of the grammar say the same.
-use Rattle.std.specs.Prelude.{◌≡◌, List, [], ◌∷◌, ◌++◌, Option, None, Some, map, refl}
+use Rattle.std.specs.Prelude.{◌≡◌, Bool, true, false, List, [], ◌∷◌, ◌++◌, Option, None, Some, map, refl}
 use Rattle.std.proofs.Common.{sym, ◌∙◌, ap, subst}
 use Rattle.std.specs.declared.boxed.Box.{Box}
 use Rattle.std.specs.declared.alloc.Global.{Global}
 use Rattle.vs_tokens.specs.declared.token.Literal.{Literal}
 use Rattle.vs_tokens.specs.declared.token.Mark.TheVariants as m
+use Rattle.vs_syntax.specs.declared.tree.Range.{Range}
+use Rattle.vs_syntax.specs.declared.tree.Form.{Form}
 use Rattle.vs_syntax.specs.declared.tree.Declarator.{Declarator}
 use Rattle.vs_syntax.specs.declared.tree.NetAssignment.{NetAssignment}
 use Rattle.vs_syntax.specs.declared.tree.Expr.{Expr}
@@ -19,8 +21,8 @@ use Rattle.vs_syntax.specs.declared.tree.Source.{Source}
 use Rattle.vs_syntax.specs.Symbols.{Symbol, a_mark}
 use Rattle.vs_syntax.specs.Derivation.{Tree, leaf, both, tokens}
 use Rattle.vs_syntax.specs.Derives.{Derives}
-use Rattle.vs_syntax.specs.Views.{row_of, listed_tree, value_tree, declarator_tree, net_assignment_tree, stmt_step, stmt_tree, item_tree, module_tree, source_tree}
-use Rattle.vs_syntax.specs.Same.{SameStmt, same_null, same_assign, same_later, same_block, same_delay, SameStmts, same_no_stmt, same_more_stmts, Pairwise, no_pair, pair_more, SameValue, same_no_value, same_value, SameDeclarator, SameAssignment, SameItem, same_wire, same_reg, same_assigns, same_initial, same_always, SameModule, SameSource}
+use Rattle.vs_syntax.specs.Views.{row_of, listed_tree, value_tree, declarator_tree, signed_tree, range_tree, form_tree, net_assignment_tree, stmt_step, stmt_tree, item_tree, module_tree, source_tree}
+use Rattle.vs_syntax.specs.Same.{SameStmt, same_null, same_assign, same_later, same_block, same_delay, SameStmts, same_no_stmt, same_more_stmts, Pairwise, no_pair, pair_more, SameValue, same_no_value, same_value, SameDeclarator, SameRange, same_no_range, same_range, SameForm, SameAssignment, SameItem, same_wire, same_reg, same_integer, same_assigns, same_initial, same_always, SameModule, SameSource}
 use Rattle.vs_syntax.proofs.Unique.{unique}
 use Rattle.vs_syntax.proofs.Sameness.{same_expr}
 
@@ -99,12 +101,28 @@ same_option (Some x) (Some x') h = same_value x x' (same_expr x x' (cc))
 same_declarator : (d d' : Declarator) → declarator_tree d ≡ declarator_tree d' → SameDeclarator d d'
 same_declarator d d' h = record { name = cc; value = same_option d.value d'.value (cc) }
 
+same_sign : (s s' : Bool) → signed_tree s ≡ signed_tree s' → s ≡ s'
+same_sign true true h = refl
+same_sign true false h = cc
+same_sign false true h = cc
+same_sign false false h = refl
+
+same_ranges : (r r' : Option Range) → range_tree r ≡ range_tree r' → SameRange r r'
+same_ranges None None h = same_no_range
+same_ranges None (Some r') h = cc
+same_ranges (Some r) None h = cc
+same_ranges (Some r) (Some r') h = same_range r r' (same_expr r.left r'.left (cc)) (same_expr r.right r'.right (cc))
+
+same_form : (f f' : Form) → form_tree f ≡ form_tree f' → SameForm f f'
+same_form f f' h = record { signed = same_sign f.signed f'.signed (cc); range = same_ranges f.range f'.range (cc) }
+
 same_assignment : (a a' : NetAssignment) → net_assignment_tree a ≡ net_assignment_tree a' → SameAssignment a a'
 same_assignment a a' h = record { target = cc; value = same_expr a.value a'.value (cc) }
 
 same_item : (x x' : Item) → item_tree x ≡ item_tree x' → SameItem x x'
-same_item (i.Wire ds) (i.Wire ds') h = same_wire ds ds' (listed_pairs SameDeclarator declarator_tree same_declarator ds.items ds'.items (cc))
-same_item (i.Reg ds) (i.Reg ds') h = same_reg ds ds' (listed_pairs SameDeclarator declarator_tree same_declarator ds.items ds'.items (cc))
+same_item (i.Wire f ds) (i.Wire f' ds') h = same_wire f f' ds ds' (same_form f f' (cc)) (listed_pairs SameDeclarator declarator_tree same_declarator ds.items ds'.items (cc))
+same_item (i.Reg f ds) (i.Reg f' ds') h = same_reg f f' ds ds' (same_form f f' (cc)) (listed_pairs SameDeclarator declarator_tree same_declarator ds.items ds'.items (cc))
+same_item (i.Integer ds) (i.Integer ds') h = same_integer ds ds' (listed_pairs SameDeclarator declarator_tree same_declarator ds.items ds'.items (cc))
 same_item (i.Assign xs) (i.Assign xs') h = same_assigns xs xs' (listed_pairs SameAssignment net_assignment_tree same_assignment xs.items xs'.items (cc))
 same_item (i.Initial x) (i.Initial x') h = same_initial x x' (same_stmt x x' (cc))
 same_item (i.Always x) (i.Always x') h = same_always x x' (same_stmt x x' (cc))

@@ -1,5 +1,5 @@
 -- Syntax trees of one tree of the grammar say the same.
-use Rattle.std.specs.Prelude.{◌≡◌, List, [], ◌∷◌, map, refl}
+use Rattle.std.specs.Prelude.{◌≡◌, ℕ, Bool, List, [], ◌∷◌, map, refl}
 use Rattle.std.proofs.Common.{sym, ◌∙◌, ap, subst}
 use Rattle.std.specs.declared.boxed.Box.{Box}
 use Rattle.std.specs.declared.alloc.Global.{Global}
@@ -13,21 +13,63 @@ use Rattle.vs_tokens.specs.declared.token.Mark.TheVariants as m
 use Rattle.vs_syntax.specs.declared.tree.Expr.{Expr, Expr-F, roll-Expr, out-Expr, roll-out-Expr, ind-Expr, map-Expr, fold-roll-Expr}
 use Rattle.vs_syntax.specs.declared.tree.Expr.TheOpen as f
 use Rattle.vs_syntax.specs.declared.tree.Expr.TheVariants as e
-use Rattle.vs_syntax.specs.declared.tree.Expr.TheVariants.{rolls-Number, rolls-Name, rolls-Group, rolls-Unary, rolls-Chain}
-use Rattle.vs_syntax.specs.Symbols.{a_mark}
-use Rattle.vs_syntax.specs.Derivation.{Tree, leaf}
-use Rattle.vs_syntax.specs.Views.{row_of, unary_mark, binary_mark, link_tree, links_tree, expr_step, expr_tree}
-use Rattle.vs_syntax.specs.Same.{SameExpr, same_number, same_name, same_group, same_unary, same_chain, SameLinks, same_no_link, same_link}
+use Rattle.vs_syntax.specs.declared.tree.Expr.TheVariants.{rolls-Number, rolls-Name, rolls-Group, rolls-Unary, rolls-Chain, rolls-Choice, rolls-Concat, rolls-Repeat, rolls-Cast}
+use Rattle.vs_syntax.specs.Symbols.{a_mark, a_number, a_cast}
+use Rattle.vs_syntax.specs.Derivation.{Tree, leaf, both, down}
+use Rattle.vs_syntax.specs.Views.{row_of, unary_mark, binary_mark, commas_tree, link_tree, head_of, arms_of, choice_tree, expr_step, expr_tree}
+use Rattle.vs_syntax.specs.Same.{SameExpr, same_number, same_name, same_group, same_unary, same_chain, same_choice, same_concat, same_repeat, same_cast, SameLinks, same_no_link, same_link, SamePairs, same_no_pair, same_pair, SameExprs, same_no_expr, same_more_exprs}
 
 -- an operator by its mark
+abbrev unary_at : Mark → Unary
+unary_at m.Plus = u.Plus
+unary_at m.Minus = u.Minus
+unary_at m.Not = u.LogicalNot
+unary_at m.And = u.ReduceAnd
+unary_at m.Nand = u.ReduceNand
+unary_at m.Or = u.ReduceOr
+unary_at m.Nor = u.ReduceNor
+unary_at m.Xor = u.ReduceXor
+unary_at m.Xnor = u.ReduceXnor
+unary_at _ = u.Not
+
+unary_back : (op : Unary) → unary_at (unary_mark op) ≡ op
+unary_back u.Not = refl
+unary_back _ = refl
+
 unary_by : (op op' : Unary) → unary_mark op ≡ unary_mark op' → op ≡ op'
-unary_by u.Not u.Not h = refl
+unary_by op op' h = sym (unary_back op) ∙ ap unary_at h ∙ unary_back op'
+
+abbrev binary_at : Mark → Binary
+binary_at m.Star = b.Multiply
+binary_at m.Slash = b.Divide
+binary_at m.Percent = b.Remainder
+binary_at m.Plus = b.Add
+binary_at m.Minus = b.Subtract
+binary_at m.ShiftLeft = b.ShiftLeft
+binary_at m.ShiftRight = b.ShiftRight
+binary_at m.ArithmeticShiftLeft = b.SignedShiftLeft
+binary_at m.ArithmeticShiftRight = b.SignedShiftRight
+binary_at m.Less = b.Less
+binary_at m.LessEqual = b.LessEqual
+binary_at m.Greater = b.Greater
+binary_at m.GreaterEqual = b.GreaterEqual
+binary_at m.Equal = b.Equal
+binary_at m.NotEqual = b.NotEqual
+binary_at m.CaseEqual = b.CaseEqual
+binary_at m.CaseNotEqual = b.CaseNotEqual
+binary_at m.And = b.And
+binary_at m.Xor = b.Xor
+binary_at m.Xnor = b.Xnor
+binary_at m.LogicalAnd = b.LogicalAnd
+binary_at m.LogicalOr = b.LogicalOr
+binary_at _ = b.Or
+
+binary_back : (op : Binary) → binary_at (binary_mark op) ≡ op
+binary_back b.Or = refl
+binary_back _ = refl
 
 binary_by : (op op' : Binary) → binary_mark op ≡ binary_mark op' → op ≡ op'
-binary_by b.And b.And h = refl
-binary_by b.Xor b.Xor h = refl
-binary_by b.Or b.Or h = refl
-binary_by _ _ h = cc
+binary_by op op' h = sym (binary_back op) ∙ ap binary_at h ∙ binary_back op'
 
 -- an expression of which the other one of its tree says the same
 abbrev Settled : Expr → Type 0
@@ -47,24 +89,93 @@ bare y = map-Expr Inner Expr (λ p. p.0) y
 opened : (x : Expr) → expr_tree x ≡ layer (out-Expr x)
 opened x = ap expr_tree (sym (roll-out-Expr x)) ∙ fold-roll-Expr Tree expr_step (out-Expr x)
 
--- no expression is a mark alone
-no_mark : (k : Mark) (x : Expr-F Expr) → layer x ≡ leaf (a_mark k) → ⊥
-no_mark k (f.Number l) h = cc
-no_mark k (f.Name n) h = cc
-no_mark k (f.Group x) h = cc
-no_mark k (f.Unary op x) h = cc
-no_mark k (f.Chain x ls) h = cc
-
-no_expression : (k : Mark) (x : Expr) → expr_tree x ≡ leaf (a_mark k) → ⊥
-no_expression k x h = no_mark k (out-Expr x) (sym (opened x) ∙ h)
-
-no_open : (op : Unary) → unary_mark op ≡ m.Open → ⊥
-no_open u.Not h = cc
-
 -- operands with their operators
 abbrev linked : List (Binary × Expr) → List (Binary × Tree)
 linked ls = map (λ l. (l.0, expr_tree l.1)) ls
 
+-- a number for each form of an expression
+abbrev form : Expr-F Expr → ℕ
+form (f.Number l) = 0
+form (f.Name n) = 1
+form (f.Group x) = 2
+form (f.Unary op x) = 3
+form (f.Chain x ls) = 4
+form (f.Choice ps x) = 5
+form (f.Concat x xs) = 6
+form (f.Repeat n x xs) = 7
+form (f.Cast s x) = 8
+
+-- the same of a tree: behind a brace, behind a mark, behind an operand
+abbrev form_in_braces : Tree → ℕ
+form_in_braces (both x (both y (both z w))) = 7
+form_in_braces _ = 6
+
+abbrev form_behind : Mark → Tree → ℕ
+form_behind m.Open x = 2
+form_behind m.OpenBrace x = form_in_braces x
+form_behind _ x = 3
+
+abbrev form_of_row : Tree → ℕ
+form_of_row (both (both (leaf (a_mark m.Question)) x) y) = 5
+form_of_row _ = 4
+
+abbrev form_of_tree : Tree → ℕ
+form_of_tree (leaf (a_number l)) = 0
+form_of_tree (down (both (leaf (a_mark k)) x)) = form_behind k x
+form_of_tree (down (both (leaf (a_cast s)) x)) = 8
+form_of_tree (down (both x y)) = form_of_row y
+form_of_tree (both x y) = 5
+form_of_tree _ = 1
+
+unary_form : (op : Unary) (x : Tree) → form_of_tree (down (both (leaf (a_mark (unary_mark op))) x)) ≡ 3
+unary_form u.Not x = refl
+unary_form _ x = refl
+
+link_form : (op : Binary) (x y : Tree) → form_of_row (both (both (leaf (a_mark (binary_mark op))) x) y) ≡ 4
+link_form b.Or x y = refl
+link_form _ x y = refl
+
+links_form : (ls : List (Binary × Tree)) → form_of_row (row_of (map link_tree ls)) ≡ 4
+links_form [] = refl
+links_form (l ∷ ls) = link_form l.0 l.1 (row_of (map link_tree ls))
+
+-- operands behind an expression
+behind_choice : (ps : List (Tree × Tree)) (x y : Tree) → form_of_tree (down (both (choice_tree ps x) y)) ≡ form_of_row y
+behind_choice [] x y = refl
+behind_choice (p ∷ ps) x y = refl
+
+behind_layer : (x : Expr-F Expr) (y : Tree) → form_of_tree (down (both (layer x) y)) ≡ form_of_row y
+behind_layer (f.Choice ps x) y = behind_choice (map (λ p. (expr_tree p.0, expr_tree p.1)) ps.items) (expr_tree x.value) y
+behind_layer (f.Number l) y = refl
+behind_layer _ y = refl
+
+behind : (x : Expr) (y : Tree) → form_of_tree (down (both (expr_tree x) y)) ≡ form_of_row y
+behind x y = ap (λ u. form_of_tree (down (both u y))) (opened x) ∙ behind_layer (out-Expr x) y
+
+-- conditions, each with the operand for it
+abbrev paired : List (Expr × Expr) → List (Tree × Tree)
+paired ps = map (λ p. (expr_tree p.0, expr_tree p.1)) ps
+
+choice_form : (ps : List (Expr × Expr)) (x : Tree) → form_of_tree (choice_tree (paired ps) x) ≡ 5
+choice_form [] x = refl
+choice_form (p ∷ ps) x = behind p.0 (row_of (arms_of (paired (p ∷ ps)) x))
+
+form_of : (x : Expr-F Expr) → form_of_tree (layer x) ≡ form x
+form_of (f.Number l) = refl
+form_of (f.Name n) = refl
+form_of (f.Group x) = refl
+form_of (f.Unary op x) = unary_form op (expr_tree x.value)
+form_of (f.Chain x ls) = behind x.value (row_of (map link_tree (linked ls.items))) ∙ links_form (linked ls.items)
+form_of (f.Choice ps x) = choice_form ps.items (expr_tree x.value)
+form_of (f.Concat x xs) = refl
+form_of (f.Repeat n x xs) = refl
+form_of (f.Cast s x) = refl
+
+-- layers of one tree have one form
+one_form : (x x' : Expr-F Expr) → layer x ≡ layer x' → form x ≡ form x'
+one_form x x' h = sym (form_of x) ∙ ap form_of_tree h ∙ form_of x'
+
+-- operands with their operators, without what is settled of them
 abbrev bare_links : List (Binary × Inner) → List (Binary × Expr)
 bare_links ls = map (λ l. (l.0, l.1.0)) ls
 
@@ -75,12 +186,33 @@ same_rows (l ∷ ls) [] h = cc
 same_rows (l ∷ ls) (l' ∷ ls') h =
     same_link _ l' _ ls' (binary_by l.0 l'.0 (cc)) (l.1.1 l'.1 (cc)) (same_rows ls ls' (cc))
 
-same_links : (ls : List (Binary × Inner)) (ls' : List (Binary × Expr)) → links_tree (linked (bare_links ls)) ≡ links_tree (linked ls') → SameLinks (bare_links ls) ls'
-same_links [] [] h = same_no_link
-same_links [] (l' ∷ ls') h = cc
-same_links (l ∷ ls) [] h = cc
-same_links (l ∷ ls) (l' ∷ ls') h =
-    same_link _ l' _ ls' (binary_by l.0 l'.0 (cc)) (l.1.1 l'.1 (cc)) (same_rows ls ls' (cc))
+-- conditions with their operands, and the last operand
+abbrev bare_pairs : List (Inner × Inner) → List (Expr × Expr)
+bare_pairs ps = map (λ p. (p.0.0, p.1.0)) ps
+
+same_arms : (ps : List (Inner × Inner)) (ps' : List (Expr × Expr)) (x : Inner) (x' : Expr) → head_of (paired (bare_pairs ps)) (expr_tree x.0) ≡ head_of (paired ps') (expr_tree x') → row_of (arms_of (paired (bare_pairs ps)) (expr_tree x.0)) ≡ row_of (arms_of (paired ps') (expr_tree x')) → SamePairs (bare_pairs ps) ps' × SameExpr x.0 x'
+same_arms [] [] x x' h k = (same_no_pair, x.1 x' h)
+same_arms [] (p' ∷ ps') x x' h k = cc
+same_arms (p ∷ ps) [] x x' h k = cc
+same_arms (p ∷ ps) (p' ∷ ps') x x' h k =
+    let r = same_arms ps ps' x x' (cc) (cc) in
+    (same_pair _ p' _ ps' (p.0.1 p'.0 h) (p.1.1 p'.1 (cc)) r.0, r.1)
+
+same_choices : (ps : List (Inner × Inner)) (ps' : List (Expr × Expr)) (x : Inner) (x' : Expr) → choice_tree (paired (bare_pairs ps)) (expr_tree x.0) ≡ choice_tree (paired ps') (expr_tree x') → SamePairs (bare_pairs ps) ps' × SameExpr x.0 x'
+same_choices [] [] x x' h = (same_no_pair, x.1 x' (cc))
+same_choices [] (p' ∷ ps') x x' h = cc
+same_choices (p ∷ ps) [] x x' h = cc
+same_choices (p ∷ ps) (p' ∷ ps') x x' h = same_arms (p ∷ ps) (p' ∷ ps') x x' (cc) (cc)
+
+-- expressions one after another
+abbrev bare_all : List Inner → List Expr
+bare_all xs = map (λ x. x.0) xs
+
+same_commas : (xs : List Inner) (xs' : List Expr) → commas_tree (map expr_tree (bare_all xs)) ≡ commas_tree (map expr_tree xs') → SameExprs (bare_all xs) xs'
+same_commas [] [] h = same_no_expr
+same_commas [] (x' ∷ xs') h = cc
+same_commas (x ∷ xs) [] h = cc
+same_commas (x ∷ xs) (x' ∷ xs') h = same_more_exprs _ x' _ xs' (x.1 x' (cc)) (same_commas xs xs' (cc))
 
 same_unaries : (op op' : Unary) (x x' : Box Expr Global) → op ≡ op' → SameExpr x.value x'.value → SameExpr (e.Unary op x) (e.Unary op' x')
 same_unaries op op' x x' h s = subst (λ (o : Unary). SameExpr (e.Unary op x) (e.Unary o x')) h (same_unary op x x' s)
@@ -88,21 +220,26 @@ same_unaries op op' x x' h s = subst (λ (o : Unary). SameExpr (e.Unary op x) (e
 same_numbers : (l l' : Literal) → l ≡ l' → SameExpr (e.Number l) (e.Number l')
 same_numbers l l' h = subst (λ (k : Literal). SameExpr (e.Number l) (e.Number k)) h (same_number l)
 
+same_casts : (s s' : Bool) (x x' : Box Expr Global) → s ≡ s' → SameExpr x.value x'.value → SameExpr (e.Cast s x) (e.Cast s' x')
+same_casts s s' x x' h p = subst (λ (b : Bool). SameExpr (e.Cast s x) (e.Cast b x')) h (same_cast s x x' p)
+
 -- one layer each
 same_layers : (y : Expr-F Inner) (x' : Expr-F Expr) → layer (bare y) ≡ layer x' → SameExpr (roll-Expr (bare y)) (roll-Expr x')
 same_layers (f.Number l) (f.Number l') h = rw (rolls-Number l, rolls-Number l') (same_numbers l l' (cc))
 same_layers (f.Name n) (f.Name n') h = rw (rolls-Name n, rolls-Name n') (same_name n n' (cc))
 same_layers (f.Group x) (f.Group x') h = rw (rolls-Group _, rolls-Group x') (same_group _ x' (x.value.1 x'.value (cc)))
-same_layers (f.Group x) (f.Unary op x') h = absurd (no_open op (cc))
-same_layers (f.Group x) (f.Chain x' ls') h = absurd (no_expression m.Open x'.value (cc))
-same_layers (f.Unary op x) (f.Group x') h = absurd (no_open op (cc))
 same_layers (f.Unary op x) (f.Unary op' x') h = rw (rolls-Unary op _, rolls-Unary op' x') (same_unaries op op' _ x' (unary_by op op' (cc)) (x.value.1 x'.value (cc)))
-same_layers (f.Unary op x) (f.Chain x' ls') h = absurd (no_expression (unary_mark op) x'.value (cc))
-same_layers (f.Chain x ls) (f.Group x') h = absurd (no_expression m.Open x.value.0 (cc))
-same_layers (f.Chain x ls) (f.Unary op x') h = absurd (no_expression (unary_mark op) x.value.0 (cc))
 same_layers (f.Chain x ls) (f.Chain x' ls') h =
-    rw (rolls-Chain _ _, rolls-Chain x' ls') (same_chain _ x' _ ls' (x.value.1 x'.value (cc)) (same_links ls.items ls'.items (cc)))
-same_layers _ _ h = cc
+    rw (rolls-Chain _ _, rolls-Chain x' ls') (same_chain _ x' _ ls' (x.value.1 x'.value (cc)) (same_rows ls.items ls'.items (cc)))
+same_layers (f.Choice ps x) (f.Choice ps' x') h =
+    let r = same_choices ps.items ps'.items x.value x'.value h in
+    rw (rolls-Choice _ _, rolls-Choice ps' x') (same_choice _ ps' _ x' r.0 r.1)
+same_layers (f.Concat x xs) (f.Concat x' xs') h =
+    rw (rolls-Concat _ _, rolls-Concat x' xs') (same_concat _ x' _ xs' (x.value.1 x'.value (cc)) (same_commas xs.items xs'.items (cc)))
+same_layers (f.Repeat n x xs) (f.Repeat n' x' xs') h =
+    rw (rolls-Repeat _ _ _, rolls-Repeat n' x' xs') (same_repeat _ n' _ x' _ xs' (n.value.1 n'.value (cc)) (x.value.1 x'.value (cc)) (same_commas xs.items xs'.items (cc)))
+same_layers (f.Cast s x) (f.Cast s' x') h = rw (rolls-Cast s _, rolls-Cast s' x') (same_casts s s' _ x' (cc) (x.value.1 x'.value (cc)))
+same_layers y x' h = let different : form (bare y) ≡ form x' = one_form (bare y) x' h in cc
 
 settled : (x : Expr-F Expr) (y : Expr-F Inner) → bare y ≡ x → Settled (roll-Expr x)
 settled x y is x' h =

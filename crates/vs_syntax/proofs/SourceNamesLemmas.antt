@@ -1,8 +1,9 @@
 -- Lemmas on the names that a source declares.
-use Rattle.std.proofs.Common.{◌≡◌, ℕ, Bool, true, false, true≢false, ◌&&◌, List, [], ◌∷◌, ◌++◌, map, refl, sym, ◌∙◌, ap, subst}
+use Rattle.std.proofs.Common.{◌≡◌, ℕ, Bool, true, false, true≢false, ◌&&◌, List, [], ◌∷◌, map, refl, sym, ◌∙◌, subst}
 use Rattle.std.specs.List.{flat_map, list_all}
 use Rattle.std.proofs.lemmas.List.Folds.{list_all-append}
 use Rattle.vs_tokens.specs.declared.token.Mark.TheVariants as m
+use Rattle.vs_syntax.specs.declared.tree.Form.{Form}
 use Rattle.vs_syntax.specs.declared.tree.Declarator.{Declarator}
 use Rattle.vs_syntax.specs.declared.tree.Item.{Item}
 use Rattle.vs_syntax.specs.declared.tree.Item.TheVariants as i
@@ -10,8 +11,7 @@ use Rattle.vs_syntax.specs.declared.tree.Module.{Module}
 use Rattle.vs_tokens.specs.declared.token.Word.TheVariants as w
 use Rattle.vs_syntax.specs.Symbols.{Symbol, a_mark, a_name, a_word}
 use Rattle.vs_syntax.specs.Derivation.{Tree, leaf, both, tokens}
-use Rattle.vs_syntax.specs.Derives.{Derives}
-use Rattle.vs_syntax.specs.Views.{row_of, listed_tree, value_tree, declarator_tree, item_tree, module_tree}
+use Rattle.vs_syntax.specs.Views.{row_of, listed_tree, value_tree, declarator_tree, form_tree, declared_tree, item_tree, module_tree}
 use Rattle.vs_syntax.specs.SourceNames.{NamesAreTokens, declarator_names, item_names, module_names, declared_names}
 
 -- whether a test holds of each token of a tree
@@ -60,9 +60,13 @@ listed_holds p (d ∷ ds) h =
     (declarator_holds p d (left p (declarator_tree d) (both others end) h))
     (rest_holds p ds (left p others end (right p (declarator_tree d) (both others end) h)))
 
+declared_holds : (p : Symbol → Bool) (f : Form) (ds : List Declarator) → holds p (declared_tree f ds) ≡ true → named p (declarator_names ds) ≡ true
+declared_holds p f ds h = listed_holds p ds (right p (form_tree f) (listed_tree (map declarator_tree ds)) h)
+
 item_holds : (p : Symbol → Bool) (x : Item) → holds p (item_tree x) ≡ true → named p (item_names x) ≡ true
-item_holds p (i.Wire ds) h = listed_holds p ds.items (right p (leaf (a_word w.Wire)) (listed_tree (map declarator_tree ds.items)) h)
-item_holds p (i.Reg ds) h = listed_holds p ds.items (right p (leaf (a_word w.Reg)) (listed_tree (map declarator_tree ds.items)) h)
+item_holds p (i.Wire f ds) h = declared_holds p f ds.items (right p (leaf (a_word w.Wire)) (declared_tree f ds.items) h)
+item_holds p (i.Reg f ds) h = declared_holds p f ds.items (right p (leaf (a_word w.Reg)) (declared_tree f ds.items) h)
+item_holds p (i.Integer ds) h = listed_holds p ds.items (right p (leaf (a_word w.Integer)) (listed_tree (map declarator_tree ds.items)) h)
 item_holds p (i.Assign xs) h = refl
 item_holds p (i.Initial x) h = refl
 item_holds p (i.Always x) h = refl

@@ -1,10 +1,10 @@
 -- The grammar of a source (IEEE 1364-2005, annex A; profile).
-use Rattle.std.specs.Prelude.{ℕ, zero, suc, false, List, [], ◌∷◌, length}
+use Rattle.std.specs.Prelude.{ℕ, zero, suc, List, [], ◌∷◌, ◌++◌, length, map}
 use Rattle.vs_tokens.specs.declared.token.Mark.{Mark}
 use Rattle.vs_tokens.specs.declared.token.Mark.TheVariants as m
 use Rattle.vs_tokens.specs.declared.token.Word.{Word}
 use Rattle.vs_tokens.specs.declared.token.Word.TheVariants as w
-use Rattle.vs_syntax.specs.Symbols.{Class, the_mark, the_word, any_name, any_number}
+use Rattle.vs_syntax.specs.Symbols.{Class, the_mark, the_word, any_name, any_number, the_cast}
 
 -- the parts of a source that have a rule
 pub data Part : Type 0 where
@@ -21,6 +21,8 @@ pub data Part : Type 0 where
   a_stmt : Part
   -- the left side of an assignment (clause A.8.5)
   a_target : Part
+  -- an expression (clause A.8.3)
+  an_expr : Part
   -- operands with operators of so many levels between them, the tightest ones; of none, one operand (clauses A.8.3 and 5.1.2)
   a_level : ℕ → Part
 
@@ -64,9 +66,13 @@ word x = token (the_word x)
 abbrev pub name : Grammar
 name = token any_name
 
--- a decimal number without a base
+-- a number
 abbrev pub number : Grammar
-number = token (any_number false)
+number = token any_number
+
+-- one or more
+abbrev pub one_or_more : Grammar → Grammar
+one_or_more a = a · many a
 
 -- one or more, with commas between, and the semicolon behind them
 abbrev pub listed : Part → Grammar
@@ -77,22 +83,28 @@ abbrev pub one_mark : Mark → List Mark → Grammar
 one_mark x [] = mark x
 one_mark x (y ∷ ys) = mark x or one_mark y ys
 
-abbrev pub any_mark : List Mark → Grammar
-any_mark [] = nothing
-any_mark (x ∷ xs) = one_mark x xs
-
--- the operators before an operand (clause 5.1; profile)
+-- the operators before an operand (clause A.8.6)
 abbrev pub prefixes : List Mark
-prefixes = m.Tilde ∷ []
+prefixes = m.Plus ∷ m.Minus ∷ m.Not ∷ m.Tilde ∷ m.And ∷ m.Nand ∷ m.Or ∷ m.Nor ∷ m.Xor ∷ m.Xnor ∷ []
 
 -- operands with one of these operators between each two of them: one alone, or a node of all of them (clause 5.1.2)
 abbrev pub operands : Part → List Mark → Grammar
 operands p [] = part p
-operands p (op ∷ ops) = chain (part p) (one_mark op ops · part p · many (one_mark op ops · part p))
+operands p (op ∷ ops) = chain (part p) (one_or_more (one_mark op ops · part p))
 
--- the operators between operands, level by level, from the one that binds tightest (clause 5.1.2; profile)
+-- the operators between operands, level by level, from the one that binds tightest (clause 5.1.2)
 abbrev pub levels : List (List Mark)
-levels = (m.And ∷ []) ∷ (m.Xor ∷ []) ∷ (m.Or ∷ []) ∷ []
+levels = (m.Star ∷ m.Slash ∷ m.Percent ∷ [])
+    ∷ (m.Plus ∷ m.Minus ∷ [])
+    ∷ (m.ShiftLeft ∷ m.ShiftRight ∷ m.ArithmeticShiftLeft ∷ m.ArithmeticShiftRight ∷ [])
+    ∷ (m.Less ∷ m.LessEqual ∷ m.Greater ∷ m.GreaterEqual ∷ [])
+    ∷ (m.Equal ∷ m.NotEqual ∷ m.CaseEqual ∷ m.CaseNotEqual ∷ [])
+    ∷ (m.And ∷ [])
+    ∷ (m.Xor ∷ m.Xnor ∷ [])
+    ∷ (m.Or ∷ [])
+    ∷ (m.LogicalAnd ∷ [])
+    ∷ (m.LogicalOr ∷ [])
+    ∷ []
 
 -- the operators of the level of this number; above the last level none
 abbrev pub level_at : List (List Mark) → ℕ → List Mark
@@ -100,9 +112,13 @@ level_at [] n = []
 level_at (ops ∷ ls) zero = ops
 level_at (ops ∷ ls) (suc n) = level_at ls n
 
--- an expression: operands with operators of all levels between them (clause A.8.3)
-abbrev pub an_expr : Part
-an_expr = a_level (length levels)
+-- a condition, or an operand of a condition: operands with operators of all levels between them (clause A.8.3)
+abbrev pub a_condition : Part
+a_condition = a_level (length levels)
+
+-- what stands behind a condition: the operand for it, and the next condition or the last operand (clause 5.1.13)
+abbrev pub arm : Grammar
+arm = mark m.Question · part an_expr · mark m.Colon · part a_condition
 
 -- an operand: a primary, or an operator and its operand (clauses A.8.3 and A.8.4)
 abbrev pub an_operand : Part
@@ -117,10 +133,32 @@ abbrev pub one_of : List (Class × Grammar) → Grammar
 one_of [] = nothing
 one_of (x ∷ xs) = one_or x xs
 
+-- the parts of a concatenation behind the first one, and the brace behind them (clause 5.1.14)
+abbrev pub other_parts : Grammar
+other_parts = many (mark m.Comma · part an_expr) · mark m.CloseBrace
+
+-- the operands that are nodes, each by its first token: an operator and its operand, an expression in parentheses, a
+-- concatenation or a multiple one, a conversion to signed or to unsigned (clauses A.8.1 to A.8.4 and 5.5)
+abbrev pub compounds : List (Class × Grammar)
+compounds = map (λ x. (the_mark x, part an_operand)) prefixes
+    ++ (the_mark m.Open, part an_expr · mark m.Close)
+    ∷ (the_mark m.OpenBrace, part an_expr · (mark m.OpenBrace · part an_expr · other_parts · mark m.CloseBrace or other_parts))
+    ∷ (the_cast, mark m.Open · part an_expr · mark m.Close)
+    ∷ []
+
+-- the range of a vector (clause A.2.5)
+abbrev pub range : Grammar
+range = mark m.OpenBracket · part an_expr · mark m.Colon · part an_expr · mark m.CloseBracket
+
+-- whether the names of a declaration are signed, and their range, where it has one (clauses A.2.1.2 and A.2.1.3)
+abbrev pub form : Grammar
+form = (word w.Signed or nothing) · (range or nothing)
+
 -- the items of a module, each by its word (clause A.1.4; profile)
 abbrev pub items : List (Class × Grammar)
-items = (the_word w.Wire, listed a_declarator)
-    ∷ (the_word w.Reg, listed a_declarator)
+items = (the_word w.Wire, form · listed a_declarator)
+    ∷ (the_word w.Reg, form · listed a_declarator)
+    ∷ (the_word w.Integer, listed a_declarator)
     ∷ (the_word w.Assign, listed an_assignment)
     ∷ (the_word w.Initial, part a_stmt)
     ∷ (the_word w.Always, part a_stmt)
@@ -142,7 +180,6 @@ rule a_declarator = name · (mark m.Assign · part an_expr or nothing)
 rule an_assignment = part a_target · mark m.Assign · part an_expr
 rule a_stmt = node (part a_target · (mark m.Assign or mark m.LessEqual) · part an_expr · mark m.Semicolon or one_of statements)
 rule a_target = node name
-rule (a_level zero) = number or name
-    or node (any_mark prefixes · part an_operand)
-    or node (mark m.Open · part an_expr · mark m.Close)
+rule an_expr = chain (part a_condition) (one_or_more arm)
+rule (a_level zero) = number or name or node (one_of compounds)
 rule (a_level (suc n)) = operands (a_level n) (level_at levels n)

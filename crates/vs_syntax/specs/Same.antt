@@ -1,5 +1,5 @@
 -- When two syntax trees say the same: they differ at most in where their parts lie in memory.
-use Rattle.std.specs.Prelude.{◌≡◌, ℕ, List, [], ◌∷◌, Option, None, Some}
+use Rattle.std.specs.Prelude.{◌≡◌, ℕ, Bool, List, [], ◌∷◌, Option, None, Some}
 use Rattle.std.specs.declared.vec.Vec.{Vec}
 use Rattle.std.specs.declared.boxed.Box.{Box}
 use Rattle.std.specs.declared.alloc.Global.{Global}
@@ -8,6 +8,8 @@ use Rattle.vs_logic4.specs.declared.operators.Binary.{Binary}
 use Rattle.vs_tokens.specs.declared.token.Literal.{Literal}
 use Rattle.vs_syntax.specs.declared.tree.Expr.{Expr}
 use Rattle.vs_syntax.specs.declared.tree.Expr.TheVariants as e
+use Rattle.vs_syntax.specs.declared.tree.Range.{Range}
+use Rattle.vs_syntax.specs.declared.tree.Form.{Form}
 use Rattle.vs_syntax.specs.declared.tree.Declarator.{Declarator}
 use Rattle.vs_syntax.specs.declared.tree.NetAssignment.{NetAssignment}
 use Rattle.vs_syntax.specs.declared.tree.Stmt.{Stmt}
@@ -26,12 +28,30 @@ mutual
     same_unary : (op : Unary) (x x' : Box Expr Global) → SameExpr x.value x'.value → SameExpr (e.Unary op x) (e.Unary op x')
     same_chain : (x x' : Box Expr Global) (ls ls' : Vec (Binary × Expr) Global) →
         SameExpr x.value x'.value → SameLinks ls.items ls'.items → SameExpr (e.Chain x ls) (e.Chain x' ls')
+    same_choice : (ps ps' : Vec (Expr × Expr) Global) (x x' : Box Expr Global) →
+        SamePairs ps.items ps'.items → SameExpr x.value x'.value → SameExpr (e.Choice ps x) (e.Choice ps' x')
+    same_concat : (x x' : Box Expr Global) (xs xs' : Vec Expr Global) →
+        SameExpr x.value x'.value → SameExprs xs.items xs'.items → SameExpr (e.Concat x xs) (e.Concat x' xs')
+    same_repeat : (n n' x x' : Box Expr Global) (xs xs' : Vec Expr Global) → SameExpr n.value n'.value →
+        SameExpr x.value x'.value → SameExprs xs.items xs'.items → SameExpr (e.Repeat n x xs) (e.Repeat n' x' xs')
+    same_cast : (s : Bool) (x x' : Box Expr Global) → SameExpr x.value x'.value → SameExpr (e.Cast s x) (e.Cast s x')
 
   -- The same of operands, each with the operator before it: as many, each of them in its place (profile).
   pub data SameLinks : List (Binary × Expr) → List (Binary × Expr) → Type 0 where
     same_no_link : SameLinks [] []
     same_link : (l l' : Binary × Expr) (ls ls' : List (Binary × Expr)) →
         l.0 ≡ l'.0 → SameExpr l.1 l'.1 → SameLinks ls ls' → SameLinks (l ∷ ls) (l' ∷ ls')
+
+  -- The same of conditions, each with the operand for it (profile).
+  pub data SamePairs : List (Expr × Expr) → List (Expr × Expr) → Type 0 where
+    same_no_pair : SamePairs [] []
+    same_pair : (p p' : Expr × Expr) (ps ps' : List (Expr × Expr)) →
+        SameExpr p.0 p'.0 → SameExpr p.1 p'.1 → SamePairs ps ps' → SamePairs (p ∷ ps) (p' ∷ ps')
+
+  -- The same of expressions one after another (profile).
+  pub data SameExprs : List Expr → List Expr → Type 0 where
+    same_no_expr : SameExprs [] []
+    same_more_exprs : (x x' : Expr) (xs xs' : List Expr) → SameExpr x x' → SameExprs xs xs' → SameExprs (x ∷ xs) (x' ∷ xs')
 
 mutual
   -- The statements say the same (profile).
@@ -62,6 +82,16 @@ pub record SameDeclarator (d d' : Declarator) : Type 0 where
   pub name : d.name.items ≡ d'.name.items
   pub value : SameValue d.value d'.value
 
+-- Ranges that are both absent, or say the same (profile).
+pub data SameRange : Option Range → Option Range → Type 0 where
+  same_no_range : SameRange None None
+  same_range : (r r' : Range) → SameExpr r.left r'.left → SameExpr r.right r'.right → SameRange (Some r) (Some r')
+
+-- What declarations say of their names is the same (profile).
+pub record SameForm (f f' : Form) : Type 0 where
+  pub signed : f.signed ≡ f'.signed
+  pub range : SameRange f.range f'.range
+
 -- The assignments of an `assign` item say the same (profile).
 pub record SameAssignment (a a' : NetAssignment) : Type 0 where
   pub target : a.target.items ≡ a'.target.items
@@ -69,9 +99,14 @@ pub record SameAssignment (a a' : NetAssignment) : Type 0 where
 
 -- The items say the same (profile).
 pub data SameItem : Item → Item → Type 0 where
-  same_wire : (ds ds' : Vec Declarator Global) → Pairwise SameDeclarator ds.items ds'.items → SameItem (i.Wire ds) (i.Wire ds')
-  same_reg : (ds ds' : Vec Declarator Global) → Pairwise SameDeclarator ds.items ds'.items → SameItem (i.Reg ds) (i.Reg ds')
-  same_assigns : (xs xs' : Vec NetAssignment Global) → Pairwise SameAssignment xs.items xs'.items → SameItem (i.Assign xs) (i.Assign xs')
+  same_wire : (f f' : Form) (ds ds' : Vec Declarator Global) →
+      SameForm f f' → Pairwise SameDeclarator ds.items ds'.items → SameItem (i.Wire f ds) (i.Wire f' ds')
+  same_reg : (f f' : Form) (ds ds' : Vec Declarator Global) →
+      SameForm f f' → Pairwise SameDeclarator ds.items ds'.items → SameItem (i.Reg f ds) (i.Reg f' ds')
+  same_integer : (ds ds' : Vec Declarator Global) →
+      Pairwise SameDeclarator ds.items ds'.items → SameItem (i.Integer ds) (i.Integer ds')
+  same_assigns : (xs xs' : Vec NetAssignment Global) →
+      Pairwise SameAssignment xs.items xs'.items → SameItem (i.Assign xs) (i.Assign xs')
   same_initial : (x x' : Stmt) → SameStmt x x' → SameItem (i.Initial x) (i.Initial x')
   same_always : (x x' : Stmt) → SameStmt x x' → SameItem (i.Always x) (i.Always x')
 

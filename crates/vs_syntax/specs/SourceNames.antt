@@ -14,8 +14,9 @@ declarator_names ds = map (λ (d : Declarator). d.name.items) ds
 
 -- the names that an item declares (clause A.2)
 abbrev pub item_names : Item → List (List ℕ)
-item_names (i.Wire ds) = declarator_names ds.items
-item_names (i.Reg ds) = declarator_names ds.items
+item_names (i.Wire f ds) = declarator_names ds.items
+item_names (i.Reg f ds) = declarator_names ds.items
+item_names (i.Integer ds) = declarator_names ds.items
 item_names (i.Assign xs) = []
 item_names (i.Initial x) = []
 item_names (i.Always x) = []

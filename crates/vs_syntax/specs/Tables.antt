@@ -3,8 +3,8 @@ use Rattle.std.specs.Prelude.{ℕ, suc, max, min, Bool, true, false, cond, ◌&&
 use Rattle.vs_tokens.specs.declared.token.Mark.{Mark}
 use Rattle.vs_tokens.specs.declared.token.Mark.TheVariants as m
 use Rattle.vs_tokens.specs.declared.token.Word.TheVariants as w
-use Rattle.vs_syntax.specs.Symbols.{Symbol, Class, the_mark, the_word, any_name, any_number, same_class, first}
-use Rattle.vs_syntax.specs.Grammar.{Part, a_source, a_module, an_item, a_declarator, an_assignment, a_stmt, a_target, a_level, Grammar, nothing, token, seq, either, many, part, node, chain, optional, prefixes}
+use Rattle.vs_syntax.specs.Symbols.{Symbol, Class, the_mark, the_word, any_name, any_number, the_cast, same_class, first}
+use Rattle.vs_syntax.specs.Grammar.{Part, a_source, a_module, an_item, a_declarator, an_assignment, a_stmt, a_target, an_expr, a_level, Grammar, nothing, token, seq, either, many, part, node, chain, optional, prefixes}
 
 -- a class that can begin a part, and the least nesting of a part that it begins
 pub record Front : Type 0 where
@@ -29,6 +29,7 @@ low_of a_declarator = 0
 low_of an_assignment = 1
 low_of a_stmt = 1
 low_of a_target = 1
+low_of an_expr = 0
 low_of (a_level n) = 0
 
 -- marks with a need
@@ -38,7 +39,9 @@ mark_fronts n (x ∷ xs) = at_least (the_mark x) n ∷ mark_fronts n xs
 
 -- what can begin an operand
 abbrev pub operand_fronts : List Front
-operand_fronts = at_least (any_number false) 0 ∷ at_least any_name 0 ∷ (mark_fronts 1 prefixes ++ at_least (the_mark m.Open) 1 ∷ [])
+operand_fronts = at_least any_number 0
+    ∷ at_least any_name 0
+    ∷ (mark_fronts 1 prefixes ++ at_least (the_mark m.Open) 1 ∷ at_least (the_mark m.OpenBrace) 1 ∷ at_least the_cast 1 ∷ [])
 
 -- what can begin a part
 abbrev pub fronts_of : Part → List Front
@@ -46,6 +49,7 @@ fronts_of a_source = at_least (the_word w.Module) 0 ∷ []
 fronts_of a_module = at_least (the_word w.Module) 0 ∷ []
 fronts_of an_item = at_least (the_word w.Wire) 1
     ∷ at_least (the_word w.Reg) 1
+    ∷ at_least (the_word w.Integer) 1
     ∷ at_least (the_word w.Assign) 2
     ∷ at_least (the_word w.Initial) 2
     ∷ at_least (the_word w.Always) 2
@@ -58,6 +62,7 @@ fronts_of a_stmt = at_least any_name 2
     ∷ at_least (the_mark m.Hash) 2
     ∷ []
 fronts_of a_target = at_least any_name 1 ∷ []
+fronts_of an_expr = operand_fronts
 fronts_of (a_level n) = operand_fronts
 
 -- whether the grammar allows no token

@@ -1,5 +1,5 @@
 -- The tree of the grammar that a syntax tree stands for.
-use Rattle.std.specs.Prelude.{ℕ, List, [], ◌∷◌, Option, None, Some, map}
+use Rattle.std.specs.Prelude.{ℕ, Bool, true, false, List, [], ◌∷◌, Option, None, Some, map}
 use Rattle.vs_logic4.specs.declared.operators.Unary.{Unary}
 use Rattle.vs_logic4.specs.declared.operators.Unary.TheVariants as u
 use Rattle.vs_logic4.specs.declared.operators.Binary.{Binary}
@@ -8,10 +8,12 @@ use Rattle.vs_tokens.specs.declared.token.Mark.{Mark}
 use Rattle.vs_tokens.specs.declared.token.Mark.TheVariants as m
 use Rattle.vs_tokens.specs.declared.token.Word.{Word}
 use Rattle.vs_tokens.specs.declared.token.Word.TheVariants as w
-use Rattle.vs_syntax.specs.Symbols.{a_mark, a_word, a_name, a_number}
+use Rattle.vs_syntax.specs.Symbols.{a_mark, a_word, a_name, a_number, a_cast}
 use Rattle.vs_syntax.specs.Derivation.{Tree, empty, leaf, both, down}
 use Rattle.vs_syntax.specs.declared.tree.Expr.{Expr, Expr-F, fold-Expr}
 use Rattle.vs_syntax.specs.declared.tree.Expr.TheOpen as e
+use Rattle.vs_syntax.specs.declared.tree.Range.{Range}
+use Rattle.vs_syntax.specs.declared.tree.Form.{Form}
 use Rattle.vs_syntax.specs.declared.tree.Declarator.{Declarator}
 use Rattle.vs_syntax.specs.declared.tree.NetAssignment.{NetAssignment}
 use Rattle.vs_syntax.specs.declared.tree.Stmt.{Stmt, Stmt-F, fold-Stmt}
@@ -30,37 +32,101 @@ row_of (x ∷ xs) = both x (row_of xs)
 abbrev pub name_tree : List ℕ → Tree
 name_tree bytes = leaf (a_name bytes)
 
+-- parts with a comma before each of them
+abbrev pub commas_tree : List Tree → Tree
+commas_tree xs = row_of (map (both (leaf (a_mark m.Comma))) xs)
+
 -- parts with commas between, and the semicolon behind them; without a part no tree of the grammar
 abbrev pub listed_tree : List Tree → Tree
 listed_tree [] = empty
-listed_tree (x ∷ xs) = both x (both (row_of (map (both (leaf (a_mark m.Comma))) xs)) (leaf (a_mark m.Semicolon)))
+listed_tree (x ∷ xs) = both x (both (commas_tree xs) (leaf (a_mark m.Semicolon)))
 
 -- the mark of an operator of one operand (clause 5.1)
 abbrev pub unary_mark : Unary → Mark
+unary_mark u.Plus = m.Plus
+unary_mark u.Minus = m.Minus
 unary_mark u.Not = m.Tilde
+unary_mark u.LogicalNot = m.Not
+unary_mark u.ReduceAnd = m.And
+unary_mark u.ReduceNand = m.Nand
+unary_mark u.ReduceOr = m.Or
+unary_mark u.ReduceNor = m.Nor
+unary_mark u.ReduceXor = m.Xor
+unary_mark u.ReduceXnor = m.Xnor
 
 -- the mark of an operator of two operands (clause 5.1)
 abbrev pub binary_mark : Binary → Mark
+binary_mark b.Multiply = m.Star
+binary_mark b.Divide = m.Slash
+binary_mark b.Remainder = m.Percent
+binary_mark b.Add = m.Plus
+binary_mark b.Subtract = m.Minus
+binary_mark b.ShiftLeft = m.ShiftLeft
+binary_mark b.ShiftRight = m.ShiftRight
+binary_mark b.SignedShiftLeft = m.ArithmeticShiftLeft
+binary_mark b.SignedShiftRight = m.ArithmeticShiftRight
+binary_mark b.Less = m.Less
+binary_mark b.LessEqual = m.LessEqual
+binary_mark b.Greater = m.Greater
+binary_mark b.GreaterEqual = m.GreaterEqual
+binary_mark b.Equal = m.Equal
+binary_mark b.NotEqual = m.NotEqual
+binary_mark b.CaseEqual = m.CaseEqual
+binary_mark b.CaseNotEqual = m.CaseNotEqual
 binary_mark b.And = m.And
 binary_mark b.Xor = m.Xor
+binary_mark b.Xnor = m.Xnor
 binary_mark b.Or = m.Or
+binary_mark b.LogicalAnd = m.LogicalAnd
+binary_mark b.LogicalOr = m.LogicalOr
 
 -- an operator and the operand behind it
 abbrev pub link_tree : Binary × Tree → Tree
 link_tree l = both (leaf (a_mark (binary_mark l.0))) l.1
 
--- the operands of one level behind the first one; without one no tree of the grammar
-abbrev pub links_tree : List (Binary × Tree) → Tree
-links_tree [] = empty
-links_tree (l ∷ ls) = both (leaf (a_mark (binary_mark l.0))) (both l.1 (row_of (map link_tree ls)))
+-- what stands behind a condition: the operand for it, and the next condition or the last operand (clause 5.1.13)
+abbrev pub arm_tree : Tree → Tree → Tree
+arm_tree value other = both (leaf (a_mark m.Question)) (both value (both (leaf (a_mark m.Colon)) other))
+
+-- the first condition, or the last operand where there is none
+abbrev pub head_of : List (Tree × Tree) → Tree → Tree
+head_of [] last = last
+head_of (p ∷ ps) last = p.0
+
+-- what stands behind each of the conditions
+abbrev pub arms_of : List (Tree × Tree) → Tree → List Tree
+arms_of [] last = []
+arms_of (p ∷ ps) last = arm_tree p.1 (head_of ps last) ∷ arms_of ps last
+
+-- conditions, each with the operand for it, and the last operand; without a condition no tree of the grammar
+abbrev pub choice_tree : List (Tree × Tree) → Tree → Tree
+choice_tree [] last = both last empty
+choice_tree (p ∷ ps) last = down (both p.0 (row_of (arms_of (p ∷ ps) last)))
+
+-- the parts of a concatenation behind the first one, and the brace behind them
+abbrev pub others_tree : List Tree → Tree
+others_tree xs = both (commas_tree xs) (leaf (a_mark m.CloseBrace))
+
+-- the parts of a multiple concatenation, the first and the others, and the braces behind them
+abbrev pub repeated_tree : Tree → List Tree → Tree
+repeated_tree x xs = both x (both (others_tree xs) (leaf (a_mark m.CloseBrace)))
+
+-- an expression and the parenthesis behind it
+abbrev pub closed_tree : Tree → Tree
+closed_tree x = both x (leaf (a_mark m.Close))
 
 -- an expression, where the trees of the inner ones stand in their place
 abbrev pub expr_step : Expr-F Tree → Tree
 expr_step (e.Number l) = leaf (a_number l)
 expr_step (e.Name n) = name_tree n.items
-expr_step (e.Group x) = down (both (leaf (a_mark m.Open)) (both x.value (leaf (a_mark m.Close))))
+expr_step (e.Group x) = down (both (leaf (a_mark m.Open)) (closed_tree x.value))
 expr_step (e.Unary op x) = down (both (leaf (a_mark (unary_mark op))) x.value)
-expr_step (e.Chain x ls) = down (both x.value (links_tree ls.items))
+expr_step (e.Chain x ls) = down (both x.value (row_of (map link_tree ls.items)))
+expr_step (e.Choice ps x) = choice_tree ps.items x.value
+expr_step (e.Concat x xs) = down (both (leaf (a_mark m.OpenBrace)) (both x.value (others_tree xs.items)))
+expr_step (e.Repeat n x xs) = down (both (leaf (a_mark m.OpenBrace)) (both n.value
+    (both (leaf (a_mark m.OpenBrace)) (repeated_tree x.value xs.items))))
+expr_step (e.Cast s x) = down (both (leaf (a_cast s)) (both (leaf (a_mark m.Open)) (closed_tree x.value)))
 
 -- an expression
 abbrev pub expr_tree : Expr → Tree
@@ -74,6 +140,25 @@ value_tree (Some x) = both (leaf (a_mark m.Assign)) (expr_tree x)
 -- a name of a declaration
 abbrev pub declarator_tree : Declarator → Tree
 declarator_tree d = both (name_tree d.name.items) (value_tree d.value)
+
+-- the word `signed`, where it is there
+abbrev pub signed_tree : Bool → Tree
+signed_tree true = leaf (a_word w.Signed)
+signed_tree false = empty
+
+-- a range, where there is one
+abbrev pub range_tree : Option Range → Tree
+range_tree None = empty
+range_tree (Some r) = both (leaf (a_mark m.OpenBracket)) (both (expr_tree r.left)
+    (both (leaf (a_mark m.Colon)) (both (expr_tree r.right) (leaf (a_mark m.CloseBracket)))))
+
+-- what a declaration says of its names
+abbrev pub form_tree : Form → Tree
+form_tree f = both (signed_tree f.signed) (range_tree f.range)
+
+-- names of a declaration behind what it says of them
+abbrev pub declared_tree : Form → List Declarator → Tree
+declared_tree f ds = both (form_tree f) (listed_tree (map declarator_tree ds))
 
 -- an assignment of an `assign` item
 abbrev pub net_assignment_tree : NetAssignment → Tree
@@ -97,16 +182,18 @@ stmt_tree = fold-Stmt Tree stmt_step
 
 -- the word of an item
 abbrev pub item_word : Item → Word
-item_word (i.Wire ds) = w.Wire
-item_word (i.Reg ds) = w.Reg
+item_word (i.Wire f ds) = w.Wire
+item_word (i.Reg f ds) = w.Reg
+item_word (i.Integer ds) = w.Integer
 item_word (i.Assign xs) = w.Assign
 item_word (i.Initial x) = w.Initial
 item_word (i.Always x) = w.Always
 
 -- what stands behind the word of an item
 abbrev pub body_tree : Item → Tree
-body_tree (i.Wire ds) = listed_tree (map declarator_tree ds.items)
-body_tree (i.Reg ds) = listed_tree (map declarator_tree ds.items)
+body_tree (i.Wire f ds) = declared_tree f ds.items
+body_tree (i.Reg f ds) = declared_tree f ds.items
+body_tree (i.Integer ds) = listed_tree (map declarator_tree ds.items)
 body_tree (i.Assign xs) = listed_tree (map net_assignment_tree xs.items)
 body_tree (i.Initial x) = stmt_tree x
 body_tree (i.Always x) = stmt_tree x

@@ -5,4 +5,4 @@ mod law;
 mod tree;
 
 pub use law::{names_are_tokens, one_source, one_tree, plain_reading, tables_agree};
-pub use tree::{Declarator, Expr, Item, Module, NetAssignment, Source, Stmt};
+pub use tree::{Declarator, Expr, Form, Item, Module, NetAssignment, Range, Source, Stmt};

@@ -27,6 +27,24 @@ pub struct Declarator {
     pub value: Option<Expr>,
 }
 
+/// The range of a vector, `[left:right]` (IEEE 1364-2005, clause 4.3).
+#[derive(Drop)]
+pub struct Range {
+    /// The number of the highest bit.
+    pub left: Expr,
+    /// The number of the lowest bit.
+    pub right: Expr,
+}
+
+/// What a declaration says of its names before them (IEEE 1364-2005, clauses 4.2.1, 4.2.2 and 4.3).
+#[derive(Drop)]
+pub struct Form {
+    /// Whether it has the word `signed`.
+    pub signed: bool,
+    /// Its range, where it has one.
+    pub range: Option<Range>,
+}
+
 /// One assignment of an `assign` item (IEEE 1364-2005, clause 6.1.2).
 #[derive(Drop)]
 pub struct NetAssignment {
@@ -39,10 +57,12 @@ pub struct NetAssignment {
 /// An item of a module (IEEE 1364-2005, clause A.1.4).
 #[derive(Drop)]
 pub enum Item {
-    /// `wire` with names of scalars, in the order of the text (clause 4.2.1).
-    Wire(Vec<Declarator>),
-    /// `reg` with names of scalars, in the order of the text (clause 4.2.2).
-    Reg(Vec<Declarator>),
+    /// `wire`, what it says of its names, and they, in the order of the text (clause 4.2.1).
+    Wire(Form, Vec<Declarator>),
+    /// `reg`, what it says of its names, and they, in the order of the text (clause 4.2.2).
+    Reg(Form, Vec<Declarator>),
+    /// `integer` and its names, in the order of the text (clause 4.8).
+    Integer(Vec<Declarator>),
     /// `assign` with its assignments, in the order of the text (clause 6.1.2).
     Assign(Vec<NetAssignment>),
     /// `initial` and its statement (clause 9.9.1).
@@ -80,4 +100,13 @@ pub enum Expr {
     /// Operands with operators of one level between them, from left to right (clause 5.1.2): the first operand, and each other one with the
     /// operator before it.
     Chain(Box<Expr>, Vec<(Binary, Expr)>),
+    /// `c ? v : d ? w : .. : e` (clause 5.1.13): each condition with the operand behind its `?`, and the last operand. There is
+    /// at least one condition.
+    Choice(Vec<(Expr, Expr)>, Box<Expr>),
+    /// `{a, b, ..}` (clause 5.1.14): the first part, which is the highest, and the others.
+    Concat(Box<Expr>, Vec<Expr>),
+    /// `{n{a, b, ..}}` (clause 5.1.14): the number of times, the first part, and the others.
+    Repeat(Box<Expr>, Box<Expr>, Vec<Expr>),
+    /// `$signed(e)`, or `$unsigned(e)` (clause 5.5): whether the first, and its operand.
+    Cast(bool, Box<Expr>),
 }

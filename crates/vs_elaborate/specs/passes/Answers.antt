@@ -2,12 +2,20 @@
 use Rattle.std.specs.Prelude.{◌≡◌, ℕ, Bool, true, false, List, ◌++◌, Result, Ok, Err, MatchResult}
 use Rattle.std.specs.Borrow.{Bor}
 use Rattle.std.specs.Prelude.{map}
+use Rattle.vs_widths.specs.declared.faults.WidthFault.{WidthFault}
+use Rattle.vs_widths.specs.declared.faults.WidthFault.TheVariants as width
 use Rattle.vs_elaborate.specs.declared.faults.Reason.{Reason}
+use Rattle.vs_elaborate.specs.declared.faults.Reason.TheVariants.{Width}
 use Rattle.vs_elaborate.specs.declared.faults.BodyFault.{BodyFault}
 use Rattle.vs_elaborate.specs.declared.faults.BodyFault.TheVariants as b
 use Rattle.vs_elaborate.specs.declared.faults.ElabFault.{ElabFault}
 use Rattle.vs_elaborate.specs.declared.faults.ElabFault.TheVariants.{Memory, At}
 use Rattle.vs_elaborate.specs.Printed.{Path, printed}
+
+-- a fault of an expression as one of a part of a scope
+abbrev pub body_fault : WidthFault → BodyFault
+body_fault width.Memory = b.Memory
+body_fault (width.Refused r) = b.Refused (Width r)
 
 -- a fault that stands, or want of memory
 abbrev pub Refuses : (Reason → Bool) → BodyFault → Type 0

@@ -10,22 +10,22 @@ use Rattle.vs_design.specs.declared.signal.Signal.{Signal}
 use Rattle.vs_design.specs.declared.design.Assign.{Assign}
 use Rattle.vs_design.specs.declared.design.Process.{Process}
 use Rattle.vs_design.specs.declared.design.Entry.TheVariants.{Enter, Declare, Leave}
-use Rattle.vs_elaborate.specs.declared.bindings.Meaning.{Meaning}
-use Rattle.vs_elaborate.specs.declared.bindings.Binding.{Binding}
+use Rattle.vs_widths.specs.declared.faults.WidthReason.{WidthReason}
+use Rattle.vs_widths.specs.Names.{meaning_of}
+use Rattle.vs_widths.specs.Environment.{Environment}
 use Rattle.vs_elaborate.specs.declared.faults.Reason.{Reason}
-use Rattle.vs_elaborate.specs.declared.faults.Reason.TheVariants.{NoModule, DeclaredTwice, DrivenTwice, Limit}
+use Rattle.vs_elaborate.specs.declared.faults.Reason.TheVariants.{NoModule, DeclaredTwice, DrivenTwice, Limit, Width}
 use Rattle.vs_elaborate.specs.declared.faults.ElabFault.{ElabFault}
 use Rattle.vs_elaborate.specs.declared.faults.ElabFault.TheVariants.{Memory, At}
 use Rattle.vs_elaborate.specs.declared.plans.Frame.{Frame}
 use Rattle.vs_elaborate.specs.declared.plans.Plan.{Plan}
-use Rattle.vs_elaborate.specs.Names.{meaning_of}
 use Rattle.vs_elaborate.specs.Printed.{Path, printed_name}
 use Rattle.vs_elaborate.specs.Scopes.{Scope, DeclaredName, Assignment, Behavior, module_named, names_in, meaning_as, drivers_of, behaviors_of, declarations_of, named}
 use Rattle.vs_elaborate.specs.Processes.{behavior_fault, driver_fault}
-use Rattle.vs_elaborate.specs.Faults.{Repeated, NamesTwice, HoldsIn}
+use Rattle.vs_elaborate.specs.Faults.{Repeated, NamesTwice, Holds}
 use Rattle.vs_elaborate.specs.DesignOf.{declared, signal_of, signals_of, PartOf, parts_from, IsProcess, IsAssign}
 use Rattle.vs_elaborate.specs.passes.Answers.{borrowed}
-use Rattle.vs_elaborate.specs.passes.Bodies.{Bindings, meanings, IsNumber, counting}
+use Rattle.vs_elaborate.specs.passes.Bodies.{Bindings, counting}
 
 -- the scope that a frame stands for
 abbrev pub scope_of : Frame → Scope
@@ -40,18 +40,18 @@ scope_of f = record {
 
 -- ---- signals
 
--- what a name is bound to, as its meaning and its number
-abbrev pub shown_binding : Binding → Meaning × ℕ
-shown_binding b = (b.meaning, b.signal)
-
--- declared names, each with its meaning and its number
-abbrev pub numbered_names : ℕ → List DeclaredName → List (List ℕ × (Meaning × ℕ))
+-- declared names, each with what it is bound to: what it means, and the numbers from a base on
+abbrev pub numbered_names : ℕ → List DeclaredName → Bindings
 numbered_names base [] = []
-numbered_names base (d ∷ ds) = (d.name, (meaning_as d.kind, base)) ∷ numbered_names (suc base) ds
+numbered_names base (d ∷ ds) = (d.name, record { meaning = meaning_as d; signal = base }) ∷ numbered_names (suc base) ds
+
+-- what the names of a scope are bound to whose signals are numbered from a base on
+abbrev pub environment_from : ℕ → Scope → Environment
+environment_from base s n = meaning_of (numbered_names base (declarations_of s)) n
 
 -- names that are bound to the signals of these declarations, numbered from a base on
 abbrev pub Binds : Bindings → ℕ → List DeclaredName → Type 0
-Binds names base ds = (n : List ℕ) → option_map shown_binding (meaning_of names n) ≡ meaning_of (numbered_names base ds) n
+Binds names base ds = (n : List ℕ) → meaning_of names n ≡ meaning_of (numbered_names base ds) n
 
 -- the parts of a plan that a pass over declarations leaves alone
 pub record SameBodies (start plan : Plan) : Type 0 where
@@ -62,15 +62,17 @@ pub record SameBodies (start plan : Plan) : Type 0 where
 pub record Declares (s : Scope) (names : Bindings) (plan start : Plan) (done : List DeclaredName) : Type 0 where
   pub bound : Binds names (length start.signals.items) done
   pub distinct : IsDistinct bytes_eq (names_in done)
+  pub sized : (w : WidthReason) → list_any (λ (d : DeclaredName). d.size.faults w) done ≡ false
   pub shown : map declared plan.signals.items ≡ map declared start.signals.items ++ map (signal_of s) done
   pub lines : plan.outline.items ≡ start.outline.items ++ map Declare (counting (length start.signals.items) (length done))
   pub room : length plan.signals.items ≤ 65536
   pub same : SameBodies start plan
 
--- why names get no signals: one is declared twice, or there are too many
+-- why names get no signals: one is declared twice, a range has a fault, or there are too many
 abbrev pub DeclaresNot : Scope → Plan → List DeclaredName → Reason → Path → Type 0
 DeclaresNot s start ds DeclaredTwice p = (n : List ℕ) × (p ≡ named s n) × Repeated (names_in ds) n
 DeclaresNot s start ds Limit p = (65536 < length start.signals.items + length ds) × (p ≡ s.path)
+DeclaresNot s start ds (Width w) p = (list_any (λ (d : DeclaredName). d.size.faults w) ds ≡ true) × (p ≡ s.path)
 DeclaresNot s start ds _ p = ⊥
 
 -- ---- parts of a scope
@@ -94,31 +96,32 @@ pub record SameSignals (start plan : Plan) : Type 0 where
 
 -- continuous assignments of a scope that were added, from a start on
 pub record Drives (s : Scope) (names : Bindings) (first : ℕ) (plan start : Plan) (done : List Assignment) : Type 0 where
-  pub adds : Adds (λ r. driver_fault r (meanings names)) (IsAssign (IsNumber names) (meanings names)) 97 s first plan.assigns.items start.assigns.items done
+  pub adds : Adds (λ r. driver_fault r (meaning_of names)) (IsAssign (meaning_of names)) 97 s first plan.assigns.items start.assigns.items done
   pub processes : plan.processes.items ≡ start.processes.items
   pub same : SameSignals start plan
 
 -- why they weren't: one has a fault
 abbrev pub DrivesNot : Scope → Bindings → Plan → List Assignment → Reason → Path → Type 0
-DrivesNot s names start = AddsNot (λ r. driver_fault r (meanings names)) s
+DrivesNot s names start = AddsNot (λ r. driver_fault r (meaning_of names)) s
 
 -- processes of a scope that were added, from a start on
 pub record Runs (s : Scope) (names : Bindings) (first : ℕ) (plan start : Plan) (done : List Behavior) : Type 0 where
-  pub adds : Adds (λ r. behavior_fault r (meanings names)) (IsProcess (IsNumber names) (meanings names)) 112 s first plan.processes.items start.processes.items done
+  pub adds : Adds (λ r. behavior_fault r (meaning_of names)) (IsProcess (meaning_of names)) 112 s first plan.processes.items start.processes.items done
   pub assigns : plan.assigns.items ≡ start.assigns.items
   pub same : SameSignals start plan
 
 -- why they weren't: one has a fault
 abbrev pub RunsNot : Scope → Bindings → Plan → List Behavior → Reason → Path → Type 0
-RunsNot s names start = AddsNot (λ r. behavior_fault r (meanings names)) s
+RunsNot s names start = AddsNot (λ r. behavior_fault r (meaning_of names)) s
 
 -- ---- scopes
 
 -- a scope without faults
 pub record IsSoundScope (s : Scope) (names : Bindings) : Type 0 where
   pub distinct : IsDistinct bytes_eq (names_in (declarations_of s))
-  pub processes : (r : Reason) → list_any (behavior_fault r (meanings names)) (behaviors_of s) ≡ false
-  pub drivers : (r : Reason) → list_any (driver_fault r (meanings names)) (drivers_of s) ≡ false
+  pub sized : (w : WidthReason) → list_any (λ (d : DeclaredName). d.size.faults w) (declarations_of s) ≡ false
+  pub processes : (r : Reason) → list_any (behavior_fault r (meaning_of names)) (behaviors_of s) ≡ false
+  pub drivers : (r : Reason) → list_any (driver_fault r (meaning_of names)) (drivers_of s) ≡ false
 
 -- what a pass over a scope adds to a plan
 pub record Opens (s : Scope) (old new : Plan) : Type 0 where
@@ -129,18 +132,19 @@ pub record Opens (s : Scope) (old new : Plan) : Type 0 where
   pub shown : map declared new.signals.items ≡ map declared old.signals.items ++ signals_of s
   pub assigns_added : List Assign
   pub assigns : new.assigns.items ≡ old.assigns.items ++ assigns_added
-  pub drivers_mean : AllZip (IsAssign (IsNumber names) (meanings names)) assigns_added (parts_from 97 s 0 (drivers_of s))
+  pub drivers_mean : AllZip (IsAssign (meaning_of names)) assigns_added (parts_from 97 s 0 (drivers_of s))
   pub processes_added : List Process
   pub processes : new.processes.items ≡ old.processes.items ++ processes_added
-  pub behaviors_mean : AllZip (IsProcess (IsNumber names) (meanings names)) processes_added (parts_from 112 s 0 (behaviors_of s))
+  pub behaviors_mean : AllZip (IsProcess (meaning_of names)) processes_added (parts_from 112 s 0 (behaviors_of s))
   pub title : Vec ℕ Global
   pub title_is : title.items ≡ printed_name s.name
   pub lines : new.outline.items ≡ old.outline.items ++ Enter s.kind title ∷ map Declare (counting (length old.signals.items) (length (declarations_of s))) ++ Leave ∷ []
 
 -- why a scope wasn't added: a fault of it stands, or the signals pass their limit
 abbrev pub OpensNot : Scope → Plan → Reason → Path → Type 0
-OpensNot s old Limit p = ((65536 < length old.signals.items + length (declarations_of s)) × (p ≡ s.path)) ⊎ HoldsIn (s ∷ []) Limit p
-OpensNot s old r p = HoldsIn (s ∷ []) r p
+OpensNot s old Limit p =
+    ((65536 < length old.signals.items + length (declarations_of s)) × (p ≡ s.path)) ⊎ Holds (environment_from (length old.signals.items) s) s Limit p
+OpensNot s old r p = Holds (environment_from (length old.signals.items) s) s r p
 
 -- ---- drivers of a plan
 

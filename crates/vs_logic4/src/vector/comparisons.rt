@@ -1,6 +1,5 @@
 //! The truth of a vector and the equality operators.
 ghost use Rattle.std.specs.Prelude.{◌≡◌, length};
-ghost use Rattle.vs_logic4.specs.Vectors.{same_digits};
 ghost use Rattle.vs_logic4.specs.Comparisons.{is_known, truth, logical_equality, casez_equality, casex_equality};
 
 use super::Vec4;
@@ -37,15 +36,6 @@ impl Vec4 {
         let unknown = self.unknown | other.unknown;
         let differ = (self.value ^ other.value) & !unknown != 0;
         Digit::decided_or(differ, Digit::Zero, unknown == 0, Digit::One)
-    }
-
-    /// `===` of two vectors of one width: the same digits, x and z too
-    /// (IEEE 1364-2005, clause 5.1.8).
-    pub fn case_eq(self, other: Vec4) -> bool
-        requires { length self ≡ length other }
-        ensures { result ≡ same_digits self other }
-    {
-        self == other
     }
 
     /// Whether two vectors of one width match in `casez`: a z on either side matches all

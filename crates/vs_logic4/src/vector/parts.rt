@@ -1,5 +1,5 @@
 //! Parts of a vector, and vectors joined.
-ghost use Rattle.std.specs.Prelude.{◌≡◌, ◌<◌, ◌≤◌, ◌+◌, ◌*◌, length};
+ghost use Rattle.std.specs.Prelude.{◌≡◌, ◌<◌, ◌≤◌, ◌+◌, ◌*◌, length, take};
 ghost use Rattle.vs_logic4.specs.Parts.{selected, with_part, concatenation, replication};
 
 use super::planes::{lowered, raised};
@@ -62,6 +62,34 @@ impl Vec4 {
             width,
             value: self.value * each,
             unknown: self.unknown * each,
+        }
+    }
+
+    /// `{self, low}`, cut to its lowest 64 digits (IEEE 1364-2005, clause 5.1.14).
+    pub fn join(self, low: Vec4) -> Vec4
+        ensures { result ≡ take 64 (concatenation self low) }
+    {
+        let room = 64 - low.width();
+        if self.width() <= room {
+            self.concat(low)
+        } else if room == 0 {
+            low
+        } else {
+            self.resize(room, false).concat(low)
+        }
+    }
+
+    /// `{count{self}}`, cut to its lowest 64 digits (IEEE 1364-2005, clause 5.1.14).
+    pub fn repeated(self, count: u32) -> Vec4
+        requires some { 0 < count }
+        requires most { count ≤ 64 }
+        ensures { result ≡ take 64 (replication count self) }
+    {
+        let width = self.width();
+        if width * count <= 64 {
+            self.repeat(count)
+        } else {
+            self.join(self.repeat(64 / width))
         }
     }
 }

@@ -1,6 +1,6 @@
 //! The reduction operators.
 ghost use Rattle.std.specs.Prelude.{◌≡◌};
-ghost use Rattle.vs_logic4.specs.Bitwise.{reduced_and, reduced_or, reduced_xor, reduced_nand, reduced_nor, reduced_xnor};
+ghost use Rattle.vs_logic4.specs.Bitwise.{reduced_and, reduced_or, reduced_xor};
 
 use super::{Vec4, low_ones};
 use crate::digit::Digit;
@@ -30,26 +30,5 @@ impl Vec4 {
         } else {
             Digit::X
         }
-    }
-
-    /// `~&` of all digits (IEEE 1364-2005, clause 5.1.11).
-    pub fn reduce_nand(self) -> Digit
-        ensures { result ≡ reduced_nand self }
-    {
-        self.reduce_and().not()
-    }
-
-    /// `~|` of all digits (IEEE 1364-2005, clause 5.1.11).
-    pub fn reduce_nor(self) -> Digit
-        ensures { result ≡ reduced_nor self }
-    {
-        self.reduce_or().not()
-    }
-
-    /// `~^` of all digits (IEEE 1364-2005, clause 5.1.11).
-    pub fn reduce_xnor(self) -> Digit
-        ensures { result ≡ reduced_xnor self }
-    {
-        self.reduce_xor().not()
     }
 }

@@ -1,9 +1,10 @@
 use Rattle.std.proofs.Common.{take}
 use Rattle.std.specs.List.{flat_map}
+use Rattle.vs_widths.specs.Names.{meaning_of}
 use Rattle.vs_elaborate.specs.Scopes.{declared_in}
 use Rattle.vs_elaborate.specs.passes.Plans.{scope_of, Declares}
 use Rattle.vs_elaborate.proofs.AnswerLemmas.{Kept}
 use Rattle.vs_elaborate.proofs.declarations.declare.Given as goal
 
 abbrev pub invariant-loop-item : goal.invariant-loop-item
-invariant-loop-item l = Kept (Declares (scope_of l.frame) l.fn.names l.fn.plan) (Declares (scope_of l.frame) l.names l.plan) (flat_map declared_in (take l.item-index l.items))
+invariant-loop-item l = Kept (Declares (scope_of l.frame) l.fn.names l.fn.plan) (Declares (scope_of l.frame) l.names l.plan) (flat_map (declared_in (meaning_of l.before)) (take l.item-index l.items))

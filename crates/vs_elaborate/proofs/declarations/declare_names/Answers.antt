@@ -8,23 +8,23 @@ use Rattle.vs_elaborate.proofs.PlanLemmas.{declares_not_more}
 use Rattle.vs_elaborate.proofs.declarations.declare_names.Goals as goal
 
 pub loop-declarator-init : goal.loop-declarator-init
-loop-declarator-init c = kept_none (Declares (scope_of c.args.frame.now) c.args.names.now c.args.plan.now)
+loop-declarator-init c z h = kept_none (Declares (scope_of c.args.frame.now) c.args.names.now c.args.plan.now)
 
 pub returns-in_err-declare_name : goal.returns-in_err-declare_name
-returns-in_err-declare_name c =
+returns-in_err-declare_name c z h =
     let p = err_from_is_err_and c.from_residual.result c.from_residual.ensures.1 in
     let s = scope_of c.args.frame.now in
-    let f : Declarator → DeclaredName = λ d. record { kind = c.args.kind; name = d.name.items } in
-    rw (p.1, p.2) (one_fault f (Declares s c.args.names.now c.args.plan.now) (Declares s c.loop-declarator.names c.loop-declarator.plan) (DeclaresNot s) c.args.declarators.now c.loop-declarator.declarator-index c.declarator-item.result c.in_err-declare_name.field-0.0 (omega arith) c.declarator-item.is (declares_not_more s) c.loop-declarator.invariant (rw c.deref.ensures.value at c.in_err-declare_name.ensures))
+    let f : Declarator → DeclaredName = λ d. record { kind = c.args.kind; size = z; name = d.name.items } in
+    rw (p.1, p.2) (one_fault f (Declares s c.args.names.now c.args.plan.now) (Declares s c.loop-declarator.names c.loop-declarator.plan) (DeclaresNot s) c.args.declarators.now c.loop-declarator.declarator-index c.declarator-item.result c.in_err-declare_name.field-0.0 (omega arith) c.declarator-item.is (declares_not_more s) (c.loop-declarator.invariant z h) ((rw c.deref.ensures.value at c.in_err-declare_name.ensures) z h))
 
 pub loop-declarator-preserved : goal.loop-declarator-preserved
-loop-declarator-preserved c =
+loop-declarator-preserved c z h =
     let s = scope_of c.args.frame.now in
-    let f : Declarator → DeclaredName = λ d. record { kind = c.args.kind; name = d.name.items } in
-    one_more f (Declares s c.args.names.now c.args.plan.now) (Declares s c.loop-declarator.names c.loop-declarator.plan) (Declares s c.declare_name.new.names c.declare_name.new.plan) c.args.declarators.now c.loop-declarator.declarator-index c.declarator-item.result (omega arith) c.declarator-item.is c.loop-declarator.invariant (rw c.deref.ensures.value at c.in_ok-declare_name.ensures)
+    let f : Declarator → DeclaredName = λ d. record { kind = c.args.kind; size = z; name = d.name.items } in
+    one_more f (Declares s c.args.names.now c.args.plan.now) (Declares s c.loop-declarator.names c.loop-declarator.plan) (Declares s c.declare_name.new.names c.declare_name.new.plan) c.args.declarators.now c.loop-declarator.declarator-index c.declarator-item.result (omega arith) c.declarator-item.is (c.loop-declarator.invariant z h) ((rw c.deref.ensures.value at c.in_ok-declare_name.ensures) z h)
 
 pub returns : goal.returns
-returns c =
+returns c z h =
     let s = scope_of c.args.frame.now in
-    let f : Declarator → DeclaredName = λ d. record { kind = c.args.kind; name = d.name.items } in
-    one_all f (Declares s c.args.names.now c.args.plan.now) (Declares s c.loop-declarator.names c.loop-declarator.plan) c.args.declarators.now c.loop-declarator.declarator-index (omega arith) c.loop-declarator.invariant
+    let f : Declarator → DeclaredName = λ d. record { kind = c.args.kind; size = z; name = d.name.items } in
+    one_all f (Declares s c.args.names.now c.args.plan.now) (Declares s c.loop-declarator.names c.loop-declarator.plan) c.args.declarators.now c.loop-declarator.declarator-index (omega arith) (c.loop-declarator.invariant z h)

@@ -10,3 +10,6 @@ returns-in-Initial c = rw c.in-Initial.is (c.run.ensures c.args.names.now (runs 
 
 pub returns-in-Always : goal.returns-in-Always
 returns-in-Always c = rw c.in-Always.is (c.run-in-Always.ensures c.args.names.now (repeats c.in-Always.s) refl c.repeat_body-body.ensures)
+
+pub returns-in-Integer : goal.returns-in-Integer
+returns-in-Integer c = rw c.in-Integer.is (rw c.deref-in-Integer.ensures.value at c.run_declared-in-Integer.ensures)

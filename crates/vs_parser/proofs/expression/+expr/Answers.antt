@@ -1,18 +1,92 @@
 use Rattle.std.proofs.Common.{◌≡◌, suc, ◌≤◌, ◌<◌, ◌+◌, ◌-◌, refl, ap, add-one, arith}
 use Rattle.std.proofs.lemmas.Result.{err_from_is_err_and}
 use Rattle.vs_tokens.specs.declared.token.Mark.TheVariants as m
-use Rattle.vs_syntax.specs.Symbols.{the_mark, first}
-use Rattle.vs_syntax.specs.Grammar.{part, mark, a_level, an_expr, an_operand}
+use Rattle.vs_syntax.specs.Symbols.{the_mark, the_cast, first}
+use Rattle.vs_syntax.specs.Grammar.{◌·◌, part, mark, a_level, a_condition, an_expr, an_operand, other_parts}
 use Rattle.vs_syntax.specs.Derivation.{height}
 use Rattle.vs_syntax.specs.Views.{expr_tree}
 use Rattle.vs_syntax.specs.Reading.{stuck_here, stuck_first, stuck_second}
 use Rattle.vs_syntax.proofs.Gets.{gets_seq}
 use Rattle.vs_parser.specs.Answers.{seen}
 use Rattle.vs_parser.proofs.Exits.{deep_at, fails_by}
-use Rattle.vs_parser.proofs.Rows.{along_push}
-use Rattle.vs_parser.proofs.Expressions.{link_at, link_of, link_goes, link_read, climb, level_alone, too_high, chain_stuck, chain_read, links_push, chain_height, prefixed_deep, prefixed_stuck, prefixed_read, group_stuck, group_read}
-use Rattle.vs_parser.proofs.Trees.{tree_Group, tree_Unary, tree_Chain}
+use Rattle.vs_parser.proofs.Lists.{another, goes_another, another_read}
+use Rattle.vs_parser.proofs.Rows.{along_push, height_push}
+use Rattle.vs_parser.proofs.Expressions as e
+use Rattle.vs_parser.proofs.Expressions.{link_at, link_of, link_goes, link_read, climb, level_alone, too_high, chain_stuck, chain_read, chain_height, prefixed_deep, prefixed_stuck, prefixed_read, comma_of}
+use Rattle.vs_parser.proofs.Trees.{tree_Group, tree_Unary, tree_Chain, tree_Choice, tree_Concat, tree_Repeat, tree_Cast}
 use Rattle.vs_parser.proofs.expression.+expr.Goals as goal
+
+pub nested_expr-returns-in_err-first-clause-reads : goal.nested_expr-returns-in_err-first-clause-reads
+nested_expr-returns-in_err-first-clause-reads t c =
+    let p = err_from_is_err_and c.from_residual.result c.from_residual.ensures.1 in
+    rw (p.1, p.2) (fails_by (part a_condition) (part an_expr) c.args.room c.args.room (seen c.args.tokens.now) (seen c.args.tokens.now)
+    (λ deep at s. e.condition_stuck c.args.room deep _ at s)
+    c.in_err-first.field-0.0 c.in_err-first.ensures.reads)
+
+pub nested_expr-returns-clause-reads : goal.nested_expr-returns-clause-reads
+nested_expr-returns-clause-reads t c = c.choice.ensures.reads _ c.in_ok-first.ensures.reads
+
+pub choice-returns-in_default-clause-reads : goal.choice-returns-in_default-clause-reads
+choice-returns-in_default-clause-reads t c = λ ts q. e.choice_alone c.args.room ts _ _ c.in_default.ensures q
+
+pub choice-returns-then-first_height-room-clause-reads : goal.choice-returns-then-first_height-room-clause-reads
+choice-returns-then-first_height-room-clause-reads t c = λ ts q.
+    let h : c.args.room ≤ height (expr_tree c.args.first) = omega (arith, c.requires) in
+    e.choice_high c.args.room ts _ _ _ c.in-Some.ensures q h
+
+pub choice-returns-in_err-read-clause-reads : goal.choice-returns-in_err-read-clause-reads
+choice-returns-in_err-read-clause-reads t c = λ ts q.
+    let p = err_from_is_err_and c.from_residual.result c.from_residual.ensures.1 in
+    let h : height (expr_tree c.args.first) < c.args.room = omega (arith, c.requires) in
+    rw (p.1, p.2) (fails_by (part an_expr · mark m.Colon · part a_condition) (part an_expr) (c.args.room - 1) c.args.room (seen c.in-Some-mark_at.after.now) ts
+    (λ deep at s. e.choice_stuck c.args.room deep ts _ _ _ _ at _ _ c.in-Some.ensures c.in-Some-mark_at.ensures q h c.loop-after.invariant.along s)
+    c.in_err-read.field-0.0 c.in_err-read.ensures.reads)
+
+pub choice-loop-after-preserved : goal.choice-loop-after-preserved
+choice-loop-after-preserved t c =
+    let got = c.in_ok-read.ensures.reads in
+    let more = e.arms_height _ _ c.loop-after.last c.in_ok-read.read.value c.in_ok-read.read.other c.in_ok-push.ensures.items in
+    record {
+      along = e.arms_along (c.args.room - 1) _ _ _ _ _ _ _ _ _ c.in_ok-push.ensures.items c.loop-after.invariant.along c.in-Some-mark_at.ensures got;
+      head = e.head_pushed _ _ _ _ _ _ c.in_ok-push.ensures.items c.loop-after.invariant.head;
+      height = omega (arith, more, c.max-height.ensures, c.loop-after.invariant.height, c.in_ok-read.ensures.height);
+      below = omega (arith, c.max-height.ensures, c.loop-after.invariant.below, got.fits, c.in_ok-read.ensures.height);
+    }
+
+pub choice-returns-clause-reads : goal.choice-returns-clause-reads
+choice-returns-clause-reads t c = λ ts q.
+    let h : height (expr_tree c.args.first) < c.args.room = omega (arith, c.requires) in
+    rw (tree_Choice, c.in_ok-other.ensures.ok)
+    (e.choice_read c.args.room ts _ _ _ _ _ _ c.in-Some.ensures c.in_default-mark_at.ensures q h c.loop-after.invariant.head c.loop-after.invariant.along)
+
+pub choice-returns-clause-height : goal.choice-returns-clause-height
+choice-returns-clause-height t c =
+    let k = e.choice_height (c.args.room - 1) _ _ _ _ _ _ c.in-Some.ensures c.in_default-mark_at.ensures c.loop-after.invariant.head c.loop-after.invariant.along in
+    rw (tree_Choice, c.in_ok-other.ensures.ok) (omega (arith, k, c.loop-after.invariant.height))
+
+pub arm-returns-in_err-value-clause-reads : goal.arm-returns-in_err-value-clause-reads
+arm-returns-in_err-value-clause-reads t c =
+    let p = err_from_is_err_and c.from_residual.result c.from_residual.ensures.1 in
+    rw (p.1, p.2) (fails_by (part an_expr) (part an_expr · mark m.Colon · part a_condition) c.args.room c.args.room (seen c.args.tokens.now) (seen c.args.tokens.now)
+    (λ deep at s. stuck_first s)
+    c.in_err-value.field-0.0 c.in_err-value.ensures.reads)
+
+pub arm-returns-in_err-after-clause-reads : goal.arm-returns-in_err-after-clause-reads
+arm-returns-in_err-after-clause-reads t c =
+    let p = err_from_is_err_and c.from_residual-in_err-after.result c.from_residual-in_err-after.ensures.1 in
+    rw (p.1, p.2) (fails_by (mark m.Colon) (part an_expr · mark m.Colon · part a_condition) c.args.room c.args.room (seen c.in_ok-value.value.rest.now) (seen c.args.tokens.now)
+    (λ deep at s. stuck_second c.in_ok-value.ensures.reads (stuck_first s))
+    c.in_err-after.field-0.0 (c.in_err-after.ensures c.args.room))
+
+pub arm-returns-in_err-other-clause-reads : goal.arm-returns-in_err-other-clause-reads
+arm-returns-in_err-other-clause-reads t c =
+    let p = err_from_is_err_and c.from_residual-in_err-other.result c.from_residual-in_err-other.ensures.1 in
+    rw (p.1, p.2) (fails_by (part a_condition) (part an_expr · mark m.Colon · part a_condition) c.args.room c.args.room (seen c.in_ok-after.after.now) (seen c.args.tokens.now)
+    (λ deep at s. stuck_second c.in_ok-value.ensures.reads (stuck_second (c.in_ok-after.ensures c.args.room) s))
+    c.in_err-other.field-0.0 c.in_err-other.ensures.reads)
+
+pub arm-returns-clause-reads : goal.arm-returns-clause-reads
+arm-returns-clause-reads t c = gets_seq c.in_ok-value.ensures.reads (gets_seq (c.in_ok-after.ensures c.args.room) c.in_ok-other.ensures.reads)
 
 pub operands-returns-in_err-read-clause-reads : goal.operands-returns-in_err-read-clause-reads
 operands-returns-in_err-read-clause-reads t c =
@@ -54,7 +128,7 @@ chain-returns-in_err-other-clause-reads t c = λ ts q.
 pub chain-loop-operator-preserved : goal.chain-loop-operator-preserved
 chain-loop-operator-preserved t c =
     let got = c.in_ok-other.ensures.reads in
-    let more = links_push _ _ _ _ c.in_ok-push.ensures.items in
+    let more = height_push link_of _ _ _ c.in_ok-push.ensures.items in
     record {
       same = c.loop-operator.invariant.same;
       along = along_push (link_at c.args.level) (c.args.room - 1) _ _ _ link_of _ _ _ c.in_ok-push.ensures.items c.loop-operator.invariant.along (link_goes c.args.level _ _ _ c.in-Some-binary_at.ensures)
@@ -106,19 +180,142 @@ pub group-returns-in_err-inner-clause-reads : goal.group-returns-in_err-inner-cl
 group-returns-in_err-inner-clause-reads t c =
     let p = err_from_is_err_and c.from_residual.result c.from_residual.ensures.1 in
     let h : 0 < c.args.room = omega arith in
-    rw (p.1, p.2) (fails_by (part an_expr) (part an_operand) (c.args.room - 1) c.args.room (seen c.args.after.now) (seen c.args.tokens.now)
-    (λ deep at s. group_stuck c.args.room deep _ _ at h c.requires (stuck_first s))
+    rw (p.1, p.2) (fails_by (part an_expr · mark m.Close) (part an_operand) (c.args.room - 1) c.args.room (seen c.args.after.now) (seen c.args.tokens.now)
+    (λ deep at s. e.group_stuck c.args.room deep _ _ at h c.requires s)
     c.in_err-inner.field-0.0 c.in_err-inner.ensures.reads)
-
-pub group-returns-in_err-rest-clause-reads : goal.group-returns-in_err-rest-clause-reads
-group-returns-in_err-rest-clause-reads t c =
-    let p = err_from_is_err_and c.from_residual-in_err-rest.result c.from_residual-in_err-rest.ensures.1 in
-    let h : 0 < c.args.room = omega arith in
-    rw (p.1, p.2) (fails_by (mark m.Close) (part an_operand) (c.args.room - 1) c.args.room (seen c.in_ok-inner.inner.rest.now) (seen c.args.tokens.now)
-    (λ deep at s. group_stuck c.args.room deep _ _ at h c.requires (stuck_second c.in_ok-inner.ensures.reads s))
-    c.in_err-rest.field-0.0 (c.in_err-rest.ensures (c.args.room - 1)))
 
 pub group-returns-clause-reads : goal.group-returns-clause-reads
 group-returns-clause-reads t c =
     let h : 0 < c.args.room = omega arith in
-    rw (tree_Group, c.in_ok-new.ensures.ok) (group_read c.args.room _ _ _ _ h c.requires (gets_seq c.in_ok-inner.ensures.reads (c.in_ok-rest.ensures (c.args.room - 1))))
+    rw (tree_Group, c.in_ok-new.ensures.ok) (e.group_read c.args.room _ _ _ _ h c.requires c.in_ok-inner.ensures.reads)
+
+pub cast-returns-then-room-eq0-clause-reads : goal.cast-returns-then-room-eq0-clause-reads
+cast-returns-then-room-eq0-clause-reads t c = deep_at an_operand c.args.room _ the_cast (ap first c.requires) refl (omega arith)
+
+pub cast-returns-in_err-opened-clause-reads : goal.cast-returns-in_err-opened-clause-reads
+cast-returns-in_err-opened-clause-reads t c =
+    let p = err_from_is_err_and c.from_residual.result c.from_residual.ensures.1 in
+    let h : 0 < c.args.room = omega arith in
+    rw (p.1, p.2) (fails_by (mark m.Open) (part an_operand) (c.args.room - 1) c.args.room (seen c.args.after.now) (seen c.args.tokens.now)
+    (λ deep at s. e.cast_stuck c.args.signed c.args.room deep _ _ at h c.requires (stuck_first s))
+    c.in_err-opened.field-0.0 (c.in_err-opened.ensures (c.args.room - 1)))
+
+pub cast-returns-in_err-inner-clause-reads : goal.cast-returns-in_err-inner-clause-reads
+cast-returns-in_err-inner-clause-reads t c =
+    let p = err_from_is_err_and c.from_residual-in_err-inner.result c.from_residual-in_err-inner.ensures.1 in
+    let h : 0 < c.args.room = omega arith in
+    rw (p.1, p.2) (fails_by (part an_expr · mark m.Close) (part an_operand) (c.args.room - 1) c.args.room (seen c.in_ok-opened.opened.now) (seen c.args.tokens.now)
+    (λ deep at s. e.cast_stuck c.args.signed c.args.room deep _ _ at h c.requires (stuck_second (c.in_ok-opened.ensures (c.args.room - 1)) s))
+    c.in_err-inner.field-0.0 c.in_err-inner.ensures.reads)
+
+pub cast-returns-clause-reads : goal.cast-returns-clause-reads
+cast-returns-clause-reads t c =
+    let h : 0 < c.args.room = omega arith in
+    rw (tree_Cast, c.in_ok-new.ensures.ok) (e.cast_read c.args.signed c.args.room _ _ _ _ h c.requires (gets_seq (c.in_ok-opened.ensures (c.args.room - 1)) c.in_ok-inner.ensures.reads))
+
+pub closed-returns-in_err-inner-clause-reads : goal.closed-returns-in_err-inner-clause-reads
+closed-returns-in_err-inner-clause-reads t c =
+    let p = err_from_is_err_and c.from_residual.result c.from_residual.ensures.1 in
+    rw (p.1, p.2) (fails_by (part an_expr) (part an_expr · mark m.Close) c.args.room c.args.room (seen c.args.tokens.now) (seen c.args.tokens.now)
+    (λ deep at s. stuck_first s)
+    c.in_err-inner.field-0.0 c.in_err-inner.ensures.reads)
+
+pub closed-returns-in_err-rest-clause-reads : goal.closed-returns-in_err-rest-clause-reads
+closed-returns-in_err-rest-clause-reads t c =
+    let p = err_from_is_err_and c.from_residual-in_err-rest.result c.from_residual-in_err-rest.ensures.1 in
+    rw (p.1, p.2) (fails_by (mark m.Close) (part an_expr · mark m.Close) c.args.room c.args.room (seen c.in_ok-inner.inner.rest.now) (seen c.args.tokens.now)
+    (λ deep at s. stuck_second c.in_ok-inner.ensures.reads s)
+    c.in_err-rest.field-0.0 (c.in_err-rest.ensures c.args.room))
+
+pub closed-returns-clause-reads : goal.closed-returns-clause-reads
+closed-returns-clause-reads t c = gets_seq c.in_ok-inner.ensures.reads (c.in_ok-rest.ensures c.args.room)
+
+pub braces-returns-then-room-eq0-clause-reads : goal.braces-returns-then-room-eq0-clause-reads
+braces-returns-then-room-eq0-clause-reads t c = deep_at an_operand c.args.room _ (the_mark m.OpenBrace) (ap first c.requires) refl (omega arith)
+
+pub braces-returns-in_err-first-clause-reads : goal.braces-returns-in_err-first-clause-reads
+braces-returns-in_err-first-clause-reads t c =
+    let p = err_from_is_err_and c.from_residual.result c.from_residual.ensures.1 in
+    let h : 0 < c.args.room = omega arith in
+    rw (p.1, p.2) (fails_by (part an_expr) (part an_operand) (c.args.room - 1) c.args.room (seen c.args.after.now) (seen c.args.tokens.now)
+    (λ deep at s. e.braces_stuck c.args.room deep _ _ at h c.requires (stuck_first s))
+    c.in_err-first.field-0.0 c.in_err-first.ensures.reads)
+
+pub braces-returns-in_err-behind-clause-reads : goal.braces-returns-in_err-behind-clause-reads
+braces-returns-in_err-behind-clause-reads t c =
+    let p = err_from_is_err_and c.from_residual-in_err-behind.result c.from_residual-in_err-behind.ensures.1 in
+    let h : 0 < c.args.room = omega arith in
+    rw (p.1, p.2) (fails_by other_parts (part an_operand) (c.args.room - 1) c.args.room (seen c.in_ok-first.first.rest.now) (seen c.args.tokens.now)
+    (λ deep at s. e.braces_stuck c.args.room deep _ _ at h c.requires (stuck_second c.in_ok-first.ensures.reads (e.others_stuck (c.args.room - 1) deep _ at c.in_default.ensures s)))
+    c.in_err-behind.field-0.0 c.in_err-behind.ensures.reads)
+
+pub braces-returns-in_default-clause-reads : goal.braces-returns-in_default-clause-reads
+braces-returns-in_default-clause-reads t c =
+    let h : 0 < c.args.room = omega arith in
+    rw (tree_Concat, c.in_ok-new.ensures.ok) (e.braces_read c.args.room _ _ _ _ h c.requires (gets_seq c.in_ok-first.ensures.reads (e.others_read (c.args.room - 1) _ _ _ c.in_default.ensures c.in_ok-behind.ensures.reads)))
+
+pub braces-returns-in_err-parts-clause-reads : goal.braces-returns-in_err-parts-clause-reads
+braces-returns-in_err-parts-clause-reads t c =
+    let p = err_from_is_err_and c.from_residual-in_err-parts.result c.from_residual-in_err-parts.ensures.1 in
+    let h : 0 < c.args.room = omega arith in
+    rw (p.1, p.2) (fails_by (part an_expr · other_parts · mark m.CloseBrace) (part an_operand) (c.args.room - 1) c.args.room (seen c.in-Some.inner.now) (seen c.args.tokens.now)
+    (λ deep at s. e.braces_stuck c.args.room deep _ _ at h c.requires (stuck_second c.in_ok-first.ensures.reads (e.repeated_stuck (c.args.room - 1) deep _ _ at c.in-Some.ensures s)))
+    c.in_err-parts.field-0.0 c.in_err-parts.ensures.reads)
+
+pub braces-returns-clause-reads : goal.braces-returns-clause-reads
+braces-returns-clause-reads t c =
+    let h : 0 < c.args.room = omega arith in
+    rw (tree_Repeat, c.in_ok-times.ensures.ok, c.in_ok-part.ensures.ok) (e.braces_read c.args.room _ _ _ _ h c.requires (gets_seq c.in_ok-first.ensures.reads (e.repeated_read (c.args.room - 1) _ _ _ _ c.in-Some.ensures c.in_ok-parts.ensures.reads)))
+
+pub repeated-returns-in_err-part-clause-reads : goal.repeated-returns-in_err-part-clause-reads
+repeated-returns-in_err-part-clause-reads t c =
+    let p = err_from_is_err_and c.from_residual.result c.from_residual.ensures.1 in
+    rw (p.1, p.2) (fails_by (part an_expr) (part an_expr · other_parts · mark m.CloseBrace) c.args.room c.args.room (seen c.args.tokens.now) (seen c.args.tokens.now)
+    (λ deep at s. stuck_first s)
+    c.in_err-part.field-0.0 c.in_err-part.ensures.reads)
+
+pub repeated-returns-in_err-parts-clause-reads : goal.repeated-returns-in_err-parts-clause-reads
+repeated-returns-in_err-parts-clause-reads t c =
+    let p = err_from_is_err_and c.from_residual-in_err-parts.result c.from_residual-in_err-parts.ensures.1 in
+    rw (p.1, p.2) (fails_by other_parts (part an_expr · other_parts · mark m.CloseBrace) c.args.room c.args.room (seen c.in_ok-part.part.rest.now) (seen c.args.tokens.now)
+    (λ deep at s. stuck_second c.in_ok-part.ensures.reads (stuck_first s))
+    c.in_err-parts.field-0.0 c.in_err-parts.ensures.reads)
+
+pub repeated-returns-in_err-rest-clause-reads : goal.repeated-returns-in_err-rest-clause-reads
+repeated-returns-in_err-rest-clause-reads t c =
+    let p = err_from_is_err_and c.from_residual-in_err-rest.result c.from_residual-in_err-rest.ensures.1 in
+    rw (p.1, p.2) (fails_by (mark m.CloseBrace) (part an_expr · other_parts · mark m.CloseBrace) c.args.room c.args.room (seen c.in_ok-parts.parts.rest.now) (seen c.args.tokens.now)
+    (λ deep at s. stuck_second c.in_ok-part.ensures.reads (stuck_second c.in_ok-parts.ensures.reads s))
+    c.in_err-rest.field-0.0 (c.in_err-rest.ensures c.args.room))
+
+pub repeated-returns-clause-reads : goal.repeated-returns-clause-reads
+repeated-returns-clause-reads t c = gets_seq c.in_ok-part.ensures.reads (gets_seq c.in_ok-parts.ensures.reads (c.in_ok-rest.ensures c.args.room))
+
+pub others-returns-in_err-part-clause-reads : goal.others-returns-in_err-part-clause-reads
+others-returns-in_err-part-clause-reads t c =
+    let p = err_from_is_err_and c.from_residual.result c.from_residual.ensures.1 in
+    rw (p.1, p.2) (fails_by (part an_expr) other_parts c.args.room c.args.room (seen c.in-Some.after.now) (seen c.args.tokens.now)
+    (λ deep at s. e.part_stuck c.args.room deep _ _ _ at _ c.loop-after.invariant.along c.in-Some.ensures s)
+    c.in_err-part.field-0.0 c.in_err-part.ensures.reads)
+
+pub others-loop-after-preserved : goal.others-loop-after-preserved
+others-loop-after-preserved t c =
+    let more = height_push comma_of _ _ _ c.in_ok-push.ensures.items in
+    record {
+      along = along_push (another m.Comma an_expr) c.args.room _ _ _ comma_of _ _ _ c.in_ok-push.ensures.items c.loop-after.invariant.along (goes_another m.Comma an_expr _ _ c.in-Some.ensures)
+          (another_read m.Comma an_expr c.args.room _ _ _ _ c.in-Some.ensures c.in_ok-part.ensures.reads);
+      height = omega (arith, more, c.max-height.ensures, c.loop-after.invariant.height, c.in_ok-part.ensures.height);
+    }
+
+pub others-returns-in_err-behind-clause-reads : goal.others-returns-in_err-behind-clause-reads
+others-returns-in_err-behind-clause-reads t c =
+    let p = err_from_is_err_and c.from_residual-in_err-behind.result c.from_residual-in_err-behind.ensures.1 in
+    rw (p.1, p.2) (fails_by (mark m.CloseBrace) other_parts c.args.room c.args.room (seen c.loop-after.rest.now) (seen c.args.tokens.now)
+    (λ deep at s. e.end_of_parts c.args.room deep _ _ at _ c.loop-after.invariant.along c.in_default.ensures s)
+    c.in_err-behind.field-0.0 (c.in_err-behind.ensures c.args.room))
+
+pub others-returns-clause-reads : goal.others-returns-clause-reads
+others-returns-clause-reads t c = e.parts_read c.args.room _ _ _ _ c.loop-after.invariant.along c.in_default.ensures (c.in_ok-behind.ensures c.args.room)
+
+pub others-returns-clause-height : goal.others-returns-clause-height
+others-returns-clause-height t c = let k = e.parts_height c.loop-after.tree.items in omega (arith, k, c.loop-after.invariant.height)

@@ -1,27 +1,66 @@
 use Rattle.std.proofs.Common.{◌≡◌, ◌<◌, ◌+◌, ◌-◌, ◌*◌, length, map, max}
-use Rattle.vs_syntax.specs.Grammar.{part, a_level}
+use Rattle.vs_tokens.specs.declared.token.Mark.TheVariants as m
+use Rattle.vs_syntax.specs.Grammar.{part, a_level, an_expr}
+use Rattle.vs_syntax.specs.Grammar as g
 use Rattle.vs_syntax.specs.Derivation.{height}
-use Rattle.vs_syntax.specs.Views.{row_of, expr_tree}
+use Rattle.vs_syntax.specs.Views.{row_of, head_of, arms_of, expr_tree}
 use Rattle.vs_syntax.specs.Reading.{Gets}
 use Rattle.vs_parser.specs.Answers.{seen}
+use Rattle.vs_parser.proofs.Lists.{another}
 use Rattle.vs_parser.proofs.Rows.{Along}
-use Rattle.vs_parser.proofs.Expressions.{link_at, link_of}
+use Rattle.vs_parser.proofs.Trees.{paired}
+use Rattle.vs_parser.proofs.Expressions.{link_at, link_of, comma_of}
 use Rattle.vs_parser.proofs.expression.+expr.Given as goal
 
+abbrev pub decreases-nested_expr : goal.decreases-nested_expr
+decreases-nested_expr l = 6 * l.room + 3
+
+abbrev pub decreases-choice : goal.decreases-choice
+decreases-choice l = 6 * l.room + 2
+
+abbrev pub decreases-arm : goal.decreases-arm
+decreases-arm l = 6 * l.room + 4
+
 abbrev pub decreases-operands : goal.decreases-operands
-decreases-operands l = 3 * l.room + 2
+decreases-operands l = 6 * l.room + 2
 
 abbrev pub decreases-chain : goal.decreases-chain
-decreases-chain l = 3 * l.room + 1
+decreases-chain l = 6 * l.room + 1
 
 abbrev pub decreases-operand : goal.decreases-operand
-decreases-operand l = 3 * l.room + 1
+decreases-operand l = 6 * l.room + 1
 
 abbrev pub decreases-prefixed : goal.decreases-prefixed
-decreases-prefixed l = 3 * l.room
+decreases-prefixed l = 6 * l.room
 
 abbrev pub decreases-group : goal.decreases-group
-decreases-group l = 3 * l.room
+decreases-group l = 6 * l.room
+
+abbrev pub decreases-cast : goal.decreases-cast
+decreases-cast l = 6 * l.room
+
+abbrev pub decreases-closed : goal.decreases-closed
+decreases-closed l = 6 * l.room + 4
+
+abbrev pub decreases-braces : goal.decreases-braces
+decreases-braces l = 6 * l.room
+
+abbrev pub decreases-repeated : goal.decreases-repeated
+decreases-repeated l = 6 * l.room + 5
+
+abbrev pub decreases-others : goal.decreases-others
+decreases-others l = 6 * l.room + 4
+
+abbrev pub invariant-choice-loop-after : goal.invariant-choice-loop-after
+invariant-choice-loop-after l = record {
+  along : Along g.arm (l.room - 1) (seen l.start) (seen l.rest) (arms_of (map paired l.pairs.items) (expr_tree l.last));
+  head : head_of (map paired l.pairs.items) (expr_tree l.last) ≡ expr_tree l.fn.first;
+  height : l.height ≡ max (height (expr_tree l.fn.first)) (height (row_of (arms_of (map paired l.pairs.items) (expr_tree l.last))));
+  below : l.height < l.room;
+}
+
+abbrev pub decreases-choice-loop-after : goal.decreases-choice-loop-after
+decreases-choice-loop-after l = length (seen l.rest)
 
 abbrev pub invariant-operands-loop-level : goal.invariant-operands-loop-level
 invariant-operands-loop-level l = record {
@@ -39,3 +78,12 @@ invariant-chain-loop-operator l = record {
 
 abbrev pub decreases-chain-loop-operator : goal.decreases-chain-loop-operator
 decreases-chain-loop-operator l = length (seen l.rest)
+
+abbrev pub invariant-others-loop-after : goal.invariant-others-loop-after
+invariant-others-loop-after l = record {
+  along : Along (another m.Comma an_expr) l.room (seen l.tokens) (seen l.rest) (map comma_of l.tree.items);
+  height : l.height ≡ height (row_of (map comma_of l.tree.items));
+}
+
+abbrev pub decreases-others-loop-after : goal.decreases-others-loop-after
+decreases-others-loop-after l = length (seen l.rest)

@@ -1,4 +1,4 @@
-use Rattle.std.proofs.Common.{◌≡◌, ◌≤◌, ◌<◌, ◌-◌, refl, arith, false}
+use Rattle.std.proofs.Common.{◌≡◌, ◌≤◌, ◌<◌, ◌-◌, refl, arith}
 use Rattle.std.proofs.lemmas.Result.{err_from_is_err_and}
 use Rattle.vs_tokens.specs.declared.token.Word.TheVariants as w
 use Rattle.vs_syntax.specs.Symbols.{any_number}
@@ -10,7 +10,7 @@ use Rattle.vs_parser.specs.Answers.{seen}
 use Rattle.vs_parser.proofs.Exits.{fails_by}
 use Rattle.vs_parser.proofs.Rows.{along_push, shorter, all_read}
 use Rattle.vs_parser.proofs.Statements.{need_of, begins_of, head_goes, head_deep, null_read, block_stuck, block_read, delay_stuck, delay_read, row_stuck}
-use Rattle.vs_parser.proofs.Tokens.{none_at, other_at, number_at}
+use Rattle.vs_parser.proofs.Tokens.{none_at, other_at, read_number}
 use Rattle.vs_parser.proofs.Trees.{tree_Null, tree_Block, tree_Delay}
 use Rattle.vs_parser.proofs.statement.+stmt.Goals as goal
 
@@ -84,15 +84,15 @@ block-returns t c = gets_seq (all_read (part a_stmt) c.args.room _ _ _ _ c.loop-
 pub delay-returns-in_default : goal.delay-returns-in_default
 delay-returns-in_default t c = stuck_first (stuck_here refl (none_at _ number _ c.in_default.ensures refl))
 
-pub delay-returns-in_default-decimal : goal.delay-returns-in_default-decimal
-delay-returns-in_default-decimal t c = stuck_first (stuck_here refl (other_at (any_number false) _ c.in-Some.first.now _ c.in-Some.ensures (c.in_default-decimal.ensures c.in-Some.first.now.bytes.now)))
+pub delay-returns-in_default-literal : goal.delay-returns-in_default-literal
+delay-returns-in_default-literal t c = stuck_first (stuck_here refl (other_at any_number _ c.in-Some.first.now _ c.in-Some.ensures (c.in_default-literal.ensures c.in-Some.first.now.bytes.now)))
 
 pub delay-returns-in_err-inner : goal.delay-returns-in_err-inner
 delay-returns-in_err-inner t c =
     let p = err_from_is_err_and c.from_residual.result c.from_residual.ensures.1 in
     rw (p.1, p.2) (fails_by (part a_stmt) (number · part a_stmt) c.args.room c.args.room (seen c.in-Some.after.now) (seen c.args.tokens.now)
-    (λ deep at s. stuck_second (number_at c.args.room _ c.in-Some.first.now _ c.in-Some-decimal.time c.in-Some.ensures c.in-Some-decimal.ensures) s)
+    (λ deep at s. stuck_second (read_number c.args.room _ c.in-Some.first.now _ c.in-Some-literal.time c.in-Some.ensures c.in-Some-literal.ensures) s)
     c.in_err-inner.field-0.0 c.in_err-inner.ensures)
 
 pub delay-returns : goal.delay-returns
-delay-returns t c = rw (c.in_ok-statement.ensures.ok) (gets_seq (number_at c.args.room _ c.in-Some.first.now _ c.in-Some-decimal.time c.in-Some.ensures c.in-Some-decimal.ensures) c.in_ok-inner.ensures)
+delay-returns t c = rw (c.in_ok-statement.ensures.ok) (gets_seq (read_number c.args.room _ c.in-Some.first.now _ c.in-Some-literal.time c.in-Some.ensures c.in-Some-literal.ensures) c.in_ok-inner.ensures)

@@ -1,0 +1,43 @@
+-- What the functions on the sizes of declarations answer.
+use Rattle.std.specs.Prelude.{◌≡◌, ℕ, ◌+◌, ◌<◌, Bool, false, List, Option, Some, None}
+use Rattle.vs_syntax.specs.declared.tree.Range.{Range}
+use Rattle.vs_syntax.specs.declared.tree.Item.{Item}
+use Rattle.vs_design.specs.declared.signal.Bounds.{Bounds}
+use Rattle.vs_widths.specs.Environment.{Environment}
+use Rattle.vs_widths.specs.Names.{meaning_of}
+use Rattle.vs_widths.specs.declared.faults.WidthReason.{WidthReason}
+use Rattle.vs_elaborate.specs.declared.faults.Reason.{Reason}
+use Rattle.vs_elaborate.specs.declared.faults.Reason.TheVariants.{Width}
+use Rattle.vs_elaborate.specs.declared.sizes.Size.{Size}
+use Rattle.vs_elaborate.specs.Ranges.{range_bounds, distance, Sized}
+use Rattle.vs_elaborate.specs.Scopes.{DeclaredName, unsized_names, unsized_in}
+use Rattle.vs_elaborate.specs.passes.Bodies.{Bindings}
+
+-- faults of sizes among all
+abbrev pub width_faults : (WidthReason → Bool) → Reason → Bool
+width_faults faults (Width w) = faults w
+width_faults faults _ = false
+
+-- the bounds of a range, and its size
+pub record IsRange (env : Environment) (r : Range) (p : Bounds × ℕ) : Type 0 where
+  pub found : range_bounds env (Some r) ≡ Some p.0
+  pub narrow : distance p.0 < 64
+  pub size : p.1 ≡ distance p.0 + 1
+
+-- a size that a declaration says of its names
+pub record IsSize (z : Sized) (s : Size) : Type 0 where
+  pub shape : s.shape ≡ z.shape
+  pub bounds : s.bounds ≡ z.bounds
+
+-- the first of two values that is there
+abbrev pub first_of : {A : Type 0} → Option A → Option A → Option A
+first_of None y = y
+first_of (Some x) y = Some x
+
+-- names with those declared ones behind them that were not there, before their sizes are known
+abbrev pub AddsNames : Bindings → Bindings → List DeclaredName → Type 0
+AddsNames old new ds = (n : List ℕ) → meaning_of new n ≡ first_of (meaning_of old n) (meaning_of (unsized_names ds) n)
+
+-- names before their sizes are known, of these items
+abbrev pub IsEarly : List Item → Bindings → Type 0
+IsEarly items names = (n : List ℕ) → meaning_of names n ≡ unsized_in items n

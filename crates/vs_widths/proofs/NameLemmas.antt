@@ -1,0 +1,44 @@
+-- The map of names, seen by the names' bytes.
+use Rattle.std.proofs.Common.{◌≡◌, ℕ, true, false, cond, List, [], ◌∷◌, Option, Some, None, refl, ap, sym, subst, ◌∙◌, is_some, IsSome, true≢false}
+use Rattle.std.specs.Map.{lookup}
+use Rattle.std.specs.Str.{bytes_eq}
+use Rattle.std.specs.Borrow.{Bor}
+use Rattle.std.specs.BTreeMap.{BTreeMap, get_by, UpdatesBy}
+use Rattle.std.specs.Ordering.{is_eq, nat_cmp}
+use Rattle.std.specs.Cmp.Lexicographic.{slice_cmp}
+use Rattle.std.proofs.lemmas.Map.Text.{is_eq-slice_cmp, btree_map_updates_str}
+use Rattle.vs_widths.specs.Names.{by_bytes, meaning_of, Declares}
+
+none_from_false : {A : Type 0} (o : Option A) → false ≡ is_some o → o ≡ None
+none_from_false None h = refl
+none_from_false (Some x) h = absurd (true≢false (sym h))
+
+module _ {V : Type 0} where
+  -- a look-up by bytes
+  lookup_by_bytes : (n : List ℕ) (es : List (Bor (List ℕ) × V)) → lookup (λ k. is_eq (slice_cmp nat_cmp n k.now)) es ≡ meaning_of (by_bytes es) n
+  lookup_by_bytes n [] = refl
+  lookup_by_bytes n (e ∷ es) =
+      ap (λ b. cond b (Some e.1) (lookup (λ k. is_eq (slice_cmp nat_cmp n k.now)) es)) (is_eq-slice_cmp n e.0.now) ∙ ap (cond (bytes_eq n e.0.now) (Some e.1)) (lookup_by_bytes n es)
+
+  pub found_by_bytes : (n : List ℕ) (m : BTreeMap (Bor (List ℕ)) V) → get_by (λ k. slice_cmp nat_cmp n k.now) m ≡ meaning_of (by_bytes m.entries) n
+  found_by_bytes n m = lookup_by_bytes n m.entries
+
+  -- a fresh name
+  pub declares_fresh : (m new : BTreeMap (Bor (List ℕ)) V) (env : List (List ℕ × V)) (n : List ℕ) (v : V) → by_bytes m.entries ≡ env →
+      UpdatesBy (λ x y. slice_cmp nat_cmp x.now y.now) (λ k. slice_cmp nat_cmp n k.now) m new (Some v) →
+      false ≡ is_some (get_by (λ k. slice_cmp nat_cmp n k.now) m) → Declares true env (by_bytes new.entries) n v
+  declares_fresh m new env n v e h absent =
+      let P : List (List ℕ × V) → Type 0 = λ z. Declares true z (by_bytes new.entries) n v in
+      subst P e (
+        sym (found_by_bytes n m) ∙ none_from_false _ absent,
+        λ k. sym (found_by_bytes k new) ∙ btree_map_updates_str n m new (Some v) h k ∙ ap (λ o. cond (bytes_eq n k) (Some v) o) (found_by_bytes k m),
+      )
+
+  pub declares_known : (m : BTreeMap (Bor (List ℕ)) V) (env : List (List ℕ × V)) (n : List ℕ) (v : V) → by_bytes m.entries ≡ env →
+      true ≡ is_some (get_by (λ k. slice_cmp nat_cmp n k.now) m) → IsSome (meaning_of env n)
+  declares_known m env n v e h = subst (λ s. IsSome (meaning_of s n)) e (subst IsSome (found_by_bytes n m) (sym h))
+
+  -- what is found
+  pub finds : (m : BTreeMap (Bor (List ℕ)) V) (env : List (List ℕ × V)) (n : List ℕ) (o : Option V) → by_bytes m.entries ≡ env →
+      o ≡ get_by (λ k. slice_cmp nat_cmp n k.now) m → o ≡ meaning_of env n
+  finds m env n o e h = h ∙ found_by_bytes n m ∙ ap (λ s. meaning_of s n) e

@@ -1,0 +1,223 @@
+//! The own size and sign of each part of an expression.
+ghost use Rattle.std.specs.Prelude.{◌≡◌, ◌<◌, ◌≤◌, false, IfOk, map};
+ghost use Rattle.vs_widths.specs.Names.{meaning_of};
+ghost use Rattle.vs_widths.specs.Expressions.{meant, number_meant, name_meant, unary_meant, chain_meant, choice_meant};
+ghost use Rattle.vs_widths.specs.passes.Forms.{meaning, links_meant, pairs_meant, IsFlexible, IsMeasured, Measures, IsClosedPart, Joins, Repeats};
+
+use crate::bindings::{Binding, Shape};
+use crate::constants::count_of;
+use crate::faults::{WidthFault, WidthReason};
+use crate::fitting::BIT;
+use crate::forms::{Form, Measured};
+use crate::linking::{joined_shape, linked, own};
+use crate::names::Names;
+use std::alloc::{AllocError, Global};
+use vs_design::Count;
+use vs_lexer::Literal;
+use vs_logic4::{Binary, Unary};
+use vs_syntax::Expr;
+
+const TOO_WIDE: WidthFault = WidthFault::Refused(WidthReason::TooWide);
+
+/// An expression with its own size and sign, and those of its parts.
+#[cycle(measured)]
+pub fn measured(alloc: Global, names: &Names<Binding>, e: &Expr) -> Result<Measured, WidthFault>
+    ensures { Measures (meant (meaning_of names.now) e.now) result }
+{
+    match e {
+        Expr::Number(literal) => Ok(of_number(*literal)),
+        Expr::Name(name) => of_name(names.find(name)),
+        Expr::Group(inner) => measured(alloc, names, inner),
+        Expr::Unary(operator, x) => {
+            let x = measured(alloc, names, x)?;
+            Ok(of_unary(alloc, *operator, x)?)
+        }
+        Expr::Chain(first, links) => {
+            let first = measured(alloc, names, first)?;
+            measured_links(alloc, names, first, links)
+        }
+        Expr::Choice(pairs, last) => {
+            let last = measured(alloc, names, last)?;
+            measured_pairs(alloc, names, pairs, last)
+        }
+        Expr::Concat(first, rest) => {
+            let first = measured(alloc, names, first)?;
+            let parts = measured_parts(alloc, names, first, rest)?;
+            Ok(closed(alloc, parts.shape, parts)?)
+        }
+        Expr::Repeat(count, first, rest) => {
+            let first = measured(alloc, names, first)?;
+            let parts = measured_parts(alloc, names, first, rest)?;
+            let count = measured(alloc, names, count)?;
+            let times = count_of(alloc, count)?;
+            repeated(alloc, times, parts)
+        }
+        Expr::Cast(signed, x) => {
+            let x = measured(alloc, names, x)?;
+            let shape = Shape {
+                width: x.shape.width,
+                signed: *signed,
+            };
+            Ok(closed(alloc, shape, x)?)
+        }
+    }
+}
+
+/// An operand and those behind it.
+#[cycle(measured)]
+fn measured_links(
+    alloc: Global,
+    names: &Names<Binding>,
+    first: Measured,
+    links: &[(Binary, Expr)],
+) -> Result<Measured, WidthFault>
+    requires flexible { IsFlexible first.form }
+    ensures { Measures (chain_meant (meaning first) (links_meant (meaning_of names.now) links.now)) result }
+{
+    let mut all = first;
+    for (operator, e) in links {
+        let operand = measured(alloc, names, e)?;
+        all = linked(alloc, all, *operator, operand)?;
+    }
+    Ok(all)
+}
+
+/// Operands behind conditions, and the last operand.
+#[cycle(measured)]
+fn measured_pairs(
+    alloc: Global,
+    names: &Names<Binding>,
+    pairs: &[(Expr, Expr)],
+    last: Measured,
+) -> Result<Measured, WidthFault>
+    requires flexible { IsFlexible last.form }
+    ensures { Measures (choice_meant (pairs_meant (meaning_of names.now) pairs.now) (meaning last)) result }
+{
+    let mut shape = last.shape;
+    let mut done = Vec::new(alloc);
+    for (condition, e) in pairs {
+        let condition = measured(alloc, names, condition)?;
+        let operand = measured(alloc, names, e)?;
+        shape = joined_shape(shape, operand.shape);
+        done.push((own(alloc, condition)?, operand.form))?;
+    }
+    Ok(Measured {
+        shape,
+        form: Form::Choice(done, Box::new(alloc, last.form)?),
+    })
+}
+
+/// The parts of a concatenation beside one another, which no context changes.
+#[cycle(measured)]
+fn measured_parts(
+    alloc: Global,
+    names: &Names<Binding>,
+    first: Measured,
+    rest: &[Expr],
+) -> Result<Measured, WidthFault>
+    requires flexible { IsFlexible first.form }
+    ensures { Joins (meaning first) (map (meant (meaning_of names.now)) rest.now) result }
+{
+    let mut width = first.shape.width;
+    let mut done = Vec::new(alloc);
+    for e in rest {
+        let part = measured(alloc, names, e)?;
+        if width + part.shape.width > 64 {
+            return Err(TOO_WIDE);
+        }
+        width += part.shape.width;
+        done.push(own(alloc, part)?)?;
+    }
+    let first = own(alloc, first)?;
+    Ok(Measured {
+        shape: unsigned(width),
+        form: Form::Concat(Box::new(alloc, first)?, done),
+    })
+}
+
+/// The size and sign of a concatenation of so many bits (IEEE 1364-2005, clause 5.5.1).
+fn unsigned(width: u32) -> Shape
+    requires some { 0 < width }
+    requires most { width ≤ 64 }
+    ensures width { result.width ≡ width }
+    ensures sign { result.signed ≡ false }
+{
+    Shape {
+        width,
+        signed: false,
+    }
+}
+
+/// A number.
+fn of_number(literal: Literal) -> Measured
+    ensures { IsMeasured (number_meant literal) result }
+{
+    let value = literal.value;
+    Measured {
+        shape: Shape {
+            width: value.width(),
+            signed: literal.signed,
+        },
+        form: Form::Number(value),
+    }
+}
+
+/// A name.
+fn of_name(binding: Option<Binding>) -> Result<Measured, WidthFault>
+    ensures { Measures (name_meant binding) result }
+{
+    match binding {
+        Some(binding) => Ok(Measured {
+            shape: binding.meaning.shape,
+            form: Form::Signal(binding.signal),
+        }),
+        None => Err(WidthFault::Refused(WidthReason::Unknown)),
+    }
+}
+
+/// An operator and its operand.
+fn of_unary(alloc: Global, operator: Unary, x: Measured) -> Result<Measured, AllocError>
+    requires flexible { IsFlexible x.form }
+    ensures { IfOk result (λ y. IsMeasured (unary_meant operator (meaning x)) y) }
+{
+    let form = Form::Unary(operator, Box::new(alloc, x.form)?);
+    if operator.gives_bit() {
+        return Ok(Measured {
+            shape: BIT,
+            form: Form::Closed(x.shape, Box::new(alloc, form)?),
+        });
+    }
+    Ok(Measured {
+        shape: x.shape,
+        form,
+    })
+}
+
+/// A part that has its own size and sign, brought to those of its context, with the size and sign that its context sees.
+fn closed(alloc: Global, shape: Shape, x: Measured) -> Result<Measured, AllocError>
+    ensures { IfOk result (λ y. IsClosedPart x shape y) }
+{
+    Ok(Measured {
+        shape,
+        form: Form::Closed(x.shape, Box::new(alloc, x.form)?),
+    })
+}
+
+/// Joined parts so many times.
+fn repeated(alloc: Global, times: u64, parts: Measured) -> Result<Measured, WidthFault>
+    requires some { 0 < times }
+    ensures { Repeats times parts result }
+{
+    if times > 64 || times as u32 * parts.shape.width > 64 {
+        return Err(TOO_WIDE);
+    }
+    let count = Count {
+        times: times as u32,
+    };
+    let shape = unsigned(count.times * parts.shape.width);
+    let form = Form::Repeat(count, Box::new(alloc, parts.form)?);
+    Ok(Measured {
+        shape,
+        form: Form::Closed(shape, Box::new(alloc, form)?),
+    })
+}
