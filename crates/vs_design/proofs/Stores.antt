@@ -1,17 +1,20 @@
 -- Lemmas on stores.
-use Rattle.std.proofs.Common.{◌≡◌, ◌≢◌, ℕ, zero, suc, ◌+◌, ◌<◌, ◌≤◌, Bool, true, false, not, ◌||◌, Some, None, List, [], ◌∷◌, ◌++◌, length, take, slice_get, option_map, refl, sym, ◌∙◌, ap, arith}
+use Rattle.std.proofs.Common.{◌≡◌, ◌≢◌, ℕ, zero, suc, ◌==◌, ◌&&◌, ◌||◌, ◌++◌, take, ◌⊎◌, inl, inr, Bool, true, false, not, if◌then◌else◌, Option, Some, None, List, [], ◌∷◌, map, length, slice_get, option_map, refl, sym, ◌∙◌, ap, ap₂, ⊎_elim}
 use Rattle.std.specs.Prelude.{slice_set}
-use Rattle.std.proofs.lemmas.List.{map-append}
+use Rattle.std.specs.declared.vec.Vec.{Vec}
+use Rattle.std.specs.declared.alloc.Global.{Global}
+use Rattle.std.specs.List.{list_any, list_all}
+use Rattle.std.proofs.lemmas.Bool.{eqb-false}
+use Rattle.std.proofs.lemmas.Bool.Decides.{eqb_tells}
 use Rattle.std.proofs.lemmas.Option.{none-some, same_Some}
-use Rattle.std.proofs.Math.Bool.{and-true}
-use Rattle.std.proofs.Math.Nat.{add-zero}
 use Rattle.vs_logic4.specs.declared.digit.Digit.{Digit}
 use Rattle.vs_logic4.specs.Vectors.{same_digits}
-use Rattle.vs_logic4.specs.Sameness.{same_digits_self}
-use Rattle.vs_design.specs.declared.signal.Signal.{Signal}
-use Rattle.vs_design.specs.declared.design.Assign.{Assign}
+use Rattle.vs_logic4.specs.Sameness.{same_digits_self, same_digits-true}
 use Rattle.vs_design.specs.declared.write.Part.{Part}
-use Rattle.vs_design.specs.Stores.{Store, word_in, word_of, changed_at, put_part, overlaid, same_words, content, all_words, changes_nothing, start_word, start_words, is_driven, one_word_each}
+use Rattle.vs_design.specs.Behind.{behind, is_kept, keeps}
+use Rattle.vs_design.specs.Stores.{Store, word_in, words_in, word_of, changed_at, put_part, put, overlaid, same_words, is_changed, chosen_bits, changes_nothing}
+use Rattle.vs_design.specs.Uses.{all_words}
+use Rattle.vs_design.specs.Writes.{Write}
 
 -- ---- a list with a change at a place
 
@@ -37,52 +40,111 @@ slice_get-changed_at_other f zero (suc j) (x ∷ xs) h = refl
 slice_get-changed_at_other f (suc i) zero (x ∷ xs) h = refl
 slice_get-changed_at_other f (suc i) (suc j) (x ∷ xs) h = slice_get-changed_at_other f i j xs (λ e. h (ap suc e))
 
--- ---- words
+-- one element written, as its change
+pub changed_at-set : {A : Type 0} (f : A → A) (i : ℕ) (xs : List A) (x : A) → slice_get xs i ≡ Some x → slice_set xs i (f x) ≡ changed_at f i xs
+changed_at-set f i [] x h = absurd (none-some x h)
+changed_at-set f zero (y ∷ xs) x h = ap (λ z. f z ∷ xs) (sym (same_Some y x h))
+changed_at-set f (suc i) (y ∷ xs) x h = ap (λ ys. y ∷ ys) (changed_at-set f i xs x h)
 
--- the one word of a signal
-pub word_of-some : (ws : List (List Digit)) (s k : ℕ) (w : List Digit) → word_of (one_word_each ws) s k ≡ Some w → slice_get ws s ≡ Some w
-word_of-some [] s k w h = absurd (none-some w h)
-word_of-some (x ∷ ws) zero zero w h = h
-word_of-some (x ∷ ws) zero (suc k) w h = absurd (none-some w h)
-word_of-some (x ∷ ws) (suc s) k w h = word_of-some ws s k w h
+-- a change past the end
+pub changed_at-past : {A : Type 0} (f : A → A) (i : ℕ) (xs : List A) → slice_get xs i ≡ None → xs ≡ changed_at f i xs
+changed_at-past f i xs h = sym (changed_at-kept f i xs (λ x found. absurd (none-some x (sym h ∙ found))))
 
--- the word 0 of a signal is its word
-pub word_of-first : (ws : List (List Digit)) (n : ℕ) → word_of (one_word_each ws) n 0 ≡ slice_get ws n
-word_of-first [] n = refl
-word_of-first (w ∷ ws) zero = refl
-word_of-first (w ∷ ws) (suc n) = word_of-first ws n
+-- ---- the words in memory
 
--- there is no other word
-pub word_of-above : (ws : List (List Digit)) (n k : ℕ) → 0 < k → word_of (one_word_each ws) n k ≡ None
-word_of-above [] n k h = refl
-word_of-above (w ∷ ws) zero zero h = absurd (omega arith)
-word_of-above (w ∷ ws) zero (suc k) h = refl
-word_of-above (w ∷ ws) (suc n) k h = word_of-above ws n k h
+-- the words of signals, as lists
+abbrev pub lists : {A : Type 0} → List (Vec A Global) → List (List A)
+lists {A = A} rows = map (λ (row : Vec A Global). row.items) rows
 
-pub word_of-past : (ws : List (List Digit)) (n k : ℕ) → length ws ≤ n → word_of (one_word_each ws) n k ≡ None
-word_of-past [] n k h = refl
-word_of-past (w ∷ ws) zero k h = absurd (omega arith)
-word_of-past (w ∷ ws) (suc n) k h = word_of-past ws n k (omega arith)
+-- the words of one signal changed
+pub lists-changed : {A : Type 0} (f : List A → List A) (i : ℕ) (rows : List (Vec A Global)) (row new : Vec A Global) → slice_get rows i ≡ Some row → new.items ≡ f row.items →
+    lists (slice_set rows i new) ≡ changed_at f i (lists rows)
+lists-changed f i [] row new h e = absurd (none-some row h)
+lists-changed {A = A} f zero (x ∷ xs) row new h e = ap (λ y. y ∷ lists xs) (e ∙ ap (λ (v : Vec A Global). f v.items) (sym (same_Some x row h)))
+lists-changed f (suc i) (x ∷ xs) row new h e = ap (λ ys. x.items ∷ ys) (lists-changed f i xs row new h e)
 
--- ---- writes
+-- no signal to change
+pub lists-past : {A : Type 0} (f : List A → List A) (i : ℕ) (rows : List (Vec A Global)) → slice_get rows i ≡ None → lists rows ≡ changed_at f i (lists rows)
+lists-past f i [] h = refl
+lists-past f zero (x ∷ xs) h = absurd (none-some x (sym h))
+lists-past f (suc i) (x ∷ xs) h = ap (λ ys. x.items ∷ ys) (lists-past f i xs h)
 
-changed_at-word : (f : List Digit → List Digit) (ws : List (List Digit)) (s k : ℕ) (w : List Digit) → word_of (one_word_each ws) s k ≡ Some w →
-    one_word_each (slice_set ws s (f w)) ≡ changed_at (changed_at f k) s (one_word_each ws)
-changed_at-word f [] s k w h = absurd (none-some w h)
-changed_at-word f (x ∷ ws) zero zero w h = ap (λ y. (f y ∷ []) ∷ one_word_each ws) (sym (same_Some x w h))
-changed_at-word f (x ∷ ws) zero (suc k) w h = absurd (none-some w h)
-changed_at-word f (x ∷ ws) (suc s) k w h = ap (λ rest. (x ∷ []) ∷ rest) (changed_at-word f ws s k w h)
+-- ---- a word behind a write
 
--- a part written over the word that it names
-pub put_part-within : (ws : List (List Digit)) (p : Part) (w : List Digit) → word_of (one_word_each ws) p.signal p.word ≡ Some w →
-    one_word_each (slice_set ws p.signal (overlaid p.low p.digits w)) ≡ put_part (one_word_each ws) p
-put_part-within ws p w h = changed_at-word (overlaid p.low p.digits) ws p.signal p.word w h
+-- a change of one word keeps each other word
+word_keeps : (f : List Digit → List Digit) (i k : ℕ) (o : Option (List (List Digit))) → i ≢ k → word_in (option_map (changed_at f i) o) k ≡ word_in o k
+word_keeps f i k None h = refl
+word_keeps f i k (Some words) h = slice_get-changed_at_other f i k words h
 
--- a part without a word is dropped
-pub put_part-past : (store : Store) (p : Part) → word_of store p.signal p.word ≡ None → put_part store p ≡ store
-put_part-past store p h =
-    changed_at-kept _ p.signal store (λ words found. changed_at-kept _ p.word words (λ w here.
-    absurd (none-some w (sym h ∙ ap (λ o. word_in o p.word) found ∙ here))))
+word_changes : (f : List Digit → List Digit) (k : ℕ) (o : Option (List (List Digit))) → word_in (option_map (changed_at f k) o) k ≡ option_map f (word_in o k)
+word_changes f k None = refl
+word_changes f k (Some words) = slice_get-changed_at f k words
+
+-- a part changes the word that it names
+pub part_changes : (p : Part) (store : Store) → word_of (put_part store p) p.signal p.word ≡ option_map (overlaid p.low p.digits) (word_of store p.signal p.word)
+part_changes p store =
+    ap (λ o. word_in o p.word) (slice_get-changed_at (changed_at (overlaid p.low p.digits) p.word) p.signal store)
+    ∙ word_changes (overlaid p.low p.digits) p.word (slice_get store p.signal)
+
+-- a part keeps each other signal
+pub part_keeps : (p : Part) (store : Store) (signal : ℕ) → (p.signal == signal) ≡ false → slice_get (put_part store p) signal ≡ slice_get store signal
+part_keeps p store signal h = slice_get-changed_at_other (changed_at (overlaid p.low p.digits) p.word) p.signal signal store (eqb-false p.signal signal h)
+
+-- a part keeps each other word of its signal
+part_keeps_word : (p : Part) (store : Store) (word : ℕ) → (p.word == word) ≡ false → word_of (put_part store p) p.signal word ≡ word_of store p.signal word
+part_keeps_word p store word h =
+    ap (λ o. word_in o word) (slice_get-changed_at (changed_at (overlaid p.low p.digits) p.word) p.signal store)
+    ∙ word_keeps (overlaid p.low p.digits) p.word word (slice_get store p.signal) (eqb-false p.word word h)
+
+-- a word behind one part
+abbrev after_part : Part → ℕ → ℕ → List Digit → List Digit
+after_part p signal word before = if (p.signal == signal) && (p.word == word) then overlaid p.low p.digits before else before
+
+option_same : {A : Type 0} (o : Option A) → o ≡ option_map (λ x. x) o
+option_same None = refl
+option_same (Some x) = refl
+
+word_after : (p : Part) (store : Store) (signal word : ℕ) → word_of (put_part store p) signal word ≡ option_map (after_part p signal word) (word_of store signal word)
+word_after p store signal word =
+    ⊎_elim
+    (λ here.
+    ⊎_elim
+    (λ same.
+    ap₂ (λ s k. word_of (put_part store p) s k) (sym here.1) (sym same.1)
+    ∙ part_changes p store
+    ∙ ap₂ (λ s k. option_map (overlaid p.low p.digits) (word_of store s k)) here.1 same.1
+    ∙ ap₂ (λ a b. option_map (λ before. if a && b then overlaid p.low p.digits before else before) (word_of store signal word)) (sym here.0) (sym same.0))
+    (λ other.
+    ap (λ s. word_of (put_part store p) s word) (sym here.1)
+    ∙ part_keeps_word p store word other.0
+    ∙ ap (λ s. word_of store s word) here.1
+    ∙ option_same (word_of store signal word)
+    ∙ ap₂ (λ a b. option_map (λ before. if a && b then overlaid p.low p.digits before else before) (word_of store signal word)) (sym here.0) (sym other.0))
+    (eqb_tells p.word word))
+    (λ other.
+    ap (λ o. word_in o word) (part_keeps p store signal other.0)
+    ∙ option_same (word_of store signal word)
+    ∙ ap (λ a. option_map (λ before. if a && (p.word == word) then overlaid p.low p.digits before else before) (word_of store signal word)) (sym other.0))
+    (eqb_tells p.signal signal)
+
+option_twice : {A : Type 0} (f g : A → A) (o : Option A) → option_map g (option_map f o) ≡ option_map (λ x. g (f x)) o
+option_twice f g None = refl
+option_twice f g (Some x) = refl
+
+-- a word behind a write, where there is one
+pub word_behind : (w : Write) (store : Store) (signal word : ℕ) → word_of (put store w) signal word ≡ option_map (behind w signal word) (word_of store signal word)
+word_behind [] store signal word = option_same (word_of store signal word)
+word_behind (p ∷ ps) store signal word =
+    word_behind ps (put_part store p) signal word
+    ∙ ap (option_map (behind ps signal word)) (word_after p store signal word)
+    ∙ option_twice (after_part p signal word) (behind ps signal word) (word_of store signal word)
+
+pub behind_Some : (w : Write) (store : Store) (signal word : ℕ) (before : List Digit) → word_of store signal word ≡ Some before →
+    Some (behind w signal word before) ≡ word_of (put store w) signal word
+behind_Some w store signal word before h = sym (word_behind w store signal word ∙ ap (option_map (behind w signal word)) h)
+
+pub behind_None : (w : Write) (store : Store) (signal word : ℕ) → word_of store signal word ≡ None → None ≡ word_of (put store w) signal word
+behind_None w store signal word h = sym (word_behind w store signal word ∙ ap (option_map (behind w signal word)) h)
 
 -- ---- changes
 
@@ -90,46 +152,140 @@ pub same_words_self : (ws : List (List Digit)) → same_words ws ws ≡ true
 same_words_self [] = refl
 same_words_self (w ∷ ws) = rw (same_digits_self w, same_words_self ws) refl
 
-unchanged : (b : Bool) → b ≡ not (not b || false)
-unchanged true = refl
-unchanged false = refl
+and_left : (a b : Bool) → (a && b) ≡ true → a ≡ true
+and_left true b h = refl
+and_left false b h = cc
 
-same_word : (f : List Digit → List Digit) (ws : List (List Digit)) (s k : ℕ) (w : List Digit) → word_of (one_word_each ws) s k ≡ Some w →
-    same_digits w (f w) ≡ same_words (content (all_words s) (one_word_each ws)) (content (all_words s) (changed_at (changed_at f k) s (one_word_each ws)))
-same_word f [] s k w h = absurd (none-some w h)
-same_word f (x ∷ ws) zero zero w h = ap (λ y. same_digits y (f y)) (sym (same_Some x w h)) ∙ sym (and-true (same_digits x (f x)))
-same_word f (x ∷ ws) zero (suc k) w h = absurd (none-some w h)
-same_word f (x ∷ ws) (suc s) k w h = same_word f ws s k w h
+and_right : (a b : Bool) → (a && b) ≡ true → b ≡ true
+and_right true b h = h
+and_right false b h = cc
 
--- a part changes nothing where it leaves its word as it is
-pub changes_nothing-within : (ws : List (List Digit)) (p : Part) (w : List Digit) → word_of (one_word_each ws) p.signal p.word ≡ Some w →
-    same_digits w (overlaid p.low p.digits w) ≡ changes_nothing (one_word_each ws) (p ∷ [])
-changes_nothing-within ws p w h = same_word (overlaid p.low p.digits) ws p.signal p.word w h ∙ unchanged _
+same_words-true : (as' bs : List (List Digit)) → same_words as' bs ≡ true → as' ≡ bs
+same_words-true [] [] h = refl
+same_words-true [] (b ∷ bs) h = cc
+same_words-true (a ∷ as') [] h = cc
+same_words-true (a ∷ as') (b ∷ bs) h =
+    ap₂ (λ x xs. x ∷ xs) (same_digits-true a b (and_left (same_digits a b) (same_words as' bs) h)) (same_words-true as' bs (and_right (same_digits a b) (same_words as' bs) h))
 
--- a part without a word changes nothing
-pub changes_nothing-past : (store : Store) (p : Part) → word_of store p.signal p.word ≡ None → true ≡ changes_nothing store (p ∷ [])
-changes_nothing-past store p h =
-    sym (same_words_self (content (all_words p.signal) store))
-    ∙ ap (λ new. same_words (content (all_words p.signal) store) (content (all_words p.signal) new)) (sym (put_part-past store p h))
-    ∙ unchanged _
+or_left : (a b : Bool) → (a || b) ≡ false → a ≡ false
+or_left true b h = cc
+or_left false b h = refl
 
--- ---- the start
+or_right : (a b : Bool) → (a || b) ≡ false → b ≡ false
+or_right true b h = cc
+or_right false b h = h
 
--- the start of one more signal
-pub start_words-more : (assigns : List Assign) (first : ℕ) (ss : List Signal) (i : ℕ) (s : Signal) → slice_get ss i ≡ Some s →
-    take (suc i) (start_words assigns first ss) ≡ take i (start_words assigns first ss) ++ (start_word (is_driven assigns (first + i)) s.kind s.width ∷ []) ∷ []
-start_words-more assigns first [] i s h = cc
-start_words-more assigns first (x ∷ ss) zero s h =
-    let e : x ≡ s = cc in
-    rw add-zero (ap (λ (y : Signal). (start_word (is_driven assigns first) y.kind y.width ∷ []) ∷ []) e)
-start_words-more assigns first (x ∷ ss) (suc i) s h =
-    let e : suc first + i ≡ first + suc i = omega arith in
-    ap (λ (rest : Store). (start_word (is_driven assigns first) x.kind x.width ∷ []) ∷ rest)
-    (start_words-more assigns (suc first) ss i s h ∙ ap (λ n. take i (start_words assigns (suc first) ss) ++ (start_word (is_driven assigns n) s.kind s.width ∷ []) ∷ []) e)
+map_none : (ws : List (List Digit)) → map (chosen_bits None) ws ≡ ws
+map_none [] = refl
+map_none (w ∷ ws) = ap (λ xs. w ∷ xs) (map_none ws)
 
-pub length-start_words : (assigns : List Assign) (first : ℕ) (ss : List Signal) → length (start_words assigns first ss) ≡ length ss
-length-start_words assigns first [] = refl
-length-start_words assigns first (x ∷ ss) = ap suc (length-start_words assigns (suc first) ss)
+word_in-words : (o : Option (List (List Digit))) (k : ℕ) → word_in o k ≡ slice_get (words_in o) k
+word_in-words None k = refl
+word_in-words (Some words) k = refl
 
-pub one_word_each-more : (ws : List (List Digit)) (w : List Digit) → one_word_each (ws ++ w ∷ []) ≡ one_word_each ws ++ (w ∷ []) ∷ []
-one_word_each-more ws w = map-append (λ x. x ∷ []) ws (w ∷ [])
+-- lists with the same element at each place
+same_elements : {A : Type 0} (xs ys : List A) → ((k : ℕ) → slice_get xs k ≡ slice_get ys k) → xs ≡ ys
+same_elements [] [] h = refl
+same_elements [] (y ∷ ys) h = absurd (none-some y (h 0))
+same_elements (x ∷ xs) [] h = absurd (none-some x (sym (h 0)))
+same_elements (x ∷ xs) (y ∷ ys) h = ap₂ (λ z zs. z ∷ zs) (same_Some x y (h 0)) (same_elements xs ys (λ k. h (suc k)))
+
+-- stores with the same words of a signal hold the same of it
+pub unchanged_signal : (old new : Store) (signal : ℕ) → ((word : ℕ) → word_of old signal word ≡ word_of new signal word) → is_changed old new (all_words signal) ≡ false
+unchanged_signal old new signal h =
+    let same : words_in (slice_get old signal) ≡ words_in (slice_get new signal) =
+    same_elements _ _ (λ k. sym (word_in-words (slice_get old signal) k) ∙ h k ∙ word_in-words (slice_get new signal) k) in
+    ap (λ ws. not (same_words (map (chosen_bits None) ws) (map (chosen_bits None) (words_in (slice_get new signal))))) same
+    ∙ ap not (same_words_self (map (chosen_bits None) (words_in (slice_get new signal))))
+
+not_false : (b : Bool) → not b ≡ false → b ≡ true
+not_false true h = refl
+not_false false h = cc
+
+-- stores that hold the same of a signal have the same words of it
+pub same_signal : (old new : Store) (signal word : ℕ) → is_changed old new (all_words signal) ≡ false → word_of old signal word ≡ word_of new signal word
+same_signal old new signal word h =
+    let same : words_in (slice_get old signal) ≡ words_in (slice_get new signal) =
+    sym (map_none (words_in (slice_get old signal))) ∙ same_words-true _ _ (not_false _ h) ∙ map_none (words_in (slice_get new signal)) in
+    word_in-words (slice_get old signal) word ∙ ap (λ ws. slice_get ws word) same ∙ sym (word_in-words (slice_get new signal) word)
+
+-- ---- whether a write changes nothing
+
+kept_true : (f : List Digit → List Digit) (o : Option (List Digit)) → is_kept f o ≡ true → option_map f o ≡ o
+kept_true f None h = refl
+kept_true f (Some b) h = ap Some (sym (same_digits-true b (f b) h))
+
+kept_from : (f : List Digit → List Digit) (o : Option (List Digit)) → option_map f o ≡ o → is_kept f o ≡ true
+kept_from f None h = refl
+kept_from f (Some b) h = ap (same_digits b) (same_Some (f b) b h) ∙ same_digits_self b
+
+-- whether a part names a word
+abbrev names_word : ℕ → ℕ → Part → Bool
+names_word signal word p = (p.signal == signal) && (p.word == word)
+
+behind_unnamed : (ps : Write) (signal word : ℕ) (b : List Digit) → list_any (names_word signal word) ps ≡ false → behind ps signal word b ≡ b
+behind_unnamed [] signal word b h = refl
+behind_unnamed (p ∷ ps) signal word b h =
+    ap (λ c. behind ps signal word (if c then overlaid p.low p.digits b else b)) (or_left (names_word signal word p) (list_any (names_word signal word) ps) h)
+    ∙ behind_unnamed ps signal word b (or_right (names_word signal word p) (list_any (names_word signal word) ps) h)
+
+map_kept : (f : List Digit → List Digit) (o : Option (List Digit)) → ((b : List Digit) → f b ≡ b) → option_map f o ≡ o
+map_kept f None h = refl
+map_kept f (Some b) h = ap Some (h b)
+
+module _ (store : Store) (w : Write) where
+  keeps_true : (p : Part) → keeps store w p ≡ true → word_of (put store w) p.signal p.word ≡ word_of store p.signal p.word
+  keeps_true p h = word_behind w store p.signal p.word ∙ kept_true (behind w p.signal p.word) (word_of store p.signal p.word) h
+
+  keeps_from : (p : Part) → word_of (put store w) p.signal p.word ≡ word_of store p.signal p.word → keeps store w p ≡ true
+  keeps_from p h = kept_from (behind w p.signal p.word) (word_of store p.signal p.word) (sym (word_behind w store p.signal p.word) ∙ h)
+
+  -- of parts that keep their words none names a word, or it is kept
+  each_kept : (ps : Write) (signal word : ℕ) → list_all (keeps store w) ps ≡ true →
+      (list_any (names_word signal word) ps ≡ false) ⊎ (word_of (put store w) signal word ≡ word_of store signal word)
+  each_kept [] signal word h = inl refl
+  each_kept (p ∷ ps) signal word h =
+      ⊎_elim
+      (λ here.
+      ⊎_elim
+      (λ same. inr (ap₂ (λ s k. word_of (put store w) s k) (sym here.1) (sym same.1) ∙ keeps_true p (and_left (keeps store w p) _ h) ∙ ap₂ (λ s k. word_of store s k) here.1 same.1))
+      (λ other. ⊎_elim (λ none. inl (ap₂ (λ a b. (a && b) || list_any (names_word signal word) ps) here.0 other.0 ∙ none)) (λ kept. inr kept) (each_kept ps signal word (and_right (keeps store w p) _ h)))
+      (eqb_tells p.word word))
+      (λ other. ⊎_elim (λ none. inl (ap (λ a. (a && (p.word == word)) || list_any (names_word signal word) ps) other.0 ∙ none)) (λ kept. inr kept) (each_kept ps signal word (and_right (keeps store w p) _ h)))
+      (eqb_tells p.signal signal)
+
+  all_kept : (signal word : ℕ) → list_all (keeps store w) w ≡ true → word_of store signal word ≡ word_of (put store w) signal word
+  all_kept signal word h =
+      ⊎_elim
+      (λ none. sym (word_behind w store signal word ∙ map_kept (behind w signal word) (word_of store signal word) (λ b. behind_unnamed w signal word b none)))
+      (λ kept. sym kept)
+      (each_kept w signal word h)
+
+  none_changed : (ps : Write) → list_all (keeps store w) w ≡ true → list_any (λ (p : Part). is_changed store (put store w) (all_words p.signal)) ps ≡ false
+  none_changed [] h = refl
+  none_changed (p ∷ ps) h =
+      ap (λ b. b || list_any (λ (p : Part). is_changed store (put store w) (all_words p.signal)) ps) (unchanged_signal store (put store w) p.signal (λ word. all_kept p.signal word h))
+      ∙ none_changed ps h
+
+  all_keep : (ps : Write) → list_any (λ (p : Part). is_changed store (put store w) (all_words p.signal)) ps ≡ false → list_all (keeps store w) ps ≡ true
+  all_keep [] h = refl
+  all_keep (p ∷ ps) h =
+      ap₂ (λ a b. a && b)
+      (keeps_from p (sym (same_signal store (put store w) p.signal p.word (or_left (is_changed store (put store w) (all_words p.signal)) _ h))))
+      (all_keep ps (or_right (is_changed store (put store w) (all_words p.signal)) _ h))
+
+same_tests : (b c : Bool) → (b ≡ true → c ≡ false) → (c ≡ false → b ≡ true) → b ≡ not c
+same_tests true true h k = h refl
+same_tests true false h k = refl
+same_tests false true h k = refl
+same_tests false false h k = k refl
+
+-- a write changes nothing where each word that it names is kept
+pub keeps_all : (store : Store) (w : Write) → list_all (keeps store w) w ≡ changes_nothing store w
+keeps_all store w = same_tests (list_all (keeps store w) w) _ (λ h. none_changed store w w h) (λ h. all_keep store w w h)
+
+-- one row more
+pub lists-more : {A : Type 0} (rows : List (Vec A Global)) (i : ℕ) (row : Vec A Global) → slice_get rows i ≡ Some row → take (suc i) (lists rows) ≡ take i (lists rows) ++ row.items ∷ []
+lists-more [] i row h = absurd (none-some row h)
+lists-more {A = A} (x ∷ rows) zero row h = ap (λ (r : Vec A Global). r.items ∷ []) (same_Some x row h)
+lists-more (x ∷ rows) (suc i) row h = ap (λ rs. x.items ∷ rs) (lists-more rows i row h)

@@ -18,7 +18,7 @@ use Rattle.vs_design.specs.Stores.{changed_at}
 use Rattle.vs_design.specs.Uses.{reads}
 use Rattle.vs_design.specs.Readers.{readings, readers_from, readers}
 use Rattle.vs_design.specs.Tables.{rows, noted, all_noted, tabled, empty_rows, AreReaders}
-use Rattle.vs_design.specs.WellFormed.{is_within, size_of, is_at_least, drives_net, is_sound_assign}
+use Rattle.vs_design.specs.WellFormed.{is_within, size_of, is_at_least, is_net_aim, is_sound_target, is_sound_assign}
 use Rattle.vs_design.proofs.Stores.{length-changed_at}
 
 append-none : {A : Type 0} (xs : List A) → xs ++ [] ≡ xs
@@ -46,11 +46,6 @@ rows-past (suc i) r (x ∷ xs) h = ap (λ ys. x.items ∷ ys) (rows-past i r xs 
 -- no row for the reader
 pub rows-not_noted : (r : Reader) (table : List (Vec Reader Global)) → slice_get table r.range.signal ≡ None → rows table ≡ noted r (rows table)
 rows-not_noted r table h = rows-past r.range.signal r table h
-
--- one empty row more
-pub empty_rows-more : (n : ℕ) → empty_rows n ++ [] ∷ [] ≡ empty_rows (suc n)
-empty_rows-more zero = refl
-empty_rows-more (suc n) = ap (λ ys. [] ∷ ys) (empty_rows-more n)
 
 -- ---- what stands in a row
 
@@ -119,7 +114,7 @@ readers-past : (ss : List Signal) (number : ℕ) (assigns : List Assign) (s : �
     readers_from number assigns s ≡ []
 readers-past ss number [] s h le = refl
 readers-past ss number (a ∷ rest) s h le =
-    let sound = and_parts (drives_net (slice_get ss a.target.signal) a.target.width) _ h.0 in
+    let sound = and_parts (is_sound_target (is_net_aim ss) a.target) _ h.0 in
     let source = and_parts (is_within ss a.source) (is_at_least a.target.width (size_of a.source)) sound.1 in
     ap (λ rs. rs ++ readers_from (suc number) rest s) (readings-past (length ss) number (reads a.source) s source.0 le)
     ∙ readers-past ss (suc number) rest s h.1 le

@@ -1,9 +1,37 @@
--- Which signals continuous assignments drive.
-use Rattle.std.specs.Prelude.{ℕ, ◌≡◌, ◌<◌, Bool, false, List, length, get_or}
+-- The start of a store as it is made, one driven place after another: nothing that is promised rests on these.
+use Rattle.std.specs.Prelude.{◌==◌, false, if◌then◌else◌, List, [], ◌∷◌, length, replicate}
+use Rattle.vs_logic4.specs.declared.digit.Digit.{Digit}
+use Rattle.vs_logic4.specs.Vectors.{all_unknown}
 use Rattle.vs_design.specs.declared.design.Assign.{Assign}
-use Rattle.vs_design.specs.Stores.{is_driven}
+use Rattle.vs_design.specs.declared.signal.Signal.{Signal}
+use Rattle.vs_design.specs.declared.statement.Aim.{Aim}
+use Rattle.vs_design.specs.declared.statement.Aim.TheVariants.{Fixed, Chosen}
+use Rattle.vs_design.specs.Stores.{Store, changed_at, overlaid, start_digits}
+use Rattle.vs_design.specs.Uses.{aim_range}
 
--- a table of so many signals: of each whether a continuous assignment drives it
-pub record IsTableOf (assigns : List Assign) (signals : ℕ) (driven : List Bool) : Type 0 where
-  pub size : length driven ≡ signals
-  pub each : (signal : ℕ) → signal < signals → get_or driven signal false ≡ is_driven assigns signal
+-- what a word holds without a driver
+abbrev pub undriven_word : Signal → List Digit
+undriven_word s = start_digits (λ place. false) s.kind 0 s.width
+
+-- a word with x in the bits that a place has
+abbrev pub driven_word : Aim → List Digit → List Digit
+driven_word (Fixed s) word = if s.word == 0 then overlaid s.low (all_unknown s.width) word else word
+driven_word (Chosen s index low) word = all_unknown (length word)
+
+-- a word for each signal, with x in the bits that a place has
+abbrev pub driven_at : Aim → List (List Digit) → List (List Digit)
+driven_at a words = changed_at (driven_word a) (aim_range a).signal words
+
+abbrev pub driven_by : List Aim → List (List Digit) → List (List Digit)
+driven_by [] words = words
+driven_by (a ∷ as') words = driven_by as' (driven_at a words)
+
+abbrev pub all_driven : List Assign → List (List Digit) → List (List Digit)
+all_driven [] words = words
+all_driven (a ∷ rest) words = all_driven rest (driven_by a.target.parts.items words)
+
+-- each word as often as its signal has words
+abbrev pub in_copies : List Signal → List (List Digit) → Store
+in_copies [] words = []
+in_copies (s ∷ ss) [] = []
+in_copies (s ∷ ss) (w ∷ ws) = replicate s.count w ∷ in_copies ss ws

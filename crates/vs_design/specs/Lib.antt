@@ -1,9 +1,11 @@
+pub mod Behind
 pub mod Drivers
 pub mod Kinds
 pub mod Laws
 pub mod OneLine
 pub mod Parts
 pub mod Readers
+pub mod Selects
 pub mod Stores
 pub mod Tables
 pub mod Traces

@@ -1,8 +1,9 @@
 -- Stores: the values of a design's variables and nets.
-use Rattle.std.specs.Prelude.{ℕ, ℤ, zero, suc, ◌&&◌, not, Bool, true, false, Option, Some, None, List, [], ◌∷◌, map, take, drop, slice_get}
+use Rattle.std.specs.Prelude.{ℕ, ℤ, zero, suc, ◌&&◌, not, Bool, true, false, Option, Some, None, List, [], ◌∷◌, map, take, drop, replicate, slice_get}
 use Rattle.std.specs.List.{list_any}
 use Rattle.vs_logic4.specs.declared.digit.Digit.{Digit}
-use Rattle.vs_logic4.specs.Vectors.{all_unknown, all_high_impedance, same_digits}
+use Rattle.vs_logic4.specs.declared.digit.Digit.TheVariants.{X, Z}
+use Rattle.vs_logic4.specs.Vectors.{same_digits}
 use Rattle.vs_logic4.specs.Parts.{with_part}
 use Rattle.vs_design.specs.declared.signal.Signal.{Signal}
 use Rattle.vs_design.specs.declared.signal.SignalKind.{SignalKind}
@@ -12,7 +13,7 @@ use Rattle.vs_design.specs.declared.range.Bits.{Bits}
 use Rattle.vs_design.specs.declared.range.BitRange.{BitRange}
 use Rattle.vs_design.specs.declared.write.Part.{Part}
 use Rattle.vs_design.specs.Parts.{Parts}
-use Rattle.vs_design.specs.Uses.{writes_signal}
+use Rattle.vs_design.specs.Uses.{all_words, covers, writes, writes_signal}
 use Rattle.vs_design.specs.Writes.{Write}
 
 -- a vector for each word of each signal: by signal, by word, the digits, lowest first
@@ -82,35 +83,40 @@ content r store = map (chosen_bits r.bits) (chosen_words r.word (words_in (slice
 abbrev pub is_changed : Store → Store → BitRange → Bool
 is_changed old new r = not (same_words (content r old) (content r new))
 
--- every word of a signal, all bits
-abbrev pub all_words : ℕ → BitRange
-all_words signal = record { signal = signal; word = None; bits = None }
-
 -- whether a write would change nothing in a store: of each signal that it names each word is behind it as before
 abbrev pub changes_nothing : Store → Write → Bool
 changes_nothing store w = not (list_any (λ (p : Part). is_changed store (put store w) (all_words p.signal)) w)
 
 -- ---- the start
 
--- whether a continuous assignment drives the signal
+-- whether a continuous assignment names the signal
 abbrev pub is_driven : List Assign → ℕ → Bool
 is_driven assigns signal = list_any (λ (a : Assign). writes_signal a.target signal) assigns
 
--- what a signal holds before the first step: a variable x, a net z without a driver and x with one (clauses 4.2.2 and 4.6.1; the driven net: profile)
-abbrev pub start_word : Bool → SignalKind → ℕ → List Digit
-start_word driven Reg width = all_unknown width
-start_word driven Integer width = all_unknown width
-start_word true Wire width = all_unknown width
-start_word false Wire width = all_high_impedance width
+-- whether a continuous assignment drives this bit of a net (clause 6.1)
+abbrev pub drives_bit : List Assign → ℕ → ℕ → Bool
+drives_bit assigns signal place = list_any (λ (a : Assign). list_any (covers signal 0 place) (writes a.target)) assigns
+
+-- what a bit holds before the first step: that of a variable x, that of a net z without a driver and x with one (clauses 4.2.2 and 4.6.1; the driven bit: profile)
+abbrev pub start_digit : Bool → SignalKind → Digit
+start_digit driven Reg = X
+start_digit driven Integer = X
+start_digit true Wire = X
+start_digit false Wire = Z
+
+-- what so many bits from a place on hold before the first step
+abbrev pub start_digits : (ℕ → Bool) → SignalKind → ℕ → ℕ → List Digit
+start_digits driven kind place zero = []
+start_digits driven kind place (suc n) = start_digit (driven place) kind ∷ start_digits driven kind (suc place) n
+
+-- what each word of a signal holds before the first step
+abbrev pub start_word : List Assign → ℕ → Signal → List Digit
+start_word assigns number s = start_digits (drives_bit assigns number) s.kind 0 s.width
 
 abbrev pub start_words : List Assign → ℕ → List Signal → Store
 start_words assigns first [] = []
-start_words assigns first (s ∷ ss) = (start_word (is_driven assigns first) s.kind s.width ∷ []) ∷ start_words assigns (suc first) ss
+start_words assigns first (s ∷ ss) = replicate s.count (start_word assigns first s) ∷ start_words assigns (suc first) ss
 
 -- the store in which every execution of a design begins
 abbrev pub start_store : Parts → Store
 start_store d = start_words d.assigns 0 d.signals
-
--- a store whose signals have one word each
-abbrev pub one_word_each : List (List Digit) → Store
-one_word_each words = map (λ word. word ∷ []) words

@@ -1,5 +1,5 @@
 -- What holds of every design.
-use Rattle.std.specs.Prelude.{◌≡◌, ℕ, suc, ◌+◌, ◌*◌, Bool, true, false, ◌&&◌, ◌==◌, not, if◌then◌else◌, nat_lt, nat_le, nat_eq, List, [], ◌∷◌, Option, Some, None, option_map, length, map, slice_get, ◌<◌}
+use Rattle.std.specs.Prelude.{◌≡◌, ℕ, suc, ◌+◌, ◌*◌, Bool, true, false, ◌&&◌, ◌==◌, not, if◌then◌else◌, nat_lt, nat_le, nat_eq, min, max, sum, List, [], ◌∷◌, Option, Some, None, is_some, option_map, length, map, slice_get, ◌<◌}
 use Rattle.std.specs.List.{list_all, flat_map, IsDistinct, All, Contains}
 use Rattle.std.specs.Str.{bytes_eq}
 use Rattle.vs_logic4.specs.declared.operators.Sizing.{Sizing}
@@ -9,6 +9,9 @@ use Rattle.vs_design.specs.declared.signal.Signal.{Signal}
 use Rattle.vs_design.specs.declared.expression.Link.{Link}
 use Rattle.vs_design.specs.declared.expression.Typed.{Typed, Typed-F, fold-Typed}
 use Rattle.vs_design.specs.declared.expression.Typed.TheOpen as t
+use Rattle.vs_design.specs.declared.range.Bits.{Bits}
+use Rattle.vs_design.specs.declared.statement.Aim.{Aim}
+use Rattle.vs_design.specs.declared.statement.Aim.TheVariants.{Fixed, Chosen}
 use Rattle.vs_design.specs.declared.statement.Target.{Target}
 use Rattle.vs_design.specs.declared.statement.Statement.{Statement}
 use Rattle.vs_design.specs.declared.statement.Statement.TheOpen.{Statement-F}
@@ -24,7 +27,7 @@ use Rattle.vs_design.specs.declared.design.Entry.TheVariants.{Enter, Declare, Le
 use Rattle.vs_design.specs.Kinds.{is_variable}
 use Rattle.vs_design.specs.Parts.{Parts}
 use Rattle.vs_design.specs.declared.range.BitRange.{BitRange}
-use Rattle.vs_design.specs.Uses.{joined, reads}
+use Rattle.vs_design.specs.Uses.{joined, reads, writes}
 
 -- ---- sizes
 
@@ -62,6 +65,11 @@ sum_size [] = Some 0
 sum_size (None ∷ sizes) = None
 sum_size (Some n ∷ sizes) = option_map (λ m. n + m) (sum_size sizes)
 
+-- the size of chosen bits, where both indices have one
+abbrev pub indexed_size : ℕ → Option ℕ → Option ℕ → Option ℕ
+indexed_size width (Some word) (Some low) = Some width
+indexed_size width _ _ = None
+
 -- a size of at most 64 bits (profile)
 abbrev pub at_most_64 : Option ℕ → Option ℕ
 at_most_64 None = None
@@ -71,6 +79,8 @@ at_most_64 (Some n) = if nat_le n 64 then Some n else None
 abbrev pub size_step : Typed-F (Option ℕ) → Option ℕ
 size_step (t.Number digits) = Some (length digits)
 size_step (t.Signal o) = Some o.width
+size_step (t.Slice s) = Some s.width
+size_step (t.Select s word low) = indexed_size s.width word.value low.value
 size_step (t.Unary op x) = option_map (λ n. if gives_bit op then 1 else n) x.value
 size_step (t.Chain x links) = chain_size x.value links.items
 size_step (t.Choice pairs last) = choice_size pairs.items last.value
@@ -89,33 +99,85 @@ is_at_least width (Some n) = nat_le width n
 
 -- ---- names
 
+-- whether the signals of ranges are signals of the design
+abbrev pub are_within : List Signal → List BitRange → Bool
+are_within ss ranges = list_all (λ (r : BitRange). nat_lt r.signal (length ss)) ranges
+
 -- whether the signals of an expression are signals of the design
 abbrev pub is_within : List Signal → Typed → Bool
-is_within ss e = list_all (λ (r : BitRange). nat_lt r.signal (length ss)) (reads e)
+is_within ss e = are_within ss (reads e)
+
+-- ---- targets
+
+-- whether a signal of the design is a variable
+abbrev pub is_of_variable : Option Signal → Bool
+is_of_variable None = false
+is_of_variable (Some s) = is_variable s.kind
+
+-- whether a signal of the design is a net, of one word
+abbrev pub is_of_net : Option Signal → Bool
+is_of_net None = false
+is_of_net (Some s) = not (is_variable s.kind) && (s.count == 1)
+
+-- how many bits a place has
+abbrev pub aim_width : Aim → ℕ
+aim_width (Fixed s) = s.width
+aim_width (Chosen s word low) = s.width
+
+-- whether a place is one of a variable, with indices that have sizes (clauses 6.2 and 9.2)
+abbrev pub is_variable_aim : List Signal → Aim → Bool
+is_variable_aim ss (Fixed s) = is_of_variable (slice_get ss s.signal)
+is_variable_aim ss (Chosen s word low) =
+    is_of_variable (slice_get ss s.signal) && is_within ss word && is_within ss low && is_some (size_of word) && is_some (size_of low)
+
+-- whether a place is one of a net, with constant indices (clause 6.1)
+abbrev pub is_net_aim : List Signal → Aim → Bool
+is_net_aim ss (Fixed s) = is_of_net (slice_get ss s.signal) && (s.word == 0)
+is_net_aim ss (Chosen s word low) = false
+
+-- whether a target has places, all of this sort, whose sizes add up to its own (clause 5.4.1)
+abbrev pub is_sound_target : (Aim → Bool) → Target → Bool
+is_sound_target test t = list_all test t.parts.items && (sum (map aim_width t.parts.items) == t.width)
 
 -- ---- assignments
-
--- whether a target is a variable, of the target's size
-abbrev pub writes_variable : Option Signal → ℕ → Bool
-writes_variable None width = false
-writes_variable (Some s) width = is_variable s.kind && (s.width == width)
-
--- whether a target is a net, of the target's size
-abbrev pub drives_net : Option Signal → ℕ → Bool
-drives_net None width = false
-drives_net (Some s) width = not (is_variable s.kind) && (s.width == width)
 
 -- whether a right side reads signals of the design alone, and has a size that isn't below the target's (clause 5.4.1)
 abbrev pub is_source : List Signal → Target → Typed → Bool
 is_source ss t e = is_within ss e && is_at_least t.width (size_of e)
 
--- whether an assignment of a process writes a variable of the design at its own size (clauses 6.2 and 9.2)
+-- whether an assignment of a process writes variables of the design (clauses 6.2 and 9.2)
 abbrev pub is_sound_assignment : List Signal → Target → Typed → Bool
-is_sound_assignment ss t e = writes_variable (slice_get ss t.signal) t.width && is_source ss t e
+is_sound_assignment ss t e = is_sound_target (is_variable_aim ss) t && is_source ss t e
 
--- whether a continuous assignment drives a net of the design at its own size (clause 6.1)
+-- whether a continuous assignment drives nets of the design (clause 6.1)
 abbrev pub is_sound_assign : List Signal → Assign → Bool
-is_sound_assign ss a = drives_net (slice_get ss a.target.signal) a.target.width && is_source ss a.target a.source
+is_sound_assign ss a = is_sound_target (is_net_aim ss) a.target && is_source ss a.target a.source
+
+-- ---- drivers
+
+-- the size of a signal
+abbrev pub width_at : Option Signal → ℕ
+width_at None = 0
+width_at (Some s) = s.width
+
+-- whether two ranges of bits have a bit below this number
+abbrev pub have_common : ℕ → Bits → Bits → Bool
+have_common size a b = nat_lt (max a.low b.low) (min size (min (a.low + a.width) (b.low + b.width)))
+
+-- the bits of a range; all of a word where it has none
+abbrev pub bits_or_all : ℕ → Option Bits → Bits
+bits_or_all size None = record { low = 0; width = size }
+bits_or_all size (Some b) = b
+
+-- whether two ranges have a bit of a net of the design (clause 6.1)
+abbrev pub share_a_bit : List Signal → BitRange → BitRange → Bool
+share_a_bit ss r q =
+    let size = width_at (slice_get ss r.signal) in
+    (r.signal == q.signal) && have_common size (bits_or_all size r.bits) (bits_or_all size q.bits)
+
+-- the ranges that continuous assignments drive
+abbrev pub driven : List Assign → List BitRange
+driven assigns = flat_map (λ (a : Assign). writes a.target) assigns
 
 -- ---- statements
 
@@ -176,11 +238,11 @@ abbrev pub declared_in : List Entry → List ℕ
 declared_in outline = flat_map declared_by outline
 
 -- a design whose numbers are those of its signals; whose processes write variables alone, and whose continuous assignments drive nets alone, each
--- at most one; whose outline declares each signal once; and whose printed names differ
+-- bit of a net at most once; whose outline declares each signal once; and whose printed names differ
 pub record WellFormed (d : Parts) : Type 0 where
   pub processes : All (λ (p : Process). is_sound_process d.signals p ≡ true) d.processes
   pub assigns : All (λ (a : Assign). is_sound_assign d.signals a ≡ true) d.assigns
-  pub drivers : IsDistinct nat_eq (map (λ (a : Assign). a.target.signal) d.assigns)
+  pub drivers : IsDistinct (share_a_bit d.signals) (driven d.assigns)
   pub declared : All (λ n. nat_lt n (length d.signals) ≡ true) (declared_in d.outline)
   pub declared_once : IsDistinct nat_eq (declared_in d.outline)
   pub all_declared : (n : ℕ) → n < length d.signals → Contains (declared_in d.outline) n

@@ -1,6 +1,6 @@
 //! Expressions with their sizes and signs fixed (IEEE 1364-2005, clauses 5.4 and 5.5).
 
-ghost use Rattle.std.specs.Prelude.{◌<◌, ◌≤◌};
+ghost use Rattle.std.specs.Prelude.{◌<◌, ◌≤◌, ◌^◌};
 
 use vs_logic4::{Binary, Unary, Vec4};
 
@@ -38,6 +38,51 @@ pub struct Extension {
     pub ghost sized: { (0 < width) × (width ≤ 64) },
 }
 
+/// How an index chooses among the elements of a range: bits of a word, or words of an array (IEEE 1364-2005, clauses 4.9 and 5.2). Elements are
+/// numbered from 0 on, from the right bound.
+#[derive(Clone, Copy)]
+pub struct Axis {
+    /// The index of the element of number 0: the right bound of the range.
+    pub right: i64,
+    /// Whether the right bound is the higher one; then the number of an element falls where its index rises.
+    pub ascending: bool,
+    /// How many elements there are.
+    pub length: u32,
+    /// How far below the element of the index the lowest chosen element is.
+    pub below: u32,
+    /// Whether the index is a signed number.
+    pub signed: bool,
+    pub ghost sized: { length ≤ 2 ^ 16 },
+}
+
+/// Bits of a word that constant indices choose (IEEE 1364-2005, clauses 5.2.1 and 5.2.2).
+#[derive(Clone, Copy)]
+pub struct Slice {
+    /// The signal's number in design order.
+    pub signal: usize,
+    /// The number of the word; past the end where there is no such word.
+    pub word: usize,
+    /// The number of the lowest bit. It may be out of range, and so may others of the bits.
+    pub low: i32,
+    /// How many bits there are.
+    pub width: u32,
+    pub ghost sized: { (0 < width) × (width ≤ 64) },
+}
+
+/// Bits of a word where an index isn't constant (IEEE 1364-2005, clauses 5.2.1 and 5.2.2).
+#[derive(Clone, Copy)]
+pub struct Selection {
+    /// The signal's number in design order.
+    pub signal: usize,
+    /// How the first index chooses the word.
+    pub words: Axis,
+    /// How the second index chooses the lowest bit.
+    pub bits: Axis,
+    /// How many bits there are.
+    pub width: u32,
+    pub ghost sized: { (0 < width) × (width ≤ 64) },
+}
+
 /// How often a replication repeats its operand (IEEE 1364-2005, clause 5.1.14).
 #[derive(Clone, Copy)]
 pub struct Count {
@@ -53,6 +98,10 @@ pub enum Typed {
     Number(Vec4),
     /// A signal at the size of its context.
     Signal(Operand),
+    /// Bits of a word by constant indices, at their own size and without a sign.
+    Slice(Slice),
+    /// Bits of a word by the values of two indices, the word's and the lowest bit's, at their own size and without a sign.
+    Select(Selection, Box<Typed>, Box<Typed>),
     /// An operator and its operand.
     Unary(Unary, Box<Typed>),
     /// Operands with operators of one level between them, from left to right (IEEE 1364-2005, clause 5.1.2): the first operand, and each other

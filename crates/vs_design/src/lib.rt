@@ -17,12 +17,12 @@ mod uses;
 mod write;
 
 pub use design::{Assign, Design, Entry, Process, ProcessKind, ScopeKind};
-pub use expression::{Count, Extension, Link, Operand, Typed};
-pub use laws::{names_hold, writes_hold};
+pub use expression::{Axis, Count, Extension, Link, Operand, Selection, Slice, Typed};
+pub use laws::names_hold;
 pub use range::{BitRange, Bits};
 pub use readers::Reader;
 pub use signal::{Bounds, Signal, SignalKind};
-pub use statement::{Statement, Target, Ticks};
+pub use statement::{Aim, Statement, Target, Ticks};
 pub use store::Store;
 pub use timescale::{DEFAULT_TIMESCALE, Magnitude, TimeSpan, TimeUnit, Timescale};
 pub use uses::{reads, writes};

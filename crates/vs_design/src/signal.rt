@@ -1,5 +1,5 @@
 //! Signals of a design.
-ghost use Rattle.std.specs.Prelude.{◌<◌, ◌≤◌};
+ghost use Rattle.std.specs.Prelude.{◌<◌, ◌≤◌, ◌^◌};
 
 /// What a signal was declared as (IEEE 1364-2005, clauses 4.1 and 4.8).
 #[derive(Clone, Copy, PartialEq, Eq, Debug)]
@@ -38,5 +38,8 @@ pub struct Signal {
     pub range: Option<Bounds>,
     /// The range of its words, where it is an array.
     pub words: Option<Bounds>,
+    /// How many words it has, from 1 to 65,536: one unless it is an array.
+    pub count: u32,
     pub ghost sized: { (0 < width) × (width ≤ 64) },
+    pub ghost counted: { (0 < count) × (count ≤ 2 ^ 16) },
 }

@@ -2,7 +2,7 @@
 
 ghost use Rattle.std.specs.Prelude.{◌<◌, ◌≤◌, ◌^◌};
 
-use crate::expression::Typed;
+use crate::expression::{Selection, Slice, Typed};
 
 /// A span of time in ticks, below 2^62. A tick is the precision of the source's time scale (IEEE 1364-2005, clause 19.8).
 #[derive(Clone, Copy)]
@@ -12,12 +12,21 @@ pub struct Ticks {
     pub ghost short: { count < 2 ^ 62 },
 }
 
-/// The left side of an assignment: a whole signal.
-#[derive(Clone, Copy)]
+/// One of the places that an assignment writes (IEEE 1364-2005, clauses 6.1 and 9.2).
+#[derive(Drop)]
+pub enum Aim {
+    /// Bits of a word by constant indices; a whole signal that is no array too.
+    Fixed(Slice),
+    /// Bits of a word by the values of two indices, the word's and the lowest bit's, in the store before.
+    Chosen(Selection, Typed, Typed),
+}
+
+/// The left side of an assignment: one place, or those of a concatenation.
+#[derive(Drop)]
 pub struct Target {
-    /// The signal's number in design order.
-    pub signal: usize,
-    /// The signal's size in bits.
+    /// The places, the lowest first: the last one of a concatenation in the order of the text.
+    pub parts: Vec<Aim>,
+    /// The size of all of them in bits.
     pub width: u32,
     pub ghost sized: { (0 < width) × (width ≤ 64) },
 }

@@ -1,10 +1,10 @@
 //! Which bits an expression reads and an assignment writes.
 ghost use Rattle.std.specs.Prelude.{◌≡◌, ◌++◌, ◌∷◌, [], IfOk, OnOk, map};
-ghost use Rattle.vs_design.specs.Uses.{reads, writes, whole, joined};
+ghost use Rattle.vs_design.specs.Uses.{reads, writes, whole, joined, all_words, bits_from, slice_range, aim_range};
 
-use crate::expression::{Link, Typed};
-use crate::range::BitRange;
-use crate::statement::Target;
+use crate::expression::{Link, Slice, Typed};
+use crate::range::{BitRange, Bits};
+use crate::statement::{Aim, Target};
 use std::alloc::{AllocError, Global};
 
 /// The word 0 of a signal, all bits.
@@ -18,6 +18,45 @@ fn whole(signal: usize) -> BitRange
     }
 }
 
+/// Every word of a signal, all bits.
+fn all_words(signal: usize) -> BitRange
+    ensures { result ≡ all_words signal }
+{
+    BitRange {
+        signal,
+        word: None,
+        bits: None,
+    }
+}
+
+/// Those of so many bits from a place on that lie at places from 0 on.
+fn bits_from(low: i32, width: u32) -> Bits
+    ensures { result ≡ bits_from low width }
+{
+    if low >= 0 {
+        Bits {
+            low: low.unsigned_abs(),
+            width,
+        }
+    } else {
+        Bits {
+            low: 0,
+            width: width.saturating_sub(low.unsigned_abs()),
+        }
+    }
+}
+
+/// The bits of a word that constant indices choose.
+fn slice_range(slice: Slice) -> BitRange
+    ensures { result ≡ slice_range slice }
+{
+    BitRange {
+        signal: slice.signal,
+        word: Some(slice.word),
+        bits: Some(bits_from(slice.low, slice.width)),
+    }
+}
+
 #[cycle(reads)]
 fn push_reads(out: &mut Vec<BitRange>, e: &Typed) -> Result<(), AllocError>
     ensures { OnOk result (out.new.items ≡ out.old.items ++ reads e.now) }
@@ -25,6 +64,12 @@ fn push_reads(out: &mut Vec<BitRange>, e: &Typed) -> Result<(), AllocError>
     match e {
         Typed::Number(_) => Ok(()),
         Typed::Signal(o) => Ok(out.push(whole(o.signal))?),
+        Typed::Slice(s) => Ok(out.push(slice_range(*s))?),
+        Typed::Select(s, word, low) => {
+            out.push(all_words(s.signal))?;
+            push_reads(out, word)?;
+            push_reads(out, low)
+        }
         Typed::Unary(_, x) => push_reads(out, x),
         Typed::Chain(first, links) => {
             push_reads(out, first)?;
@@ -83,11 +128,23 @@ pub fn reads(alloc: Global, e: &Typed) -> Result<Vec<BitRange>, AllocError>
     Ok(out)
 }
 
+/// The range that an assignment to one place writes.
+pub(crate) fn aim_range(aim: &Aim) -> BitRange
+    ensures { result ≡ aim_range aim.now }
+{
+    match aim {
+        Aim::Fixed(s) => slice_range(*s),
+        Aim::Chosen(s, _, _) => all_words(s.signal),
+    }
+}
+
 /// The ranges that an assignment to a target writes (IEEE 1364-2005, clause 6).
-pub fn writes(alloc: Global, target: Target) -> Result<Vec<BitRange>, AllocError>
-    ensures { IfOk result (λ ranges. ranges.items ≡ writes target) }
+pub fn writes(alloc: Global, target: &Target) -> Result<Vec<BitRange>, AllocError>
+    ensures { IfOk result (λ ranges. ranges.items ≡ writes target.now) }
 {
     let mut out = Vec::new(alloc);
-    out.push(whole(target.signal))?;
+    for aim in &target.parts {
+        out.push(aim_range(aim))?;
+    }
     Ok(out)
 }

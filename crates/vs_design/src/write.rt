@@ -1,7 +1,9 @@
 //! Writes: what an assignment does to a store.
-ghost use Rattle.std.specs.Prelude.{◌≡◌, ◌∷◌, []};
+ghost use Rattle.std.specs.Prelude.{◌≡◌, ◌∷◌, ◌++◌, [], OnOk};
 ghost use Rattle.vs_design.specs.Writes.{names, shares};
 
+use smallvec::SmallVec;
+use std::alloc::{AllocError, Global};
 use std::marker::Model;
 use vs_logic4::Vec4;
 
@@ -19,47 +21,68 @@ pub struct Part {
     pub digits: Vec4,
 }
 
-/// One assignment's write, evaluated. A contract sees the list of its parts, of which the lowest is the first. It has at least one.
+impl Default for Part {
+    /// One unknown digit for the lowest place of the first word of the first signal.
+    fn default() -> Self {
+        Part {
+            signal: 0,
+            word: 0,
+            low: 0,
+            digits: Vec4::unknown(1),
+        }
+    }
+}
+
+/// One assignment's write, evaluated. A contract sees the list of its parts, of which the lowest is the first. One part takes no memory.
 #[derive(Drop)]
 pub struct Write {
-    part: Part,
+    parts: SmallVec<Part, 1>,
 }
 
 impl Model for Write {
-    ghost use Rattle.std.specs.Prelude.{[], ◌∷◌};
     ghost use Rattle.vs_design.specs.Writes.{Write};
 
     ghost Value = { Write };
 
-    ghost view = { λ w. w.part ∷ [] };
+    ghost view = { λ w. w.parts.items };
 }
 
 impl Write {
-    /// The write of one part.
-    pub fn new(part: Part) -> Self
-        ensures { result ≡ part ∷ [] }
+    /// A write without a part.
+    pub fn new(alloc: Global) -> Self
+        ensures { result ≡ [] }
     {
-        Write { part }
+        Write {
+            parts: SmallVec::new(alloc),
+        }
     }
 
-    /// Its part.
-    pub(crate) fn part(&self) -> Part
-        ensures { self.now ≡ result ∷ [] }
+    /// Adds a part above the others.
+    pub fn push(&mut self, part: Part) -> Result<(), AllocError>
+        ensures { OnOk result (self.new ≡ self.old ++ part ∷ []) }
     {
-        self.part
+        self.parts.push(part)?;
+        Ok(())
+    }
+
+    /// Its parts, the lowest first.
+    pub fn parts(&self) -> &[Part]
+        ensures { result.now ≡ self.now }
+    {
+        self.parts.as_slice()
     }
 
     /// Whether a part of it names a signal, be its digits in range or not.
     pub fn names(&self, signal: usize) -> bool
         ensures { result ≡ names self.now signal }
     {
-        self.part.signal == signal
+        self.parts().iter().any(|part| part.signal == signal)
     }
 
     /// Whether it names a signal that another write names.
     pub fn shares(&self, other: &Write) -> bool
         ensures { result ≡ shares self.now other.now }
     {
-        other.names(self.part.signal)
+        self.parts().iter().any(|part| other.names(part.signal))
     }
 }

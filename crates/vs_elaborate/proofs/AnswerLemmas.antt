@@ -50,7 +50,7 @@ pub kept_none : {A C : Type 0} (Old : C → List A → Type 0) → Kept Old Old 
 kept_none Old start done h = subst (Old start) (sym (append-nil done)) h
 
 -- a list's pieces up to an element, its own, and the rest
-flat_split : {A X : Type 0} (f : X → List A) (xs : List X) (i : ℕ) (x : X) → i < length xs → x ≡ get_or xs i x → (rest : List A) × (flat_map f (take i xs) ++ (f x ++ rest) ≡ flat_map f xs)
+pub flat_split : {A X : Type 0} (f : X → List A) (xs : List X) (i : ℕ) (x : X) → i < length xs → x ≡ get_or xs i x → (rest : List A) × (flat_map f (take i xs) ++ (f x ++ rest) ≡ flat_map f xs)
 flat_split f [] i x h k = absurd (omega arith)
 flat_split f (y ∷ ys) zero x h k = (flat_map f ys, ap (λ z. f z ++ flat_map f ys) k)
 flat_split f (y ∷ ys) (suc i) x h k = let p = flat_split f ys i x (omega arith) k in (p.0, append_assoc (f y) (flat_map f (take i ys)) (f x ++ p.0) ∙ ap (λ z. f y ++ z) p.1)

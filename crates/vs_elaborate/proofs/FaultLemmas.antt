@@ -1,62 +1,58 @@
 -- Faults of a source, and that a design has none.
-use Rattle.std.proofs.Common.{◌≡◌, ℕ, zero, suc, ◌+◌, ◌<◌, ◌≤◌, Bool, true, false, ◌||◌, not, nat_eq, cond, List, [], ◌∷◌, ◌++◌, Option, Some, None, IsSome, is_some, ◌⊎◌, inl, inr, length, map, take, slice_get, get_or, option_map, replicate, refl, ap, sym, subst, ◌∙◌, arith, zero-add, true≢false, ⊎_elim, Bor, All}
-use Rattle.std.specs.Prelude.{slice_set}
+use Rattle.std.proofs.Common.{◌≡◌, ℕ, zero, suc, ◌+◌, ◌<◌, ◌≤◌, Bool, true, false, ◌||◌, ◌==◌, not, cond, List, [], ◌∷◌, ◌++◌, Option, Some, None, IsSome, is_some, inl, inr, length, map, take, slice_get, get_or, option_map, drop, drop_of_length-le, refl, ap, ap₂, sym, subst, ◌∙◌, append_assoc, arith, true≢false, ⊎_elim, Bor}
 use Rattle.std.specs.List.{list_any, flat_map, AllZip, IsDistinct}
 use Rattle.std.specs.Str.{bytes_eq}
 use Rattle.std.specs.declared.vec.Vec.{Vec}
 use Rattle.std.specs.declared.alloc.Global.{Global}
-use Rattle.std.proofs.lemmas.Cmp.{nat_eq_equiv}
 use Rattle.std.proofs.lemmas.Option.{none-some, same_Some, slice_get-map, slice_get-get_or, slice_get_within, get_or_from_slice_get}
-use Rattle.std.proofs.lemmas.List.{append-nil, map-append, take_all, length-map, length-set, length-replicate, get_or-replicate, get_or-set_same, get_or-set_other, get_or_default, get_or-map}
+use Rattle.std.proofs.lemmas.List.{append-nil, map-append, length-map, length-append}
 use Rattle.std.proofs.lemmas.Map.Keys.{apart_from_distinct, IsDistinct-push}
 use Rattle.std.proofs.lemmas.Slice.Eq.{bytes_eq-Decides}
-use Rattle.std.proofs.lemmas.Bool.Decides.{eqb_tells}
-use Rattle.std.proofs.lemmas.List.Folds.{list_any-append}
-use Rattle.std.proofs.Math.Bool.{or-true, or-false}
-use Rattle.vs_syntax.specs.declared.tree.Expr.{Expr}
+use Rattle.std.proofs.lemmas.Bool.{and_parts}
 use Rattle.vs_syntax.specs.declared.tree.Module.{Module}
 use Rattle.vs_syntax.specs.declared.tree.Item.{Item}
 use Rattle.vs_design.specs.declared.design.ScopeKind.TheVariants as scopes
 use Rattle.vs_design.specs.Kinds.{is_variable}
+use Rattle.vs_design.specs.Uses.{writes}
+use Rattle.vs_design.specs.WellFormed.{width_at, is_of_net, share_a_bit, driven}
+use Rattle.vs_design.specs.declared.range.BitRange.{BitRange}
 use Rattle.vs_design.specs.declared.signal.Signal.{Signal}
 use Rattle.vs_design.specs.declared.design.Assign.{Assign}
 use Rattle.vs_design.specs.declared.design.Entry.{Entry}
 use Rattle.vs_design.specs.declared.design.Entry.TheVariants.{Enter, Declare, Leave}
 use Rattle.vs_elaborate.specs.declared.faults.Reason.{Reason}
 use Rattle.vs_elaborate.specs.declared.faults.Reason.TheVariants.{NoModule, DeclaredTwice, DrivenTwice, Limit, Width}
-use Rattle.vs_widths.specs.declared.faults.WidthReason.TheVariants.{WrongKind}
-use Rattle.vs_elaborate.specs.declared.assignments.AssignmentKind.TheVariants.{Continuous}
+use Rattle.vs_targets.specs.declared.kinds.AssignmentKind.TheVariants.{Continuous}
 use Rattle.vs_elaborate.specs.declared.faults.ElabFault.{ElabFault}
 use Rattle.vs_elaborate.specs.declared.faults.ElabFault.TheVariants.{Memory, At}
 use Rattle.vs_elaborate.specs.declared.plans.Plan.{Plan}
-use Rattle.vs_widths.specs.declared.bindings.Meaning.{Meaning}
-use Rattle.vs_widths.specs.declared.bindings.Binding.{Binding}
 use Rattle.vs_widths.specs.Names.{meaning_of, Declares as NamesDeclare}
-use Rattle.vs_widths.specs.Findings.{stands}
-use Rattle.vs_widths.specs.Expressions.{meant}
-use Rattle.vs_widths.specs.Environment.{Environment}
+use Rattle.vs_selects.specs.Environment.{Environment}
 use Rattle.vs_elaborate.specs.Printed.{Path, printed, printed_name}
-use Rattle.vs_elaborate.specs.Statements.{target_fault, assign_fault}
-use Rattle.vs_elaborate.specs.Scopes.{Scope, DeclaredName, Assignment, Located, module_named, top_scope, all_scopes, declarations_of, drivers_of, behaviors_of, names_of, environment, environment_in, meaning_as, named, signal_paths}
+use Rattle.vs_selects.specs.Selects.{named_range}
+use Rattle.vs_elaborate.specs.Statements.{assigned_to}
+use Rattle.vs_elaborate.specs.Scopes.{Scope, DeclaredName, Assignment, module_named, top_scope, all_scopes, declarations_of, drivers_of, behaviors_of, names_of, environment_in, named, signal_paths}
 use Rattle.vs_elaborate.specs.Processes.{behavior_fault, driver_fault}
-use Rattle.vs_elaborate.specs.Faults.{Repeated, net_path, nets_driven, DrivesTwice, PassesLimit, HasFault, Holds, HoldsIn, HoldsAbove, Stands, Faults}
-use Rattle.vs_elaborate.specs.DesignOf.{declared, signals_of, PartOf, parts_from, processes_of, assigns_of, IsAssign, IsAssignIn, IsProcess, IsProcessIn, IsEntry, Represents, DesignOf, outline_below}
+use Rattle.vs_elaborate.specs.Faults.{Repeated, ranges_driven, share_bits, DrivesTwice, PassesLimit, HasFault, Holds, HoldsIn, HoldsAbove, Stands, Faults}
+use Rattle.vs_elaborate.specs.DesignOf.{Declared, declared, signal_of, signals_of, PartOf, parts_from, processes_of, assigns_of, IsAssign, IsAssignIn, IsProcess, IsProcessIn, IsEntry, Represents, DesignOf, outline_below}
 use Rattle.vs_elaborate.specs.passes.Answers.{Told, IsFaultAt, borrowed}
 use Rattle.vs_elaborate.specs.passes.Bodies.{Bindings, counting}
-use Rattle.vs_elaborate.specs.passes.Plans.{environment_from, Binds, Declares, DeclaresNot, Adds, Drives, DrivesNot, Runs, RunsNot, Opens, OpensNot, driven_signals, IsDrivenTwice, DrivenTwiceOnly, module_names, Lists, ListsNot, Finds, FindsNot}
-use Rattle.vs_elaborate.proofs.Folds.{take_push}
-use Rattle.vs_elaborate.proofs.AnswerLemmas.{told_at, told_by}
+use Rattle.vs_elaborate.specs.passes.Plans.{environment_from, Binds, Declares, DeclaresNot, Adds, Drives, DrivesNot, Runs, RunsNot, Opens, OpensNot, IsDrivenTwice, DrivenTwiceOnly, module_names, Lists, ListsNot, Finds, FindsNot}
+use Rattle.vs_elaborate.specs.passes.Marks.{AreWithin, Marks, MarksAll, SharesBit}
+use Rattle.vs_elaborate.proofs.Folds.{take_push, flat_more}
+use Rattle.vs_elaborate.proofs.MarkLemmas.{shares_more, get_front}
+use Rattle.vs_elaborate.proofs.AnswerLemmas.{told_at, told_by, flat_split}
 use Rattle.vs_elaborate.proofs.StatementLemmas.{left_false, right_false}
 use Rattle.vs_elaborate.proofs.PlanLemmas.{place_of_any, bytes_eq_equiv}
-use Rattle.vs_elaborate.proofs.ScopeLemmas.{located_as, number_at, bindings_are, names_are, environment_is}
+use Rattle.vs_elaborate.proofs.ScopeLemmas.{bindings_are, names_are, environment_is}
 use Rattle.vs_elaborate.proofs.DesignOfLemmas.{assigns_mean, processes_mean, outline_means}
-use Rattle.vs_elaborate.proofs.WellFormedLemmas.{Made, parts_of, signal_at}
+use Rattle.vs_elaborate.proofs.WellFormedLemmas.{Made, parts_of, signal_at, drivers_of_nets}
 
 -- ---- a scope that is opened
 
 part_stands : (s : Scope) (old : Plan) (r : Reason) (p : Path) → HasFault (environment_from (length old.signals.items) s) s r p → OpensNot s old r p
 part_stands s old DeclaredTwice p h = inr h
-part_stands s old Limit p h = inr h
+part_stands s old Limit p h = inr (inr h)
 part_stands s old NoModule p h = h
 part_stands s old DrivenTwice p h = h
 part_stands s old (Width w) p h = inr h
@@ -66,7 +62,9 @@ declares_told s old start e k h = told_by (DeclaresNot s start (declarations_of 
   where
     by : (r : Reason) (p : Path) → DeclaresNot s start (declarations_of s) r p → OpensNot s old r p
     by DeclaredTwice p h = inl (record { name = h.0; repeated = h.2; path = h.1 })
-    by Limit p h = let same : length start.signals.items ≡ length old.signals.items = ap length k in inl (omega (arith, h.0, same), h.1)
+    by Limit p h =
+        let same : length start.signals.items ≡ length old.signals.items = ap length k in
+        ⊎_elim (λ l. inl (omega (arith, l, same), h.1)) (λ f. inr (inl (f, h.1))) h.0
     by NoModule p h = absurd h
     by DrivenTwice p h = absurd h
     by (Width w) p h = inl h
@@ -85,16 +83,12 @@ names_none : IsDistinct bytes_eq []
 unfolding IsDistinct
 names_none = tt
 
-numbers_none : IsDistinct nat_eq []
-unfolding IsDistinct
-numbers_none = tt
-
 -- before a pass over declarations, continuous assignments or processes
 pub declares_none : (s : Scope) (names : Bindings) (plan : Plan) → names ≡ [] → length plan.signals.items ≤ 65536 → Declares s names plan plan []
 declares_none s names plan h room = record {
   bound = λ n. ap (λ (z : Bindings). meaning_of z n) h;
   distinct = names_none;
-  sized = λ w. refl;
+  sized = λ r. refl;
   shown = sym (append-nil (map declared plan.signals.items));
   lines = sym (append-nil plan.outline.items);
   room = room;
@@ -147,174 +141,137 @@ opens s names old p1 p2 p3 p4 p5 m n title t a1 b1 c1 d1 de dr ru a5 b5 c5 d5 =
 
 -- ---- drivers
 
--- the place of an element in a list, from its places
-any_false_at : {A : Type 0} (p : A → Bool) (xs : List A) (j : ℕ) (x : A) → list_any p xs ≡ false → slice_get xs j ≡ Some x → p x ≡ false
-any_false_at p [] j x h k = absurd (none-some x k)
-any_false_at p (y ∷ ys) zero x h k = ap p (sym (same_Some y x k)) ∙ left_false (p y) _ h
-any_false_at p (y ∷ ys) (suc j) x h k = any_false_at p ys j x (right_false (p y) _ h) k
-
--- a part of a design and its part of the source
-pub record Matched {A P : Type 0} (R : P → PartOf A → Type 0) (s : Scope) (ps : List P) (xs : List A) (j : ℕ) : Type 0 where
-  pub made : P
-  pub part : A
-  pub name : List ℕ
-  pub made_stands : slice_get ps j ≡ Some made
-  pub part_stands : slice_get xs j ≡ Some part
-  pub means : R made (record { scope = s; name = name; part = part })
-
-from_part : {A P : Type 0} (R : P → PartOf A → Type 0) (letter : ℕ) (s : Scope) (ps : List P) (k : ℕ) (xs : List A) (j : ℕ) (x : A) → AllZip R ps (parts_from letter s k xs) → slice_get xs j ≡ Some x → Matched R s ps xs j
-from_part R letter s ps k [] j x h g = absurd (none-some x g)
-from_part R letter s [] k (y ∷ ys) j x h g = absurd h
-from_part R letter s (p ∷ ps) k (y ∷ ys) zero x h g = record { made = p; part = y; name = _; made_stands = refl; part_stands = refl; means = h.0 }
-from_part R letter s (p ∷ ps) k (y ∷ ys) (suc j) x h g =
-    let q = from_part R letter s ps (suc k) ys j x h.1 g in
-    record { made = q.made; part = q.part; name = q.name; made_stands = q.made_stands; part_stands = q.part_stands; means = q.means }
-
-from_made : {A P : Type 0} (R : P → PartOf A → Type 0) (letter : ℕ) (s : Scope) (ps : List P) (k : ℕ) (xs : List A) (j : ℕ) (x : P) → AllZip R ps (parts_from letter s k xs) → slice_get ps j ≡ Some x → Matched R s ps xs j
-from_made R letter s [] k xs j x h g = absurd (none-some x g)
-from_made R letter s (p ∷ ps) k [] j x h g = absurd h
-from_made R letter s (p ∷ ps) k (y ∷ ys) zero x h g = record { made = p; part = y; name = _; made_stands = refl; part_stands = refl; means = h.0 }
-from_made R letter s (p ∷ ps) k (y ∷ ys) (suc j) x h g =
-    let q = from_made R letter s ps (suc k) ys j x h.1 g in
-    record { made = q.made; part = q.part; name = q.name; made_stands = q.made_stands; part_stands = q.part_stands; means = q.means }
-
 pub mapped_some : {A B : Type 0} (f : A → B) (xs : List A) (j : ℕ) (y : B) → slice_get (map f xs) j ≡ Some y → (x : A) × (slice_get xs j ≡ Some x) × (f x ≡ y)
 mapped_some f [] j y h = absurd (none-some y h)
 mapped_some f (x ∷ xs) zero y h = (x, refl, same_Some (f x) y h)
 mapped_some f (x ∷ xs) (suc j) y h = mapped_some f xs j y h
 
--- the net that a target means
-net_means : (o : Option Located) (l : Located) (p : Path) → o ≡ Some l → net_path o ≡ Some p → l.path ≡ p
-net_means o l p h k = by (is_variable l.meaning.kind) refl (ap net_path (sym h) ∙ k)
-  where
-    by : (b : Bool) → is_variable l.meaning.kind ≡ b → net_path (Some l) ≡ Some p → l.path ≡ p
-    by true e g = absurd (none-some p (sym (ap (λ z. cond z None (Some l.path)) e) ∙ g))
-    by false e g = same_Some l.path p (sym (ap (λ z. cond z None (Some l.path)) e) ∙ g)
+-- what is driven is what the source's assignments say
+driven_is : (env : Environment) (letter : ℕ) (s : Scope) (ps : List Assign) (k : ℕ) (xs : List Assignment) → AllZip (IsAssign env) ps (parts_from letter s k xs) →
+    driven ps ≡ flat_map (λ (a : Assignment). map named_range (assigned_to Continuous env a.target).places) xs
+driven_is env letter s [] k [] h = refl
+driven_is env letter s [] k (x ∷ xs) h = absurd h
+driven_is env letter s (p ∷ ps) k [] h = absurd h
+driven_is env letter s (p ∷ ps) k (x ∷ xs) h = ap₂ (λ a b. a ++ b) h.0.sides.target.ranges (driven_is env letter s ps (suc k) xs h.1)
 
-pub last_same : (xs : Path) (m n : List ℕ) → xs ++ m ∷ [] ≡ xs ++ n ∷ [] → m ≡ n
-last_same [] m n h = ap (λ (z : Path). get_or z 0 []) h
-last_same (x ∷ xs) m n h = last_same xs m n (ap tail h)
-  where
-    tail : Path → Path
-    tail [] = []
-    tail (y ∷ ys) = ys
+ranges_are : (s : Scope) (p : Plan) → Made s p → driven p.assigns.items ≡ flat_map (ranges_driven (s ∷ [])) (s ∷ [])
+ranges_are s p m =
+    driven_is (meaning_of m.names) 97 s p.assigns.items 0 (drivers_of s) m.drivers_mean
+    ∙ ap (λ (env : Environment). flat_map (λ (a : Assignment). map named_range (assigned_to Continuous env a.target).places) (drivers_of s)) (names_are s m.names m.bound)
+    ∙ sym (append-nil (ranges_driven (s ∷ []) s))
 
--- two nets of one path are one signal
-same_net : (s : Scope) (names : Bindings) (a b : Binding) (m n : List ℕ) (p : Path) → Binds names 0 (declarations_of s) → meaning_of names m ≡ Some a → meaning_of names n ≡ Some b → net_path (environment s m) ≡ Some p → net_path (environment s n) ≡ Some p → a.signal ≡ b.signal
-same_net s names a b m n p h i k u v =
-    let x = number_at s names 0 m a h i in
-    let y = number_at s names 0 n b h k in
-    let one : named s x.declared.name ≡ p = net_means (environment s m) (located_as s x.declared) p x.means u in
-    let other : named s y.declared.name ≡ p = net_means (environment s n) (located_as s y.declared) p y.means v in
-    let same : m ≡ n = sym x.name ∙ last_same s.path x.declared.name y.declared.name (one ∙ sym other) ∙ y.name in
-    ap (λ (z : Binding). z.signal) (same_Some a b (sym i ∙ ap (meaning_of names) same ∙ k))
+-- the size of a signal is that of its declaration
+size_is : (s : Scope) (p : Plan) (m : Made s p) (i : ℕ) (d : DeclaredName) → slice_get (flat_map declarations_of (s ∷ [])) i ≡ Some d → width_at (slice_get p.signals.items i) ≡ d.size.shape.width
+size_is s p m i d h =
+    let found = signal_at s p.signals.items i d m.shown (ap (λ ds. slice_get ds i) (sym (append-nil (declarations_of s))) ∙ h) in
+    ap width_at found.1 ∙ ap (λ (z : Declared). z.width) found.2
 
--- where no two continuous assignments drive one signal, no net is driven twice
-driven_once : (s : Scope) (p : Plan) (m : Made s p) (q : Path) → IsDistinct nat_eq (driven_signals p.assigns.items) → DrivesTwice (s ∷ []) q → ⊥
+share_is : (ss : List Signal) (size : ℕ) (r q : BitRange) → width_at (slice_get ss r.signal) ≡ size → share_a_bit ss r q ≡ share_bits size r q
+share_is ss size r q h = ap (λ n. share_bits n r q) h
+
+-- where no two ranges share a bit, no net is driven twice
+driven_once : (s : Scope) (p : Plan) (m : Made s p) (q : Path) → IsDistinct (share_a_bit p.signals.items) (driven p.assigns.items) → DrivesTwice (s ∷ []) q → ⊥
 driven_once s p m q u r =
-    let R : Assign → PartOf Assignment → Type 0 = IsAssign (meaning_of m.names) in
-    let whole : flat_map nets_driven (s ∷ []) ≡ nets_driven s = append-nil (nets_driven s) in
-    let f : Assignment → Option Path = λ a. net_path (environment s a.target) in
-    let a = mapped_some f (drivers_of s) r.first (Some q) (sym (ap (λ (z : List (Option Path)). slice_get z r.first) whole) ∙ r.one) in
-    let b = mapped_some f (drivers_of s) r.second (Some q) (sym (ap (λ (z : List (Option Path)). slice_get z r.second) whole) ∙ r.other) in
-    let x = from_part R 97 s p.assigns.items 0 (drivers_of s) r.first a.0 m.drivers_mean a.1 in
-    let y = from_part R 97 s p.assigns.items 0 (drivers_of s) r.second b.0 m.drivers_mean b.1 in
-    let sx : x.part ≡ a.0 = same_Some _ _ (sym x.part_stands ∙ a.1) in
-    let sy : y.part ≡ b.0 = same_Some _ _ (sym y.part_stands ∙ b.1) in
-    let same : x.made.target.signal ≡ y.made.target.signal = x.means.sides.signal ∙ same_net s m.names x.means.sides.binding y.means.sides.binding x.part.target y.part.target q m.bound x.means.sides.found y.means.sides.found (ap f sx ∙ a.2) (ap f sy ∙ b.2) ∙ sym y.means.sides.signal in
-    let g : Assign → ℕ = λ z. z.target.signal in
-    let one : slice_get (driven_signals p.assigns.items) r.first ≡ Some x.made.target.signal = slice_get-map g p.assigns.items r.first ∙ ap (option_map g) x.made_stands in
-    let other : slice_get (driven_signals p.assigns.items) r.second ≡ Some y.made.target.signal = slice_get-map g p.assigns.items r.second ∙ ap (option_map g) y.made_stands in
-    let apart = apart_from_distinct nat_eq (driven_signals p.assigns.items) r.first r.second 0 u r.before (slice_get_within (driven_signals p.assigns.items) r.second _ other) in
-    let eq = get_or_from_slice_get (driven_signals p.assigns.items) r.first _ 0 one in
-    let eq' = get_or_from_slice_get (driven_signals p.assigns.items) r.second _ 0 other in
-    true≢false (sym (nat_eq_equiv.refl y.made.target.signal) ∙ sym (ap (λ z. nat_eq z y.made.target.signal) (eq ∙ same)) ∙ sym (ap (λ z. nat_eq (get_or (driven_signals p.assigns.items) r.first 0) z) eq') ∙ apart)
+    let ss = p.signals.items in
+    let all = flat_map (ranges_driven (s ∷ [])) (s ∷ []) in
+    let distinct : IsDistinct (share_a_bit ss) all = subst (IsDistinct (share_a_bit ss)) (ranges_are s p m) u in
+    let apart = apart_from_distinct (share_a_bit ss) all r.first r.second r.one distinct r.before (slice_get_within all r.second r.other r.other_stands) in
+    let one = get_or_from_slice_get all r.first r.one r.one r.one_stands in
+    let other = get_or_from_slice_get all r.second r.other r.one r.other_stands in
+    true≢false (sym (share_is ss r.net.size.shape.width r.one r.other (size_is s p m r.one.signal r.net r.declared) ∙ r.shared) ∙ sym (ap₂ (share_a_bit ss) one other) ∙ apart)
 
--- a continuous assignment without faults drives a net
-not_not : (b : Bool) → not (not b) ≡ false → b ≡ false
-not_not true h = sym (true_false h)
-  where
-    true_false : true ≡ false → false ≡ true
-    true_false h = sym h
-not_not false h = refl
-
-net_of : (s : Scope) (d : DeclaredName) (b : Binding) (o : Option Located) → b.meaning ≡ meaning_as d → o ≡ Some (located_as s d) → target_fault WrongKind Continuous (Some b) ≡ false → net_path o ≡ Some (named s d.name)
-net_of s d b o m h k =
-    let net : is_variable d.kind ≡ false = ap (λ (z : Meaning). is_variable z.kind) (sym m) ∙ not_not _ k in
-    ap net_path h ∙ ap (λ z. cond z None (Some (named s d.name))) net
-
--- the target of a continuous assignment without faults
-target_sound : (env : Environment) (n : List ℕ) (e : Expr) (b : Binding) → env n ≡ Some b → assign_fault (Width WrongKind) Continuous env n e ≡ false → target_fault WrongKind Continuous (Some b) ≡ false
-target_sound env n e b h k = ap (target_fault WrongKind Continuous) (sym h) ∙ left_false _ (stands WrongKind (meant env e).finding) k
+-- an element that is there
+there : {A : Type 0} (xs : List A) (i : ℕ) → i < length xs → (x : A) × (slice_get xs i ≡ Some x)
+there [] i h = absurd (omega arith)
+there (x ∷ xs) zero h = (x, refl)
+there (x ∷ xs) (suc i) h = there xs i (omega arith)
 
 -- a signal that is driven twice is a net that is
 driven_twice : (s : Scope) (p : Plan) (bytes : List ℕ) → Made s p → IsDrivenTwice p bytes → (q : Path) × (bytes ≡ printed q) × DrivesTwice (s ∷ []) q
 driven_twice s p bytes m t =
-    let R : Assign → PartOf Assignment → Type 0 = IsAssign (meaning_of m.names) in
-    let g : Assign → ℕ = λ z. z.target.signal in
-    let env = meaning_of m.names in
-    let a = mapped_some g p.assigns.items t.repeated.first t.number t.repeated.one in
-    let b = mapped_some g p.assigns.items t.repeated.second t.number t.repeated.other in
-    let x = from_made R 97 s p.assigns.items 0 (drivers_of s) t.repeated.first a.0 m.drivers_mean a.1 in
-    let y = from_made R 97 s p.assigns.items 0 (drivers_of s) t.repeated.second b.0 m.drivers_mean b.1 in
-    let nx : x.made.target.signal ≡ t.number = ap g (same_Some _ _ (sym x.made_stands ∙ a.1)) ∙ a.2 in
-    let ny : y.made.target.signal ≡ t.number = ap g (same_Some _ _ (sym y.made_stands ∙ b.1)) ∙ b.2 in
-    let u = number_at s m.names 0 x.part.target x.means.sides.binding m.bound x.means.sides.found in
-    let v = number_at s m.names 0 y.part.target y.means.sides.binding m.bound y.means.sides.found in
-    let ux : t.number ≡ u.place = sym nx ∙ x.means.sides.signal ∙ u.number ∙ zero-add u.place in
-    let uy : t.number ≡ v.place = sym ny ∙ y.means.sides.signal ∙ v.number ∙ zero-add v.place in
-    let place : u.place ≡ v.place = sym ux ∙ uy in
-    let same : u.declared ≡ v.declared = same_Some _ _ (sym u.stands ∙ ap (slice_get (declarations_of s)) place ∙ v.stands) in
-    let wx = target_sound env x.part.target x.part.value x.means.sides.binding x.means.sides.found (any_false_at (driver_fault (Width WrongKind) env) (drivers_of s) t.repeated.first x.part (m.sound (Width WrongKind)).1 x.part_stands) in
-    let wy = target_sound env y.part.target y.part.value y.means.sides.binding y.means.sides.found (any_false_at (driver_fault (Width WrongKind) env) (drivers_of s) t.repeated.second y.part (m.sound (Width WrongKind)).1 y.part_stands) in
-    let path = named s u.declared.name in
-    let f : Assignment → Option Path = λ z. net_path (environment s z.target) in
-    let whole : nets_driven s ≡ flat_map nets_driven (s ∷ []) = sym (append-nil (nets_driven s)) in
-    let one : slice_get (nets_driven s) t.repeated.first ≡ Some (Some path) = slice_get-map f (drivers_of s) t.repeated.first ∙ ap (option_map f) x.part_stands ∙ ap Some (net_of s u.declared x.means.sides.binding (environment s x.part.target) u.meaning u.means wx) in
-    let other : slice_get (nets_driven s) t.repeated.second ≡ Some (Some path) = slice_get-map f (drivers_of s) t.repeated.second ∙ ap (option_map f) y.part_stands ∙ ap Some (net_of s v.declared y.means.sides.binding (environment s y.part.target) v.meaning v.means wy) ∙ ap (λ (z : DeclaredName). Some (Some (named s z.name))) (sym same) in
-    let shown = signal_at s p.signals.items t.number u.declared m.shown (ap (slice_get (declarations_of s)) ux ∙ u.stands) in
-    let signal : shown.0 ≡ t.signal = same_Some _ _ (sym shown.1 ∙ t.stands) in (
-      path,
-      t.path ∙ ap (λ (z : Signal). z.path.items) (sym signal) ∙ ap (λ z. z.path) shown.2,
-      subst (λ z. Repeated z (Some path)) whole (record { first = t.repeated.first; second = t.repeated.second; before = t.repeated.before; one = one; other = other }),
+    let ss = p.signals.items in
+    let h = t.shares in
+    let all = driven p.assigns.items in
+    let within : t.number < length ss = slice_get_within ss t.number t.signal t.stands in
+    let long : length ss ≡ length (declarations_of s) = sym (length-map ss declared) ∙ ap length m.shown ∙ length-map (declarations_of s) (signal_of s) in
+    let d = there (declarations_of s) t.number (omega (arith, within, long)) in
+    let found = signal_at s ss t.number d.0 m.shown d.1 in
+    let signal : found.0 ≡ t.signal = same_Some _ _ (sym found.1 ∙ t.stands) in
+    let declares : slice_get (flat_map declarations_of (s ∷ [])) h.one.signal ≡ Some d.0 = ap (λ ds. slice_get ds h.one.signal) (append-nil (declarations_of s)) ∙ ap (slice_get (declarations_of s)) h.signal ∙ d.1 in
+    let one = get_or_from_slice_get all h.first h.one h.one h.one_stands in
+    let net : is_of_net (slice_get ss t.number) ≡ true =
+    ap (λ i. is_of_net (slice_get ss i)) (sym (ap (λ (z : BitRange). z.signal) one ∙ h.signal)) ∙ drivers_of_nets s p m h.first h.one (slice_get_within all h.first h.one h.one_stands) in
+    let net' = and_parts (not (is_variable found.0.kind)) (found.0.count == 1) (ap is_of_net (sym found.1) ∙ net) in
+    let ranges = ranges_are s p m in (
+      named s d.0.name,
+      t.path ∙ ap (λ (z : Signal). z.path.items) (sym signal) ∙ ap (λ (z : Declared). z.path) found.2,
+      record {
+        first = h.first;
+        second = h.second;
+        before = h.before;
+        one = h.one;
+        other = h.other;
+        one_stands = ap (λ z. slice_get z h.first) (sym ranges) ∙ h.one_stands;
+        other_stands = ap (λ z. slice_get z h.second) (sym ranges) ∙ h.other_stands;
+        net = d.0;
+        declared = declares;
+        is_net = ap (λ (z : Declared). is_variable z.kind) (sym found.2) ∙ not_not _ net'.0;
+        shared = sym (share_is ss d.0.size.shape.width h.one h.other (size_is s p m h.one.signal d.0 declares)) ∙ h.shared;
+        path = ap (λ ps. slice_get ps h.one.signal) (append-nil (map (named s) (names_of s))) ∙ ap (slice_get (map (named s) (names_of s))) h.signal ∙ slice_get-map (named s) (names_of s) t.number
+            ∙ ap (option_map (named s)) (slice_get-map (λ (z : DeclaredName). z.name) (declarations_of s) t.number ∙ ap (option_map (λ (z : DeclaredName). z.name)) d.1);
+      },
     )
-
--- what a loop over drivers keeps: which signals are driven so far
-pub record Marked (n : ℕ) (done : List ℕ) (table : List Bool) : Type 0 where
-  pub size : length table ≡ n
-  pub each : (i : ℕ) → i < n → get_or table i false ≡ list_any (nat_eq i) done
-  pub distinct : IsDistinct nat_eq done
-
-pub marked_none : (n : ℕ) (table : List Bool) → table ≡ replicate n false → Marked n [] table
-marked_none n table h = record { size = ap length h ∙ length-replicate n false; each = λ i l. ap (λ (z : List Bool). get_or z i false) h ∙ get_or-replicate n i false false l; distinct = numbers_none }
-
--- one mark
-at_mark : (table : List Bool) (n i : ℕ) → i < length table → get_or (slice_set table n true) i false ≡ (get_or table i false || nat_eq i n)
-at_mark table n i h =
-    ⊎_elim
-    (λ same. ap (λ k. get_or (slice_set table k true) i false) same.1 ∙ get_or-set_same table i true false h ∙ sym (or-true (get_or table i false)) ∙ ap (λ b. get_or table i false || b) (sym (nat_eq_equiv.symm i n ∙ same.0)))
-    (λ other. get_or-set_other table n i true false (λ e. other.1 (sym e)) ∙ sym (or-false (get_or table i false)) ∙ ap (λ b. get_or table i false || b) (sym (nat_eq_equiv.symm i n ∙ other.0)))
-    (eqb_tells n i)
-
-pub marked_more : (n : ℕ) (xs : List Assign) (i : ℕ) (a : Assign) (table new : List Bool) → i < length xs → a ≡ get_or xs i a → a.target.signal < n → new ≡ slice_set table a.target.signal true → get_or table a.target.signal false ≡ false → Marked n (driven_signals (take i xs)) table → Marked n (driven_signals (take (i + 1) xs)) new
-marked_more n xs i a table new h k below e free m =
-    let done = driven_signals (take i xs) in
-    let k' = a.target.signal in
-    let more : driven_signals (take (i + 1) xs) ≡ done ++ k' ∷ [] = ap driven_signals (take_push xs i a h k) ∙ map-append (λ (z : Assign). z.target.signal) (take i xs) (a ∷ []) in
-    let fresh : list_any (nat_eq k') done ≡ false = sym (m.each k' below) ∙ free in
-    let long : length (slice_set table k' true) ≡ n = length-set table k' true ∙ m.size in
-    let each : (j : ℕ) → j < n → get_or new j false ≡ list_any (nat_eq j) (done ++ k' ∷ []) =
-    λ j l. (let inside : j < length table = omega (arith, l, m.size) in
-    ap (λ (z : List Bool). get_or z j false) e ∙ at_mark table k' j inside ∙ ap (λ b. b || nat_eq j k') (m.each j l) ∙ ap (λ b. list_any (nat_eq j) done || b) (sym (or-false (nat_eq j k'))) ∙ sym (list_any-append (nat_eq j) done (k' ∷ []))) in
-    subst (λ z. Marked n z new) (sym more) (record { size = ap length e ∙ long; each = each; distinct = IsDistinct-push nat_eq_equiv done k' m.distinct fresh })
-
-place_of_number : (ns : List ℕ) (n : ℕ) → list_any (nat_eq n) ns ≡ true → (k : ℕ) × (slice_get ns k ≡ Some n)
-place_of_number [] n h = absurd (true≢false (sym h))
-place_of_number (m ∷ ms) n h = by (nat_eq n m) refl (place_of_number ms n) h
   where
-    by : (b : Bool) → nat_eq n m ≡ b → (list_any (nat_eq n) ms ≡ true → (k : ℕ) × (slice_get ms k ≡ Some n)) → (b || list_any (nat_eq n) ms) ≡ true → (k : ℕ) × (slice_get (m ∷ ms) k ≡ Some n)
-    by true e rest h = (0, ap Some (sym (⊎_elim (λ s. s.1) (λ s. absurd (true≢false (sym e ∙ s.0))) (eqb_tells n m))))
-    by false e rest h = let p = rest h in (suc p.0, p.1)
+    not_not : (b : Bool) → not b ≡ true → b ≡ false
+    not_not true h = absurd (true≢false (sym h))
+    not_not false h = refl
+
+-- a pass over the assignments of a plan
+pub check_more : (ss : List Signal) (xs : List Assign) (i : ℕ) (a : Assign) (ranges : List BitRange) (old new : List Bool) → i < length xs → a ≡ get_or xs i a → ranges ≡ writes a.target → Marks ss (driven (take i xs)) old → MarksAll ss ranges old new None → Marks ss (driven (take (i + 1) xs)) new
+check_more ss xs i a ranges old new h k w m all =
+    subst (λ z. Marks ss z new) (ap (λ z. driven (take i xs) ++ z) w ∙ sym (flat_more (λ (z : Assign). writes z.target) xs i a h k)) (all (driven (take i xs)) m)
+
+pub check_shared : (p : Plan) (i : ℕ) (a : Assign) (ranges : List BitRange) (old new : List Bool) (n : ℕ) (x : Signal) (bytes : List ℕ) → i < length p.assigns.items → a ≡ get_or p.assigns.items i a → ranges ≡ writes a.target → Marks p.signals.items (driven (take i p.assigns.items)) old → MarksAll p.signals.items ranges old new (Some n) → x ≡ get_or p.signals.items n x → bytes ≡ x.path.items → IsDrivenTwice p bytes
+check_shared p i a ranges old new n x bytes h k w m all e path =
+    let xs = p.assigns.items in
+    let split = flat_split (λ (z : Assign). writes z.target) xs i a h k in
+    let shares = all.1 (driven (take i xs)) m in
+    let whole : (driven (take i xs) ++ ranges) ++ split.0 ≡ driven xs = ap (λ z. (driven (take i xs) ++ z) ++ split.0) w ∙ append_assoc (driven (take i xs)) (writes a.target) split.0 ∙ split.1 in
+    record {
+      number = n;
+      shares = subst (λ z. SharesBit p.signals.items z n) whole (shares_more p.signals.items (driven (take i xs) ++ ranges) split.0 n shares);
+      signal = x;
+      stands = slice_get-get_or p.signals.items n x all.0 ∙ ap Some (sym e);
+      path = path;
+    }
+
+-- a table that is written back into its vector
+pub written_back : (ss : List Signal) (done more : List BitRange) (old new : List Bool) (n : ℕ) → n ≡ length old → Marks ss done old → Marks ss more new → Marks ss more (take n (new ++ drop (length new) old))
+written_back ss done more old new n h m k =
+    let long : length old ≤ length new = omega (arith, m.size, k.size) in
+    let rest : drop (length new) old ≡ [] = drop_of_length-le old long in
+    let all : length (new ++ []) ≤ n = omega (arith, ap length (append-nil new), h, m.size, k.size) in
+    subst (λ z. Marks ss more (take n (new ++ z))) (sym rest) (subst (Marks ss more) (sym (take_full (new ++ []) n all ∙ append-nil new)) k)
+  where
+    take_full : {A : Type 0} (xs : List A) (n : ℕ) → length xs ≤ n → take n xs ≡ xs
+    take_full [] zero l = refl
+    take_full [] (suc n) l = refl
+    take_full (x ∷ xs) zero l = absurd (omega arith)
+    take_full (x ∷ xs) (suc n) l = ap (λ z. x ∷ z) (take_full xs n (omega arith))
+
+-- the ranges of an assignment are of signals of the design
+pub ranges_within : (ss : List Signal) (xs : List Assign) (i : ℕ) (a : Assign) (ranges : List BitRange) → i < length xs → a ≡ get_or xs i a → ranges ≡ writes a.target → AreWithin ss (driven xs) → AreWithin ss ranges
+ranges_within ss xs i a ranges h k w within =
+    let split = flat_split (λ (z : Assign). writes z.target) xs i a h k in
+    let whole : AreWithin ss (driven (take i xs) ++ (writes a.target ++ split.0)) = subst (AreWithin ss) (sym split.1) within in
+    subst (AreWithin ss) (sym w) (front (writes a.target) split.0 (behind (driven (take i xs)) (writes a.target ++ split.0) whole))
+  where
+    front : (us vs : List BitRange) → AreWithin ss (us ++ vs) → AreWithin ss us
+    front us vs g j d l = subst (λ (z : BitRange). z.signal < length ss) (get_front us vs j d l) (g j d (omega (arith, l, length-append us vs)))
+
+    behind : (us vs : List BitRange) → AreWithin ss (us ++ vs) → AreWithin ss vs
+    behind [] vs g = g
+    behind (u ∷ us) vs g = behind us vs (λ j d l. g (suc j) d (omega (arith, l)))
 
 -- an element of a front is one of the whole
 slice_get-take : {A : Type 0} (xs : List A) (i k : ℕ) (x : A) → slice_get (take i xs) k ≡ Some x → (k < i) × (slice_get xs k ≡ Some x)
@@ -333,21 +290,6 @@ repeated_at : {A X : Type 0} (f : X → A) (xs : List X) (i : ℕ) (x : X) (k : 
 repeated_at f xs i x k h e g =
     let first = slice_get-take (map f xs) i k (f x) (ap (λ z. slice_get z k) (sym (map-take f i xs)) ∙ g) in
     record { first = k; second = i; before = first.0; one = first.1; other = slice_get-map f xs i ∙ ap (option_map f) (slice_get-get_or xs i x h ∙ ap Some (sym e)) }
-
-pub marked_twice : (p : Plan) (i : ℕ) (a : Assign) (table : List Bool) (x : Signal) (bytes : List ℕ) → i < length p.assigns.items → a ≡ get_or p.assigns.items i a → a.target.signal < length p.signals.items → get_or table a.target.signal false ≡ true → x ≡ get_or p.signals.items a.target.signal x → bytes ≡ x.path.items → Marked (length p.signals.items) (driven_signals (take i p.assigns.items)) table → IsDrivenTwice p bytes
-marked_twice p i a table x bytes h k below f e t m =
-    let n = a.target.signal in
-    let found = place_of_number (driven_signals (take i p.assigns.items)) n (sym (m.each n below) ∙ f) in
-    record {
-      number = n;
-      repeated = repeated_at (λ (z : Assign). z.target.signal) p.assigns.items i a found.0 h k found.1;
-      signal = x;
-      stands = slice_get-get_or p.signals.items n x below ∙ ap Some (sym e);
-      path = t;
-    }
-
-pub marked_all : (n : ℕ) (xs : List Assign) (i : ℕ) (table : List Bool) → length xs ≤ i → Marked n (driven_signals (take i xs)) table → IsDistinct nat_eq (driven_signals xs)
-marked_all n xs i table h m = subst (λ z. IsDistinct nat_eq (driven_signals z)) (take_all i xs h) m.distinct
 
 -- ---- modules
 
@@ -429,8 +371,9 @@ none_holds s p DeclaredTwice q m (inl d) = not_repeated (names_of s) d.name m.di
 none_holds s p DeclaredTwice q m (inr f) = no_part s p DeclaredTwice q m f
 none_holds s p DrivenTwice q m f = no_part s p DrivenTwice q m f
 none_holds s p NoModule q m f = no_part s p NoModule q m f
-none_holds s p Limit q m f = no_part s p Limit q m f
-none_holds s p (Width w) q m (inl f) = true≢false (sym f.0 ∙ m.sized w)
+none_holds s p Limit q m (inl f) = true≢false (sym f.0 ∙ m.sized Limit)
+none_holds s p Limit q m (inr f) = no_part s p Limit q m f
+none_holds s p (Width w) q m (inl f) = true≢false (sym f.0 ∙ m.sized (Width w))
 none_holds s p (Width w) q m (inr f) = no_part s p (Width w) q m f
 
 none_in : (s : Scope) (p : Plan) (r : Reason) (q : Path) → Made s p → HoldsIn (s ∷ []) (s ∷ []) r q → ⊥
@@ -448,7 +391,7 @@ within_limit s p q m f = by f.place f.stands f.passed
     by (suc k) e l = none-some _ e
 
 -- nothing stands where a design is made
-pub nothing_stands : (ms : List Module) (top : List ℕ) (m : Module) (p : Plan) → Finds ms top m → Made (top_scope m) p → IsDistinct nat_eq (driven_signals p.assigns.items) → (r : Reason) (q : Path) → Stands ms top r q → ⊥
+pub nothing_stands : (ms : List Module) (top : List ℕ) (m : Module) (p : Plan) → Finds ms top m → Made (top_scope m) p → IsDistinct (share_a_bit p.signals.items) (driven p.assigns.items) → (r : Reason) (q : Path) → Stands ms top r q → ⊥
 nothing_stands ms top m p f d u r q (inl h) = above r h
   where
     above : (r : Reason) → HoldsAbove ms top r q → ⊥
@@ -460,7 +403,7 @@ nothing_stands ms top m p f d u r q (inl h) = above r h
 nothing_stands ms top m p f d u r q (inr h) = none_in (top_scope m) p r q d (let P : Option Module → Type 0 = λ o. HoldsIn (all_scopes ms o) (all_scopes ms o) r q in subst P f.found h)
 
 -- the design of the top's scope is that of the source
-pub designed : (ms : List Module) (top : List ℕ) (m : Module) (p : Plan) → Finds ms top m → Made (top_scope m) p → IsDistinct nat_eq (driven_signals p.assigns.items) → DesignOf ms top (parts_of p)
+pub designed : (ms : List Module) (top : List ℕ) (m : Module) (p : Plan) → Finds ms top m → Made (top_scope m) p → IsDistinct (share_a_bit p.signals.items) (driven p.assigns.items) → DesignOf ms top (parts_of p)
 designed ms top m p f d u =
     let s = top_scope m in
     let found : Represents (parts_of p) (all_scopes ms (Some m)) (outline_below ms (Some m)) = record {
@@ -535,18 +478,6 @@ top_frame m before items x name its h e n k i =
     let N : List ℕ → Scope = λ z. record { path = m.name.items ∷ []; name = z; kind = scopes.Module; items = its; around = None; constants = [] } in
     let I : List Item → Scope = λ z. record { path = m.name.items ∷ []; name = m.name.items; kind = scopes.Module; items = z; around = None; constants = [] } in
     ap P path ∙ ap N k ∙ ap I i
-
--- a signal that is driven is one of the design
-pub driven_within : (n : ℕ) (xs : List Assign) (i : ℕ) (a : Assign) → i < length xs → a ≡ get_or xs i a → All (λ k. k < n) (driven_signals xs) → a.target.signal < n
-driven_within n xs i a h k w =
-    let g : Assign → ℕ = λ z. z.target.signal in
-    let inside : i < length (driven_signals xs) = rw length-map h in
-    let at : get_or (driven_signals xs) i 0 ≡ a.target.signal = get_or-map g xs i a 0 h ∙ ap g (sym k) in
-    subst (λ z. z < n) at (w i 0 inside)
-
--- a flag that is read
-pub flag_read : (table : List Bool) (i : ℕ) (b c : Bool) → i < length table → b ≡ get_or table i b → b ≡ c → get_or table i false ≡ c
-flag_read table i b c h e k = get_or_default table i false b h ∙ sym e ∙ k
 
 -- a copy of bytes
 pub same_clones : (xs ys : List ℕ) → AllZip (λ x y. y ≡ x) xs ys → ys ≡ xs

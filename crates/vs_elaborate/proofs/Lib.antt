@@ -9,9 +9,5 @@ pub mod SizeLemmas
 pub mod DesignOfLemmas
 pub mod ReadLemmas
 pub mod WellFormedLemmas
+pub mod MarkLemmas
 pub mod FaultLemmas
-pub mod OneLineLemmas
-pub mod SameTypedLemmas
-pub mod SameStatementLemmas
-pub mod SameDesignLemmas
-pub mod ItselfLemmas

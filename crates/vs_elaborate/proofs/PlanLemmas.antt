@@ -1,5 +1,5 @@
 -- Plans, a part at a time.
-use Rattle.std.proofs.Common.{◌≡◌, ℕ, zero, suc, ◌+◌, ◌-◌, ◌<◌, ◌≤◌, ◌||◌, Bool, true, false, cond, List, [], ◌∷◌, ◌++◌, Option, Some, None, IsSome, is_some, length, map, slice_get, option_map, refl, ap, sym, subst, ◌∙◌, append_assoc, arith, true≢false, eq-eqb}
+use Rattle.std.proofs.Common.{◌≡◌, ℕ, zero, suc, ◌+◌, ◌-◌, ◌<◌, ◌||◌, Bool, true, false, cond, List, [], ◌∷◌, ◌++◌, Option, Some, None, IsSome, is_some, length, map, slice_get, refl, ap, sym, subst, ◌∙◌, append_assoc, inl, inr, ⊎_elim, arith, true≢false, eq-eqb}
 use Rattle.std.specs.List.{list_any, AllZip, IsDistinct}
 use Rattle.std.specs.Str.{bytes_eq}
 use Rattle.std.proofs.lemmas.List.{map-append, length-map, length-append}
@@ -9,34 +9,38 @@ use Rattle.std.proofs.lemmas.Slice.Eq.{bytes_eq-Decides}
 use Rattle.std.proofs.lemmas.Map.Keys.{IsDistinct-push}
 use Rattle.std.specs.Cmp.{IsEquivalence}
 use Rattle.vs_syntax.specs.declared.tree.Expr.{Expr}
+use Rattle.vs_syntax.specs.declared.tree.Declarator.{Declarator}
 use Rattle.vs_design.specs.WellFormed.{counts_from}
 use Rattle.vs_design.specs.declared.signal.Signal.{Signal}
+use Rattle.vs_design.specs.declared.signal.SignalKind.{SignalKind}
 use Rattle.vs_design.specs.declared.design.Assign.{Assign}
 use Rattle.vs_design.specs.declared.design.Process.{Process}
 use Rattle.vs_design.specs.declared.design.Entry.TheVariants.{Declare}
-use Rattle.vs_widths.specs.declared.bindings.Meaning.{Meaning}
-use Rattle.vs_widths.specs.declared.faults.WidthReason.{WidthReason}
-use Rattle.vs_widths.specs.declared.bindings.Binding.{Binding}
+use Rattle.vs_selects.specs.declared.bindings.Meaning.{Meaning}
+use Rattle.vs_selects.specs.declared.bindings.Binding.{Binding}
 use Rattle.vs_elaborate.specs.declared.plans.Plan.{Plan}
 use Rattle.vs_elaborate.specs.declared.faults.Reason.{Reason}
 use Rattle.vs_elaborate.specs.declared.faults.Reason.TheVariants.{NoModule, DeclaredTwice, DrivenTwice, Limit, Width}
 use Rattle.vs_elaborate.specs.declared.faults.BodyFault.{BodyFault}
 use Rattle.vs_elaborate.specs.declared.faults.ElabFault.{ElabFault}
 use Rattle.vs_widths.specs.Names.{meaning_of, Declares as NamesDeclare}
+use Rattle.vs_selects.specs.Environment.{Environment}
+use Rattle.vs_targets.specs.declared.kinds.AssignmentKind.TheVariants.{Continuous}
 use Rattle.vs_elaborate.specs.Printed.{Path}
+use Rattle.vs_elaborate.specs.Ranges.{Sized, words_as}
 use Rattle.vs_elaborate.specs.Statements.{IsAssignment}
-use Rattle.vs_elaborate.specs.Scopes.{Scope, DeclaredName, Assignment, assignment_of, Behavior, sets, setting, names_in, meaning_as, named}
+use Rattle.vs_elaborate.specs.Scopes.{Scope, DeclaredName, declared_by, declaration_fault, Assignment, named_signal, assignment_of, Behavior, sets, setting, names_in, meaning_as, named}
 use Rattle.vs_elaborate.specs.Processes.{kind_of, statements_of, behavior_fault, driver_fault}
 use Rattle.vs_elaborate.specs.Faults.{Repeated}
 use Rattle.vs_elaborate.specs.DesignOf.{declared, signal_of, PartOf, own_name, part_name, parts_from, IsProcess, IsAssign}
 use Rattle.vs_elaborate.specs.passes.Answers.{Refuses, Told, IsFaultAt, IsRefusal}
 use Rattle.vs_elaborate.specs.passes.Bodies.{Bindings, counting, MeansBody}
-use Rattle.vs_elaborate.specs.passes.Plans.{numbered_names, Binds, SameBodies, Declares, DeclaresNot, Adds, AddsNot, SameSignals, Drives, DrivesNot, Runs, RunsNot}
 use Rattle.vs_elaborate.specs.passes.Sizes.{width_faults}
+use Rattle.vs_elaborate.specs.passes.Plans.{numbered_names, Binds, SameBodies, Declares, DeclaresNot, Adds, AddsNot, SameSignals, Drives, DrivesNot, Runs, RunsNot}
 use Rattle.std.proofs.lemmas.List.Folds.{list_any-append}
-use Rattle.vs_elaborate.proofs.Folds.{any_push, left_true, right_true}
+use Rattle.vs_elaborate.proofs.Folds.{any_push, both_false, left_true, right_true}
 use Rattle.vs_elaborate.proofs.StatementLemmas.{counting_more, left_false, right_false}
-use Rattle.vs_elaborate.proofs.AnswerLemmas.{told_at, told_part}
+use Rattle.vs_elaborate.proofs.AnswerLemmas.{told_at, told_part, refused_by}
 use Rattle.vs_elaborate.proofs.ScopeLemmas.{binding_as}
 
 -- ---- parts with their names
@@ -95,7 +99,7 @@ runs_push s names first number plan new start done b p h a same n text kind body
       same = same_signals_over start plan new r.same same;
     }
 
-pub drives_push : (s : Scope) (names : Bindings) (first number : ℕ) (plan new start : Plan) (done : List Assignment) (b : Assignment) (p : Assign) → new.assigns.items ≡ plan.assigns.items ++ p ∷ [] → new.processes.items ≡ plan.processes.items → SameSignals plan new → number ≡ length plan.assigns.items - first → p.name.items ≡ part_name s.path (own_name 97 number) → ((r : Reason) → driver_fault r (meaning_of names) b ≡ false) × IsAssignment (meaning_of names) b.target b.value p.target p.source → Drives s names first plan start done → Drives s names first new start (done ++ b ∷ [])
+pub drives_push : (s : Scope) (names : Bindings) (first number : ℕ) (plan new start : Plan) (done : List Assignment) (b : Assignment) (p : Assign) → new.assigns.items ≡ plan.assigns.items ++ p ∷ [] → new.processes.items ≡ plan.processes.items → SameSignals plan new → number ≡ length plan.assigns.items - first → p.name.items ≡ part_name s.path (own_name 97 number) → ((r : Reason) → driver_fault r (meaning_of names) b ≡ false) × IsAssignment Continuous (meaning_of names) b.target b.value p.target p.source → Drives s names first plan start done → Drives s names first new start (done ++ b ∷ [])
 drives_push s names first number plan new start done b p h a same n text body r =
     let R : Assign → PartOf Assignment → Type 0 = IsAssign (meaning_of names) in
     record {
@@ -120,11 +124,11 @@ pub drives_not_more : (s : Scope) (names : Bindings) (start : Plan) (xs ys : Lis
 drives_not_more s names start = adds_not_more (λ r. driver_fault r (meaning_of names)) s
 
 -- a declaration assignment, where there is one
-pub setting_some : (n m : List ℕ) (o : Option Expr) (e : Expr) → m ≡ n → o ≡ Some e → sets (record { target = m; value = e }) ∷ [] ≡ setting n o
-setting_some n m o e h k = ap (λ z. sets (record { target = z; value = e }) ∷ []) h ∙ ap (setting n) (sym k)
+pub setting_some : (n m : List ℕ) (o : Option Expr) (e : Expr) → m ≡ n → o ≡ Some e → sets (record { target = named_signal m; value = e }) ∷ [] ≡ setting n o
+setting_some n m o e h k = ap (λ z. sets (record { target = named_signal z; value = e }) ∷ []) h ∙ ap (setting n) (sym k)
 
-pub assignment_some : (n m : List ℕ) (o : Option Expr) (e : Expr) → m ≡ n → o ≡ Some e → record { target = m; value = e } ∷ [] ≡ assignment_of n o
-assignment_some n m o e h k = (let P : List ℕ → List Assignment = λ z. record { target = z; value = e } ∷ [] in ap P h) ∙ ap (assignment_of n) (sym k)
+pub assignment_some : (n m : List ℕ) (o : Option Expr) (e : Expr) → m ≡ n → o ≡ Some e → record { target = named_signal m; value = e } ∷ [] ≡ assignment_of n o
+assignment_some n m o e h k = (let P : List ℕ → List Assignment = λ z. record { target = named_signal z; value = e } ∷ [] in ap P h) ∙ ap (assignment_of n) (sym k)
 
 -- ---- signals
 
@@ -185,12 +189,6 @@ count_signals : (s : Scope) (names : Bindings) (plan start : Plan) (done : List 
 count_signals s names plan start done h =
     sym (length-map plan.signals.items declared) ∙ ap length h.shown ∙ length-append (map declared start.signals.items) (map (signal_of s) done) ∙ ap (λ n. n + length (map (signal_of s) done)) (length-map start.signals.items declared) ∙ ap (λ n. length start.signals.items + n) (length-map done (signal_of s))
 
--- a signal too many
-pub declared_over : (s : Scope) (names : Bindings) (plan start : Plan) (done : List DeclaredName) (d : DeclaredName) (e : ElabFault) → IsFaultAt Limit s.path e → 65536 ≤ length plan.signals.items → Declares s names plan start done → Told (DeclaresNot s start (done ++ d ∷ [])) e
-declared_over s names plan start done d e f k h =
-    let count = count_signals s names plan start done h in
-    told_at (DeclaresNot s start (done ++ d ∷ [])) Limit s.path e (omega (arith, k, count, length-append done (d ∷ [])), refl) f
-
 lookup_push : (base : ℕ) (ds : List DeclaredName) (d : DeclaredName) (n : List ℕ) → list_any (bytes_eq d.name) (names_in ds) ≡ false → meaning_of (numbered_names base (ds ++ d ∷ [])) n ≡ cond (bytes_eq d.name n) (Some (binding_as d (base + length ds))) (meaning_of (numbered_names base ds) n)
 lookup_push base [] d n h =
     let e : base ≡ base + 0 = omega arith in
@@ -216,18 +214,51 @@ abbrev pub last : ℕ → List DeclaredName → List ℕ
 last base done = (base + length done) ∷ []
 
 -- a range that has a fault
-pub declared_wrong : (s : Scope) (start : Plan) (done : List DeclaredName) (d : DeclaredName) (f : BodyFault) (e : ElabFault) → Refuses (width_faults d.size.faults) f → IsRefusal s.path f e → Told (DeclaresNot s start (done ++ d ∷ [])) e
-declared_wrong s start done d f e h k = told_part (DeclaresNot s start (done ++ d ∷ [])) (width_faults d.size.faults) s.path f e by h k
+pub declared_wrong : (s : Scope) (start : Plan) (done : List DeclaredName) (env : Environment) (kind : SignalKind) (z : Sized) (x : Declarator) (f : BodyFault) (e : ElabFault) → Refuses (λ r. declaration_fault r (declared_by env kind z x)) f → IsRefusal s.path f e → Told (DeclaresNot s start (done ++ declared_by env kind z x ∷ [])) e
+declared_wrong s start done env kind z x f e h k = told_part (DeclaresNot s start (done ++ d ∷ [])) (λ r. declaration_fault r d) s.path f e by h k
   where
-    by : (r : Reason) → width_faults d.size.faults r ≡ true → DeclaresNot s start (done ++ d ∷ []) r s.path
-    by (Width w) u = (any_last (λ (z : DeclaredName). z.size.faults w) done d u, refl)
+    d : DeclaredName
+    d = declared_by env kind z x
+
+    by : (r : Reason) → declaration_fault r d ≡ true → DeclaresNot s start (done ++ d ∷ []) r s.path
+    by (Width w) u = (any_last (declaration_fault (Width w)) done d u, refl)
+    by Limit u = (inr (any_last (declaration_fault Limit) done d u), refl)
     by NoModule u = absurd (true≢false (sym u))
     by DeclaredTwice u = absurd (true≢false (sym u))
     by DrivenTwice u = absurd (true≢false (sym u))
-    by Limit u = absurd (true≢false (sym u))
+
+-- a fault of the range of bits
+pub size_wrong : (env : Environment) (kind : SignalKind) (z : Sized) (x : Declarator) (f : BodyFault) → Refuses (width_faults z.faults) f → Refuses (λ r. declaration_fault r (declared_by env kind z x)) f
+size_wrong env kind z x f h = refused_by (width_faults z.faults) (λ r. declaration_fault r (declared_by env kind z x)) f by h
+  where
+    by : (r : Reason) → width_faults z.faults r ≡ true → declaration_fault r (declared_by env kind z x) ≡ true
+    by (Width w) k = left_true (z.faults w) _ k
+    by Limit k = absurd (true≢false (sym k))
+    by NoModule k = k
+    by DeclaredTwice k = k
+    by DrivenTwice k = k
+
+-- a fault of the range of words
+pub words_wrong : (env : Environment) (kind : SignalKind) (z : Sized) (x : Declarator) (f : BodyFault) → Refuses (words_as env kind x.words).faults f → Refuses (λ r. declaration_fault r (declared_by env kind z x)) f
+words_wrong env kind z x f h = refused_by (words_as env kind x.words).faults (λ r. declaration_fault r (declared_by env kind z x)) f by h
+  where
+    by : (r : Reason) → (words_as env kind x.words).faults r ≡ true → declaration_fault r (declared_by env kind z x) ≡ true
+    by (Width w) k = right_true (z.faults w) _ k
+    by Limit k = k
+    by NoModule k = k
+    by DeclaredTwice k = k
+    by DrivenTwice k = k
+
+-- ranges that have no fault
+pub declared_right : (env : Environment) (kind : SignalKind) (z : Sized) (x : Declarator) → ((r : Reason) → width_faults z.faults r ≡ false) → ((r : Reason) → (words_as env kind x.words).faults r ≡ false) → (r : Reason) → declaration_fault r (declared_by env kind z x) ≡ false
+declared_right env kind z x h k (Width w) = both_false (z.faults w) _ (h (Width w)) (k (Width w))
+declared_right env kind z x h k Limit = k Limit
+declared_right env kind z x h k NoModule = k NoModule
+declared_right env kind z x h k DeclaredTwice = k DeclaredTwice
+declared_right env kind z x h k DrivenTwice = k DrivenTwice
 
 -- a fresh name
-pub declares_push : (s : Scope) (names new : Bindings) (plan after start : Plan) (done : List DeclaredName) (d : DeclaredName) (b : Binding) (x : Signal) → ((w : WidthReason) → d.size.faults w ≡ false) → NamesDeclare true names new d.name b → b.meaning ≡ meaning_as d → b.signal ≡ length plan.signals.items → length plan.signals.items < 65536 → after.signals.items ≡ plan.signals.items ++ x ∷ [] → declared x ≡ signal_of s d → after.outline.items ≡ plan.outline.items ++ Declare b.signal ∷ [] → SameBodies plan after → Declares s names plan start done → Declares s new after start (done ++ d ∷ [])
+pub declares_push : (s : Scope) (names new : Bindings) (plan after start : Plan) (done : List DeclaredName) (d : DeclaredName) (b : Binding) (x : Signal) → ((r : Reason) → declaration_fault r d ≡ false) → NamesDeclare true names new d.name b → b.meaning ≡ meaning_as d → b.signal ≡ length plan.signals.items → length plan.signals.items < 65536 → after.signals.items ≡ plan.signals.items ++ x ∷ [] → declared x ≡ signal_of s d → after.outline.items ≡ plan.outline.items ++ Declare b.signal ∷ [] → SameBodies plan after → Declares s names plan start done → Declares s new after start (done ++ d ∷ [])
 declares_push s names new plan after start done d b x right fresh m k room sig shown line same h =
     let base = length start.signals.items in
     let count = count_signals s names plan start done h in
@@ -239,7 +270,7 @@ declares_push s names new plan after start done d b x right fresh m k room sig s
       bound = λ n. fresh.1 n ∙ ap (λ (z : Binding). cond (bytes_eq d.name n) (Some z) (meaning_of names n)) made
           ∙ ap (cond (bytes_eq d.name n) (Some (binding_as d (base + length done)))) (h.bound n) ∙ sym (lookup_push base done d n apart);
       distinct = subst (IsDistinct bytes_eq) (sym (names_push done d)) (IsDistinct-push bytes_eq_equiv (names_in done) d.name h.distinct apart);
-      sized = λ w. any_push (λ (z : DeclaredName). z.size.faults w) done d (h.sized w) (right w);
+      sized = λ r. any_push (declaration_fault r) done d (h.sized r) (right r);
       shown = ap (map declared) sig ∙ map-append declared plan.signals.items (x ∷ []) ∙ ap (λ z. z ++ declared x ∷ []) h.shown ∙ ap (λ z. (map declared start.signals.items ++ map (signal_of s) done) ++ z ∷ []) shown
           ∙ append_assoc (map declared start.signals.items) (map (signal_of s) done) (signal_of s d ∷ []) ∙ ap (λ z. map declared start.signals.items ++ z) (sym (map-append (signal_of s) done (d ∷ [])));
       lines = line ∙ ap (λ z. z ++ Declare b.signal ∷ []) h.lines ∙ append_assoc start.outline.items (map Declare (counting base (length done))) (Declare b.signal ∷ [])
@@ -253,7 +284,7 @@ repeated_more xs ys n h = record { first = h.first; second = h.second; before = 
 
 pub declares_not_more : (s : Scope) (start : Plan) (xs ys : List DeclaredName) (r : Reason) (p : Path) → DeclaresNot s start xs r p → DeclaresNot s start (xs ++ ys) r p
 declares_not_more s start xs ys DeclaredTwice p h = (h.0, h.1, subst (λ z. Repeated z h.0) (sym (map-append (λ (z : DeclaredName). z.name) xs ys)) (repeated_more (names_in xs) (names_in ys) h.0 h.2))
-declares_not_more s start xs ys Limit p h = (omega (arith, h.0, length-append xs ys), h.1)
+declares_not_more s start xs ys Limit p h = (⊎_elim (λ l. inl (omega (arith, l, length-append xs ys))) (λ f. inr (any_front (declaration_fault Limit) xs ys f)) h.0, h.1)
 declares_not_more s start xs ys NoModule p h = h
 declares_not_more s start xs ys DrivenTwice p h = h
-declares_not_more s start xs ys (Width w) p h = (any_front (λ (z : DeclaredName). z.size.faults w) xs ys h.0, h.1)
+declares_not_more s start xs ys (Width w) p h = (any_front (declaration_fault (Width w)) xs ys h.0, h.1)

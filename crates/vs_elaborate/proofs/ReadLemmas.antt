@@ -1,25 +1,33 @@
 -- An expression of a source reads signals of its names alone.
-use Rattle.std.proofs.Common.{◌≡◌, ℕ, ◌<◌, Bool, true, ◌&&◌, nat_lt, List, [], ◌∷◌, ◌++◌, Option, Some, None, map, refl, ap, sym, subst, ◌∙◌}
+use Rattle.std.proofs.Common.{◌≡◌, ℕ, Bool, true, List, [], ◌∷◌, ◌++◌, Option, Some, None, map, refl, ap, sym, subst, ◌∙◌}
 use Rattle.std.specs.List.{list_all}
-use Rattle.std.proofs.lemmas.Bool.{lt-ltb}
 use Rattle.std.proofs.lemmas.List.Folds.{list_all-append}
 use Rattle.vs_logic4.specs.declared.operators.Binary.{Binary}
 use Rattle.vs_syntax.specs.declared.tree.Expr.{Expr, Expr-F, roll-Expr, map-Expr, ind-Expr, fold-roll-Expr}
+use Rattle.vs_syntax.specs.declared.tree.Expr.TheShapes.{former-Expr-Select-1-at-5}
 use Rattle.vs_syntax.specs.declared.tree.Expr.TheOpen as f
 use Rattle.vs_design.specs.declared.range.BitRange.{BitRange}
 use Rattle.vs_design.specs.Uses.{joined}
-use Rattle.vs_widths.specs.declared.bindings.Binding.{Binding}
-use Rattle.vs_widths.specs.Environment.{Environment}
-use Rattle.vs_widths.specs.Expressions.{Meant, meant, meant_step, name_meant, linked_meant, chain_meant}
+use Rattle.vs_syntax.specs.declared.tree.PartSelect.{PartSelect}
+use Rattle.vs_syntax.specs.declared.tree.PartSelect.TheVariants as p
+use Rattle.vs_design.specs.declared.signal.Bounds.{Bounds}
+use Rattle.vs_forms.specs.declared.shape.Shape.{Shape}
+use Rattle.vs_selects.specs.declared.bindings.Binding.{Binding}
+use Rattle.vs_selects.specs.Findings.{Finding, Has, Lacks}
+use Rattle.vs_selects.specs.Meants.{Meant}
+use Rattle.vs_selects.specs.Selects.{Select, select_span, span_of, Named, in_array, of_words, named, range_by, named_reads, select_meant}
+use Rattle.vs_widths.specs.Typing.{HoldsOfSignals, ReadsNamed}
+use Rattle.vs_selects.specs.Environment.{Environment}
+use Rattle.vs_widths.specs.Expressions.{meant, meant_step, name_meant, linked_meant, chain_meant}
 use Rattle.vs_elaborate.proofs.Folds.{both_true}
 
-module _ (n : ℕ) where
-  -- ranges of the first so many signals
+module _ (test : ℕ → Bool) where
+  -- ranges of signals that pass a test
   abbrev pub Within : List BitRange → Type 0
-  Within rs = list_all (λ (r : BitRange). nat_lt r.signal n) rs ≡ true
+  Within rs = list_all (λ (r : BitRange). test r.signal) rs ≡ true
 
   both_within : (rs qs : List BitRange) → Within rs → Within qs → Within (rs ++ qs)
-  both_within rs qs h k = list_all-append (λ (r : BitRange). nat_lt r.signal n) rs qs ∙ both_true _ _ h k
+  both_within rs qs h k = list_all-append (λ (r : BitRange). test r.signal) rs qs ∙ both_true _ _ h k
 
   all_within : {A : Type 0} (g : A → List BitRange) → ((x : A) → Within (g x)) → (xs : List A) → Within (joined (map g xs))
   all_within g each [] = refl
@@ -29,7 +37,45 @@ module _ (n : ℕ) where
   map_map g k [] = refl
   map_map g k (x ∷ xs) = ap (λ ys. g (k x) ∷ ys) (map_map g k xs)
 
-  module _ (env : Environment) (good : (m : List ℕ) (b : Binding) → env m ≡ Some b → b.signal < n) where
+  -- the indices of selects read such ranges alone
+  abbrev AllWithin : List Select → Type 0
+  AllWithin [] = Unit {0}
+  AllWithin (x ∷ xs) = Within x.0.reads × AllWithin xs
+
+  one_span : (b : Bounds) (size : ℕ) (x : Select) → Within x.0.reads → Within (select_span b size x).reads
+  one_span b size (i, None) h = h
+  one_span b size (i, Some (p.Bounds, m)) h = refl
+  one_span b size (i, Some (p.Upward, m)) h = h
+  one_span b size (i, Some (p.Downward, m)) h = h
+
+  span_within : (b : Option Bounds) (s : Shape) (xs : List Select) → AllWithin xs → Within (span_of b s xs).reads
+  span_within b s [] h = refl
+  span_within None s (x ∷ xs) h = refl
+  span_within (Some b) s (x ∷ []) h = one_span b s.width x h.0
+  span_within (Some b) s (x ∷ y ∷ xs) h = refl
+
+  -- what is named, of a signal that passes
+  abbrev Names : Named → Type 0
+  Names n = (test n.signal ≡ true) × Within n.reads
+
+  array_within : (b : Bounds) (x : Binding) (xs : List Select) → test x.signal ≡ true → AllWithin xs → Names (in_array b x xs)
+  array_within b x [] k h = (k, refl)
+  array_within b x ((i, None) ∷ xs) k h = (k, both_within i.reads (span_of x.meaning.bits x.meaning.shape xs).reads h.0 (span_within x.meaning.bits x.meaning.shape xs h.1))
+  array_within b x ((i, Some m) ∷ xs) k h = (k, refl)
+
+  words_within : (o : Option Bounds) (x : Binding) (xs : List Select) → test x.signal ≡ true → AllWithin xs → Names (of_words o x xs)
+  words_within None x xs k h = (k, span_within x.meaning.bits x.meaning.shape xs h)
+  words_within (Some b) x xs k h = array_within b x xs k h
+
+  operand_within : (n : Named) (found : Finding) → Names n → Within (named_reads found n)
+  operand_within n (Has width signed) h = both_true _ _ (range_signal n.reads) h.1
+    where
+      range_signal : (rs : List BitRange) → test (range_by rs n).signal ≡ true
+      range_signal [] = h.0
+      range_signal (r ∷ rs) = h.0
+  operand_within n (Lacks faults) h = refl
+
+  module _ (env : Environment) (good : HoldsOfSignals env test) where
     abbrev Reads : Expr → Type 0
     Reads e = Within (meant env e).reads
 
@@ -44,7 +90,7 @@ module _ (n : ℕ) where
 
     name_within : (m : List ℕ) (o : Option Binding) → env m ≡ o → Within (name_meant o).reads
     name_within m None h = refl
-    name_within m (Some b) h = both_true _ _ (lt-ltb b.signal n (good m b h)) refl
+    name_within m (Some b) h = both_true _ _ (good m b h) refl
 
     chain_within : (first : Meant) (links : List ReadLink) → Within first.reads → Within (chain_meant first (map link_meant links)).reads
     chain_within first [] h = h
@@ -72,9 +118,24 @@ module _ (n : ℕ) where
     abbrev bare_link : ReadLink → Binary × Expr
     bare_link l = (l.0, l.1.0)
 
+    abbrev Selected : Type 0
+    Selected = ((e : Expr) × Reads e) × Option (PartSelect × ((e : Expr) × Reads e))
+
+    abbrev meanings : List Selected → List Select
+    meanings xs = map (λ x. former-Expr-Select-1-at-5.map Expr Meant (meant env) x) (map (λ x. former-Expr-Select-1-at-5.map ((e : Expr) × Reads e) Expr bare x) xs)
+
+    meanings_within : (xs : List Selected) → AllWithin (meanings xs)
+    meanings_within [] = tt
+    meanings_within (x ∷ xs) = (x.0.1, meanings_within xs)
+
+    select_within : (m : List ℕ) (o : Option Binding) (xs : List Select) → env m ≡ o → AllWithin xs → Within (select_meant o xs).reads
+    select_within m None xs h k = refl
+    select_within m (Some b) xs h k = operand_within (named (Some b) xs) (named (Some b) xs).finding (words_within b.meaning.words b xs (good m b h) k)
+
     inner : (y : Expr-F ((e : Expr) × Reads e)) → Within (meant_step env (map-Expr Expr Meant (meant env) (map-Expr ((e : Expr) × Reads e) Expr bare y))).reads
     inner (f.Number l) = refl
     inner (f.Name m) = name_within m.items (env m.items) refl
+    inner (f.Select m ss) = select_within m.items (env m.items) (meanings ss.items) refl (meanings_within ss.items)
     inner (f.Group x) = x.value.1
     inner (f.Unary op x) = x.value.1
     inner (f.Chain x links) =
@@ -91,6 +152,9 @@ module _ (n : ℕ) where
     layer y =
         subst (λ (m : Meant). Within m.reads) (sym (fold-roll-Expr Meant (meant_step env) (map-Expr ((e : Expr) × Reads e) Expr bare y))) (inner y)
 
-    -- what an expression reads are signals of its names
-    pub reads_within : (e : Expr) → Within (meant env e).reads
-    reads_within e = ind-Expr Reads (λ x y is. subst (λ z. Reads (roll-Expr z)) is (layer y)) e
+    each_within : (e : Expr) → Within (meant env e).reads
+    each_within e = ind-Expr Reads (λ x y is. subst (λ z. Reads (roll-Expr z)) is (layer y)) e
+
+-- what an expression reads are signals of its names
+pub reads_within : ReadsNamed
+reads_within env test good e = each_within test env good e

@@ -7,7 +7,7 @@ use Rattle.std.specs.Str.{bytes_eq}
 use Rattle.std.proofs.lemmas.List.{append-nil}
 use Rattle.std.proofs.lemmas.Option.{none-some, same_Some, slice_get-map}
 use Rattle.std.proofs.lemmas.Slice.Eq.{bytes_eq-Decides}
-use Rattle.vs_widths.specs.declared.bindings.Binding.{Binding}
+use Rattle.vs_selects.specs.declared.bindings.Binding.{Binding}
 use Rattle.vs_widths.specs.Names.{meaning_of}
 use Rattle.vs_elaborate.specs.Printed.{Path}
 use Rattle.vs_elaborate.specs.Scopes.{Scope, DeclaredName, Located, located, environment, environment_in, bound_to, declarations_of, names_of, names_in, meaning_as, named, signal_paths, IsNamed}

@@ -1,5 +1,5 @@
 -- Sizes of declarations, from what is computed of them.
-use Rattle.std.proofs.Common.{◌≡◌, ℕ, suc, ◌+◌, ◌<◌, ◌≤◌, ℤ, Bool, true, false, ◌&&◌, ◌||◌, true≢false, cond, is_some, nat_lt, min, length, take, get_or, List, [], ◌∷◌, ◌++◌, Option, Some, None, map, refl, ap, ap₂, sym, subst, ◌∙◌, arith}
+use Rattle.std.proofs.Common.{◌≡◌, ℕ, suc, ◌+◌, ◌<◌, ◌≤◌, Bool, true, false, ◌^◌, true≢false, cond, not, nat_lt, is_some, min, length, take, get_or, List, [], ◌∷◌, ◌++◌, Option, Some, None, map, refl, ap, ap₂, sym, subst, ◌∙◌, arith}
 use Rattle.std.specs.Str.{bytes_eq}
 use Rattle.std.specs.List.{flat_map}
 use Rattle.std.proofs.Math.Bridge.{le_prop}
@@ -7,41 +7,36 @@ use Rattle.std.proofs.Math.Path.{fun_ext}
 use Rattle.std.proofs.lemmas.Bool.{lt-ltb, ltb-true}
 use Rattle.std.proofs.lemmas.Slice.Eq.{bytes_eq-Decides}
 use Rattle.std.proofs.lemmas.List.{map-append, take_all}
-use Rattle.vs_logic4.specs.declared.digit.Digit.{Digit}
-use Rattle.vs_syntax.specs.declared.tree.Expr.{Expr}
 use Rattle.vs_syntax.specs.declared.tree.Form.{Form}
 use Rattle.vs_syntax.specs.declared.tree.Range.{Range}
 use Rattle.vs_syntax.specs.declared.tree.Item.{Item}
 use Rattle.vs_design.specs.declared.signal.Bounds.{Bounds}
 use Rattle.vs_design.specs.declared.signal.SignalKind.{SignalKind}
-use Rattle.vs_widths.specs.declared.bindings.Shape.{Shape}
-use Rattle.vs_widths.specs.declared.bindings.Meaning.{Meaning}
-use Rattle.vs_widths.specs.declared.bindings.Binding.{Binding}
-use Rattle.vs_widths.specs.declared.constants.Const.{Const}
-use Rattle.vs_widths.specs.declared.faults.WidthReason.{WidthReason}
-use Rattle.vs_widths.specs.declared.faults.WidthReason.TheVariants.{TooWide, Unknown, NotConstant, WrongKind}
-use Rattle.vs_widths.specs.declared.faults.WidthFault.{WidthFault}
-use Rattle.vs_widths.specs.declared.faults.WidthFault.TheVariants as width
+use Rattle.vs_design.specs.declared.signal.SignalKind.TheVariants as k
+use Rattle.vs_design.specs.Kinds.{is_variable}
+use Rattle.vs_forms.specs.declared.shape.Shape.{Shape}
+use Rattle.vs_selects.specs.declared.bindings.Meaning.{Meaning}
+use Rattle.vs_selects.specs.declared.faults.WidthReason.TheVariants.{TooWide, Unknown, NotConstant, WrongKind}
+use Rattle.vs_selects.specs.declared.bindings.Binding.{Binding}
+use Rattle.vs_selects.specs.declared.faults.WidthReason.{WidthReason}
 use Rattle.vs_widths.specs.Names.{meaning_of, Declares as NamesDeclare}
-use Rattle.vs_widths.specs.Environment.{Environment}
-use Rattle.vs_widths.specs.Findings.{Finding, Has, Lacks, stands, not_constant, too_wide}
-use Rattle.vs_widths.specs.Expressions.{meant, own, constant_finding, whole_number}
-use Rattle.vs_widths.specs.Typing.{Refuses as WidthRefuses, IsConstant}
+use Rattle.vs_selects.specs.Environment.{Environment}
 use Rattle.vs_elaborate.specs.declared.faults.Reason.{Reason}
 use Rattle.vs_elaborate.specs.declared.faults.Reason.TheVariants.{NoModule, DeclaredTwice, DrivenTwice, Limit, Width}
 use Rattle.vs_elaborate.specs.declared.faults.BodyFault.{BodyFault}
-use Rattle.vs_elaborate.specs.declared.faults.BodyFault.TheVariants as b
 use Rattle.vs_elaborate.specs.declared.sizes.Size.{Size}
-use Rattle.vs_elaborate.specs.Ranges.{whole_at, bound_of, number_fault, bound_fault, both_bounds, range_bounds, distance, is_over_64, range_fault, shape_with, distance_or, sized_as}
+use Rattle.vs_elaborate.specs.declared.words.WordCount.{WordCount}
+use Rattle.vs_elaborate.specs.Ranges.{range_bounds, distance, bounds_fault, range_fault, is_over, shape_with, distance_or, sized_as, is_array_of_nets, words_fault, words_as, word_count}
 use Rattle.vs_elaborate.specs.Scopes.{Scope, DeclaredName, declarations_of, scalar, declared_in, unsized_as, unsized_names, unsized_in}
 use Rattle.vs_elaborate.specs.declared.faults.ElabFault.{ElabFault}
 use Rattle.vs_elaborate.specs.declared.plans.Plan.{Plan}
-use Rattle.vs_elaborate.specs.passes.Answers.{body_fault, Refuses, Told}
+use Rattle.vs_elaborate.specs.passes.Answers.{Refuses, Told}
 use Rattle.vs_elaborate.specs.passes.Plans.{Declares, DeclaresNot}
 use Rattle.vs_elaborate.specs.passes.Bodies.{Bindings}
-use Rattle.vs_elaborate.specs.passes.Sizes.{width_faults, IsSize, IsRange, first_of, AddsNames, IsEarly}
-use Rattle.vs_elaborate.proofs.Folds.{both_false, left_true, right_true, take_push, flat_more}
+use Rattle.vs_elaborate.specs.passes.Sizes.{width_faults, IsSize, AreWords, IsRange, first_of, AddsNames, IsEarly}
 use Rattle.vs_elaborate.proofs.AnswerLemmas.{refused_by}
+use Rattle.vs_elaborate.proofs.AssignmentLemmas.{no_faults}
+use Rattle.vs_elaborate.proofs.Folds.{both_false, left_true, right_true, take_push, flat_more}
 use Rattle.vs_elaborate.proofs.PlanLemmas.{bytes_eq_equiv}
 
 -- ---- shapes
@@ -53,88 +48,16 @@ shape_is w v g p q e =
     let Q : ℕ → Type 0 = λ n. (r : (0 < n) × (n ≤ 64)) → ◌≡◌ {A = Shape} (record { width = w; signed = g; sized = p }) (record { width = n; signed = g; sized = r }) in
     subst Q e (λ r. ap₂ (S w) (le_prop p.0 r.0) (le_prop p.1 r.1)) q
 
--- ---- bounds
-
--- faults of sizes that don't stand
-pub no_faults : (faults : WidthReason → Bool) → ((w : WidthReason) → faults w ≡ false) → (r : Reason) → width_faults faults r ≡ false
-no_faults faults h (Width w) = h w
-no_faults faults h NoModule = refl
-no_faults faults h DeclaredTwice = refl
-no_faults faults h DrivenTwice = refl
-no_faults faults h Limit = refl
-
--- faults of a part that are faults of the whole
-pub more_faults : (faults also : WidthReason → Bool) (f : BodyFault) → ((w : WidthReason) → faults w ≡ true → also w ≡ true) → Refuses (width_faults faults) f → Refuses (width_faults also) f
-more_faults faults also f g h = refused_by (width_faults faults) (width_faults also) f by h
-  where
-    by : (r : Reason) → width_faults faults r ≡ true → width_faults also r ≡ true
-    by (Width w) k = g w k
-    by NoModule k = k
-    by DeclaredTwice k = k
-    by DrivenTwice k = k
-    by Limit k = k
-
-module _ (env : Environment) (e : Expr) where
-  found_number : (c : Const) → IsConstant env e c → bound_of env e ≡ whole_number c.signed c.value
-  found_number c h = ap₂ whole_at h.found (h.value [])
-
-  and_false : (a : Bool) → (a && false) ≡ false
-  and_false true = refl
-  and_false false = refl
-
-  pub bound_is : (c : Const) (n : ℤ) (o : Option ℤ) → IsConstant env e c → o ≡ whole_number c.signed c.value → o ≡ Some n → ((r : Reason) → width_faults (λ w. bound_fault w env e) r ≡ false) × (bound_of env e ≡ Some n)
-  bound_is c n o h k m =
-      let found : bound_of env e ≡ Some n = found_number c h ∙ sym k ∙ m in (
-        no_faults (λ w. bound_fault w env e) (λ w. ap₂ (number_fault w) h.found found ∙ and_false (not_constant w)),
-        found,
-      )
-
-  pub no_bound : (c : Const) (o : Option ℤ) → IsConstant env e c → o ≡ whole_number c.signed c.value → o ≡ None → bound_fault NotConstant env e ≡ true
-  no_bound c o h k m = ap₂ (number_fault NotConstant) h.found (found_number c h ∙ sym k ∙ m)
-
-  fault_found : (w : WidthReason) (f : Finding) (n : Option ℤ) → stands w f ≡ true → number_fault w f n ≡ true
-  fault_found w (Has width signed) n h = absurd (true≢false (sym h))
-  fault_found w (Lacks faults) n h = h
-
-  pub bound_refused : (f : WidthFault) (g : BodyFault) → g ≡ body_fault f → WidthRefuses (constant_finding (meant env e)) f → Refuses (width_faults (λ w. bound_fault w env e)) g
-  bound_refused width.Memory g s h = subst (Refuses (width_faults (λ w. bound_fault w env e))) (sym s) tt
-  bound_refused (width.Refused w) g s h = subst (Refuses (width_faults (λ w. bound_fault w env e))) (sym s) (fault_found w (constant_finding (meant env e)) (bound_of env e) h)
-
--- ---- ranges
-
-module _ (env : Environment) (r : Range) where
-  pub left_refused : (f : BodyFault) → Refuses (width_faults (λ w. bound_fault w env r.left)) f → Refuses (width_faults (λ w. range_fault w env (Some r))) f
-  left_refused f h = more_faults (λ w. bound_fault w env r.left) (λ w. range_fault w env (Some r)) f (λ w k. left_true (bound_fault w env r.left) _ k) h
-
-  pub right_refused : (f : BodyFault) → Refuses (width_faults (λ w. bound_fault w env r.right)) f → Refuses (width_faults (λ w. range_fault w env (Some r))) f
-  right_refused f h =
-      more_faults (λ w. bound_fault w env r.right) (λ w. range_fault w env (Some r)) f (λ w k. right_true (bound_fault w env r.left) _ (left_true (bound_fault w env r.right) _ k)) h
-
-  pub bounds_found : (m n : ℤ) → bound_of env r.left ≡ Some m → bound_of env r.right ≡ Some n → range_bounds env (Some r) ≡ Some (record { left = m; right = n })
-  bounds_found m n h k = ap₂ both_bounds h k
-
-  pub range_over : (m n : ℤ) → bound_of env r.left ≡ Some m → bound_of env r.right ≡ Some n → 63 < distance (record { left = m; right = n }) → range_fault TooWide env (Some r) ≡ true
-  range_over m n h k l =
-      right_true (bound_fault TooWide env r.left) _ (right_true (bound_fault TooWide env r.right) _ (ap is_over_64 (bounds_found m n h k) ∙ lt-ltb 63 (distance (record { left = m; right = n })) l))
-
-  not_over : (b : Bool) (n : ℕ) → nat_lt 63 n ≡ b → n < 64 → b ≡ false
-  not_over false n h l = refl
-  not_over true n h l = absurd (let k : 63 < n = ltb-true 63 n h in omega (arith, k, l))
-
-  and_right : (a b : Bool) → b ≡ false → (a && b) ≡ false
-  and_right true b h = h
-  and_right false b h = refl
-
-  pub range_is : (m n : ℤ) → ((q : Reason) → width_faults (λ w. bound_fault w env r.left) q ≡ false) × (bound_of env r.left ≡ Some m) →
-      ((q : Reason) → width_faults (λ w. bound_fault w env r.right) q ≡ false) × (bound_of env r.right ≡ Some n) → distance (record { left = m; right = n }) < 64 →
-      ((q : Reason) → width_faults (λ w. range_fault w env (Some r)) q ≡ false) × ((range_bounds env (Some r) ≡ Some (record { left = m; right = n })) × (distance (record { left = m; right = n }) < 64))
-  range_is m n h k l =
-      let found = bounds_found m n h.1 k.1 in
-      let d = distance (record { left = m; right = n }) in
-      let narrow : is_over_64 (range_bounds env (Some r)) ≡ false = ap is_over_64 found ∙ not_over (nat_lt 63 d) d refl l in (
-        no_faults (λ w. range_fault w env (Some r)) (λ w. both_false (bound_fault w env r.left) _ (h.0 (Width w)) (both_false (bound_fault w env r.right) _ (k.0 (Width w)) (and_right (too_wide w) _ narrow))),
-        (found, l),
-      )
+-- what names mean is one where its parts are, whatever shows that they have words
+pub meaning_is : (kind : SignalKind) (s t : Shape) (b c w x : Option Bounds) (m n : ℕ) (p : (0 < m) × (m ≤ 2 ^ 16)) (q : (0 < n) × (n ≤ 2 ^ 16)) → s ≡ t → b ≡ c → w ≡ x → m ≡ n →
+    ◌≡◌ {A = Meaning} (record { kind = kind; shape = s; bits = b; words = w; count = m; counted = p }) (record { kind = kind; shape = t; bits = c; words = x; count = n; counted = q })
+meaning_is kind s t b c w x m n p q e f g h =
+    let M : (i : ℕ) → (0 < i) → (i ≤ 2 ^ 16) → Meaning = λ i y z. record { kind = kind; shape = t; bits = c; words = x; count = i; counted = (y, z) } in
+    let Q : ℕ → Type 0 = λ i. (r : (0 < i) × (i ≤ 2 ^ 16)) → ◌≡◌ {A = Meaning} (M m p.0 p.1) (M i r.0 r.1) in
+    let S : Shape → Meaning = λ z. record { kind = kind; shape = z; bits = b; words = w; count = m; counted = p } in
+    let B : Option Bounds → Meaning = λ z. record { kind = kind; shape = t; bits = z; words = w; count = m; counted = p } in
+    let W : Option Bounds → Meaning = λ z. record { kind = kind; shape = t; bits = c; words = z; count = m; counted = p } in
+    ap S e ∙ ap B f ∙ ap W g ∙ subst Q h (λ r. ap₂ (M m) (le_prop p.0 r.0) (le_prop p.1 r.1)) q
 
 -- ---- sizes
 
@@ -169,6 +92,65 @@ size_integer env s k m n = (
   record { shape = shape_is s.shape.width 32 s.shape.signed s.shape.sized (shape_with 31 true).sized k ∙ ap (shape_with 31) m; bounds = n },
 )
 
+-- ---- words
+
+module _ (env : Environment) (kind : SignalKind) where
+  -- a signal that is no array
+  pub words_none : (w : WordCount) (o : Option Range) → o ≡ None → w.bounds ≡ None → w.count ≡ 1 → ((q : Reason) → words_fault q env kind o ≡ false) × AreWords (words_as env kind o) w
+  words_none w o i h k = subst (λ z. ((q : Reason) → words_fault q env kind z ≡ false) × AreWords (words_as env kind z) w) (sym i) (by, record { bounds = h; count = k })
+    where
+      by : (q : Reason) → words_fault q env kind None ≡ false
+      by (Width v) = refl
+      by Limit = refl
+      by NoModule = refl
+      by DeclaredTwice = refl
+      by DrivenTwice = refl
+
+  module _ (r : Range) (o : Option Range) (i : o ≡ Some r) where
+    -- a fault of a bound
+    pub words_refused : (f : BodyFault) → Refuses (width_faults (λ w. bounds_fault w env r)) f → Refuses (words_as env kind o).faults f
+    words_refused f h = subst (λ z. Refuses (words_as env kind z).faults f) (sym i) (refused_by (width_faults (λ w. bounds_fault w env r)) (words_as env kind (Some r)).faults f by h)
+      where
+        by : (q : Reason) → width_faults (λ w. bounds_fault w env r) q ≡ true → words_fault q env kind (Some r) ≡ true
+        by (Width w) k = left_true (bounds_fault w env r) _ k
+        by Limit k = absurd (true≢false (sym k))
+        by NoModule k = k
+        by DeclaredTwice k = k
+        by DrivenTwice k = k
+
+    -- an array of nets
+    pub words_of_net : kind ≡ k.Wire → words_fault (Width WrongKind) env kind o ≡ true
+    words_of_net h = ap (words_fault (Width WrongKind) env kind) i ∙ right_true (bounds_fault WrongKind env r) _ (ap (is_array_of_nets WrongKind) h)
+
+    -- too many words
+    pub words_over : (b : Bounds) → range_bounds env (Some r) ≡ Some b → 65535 < distance b → words_fault Limit env kind o ≡ true
+    words_over b h l = ap (words_fault Limit env kind) i ∙ ap (is_over 65535) h ∙ lt-ltb 65535 (distance b) l
+
+    -- words without faults
+    pub words_are : (b : Bounds) (w : WordCount) → is_variable kind ≡ true → ((q : Reason) → width_faults (λ w. bounds_fault w env r) q ≡ false) × (range_bounds env (Some r) ≡ Some b) → distance b ≤ 65535 → w.bounds ≡ Some b → w.count ≡ distance b + 1 →
+        ((q : Reason) → words_fault q env kind o ≡ false) × AreWords (words_as env kind o) w
+    words_are b w v h l m n = subst (λ z. ((q : Reason) → words_fault q env kind z ≡ false) × AreWords (words_as env kind z) w) (sym i) (by, record { bounds = m ∙ sym h.1; count = count ∙ ap word_count (sym h.1) })
+      where
+        count : w.count ≡ word_count (Some b)
+        count = omega (arith, n, l)
+
+        kinds : (w : WidthReason) → is_array_of_nets w kind ≡ false
+        kinds WrongKind = ap not v
+        kinds TooWide = refl
+        kinds Unknown = refl
+        kinds NotConstant = refl
+
+        small : (t : Bool) → nat_lt 65535 (distance b) ≡ t → t ≡ false
+        small false e = refl
+        small true e = absurd (let over : 65535 < distance b = ltb-true 65535 (distance b) e in omega (arith, over, l))
+
+        by : (q : Reason) → words_fault q env kind (Some r) ≡ false
+        by (Width w) = both_false (bounds_fault w env r) _ (h.0 (Width w)) (kinds w)
+        by Limit = ap (is_over 65535) h.1 ∙ small (nat_lt 65535 (distance b)) refl
+        by NoModule = refl
+        by DeclaredTwice = refl
+        by DrivenTwice = refl
+
 -- ---- names before their sizes are known
 
 first_none : {A : Type 0} (o : Option A) → first_of o None ≡ o
@@ -194,16 +176,6 @@ pub adds_then : (a b c : Bindings) (xs ys : List DeclaredName) → AddsNames a b
 adds_then a b c xs ys h k n =
     k n ∙ ap (λ o. first_of o (meaning_of (unsized_names ys) n)) (h n) ∙ first_assoc (meaning_of a n) (meaning_of (unsized_names xs) n) (meaning_of (unsized_names ys) n)
     ∙ ap (first_of (meaning_of a n)) (sym (meaning_of-append (unsized_names xs) (unsized_names ys) n) ∙ ap (λ zs. meaning_of zs n) (sym (map-append (λ (d : DeclaredName). (d.name, unsized_as d)) xs ys)))
-
--- a name that is there
-pub adds_known : (names : Bindings) (d : DeclaredName) (x : Binding) → meaning_of names d.name ≡ Some x → AddsNames names names (d ∷ [])
-adds_known names d x h n = by (bytes_eq n d.name) refl
-  where
-    by : (t : Bool) → bytes_eq n d.name ≡ t → meaning_of names n ≡ first_of (meaning_of names n) (cond t (Some (unsized_as d)) None)
-    by true e =
-        let at : meaning_of names n ≡ Some x = ap (meaning_of names) ((bytes_eq-Decides n d.name).0 e) ∙ h in
-        at ∙ sym (ap (λ o. first_of o (Some (unsized_as d))) at)
-    by false e = sym (first_none (meaning_of names n))
 
 -- a fresh name
 pub adds_fresh : (old new : Bindings) (d : DeclaredName) (b : Binding) → NamesDeclare true old new d.name b → b ≡ unsized_as d → AddsNames old new (d ∷ [])
@@ -234,11 +206,12 @@ module _ {X : Type 0} (a b c : Bindings) (xs : List X) (i : ℕ) (x : X) (h : i 
 pub adds_all : {X : Type 0} (a b : Bindings) (xs : List X) (i : ℕ) (f : List X → List DeclaredName) → length xs ≤ i → AddsNames a b (f (take i xs)) → AddsNames a b (f xs)
 adds_all a b xs i f h p = subst (λ l. AddsNames a b (f l)) (take_all i xs h) p
 
--- a scalar's binding, whatever shows that it has a size
-pub unsized_is : (d : DeclaredName) (h : (0 < 1) × (1 ≤ 64)) → ◌≡◌ {A = Binding} (record { meaning = record { kind = d.kind; shape = record { width = 1; signed = false; sized = h } }; signal = 0 }) (unsized_as d)
-unsized_is d h =
-    let P : Shape → Binding = λ z. record { meaning = record { kind = d.kind; shape = z }; signal = 0 } in
-    ap P (shape_is 1 1 false h scalar.sized refl)
+-- a scalar's binding, whatever shows that it has a size and a word
+pub unsized_is : (d : DeclaredName) (h : (0 < 1) × (1 ≤ 64)) (k : (0 < 1) × (1 ≤ 2 ^ 16)) →
+    ◌≡◌ {A = Binding} (record { meaning = record { kind = d.kind; shape = record { width = 1; signed = false; sized = h }; bits = None; words = None; count = 1; counted = k }; signal = 0 }) (unsized_as d)
+unsized_is d h k =
+    let P : Meaning → Binding = λ z. record { meaning = z; signal = 0 } in
+    ap P (meaning_is d.kind (record { width = 1; signed = false; sized = h }) scalar None None None None 1 1 k (unsized_as d).meaning.counted (shape_is 1 1 false h scalar.sized refl) refl refl refl)
 
 -- what items declare by names that are bound so
 pub early_same : (names : Bindings) (items : List Item) → IsEarly items names → flat_map (declared_in (meaning_of names)) items ≡ flat_map (declared_in (unsized_in items)) items

@@ -8,6 +8,7 @@ use Rattle.std.proofs.lemmas.Bool.{leb-true, le-leb}
 use Rattle.std.proofs.lemmas.List.{map-append, append-nil, take_all}
 use Rattle.vs_tokens.specs.declared.token.Literal.{Literal}
 use Rattle.vs_syntax.specs.declared.tree.Expr.{Expr}
+use Rattle.vs_syntax.specs.declared.tree.Left.{Left}
 use Rattle.vs_syntax.specs.declared.tree.Stmt.{Stmt}
 use Rattle.vs_syntax.specs.declared.tree.Stmt.TheVariants as s
 use Rattle.vs_syntax.specs.declared.tree.Stmt.TheOpen as f
@@ -23,14 +24,14 @@ use Rattle.vs_design.specs.declared.statement.Statement.TheVariants as d
 use Rattle.vs_design.specs.declared.statement.Statement.TheVariants.{rolls-Null as drolls-Null, rolls-Assign as drolls-Assign, rolls-Later as drolls-Later, rolls-Block as drolls-Block, rolls-Delay as drolls-Delay, rolls-Forever as drolls-Forever}
 use Rattle.vs_design.specs.declared.statement.Statement.TheOpen as g
 use Rattle.vs_design.specs.declared.statement.Statement.TheFolds.{fold-roll-Statement}
-use Rattle.vs_elaborate.specs.declared.assignments.AssignmentKind.TheVariants.{Procedural}
+use Rattle.vs_targets.specs.declared.kinds.AssignmentKind.TheVariants.{Procedural}
 use Rattle.vs_elaborate.specs.declared.faults.Reason.{Reason}
 use Rattle.vs_elaborate.specs.declared.faults.Reason.TheVariants.{NoModule, DeclaredTwice, DrivenTwice, Limit, Width}
 use Rattle.vs_elaborate.specs.declared.faults.BodyFault.{BodyFault}
-use Rattle.vs_widths.specs.Environment.{Environment}
+use Rattle.vs_selects.specs.Environment.{Environment}
 use Rattle.vs_widths.specs.Names.{meaning_of}
 use Rattle.vs_elaborate.specs.Statements.{IsAssignment, IsStatement, is_null, is_assign, is_later, is_block, is_delay, AreStatements, are_none, are_more, assign_fault, delay_of, delay_fault, fault_step, has_fault, count_step, count_of, total, is_overfull}
-use Rattle.vs_elaborate.specs.Scopes.{Assignment, sets, runs, repeats}
+use Rattle.vs_elaborate.specs.Scopes.{Assignment, Assignee, places, sets, runs, repeats}
 use Rattle.vs_elaborate.specs.Processes.{is_set, is_run, is_repeat, behavior_fault}
 use Rattle.vs_elaborate.specs.passes.Answers.{Refuses, Elaborates}
 use Rattle.vs_elaborate.specs.passes.Bodies.{Bindings, counting, MeansStatement, MeansStatements, MeansBody, statement_fault, statements_fault, overfull_fault}
@@ -42,11 +43,11 @@ use Rattle.vs_elaborate.proofs.AnswerLemmas.{refused_by, answered_by}
 pub fault_Null : (r : Reason) (env : Environment) → has_fault r env s.Null ≡ false
 fault_Null r env = ap (has_fault r env) (sym rolls-Null) ∙ fold-roll-Stmt Bool (fault_step r env) f.Null
 
-pub fault_Assign : (r : Reason) (env : Environment) (n : Vec ℕ Global) (e : Expr) → has_fault r env (s.Assign n e) ≡ assign_fault r Procedural env n.items e
-fault_Assign r env n e = ap (has_fault r env) (sym (rolls-Assign n e)) ∙ fold-roll-Stmt Bool (fault_step r env) (f.Assign n e)
+pub fault_Assign : (r : Reason) (env : Environment) (l : Left) (e : Expr) → has_fault r env (s.Assign l e) ≡ assign_fault r Procedural env (places l) e
+fault_Assign r env l e = ap (has_fault r env) (sym (rolls-Assign l e)) ∙ fold-roll-Stmt Bool (fault_step r env) (f.Assign l e)
 
-pub fault_Later : (r : Reason) (env : Environment) (n : Vec ℕ Global) (e : Expr) → has_fault r env (s.Later n e) ≡ assign_fault r Procedural env n.items e
-fault_Later r env n e = ap (has_fault r env) (sym (rolls-Later n e)) ∙ fold-roll-Stmt Bool (fault_step r env) (f.Later n e)
+pub fault_Later : (r : Reason) (env : Environment) (l : Left) (e : Expr) → has_fault r env (s.Later l e) ≡ assign_fault r Procedural env (places l) e
+fault_Later r env l e = ap (has_fault r env) (sym (rolls-Later l e)) ∙ fold-roll-Stmt Bool (fault_step r env) (f.Later l e)
 
 pub fault_Block : (r : Reason) (env : Environment) (xs : Vec Stmt Global) → has_fault r env (s.Block xs) ≡ list_any (has_fault r env) xs.items
 fault_Block r env xs = ap (has_fault r env) (sym (rolls-Block xs)) ∙ fold-roll-Stmt Bool (fault_step r env) (f.Block xs) ∙ any_of_map (has_fault r env) xs.items
@@ -59,11 +60,11 @@ fault_Delay r env l x = ap (has_fault r env) (sym (rolls-Delay l x)) ∙ fold-ro
 count_Null : count_of s.Null ≡ 1
 count_Null = ap count_of (sym rolls-Null) ∙ fold-roll-Stmt ℕ count_step f.Null
 
-count_Assign : (n : Vec ℕ Global) (e : Expr) → count_of (s.Assign n e) ≡ 1
-count_Assign n e = ap count_of (sym (rolls-Assign n e)) ∙ fold-roll-Stmt ℕ count_step (f.Assign n e)
+count_Assign : (l : Left) (e : Expr) → count_of (s.Assign l e) ≡ 1
+count_Assign l e = ap count_of (sym (rolls-Assign l e)) ∙ fold-roll-Stmt ℕ count_step (f.Assign l e)
 
-count_Later : (n : Vec ℕ Global) (e : Expr) → count_of (s.Later n e) ≡ 1
-count_Later n e = ap count_of (sym (rolls-Later n e)) ∙ fold-roll-Stmt ℕ count_step (f.Later n e)
+count_Later : (l : Left) (e : Expr) → count_of (s.Later l e) ≡ 1
+count_Later l e = ap count_of (sym (rolls-Later l e)) ∙ fold-roll-Stmt ℕ count_step (f.Later l e)
 
 abbrev pub counts : List Stmt → ℕ
 counts xs = total (map count_of xs)
@@ -154,18 +155,16 @@ one_statement names first k next x y h c u m n = (
 pub states_Null : (names : Bindings) (first k next : ℕ) → Takes first k next → States names first s.Null (d.Null k) next
 states_Null names first k next h = one_statement names first k next s.Null (d.Null k) h count_Null (λ r. fault_Null r (meaning_of names)) (is_null k) (numbers_Null k)
 
-abbrev pub Assigns : Bindings → List ℕ → Expr → Target → Typed → Type 0
-Assigns names n e t x = ((r : Reason) → assign_fault r Procedural (meaning_of names) n e ≡ false) × IsAssignment (meaning_of names) n e t x
+abbrev pub Assigns : Bindings → Assignee → Expr → Target → Typed → Type 0
+Assigns names a e t x = ((r : Reason) → assign_fault r Procedural (meaning_of names) a e ≡ false) × IsAssignment Procedural (meaning_of names) a e t x
 
-pub states_Assign : (names : Bindings) (first k next : ℕ) (n : Vec ℕ Global) (m : List ℕ) (e : Expr) (t : Target) (x : Typed) → Takes first k next → m ≡ n.items → Assigns names m e t x → States names first (s.Assign n e) (d.Assign k t x) next
-states_Assign names first k next n m e t x h q a =
-    let p : Assigns names n.items e t x = subst (λ z. Assigns names z e t x) q a in
-    one_statement names first k next (s.Assign n e) (d.Assign k t x) h (count_Assign n e) (λ r. fault_Assign r (meaning_of names) n e ∙ p.0 r) (is_assign n e k t x p.1) (numbers_Assign k t x)
+pub states_Assign : (names : Bindings) (first k next : ℕ) (l : Left) (e : Expr) (t : Target) (x : Typed) → Takes first k next → Assigns names (places l) e t x → States names first (s.Assign l e) (d.Assign k t x) next
+states_Assign names first k next l e t x h p =
+    one_statement names first k next (s.Assign l e) (d.Assign k t x) h (count_Assign l e) (λ r. fault_Assign r (meaning_of names) l e ∙ p.0 r) (is_assign l e k t x p.1) (numbers_Assign k t x)
 
-pub states_Later : (names : Bindings) (first k next : ℕ) (n : Vec ℕ Global) (m : List ℕ) (e : Expr) (t : Target) (x : Typed) → Takes first k next → m ≡ n.items → Assigns names m e t x → States names first (s.Later n e) (d.Later k t x) next
-states_Later names first k next n m e t x h q a =
-    let p : Assigns names n.items e t x = subst (λ z. Assigns names z e t x) q a in
-    one_statement names first k next (s.Later n e) (d.Later k t x) h (count_Later n e) (λ r. fault_Later r (meaning_of names) n e ∙ p.0 r) (is_later n e k t x p.1) (numbers_Later k t x)
+pub states_Later : (names : Bindings) (first k next : ℕ) (l : Left) (e : Expr) (t : Target) (x : Typed) → Takes first k next → Assigns names (places l) e t x → States names first (s.Later l e) (d.Later k t x) next
+states_Later names first k next l e t x h p =
+    one_statement names first k next (s.Later l e) (d.Later k t x) h (count_Later l e) (λ r. fault_Later r (meaning_of names) l e ∙ p.0 r) (is_later l e k t x p.1) (numbers_Later k t x)
 
 abbrev pub StateAll : Bindings → ℕ → List Stmt → List Statement → ℕ → Type 0
 StateAll names first xs ys next = ((r : Reason) → statements_fault (meaning_of names) first xs r ≡ false) × MeansStatements names first xs ys next

@@ -1,6 +1,6 @@
 -- A design of one scope is well formed.
-use Rattle.std.proofs.Common.{◌≡◌, ℕ, zero, suc, ◌+◌, ◌^◌, ◌<◌, ◌≤◌, Bool, true, false, ◌&&◌, ◌==◌, not, nat_eq, nat_lt, cond, List, [], ◌∷◌, ◌++◌, Option, Some, None, length, map, max, drop, get_or, slice_get, All, refl, ap, sym, subst, ◌∙◌, add-zero, zero-add, arith, true≢false, option_map, eq-eqb}
-use Rattle.std.specs.List.{list_any, list_all, AllZip, IsDistinct, Contains}
+use Rattle.std.proofs.Common.{◌≡◌, ℕ, zero, suc, ◌+◌, ◌^◌, ◌<◌, ◌≤◌, Bool, true, false, ◌==◌, not, nat_eq, nat_lt, cond, List, [], ◌∷◌, ◌++◌, Option, Some, None, is_some, sum, inl, inr, ◌⊎◌, ⊎_elim, length, map, max, drop, get_or, slice_get, All, refl, ap, sym, subst, ◌∙◌, add-zero, zero-add, arith, true≢false, option_map, eq-eqb}
+use Rattle.std.specs.List.{list_any, list_all, flat_map, AllZip, IsDistinct, Contains}
 use Rattle.std.specs.Str.{bytes_eq}
 use Rattle.std.specs.Fmt.{decimal}
 use Rattle.std.specs.declared.vec.Vec.{Vec}
@@ -8,9 +8,19 @@ use Rattle.std.specs.declared.boxed.Box.{Box}
 use Rattle.std.specs.declared.alloc.Global.{Global}
 use Rattle.vs_syntax.specs.declared.tree.Expr.{Expr}
 use Rattle.vs_syntax.specs.declared.tree.Stmt.{Stmt}
+use Rattle.vs_syntax.specs.declared.tree.Declarator.{Declarator}
+use Rattle.vs_syntax.specs.declared.tree.Range.{Range}
+use Rattle.vs_syntax.specs.declared.tree.Item.{Item}
+use Rattle.vs_syntax.specs.declared.tree.Item.TheVariants as t
 use Rattle.vs_design.specs.Parts.{Parts}
 use Rattle.vs_design.specs.declared.range.BitRange.{BitRange}
-use Rattle.vs_design.specs.WellFormed.{WellFormed, is_at_least, is_within, writes_variable, drives_net, is_source, is_sound_assignment, is_sound_assign, sound_step, is_sound_statement, is_forever, is_body_of, is_sound_process, declared_in}
+use Rattle.vs_design.specs.Kinds.{is_variable}
+use Rattle.vs_design.specs.Uses.{reads, aim_range}
+use Rattle.vs_design.specs.declared.statement.Aim.{Aim}
+use Rattle.vs_design.specs.declared.statement.Aim.TheVariants.{Fixed, Chosen}
+use Rattle.vs_design.specs.declared.write.Part.{Part}
+use Rattle.vs_design.specs.declared.signal.SignalKind.{SignalKind}
+use Rattle.vs_design.specs.WellFormed.{WellFormed, size_of, is_at_least, are_within, is_within, is_of_variable, is_of_net, aim_width, is_variable_aim, is_net_aim, is_sound_target, is_source, is_sound_assignment, is_sound_assign, share_a_bit, driven, sound_step, is_sound_statement, is_forever, is_body_of, is_sound_process, declared_in as declared_by_outline}
 use Rattle.vs_design.specs.declared.timescale.TheConstants.{DEFAULT_TIMESCALE}
 use Rattle.vs_design.specs.declared.signal.Signal.{Signal}
 use Rattle.vs_design.specs.declared.expression.Typed.{Typed}
@@ -25,36 +35,43 @@ use Rattle.vs_design.specs.declared.statement.Statement.TheViews.{out-Statement}
 use Rattle.vs_design.specs.declared.design.Assign.{Assign}
 use Rattle.vs_design.specs.declared.design.Process.{Process}
 use Rattle.vs_design.specs.declared.design.Entry.TheVariants.{Enter, Declare, Leave}
-use Rattle.std.proofs.lemmas.Bool.{le-leb}
+use Rattle.std.proofs.lemmas.Bool.{and_parts, le-leb}
+use Rattle.std.proofs.lemmas.List.Folds.{list_all-append}
 use Rattle.std.proofs.lemmas.Option.{none-some, same_Some, slice_get-map, slice_get_within}
 use Rattle.std.proofs.lemmas.List.{length-map, length-append, get_or-map}
-use Rattle.std.proofs.lemmas.List.Elements.{All-nil, All-cons, Contains-get_or}
+use Rattle.std.proofs.lemmas.List.Elements.{All-nil, All-cons, All-append, Contains-get_or}
 use Rattle.std.proofs.lemmas.Map.Keys.{apart_from_distinct, IsDistinct-from_apart}
 use Rattle.std.proofs.lemmas.Slice.Eq.{bytes_eq-Decides}
 use Rattle.std.specs.Str.Parse.{digits_value}
 use Rattle.std.proofs.lemmas.Bool.{lt-ltb, ne_eqb, false_from_ne_true}
 use Rattle.std.proofs.lemmas.Fmt.{decimal_is_IsNumeral}
-use Rattle.vs_widths.specs.declared.bindings.Meaning.{Meaning}
-use Rattle.vs_widths.specs.declared.bindings.Binding.{Binding}
-use Rattle.vs_elaborate.specs.declared.assignments.AssignmentKind.{AssignmentKind}
-use Rattle.vs_elaborate.specs.declared.assignments.AssignmentKind.TheVariants.{Procedural, Continuous}
+use Rattle.vs_selects.specs.declared.bindings.Meaning.{Meaning}
+use Rattle.vs_selects.specs.declared.bindings.Binding.{Binding}
+use Rattle.vs_targets.specs.declared.kinds.AssignmentKind.{AssignmentKind}
+use Rattle.vs_targets.specs.declared.kinds.AssignmentKind.TheVariants.{Procedural, Continuous}
 use Rattle.vs_elaborate.specs.declared.faults.Reason.{Reason}
 use Rattle.vs_elaborate.specs.declared.faults.Reason.TheVariants.{Width}
-use Rattle.vs_widths.specs.declared.faults.WidthReason.{WidthReason}
-use Rattle.vs_widths.specs.declared.faults.WidthReason.TheVariants.{WrongKind}
+use Rattle.vs_selects.specs.declared.faults.WidthReason.TheVariants.{WrongKind}
 use Rattle.vs_elaborate.specs.declared.plans.Plan.{Plan}
 use Rattle.vs_elaborate.specs.Printed.{Path, printed, printed_name, is_simple}
-use Rattle.vs_widths.specs.Environment.{Environment}
+use Rattle.vs_selects.specs.Environment.{Environment}
 use Rattle.vs_widths.specs.Names.{meaning_of}
-use Rattle.vs_elaborate.specs.Statements.{IsAssignment, IsStatement, is_null, is_assign, is_later, is_block, is_delay, AreStatements, are_none, are_more, takes, target_fault, assign_fault, delay_fault, has_fault}
-use Rattle.vs_elaborate.specs.Scopes.{Scope, DeclaredName, Assignment, Behavior, declarations_of, drivers_of, behaviors_of, names_of, names_in, named}
-use Rattle.vs_elaborate.specs.Processes.{IsBody, is_set, is_run, is_repeat, kind_of, part_fault, behavior_fault, driver_fault}
+use Rattle.vs_forms.specs.Each.{Each, each_none, each_more}
+use Rattle.vs_selects.specs.Selects.{Named}
+use Rattle.vs_widths.specs.Typing.{HoldsOfSignals}
+use Rattle.vs_targets.specs.Lefts.{takes_reads}
+use Rattle.vs_targets.specs.Aiming.{is_none_read, IsPlace}
+use Rattle.vs_elaborate.specs.Ranges.{Sized, bounds_fault, Words, words_fault, words_as, word_count}
+use Rattle.vs_elaborate.specs.Statements.{IsSource, IsAssignment, IsStatement, is_null, is_assign, is_later, is_block, is_delay, AreStatements, are_none, are_more}
+use Rattle.vs_elaborate.specs.Scopes.{Scope, DeclaredName, declared_by, declared_as, declared_in, declaration_fault, unsized_in, Assignee, places, Assignment, Behavior, declarations_of, drivers_of, behaviors_of, names_of, names_in, named}
+use Rattle.vs_elaborate.specs.Processes.{IsBody, is_set, is_run, is_repeat, kind_of, behavior_fault, driver_fault}
 use Rattle.vs_elaborate.specs.DesignOf.{Declared, declared, signal_of, signals_of, PartOf, own_name, part_name, parts_from, IsProcess, IsAssign}
 use Rattle.vs_elaborate.specs.passes.Bodies.{Bindings, counting}
-use Rattle.vs_elaborate.specs.passes.Plans.{Binds, Opens, driven_signals}
-use Rattle.vs_elaborate.proofs.Folds.{all_of_map, both_true}
+use Rattle.vs_elaborate.specs.passes.Marks.{AreWithin}
+use Rattle.vs_elaborate.specs.passes.Plans.{Binds, Opens}
+use Rattle.vs_elaborate.proofs.Folds.{all_of_map, both_true, any_false_at}
 use Rattle.vs_elaborate.proofs.PrintedLemmas.{printed_push}
-use Rattle.vs_elaborate.proofs.StatementLemmas.{fault_Assign, fault_Later, fault_Block, fault_Delay, left_false, right_false}
+use Rattle.vs_elaborate.proofs.StatementLemmas.{right_false}
 use Rattle.vs_elaborate.proofs.ScopeLemmas.{number_at}
 use Rattle.vs_elaborate.proofs.ReadLemmas.{reads_within}
 
@@ -84,76 +101,94 @@ forever_body k x = refl
 
 -- ---- what names mean
 
--- the signal of a binding is what the binding says
+-- the signal of a binding is what the binding says; a net is no array
 pub record IsMeant (ss : List Signal) (b : Binding) : Type 0 where
   pub signal : Signal
   pub stands : slice_get ss b.signal ≡ Some signal
   pub kind : signal.kind ≡ b.meaning.kind
-  pub width : signal.width ≡ b.meaning.shape.width
+  pub of_net : is_variable b.meaning.kind ≡ false → (b.meaning.words ≡ None) × (signal.count ≡ 1)
 
-not_true : (b : Bool) → not b ≡ false → b ≡ true
-not_true true h = refl
-not_true false h = sym h
+not_true : (b : Bool) → not b ≡ true → b ≡ false
+not_true true h = absurd (true≢false (sym h))
+not_true false h = refl
+
+-- places of which each passes a test
+places_pass : {how : AssignmentKind} {env : Environment} (test : Aim → Bool) → ((n : Named) (a : Aim) → IsPlace how env n a → test a ≡ true) → (ns : List Named) (aims : List Aim) → Each (IsPlace how env) ns aims → list_all test aims ≡ true
+places_pass test one _ _ each_none = refl
+places_pass test one _ _ (each_more n a ns aims p ps) = both_true _ _ (one n a p) (places_pass test one ns aims ps)
 
 module _ (ss : List Signal) (env : Environment) (good : (n : List ℕ) (b : Binding) → env n ≡ Some b → IsMeant ss b) where
-  -- the target's signal, which has the kind that the assignment takes, and the target's size
-  pub record IsTargetOf (how : AssignmentKind) (u : Target) : Type 0 where
-    pub signal : Signal
-    pub stands : slice_get ss u.signal ≡ Some signal
-    pub taken : takes how signal.kind ≡ true
-    pub width : (signal.width == u.width) ≡ true
+  in_design : HoldsOfSignals env (λ k. nat_lt k (length ss))
+  in_design n b k = let g = good n b k in lt-ltb b.signal (length ss) (slice_get_within ss b.signal g.signal g.stands)
 
-  target_of : (how : AssignmentKind) (n : List ℕ) (e : Expr) (u : Target) (x : Typed) → assign_fault (Width WrongKind) how env n e ≡ false → IsAssignment env n e u x → IsTargetOf how u
-  target_of how n e u x k h =
-      let g = good n h.binding h.found in
-      let kind : target_fault WrongKind how (Some h.binding) ≡ false = ap (target_fault WrongKind how) (sym h.found) ∙ left_false _ _ k in
-      record {
-        signal = g.signal;
-        stands = ap (slice_get ss) h.signal ∙ g.stands;
-        taken = ap (takes how) g.kind ∙ not_true _ kind;
-        width = eq-eqb g.signal.width u.width (g.width ∙ sym h.width);
-      }
+  -- a place of a variable
+  variable_place : (n : Named) (a : Aim) → IsPlace Procedural env n a → is_variable_aim ss a ≡ true
+  variable_place n (Fixed s) p =
+      let g = good p.name p.binding p.bound in
+      let at : s.signal ≡ p.binding.signal = ap (λ (z : Part). z.signal) (p.part [] [] 0) ∙ p.signal in
+      ap (λ i. is_of_variable (slice_get ss i)) at ∙ ap is_of_variable g.stands ∙ ap is_variable g.kind ∙ p.taken
+  variable_place n (Chosen s word low) p =
+      let g = good p.name p.binding p.bound in
+      let at : s.signal ≡ p.binding.signal = ap (λ (z : Part). z.signal) (p.part [] [] 0) ∙ p.signal in
+      let of_variable : is_of_variable (slice_get ss s.signal) ≡ true = ap (λ i. is_of_variable (slice_get ss i)) at ∙ ap is_of_variable g.stands ∙ ap is_variable g.kind ∙ p.taken in
+      let inside : are_within ss (reads word ++ reads low) ≡ true = ap (are_within ss) p.reads ∙ p.within (λ k. nat_lt k (length ss)) in_design in
+      let parts = and_parts (is_within ss word) (is_within ss low) (sym (list_all-append (λ (r : BitRange). nat_lt r.signal (length ss)) (reads word) (reads low)) ∙ inside) in
+      let sizes = and_parts (is_some (size_of word)) (is_some (size_of low)) p.sizes in
+      both_true _ _ (both_true _ _ (both_true _ _ (both_true _ _ of_variable parts.0) parts.1) sizes.0) sizes.1
 
-  source_sound : (n : List ℕ) (e : Expr) (u : Target) (x : Typed) → IsAssignment env n e u x → is_source ss u x ≡ true
-  source_sound n e u x h =
-      let y = h.source.typed in
-      let within : is_within ss x ≡ true =
-      ap (list_all (λ (r : BitRange). nat_lt r.signal (length ss))) y.ranges
-      ∙ reads_within (length ss) env (λ m b k. (let g = good m b k in slice_get_within ss b.signal g.signal g.stands)) e in
-      let wide : u.width ≤ max h.binding.meaning.shape.width h.source.width = omega (arith, h.width) in
-      both_true _ _ within (ap (is_at_least u.width) y.size ∙ le-leb u.width (max h.binding.meaning.shape.width h.source.width) wide)
+  -- a place of a net
+  net_place : (n : Named) (a : Aim) → IsPlace Continuous env n a → is_net_aim ss a ≡ true
+  net_place n (Chosen s word low) p = absurd (by n.reads p.constant p.fixed)
+    where
+      by : (rs : List BitRange) → takes_reads Continuous rs ≡ true → false ≡ is_none_read rs → ⊥
+      by [] h k = true≢false (sym k)
+      by (r ∷ rs) h k = true≢false (sym h)
+  net_place n (Fixed s) p =
+      let g = good p.name p.binding p.bound in
+      let same = p.part [] [] 0 in
+      let at : s.signal ≡ p.binding.signal = ap (λ (z : Part). z.signal) same ∙ p.signal in
+      let kind : is_variable p.binding.meaning.kind ≡ false = not_true _ p.taken in
+      let net = g.of_net kind in
+      let first : s.word ≡ 0 = ap (λ (z : Part). z.word) same ∙ p.scalar net.0 [] 0 in
+      let of_net : is_of_net (slice_get ss s.signal) ≡ true =
+      ap (λ i. is_of_net (slice_get ss i)) at ∙ ap is_of_net g.stands ∙ both_true _ _ (ap not (ap is_variable g.kind ∙ kind)) (eq-eqb g.signal.count 1 net.1) in
+      both_true _ _ of_net (eq-eqb s.word 0 first)
 
-  target_sound : (n : List ℕ) (e : Expr) (u : Target) (x : Typed) → assign_fault (Width WrongKind) Procedural env n e ≡ false → IsAssignment env n e u x → is_sound_assignment ss u x ≡ true
-  target_sound n e u x k h =
-      let t = target_of Procedural n e u x k h in
-      both_true _ _ (ap (λ o. writes_variable o u.width) t.stands ∙ both_true _ _ t.taken t.width) (source_sound n e u x h)
+  source_sound : (e : Expr) (u : Target) (x : Typed) → IsSource env e u.width x → is_source ss u x ≡ true
+  source_sound e u x h =
+      let y = h.typed in
+      let within : is_within ss x ≡ true = ap (are_within ss) y.ranges ∙ reads_within env (λ k. nat_lt k (length ss)) in_design e in
+      let wide : u.width ≤ max u.width h.width = omega arith in
+      both_true _ _ within (ap (is_at_least u.width) y.size ∙ le-leb u.width (max u.width h.width) wide)
 
-  pub driver_sound : (n : List ℕ) (e : Expr) (a : Assign) → assign_fault (Width WrongKind) Continuous env n e ≡ false → IsAssignment env n e a.target a.source → is_sound_assign ss a ≡ true
-  driver_sound n e a k h =
-      let t = target_of Continuous n e a.target a.source k h in
-      both_true _ _ (ap (λ o. drives_net o a.target.width) t.stands ∙ both_true _ _ t.taken t.width) (source_sound n e a.target a.source h)
+  target_sound : (a : Assignee) (e : Expr) (u : Target) (x : Typed) → IsAssignment Procedural env a e u x → is_sound_assignment ss u x ≡ true
+  target_sound a e u x h =
+      both_true _ _ (both_true _ _ (places_pass (is_variable_aim ss) variable_place _ u.parts.items h.target.places) (eq-eqb _ u.width h.target.width)) (source_sound e u x h.source)
+
+  pub driver_sound : (b : Assignee) (e : Expr) (a : Assign) → IsAssignment Continuous env b e a.target a.source → is_sound_assign ss a ≡ true
+  driver_sound b e a h =
+      both_true _ _ (both_true _ _ (places_pass (is_net_aim ss) net_place _ a.target.parts.items h.target.places) (eq-eqb _ a.target.width h.target.width)) (source_sound e a.target a.source h.source)
 
   mutual
-    statement_sound : (x : Stmt) (z : Statement) → has_fault (Width WrongKind) env x ≡ false → IsStatement env x z → is_sound_statement ss z ≡ true
-    statement_sound _ _ k (is_null j) = sound_Null ss j
-    statement_sound _ _ k (is_assign n e j u x h) = sound_Assign ss j u x ∙ target_sound n.items e u x (sym (fault_Assign (Width WrongKind) env n e) ∙ k) h
-    statement_sound _ _ k (is_later n e j u x h) = sound_Later ss j u x ∙ target_sound n.items e u x (sym (fault_Later (Width WrongKind) env n e) ∙ k) h
-    statement_sound _ _ k (is_block xs zs h) = sound_Block ss zs ∙ statements_sound _ _ (sym (fault_Block (Width WrongKind) env xs) ∙ k) h
-    statement_sound _ _ k (is_delay l j n x z h g) =
-        sound_Delay ss j n z ∙ statement_sound _ _ (right_false (delay_fault (Width WrongKind) l) _ (sym (fault_Delay (Width WrongKind) env l x) ∙ k)) g
+    statement_sound : (x : Stmt) (z : Statement) → IsStatement env x z → is_sound_statement ss z ≡ true
+    statement_sound _ _ (is_null j) = sound_Null ss j
+    statement_sound _ _ (is_assign l e j u x h) = sound_Assign ss j u x ∙ target_sound (places l) e u x h
+    statement_sound _ _ (is_later l e j u x h) = sound_Later ss j u x ∙ target_sound (places l) e u x h
+    statement_sound _ _ (is_block xs zs h) = sound_Block ss zs ∙ statements_sound _ _ h
+    statement_sound _ _ (is_delay l j n x z h g) = sound_Delay ss j n z ∙ statement_sound _ _ g
 
-    statements_sound : (xs : List Stmt) (zs : List Statement) → list_any (has_fault (Width WrongKind) env) xs ≡ false → AreStatements env xs zs → list_all (is_sound_statement ss) zs ≡ true
-    statements_sound _ _ k are_none = refl
-    statements_sound _ _ k (are_more x z xs zs h g) = both_true _ _ (statement_sound x z (left_false _ _ k) h) (statements_sound xs zs (right_false (has_fault (Width WrongKind) env x) _ k) g)
+    statements_sound : (xs : List Stmt) (zs : List Statement) → AreStatements env xs zs → list_all (is_sound_statement ss) zs ≡ true
+    statements_sound _ _ are_none = refl
+    statements_sound _ _ (are_more x z xs zs h g) = both_true _ _ (statement_sound x z h) (statements_sound xs zs g)
 
-  body_sound : (b : Behavior) (z : Statement) → part_fault (Width WrongKind) env b ≡ false → IsBody env b z → (is_sound_statement ss z ≡ true) × (is_body_of (kind_of b) z ≡ true)
-  body_sound _ _ k (is_set a j u x h) = (sound_Assign ss j u x ∙ target_sound a.target a.value u x k h, refl)
-  body_sound _ _ k (is_run x z h) = (statement_sound x z k h, refl)
-  body_sound _ _ k (is_repeat x j z h) = (sound_Forever ss j z ∙ statement_sound x z.value k h, forever_body j z)
+  body_sound : (b : Behavior) (z : Statement) → IsBody env b z → (is_sound_statement ss z ≡ true) × (is_body_of (kind_of b) z ≡ true)
+  body_sound _ _ (is_set a j u x h) = (sound_Assign ss j u x ∙ target_sound a.target a.value u x h, refl)
+  body_sound _ _ (is_run x z h) = (statement_sound x z h, refl)
+  body_sound _ _ (is_repeat x j z h) = (sound_Forever ss j z ∙ statement_sound x z.value h, forever_body j z)
 
-  pub process_sound : (p : Process) (q : PartOf Behavior) → behavior_fault (Width WrongKind) env q.part ≡ false → IsProcess env p q → is_sound_process ss p ≡ true
-  process_sound p q k h =
-      let b = body_sound q.part p.body (left_false _ _ k) h.body in
+  pub process_sound : (p : Process) (q : PartOf Behavior) → IsProcess env p q → is_sound_process ss p ≡ true
+  process_sound p q h =
+      let b = body_sound q.part p.body h.body in
       both_true _ _ (both_true _ _ b.0 h.numbered) (ap (λ z. is_body_of z p.body) h.kind ∙ b.1)
 
 signal_shown : (s : Scope) (n : DeclaredName) (o : Option Signal) → option_map declared o ≡ Some (signal_of s n) → (x : Signal) × (o ≡ Some x) × (declared x ≡ signal_of s n)
@@ -164,9 +199,42 @@ signal_shown s n (Some x) h = (x, refl, same_Some _ _ h)
 pub signal_at : (s : Scope) (now : List Signal) (i : ℕ) (n : DeclaredName) → map declared now ≡ signals_of s → slice_get (declarations_of s) i ≡ Some n → (x : Signal) × (slice_get now i ≡ Some x) × (declared x ≡ signal_of s n)
 signal_at s now i n shown stands = signal_shown s n (slice_get now i) (sym (slice_get-map declared now i) ∙ ap (λ l. slice_get l i) shown ∙ slice_get-map (signal_of s) (declarations_of s) i ∙ ap (option_map (signal_of s)) stands)
 
+-- the words of a declared name, by a range
+abbrev IsWorded : Environment → DeclaredName → Type 0
+IsWorded env d = (o : Option Range) × (d.words ≡ words_as env d.kind o)
+
+worded_by : (env : Environment) (kind : SignalKind) (z : Sized) (ds : List Declarator) (i : ℕ) (d : DeclaredName) → slice_get (declared_as env kind z ds) i ≡ Some d → IsWorded env d
+worded_by env kind z [] i d h = absurd (none-some d h)
+worded_by env kind z (x ∷ ds) zero d h = subst (IsWorded env) (same_Some (declared_by env kind z x) d h) (x.words, refl)
+worded_by env kind z (x ∷ ds) (suc i) d h = worded_by env kind z ds i d h
+
+worded_in : (env : Environment) (x : Item) (i : ℕ) (d : DeclaredName) → slice_get (declared_in env x) i ≡ Some d → IsWorded env d
+worded_in env (t.Wire f ds) i d h = worded_by env _ _ ds.items i d h
+worded_in env (t.Reg f ds) i d h = worded_by env _ _ ds.items i d h
+worded_in env (t.Integer ds) i d h = worded_by env _ _ ds.items i d h
+worded_in env (t.Assign xs) i d h = absurd (none-some d h)
+worded_in env (t.Initial x) i d h = absurd (none-some d h)
+worded_in env (t.Always x) i d h = absurd (none-some d h)
+
+either_part : {A : Type 0} (xs ys : List A) (i : ℕ) (x : A) → slice_get (xs ++ ys) i ≡ Some x → (slice_get xs i ≡ Some x) ⊎ ((j : ℕ) × (slice_get ys j ≡ Some x))
+either_part [] ys i x h = inr (i, h)
+either_part (z ∷ xs) ys zero x h = inl h
+either_part (z ∷ xs) ys (suc i) x h = either_part xs ys i x h
+
+worded : (env : Environment) (xs : List Item) (i : ℕ) (d : DeclaredName) → slice_get (flat_map (declared_in env) xs) i ≡ Some d → IsWorded env d
+worded env [] i d h = absurd (none-some d h)
+worded env (x ∷ xs) i d h = ⊎_elim (λ l. worded_in env x i d l) (λ r. worded env xs r.0 d r.1) (either_part (declared_in env x) (flat_map (declared_in env) xs) i d h)
+
+-- a net without faults is no array
+no_words : (env : Environment) (d : DeclaredName) → IsWorded env d → declaration_fault (Width WrongKind) d ≡ false → is_variable d.kind ≡ false → d.words.bounds ≡ None
+no_words env d (None, e) h k = ap (λ (z : Words). z.bounds) e
+no_words env d (Some r, e) h k =
+    let fault : words_fault (Width WrongKind) env d.kind (Some r) ≡ false = ap (λ (z : Words). z.faults (Width WrongKind)) (sym e) ∙ right_false (d.size.faults WrongKind) _ h in
+    absurd (true≢false (sym (ap not k) ∙ right_false (bounds_fault WrongKind env r) _ fault))
+
 -- each name of the scope is a signal of the design
-pub names_are_signals : (s : Scope) (names : Bindings) (now : List Signal) → Binds names 0 (declarations_of s) → map declared now ≡ signals_of s → (n : List ℕ) (b : Binding) → meaning_of names n ≡ Some b → IsMeant now b
-names_are_signals s names now h shown n b k =
+pub names_are_signals : (s : Scope) (names : Bindings) (now : List Signal) → Binds names 0 (declarations_of s) → ((r : Reason) → list_any (declaration_fault r) (declarations_of s) ≡ false) → map declared now ≡ signals_of s → (n : List ℕ) (b : Binding) → meaning_of names n ≡ Some b → IsMeant now b
+names_are_signals s names now h sized shown n b k =
     let p = number_at s names 0 n b h k in
     let at : b.signal ≡ p.place = p.number ∙ zero-add p.place in
     let found = signal_at s now b.signal p.declared shown (ap (slice_get (declarations_of s)) at ∙ p.stands) in
@@ -174,21 +242,44 @@ names_are_signals s names now h shown n b k =
       signal = found.0;
       stands = found.1;
       kind = ap (λ (z : Declared). z.kind) found.2 ∙ ap (λ (z : Meaning). z.kind) (sym p.meaning);
-      width = ap (λ (z : Declared). z.width) found.2 ∙ ap (λ (z : Meaning). z.shape.width) (sym p.meaning);
+      of_net = λ v.
+          (let none : p.declared.words.bounds ≡ None =
+          no_words (unsized_in s.items) p.declared (worded (unsized_in s.items) s.items p.place p.declared p.stands) (any_false_at (declaration_fault (Width WrongKind)) (declarations_of s) p.place p.declared (sized (Width WrongKind)) p.stands) (ap (λ (z : Meaning). is_variable z.kind) (sym p.meaning) ∙ v) in
+          (ap (λ (z : Meaning). z.words) p.meaning ∙ none, ap (λ (z : Declared). z.count) found.2 ∙ ap word_count none));
     }
 
 -- the parts of a scope
-pub all_sound : {A P : Type 0} (R : P → PartOf A → Type 0) (fault : A → Bool) (test : P → Bool) (letter : ℕ) (s : Scope) → ((p : P) (q : PartOf A) → fault q.part ≡ false → R p q → test p ≡ true) → (ps : List P) (k : ℕ) (xs : List A) → list_any fault xs ≡ false → AllZip R ps (parts_from letter s k xs) → All (λ p. test p ≡ true) ps
-all_sound R fault test letter s one [] k [] u h = All-nil (λ p. test p ≡ true)
-all_sound R fault test letter s one [] k (x ∷ xs) u h = absurd h
-all_sound R fault test letter s one (p ∷ ps) k [] u h = absurd h
-all_sound R fault test letter s one (p ∷ ps) k (x ∷ xs) u h =
-    All-cons (λ p. test p ≡ true) p ps (one p _ (left_false _ _ u) h.0) (all_sound R fault test letter s one ps (suc k) xs (right_false (fault x) _ u) h.1)
+pub all_sound : {A P : Type 0} (R : P → PartOf A → Type 0) (test : P → Bool) (letter : ℕ) (s : Scope) → ((p : P) (q : PartOf A) → R p q → test p ≡ true) → (ps : List P) (k : ℕ) (xs : List A) → AllZip R ps (parts_from letter s k xs) → All (λ p. test p ≡ true) ps
+all_sound R test letter s one [] k [] h = All-nil (λ p. test p ≡ true)
+all_sound R test letter s one [] k (x ∷ xs) h = absurd h
+all_sound R test letter s one (p ∷ ps) k [] h = absurd h
+all_sound R test letter s one (p ∷ ps) k (x ∷ xs) h = All-cons (λ p. test p ≡ true) p ps (one p _ h.0) (all_sound R test letter s one ps (suc k) xs h.1)
 
-all_within : {A : Type 0} (R : Assign → PartOf A → Type 0) (letter : ℕ) (s : Scope) (n : ℕ) → ((a : Assign) (q : PartOf A) → R a q → a.target.signal < n) → (ps : List Assign) (k : ℕ) (xs : List A) → AllZip R ps (parts_from letter s k xs) → All (λ i. i < n) (driven_signals ps)
-all_within R letter s n one [] k xs h = All-nil (λ i. i < n)
-all_within R letter s n one (p ∷ ps) k [] h = absurd h
-all_within R letter s n one (p ∷ ps) k (x ∷ xs) h = All-cons (λ i. i < n) p.target.signal (driven_signals ps) (one p _ h.0) (all_within R letter s n one ps (suc k) xs h.1)
+-- what sound continuous assignments drive are nets
+abbrev OfNet : List Signal → BitRange → Type 0
+OfNet ss r = is_of_net (slice_get ss r.signal) ≡ true
+
+aims_of_nets : (ss : List Signal) (aims : List Aim) → list_all (is_net_aim ss) aims ≡ true → All (OfNet ss) (map aim_range aims)
+aims_of_nets ss [] h = All-nil (OfNet ss)
+aims_of_nets ss (a ∷ aims) h = let parts = and_parts (is_net_aim ss a) (list_all (is_net_aim ss) aims) h in All-cons (OfNet ss) (aim_range a) (map aim_range aims) (one a parts.0) (aims_of_nets ss aims parts.1)
+  where
+    one : (a : Aim) → is_net_aim ss a ≡ true → OfNet ss (aim_range a)
+    one (Fixed s) k = (and_parts (is_of_net (slice_get ss s.signal)) (s.word == 0) k).0
+    one (Chosen s word low) k = absurd (true≢false (sym k))
+
+pub driven_nets : (ss : List Signal) (ps : List Assign) → All (λ (a : Assign). is_sound_assign ss a ≡ true) ps → All (OfNet ss) (driven ps)
+driven_nets ss [] h = All-nil (OfNet ss)
+driven_nets ss (p ∷ ps) h =
+    let sound = and_parts (is_sound_target (is_net_aim ss) p.target) (is_source ss p.target p.source) (h 0 p (omega arith)) in
+    let places = and_parts (list_all (is_net_aim ss) p.target.parts.items) (sum (map aim_width p.target.parts.items) == p.target.width) sound.0 in
+    All-append (OfNet ss) (map aim_range p.target.parts.items) (driven ps) (aims_of_nets ss p.target.parts.items places.0) (driven_nets ss ps (λ i d l. h (suc i) d (omega (arith, l))))
+
+of_net_within : (ss : List Signal) (i : ℕ) → is_of_net (slice_get ss i) ≡ true → i < length ss
+of_net_within ss i h = by (slice_get ss i) refl h
+  where
+    by : (o : Option Signal) → slice_get ss i ≡ o → is_of_net o ≡ true → i < length ss
+    by None e k = absurd (true≢false (sym k))
+    by (Some x) e k = slice_get_within ss i x e
 
 -- ---- the outline
 
@@ -219,7 +310,7 @@ counting_contains n k h =
     let at : get_or (counting 0 n) k 0 ≡ k = get_or-counting 0 n k 0 h ∙ zero-add k in
     subst (Contains (counting 0 n)) at (Contains-get_or (counting 0 n) k 0 (omega (arith, long, h)))
 
-lines_declare : (ns : List ℕ) → declared_in (map Declare ns ++ Leave ∷ []) ≡ ns
+lines_declare : (ns : List ℕ) → declared_by_outline (map Declare ns ++ Leave ∷ []) ≡ ns
 lines_declare [] = refl
 lines_declare (n ∷ ns) = ap (λ z. n ∷ z) (lines_declare ns)
 
@@ -338,7 +429,7 @@ pub record Made (s : Scope) (p : Plan) : Type 0 where
   pub count : length p.signals.items ≡ length (names_of s)
   pub sound : (r : Reason) → (list_any (behavior_fault r (meaning_of names)) (behaviors_of s) ≡ false) × (list_any (driver_fault r (meaning_of names)) (drivers_of s) ≡ false)
   pub distinct : IsDistinct bytes_eq (names_of s)
-  pub sized : (w : WidthReason) → list_any (λ (d : DeclaredName). d.size.faults w) (declarations_of s) ≡ false
+  pub sized : (r : Reason) → list_any (declaration_fault r) (declarations_of s) ≡ false
   pub room : length p.signals.items ≤ 65536
 
 pub made : (s : Scope) (old new : Plan) → IsEmpty old → Opens s old new → Made s new
@@ -366,18 +457,32 @@ made s old new e o =
       room = o.room;
     }
 
-pub well_formed : (s : Scope) (p : Plan) → 0 < length s.path → length p.assigns.items < 2 ^ 64 → length p.processes.items < 2 ^ 64 → Made s p → IsDistinct nat_eq (driven_signals p.assigns.items) → WellFormed (parts_of p)
+-- the continuous assignments are sound
+assigns_sound : (s : Scope) (p : Plan) → Made s p → All (λ (a : Assign). is_sound_assign p.signals.items a ≡ true) p.assigns.items
+assigns_sound s p m =
+    let env = meaning_of m.names in
+    let good = names_are_signals s m.names p.signals.items m.bound m.sized m.shown in
+    all_sound (IsAssign env) (is_sound_assign p.signals.items) 97 s (λ x q h. driver_sound p.signals.items env good q.part.target q.part.value x h.sides) p.assigns.items 0 (drivers_of s) m.drivers_mean
+
+-- the ranges that are driven are of nets of the design
+pub drivers_of_nets : (s : Scope) (p : Plan) → Made s p → All (OfNet p.signals.items) (driven p.assigns.items)
+drivers_of_nets s p m = driven_nets p.signals.items p.assigns.items (assigns_sound s p m)
+
+pub drivers_within : (s : Scope) (p : Plan) → Made s p → AreWithin p.signals.items (driven p.assigns.items)
+drivers_within s p m i d l = of_net_within p.signals.items (get_or (driven p.assigns.items) i d).signal (drivers_of_nets s p m i d l)
+
+pub well_formed : (s : Scope) (p : Plan) → 0 < length s.path → length p.assigns.items < 2 ^ 64 → length p.processes.items < 2 ^ 64 → Made s p → IsDistinct (share_a_bit p.signals.items) (driven p.assigns.items) → WellFormed (parts_of p)
 well_formed s p rooted short small m drivers =
     let env = meaning_of m.names in
     let ss = p.signals.items in
     let R : Process → PartOf Behavior → Type 0 = IsProcess env in
     let S : Assign → PartOf Assignment → Type 0 = IsAssign env in
-    let good = names_are_signals s m.names ss m.bound m.shown in
-    let declares : declared_in p.outline.items ≡ counting 0 (length ss) = ap declared_in m.lines ∙ lines_declare (counting 0 (length (names_of s))) ∙ ap (counting 0) (sym m.count) in
+    let good = names_are_signals s m.names ss m.bound m.sized m.shown in
+    let declares : declared_by_outline p.outline.items ≡ counting 0 (length ss) = ap declared_by_outline m.lines ∙ lines_declare (counting 0 (length (names_of s))) ∙ ap (counting 0) (sym m.count) in
     let from_zero : 0 + length ss ≤ length ss = omega arith in
     record {
-      processes = all_sound R (behavior_fault (Width WrongKind) env) (is_sound_process ss) 112 s (λ x q k h. process_sound ss env good x q k h) p.processes.items 0 (behaviors_of s) (m.sound (Width WrongKind)).0 m.behaviors_mean;
-      assigns = all_sound S (driver_fault (Width WrongKind) env) (is_sound_assign ss) 97 s (λ x q k h. driver_sound ss env good q.part.target q.part.value x k h.sides) p.assigns.items 0 (drivers_of s) (m.sound (Width WrongKind)).1 m.drivers_mean;
+      processes = all_sound R (is_sound_process ss) 112 s (λ x q h. process_sound ss env good x q h) p.processes.items 0 (behaviors_of s) m.behaviors_mean;
+      assigns = assigns_sound s p m;
       drivers = drivers;
       declared = subst (λ z. All (λ k. nat_lt k (length ss) ≡ true) z) (sym declares) (counting_below 0 (length ss) (length ss) from_zero);
       declared_once = subst (IsDistinct nat_eq) (sym declares) (counting_distinct 0 (length ss));
@@ -386,11 +491,3 @@ well_formed s p rooted short small m drivers =
       names = parts_differ R 112 (λ (x : Process). x.name.items) (λ x q h. h.name) s p.processes.items (behaviors_of s) m.behaviors_mean small;
       assign_names = parts_differ S 97 (λ (x : Assign). x.name.items) (λ x q h. h.name) s p.assigns.items (drivers_of s) m.drivers_mean short;
     }
-
--- the signals that are driven are signals of the design
-pub drivers_within : (s : Scope) (p : Plan) → Made s p → All (λ n. n < length p.signals.items) (driven_signals p.assigns.items)
-drivers_within s p m =
-    let R : Assign → PartOf Assignment → Type 0 = IsAssign (meaning_of m.names) in
-    let one : (a : Assign) (q : PartOf Assignment) → R a q → a.target.signal < length p.signals.items =
-    λ a q r. (let g = names_are_signals s m.names p.signals.items m.bound m.shown q.part.target r.sides.binding r.sides.found in slice_get_within p.signals.items a.target.signal g.signal (ap (slice_get p.signals.items) r.sides.signal ∙ g.stands)) in
-    all_within R 97 s (length p.signals.items) one p.assigns.items 0 (drivers_of s) m.drivers_mean

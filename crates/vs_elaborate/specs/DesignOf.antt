@@ -14,9 +14,11 @@ use Rattle.vs_design.specs.declared.design.Entry.{Entry}
 use Rattle.vs_design.specs.declared.design.Entry.TheVariants.{Enter, Declare, Leave}
 use Rattle.vs_design.specs.Parts.{Parts}
 use Rattle.vs_design.specs.WellFormed.{numbers, counts_from}
-use Rattle.vs_widths.specs.Environment.{Environment}
+use Rattle.vs_selects.specs.Environment.{Environment}
+use Rattle.vs_targets.specs.declared.kinds.AssignmentKind.TheVariants.{Continuous}
 use Rattle.vs_elaborate.specs.declared.faults.Reason.{Reason}
 use Rattle.vs_elaborate.specs.Printed.{Path, printed, printed_name}
+use Rattle.vs_elaborate.specs.Ranges.{word_count}
 use Rattle.vs_elaborate.specs.Statements.{IsAssignment}
 use Rattle.vs_elaborate.specs.Scopes.{Scope, DeclaredName, Assignment, Behavior, module_named, inner, levels, top_scope, declarations_of, names_of, drivers_of, behaviors_of, named, environment_in, IsNamed}
 use Rattle.vs_elaborate.specs.Processes.{IsBody, kind_of}
@@ -31,6 +33,7 @@ pub record Declared : Type 0 where
   pub signed : Bool
   pub range : Option Bounds
   pub words : Option Bounds
+  pub count : ℕ
 
 abbrev pub declared : Signal → Declared
 declared s = record {
@@ -41,9 +44,10 @@ declared s = record {
   signed = s.signed;
   range = s.range;
   words = s.words;
+  count = s.count;
 }
 
--- the signal of a declared name (clauses 4.2, 4.3.1 and 4.8)
+-- the signal of a declared name (clauses 4.2, 4.3.1, 4.8 and 4.9)
 abbrev pub signal_of : Scope → DeclaredName → Declared
 signal_of s d = record {
   name = printed_name d.name;
@@ -52,7 +56,8 @@ signal_of s d = record {
   width = d.size.shape.width;
   signed = d.size.shape.signed;
   range = d.size.bounds;
-  words = None;
+  words = d.words.bounds;
+  count = word_count d.words.bounds;
 }
 
 -- the signals that a scope declares, in text order
@@ -100,7 +105,7 @@ IsProcessIn ss p q = IsProcess (environment_in ss q.scope) p q
 -- the continuous assignment of a design that one of a source is
 pub record IsAssign (env : Environment) (a : Assign) (q : PartOf Assignment) : Type 0 where
   pub name : a.name.items ≡ part_name q.scope.path q.name
-  pub sides : IsAssignment env q.part.target q.part.value a.target a.source
+  pub sides : IsAssignment Continuous env q.part.target q.part.value a.target a.source
 
 -- the same, by what the names of the assignment's scope are bound to
 abbrev pub IsAssignIn : List Scope → Assign → PartOf Assignment → Type 0

@@ -1,16 +1,20 @@
 -- The faults of a source with a top.
-use Rattle.std.specs.Prelude.{◌≡◌, ℕ, suc, ◌<◌, true, List, [], ◌∷◌, Option, Some, None, ◌⊎◌, length, map, take, slice_get, if◌then◌else◌}
+use Rattle.std.specs.Prelude.{◌≡◌, ℕ, suc, ◌<◌, Bool, true, false, ◌&&◌, ◌==◌, List, [], ◌∷◌, Some, None, ◌⊎◌, length, map, take, slice_get}
 use Rattle.std.specs.List.{list_any, flat_map}
 use Rattle.vs_syntax.specs.declared.tree.Module.{Module}
 use Rattle.vs_design.specs.Kinds.{is_variable}
-use Rattle.vs_widths.specs.declared.faults.WidthReason.{WidthReason}
-use Rattle.vs_widths.specs.Environment.{Environment}
+use Rattle.vs_design.specs.WellFormed.{have_common, bits_or_all}
+use Rattle.vs_design.specs.declared.range.BitRange.{BitRange}
+use Rattle.vs_selects.specs.Environment.{Environment}
+use Rattle.vs_selects.specs.Selects.{named_range}
+use Rattle.vs_targets.specs.declared.kinds.AssignmentKind.TheVariants.{Continuous}
 use Rattle.vs_elaborate.specs.declared.faults.Reason.{Reason}
 use Rattle.vs_elaborate.specs.declared.faults.Reason.TheVariants.{NoModule, DeclaredTwice, DrivenTwice, Limit, Width}
 use Rattle.vs_elaborate.specs.declared.faults.ElabFault.{ElabFault}
 use Rattle.vs_elaborate.specs.declared.faults.ElabFault.TheVariants.{Memory, At}
 use Rattle.vs_elaborate.specs.Printed.{Path, printed}
-use Rattle.vs_elaborate.specs.Scopes.{Scope, DeclaredName, Assignment, Located, module_named, all_scopes, declarations_of, names_of, drivers_of, behaviors_of, environment, environment_in, named, signal_paths}
+use Rattle.vs_elaborate.specs.Statements.{assigned_to}
+use Rattle.vs_elaborate.specs.Scopes.{Scope, DeclaredName, Assignment, module_named, all_scopes, declarations_of, declaration_fault, names_of, drivers_of, behaviors_of, environment_in, named, signal_paths, IsNamed}
 use Rattle.vs_elaborate.specs.Processes.{behavior_fault, driver_fault}
 
 -- an element that stands twice among others
@@ -27,18 +31,28 @@ pub record DeclaresTwice (s : Scope) (p : Path) : Type 0 where
   pub repeated : Repeated (names_of s) name
   pub path : p ≡ named s name
 
--- the path of a net; none of a variable, and where there is no signal (clause 4.2)
-abbrev pub net_path : Option Located → Option Path
-net_path None = None
-net_path (Some l) = if is_variable l.meaning.kind then None else Some l.path
+-- the ranges that the continuous assignments of a scope among these drive, in text order, of each target the lowest first
+abbrev pub ranges_driven : List Scope → Scope → List BitRange
+ranges_driven ss s = flat_map (λ (a : Assignment). map named_range (assigned_to Continuous (environment_in ss s) a.target).places) (drivers_of s)
 
--- the nets that the continuous assignments of a scope drive, by their paths, in text order
-abbrev pub nets_driven : Scope → List (Option Path)
-nets_driven s = map (λ (a : Assignment). net_path (environment s a.target)) (drivers_of s)
+-- what two ranges have in common where they are of a net: bits of it by its size (clause 6.1)
+abbrev pub share_bits : ℕ → BitRange → BitRange → Bool
+share_bits size r q = (r.signal == q.signal) && have_common size (bits_or_all size r.bits) (bits_or_all size q.bits)
 
--- a net that two continuous assignments drive, by its path (profile)
-abbrev pub DrivesTwice : List Scope → Path → Type 0
-DrivesTwice ss p = Repeated (flat_map nets_driven ss) (Some p)
+-- a net of which two parts of continuous assignments drive one bit, by its path; bits out of its range don't count (clause 6.1; profile)
+pub record DrivesTwice (ss : List Scope) (p : Path) : Type 0 where
+  pub first : ℕ
+  pub second : ℕ
+  pub before : first < second
+  pub one : BitRange
+  pub other : BitRange
+  pub one_stands : slice_get (flat_map (ranges_driven ss) ss) first ≡ Some one
+  pub other_stands : slice_get (flat_map (ranges_driven ss) ss) second ≡ Some other
+  pub net : DeclaredName
+  pub declared : slice_get (flat_map declarations_of ss) one.signal ≡ Some net
+  pub is_net : is_variable net.kind ≡ false
+  pub shared : share_bits net.size.shape.width one other ≡ true
+  pub path : IsNamed ss one.signal p
 
 -- two modules of one name, by that name (clause 3.12)
 pub record NamesTwice (ms : List Module) (p : Path) : Type 0 where
@@ -61,14 +75,15 @@ HasFault env s r p =
     (p ≡ s.path)
 
 -- a range of a declaration of a scope that has the fault, by the scope's path
-abbrev pub HasRangeFault : Scope → WidthReason → Path → Type 0
-HasRangeFault s w p = (list_any (λ (d : DeclaredName). d.size.faults w) (declarations_of s) ≡ true) × (p ≡ s.path)
+abbrev pub HasRangeFault : Scope → Reason → Path → Type 0
+HasRangeFault s r p = (list_any (declaration_fault r) (declarations_of s) ≡ true) × (p ≡ s.path)
 
 -- the condition of a fault in a scope where names are bound so, with its path: a name is declared twice, or a range, a process or a continuous
 -- assignment has the fault
 abbrev pub Holds : Environment → Scope → Reason → Path → Type 0
 Holds env s DeclaredTwice p = DeclaresTwice s p ⊎ HasFault env s DeclaredTwice p
-Holds env s (Width w) p = HasRangeFault s w p ⊎ HasFault env s (Width w) p
+Holds env s Limit p = HasRangeFault s Limit p ⊎ HasFault env s Limit p
+Holds env s (Width w) p = HasRangeFault s (Width w) p ⊎ HasFault env s (Width w) p
 Holds env s r p = HasFault env s r p
 
 -- a fault in one of these scopes, among all

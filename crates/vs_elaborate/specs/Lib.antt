@@ -5,7 +5,5 @@ pub mod Scopes
 pub mod Processes
 pub mod Faults
 pub mod DesignOf
-pub mod OneLine
-pub mod Same
 pub mod Texts
 pub mod passes

@@ -1,5 +1,5 @@
 -- What a process of a source is in a design.
-use Rattle.std.specs.Prelude.{ℕ, ◌+◌, ◌||◌, Bool, List}
+use Rattle.std.specs.Prelude.{ℕ, ◌+◌, ◌||◌, Bool}
 use Rattle.std.specs.declared.boxed.Box.{Box}
 use Rattle.std.specs.declared.alloc.Global.{Global}
 use Rattle.vs_syntax.specs.declared.tree.Stmt.{Stmt}
@@ -9,9 +9,9 @@ use Rattle.vs_design.specs.declared.statement.Statement.{Statement}
 use Rattle.vs_design.specs.declared.statement.Statement.TheVariants as d
 use Rattle.vs_design.specs.declared.design.ProcessKind.{ProcessKind}
 use Rattle.vs_design.specs.declared.design.ProcessKind.TheVariants.{Initial, Always}
-use Rattle.vs_elaborate.specs.declared.assignments.AssignmentKind.TheVariants.{Procedural, Continuous}
+use Rattle.vs_targets.specs.declared.kinds.AssignmentKind.TheVariants.{Procedural, Continuous}
 use Rattle.vs_elaborate.specs.declared.faults.Reason.{Reason}
-use Rattle.vs_widths.specs.Environment.{Environment}
+use Rattle.vs_selects.specs.Environment.{Environment}
 use Rattle.vs_elaborate.specs.Statements.{IsAssignment, IsStatement, assign_fault, has_fault, count_of, is_overfull}
 use Rattle.vs_elaborate.specs.Scopes.{Assignment, Behavior, sets, runs, repeats}
 
@@ -23,7 +23,7 @@ kind_of (repeats x) = Always
 
 -- The body of a process: a declaration assignment is a blocking assignment, and an `always` is a `forever` (clauses 6.2.1 and 9.9).
 pub data IsBody (env : Environment) : Behavior → Statement → Type 0 where
-  is_set : (a : Assignment) (k : ℕ) (t : Target) (x : Typed) → IsAssignment env a.target a.value t x → IsBody env (sets a) (d.Assign k t x)
+  is_set : (a : Assignment) (k : ℕ) (t : Target) (x : Typed) → IsAssignment Procedural env a.target a.value t x → IsBody env (sets a) (d.Assign k t x)
   is_run : (x : Stmt) (y : Statement) → IsStatement env x y → IsBody env (runs x) y
   is_repeat : (x : Stmt) (k : ℕ) (y : Box Statement Global) → IsStatement env x y.value → IsBody env (repeats x) (d.Forever k y)
 

@@ -1,23 +1,24 @@
 -- Sizes, signs and ranges of declarations.
-use Rattle.std.specs.Prelude.{ℕ, suc, ℤ, ◌-ℤ◌, unsigned_abs, Bool, false, ◌&&◌, ◌||◌, nat_lt, min, List, [], Option, Some, None, is_none}
+use Rattle.std.specs.Prelude.{ℕ, suc, ℤ, ◌-ℤ◌, unsigned_abs, Bool, false, ◌&&◌, ◌||◌, not, nat_lt, min, [], Option, Some, None, is_none}
 use Rattle.std.proofs.Common.{lit<}
 use Rattle.std.proofs.Math.Nat.{zero-lt-suc, lt_of_le_of_lt, min-le_right}
-use Rattle.vs_logic4.specs.declared.digit.Digit.{Digit}
 use Rattle.vs_syntax.specs.declared.tree.Expr.{Expr}
 use Rattle.vs_syntax.specs.declared.tree.Range.{Range}
 use Rattle.vs_design.specs.declared.signal.Bounds.{Bounds}
-use Rattle.vs_widths.specs.declared.bindings.Shape.{Shape}
-use Rattle.vs_widths.specs.declared.faults.WidthReason.{WidthReason}
-use Rattle.vs_widths.specs.Environment.{Environment}
-use Rattle.vs_widths.specs.Findings.{Finding, Has, Lacks, not_constant, too_wide}
-use Rattle.vs_widths.specs.Expressions.{meant, own, constant_finding, whole_number}
+use Rattle.vs_design.specs.declared.signal.SignalKind.{SignalKind}
+use Rattle.vs_design.specs.Kinds.{is_variable}
+use Rattle.vs_forms.specs.declared.shape.Shape.{Shape}
+use Rattle.vs_selects.specs.declared.faults.WidthReason.{WidthReason}
+use Rattle.vs_selects.specs.declared.faults.WidthReason.TheVariants.{WrongKind}
+use Rattle.vs_selects.specs.Environment.{Environment}
+use Rattle.vs_selects.specs.Findings.{Finding, Has, Lacks, not_constant, too_wide}
+use Rattle.vs_selects.specs.Meants.{own}
+use Rattle.vs_selects.specs.Constants.{constant_finding, whole_at}
+use Rattle.vs_widths.specs.Expressions.{meant}
+use Rattle.vs_elaborate.specs.declared.faults.Reason.{Reason}
+use Rattle.vs_elaborate.specs.declared.faults.Reason.TheVariants.{Limit, Width}
 
 -- ---- bounds
-
--- the whole number of digits by a sign that was found
-abbrev pub whole_at : Finding → List Digit → Option ℤ
-whole_at (Has width signed) digits = whole_number signed digits
-whole_at (Lacks faults) digits = None
 
 -- the number of a bound, where it is a constant with one (clause 4.3.1)
 abbrev pub bound_of : Environment → Expr → Option ℤ
@@ -48,15 +49,19 @@ range_bounds env (Some r) = both_bounds (bound_of env r.left) (bound_of env r.ri
 abbrev pub distance : Bounds → ℕ
 distance b = unsigned_abs (b.left -ℤ b.right)
 
--- whether a range has more than 64 bits (profile)
-abbrev pub is_over_64 : Option Bounds → Bool
-is_over_64 None = false
-is_over_64 (Some b) = nat_lt 63 (distance b)
+-- whether the bounds of a range lie further apart than this
+abbrev pub is_over : ℕ → Option Bounds → Bool
+is_over n None = false
+is_over n (Some b) = nat_lt n (distance b)
 
--- a fault of a range: one of a bound, or more than 64 bits (profile)
+-- a fault of a bound of a range (clause 4.3.1)
+abbrev pub bounds_fault : WidthReason → Environment → Range → Bool
+bounds_fault w env r = bound_fault w env r.left || bound_fault w env r.right
+
+-- a fault of a range of bits: one of a bound, or more than 64 bits (profile)
 abbrev pub range_fault : WidthReason → Environment → Option Range → Bool
 range_fault w env None = false
-range_fault w env (Some r) = bound_fault w env r.left || (bound_fault w env r.right || (too_wide w && is_over_64 (range_bounds env (Some r))))
+range_fault w env (Some r) = bounds_fault w env r || (too_wide w && is_over 63 (range_bounds env (Some r)))
 
 -- ---- sizes
 
@@ -69,7 +74,7 @@ abbrev pub distance_or : ℕ → Option Bounds → ℕ
 distance_or n None = n
 distance_or n (Some b) = distance b
 
--- the size and sign of the names of a declaration, the bounds of its range, and its faults
+-- the size and sign of the names of a declaration, the bounds of its range, and the faults of that
 pub record Sized : Type 0 where
   pub shape : Shape
   pub bounds : Option Bounds
@@ -82,3 +87,29 @@ sized_as env signed n range = record {
   bounds = range_bounds env range;
   faults = λ w. range_fault w env range;
 }
+
+-- ---- words
+
+-- how many words a range of them has, at most 65,536 (profile); one where there is none (clause 4.9)
+abbrev pub word_count : Option Bounds → ℕ
+word_count b = suc (min (distance_or 0 b) 65535)
+
+-- the bounds of the range of a name's words, where it is an array, and the faults of that
+pub record Words : Type 0 where
+  pub bounds : Option Bounds
+  pub faults : Reason → Bool
+
+-- the fault that a net is an array (profile)
+abbrev pub is_array_of_nets : WidthReason → SignalKind → Bool
+is_array_of_nets WrongKind kind = not (is_variable kind)
+is_array_of_nets w kind = false
+
+-- a fault of the range of an array's words: one of a bound, an array of nets, or more than 65,536 words (clause 4.9; nets and the bound: profile)
+abbrev pub words_fault : Reason → Environment → SignalKind → Option Range → Bool
+words_fault (Width w) env kind (Some r) = bounds_fault w env r || is_array_of_nets w kind
+words_fault Limit env kind (Some r) = is_over 65535 (range_bounds env (Some r))
+words_fault _ env kind range = false
+
+-- what a declaration says of the words of a name of this kind by the range behind it (clause 4.9)
+abbrev pub words_as : Environment → SignalKind → Option Range → Words
+words_as env kind range = record { bounds = range_bounds env range; faults = λ r. words_fault r env kind range }

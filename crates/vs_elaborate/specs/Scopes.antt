@@ -1,6 +1,7 @@
 -- Scopes of a source, and what they declare.
-use Rattle.std.specs.Prelude.{◌≡◌, ℕ, zero, suc, Bool, true, false, List, [], ◌∷◌, ◌++◌, Option, Some, None, map, find, slice_get, option_map}
+use Rattle.std.specs.Prelude.{◌≡◌, ℕ, zero, suc, pos, ◌||◌, min, Bool, true, false, List, [], ◌∷◌, ◌++◌, Option, Some, None, map, find, slice_get, option_map}
 use Rattle.std.proofs.Common.{lit<, lit≤}
+use Rattle.std.proofs.Math.Nat.{zero-lt-suc, lt_of_le_of_lt, min-le_right}
 use Rattle.std.specs.List.{flat_map, position_or_len}
 use Rattle.std.specs.Cmp.Lexicographic.{pointwise}
 use Rattle.std.specs.Str.{bytes_eq}
@@ -8,21 +9,25 @@ use Rattle.vs_logic4.specs.declared.digit.Digit.{Digit}
 use Rattle.vs_syntax.specs.declared.tree.Declarator.{Declarator}
 use Rattle.vs_syntax.specs.declared.tree.NetAssignment.{NetAssignment}
 use Rattle.vs_syntax.specs.declared.tree.Expr.{Expr}
+use Rattle.vs_syntax.specs.declared.tree.Left.{Left}
 use Rattle.vs_syntax.specs.declared.tree.Module.{Module}
 use Rattle.vs_syntax.specs.declared.tree.Item.{Item}
 use Rattle.vs_syntax.specs.declared.tree.Item.TheVariants.{Wire, Reg, Integer, Assign, Initial, Always}
 use Rattle.vs_syntax.specs.declared.tree.Stmt.{Stmt}
+use Rattle.vs_design.specs.declared.signal.Bounds.{Bounds}
 use Rattle.vs_design.specs.declared.signal.SignalKind.{SignalKind}
 use Rattle.vs_design.specs.declared.signal.SignalKind.TheVariants as k
 use Rattle.vs_design.specs.declared.design.ScopeKind.{ScopeKind}
 use Rattle.vs_design.specs.declared.design.ScopeKind.TheVariants as scopes
-use Rattle.vs_widths.specs.declared.bindings.Shape.{Shape}
-use Rattle.vs_widths.specs.declared.bindings.Meaning.{Meaning}
-use Rattle.vs_widths.specs.declared.bindings.Binding.{Binding}
+use Rattle.vs_forms.specs.declared.shape.Shape.{Shape}
+use Rattle.vs_selects.specs.declared.bindings.Meaning.{Meaning}
+use Rattle.vs_selects.specs.declared.bindings.Binding.{Binding}
 use Rattle.vs_widths.specs.Names.{meaning_of}
-use Rattle.vs_widths.specs.Environment.{Environment}
+use Rattle.vs_selects.specs.Environment.{Environment}
 use Rattle.vs_elaborate.specs.Printed.{Path}
-use Rattle.vs_elaborate.specs.Ranges.{Sized, sized_as}
+use Rattle.vs_elaborate.specs.declared.faults.Reason.{Reason}
+use Rattle.vs_elaborate.specs.declared.faults.Reason.TheVariants.{Width}
+use Rattle.vs_elaborate.specs.Ranges.{Sized, sized_as, distance_or, Words, words_as, word_count}
 
 -- a constant that a scope declares: its name, its digits with the lowest first, and its sign (clause 12.2)
 pub record Constant : Type 0 where
@@ -73,40 +78,55 @@ abbrev pub all_scopes : List Module → Option Module → List Scope
 all_scopes ms None = []
 all_scopes ms (Some m) = scopes_within levels ms (top_scope m)
 
--- a name that a scope declares, as what, and with which size and sign (clauses 4.2 and 4.3)
+-- a name that a scope declares, as what, with which size and sign, and with which words (clauses 4.2, 4.3 and 4.9)
 pub record DeclaredName : Type 0 where
   pub kind : SignalKind
   pub size : Sized
+  pub words : Words
   pub name : List ℕ
 
-abbrev pub declared_as : SignalKind → Sized → List Declarator → List DeclaredName
-declared_as kind size ds = map (λ (d : Declarator). record { kind = kind; size = size; name = d.name.items }) ds
+-- the name that a declarator declares, where names are bound so in the range of its words
+abbrev pub declared_by : Environment → SignalKind → Sized → Declarator → DeclaredName
+declared_by env kind size d = record { kind = kind; size = size; words = words_as env kind d.words; name = d.name.items }
+
+abbrev pub declared_as : Environment → SignalKind → Sized → List Declarator → List DeclaredName
+declared_as env kind size ds = map (declared_by env kind size) ds
 
 -- the names that an item declares, with ranges in which names are bound so: a scalar has one bit, an `integer` 32 bits and a sign
 -- (clauses 4.2.1, 4.2.2, 4.3.1 and 4.8; 32: profile)
 abbrev pub declared_in : Environment → Item → List DeclaredName
-declared_in env (Wire f ds) = declared_as k.Wire (sized_as env f.signed 0 f.range) ds.items
-declared_in env (Reg f ds) = declared_as k.Reg (sized_as env f.signed 0 f.range) ds.items
-declared_in env (Integer ds) = declared_as k.Integer (sized_as env true 31 None) ds.items
+declared_in env (Wire f ds) = declared_as env k.Wire (sized_as env f.signed 0 f.range) ds.items
+declared_in env (Reg f ds) = declared_as env k.Reg (sized_as env f.signed 0 f.range) ds.items
+declared_in env (Integer ds) = declared_as env k.Integer (sized_as env true 31 None) ds.items
 declared_in env (Assign xs) = []
 declared_in env (Initial x) = []
 declared_in env (Always x) = []
 
--- an assignment of an expression to the signal of a name
+-- a fault of a range of a declared name, of its bits or of its words
+abbrev pub declaration_fault : Reason → DeclaredName → Bool
+declaration_fault (Width w) d = d.size.faults w || d.words.faults (Width w)
+declaration_fault r d = d.words.faults r
+
+-- what an assignment assigns to: a left side, or the signal of a name that is declared with a value (clauses 6.1.1 and 6.2.1)
+pub data Assignee : Type 0 where
+  places : Left → Assignee
+  named_signal : List ℕ → Assignee
+
+-- an assignment of an expression
 pub record Assignment : Type 0 where
-  pub target : List ℕ
+  pub target : Assignee
   pub value : Expr
 
 abbrev pub assignment_of : List ℕ → Option Expr → List Assignment
 assignment_of n None = []
-assignment_of n (Some e) = record { target = n; value = e } ∷ []
+assignment_of n (Some e) = record { target = named_signal n; value = e } ∷ []
 
 -- the declaration assignments among names of a declaration (clauses 6.1.1 and 6.2.1)
 abbrev pub values_of : List Declarator → List Assignment
 values_of ds = flat_map (λ (d : Declarator). assignment_of d.name.items d.value) ds
 
 abbrev pub net_assignment : NetAssignment → Assignment
-net_assignment a = record { target = a.target.items; value = a.value }
+net_assignment a = record { target = places a.target; value = a.value }
 
 -- the continuous assignments of an item: those of an `assign`, and the declaration assignments of nets (clauses 6.1.1 and 6.1.2)
 abbrev pub drivers_in : Item → List Assignment
@@ -125,7 +145,7 @@ pub data Behavior : Type 0 where
 
 abbrev pub setting : List ℕ → Option Expr → List Behavior
 setting n None = []
-setting n (Some e) = sets (record { target = n; value = e }) ∷ []
+setting n (Some e) = sets (record { target = named_signal n; value = e }) ∷ []
 
 -- the processes of an item: declaration assignments of variables, which act as `initial`, and an `initial` or `always`
 -- (clauses 6.2.1, 9.9.1 and 9.9.2)
@@ -141,9 +161,9 @@ behaviors_in (Always x) = repeats x ∷ []
 abbrev pub scalar : Shape
 scalar = record { width = 1; signed = false; sized = (lit< tt, lit≤ tt) }
 
--- what a declared name is bound to in a range: a signal, whose size and number don't matter there, since it is no constant (clause 4.3.1)
+-- what a declared name is bound to in a range: a signal, whose size, ranges and number don't matter there, since it is no constant (clause 4.3.1)
 abbrev pub unsized_as : DeclaredName → Binding
-unsized_as d = record { meaning = record { kind = d.kind; shape = scalar }; signal = 0 }
+unsized_as d = record { meaning = record { kind = d.kind; shape = scalar; bits = None; words = None; count = 1; counted = (lit< tt, lit≤ tt) }; signal = 0 }
 
 abbrev pub unsized_names : List DeclaredName → List (List ℕ × Binding)
 unsized_names ds = map (λ (d : DeclaredName). (d.name, unsized_as d)) ds
@@ -170,9 +190,22 @@ drivers_of s = flat_map drivers_in s.items
 abbrev pub behaviors_of : Scope → List Behavior
 behaviors_of s = flat_map behaviors_in s.items
 
+-- the range by which bits of a signal are selected: that of its declaration, and of an `integer` [31:0] (clauses 4.3.1 and 4.8; 32: profile)
+abbrev pub selectable : SignalKind → Option Bounds → Option Bounds
+selectable k.Wire range = range
+selectable k.Reg range = range
+selectable k.Integer range = Some (record { left = pos 31; right = pos 0 })
+
 -- what a declared name means
 abbrev pub meaning_as : DeclaredName → Meaning
-meaning_as d = record { kind = d.kind; shape = d.size.shape }
+meaning_as d = record {
+  kind = d.kind;
+  shape = d.size.shape;
+  bits = selectable d.kind d.size.bounds;
+  words = d.words.bounds;
+  count = word_count d.words.bounds;
+  counted = (zero-lt-suc (min (distance_or 0 d.words.bounds) 65535), lt_of_le_of_lt (min-le_right (distance_or 0 d.words.bounds) 65535) (lit< tt));
+}
 
 -- the path of a name of a scope (clause 12.4)
 abbrev pub named : Scope → List ℕ → Path

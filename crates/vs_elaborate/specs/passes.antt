@@ -2,4 +2,5 @@
 pub mod Answers
 pub mod Bodies
 pub mod Sizes
+pub mod Marks
 pub mod Plans

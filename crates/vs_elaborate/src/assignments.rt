@@ -1,53 +1,35 @@
-//! Assignments with their targets as numbers of signals.
-ghost use Rattle.std.specs.Prelude.{◌≡◌, Some};
+//! Assignments with their targets as parts of a design.
+ghost use Rattle.std.specs.Prelude.{◌≤◌};
 ghost use Rattle.vs_widths.specs.Names.{meaning_of};
-ghost use Rattle.vs_elaborate.specs.Statements.{takes, assign_fault, IsAssignment};
+ghost use Rattle.vs_selects.specs.Findings.{stands};
+ghost use Rattle.vs_widths.specs.Expressions.{meant};
+ghost use Rattle.vs_elaborate.specs.Scopes.{places, named_signal};
+ghost use Rattle.vs_elaborate.specs.Statements.{assign_fault, IsSource, IsAssignment};
 ghost use Rattle.vs_elaborate.specs.passes.Answers.{Elaborates};
-ghost use Rattle.vs_elaborate.specs.passes.Bodies.{target_faults};
+ghost use Rattle.vs_elaborate.specs.passes.Sizes.{width_faults};
 
-use crate::faults::{BodyFault, Reason};
+use crate::faults::BodyFault;
 use std::alloc::Global;
-use vs_design::{SignalKind, Target, Typed};
-use vs_syntax::Expr;
-use vs_widths::{Binding, Names, Shape, WidthReason, shape_of, typed};
+use vs_design::{Target, Typed};
+use vs_forms::Shape;
+use vs_selects::Binding;
+use vs_syntax::{Expr, Left};
+use vs_targets::{AssignmentKind, name_target, target};
+use vs_widths::{Names, shape_of, typed};
 
-/// Whether an assignment is a statement or drives a net (IEEE 1364-2005, clause 6).
-#[derive(Clone, Copy, PartialEq, Eq, Debug)]
-pub enum AssignmentKind {
-    /// A statement, or the declaration assignment of a variable.
-    Procedural,
-    /// An assignment of `assign`, or the declaration assignment of a net.
-    Continuous,
-}
-
-/// Whether an assignment of this kind may assign to a signal of that kind.
-fn takes_kind(how: AssignmentKind, kind: SignalKind) -> bool
-    ensures { result ≡ takes how kind }
+/// The right side of an assignment to a target of this size.
+fn source(alloc: Global, names: &Names<Binding>, width: u32, e: &Expr) -> Result<Typed, BodyFault>
+    requires { width ≤ 64 }
+    ensures { let env = meaning_of names.now in
+        Elaborates (width_faults (λ w. stands w (meant env e.now).finding))
+        (IsSource env e.now width) result }
 {
-    match (how, kind) {
-        (AssignmentKind::Procedural, SignalKind::Wire) => false,
-        (AssignmentKind::Procedural, _) => true,
-        (AssignmentKind::Continuous, SignalKind::Wire) => true,
-        (AssignmentKind::Continuous, _) => false,
-    }
-}
-
-/// What the target of an assignment is bound to.
-fn target_of(
-    names: &Names<Binding>,
-    how: AssignmentKind,
-    target: &[u8],
-) -> Result<Binding, BodyFault>
-    ensures { Elaborates (target_faults how (meaning_of names.now target.now))
-        (λ b. meaning_of names.now target.now ≡ Some b) result }
-{
-    let Some(binding) = names.find(target) else {
-        return Err(BodyFault::Refused(Reason::Width(WidthReason::Unknown)));
+    let right = shape_of(alloc, names, e)?;
+    let context = Shape {
+        width: width.max(right.width),
+        signed: right.signed,
     };
-    if !takes_kind(how, binding.meaning.kind) {
-        return Err(BodyFault::Refused(Reason::Width(WidthReason::WrongKind)));
-    }
-    Ok(binding)
+    Ok(typed(alloc, names, context, e)?)
 }
 
 /// The two sides of an assignment of this kind.
@@ -55,24 +37,31 @@ pub fn assignment(
     alloc: Global,
     names: &Names<Binding>,
     how: AssignmentKind,
-    target: &[u8],
+    left: &Left,
     e: &Expr,
 ) -> Result<(Target, Typed), BodyFault>
     ensures { let env = meaning_of names.now in
-        Elaborates (λ r. assign_fault r how env target.now e.now)
-        (λ p. IsAssignment env target.now e.now p.0 p.1) result }
+        Elaborates (λ r. assign_fault r how env (places left.now) e.now)
+        (λ p. IsAssignment how env (places left.now) e.now p.0 p.1) result }
 {
-    let left = target_of(names, how, target)?;
-    let width = left.meaning.shape.width;
-    let right = shape_of(alloc, names, e)?;
-    let context = Shape {
-        width: width.max(right.width),
-        signed: right.signed,
-    };
-    let source = typed(alloc, names, context, e)?;
-    let target = Target {
-        signal: left.signal,
-        width,
-    };
+    let target = target(alloc, names, how, left)?;
+    let source = source(alloc, names, target.width, e)?;
+    Ok((target, source))
+}
+
+/// The two sides of the declaration assignment of a name.
+pub fn declared_assignment(
+    alloc: Global,
+    names: &Names<Binding>,
+    how: AssignmentKind,
+    name: &[u8],
+    e: &Expr,
+) -> Result<(Target, Typed), BodyFault>
+    ensures { let env = meaning_of names.now in
+        Elaborates (λ r. assign_fault r how env (named_signal name.now) e.now)
+        (λ p. IsAssignment how env (named_signal name.now) e.now p.0 p.1) result }
+{
+    let target = name_target(alloc, names, how, name)?;
+    let source = source(alloc, names, target.width, e)?;
     Ok((target, source))
 }

@@ -1,38 +1,45 @@
 //! The continuous assignments of a scope, as parts of a design.
 ghost use Rattle.std.specs.Prelude.{◌≡◌, ◌∷◌, [], map};
 ghost use Rattle.std.specs.List.{flat_map};
-ghost use Rattle.vs_elaborate.specs.Scopes.{values_of, net_assignment, drivers_in};
-ghost use Rattle.vs_elaborate.specs.passes.Answers.{Grows};
+ghost use Rattle.vs_widths.specs.Names.{meaning_of};
+ghost use Rattle.vs_targets.specs.declared.kinds.AssignmentKind.TheVariants.{Continuous};
+ghost use Rattle.vs_elaborate.specs.Statements.{IsAssignment};
+ghost use Rattle.vs_elaborate.specs.Scopes.{Assignment, values_of, net_assignment, drivers_in};
+ghost use Rattle.vs_elaborate.specs.Processes.{driver_fault};
+ghost use Rattle.vs_elaborate.specs.passes.Answers.{Elaborates, Grows};
+ghost use Rattle.vs_elaborate.specs.passes.Bodies.{Bindings};
 ghost use Rattle.vs_elaborate.specs.passes.Plans.{scope_of, Drives, DrivesNot};
 
-use crate::assignments::{AssignmentKind, assignment};
-use crate::faults::ElabFault;
+use crate::assignments::{assignment, declared_assignment};
+use crate::faults::{BodyFault, ElabFault};
 use crate::plans::{Frame, Plan, part_fault};
 use crate::printed::print_part;
 use std::alloc::Global;
-use vs_design::Assign;
-use vs_syntax::{Declarator, Expr, Item, NetAssignment};
-use vs_widths::{Binding, Names};
+use vs_design::{Assign, Target, Typed};
+use vs_selects::Binding;
+use vs_syntax::{Declarator, Item, NetAssignment};
+use vs_targets::AssignmentKind;
+use vs_widths::Names;
 
 /// The kind of an assignment that drives a net.
 const CONTINUOUS: AssignmentKind = AssignmentKind::Continuous;
 
-/// Adds a continuous assignment of a scope whose first one has this number in the design.
+/// Adds a continuous assignment with these sides to a scope whose first one has this number in the design.
 fn drive(
     alloc: Global,
     frame: &Frame,
-    names: &Names<Binding>,
     first: usize,
-    target: &[u8],
-    value: &Expr,
+    sides: Result<(Target, Typed), BodyFault>,
     plan: &mut Plan,
 ) -> Result<(), ElabFault>
-    ensures { Grows (Drives (scope_of frame.now) names.now first plan.old)
-        (Drives (scope_of frame.now) names.now first plan.new)
-        (DrivesNot (scope_of frame.now) names.now)
-        (record { target = target.now; value = value.now } ∷ []) result }
+    ensures { (names : Bindings) (a : Assignment) →
+        Elaborates (λ r. driver_fault r (meaning_of names) a)
+        (λ p. IsAssignment Continuous (meaning_of names) a.target a.value p.0 p.1) sides →
+        Grows (Drives (scope_of frame.now) names first plan.old)
+        (Drives (scope_of frame.now) names first plan.new)
+        (DrivesNot (scope_of frame.now) names) (a ∷ []) result }
 {
-    match assignment(alloc, names, CONTINUOUS, target, value) {
+    match sides {
         Ok((target, source)) => {
             let number = plan.assigns.len().saturating_sub(first);
             let name = print_part(alloc, &frame.path, b'a', number)?;
@@ -62,7 +69,8 @@ fn drive_declared(
 {
     for declarator in declarators {
         if let Some(value) = &declarator.value {
-            drive(alloc, frame, names, first, &declarator.name, value, plan)?;
+            let sides = declared_assignment(alloc, names, CONTINUOUS, &declarator.name, value);
+            drive(alloc, frame, first, sides, plan)?;
         }
     }
     Ok(())
@@ -82,7 +90,8 @@ fn drive_assigned(
         (DrivesNot (scope_of frame.now) names.now) (map net_assignment list.now) result }
 {
     for one in list {
-        drive(alloc, frame, names, first, &one.target, &one.value, plan)?;
+        let sides = assignment(alloc, names, CONTINUOUS, &one.target, &one.value);
+        drive(alloc, frame, first, sides, plan)?;
     }
     Ok(())
 }

@@ -1,13 +1,15 @@
 //! The names of a scope, before their sizes are known.
 ghost use Rattle.std.specs.Prelude.{[], ◌∷◌, None, IfOk, OnOk};
-ghost use Rattle.vs_elaborate.specs.Ranges.{Sized};
+ghost use Rattle.vs_elaborate.specs.Ranges.{Sized, Words};
 ghost use Rattle.vs_elaborate.specs.Scopes.{declared_as, declared_in};
 ghost use Rattle.vs_elaborate.specs.passes.Sizes.{AddsNames, IsEarly};
 
 use std::alloc::{AllocError, Global};
 use vs_design::SignalKind;
+use vs_forms::Shape;
+use vs_selects::{Binding, Meaning};
 use vs_syntax::{Declarator, Item};
-use vs_widths::{Binding, Meaning, Names, Shape};
+use vs_widths::Names;
 
 /// The size and sign of a signal without a range.
 const SCALAR: Shape = Shape {
@@ -21,8 +23,8 @@ fn add_name<'s>(
     name: &'s [u8],
     names: &mut Names<'s, Binding>,
 ) -> Result<(), AllocError>
-    ensures { (z : Sized) → OnOk result (AddsNames names.old names.new
-        (record { kind = kind; size = z; name = name.entry.now } ∷ [])) }
+    ensures { (z : Sized) (w : Words) → OnOk result (AddsNames names.old names.new
+        (record { kind = kind; size = z; words = w; name = name.entry.now } ∷ [])) }
 {
     if names.find(name).is_some() {
         return Ok(());
@@ -30,6 +32,9 @@ fn add_name<'s>(
     let meaning = Meaning {
         kind,
         shape: SCALAR,
+        bits: None,
+        words: None,
+        count: 1,
     };
     let binding = Binding { meaning, signal: 0 };
     names.declare(name, binding)?;
@@ -43,7 +48,7 @@ fn add_names<'s>(
     names: &mut Names<'s, Binding>,
 ) -> Result<(), AllocError>
     ensures { (z : Sized) → OnOk result (AddsNames names.old names.new
-        (declared_as kind z declarators.entry.now)) }
+        (declared_as (λ n. None) kind z declarators.entry.now)) }
 {
     for declarator in declarators {
         add_name(kind, &declarator.name, names)?;

@@ -6,7 +6,7 @@ ghost use Rattle.vs_elaborate.specs.passes.Answers.{body_fault};
 
 use std::alloc::{AllocError, AllocFailed};
 use thiserror::Error;
-use vs_widths::{WidthFault, WidthReason};
+use vs_selects::{WidthFault, WidthReason};
 
 /// Why there is no design, as it is printed.
 #[derive(Clone, Copy, PartialEq, Eq, Debug, Error)]

@@ -6,7 +6,7 @@ mod declarations;
 mod drivers;
 mod early;
 mod faults;
-mod laws;
+mod marks;
 mod plans;
 mod printed;
 mod processes;
@@ -14,8 +14,8 @@ mod sizes;
 mod source;
 mod statements;
 mod texts;
+mod words;
 
 pub use faults::{ElabFault, Reason};
-pub use laws::{names_of_one_line, one_design};
 pub use source::elaborate;
 pub use texts::fault_text;

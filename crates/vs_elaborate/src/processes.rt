@@ -2,21 +2,22 @@
 ghost use Rattle.std.specs.Prelude.{◌≡◌, ◌∷◌, []};
 ghost use Rattle.std.specs.List.{flat_map};
 ghost use Rattle.vs_widths.specs.Names.{meaning_of};
-ghost use Rattle.vs_elaborate.specs.Scopes.{Behavior, sets, runs, repeats, setting, behaviors_in};
+ghost use Rattle.vs_elaborate.specs.Scopes.{Behavior, named_signal, sets, runs, repeats, setting, behaviors_in};
 ghost use Rattle.vs_elaborate.specs.Processes.{kind_of, behavior_fault};
 ghost use Rattle.vs_elaborate.specs.passes.Answers.{Elaborates, Grows};
 ghost use Rattle.vs_elaborate.specs.passes.Bodies.{Bindings, MeansBody};
 ghost use Rattle.vs_elaborate.specs.passes.Plans.{scope_of, Runs, RunsNot};
 
-use crate::assignments::assignment;
+use crate::assignments::declared_assignment;
 use crate::faults::{BodyFault, ElabFault};
 use crate::plans::{Frame, Plan, part_fault};
 use crate::printed::print_part;
 use crate::statements::{PROCEDURAL, statement, take_number};
 use std::alloc::Global;
 use vs_design::{Process, ProcessKind, Statement};
+use vs_selects::Binding;
 use vs_syntax::{Declarator, Expr, Item, Stmt};
-use vs_widths::{Binding, Names};
+use vs_widths::Names;
 
 /// The body of a process that sets a variable to the value in its declaration.
 fn set_body(
@@ -25,10 +26,10 @@ fn set_body(
     target: &[u8],
     value: &Expr,
 ) -> Result<Statement, BodyFault>
-    ensures { let b = sets (record { target = target.now; value = value.now }) in
+    ensures { let b = sets (record { target = named_signal target.now; value = value.now }) in
         Elaborates (λ r. behavior_fault r (meaning_of names.now) b) (MeansBody names.now b) result }
 {
-    let (target, source) = assignment(alloc, names, PROCEDURAL, target, value)?;
+    let (target, source) = declared_assignment(alloc, names, PROCEDURAL, target, value)?;
     Ok(Statement::Assign(0, target, source))
 }
 

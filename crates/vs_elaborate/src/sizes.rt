@@ -1,17 +1,20 @@
-//! Sizes, signs and ranges of declarations.
+//! Sizes, signs, ranges and words of declarations.
 ghost use Rattle.std.specs.Prelude.{◌≡◌, Some};
 ghost use Rattle.vs_widths.specs.Names.{meaning_of};
 ghost use Rattle.vs_elaborate.specs.declared.faults.BodyFault.TheVariants as fault;
 ghost use Rattle.vs_elaborate.specs.declared.faults.Reason.TheVariants as reasons;
-ghost use Rattle.vs_elaborate.specs.Ranges.{bound_of, bound_fault, range_fault, sized_as};
+ghost use Rattle.vs_elaborate.specs.Ranges.{bound_of, bound_fault, range_bounds, bounds_fault, range_fault, sized_as, words_as};
 ghost use Rattle.vs_elaborate.specs.passes.Answers.{Elaborates};
-ghost use Rattle.vs_elaborate.specs.passes.Sizes.{width_faults, IsRange, IsSize};
+ghost use Rattle.vs_elaborate.specs.passes.Sizes.{width_faults, IsRange, IsSize, AreWords};
 
 use crate::faults::{BodyFault, Reason};
+use crate::words::WordCount;
 use std::alloc::Global;
-use vs_design::Bounds;
+use vs_design::{Bounds, SignalKind};
+use vs_forms::Shape;
+use vs_selects::{Binding, WidthReason};
 use vs_syntax::{Expr, Form, Range};
-use vs_widths::{Binding, Names, Shape, WidthReason, constant};
+use vs_widths::{Names, constant};
 
 /// The size and sign of a signal, and its range.
 #[derive(Clone, Copy)]
@@ -51,19 +54,29 @@ fn bound(alloc: Global, names: &Names<Binding>, e: &Expr) -> Result<i64, BodyFau
     }
 }
 
-/// The bounds of a range, and its size in bits.
-fn bounds(alloc: Global, names: &Names<Binding>, range: &Range) -> Result<(Bounds, u32), BodyFault>
+/// The bounds of a range.
+fn bounds(alloc: Global, names: &Names<Binding>, range: &Range) -> Result<Bounds, BodyFault>
+    ensures { let env = meaning_of names.now in
+        Elaborates (width_faults (λ w. bounds_fault w env range.now))
+        (λ b. range_bounds env (Some range.now) ≡ Some b) result }
+{
+    let left = bound(alloc, names, &range.left)?;
+    let right = bound(alloc, names, &range.right)?;
+    Ok(Bounds { left, right })
+}
+
+/// The bounds of a range of bits, and its size.
+fn bits(alloc: Global, names: &Names<Binding>, range: &Range) -> Result<(Bounds, u32), BodyFault>
     ensures { let env = meaning_of names.now in
         Elaborates (width_faults (λ w. range_fault w env (Some range.now)))
         (IsRange env range.now) result }
 {
-    let left = bound(alloc, names, &range.left)?;
-    let right = bound(alloc, names, &range.right)?;
-    let apart = left.abs_diff(right);
+    let bounds = bounds(alloc, names, range)?;
+    let apart = bounds.left.abs_diff(bounds.right);
     if apart > 63 {
         return Err(refused(WidthReason::TooWide));
     }
-    Ok((Bounds { left, right }, apart as u32 + 1))
+    Ok((bounds, apart as u32 + 1))
 }
 
 /// The size and sign that a declaration of nets or of variables of type `reg` says of its names (IEEE 1364-2005, clause 4.3).
@@ -73,7 +86,7 @@ pub fn declared_size(alloc: Global, names: &Names<Binding>, form: &Form) -> Resu
 {
     match &form.range {
         Some(range) => {
-            let (bounds, width) = bounds(alloc, names, range)?;
+            let (bounds, width) = bits(alloc, names, range)?;
             let shape = Shape {
                 width,
                 signed: form.signed,
@@ -91,4 +104,34 @@ pub fn declared_size(alloc: Global, names: &Names<Binding>, form: &Form) -> Resu
             bounds: None,
         }),
     }
+}
+
+/// What a declaration says of the words of a name of this kind (IEEE 1364-2005, clause 4.9). An array has at most 65,536 words, and no net is one.
+pub fn declared_words(
+    alloc: Global,
+    names: &Names<Binding>,
+    kind: SignalKind,
+    range: &Option<Range>,
+) -> Result<WordCount, BodyFault>
+    ensures { let z = words_as (meaning_of names.now) kind range.now in
+        Elaborates z.faults (AreWords z) result }
+{
+    let Some(range) = range else {
+        return Ok(WordCount {
+            bounds: None,
+            count: 1,
+        });
+    };
+    if let SignalKind::Wire = kind {
+        return Err(refused(WidthReason::WrongKind));
+    }
+    let bounds = bounds(alloc, names, range)?;
+    let apart = bounds.left.abs_diff(bounds.right);
+    if apart > 65535 {
+        return Err(BodyFault::Refused(Reason::Limit));
+    }
+    Ok(WordCount {
+        bounds: Some(bounds),
+        count: apart as u32 + 1,
+    })
 }

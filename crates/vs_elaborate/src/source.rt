@@ -1,21 +1,23 @@
 //! Designs of sources.
-ghost use Rattle.std.specs.Prelude.{◌≡◌, ◌<◌, ◌≤◌, ◌∷◌, [], length, IfOk, MatchResult, OnOk, IfErr, All};
+ghost use Rattle.std.specs.Prelude.{◌≡◌, ◌<◌, ◌≤◌, ◌∷◌, [], length, IfOk, MatchResult, OnOk, IfErr};
 ghost use Rattle.std.specs.List.{IsDistinct};
-ghost use Rattle.std.specs.Prelude.{nat_eq};
+ghost use Rattle.vs_design.specs.WellFormed.{share_a_bit, driven};
 ghost use Rattle.vs_elaborate.specs.Faults.{Faults};
 ghost use Rattle.vs_elaborate.specs.DesignOf.{DesignOf};
 ghost use Rattle.vs_elaborate.specs.passes.Answers.{IsFaultAt, Told};
-ghost use Rattle.vs_elaborate.specs.passes.Plans.{scope_of, Opens, OpensNot, Lists, ListsNot, Finds, FindsNot, driven_signals, IsDrivenTwice, DrivenTwiceOnly};
+ghost use Rattle.vs_elaborate.specs.passes.Marks.{AreWithin};
+ghost use Rattle.vs_elaborate.specs.passes.Plans.{scope_of, Opens, OpensNot, Lists, ListsNot, Finds, FindsNot, IsDrivenTwice, DrivenTwiceOnly};
 
 use crate::declarations::declare;
 use crate::drivers::drive_items;
 use crate::early::early_names;
 use crate::faults::{ElabFault, Reason};
+use crate::marks::{mark_ranges, no_marks};
 use crate::plans::{Frame, Plan};
 use crate::printed::print_name;
 use crate::processes::run_items;
 use std::alloc::Global;
-use vs_design::{DEFAULT_TIMESCALE, Design, Entry, ScopeKind};
+use vs_design::{DEFAULT_TIMESCALE, Design, Entry, ScopeKind, writes};
 use vs_syntax::{Module, Source};
 use vs_widths::Names;
 
@@ -81,21 +83,21 @@ fn open(alloc: Global, frame: &Frame, plan: &mut Plan) -> Result<(), ElabFault>
     Ok(())
 }
 
-/// Sees that no two continuous assignments drive one net.
+/// Sees that no bit of a net is driven twice.
 fn check_drivers(alloc: Global, plan: &Plan) -> Result<(), ElabFault>
-    requires { All (λ n. n < length plan.now.signals.items)
-        (driven_signals plan.now.assigns.items) }
-    ensures none { OnOk result (IsDistinct nat_eq (driven_signals plan.now.assigns.items)) }
+    requires within { AreWithin plan.now.signals.items (driven plan.now.assigns.items) }
+    requires room { length plan.now.signals.items ≤ 65536 }
+    ensures none { OnOk result
+        (IsDistinct (share_a_bit plan.now.signals.items) (driven plan.now.assigns.items)) }
     ensures one { IfErr result (DrivenTwiceOnly plan.now) }
 {
-    let mut driven = vec![in alloc; false; plan.signals.len()]?;
+    let mut marks = no_marks(alloc, &plan.signals)?;
     for assign in &plan.assigns {
-        let number = assign.target.signal;
-        if driven[number] {
+        let ranges = writes(alloc, &assign.target)?;
+        if let Some(number) = mark_ranges(&plan.signals, &ranges, &mut marks) {
             let path = plan.signals[number].path.clone()?;
             return Err(ElabFault::At(Reason::DrivenTwice, path));
         }
-        driven[number] = true;
     }
     Ok(())
 }

@@ -5,13 +5,15 @@ ghost use Rattle.vs_elaborate.specs.Statements.{delay_of, delay_fault};
 ghost use Rattle.vs_elaborate.specs.passes.Answers.{Elaborates};
 ghost use Rattle.vs_elaborate.specs.passes.Bodies.{MeansStatement, MeansStatements, statement_fault, statements_fault, overfull_fault};
 
-use crate::assignments::{AssignmentKind, assignment};
+use crate::assignments::assignment;
 use crate::faults::{BodyFault, Reason};
 use std::alloc::Global;
 use vs_design::{Statement, Ticks};
 use vs_lexer::Literal;
+use vs_selects::{Binding, Const, WidthReason};
 use vs_syntax::Stmt;
-use vs_widths::{Binding, Const, Names, WidthReason};
+use vs_targets::AssignmentKind;
+use vs_widths::Names;
 
 /// Delays reach fewer ticks than this.
 const DELAY_LIMIT: u64 = 1 << 62;
@@ -68,14 +70,14 @@ pub fn statement(
             let number = take_number(next)?;
             Ok(Statement::Null(number))
         }
-        Stmt::Assign(target, e) => {
+        Stmt::Assign(left, e) => {
             let number = take_number(next)?;
-            let (target, source) = assignment(alloc, names, PROCEDURAL, target, e)?;
+            let (target, source) = assignment(alloc, names, PROCEDURAL, left, e)?;
             Ok(Statement::Assign(number, target, source))
         }
-        Stmt::Later(target, e) => {
+        Stmt::Later(left, e) => {
             let number = take_number(next)?;
-            let (target, source) = assignment(alloc, names, PROCEDURAL, target, e)?;
+            let (target, source) = assignment(alloc, names, PROCEDURAL, left, e)?;
             Ok(Statement::Later(number, target, source))
         }
         Stmt::Block(inner) => {

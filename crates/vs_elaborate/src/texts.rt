@@ -5,7 +5,7 @@ ghost use Rattle.vs_elaborate.specs.Texts.{reason_text, is_control, hexadecimal,
 
 use crate::faults::{ElabFault, Reason};
 use std::alloc::{AllocError, Global};
-use vs_widths::WidthReason;
+use vs_selects::WidthReason;
 
 /// The number of a fault.
 fn reason_text(reason: Reason) -> &'static [u8]

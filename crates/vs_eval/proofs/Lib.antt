@@ -1,2 +1,5 @@
+pub mod Digits
+pub mod Places
 pub mod ReadsHold
 pub mod SizesHold
+pub mod WritesHold

@@ -1,5 +1,5 @@
 -- A value depends on what its expression reads alone.
-use Rattle.std.proofs.Common.{◌≡◌, ℕ, ◌||◌, ◌&&◌, not, Bool, true, false, Option, Some, None, List, [], ◌∷◌, ◌++◌, map, take, slice_get, refl, sym, ◌∙◌, ap, ap₂, subst}
+use Rattle.std.proofs.Common.{◌≡◌, ℕ, ℤ, ◌||◌, ◌&&◌, not, Bool, true, false, Option, Some, None, List, [], ◌∷◌, ◌++◌, map, take, slice_get, refl, sym, ◌∙◌, ap, ap₂, subst}
 use Rattle.std.specs.List.{list_any}
 use Rattle.std.proofs.lemmas.List.Folds.{list_any-append}
 use Rattle.vs_logic4.specs.declared.digit.Digit.{Digit}
@@ -12,18 +12,21 @@ use Rattle.vs_design.specs.declared.expression.Typed.{Typed, Typed-F, fold-roll-
 use Rattle.vs_design.specs.declared.expression.Typed.TheOpen as t
 use Rattle.vs_design.specs.declared.range.BitRange.{BitRange}
 use Rattle.vs_design.specs.Stores.{Store, word_of, word_in, words_in, one_word, chosen_bits, same_words, is_changed}
-use Rattle.vs_design.specs.Uses.{reads, reads_step, joined, whole}
-use Rattle.vs_eval.specs.Values.{value_of, value_step, operand_value, chained, chosen, concatenated}
+use Rattle.vs_design.specs.declared.expression.Slice.{Slice}
+use Rattle.vs_design.specs.Selects.{place_of, word_place}
+use Rattle.vs_design.specs.Uses.{reads, reads_step, joined, whole, all_words, slice_range, bits_from}
+use Rattle.vs_eval.specs.Values.{value_of, value_step, operand_value, bits_value, selection_value, chained, chosen, concatenated}
+use Rattle.vs_eval.proofs.Digits.{selected_kept}
 
 not_false : (b : Bool) → not b ≡ false → b ≡ true
 not_false true h = refl
 not_false false h = cc
 
-or_false_left : (a b : Bool) → a || b ≡ false → a ≡ false
+pub or_false_left : (a b : Bool) → a || b ≡ false → a ≡ false
 or_false_left true b h = cc
 or_false_left false b h = refl
 
-or_false_right : (a b : Bool) → a || b ≡ false → b ≡ false
+pub or_false_right : (a b : Bool) → a || b ≡ false → b ≡ false
 or_false_right true b h = cc
 or_false_right false b h = h
 
@@ -48,6 +51,44 @@ word_kept old new signal h =
     ∙ same_one (slice_get (words_in (slice_get old signal)) 0) (slice_get (words_in (slice_get new signal)) 0) (not_false _ (or_false_left (is_changed old new (whole signal)) false h))
     ∙ sym (word_in-words (slice_get new signal) 0)
 
+and_right : (a b : Bool) → (a && b) ≡ true → b ≡ true
+and_right true b h = h
+and_right false b h = cc
+
+same_words-true : (as' bs : List (List Digit)) → same_words as' bs ≡ true → as' ≡ bs
+same_words-true [] [] h = refl
+same_words-true [] (b ∷ bs) h = cc
+same_words-true (a ∷ as') [] h = cc
+same_words-true (a ∷ as') (b ∷ bs) h =
+    ap₂ (λ x xs. x ∷ xs) (same_digits-true a b (and_left (same_digits a b) (same_words as' bs) h)) (same_words-true as' bs (and_right (same_digits a b) (same_words as' bs) h))
+
+map_none : (ws : List (List Digit)) → map (chosen_bits None) ws ≡ ws
+map_none [] = refl
+map_none (w ∷ ws) = ap (λ xs. w ∷ xs) (map_none ws)
+
+-- stores that agree on all words of a signal have the same ones of it
+words_kept : (old new : Store) (signal word : ℕ) → is_changed old new (all_words signal) ≡ false → word_of old signal word ≡ word_of new signal word
+words_kept old new signal word h =
+    let same : words_in (slice_get old signal) ≡ words_in (slice_get new signal) =
+    sym (map_none (words_in (slice_get old signal))) ∙ same_words-true _ _ (not_false _ h) ∙ map_none (words_in (slice_get new signal)) in
+    word_in-words (slice_get old signal) word ∙ ap (λ ws. slice_get ws word) same ∙ sym (word_in-words (slice_get new signal) word)
+
+same_bits : (low : ℤ) (width : ℕ) (a b : Option (List Digit)) → same_words (map (chosen_bits (Some (bits_from low width))) (one_word a)) (map (chosen_bits (Some (bits_from low width))) (one_word b)) ≡ true →
+    bits_value low width a ≡ bits_value low width b
+same_bits low width None None h = refl
+same_bits low width None (Some y) h = cc
+same_bits low width (Some x) None h = cc
+same_bits low width (Some x) (Some y) h =
+    selected_kept low width x y (same_digits-true _ _ (and_left (same_digits (chosen_bits (Some (bits_from low width)) x) (chosen_bits (Some (bits_from low width)) y)) true h))
+
+-- stores that agree on the bits of a slice have one value of it
+bits_kept : (old new : Store) (s : Slice) → list_any (is_changed old new) (slice_range s ∷ []) ≡ false →
+    bits_value s.low s.width (word_of old s.signal s.word) ≡ bits_value s.low s.width (word_of new s.signal s.word)
+bits_kept old new s h =
+    ap (bits_value s.low s.width) (word_in-words (slice_get old s.signal) s.word)
+    ∙ same_bits s.low s.width (slice_get (words_in (slice_get old s.signal)) s.word) (slice_get (words_in (slice_get new s.signal)) s.word) (not_false _ (or_false_left (is_changed old new (slice_range s)) false h))
+    ∙ ap (bits_value s.low s.width) (sym (word_in-words (slice_get new s.signal) s.word))
+
 map_map : {A B C : Type 0} (f : B → C) (g : A → B) (xs : List A) → map f (map g xs) ≡ map (λ x. f (g x)) xs
 map_map f g [] = refl
 map_map f g (x ∷ xs) = ap (λ ys. f (g x) ∷ ys) (map_map f g xs)
@@ -57,10 +98,10 @@ module _ (old new : Store) (time : ℕ) where
   abbrev pub Same : Typed → Type 0
   Same e = list_any (is_changed old new) (reads e) ≡ false → value_of e old time ≡ value_of e new time
 
-  first_kept : (front back : List BitRange) → list_any (is_changed old new) (front ++ back) ≡ false → list_any (is_changed old new) front ≡ false
+  pub first_kept : (front back : List BitRange) → list_any (is_changed old new) (front ++ back) ≡ false → list_any (is_changed old new) front ≡ false
   first_kept front back h = or_false_left (list_any (is_changed old new) front) (list_any (is_changed old new) back) (sym (list_any-append (is_changed old new) front back) ∙ h)
 
-  rest_kept : (front back : List BitRange) → list_any (is_changed old new) (front ++ back) ≡ false → list_any (is_changed old new) back ≡ false
+  pub rest_kept : (front back : List BitRange) → list_any (is_changed old new) (front ++ back) ≡ false → list_any (is_changed old new) back ≡ false
   rest_kept front back h = or_false_right (list_any (is_changed old new) front) (list_any (is_changed old new) back) (sym (list_any-append (is_changed old new) front back) ∙ h)
 
   abbrev bare : (e : Typed) × Same e → Typed
@@ -130,6 +171,15 @@ module _ (old new : Store) (time : ℕ) where
       ≡ value_step new time (map-Typed Typed (List Digit) (λ e. value_of e new time) (map-Typed ((e : Typed) × Same e) Typed (λ e. e.0) y))
   inner (t.Number digits) h = refl
   inner (t.Signal o) h = ap (operand_value o.signed o.width) (word_kept old new o.signal h)
+  inner (t.Slice s) h = bits_kept old new s h
+  inner (t.Select s word low) h =
+      let indices : list_any (is_changed old new) (reads word.value.0 ++ reads low.value.0) ≡ false =
+      or_false_right (is_changed old new (all_words s.signal)) (list_any (is_changed old new) (reads word.value.0 ++ reads low.value.0)) h in
+      let w = value_of word.value.0 new time in
+      ap₂ (selection_value s old)
+      (word.value.1 (first_kept (reads word.value.0) (reads low.value.0) indices)) (low.value.1 (rest_kept (reads word.value.0) (reads low.value.0) indices))
+      ∙ ap (bits_value (place_of s.bits s.width (value_of low.value.0 new time)) s.width)
+      (words_kept old new s.signal (word_place s.words w) (or_false_left (is_changed old new (all_words s.signal)) (list_any (is_changed old new) (reads word.value.0 ++ reads low.value.0)) h))
   inner (t.Unary op x) h = ap (unary op) (x.value.1 h)
   inner (t.Chain x links) h =
       let others = joined (map (λ (l : Link × List BitRange). l.1) (map read_of_link (map bare_link links.items))) in

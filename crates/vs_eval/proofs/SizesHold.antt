@@ -1,5 +1,5 @@
 -- An expression that has a size has values of that size.
-use Rattle.std.proofs.Common.{◌≡◌, ℕ, ◌+◌, ◌*◌, ◌≤◌, ◌==◌, ◌&&◌, Bool, true, false, cond, Option, Some, None, option_map, List, [], ◌∷◌, map, length, take, nat_le, if◌then◌else◌, refl, sym, ◌∙◌, ap, subst, arith}
+use Rattle.std.proofs.Common.{◌≡◌, ℕ, ℤ, ◌+◌, ◌*◌, ◌≤◌, ◌==◌, ◌&&◌, Bool, true, false, cond, Option, Some, None, option_map, List, [], ◌∷◌, map, length, take, nat_le, if◌then◌else◌, refl, sym, ◌∙◌, ap, subst, arith}
 use Rattle.std.proofs.lemmas.Bool.{eqb-true}
 use Rattle.std.proofs.lemmas.List.{length-take}
 use borrow.Author.Tests.{leb-true}
@@ -11,7 +11,7 @@ use Rattle.vs_logic4.specs.declared.operators.Sizing.TheVariants.{Alike, Shift, 
 use Rattle.vs_logic4.specs.Bitwise.{merged}
 use Rattle.vs_logic4.specs.Comparisons.{truth}
 use Rattle.vs_logic4.specs.Extensions.{length-resized}
-use Rattle.vs_logic4.specs.Lengths.{length-all_unknown, length-digitwise, length-concatenation, length-replication, length-unary, length-binary}
+use Rattle.vs_logic4.specs.Lengths.{length-all_unknown, length-digitwise, length-concatenation, length-replication, length-unary, length-binary, length-selected}
 use Rattle.vs_logic4.specs.Operators.{unary, gives_bit, sizing_of, is_even, is_one_bit}
 use Rattle.vs_logic4.specs.Parts.{concatenation, replication}
 use Rattle.vs_logic4.specs.Tables.{merged_digit}
@@ -19,9 +19,10 @@ use Rattle.vs_logic4.specs.Vectors.{resized}
 use Rattle.vs_design.specs.declared.expression.Link.{Link}
 use Rattle.vs_design.specs.declared.expression.Typed.{Typed, Typed-F, fold-roll-Typed, map-Typed, ind-Typed, roll-Typed}
 use Rattle.vs_design.specs.declared.expression.Typed.TheOpen as t
+use Rattle.vs_design.specs.Selects.{place_of, word_place}
 use Rattle.vs_design.specs.Stores.{Store, word_of}
-use Rattle.vs_design.specs.WellFormed.{sized_by, linked_size, chain_size, picked_size, choice_size, sum_size, at_most_64, size_step, size_of}
-use Rattle.vs_eval.specs.Values.{left_side, right_side, linked, chained, picked, chosen, concatenated, operand_value, value_step, value_of}
+use Rattle.vs_design.specs.WellFormed.{sized_by, linked_size, chain_size, picked_size, choice_size, sum_size, indexed_size, at_most_64, size_step, size_of}
+use Rattle.vs_eval.specs.Values.{left_side, right_side, linked, chained, picked, chosen, concatenated, operand_value, bits_value, value_step, value_of}
 
 -- operands that are to have one size are brought to one
 one_size : (s : Sizing) (width : ℕ) (left right : List Digit) → is_even s ≡ true → length (left_side s width left) ≡ length (right_side s width right)
@@ -158,6 +159,15 @@ module _ (store : Store) (time : ℕ) where
   operand_has signed width None = length-all_unknown width
   operand_has signed width (Some word) = length-resized signed width word
 
+  bits_has : (low : ℤ) (width : ℕ) (o : Option (List Digit)) → length (bits_value low width o) ≡ width
+  bits_has low width None = length-all_unknown width
+  bits_has low width (Some word) = length-selected low width word
+
+  indexed : (width : ℕ) (o p : Option ℕ) (n : ℕ) → indexed_size width o p ≡ Some n → width ≡ n
+  indexed width None p n h = cc
+  indexed width (Some a) None n h = cc
+  indexed width (Some a) (Some b) n h = cc
+
   unary_has : (op : Unary) (o : Option ℕ) (v : List Digit) → Has o v → Has (option_map (λ n. if gives_bit op then 1 else n) o) (unary op v)
   unary_has op o v h n is =
       let some = mapped (λ n. if gives_bit op then 1 else n) o n is in
@@ -168,6 +178,10 @@ module _ (store : Store) (time : ℕ) where
       (value_step store time (map-Typed Typed (List Digit) (λ e. value_of e store time) (map-Typed ((e : Typed) × Sized e) Typed (λ e. e.0) y)))
   inner (t.Number digits) n h = cc
   inner (t.Signal o) n h = let is : o.width ≡ n = cc in operand_has o.signed o.width (word_of store o.signal 0) ∙ is
+  inner (t.Slice s) n h = let is : s.width ≡ n = cc in bits_has s.low s.width (word_of store s.signal s.word) ∙ is
+  inner (t.Select s word low) n h =
+      bits_has (place_of s.bits s.width (value_of low.value.0 store time)) s.width (word_of store s.signal (word_place s.words (value_of word.value.0 store time)))
+      ∙ indexed s.width (size_of word.value.0) (size_of low.value.0) n h
   inner (t.Unary op x) n h = unary_has op (size_of x.value.0) (value_of x.value.0 store time) x.value.1 n h
   inner (t.Chain x links) n h = chain_has (size_of x.value.0) (value_of x.value.0 store time) links.items x.value.1 n h
   inner (t.Choice pairs last) n h = choice_has pairs.items (size_of last.value.0) (value_of last.value.0 store time) last.value.1 n h

@@ -1,5 +1,5 @@
 -- The values of expressions.
-use Rattle.std.specs.Prelude.{ℕ, Bool, false, Option, Some, None, List, [], ◌∷◌, length, take}
+use Rattle.std.specs.Prelude.{ℕ, ℤ, Bool, false, Option, Some, None, List, [], ◌∷◌, length, take}
 use Rattle.vs_logic4.specs.declared.digit.Digit.{Digit}
 use Rattle.vs_logic4.specs.declared.digit.Digit.TheVariants.{Zero, One, X, Z}
 use Rattle.vs_logic4.specs.declared.operators.Sizing.{Sizing}
@@ -7,18 +7,29 @@ use Rattle.vs_logic4.specs.declared.operators.Sizing.TheVariants.{Alike, Shift, 
 use Rattle.vs_logic4.specs.Bitwise.{merged}
 use Rattle.vs_logic4.specs.Comparisons.{truth}
 use Rattle.vs_logic4.specs.Operators.{unary, binary, sizing_of}
-use Rattle.vs_logic4.specs.Parts.{concatenation, replication}
+use Rattle.vs_logic4.specs.Parts.{concatenation, replication, selected}
 use Rattle.vs_logic4.specs.Vectors.{all_unknown, resized}
 use Rattle.vs_design.specs.declared.expression.Link.{Link}
+use Rattle.vs_design.specs.declared.expression.Selection.{Selection}
 use Rattle.vs_design.specs.declared.expression.Typed.{Typed, Typed-F, fold-Typed}
 use Rattle.vs_design.specs.declared.expression.Typed.TheOpen as t
 use Rattle.vs_design.specs.declared.statement.Target.{Target}
+use Rattle.vs_design.specs.Selects.{place_of, word_place}
 use Rattle.vs_design.specs.Stores.{Store, word_of}
 
 -- a word at the size and with the sign of its context; x where there is no such word (clauses 5.4.1 and 5.5.2)
 abbrev pub operand_value : Bool → ℕ → Option (List Digit) → List Digit
 operand_value signed width None = all_unknown width
 operand_value signed width (Some word) = resized signed width word
+
+-- so many bits of a word from a place on; x where there is no such bit, or no such word (clause 5.2.1)
+abbrev pub bits_value : ℤ → ℕ → Option (List Digit) → List Digit
+bits_value low width None = all_unknown width
+bits_value low width (Some word) = selected low width word
+
+-- the bits that two indices choose (clause 5.2.1)
+abbrev pub selection_value : Selection → Store → List Digit → List Digit → List Digit
+selection_value s store word low = bits_value (place_of s.bits s.width low) s.width (word_of store s.signal (word_place s.words word))
 
 -- what stands on the left of a link at the size at which the operator takes it: at that of the link, or as it is (clause 5.4.1)
 abbrev pub left_side : Sizing → ℕ → List Digit → List Digit
@@ -66,6 +77,8 @@ concatenated high (low ∷ rest) = concatenated (take 64 (concatenation high low
 abbrev pub value_step : Store → ℕ → Typed-F (List Digit) → List Digit
 value_step store time (t.Number digits) = digits
 value_step store time (t.Signal o) = operand_value o.signed o.width (word_of store o.signal 0)
+value_step store time (t.Slice s) = bits_value s.low s.width (word_of store s.signal s.word)
+value_step store time (t.Select s word low) = selection_value s store word.value low.value
 value_step store time (t.Unary op x) = unary op x.value
 value_step store time (t.Chain x links) = chained x.value links.items
 value_step store time (t.Choice pairs last) = chosen pairs.items last.value

@@ -1,15 +1,19 @@
 //! The values of expressions in a store (IEEE 1364-2005, clause 5), and the writes of assignments.
 #![tactic(auto)]
 
-ghost use Rattle.std.specs.Prelude.{◌≡◌, map};
+ghost use Rattle.std.specs.Prelude.{◌≡◌, ◌<◌, ◌≤◌, map};
 ghost use Rattle.vs_logic4.specs.Comparisons.{truth};
 ghost use Rattle.vs_logic4.specs.Operators.{sizing_of};
-ghost use Rattle.vs_eval.specs.Laws.{ReadsHold, SizesHold};
-ghost use Rattle.vs_eval.specs.Targets.{assigned};
-ghost use Rattle.vs_eval.specs.Values.{value_of, target_value, operand_value, left_side, right_side, linked, chained, picked, chosen, concatenated};
+ghost use Rattle.vs_eval.specs.Laws.{ReadsHold, IndicesHold, WritesHold, SizesHold};
+ghost use Rattle.vs_eval.specs.Values.{value_of, operand_value, bits_value, selection_value, left_side, right_side, linked, chained, picked, chosen, concatenated};
 ghost use Rattle.vs_design.specs.Stores.{word_of};
 
-use vs_design::{Link, Operand, Part, Store, Target, Typed, Write};
+mod indices;
+mod targets;
+
+pub use indices::{place_of, word_place};
+pub use targets::{cut_value, write_of};
+use vs_design::{Link, Operand, Selection, Slice, Store, Typed};
 use vs_logic4::{Digit, Sizing, Vec4};
 
 /// The value of an expression in a store at a time in ticks, at the size and with the sign of its context.
@@ -20,6 +24,10 @@ pub fn value(e: &Typed, store: &Store, time: u64) -> Vec4
     match e {
         Typed::Number(digits) => *digits,
         Typed::Signal(o) => operand(*o, store),
+        Typed::Slice(s) => slice(*s, store),
+        Typed::Select(s, word, low) => {
+            selection(*s, store, value(word, store, time), value(low, store, time))
+        }
         Typed::Unary(operator, x) => operator.of(value(x, store, time)),
         Typed::Chain(first, links) => chain(value(first, store, time), links, store, time),
         Typed::Choice(pairs, last) => choice(pairs, value(last, store, time), store, time),
@@ -119,29 +127,46 @@ fn operand(o: Operand, store: &Store) -> Vec4
     }
 }
 
-/// What a target gets of an expression in a store at a time in ticks: the value, cut to the target's size (IEEE 1364-2005, clause 5.4.1).
-pub fn cut_value(target: Target, e: &Typed, store: &Store, time: u64) -> Vec4
-    ensures { result ≡ target_value target e.now store.now time }
+/// So many bits of a word from a place on; x where there is no such bit, or no such word (IEEE 1364-2005, clause 5.2.1).
+fn bits(word: Option<Vec4>, low: i64, width: u32) -> Vec4
+    requires some { 0 < width }
+    requires most { width ≤ 64 }
+    ensures { result ≡ bits_value low width word }
 {
-    value(e, store, time).resize(target.width, false)
+    match word {
+        Some(word) => word.select(low, width),
+        None => Vec4::unknown(width),
+    }
 }
 
-/// The write that gives a target these digits, its indices read in this store.
-pub fn write_of(target: Target, digits: Vec4, store: &Store) -> Write
-    ensures { result ≡ assigned target digits store.now }
+/// The bits that constant indices choose.
+fn slice(s: Slice, store: &Store) -> Vec4
+    ensures { result ≡ bits_value s.low s.width (word_of store.now s.signal s.word) }
 {
-    let _ = store;
-    Write::new(Part {
-        signal: target.signal,
-        word: 0,
-        low: 0,
-        digits,
-    })
+    bits(store.word(s.signal, s.word), s.low as i64, s.width)
+}
+
+/// The bits that two indices choose, the word's and the lowest bit's.
+fn selection(s: Selection, store: &Store, word: Vec4, low: Vec4) -> Vec4
+    ensures { result ≡ selection_value s store.now word low }
+{
+    let chosen = store.word(s.signal, word_place(s.words, word));
+    bits(chosen, place_of(s.bits, s.width, low), s.width)
 }
 
 /// The ranges that `reads` answers of an expression hold all that its value depends on.
 pub fn reads_hold()
     ensures { ReadsHold }
+{}
+
+/// Those of the indices of a target hold all that the places of its write depend on.
+pub fn indices_hold()
+    ensures { IndicesHold }
+{}
+
+/// A write to a target changes only what the ranges that `writes` answers cover.
+pub fn writes_hold()
+    ensures { WritesHold }
 {}
 
 /// An expression that has a size has values of that size.

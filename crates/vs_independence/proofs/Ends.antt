@@ -112,10 +112,10 @@ inner_kept d well b s apart (Step i) inner h (inr m) =
     absurd (not_going p.0 (stopped_at d b s m i p.0 p.1) p.2)
 inner_kept d well b s apart (Evaluate j) inner h (inl r) =
     let x = some_of (λ (x : AssignState). x.needs) (slice_get s.assigns j) h in
-    inl (subst (λ (o : Option AssignState). Runs d b (evaluate s j o)) (sym x.1) (evaluate_runs d b s r j x.0 x.1 x.2))
+    inl (subst (λ (o : Option AssignState). Runs d b (evaluate s j o)) (sym x.1) (evaluate_runs d well b s r j x.0 x.1 x.2))
 inner_kept d well b s apart (Evaluate j) inner h (inr m) =
     let x = some_of (λ (x : AssignState). x.needs) (slice_get s.assigns j) h in
-    inr (subst (λ (o : Option AssignState). Making d b (evaluate s j o)) (sym x.1) (evaluate_makes d b s m j x.0 x.1))
+    inr (subst (λ (o : Option AssignState). Making d b (evaluate s j o)) (sym x.1) (evaluate_makes d well b s m j x.0 x.1))
 inner_kept d well b s apart (Propagate j) inner h (inl r) =
     let x = some_of (λ (x : AssignState). is_some x.pending) (slice_get s.assigns j) h in
     let v = pending_of x.0.pending x.2 in
@@ -302,7 +302,14 @@ ends_unique d well b c s t al x y =
     let mx = x.making in
     let my = y.making in
     record {
-      store = settled_unique d well s.store t.store s.assigns t.assigns mx.sound my.sound x.idle y.idle (same_undriven d b c s t al x y);
+      store = settled_unique d s.store t.store s.assigns t.assigns (record {
+        well = well;
+        one = mx.sound;
+        other = my.sound;
+        one_idle = x.idle;
+        other_idle = y.idle;
+        undriven = same_undriven d b c s t al x y;
+      });
       places = ext_get_or ended s.places t.places (mx.slot.count ∙ ap (λ l. length l) al.places ∙ sym my.slot.count) (λ i lt.
           ap (λ l. get_or l i ended) mx.places ∙ mx.runs.places i ∙ ap (λ (z : Thread). z.place) (same_threads d b c s t al mx my i) ∙ sym (my.runs.places i) ∙ ap (λ l. get_or l i ended) (sym my.places));
       assigns = idle_unique s.assigns t.assigns (mx.sound.linked ∙ sym my.sound.linked) x.idle y.idle;

@@ -3,6 +3,7 @@ pub mod Stores
 pub mod StepReads
 pub mod Threads
 pub mod Assigns
+pub mod Feeds
 pub mod Settle
 pub mod Running
 pub mod Steps
@@ -14,3 +15,4 @@ pub mod Times
 pub mod WellFormed
 pub mod Whole
 pub mod Race
+pub mod Carry

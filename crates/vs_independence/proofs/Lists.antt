@@ -1,17 +1,15 @@
 -- Lists, and functions that are changed at one number.
-use Rattle.std.proofs.Common.{◌≡◌, ℕ, suc, Bool, true, false, ◌||◌, cond, eqb, Some, None, List, [], ◌∷◌, filter, slice_get, refl, sym, ◌∙◌, ap, subst, inl, inr, eq-eqb, eqb-true}
-use Rattle.std.specs.List.{list_any, list_all}
-use Rattle.std.proofs.lemmas.Bool.{cond-true, cond_both, eqb-false, cases_Bool, and_parts, or_parts, true≢false}
+use Rattle.std.proofs.Common.{◌≡◌, ℕ, Bool, false, ◌||◌, cond, eqb, Some, List, [], ◌∷◌, filter, slice_get, refl, sym, ◌∙◌, ap, subst, inl, inr, eq-eqb, eqb-true}
+use Rattle.std.specs.List.{list_any, Contains}
+use Rattle.std.proofs.lemmas.Option.{slice_get_within, get_or_from_slice_get, slice_get-get_or}
+use Rattle.std.proofs.lemmas.Bool.{cond-true, cond_both, eqb-false, cases_Bool, or_parts}
 
--- two lists with the same elements are equal
-pub same_gets : {A : Type 0} (xs ys : List A) → ((i : ℕ) → slice_get xs i ≡ slice_get ys i) → xs ≡ ys
-same_gets [] [] h = refl
-same_gets [] (y ∷ ys) h = let e : None ≡ Some y = h 0 in cc
-same_gets (x ∷ xs) [] h = let e : Some x ≡ None = h 0 in cc
-same_gets (x ∷ xs) (y ∷ ys) h =
-    let first : Some x ≡ Some y = h 0 in
-    let rest = same_gets xs ys (λ i. h (suc i)) in
-    cc
+-- an element by its place
+pub contains_at : {A : Type 0} (xs : List A) (i : ℕ) (x : A) → slice_get xs i ≡ Some x → Contains xs x
+contains_at xs i x is = (i, slice_get_within xs i x is, get_or_from_slice_get xs i x x is)
+
+pub place_of : {A : Type 0} (xs : List A) (x : A) → Contains xs x → (i : ℕ) × (slice_get xs i ≡ Some x)
+place_of xs x (i, within, is) = (i, slice_get-get_or xs i x within ∙ ap (λ y. Some y) is)
 
 -- a function that is changed at one number
 abbrev pub at : {A : Type 0} → (ℕ → A) → ℕ → A → ℕ → A
@@ -27,14 +25,6 @@ at_each P f i x p q j =
 -- what one of them has, one of them has behind a change that keeps it
 pub at_some : {A : Type 0} (P : A → Type 0) (f : ℕ → A) (i : ℕ) (x : A) → (P (f i) → P x) → (j : ℕ) × P (f j) → (j : ℕ) × P (at f i x j)
 at_some P f i x keeps (j, p) = (j, at_each (λ k t. P (f k) → P t) f i x keeps (λ k ne h. h) j p)
-
--- what all pass and none passes has no element
-pub none_left : {A : Type 0} (p : A → Bool) (xs : List A) → list_all p xs ≡ true → list_any p xs ≡ false → xs ≡ []
-none_left p [] h g = refl
-none_left p (x ∷ xs) h g =
-    let hit = (and_parts (p x) (list_all p xs) h).0 in
-    let miss = (or_parts (p x) (list_any p xs) g).0 in
-    absurd (true≢false (sym hit ∙ miss))
 
 pub filter_none : {A : Type 0} (p : A → Bool) (xs : List A) → list_any p xs ≡ false → filter p xs ≡ []
 filter_none p [] h = refl

@@ -181,14 +181,14 @@ make_makes d b s m i u is first = record {
     none = not-true (list_any (λ (older : Update). older.active && shares older.what u.what) (take i s.updates))
         (and_parts u.active (not (list_any (λ (older : Update). older.active && shares older.what u.what) (take i s.updates))) first).1
 
-pub evaluate_makes : (d : Parts) (b s : State) → Making d b s → (j : ℕ) (x : AssignState) → slice_get s.assigns j ≡ Some x → Making d b (evaluate s j (Some x))
-evaluate_makes d b s m j x is = record {
+pub evaluate_makes : (d : Parts) → DrivesWell d → (b s : State) → Making d b s → (j : ℕ) (x : AssignState) → slice_get s.assigns j ≡ Some x → Making d b (evaluate s j (Some x))
+evaluate_makes d well b s m j x is = record {
   before = m.before;
   th = m.th;
   runs = m.runs;
   still = m.still;
   slot = record { time = m.slot.time; over = m.slot.over; calls = m.slot.calls; count = m.slot.count };
-  sound = sound_evaluated d s.store s.time s.assigns j x is m.sound;
+  sound = sound_evaluated d well.places s.store s.time s.assigns j x is m.sound;
   places = m.places;
   finishing = m.finishing;
   store = m.store;
@@ -204,10 +204,10 @@ propagate_makes d well b s m j x digits is waits = record {
   runs = m.runs;
   still = m.still;
   slot = record { time = m.slot.time; over = m.slot.over; calls = m.slot.calls; count = m.slot.count };
-  sound = sound_propagated d well.one s.store s.assigns j x digits is waits m.sound;
+  sound = sound_propagated d well.places s.store s.time s.assigns j x digits is waits m.sound;
   places = m.places;
   finishing = m.finishing;
-  store = λ v undriven. put_active_local (put s.store (assigned x.target digits s.store)) s.store s.updates v (propagated_undriven d s.store s.assigns m.sound j x digits is v undriven) ∙ m.store v undriven;
+  store = λ v undriven. put_active_local (put s.store (assigned x.target digits s.store s.time)) s.store s.updates v (propagated_undriven d s.store s.time s.assigns m.sound j x digits is v undriven) ∙ m.store v undriven;
   rest = m.rest;
   settled = m.settled;
   undriven = m.undriven;

@@ -2,19 +2,20 @@
 use Rattle.std.proofs.Common.{◌≡◌, ℕ, ◌<◌, true, false, ◌||◌, Option, Some, None, List, map, length, get_or, slice_get, slice_set, refl, sym, ◌∙◌, ap, subst, inl, inr}
 use Rattle.std.specs.List.{list_any}
 use Rattle.std.proofs.Math.ListN.{get_or-map}
-use Rattle.std.proofs.lemmas.Bool.{or_left, or_right, true≢false, false≢true}
+use Rattle.std.proofs.lemmas.Bool.{false_from_ne_true, or_left, or_right, true≢false, false≢true}
 use Rattle.std.proofs.lemmas.List.{length-set, length-map, get_or-set_same, get_or-set_other}
 use Rattle.std.proofs.lemmas.Option.{slice_get_within, get_or_from_slice_get}
 use Rattle.vs_logic4.specs.declared.digit.Digit.{Digit}
 use Rattle.vs_design.specs.Parts.{Parts}
-use Rattle.vs_design.specs.Stores.{Store, put, is_driven}
+use Rattle.vs_design.specs.Stores.{Store, put, is_changed, is_driven}
+use Rattle.vs_design.specs.Uses.{writes_signal}
 use Rattle.vs_design.specs.Writes.{Write, names}
 use Rattle.vs_eval.specs.Targets.{assigned}
 use Rattle.vs_process.specs.Places.{Todo, Place, going, sleeping, inactive, ended, is_going}
 use Rattle.vs_process.specs.declared.moves.Gait.{Gait}
 use Rattle.vs_process.specs.Steps.{Out, step}
 use Rattle.vs_process.specs.States.{State, AssignState, place_behind, todo_of, performed, written_behind, calls_behind, updates_behind, evaluate, propagate_value, roused}
-use Rattle.vs_process.proofs.Values.{Agree}
+use Rattle.vs_process.proofs.WellFormed.{is_sound_place, is_sound_todo}
 use Rattle.vs_process.proofs.Assigns.{AssignsSound, IsUndriven, assign_driven, assigned_other, sound_behind, sound_evaluated, sound_propagated}
 use Rattle.vs_independence.specs.Threads.{store_behind, Thread, IsThread, log_behind, moved, turn_at, writes, place_reads, todo_reads}
 use Rattle.vs_independence.proofs.Lists.{at, at_each}
@@ -23,7 +24,7 @@ use Rattle.vs_independence.proofs.Threads.{thread_turns, rouse_thread, thread_ro
 use Rattle.vs_independence.proofs.Assigns.{DrivesWell, assigns_behind}
 use Rattle.vs_independence.proofs.Running.{Apart, AllThreads, Sources, Mades, Running, reads_agree}
 use Rattle.vs_independence.proofs.Steps.{at_this, all_at, sources_step, mades_step, finishes_step}
-use Rattle.vs_independence.proofs.Nets.{stirred_more, nets_behind, nets_evaluated, nets_propagated}
+use Rattle.vs_independence.proofs.Nets.{all_stirred_more, nets_behind, nets_evaluated, nets_propagated}
 
 -- threads with which a state of the slot runs
 abbrev pub Runs : Parts → State → State → Type 0
@@ -99,7 +100,7 @@ step_runs d b s apart (th, r) i (going gait todo) is h = (
   at th i (moved b.time i (going gait todo) (step todo (th i).view b.time) (th i)),
   subst (λ out. Running d b (performed s i (going gait todo) out) (at th i (moved b.time i (going gait todo) (step todo (th i).view b.time) (th i)))) (sym same_out)
       (subst (λ t. Running d b t (at th i (moved b.time i (going gait todo) (step todo (th i).view b.time) (th i)))) (sym (performed_is s i (going gait todo) (step todo (th i).view b.time)))
-      (stepped_runs d b s th apart r i gait todo (step todo (th i).view b.time) is (step_plain todo (th i).view b.time) turned)),
+      (stepped_runs d b s th apart r i gait todo (step todo (th i).view b.time) is (step_plain d.signals todo (th i).view b.time sound) turned)),
 )
   where
     here_is : (th i).place ≡ going gait todo
@@ -108,8 +109,11 @@ step_runs d b s apart (th, r) i (going gait todo) is h = (
     turned : IsThread b i (moved b.time i (going gait todo) (step todo (th i).view b.time) (th i))
     turned = subst (λ p. IsThread b i (turn_at b.time i p (th i))) here_is (thread_turns b i (th i) (r.threads i))
 
-    agree : Agree (todo_reads todo) s.store (th i).view
-    agree = subst (λ p. Agree (place_reads p) s.store (th i).view) here_is (reads_agree d b apart s.store s.assigns th r.threads r.sound r.sources r.nets i)
+    sound : is_sound_todo d.signals todo ≡ true
+    sound = subst (λ p. is_sound_place d.signals p ≡ true) here_is (apart.places i (th i) (r.threads i))
+
+    agree : list_any (is_changed s.store (th i).view) (todo_reads todo) ≡ false
+    agree = subst (λ p. list_any (is_changed s.store (th i).view) (place_reads p) ≡ false) here_is (reads_agree d b apart s.store s.assigns th r.threads r.sound r.sources r.nets i)
 
     same_out : step todo s.store s.time ≡ step todo (th i).view b.time
     same_out = step_reads s.store (th i).view todo s.time agree ∙ ap (step todo (th i).view) r.slot.time
@@ -118,12 +122,12 @@ step_runs d b s apart (th, r) i (inactive todo) is h = absurd (false≢true h)
 step_runs d b s apart (th, r) i ended is h = absurd (false≢true h)
 
 -- an evaluation of a continuous assignment
-pub evaluate_runs : (d : Parts) (b s : State) → Runs d b s → (j : ℕ) (x : AssignState) → slice_get s.assigns j ≡ Some x → x.needs ≡ true → Runs d b (evaluate s j (Some x))
-evaluate_runs d b s (th, r) j x is needs = (
+pub evaluate_runs : (d : Parts) → DrivesWell d → (b s : State) → Runs d b s → (j : ℕ) (x : AssignState) → slice_get s.assigns j ≡ Some x → x.needs ≡ true → Runs d b (evaluate s j (Some x))
+evaluate_runs d well b s (th, r) j x is needs = (
   th,
   record {
     slot = record { time = r.slot.time; over = r.slot.over; calls = r.slot.calls; count = r.slot.count };
-    sound = sound_evaluated d s.store s.time s.assigns j x is r.sound;
+    sound = sound_evaluated d well.places s.store s.time s.assigns j x is r.sound;
     threads = r.threads;
     places = r.places;
     sources = r.sources;
@@ -144,10 +148,11 @@ sources_other d b apart old new th all same so = record {
 }
 
 -- an update of an assignment leaves what is undriven
-pub propagated_undriven : (d : Parts) (store : Store) (assigns : List AssignState) → AssignsSound d store assigns → (j : ℕ) (x : AssignState) (digits : List Digit) → slice_get assigns j ≡ Some x →
-    (v : ℕ) → is_driven d.assigns v ≡ false → slice_get (put store (assigned x.target digits store)) v ≡ slice_get store v
-propagated_undriven d store assigns sound j x digits is v undriven =
-    assigned_other store x.target digits v (λ e. true≢false (sym (assign_driven d store assigns sound j x is) ∙ ap (is_driven d.assigns) (sym e) ∙ undriven))
+pub propagated_undriven : (d : Parts) (store : Store) (time : ℕ) (assigns : List AssignState) → AssignsSound d store assigns → (j : ℕ) (x : AssignState) (digits : List Digit) → slice_get assigns j ≡ Some x →
+    (v : ℕ) → is_driven d.assigns v ≡ false → slice_get (put store (assigned x.target digits store time)) v ≡ slice_get store v
+propagated_undriven d store time assigns sound j x digits is v undriven =
+    assigned_other store x.target digits store time v
+    (false_from_ne_true (writes_signal x.target v) (λ named. true≢false (sym (assign_driven d store assigns sound j x v is named) ∙ undriven)))
 
 -- an update of a continuous assignment
 pub propagate_runs : (d : Parts) → DrivesWell d → (b s : State) → Apart d b → Runs d b s → (j : ℕ) (x : AssignState) (digits : List Digit) → slice_get s.assigns j ≡ Some x → x.pending ≡ Some digits → Runs d b (propagate_value s j x (Some digits))
@@ -155,13 +160,13 @@ propagate_runs d well b s apart (th, r) j x digits is waits = (
   th,
   record {
     slot = record { time = r.slot.time; over = r.slot.over; calls = r.slot.calls; count = r.slot.count };
-    sound = sound_propagated d well.one s.store s.assigns j x digits is waits r.sound;
+    sound = sound_propagated d well.places s.store s.time s.assigns j x digits is waits r.sound;
     threads = r.threads;
     places = r.places;
-    sources = sources_other d b apart s.store (put s.store (assigned x.target digits s.store)) th r.threads (propagated_undriven d s.store s.assigns r.sound j x digits is) r.sources;
+    sources = sources_other d b apart s.store (put s.store (assigned x.target digits s.store s.time)) th r.threads (propagated_undriven d s.store s.time s.assigns r.sound j x digits is) r.sources;
     mades = r.mades;
     finishes = r.finishes;
-    nets = nets_propagated d well b s.store s.assigns th r.sound j x digits is waits r.nets;
+    nets = nets_propagated d well b s.store s.time s.assigns th r.sound j x digits is waits r.nets;
   },
 )
 
@@ -179,7 +184,7 @@ rouse_runs d b s (th, r) = (
     finishes = record { kept = r.finishes.kept; by_thread = r.finishes.by_thread; some = r.finishes.some };
     nets = λ j x is. elim (r.nets j x is) [
       | inl calm ↦ inl calm
-      | inr stirred ↦ inr (stirred_more d b th (λ i. rouse_thread (th i)) (λ i u h. h) x.target.signal stirred)
+      | inr stirred ↦ inr (all_stirred_more d b th (λ i. rouse_thread (th i)) (λ i u h. h) x stirred)
     ];
   },
 )

@@ -1,49 +1,64 @@
 -- What is said of nets is kept: each is calm, or something stirred reaches it.
-use Rattle.std.proofs.Common.{◌≡◌, ℕ, ◌⊎◌, true, Option, Some, None, List, map, slice_get, slice_set, refl, sym, ◌∙◌, ap, subst, inl, inr}
-use Rattle.std.specs.List.{list_any}
-use Rattle.std.proofs.lemmas.Bool.{cases_Bool, cases_eq, or_from, true≢false}
+use Rattle.std.proofs.Common.{◌≡◌, ℕ, ◌⊎◌, true, Option, Some, None, option_map, List, map, slice_get, slice_set, refl, sym, ◌∙◌, ap, subst, inl, inr}
+use Rattle.std.specs.List.{list_any, Contains}
+use Rattle.std.proofs.lemmas.Bool.{cases_Bool, false_from_ne_true, or_from, true≢false}
 use Rattle.vs_logic4.specs.declared.digit.Digit.{Digit}
 use Rattle.vs_design.specs.declared.design.Assign.{Assign}
+use Rattle.vs_design.specs.declared.range.BitRange.{BitRange}
 use Rattle.vs_design.specs.declared.statement.Target.{Target}
 use Rattle.vs_design.specs.Parts.{Parts}
 use Rattle.vs_design.specs.Stores.{Store, put, is_changed}
 use Rattle.vs_design.specs.Writes.{Write, names}
-use Rattle.vs_design.specs.Uses.{reads, reads_signal}
+use Rattle.vs_design.specs.Uses.{covers, reads}
+use Rattle.vs_design.specs.Uses as uses
+use Rattle.vs_eval.specs.Laws.{digit_of}
 use Rattle.vs_eval.specs.Targets.{assigned}
 use Rattle.vs_process.specs.States.{State, AssignState, touched, evaluated, settled}
-use Rattle.vs_process.proofs.Lists.{map_cases, set_cases}
+use Rattle.vs_process.proofs.Digits.{digit-put, kept_digit, laid, unnamed_keeps}
+use Rattle.vs_process.proofs.Lists.{any_at, map_cases, set_cases}
+use Rattle.vs_process.proofs.Ranges.{assigned_fixed, covered_signal, fixed_write, uncovered_keeps}
 use Rattle.vs_process.proofs.Stores.{put_other}
-use Rattle.vs_process.proofs.Values.{changed_read}
-use Rattle.vs_process.proofs.Assigns.{AssignsSound, link_of, assign_driven, IsUndriven, misses, assigned_other, apart_targets}
+use Rattle.vs_process.proofs.Values.{not_changed}
+use Rattle.vs_process.proofs.Assigns.{AssignsSound, link_of, assign_driven, assign_fixed, IsUndriven, misses, apart_targets}
+use Rattle.vs_independence.specs.Feeds.{writes_into}
 use Rattle.vs_independence.specs.Threads.{store_behind, Thread, writes}
 use Rattle.vs_independence.specs.Discipline.{here, through}
 use Rattle.vs_independence.proofs.Assigns.{DrivesWell, assigns_behind}
-use Rattle.vs_independence.proofs.Running.{Stirred, IsCalm, Nets, by_write, by_start}
+use Rattle.vs_independence.proofs.Feeds.{changed_into}
+use Rattle.vs_independence.proofs.Lists.{contains_at}
+use Rattle.vs_independence.proofs.Running.{Stirred, IsCalm, IsStirred, Nets, by_write, by_start}
 
 -- more that threads have written stirs more
-pub stirred_more : (d : Parts) (b : State) (th more : ℕ → Thread) → ((i u : ℕ) → writes (th i) u ≡ true → writes (more i) u ≡ true) → (s : ℕ) → Stirred d b th s → Stirred d b more s
-stirred_more d b th more f s (by_write i u wrote reach) = by_write i u (f i u wrote) reach
-stirred_more d b th more f s (by_start j y at_j needs reach) = by_start j y at_j needs reach
+stirred_more : (d : Parts) (b : State) (th more : ℕ → Thread) → ((i u : ℕ) → writes (th i) u ≡ true → writes (more i) u ≡ true) → (r : BitRange) → Stirred d b th r → Stirred d b more r
+stirred_more d b th more f r (by_write i u wrote reach) = by_write i u (f i u wrote) reach
+stirred_more d b th more f r (by_start j u y at_j needs named reach) = by_start j u y at_j needs named reach
+
+pub all_stirred_more : (d : Parts) (b : State) (th more : ℕ → Thread) → ((i u : ℕ) → writes (th i) u ≡ true → writes (more i) u ≡ true) → (x : AssignState) → IsStirred d b th x → IsStirred d b more x
+all_stirred_more d b th more f x stirred r into = stirred_more d b th more f r (stirred r into)
 
 -- what is stirred stirs what reads it
-stirred_through : (d : Parts) (b : State) (th : ℕ → Thread) (r j : ℕ) (a : Assign) → slice_get d.assigns j ≡ Some a → reads_signal a.source r ≡ true → Stirred d b th r → Stirred d b th a.target.signal
-stirred_through d b th r j a is reads (by_write i u wrote reach) = by_write i u wrote (through r j a reach is reads)
-stirred_through d b th r j a is reads (by_start k y at_k needs reach) = by_start k y at_k needs (through r j a reach is reads)
+stirred_through : (d : Parts) (b : State) (th : ℕ → Thread) (q r : BitRange) (j : ℕ) (a : Assign) → slice_get d.assigns j ≡ Some a → Contains (reads a.source) q → writes_into a.target r ≡ true → Stirred d b th q → Stirred d b th r
+stirred_through d b th q r j a is reads into (by_write i u wrote reach) = by_write i u wrote (through q r j a reach is reads into)
+stirred_through d b th q r j a is reads into (by_start k u y at_k needs named reach) = by_start k u y at_k needs named (through q r j a reach is reads into)
 
 -- the same of an assignment of a state
-stirs : (d : Parts) (b : State) (th : ℕ → Thread) (store : Store) (assigns : List AssignState) → AssignsSound d store assigns → (j r : ℕ) (x : AssignState) → slice_get assigns j ≡ Some x →
-    reads_signal x.source r ≡ true → Stirred d b th r → Stirred d b th x.target.signal
-stirs d b th store assigns sound j r x is reads stirred =
+stirs : (d : Parts) (b : State) (th : ℕ → Thread) (store : Store) (assigns : List AssignState) → AssignsSound d store assigns → (j : ℕ) (q : BitRange) (x : AssignState) → slice_get assigns j ≡ Some x →
+    Contains (reads x.source) q → Stirred d b th q → IsStirred d b th x
+stirs d b th store assigns sound j q x is reads_q stirred r into =
     let a = link_of d.assigns assigns j x sound.linked is in
-    subst (λ (t : Target). Stirred d b th t.signal) a.2 (stirred_through d b th r j a.0 a.1 (ap (λ e. reads_signal e r) a.3 ∙ reads) stirred)
+    stirred_through d b th q r j a.0 a.1 (subst (λ e. Contains (reads e) q) (sym a.3) reads_q) (ap (λ (t : Target). writes_into t r) a.2 ∙ into) stirred
 
--- a calm assignment behind a change of the store that leaves its target: it is calm still, or it reads something that is changed
-calm_touched : (b : State) (old new : Store) (x : AssignState) → slice_get new x.target.signal ≡ slice_get old x.target.signal → IsCalm b old x →
-    IsCalm b new (touched old new x) ⊎ ((v : ℕ) × (reads_signal x.source v ≡ true) × (slice_get new v ≡ slice_get old v → ⊥))
+-- it reads a range that is changed
+abbrev ReadsChanged : Store → Store → AssignState → Type 0
+ReadsChanged old new x = (q : BitRange) × Contains (reads x.source) q × (is_changed old new q ≡ true)
+
+-- a calm assignment behind a change of the store that leaves its bits: it is calm still, or it reads something that is changed
+calm_touched : (b : State) (old new : Store) (x : AssignState) → ((v w k : ℕ) → list_any (covers v w k) (uses.writes x.target) ≡ true → digit_of new v w k ≡ digit_of old v w k) → IsCalm b old x →
+    IsCalm b new (touched old new x) ⊎ ReadsChanged old new x
 calm_touched b old new x same calm =
     elim (cases_Bool (list_any (is_changed old new) (reads x.source))) [
-      | inl hit ↦ inr (changed_read old new x.source hit)
-      | inr miss ↦ inl (or_from x.needs (list_any (is_changed old new) (reads x.source)) calm.0 miss, calm.1, same ∙ calm.2)
+      | inl hit ↦ let found = any_at (is_changed old new) (reads x.source) hit in inr (found.1, contains_at (reads x.source) found.0 found.1 found.2, found.3)
+      | inr miss ↦ inl (or_from x.needs (list_any (is_changed old new) (reads x.source)) calm.0 miss, calm.1, λ v w k h. same v w k h ∙ calm.2 v w k h)
     ]
 
 -- behind a write of a process
@@ -52,30 +67,33 @@ pub nets_written : (d : Parts) (b : State) (store : Store) (assigns : List Assig
     Nets d b store assigns th → Nets d b (put store w) (map (touched store (put store w)) assigns) more
 nets_written d b store assigns th more sound w undriven wrote grows nets j y is = at_assign (map_cases (touched store (put store w)) assigns j y is)
   where
-    read_written : (x : AssignState) → slice_get assigns j ≡ Some x → ((v : ℕ) × (reads_signal x.source v ≡ true) × (slice_get (put store w) v ≡ slice_get store v → ⊥)) → Stirred d b more x.target.signal
-    read_written x at_j (v, reads, changed) =
-        elim (cases_Bool (names w v)) [
-          | inl hit ↦ let by = wrote v hit in stirs d b more store assigns sound j v x at_j reads (by_write by.0 v by.1 here)
-          | inr miss ↦ absurd (changed (put_other store w v miss))
+    read_written : (x : AssignState) → slice_get assigns j ≡ Some x → ReadsChanged store (put store w) x → IsStirred d b more x
+    read_written x at_j (q, reads, changed) =
+        elim (cases_Bool (names w q.signal)) [
+          | inl hit ↦ let by = wrote q.signal hit in stirs d b more store assigns sound j q x at_j reads (by_write by.0 q.signal by.1 (here q refl))
+          | inr miss ↦ absurd (true≢false (sym changed ∙ not_changed store (put store w) q (put_other store w q.signal miss)))
         ]
 
-    calm_or_stirred : (x : AssignState) → slice_get assigns j ≡ Some x → (IsCalm b store x ⊎ Stirred d b th x.target.signal) → IsCalm b (put store w) (touched store (put store w) x) ⊎ Stirred d b more x.target.signal
-    calm_or_stirred x at_j (inr stirred) = inr (stirred_more d b th more grows x.target.signal stirred)
+    kept : (x : AssignState) → slice_get assigns j ≡ Some x → (v n k : ℕ) → list_any (covers v n k) (uses.writes x.target) ≡ true → digit_of (put store w) v n k ≡ digit_of store v n k
+    kept x at_j v n k h = kept_digit store w v n k (unnamed_keeps w v n k (misses d w undriven v (assign_driven d store assigns sound j x v at_j (covered_signal v n k x.target h))))
+
+    calm_or_stirred : (x : AssignState) → slice_get assigns j ≡ Some x → (IsCalm b store x ⊎ IsStirred d b th x) → IsCalm b (put store w) (touched store (put store w) x) ⊎ IsStirred d b more x
+    calm_or_stirred x at_j (inr stirred) = inr (all_stirred_more d b th more grows x stirred)
     calm_or_stirred x at_j (inl calm) =
-        elim (calm_touched b store (put store w) x (put_other store w x.target.signal (misses d w undriven x.target.signal (assign_driven d store assigns sound j x at_j))) calm) [
+        elim (calm_touched b store (put store w) x (kept x at_j) calm) [
           | inl still ↦ inl still
           | inr read ↦ inr (read_written x at_j read)
         ]
 
-    at_assign : ((x : AssignState) × (slice_get assigns j ≡ Some x) × (touched store (put store w) x ≡ y)) → IsCalm b (put store w) y ⊎ Stirred d b more y.target.signal
-    at_assign (x, at_j, e) = subst (λ (z : AssignState). IsCalm b (put store w) z ⊎ Stirred d b more z.target.signal) e (calm_or_stirred x at_j (nets j x at_j))
+    at_assign : ((x : AssignState) × (slice_get assigns j ≡ Some x) × (touched store (put store w) x ≡ y)) → IsCalm b (put store w) y ⊎ IsStirred d b more y
+    at_assign (x, at_j, e) = subst (λ (z : AssignState). IsCalm b (put store w) z ⊎ IsStirred d b more z) e (calm_or_stirred x at_j (nets j x at_j))
 
 pub nets_behind : (d : Parts) (b : State) (store : Store) (assigns : List AssignState) (th more : ℕ → Thread) → AssignsSound d store assigns → (o : Option Write) → ((w : Write) → o ≡ Some w → IsUndriven d w) →
     ((w : Write) → o ≡ Some w → (v : ℕ) → names w v ≡ true → (i : ℕ) × (writes (more i) v ≡ true)) → ((i u : ℕ) → writes (th i) u ≡ true → writes (more i) u ≡ true) →
     Nets d b store assigns th → Nets d b (store_behind store o) (assigns_behind store o assigns) more
 nets_behind d b store assigns th more sound None undriven wrote grows nets j x is = elim (nets j x is) [
   | inl calm ↦ inl calm
-  | inr stirred ↦ inr (stirred_more d b th more grows x.target.signal stirred)
+  | inr stirred ↦ inr (all_stirred_more d b th more grows x stirred)
 ]
 nets_behind d b store assigns th more sound (Some w) undriven wrote grows nets j x is = nets_written d b store assigns th more sound w (undriven w refl) (wrote w refl) grows nets j x is
 
@@ -83,46 +101,59 @@ nets_behind d b store assigns th more sound (Some w) undriven wrote grows nets j
 pub nets_evaluated : (d : Parts) (b : State) (store : Store) (time : ℕ) (assigns : List AssignState) (th : ℕ → Thread) (j : ℕ) (x : AssignState) → slice_get assigns j ≡ Some x → x.needs ≡ true →
     Nets d b store assigns th → Nets d b store (slice_set assigns j (evaluated store time x)) th
 nets_evaluated d b store time assigns th j x is needs nets k y at_k = elim (set_cases assigns j k x (evaluated store time x) y is at_k) [
-  | inl same ↦ inr (subst (λ (z : AssignState). Stirred d b th z.target.signal) (sym same.1) (stirred_of (nets j x is)))
+  | inl same ↦ inr (subst (λ (z : AssignState). IsStirred d b th z) (sym same.1) (stirred_of (nets j x is)))
   | inr other ↦ nets k y other.1
 ]
   where
-    stirred_of : (IsCalm b store x ⊎ Stirred d b th x.target.signal) → Stirred d b th x.target.signal
+    stirred_of : (IsCalm b store x ⊎ IsStirred d b th x) → IsStirred d b th x
     stirred_of (inl calm) = absurd (true≢false (sym needs ∙ calm.0))
     stirred_of (inr stirred) = stirred
 
 -- behind an update of an assignment: what waits to be written isn't calm
-pub nets_propagated : (d : Parts) (well : DrivesWell d) (b : State) (store : Store) (assigns : List AssignState) (th : ℕ → Thread) → AssignsSound d store assigns → (j : ℕ) (x : AssignState) (digits : List Digit) →
+nets_fixed : (d : Parts) (well : DrivesWell d) (b : State) (store : Store) (assigns : List AssignState) (th : ℕ → Thread) → AssignsSound d store assigns → (j : ℕ) (x : AssignState) (digits : List Digit) →
     slice_get assigns j ≡ Some x → x.pending ≡ Some digits → Nets d b store assigns th →
-    Nets d b (put store (assigned x.target digits store)) (map (touched store (put store (assigned x.target digits store))) (slice_set assigns j (settled x))) th
-nets_propagated d well b store assigns th sound j x digits is waits nets k y at_k =
-    at_assign (map_cases (touched store (put store (assigned x.target digits store))) (slice_set assigns j (settled x)) k y at_k)
+    Nets d b (put store (fixed_write x.target digits)) (map (touched store (put store (fixed_write x.target digits))) (slice_set assigns j (settled x))) th
+nets_fixed d well b store assigns th sound j x digits is waits nets k y at_k = at_assign (map_cases (touched store new) (slice_set assigns j (settled x)) k y at_k)
   where
     new : Store
-    new = put store (assigned x.target digits store)
+    new = put store (fixed_write x.target digits)
 
-    source : (IsCalm b store x ⊎ Stirred d b th x.target.signal) → Stirred d b th x.target.signal
+    source : (IsCalm b store x ⊎ IsStirred d b th x) → IsStirred d b th x
     source (inl calm) = let e : None ≡ Some digits = sym calm.1 ∙ waits in cc
     source (inr stirred) = stirred
 
-    read_written : (z : AssignState) → slice_get assigns k ≡ Some z → ((v : ℕ) × (reads_signal z.source v ≡ true) × (slice_get new v ≡ slice_get store v → ⊥)) → Stirred d b th z.target.signal
-    read_written z at_z (v, reads, changed) =
-        elim (cases_eq v x.target.signal) [
-          | inl e ↦ stirs d b th store assigns sound k v z at_z reads (subst (Stirred d b th) (sym e) (source (nets j x is)))
-          | inr ne ↦ absurd (changed (assigned_other store x.target digits v ne))
-        ]
+    read_written : (z : AssignState) → slice_get assigns k ≡ Some z → ReadsChanged store new z → IsStirred d b th z
+    read_written z at_z (q, reads, changed) =
+        stirs d b th store assigns sound k q z at_z reads (source (nets j x is) q (changed_into store x.target digits q (assign_fixed d well.places store assigns sound j x is) changed))
 
-    calm_or_stirred : (z : AssignState) → (k ≡ j → ⊥) → slice_get assigns k ≡ Some z → (IsCalm b store z ⊎ Stirred d b th z.target.signal) → IsCalm b new (touched store new z) ⊎ Stirred d b th z.target.signal
+    kept : (z : AssignState) → (k ≡ j → ⊥) → slice_get assigns k ≡ Some z → (v w n : ℕ) → list_any (covers v w n) (uses.writes z.target) ≡ true → digit_of new v w n ≡ digit_of store v w n
+    kept z ne at_z v w n h = at_digit (digit_of store v w n) refl
+      where
+        at_digit : (o : Option Digit) → digit_of store v w n ≡ o → digit_of new v w n ≡ digit_of store v w n
+        at_digit None none = digit-put store (fixed_write x.target digits) v w n ∙ ap (option_map (laid (fixed_write x.target digits) v w n)) none ∙ sym none
+        at_digit (Some y) there =
+            kept_digit store (fixed_write x.target digits) v w n
+            (uncovered_keeps x.target digits v w n (assign_fixed d well.places store assigns sound j x is)
+            (false_from_ne_true (list_any (covers v w n) (uses.writes x.target)) (λ own. apart_targets d well.places store assigns sound j k x z is at_z (λ e. ne (sym e)) v w n y there own h)))
+
+    calm_or_stirred : (z : AssignState) → (k ≡ j → ⊥) → slice_get assigns k ≡ Some z → (IsCalm b store z ⊎ IsStirred d b th z) → IsCalm b new (touched store new z) ⊎ IsStirred d b th z
     calm_or_stirred z ne at_z (inr stirred) = inr stirred
     calm_or_stirred z ne at_z (inl calm) =
-        elim (calm_touched b store new z (assigned_other store x.target digits z.target.signal (λ e. ne (apart_targets d well.one assigns sound.linked j k x z is at_z e))) calm) [
+        elim (calm_touched b store new z (kept z ne at_z) calm) [
           | inl still ↦ inl still
           | inr read ↦ inr (read_written z at_z read)
         ]
 
-    at_set : (z : AssignState) → (((k ≡ j) × (z ≡ settled x)) ⊎ ((k ≡ j → ⊥) × (slice_get assigns k ≡ Some z))) → IsCalm b new (touched store new z) ⊎ Stirred d b th z.target.signal
-    at_set z (inl own) = inr (subst (λ (z : AssignState). Stirred d b th z.target.signal) (sym own.1) (source (nets j x is)))
+    at_set : (z : AssignState) → (((k ≡ j) × (z ≡ settled x)) ⊎ ((k ≡ j → ⊥) × (slice_get assigns k ≡ Some z))) → IsCalm b new (touched store new z) ⊎ IsStirred d b th z
+    at_set z (inl own) = inr (subst (λ (z : AssignState). IsStirred d b th z) (sym own.1) (source (nets j x is)))
     at_set z (inr other) = calm_or_stirred z other.0 other.1 (nets k z other.1)
 
-    at_assign : ((z : AssignState) × (slice_get (slice_set assigns j (settled x)) k ≡ Some z) × (touched store new z ≡ y)) → IsCalm b new y ⊎ Stirred d b th y.target.signal
-    at_assign (z, at_z, e) = subst (λ (z : AssignState). IsCalm b new z ⊎ Stirred d b th z.target.signal) e (at_set z (set_cases assigns j k x (settled x) z is at_z))
+    at_assign : ((z : AssignState) × (slice_get (slice_set assigns j (settled x)) k ≡ Some z) × (touched store new z ≡ y)) → IsCalm b new y ⊎ IsStirred d b th y
+    at_assign (z, at_z, e) = subst (λ (z : AssignState). IsCalm b new z ⊎ IsStirred d b th z) e (at_set z (set_cases assigns j k x (settled x) z is at_z))
+
+pub nets_propagated : (d : Parts) (well : DrivesWell d) (b : State) (store : Store) (time : ℕ) (assigns : List AssignState) (th : ℕ → Thread) → AssignsSound d store assigns → (j : ℕ) (x : AssignState) (digits : List Digit) →
+    slice_get assigns j ≡ Some x → x.pending ≡ Some digits → Nets d b store assigns th →
+    Nets d b (put store (assigned x.target digits store time)) (map (touched store (put store (assigned x.target digits store time))) (slice_set assigns j (settled x))) th
+nets_propagated d well b store time assigns th sound j x digits is waits nets =
+    subst (λ w. Nets d b (put store w) (map (touched store (put store w)) (slice_set assigns j (settled x))) th)
+    (sym (assigned_fixed x.target digits store time (assign_fixed d well.places store assigns sound j x is))) (nets_fixed d well b store assigns th sound j x digits is waits nets)

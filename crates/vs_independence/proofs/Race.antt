@@ -1,5 +1,5 @@
 -- Two processes that write one signal at once: their design is well formed and not independent. So `Independent` says something.
-use Rattle.std.proofs.Common.{◌≡◌, ℕ, true, Option, Some, None, List, [], ◌∷◌, length, refl, sym, ◌∙◌, ap, lit<, arith, nat_lt}
+use Rattle.std.proofs.Common.{◌≡◌, ℕ, true, false, Option, Some, None, List, [], ◌∷◌, length, refl, sym, ◌∙◌, ap, lit<, lit≤, arith, nat_lt}
 use Rattle.std.specs.declared.alloc.Global.{Global}
 use Rattle.std.specs.List.{IsDistinct}
 use Rattle.std.proofs.lemmas.List.Elements.{All-nil, All-cons}
@@ -18,7 +18,7 @@ use Rattle.vs_design.specs.declared.expression.Typed.TheVariants as e
 use Rattle.vs_design.specs.declared.expression.Typed.TheOpen as t
 use Rattle.vs_design.specs.Stores.{Store, word_of}
 use Rattle.vs_design.specs.Traces.{Slot, SameSlots}
-use Rattle.vs_design.specs.Uses.{reads, reads_step}
+use Rattle.vs_design.specs.Uses.{reads, reads_step, whole}
 use Rattle.vs_design.specs.WellFormed.{WellFormed, size_step, size_of, is_sound_assignment, sound_step, is_sound_statement, numbers_step, numbers, is_sound_process}
 use Rattle.vs_eval.specs.Values.{value_of, value_step}
 use Rattle.vs_process.specs.declared.moves.Grain.{Grain}
@@ -27,7 +27,7 @@ use Rattle.vs_process.specs.declared.moves.Move.{Move}
 use Rattle.vs_process.specs.declared.moves.Move.TheVariants.{Step, EndSlot}
 use Rattle.vs_process.specs.Executions.{after, Legal, is_complete, trace}
 use Rattle.vs_independence.specs.Discipline.{Independent}
-use Rattle.vs_independence.specs.Race.{racing, writer, name}
+use Rattle.vs_independence.specs.Race.{operand, racing, writer, name}
 
 -- ---- what folds give at a number and at an assignment
 
@@ -40,6 +40,16 @@ size_number ds = ap size_of (sym (e.rolls-Number ds)) ∙ fold-roll-Typed (Optio
 pub reads_number : (ds : List Digit) → reads (e.Number ds) ≡ []
 reads_number ds = ap reads (sym (e.rolls-Number ds)) ∙ fold-roll-Typed (List BitRange) reads_step (t.Number ds)
 
+pub reads_operand : (s : ℕ) → reads (operand s) ≡ whole s ∷ []
+reads_operand s =
+    ap reads (sym (e.rolls-Signal (record { signal = s; width = 1; signed = false; sized = (lit< tt, lit≤ tt) })))
+    ∙ fold-roll-Typed (List BitRange) reads_step (t.Signal (record { signal = s; width = 1; signed = false; sized = (lit< tt, lit≤ tt) }))
+
+pub size_operand : (s : ℕ) → size_of (operand s) ≡ Some 1
+size_operand s =
+    ap size_of (sym (e.rolls-Signal (record { signal = s; width = 1; signed = false; sized = (lit< tt, lit≤ tt) })))
+    ∙ fold-roll-Typed (Option ℕ) size_step (t.Signal (record { signal = s; width = 1; signed = false; sized = (lit< tt, lit≤ tt) }))
+
 pub sound_assign : (ss : List Signal) (n : ℕ) (x : Target) (v : Typed) → is_sound_statement ss (y.Assign n x v) ≡ is_sound_assignment ss x v
 sound_assign ss n x v = ap (is_sound_statement ss) (sym (y.rolls-Assign n x v)) ∙ fold-roll-Statement _ (sound_step ss) (f.Assign n x v)
 
@@ -48,15 +58,15 @@ numbers_assign n x v = ap numbers (sym (y.rolls-Assign n x v)) ∙ fold-roll-Sta
 
 -- ---- the race is well formed
 
-sound_writer : (g : Global) (d : ℕ) (digit : Digit) → is_sound_process (racing g).signals (writer (name g 116 35 112 d) digit) ≡ true
+sound_writer : (g : Global) (d : ℕ) (digit : Digit) → is_sound_process (racing g).signals (writer g (name g 116 35 112 d) digit) ≡ true
 sound_writer g d digit =
     simp (sound_assign, numbers_assign, reads_number, size_number)
 
 pub formed : (g : Global) → WellFormed (racing g)
 unfolding IsDistinct
 formed g = record {
-  processes = All-cons (λ (p : Process). is_sound_process (racing g).signals p ≡ true) (writer (name g 116 35 112 48) Zero) (writer (name g 116 35 112 49) One ∷ []) (sound_writer g 48 Zero)
-      (All-cons (λ (p : Process). is_sound_process (racing g).signals p ≡ true) (writer (name g 116 35 112 49) One) [] (sound_writer g 49 One) (All-nil (λ (p : Process). is_sound_process (racing g).signals p ≡ true)));
+  processes = All-cons (λ (p : Process). is_sound_process (racing g).signals p ≡ true) (writer g (name g 116 35 112 48) Zero) (writer g (name g 116 35 112 49) One ∷ []) (sound_writer g 48 Zero)
+      (All-cons (λ (p : Process). is_sound_process (racing g).signals p ≡ true) (writer g (name g 116 35 112 49) One) [] (sound_writer g 49 One) (All-nil (λ (p : Process). is_sound_process (racing g).signals p ≡ true)));
   assigns = All-nil _;
   drivers = tt;
   declared = All-cons (λ n. nat_lt n 1 ≡ true) 0 [] refl (All-nil (λ n. nat_lt n 1 ≡ true));

@@ -1,28 +1,46 @@
 -- A step depends on what it reads.
-use Rattle.std.proofs.Common.{◌≡◌, ℕ, zero, suc, true, Some, None, [], ◌∷◌, refl, sym, ap}
+use Rattle.std.proofs.Common.{◌≡◌, ℕ, zero, suc, ◌<◌, ◌==◌, ◌++◌, true, false, Some, None, List, [], ◌∷◌, map, sum, refl, sym, ◌∙◌, ap, arith, eqb-true}
+use Rattle.std.specs.List.{list_any, list_all}
+use Rattle.std.proofs.lemmas.Bool.{and_parts, or_parts}
+use Rattle.std.proofs.lemmas.List.Folds.{list_any-append}
+use Rattle.vs_logic4.specs.declared.digit.Digit.{Digit}
+use Rattle.vs_design.specs.declared.expression.Typed.{Typed}
+use Rattle.vs_design.specs.declared.signal.Signal.{Signal}
+use Rattle.vs_design.specs.declared.statement.Aim.{Aim}
 use Rattle.vs_design.specs.declared.statement.Statement.{Statement}
 use Rattle.vs_design.specs.declared.statement.Statement.TheOpen.{Statement-F}
 use Rattle.vs_design.specs.declared.statement.Statement.TheViews.{out-Statement}
-use Rattle.vs_design.specs.Stores.{Store}
+use Rattle.vs_design.specs.declared.statement.Target.{Target}
+use Rattle.vs_design.specs.Stores.{Store, is_changed}
+use Rattle.vs_design.specs.Uses.{reads, target_reads}
+use Rattle.vs_design.specs.WellFormed.{aim_width, is_sound_assignment, is_sound_statement, is_sound_target, is_source, is_variable_aim}
 use Rattle.vs_design.specs.Writes.{Write}
-use Rattle.vs_eval.specs.Targets.{assigned}
+use Rattle.vs_eval.specs.Targets.{assigned, parts_from}
 use Rattle.vs_eval.specs.Values.{target_value}
+use Rattle.vs_eval.proofs.WritesHold.{parts_same}
 use Rattle.vs_process.specs.Places.{perform, turns, Todo}
-use Rattle.vs_process.specs.Steps.{Out, step, statement_step, goes, on}
-use Rattle.vs_process.proofs.Values.{Agree, target_value_reads}
+use Rattle.vs_process.specs.Steps.{Out, assignment, step, statement_step, goes, on}
+use Rattle.vs_process.proofs.Values.{target_value_unchanged}
+use Rattle.vs_process.proofs.WellFormed.{is_sound_todo, opened, sound_out}
 use Rattle.vs_independence.specs.Threads.{statement_reads, todo_reads}
 use Rattle.vs_independence.proofs.Stores.{names_some}
 
-statement_step_reads : (a b : Store) (s : Statement) (f : Statement-F Statement) (rest : Todo) (time : ℕ) → Agree (statement_reads f) a b → statement_step s f rest a time ≡ statement_step s f rest b time
+-- the write of an assignment is the same in two stores between which nothing that its target and its source read is changed
+assignment_kept : (a b : Store) (t : Target) (e : Typed) (time : ℕ) → list_any (is_changed a b) (target_reads t ++ reads e) ≡ false → assignment t e a time ≡ assignment t e b time
+assignment_kept a b t e time h =
+    let parts = or_parts (list_any (is_changed a b) (target_reads t)) (list_any (is_changed a b) (reads e)) (sym (list_any-append (is_changed a b) (target_reads t) (reads e)) ∙ h) in
+    parts_same a b time 0 t.parts.items (target_value t e a time) parts.0 ∙ ap (λ v. assigned t v b time) (target_value_unchanged a b time time t e parts.1)
+
+statement_step_reads : (a b : Store) (s : Statement) (f : Statement-F Statement) (rest : Todo) (time : ℕ) → list_any (is_changed a b) (statement_reads f) ≡ false → statement_step s f rest a time ≡ statement_step s f rest b time
 statement_step_reads a b s (Statement-F.Null n) rest time h = refl
-statement_step_reads a b s (Statement-F.Assign n t e) rest time h = ap (λ v. record (goes (on rest)) { write = Some (assigned t v a) }) (target_value_reads a b time time t e h)
-statement_step_reads a b s (Statement-F.Later n t e) rest time h = ap (λ v. record (goes (on rest)) { update = Some (0, assigned t v a) }) (target_value_reads a b time time t e h)
+statement_step_reads a b s (Statement-F.Assign n t e) rest time h = ap (λ w. record (goes (on rest)) { write = Some w }) (assignment_kept a b t e time h)
+statement_step_reads a b s (Statement-F.Later n t e) rest time h = ap (λ w. record (goes (on rest)) { update = Some (0, w) }) (assignment_kept a b t e time h)
 statement_step_reads a b s (Statement-F.Block all) rest time h = refl
 statement_step_reads a b s (Statement-F.Delay n ticks body) rest time h = refl
 statement_step_reads a b s (Statement-F.Forever n body) rest time h = refl
 
--- a step of a process is the same in two stores that agree on what it reads
-pub step_reads : (a b : Store) (todo : Todo) (time : ℕ) → Agree (todo_reads todo) a b → step todo a time ≡ step todo b time
+-- a step of a process is the same in two stores between which nothing that it reads is changed
+pub step_reads : (a b : Store) (todo : Todo) (time : ℕ) → list_any (is_changed a b) (todo_reads todo) ≡ false → step todo a time ≡ step todo b time
 step_reads a b [] time h = refl
 step_reads a b (perform s ∷ rest) time h = statement_step_reads a b s (out-Statement s) rest time h
 step_reads a b (turns zero s ∷ rest) time h = refl
@@ -33,16 +51,34 @@ pub record IsPlain (out : Out) : Type 0 where
   pub call : out.call ≡ None
   pub update : (w : ℕ × Write) → out.update ≡ Some w → names_some w.1 ≡ true
 
-statement_plain : (s : Statement) (f : Statement-F Statement) (rest : Todo) (store : Store) (time : ℕ) → IsPlain (statement_step s f rest store time)
-statement_plain s (Statement-F.Null n) rest store time = record { call = refl; update = λ w h. cc }
-statement_plain s (Statement-F.Assign n t e) rest store time = record { call = refl; update = λ w h. cc }
-statement_plain s (Statement-F.Later n t e) rest store time = record { call = refl; update = λ w h. let p : (0, assigned t (target_value t e store time) store) ≡ w = cc in ap (λ x. names_some x.1) (sym p) }
-statement_plain s (Statement-F.Block all) rest store time = record { call = refl; update = λ w h. cc }
-statement_plain s (Statement-F.Delay n ticks body) rest store time = record { call = refl; update = λ w h. cc }
-statement_plain s (Statement-F.Forever n body) rest store time = record { call = refl; update = λ w h. cc }
+-- the write of a sound assignment has a part
+some_parts : (place : ℕ) (aims : List Aim) (digits : List Digit) (store : Store) (time : ℕ) → (aims ≡ [] → ⊥) → names_some (parts_from place aims digits store time) ≡ true
+some_parts place [] digits store time h = absurd (h refl)
+some_parts place (x ∷ aims) digits store time h = refl
 
-pub step_plain : (todo : Todo) (store : Store) (time : ℕ) → IsPlain (step todo store time)
-step_plain [] store time = record { call = refl; update = λ w h. cc }
-step_plain (perform s ∷ rest) store time = statement_plain s (out-Statement s) rest store time
-step_plain (turns zero s ∷ rest) store time = record { call = refl; update = λ w h. cc }
-step_plain (turns (suc n) s ∷ rest) store time = record { call = refl; update = λ w h. cc }
+assigned_some : (ss : List Signal) (t : Target) (e : Typed) (digits : List Digit) (store : Store) (time : ℕ) → is_sound_assignment ss t e ≡ true → names_some (assigned t digits store time) ≡ true
+assigned_some ss t e digits store time h =
+    let target = (and_parts (is_sound_target (is_variable_aim ss) t) (is_source ss t e) h).0 in
+    let size : sum (map aim_width t.parts.items) ≡ t.width =
+    eqb-true (sum (map aim_width t.parts.items)) t.width (and_parts (list_all (is_variable_aim ss) t.parts.items) (sum (map aim_width t.parts.items) == t.width) target).1 in
+    some_parts 0 t.parts.items digits store time (λ none.
+    let width : 0 ≡ t.width = ap (λ aims. sum (map aim_width aims)) (sym none) ∙ size in
+    let up : 0 < t.width = t.sized.0 in
+    omega (arith, width, up))
+
+statement_plain : (ss : List Signal) (s : Statement) (f : Statement-F Statement) (rest : Todo) (store : Store) (time : ℕ) → sound_out ss f ≡ true → IsPlain (statement_step s f rest store time)
+statement_plain ss s (Statement-F.Null n) rest store time h = record { call = refl; update = λ w h. cc }
+statement_plain ss s (Statement-F.Assign n t e) rest store time h = record { call = refl; update = λ w h. cc }
+statement_plain ss s (Statement-F.Later n t e) rest store time h = record {
+  call = refl;
+  update = λ w is. let p : (0, assignment t e store time) ≡ w = cc in ap (λ (x : ℕ × Write). names_some x.1) (sym p) ∙ assigned_some ss t e (target_value t e store time) store time h;
+}
+statement_plain ss s (Statement-F.Block all) rest store time h = record { call = refl; update = λ w h. cc }
+statement_plain ss s (Statement-F.Delay n ticks body) rest store time h = record { call = refl; update = λ w h. cc }
+statement_plain ss s (Statement-F.Forever n body) rest store time h = record { call = refl; update = λ w h. cc }
+
+pub step_plain : (ss : List Signal) (todo : Todo) (store : Store) (time : ℕ) → is_sound_todo ss todo ≡ true → IsPlain (step todo store time)
+step_plain ss [] store time h = record { call = refl; update = λ w h. cc }
+step_plain ss (perform s ∷ rest) store time h = statement_plain ss s (out-Statement s) rest store time (opened ss s (and_parts (is_sound_statement ss s) (is_sound_todo ss rest) h).0)
+step_plain ss (turns zero s ∷ rest) store time h = record { call = refl; update = λ w h. cc }
+step_plain ss (turns (suc n) s ∷ rest) store time h = record { call = refl; update = λ w h. cc }

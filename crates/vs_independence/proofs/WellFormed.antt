@@ -1,55 +1,24 @@
 -- What a well formed design says of its continuous assignments and of its threads.
-use Rattle.std.proofs.Common.{◌≡◌, ℕ, zero, suc, Bool, true, false, Option, Some, None, List, [], ◌∷◌, length, slice_get, refl, ◌∙◌, ap, subst, inl, inr}
+use Rattle.std.proofs.Common.{◌≡◌, ℕ, zero, suc, true, Option, Some, None, List, refl, subst, inl, inr}
 use Rattle.std.specs.List.{list_any, list_all}
 use Rattle.std.proofs.lemmas.Bool.{or_cases, false≢true}
-use Rattle.std.proofs.lemmas.List.{length-replicate}
-use Rattle.vs_logic4.specs.declared.digit.Digit.{Digit}
-use Rattle.vs_logic4.specs.declared.digit.Digit.TheVariants.{X, Z}
 use Rattle.vs_design.specs.declared.signal.Signal.{Signal}
-use Rattle.vs_design.specs.declared.signal.SignalKind.{SignalKind}
-use Rattle.vs_design.specs.declared.signal.SignalKind.TheVariants.{Wire, Reg, Integer}
-use Rattle.vs_design.specs.declared.design.Assign.{Assign}
 use Rattle.vs_design.specs.Parts.{Parts}
-use Rattle.vs_design.specs.Stores.{is_driven, start_word, start_words}
 use Rattle.vs_design.specs.WellFormed.{WellFormed}
 use Rattle.vs_design.specs.Writes.{Write, names}
 use Rattle.vs_process.specs.declared.moves.Gait.TheVariants.{Woken}
 use Rattle.vs_process.specs.Places.{Place, going, sleeping, inactive, ended}
 use Rattle.vs_process.specs.Steps.{step}
 use Rattle.vs_process.specs.States.{State}
-use Rattle.vs_process.proofs.WellFormed.{IsVariable, is_sound_place, net_of, one_driver, sound_active, sound_next, sound_made, sound_place_behind, step_names}
+use Rattle.vs_process.proofs.WellFormed.{IsVariable, drives_apart, is_sound_place, sound_active, sound_next, sound_made, sound_place_behind, step_names}
 use Rattle.vs_independence.specs.Threads.{Thread, IsThread, log_behind, turn_at, turn, iterate, opening, writes, any_names}
 use Rattle.vs_independence.specs.Discipline.{IsOrdered}
 use Rattle.vs_independence.proofs.Assigns.{DrivesWell}
 use Rattle.vs_independence.proofs.Times.{get_from_all}
 
--- ---- continuous assignments
-
-length-start_word : (driven : Bool) (kind : SignalKind) (width : ℕ) → length (start_word driven kind width) ≡ width
-length-start_word driven Reg width = length-replicate width X
-length-start_word driven Integer width = length-replicate width X
-length-start_word true Wire width = length-replicate width X
-length-start_word false Wire width = length-replicate width Z
-
-started : (assigns : List Assign) (first : ℕ) (ss : List Signal) (v : ℕ) (s : Signal) → slice_get ss v ≡ Some s →
-    (w : List Digit) × (slice_get (start_words assigns first ss) v ≡ Some (w ∷ [])) × (length w ≡ s.width)
-started assigns first [] v s is = cc
-started assigns first (z ∷ ss) zero s is =
-    let e : z ≡ s = cc in
-    (start_word (is_driven assigns first) z.kind z.width, refl, length-start_word (is_driven assigns first) z.kind z.width ∙ ap (λ (x : Signal). x.width) e)
-started assigns first (z ∷ ss) (suc v) s is = started assigns (suc first) ss v s is
-
 -- a well formed design whose assignments have an order
 pub drives_well : (d : Parts) → WellFormed d → IsOrdered d → DrivesWell d
-drives_well d formed order = record {
-  one = one_driver d formed;
-  fits = λ j a is.
-      let net = net_of d formed j a is in
-      let word = started d.assigns 0 d.signals a.target.signal net.0 net.1 in
-      (word.0, word.1, word.2 ∙ net.3);
-  rank = order.rank;
-  falls = order.falls;
-}
+drives_well d formed order = record { places = drives_apart d formed; order = order }
 
 -- ---- threads
 

@@ -1,7 +1,7 @@
 -- Whole executions: slot by slot they are the same.
-use Rattle.std.proofs.Common.{◌≡◌, ℕ, zero, suc, ◌+◌, ◌-◌, ◌<◌, ◌≤◌, ◌⊎◌, true, false, ◌&&◌, not, cond, filter, Some, None, List, [], ◌∷◌, ◌++◌, map, get_or, leb, ltb, ltb-true, refl, sym, ◌∙◌, ap, ap₂, subst, inl, inr, arith, append-nil, if◌then◌else◌}
+use Rattle.std.proofs.Common.{◌≡◌, ℕ, zero, suc, ◌+◌, ◌-◌, ◌<◌, ◌≤◌, ◌⊎◌, true, false, ◌&&◌, cond, filter, Some, None, List, [], ◌∷◌, ◌++◌, map, get_or, leb, ltb, ltb-true, refl, sym, ◌∙◌, ap, ap₂, subst, inl, inr, arith, append-nil, if◌then◌else◌}
 use Rattle.std.specs.List.{list_all}
-use Rattle.std.proofs.lemmas.Bool.{and_parts, and_right, or_cases, cases_Bool, not-true, lt-leb, true≢false, false≢true, cases_lt}
+use Rattle.std.proofs.lemmas.Bool.{and_right, or_cases, cases_Bool, lt-leb, true≢false, false≢true, cases_lt}
 use Rattle.std.proofs.lemmas.List.Elements.{filter-append}
 use Rattle.vs_design.specs.Parts.{Parts}
 use Rattle.vs_design.specs.Stores.{Store}
@@ -12,12 +12,12 @@ use Rattle.vs_process.specs.declared.moves.Move.{Move}
 use Rattle.vs_process.specs.declared.moves.Move.TheVariants.{Step, Evaluate, Propagate, Make, Rouse, Activate, EndSlot}
 use Rattle.vs_process.specs.Places.{ended}
 use Rattle.vs_process.specs.States.{State, AssignState, Called, start, start_assign}
-use Rattle.vs_process.specs.Executions.{is_enabled, is_free, allowed, apply, after, Legal, slot_behind, strobe_line, ended_slot, slots, is_complete, is_by, finish_time, trace}
+use Rattle.vs_process.specs.Executions.{allowed, apply, after, Legal, slot_behind, strobe_line, ended_slot, slots, is_complete, is_by, finish_time, trace}
 use Rattle.vs_process.proofs.Times.{enabled_of}
 use Rattle.vs_process.proofs.Lists.{map_cases}
 use Rattle.vs_process.proofs.Assigns.{sound_start}
-use Rattle.vs_process.proofs.WellFormed.{is_sound_place, variable_undriven}
-use Rattle.vs_process.proofs.Idle.{after_sound}
+use Rattle.vs_process.proofs.WellFormed.{variable_undriven}
+use Rattle.vs_process.proofs.Idle.{IsSound, after_sound}
 use Rattle.vs_independence.specs.Threads.{opening}
 use Rattle.vs_independence.specs.Discipline.{Independent, here, IsAtStart, Begins, KeepsApart, Disciplined}
 use Rattle.vs_independence.proofs.Threads.{thread_opens}
@@ -27,6 +27,7 @@ use Rattle.vs_independence.proofs.Making.{Making}
 use Rattle.vs_independence.proofs.Ends.{InSlot, IsInner, inner_kept, Ends, slot_ends, all_future, Alike, ends_unique, behind_alike}
 use Rattle.vs_independence.proofs.Times.{is_later, all_from_get, later_thread, later_start, goes_on}
 use Rattle.vs_independence.proofs.Assigns.{DrivesWell}
+use Rattle.vs_independence.proofs.Feeds.{into_named}
 use Rattle.vs_independence.proofs.WellFormed.{drives_well, sound_thread}
 
 -- the moves up to the beginning of the slot that goes on
@@ -91,7 +92,7 @@ start_runs d = (
     finishes = record { kept = λ h. h; by_thread = λ i h. absurd (false≢true h); some = λ h. inl h };
     nets = λ j x is.
         let a = map_cases start_assign d.assigns j x is in
-        inr (by_start j x is (ap (λ (y : AssignState). y.needs) (sym a.2)) here);
+        inr (λ r into. by_start j r.signal x is (ap (λ (y : AssignState). y.needs) (sym a.2)) (into_named x.target r into) (here r refl));
   },
 )
 
@@ -107,7 +108,7 @@ behind_runs d b s e waiting = (
     sources = record { own = λ i v h. absurd (false≢true h); fresh = λ v undriven. inl refl };
     mades = record { made = λ i v h. absurd (false≢true h); unmade = λ v. inl refl; waiting = waiting; undriven = e.making.undriven };
     finishes = record { kept = λ h. h; by_thread = λ i h. absurd (false≢true h); some = λ h. inl h };
-    nets = λ j x is. inl ((e.idle j x is).0, (e.idle j x is).1, refl);
+    nets = λ j x is. inl ((e.idle j x is).0, (e.idle j x is).1, λ v w k h. refl);
   },
 )
 
@@ -123,18 +124,20 @@ slot_later d b s later m =
     ∙ ap (is_later b.time) (ap (λ l. get_or l i ended) m.places ∙ m.runs.places i)
     ∙ later_thread b i (m.th i) later (m.runs.threads i))
 
--- the processes of a slot that begins with them at sound places
-apart_in : (d : Parts) → WellFormed d → (b : State) → list_all (is_sound_place d.signals) b.places ≡ true → KeepsApart d b → Apart d b
+-- the processes of a slot that begins with a sound state
+apart_in : (d : Parts) → WellFormed d → (b : State) → IsSound d b → KeepsApart d b → Apart d b
 apart_in d formed b sound keeps = record {
   keeps = keeps;
-  variables = λ i v th is h. variable_undriven d formed v ((sound_thread d.signals b i th sound is).log v h);
-  variables_later = λ i v th is h. variable_undriven d formed v ((sound_thread d.signals b i th sound is).made v h);
+  variables = λ i v th is h. variable_undriven d formed v ((sound_thread d.signals b i th sound.places is).log v h);
+  variables_later = λ i v th is h. variable_undriven d formed v ((sound_thread d.signals b i th sound.places is).made v h);
+  places = λ i th is. (sound_thread d.signals b i th sound.places is).place;
+  begins = sound.assigns;
 }
 
 -- those of the slot that goes on
 apart_at : (grain : Grain) (d : Parts) → Fits grain d → (moves : List Move) → Legal grain d moves → Apart d (after d (cut moves))
 apart_at grain d dis moves l =
-    apart_in d dis.formed (after d (cut moves)) (after_sound d dis.formed (cut moves)).places
+    apart_in d dis.formed (after d (cut moves)) (after_sound d dis.formed (cut moves))
     (dis.apart (after d (cut moves)) (record { moves = cut moves; legal = cut_legal grain d moves l; at_start = cut_starts moves; is = refl }))
 
 inner_holds : (grain : Grain) (d : Parts) → Fits grain d → (b s : State) → Apart d b → (m : Move) → IsInner m → allowed grain d s m ≡ true → Holds d b s → Holds d b (apply m s)

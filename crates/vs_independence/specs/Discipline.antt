@@ -1,15 +1,18 @@
 -- What makes traces independent of the order of steps, and that they are.
 use Rattle.std.specs.Prelude.{ℕ, ◌≡◌, ◌<◌, true, Some, List, [], ◌∷◌, slice_get}
+use Rattle.std.specs.List.{Contains}
 use Rattle.vs_design.specs.declared.design.Assign.{Assign}
+use Rattle.vs_design.specs.declared.range.BitRange.{BitRange}
 use Rattle.vs_design.specs.Parts.{Parts}
 use Rattle.vs_design.specs.Traces.{SameTrace}
-use Rattle.vs_design.specs.Uses.{reads_signal}
+use Rattle.vs_design.specs.Uses.{reads, writes_signal}
 use Rattle.vs_design.specs.WellFormed.{WellFormed}
 use Rattle.vs_process.specs.declared.moves.Grain.{Grain}
 use Rattle.vs_process.specs.declared.moves.Move.{Move}
 use Rattle.vs_process.specs.declared.moves.Move.TheVariants.{EndSlot}
 use Rattle.vs_process.specs.States.{State, AssignState}
 use Rattle.vs_process.specs.Executions.{after, Legal, is_complete, trace}
+use Rattle.vs_independence.specs.Feeds.{feeds, writes_into}
 use Rattle.vs_independence.specs.Threads.{Thread, IsThread, writes, any_names, place_reads}
 
 -- two executions that are complete to a moment have the same trace to it, whatever they are
@@ -19,11 +22,11 @@ Independent grain d =
     is_complete until (after d xs) ≡ true → is_complete until (after d ys) ≡ true →
     SameTrace (trace d xs until) (trace d ys until)
 
--- a change of the signal `u` can reach another one through continuous assignments
-pub data Reaches (assigns : List Assign) (u : ℕ) : ℕ → Type 0 where
-  here : Reaches assigns u u
-  through : (r j : ℕ) (a : Assign) → Reaches assigns u r → slice_get assigns j ≡ Some a → reads_signal a.source r ≡ true →
-      Reaches assigns u a.target.signal
+-- a change of the signal `u` can reach a range through continuous assignments
+pub data Reaches (assigns : List Assign) (u : ℕ) : BitRange → Type 0 where
+  here : (r : BitRange) → r.signal ≡ u → Reaches assigns u r
+  through : (q r : BitRange) (j : ℕ) (a : Assign) → Reaches assigns u q → slice_get assigns j ≡ Some a → Contains (reads a.source) q → writes_into a.target r ≡ true →
+      Reaches assigns u r
 
 -- an execution that has just begun a slot
 abbrev pub IsAtStart : List Move → Type 0
@@ -38,10 +41,10 @@ pub record Begins (grain : Grain) (d : Parts) (b : State) : Type 0 where
   pub at_start : IsAtStart moves
   pub is : after d moves ≡ b
 
--- no continuous assignment hangs on itself: signals have ranks, and each assignment reads signals of a lower rank than its target's
+-- no continuous assignment hangs on itself: each has a higher rank, by its number, than those that write a bit that it reads
 pub record IsOrdered (d : Parts) : Type 0 where
   pub rank : ℕ → ℕ
-  pub falls : (j r : ℕ) (a : Assign) → slice_get d.assigns j ≡ Some a → reads_signal a.source r ≡ true → rank r < rank a.target.signal
+  pub falls : (i j : ℕ) (a b : Assign) → slice_get d.assigns i ≡ Some a → slice_get d.assigns j ≡ Some b → feeds a b ≡ true → rank i < rank j
 
 -- the processes of a slot, each alone: no two write one signal, and none reads what another one's write can have changed, nor, of a net, what a
 -- write of its own or an assignment that the slot found unsettled can have changed
@@ -53,14 +56,14 @@ pub record KeepsApart (d : Parts) (b : State) : Type 0 where
   pub only_later : (i k v : ℕ) (th other : Thread) → IsThread b i th → IsThread b k other →
       any_names th.made v ≡ true → any_names other.made v ≡ true → k ≡ i
   -- what one reads, no other one's `=` reaches
-  pub reads_others : (i k u v : ℕ) (th other : Thread) → IsThread b i th → IsThread b k other →
-      place_reads th.place v ≡ true → writes other u ≡ true → Reaches d.assigns u v → k ≡ i
+  pub reads_others : (i k u : ℕ) (r : BitRange) (th other : Thread) → IsThread b i th → IsThread b k other →
+      Contains (place_reads th.place) r → writes other u ≡ true → Reaches d.assigns u r → k ≡ i
   -- nor does its own, but where it reads the very signal that it wrote
-  pub reads_own : (i u v : ℕ) (th : Thread) → IsThread b i th →
-      place_reads th.place v ≡ true → writes th u ≡ true → Reaches d.assigns u v → u ≡ v
+  pub reads_own : (i u : ℕ) (r : BitRange) (th : Thread) → IsThread b i th →
+      Contains (place_reads th.place) r → writes th u ≡ true → Reaches d.assigns u r → u ≡ r.signal
   -- nor does an assignment that had to be evaluated when the slot began
-  pub reads_settled : (i j v : ℕ) (th : Thread) (x : AssignState) → IsThread b i th → place_reads th.place v ≡ true →
-      slice_get b.assigns j ≡ Some x → x.needs ≡ true → Reaches d.assigns x.target.signal v → ⊥
+  pub reads_settled : (i j u : ℕ) (r : BitRange) (th : Thread) (x : AssignState) → IsThread b i th → Contains (place_reads th.place) r →
+      slice_get b.assigns j ≡ Some x → x.needs ≡ true → writes_signal x.target u ≡ true → Reaches d.assigns u r → ⊥
 
 -- a disciplined design: its continuous assignments have an order, and in each slot that an execution begins its processes keep apart
 pub record Disciplined (grain : Grain) (d : Parts) : Type 0 where

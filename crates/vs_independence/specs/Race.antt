@@ -1,6 +1,7 @@
 -- A design with a race.
-use Rattle.std.specs.Prelude.{ℕ, Vec, false, None, [], ◌∷◌}
+use Rattle.std.specs.Prelude.{ℕ, pos, Vec, false, None, [], ◌∷◌}
 use Rattle.std.specs.declared.alloc.Global.{Global}
+use Rattle.std.specs.declared.boxed.Box.{Box}
 use Rattle.std.proofs.Common.{lit<, lit≤, refl}
 use denote.RawPtr.{null_ptr}
 use Rattle.vs_logic4.specs.declared.digit.Digit.{Digit}
@@ -12,8 +13,11 @@ use Rattle.vs_design.specs.declared.design.Entry.TheVariants.{Enter, Declare, Le
 use Rattle.vs_design.specs.declared.design.Process.{Process}
 use Rattle.vs_design.specs.declared.design.ProcessKind.TheVariants.{Initial}
 use Rattle.vs_design.specs.declared.design.ScopeKind.TheVariants.{Module}
+use Rattle.vs_design.specs.declared.expression.Slice.{Slice}
+use Rattle.vs_design.specs.declared.statement.Aim.TheVariants.{Fixed}
 use Rattle.vs_design.specs.declared.statement.Target.{Target}
 use Rattle.vs_design.specs.declared.statement.Statement.TheVariants as y
+use Rattle.vs_design.specs.declared.expression.Typed.{Typed}
 use Rattle.vs_design.specs.declared.expression.Typed.TheVariants as e
 use Rattle.vs_design.specs.declared.timescale.TimeSpan.{TimeSpan}
 use Rattle.vs_design.specs.declared.timescale.TimeUnit.TheVariants.{Nanosecond}
@@ -45,19 +49,41 @@ bit g a kind = record {
   signed = false;
   range = None;
   words = None;
+  count = 1;
   sized = (lit< tt, lit≤ tt);
+  counted = (lit< tt, lit≤ tt);
 }
 
 abbrev pub nanosecond : TimeSpan
 nanosecond = record { magnitude = m.One; unit = Nanosecond }
 
--- a target of one bit
-abbrev pub target : ℕ → Target
-target signal = record { signal = signal; width = 1; sized = (lit< tt, lit≤ tt) }
+-- a value on the heap
+abbrev pub boxed : {A : Type 0} → Global → A → Box A Global
+boxed g x = record { ptr = null_ptr; alloc = g; value = x }
+
+-- a signal of one bit where it is read
+abbrev pub operand : ℕ → Typed
+operand signal = e.Signal (record { signal = signal; width = 1; signed = false; sized = (lit< tt, lit≤ tt) })
+
+-- the one bit of a signal
+abbrev pub the_bit : ℕ → Slice
+the_bit signal = record { signal = signal; word = 0; low = pos 0; width = 1; sized = (lit< tt, lit≤ tt) }
+
+-- a target of one place of one bit
+abbrev pub target_at : Global → Slice → Target
+target_at g place = record {
+  parts = record { ptr = null_ptr; len = 1; cap = 1; alloc = g; items = Fixed place ∷ []; ok = (refl, lit≤ tt); small = lit< tt };
+  width = 1;
+  sized = (lit< tt, lit≤ tt);
+}
+
+-- a target of a signal of one bit
+abbrev pub target : Global → ℕ → Target
+target g signal = target_at g (the_bit signal)
 
 -- `initial a = DIGIT;`
-abbrev pub writer : Vec ℕ Global → Digit → Process
-writer called digit = record { name = called; kind = Initial; body = y.Assign 0 (target 0) (e.Number (digit ∷ [])) }
+abbrev pub writer : Global → Vec ℕ Global → Digit → Process
+writer g called digit = record { name = called; kind = Initial; body = y.Assign 0 (target g 0) (e.Number (digit ∷ [])) }
 
 -- `module t; reg a; initial a = 0; initial a = 1; endmodule`
 abbrev pub racing : Global → Parts
@@ -65,7 +91,7 @@ racing g = record {
   timescale = record { unit = nanosecond; precision = nanosecond };
   signals = bit g 97 Reg ∷ [];
   assigns = [];
-  processes = writer (name g 116 35 112 48) Zero ∷ writer (name g 116 35 112 49) One ∷ [];
+  processes = writer g (name g 116 35 112 48) Zero ∷ writer g (name g 116 35 112 49) One ∷ [];
   outline = Enter Module (letter g 116) ∷ Declare 0 ∷ Leave ∷ [];
 }
 

@@ -1,11 +1,12 @@
 -- Threads: a process alone, within one time slot.
-use Rattle.std.specs.Prelude.{◌||◌, ℕ, zero, suc, ◌≡◌, Bool, false, Option, Some, None, List, [], ◌∷◌, get_or}
+use Rattle.std.specs.Prelude.{◌||◌, ◌++◌, ℕ, zero, suc, ◌≡◌, Bool, false, Option, Some, None, List, [], ◌∷◌, get_or}
 use Rattle.std.specs.List.{list_any}
 use Rattle.vs_design.specs.declared.statement.Statement.TheOpen.{Statement-F}
 use Rattle.vs_design.specs.declared.statement.Statement.{Statement}
 use Rattle.vs_design.specs.declared.statement.Statement.TheViews.{out-Statement}
 use Rattle.vs_design.specs.Stores.{Store, put}
-use Rattle.vs_design.specs.Uses.{reads_signal}
+use Rattle.vs_design.specs.declared.range.BitRange.{BitRange}
+use Rattle.vs_design.specs.Uses.{reads, target_reads}
 use Rattle.vs_design.specs.Writes.{Write, names}
 use Rattle.vs_process.specs.Places.{perform, turns, Todo, Place, going, sleeping, inactive, ended}
 use Rattle.vs_process.specs.Steps.{Out, step}
@@ -70,21 +71,21 @@ writes th v = list_any (λ w. names w v) th.log
 abbrev pub any_names : List Update → ℕ → Bool
 any_names us v = list_any (λ (u : Update). names u.what v) us
 
--- whether the step of a statement reads a signal
-abbrev pub statement_reads : Statement-F Statement → ℕ → Bool
-statement_reads (Statement-F.Null n) v = false
-statement_reads (Statement-F.Assign n t e) v = reads_signal e v
-statement_reads (Statement-F.Later n t e) v = reads_signal e v
-statement_reads (Statement-F.Block all) v = false
-statement_reads (Statement-F.Delay n ticks body) v = false
-statement_reads (Statement-F.Forever n body) v = false
+-- the ranges that the step of a statement reads
+abbrev pub statement_reads : Statement-F Statement → List BitRange
+statement_reads (Statement-F.Null n) = []
+statement_reads (Statement-F.Assign n t e) = target_reads t ++ reads e
+statement_reads (Statement-F.Later n t e) = target_reads t ++ reads e
+statement_reads (Statement-F.Block all) = []
+statement_reads (Statement-F.Delay n ticks body) = []
+statement_reads (Statement-F.Forever n body) = []
 
--- whether the next step of what is to be done reads a signal
-abbrev pub todo_reads : Todo → ℕ → Bool
-todo_reads [] v = false
-todo_reads (perform s ∷ rest) v = statement_reads (out-Statement s) v
-todo_reads (turns n s ∷ rest) v = false
+-- the ranges that the next step of what is to be done reads
+abbrev pub todo_reads : Todo → List BitRange
+todo_reads [] = []
+todo_reads (perform s ∷ rest) = statement_reads (out-Statement s)
+todo_reads (turns n s ∷ rest) = []
 
-abbrev pub place_reads : Place → ℕ → Bool
-place_reads (going gait todo) v = todo_reads todo v
-place_reads _ v = false
+abbrev pub place_reads : Place → List BitRange
+place_reads (going gait todo) = todo_reads todo
+place_reads _ = []

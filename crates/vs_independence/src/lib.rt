@@ -3,4 +3,4 @@
 
 mod laws;
 
-pub use laws::{a_race_is_seen, discipline_makes_independent};
+pub use laws::{a_carry_is_disciplined, a_race_is_seen, discipline_makes_independent};

@@ -1,4 +1,1 @@
-pub mod ExecutionsLemmas
 pub mod RunsLemmas
-pub mod SourcesLemmas
-pub mod TouchesLemmas

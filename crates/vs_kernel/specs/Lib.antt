@@ -2,5 +2,4 @@ pub mod Faults
 pub mod Runs
 pub mod Shows
 pub mod Stages
-pub mod Touches
 pub mod VcdFaults

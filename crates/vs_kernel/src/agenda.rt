@@ -3,21 +3,22 @@
 //! It is a hint: what stands in it is tested before it is made, so that nothing of a run's contract rests on it.
 
 use crate::policy::Pick;
-use crate::state::State;
 use std::alloc::{AllocError, Global};
 use std::collections::VecDeque;
+use vs_design::Write;
 use vs_process::Move;
+use vs_state::State;
 
 /// An event of the list.
 #[derive(Clone, Copy, PartialEq, Eq)]
-pub(crate) enum Item {
+enum Item {
     /// The evaluation of a continuous assignment, by its number.
     Evaluate(usize),
     /// The update of a continuous assignment, by its number.
     Propagate(usize),
     /// A step of a process, by its number.
     Step(usize),
-    /// An activated nonblocking update: its number in the order of execution, and the signal that it names.
+    /// An activated nonblocking update: its number in the order of execution, and the signal that its lowest part names.
     Make(u64, usize),
 }
 
@@ -28,23 +29,46 @@ pub(crate) struct Choice {
     pub(crate) index: Option<usize>,
 }
 
-#[derive(Clone, Copy)]
+#[derive(Drop)]
 struct Entry {
     item: Item,
-    /// Whether it is an update that waits for an older one of its signal.
+    /// Whether it is an update that waits for an older one which names one of its signals.
     hidden: bool,
+    /// The signals that an update of several parts names, but for that of the lowest part.
+    others: Vec<usize>,
+}
+
+impl Entry {
+    /// Whether it is an update that names a signal.
+    fn names(&self, signal: usize) -> bool {
+        match self.item {
+            Item::Make(_, first) => first == signal || self.others.contains(&signal),
+            _ => false,
+        }
+    }
+
+    /// Whether both are updates and name one signal.
+    fn shares(&self, other: &Entry) -> bool {
+        match other.item {
+            Item::Make(_, first) => {
+                self.names(first) || other.others.iter().any(|signal| self.names(*signal))
+            }
+            _ => false,
+        }
+    }
 }
 
 /// The enabled events in the order in which they came, and the processes that will be.
 ///
 /// Events are taken from either end in constant time, from within in the time of the shorter side. An update that
-/// uncovers another one of its signal, and an evaluation that drops a waiting value, cost a scan of the list.
+/// uncovers another one of one of its signals, and an evaluation that drops a waiting value, cost a scan of the list.
 #[derive(Drop)]
 pub(crate) struct Agenda {
+    alloc: Global,
     entries: VecDeque<Entry>,
     /// How many entries are hidden.
     hidden: usize,
-    /// For each signal, how many listed updates name it.
+    /// For each signal, how many parts of listed updates name it.
     claims: Vec<usize>,
     /// For each continuous assignment, whether its update is listed.
     proposed: Vec<bool>,
@@ -58,27 +82,29 @@ impl Agenda {
     /// The list at the start of a run: every continuous assignment, then every active process, in design order.
     pub(crate) fn start(alloc: Global, signals: usize, state: &State) -> Result<Self, AllocError> {
         let mut agenda = Agenda {
+            alloc,
             entries: VecDeque::new(alloc),
             hidden: 0,
             claims: vec![in alloc; 0; signals]?,
-            proposed: vec![in alloc; false; state.assigns.len()]?,
+            proposed: vec![in alloc; false; state.assign_count()]?,
             inactive: Vec::new(alloc),
             asleep: Vec::new(alloc),
         };
-        for assign in 0..state.assigns.len() {
+        for assign in 0..state.assign_count() {
             agenda.add(Item::Evaluate(assign))?;
         }
-        for process in 0..state.places.len() {
+        for process in 0..state.process_count() {
             agenda.add_step(process, state)?;
         }
         Ok(agenda)
     }
 
     /// Puts an event at the end.
-    pub(crate) fn add(&mut self, item: Item) -> Result<(), AllocError> {
+    fn add(&mut self, item: Item) -> Result<(), AllocError> {
         self.entries.push_back(Entry {
             item,
             hidden: false,
+            others: Vec::new(self.alloc),
         })?;
         Ok(())
     }
@@ -91,21 +117,49 @@ impl Agenda {
         Ok(())
     }
 
-    /// Puts an activated update at the end; it is hidden where an older one of its signal is listed.
-    fn add_update(&mut self, serial: u64, signal: usize) -> Result<(), AllocError> {
+    /// Puts an activated update at the end; it is hidden where an older one which names one of its signals is listed.
+    fn add_update(&mut self, serial: u64, what: &Write) -> Result<(), AllocError> {
+        let mut first = None;
+        let mut others = Vec::new(self.alloc);
         let mut hidden = false;
-        if let Some(count) = self.claims.get_mut(signal) {
-            hidden = *count > 0;
-            *count = count.saturating_add(1);
+        for part in what.parts() {
+            hidden = hidden || self.is_claimed(part.signal);
+            if first.is_none() {
+                first = Some(part.signal);
+            } else {
+                others.push(part.signal)?;
+            }
+        }
+        let Some(signal) = first else {
+            return Ok(());
+        };
+        for part in what.parts() {
+            self.claim(part.signal);
         }
         self.entries.push_back(Entry {
             item: Item::Make(serial, signal),
             hidden,
+            others,
         })?;
         if hidden {
             self.hidden = self.hidden.saturating_add(1);
         }
         Ok(())
+    }
+
+    /// Whether a listed update names a signal.
+    fn is_claimed(&self, signal: usize) -> bool {
+        match self.claims.get(signal) {
+            Some(count) => *count > 0,
+            None => false,
+        }
+    }
+
+    /// One more part of a listed update names a signal.
+    fn claim(&mut self, signal: usize) {
+        if let Some(count) = self.claims.get_mut(signal) {
+            *count = count.saturating_add(1);
+        }
     }
 
     /// The index of the event that the policy chooses among those that aren't hidden.
@@ -142,7 +196,7 @@ impl Agenda {
             Item::Propagate(assign) => Some(Move::Propagate(assign)),
             Item::Step(process) => Some(Move::Step(process)),
             Item::Make(serial, _) => {
-                let mut updates = state.updates.iter();
+                let mut updates = state.updates().iter();
                 Some(Move::Make(updates.position(|u| u.serial() == serial)?))
             }
         }
@@ -161,10 +215,14 @@ impl Agenda {
         }
         if let Item::Make(_, signal) = entry.item {
             self.release(signal);
+            for other in &entry.others {
+                self.release(*other);
+            }
         }
     }
 
-    /// An update of this signal has left the list: the oldest of the others is no longer hidden.
+    /// A part of an update that names this signal has left the list: the oldest of the other updates that name it is no longer hidden,
+    /// unless it waits for another signal.
     fn release(&mut self, signal: usize) {
         let Some(count) = self.claims.get_mut(signal) else {
             return;
@@ -173,22 +231,44 @@ impl Agenda {
         if *count == 0 {
             return;
         }
-        for index in 0..self.entries.len() {
-            if let Some(entry) = self.entries.get_mut(index)
-                && entry.hidden
-                && let Item::Make(_, other) = entry.item
-                && other == signal
-            {
-                entry.hidden = false;
-                self.hidden = self.hidden.saturating_sub(1);
-                return;
-            }
+        let Some(index) = self.entries.iter().position(|entry| entry.names(signal)) else {
+            return;
+        };
+        if self.waits(index) {
+            return;
+        }
+        if let Some(entry) = self.entries.get_mut(index)
+            && entry.hidden
+        {
+            entry.hidden = false;
+            self.hidden = self.hidden.saturating_sub(1);
         }
     }
 
+    /// Whether an older update than the one at an index names one of its signals, where it has several parts.
+    fn waits(&self, index: usize) -> bool {
+        let Some(update) = self.entries.get(index) else {
+            return false;
+        };
+        if update.others.is_empty() {
+            return false;
+        }
+        for older in 0..index {
+            if let Some(entry) = self.entries.get(older)
+                && entry.shares(update)
+            {
+                return true;
+            }
+        }
+        false
+    }
+
     /// Brings the list up to date behind a move: an event that is no longer enabled leaves it, and what has become
-    /// enabled enters at its end. The evaluations that a write asks for are listed by the write itself.
+    /// enabled enters at its end.
     pub(crate) fn follow(&mut self, made: Choice, state: &State) -> Result<(), AllocError> {
+        for assign in state.woken() {
+            self.add(Item::Evaluate(*assign))?;
+        }
         match made.choice {
             Move::Step(process) => self.follow_step(process, made.index, state),
             Move::Evaluate(assign) => self.follow_evaluation(assign, made.index, state),
@@ -263,11 +343,11 @@ impl Agenda {
     }
 
     fn follow_activation(&mut self, state: &State) -> Result<(), AllocError> {
-        for i in 0..state.updates.len() {
-            if let Some(update) = state.updates.get(i)
+        for i in 0..state.updates().len() {
+            if let Some(update) = state.updates().get(i)
                 && update.is_active()
             {
-                self.add_update(update.serial(), update.signal())?;
+                self.add_update(update.serial(), update.what())?;
             }
         }
         Ok(())

@@ -10,12 +10,12 @@ use crate::agenda::Agenda;
 use crate::outcome::{Outcome, RunFault};
 use crate::policy::Pick;
 use crate::run::execute;
-use crate::state::State;
 use std::alloc::{AllocError, Global};
 use std::marker::Model;
 use std::mem;
 use vs_design::Design;
 use vs_process::never_stuck;
+use vs_state::State;
 use vs_vcd::Sink;
 
 /// Whether a kernel may run.

@@ -5,17 +5,11 @@
 #![tactic(auto)]
 
 mod agenda;
-mod assign;
-mod changes;
 mod kernel;
 mod laws;
-mod moves;
 mod outcome;
 mod policy;
 mod run;
-mod search;
-mod state;
-mod update;
 
 pub use kernel::{Kernel, Status};
 pub use laws::dumps_show_slot_ends;

@@ -3,7 +3,7 @@ ghost use Rattle.std.specs.Prelude.{◌≡◌, ◌<◌, ◌^◌, ◌++◌, false
 ghost use Rattle.vs_design.specs.Parts.{Parts};
 ghost use Rattle.vs_design.specs.Traces.{Slot};
 ghost use Rattle.vs_kernel.specs.Runs.{RanTo, HasBegun, AppendsSlots, AppendsSlotsPart};
-ghost use Rattle.vs_kernel.specs.Touches.{HasSources};
+ghost use Rattle.vs_state.specs.Touches.{HasSources};
 ghost use Rattle.vs_process.specs.Executions as executions;
 ghost use Rattle.vs_process.specs.States as states;
 ghost use Rattle.vs_vcd.specs.Progress.{HasWritten, is_write_fault};
@@ -12,10 +12,10 @@ ghost use Rattle.vs_vcd.specs.Sinks.{failed_after};
 use crate::agenda::{Agenda, Choice};
 use crate::outcome::Outcome;
 use crate::policy::Pick;
-use crate::state::State;
 use std::alloc::{AllocError, Global};
 use vs_design::Design;
 use vs_process::{Grain, Move};
+use vs_state::State;
 use vs_vcd::{Sink, VcdFault, Writer};
 
 /// The next move: what the policy chooses of the list, where that is enabled; else a move that the state has. It is allowed at both grains.
@@ -78,7 +78,7 @@ pub(crate) fn advance(
     requires sources { HasSources design.now state.old }
     ensures { OnOk result (state.new ≡ executions.apply next.choice state.old) }
 {
-    state.make(design, next.choice, agenda)?;
+    state.make(design, next.choice)?;
     agenda.follow(next, state)?;
     Ok(())
 }

@@ -18,9 +18,9 @@ use Rattle.vs_syntax.proofs.Refused.{front_of, front_text, refused}
 use Rattle.vs_syntax.proofs.Viable.{viable}
 use Rattle.vs_syntax.proofs.Beginnings.{stuck_there}
 use Rattle.vs_syntax.proofs.Deeper.{deeper}
-use Rattle.vs_parser.specs.declared.reading.Stop.{Stop}
-use Rattle.vs_parser.specs.declared.reading.Stop.TheVariants as stop
-use Rattle.vs_parser.specs.Answers.{seen, Fails}
+use Rattle.vs_expressions.specs.declared.reading.Stop.{Stop}
+use Rattle.vs_expressions.specs.declared.reading.Stop.TheVariants as stop
+use Rattle.vs_expressions.specs.Answers.{seen, Fails}
 use Rattle.vs_parser.specs.declared.fault.ParseFault.{ParseFault}
 use Rattle.vs_parser.specs.declared.fault.ParseFault.TheVariants as f
 use Rattle.vs_parser.specs.Faults.{Halts, StopsAt, IsWrong, IsTooDeep, IsUnfinished, IsRefused}

@@ -14,12 +14,12 @@ use Rattle.vs_syntax.specs.declared.tree.Item.{Item}
 use Rattle.vs_syntax.proofs.Gets.{gets_token, gets_seq, gets_part, gets_node}
 use Rattle.vs_parser.specs.declared.head.ItemWord.{ItemWord}
 use Rattle.vs_parser.specs.declared.head.ItemWord.TheVariants as i
-use Rattle.vs_parser.specs.declared.reading.Read.{Read}
-use Rattle.vs_parser.specs.declared.reading.Stop.{Stop}
-use Rattle.vs_parser.specs.Answers.{seen, Reads}
+use Rattle.vs_expressions.specs.declared.reading.Read.{Read}
+use Rattle.vs_expressions.specs.declared.reading.Stop.{Stop}
+use Rattle.vs_expressions.specs.Answers.{seen, Reads}
 use Rattle.vs_parser.specs.Heads.{word_of, body_of}
-use Rattle.vs_parser.proofs.Exits.{deep_at, fails_by, goes_at}
-use Rattle.vs_parser.proofs.Choices.{branch, choice_read, choice_stuck}
+use Rattle.vs_expressions.proofs.Exits.{deep_at, fails_by, goes_at}
+use Rattle.vs_expressions.proofs.Choices.{branch, choice_read, choice_stuck}
 
 -- what stands behind the name of a module
 abbrev pub module_rest : Grammar

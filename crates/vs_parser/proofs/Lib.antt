@@ -1,11 +1,5 @@
-pub mod Tokens
-pub mod Exits
 pub mod Trees
-pub mod Rows
 pub mod Lists
-pub mod OperatorLemmas
-pub mod Choices
-pub mod Expressions
 pub mod Statements
 pub mod Declarations
 pub mod Items

@@ -1,24 +1,20 @@
--- Parts with a separator before each but the first.
-use Rattle.std.specs.Prelude.{◌≡◌, ℕ, ◌≤◌, Bool, true, false, List, [], ◌∷◌, ◌++◌, map, drop, refl}
+-- Lists of parts with a separator before each but the first.
+use Rattle.std.specs.Prelude.{◌≡◌, ℕ, ◌≤◌, Bool, false, List, [], ◌∷◌, ◌++◌, map, drop, refl}
 use Rattle.std.proofs.Common.{sym, ◌∙◌, ap, subst, append_assoc, arith}
 use Rattle.std.proofs.lemmas.List.{append-nil, map-append}
-use Rattle.vs_syntax.specs.Symbols.{Symbol, a_mark, class_of}
+use Rattle.vs_syntax.specs.Symbols.{Symbol, a_mark}
 use Rattle.vs_tokens.specs.declared.token.Mark.{Mark}
 use Rattle.vs_tokens.specs.declared.token.Mark.TheVariants as m
-use Rattle.vs_syntax.specs.Grammar.{Part, Grammar, ◌·◌, many, part, mark, listed}
+use Rattle.vs_syntax.specs.Grammar.{Part, Grammar, many, part, mark, listed}
 use Rattle.vs_syntax.specs.Tables.{low, low_of, goes}
 use Rattle.vs_syntax.specs.Derivation.{Tree, leaf, both}
 use Rattle.vs_syntax.specs.Reading.{Gets, Stuck, stuck_first, stuck_second, stuck_many}
 use Rattle.vs_syntax.specs.Views.{row_of, listed_tree}
-use Rattle.vs_syntax.proofs.Fronts.{or_left, same_class-refl}
 use Rattle.vs_syntax.proofs.Gets.{gets_token, gets_seq, gets_stop}
 use Rattle.vs_tokens.specs.declared.token.Token.{Token}
-use Rattle.vs_parser.specs.Answers.{seen}
-use Rattle.vs_parser.proofs.Rows.{Along, along_none, along_push, all_read}
-
--- a part behind its separator
-abbrev pub another : Mark → Part → Grammar
-another sign p = mark sign · part p
+use Rattle.vs_expressions.specs.Answers.{seen}
+use Rattle.vs_expressions.proofs.Lists.{another, goes_another, another_read}
+use Rattle.vs_expressions.proofs.Rows.{Along, along_none, along_push, all_read}
 
 -- From the start to the rest these parts were read behind the first ones, each behind its separator.
 pub record Behind (sign : Mark) (p : Part) (room : ℕ) (start rest : List Symbol) (xs ys : List Tree) : Type 0 where
@@ -28,12 +24,6 @@ pub record Behind (sign : Mark) (p : Part) (room : ℕ) (start rest : List Symbo
 
 pub behind_none : (sign : Mark) (p : Part) (room : ℕ) (ts : List Symbol) (xs : List Tree) → Behind sign p room ts ts xs xs
 behind_none sign p room ts xs = record { others = []; all = sym (append-nil xs); along = along_none (another sign p) room ts }
-
-pub goes_another : (sign : Mark) (p : Part) (ts after : List Symbol) → ts ≡ a_mark sign ∷ after → goes (another sign p) ts ≡ true
-goes_another sign p ts after e = ap (goes (another sign p)) e ∙ or_left _ false (same_class-refl (class_of (a_mark sign)))
-
-pub another_read : (sign : Mark) (p : Part) (room : ℕ) (ts after rest : List Symbol) (x : Tree) → ts ≡ a_mark sign ∷ after → Gets (part p) room after x rest → Gets (another sign p) room ts (both (leaf (a_mark sign)) x) rest
-another_read sign p room ts after rest x e q = rw e (gets_seq (gets_token refl) q)
 
 -- one more, for what was pushed to a list
 pub behind_push : {X : Type 0} (sign : Mark) (p : Part) (room : ℕ) (start rest after behind : List Symbol) (tree : X → Tree) (xs : List Tree) (ys zs : List X) (x : X) → zs ≡ ys ++ x ∷ [] → Behind sign p room start rest xs (map tree ys) → rest ≡ a_mark sign ∷ after → Gets (part p) room after (tree x) behind → Behind sign p room start behind xs (map tree zs)

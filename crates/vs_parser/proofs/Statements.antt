@@ -3,32 +3,36 @@ use Rattle.std.specs.Prelude.{◌≡◌, ℕ, ◌-◌, ◌<◌, ◌≤◌, Bool,
 use Rattle.std.proofs.Common.{◌∙◌, ap, subst, arith}
 use Rattle.vs_tokens.specs.declared.token.Mark.TheVariants as m
 use Rattle.vs_tokens.specs.declared.token.Word.TheVariants as w
-use Rattle.vs_syntax.specs.Symbols.{Symbol, a_mark, a_word, class_of, any_name, first}
-use Rattle.vs_syntax.specs.Grammar.{Grammar, ◌·◌, ◌or◌, many, part, mark, word, name, number, statements, a_stmt, a_target, an_expr}
+use Rattle.vs_syntax.specs.Symbols.{Symbol, a_mark, a_word, class_of, first}
+use Rattle.vs_syntax.specs.Grammar.{Grammar, ◌·◌, ◌or◌, many, part, mark, word, number, statements, a_stmt, a_target, an_expr}
 use Rattle.vs_syntax.specs.Tables.{low, among, need, fronts_of, goes}
 use Rattle.vs_syntax.specs.Derivation.{Tree, empty, leaf, both, down}
 use Rattle.vs_syntax.specs.Reading.{Gets, Stuck, stuck_here, stuck_deep, stuck_left, stuck_right, stuck_many, stuck_part, stuck_node}
-use Rattle.vs_syntax.proofs.Fronts.{clash}
+use Rattle.vs_syntax.proofs.Fronts.{clash, or_left, goes-seq}
 use Rattle.vs_syntax.proofs.Gets.{gets_nothing, gets_left, gets_right, gets_part, gets_node}
 use Rattle.vs_parser.specs.declared.head.StatementHead.{StatementHead}
 use Rattle.vs_parser.specs.declared.head.StatementHead.TheVariants as h
 use Rattle.vs_parser.specs.Heads.{BeginsStatement, class_of_statement}
-use Rattle.vs_parser.proofs.Exits.{deep_at, goes_at}
-use Rattle.vs_parser.proofs.Choices.{branch, choice_read, choice_stuck}
+use Rattle.vs_expressions.proofs.Exits.{deep_at, goes_at}
+use Rattle.vs_expressions.proofs.Choices.{branch, choice_read, choice_stuck}
 
--- an assignment with its semicolon
+-- what stands behind the left side of an assignment, and the whole
+abbrev pub assigned_value : Grammar
+assigned_value = (mark m.Assign or mark m.LessEqual) · part an_expr · mark m.Semicolon
+
 abbrev pub assigned : Grammar
-assigned = part a_target · (mark m.Assign or mark m.LessEqual) · part an_expr · mark m.Semicolon
+assigned = part a_target · assigned_value
 
 -- the first symbol of a statement
 pub head_first : (ts : List Symbol) (head : StatementHead) → BeginsStatement ts head → first ts ≡ class_of_statement head
 head_first ts (h.Null rest) e = ap first e
-head_first ts h.Target e = e
+head_first ts h.Name e = e
+head_first ts h.Brace e = e
 head_first ts (h.Block rest) e = ap first e
 head_first ts (h.Delay rest) e = ap first e
 
 head_among : (head : StatementHead) → among (class_of_statement head) (fronts_of a_stmt) ≡ true
-head_among h.Target = refl
+head_among h.Name = refl
 head_among _ = refl
 
 pub head_goes : (ts : List Symbol) (head : StatementHead) → BeginsStatement ts head → goes (part a_stmt) ts ≡ true
@@ -69,18 +73,14 @@ pub delay_stuck : (room : ℕ) (deep : Bool) (ts after at : List Symbol) → 2 �
 delay_stuck room deep ts after at h e s = stmt_stuck (number · part a_stmt) room deep (a_mark m.Hash) ts after at e refl refl (omega (arith, h)) (omega (arith, h)) s
 
 -- an assignment
-pub assign_stuck : (room : ℕ) (deep : Bool) (ts at : List Symbol) → 2 ≤ room → first ts ≡ any_name → Stuck assigned (room - 1) deep ts at → Stuck (part a_stmt) room deep ts at
-assign_stuck room deep ts at h e s = stuck_part (stuck_node (omega (arith, h)) (stuck_left (goes_at assigned ts any_name true e refl) (omega (arith, h)) s))
+assigned_goes : (ts : List Symbol) → goes (part a_target) ts ≡ true → goes assigned ts ≡ true
+assigned_goes ts h = goes-seq (part a_target) assigned_value ts ∙ or_left (goes (part a_target) ts) false h
 
-pub assign_read : (room : ℕ) (ts rest : List Symbol) (x : Tree) → 2 ≤ room → first ts ≡ any_name → Gets assigned (room - 1) ts x rest → Gets (part a_stmt) room ts (down x) rest
-assign_read room ts rest x h e p = gets_part (gets_node (omega (arith, h)) (gets_left (goes_at assigned ts any_name true e refl) p))
+pub assign_stuck : (room : ℕ) (deep : Bool) (ts at : List Symbol) → 2 ≤ room → goes (part a_target) ts ≡ true → Stuck assigned (room - 1) deep ts at → Stuck (part a_stmt) room deep ts at
+assign_stuck room deep ts at h g s = stuck_part (stuck_node (omega (arith, h)) (stuck_left (assigned_goes ts g) (omega (arith, h)) s))
 
--- the target
-pub target_stuck : (room : ℕ) (deep : Bool) (ts at : List Symbol) → 2 ≤ room → Stuck name (room - 1 - 1) deep ts at → Stuck (part a_target) (room - 1) deep ts at
-target_stuck room deep ts at h s = stuck_part (stuck_node (omega (arith, h)) s)
-
-pub target_read : (room : ℕ) (ts rest : List Symbol) (x : Tree) → 2 ≤ room → Gets name (room - 1 - 1) ts x rest → Gets (part a_target) (room - 1) ts (down x) rest
-target_read room ts rest x h p = gets_part (gets_node (omega (arith, h)) p)
+pub assign_read : (room : ℕ) (ts rest : List Symbol) (x : Tree) → 2 ≤ room → goes (part a_target) ts ≡ true → Gets assigned (room - 1) ts x rest → Gets (part a_stmt) room ts (down x) rest
+assign_read room ts rest x h g p = gets_part (gets_node (omega (arith, h)) (gets_left (assigned_goes ts g) p))
 
 -- one more statement of a block
 pub row_stuck : (room : ℕ) (deep : Bool) (ts at : List Symbol) → goes (part a_stmt) ts ≡ true → Stuck (part a_stmt) room deep ts at → Stuck (many (part a_stmt)) room deep ts at

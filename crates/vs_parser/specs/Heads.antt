@@ -1,47 +1,32 @@
--- How operands, statements and items begin.
-use Rattle.std.specs.Prelude.{◌≡◌, ℕ, false, List, ◌∷◌}
-use Rattle.vs_tokens.specs.declared.token.Kind.{Kind}
+-- How statements and items begin.
+use Rattle.std.specs.Prelude.{◌≡◌, List, ◌∷◌}
 use Rattle.vs_tokens.specs.declared.token.Mark.{Mark}
 use Rattle.vs_tokens.specs.declared.token.Mark.TheVariants as m
 use Rattle.vs_tokens.specs.declared.token.Word.{Word}
 use Rattle.vs_tokens.specs.declared.token.Word.TheVariants as w
-use Rattle.vs_syntax.specs.Symbols.{Symbol, a_mark, a_word, a_cast, Class, the_mark, the_word, any_name, any_number, class_of, same_class, symbol_of, first}
-use Rattle.vs_syntax.specs.Grammar.{Grammar, ◌·◌, part, form, listed, a_declarator, an_assignment, a_stmt}
-use Rattle.vs_syntax.specs.Views.{unary_mark}
-use Rattle.vs_parser.specs.declared.head.OperandHead.{OperandHead}
-use Rattle.vs_parser.specs.declared.head.OperandHead.TheVariants as o
+use Rattle.vs_syntax.specs.Symbols.{Symbol, a_mark, a_word, Class, the_mark, the_word, any_name, first}
+use Rattle.vs_syntax.specs.Grammar.{Grammar, ◌·◌, part, form, listed, a_net, a_variable, an_assignment, a_stmt}
 use Rattle.vs_parser.specs.declared.head.StatementHead.{StatementHead}
 use Rattle.vs_parser.specs.declared.head.StatementHead.TheVariants as s
 use Rattle.vs_parser.specs.declared.head.ItemWord.{ItemWord}
 use Rattle.vs_parser.specs.declared.head.ItemWord.TheVariants as i
 use Rattle.vs_parser.specs.declared.head.Timing.{Timing}
 use Rattle.vs_parser.specs.declared.head.Timing.TheVariants as t
-use Rattle.vs_parser.specs.Answers.{seen}
-
--- the token of these bytes is no number
-abbrev pub NoNumber : Kind → List ℕ → Type 0
-NoNumber kind bytes = same_class (class_of (symbol_of kind bytes)) any_number ≡ false
-
--- the symbols begin an operand so
-abbrev pub BeginsOperand : List Symbol → OperandHead → Type 0
-BeginsOperand ts o.Number = first ts ≡ any_number
-BeginsOperand ts o.Name = first ts ≡ any_name
-BeginsOperand ts (o.Unary op rest) = ts ≡ a_mark (unary_mark op) ∷ seen rest.now
-BeginsOperand ts (o.Open rest) = ts ≡ a_mark m.Open ∷ seen rest.now
-BeginsOperand ts (o.Brace rest) = ts ≡ a_mark m.OpenBrace ∷ seen rest.now
-BeginsOperand ts (o.Cast s rest) = ts ≡ a_cast s ∷ seen rest.now
+use Rattle.vs_expressions.specs.Answers.{seen}
 
 -- the symbols begin a statement so
 abbrev pub BeginsStatement : List Symbol → StatementHead → Type 0
 BeginsStatement ts (s.Null rest) = ts ≡ a_mark m.Semicolon ∷ seen rest.now
-BeginsStatement ts s.Target = first ts ≡ any_name
+BeginsStatement ts s.Name = first ts ≡ any_name
+BeginsStatement ts s.Brace = first ts ≡ the_mark m.OpenBrace
 BeginsStatement ts (s.Block rest) = ts ≡ a_word w.Begin ∷ seen rest.now
 BeginsStatement ts (s.Delay rest) = ts ≡ a_mark m.Hash ∷ seen rest.now
 
 -- the class of the first symbol of a statement that begins so
 abbrev pub class_of_statement : StatementHead → Class
 class_of_statement (s.Null rest) = the_mark m.Semicolon
-class_of_statement s.Target = any_name
+class_of_statement s.Name = any_name
+class_of_statement s.Brace = the_mark m.OpenBrace
 class_of_statement (s.Block rest) = the_word w.Begin
 class_of_statement (s.Delay rest) = the_mark m.Hash
 
@@ -60,9 +45,9 @@ BeginsItem ts k after = ts ≡ a_word (word_of k) ∷ after
 
 -- what stands behind the word of an item that begins so
 abbrev pub body_of : ItemWord → Grammar
-body_of i.Wire = form · listed a_declarator
-body_of i.Reg = form · listed a_declarator
-body_of i.Integer = listed a_declarator
+body_of i.Wire = form · listed a_net
+body_of i.Reg = form · listed a_variable
+body_of i.Integer = listed a_variable
 body_of i.Assign = listed an_assignment
 body_of i.Initial = part a_stmt
 body_of i.Always = part a_stmt

@@ -1,5 +1,3 @@
-pub mod Answers
-pub mod Operators
 pub mod Heads
 pub mod LeftOut
 pub mod Faults

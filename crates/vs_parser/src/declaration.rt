@@ -1,24 +1,35 @@
 //! Reading declarations and net assignments.
-ghost use Rattle.std.specs.Prelude.{ℕ, ◌<◌};
+ghost use Rattle.std.specs.Prelude.{ℕ, ◌≤◌, map};
 ghost use Rattle.vs_tokens.specs.declared.token.Mark.TheVariants as m;
 ghost use Rattle.vs_tokens.specs.declared.token.Word.TheVariants as w;
-ghost use Rattle.vs_syntax.specs.Grammar.{nothing, part, mark, word, ◌·◌, ◌or◌, form, range, a_declarator, an_assignment, an_expr};
+ghost use Rattle.vs_syntax.specs.Grammar.{nothing, part, mark, word, ◌·◌, ◌or◌, form, range, a_net, a_variable, an_assignment, an_expr};
 ghost use Rattle.vs_syntax.specs.Grammar as g;
-ghost use Rattle.vs_syntax.specs.Views.{signed_tree, range_tree, form_tree, declared_tree};
-ghost use Rattle.vs_syntax.specs.Views.{value_tree, declarator_tree, net_assignment_tree};
+ghost use Rattle.vs_syntax.specs.Tables.{low_of};
+ghost use Rattle.vs_syntax.specs.Derivation.{both};
+ghost use Rattle.vs_syntax.specs.Views.{listed_tree, signed_tree, range_tree, form_tree};
+ghost use Rattle.vs_syntax.specs.Views.{value_tree, told_tree, declarator_tree, net_assignment_tree};
 ghost use Rattle.vs_syntax.specs.Reading.{Gets};
-ghost use Rattle.vs_parser.specs.Answers.{seen, Reads};
+ghost use Rattle.vs_expressions.specs.Answers.{seen, Reads};
 
-use crate::expression::expr;
 use crate::list::{Element, listed};
-use crate::reading::{Read, Stop};
-use crate::token::{expect_mark, expect_name, mark_at, word_at};
 use std::alloc::Global;
+use vs_expressions::{Read, Stop, expect_mark, expect_name, expr, left, mark_at, word_at};
 use vs_lexer::{Mark, Token, Word};
 use vs_syntax::{Declarator, Expr, Form, NetAssignment, Range};
 
-impl Element for Declarator {
-    ghost kind = { a_declarator };
+/// A name of a declaration of nets.
+pub(crate) struct Net;
+
+/// A name of a declaration of variables.
+pub(crate) struct Variable;
+
+/// An assignment of an `assign` item.
+pub(crate) struct Assignment;
+
+impl Element for Net {
+    type Syntax = Declarator;
+
+    ghost kind = { a_net };
 
     ghost tree_of = { declarator_tree };
 
@@ -27,11 +38,29 @@ impl Element for Declarator {
         room: u32,
         tokens: &'t [Token<'s>],
     ) -> Result<Read<'t, 's, Declarator>, Stop<'t, 's>> {
-        declarator(alloc, room, tokens)
+        declared_net(alloc, room, tokens)
     }
 }
 
-impl Element for NetAssignment {
+impl Element for Variable {
+    type Syntax = Declarator;
+
+    ghost kind = { a_variable };
+
+    ghost tree_of = { declarator_tree };
+
+    fn read<'t, 's>(
+        alloc: Global,
+        room: u32,
+        tokens: &'t [Token<'s>],
+    ) -> Result<Read<'t, 's, Declarator>, Stop<'t, 's>> {
+        declared_variable(alloc, room, tokens)
+    }
+}
+
+impl Element for Assignment {
+    type Syntax = NetAssignment;
+
     ghost kind = { an_assignment };
 
     ghost tree_of = { net_assignment_tree };
@@ -46,16 +75,17 @@ impl Element for NetAssignment {
 }
 
 /// Reads what a declaration says of its names, and they, and the semicolon behind them.
-pub(crate) fn declared<'t, 's>(
+pub(crate) fn declared<'t, 's, T: Element<Syntax = Declarator>>(
     alloc: Global,
     room: u32,
     tokens: &'t [Token<'s>],
 ) -> Result<Read<'t, 's, (Form, Vec<Declarator>)>, Stop<'t, 's>>
-    ensures { Reads (form · g.listed a_declarator) room tokens.now
-        (λ x. declared_tree x.0 x.1.items) result }
+    requires { low_of T.kind ≤ room }
+    ensures { Reads (form · g.listed T.kind) room tokens.now
+        (λ x. both (form_tree x.0) (listed_tree (map T.tree_of x.1.items))) result }
 {
     let said = declared_form(alloc, room, tokens)?;
-    let names = listed(alloc, room, said.rest)?;
+    let names = listed::<T>(alloc, room, said.rest)?;
     Ok(Read {
         tree: (said.tree, names.tree),
         rest: names.rest,
@@ -119,21 +149,66 @@ fn declared_range<'t, 's>(
     })
 }
 
-/// Reads a name of a declaration, with its declaration assignment where it has one.
-fn declarator<'t, 's>(
+/// Reads a name of a declaration of nets, with its declaration assignment where it has one.
+fn declared_net<'t, 's>(
     alloc: Global,
     room: u32,
     tokens: &'t [Token<'s>],
 ) -> Result<Read<'t, 's, Declarator>, Stop<'t, 's>>
-    ensures { Reads (part a_declarator) room tokens.now declarator_tree result }
+    ensures { Reads (part a_net) room tokens.now declarator_tree result }
 {
     let (name, after_name) = expect_name(alloc, tokens)?;
     let value = declared_value(alloc, room, after_name)?;
     Ok(Read {
         tree: Declarator {
             name,
+            words: None,
             value: value.tree,
         },
+        rest: value.rest,
+    })
+}
+
+/// Reads a name of a declaration of variables, with its declaration assignment, or with the range of
+/// its words, where it has one of them.
+fn declared_variable<'t, 's>(
+    alloc: Global,
+    room: u32,
+    tokens: &'t [Token<'s>],
+) -> Result<Read<'t, 's, Declarator>, Stop<'t, 's>>
+    ensures { Reads (part a_variable) room tokens.now declarator_tree result }
+{
+    let (name, after_name) = expect_name(alloc, tokens)?;
+    let said = told(alloc, room, after_name)?;
+    Ok(Read {
+        tree: Declarator {
+            name,
+            words: said.tree.0,
+            value: said.tree.1,
+        },
+        rest: said.rest,
+    })
+}
+
+/// Reads the declaration assignment that is next, or the range of words, if one of them is.
+fn told<'t, 's>(
+    alloc: Global,
+    room: u32,
+    tokens: &'t [Token<'s>],
+) -> Result<Read<'t, 's, (Option<Range>, Option<Expr>)>, Stop<'t, 's>>
+    ensures { Reads (mark m.Assign · part an_expr or range or nothing) room tokens.now
+        (λ x. told_tree x.0 x.1) result }
+{
+    let Some(after) = mark_at(tokens, Mark::Assign) else {
+        let words = declared_range(alloc, room, tokens)?;
+        return Ok(Read {
+            tree: (words.tree, None),
+            rest: words.rest,
+        });
+    };
+    let value = expr(alloc, room, after)?;
+    Ok(Read {
+        tree: (None, Some(value.tree)),
         rest: value.rest,
     })
 }
@@ -159,21 +234,20 @@ fn declared_value<'t, 's>(
     })
 }
 
-/// Reads one assignment of an `assign` item. Its target is a node.
+/// Reads one assignment of an `assign` item.
 fn net_assignment<'t, 's>(
     alloc: Global,
     room: u32,
     tokens: &'t [Token<'s>],
 ) -> Result<Read<'t, 's, NetAssignment>, Stop<'t, 's>>
-    requires { 0 < room }
     ensures { Reads (part an_assignment) room tokens.now net_assignment_tree result }
 {
-    let (target, after_target) = expect_name(alloc, tokens)?;
-    let after_sign = expect_mark(after_target, Mark::Assign)?;
+    let target = left(alloc, room, tokens)?;
+    let after_sign = expect_mark(target.rest, Mark::Assign)?;
     let value = expr(alloc, room, after_sign)?;
     Ok(Read {
         tree: NetAssignment {
-            target,
+            target: target.tree,
             value: value.tree,
         },
         rest: value.rest,

@@ -3,9 +3,9 @@ ghost use Rattle.std.specs.Prelude.{◌≡◌, IfOk};
 ghost use Rattle.vs_parser.specs.Faults.{fault_text};
 ghost use Rattle.vs_parser.specs.LeftOut.{is_in_grammar, is_left_out};
 
-use crate::token::cast;
 use std::alloc::{AllocError, Global};
 use thiserror::Error;
+use vs_expressions::cast;
 use vs_lexer::{Kind, Token, Word};
 
 /// What is wrong with the tokens. The place of a token is that of its first byte in the source.

@@ -1,43 +1,25 @@
-//! How operands, statements and items begin.
-ghost use Rattle.std.specs.Prelude.{◌≡◌, ℕ, false, ◌∷◌, MatchOption};
+//! How statements and items begin.
+ghost use Rattle.std.specs.Prelude.{◌≡◌, ℕ, false, MatchOption};
 ghost use Rattle.vs_tokens.specs.declared.token.Mark.TheVariants as m;
-ghost use Rattle.vs_syntax.specs.Symbols.{a_mark, the_mark, the_word};
-ghost use Rattle.vs_syntax.specs.Grammar.{◌or◌, mark, part, an_operand, a_stmt, an_item};
-ghost use Rattle.vs_syntax.specs.Tables.{among, need, operand_fronts, fronts_of, goes};
+ghost use Rattle.vs_syntax.specs.Symbols.{a_mark, the_word};
+ghost use Rattle.vs_syntax.specs.Grammar.{◌or◌, mark, part, a_stmt, an_item};
+ghost use Rattle.vs_syntax.specs.Tables.{need, fronts_of, goes};
 ghost use Rattle.vs_syntax.specs.Derivation.{leaf};
-ghost use Rattle.vs_parser.specs.Answers.{seen, Answers};
-ghost use Rattle.vs_parser.specs.Heads.{BeginsOperand, BeginsStatement, BeginsItem, class_of_statement, word_of, sign_of};
+ghost use Rattle.vs_expressions.specs.Answers.{seen, Answers};
+ghost use Rattle.vs_parser.specs.Heads.{BeginsStatement, BeginsItem, class_of_statement, word_of, sign_of};
 
-use crate::operator::unary;
-use crate::reading::Stop;
-use crate::token::{cast, expect_mark, mark_at, next, spelled};
+use vs_expressions::{Stop, expect_mark, mark_at, next};
 use vs_lexer::{Kind, Mark, Token, Word};
-use vs_logic4::Unary;
-
-/// What an operand begins with, and mostly the tokens behind that.
-#[derive(Drop)]
-pub(crate) enum OperandHead<'t, 's> {
-    /// A number.
-    Number,
-    /// A name.
-    Name,
-    /// An operator.
-    Unary(Unary, &'t [Token<'s>]),
-    /// `(`
-    Open(&'t [Token<'s>]),
-    /// `{`
-    Brace(&'t [Token<'s>]),
-    /// `$signed`, else `$unsigned`.
-    Cast(bool, &'t [Token<'s>]),
-}
 
 /// What a statement begins with, and mostly the tokens behind that.
 #[derive(Drop)]
 pub(crate) enum StatementHead<'t, 's> {
     /// `;`
     Null(&'t [Token<'s>]),
-    /// The name of a target.
-    Target,
+    /// A name, with which the left side of an assignment begins.
+    Name,
+    /// `{`, with which the left side of an assignment begins.
+    Brace,
     /// `begin`
     Block(&'t [Token<'s>]),
     /// `#`
@@ -70,39 +52,6 @@ pub(crate) enum Timing {
     Nonblocking,
 }
 
-/// How the operand begins that is next, if one is.
-pub(crate) fn operand_head<'t, 's>(tokens: &'t [Token<'s>]) -> Option<OperandHead<'t, 's>>
-    ensures { MatchOption result (goes (part an_operand) (seen tokens.now) ≡ false)
-        (λ head. BeginsOperand (seen tokens.now) head) }
-{
-    let (first, rest) = next(tokens)?;
-    match first.kind {
-        Kind::Name => Some(OperandHead::Name),
-        Kind::Number(_) => Some(OperandHead::Number),
-        Kind::Mark(found) => marked_operand(spelled(found), rest),
-        Kind::System => match cast(first.bytes) {
-            Some(signed) => Some(OperandHead::Cast(signed, rest)),
-            None => None,
-        },
-        _ => None,
-    }
-}
-
-/// How the operand begins that the mark begins, behind which `rest` stands, if it begins one.
-fn marked_operand<'t, 's>(mark: Mark, rest: &'t [Token<'s>]) -> Option<OperandHead<'t, 's>>
-    ensures { MatchOption result (among (the_mark mark) operand_fronts ≡ false)
-        (λ head. BeginsOperand (a_mark mark ∷ seen rest.now) head) }
-{
-    match mark {
-        Mark::Open => Some(OperandHead::Open(rest)),
-        Mark::OpenBrace => Some(OperandHead::Brace(rest)),
-        _ => match unary(mark) {
-            Some(operator) => Some(OperandHead::Unary(operator, rest)),
-            None => None,
-        },
-    }
-}
-
 /// How the statement begins that is next, if one is.
 pub(crate) fn statement_head<'t, 's>(tokens: &'t [Token<'s>]) -> Option<StatementHead<'t, 's>>
     ensures { MatchOption result (goes (part a_stmt) (seen tokens.now) ≡ false)
@@ -110,8 +59,9 @@ pub(crate) fn statement_head<'t, 's>(tokens: &'t [Token<'s>]) -> Option<Statemen
 {
     let (first, rest) = next(tokens)?;
     match first.kind {
-        Kind::Name => Some(StatementHead::Target),
+        Kind::Name => Some(StatementHead::Name),
         Kind::Mark(mark) => match mark {
+            Mark::OpenBrace => Some(StatementHead::Brace),
             Mark::Semicolon => Some(StatementHead::Null(rest)),
             Mark::Hash => Some(StatementHead::Delay(rest)),
             _ => None,
@@ -130,7 +80,8 @@ pub(crate) fn least_statement(head: &StatementHead) -> u32
 {
     match head {
         StatementHead::Null(_) => 1,
-        StatementHead::Target => 2,
+        StatementHead::Name => 2,
+        StatementHead::Brace => 3,
         StatementHead::Block(_) => 1,
         StatementHead::Delay(_) => 2,
     }

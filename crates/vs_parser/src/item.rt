@@ -5,16 +5,15 @@ ghost use Rattle.vs_syntax.specs.Symbols.{a_word};
 ghost use Rattle.vs_syntax.specs.Grammar.{part, many, a_source, a_module, an_item};
 ghost use Rattle.vs_syntax.specs.Tables.{low};
 ghost use Rattle.vs_syntax.specs.Views.{row_of, item_word, body_tree, item_tree, module_tree, source_tree};
-ghost use Rattle.vs_parser.specs.Answers.{seen, Reads};
+ghost use Rattle.vs_expressions.specs.Answers.{seen, Reads};
 ghost use Rattle.vs_parser.specs.Heads.{word_of, BeginsItem, body_of};
 
-use crate::declaration::declared;
+use crate::declaration::{Assignment, Net, Variable, declared};
 use crate::head::{ItemWord, item_head, least_item};
 use crate::list::listed;
-use crate::reading::{Read, Stop};
 use crate::statement::stmt;
-use crate::token::{expect_mark, expect_name, expect_word, word_at};
 use std::alloc::Global;
+use vs_expressions::{Read, Stop, expect_mark, expect_name, expect_word, word_at};
 use vs_lexer::{Mark, Token, Word};
 use vs_syntax::{Item, Module, Source};
 
@@ -48,22 +47,22 @@ fn body<'t, 's>(
 {
     let (tree, rest) = match word {
         ItemWord::Wire => {
-            let nets = declared(alloc, room, tokens)?;
+            let nets = declared::<Net>(alloc, room, tokens)?;
             (Item::Wire(nets.tree.0, nets.tree.1), nets.rest)
         }
         ItemWord::Reg => {
-            let variables = declared(alloc, room, tokens)?;
+            let variables = declared::<Variable>(alloc, room, tokens)?;
             (
                 Item::Reg(variables.tree.0, variables.tree.1),
                 variables.rest,
             )
         }
         ItemWord::Integer => {
-            let integers = listed(alloc, room, tokens)?;
+            let integers = listed::<Variable>(alloc, room, tokens)?;
             (Item::Integer(integers.tree), integers.rest)
         }
         ItemWord::Assign => {
-            let assignments = listed(alloc, room, tokens)?;
+            let assignments = listed::<Assignment>(alloc, room, tokens)?;
             (Item::Assign(assignments.tree), assignments.rest)
         }
         ItemWord::Initial => {

@@ -2,16 +2,12 @@
 #![tactic(auto)]
 
 mod declaration;
-mod expression;
 mod fault;
 mod head;
 mod item;
 mod list;
-mod operator;
 mod parser;
-mod reading;
 mod statement;
-mod token;
 
 pub use fault::ParseFault;
 pub use parser::parse;

@@ -4,27 +4,29 @@ ghost use Rattle.vs_syntax.specs.Grammar.{Part, part, listed};
 ghost use Rattle.vs_syntax.specs.Tables.{low_of};
 ghost use Rattle.vs_syntax.specs.Derivation.{Tree};
 ghost use Rattle.vs_syntax.specs.Views.{listed_tree};
-ghost use Rattle.vs_parser.specs.Answers.{Reads};
+ghost use Rattle.vs_expressions.specs.Answers.{Reads};
 
-use crate::reading::{Read, Stop};
-use crate::token::{expect_mark, mark_at};
 use std::alloc::Global;
+use vs_expressions::{Read, Stop, expect_mark, mark_at};
 use vs_lexer::{Mark, Token};
 
 /// What stands in a list with commas.
-pub(crate) trait Element: Drop + Sized {
+pub(crate) trait Element {
+    /// What one of them is read as.
+    type Syntax: Drop;
+
     /// The part of the grammar that one of them is.
     ghost kind: { Part };
 
     /// The tree of one of them.
-    ghost tree_of: { Self → Tree };
+    ghost tree_of: { Self.Syntax → Tree };
 
     /// Reads one of them, in at most `room` nodes below one another.
     fn read<'t, 's>(
         alloc: Global,
         room: u32,
         tokens: &'t [Token<'s>],
-    ) -> Result<Read<'t, 's, Self>, Stop<'t, 's>>
+    ) -> Result<Read<'t, 's, Self::Syntax>, Stop<'t, 's>>
         requires { low_of kind ≤ room }
         ensures { Reads (part kind) room tokens.now tree_of result };
 }
@@ -35,7 +37,7 @@ pub(crate) fn listed<'t, 's, T: Element>(
     alloc: Global,
     room: u32,
     tokens: &'t [Token<'s>],
-) -> Result<Read<'t, 's, Vec<T>>, Stop<'t, 's>>
+) -> Result<Read<'t, 's, Vec<T::Syntax>>, Stop<'t, 's>>
     requires { low_of T.kind ≤ room }
     ensures { Reads (listed T.kind) room tokens.now (λ xs. listed_tree (map T.tree_of xs.items)) result }
 {

@@ -6,14 +6,13 @@ ghost use Rattle.vs_syntax.specs.Derivation.{Tree};
 ghost use Rattle.vs_syntax.specs.Derives.{Derives};
 ghost use Rattle.vs_syntax.specs.Views.{source_tree};
 ghost use Rattle.vs_parser.specs.declared.fault.ParseFault.TheVariants.{Memory};
-ghost use Rattle.vs_parser.specs.Answers.{seen};
+ghost use Rattle.vs_expressions.specs.Answers.{seen};
 ghost use Rattle.vs_parser.specs.Faults.{IsRefused, IsTreeOf, Halts, StopsAt};
 
 use crate::fault::{ParseFault, left_out};
 use crate::item::source;
-use crate::reading::Stop;
-use crate::token::next;
 use std::alloc::Global;
+use vs_expressions::{Stop, next};
 use vs_lexer::Token;
 use vs_syntax::Source;
 

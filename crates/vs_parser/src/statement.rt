@@ -1,20 +1,19 @@
 //! Reading statements.
-ghost use Rattle.std.specs.Prelude.{◌≡◌, ◌≤◌, ◌∷◌, map};
+ghost use Rattle.std.specs.Prelude.{◌≡◌, ◌≤◌, ◌∷◌, true, map};
 ghost use Rattle.vs_tokens.specs.declared.token.Word.TheVariants as w;
-ghost use Rattle.vs_syntax.specs.Symbols.{a_word, a_number, any_name, first};
-ghost use Rattle.vs_syntax.specs.Grammar.{◌·◌, part, many, word, number, a_stmt};
+ghost use Rattle.vs_syntax.specs.Symbols.{a_word, a_number};
+ghost use Rattle.vs_syntax.specs.Grammar.{◌·◌, part, many, word, number, a_stmt, a_target};
+ghost use Rattle.vs_syntax.specs.Tables.{goes};
 ghost use Rattle.vs_syntax.specs.Derivation.{leaf, both};
 ghost use Rattle.vs_syntax.specs.Views.{row_of, assigned_tree, stmt_tree};
-ghost use Rattle.vs_parser.specs.Answers.{seen, Reads};
+ghost use Rattle.vs_expressions.specs.Answers.{seen, Reads};
 ghost use Rattle.vs_parser.specs.Heads.{BeginsStatement, sign_of};
 
-use crate::expression::expr;
 use crate::head::{StatementHead, Timing, expect_timing, least_statement, statement_head};
-use crate::reading::{Read, Stop};
-use crate::token::{expect_mark, expect_name, expect_word, literal, next};
 use std::alloc::Global;
+use vs_expressions::{Read, Stop, expect_mark, expect_word, expr, left, literal, next};
 use vs_lexer::{Literal, Mark, Token, Word};
-use vs_syntax::{Expr, Stmt};
+use vs_syntax::{Expr, Left, Stmt};
 
 /// Reads a statement, in at most `room` nodes below one another.
 #[cycle(stmt)]
@@ -50,7 +49,8 @@ fn headed<'t, 's>(
             tree: Stmt::Null,
             rest,
         }),
-        StatementHead::Target => assignment(alloc, room, tokens),
+        StatementHead::Name => assignment(alloc, room, tokens),
+        StatementHead::Brace => assignment(alloc, room, tokens),
         StatementHead::Block(after) => {
             let inner = block(alloc, room - 1, after)?;
             Ok(Read {
@@ -68,29 +68,29 @@ fn headed<'t, 's>(
     }
 }
 
-/// Reads an assignment, which begins with the name of its target. The target is a node.
+/// Reads an assignment, which begins with its left side.
 fn assignment<'t, 's>(
     alloc: Global,
     room: u32,
     tokens: &'t [Token<'s>],
 ) -> Result<Read<'t, 's, Stmt>, Stop<'t, 's>>
     requires room { 2 ≤ room }
-    requires first { first (seen tokens.now) ≡ any_name }
+    requires first { goes (part a_target) (seen tokens.now) ≡ true }
     ensures { Reads (part a_stmt) room tokens.now stmt_tree result }
 {
-    let (target, after_target) = expect_name(alloc, tokens)?;
-    let (timing, after_sign) = expect_timing(after_target)?;
+    let target = left(alloc, room - 1, tokens)?;
+    let (timing, after_sign) = expect_timing(target.rest)?;
     let value = expr(alloc, room - 1, after_sign)?;
     let rest = expect_mark(value.rest, Mark::Semicolon)?;
     Ok(Read {
-        tree: assigned(timing, target, value.tree),
+        tree: assigned(timing, target.tree, value.tree),
         rest,
     })
 }
 
 /// The assignment of a value to a target.
-fn assigned(timing: Timing, target: Vec<u8>, value: Expr) -> Stmt
-    ensures { stmt_tree result ≡ assigned_tree target.items (sign_of timing) value }
+fn assigned(timing: Timing, target: Left, value: Expr) -> Stmt
+    ensures { stmt_tree result ≡ assigned_tree target (sign_of timing) value }
 {
     match timing {
         Timing::Blocking => Stmt::Assign(target, value),

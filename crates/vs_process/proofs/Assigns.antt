@@ -1,28 +1,38 @@
 -- Continuous assignments: each has to be evaluated, or waits to be written, or agrees with what it reads.
-use Rattle.std.proofs.Common.{◌≡◌, ℕ, zero, suc, ◌==◌, ◌⊎◌, true, false, Option, Some, None, option_map, List, [], ◌∷◌, map, slice_get, slice_set, ◌||◌, not, refl, sym, ◌∙◌, ap, ap₂, subst, inl, inr, pos, ne_eqb, eq-eqb, eqb-true, if◌then◌else◌}
+use Rattle.std.proofs.Common.{◌≡◌, ℕ, zero, suc, ◌<◌, ◌==◌, ◌⊎◌, Bool, true, false, Option, Some, None, option_map, List, [], ◌∷◌, map, slice_get, slice_set, not, refl, sym, ◌∙◌, ap, ap₂, subst, inl, inr, eqb-true, if◌then◌else◌}
 use Rattle.std.specs.List.{list_any}
-use Rattle.std.proofs.lemmas.Bool.{cases_Bool, or_from, or_parts, or_cases, or_left, or_right, not-true, true≢false, false≢true}
+use Rattle.std.proofs.lemmas.Bool.{cases_Bool, or_left, or_right, not-true, true≢false}
 use Rattle.vs_logic4.specs.declared.digit.Digit.{Digit}
 use Rattle.vs_design.specs.declared.design.Assign.{Assign}
 use Rattle.vs_design.specs.declared.expression.Typed.{Typed}
 use Rattle.vs_design.specs.declared.statement.Target.{Target}
-use Rattle.vs_design.specs.Parts.{Parts}
-use Rattle.vs_design.specs.Stores.{Store, put, changed_at, overlaid, is_driven, start_store, words_in, chosen_bits, is_changed, all_words, changes_nothing}
-use Rattle.vs_design.specs.Writes.{Write, names}
-use Rattle.vs_design.specs.Uses.{reads, writes_signal}
 use Rattle.vs_design.specs.declared.write.Part.{Part}
+use Rattle.vs_design.specs.Parts.{Parts}
+use Rattle.vs_design.specs.Stores.{Store, put, is_driven, start_store, words_in, chosen_bits, is_changed, changes_nothing}
+use Rattle.vs_design.specs.Uses.{all_words, covers, reads, writes, writes_signal}
+use Rattle.vs_design.specs.WellFormed.{width_at}
+use Rattle.vs_design.specs.Writes.{Write, names}
+use Rattle.vs_eval.specs.Laws.{digit_of}
 use Rattle.vs_eval.specs.Targets.{assigned}
 use Rattle.vs_eval.specs.Values.{target_value}
 use Rattle.vs_process.specs.States.{State, AssignState, start_assign, touched, evaluated, settled, written_behind}
 use Rattle.vs_process.specs.Steps.{assignment}
 use Rattle.vs_process.specs.Idle.{IsIdle}
-use Rattle.vs_process.proofs.Stores.{changed_same, put_local, put_other, put_part_again, shape, shape-put}
-use Rattle.vs_process.proofs.Lists.{at_any, map_at, map_cases, set_cases}
-use Rattle.vs_process.proofs.Values.{not_changed, target_value_reads, target_value_unchanged, unchanged}
+use Rattle.vs_process.proofs.Digits.{Keeps, kept_digit, put_again, put_swapped, unnamed_keeps}
+use Rattle.vs_process.proofs.Lists.{any_at, at_any, map_at, map_cases, none_at, none_from, same_gets, set_cases}
+use Rattle.vs_process.proofs.Ranges.{IsFixed, assigned_fixed, assigned_names, fixed_write, present, same_sizes, uncovered_keeps}
+use Rattle.vs_process.proofs.Stores.{put_other, shape, shape-put}
+use Rattle.vs_process.proofs.Values.{not_changed, target_value_unchanged, unchanged}
 
--- no two continuous assignments drive one signal
-abbrev pub OneDriver : Parts → Type 0
-OneDriver d = (j k : ℕ) (a c : Assign) → slice_get d.assigns j ≡ Some a → slice_get d.assigns k ≡ Some c → a.target.signal ≡ c.target.signal → j ≡ k
+-- the places that continuous assignments drive are constant, and no two of them drive one bit of a net
+pub record DrivesApart (d : Parts) : Type 0 where
+  pub fixed : (j : ℕ) (a : Assign) → slice_get d.assigns j ≡ Some a → IsFixed a.target
+  pub apart : (i j : ℕ) (a c : Assign) (v w k : ℕ) → slice_get d.assigns i ≡ Some a → slice_get d.assigns j ≡ Some c → (i ≡ j → ⊥) → k < width_at (slice_get d.signals v) →
+      list_any (covers v w k) (writes a.target) ≡ true → list_any (covers v w k) (writes c.target) ≡ true → ⊥
+
+-- whether a continuous assignment drives this bit of a word of a signal
+abbrev pub drives : List Assign → ℕ → ℕ → ℕ → Bool
+drives assigns v w k = list_any (λ (a : Assign). list_any (covers v w k) (writes a.target)) assigns
 
 -- what is assigned where; no move changes it
 abbrev pub links : List AssignState → List (Target × Typed)
@@ -32,9 +42,13 @@ links xs = map (λ (x : AssignState). (x.target, x.source)) xs
 abbrev pub wanted : Store → AssignState → List Digit
 wanted store x = target_value x.target x.source store 0
 
--- the write of that value would leave the target
+-- the write of some digits would change nothing
+abbrev pub Leaves : Store → Target → List Digit → Type 0
+Leaves store t digits = put store (fixed_write t digits) ≡ store
+
+-- the write of that value would change nothing
 abbrev pub LeavesTarget : Store → AssignState → Type 0
-LeavesTarget store x = slice_get (put store (assigned x.target (wanted store x) store)) x.target.signal ≡ slice_get store x.target.signal
+LeavesTarget store x = Leaves store x.target (wanted store x)
 
 abbrev pub Fed : Store → AssignState → Type 0
 Fed store x = ((x.pending ≡ None) × LeavesTarget store x) ⊎ (x.pending ≡ Some (wanted store x))
@@ -42,66 +56,73 @@ Fed store x = ((x.pending ≡ None) × LeavesTarget store x) ⊎ (x.pending ≡ 
 abbrev pub Consistent : Store → AssignState → Type 0
 Consistent store x = (x.needs ≡ true) ⊎ Fed store x
 
-fed_touched : (old new : Store) (x : AssignState) → list_any (is_changed old new) (reads x.source) ≡ false → slice_get new x.target.signal ≡ slice_get old x.target.signal → Fed old x → Fed new x
-fed_touched old new x none same (inl idle) =
-    let value : wanted old x ≡ wanted new x = target_value_unchanged old new 0 0 x.target x.source none in
-    inl (
-      idle.0,
-      ap (λ ds. slice_get (put new (assigned x.target ds new)) x.target.signal) (sym value)
-          ∙ put_local new old (assigned x.target (wanted old x) old) x.target.signal same
-          ∙ idle.1
-          ∙ sym same,
-    )
-fed_touched old new x none same (inr waits) = inr (waits ∙ ap (λ t. Some t) (target_value_unchanged old new 0 0 x.target x.source none))
+-- what left a store leaves another one
+abbrev pub LeftToo : Store → Store → Target → Type 0
+LeftToo old new t = (digits : List Digit) → Leaves old t digits → Leaves new t digits
+
+fed_touched : (old new : Store) (x : AssignState) → list_any (is_changed old new) (reads x.source) ≡ false → LeftToo old new x.target → Fed old x → Fed new x
+fed_touched old new x none stays (inl idle) = inl (idle.0, subst (Leaves new x.target) (target_value_unchanged old new 0 0 x.target x.source none) (stays (wanted old x) idle.1))
+fed_touched old new x none stays (inr waits) = inr (waits ∙ ap (λ t. Some t) (target_value_unchanged old new 0 0 x.target x.source none))
 
 -- an assignment whose own target stays is consistent behind a change of the store
-pub consistent_touched : (old new : Store) (x : AssignState) → slice_get new x.target.signal ≡ slice_get old x.target.signal → Consistent old x → Consistent new (touched old new x)
-consistent_touched old new x same (inl needs) = inl (or_left x.needs (list_any (is_changed old new) (reads x.source)) needs)
-consistent_touched old new x same (inr fed) =
+pub consistent_touched : (old new : Store) (x : AssignState) → LeftToo old new x.target → Consistent old x → Consistent new (touched old new x)
+consistent_touched old new x stays (inl needs) = inl (or_left x.needs (list_any (is_changed old new) (reads x.source)) needs)
+consistent_touched old new x stays (inr fed) =
     elim (cases_Bool (list_any (is_changed old new) (reads x.source))) [
       | inl hit ↦ inl (or_right x.needs (list_any (is_changed old new) (reads x.source)) hit)
-      | inr miss ↦ inr (fed_touched old new x miss same fed)
+      | inr miss ↦ inr (fed_touched old new x miss stays fed)
     ]
 
-words_kept : (f : List (List Digit) → List (List Digit)) (o : Option (List (List Digit))) → words_in o ≡ words_in (option_map f o) → option_map f o ≡ o
-words_kept f None h = refl
-words_kept f (Some words) h = ap (λ l. Some l) (sym h)
+-- ---- writes that change nothing
 
 all_content : (words : List (List Digit)) → map (chosen_bits None) words ≡ words
 all_content [] = refl
 all_content (w ∷ words) = ap (λ l. w ∷ l) (all_content words)
 
--- a write of one part that would change nothing leaves the signal
-pub nothing_changed : (store : Store) (p : Part) → changes_nothing store (p ∷ []) ≡ true → slice_get (put store (p ∷ [])) p.signal ≡ slice_get store p.signal
-nothing_changed store p h =
-    let f : List (List Digit) → List (List Digit) = changed_at (overlaid p.low p.digits) p.word in
-    let new : Store = put store (p ∷ []) in
-    let none : (is_changed store new (all_words p.signal) || false) ≡ false = not-true (is_changed store new (all_words p.signal) || false) h in
-    let same = unchanged store new (all_words p.signal) (or_parts (is_changed store new (all_words p.signal)) false none).0 in
-    let words : words_in (slice_get store p.signal) ≡ words_in (slice_get new p.signal) =
-    sym (all_content (words_in (slice_get store p.signal))) ∙ same ∙ all_content (words_in (slice_get new p.signal)) in
-    changed_same f p.signal store ∙ words_kept f (slice_get store p.signal) (words ∙ ap words_in (changed_same f p.signal store))
+same_slot : {N : Type 0} (f : List (List Digit) → N) (a b : Option (List (List Digit))) → option_map f a ≡ option_map f b → words_in a ≡ words_in b → a ≡ b
+same_slot f None None h same = refl
+same_slot f None (Some y) h same = cc
+same_slot f (Some x) None h same = cc
+same_slot f (Some x) (Some y) h same = ap (λ l. Some l) same
+
+-- a write that would change nothing leaves the store
+pub nothing_changed : (store : Store) (w : Write) → changes_nothing store w ≡ true → put store w ≡ store
+nothing_changed store w h = same_gets (put store w) store (λ v.
+    elim (cases_Bool (names w v)) [
+      | inl hit ↦ named v (any_at (λ (p : Part). p.signal == v) w hit)
+      | inr miss ↦ put_other store w v miss
+    ])
+  where
+    none : list_any (λ (p : Part). is_changed store (put store w) (all_words p.signal)) w ≡ false
+    none = not-true (list_any (λ (p : Part). is_changed store (put store w) (all_words p.signal)) w) h
+
+    at_signal : (v : ℕ) → is_changed store (put store w) (all_words v) ≡ false → slice_get (put store w) v ≡ slice_get store v
+    at_signal v same =
+        sym (same_slot _ (slice_get store v) (slice_get (put store w) v) (sym (same_sizes (put store w) store v (shape-put store w)))
+        (sym (all_content (words_in (slice_get store v))) ∙ unchanged store (put store w) (all_words v) same ∙ all_content (words_in (slice_get (put store w) v))))
+
+    named : (v : ℕ) → ((i : ℕ) × (p : Part) × (slice_get w i ≡ Some p) × ((p.signal == v) ≡ true)) → slice_get (put store w) v ≡ slice_get store v
+    named v (i, p, is, at_v) = at_signal v (subst (λ n. is_changed store (put store w) (all_words n) ≡ false) (eqb-true p.signal v at_v) (none_at (λ (p : Part). is_changed store (put store w) (all_words p.signal)) w i p is none))
+
+-- and one that leaves it changes nothing
+pub left_unchanged : (store : Store) (w : Write) → put store w ≡ store → changes_nothing store w ≡ true
+left_unchanged store w same =
+    ap not (none_from (λ (p : Part). is_changed store (put store w) (all_words p.signal)) w (λ i p is. not_changed store (put store w) (all_words p.signal) (ap (λ (s : Store). slice_get s p.signal) same)))
 
 -- an evaluated assignment is consistent
-pub consistent_evaluated : (store : Store) (time : ℕ) (x : AssignState) → Consistent store (evaluated store time x)
-consistent_evaluated store time x =
+pub consistent_evaluated : (store : Store) (time : ℕ) (x : AssignState) → IsFixed x.target → Consistent store (evaluated store time x)
+consistent_evaluated store time x fixed =
     let digits = target_value x.target x.source store time in
-    let value : digits ≡ wanted store x = target_value_reads store store time 0 x.target x.source (λ v r. refl) in
-    elim (cases_Bool (changes_nothing store (assigned x.target digits store))) [
+    let value : digits ≡ wanted store x = refl in
+    elim (cases_Bool (changes_nothing store (assigned x.target digits store time))) [
       | inl hit ↦ inr (inl (
         ap (λ b. if b then None else Some digits) hit,
-        ap (λ ds. slice_get (put store (assigned x.target ds store)) x.target.signal) (sym value)
-            ∙ nothing_changed store (record { signal = x.target.signal; word = 0; low = pos 0; digits = digits }) hit,
+        subst (Leaves store x.target) value (ap (put store) (sym (assigned_fixed x.target digits store time fixed)) ∙ nothing_changed store (assigned x.target digits store time) hit),
       ))
       | inr miss ↦ inr (inr (ap (λ b. if b then None else Some digits) miss ∙ ap (λ ds. Some ds) value))
     ]
 
--- the signal that an assignment to a target writes
-pub target_is : (t : Target) (v : ℕ) → writes_signal t v ≡ true → t.signal ≡ v
-target_is t v h = elim (or_cases (t.signal == v) false h) [
-  | inl hit ↦ eqb-true t.signal v hit
-  | inr none ↦ absurd (false≢true none)
-]
+-- ---- the assignments of a state
 
 -- an assignment of a state and what it is in the design
 pub link_of : (assigns : List Assign) (xs : List AssignState) (j : ℕ) (x : AssignState) → links xs ≡ links (map start_assign assigns) → slice_get xs j ≡ Some x →
@@ -112,14 +133,15 @@ link_of assigns xs j x same is =
     let a = map_cases start_assign assigns j y.0 y.1 in
     (a.0, a.1, ap (λ (z : AssignState). z.target) a.2 ∙ ap (λ p. p.0) y.2, ap (λ (z : AssignState). z.source) a.2 ∙ ap (λ p. p.1) y.2)
 
-pub driven : (assigns : List Assign) (j : ℕ) (a : Assign) → slice_get assigns j ≡ Some a → is_driven assigns a.target.signal ≡ true
-driven assigns j a is = at_any (λ (c : Assign). writes_signal c.target a.target.signal) assigns j a is (or_left (a.target.signal == a.target.signal) false (eq-eqb a.target.signal a.target.signal refl))
+pub driven : (assigns : List Assign) (j : ℕ) (a : Assign) (v : ℕ) → slice_get assigns j ≡ Some a → writes_signal a.target v ≡ true → is_driven assigns v ≡ true
+driven assigns j a v is h = at_any (λ (c : Assign). writes_signal c.target v) assigns j a is h
 
 -- the continuous assignments of a state, and its store
 pub record AssignsSound (d : Parts) (store : Store) (assigns : List AssignState) : Type 0 where
   pub linked : links assigns ≡ links (map start_assign d.assigns)
   pub consistent : (j : ℕ) (x : AssignState) → slice_get assigns j ≡ Some x → Consistent store x
   pub shaped : shape store ≡ shape (start_store d)
+  pub bare : (v w k : ℕ) → is_driven d.assigns v ≡ true → drives d.assigns v w k ≡ false → digit_of store v w k ≡ digit_of (start_store d) v w k
 
 pub links_touched : (old new : Store) (xs : List AssignState) → links (map (touched old new) xs) ≡ links xs
 links_touched old new [] = refl
@@ -138,11 +160,40 @@ links_set (z ∷ xs) zero x y is t s =
     ap (λ p. p ∷ links xs) (same_link y x t s ∙ ap link_at (sym e))
 links_set (z ∷ xs) (suc j) x y is t s = ap (λ l. (z.target, z.source) ∷ l) (links_set xs j x y is t s)
 
--- a continuous assignment's target is driven
-pub assign_driven : (d : Parts) (store : Store) (assigns : List AssignState) → AssignsSound d store assigns → (j : ℕ) (x : AssignState) → slice_get assigns j ≡ Some x → is_driven d.assigns x.target.signal ≡ true
-assign_driven d store assigns sound j x is =
+-- what a continuous assignment of a state names is driven
+pub assign_driven : (d : Parts) (store : Store) (assigns : List AssignState) → AssignsSound d store assigns → (j : ℕ) (x : AssignState) (v : ℕ) → slice_get assigns j ≡ Some x → writes_signal x.target v ≡ true → is_driven d.assigns v ≡ true
+assign_driven d store assigns sound j x v is h =
     let a = link_of d.assigns assigns j x sound.linked is in
-    ap (λ (t : Target). is_driven d.assigns t.signal) (sym a.2) ∙ driven d.assigns j a.0 a.1
+    driven d.assigns j a.0 v a.1 (ap (λ (t : Target). writes_signal t v) a.2 ∙ h)
+
+-- its places are constant
+pub assign_fixed : (d : Parts) → DrivesApart d → (store : Store) (assigns : List AssignState) → AssignsSound d store assigns → (j : ℕ) (x : AssignState) → slice_get assigns j ≡ Some x → IsFixed x.target
+assign_fixed d well store assigns sound j x is =
+    let a = link_of d.assigns assigns j x sound.linked is in
+    subst IsFixed a.2 (well.fixed j a.0 a.1)
+
+-- two of them have no bit in common
+pub apart_targets : (d : Parts) → DrivesApart d → (store : Store) (assigns : List AssignState) → AssignsSound d store assigns → (j k : ℕ) (x z : AssignState) →
+    slice_get assigns j ≡ Some x → slice_get assigns k ≡ Some z → (j ≡ k → ⊥) → (v w n : ℕ) (y : Digit) → digit_of store v w n ≡ Some y →
+    list_any (covers v w n) (writes x.target) ≡ true → list_any (covers v w n) (writes z.target) ≡ true → ⊥
+apart_targets d well store assigns sound j k x z at_j at_k ne v w n y there hx hz =
+    let a = link_of d.assigns assigns j x sound.linked at_j in
+    let c = link_of d.assigns assigns k z sound.linked at_k in
+    well.apart j k a.0 c.0 v w n a.1 c.1 ne (present d store sound.shaped v w n y there)
+    (ap (λ (t : Target). list_any (covers v w n) (writes t)) a.2 ∙ hx) (ap (λ (t : Target). list_any (covers v w n) (writes t)) c.2 ∙ hz)
+
+-- one of two assignments keeps each digit of the store
+pub either_keeps : (d : Parts) → DrivesApart d → (store : Store) (assigns : List AssignState) → AssignsSound d store assigns → (j k : ℕ) (x z : AssignState) →
+    slice_get assigns j ≡ Some x → slice_get assigns k ≡ Some z → (j ≡ k → ⊥) → (ds es : List Digit) (v w n : ℕ) (y : Digit) → digit_of store v w n ≡ Some y →
+    Keeps (fixed_write x.target ds) v w n ⊎ Keeps (fixed_write z.target es) v w n
+either_keeps d well store assigns sound j k x z at_j at_k ne ds es v w n y there =
+    elim (cases_Bool (list_any (covers v w n) (writes x.target))) [
+      | inl hx ↦ elim (cases_Bool (list_any (covers v w n) (writes z.target))) [
+        | inl hz ↦ absurd (apart_targets d well store assigns sound j k x z at_j at_k ne v w n y there hx hz)
+        | inr mz ↦ inr (uncovered_keeps z.target es v w n (assign_fixed d well store assigns sound k z at_k) mz)
+      ]
+      | inr mx ↦ inl (uncovered_keeps x.target ds v w n (assign_fixed d well store assigns sound j x at_j) mx)
+    ]
 
 -- what names undriven signals alone
 abbrev pub IsUndriven : Parts → Write → Type 0
@@ -156,88 +207,111 @@ misses d w u v h =
       | inr miss ↦ miss
     ]
 
+-- what leaves the store before leaves the store behind such a write
+left_written : (d : Parts) (store : Store) (assigns : List AssignState) (w : Write) → IsUndriven d w → AssignsSound d store assigns → (j : ℕ) (x : AssignState) → slice_get assigns j ≡ Some x → LeftToo store (put store w) x.target
+left_written d store assigns w u sound j x is digits left =
+    put_swapped store w (fixed_write x.target digits) (λ v n k y there.
+    elim (cases_Bool (names w v)) [
+      | inl hit ↦ inr (unnamed_keeps (fixed_write x.target digits) v n k (unnamed v (u v hit)))
+      | inr miss ↦ inl (unnamed_keeps w v n k miss)
+    ])
+    ∙ ap (λ (s : Store). put s w) left
+  where
+    unnamed : (v : ℕ) → is_driven d.assigns v ≡ false → names (fixed_write x.target digits) v ≡ false
+    unnamed v undriven =
+        elim (cases_Bool (writes_signal x.target v)) [
+          | inl hit ↦ absurd (true≢false (sym (assign_driven d store assigns sound j x v is hit) ∙ undriven))
+          | inr miss ↦ assigned_names x.target digits [] 0 v ∙ miss
+        ]
+
 pub sound_written : (d : Parts) (store : Store) (assigns : List AssignState) (w : Write) → IsUndriven d w → AssignsSound d store assigns →
     AssignsSound d (put store w) (map (touched store (put store w)) assigns)
 sound_written d store assigns w u sound = record {
   linked = links_touched store (put store w) assigns ∙ sound.linked;
   consistent = λ j y is. consistent_at j y (map_cases (touched store (put store w)) assigns j y is);
   shaped = shape-put store w ∙ sound.shaped;
+  bare = λ v n k driven undriven. kept_digit store w v n k (unnamed_keeps w v n k (misses d w u v driven)) ∙ sound.bare v n k driven undriven;
 }
   where
     consistent_at : (j : ℕ) (y : AssignState) → ((x : AssignState) × (slice_get assigns j ≡ Some x) × (touched store (put store w) x ≡ y)) → Consistent (put store w) y
     consistent_at j y (x, at_j, is) =
         subst (λ z. Consistent (put store w) z) is
-        (consistent_touched store (put store w) x (put_other store w x.target.signal (misses d w u x.target.signal (assign_driven d store assigns sound j x at_j))) (sound.consistent j x at_j))
+        (consistent_touched store (put store w) x (left_written d store assigns w u sound j x at_j) (sound.consistent j x at_j))
 
 pub sound_behind : (d : Parts) (s : State) (o : Option Write) → ((w : Write) → o ≡ Some w → IsUndriven d w) → AssignsSound d s.store s.assigns →
     AssignsSound d (written_behind s o).store (written_behind s o).assigns
 sound_behind d s None u sound = sound
 sound_behind d s (Some w) u sound = sound_written d s.store s.assigns w (u w refl) sound
 
-pub sound_evaluated : (d : Parts) (store : Store) (time : ℕ) (assigns : List AssignState) (j : ℕ) (x : AssignState) → slice_get assigns j ≡ Some x → AssignsSound d store assigns →
+pub sound_evaluated : (d : Parts) → DrivesApart d → (store : Store) (time : ℕ) (assigns : List AssignState) (j : ℕ) (x : AssignState) → slice_get assigns j ≡ Some x → AssignsSound d store assigns →
     AssignsSound d store (slice_set assigns j (evaluated store time x))
-sound_evaluated d store time assigns j x is sound = record {
+sound_evaluated d well store time assigns j x is sound = record {
   linked = links_set assigns j x (evaluated store time x) is refl refl ∙ sound.linked;
   consistent = λ k y at_k. elim (set_cases assigns j k x (evaluated store time x) y is at_k) [
-    | inl same ↦ subst (λ z. Consistent store z) (sym same.1) (consistent_evaluated store time x)
+    | inl same ↦ subst (λ z. Consistent store z) (sym same.1) (consistent_evaluated store time x (assign_fixed d well store assigns sound j x is))
     | inr other ↦ sound.consistent k y other.1
   ];
   shaped = sound.shaped;
+  bare = sound.bare;
 }
 
--- the update of an assignment changes its target alone
-pub assigned_other : (store : Store) (t : Target) (digits : List Digit) (v : ℕ) → (v ≡ t.signal → ⊥) → slice_get (put store (assigned t digits store)) v ≡ slice_get store v
-assigned_other store t digits v ne = put_other store (assigned t digits store) v (or_from (t.signal == v) false (ne_eqb t.signal v (λ e. ne (sym e))) refl)
+-- the update of an assignment changes what its target names alone
+pub assigned_other : (store : Store) (t : Target) (digits : List Digit) (before : Store) (time v : ℕ) → writes_signal t v ≡ false → slice_get (put store (assigned t digits before time)) v ≡ slice_get store v
+assigned_other store t digits before time v miss = put_other store (assigned t digits before time) v (assigned_names t digits before time v ∙ miss)
 
 propagated_own : (store : Store) (x : AssignState) (digits : List Digit) → x.pending ≡ Some digits → Consistent store x →
-    Consistent (put store (assigned x.target digits store)) (touched store (put store (assigned x.target digits store)) (settled x))
-propagated_own store x digits waits (inl needs) = inl (or_left x.needs (list_any (is_changed store (put store (assigned x.target digits store))) (reads x.source)) needs)
+    Consistent (put store (fixed_write x.target digits)) (touched store (put store (fixed_write x.target digits)) (settled x))
+propagated_own store x digits waits (inl needs) = inl (or_left x.needs (list_any (is_changed store (put store (fixed_write x.target digits))) (reads x.source)) needs)
 propagated_own store x digits waits (inr (inl idle)) = let e : None ≡ Some digits = sym idle.0 ∙ waits in cc
 propagated_own store x digits waits (inr (inr value)) =
     let f : Some digits ≡ Some (wanted store x) = sym waits ∙ value in
     let e : digits ≡ wanted store x = cc in
-    subst (λ ds. Consistent (put store (assigned x.target ds store)) (touched store (put store (assigned x.target ds store)) (settled x))) (sym e) at_value
+    subst (λ ds. Consistent (put store (fixed_write x.target ds)) (touched store (put store (fixed_write x.target ds)) (settled x))) (sym e) at_value
   where
-    at_value : Consistent (put store (assigned x.target (wanted store x) store)) (touched store (put store (assigned x.target (wanted store x) store)) (settled x))
+    at_value : Consistent (put store (fixed_write x.target (wanted store x))) (touched store (put store (fixed_write x.target (wanted store x))) (settled x))
     at_value =
-        let new : Store = put store (assigned x.target (wanted store x) store) in
+        let new : Store = put store (fixed_write x.target (wanted store x)) in
         elim (cases_Bool (list_any (is_changed store new) (reads x.source))) [
           | inl hit ↦ inl (or_right x.needs (list_any (is_changed store new) (reads x.source)) hit)
-          | inr miss ↦ inr (inl (
-            refl,
-            ap (λ ds. slice_get (put new (assigned x.target ds new)) x.target.signal) (sym (target_value_unchanged store new 0 0 x.target x.source miss))
-                ∙ ap (λ (s : Store). slice_get s x.target.signal) (put_part_again store (record { signal = x.target.signal; word = 0; low = pos 0; digits = wanted store x })),
-          ))
+          | inr miss ↦ inr (inl (refl, subst (Leaves new x.target) (target_value_unchanged store new 0 0 x.target x.source miss) (put_again store (fixed_write x.target (wanted store x)))))
         ]
 
--- two assigns of one state have different targets
-pub apart_targets : (d : Parts) → OneDriver d → (assigns : List AssignState) → links assigns ≡ links (map start_assign d.assigns) → (j k : ℕ) (x z : AssignState) →
-    slice_get assigns j ≡ Some x → slice_get assigns k ≡ Some z → z.target.signal ≡ x.target.signal → k ≡ j
-apart_targets d one assigns linked j k x z at_j at_k same =
-    let a = link_of d.assigns assigns j x linked at_j in
-    let c = link_of d.assigns assigns k z linked at_k in
-    one k j c.0 a.0 c.1 a.1 (ap (λ (t : Target). t.signal) c.2 ∙ same ∙ ap (λ (t : Target). t.signal) (sym a.2))
-
-pub sound_propagated : (d : Parts) → OneDriver d → (store : Store) (assigns : List AssignState) (j : ℕ) (x : AssignState) (digits : List Digit) → slice_get assigns j ≡ Some x → x.pending ≡ Some digits →
-    AssignsSound d store assigns →
-    AssignsSound d (put store (assigned x.target digits store)) (map (touched store (put store (assigned x.target digits store))) (slice_set assigns j (settled x)))
-sound_propagated d one store assigns j x digits is waits sound = record {
-  linked = links_touched store (put store (assigned x.target digits store)) (slice_set assigns j (settled x)) ∙ links_set assigns j x (settled x) is refl refl ∙ sound.linked;
+sound_fixed : (d : Parts) → DrivesApart d → (store : Store) (assigns : List AssignState) (j : ℕ) (x : AssignState) (digits : List Digit) → slice_get assigns j ≡ Some x → x.pending ≡ Some digits → AssignsSound d store assigns →
+    AssignsSound d (put store (fixed_write x.target digits)) (map (touched store (put store (fixed_write x.target digits))) (slice_set assigns j (settled x)))
+sound_fixed d well store assigns j x digits is waits sound = record {
+  linked = links_touched store new (slice_set assigns j (settled x)) ∙ links_set assigns j x (settled x) is refl refl ∙ sound.linked;
   consistent = λ k y at_k.
-      let z = map_cases (touched store (put store (assigned x.target digits store))) (slice_set assigns j (settled x)) k y at_k in
-      subst (λ z. Consistent (put store (assigned x.target digits store)) z) z.2 (consistent_at k z.0 (set_cases assigns j k x (settled x) z.0 is z.1));
-  shaped = shape-put store (assigned x.target digits store) ∙ sound.shaped;
+      let z = map_cases (touched store new) (slice_set assigns j (settled x)) k y at_k in
+      subst (λ z. Consistent new z) z.2 (consistent_at k z.0 (set_cases assigns j k x (settled x) z.0 is z.1));
+  shaped = shape-put store (fixed_write x.target digits) ∙ sound.shaped;
+  bare = λ v w n driven undriven.
+      kept_digit store (fixed_write x.target digits) v w n (uncovered_keeps x.target digits v w n (assign_fixed d well store assigns sound j x is) (uncovered v w n undriven))
+      ∙ sound.bare v w n driven undriven;
 }
   where
-    consistent_at : (k : ℕ) (z : AssignState) → (((k ≡ j) × (z ≡ settled x)) ⊎ ((k ≡ j → ⊥) × (slice_get assigns k ≡ Some z))) →
-        Consistent (put store (assigned x.target digits store)) (touched store (put store (assigned x.target digits store)) z)
-    consistent_at k z (inl own) =
-        subst (λ z. Consistent (put store (assigned x.target digits store)) (touched store (put store (assigned x.target digits store)) z)) (sym own.1)
-        (propagated_own store x digits waits (sound.consistent j x is))
+    new : Store
+    new = put store (fixed_write x.target digits)
+
+    uncovered : (v w n : ℕ) → drives d.assigns v w n ≡ false → list_any (covers v w n) (writes x.target) ≡ false
+    uncovered v w n none =
+        let a = link_of d.assigns assigns j x sound.linked is in
+        ap (λ (t : Target). list_any (covers v w n) (writes t)) (sym a.2) ∙ none_at (λ (a : Assign). list_any (covers v w n) (writes a.target)) d.assigns j a.0 a.1 none
+
+    consistent_at : (k : ℕ) (z : AssignState) → (((k ≡ j) × (z ≡ settled x)) ⊎ ((k ≡ j → ⊥) × (slice_get assigns k ≡ Some z))) → Consistent new (touched store new z)
+    consistent_at k z (inl own) = subst (λ z. Consistent new (touched store new z)) (sym own.1) (propagated_own store x digits waits (sound.consistent j x is))
     consistent_at k z (inr other) =
-        consistent_touched store (put store (assigned x.target digits store)) z
-        (assigned_other store x.target digits z.target.signal (λ e. other.0 (apart_targets d one assigns sound.linked j k x z is other.1 e)))
+        consistent_touched store new z
+        (λ es left.
+        put_swapped store (fixed_write x.target digits) (fixed_write z.target es) (λ v w n y there. either_keeps d well store assigns sound j k x z is other.1 (λ e. other.0 (sym e)) digits es v w n y there)
+        ∙ ap (λ (s : Store). put s (fixed_write x.target digits)) left)
         (sound.consistent k z other.1)
+
+-- behind the update of an assignment
+pub sound_propagated : (d : Parts) → DrivesApart d → (store : Store) (time : ℕ) (assigns : List AssignState) (j : ℕ) (x : AssignState) (digits : List Digit) → slice_get assigns j ≡ Some x → x.pending ≡ Some digits → AssignsSound d store assigns →
+    AssignsSound d (put store (assigned x.target digits store time)) (map (touched store (put store (assigned x.target digits store time))) (slice_set assigns j (settled x)))
+sound_propagated d well store time assigns j x digits is waits sound =
+    subst (λ w. AssignsSound d (put store w) (map (touched store (put store w)) (slice_set assigns j (settled x))))
+    (sym (assigned_fixed x.target digits store time (assign_fixed d well store assigns sound j x is))) (sound_fixed d well store assigns j x digits is waits sound)
 
 -- the continuous assignments at the start of all
 pub sound_start : (d : Parts) → AssignsSound d (start_store d) (map start_assign d.assigns)
@@ -245,6 +319,7 @@ sound_start d = record {
   linked = refl;
   consistent = λ j y is. let a = map_cases start_assign d.assigns j y is in subst (λ z. Consistent (start_store d) z) a.2 (inl refl);
   shaped = refl;
+  bare = λ v w k driven undriven. refl;
 }
 
 -- what an assignment of the design is in a state
@@ -262,16 +337,7 @@ idle_leaves store x idle (inl needs) = absurd (true≢false (sym needs ∙ idle.
 idle_leaves store x idle (inr (inl fed)) = fed.1
 idle_leaves store x idle (inr (inr waits)) = let e : None ≡ Some (wanted store x) = sym idle.1 ∙ waits in cc
 
--- a write of one part that leaves its signal changes nothing
-left_unchanged : (store : Store) (p : Part) → slice_get (put store (p ∷ [])) p.signal ≡ slice_get store p.signal → changes_nothing store (p ∷ []) ≡ true
-left_unchanged store p same =
-    let new : Store = put store (p ∷ []) in
-    ap not (or_from (is_changed store new (all_words p.signal)) false (not_changed store new (all_words p.signal) same) refl)
-
 -- so an evaluation of it at any time would change nothing
-pub idle_value : (store : Store) (time : ℕ) (x : AssignState) → IsIdle x → Consistent store x → changes_nothing store (assignment x.target x.source store time) ≡ true
-idle_value store time x idle consistent =
-    let digits = target_value x.target x.source store time in
-    let value : digits ≡ wanted store x = target_value_reads store store time 0 x.target x.source (λ v r. refl) in
-    left_unchanged store (record { signal = x.target.signal; word = 0; low = pos 0; digits = digits })
-    (ap (λ ds. slice_get (put store (assigned x.target ds store)) x.target.signal) value ∙ idle_leaves store x idle consistent)
+pub idle_value : (store : Store) (time : ℕ) (x : AssignState) → IsFixed x.target → IsIdle x → Consistent store x → changes_nothing store (assignment x.target x.source store time) ≡ true
+idle_value store time x fixed idle consistent =
+    left_unchanged store (assignment x.target x.source store time) (ap (put store) (assigned_fixed x.target (target_value x.target x.source store time) store time fixed) ∙ idle_leaves store x idle consistent)

@@ -17,8 +17,8 @@ use Rattle.vs_process.specs.States.{State, AssignState, Update, todo_of, place_b
 use Rattle.vs_process.specs.Executions.{after, apply, Legal, ends, next_time}
 use Rattle.vs_process.specs.declared.moves.Move.TheVariants.{Step, Evaluate, Propagate, Make, Rouse, Activate, EndSlot}
 use Rattle.vs_process.specs.Idle.{HasValueIfIdle}
-use Rattle.vs_process.proofs.WellFormed.{IsVariable, NamesVariables, any_activated, is_sound_place, is_sound_todo, next_todo, one_driver, sound_made, sound_next, sound_place_behind, sound_places_at, sound_roused, sound_start_places, step_names, variable_undriven}
-use Rattle.vs_process.proofs.Assigns.{AssignsSound, assign_of, idle_value, sound_behind, sound_evaluated, sound_propagated, sound_start, sound_written}
+use Rattle.vs_process.proofs.WellFormed.{IsVariable, NamesVariables, any_activated, is_sound_place, is_sound_todo, next_todo, drives_apart, sound_made, sound_next, sound_place_behind, sound_places_at, sound_roused, sound_start_places, step_names, variable_undriven}
+use Rattle.vs_process.proofs.Assigns.{AssignsSound, assign_fixed, assign_of, idle_value, sound_behind, sound_evaluated, sound_propagated, sound_start, sound_written}
 use Rattle.vs_process.proofs.Times.{behind_places}
 use Rattle.vs_process.proofs.Lists.{all_at, all_set, any_without, at_any, list_all_like}
 
@@ -43,14 +43,14 @@ stepped_sound d formed s i (Some place) is h =
     let todo : is_sound_todo d.signals (todo_of place) ≡ true = all_at (is_sound_place d.signals) s.places i place is h.places in
     performed_sound d formed s i place (step (todo_of place) s.store s.time) (step_names d.signals (todo_of place) s.store s.time todo) (sound_next d.signals (todo_of place) s.store s.time todo) h
 
-evaluate_sound : (d : Parts) (s : State) (j : ℕ) (o : Option AssignState) → slice_get s.assigns j ≡ o → IsSound d s → IsSound d (evaluate s j o)
-evaluate_sound d s j None is h = h
-evaluate_sound d s j (Some x) is h = record { assigns = sound_evaluated d s.store s.time s.assigns j x is h.assigns; places = h.places; updates = h.updates }
+evaluate_sound : (d : Parts) → WellFormed d → (s : State) (j : ℕ) (o : Option AssignState) → slice_get s.assigns j ≡ o → IsSound d s → IsSound d (evaluate s j o)
+evaluate_sound d formed s j None is h = h
+evaluate_sound d formed s j (Some x) is h = record { assigns = sound_evaluated d (drives_apart d formed) s.store s.time s.assigns j x is h.assigns; places = h.places; updates = h.updates }
 
 value_sound : (d : Parts) → WellFormed d → (s : State) (j : ℕ) (x : AssignState) (o : Option (List Digit)) → slice_get s.assigns j ≡ Some x → x.pending ≡ o → IsSound d s → IsSound d (propagate_value s j x o)
 value_sound d formed s j x None is waits h = h
 value_sound d formed s j x (Some digits) is waits h =
-    record { assigns = sound_propagated d (one_driver d formed) s.store s.assigns j x digits is waits h.assigns; places = h.places; updates = h.updates }
+    record { assigns = sound_propagated d (drives_apart d formed) s.store s.time s.assigns j x digits is waits h.assigns; places = h.places; updates = h.updates }
 
 propagate_sound : (d : Parts) → WellFormed d → (s : State) (j : ℕ) (o : Option AssignState) → slice_get s.assigns j ≡ o → IsSound d s → IsSound d (propagate s j o)
 propagate_sound d formed s j None is h = h
@@ -66,7 +66,7 @@ make_sound d formed s i (Some u) is h = record {
 
 applied_sound : (d : Parts) → WellFormed d → (m : Move) (s : State) → IsSound d s → IsSound d (apply m s)
 applied_sound d formed (Step i) s h = stepped_sound d formed s i (slice_get s.places i) refl h
-applied_sound d formed (Evaluate j) s h = evaluate_sound d s j (slice_get s.assigns j) refl h
+applied_sound d formed (Evaluate j) s h = evaluate_sound d formed s j (slice_get s.assigns j) refl h
 applied_sound d formed (Propagate j) s h = propagate_sound d formed s j (slice_get s.assigns j) refl h
 applied_sound d formed (Make i) s h = make_sound d formed s i (slice_get s.updates i) refl h
 applied_sound d formed Rouse s h = record {
@@ -91,5 +91,5 @@ idle_have_values grain d formed moves legal j a is =
       x.0,
       x.1,
       λ idle. subst (λ t. changes_nothing s.store (assignment t a.source s.store s.time) ≡ true) x.2
-          (subst (λ e. changes_nothing s.store (assignment x.0.target e s.store s.time) ≡ true) x.3 (idle_value s.store s.time x.0 idle (sound.consistent j x.0 x.1))),
+          (subst (λ e. changes_nothing s.store (assignment x.0.target e s.store s.time) ≡ true) x.3 (idle_value s.store s.time x.0 (assign_fixed d (drives_apart d formed) s.store s.assigns sound j x.0 x.1) idle (sound.consistent j x.0 x.1))),
     )

@@ -1,11 +1,21 @@
 -- Elements of lists.
-use Rattle.std.proofs.Common.{◌≡◌, ℕ, zero, suc, ◌⊎◌, Bool, true, false, ◌||◌, Some, List, [], ◌∷◌, map, slice_get, slice_set, refl, sym, ◌∙◌, ap, subst, inl, inr}
+use Rattle.std.proofs.Common.{◌≡◌, ℕ, zero, suc, ◌⊎◌, Bool, true, false, ◌||◌, Some, None, List, [], ◌∷◌, map, slice_get, slice_set, refl, sym, ◌∙◌, ap, subst, inl, inr}
 use Rattle.std.specs.List.{list_any, list_all, All, IsDistinct, AllByRecursion}
 use Rattle.std.proofs.lemmas.Map.Keys.{IsDistinct-head, IsDistinct-tail}
 use Rattle.std.proofs.lemmas.List.Elements.{All-get_or}
 use Rattle.std.proofs.lemmas.Option.{slice_get_within, get_or_from_slice_get}
 use Rattle.std.proofs.lemmas.Bool.{cases_eq, cases_Bool, and_parts, and_from, or_left, or_right, or_from, true≢false, false≢true}
 use Rattle.vs_process.specs.States.{without}
+
+-- two lists with the same elements are equal
+pub same_gets : {A : Type 0} (xs ys : List A) → ((i : ℕ) → slice_get xs i ≡ slice_get ys i) → xs ≡ ys
+same_gets [] [] h = refl
+same_gets [] (y ∷ ys) h = let e : None ≡ Some y = h 0 in cc
+same_gets (x ∷ xs) [] h = let e : Some x ≡ None = h 0 in cc
+same_gets (x ∷ xs) (y ∷ ys) h =
+    let first : Some x ≡ Some y = h 0 in
+    let rest = same_gets xs ys (λ i. h (suc i)) in
+    cc
 
 pub set_same : {A : Type 0} (xs : List A) (i : ℕ) (x y : A) → slice_get xs i ≡ Some x → slice_get (slice_set xs i y) i ≡ Some y
 set_same [] i x y h = cc
@@ -81,7 +91,7 @@ none_from p (x ∷ xs) h = or_from (p x) (list_any p xs) (h 0 x refl) (none_from
 pub all_slice : {A : Type 0} (P : A → Type 0) (xs : List A) (i : ℕ) (x : A) → slice_get xs i ≡ Some x → All P xs → P x
 all_slice P xs i x is h = subst P (get_or_from_slice_get xs i x x is) (All-get_or P xs i x (slice_get_within xs i x is) h)
 
-all_of : {A : Type 0} (P : A → Type 0) (xs : List A) (i : ℕ) (x : A) → slice_get xs i ≡ Some x → AllByRecursion P xs → P x
+pub all_of : {A : Type 0} (P : A → Type 0) (xs : List A) (i : ℕ) (x : A) → slice_get xs i ≡ Some x → AllByRecursion P xs → P x
 all_of P [] i x is h = cc
 all_of P (y ∷ xs) zero x is h = let e : y ≡ x = cc in subst P e h.0
 all_of P (y ∷ xs) (suc i) x is h = all_of P xs i x is h.1

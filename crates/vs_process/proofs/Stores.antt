@@ -1,9 +1,8 @@
 -- What a write leaves of a store, and what the store behind it depends on.
-use Rattle.std.proofs.Common.{◌≡◌, ℕ, zero, suc, ◌==◌, false, option_map, List, [], ◌∷◌, map, length, slice_get, refl, sym, ◌∙◌, ap, ap₂, subst, inl, inr, pos, negsuc, ◌+ℤ◌, neg_ℤ, ℤ}
-use Rattle.std.specs.Prelude.{slice_index_or}
+use Rattle.std.proofs.Common.{◌≡◌, ℕ, zero, suc, ◌==◌, false, option_map, List, [], ◌∷◌, map, length, slice_get, refl, sym, ◌∙◌, ap, subst, inl, inr, pos, ◌+ℤ◌, neg_ℤ, ℤ}
 use Rattle.std.proofs.lemmas.Bool.{eqb-false, cases_eq, or_parts}
 use Rattle.vs_logic4.specs.declared.digit.Digit.{Digit}
-use Rattle.vs_logic4.specs.Parts.{digit_at, replaced_from}
+use Rattle.vs_logic4.specs.Parts.{replaced_from}
 use Rattle.vs_design.specs.declared.write.Part.{Part}
 use Rattle.vs_design.specs.Stores.{Store, changed_at, overlaid, put_part, put}
 use Rattle.vs_design.specs.Writes.{Write, names}
@@ -52,37 +51,15 @@ length-replaced_from : (place : ℤ) (part ds : List Digit) → length (replaced
 length-replaced_from place part [] = refl
 length-replaced_from place part (d ∷ ds) = ap suc (length-replaced_from (place +ℤ pos 1) part ds)
 
-pub length-overlaid : (low : ℤ) (digits word : List Digit) → length (overlaid low digits word) ≡ length word
+length-overlaid : (low : ℤ) (digits word : List Digit) → length (overlaid low digits word) ≡ length word
 length-overlaid low digits word = length-replaced_from (neg_ℤ low) digits word
+
+shape-put_part : (store : Store) (p : Part) → shape (put_part store p) ≡ shape store
+shape-put_part store p =
+    map_changed (λ words. map length words) (changed_at (overlaid p.low p.digits) p.word)
+    (λ words. map_changed length (overlaid p.low p.digits) (length-overlaid p.low p.digits) p.word words) p.signal store
 
 -- a write keeps the shape
 pub shape-put : (store : Store) (w : Write) → shape (put store w) ≡ shape store
 shape-put store [] = refl
-shape-put store (p ∷ ps) =
-    shape-put (put_part store p) ps
-    ∙ map_changed (λ words. map length words) (changed_at (overlaid p.low p.digits) p.word)
-    (λ words. map_changed length (overlaid p.low p.digits) (length-overlaid p.low p.digits) p.word words) p.signal store
-
-index_again : (ds : List Digit) (n : ℕ) (d : Digit) → slice_index_or ds n (slice_index_or ds n d) ≡ slice_index_or ds n d
-index_again [] n d = refl
-index_again (x ∷ ds) zero d = refl
-index_again (x ∷ ds) (suc n) d = index_again ds n d
-
-digit_again : (place : ℤ) (part : List Digit) (d : Digit) → digit_at place part (digit_at place part d) ≡ digit_at place part d
-digit_again (pos n) part d = index_again part n d
-digit_again (negsuc n) part d = refl
-
-replaced_again : (place : ℤ) (part ds : List Digit) → replaced_from place part (replaced_from place part ds) ≡ replaced_from place part ds
-replaced_again place part [] = refl
-replaced_again place part (d ∷ ds) = ap₂ (λ e es. e ∷ es) (digit_again place part d) (replaced_again (place +ℤ pos 1) part ds)
-
-changed_again : {A : Type 0} (f : A → A) → ((x : A) → f (f x) ≡ f x) → (i : ℕ) (xs : List A) → changed_at f i (changed_at f i xs) ≡ changed_at f i xs
-changed_again f h i [] = refl
-changed_again f h zero (x ∷ xs) = ap (λ y. y ∷ xs) (h x)
-changed_again f h (suc i) (x ∷ xs) = ap (λ ys. x ∷ ys) (changed_again f h i xs)
-
--- a part that is put twice
-pub put_part_again : (store : Store) (p : Part) → put_part (put_part store p) p ≡ put_part store p
-put_part_again store p =
-    changed_again (changed_at (overlaid p.low p.digits) p.word)
-    (λ words. changed_again (overlaid p.low p.digits) (λ word. replaced_again (neg_ℤ p.low) p.digits word) p.word words) p.signal store
+shape-put store (p ∷ ps) = shape-put (put_part store p) ps ∙ shape-put_part store p

@@ -1,5 +1,5 @@
 -- A value depends on what its expression reads.
-use Rattle.std.proofs.Common.{◌≡◌, ℕ, not, Bool, true, false, List, [], ◌∷◌, map, slice_get, refl, sym, ◌∙◌, ap, ap₂, eq-eqb}
+use Rattle.std.proofs.Common.{◌≡◌, ℕ, not, true, false, List, [], ◌∷◌, map, slice_get, refl, sym, ◌∙◌, ap, ap₂}
 use Rattle.std.specs.List.{list_any}
 use Rattle.std.proofs.lemmas.Bool.{and_parts, not-false, not_from_true, false≢true}
 use Rattle.vs_logic4.specs.declared.digit.Digit.{Digit}
@@ -9,10 +9,9 @@ use Rattle.vs_design.specs.declared.expression.Typed.{Typed}
 use Rattle.vs_design.specs.declared.range.BitRange.{BitRange}
 use Rattle.vs_design.specs.declared.statement.Target.{Target}
 use Rattle.vs_design.specs.Stores.{Store, same_words, words_in, chosen_words, chosen_bits, content, is_changed}
-use Rattle.vs_design.specs.Uses.{reads, reads_signal, is_of}
+use Rattle.vs_design.specs.Uses.{reads}
 use Rattle.vs_eval.specs.Values.{value_of, target_value}
 use Rattle.vs_eval.proofs.ReadsHold.{value_kept}
-use Rattle.vs_process.proofs.Lists.{any_at, at_any, none_from}
 
 -- ---- changes of ranges
 
@@ -38,24 +37,9 @@ not_changed old new r same =
     ap (λ o. not (same_words (content r old) (map (chosen_bits r.bits) (chosen_words r.word (words_in o))))) same
     ∙ not_from_true (same_words (content r old) (content r old)) (same_words_self (content r old))
 
--- two stores agree on what a test names
-abbrev pub Agree : (ℕ → Bool) → Store → Store → Type 0
-Agree test a b = (v : ℕ) → test v ≡ true → slice_get a v ≡ slice_get b v
-
--- stores that agree on the signals of ranges have none of them changed
-pub none_changed : (a b : Store) (rs : List BitRange) → Agree (λ v. list_any (is_of v) rs) a b → list_any (is_changed a b) rs ≡ false
-none_changed a b rs h =
-    none_from (is_changed a b) rs (λ i r at_i. not_changed a b r (sym (h r.signal (at_any (is_of r.signal) rs i r at_i (eq-eqb r.signal r.signal refl)))))
-
--- where one of the ranges that an expression reads is changed, here is a signal that it reads and that is changed
-pub changed_read : (old new : Store) (e : Typed) → list_any (is_changed old new) (reads e) ≡ true → (v : ℕ) × (reads_signal e v ≡ true) × (slice_get new v ≡ slice_get old v → ⊥)
-changed_read old new e h =
-    let found = any_at (is_changed old new) (reads e) h in
-    let r = found.1 in (
-      r.signal,
-      at_any (is_of r.signal) (reads e) found.0 r found.2 (eq-eqb r.signal r.signal refl),
-      λ same. false≢true (sym (not_changed old new r same) ∙ found.3),
-    )
+-- nor is one that holds the same in both
+pub same_unchanged : (old new : Store) (r : BitRange) → content r old ≡ content r new → is_changed old new r ≡ false
+same_unchanged old new r same = ap (λ c. not (same_words (content r old) c)) (sym same) ∙ not_from_true (same_words (content r old) (content r old)) (same_words_self (content r old))
 
 -- ---- values
 
@@ -67,12 +51,5 @@ value_any_time store m n e = refl
 pub value_unchanged : (a b : Store) (m n : ℕ) (e : Typed) → list_any (is_changed a b) (reads e) ≡ false → value_of e a m ≡ value_of e b n
 value_unchanged a b m n e h = value_kept a b m e h ∙ value_any_time b m n e
 
--- so in two stores that agree on the signals that it reads
-pub value_reads : (a b : Store) (m n : ℕ) (e : Typed) → Agree (reads_signal e) a b → value_of e a m ≡ value_of e b n
-value_reads a b m n e h = value_unchanged a b m n e (none_changed a b (reads e) h)
-
 pub target_value_unchanged : (a b : Store) (m n : ℕ) (t : Target) (e : Typed) → list_any (is_changed a b) (reads e) ≡ false → target_value t e a m ≡ target_value t e b n
 target_value_unchanged a b m n t e h = ap (resized false t.width) (value_unchanged a b m n e h)
-
-pub target_value_reads : (a b : Store) (m n : ℕ) (t : Target) (e : Typed) → Agree (reads_signal e) a b → target_value t e a m ≡ target_value t e b n
-target_value_reads a b m n t e h = ap (resized false t.width) (value_reads a b m n e h)

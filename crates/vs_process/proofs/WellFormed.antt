@@ -1,5 +1,6 @@
 -- What a well formed design says of its continuous assignments and of what its processes write.
-use Rattle.std.proofs.Common.{◌≡◌, ℕ, zero, suc, ◌+◌, ◌==◌, ◌&&◌, ◌||◌, not, Bool, true, false, Option, Some, None, List, [], ◌∷◌, map, slice_get, refl, sym, ◌∙◌, ap, subst, inl, inr, eq-eqb, eqb-true, nat_eq}
+use Rattle.std.proofs.Common.{◌≡◌, ℕ, zero, suc, ◌+◌, ◌==◌, ◌&&◌, ◌||◌, not, Bool, true, false, Option, Some, None, List, [], ◌∷◌, map, slice_get, sum, refl, sym, ◌∙◌, ap, subst, inl, inr, eqb-true}
+use Rattle.std.specs.Prelude.{is_some}
 use Rattle.std.specs.List.{list_any, list_all}
 use Rattle.std.proofs.lemmas.Bool.{and_parts, and_from, cases_Bool, cond_both, or_cases, true≢false, false≢true, not-true}
 use Rattle.std.proofs.lemmas.List.Folds.{list_all-append, list_all-map, list_any-append}
@@ -7,6 +8,8 @@ use Rattle.vs_design.specs.declared.signal.Signal.{Signal}
 use Rattle.vs_design.specs.declared.design.Assign.{Assign}
 use Rattle.vs_design.specs.declared.design.Process.{Process}
 use Rattle.vs_design.specs.declared.expression.Typed.{Typed}
+use Rattle.vs_design.specs.declared.statement.Aim.{Aim}
+use Rattle.vs_design.specs.declared.statement.Aim.TheVariants.{Fixed, Chosen}
 use Rattle.vs_design.specs.declared.statement.Target.{Target}
 use Rattle.vs_design.specs.declared.statement.Statement.{Statement}
 use Rattle.vs_design.specs.declared.statement.Statement.TheVariants.{rolls-Block}
@@ -16,8 +19,8 @@ use Rattle.vs_design.specs.declared.statement.Statement.TheFolds.{fold-roll-Stat
 use Rattle.vs_design.specs.Kinds.{is_variable}
 use Rattle.vs_design.specs.Parts.{Parts}
 use Rattle.vs_design.specs.Stores.{Store, is_driven}
-use Rattle.vs_design.specs.Uses.{writes_signal}
-use Rattle.vs_design.specs.WellFormed.{WellFormed, writes_variable, drives_net, is_source, is_sound_assignment, is_sound_assign, sound_step, is_sound_statement, is_sound_process, counts_from, numbers, is_body_of}
+use Rattle.vs_design.specs.Uses.{aim_range, covers, is_of, writes, writes_signal}
+use Rattle.vs_design.specs.WellFormed.{WellFormed, aim_width, is_of_variable, is_of_net, is_variable_aim, is_net_aim, is_sound_target, is_within, share_a_bit, size_of, is_source, is_sound_assignment, is_sound_assign, sound_step, is_sound_statement, is_sound_process, counts_from, numbers, is_body_of}
 use Rattle.vs_design.specs.Writes.{Write, names}
 use Rattle.vs_process.specs.declared.moves.Gait.{Gait}
 use Rattle.vs_process.specs.declared.moves.Gait.TheVariants.{Fresh, Woken}
@@ -26,34 +29,75 @@ use Rattle.vs_process.specs.Stacks.{flat_all}
 use Rattle.vs_process.specs.Steps.{Next, on, after, Out, step, statement_step, assignment}
 use Rattle.vs_process.specs.States.{Update, activated, roused, todo_of, place_behind, paused, updates_behind, woken_at}
 use Rattle.vs_process.specs.Executions.{places_at}
-use Rattle.vs_process.proofs.Assigns.{OneDriver, target_is}
-use Rattle.vs_process.proofs.Lists.{all_slice, any_at, distinct_place, list_all_like, map_at}
+use Rattle.vs_eval.specs.Values.{target_value}
+use Rattle.vs_process.proofs.Assigns.{DrivesApart}
+use Rattle.vs_process.proofs.Lists.{all_at, all_slice, any_at, list_all_like, map_cases}
+use Rattle.vs_process.proofs.Ranges.{assigned_names, distinct_flat, is_fixed, shares_covered}
 use Rattle.vs_process.proofs.Todos.{flat-Block}
 
 -- ---- continuous assignments
 
--- assignments that drive one signal are one
-pub one_driver : (d : Parts) → WellFormed d → OneDriver d
-one_driver d formed j k a c at_j at_k same =
-    distinct_place nat_eq eq-eqb (map (λ (a : Assign). a.target.signal) d.assigns) j k a.target.signal c.target.signal formed.drivers
-    (map_at (λ (a : Assign). a.target.signal) d.assigns j a at_j) (map_at (λ (a : Assign). a.target.signal) d.assigns k c at_k) same
+-- what an assignment of the design drives are nets
+net_places : (d : Parts) → WellFormed d → (j : ℕ) (a : Assign) → slice_get d.assigns j ≡ Some a → list_all (is_net_aim d.signals) a.target.parts.items ≡ true
+net_places d formed j a is =
+    let sound = all_slice (λ (a : Assign). is_sound_assign d.signals a ≡ true) d.assigns j a is formed.assigns in
+    let target = (and_parts (is_sound_target (is_net_aim d.signals) a.target) (is_source d.signals a.target a.source) sound).0 in
+    (and_parts (list_all (is_net_aim d.signals) a.target.parts.items) (sum (map aim_width a.target.parts.items) == a.target.width) target).0
 
-driven_net : (o : Option Signal) (width : ℕ) → drives_net o width ≡ true → (s : Signal) × (o ≡ Some s) × (is_variable s.kind ≡ false) × (s.width ≡ width)
-driven_net None width h = absurd (false≢true h)
-driven_net (Some s) width h =
-    let parts = and_parts (not (is_variable s.kind)) (s.width == width) h in
-    (s, refl, not-true (is_variable s.kind) parts.0, eqb-true s.width width parts.1)
+net_fixed : (ss : List Signal) (x : Aim) → is_net_aim ss x ≡ true → is_fixed x ≡ true
+net_fixed ss (Fixed s) h = refl
+net_fixed ss (Chosen s word low) h = absurd (false≢true h)
 
-written_variable : (o : Option Signal) (width : ℕ) → writes_variable o width ≡ true → (s : Signal) × (o ≡ Some s) × (is_variable s.kind ≡ true)
-written_variable None width h = absurd (false≢true h)
-written_variable (Some s) width h = (s, refl, (and_parts (is_variable s.kind) (s.width == width) h).0)
+-- assignments drive constant places, and no bit twice
+pub drives_apart : (d : Parts) → WellFormed d → DrivesApart d
+drives_apart d formed = record {
+  fixed = λ j a is. list_all_like (is_net_aim d.signals) is_fixed a.target.parts.items (net_fixed d.signals) (net_places d formed j a is);
+  apart = λ i j a c v w k at_i at_j ne within ha hc.
+      distinct_flat (share_a_bit d.signals) (covers v w k) (λ r q. shares_covered d.signals v w k r q within) (λ (a : Assign). writes a.target) d.assigns i j a c formed.drivers at_i at_j ne ha hc;
+}
+
+net_at : (o : Option Signal) → is_of_net o ≡ true → (s : Signal) × (o ≡ Some s) × (is_variable s.kind ≡ false)
+net_at None h = absurd (false≢true h)
+net_at (Some s) h = (s, refl, not-true (is_variable s.kind) (and_parts (not (is_variable s.kind)) (s.count == 1) h).0)
+
+net_place : (ss : List Signal) (x : Aim) (v : ℕ) → is_net_aim ss x ≡ true → is_of v (aim_range x) ≡ true → (s : Signal) × (slice_get ss v ≡ Some s) × (is_variable s.kind ≡ false)
+net_place ss (Fixed s) v h at_v =
+    let found = net_at (slice_get ss s.signal) (and_parts (is_of_net (slice_get ss s.signal)) (s.word == 0) h).0 in
+    (found.0, ap (slice_get ss) (sym (eqb-true s.signal v at_v)) ∙ found.1, found.2)
+net_place ss (Chosen s word low) v h at_v = absurd (false≢true h)
+
+-- a signal that a target names is that of one of its places
+place_named : (t : Target) (v : ℕ) → writes_signal t v ≡ true → (n : ℕ) × (x : Aim) × (slice_get t.parts.items n ≡ Some x) × (is_of v (aim_range x) ≡ true)
+place_named t v h =
+    let found = any_at (is_of v) (writes t) h in
+    let aim = map_cases aim_range t.parts.items found.0 found.1 found.2 in
+    (found.0, aim.0, aim.1, ap (is_of v) aim.2 ∙ found.3)
 
 -- what a continuous assignment drives
-pub net_of : (d : Parts) → WellFormed d → (j : ℕ) (a : Assign) → slice_get d.assigns j ≡ Some a →
-    (s : Signal) × (slice_get d.signals a.target.signal ≡ Some s) × (is_variable s.kind ≡ false) × (s.width ≡ a.target.width)
-net_of d formed j a is =
-    let sound = all_slice (λ (a : Assign). is_sound_assign d.signals a ≡ true) d.assigns j a is formed.assigns in
-    driven_net (slice_get d.signals a.target.signal) a.target.width (and_parts (drives_net (slice_get d.signals a.target.signal) a.target.width) (is_source d.signals a.target a.source) sound).0
+pub net_of : (d : Parts) → WellFormed d → (j : ℕ) (a : Assign) (v : ℕ) → slice_get d.assigns j ≡ Some a → writes_signal a.target v ≡ true →
+    (s : Signal) × (slice_get d.signals v ≡ Some s) × (is_variable s.kind ≡ false)
+net_of d formed j a v is h =
+    let place = place_named a.target v h in
+    net_place d.signals place.1 v (all_at (is_net_aim d.signals) a.target.parts.items place.0 place.1 place.2 (net_places d formed j a is)) place.3
+
+variable_at : (o : Option Signal) → is_of_variable o ≡ true → (s : Signal) × (o ≡ Some s) × (is_variable s.kind ≡ true)
+variable_at None h = absurd (false≢true h)
+variable_at (Some s) h = (s, refl, h)
+
+-- the signal is a variable of the design
+abbrev pub IsVariable : List Signal → ℕ → Type 0
+IsVariable ss v = (s : Signal) × (slice_get ss v ≡ Some s) × (is_variable s.kind ≡ true)
+
+variable_place : (ss : List Signal) (x : Aim) (v : ℕ) → is_variable_aim ss x ≡ true → is_of v (aim_range x) ≡ true → IsVariable ss v
+variable_place ss (Fixed s) v h at_v =
+    let found = variable_at (slice_get ss s.signal) h in
+    (found.0, ap (slice_get ss) (sym (eqb-true s.signal v at_v)) ∙ found.1, found.2)
+variable_place ss (Chosen s word low) v h at_v =
+    let four = (and_parts (is_of_variable (slice_get ss s.signal) && is_within ss word && is_within ss low && is_some (size_of word)) (is_some (size_of low)) h).0 in
+    let three = (and_parts (is_of_variable (slice_get ss s.signal) && is_within ss word && is_within ss low) (is_some (size_of word)) four).0 in
+    let two = (and_parts (is_of_variable (slice_get ss s.signal) && is_within ss word) (is_within ss low) three).0 in
+    let found = variable_at (slice_get ss s.signal) (and_parts (is_of_variable (slice_get ss s.signal)) (is_within ss word) two).0 in
+    (found.0, ap (slice_get ss) (sym (eqb-true s.signal v at_v)) ∙ found.1, found.2)
 
 -- ---- statements
 
@@ -121,7 +165,7 @@ pub next_todo : Next → Todo
 next_todo (on rest) = rest
 next_todo (after n ticks rest) = rest
 
-abbrev sound_out : List Signal → Statement-F Statement → Bool
+abbrev pub sound_out : List Signal → Statement-F Statement → Bool
 sound_out ss f = sound_step ss (map-Statement Statement Bool (is_sound_statement ss) f)
 
 sound_statement_next : (ss : List Signal) (s : Statement) (f : Statement-F Statement) (rest : Todo) (store : Store) (time : ℕ) →
@@ -138,7 +182,7 @@ sound_statement_next ss s (Statement-F.Forever n body) rest store time whole h r
     list_all-append (is_sound_item ss) (flat body.value) (perform s ∷ rest)
     ∙ and_from (is_sound_todo ss (flat body.value)) (is_sound_todo ss (perform s ∷ rest)) (sound_flat ss body.value h) (and_from (is_sound_statement ss s) (is_sound_todo ss rest) whole r)
 
-opened : (ss : List Signal) (s : Statement) → is_sound_statement ss s ≡ true → sound_out ss (out-Statement s) ≡ true
+pub opened : (ss : List Signal) (s : Statement) → is_sound_statement ss s ≡ true → sound_out ss (out-Statement s) ≡ true
 opened ss s h = sym (fold_out-Statement Bool (sound_step ss) s) ∙ h
 
 -- so is what it has to do behind a step
@@ -154,10 +198,6 @@ sound_next ss (turns (suc n) s ∷ rest) store time h =
     list_all-append (is_sound_item ss) (flat s) (turns n s ∷ rest)
     ∙ and_from (is_sound_todo ss (flat s)) (is_sound_todo ss (turns n s ∷ rest)) (sound_flat ss s parts.0) (and_from (is_sound_statement ss s) (is_sound_todo ss rest) parts.0 parts.1)
 
--- the signal is a variable of the design
-abbrev pub IsVariable : List Signal → ℕ → Type 0
-IsVariable ss v = (s : Signal) × (slice_get ss v ≡ Some s) × (is_variable s.kind ≡ true)
-
 -- the writes and updates of a step name variables alone
 pub record NamesVariables (ss : List Signal) (out : Out) : Type 0 where
   pub write : (w : Write) → out.write ≡ Some w → (v : ℕ) → names w v ≡ true → IsVariable ss v
@@ -165,11 +205,10 @@ pub record NamesVariables (ss : List Signal) (out : Out) : Type 0 where
 
 assigned_variable : (ss : List Signal) (t : Target) (e : Typed) (store : Store) (time v : ℕ) → is_sound_assignment ss t e ≡ true → names (assignment t e store time) v ≡ true → IsVariable ss v
 assigned_variable ss t e store time v h named =
-    let parts = and_parts (writes_variable (slice_get ss t.signal) t.width) (is_source ss t e) h in
-    elim (or_cases (t.signal == v) false named) [
-      | inl hit ↦ subst (IsVariable ss) (eqb-true t.signal v hit) (written_variable (slice_get ss t.signal) t.width parts.0)
-      | inr none ↦ absurd (false≢true none)
-    ]
+    let target = (and_parts (is_sound_target (is_variable_aim ss) t) (is_source ss t e) h).0 in
+    let places = (and_parts (list_all (is_variable_aim ss) t.parts.items) (sum (map aim_width t.parts.items) == t.width) target).0 in
+    let place = place_named t v (sym (assigned_names t (target_value t e store time) store time v) ∙ named) in
+    variable_place ss place.1 v (all_at (is_variable_aim ss) t.parts.items place.0 place.1 place.2 places) place.3
 
 names_none : (ss : List Signal) (out : Out) → out.write ≡ None → out.update ≡ None → NamesVariables ss out
 names_none ss out w u = record { write = λ x h. let e : None ≡ Some x = sym w ∙ h in cc; update = λ x h. let e : None ≡ Some x = sym u ∙ h in cc }
@@ -246,9 +285,8 @@ variable_undriven d formed v (s, is, variable) =
   where
     not_both : ((j : ℕ) × (a : Assign) × (slice_get d.assigns j ≡ Some a) × (writes_signal a.target v ≡ true)) → ⊥
     not_both (j, a, at_j, drives) =
-        let net = net_of d formed j a at_j in
-        let same : a.target.signal ≡ v = target_is a.target v drives in
-        let e : Some net.0 ≡ Some s = sym net.1 ∙ ap (slice_get d.signals) same ∙ is in
+        let net = net_of d formed j a v at_j drives in
+        let e : Some net.0 ≡ Some s = sym net.1 ∙ is in
         let f : net.0 ≡ s = cc in
         true≢false (sym variable ∙ ap (λ (z : Signal). is_variable z.kind) (sym f) ∙ net.2)
 

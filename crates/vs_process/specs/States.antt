@@ -122,7 +122,7 @@ stepped s i (Some place) = performed s i place (step (todo_of place) s.store s.t
 abbrev pub evaluated : Store → ℕ → AssignState → AssignState
 evaluated store time x =
     let digits = target_value x.target x.source store time in
-    record x { needs = false; pending = if changes_nothing store (assigned x.target digits store) then None else Some digits }
+    record x { needs = false; pending = if changes_nothing store (assigned x.target digits store time) then None else Some digits }
 
 abbrev pub evaluate : State → ℕ → Option AssignState → State
 evaluate s j None = s
@@ -133,7 +133,7 @@ settled x = record x { pending = None }
 
 abbrev pub propagate_value : State → ℕ → AssignState → Option (List Digit) → State
 propagate_value s j x None = s
-propagate_value s j x (Some digits) = written (record s { assigns = slice_set s.assigns j (settled x) }) (assigned x.target digits s.store)
+propagate_value s j x (Some digits) = written (record s { assigns = slice_set s.assigns j (settled x) }) (assigned x.target digits s.store s.time)
 
 -- a state after the update of a continuous assignment
 abbrev pub propagate : State → ℕ → Option AssignState → State

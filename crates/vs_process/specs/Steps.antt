@@ -39,7 +39,7 @@ goes next = record { next = next; write = None; update = None; call = None; line
 
 -- the write of an assignment, evaluated in a store at a time (clause 9.2)
 abbrev pub assignment : Target → Typed → Store → ℕ → Write
-assignment t e store time = assigned t (target_value t e store time) store
+assignment t e store time = assigned t (target_value t e store time) store time
 
 -- the step of a statement, in front of what else is to be done (clauses 9.2, 9.6 and 9.7)
 abbrev pub statement_step : Statement → Statement-F Statement → Todo → Store → ℕ → Out

@@ -2,9 +2,9 @@
 ghost use Rattle.std.specs.Prelude.{◌≡◌, ◌++◌, ◌∷◌, [], ◌<◌, ◌^◌, ◌+◌, IfOk, OnOk, OnErr, vec_len, drop, true};
 ghost use Rattle.vs_process.specs.Places.{flat, start_place, is_going, is_inactive, stepped_gait};
 ghost use Rattle.vs_process.specs.Stacks.{seen, flat_all, paused_wait, Extends};
-ghost use Rattle.vs_process.specs.Effects.{Stepped, NamesTarget, next_target};
+ghost use Rattle.vs_process.specs.Effects.{Stepped};
 ghost use Rattle.vs_process.specs.Steps.{assignment};
-ghost use Rattle.vs_process.specs.States.{roused, woken_at, due_of, todo_of};
+ghost use Rattle.vs_process.specs.States.{roused, woken_at, due_of};
 
 use crate::effect::Effect;
 use crate::moves::Gait;
@@ -126,10 +126,17 @@ fn pause(time: u64, ticks: u64) -> Wait
 }
 
 // The write of an assignment.
-fn assignment(target: Target, e: &Typed, store: &Store, time: u64) -> Write
-    ensures { result ≡ assignment target e.now store.now time }
+fn assignment(
+    alloc: Global,
+    target: &Target,
+    e: &Typed,
+    store: &Store,
+    time: u64,
+) -> Result<Write, AllocError>
+    ensures { IfOk result (λ w. w ≡ assignment target.now e.now store.now time) }
 {
-    write_of(target, cut_value(target, e, store, time), store)
+    let digits = cut_value(target, e, store, time);
+    write_of(alloc, target, digits, store, time)
 }
 
 impl<'a> Place<'a> {
@@ -200,24 +207,12 @@ impl<'a> Place<'a> {
         }
     }
 
-    /// The target of the assignment that its next step makes, where that makes one.
-    pub fn target(&self) -> Option<Target>
-        ensures { result ≡ next_target (todo_of self.now) }
-    {
-        match self.stack.last()? {
-            Statement::Assign(_, target, _) => Some(*target),
-            Statement::Later(_, target, _) => Some(*target),
-            _ => None,
-        }
-    }
-
     /// One step of an active process (IEEE 1364-2005, clauses 9.2 and 9.7) at `time`, in ticks: where it goes from there, and
     /// what the step does to the rest of the state. Without memory the place is as it was.
-    pub fn step(&mut self, store: &Store, time: u64) -> Result<Effect, AllocError>
+    pub fn step(&mut self, alloc: Global, store: &Store, time: u64) -> Result<Effect, AllocError>
         requires active { is_going self.old ≡ true }
         requires early { time < 2 ^ 62 }
         ensures ok { IfOk result (λ e. Stepped self.old store.now time self.new e) }
-        ensures target { IfOk result (λ e. NamesTarget (next_target (todo_of self.old)) e) }
         ensures err { OnErr result (self.new ≡ self.old) }
     {
         let Wait::Nothing(gait) = self.wait else {
@@ -231,11 +226,11 @@ impl<'a> Place<'a> {
         match s {
             Statement::Null(_) => pop(&mut self.stack),
             Statement::Assign(_, target, e) => {
-                effect = Effect::Write(assignment(*target, e, store, time));
+                effect = Effect::Write(assignment(alloc, target, e, store, time)?);
                 pop(&mut self.stack);
             }
             Statement::Later(_, target, e) => {
-                effect = Effect::Update(assignment(*target, e, store, time));
+                effect = Effect::Update(assignment(alloc, target, e, store, time)?);
                 pop(&mut self.stack);
             }
             Statement::Block(_) => replace_top(&mut self.stack, s)?,

@@ -4,6 +4,7 @@ use crate::assigns::ASSIGNS;
 use crate::fifo::FIFO;
 use crate::headers::{EMPTY, ONE_VARIABLE, VARIABLES};
 use crate::running::{Row, compare_all};
+use crate::selects::{SELECTS, STEPS};
 use crate::vectors::VECTORS;
 use std::test::Fail;
 
@@ -58,5 +59,12 @@ fn dumps(rt: HostRuntime) -> Result<(), Fail> {
     for rows in [DUMPS, ASSIGNS, FIFO, VECTORS] {
         compare_all(&rt, rt.alloc(), rows)?;
     }
+    Ok(())
+}
+
+#[test]
+fn selects(rt: HostRuntime) -> Result<(), Fail> {
+    compare_all(&rt, rt.alloc(), SELECTS)?;
+    compare_all(&rt, rt.alloc(), STEPS)?;
     Ok(())
 }

@@ -18,7 +18,11 @@ mod orders;
 #[cfg(test)]
 mod refusals;
 #[cfg(test)]
+mod refused_selects;
+#[cfg(test)]
 mod running;
+#[cfg(test)]
+mod selects;
 #[cfg(test)]
 mod vectors;
 #[cfg(test)]

@@ -1,6 +1,9 @@
 //! Rows that are refused, and sources that are cut.
 
+use crate::refused_selects::REFUSED_SELECTS;
 use crate::running::{Row, compare, run};
+use std::alloc::{AllocError, Global};
+use std::process::Abort;
 use std::test::Fail;
 
 /// Sources and the line of their refusal, where nothing is written.
@@ -102,13 +105,18 @@ const CUT: &[&str] = &[
     "module t; reg a; initial a = 1 endmodule",
     "module t; reg a, b; wire y = ~(a | b), z; assign z = a & b ^ y; endmodule",
     "module t; reg a = 0; always begin #5 a <= ~a; end endmodule",
+    "module t; reg [3:0] a, m [0:1]; wire y = a[1 +: 2]; initial {a[0], {m[a[1]][2:1]}} = m[1][0]; endmodule",
 ];
 
-#[test]
-fn refusals(rt: HostRuntime) -> Result<(), Fail> {
-    for (source, err) in REFUSALS {
+/// Runs each source of a table, and compares.
+fn compare_refusals(
+    rt: &impl Abort,
+    alloc: Global,
+    rows: &[(&'static str, &'static str)],
+) -> Result<(), AllocError> {
+    for (source, err) in rows {
         let words = "vsim run --top t --until 10 --out vcd";
-        let answer = run(rt.alloc(), words, source.as_bytes())?;
+        let answer = run(alloc, words, source.as_bytes())?;
         let row = Row {
             words,
             source,
@@ -116,8 +124,20 @@ fn refusals(rt: HostRuntime) -> Result<(), Fail> {
             out: &[],
             err,
         };
-        compare(&rt, &row, &answer);
+        compare(rt, &row, &answer);
     }
+    Ok(())
+}
+
+#[test]
+fn refusals(rt: HostRuntime) -> Result<(), Fail> {
+    compare_refusals(&rt, rt.alloc(), REFUSALS)?;
+    Ok(())
+}
+
+#[test]
+fn refused_selects(rt: HostRuntime) -> Result<(), Fail> {
+    compare_refusals(&rt, rt.alloc(), REFUSED_SELECTS)?;
     Ok(())
 }
 

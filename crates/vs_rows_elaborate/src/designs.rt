@@ -38,6 +38,11 @@ const ASSIGNS: &[(&str, &str)] = &[
         "module t; wire w = a, x, y; reg a; assign y = x, x = ~w; endmodule",
         "t#a0 t.w = 1(t.a);t#a1 t.y = 1(t.x);t#a2 t.x = 1(t.w);",
     ),
+    // The places of a target, the lowest first.
+    (
+        "module t; wire [3:0] w; wire c; reg [3:0] a; assign {c, w[2:1]} = a; endmodule",
+        "t#a0 t.w[1+:2],t.c = 4(t.a);",
+    ),
     (
         "module t; wire w; reg a, b; assign w = a & (9 | b) & a; endmodule",
         "t#a0 t.w = 32(t.a t.b t.a);",

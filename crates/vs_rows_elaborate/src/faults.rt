@@ -53,6 +53,104 @@ const ROWS: &[(&str, &str, &str)] = &[
         "t",
         DESIGN,
     ),
+    // Each bit of a net has one driver; bits out of its range have none.
+    (
+        "module t; wire [3:0] w; assign w[0] = 0, w[1] = 0; endmodule",
+        "t",
+        DESIGN,
+    ),
+    (
+        "module t; wire [3:0] w; assign w[1:0] = 0, w[1] = 0; endmodule",
+        "t",
+        "E6 at t.w",
+    ),
+    (
+        "module t; wire [3:0] w; assign {w[0], w[0]} = 0; endmodule",
+        "t",
+        "E6 at t.w",
+    ),
+    (
+        "module t; wire [3:0] w; assign w[4] = 0, w[4] = 1; endmodule",
+        "t",
+        DESIGN,
+    ),
+    (
+        "module t; wire [0:3] w; assign w[0:1] = 0, w[3 -: 2] = 0; endmodule",
+        "t",
+        DESIGN,
+    ),
+    // An array has at most 65,536 words, and a constant range.
+    ("module t; reg m [0:65535]; endmodule", "t", DESIGN),
+    ("module t; reg m [0:65536]; endmodule", "t", "E7 at t"),
+    ("module t; reg a, m [a:0]; endmodule", "t", "E8 X3 at t"),
+    // The first select of an array chooses a word, and each other one bits of a range.
+    (
+        "module t; reg m [0:3]; initial m = 0; endmodule",
+        "t",
+        "E8 X4 at t",
+    ),
+    (
+        "module t; reg m [0:3]; initial m[9] = 0; endmodule",
+        "t",
+        DESIGN,
+    ),
+    (
+        "module t; reg m [0:3]; initial m[0:1] = 0; endmodule",
+        "t",
+        "E8 X4 at t",
+    ),
+    (
+        "module t; reg m [0:3]; initial m[0][0] = 0; endmodule",
+        "t",
+        "E8 X4 at t",
+    ),
+    (
+        "module t; integer n [1:2]; initial n[1][31] = 0; endmodule",
+        "t",
+        DESIGN,
+    ),
+    (
+        "module t; reg a; initial a[0] = 0; endmodule",
+        "t",
+        "E8 X4 at t",
+    ),
+    (
+        "module t; reg [3:0] a; initial a[0][0] = 0; endmodule",
+        "t",
+        "E8 X4 at t",
+    ),
+    (
+        "module t; reg [3:0] a; initial a[0:1] = 0; endmodule",
+        "t",
+        "E8 X3 at t",
+    ),
+    (
+        "module t; reg [3:0] a; initial a[0 +: 0] = 0; endmodule",
+        "t",
+        "E8 X3 at t",
+    ),
+    (
+        "module t; reg [63:0] a; initial {a, a[0]} = 0; endmodule",
+        "t",
+        "E8 X1 at t",
+    ),
+    ("module t; initial {b} = 0; endmodule", "t", "E8 X2 at t"),
+    // A continuous assignment drives nets, by constant indices.
+    (
+        "module t; wire [3:0] w; reg [1:0] i; assign w[i] = 0; endmodule",
+        "t",
+        "E8 X3 at t",
+    ),
+    (
+        "module t; reg [3:0] a; assign a[0] = 0; endmodule",
+        "t",
+        "E8 X4 at t",
+    ),
+    (
+        "module t; wire [3:0] w; initial w[0] = 0; endmodule",
+        "t",
+        "E8 X4 at t",
+    ),
     // Names are signals, of either side.
     (
         "module t; reg a; initial a = ~(a & b); endmodule",

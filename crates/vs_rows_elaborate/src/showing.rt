@@ -3,7 +3,7 @@ use std::alloc::Global;
 use std::test::Fail;
 use vs_design::{
     Design, Entry, Process, ProcessKind, ScopeKind, SignalKind, Statement, Store, Target, Typed,
-    reads,
+    reads, writes,
 };
 use vs_eval::value;
 
@@ -57,6 +57,36 @@ fn show_expression(
     Ok(())
 }
 
+/// Appends the places of a target, the lowest first: the path of each, `[*]` where any of its words is meant, and the lowest bit and the number of
+/// bits where they are not all.
+fn show_target(
+    alloc: Global,
+    design: &Design,
+    target: &Target,
+    text: &mut Vec<u8>,
+) -> Result<(), Fail> {
+    let mut comma: &[u8] = b"";
+    for range in &writes(alloc, target)? {
+        text.extend_from_slice(comma)?;
+        text.extend_from_slice(path_of(design, range.signal))?;
+        comma = b",";
+        if range.word.is_none() {
+            text.extend_from_slice(b"[*]")?;
+        }
+        let size = match design.signals().get(range.signal) {
+            Some(signal) => signal.width,
+            None => 0,
+        };
+        if let Some(bits) = range.bits {
+            if bits.low > 0 || bits.width != size {
+                let shown = format!(in alloc; "[{}+:{}]", bits.low, bits.width)?;
+                text.extend_from_slice(shown.as_bytes())?;
+            }
+        }
+    }
+    Ok(())
+}
+
 /// Appends an assignment with this sign between its sides.
 fn show_assignment(
     alloc: Global,
@@ -65,7 +95,7 @@ fn show_assignment(
     text: &mut Vec<u8>,
 ) -> Result<(), Fail> {
     let (target, sign, source) = sides;
-    text.extend_from_slice(path_of(design, target.signal))?;
+    show_target(alloc, design, target, text)?;
     text.extend_from_slice(sign)?;
     show_expression(alloc, design, source, text)?;
     text.push(b';')?;

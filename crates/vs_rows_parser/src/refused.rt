@@ -6,7 +6,7 @@ use vs_lexer::lex;
 use vs_parser::parse;
 
 /// Sources, and the texts of their faults.
-const ROWS: [(&str, &str); 43] = [
+const ROWS: [(&str, &str); 77] = [
     ("module t; initial fork join endmodule", "P2 at 18: fork"),
     ("module t; initial a = 1 endmodule", "P1 at 24"),
     ("module t; reg a; endmodule ;", "P1 at 27"),
@@ -43,13 +43,47 @@ const ROWS: [(&str, &str); 43] = [
     ("module t; integer signed a; endmodule", "P1 at 18"),
     ("module t; wire signed signed a; endmodule", "P1 at 22"),
     ("module t; wire [3:0] signed a; endmodule", "P1 at 21"),
-    ("module t; reg a [3:0]; endmodule", "P1 at 16"),
     ("module t; signed a; endmodule", "P1 at 10"),
     ("module t; reg integer a; endmodule", "P1 at 14"),
     ("module t; wire signed", "P4 at 21"),
     ("module t; reg [3", "P4 at 16"),
     ("module t; reg [3:0", "P4 at 18"),
     ("module t; integer a", "P4 at 19"),
+    ("module t; wire a [3:0]; endmodule", "P1 at 17"),
+    ("module t; reg a [3]; endmodule", "P1 at 18"),
+    ("module t; reg a = b [3:0; endmodule", "P1 at 24"),
+    ("module t; reg a [3:0] = b; endmodule", "P1 at 22"),
+    ("module t; reg a [3 +: 4]; endmodule", "P1 at 19"),
+    ("module t; reg a [3:0][1:0]; endmodule", "P1 at 21"),
+    ("module t; wire w = a[]; endmodule", "P1 at 21"),
+    ("module t; wire w = a[b; endmodule", "P1 at 22"),
+    ("module t; wire w = a[b:]; endmodule", "P1 at 23"),
+    ("module t; wire w = a[b:c:d]; endmodule", "P1 at 24"),
+    ("module t; wire w = a[b + : c]; endmodule", "P1 at 25"),
+    ("module t; wire w = a[b +: ]; endmodule", "P1 at 26"),
+    ("module t; wire w = a[b, c]; endmodule", "P1 at 22"),
+    ("module t; wire w = (a)[b]; endmodule", "P1 at 22"),
+    ("module t; wire w = 4'd3[0]; endmodule", "P1 at 23"),
+    ("module t; wire w = {a, b}[0]; endmodule", "P1 at 25"),
+    ("module t; wire w = b +: c; endmodule", "P1 at 21"),
+    ("module t; initial {} = b; endmodule", "P1 at 19"),
+    ("module t; initial {a, } = b; endmodule", "P1 at 22"),
+    ("module t; initial {a + c} = b; endmodule", "P1 at 21"),
+    ("module t; initial {2{a}} = b; endmodule", "P1 at 19"),
+    ("module t; initial {a, 1} = b; endmodule", "P1 at 22"),
+    ("module t; initial (a) = b; endmodule", "P1 at 18"),
+    ("module t; initial {a} b = c; endmodule", "P1 at 22"),
+    ("module t; initial a[b] c = d; endmodule", "P1 at 23"),
+    ("module t; initial {a}[0] = c; endmodule", "P1 at 21"),
+    ("module t; assign {a, {b} = c; endmodule", "P1 at 25"),
+    ("module t; assign a[b = c; endmodule", "P1 at 21"),
+    ("module t; wire w = a[", "P4 at 21"),
+    ("module t; wire w = a[b", "P4 at 22"),
+    ("module t; wire w = a[b +:", "P4 at 25"),
+    ("module t; wire w = a[b][c", "P4 at 25"),
+    ("module t; initial {a,", "P4 at 21"),
+    ("module t; initial {a[b]", "P4 at 23"),
+    ("module t; reg m [0:3", "P4 at 20"),
 ];
 
 /// The text of what is answered of a source: of its fault, or `read`.
@@ -78,24 +112,41 @@ fn refused(rt: HostRuntime) -> Result<(), Fail> {
     Ok(())
 }
 
-/// A module whose one statement assigns `a` behind this many of the one text and before as many of the other.
-fn nested(alloc: Global, open: &str, close: &str, count: usize) -> Result<Vec<u8>, Fail> {
+/// Between two texts `a` behind this many of the one text and before as many of the other.
+fn repeated(
+    alloc: Global,
+    ends: (&str, &str),
+    inner: (&str, &str),
+    count: usize,
+) -> Result<Vec<u8>, Fail> {
     let mut source = Vec::new(alloc);
-    source.extend_from_slice(b"module t; initial x = ")?;
+    source.extend_from_slice(ends.0.as_bytes())?;
     for _ in 0..count {
-        source.extend_from_slice(open.as_bytes())?;
+        source.extend_from_slice(inner.0.as_bytes())?;
     }
     source.push(b'a')?;
     for _ in 0..count {
-        source.extend_from_slice(close.as_bytes())?;
+        source.extend_from_slice(inner.1.as_bytes())?;
     }
-    source.extend_from_slice(b"; endmodule")?;
+    source.extend_from_slice(ends.1.as_bytes())?;
     Ok(source)
+}
+
+/// A module whose one statement has such a right side.
+fn nested(alloc: Global, open: &str, close: &str, count: usize) -> Result<Vec<u8>, Fail> {
+    let ends = ("module t; initial x = ", "; endmodule");
+    repeated(alloc, ends, (open, close), count)
+}
+
+/// A module whose one statement has such a left side.
+fn nested_left(alloc: Global, open: &str, close: &str, count: usize) -> Result<Vec<u8>, Fail> {
+    let ends = ("module t; initial ", " = b; endmodule");
+    repeated(alloc, ends, (open, close), count)
 }
 
 /// What stands before and behind an inner expression, how often it may be nested (the item, the statement and 254 nodes are 256),
 /// and the place of the token that is too deep where it is nested once more.
-const NESTED: [(&str, &str, usize, usize); 10] = [
+const NESTED: [(&str, &str, usize, usize); 14] = [
     ("(", ")", 254, 276),
     ("~", "", 254, 276),
     ("- ", "", 254, 530),
@@ -106,6 +157,18 @@ const NESTED: [(&str, &str, usize, usize); 10] = [
     ("a ? ", " : a", 254, 1040),
     ("a + (", ")", 127, 659),
     ("a ? b : (", ")", 127, 1167),
+    ("a[", "]", 254, 531),
+    ("a[0:", "]", 254, 1039),
+    ("a[b][", "]", 254, 1293),
+    ("{a[", "]}", 127, 403),
+];
+
+/// The same of left sides, of which each name is a node.
+const NESTED_LEFTS: [(&str, &str, usize, usize); 4] = [
+    ("{", "}", 253, 271),
+    ("{b, ", "}", 253, 1030),
+    ("a[", "]", 254, 527),
+    ("{a[", "]}", 127, 399),
 ];
 
 #[test]
@@ -114,6 +177,18 @@ fn deepest_expressions(rt: HostRuntime) -> Result<(), Fail> {
         let deepest = nested(rt.alloc(), open, close, *count)?;
         is_answered(&rt, rt.alloc(), deepest.as_slice(), b"read")?;
         let deeper = nested(rt.alloc(), open, close, count.saturating_add(1))?;
+        let text = format!(in rt.alloc(); "P3 at {place}")?;
+        is_answered(&rt, rt.alloc(), deeper.as_slice(), text.as_bytes())?;
+    }
+    Ok(())
+}
+
+#[test]
+fn deepest_left_sides(rt: HostRuntime) -> Result<(), Fail> {
+    for (open, close, count, place) in &NESTED_LEFTS {
+        let deepest = nested_left(rt.alloc(), open, close, *count)?;
+        is_answered(&rt, rt.alloc(), deepest.as_slice(), b"read")?;
+        let deeper = nested_left(rt.alloc(), open, close, count.saturating_add(1))?;
         let text = format!(in rt.alloc(); "P3 at {place}")?;
         is_answered(&rt, rt.alloc(), deeper.as_slice(), text.as_bytes())?;
     }
@@ -134,11 +209,15 @@ fn deepest_operands(rt: HostRuntime) -> Result<(), Fail> {
     is_answered(&rt, rt.alloc(), source.as_slice(), b"read")
 }
 
-/// A conditional of many conditions, and a concatenation of many parts, are one node each.
+/// A name with many selects, a conditional of many conditions, and a concatenation of many parts, are one node each.
 #[test]
 fn longest_lists(rt: HostRuntime) -> Result<(), Fail> {
     let conditions = nested(rt.alloc(), "a ? a : ", "", 2_000)?;
     is_answered(&rt, rt.alloc(), conditions.as_slice(), b"read")?;
+    let selects = nested(rt.alloc(), "", "[b]", 2_000)?;
+    is_answered(&rt, rt.alloc(), selects.as_slice(), b"read")?;
+    let lefts = nested_left(rt.alloc(), "", "[b]", 2_000)?;
+    is_answered(&rt, rt.alloc(), lefts.as_slice(), b"read")?;
     let mut source = Vec::new(rt.alloc());
     source.extend_from_slice(b"module t; initial x = {a")?;
     for _ in 0..2_000 {

@@ -5,7 +5,7 @@ use std::test::Fail;
 use vs_lexer::lex;
 use vs_logic4::{Binary, Unary};
 use vs_parser::parse;
-use vs_syntax::{Declarator, Expr, Form, Item, Stmt};
+use vs_syntax::{Declarator, Expr, Form, Item, Left, NetAssignment, PartSelect, Range, Stmt};
 
 /// Two texts behind a text.
 fn put(text: &mut Vec<u8>, before: &[u8], inner: &[u8]) -> Result<(), Fail> {
@@ -14,56 +14,116 @@ fn put(text: &mut Vec<u8>, before: &[u8], inner: &[u8]) -> Result<(), Fail> {
     Ok(())
 }
 
-/// An expression in one line, each chain, each conditional and each operator with its operand in brackets.
+/// How deep expressions are shown.
+const DEPTH: u32 = 256;
+
+/// An expression in one line, each chain, each conditional and each operator with its operand in brackets, each select behind a bar.
 fn shown(alloc: Global, e: &Expr) -> Result<Vec<u8>, Fail> {
+    shown_within(alloc, DEPTH, e)
+}
+
+/// The same, of at most so many expressions within one another; nothing of those below.
+fn shown_within(alloc: Global, depth: u32, e: &Expr) -> Result<Vec<u8>, Fail> {
     let mut text = Vec::new(alloc);
+    if depth == 0 {
+        return Ok(text);
+    }
+    let room = depth - 1;
     match e {
         Expr::Number(_) => text.push(b'0')?,
         Expr::Name(name) => text.extend_from_slice(name)?,
+        Expr::Select(name, selects) => {
+            text.extend_from_slice(name)?;
+            for (index, second) in selects {
+                put(&mut text, b"|", &shown_within(alloc, room, index)?)?;
+                if let Some((kind, other)) = second {
+                    put(
+                        &mut text,
+                        between(*kind),
+                        &shown_within(alloc, room, other)?,
+                    )?;
+                }
+            }
+        }
         Expr::Group(inner) => {
-            put(&mut text, b"(", &shown(alloc, inner)?)?;
+            put(&mut text, b"(", &shown_within(alloc, room, inner)?)?;
             text.push(b')')?;
         }
         Expr::Unary(operator, inner) => {
-            put(&mut text, prefix(*operator), &shown(alloc, inner)?)?;
+            put(
+                &mut text,
+                prefix(*operator),
+                &shown_within(alloc, room, inner)?,
+            )?;
             text.push(b']')?;
         }
         Expr::Chain(first, links) => {
-            put(&mut text, b"[", &shown(alloc, first)?)?;
+            put(&mut text, b"[", &shown_within(alloc, room, first)?)?;
             for (operator, operand) in links {
-                put(&mut text, infix(*operator), &shown(alloc, operand)?)?;
+                put(
+                    &mut text,
+                    infix(*operator),
+                    &shown_within(alloc, room, operand)?,
+                )?;
             }
             text.push(b']')?;
         }
         Expr::Choice(pairs, last) => {
             text.push(b'[')?;
             for (condition, value) in pairs {
-                put(&mut text, &shown(alloc, condition)?, b" ? ")?;
-                put(&mut text, &shown(alloc, value)?, b" : ")?;
+                put(&mut text, &shown_within(alloc, room, condition)?, b" ? ")?;
+                put(&mut text, &shown_within(alloc, room, value)?, b" : ")?;
             }
-            put(&mut text, &shown(alloc, last)?, b"]")?;
+            put(&mut text, &shown_within(alloc, room, last)?, b"]")?;
         }
         Expr::Concat(first, others) => {
-            put(&mut text, b"{", &shown(alloc, first)?)?;
+            put(&mut text, b"{", &shown_within(alloc, room, first)?)?;
             for other in others {
-                put(&mut text, b", ", &shown(alloc, other)?)?;
+                put(&mut text, b", ", &shown_within(alloc, room, other)?)?;
             }
             text.push(b'}')?;
         }
         Expr::Repeat(times, first, others) => {
-            put(&mut text, b"{", &shown(alloc, times)?)?;
-            put(&mut text, b"{", &shown(alloc, first)?)?;
+            put(&mut text, b"{", &shown_within(alloc, room, times)?)?;
+            put(&mut text, b"{", &shown_within(alloc, room, first)?)?;
             for other in others {
-                put(&mut text, b", ", &shown(alloc, other)?)?;
+                put(&mut text, b", ", &shown_within(alloc, room, other)?)?;
             }
             text.extend_from_slice(b"}}")?;
         }
         Expr::Cast(signed, inner) => {
-            put(&mut text, conversion(*signed), &shown(alloc, inner)?)?;
+            put(
+                &mut text,
+                conversion(*signed),
+                &shown_within(alloc, room, inner)?,
+            )?;
             text.push(b')')?;
         }
     }
     Ok(text)
+}
+
+/// The selects behind the name of a left side, each with a bar before its first expression.
+fn selects_shown(
+    alloc: Global,
+    selects: &[(Expr, Option<(PartSelect, Expr)>)],
+) -> Result<Vec<u8>, Fail> {
+    let mut text = Vec::new(alloc);
+    for (index, second) in selects {
+        put(&mut text, b"|", &shown(alloc, index)?)?;
+        if let Some((kind, other)) = second {
+            put(&mut text, between(*kind), &shown(alloc, other)?)?;
+        }
+    }
+    Ok(text)
+}
+
+fn between(kind: PartSelect) -> &'static [u8] {
+    match kind {
+        PartSelect::Bounds => b" to ",
+        PartSelect::Upward => b" up ",
+        PartSelect::Downward => b" down ",
+    }
 }
 
 fn conversion(signed: bool) -> &'static [u8] {
@@ -218,11 +278,71 @@ const OTHERS: [(&str, &str); 27] = [
     ),
 ];
 
-/// Names of a declaration, each with its value in brackets.
+/// Selects (clauses 5.2.1 and 5.2.2), and what they are shown as.
+const SELECTS: [(&str, &str); 13] = [
+    ("a[b]", "a|b"),
+    ("a[3:0]", "a|0 to 0"),
+    ("a[b +: 4]", "a|b up 0"),
+    ("a[b -: 4]", "a|b down 0"),
+    ("a[b][c]", "a|b|c"),
+    ("a[b][c:d]", "a|b|c to d"),
+    ("a[b][c][d +: e]", "a|b|c|d up e"),
+    ("a[b + c]", "a|[b + c]"),
+    ("a[b ? c : d]", "a|[b ? c : d]"),
+    ("a[b ? c : d:e]", "a|[b ? c : d] to e"),
+    ("a[b[c]]", "a|b|c"),
+    ("a[b[c +: d] +: e]", "a|b|c up d up e"),
+    ("{a[b], c[d:e]} + -f[g]", "[{a|b, c|d to e} + [-f|g]]"),
+];
+
+/// Left sides of blocking assignments (clauses 9.2.1 and A.8.5), and what they are shown as.
+const LEFTS: [(&str, &str); 10] = [
+    ("a", "a"),
+    ("a[b]", "a|b"),
+    ("a[3:0]", "a|0 to 0"),
+    ("a[b][c +: d]", "a|b|c up d"),
+    ("a[b -: d]", "a|b down d"),
+    ("{a}", "{a}"),
+    ("{a, b[c]}", "{a, b|c}"),
+    ("{{a, b}, c, {d}}", "{{a, b}, c, {d}}"),
+    ("{a[b + c], {d[e]}}", "{a|[b + c], {d|e}}"),
+    ("{a[{b, c}]}", "{a|{b, c}}"),
+];
+
+/// The left side of an assignment in one line.
+fn left_shown(alloc: Global, left: &Left) -> Result<Vec<u8>, Fail> {
+    let mut text = Vec::new(alloc);
+    match left {
+        Left::Name(name, selects) => {
+            put(&mut text, name, &selects_shown(alloc, selects)?)?;
+        }
+        Left::Concat(first, others) => {
+            put(&mut text, b"{", &left_shown(alloc, first)?)?;
+            for other in others {
+                put(&mut text, b", ", &left_shown(alloc, other)?)?;
+            }
+            text.push(b'}')?;
+        }
+    }
+    Ok(text)
+}
+
+/// A range, where there is one.
+fn range_shown(alloc: Global, range: &Option<Range>) -> Result<Vec<u8>, Fail> {
+    let mut text = Vec::new(alloc);
+    if let Some(range) = range {
+        put(&mut text, b" from ", &shown(alloc, &range.left)?)?;
+        put(&mut text, b" to ", &shown(alloc, &range.right)?)?;
+    }
+    Ok(text)
+}
+
+/// Names of a declaration, each with the range of its words, or its value.
 fn names_shown(alloc: Global, names: &[Declarator]) -> Result<Vec<u8>, Fail> {
     let mut text = Vec::new(alloc);
     for name in names {
         put(&mut text, b" ", &name.name)?;
+        text.extend_from_slice(&range_shown(alloc, &name.words)?)?;
         if let Some(value) = &name.value {
             put(&mut text, b" = ", &shown(alloc, value)?)?;
         }
@@ -236,14 +356,31 @@ fn form_shown(alloc: Global, form: &Form) -> Result<Vec<u8>, Fail> {
     if form.signed {
         text.extend_from_slice(b" signed")?;
     }
-    if let Some(range) = &form.range {
-        put(&mut text, b" from ", &shown(alloc, &range.left)?)?;
-        put(&mut text, b" to ", &shown(alloc, &range.right)?)?;
+    text.extend_from_slice(&range_shown(alloc, &form.range)?)?;
+    Ok(text)
+}
+
+/// Both sides of an assignment in one line, with the sign between them.
+fn sides_shown(alloc: Global, left: &Left, sign: &[u8], value: &Expr) -> Result<Vec<u8>, Fail> {
+    let mut text = left_shown(alloc, left)?;
+    put(&mut text, sign, &shown(alloc, value)?)?;
+    Ok(text)
+}
+
+/// The assignments of an `assign` item in one line.
+fn assignments_shown(alloc: Global, assignments: &[NetAssignment]) -> Result<Vec<u8>, Fail> {
+    let mut text = Vec::new(alloc);
+    for a in assignments {
+        put(
+            &mut text,
+            b" ",
+            &sides_shown(alloc, &a.target, b" = ", &a.value)?,
+        )?;
     }
     Ok(text)
 }
 
-/// A declaration, or the right side of an assignment in `initial`, in one line.
+/// A declaration, an assignment in `initial`, or the assignments of an `assign` item, in one line.
 fn item_shown(alloc: Global, item: &Item) -> Result<Vec<u8>, Fail> {
     let mut text = Vec::new(alloc);
     match item {
@@ -256,14 +393,26 @@ fn item_shown(alloc: Global, item: &Item) -> Result<Vec<u8>, Fail> {
             text.extend_from_slice(&names_shown(alloc, names)?)?;
         }
         Item::Integer(names) => put(&mut text, b"integer", &names_shown(alloc, names)?)?,
-        Item::Initial(Stmt::Assign(_, value)) => text.extend_from_slice(&shown(alloc, value)?)?,
+        Item::Initial(Stmt::Assign(left, value)) => {
+            text.extend_from_slice(&sides_shown(alloc, left, b" = ", value)?)?;
+        }
+        Item::Initial(Stmt::Later(left, value)) => {
+            text.extend_from_slice(&sides_shown(alloc, left, b" <= ", value)?)?;
+        }
+        Item::Assign(assignments) => {
+            put(
+                &mut text,
+                b"assign",
+                &assignments_shown(alloc, assignments)?,
+            )?;
+        }
         _ => text.extend_from_slice(b"not shown")?,
     }
     Ok(text)
 }
 
 /// Declarations (clauses 4.2, 4.3 and 4.8), and what they are shown as.
-const DECLARATIONS: [(&str, &str); 11] = [
+const DECLARATIONS: [(&str, &str); 15] = [
     ("wire a;", "wire a"),
     ("wire a, b = c, d;", "wire a b = c d"),
     ("wire signed a;", "wire signed a"),
@@ -284,6 +433,16 @@ const DECLARATIONS: [(&str, &str); 11] = [
     ),
     ("reg signed [0:n] a;", "reg signed from 0 to n a"),
     ("integer a, b = c + d;", "integer a b = [c + d]"),
+    ("reg [7:0] m [0:3];", "reg from 0 to 0 m from 0 to 0"),
+    (
+        "reg m [0:3], n, p = q, r [s:t];",
+        "reg m from 0 to 0 n p = q r from s to t",
+    ),
+    ("integer n [1:2];", "integer n from 0 to 0"),
+    (
+        "assign a = b, c[d] = e, {f, g[h:i]} = j;",
+        "assign a = b c|d = e {f, g|h to i} = j",
+    ),
 ];
 
 /// The only item of a source, as it is shown.
@@ -315,7 +474,8 @@ fn is_shown(rt: &impl Abort, alloc: Global, source: &[u8], text: &[u8]) -> Resul
 fn are_shown(rt: &impl Abort, alloc: Global, rows: &[(&str, &str)]) -> Result<(), Fail> {
     for (value, text) in rows {
         let source = format!(in alloc; "module t; initial x = {value}; endmodule")?;
-        is_shown(rt, alloc, source.as_bytes(), text.as_bytes())?;
+        let wanted = format!(in alloc; "x = {text}")?;
+        is_shown(rt, alloc, source.as_bytes(), wanted.as_bytes())?;
     }
     Ok(())
 }
@@ -333,6 +493,25 @@ fn levels(rt: HostRuntime) -> Result<(), Fail> {
 #[test]
 fn others(rt: HostRuntime) -> Result<(), Fail> {
     are_shown(&rt, rt.alloc(), &OTHERS)
+}
+
+#[test]
+fn selects(rt: HostRuntime) -> Result<(), Fail> {
+    are_shown(&rt, rt.alloc(), &SELECTS)
+}
+
+/// Each left side is shown as the text beside it, before `=` and before `<=`.
+#[test]
+fn lefts(rt: HostRuntime) -> Result<(), Fail> {
+    for (left, text) in &LEFTS {
+        let blocking = format!(in rt.alloc(); "module t; initial {left} = x; endmodule")?;
+        let wanted = format!(in rt.alloc(); "{text} = x")?;
+        is_shown(&rt, rt.alloc(), blocking.as_bytes(), wanted.as_bytes())?;
+        let later = format!(in rt.alloc(); "module t; initial {left} <= x; endmodule")?;
+        let wanted = format!(in rt.alloc(); "{text} <= x")?;
+        is_shown(&rt, rt.alloc(), later.as_bytes(), wanted.as_bytes())?;
+    }
+    Ok(())
 }
 
 #[test]

@@ -8,7 +8,7 @@ use Rattle.vs_design.specs.declared.design.Assign.{Assign}
 use Rattle.vs_design.specs.declared.design.Process.{Process}
 use Rattle.vs_design.specs.declared.design.Entry.{Entry}
 use Rattle.vs_design.specs.declared.timescale.Timescale.{Timescale}
-use Rattle.vs_design.specs.WellFormed.{WellFormed}
+use Rattle.vs_design.specs.WellFormed.{WellFormed, share_a_bit}
 use Rattle.vs_rows_vcd.specs.ThreeSignals.{IsOutline}
 
 none_of : {X : Type 0} (P : X → Type 0) → All P []
@@ -23,9 +23,9 @@ three_numbers : IsDistinct nat_eq (0 ∷ 1 ∷ 2 ∷ [])
 unfolding IsDistinct
 three_numbers = ((refl, (refl, tt)), ((refl, tt), (tt, tt)))
 
-no_numbers : IsDistinct nat_eq []
+no_ranges : (signals : List Signal) → IsDistinct (share_a_bit signals) []
 unfolding IsDistinct
-no_numbers = tt
+no_ranges signals = tt
 
 no_texts : IsDistinct bytes_eq []
 unfolding IsDistinct
@@ -51,7 +51,7 @@ three_well_formed t signals assigns processes outline x y z s a p o px py pz =
     rw (s, a, p, o.lines) (record {
       processes = none_of _;
       assigns = none_of _;
-      drivers = no_numbers;
+      drivers = no_ranges (x ∷ y ∷ z ∷ []);
       declared = three_within;
       declared_once = three_numbers;
       all_declared = three_have;

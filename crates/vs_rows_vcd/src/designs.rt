@@ -1,5 +1,5 @@
 //! A design made by hand, and a run of it.
-ghost use Rattle.std.specs.Prelude.{◌≡◌, ◌<◌, ◌≤◌, IfOk};
+ghost use Rattle.std.specs.Prelude.{◌≡◌, ◌<◌, ◌≤◌, ◌^◌, IfOk};
 ghost use Rattle.vs_rows_vcd.specs.ThreeSignals.{IsOutline};
 
 use std::alloc::{AllocError, Global};
@@ -16,8 +16,10 @@ fn variable(
     width: u32,
     range: Option<Bounds>,
     words: Option<Bounds>,
+    count: u32,
 ) -> Result<Signal, AllocError>
-    requires { (0 < width) × (width ≤ 64) }
+    requires sized { (0 < width) × (width ≤ 64) }
+    requires counted { (0 < count) × (count ≤ 2 ^ 16) }
     ensures { IfOk result (λ s. s.path.items ≡ path.now) }
 {
     let name = if path.len() > 2 { &path[2..] } else { path };
@@ -29,6 +31,7 @@ fn variable(
         signed: false,
         range,
         words,
+        count,
     })
 }
 
@@ -58,9 +61,9 @@ pub fn three_signals(alloc: Global) -> Result<Design, AllocError> {
         precision,
     };
     let mut signals = Vec::new(alloc);
-    signals.push(variable(alloc, b"t.m", 8, None, Some(words))?)?;
-    signals.push(variable(alloc, b"t.a", 1, None, None)?)?;
-    signals.push(variable(alloc, b"t.b", 4, Some(range), None)?)?;
+    signals.push(variable(alloc, b"t.m", 8, None, Some(words), 8)?)?;
+    signals.push(variable(alloc, b"t.a", 1, None, None, 1)?)?;
+    signals.push(variable(alloc, b"t.b", 4, Some(range), None, 1)?)?;
     let outline = outline(alloc)?;
     Design::new(
         alloc,
@@ -73,13 +76,15 @@ pub fn three_signals(alloc: Global) -> Result<Design, AllocError> {
 }
 
 // A write of a whole signal.
-pub fn whole(signal: usize, digits: Vec4) -> Write {
-    Write::new(Part {
+pub fn whole(alloc: Global, signal: usize, digits: Vec4) -> Result<Write, AllocError> {
+    let mut write = Write::new(alloc);
+    write.push(Part {
         signal,
         word: 0,
         low: 0,
         digits,
-    })
+    })?;
+    Ok(write)
 }
 
 pub const HEADER: &[u8] =
@@ -93,12 +98,12 @@ pub fn write_dump<S: Sink>(alloc: Global, sink: &mut S) -> Result<(), VcdFault> 
     let design = three_signals(alloc)?;
     let mut store = Store::start(alloc, &design)?;
     let mut writer = Writer::header(alloc, sink, &design)?;
-    store.put(&whole(1, Vec4::from_number(1, 0)));
+    store.put(&whole(alloc, 1, Vec4::from_number(1, 0))?);
     writer.slot(alloc, sink, 0, &store)?;
     writer.slot(alloc, sink, 3, &store)?;
-    store.put(&whole(1, Vec4::from_number(1, 1)));
+    store.put(&whole(alloc, 1, Vec4::from_number(1, 1))?);
     writer.slot(alloc, sink, 5, &store)?;
-    store.put(&whole(2, Vec4::from_number(4, 5)));
+    store.put(&whole(alloc, 2, Vec4::from_number(4, 5))?);
     writer.slot(alloc, sink, 7, &store)?;
     writer.finish(sink, 10)
 }

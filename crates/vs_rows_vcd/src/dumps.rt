@@ -10,7 +10,7 @@ use vs_vcd::{Counted, Sink, VcdFault, Writer, shows_values_at_slot_ends};
 fn write_digits<S: Sink>(alloc: Global, sink: &mut S, digits: &[Digit; 4]) -> Result<(), VcdFault> {
     let design = three_signals(alloc)?;
     let mut store = Store::start(alloc, &design)?;
-    store.put(&whole(2, Vec4::from_digits(digits)));
+    store.put(&whole(alloc, 2, Vec4::from_digits(digits))?);
     let mut writer = Writer::header(alloc, sink, &design)?;
     writer.slot(alloc, sink, 3, &store)?;
     writer.finish(sink, 3)

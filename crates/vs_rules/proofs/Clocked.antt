@@ -1,5 +1,5 @@
 -- A clocked design keeps the rules, so it is independent: the rules are not empty.
-use Rattle.std.proofs.Common.{◌≡◌, ℕ, zero, suc, ◌+◌, ◌%◌, ◌<◌, ◌==◌, ◌||◌, ◌⊎◌, ◌++◌, Bool, true, false, Option, Some, option_map, List, [], ◌∷◌, length, slice_get, refl, sym, ◌∙◌, ap, subst, inl, inr, arith, lit<, lit≤, nat_lt}
+use Rattle.std.proofs.Common.{◌≡◌, ℕ, zero, suc, ◌+◌, ◌%◌, ◌<◌, ◌==◌, ◌||◌, ◌⊎◌, ◌++◌, Bool, true, false, Option, Some, option_map, List, [], ◌∷◌, length, slice_get, refl, sym, ◌∙◌, ap, subst, inl, inr, arith, lit<, nat_lt}
 use Rattle.std.proofs.lemmas.Option.{none-some, same_Some}
 use Rattle.std.proofs.lemmas.Bool.{or_cases, eqb-true, eq-eqb, false≢true, true≢false}
 use Rattle.std.proofs.lemmas.List.Elements.{All-nil, All-cons}
@@ -24,20 +24,23 @@ use Rattle.vs_design.specs.declared.statement.Ticks.{Ticks}
 use Rattle.vs_design.specs.declared.expression.Typed.{Typed, fold-roll-Typed}
 use Rattle.vs_design.specs.declared.expression.Typed.TheVariants as e
 use Rattle.vs_design.specs.declared.expression.Typed.TheOpen as t
-use Rattle.vs_design.specs.Uses.{whole, is_of, reads, reads_step, reads_signal, writes_signal}
+use Rattle.vs_design.specs.Uses.{whole, reads, reads_step, writes_signal}
 use Rattle.vs_design.specs.WellFormed.{WellFormed, size_step, size_of, is_sound_assignment, is_sound_assign, sound_step, is_sound_statement, numbers_step, numbers, is_sound_process}
 use Rattle.vs_process.specs.Places.{Todo, perform, turns, flat}
 use Rattle.vs_process.specs.Steps.{Next, on, after, step, statement_step}
+use Rattle.vs_process.proofs.Lists.{any_at}
 use Rattle.vs_process.proofs.Todos.{flat-Block}
-use Rattle.vs_independence.specs.Race.{name, bit, target}
-use Rattle.vs_independence.specs.Threads.{todo_reads}
+use Rattle.vs_independence.specs.Feeds.{writes_into}
+use Rattle.vs_independence.proofs.Feeds.{into_named}
+use Rattle.vs_independence.proofs.Lists.{contains_at}
+use Rattle.vs_independence.specs.Race.{boxed, name, bit, operand, target}
 use Rattle.vs_independence.specs.Discipline.{Reaches, here, through}
-use Rattle.vs_independence.proofs.Race.{size_number, reads_number, sound_assign, numbers_assign}
+use Rattle.vs_independence.proofs.Race.{size_number, size_operand, reads_number, reads_operand, sound_assign, numbers_assign}
 use Rattle.vs_independence.proofs.Whole.{independent}
-use Rattle.vs_rules.specs.Points.{Among, statement_nexts, Goes, first_todo, WritesNow, WritesLater, Point, Late, Slot0, RunsAt}
+use Rattle.vs_rules.specs.Points.{Among, statement_nexts, Goes, first_todo, WritesNow, WritesLater, ReadsNow, Point, Late, Slot0, RunsAt}
 use Rattle.vs_rules.specs.Claims.{Name, SignalClaim, controls_step, controls_in, controls_of, slots_of, list_of, ends_at, claim_of, writer_in, second_in, is_writer, is_second}
 use Rattle.vs_rules.specs.Rules.{Writes, now, later, IsBlocking, by, IsListed, IsKnown, process_names, signal_names, K1_Signal, K1_Assign, K1_Process, K1_Names, K2, HasMode, K3, K4, K8, IsOwn, AreApart, K9, K10, Ruled}
-use Rattle.vs_rules.specs.Clocked.{turned, inverse, half, clock, taken, late, nothing, pause, period, two, five, seven, three, reader, cleared, clocked, clocked_claims, operand, boxed, AClockedDesignIsRuled}
+use Rattle.vs_rules.specs.Clocked.{turned, inverse, half, clock, taken, late, nothing, pause, period, two, five, seven, three, reader, cleared, clocked, clocked_claims, AClockedDesignIsRuled}
 use Rattle.vs_rules.proofs.Rules.{ruled_is_disciplined}
 
 -- ---- without branches, each path of the text is that of each store
@@ -102,15 +105,15 @@ controls_block : (g : Global) (s z : Statement) → controls_in (y.Block (two g 
 controls_block g s z = ap controls_in (sym (y.rolls-Block (two g s z))) ∙ fold-roll-Statement (List ℕ) controls_step (f.Block (two g s z))
 
 controls_clock : (g : Global) → controls_in (clock g) ≡ 1 ∷ []
-controls_clock g = controls_forever g 0 (half g) ∙ controls_delay g 1 five (turned g) ∙ ap (λ l. 1 ∷ l) (controls_assign 2 (target 0) (inverse g 0))
+controls_clock g = controls_forever g 0 (half g) ∙ controls_delay g 1 five (turned g) ∙ ap (λ l. 1 ∷ l) (controls_assign 2 (target g 0) (inverse g 0))
 
 controls_reader : (g : Global) → controls_in (reader g) ≡ 1 ∷ 3 ∷ []
-controls_reader g = rw (controls_forever g 0 (period g), controls_block g (late g) (pause g), controls_delay g 1 seven taken, controls_later 2 (target 1) (operand 2), controls_delay g 3 three nothing, controls_null 4) refl
+controls_reader g = rw (controls_forever g 0 (period g), controls_block g (late g) (pause g), controls_delay g 1 seven (taken g), controls_later 2 (target g 1) (operand 2), controls_delay g 3 three nothing, controls_null 4) refl
 
 controls_are : (g : Global) (i : ℕ) → controls_of (clocked g) i ≡ numbers_at i
 controls_are g zero = controls_clock g
 controls_are g (suc zero) = controls_reader g
-controls_are g (suc (suc zero)) = controls_assign 0 (target 0) (e.Number (Zero ∷ []))
+controls_are g (suc (suc zero)) = controls_assign 0 (target g 0) (e.Number (Zero ∷ []))
 controls_are g (suc (suc (suc i))) = refl
 
 lists_are : (g : Global) (i : ℕ) → slots_of (clocked g) clocked_claims i ≡ lists_at i
@@ -148,10 +151,10 @@ data Spot (g : Global) : ℕ → Todo → Type 0 where
   clock_turns : Spot g 0 (perform (turned g) ∷ perform (clock g) ∷ [])
   reader_loops : Spot g 1 (perform (reader g) ∷ [])
   reader_waits : Spot g 1 (perform (late g) ∷ perform (pause g) ∷ perform (reader g) ∷ [])
-  reader_takes : Spot g 1 (perform taken ∷ perform (pause g) ∷ perform (reader g) ∷ [])
+  reader_takes : Spot g 1 (perform (taken g) ∷ perform (pause g) ∷ perform (reader g) ∷ [])
   reader_pauses : Spot g 1 (perform (pause g) ∷ perform (reader g) ∷ [])
   reader_ends : Spot g 1 (perform nothing ∷ perform (reader g) ∷ [])
-  clears : Spot g 2 (perform cleared ∷ [])
+  clears : Spot g 2 (perform (cleared g) ∷ [])
   rests : (i : ℕ) → Spot g i []
 
 -- its points at which it can run at a residue
@@ -161,7 +164,7 @@ data Run (g : Global) : ℕ → Todo → ℕ → Type 0 where
   clock_turns : (r : ℕ) → residues 0 1 r ≡ true → Run g 0 (perform (turned g) ∷ perform (clock g) ∷ []) r
   reader_loops : (r : ℕ) → 0 ≡ r → Run g 1 (perform (reader g) ∷ []) r
   reader_waits : (r : ℕ) → 0 ≡ r → Run g 1 (perform (late g) ∷ perform (pause g) ∷ perform (reader g) ∷ []) r
-  reader_takes : (r : ℕ) → 7 ≡ r → Run g 1 (perform taken ∷ perform (pause g) ∷ perform (reader g) ∷ []) r
+  reader_takes : (r : ℕ) → 7 ≡ r → Run g 1 (perform (taken g) ∷ perform (pause g) ∷ perform (reader g) ∷ []) r
   reader_pauses : (r : ℕ) → 7 ≡ r → Run g 1 (perform (pause g) ∷ perform (reader g) ∷ []) r
   reader_ends : (r : ℕ) → 0 ≡ r → Run g 1 (perform nothing ∷ perform (reader g) ∷ []) r
 
@@ -171,7 +174,7 @@ data Early (g : Global) : ℕ → Todo → Type 0 where
   clock_waits : Early g 0 (perform (half g) ∷ perform (clock g) ∷ [])
   reader_loops : Early g 1 (perform (reader g) ∷ [])
   reader_waits : Early g 1 (perform (late g) ∷ perform (pause g) ∷ perform (reader g) ∷ [])
-  clears : Early g 2 (perform cleared ∷ [])
+  clears : Early g 2 (perform (cleared g) ∷ [])
   rests : (i : ℕ) → Early g i []
 
 -- a way on leads to a point again
@@ -335,55 +338,57 @@ reader_point g =
 reader_writes : (g : Global) → Writes (clocked g) 1 1
 unfolding out-Statement denote.Hole.Carrier.out
 reader_writes g =
-    later (perform taken ∷ perform (pause g) ∷ perform (reader g) ∷ [])
-    (Point.waits (perform (late g) ∷ perform (pause g) ∷ perform (reader g) ∷ []) (perform taken ∷ perform (pause g) ∷ perform (reader g) ∷ []) 1 7 (reader_point g) (Among.first []))
+    later (perform (taken g) ∷ perform (pause g) ∷ perform (reader g) ∷ [])
+    (Point.waits (perform (late g) ∷ perform (pause g) ∷ perform (reader g) ∷ []) (perform (taken g) ∷ perform (pause g) ∷ perform (reader g) ∷ []) 1 7 (reader_point g) (Among.first []))
     refl
 
 clears_writes : (g : Global) → Writes (clocked g) 2 0
 unfolding out-Statement denote.Hole.Carrier.out
-clears_writes g = now (perform cleared ∷ []) Point.begins refl
+clears_writes g = now (perform (cleared g) ∷ []) Point.begins refl
 
 -- ---- what expressions read
-
-reads_operand : (s : ℕ) → reads (operand s) ≡ whole s ∷ []
-reads_operand s =
-    ap reads (sym (e.rolls-Signal (record { signal = s; width = 1; signed = false; sized = (lit< tt, lit≤ tt) })))
-    ∙ fold-roll-Typed (List BitRange) reads_step (t.Signal (record { signal = s; width = 1; signed = false; sized = (lit< tt, lit≤ tt) }))
 
 reads_unary : (g : Global) (op : Unary) (x : Typed) → reads (e.Unary op (boxed g x)) ≡ reads x
 reads_unary g op x = ap reads (sym (e.rolls-Unary op (boxed g x))) ∙ fold-roll-Typed (List BitRange) reads_step (t.Unary op (boxed g x))
 
-reads_one : (x : Typed) (s v : ℕ) → reads x ≡ whole s ∷ [] → reads_signal x v ≡ true → s ≡ v
-reads_one x s v is h = named s v (ap (list_any (is_of v)) (sym is) ∙ h)
+one_in : {A : Type 0} (x z : A) → Contains (x ∷ []) z → x ≡ z
+one_in x z (zero, within, is) = is
+one_in x z (suc k, within, is) = absurd (omega (arith, within))
 
-reads_none : (x : Typed) (v : ℕ) → reads x ≡ [] → reads_signal x v ≡ true → ⊥
-reads_none x v is h = false≢true (ap (list_any (is_of v)) (sym is) ∙ h)
+none_in : {A : Type 0} (z : A) → Contains [] z → ⊥
+none_in z (k, within, is) = omega (arith, within)
 
-reads_inverse : (g : Global) (v : ℕ) → reads_signal (inverse g 0) v ≡ true → 0 ≡ v
-reads_inverse g v h = reads_one (inverse g 0) 0 v (reads_unary g u.Not (operand 0) ∙ reads_operand 0) h
+reads_one : (x : Typed) (s : ℕ) (r : BitRange) → reads x ≡ whole s ∷ [] → Contains (reads x) r → s ≡ r.signal
+reads_one x s r is h = ap (λ (q : BitRange). q.signal) (one_in (whole s) r (subst (λ rs. Contains rs r) is h))
+
+reads_none : (x : Typed) (r : BitRange) → reads x ≡ [] → Contains (reads x) r → ⊥
+reads_none x r is h = none_in r (subst (λ rs. Contains rs r) is h)
+
+reads_inverse : (g : Global) (r : BitRange) → Contains (reads (inverse g 0)) r → 0 ≡ r.signal
+reads_inverse g r h = reads_one (inverse g 0) 0 r (reads_unary g u.Not (operand 0) ∙ reads_operand 0) h
 
 -- who reads what
-has_read : (g : Global) (i v : ℕ) (k : Todo) → Spot g i k → todo_reads k v ≡ true → ((i ≡ 0) × (0 ≡ v)) ⊎ ((i ≡ 1) × (2 ≡ v))
+has_read : (g : Global) (i : ℕ) (r : BitRange) (k : Todo) → Spot g i k → ReadsNow k r → ((i ≡ 0) × (0 ≡ r.signal)) ⊎ ((i ≡ 1) × (2 ≡ r.signal))
 unfolding out-Statement denote.Hole.Carrier.out
-has_read g _ v _ Spot.clock_loops h = absurd (false≢true h)
-has_read g _ v _ Spot.clock_waits h = absurd (false≢true h)
-has_read g _ v _ Spot.clock_turns h = inl (refl, reads_inverse g v h)
-has_read g _ v _ Spot.reader_waits h = absurd (false≢true h)
-has_read g _ v _ Spot.reader_loops h = absurd (false≢true h)
-has_read g _ v _ Spot.reader_pauses h = absurd (false≢true h)
-has_read g _ v _ Spot.reader_ends h = absurd (false≢true h)
-has_read g _ v _ Spot.reader_takes h = inr (refl, reads_one (operand 2) 2 v (reads_operand 2) h)
-has_read g _ v _ Spot.clears h = absurd (reads_none (e.Number (Zero ∷ [])) v (reads_number (Zero ∷ [])) h)
-has_read g _ v _ (Spot.rests i) h = absurd (false≢true h)
+has_read g _ r _ Spot.clock_loops h = absurd (none_in r h)
+has_read g _ r _ Spot.clock_waits h = absurd (none_in r h)
+has_read g _ r _ Spot.clock_turns h = inl (refl, reads_inverse g r h)
+has_read g _ r _ Spot.reader_waits h = absurd (none_in r h)
+has_read g _ r _ Spot.reader_loops h = absurd (none_in r h)
+has_read g _ r _ Spot.reader_pauses h = absurd (none_in r h)
+has_read g _ r _ Spot.reader_ends h = absurd (none_in r h)
+has_read g _ r _ Spot.reader_takes h = inr (refl, reads_one (operand 2) 2 r (reads_operand 2) h)
+has_read g _ r _ Spot.clears h = absurd (reads_none (e.Number (Zero ∷ [])) r (reads_number (Zero ∷ [])) h)
+has_read g _ r _ (Spot.rests i) h = absurd (none_in r h)
 
-early_read : (g : Global) (i v : ℕ) (k : Todo) → Early g i k → todo_reads k v ≡ true → ⊥
+early_read : (g : Global) (i : ℕ) (r : BitRange) (k : Todo) → Early g i k → ReadsNow k r → ⊥
 unfolding out-Statement denote.Hole.Carrier.out
-early_read g _ v _ Early.clock_loops h = false≢true h
-early_read g _ v _ Early.clock_waits h = false≢true h
-early_read g _ v _ Early.reader_loops h = false≢true h
-early_read g _ v _ Early.reader_waits h = false≢true h
-early_read g _ v _ Early.clears h = reads_none (e.Number (Zero ∷ [])) v (reads_number (Zero ∷ [])) h
-early_read g _ v _ (Early.rests i) h = false≢true h
+early_read g _ r _ Early.clock_loops h = none_in r h
+early_read g _ r _ Early.clock_waits h = none_in r h
+early_read g _ r _ Early.reader_loops h = none_in r h
+early_read g _ r _ Early.reader_waits h = none_in r h
+early_read g _ r _ Early.clears h = reads_none (e.Number (Zero ∷ [])) r (reads_number (Zero ∷ [])) h
+early_read g _ r _ (Early.rests i) h = none_in r h
 
 clock_residue : (g : Global) (k : Todo) (r : ℕ) → Run g 0 k r → residues 0 1 r ≡ true
 clock_residue g _ _ (Run.clock_loops r h) = h
@@ -392,31 +397,31 @@ clock_residue g _ _ (Run.clock_turns r h) = h
 
 -- the one assignment
 abbrev the_assign : Global → Assign
-the_assign g = record { name = name g 116 35 97 48; target = target 2; source = inverse g 0 }
+the_assign g = record { name = name g 116 35 97 48; target = target g 2; source = inverse g 0 }
 
 only_assign : (g : Global) (j : ℕ) (a : Assign) → slice_get (clocked g).assigns j ≡ Some a → (j ≡ 0) × (the_assign g ≡ a)
 only_assign g zero a h = (refl, same_Some _ _ h)
 only_assign g (suc j) a h = absurd (none-some _ h)
 
-reached : (g : Global) (u v : ℕ) → Reaches (clocked g).assigns u v → (u ≡ v) ⊎ ((u ≡ 0) × (2 ≡ v))
-reached g u _ here = inl refl
-reached g u _ (through r j a reach is h) =
+reached : (g : Global) (u : ℕ) (r : BitRange) → Reaches (clocked g).assigns u r → (u ≡ r.signal) ⊎ ((u ≡ 0) × (2 ≡ r.signal))
+reached g u _ (here r e) = inl (sym e)
+reached g u _ (through q r j a reach is h into) =
     let same = (only_assign g j a is).1 in
-    let at_zero : 0 ≡ r = reads_inverse g r (ap (λ (x : Assign). reads_signal x.source r) same ∙ h) in
-    let at_two : 2 ≡ a.target.signal = ap (λ (x : Assign). x.target.signal) same in
-    elim (reached g u r reach) [
+    let at_zero : 0 ≡ q.signal = reads_inverse g q (subst (λ (x : Assign). Contains (reads x.source) q) (sym same) h) in
+    let at_two : 2 ≡ r.signal = named 2 r.signal (ap (λ (x : Assign). writes_signal x.target r.signal) same ∙ into_named a.target r into) in
+    elim (reached g u q reach) [
       | inl e ↦ inr (e ∙ sym at_zero, at_two)
       | inr e ↦ inr (e.0, at_two)
     ]
 
 -- the clock's edges and the reads of what hangs on it are apart
-edges_apart : (g : Global) (v : ℕ) (k l : Todo) (r : ℕ) → todo_reads k v ≡ true → Run g 1 k r → Run g 0 l r → ⊥
+edges_apart : (g : Global) (q : BitRange) (k l : Todo) (r : ℕ) → ReadsNow k q → Run g 1 k r → Run g 0 l r → ⊥
 unfolding out-Statement denote.Hole.Carrier.out
-edges_apart g v _ l _ h (Run.reader_loops r e) z = false≢true h
-edges_apart g v _ l _ h (Run.reader_waits r e) z = false≢true h
-edges_apart g v _ l _ h (Run.reader_takes r e) z = false≢true (ap (residues 0 1) e ∙ clock_residue g l r z)
-edges_apart g v _ l _ h (Run.reader_pauses r e) z = false≢true h
-edges_apart g v _ l _ h (Run.reader_ends r e) z = false≢true h
+edges_apart g q _ l _ h (Run.reader_loops r e) z = none_in q h
+edges_apart g q _ l _ h (Run.reader_waits r e) z = none_in q h
+edges_apart g q _ l _ h (Run.reader_takes r e) z = false≢true (ap (residues 0 1) e ∙ clock_residue g l r z)
+edges_apart g q _ l _ h (Run.reader_pauses r e) z = none_in q h
+edges_apart g q _ l _ h (Run.reader_ends r e) z = none_in q h
 
 -- ---- the rules, one after another
 
@@ -427,7 +432,7 @@ abbrev process_1 : Global → Process
 process_1 g = record { name = name g 116 35 112 49; kind = Always; body = reader g }
 
 abbrev process_2 : Global → Process
-process_2 g = record { name = name g 116 35 112 50; kind = Initial; body = cleared }
+process_2 g = record { name = name g 116 35 112 50; kind = Initial; body = cleared g }
 
 k1_signal : (g : Global) (v : ℕ) → K1_Signal (clocked g) clocked_claims v
 k1_signal g v = record { listed = λ s. at_signal v s }
@@ -544,9 +549,11 @@ k3 g v = record { mode = at_mode v }
 
 k4 : (g : Global) (j : ℕ) → K4 (clocked g) clocked_claims j
 k4 g j = record {
-  earlier = λ a b i r at_a reads at_b drives.
-      let at_zero : 0 ≡ r = reads_inverse g r (ap (λ (x : Assign). reads_signal x.source r) (only_assign g j a at_a).1 ∙ reads) in
-      let at_two : 2 ≡ r = named 2 r (ap (λ (x : Assign). writes_signal x.target r) (only_assign g i b at_b).1 ∙ drives) in
+  earlier = λ a b i at_a at_b fed.
+      let read = any_at (writes_into b.target) (reads a.source) fed in
+      let at_zero : 0 ≡ read.1.signal =
+      reads_inverse g read.1 (subst (λ (x : Assign). Contains (reads x.source) read.1) (sym (only_assign g j a at_a).1) (contains_at (reads a.source) read.0 read.1 read.2)) in
+      let at_two : 2 ≡ read.1.signal = named 2 read.1.signal (ap (λ (x : Assign). writes_signal x.target read.1.signal) (only_assign g i b at_b).1 ∙ into_named b.target read.1 read.3) in
       absurd (differ 0 2 refl (at_zero ∙ sym at_two));
 }
 
@@ -567,24 +574,24 @@ blocking_source : (g : Global) (v : ℕ) → IsBlocking (clocked g) v → 0 ≡ 
 blocking_source g v (by i k p w) = (wrote g i v k (spot_of g i k p) w).0
 
 k9 : (g : Global) (i : ℕ) → K9 (clocked g) clocked_claims i
-k9 g i = record { fixed = λ u v k p h reach source. fixed u v k h (has_read g i v k (spot_of g i k p) h) (reached g u v reach) (blocking_source g u source) }
+k9 g i = record { fixed = λ u q k p h reach source. fixed u q k h (has_read g i q k (spot_of g i k p) h) (reached g u q reach) (blocking_source g u source) }
   where
-    fixed : (u v : ℕ) (k : Todo) → todo_reads k v ≡ true → ((i ≡ 0) × (0 ≡ v)) ⊎ ((i ≡ 1) × (2 ≡ v)) → (u ≡ v) ⊎ ((u ≡ 0) × (2 ≡ v)) → 0 ≡ u →
-        IsOwn (clocked g) clocked_claims i u v k ⊎ AreApart (clocked g) clocked_claims i u k
-    fixed u v k h (inl own) reach at_zero = inl (subst (λ n. writer_at g n i) at_zero (subst (λ n. writer_at g 0 n) (sym own.0) refl), inl (sym at_zero ∙ own.1))
-    fixed u v k h (inr other) reach at_zero =
+    fixed : (u : ℕ) (q : BitRange) (k : Todo) → ReadsNow k q → ((i ≡ 0) × (0 ≡ q.signal)) ⊎ ((i ≡ 1) × (2 ≡ q.signal)) → (u ≡ q.signal) ⊎ ((u ≡ 0) × (2 ≡ q.signal)) → 0 ≡ u →
+        IsOwn (clocked g) clocked_claims i u q.signal k ⊎ AreApart (clocked g) clocked_claims i u k
+    fixed u q k h (inl own) reach at_zero = inl (subst (λ n. writer_at g n i) at_zero (subst (λ n. writer_at g 0 n) (sym own.0) refl), inl (sym at_zero ∙ own.1))
+    fixed u q k h (inr other) reach at_zero =
         inr (λ w r l wu p writes runs_l runs_k.
         let what = wrote g w u l (spot_of g w l p) writes in
         elim what.1 [
-          | inl clock_is ↦ edges_apart g v k l r h (subst (λ n. Run g n k r) other.0 (run_of g i k r runs_k)) (subst (λ n. Run g n l r) clock_is (run_of g w l r runs_l))
+          | inl clock_is ↦ edges_apart g q k l r h (subst (λ n. Run g n k r) other.0 (run_of g i k r runs_k)) (subst (λ n. Run g n l r) clock_is (run_of g w l r runs_l))
           | inr clears_is ↦ false≢true (subst (λ n. writer_at g 0 n) clears_is (subst (λ n. writer_at g n w) (sym at_zero) wu))
         ])
 
 k10 : (g : Global) (i : ℕ) → K10 (clocked g) clocked_claims i
 k10 g i = record {
-  variable = λ v k s h. absurd (early_read g i v k (early_of g i k s) h);
-  written = λ v k s h. absurd (early_read g i v k (early_of g i k s) h);
-  alone = λ v j k s h w. absurd (early_read g i v k (early_of g i k s) h);
+  variable = λ q k s h. absurd (early_read g i q k (early_of g i k s) h);
+  written = λ q k s h. absurd (early_read g i q k (early_of g i k s) h);
+  alone = λ q j k s h w. absurd (early_read g i q k (early_of g i k s) h);
 }
 
 ruled : (g : Global) → Ruled (clocked g) clocked_claims
@@ -602,11 +609,6 @@ ruled g = record {
 }
 
 -- ---- it is well formed
-
-size_operand : (s : ℕ) → size_of (operand s) ≡ Some 1
-size_operand s =
-    ap size_of (sym (e.rolls-Signal (record { signal = s; width = 1; signed = false; sized = (lit< tt, lit≤ tt) })))
-    ∙ fold-roll-Typed (Option ℕ) size_step (t.Signal (record { signal = s; width = 1; signed = false; sized = (lit< tt, lit≤ tt) }))
 
 size_inverse : (g : Global) (s : ℕ) → size_of (inverse g s) ≡ Some 1
 size_inverse g s =
@@ -647,14 +649,14 @@ abbrev signals_of : Global → List Signal
 signals_of g = (clocked g).signals
 
 sound_turned : (g : Global) → is_sound_statement (signals_of g) (turned g) ≡ true
-sound_turned g = sound_assign (signals_of g) 2 (target 0) (inverse g 0)
+sound_turned g = sound_assign (signals_of g) 2 (target g 0) (inverse g 0)
     ∙ rw (reads_unary g u.Not (operand 0), reads_operand 0, size_inverse g 0) refl
 
-sound_taken : (g : Global) → is_sound_statement (signals_of g) taken ≡ true
-sound_taken g = sound_later (signals_of g) 2 (target 1) (operand 2) ∙ rw (reads_operand 2, size_operand 2) refl
+sound_taken : (g : Global) → is_sound_statement (signals_of g) (taken g) ≡ true
+sound_taken g = sound_later (signals_of g) 2 (target g 1) (operand 2) ∙ rw (reads_operand 2, size_operand 2) refl
 
-sound_cleared : (g : Global) → is_sound_statement (signals_of g) cleared ≡ true
-sound_cleared g = sound_assign (signals_of g) 0 (target 0) (e.Number (Zero ∷ [])) ∙ rw (reads_number (Zero ∷ []), size_number (Zero ∷ [])) refl
+sound_cleared : (g : Global) → is_sound_statement (signals_of g) (cleared g) ≡ true
+sound_cleared g = sound_assign (signals_of g) 0 (target g 0) (e.Number (Zero ∷ [])) ∙ rw (reads_number (Zero ∷ []), size_number (Zero ∷ [])) refl
 
 sound_clock : (g : Global) → is_sound_statement (signals_of g) (clock g) ≡ true
 sound_clock g = sound_forever (signals_of g) g 0 (half g) ∙ sound_delay (signals_of g) g 1 five (turned g) ∙ sound_turned g
@@ -662,13 +664,13 @@ sound_clock g = sound_forever (signals_of g) g 0 (half g) ∙ sound_delay (signa
 sound_reader : (g : Global) → is_sound_statement (signals_of g) (reader g) ≡ true
 sound_reader g =
     sound_forever (signals_of g) g 0 (period g)
-    ∙ sound_block (signals_of g) g (late g) (pause g) (sound_delay (signals_of g) g 1 seven taken ∙ sound_taken g) (sound_delay (signals_of g) g 3 three nothing ∙ sound_null (signals_of g) 4)
+    ∙ sound_block (signals_of g) g (late g) (pause g) (sound_delay (signals_of g) g 1 seven (taken g) ∙ sound_taken g) (sound_delay (signals_of g) g 3 three nothing ∙ sound_null (signals_of g) 4)
 
 numbers_clock : (g : Global) → numbers (clock g) ≡ 0 ∷ 1 ∷ 2 ∷ []
-numbers_clock g = rw (numbers_forever g 0 (half g), numbers_delay g 1 five (turned g), numbers_assign 2 (target 0) (inverse g 0)) refl
+numbers_clock g = rw (numbers_forever g 0 (half g), numbers_delay g 1 five (turned g), numbers_assign 2 (target g 0) (inverse g 0)) refl
 
 numbers_reader : (g : Global) → numbers (reader g) ≡ 0 ∷ 1 ∷ 2 ∷ 3 ∷ 4 ∷ []
-numbers_reader g = rw (numbers_forever g 0 (period g), numbers_block g (late g) (pause g), numbers_delay g 1 seven taken, numbers_later 2 (target 1) (operand 2), numbers_delay g 3 three nothing, numbers_null 4) refl
+numbers_reader g = rw (numbers_forever g 0 (period g), numbers_block g (late g) (pause g), numbers_delay g 1 seven (taken g), numbers_later 2 (target g 1) (operand 2), numbers_delay g 3 three nothing, numbers_null 4) refl
 
 abbrev SoundProcess : Global → Process → Type 0
 SoundProcess g p = is_sound_process (signals_of g) p ≡ true
@@ -682,7 +684,7 @@ unfolding out-Statement denote.Hole.Carrier.out
 reader_process g = rw (sound_reader g, numbers_reader g) refl
 
 clears_process : (g : Global) → SoundProcess g (process_2 g)
-clears_process g = rw (sound_cleared g, numbers_assign 0 (target 0) (e.Number (Zero ∷ []))) refl
+clears_process g = rw (sound_cleared g, numbers_assign 0 (target g 0) (e.Number (Zero ∷ []))) refl
 
 sound_net : (g : Global) → is_sound_assign (signals_of g) (the_assign g) ≡ true
 sound_net g =

@@ -17,7 +17,9 @@ use Rattle.vs_design.specs.declared.statement.Statement.{Statement}
 use Rattle.vs_design.specs.declared.statement.Statement.TheOpen.{Statement-F}
 use Rattle.vs_design.specs.declared.statement.Statement.TheViews.{out-Statement}
 use Rattle.vs_process.specs.Places.{perform, turns}
-use Rattle.vs_process.specs.Steps.{statement_step}
+use Rattle.vs_process.specs.Steps.{assignment, statement_step}
+use Rattle.vs_process.proofs.Ranges.{assigned_names}
+use Rattle.vs_eval.specs.Values.{target_value}
 use Rattle.vs_rules.specs.Points.{Among, statement_nexts, statement_writes, statement_updates, Goes, Point, Late, Slot0, WritesNow, WritesLater, Hot, RunsAt}
 
 -- where a step leads, a path of the text goes
@@ -39,7 +41,8 @@ step_follows (turns (suc n) s ∷ rest) store time = Among.first []
 statement_write_follows : (s : Statement) (f : Statement-F Statement) (rest : Todo) (store : Store) (time : ℕ) (w : Write) (v : ℕ) →
     (statement_step s f rest store time).write ≡ Some w → names w v ≡ true → statement_writes f v ≡ true
 statement_write_follows s (Statement-F.Null m) rest store time w v h n = absurd (none-some _ h)
-statement_write_follows s (Statement-F.Assign m t e) rest store time w v h n = ap (λ x. names x v) (same_Some _ _ h) ∙ n
+statement_write_follows s (Statement-F.Assign m t e) rest store time w v h n =
+    sym (assigned_names t (target_value t e store time) store time v) ∙ ap (λ x. names x v) (same_Some (assignment t e store time) w h) ∙ n
 statement_write_follows s (Statement-F.Later m t e) rest store time w v h n = absurd (none-some _ h)
 statement_write_follows s (Statement-F.Block all) rest store time w v h n = absurd (none-some _ h)
 statement_write_follows s (Statement-F.Delay m ticks body) rest store time w v h n = absurd (none-some _ h)
@@ -55,7 +58,8 @@ statement_update_follows : (s : Statement) (f : Statement-F Statement) (rest : T
     (statement_step s f rest store time).update ≡ Some u → names u.1 v ≡ true → statement_updates f v ≡ true
 statement_update_follows s (Statement-F.Null m) rest store time u v h n = absurd (none-some _ h)
 statement_update_follows s (Statement-F.Assign m t e) rest store time u v h n = absurd (none-some _ h)
-statement_update_follows s (Statement-F.Later m t e) rest store time u v h n = ap (λ (x : ℕ × Write). names x.1 v) (same_Some _ _ h) ∙ n
+statement_update_follows s (Statement-F.Later m t e) rest store time u v h n =
+    sym (assigned_names t (target_value t e store time) store time v) ∙ ap (λ (x : ℕ × Write). names x.1 v) (same_Some (0, assignment t e store time) u h) ∙ n
 statement_update_follows s (Statement-F.Block all) rest store time u v h n = absurd (none-some _ h)
 statement_update_follows s (Statement-F.Delay m ticks body) rest store time u v h n = absurd (none-some _ h)
 statement_update_follows s (Statement-F.Forever m body) rest store time u v h n = absurd (none-some _ h)

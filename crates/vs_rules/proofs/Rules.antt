@@ -1,9 +1,9 @@
 -- The rules make the processes of every slot keep apart.
-use Rattle.std.proofs.Common.{◌≡◌, ℕ, zero, suc, ◌%◌, ◌<◌, ◌≤◌, ◌==◌, ◌⊎◌, Bool, true, false, Option, Some, None, List, [], ◌∷◌, map, get_or, slice_get, slice_set, refl, sym, ◌∙◌, ap, subst, inl, inr, arith, leb-true, eq-eqb, if◌then◌else◌}
+use Rattle.std.proofs.Common.{◌≡◌, ℕ, zero, suc, ◌%◌, ◌<◌, ◌≤◌, ◌==◌, ◌⊎◌, Bool, true, false, Option, Some, None, List, [], ◌∷◌, map, get_or, slice_get, slice_set, refl, sym, ◌∙◌, ap, subst, inl, inr, arith, leb-true}
 use Rattle.std.specs.Str.{bytes_eq}
 use Rattle.std.proofs.lemmas.Slice.Eq.{bytes_eq-Decides}
 use Rattle.std.proofs.Math.ListN.{get_or-map}
-use Rattle.std.proofs.lemmas.Bool.{cond_both, cases_Bool, or_left, cases_eq, eqb-true, eqb-false, true≢false, false≢true}
+use Rattle.std.proofs.lemmas.Bool.{cond_both, cases_eq, eqb-true, eqb-false, true≢false, false≢true}
 use Rattle.std.proofs.lemmas.List.{get_or-set_same, get_or-set_other}
 use Rattle.std.proofs.lemmas.Option.{slice_get_within, get_or_from_slice_get}
 use Rattle.vs_logic4.specs.declared.digit.Digit.{Digit}
@@ -12,7 +12,9 @@ use Rattle.vs_design.specs.declared.design.Process.{Process}
 use Rattle.vs_design.specs.declared.statement.Target.{Target}
 use Rattle.vs_design.specs.Parts.{Parts}
 use Rattle.vs_design.specs.Stores.{Store, put, is_driven}
-use Rattle.vs_design.specs.Uses.{reads_signal, writes_signal}
+use Rattle.std.specs.List.{Contains}
+use Rattle.vs_design.specs.declared.range.BitRange.{BitRange}
+use Rattle.vs_design.specs.Uses.{writes_signal}
 use Rattle.vs_design.specs.WellFormed.{WellFormed}
 use Rattle.vs_design.specs.Writes.{Write}
 use Rattle.vs_eval.specs.Targets.{assigned}
@@ -26,19 +28,20 @@ use Rattle.vs_process.specs.Steps.{step}
 use Rattle.vs_process.specs.States.{State, AssignState, Update, start, todo_of, place_behind, performed, stepped, evaluate, propagate, propagate_value, make, roused, woken_at, start_assign, evaluated, settled}
 use Rattle.vs_process.specs.Executions.{after, Legal, ends, next_time, slot_behind, places_at, time_at}
 use Rattle.vs_process.proofs.Lists.{map_at, distinct_place}
-use Rattle.vs_process.proofs.Assigns.{links, link_of, driven, links_touched, links_set, target_is}
-use Rattle.vs_process.proofs.WellFormed.{one_driver, variable_undriven}
+use Rattle.vs_process.proofs.Assigns.{links, link_of, driven, links_touched, links_set}
+use Rattle.vs_process.proofs.WellFormed.{variable_undriven}
 use Rattle.vs_process.proofs.Times.{enabled_of}
-use Rattle.vs_independence.specs.Threads.{Thread, IsThread, place_reads, todo_reads}
+use Rattle.vs_independence.specs.Threads.{Thread, IsThread, place_reads}
 use Rattle.vs_independence.specs.Discipline.{Reaches, here, through, IsAtStart, Begins, IsOrdered, KeepsApart, Disciplined}
 use Rattle.vs_independence.proofs.Assigns.{assigns_behind}
+use Rattle.vs_independence.proofs.Feeds.{into_named}
 use Rattle.vs_independence.proofs.Settle.{AllIdle}
 use Rattle.vs_independence.proofs.Threads.{is_stopped, stopped_from}
 use Rattle.vs_independence.proofs.Making.{none_get}
 use Rattle.vs_independence.proofs.Ends.{AtEnd, at_end, all_idle, some_of}
 use Rattle.vs_independence.proofs.Times.{is_after, after_next, get_from_all}
 use Rattle.vs_independence.proofs.Moves.{performed_at, performed_is}
-use Rattle.vs_rules.specs.Points.{Point, Late, Slot0, WritesNow, WritesLater, Hot, RunsAt, first_todo}
+use Rattle.vs_rules.specs.Points.{Point, Late, Slot0, WritesNow, WritesLater, ReadsNow, Hot, RunsAt, first_todo}
 use Rattle.vs_rules.specs.Claims.{Name, Claims, claim_of, writer_in, second_in, names_process, is_writer, is_second, place_of, ends_at}
 use Rattle.vs_rules.specs.Rules.{now, later, by, K2, K4, K10, Ruled}
 use Rattle.vs_rules.proofs.Points.{At, at_zero, at_later, Here, Stands, Closed, stands_step, stands_roused, stands_active, HotAt, Walked, walked}
@@ -178,7 +181,7 @@ propagate_linked d s j (Some x) is h = at_value x.pending
     at_value : (o : Option (List Digit)) → IsLinked d (propagate_value s j x o)
     at_value None = h
     at_value (Some digits) =
-        links_touched s.store (put s.store (assigned x.target digits s.store)) (slice_set s.assigns j (settled x)) ∙ links_set s.assigns j x (settled x) is refl refl ∙ h
+        links_touched s.store (put s.store (assigned x.target digits s.store s.time)) (slice_set s.assigns j (settled x)) ∙ links_set s.assigns j x (settled x) is refl refl ∙ h
 
 make_linked : (d : Parts) (s : State) (i : ℕ) (o : Option Update) → IsLinked d s → IsLinked d (make s i o)
 make_linked d s i None h = h
@@ -214,10 +217,10 @@ beginning : (grain : Grain) (d : Parts) (c : Claims) → Ruled d c → (b : Stat
 beginning grain d c r b h =
     subst (Beginning d c) h.is (record { stand = all_stand grain d c r h.moves h.legal; links = linked d h.moves; idle = idle_at_start grain d h.moves h.legal h.at_start })
 
--- what reaches an undriven signal is that signal
-reaches_undriven : (assigns : List Assign) (u v : ℕ) → Reaches assigns u v → is_driven assigns v ≡ false → u ≡ v
-reaches_undriven assigns u _ here undriven = refl
-reaches_undriven assigns u _ (through r j a reach is reads) undriven = absurd (true≢false (sym (driven assigns j a is) ∙ undriven))
+-- what reaches a range of an undriven signal is that signal
+reaches_undriven : (assigns : List Assign) (u : ℕ) (r : BitRange) → Reaches assigns u r → is_driven assigns r.signal ≡ false → u ≡ r.signal
+reaches_undriven assigns u _ (here r e) undriven = sym e
+reaches_undriven assigns u _ (through q r j a reach is reads into) undriven = absurd (true≢false (sym (driven assigns j a r.signal is (into_named a.target r into)) ∙ undriven))
 
 -- the processes that a name is of are one
 same_named : (d : Parts) → WellFormed d → (o : Option Name) (i j : ℕ) → names_process o (slice_get d.processes i) ≡ true → names_process o (slice_get d.processes j) ≡ true → i ≡ j
@@ -273,45 +276,48 @@ alone_later d c formed v r =
     alone d c formed WritesLater v (λ i k p w. r.named i (later k p w)) r.early_later (λ i j k l si p wk wj s wl. r.first_alone_later i j k l si p wk wj s wl)
 
 -- what a process reads in the first slot is undriven
-read_undriven : (d : Parts) (c : Claims) → WellFormed d → (i : ℕ) → K10 d c i → (v : ℕ) (k : Todo) → Slot0 (first_todo d i) k → todo_reads k v ≡ true → is_driven d.assigns v ≡ false
-read_undriven d c formed i r v k s reads = variable_undriven d formed v (r.variable v k s reads)
+read_undriven : (d : Parts) (c : Claims) → WellFormed d → (i : ℕ) → K10 d c i → (q : BitRange) (k : Todo) → Slot0 (first_todo d i) k → ReadsNow k q → is_driven d.assigns q.signal ≡ false
+read_undriven d c formed i r q k s reads = variable_undriven d formed q.signal (r.variable q k s reads)
 
 -- the reading of a process that stands at `k`
-pub reads_at : (d : Parts) (c : Claims) → WellFormed d → Ruled d c → (time i j u v : ℕ) (k l : Todo) → Here (ends_at d c i) c.modulus (first_todo d i) time k →
-    Here (ends_at d c j) c.modulus (first_todo d j) time l → todo_reads k v ≡ true → Reaches d.assigns u v → WritesNow l u → (j ≡ i) × ((u ≡ v) ⊎ (Hot (first_todo d i) u k → ⊥))
-reads_at d c formed r time i j u v k l x y reads reach wrote = at_slot x.at y.at
+pub reads_at : (d : Parts) (c : Claims) → WellFormed d → Ruled d c → (time i j u : ℕ) (q : BitRange) (k l : Todo) → Here (ends_at d c i) c.modulus (first_todo d i) time k →
+    Here (ends_at d c j) c.modulus (first_todo d j) time l → ReadsNow k q → Reaches d.assigns u q → WritesNow l u → (j ≡ i) × ((u ≡ q.signal) ⊎ (Hot (first_todo d i) u k → ⊥))
+reads_at d c formed r time i j u q k l x y reads reach wrote = at_slot x.at y.at
   where
-    at_slot : At (ends_at d c i) c.modulus (first_todo d i) time k → At (ends_at d c j) c.modulus (first_todo d j) time l → (j ≡ i) × ((u ≡ v) ⊎ (Hot (first_todo d i) u k → ⊥))
+    at_slot : At (ends_at d c i) c.modulus (first_todo d i) time k → At (ends_at d c j) c.modulus (first_todo d j) time l → (j ≡ i) × ((u ≡ q.signal) ⊎ (Hot (first_todo d i) u k → ⊥))
     at_slot (at_zero z s) other =
-        let same = reaches_undriven d.assigns u v reach (read_undriven d c formed i (r.first_slot i) v k s reads) in
-        ((r.first_slot i).alone v j k s reads (now l y.point (subst (WritesNow l) same wrote)), inl same)
+        let same = reaches_undriven d.assigns u q reach (read_undriven d c formed i (r.first_slot i) q k s reads) in
+        ((r.first_slot i).alone q j k s reads (now l y.point (subst (WritesNow l) same wrote)), inl same)
     at_slot (at_later up late runs) (at_zero z s) = absurd (omega (arith, z, up))
     at_slot (at_later up late runs) (at_later up' late' runs') =
         elim ((r.writers u).named j (now l y.point wrote)) [
-          | inl writes ↦ elim ((r.readings i).fixed u v k x.point reads reach (by j l y.point wrote)) [
+          | inl writes ↦ elim ((r.readings i).fixed u q k x.point reads reach (by j l y.point wrote)) [
             | inl own ↦ (one_writer d c formed u j i writes own.0, own.1)
             | inr apart ↦ absurd (apart j (time % c.modulus) l writes y.point wrote runs' runs)
           ]
           | inr seconds ↦ absurd ((r.writers u).early_now j l seconds y.point wrote late')
         ]
 
+none_in : {A : Type 0} (x : A) → Contains [] x → ⊥
+none_in x (k, within, is) = omega (arith, within)
+
 -- a place that reads is one where the process can be
-reading : (may_end : ℕ → ℕ → Bool) (m : ℕ) (first : Todo) (time v : ℕ) (p : Place) → Stands may_end m first time p → place_reads p v ≡ true →
-    (k : Todo) × Here may_end m first time k × (todo_reads k v ≡ true) × ((u : ℕ) → HotAt first u p → Hot first u k)
-reading may_end m first time v (going gait k) h reads = (k, h, reads, λ u hot. hot)
-reading may_end m first time v (sleeping due k) h reads = absurd (false≢true reads)
-reading may_end m first time v (inactive k) h reads = absurd (false≢true reads)
-reading may_end m first time v ended h reads = absurd (false≢true reads)
+reading : (may_end : ℕ → ℕ → Bool) (m : ℕ) (first : Todo) (time : ℕ) (q : BitRange) (p : Place) → Stands may_end m first time p → Contains (place_reads p) q →
+    (k : Todo) × Here may_end m first time k × ReadsNow k q × ((u : ℕ) → HotAt first u p → Hot first u k)
+reading may_end m first time q (going gait k) h reads = (k, h, reads, λ u hot. hot)
+reading may_end m first time q (sleeping due k) h reads = absurd (none_in q reads)
+reading may_end m first time q (inactive k) h reads = absurd (none_in q reads)
+reading may_end m first time q ended h reads = absurd (none_in q reads)
 
 -- a process doesn't read what the slot found unsettled
-settled_at : (d : Parts) (c : Claims) → WellFormed d → Ruled d c → (b : State) → Beginning d c b → (i j v : ℕ) (k : Todo) (x : AssignState) → At (ends_at d c i) c.modulus (first_todo d i) b.time k →
-    todo_reads k v ≡ true → slice_get b.assigns j ≡ Some x → x.needs ≡ true → Reaches d.assigns x.target.signal v → ⊥
-settled_at d c formed r b beg i j v k x (at_later up late runs) reads is needs reach = true≢false (sym needs ∙ (beg.idle up j x is).0)
-settled_at d c formed r b beg i j v k x (at_zero z s) reads is needs reach =
-    let undriven = read_undriven d c formed i (r.first_slot i) v k s reads in
-    let same = reaches_undriven d.assigns x.target.signal v reach undriven in
+settled_at : (d : Parts) (c : Claims) → WellFormed d → Ruled d c → (b : State) → Beginning d c b → (i j u : ℕ) (q : BitRange) (k : Todo) (x : AssignState) → At (ends_at d c i) c.modulus (first_todo d i) b.time k →
+    ReadsNow k q → slice_get b.assigns j ≡ Some x → x.needs ≡ true → writes_signal x.target u ≡ true → Reaches d.assigns u q → ⊥
+settled_at d c formed r b beg i j u q k x (at_later up late runs) reads is needs named reach = true≢false (sym needs ∙ (beg.idle up j x is).0)
+settled_at d c formed r b beg i j u q k x (at_zero z s) reads is needs named reach =
+    let undriven = read_undriven d c formed i (r.first_slot i) q k s reads in
+    let same = reaches_undriven d.assigns u q reach undriven in
     let a = link_of d.assigns b.assigns j x beg.links is in
-    true≢false (sym (ap (λ (t : Target). is_driven d.assigns t.signal) (sym a.2) ∙ driven d.assigns j a.0 a.1) ∙ ap (is_driven d.assigns) same ∙ undriven)
+    true≢false (sym (driven d.assigns j a.0 u a.1 (ap (λ (t : Target). writes_signal t u) a.2 ∙ named)) ∙ ap (is_driven d.assigns) same ∙ undriven)
 
 -- the processes of each slot keep apart
 pub keeps_apart : (grain : Grain) (d : Parts) (c : Claims) → WellFormed d → Ruled d c → (b : State) → Begins grain d b → KeepsApart d b
@@ -322,87 +328,41 @@ keeps_apart grain d c formed r b h = record {
   only_later = λ i j v th other is that x y.
       let wx = (walk i th is).made v x in let wy = (walk j other that).made v y in
       alone_later d c formed v (r.writers v) b.time i j wx.k wy.k wx.here wy.here wx.writes wy.writes;
-  reads_others = λ i j u v th other is that reads wrote reach.
-      let k = reading (ends_at d c i) c.modulus (first_todo d i) b.time v th.place (walk i th is).stands reads in
+  reads_others = λ i j u q th other is that reads wrote reach.
+      let k = reading (ends_at d c i) c.modulus (first_todo d i) b.time q th.place (walk i th is).stands reads in
       let w = (walk j other that).wrote u wrote in
-      (reads_at d c formed r b.time i j u v k.0 w.k k.1 w.here k.2 reach w.writes).0;
-  reads_own = λ i u v th is reads wrote reach.
-      let k = reading (ends_at d c i) c.modulus (first_todo d i) b.time v th.place (walk i th is).stands reads in
+      (reads_at d c formed r b.time i j u q k.0 w.k k.1 w.here k.2 reach w.writes).0;
+  reads_own = λ i u q th is reads wrote reach.
+      let k = reading (ends_at d c i) c.modulus (first_todo d i) b.time q th.place (walk i th is).stands reads in
       let w = (walk i th is).wrote u wrote in
-      elim (reads_at d c formed r b.time i i u v k.0 w.k k.1 w.here k.2 reach w.writes).1 [
+      elim (reads_at d c formed r b.time i i u q k.0 w.k k.1 w.here k.2 reach w.writes).1 [
         | inl same ↦ same
         | inr cold ↦ absurd (cold (k.3 u ((walk i th is).hot u wrote)))
       ];
-  reads_settled = λ i j v th x is reads at_j needs reach.
-      let k = reading (ends_at d c i) c.modulus (first_todo d i) b.time v th.place (walk i th is).stands reads in
-      settled_at d c formed r b (beginning grain d c r b h) i j v k.0 x k.1.at k.2 at_j needs reach;
+  reads_settled = λ i j u q th x is reads at_j needs named reach.
+      let k = reading (ends_at d c i) c.modulus (first_todo d i) b.time q th.place (walk i th is).stands reads in
+      settled_at d c formed r b (beginning grain d c r b h) i j u q k.0 x k.1.at k.2 at_j needs named reach;
 }
   where
     walk : (i : ℕ) (th : Thread) → IsThread b i th → Walked (ends_at d c i) c.modulus (first_todo d i) b.time th
     walk i th is = walked (ends_at d c i) c.modulus (first_todo d i) (closed_of d c r i) b i th ((beginning grain d c r b h).stand i) is
 
--- the rank of a signal: of one that an assignment drives, by the place of the first such one in the order
-abbrev rank_in : List Assign → List Name → ℕ → ℕ
-rank_in [] order v = 0
-rank_in (a ∷ as') order v = if writes_signal a.target v then suc (place_of a.name.items order) else rank_in as' order v
-
-rank_cases : (as' : List Assign) (order : List Name) (v : ℕ) → (rank_in as' order v ≡ 0) ⊎ ((j : ℕ) × (a : Assign) × (slice_get as' j ≡ Some a) × (writes_signal a.target v ≡ true) × (rank_in as' order v ≡ suc (place_of a.name.items order)))
-rank_cases [] order v = inl refl
-rank_cases (a ∷ as') order v =
-    elim (cases_Bool (writes_signal a.target v)) [
-      | inl hit ↦ inr (0, a, refl, hit, ap (λ t. if t then suc (place_of a.name.items order) else rank_in as' order v) hit)
-      | inr miss ↦
-          let here : rank_in (a ∷ as') order v ≡ rank_in as' order v = ap (λ t. if t then suc (place_of a.name.items order) else rank_in as' order v) miss in
-          elim (rank_cases as' order v) [
-            | inl zero_is ↦ inl (here ∙ zero_is)
-            | inr further ↦ inr (suc further.0, further.1, further.2, further.3, here ∙ further.4)
-          ]
-    ]
-
-rank_driven : (as' : List Assign) (order : List Name) (v j : ℕ) (a : Assign) → slice_get as' j ≡ Some a → writes_signal a.target v ≡ true → rank_in as' order v ≡ 0 → ⊥
-rank_driven [] order v j a is hit none = cc
-rank_driven (z ∷ as') order v zero a is hit none =
-    let e : z ≡ a = cc in
-    let drives : writes_signal z.target v ≡ true = ap (λ (x : Assign). writes_signal x.target v) e ∙ hit in
-    let some : suc (place_of z.name.items order) ≡ 0 = sym (ap (λ t. if t then suc (place_of z.name.items order) else rank_in as' order v) drives) ∙ none in
-    omega (arith, some)
-rank_driven (z ∷ as') order v (suc j) a is hit none =
-    elim (cases_Bool (writes_signal z.target v)) [
-      | inl drives ↦
-          let some : suc (place_of z.name.items order) ≡ 0 = sym (ap (λ t. if t then suc (place_of z.name.items order) else rank_in as' order v) drives) ∙ none in
-          omega (arith, some)
-      | inr miss ↦ rank_driven as' order v j a is hit (sym (ap (λ t. if t then suc (place_of z.name.items order) else rank_in as' order v) miss) ∙ none)
-    ]
+-- the rank of an assignment: its place in the order
+abbrev rank_in : List Name → Option Assign → ℕ
+rank_in order None = 0
+rank_in order (Some a) = place_of a.name.items order
 
 -- the order of the certificate is one of the assignments
-pub ordered : (d : Parts) (c : Claims) → WellFormed d → ((j : ℕ) → K4 d c j) → IsOrdered d
-ordered d c formed r = record {
-  rank = rank_in d.assigns c.order;
-  falls = λ j v a is reads. falls_at j v a is reads (rank_cases d.assigns c.order v) (rank_cases d.assigns c.order a.target.signal);
+pub ordered : (d : Parts) (c : Claims) → ((j : ℕ) → K4 d c j) → IsOrdered d
+ordered d c r = record {
+  rank = λ j. rank_in c.order (slice_get d.assigns j);
+  falls = λ i j a b at_i at_j fed.
+      let less = (r j).earlier b a i at_j at_i fed in
+      let low : rank_in c.order (slice_get d.assigns i) ≡ place_of a.name.items c.order = ap (rank_in c.order) at_i in
+      let high : rank_in c.order (slice_get d.assigns j) ≡ place_of b.name.items c.order = ap (rank_in c.order) at_j in
+      omega (arith, less, low, high);
 }
-  where
-    own : (a : Assign) → writes_signal a.target a.target.signal ≡ true
-    own a = or_left (a.target.signal == a.target.signal) false (eq-eqb a.target.signal a.target.signal refl)
-
-    falls_at : (j v : ℕ) (a : Assign) → slice_get d.assigns j ≡ Some a → reads_signal a.source v ≡ true →
-        ((rank_in d.assigns c.order v ≡ 0) ⊎ ((i : ℕ) × (b : Assign) × (slice_get d.assigns i ≡ Some b) × (writes_signal b.target v ≡ true) × (rank_in d.assigns c.order v ≡ suc (place_of b.name.items c.order)))) →
-        ((rank_in d.assigns c.order a.target.signal ≡ 0)
-        ⊎ ((i : ℕ) × (b : Assign) × (slice_get d.assigns i ≡ Some b) × (writes_signal b.target a.target.signal ≡ true) × (rank_in d.assigns c.order a.target.signal ≡ suc (place_of b.name.items c.order)))) →
-        rank_in d.assigns c.order v < rank_in d.assigns c.order a.target.signal
-    falls_at j v a is reads source (inl none) = absurd (rank_driven d.assigns c.order a.target.signal j a is (own a) none)
-    falls_at j v a is reads source (inr (i, b, at_i, drives, top)) =
-        let place : i ≡ j = one_driver d formed i j b a at_i is (target_is b.target a.target.signal drives) in
-        let there : Some b ≡ Some a = sym at_i ∙ ap (slice_get d.assigns) place ∙ is in
-        let same : b ≡ a = cc in
-        let rank : rank_in d.assigns c.order a.target.signal ≡ suc (place_of a.name.items c.order) = top ∙ ap (λ (x : Assign). suc (place_of x.name.items c.order)) same in
-        elim source [
-          | inl none ↦ omega (arith, none, rank)
-          | inr other ↦
-              let less = (r j).earlier a other.1 other.0 v is reads other.2 other.3 in
-              let low = other.4 in
-              omega (arith, less, low, rank)
-        ]
 
 -- a well formed design that keeps the rules is disciplined
 pub ruled_is_disciplined : (grain : Grain) (d : Parts) (c : Claims) → WellFormed d → Ruled d c → Disciplined grain d
-ruled_is_disciplined grain d c formed r = record { ordered = ordered d c formed r.order; apart = keeps_apart grain d c formed r }
+ruled_is_disciplined grain d c formed r = record { ordered = ordered d c r.order; apart = keeps_apart grain d c formed r }

@@ -1,7 +1,6 @@
 -- A design that keeps the rules: a clock, a net behind it, and a process that reads the net between the clock's edges.
-use Rattle.std.specs.Prelude.{ℕ, Vec, None, Some, false, [], ◌∷◌}
+use Rattle.std.specs.Prelude.{ℕ, Vec, None, Some, [], ◌∷◌}
 use Rattle.std.specs.declared.alloc.Global.{Global}
-use Rattle.std.specs.declared.boxed.Box.{Box}
 use Rattle.std.proofs.Common.{lit<, lit≤, refl}
 use denote.RawPtr.{null_ptr}
 use Rattle.vs_logic4.specs.declared.digit.Digit.TheVariants.{Zero}
@@ -19,17 +18,11 @@ use Rattle.vs_design.specs.Parts.{Parts}
 use Rattle.vs_design.specs.WellFormed.{WellFormed}
 use Rattle.vs_process.specs.declared.moves.Grain.{Grain}
 use Rattle.vs_independence.specs.Discipline.{Independent}
-use Rattle.vs_independence.specs.Race.{letter, name, bit, target, nanosecond}
+use Rattle.vs_independence.specs.Race.{boxed, letter, name, bit, nanosecond, operand, target}
 use Rattle.vs_rules.specs.Claims.{Name, net, nonblocking, blocking, Claims}
 use Rattle.vs_rules.specs.Rules.{Ruled}
 
 -- ---- the design
-
-abbrev pub boxed : {A : Type 0} → Global → A → Box A Global
-boxed g x = record { ptr = null_ptr; alloc = g; value = x }
-
-abbrev pub operand : ℕ → Typed
-operand signal = e.Signal (record { signal = signal; width = 1; signed = false; sized = (lit< tt, lit≤ tt) })
 
 -- `~s`
 abbrev pub inverse : Global → ℕ → Typed
@@ -49,7 +42,7 @@ two g x z = record { ptr = null_ptr; len = 2; cap = 2; alloc = g; items = x ∷ 
 
 -- `d = ~d`
 abbrev pub turned : Global → Statement
-turned g = y.Assign 2 (target 0) (inverse g 0)
+turned g = y.Assign 2 (target g 0) (inverse g 0)
 
 -- `#5 d = ~d`
 abbrev pub half : Global → Statement
@@ -60,12 +53,12 @@ abbrev pub clock : Global → Statement
 clock g = y.Forever 0 (boxed g (half g))
 
 -- `q <= n`
-abbrev pub taken : Statement
-taken = y.Later 2 (target 1) (operand 2)
+abbrev pub taken : Global → Statement
+taken g = y.Later 2 (target g 1) (operand 2)
 
 -- `#7 q <= n`
 abbrev pub late : Global → Statement
-late g = y.Delay 1 seven (boxed g taken)
+late g = y.Delay 1 seven (boxed g (taken g))
 
 -- `;`
 abbrev pub nothing : Statement
@@ -84,19 +77,19 @@ abbrev pub reader : Global → Statement
 reader g = y.Forever 0 (boxed g (period g))
 
 -- `d = 0`
-abbrev pub cleared : Statement
-cleared = y.Assign 0 (target 0) (e.Number (Zero ∷ []))
+abbrev pub cleared : Global → Statement
+cleared g = y.Assign 0 (target g 0) (e.Number (Zero ∷ []))
 
 -- `module t; reg d; reg q; wire n; assign n = ~d; always #5 d = ~d; always begin #7 q <= n; #3; end initial d = 0; endmodule`
 abbrev pub clocked : Global → Parts
 clocked g = record {
   timescale = record { unit = nanosecond; precision = nanosecond };
   signals = bit g 100 Reg ∷ bit g 113 Reg ∷ bit g 110 Wire ∷ [];
-  assigns = record { name = name g 116 35 97 48; target = target 2; source = inverse g 0 } ∷ [];
+  assigns = record { name = name g 116 35 97 48; target = target g 2; source = inverse g 0 } ∷ [];
   processes =
       record { name = name g 116 35 112 48; kind = Always; body = clock g }
       ∷ record { name = name g 116 35 112 49; kind = Always; body = reader g }
-      ∷ record { name = name g 116 35 112 50; kind = Initial; body = cleared }
+      ∷ record { name = name g 116 35 112 50; kind = Initial; body = cleared g }
       ∷ [];
   outline = Enter Module (letter g 116) ∷ Declare 0 ∷ Declare 1 ∷ Declare 2 ∷ Leave ∷ [];
 }

@@ -1,5 +1,7 @@
 -- The points of processes and the paths of their texts.
 use Rattle.std.specs.Prelude.{ℕ, zero, suc, ◌≡◌, ◌++◌, Bool, true, false, List, [], ◌∷◌, get_or}
+use Rattle.std.specs.List.{Contains}
+use Rattle.vs_design.specs.declared.range.BitRange.{BitRange}
 use Rattle.vs_design.specs.declared.statement.Statement.{Statement}
 use Rattle.vs_design.specs.declared.statement.Statement.TheOpen.{Statement-F}
 use Rattle.vs_design.specs.declared.statement.Statement.TheViews.{out-Statement}
@@ -8,6 +10,7 @@ use Rattle.vs_design.specs.Uses.{writes_signal}
 use Rattle.vs_process.specs.Places.{Item, perform, turns, Todo, ended, flat}
 use Rattle.vs_process.specs.Steps.{Next, on, after}
 use Rattle.vs_process.specs.States.{start, todo_of}
+use Rattle.vs_independence.specs.Threads.{todo_reads}
 
 -- ---- paths
 
@@ -40,7 +43,7 @@ Goes k next = Among next (nexts k)
 abbrev pub first_todo : Parts → ℕ → Todo
 first_todo d i = todo_of (get_or (start d).places i ended)
 
--- ---- what a step writes
+-- ---- what a step writes and reads
 
 -- whether the step of a statement can name the signal by `=`
 abbrev pub statement_writes : Statement-F Statement → ℕ → Bool
@@ -67,6 +70,10 @@ WritesNow k v = todo_writes k v ≡ true
 -- the next step can write the signal by `<=`
 abbrev pub WritesLater : Todo → ℕ → Type 0
 WritesLater k v = todo_updates k v ≡ true
+
+-- the next step reads the range
+abbrev pub ReadsNow : Todo → BitRange → Type 0
+ReadsNow k r = Contains (todo_reads k) r
 
 -- ---- points
 

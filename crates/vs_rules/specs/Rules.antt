@@ -5,12 +5,13 @@ use Rattle.vs_design.specs.declared.design.Assign.{Assign}
 use Rattle.vs_design.specs.declared.design.Process.{Process}
 use Rattle.vs_design.specs.Kinds.{is_variable}
 use Rattle.vs_design.specs.Parts.{Parts}
-use Rattle.vs_design.specs.Uses.{reads_signal, writes_signal}
+use Rattle.vs_design.specs.declared.range.BitRange.{BitRange}
+use Rattle.vs_design.specs.Uses.{reads_signal}
 use Rattle.vs_process.specs.Places.{Todo}
 use Rattle.vs_process.specs.Steps.{after}
-use Rattle.vs_independence.specs.Threads.{todo_reads}
+use Rattle.vs_independence.specs.Feeds.{feeds}
 use Rattle.vs_independence.specs.Discipline.{Reaches}
-use Rattle.vs_rules.specs.Points.{Goes, first_todo, WritesNow, WritesLater, Point, Late, Slot0, Hot, RunsAt}
+use Rattle.vs_rules.specs.Points.{Goes, first_todo, WritesNow, WritesLater, ReadsNow, Point, Late, Slot0, Hot, RunsAt}
 use Rattle.vs_rules.specs.Claims.{Name, Mode, net, unwritten, combinational, nonblocking, blocking, private, SignalClaim, ProcessClaim, Claims}
 use Rattle.vs_rules.specs.Claims.{claim_of, writer_in, second_in, is_writer, is_second, place_of, times_in, controls_of, slots_of, ends_at}
 
@@ -46,7 +47,7 @@ pub data Writes (d : Parts) (i v : ℕ) : Type 0 where
 
 -- the text of a process reads the signal
 pub data Reads (d : Parts) (i v : ℕ) : Type 0 where
-  reads_at : (k : Todo) → IsPoint d i k → todo_reads k v ≡ true → Reads d i v
+  reads_at : (k : Todo) (r : BitRange) → IsPoint d i k → ReadsNow k r → r.signal ≡ v → Reads d i v
 
 -- a blocking source: the text of some process has a write of it by `=` (so it is a variable, which no continuous assignment drives)
 pub data IsBlocking (d : Parts) (v : ℕ) : Type 0 where
@@ -142,11 +143,10 @@ HasMode d c v private = ReadsAlone d c v
 pub record K3 (d : Parts) (c : Claims) (v : ℕ) : Type 0 where
   pub mode : (s : SignalClaim) → claim_of d c v ≡ Some s → HasMode d c v s.mode
 
--- ---- K4: a continuous assignment reads, of driven signals, those alone whose assignment stands earlier in the order
+-- ---- K4: a continuous assignment reads, of driven bits, those alone whose assignment stands earlier in the order
 
 pub record K4 (d : Parts) (c : Claims) (j : ℕ) : Type 0 where
-  pub earlier : (a b : Assign) (i r : ℕ) → slice_get d.assigns j ≡ Some a → reads_signal a.source r ≡ true →
-      slice_get d.assigns i ≡ Some b → writes_signal b.target r ≡ true →
+  pub earlier : (a b : Assign) (i : ℕ) → slice_get d.assigns j ≡ Some a → slice_get d.assigns i ≡ Some b → feeds b a ≡ true →
       place_of b.name.items c.order < place_of a.name.items c.order
 
 -- ---- K8: a list of residues for each delay control, and the lists are closed
@@ -172,15 +172,15 @@ AreApart d c i u k =
     (w r : ℕ) (l : Todo) → IsWriter d c u w → IsPoint d w l → WritesNow l u → HasSlot d c w l r → HasSlot d c i k r → ⊥
 
 pub record K9 (d : Parts) (c : Claims) (i : ℕ) : Type 0 where
-  pub fixed : (u v : ℕ) (k : Todo) → IsPoint d i k → todo_reads k v ≡ true → Reaches d.assigns u v → IsBlocking d u →
-      IsOwn d c i u v k ⊎ AreApart d c i u k
+  pub fixed : (u : ℕ) (r : BitRange) (k : Todo) → IsPoint d i k → ReadsNow k r → Reaches d.assigns u r → IsBlocking d u →
+      IsOwn d c i u r.signal k ⊎ AreApart d c i u k
 
 -- ---- K10: in the first slot a process reads variables that it alone writes
 
 pub record K10 (d : Parts) (c : Claims) (i : ℕ) : Type 0 where
-  pub variable : (v : ℕ) (k : Todo) → IsSlot0 d i k → todo_reads k v ≡ true → HasKind true d v
-  pub written : (v : ℕ) (k : Todo) → IsSlot0 d i k → todo_reads k v ≡ true → Writes d i v
-  pub alone : (v j : ℕ) (k : Todo) → IsSlot0 d i k → todo_reads k v ≡ true → Writes d j v → j ≡ i
+  pub variable : (r : BitRange) (k : Todo) → IsSlot0 d i k → ReadsNow k r → HasKind true d r.signal
+  pub written : (r : BitRange) (k : Todo) → IsSlot0 d i k → ReadsNow k r → Writes d i r.signal
+  pub alone : (r : BitRange) (j : ℕ) (k : Todo) → IsSlot0 d i k → ReadsNow k r → Writes d j r.signal → j ≡ i
 
 -- ---- all rules
 

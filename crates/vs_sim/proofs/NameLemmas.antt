@@ -12,7 +12,7 @@ use Rattle.vs_syntax.specs.declared.tree.Module.{Module}
 use Rattle.vs_design.specs.OneLine.{HasNamesOfOneLine}
 use Rattle.vs_design.specs.Parts.{Parts}
 use Rattle.vs_elaborate.specs.DesignOf.{DesignOf}
-use Rattle.vs_elaborate.specs.OneLine.{HasModulesOfOneLine}
+use Rattle.vs_elaborate_laws.specs.OneLine.{HasModulesOfOneLine}
 use Rattle.vs_sim.specs.Honesty.{Defines}
 
 -- whether a symbol is no name, or a name without line feed

@@ -1,7 +1,7 @@
 -- The tables are those of the rules.
 use Rattle.std.specs.Prelude.{◌≡◌, ℕ, zero, suc, List, [], ◌∷◌, refl}
 use Rattle.vs_tokens.specs.declared.token.Mark.{Mark}
-use Rattle.vs_syntax.specs.Grammar.{Part, a_source, a_module, an_item, a_declarator, an_assignment, a_stmt, a_target, an_expr, a_level, operands, levels, level_at, rule}
+use Rattle.vs_syntax.specs.Grammar.{Part, a_source, a_module, an_item, a_net, a_variable, an_assignment, a_stmt, a_target, an_expr, a_level, operands, levels, level_at, rule}
 use Rattle.vs_syntax.specs.Tables.{null_of, low_of, operand_fronts, fronts_of, null, low, fronts}
 
 operands_null : (p : Part) (ops : List Mark) → null (operands p ops) ≡ null_of p
@@ -20,7 +20,8 @@ pub rule_null : (p : Part) → null (rule p) ≡ null_of p
 rule_null a_source = refl
 rule_null a_module = refl
 rule_null an_item = refl
-rule_null a_declarator = refl
+rule_null a_net = refl
+rule_null a_variable = refl
 rule_null an_assignment = refl
 rule_null a_stmt = refl
 rule_null a_target = refl
@@ -32,7 +33,8 @@ pub rule_low : (p : Part) → low (rule p) ≡ low_of p
 rule_low a_source = refl
 rule_low a_module = refl
 rule_low an_item = refl
-rule_low a_declarator = refl
+rule_low a_net = refl
+rule_low a_variable = refl
 rule_low an_assignment = refl
 rule_low a_stmt = refl
 rule_low a_target = refl
@@ -44,7 +46,8 @@ pub rule_fronts : (p : Part) → fronts (rule p) ≡ fronts_of p
 rule_fronts a_source = refl
 rule_fronts a_module = refl
 rule_fronts an_item = refl
-rule_fronts a_declarator = refl
+rule_fronts a_net = refl
+rule_fronts a_variable = refl
 rule_fronts an_assignment = refl
 rule_fronts a_stmt = refl
 rule_fronts a_target = refl

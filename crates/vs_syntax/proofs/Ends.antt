@@ -5,15 +5,15 @@ use Rattle.vs_tokens.specs.declared.token.Mark.{Mark}
 use Rattle.vs_tokens.specs.declared.token.Mark.TheVariants as m
 use Rattle.vs_tokens.specs.declared.token.Word.TheVariants as w
 use Rattle.vs_syntax.specs.Symbols.{Symbol, Class, the_mark, the_word, same_class, first}
-use Rattle.vs_syntax.specs.Grammar.{Part, a_source, a_module, an_item, a_declarator, an_assignment, a_stmt, a_target, an_expr, a_level, Grammar, nothing, token, seq, either, many, part, node, chain, optional, ◌·◌, one_or_more, one_mark, operands, a_condition, arm, levels, level_at, rule}
+use Rattle.vs_syntax.specs.Grammar.{Part, a_source, a_module, an_item, a_net, a_variable, an_assignment, a_stmt, a_target, an_expr, a_level, Grammar, nothing, token, seq, either, many, part, node, chain, optional, ◌·◌, one_or_more, one_mark, operands, a_condition, arm, levels, level_at, rule}
 use Rattle.vs_syntax.specs.Tables.{Front, at_least, mark_fronts, null, fronts, among, goes}
 use Rattle.vs_syntax.specs.Derivation.{Tree, tokens, Is, is_nothing, is_token, is_seq, is_left, is_right, is_stop, is_more, is_part, is_node, is_one, is_chain, is_present, is_absent}
 use Rattle.vs_syntax.proofs.Fronts.{clash, or_false, goes_same, among-append, among-seq}
 use Rattle.vs_syntax.proofs.Starts.{quiet, is_null}
 
--- with what operands of so many levels can go on: the operators of these levels
+-- with what operands of so many levels can go on: the operators of these levels, and the selects of a name
 abbrev pub level_lasts : ℕ → List Front
-level_lasts zero = []
+level_lasts zero = at_least (the_mark m.OpenBracket) 0 ∷ []
 level_lasts (suc n) = mark_fronts 0 (level_at levels n) ++ level_lasts n
 
 -- with what an expression can go on
@@ -24,8 +24,10 @@ expr_lasts = at_least (the_mark m.Question) 0 ∷ level_lasts (length levels)
 -- since that reading says itself that no such token stands behind.
 abbrev pub lasts_of : Bool → Part → List Front
 lasts_of plain a_source = at_least (the_word w.Module) 0 ∷ []
-lasts_of plain a_declarator = at_least (the_mark m.Assign) 0 ∷ expr_lasts
+lasts_of plain a_net = at_least (the_mark m.Assign) 0 ∷ expr_lasts
+lasts_of plain a_variable = at_least (the_mark m.Assign) 0 ∷ at_least (the_mark m.OpenBracket) 0 ∷ expr_lasts
 lasts_of plain an_assignment = expr_lasts
+lasts_of plain a_target = at_least (the_mark m.OpenBracket) 0 ∷ []
 lasts_of plain an_expr = expr_lasts
 lasts_of plain (a_level n) = level_lasts n
 lasts_of plain _ = []
@@ -94,20 +96,28 @@ kept : (low : Bool) → low ≡ false → ((low || false) || false) ≡ false
 kept true h = cc
 kept false h = refl
 
-declarator_goes_on : (assign value : Bool) → (assign || value) ≡ false → ((value || false) || (assign || false) || false) ≡ false
-declarator_goes_on false false h = refl
-declarator_goes_on _ _ h = cc
+net_goes_on : (assign value : Bool) → (assign || value) ≡ false → ((value || false) || (assign || false) || false) ≡ false
+net_goes_on false false h = refl
+net_goes_on _ _ h = cc
+
+variable_goes_on : (assign bracket value : Bool) → (assign || (bracket || value)) ≡ false → ((value || false) || ((bracket || false) || (assign || false)) || false) ≡ false
+variable_goes_on false false false h = refl
+variable_goes_on _ _ _ h = cc
+
+operand_goes_on : (plain : Bool) (c : Class) → same_class c (the_mark m.OpenBracket) ≡ false → goes_on plain (rule (a_level zero)) c ≡ false
+operand_goes_on plain c h = rw h refl
 
 pub rule_goes_on : (plain : Bool) (p : Part) (c : Class) → among c (lasts_of plain p) ≡ false → goes_on plain (rule p) c ≡ false
 rule_goes_on plain a_source c h = h
 rule_goes_on plain a_module c h = refl
 rule_goes_on plain an_item c h = refl
 rule_goes_on plain a_stmt c h = refl
-rule_goes_on plain a_target c h = refl
-rule_goes_on plain a_declarator c h = declarator_goes_on (same_class c (the_mark m.Assign)) (among c expr_lasts) h
+rule_goes_on plain a_target c h = kept (among c (lasts_of plain a_target)) h
+rule_goes_on plain a_net c h = net_goes_on (same_class c (the_mark m.Assign)) (among c expr_lasts) h
+rule_goes_on plain a_variable c h = variable_goes_on (same_class c (the_mark m.Assign)) (same_class c (the_mark m.OpenBracket)) (among c expr_lasts) h
 rule_goes_on plain an_assignment c h = kept (among c expr_lasts) h
 rule_goes_on plain an_expr c h = expr_goes_on plain c h
-rule_goes_on plain (a_level zero) c h = refl
+rule_goes_on plain (a_level zero) c h = operand_goes_on plain c (or_false (same_class c (the_mark m.OpenBracket)) false h).0
 rule_goes_on plain (a_level (suc n)) c h = operands_go_on plain n (level_at levels n) c h
 
 -- in the place of the symbols m others may follow

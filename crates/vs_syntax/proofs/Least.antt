@@ -10,7 +10,7 @@ use Rattle.vs_tokens.specs.declared.token.Mark.{Mark}
 use Rattle.vs_tokens.specs.declared.token.Mark.TheVariants as m
 use Rattle.vs_tokens.specs.declared.token.Word.TheVariants as w
 use Rattle.vs_syntax.specs.Symbols.{Symbol, a_mark, a_word, a_name, a_number, a_cast, another, Class, no_token, the_mark, the_word, any_name, any_number, the_cast, any_other, class_of, same_class, first}
-use Rattle.vs_syntax.specs.Grammar.{Part, a_source, a_module, an_item, a_declarator, an_assignment, a_stmt, a_target, an_expr, a_level, Grammar, nothing, token, seq, either, many, part, node, chain, optional, operands, levels, level_at, rule}
+use Rattle.vs_syntax.specs.Grammar.{Part, a_source, a_module, an_item, a_net, a_variable, an_assignment, a_stmt, a_target, an_expr, a_level, Grammar, nothing, token, seq, either, many, part, node, chain, optional, select, operands, levels, level_at, rule}
 use Rattle.vs_syntax.specs.Tables.{low_of, mark_fronts, null, low, fronts, among, goes}
 use Rattle.vs_syntax.specs.Derivation.{Tree, empty, leaf, both, down, tokens, height, Is, is_nothing, is_token, is_seq, is_left, is_right, is_stop, is_part, is_node, is_one, is_absent}
 use Rattle.vs_syntax.proofs.Ends.{goes_on, again, level_lasts, link_fronts}
@@ -48,10 +48,11 @@ abbrev pub least_of : Part → Tree
 least_of a_source = empty
 least_of a_module = both (leaf (a_word w.Module)) (both (leaf (sample any_name)) (both (leaf (a_mark m.Semicolon)) (both empty (leaf (a_word w.Endmodule)))))
 least_of an_item = down (both (leaf (a_word w.Reg)) (both (both empty empty) (both (both (leaf (sample any_name)) empty) (both empty (leaf (a_mark m.Semicolon))))))
-least_of a_declarator = both (leaf (sample any_name)) empty
-least_of an_assignment = both (down (leaf (sample any_name))) (both (leaf (a_mark m.Assign)) (leaf (sample any_number)))
+least_of a_net = both (leaf (sample any_name)) empty
+least_of a_variable = both (leaf (sample any_name)) empty
+least_of an_assignment = both (down (both (leaf (sample any_name)) empty)) (both (leaf (a_mark m.Assign)) (leaf (sample any_number)))
 least_of a_stmt = down (both (leaf (a_mark m.Semicolon)) empty)
-least_of a_target = down (leaf (sample any_name))
+least_of a_target = down (both (leaf (sample any_name)) empty)
 least_of an_expr = leaf (sample any_number)
 least_of (a_level n) = leaf (sample any_number)
 
@@ -78,15 +79,19 @@ level_least (suc n) more h = is_part (operands_least n (level_at levels n) (leaf
 expr_least : Is (part an_expr) (leaf (sample any_number)) []
 expr_least = is_part (is_one refl (level_least (length levels) [] refl))
 
+target_least : {more : List Symbol} → goes select more ≡ false → Is (part a_target) (least_of a_target) more
+target_least h = is_part (is_node (is_left refl (is_seq (is_token refl) (is_stop h))))
+
 pub rule_least : (p : Part) → Is (part p) (least_of p) []
 rule_least a_source = is_part (is_stop refl)
 rule_least a_module = is_part (is_seq (is_token refl) (is_seq (is_token refl) (is_seq (is_token refl) (is_seq (is_stop refl) (is_token refl)))))
 rule_least an_item = is_part (is_node (is_right refl (is_left refl (is_seq (is_token refl) (is_seq (is_seq (is_right refl is_nothing) (is_right refl is_nothing))
-    (is_seq (is_part (is_seq (is_token refl) (is_right refl is_nothing))) (is_seq (is_stop refl) (is_token refl))))))))
-rule_least a_declarator = is_part (is_seq (is_token refl) (is_right refl is_nothing))
-rule_least an_assignment = is_part (is_seq (is_part (is_node (is_token refl))) (is_seq (is_token refl) expr_least))
+    (is_seq (is_part (is_seq (is_token refl) (is_right refl (is_right refl is_nothing)))) (is_seq (is_stop refl) (is_token refl))))))))
+rule_least a_net = is_part (is_seq (is_token refl) (is_right refl is_nothing))
+rule_least a_variable = is_part (is_seq (is_token refl) (is_right refl (is_right refl is_nothing)))
+rule_least an_assignment = is_part (is_seq (target_least refl) (is_seq (is_token refl) expr_least))
 rule_least a_stmt = is_part (is_node (is_right refl (is_left refl (is_seq (is_token refl) is_nothing))))
-rule_least a_target = is_part (is_node (is_token refl))
+rule_least a_target = target_least refl
 rule_least an_expr = expr_least
 rule_least (a_level n) = level_least n [] (level_end n)
 
@@ -94,7 +99,8 @@ least_of-height : (p : Part) → height (least_of p) ≡ low_of p
 least_of-height a_source = refl
 least_of-height a_module = refl
 least_of-height an_item = refl
-least_of-height a_declarator = refl
+least_of-height a_net = refl
+least_of-height a_variable = refl
 least_of-height an_assignment = refl
 least_of-height a_stmt = refl
 least_of-height a_target = refl
@@ -148,7 +154,8 @@ pub rule_sound : (p : Part) → sound (rule p) ≡ true
 rule_sound a_source = refl
 rule_sound a_module = refl
 rule_sound an_item = refl
-rule_sound a_declarator = refl
+rule_sound a_net = refl
+rule_sound a_variable = refl
 rule_sound an_assignment = refl
 rule_sound a_stmt = refl
 rule_sound a_target = refl

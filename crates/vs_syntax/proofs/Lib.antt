@@ -11,5 +11,6 @@ pub mod Beginnings
 pub mod Plainly
 pub mod Deeper
 pub mod Sameness
+pub mod SameLefts
 pub mod SameSources
 pub mod SourceNamesLemmas

@@ -21,10 +21,11 @@ use Rattle.vs_syntax.specs.declared.tree.Source.{Source}
 use Rattle.vs_syntax.specs.Symbols.{Symbol, a_mark}
 use Rattle.vs_syntax.specs.Derivation.{Tree, leaf, both, tokens}
 use Rattle.vs_syntax.specs.Derives.{Derives}
-use Rattle.vs_syntax.specs.Views.{row_of, listed_tree, value_tree, declarator_tree, signed_tree, range_tree, form_tree, net_assignment_tree, stmt_step, stmt_tree, item_tree, module_tree, source_tree}
+use Rattle.vs_syntax.specs.Views.{row_of, listed_tree, value_tree, told_tree, declarator_tree, signed_tree, range_tree, form_tree, net_assignment_tree, stmt_step, stmt_tree, item_tree, module_tree, source_tree}
 use Rattle.vs_syntax.specs.Same.{SameStmt, same_null, same_assign, same_later, same_block, same_delay, SameStmts, same_no_stmt, same_more_stmts, Pairwise, no_pair, pair_more, SameValue, same_no_value, same_value, SameDeclarator, SameRange, same_no_range, same_range, SameForm, SameAssignment, SameItem, same_wire, same_reg, same_integer, same_assigns, same_initial, same_always, SameModule, SameSource}
 use Rattle.vs_syntax.proofs.Unique.{unique}
 use Rattle.vs_syntax.proofs.Sameness.{same_expr}
+use Rattle.vs_syntax.proofs.SameLefts.{same_left}
 
 -- a statement of which the other one of its tree says the same
 abbrev Settled : Stmt → Type 0
@@ -56,8 +57,8 @@ same_delays l l' x x' h p = subst (λ (k : Literal). SameStmt (s.Delay l x) (s.D
 -- one layer each
 same_layers : (y : Stmt-F Inner) (x' : Stmt-F Stmt) → layer (bare y) ≡ layer x' → SameStmt (roll-Stmt (bare y)) (roll-Stmt x')
 same_layers f.Null f.Null h = rw rolls-Null same_null
-same_layers (f.Assign n x) (f.Assign n' x') h = rw (rolls-Assign n x, rolls-Assign n' x') (same_assign n n' x x' (cc) (same_expr x x' (cc)))
-same_layers (f.Later n x) (f.Later n' x') h = rw (rolls-Later n x, rolls-Later n' x') (same_later n n' x x' (cc) (same_expr x x' (cc)))
+same_layers (f.Assign n x) (f.Assign n' x') h = rw (rolls-Assign n x, rolls-Assign n' x') (same_assign n n' x x' (same_left n n' (cc)) (same_expr x x' (cc)))
+same_layers (f.Later n x) (f.Later n' x') h = rw (rolls-Later n x, rolls-Later n' x') (same_later n n' x x' (same_left n n' (cc)) (same_expr x x' (cc)))
 same_layers (f.Block xs) (f.Block xs') h = rw (rolls-Block _, rolls-Block xs') (same_block _ xs' (same_rows xs.items xs'.items (cc)))
 same_layers (f.Delay l x) (f.Delay l' x') h = rw (rolls-Delay l _, rolls-Delay l' x') (same_delays l l' _ x' (cc) (x.value.1 x'.value (cc)))
 same_layers _ _ h = cc
@@ -98,9 +99,6 @@ same_option None (Some x') h = cc
 same_option (Some x) None h = cc
 same_option (Some x) (Some x') h = same_value x x' (same_expr x x' (cc))
 
-same_declarator : (d d' : Declarator) → declarator_tree d ≡ declarator_tree d' → SameDeclarator d d'
-same_declarator d d' h = record { name = cc; value = same_option d.value d'.value (cc) }
-
 same_sign : (s s' : Bool) → signed_tree s ≡ signed_tree s' → s ≡ s'
 same_sign true true h = refl
 same_sign true false h = cc
@@ -113,11 +111,29 @@ same_ranges None (Some r') h = cc
 same_ranges (Some r) None h = cc
 same_ranges (Some r) (Some r') h = same_range r r' (same_expr r.left r'.left (cc)) (same_expr r.right r'.right (cc))
 
+same_told : (w w' : Option Range) (v v' : Option Expr) → told_tree w v ≡ told_tree w' v' → SameRange w w' × SameValue v v'
+same_told None None v v' h = (same_no_range, same_option v v' h)
+same_told (Some r) (Some r') None None h = (same_ranges (Some r) (Some r') h, same_no_value)
+same_told (Some r) (Some r') (Some x) (Some x') h = (same_ranges (Some r) (Some r') (cc), same_value x x' (same_expr x x' (cc)))
+same_told None (Some r') None None h = cc
+same_told None (Some r') None (Some x') h = cc
+same_told None (Some r') (Some x) None h = cc
+same_told None (Some r') (Some x) (Some x') h = cc
+same_told (Some r) None None None h = cc
+same_told (Some r) None None (Some x') h = cc
+same_told (Some r) None (Some x) None h = cc
+same_told (Some r) None (Some x) (Some x') h = cc
+same_told (Some r) (Some r') None (Some x') h = cc
+same_told (Some r) (Some r') (Some x) None h = cc
+
+same_declarator : (d d' : Declarator) → declarator_tree d ≡ declarator_tree d' → SameDeclarator d d'
+same_declarator d d' h = let t = same_told d.words d'.words d.value d'.value (cc) in record { name = cc; words = t.0; value = t.1 }
+
 same_form : (f f' : Form) → form_tree f ≡ form_tree f' → SameForm f f'
 same_form f f' h = record { signed = same_sign f.signed f'.signed (cc); range = same_ranges f.range f'.range (cc) }
 
 same_assignment : (a a' : NetAssignment) → net_assignment_tree a ≡ net_assignment_tree a' → SameAssignment a a'
-same_assignment a a' h = record { target = cc; value = same_expr a.value a'.value (cc) }
+same_assignment a a' h = record { target = same_left a.target a'.target (cc); value = same_expr a.value a'.value (cc) }
 
 same_item : (x x' : Item) → item_tree x ≡ item_tree x' → SameItem x x'
 same_item (i.Wire f ds) (i.Wire f' ds') h = same_wire f f' ds ds' (same_form f f' (cc)) (listed_pairs SameDeclarator declarator_tree same_declarator ds.items ds'.items (cc))

@@ -1,5 +1,5 @@
 -- Syntax trees of one tree of the grammar say the same.
-use Rattle.std.specs.Prelude.{◌≡◌, ℕ, Bool, List, [], ◌∷◌, map, refl}
+use Rattle.std.specs.Prelude.{◌≡◌, ℕ, Bool, List, [], ◌∷◌, Option, None, Some, map, refl}
 use Rattle.std.proofs.Common.{sym, ◌∙◌, ap, subst}
 use Rattle.std.specs.declared.boxed.Box.{Box}
 use Rattle.std.specs.declared.alloc.Global.{Global}
@@ -10,14 +10,17 @@ use Rattle.vs_logic4.specs.declared.operators.Binary.TheVariants as b
 use Rattle.vs_tokens.specs.declared.token.Literal.{Literal}
 use Rattle.vs_tokens.specs.declared.token.Mark.{Mark}
 use Rattle.vs_tokens.specs.declared.token.Mark.TheVariants as m
+use Rattle.vs_syntax.specs.declared.tree.PartSelect.{PartSelect}
+use Rattle.vs_syntax.specs.declared.tree.PartSelect.TheVariants as p
 use Rattle.vs_syntax.specs.declared.tree.Expr.{Expr, Expr-F, roll-Expr, out-Expr, roll-out-Expr, ind-Expr, map-Expr, fold-roll-Expr}
 use Rattle.vs_syntax.specs.declared.tree.Expr.TheOpen as f
+use Rattle.vs_syntax.specs.declared.tree.Expr.TheShapes.{former-Expr-Select-1-at-4, former-Expr-Select-1-at-5}
 use Rattle.vs_syntax.specs.declared.tree.Expr.TheVariants as e
-use Rattle.vs_syntax.specs.declared.tree.Expr.TheVariants.{rolls-Number, rolls-Name, rolls-Group, rolls-Unary, rolls-Chain, rolls-Choice, rolls-Concat, rolls-Repeat, rolls-Cast}
+use Rattle.vs_syntax.specs.declared.tree.Expr.TheVariants.{rolls-Number, rolls-Name, rolls-Select, rolls-Group, rolls-Unary, rolls-Chain, rolls-Choice, rolls-Concat, rolls-Repeat, rolls-Cast}
 use Rattle.vs_syntax.specs.Symbols.{a_mark, a_number, a_cast}
 use Rattle.vs_syntax.specs.Derivation.{Tree, leaf, both, down}
-use Rattle.vs_syntax.specs.Views.{row_of, unary_mark, binary_mark, commas_tree, link_tree, head_of, arms_of, choice_tree, expr_step, expr_tree}
-use Rattle.vs_syntax.specs.Same.{SameExpr, same_number, same_name, same_group, same_unary, same_chain, same_choice, same_concat, same_repeat, same_cast, SameLinks, same_no_link, same_link, SamePairs, same_no_pair, same_pair, SameExprs, same_no_expr, same_more_exprs}
+use Rattle.vs_syntax.specs.Views.{row_of, unary_mark, binary_mark, part_mark, commas_tree, link_tree, head_of, arms_of, choice_tree, second_tree, select_tree, selects_tree, expr_step, expr_tree}
+use Rattle.vs_syntax.specs.Same.{SameExpr, same_number, same_name, same_select, same_group, same_unary, same_chain, same_choice, same_concat, same_repeat, same_cast, SameSelects, same_no_select, same_more_selects, SameSecond, same_no_second, same_second, SameLinks, same_no_link, same_link, SamePairs, same_no_pair, same_pair, SameExprs, same_no_expr, same_more_exprs}
 
 -- an operator by its mark
 abbrev unary_at : Mark → Unary
@@ -71,6 +74,18 @@ binary_back _ = refl
 binary_by : (op op' : Binary) → binary_mark op ≡ binary_mark op' → op ≡ op'
 binary_by op op' h = sym (binary_back op) ∙ ap binary_at h ∙ binary_back op'
 
+abbrev part_at : Mark → PartSelect
+part_at m.Colon = p.Bounds
+part_at m.PlusColon = p.Upward
+part_at _ = p.Downward
+
+part_back : (k : PartSelect) → part_at (part_mark k) ≡ k
+part_back p.Downward = refl
+part_back _ = refl
+
+pub part_by : (k k' : PartSelect) → part_mark k ≡ part_mark k' → k ≡ k'
+part_by k k' h = sym (part_back k) ∙ ap part_at h ∙ part_back k'
+
 -- an expression of which the other one of its tree says the same
 abbrev Settled : Expr → Type 0
 Settled x = (x' : Expr) → expr_tree x ≡ expr_tree x' → SameExpr x x'
@@ -104,6 +119,7 @@ form (f.Choice ps x) = 5
 form (f.Concat x xs) = 6
 form (f.Repeat n x xs) = 7
 form (f.Cast s x) = 8
+form (f.Select n ss) = 9
 
 -- the same of a tree: behind a brace, behind a mark, behind an operand
 abbrev form_in_braces : Tree → ℕ
@@ -117,6 +133,8 @@ form_behind _ x = 3
 
 abbrev form_of_row : Tree → ℕ
 form_of_row (both (both (leaf (a_mark m.Question)) x) y) = 5
+form_of_row (both (both (leaf (a_mark m.OpenBracket)) x) y) = 9
+form_of_row (down x) = 9
 form_of_row _ = 4
 
 abbrev form_of_tree : Tree → ℕ
@@ -138,6 +156,17 @@ link_form _ x y = refl
 links_form : (ls : List (Binary × Tree)) → form_of_row (row_of (map link_tree ls)) ≡ 4
 links_form [] = refl
 links_form (l ∷ ls) = link_form l.0 l.1 (row_of (map link_tree ls))
+
+-- the expressions of selects as trees
+abbrev second_trees : Option (PartSelect × Expr) → Option (PartSelect × Tree)
+second_trees o = former-Expr-Select-1-at-4.map Expr Tree expr_tree o
+
+abbrev select_trees : List (Expr × Option (PartSelect × Expr)) → List (Tree × Option (PartSelect × Tree))
+select_trees xs = map (λ x. former-Expr-Select-1-at-5.map Expr Tree expr_tree x) xs
+
+selects_form : (xs : List (Tree × Option (PartSelect × Tree))) → form_of_row (selects_tree (map select_tree xs)) ≡ 9
+selects_form [] = refl
+selects_form (x ∷ xs) = refl
 
 -- operands behind an expression
 behind_choice : (ps : List (Tree × Tree)) (x y : Tree) → form_of_tree (down (both (choice_tree ps x) y)) ≡ form_of_row y
@@ -170,6 +199,7 @@ form_of (f.Choice ps x) = choice_form ps.items (expr_tree x.value)
 form_of (f.Concat x xs) = refl
 form_of (f.Repeat n x xs) = refl
 form_of (f.Cast s x) = refl
+form_of (f.Select n ss) = selects_form (select_trees ss.items)
 
 -- layers of one tree have one form
 one_form : (x x' : Expr-F Expr) → layer x ≡ layer x' → form x ≡ form x'
@@ -214,6 +244,31 @@ same_commas [] (x' ∷ xs') h = cc
 same_commas (x ∷ xs) [] h = cc
 same_commas (x ∷ xs) (x' ∷ xs') h = same_more_exprs _ x' _ xs' (x.1 x' (cc)) (same_commas xs xs' (cc))
 
+-- selects, without what is settled of their expressions
+abbrev bare_second : Option (PartSelect × Inner) → Option (PartSelect × Expr)
+bare_second o = former-Expr-Select-1-at-4.map Inner Expr (λ p. p.0) o
+
+abbrev bare_selects : List (Inner × Option (PartSelect × Inner)) → List (Expr × Option (PartSelect × Expr))
+bare_selects xs = map (λ x. former-Expr-Select-1-at-5.map Inner Expr (λ p. p.0) x) xs
+
+same_seconds : (o : Option (PartSelect × Inner)) (o' : Option (PartSelect × Expr)) → second_tree (second_trees (bare_second o)) ≡ second_tree (second_trees o') → SameSecond (bare_second o) o'
+same_seconds None None h = same_no_second
+same_seconds None (Some x') h = cc
+same_seconds (Some x) None h = cc
+same_seconds (Some x) (Some x') h = same_second _ x' (part_by x.0 x'.0 (cc)) (x.1.1 x'.1 (cc))
+
+same_select_rows : (xs : List (Inner × Option (PartSelect × Inner))) (xs' : List (Expr × Option (PartSelect × Expr))) → row_of (map select_tree (select_trees (bare_selects xs))) ≡ row_of (map select_tree (select_trees xs')) → SameSelects (bare_selects xs) xs'
+same_select_rows [] [] h = same_no_select
+same_select_rows [] (x' ∷ xs') h = cc
+same_select_rows (x ∷ xs) [] h = cc
+same_select_rows (x ∷ xs) (x' ∷ xs') h = same_more_selects _ x' _ xs' (x.0.1 x'.0 (cc)) (same_seconds x.1 x'.1 (cc)) (same_select_rows xs xs' (cc))
+
+same_selected : (xs : List (Inner × Option (PartSelect × Inner))) (xs' : List (Expr × Option (PartSelect × Expr))) → selects_tree (map select_tree (select_trees (bare_selects xs))) ≡ selects_tree (map select_tree (select_trees xs')) → SameSelects (bare_selects xs) xs'
+same_selected [] [] h = same_no_select
+same_selected [] (x' ∷ xs') h = cc
+same_selected (x ∷ xs) [] h = cc
+same_selected (x ∷ xs) (x' ∷ xs') h = same_select_rows (x ∷ xs) (x' ∷ xs') h
+
 same_unaries : (op op' : Unary) (x x' : Box Expr Global) → op ≡ op' → SameExpr x.value x'.value → SameExpr (e.Unary op x) (e.Unary op' x')
 same_unaries op op' x x' h s = subst (λ (o : Unary). SameExpr (e.Unary op x) (e.Unary o x')) h (same_unary op x x' s)
 
@@ -227,6 +282,8 @@ same_casts s s' x x' h p = subst (λ (b : Bool). SameExpr (e.Cast s x) (e.Cast b
 same_layers : (y : Expr-F Inner) (x' : Expr-F Expr) → layer (bare y) ≡ layer x' → SameExpr (roll-Expr (bare y)) (roll-Expr x')
 same_layers (f.Number l) (f.Number l') h = rw (rolls-Number l, rolls-Number l') (same_numbers l l' (cc))
 same_layers (f.Name n) (f.Name n') h = rw (rolls-Name n, rolls-Name n') (same_name n n' (cc))
+same_layers (f.Select n ss) (f.Select n' ss') h =
+    rw (rolls-Select _ _, rolls-Select n' ss') (same_select n n' _ ss' (cc) (same_selected ss.items ss'.items (cc)))
 same_layers (f.Group x) (f.Group x') h = rw (rolls-Group _, rolls-Group x') (same_group _ x' (x.value.1 x'.value (cc)))
 same_layers (f.Unary op x) (f.Unary op' x') h = rw (rolls-Unary op _, rolls-Unary op' x') (same_unaries op op' _ x' (unary_by op op' (cc)) (x.value.1 x'.value (cc)))
 same_layers (f.Chain x ls) (f.Chain x' ls') h =

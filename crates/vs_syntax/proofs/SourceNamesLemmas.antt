@@ -11,7 +11,7 @@ use Rattle.vs_syntax.specs.declared.tree.Module.{Module}
 use Rattle.vs_tokens.specs.declared.token.Word.TheVariants as w
 use Rattle.vs_syntax.specs.Symbols.{Symbol, a_mark, a_name, a_word}
 use Rattle.vs_syntax.specs.Derivation.{Tree, leaf, both, tokens}
-use Rattle.vs_syntax.specs.Views.{row_of, listed_tree, value_tree, declarator_tree, form_tree, declared_tree, item_tree, module_tree}
+use Rattle.vs_syntax.specs.Views.{row_of, listed_tree, told_tree, declarator_tree, form_tree, declared_tree, item_tree, module_tree}
 use Rattle.vs_syntax.specs.SourceNames.{NamesAreTokens, declarator_names, item_names, module_names, declared_names}
 
 -- whether a test holds of each token of a tree
@@ -40,7 +40,7 @@ abbrev named : (Symbol → Bool) → List (List ℕ) → Bool
 named p ns = list_all (λ n. p (a_name n)) ns
 
 declarator_holds : (p : Symbol → Bool) (d : Declarator) → holds p (declarator_tree d) ≡ true → p (a_name d.name.items) ≡ true
-declarator_holds p d h = first_of (p (a_name d.name.items)) true (left p (leaf (a_name d.name.items)) (value_tree d.value) h)
+declarator_holds p d h = first_of (p (a_name d.name.items)) true (left p (leaf (a_name d.name.items)) (told_tree d.words d.value) h)
 
 rest_holds : (p : Symbol → Bool) (ds : List Declarator) → holds p (row_of (map (both (leaf (a_mark m.Comma))) (map declarator_tree ds))) ≡ true → named p (declarator_names ds) ≡ true
 rest_holds p [] h = refl

@@ -13,8 +13,10 @@ pub data Part : Type 0 where
   a_module : Part
   -- an item of a module (clause A.1.4)
   an_item : Part
-  -- a name of a declaration, with a declaration assignment or without (clauses A.2.3 and A.2.4)
-  a_declarator : Part
+  -- a name of a declaration of nets, with a declaration assignment or without (clauses A.2.3 and A.2.4)
+  a_net : Part
+  -- a name of a declaration of variables, with a declaration assignment, with the range of its words, or alone (clauses A.2.2.1 and A.2.5)
+  a_variable : Part
   -- an assignment of an `assign` item (clause A.6.1)
   an_assignment : Part
   -- a statement (clause A.6.4)
@@ -134,19 +136,35 @@ one_of [] = nothing
 one_of (x ∷ xs) = one_or x xs
 
 -- the parts of a concatenation behind the first one, and the brace behind them (clause 5.1.14)
-abbrev pub other_parts : Grammar
-other_parts = many (mark m.Comma · part an_expr) · mark m.CloseBrace
+abbrev pub other_parts : Part → Grammar
+other_parts p = many (mark m.Comma · part p) · mark m.CloseBrace
 
 -- the operands that are nodes, each by its first token: an operator and its operand, an expression in parentheses, a
 -- concatenation or a multiple one, a conversion to signed or to unsigned (clauses A.8.1 to A.8.4 and 5.5)
 abbrev pub compounds : List (Class × Grammar)
 compounds = map (λ x. (the_mark x, part an_operand)) prefixes
     ++ (the_mark m.Open, part an_expr · mark m.Close)
-    ∷ (the_mark m.OpenBrace, part an_expr · (mark m.OpenBrace · part an_expr · other_parts · mark m.CloseBrace or other_parts))
+    ∷ (
+      the_mark m.OpenBrace,
+      part an_expr
+          · (mark m.OpenBrace · part an_expr · other_parts an_expr · mark m.CloseBrace or other_parts an_expr),
+    )
     ∷ (the_cast, mark m.Open · part an_expr · mark m.Close)
     ∷ []
 
--- the range of a vector (clause A.2.5)
+-- the marks between the two expressions of a part-select (clause 5.2.1)
+abbrev pub part_marks : Grammar
+part_marks = one_mark m.Colon (m.PlusColon ∷ m.MinusColon ∷ [])
+
+-- the second expression of a part-select, behind what stands between the two; nothing where there is one index (clause 5.2.1)
+abbrev pub second : Grammar
+second = part_marks · part an_expr or nothing
+
+-- a bit-select, a part-select, or the index of a word (clauses 5.2.1, 5.2.2 and A.8.4)
+abbrev pub select : Grammar
+select = mark m.OpenBracket · part an_expr · second · mark m.CloseBracket
+
+-- the range of a vector, or of the words of an array (clause A.2.5)
 abbrev pub range : Grammar
 range = mark m.OpenBracket · part an_expr · mark m.Colon · part an_expr · mark m.CloseBracket
 
@@ -156,9 +174,9 @@ form = (word w.Signed or nothing) · (range or nothing)
 
 -- the items of a module, each by its word (clause A.1.4; profile)
 abbrev pub items : List (Class × Grammar)
-items = (the_word w.Wire, form · listed a_declarator)
-    ∷ (the_word w.Reg, form · listed a_declarator)
-    ∷ (the_word w.Integer, listed a_declarator)
+items = (the_word w.Wire, form · listed a_net)
+    ∷ (the_word w.Reg, form · listed a_variable)
+    ∷ (the_word w.Integer, listed a_variable)
     ∷ (the_word w.Assign, listed an_assignment)
     ∷ (the_word w.Initial, part a_stmt)
     ∷ (the_word w.Always, part a_stmt)
@@ -171,15 +189,17 @@ statements = (the_mark m.Semicolon, nothing)
     ∷ (the_mark m.Hash, number · part a_stmt)
     ∷ []
 
--- The rules of the grammar. A target is a node, though it is a name alone; the name and the number of an expression are none.
+-- The rules of the grammar. A target is a node, though it be a name alone; the number of an expression is none, and a name only with its
+-- selects.
 abbrev pub rule : Part → Grammar
 rule a_source = many (part a_module)
 rule a_module = word w.Module · name · mark m.Semicolon · many (part an_item) · word w.Endmodule
 rule an_item = node (one_of items)
-rule a_declarator = name · (mark m.Assign · part an_expr or nothing)
+rule a_net = name · (mark m.Assign · part an_expr or nothing)
+rule a_variable = name · (mark m.Assign · part an_expr or range or nothing)
 rule an_assignment = part a_target · mark m.Assign · part an_expr
 rule a_stmt = node (part a_target · (mark m.Assign or mark m.LessEqual) · part an_expr · mark m.Semicolon or one_of statements)
-rule a_target = node name
+rule a_target = node (name · many select or mark m.OpenBrace · part a_target · other_parts a_target)
 rule an_expr = chain (part a_condition) (one_or_more arm)
-rule (a_level zero) = number or name or node (one_of compounds)
+rule (a_level zero) = number or chain name (one_or_more select) or node (one_of compounds)
 rule (a_level (suc n)) = operands (a_level n) (level_at levels n)

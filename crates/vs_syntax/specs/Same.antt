@@ -8,6 +8,9 @@ use Rattle.vs_logic4.specs.declared.operators.Binary.{Binary}
 use Rattle.vs_tokens.specs.declared.token.Literal.{Literal}
 use Rattle.vs_syntax.specs.declared.tree.Expr.{Expr}
 use Rattle.vs_syntax.specs.declared.tree.Expr.TheVariants as e
+use Rattle.vs_syntax.specs.declared.tree.PartSelect.{PartSelect}
+use Rattle.vs_syntax.specs.declared.tree.Left.{Left}
+use Rattle.vs_syntax.specs.declared.tree.Left.TheVariants as l
 use Rattle.vs_syntax.specs.declared.tree.Range.{Range}
 use Rattle.vs_syntax.specs.declared.tree.Form.{Form}
 use Rattle.vs_syntax.specs.declared.tree.Declarator.{Declarator}
@@ -24,6 +27,8 @@ mutual
   pub data SameExpr : Expr → Expr → Type 0 where
     same_number : (l : Literal) → SameExpr (e.Number l) (e.Number l)
     same_name : (n n' : Vec ℕ Global) → n.items ≡ n'.items → SameExpr (e.Name n) (e.Name n')
+    same_select : (n n' : Vec ℕ Global) (ss ss' : Vec (Expr × Option (PartSelect × Expr)) Global) →
+        n.items ≡ n'.items → SameSelects ss.items ss'.items → SameExpr (e.Select n ss) (e.Select n' ss')
     same_group : (x x' : Box Expr Global) → SameExpr x.value x'.value → SameExpr (e.Group x) (e.Group x')
     same_unary : (op : Unary) (x x' : Box Expr Global) → SameExpr x.value x'.value → SameExpr (e.Unary op x) (e.Unary op x')
     same_chain : (x x' : Box Expr Global) (ls ls' : Vec (Binary × Expr) Global) →
@@ -35,6 +40,17 @@ mutual
     same_repeat : (n n' x x' : Box Expr Global) (xs xs' : Vec Expr Global) → SameExpr n.value n'.value →
         SameExpr x.value x'.value → SameExprs xs.items xs'.items → SameExpr (e.Repeat n x xs) (e.Repeat n' x' xs')
     same_cast : (s : Bool) (x x' : Box Expr Global) → SameExpr x.value x'.value → SameExpr (e.Cast s x) (e.Cast s x')
+
+  -- The same of selects: as many, each of them in its place (profile).
+  pub data SameSelects : List (Expr × Option (PartSelect × Expr)) → List (Expr × Option (PartSelect × Expr)) → Type 0 where
+    same_no_select : SameSelects [] []
+    same_more_selects : (x x' : Expr × Option (PartSelect × Expr)) (xs xs' : List (Expr × Option (PartSelect × Expr))) →
+        SameExpr x.0 x'.0 → SameSecond x.1 x'.1 → SameSelects xs xs' → SameSelects (x ∷ xs) (x' ∷ xs')
+
+  -- The same of the second expression of a part-select, with what stands before it: none, or the same (profile).
+  pub data SameSecond : Option (PartSelect × Expr) → Option (PartSelect × Expr) → Type 0 where
+    same_no_second : SameSecond None None
+    same_second : (x x' : PartSelect × Expr) → x.0 ≡ x'.0 → SameExpr x.1 x'.1 → SameSecond (Some x) (Some x')
 
   -- The same of operands, each with the operator before it: as many, each of them in its place (profile).
   pub data SameLinks : List (Binary × Expr) → List (Binary × Expr) → Type 0 where
@@ -54,11 +70,24 @@ mutual
     same_more_exprs : (x x' : Expr) (xs xs' : List Expr) → SameExpr x x' → SameExprs xs xs' → SameExprs (x ∷ xs) (x' ∷ xs')
 
 mutual
+  -- The left sides say the same (profile).
+  pub data SameLeft : Left → Left → Type 0 where
+    same_place : (n n' : Vec ℕ Global) (ss ss' : Vec (Expr × Option (PartSelect × Expr)) Global) →
+        n.items ≡ n'.items → SameSelects ss.items ss'.items → SameLeft (l.Name n ss) (l.Name n' ss')
+    same_places : (x x' : Box Left Global) (xs xs' : Vec Left Global) →
+        SameLeft x.value x'.value → SameLefts xs.items xs'.items → SameLeft (l.Concat x xs) (l.Concat x' xs')
+
+  -- The same of left sides one after another (profile).
+  pub data SameLefts : List Left → List Left → Type 0 where
+    same_no_left : SameLefts [] []
+    same_more_lefts : (x x' : Left) (xs xs' : List Left) → SameLeft x x' → SameLefts xs xs' → SameLefts (x ∷ xs) (x' ∷ xs')
+
+mutual
   -- The statements say the same (profile).
   pub data SameStmt : Stmt → Stmt → Type 0 where
     same_null : SameStmt s.Null s.Null
-    same_assign : (n n' : Vec ℕ Global) (x x' : Expr) → n.items ≡ n'.items → SameExpr x x' → SameStmt (s.Assign n x) (s.Assign n' x')
-    same_later : (n n' : Vec ℕ Global) (x x' : Expr) → n.items ≡ n'.items → SameExpr x x' → SameStmt (s.Later n x) (s.Later n' x')
+    same_assign : (l l' : Left) (x x' : Expr) → SameLeft l l' → SameExpr x x' → SameStmt (s.Assign l x) (s.Assign l' x')
+    same_later : (l l' : Left) (x x' : Expr) → SameLeft l l' → SameExpr x x' → SameStmt (s.Later l x) (s.Later l' x')
     same_block : (xs xs' : Vec Stmt Global) → SameStmts xs.items xs'.items → SameStmt (s.Block xs) (s.Block xs')
     same_delay : (l : Literal) (x x' : Box Stmt Global) → SameStmt x.value x'.value → SameStmt (s.Delay l x) (s.Delay l x')
 
@@ -77,15 +106,16 @@ pub data SameValue : Option Expr → Option Expr → Type 0 where
   same_no_value : SameValue None None
   same_value : (x x' : Expr) → SameExpr x x' → SameValue (Some x) (Some x')
 
--- The names of a declaration say the same (profile).
-pub record SameDeclarator (d d' : Declarator) : Type 0 where
-  pub name : d.name.items ≡ d'.name.items
-  pub value : SameValue d.value d'.value
-
 -- Ranges that are both absent, or say the same (profile).
 pub data SameRange : Option Range → Option Range → Type 0 where
   same_no_range : SameRange None None
   same_range : (r r' : Range) → SameExpr r.left r'.left → SameExpr r.right r'.right → SameRange (Some r) (Some r')
+
+-- The names of a declaration say the same (profile).
+pub record SameDeclarator (d d' : Declarator) : Type 0 where
+  pub name : d.name.items ≡ d'.name.items
+  pub words : SameRange d.words d'.words
+  pub value : SameValue d.value d'.value
 
 -- What declarations say of their names is the same (profile).
 pub record SameForm (f f' : Form) : Type 0 where
@@ -94,7 +124,7 @@ pub record SameForm (f f' : Form) : Type 0 where
 
 -- The assignments of an `assign` item say the same (profile).
 pub record SameAssignment (a a' : NetAssignment) : Type 0 where
-  pub target : a.target.items ≡ a'.target.items
+  pub target : SameLeft a.target a'.target
   pub value : SameExpr a.value a'.value
 
 -- The items say the same (profile).

@@ -4,7 +4,7 @@ use Rattle.vs_tokens.specs.declared.token.Mark.{Mark}
 use Rattle.vs_tokens.specs.declared.token.Mark.TheVariants as m
 use Rattle.vs_tokens.specs.declared.token.Word.TheVariants as w
 use Rattle.vs_syntax.specs.Symbols.{Symbol, Class, the_mark, the_word, any_name, any_number, the_cast, same_class, first}
-use Rattle.vs_syntax.specs.Grammar.{Part, a_source, a_module, an_item, a_declarator, an_assignment, a_stmt, a_target, an_expr, a_level, Grammar, nothing, token, seq, either, many, part, node, chain, optional, prefixes}
+use Rattle.vs_syntax.specs.Grammar.{Part, a_source, a_module, an_item, a_net, a_variable, an_assignment, a_stmt, a_target, an_expr, a_level, Grammar, nothing, token, seq, either, many, part, node, chain, optional, prefixes}
 
 -- a class that can begin a part, and the least nesting of a part that it begins
 pub record Front : Type 0 where
@@ -25,7 +25,8 @@ abbrev pub low_of : Part → ℕ
 low_of a_source = 0
 low_of a_module = 0
 low_of an_item = 1
-low_of a_declarator = 0
+low_of a_net = 0
+low_of a_variable = 0
 low_of an_assignment = 1
 low_of a_stmt = 1
 low_of a_target = 1
@@ -54,14 +55,16 @@ fronts_of an_item = at_least (the_word w.Wire) 1
     ∷ at_least (the_word w.Initial) 2
     ∷ at_least (the_word w.Always) 2
     ∷ []
-fronts_of a_declarator = at_least any_name 0 ∷ []
-fronts_of an_assignment = at_least any_name 1 ∷ []
+fronts_of a_net = at_least any_name 0 ∷ []
+fronts_of a_variable = at_least any_name 0 ∷ []
+fronts_of an_assignment = at_least any_name 1 ∷ at_least (the_mark m.OpenBrace) 2 ∷ []
 fronts_of a_stmt = at_least any_name 2
+    ∷ at_least (the_mark m.OpenBrace) 3
     ∷ at_least (the_mark m.Semicolon) 1
     ∷ at_least (the_word w.Begin) 1
     ∷ at_least (the_mark m.Hash) 2
     ∷ []
-fronts_of a_target = at_least any_name 1 ∷ []
+fronts_of a_target = at_least any_name 1 ∷ at_least (the_mark m.OpenBrace) 2 ∷ []
 fronts_of an_expr = operand_fronts
 fronts_of (a_level n) = operand_fronts
 

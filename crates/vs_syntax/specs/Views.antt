@@ -1,5 +1,6 @@
 -- The tree of the grammar that a syntax tree stands for.
 use Rattle.std.specs.Prelude.{ℕ, Bool, true, false, List, [], ◌∷◌, Option, None, Some, map}
+use Rattle.std.specs.Option.{option_map}
 use Rattle.vs_logic4.specs.declared.operators.Unary.{Unary}
 use Rattle.vs_logic4.specs.declared.operators.Unary.TheVariants as u
 use Rattle.vs_logic4.specs.declared.operators.Binary.{Binary}
@@ -12,6 +13,10 @@ use Rattle.vs_syntax.specs.Symbols.{a_mark, a_word, a_name, a_number, a_cast}
 use Rattle.vs_syntax.specs.Derivation.{Tree, empty, leaf, both, down}
 use Rattle.vs_syntax.specs.declared.tree.Expr.{Expr, Expr-F, fold-Expr}
 use Rattle.vs_syntax.specs.declared.tree.Expr.TheOpen as e
+use Rattle.vs_syntax.specs.declared.tree.PartSelect.{PartSelect}
+use Rattle.vs_syntax.specs.declared.tree.PartSelect.TheVariants as p
+use Rattle.vs_syntax.specs.declared.tree.Left.{Left, Left-F, fold-Left}
+use Rattle.vs_syntax.specs.declared.tree.Left.TheOpen as l
 use Rattle.vs_syntax.specs.declared.tree.Range.{Range}
 use Rattle.vs_syntax.specs.declared.tree.Form.{Form}
 use Rattle.vs_syntax.specs.declared.tree.Declarator.{Declarator}
@@ -111,6 +116,26 @@ others_tree xs = both (commas_tree xs) (leaf (a_mark m.CloseBrace))
 abbrev pub repeated_tree : Tree → List Tree → Tree
 repeated_tree x xs = both x (both (others_tree xs) (leaf (a_mark m.CloseBrace)))
 
+-- what stands between the two expressions of a part-select (clause 5.2.1)
+abbrev pub part_mark : PartSelect → Mark
+part_mark p.Bounds = m.Colon
+part_mark p.Upward = m.PlusColon
+part_mark p.Downward = m.MinusColon
+
+-- the second expression of a part-select, behind what stands before it; nothing where there is one index
+abbrev pub second_tree : Option (PartSelect × Tree) → Tree
+second_tree None = empty
+second_tree (Some x) = both (leaf (a_mark (part_mark x.0))) x.1
+
+-- a select (clauses 5.2.1 and 5.2.2)
+abbrev pub select_tree : Tree × Option (PartSelect × Tree) → Tree
+select_tree x = both (leaf (a_mark m.OpenBracket)) (both x.0 (both (second_tree x.1) (leaf (a_mark m.CloseBracket))))
+
+-- the selects behind the name of an operand; without a select no tree of the grammar
+abbrev pub selects_tree : List Tree → Tree
+selects_tree [] = down empty
+selects_tree (x ∷ xs) = both x (row_of xs)
+
 -- an expression and the parenthesis behind it
 abbrev pub closed_tree : Tree → Tree
 closed_tree x = both x (leaf (a_mark m.Close))
@@ -119,6 +144,7 @@ closed_tree x = both x (leaf (a_mark m.Close))
 abbrev pub expr_step : Expr-F Tree → Tree
 expr_step (e.Number l) = leaf (a_number l)
 expr_step (e.Name n) = name_tree n.items
+expr_step (e.Select n ss) = down (both (name_tree n.items) (selects_tree (map select_tree ss.items)))
 expr_step (e.Group x) = down (both (leaf (a_mark m.Open)) (closed_tree x.value))
 expr_step (e.Unary op x) = down (both (leaf (a_mark (unary_mark op))) x.value)
 expr_step (e.Chain x ls) = down (both x.value (row_of (map link_tree ls.items)))
@@ -132,25 +158,48 @@ expr_step (e.Cast s x) = down (both (leaf (a_cast s)) (both (leaf (a_mark m.Open
 abbrev pub expr_tree : Expr → Tree
 expr_tree = fold-Expr Tree expr_step
 
+-- the second expression of a part-select as a tree
+abbrev pub second_trees : Option (PartSelect × Expr) → Option (PartSelect × Tree)
+second_trees o = option_map (λ (p : PartSelect × Expr). (p.0, expr_tree p.1)) o
+
+-- a select by its expressions
+abbrev pub chosen_tree : Expr × Option (PartSelect × Expr) → Tree
+chosen_tree x = select_tree (expr_tree x.0, second_trees x.1)
+
+-- the left side of an assignment, where the trees of the inner ones stand in their place
+abbrev pub left_step : Left-F Tree → Tree
+left_step (l.Name n ss) = down (both (name_tree n.items) (row_of (map chosen_tree ss.items)))
+left_step (l.Concat x xs) = down (both (leaf (a_mark m.OpenBrace)) (both x.value (others_tree xs.items)))
+
+-- the left side of an assignment
+abbrev pub left_tree : Left → Tree
+left_tree = fold-Left Tree left_step
+
 -- a declaration assignment, where there is one
 abbrev pub value_tree : Option Expr → Tree
 value_tree None = empty
 value_tree (Some x) = both (leaf (a_mark m.Assign)) (expr_tree x)
-
--- a name of a declaration
-abbrev pub declarator_tree : Declarator → Tree
-declarator_tree d = both (name_tree d.name.items) (value_tree d.value)
-
--- the word `signed`, where it is there
-abbrev pub signed_tree : Bool → Tree
-signed_tree true = leaf (a_word w.Signed)
-signed_tree false = empty
 
 -- a range, where there is one
 abbrev pub range_tree : Option Range → Tree
 range_tree None = empty
 range_tree (Some r) = both (leaf (a_mark m.OpenBracket)) (both (expr_tree r.left)
     (both (leaf (a_mark m.Colon)) (both (expr_tree r.right) (leaf (a_mark m.CloseBracket)))))
+
+-- what stands behind a name of a declaration: the range of its words, or a declaration assignment; with both no tree of the grammar
+abbrev pub told_tree : Option Range → Option Expr → Tree
+told_tree None v = value_tree v
+told_tree (Some r) None = range_tree (Some r)
+told_tree (Some r) (Some x) = down (both (range_tree (Some r)) (value_tree (Some x)))
+
+-- a name of a declaration
+abbrev pub declarator_tree : Declarator → Tree
+declarator_tree d = both (name_tree d.name.items) (told_tree d.words d.value)
+
+-- the word `signed`, where it is there
+abbrev pub signed_tree : Bool → Tree
+signed_tree true = leaf (a_word w.Signed)
+signed_tree false = empty
 
 -- what a declaration says of its names
 abbrev pub form_tree : Form → Tree
@@ -162,17 +211,17 @@ declared_tree f ds = both (form_tree f) (listed_tree (map declarator_tree ds))
 
 -- an assignment of an `assign` item
 abbrev pub net_assignment_tree : NetAssignment → Tree
-net_assignment_tree a = both (down (name_tree a.target.items)) (both (leaf (a_mark m.Assign)) (expr_tree a.value))
+net_assignment_tree a = both (left_tree a.target) (both (leaf (a_mark m.Assign)) (expr_tree a.value))
 
 -- an assignment as a statement
-abbrev pub assigned_tree : List ℕ → Mark → Expr → Tree
-assigned_tree n sign x = down (both (down (name_tree n)) (both (leaf (a_mark sign)) (both (expr_tree x) (leaf (a_mark m.Semicolon)))))
+abbrev pub assigned_tree : Left → Mark → Expr → Tree
+assigned_tree l sign x = down (both (left_tree l) (both (leaf (a_mark sign)) (both (expr_tree x) (leaf (a_mark m.Semicolon)))))
 
 -- a statement, where the trees of the inner ones stand in their place
 abbrev pub stmt_step : Stmt-F Tree → Tree
 stmt_step s.Null = down (both (leaf (a_mark m.Semicolon)) empty)
-stmt_step (s.Assign n x) = assigned_tree n.items m.Assign x
-stmt_step (s.Later n x) = assigned_tree n.items m.LessEqual x
+stmt_step (s.Assign l x) = assigned_tree l m.Assign x
+stmt_step (s.Later l x) = assigned_tree l m.LessEqual x
 stmt_step (s.Block xs) = down (both (leaf (a_word w.Begin)) (both (row_of xs.items) (leaf (a_word w.End))))
 stmt_step (s.Delay l x) = down (both (leaf (a_mark m.Hash)) (both (leaf (a_number l)) x.value))
 

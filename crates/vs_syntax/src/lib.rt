@@ -5,4 +5,6 @@ mod law;
 mod tree;
 
 pub use law::{names_are_tokens, one_source, one_tree, plain_reading, tables_agree};
-pub use tree::{Declarator, Expr, Form, Item, Module, NetAssignment, Range, Source, Stmt};
+pub use tree::{
+    Declarator, Expr, Form, Item, Left, Module, NetAssignment, PartSelect, Range, Source, Stmt,
+};

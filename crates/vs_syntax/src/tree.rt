@@ -23,6 +23,8 @@ pub struct Module {
 pub struct Declarator {
     /// The bytes of the name.
     pub name: Vec<u8>,
+    /// The range of its words, where it is an array of variables (clause 4.9). An array has no declaration assignment.
+    pub words: Option<Range>,
     /// The right side of its declaration assignment, where it has one.
     pub value: Option<Expr>,
 }
@@ -48,8 +50,8 @@ pub struct Form {
 /// One assignment of an `assign` item (IEEE 1364-2005, clause 6.1.2).
 #[derive(Drop)]
 pub struct NetAssignment {
-    /// The bytes of the name of the net on the left.
-    pub target: Vec<u8>,
+    /// The left side.
+    pub target: Left,
     /// The right side.
     pub value: Expr,
 }
@@ -76,14 +78,34 @@ pub enum Item {
 pub enum Stmt {
     /// `;` alone.
     Null,
-    /// A blocking assignment of an expression to the variable of a name (clause 9.2.1).
-    Assign(Vec<u8>, Expr),
-    /// A nonblocking assignment of an expression to the variable of a name (clause 9.2.2).
-    Later(Vec<u8>, Expr),
+    /// A blocking assignment: its two sides (clause 9.2.1).
+    Assign(Left, Expr),
+    /// A nonblocking assignment: its two sides (clause 9.2.2).
+    Later(Left, Expr),
     /// `begin`, statements and `end` (clause 9.8.1).
     Block(Vec<Stmt>),
     /// `#` with a delay in units of time before a statement (clause 9.7.1).
     Delay(Literal, Box<Stmt>),
+}
+
+/// The left side of an assignment (IEEE 1364-2005, clauses 6.1.2 and 9.2).
+#[derive(Drop)]
+pub enum Left {
+    /// A name, and its selects, of which there may be none.
+    Name(Vec<u8>, Vec<(Expr, Option<(PartSelect, Expr)>)>),
+    /// `{a, b, ..}`: the first part, which is the highest, and the others.
+    Concat(Box<Left>, Vec<Left>),
+}
+
+/// What stands between the two expressions of a part-select (IEEE 1364-2005, clause 5.2.1).
+#[derive(Clone, Copy, PartialEq, Eq, Debug)]
+pub enum PartSelect {
+    /// `[left:right]`
+    Bounds,
+    /// `[base +: width]`
+    Upward,
+    /// `[base -: width]`
+    Downward,
 }
 
 /// An expression (IEEE 1364-2005, clause 5).
@@ -93,6 +115,9 @@ pub enum Expr {
     Number(Literal),
     /// The value of the variable or net of a name.
     Name(Vec<u8>),
+    /// A name with selects, of which there is at least one, in the order of the text: `[index]`, or the two expressions of a part-select
+    /// with what stands between them (clauses 5.2.1 and 5.2.2).
+    Select(Vec<u8>, Vec<(Expr, Option<(PartSelect, Expr)>)>),
     /// An expression in parentheses.
     Group(Box<Expr>),
     /// An operator and its operand (clause 5.1).

@@ -1,5 +1,4 @@
 pub mod NameLemmas
-pub mod FittingLemmas
 pub mod LinkingLemmas
-pub mod ConstantLemmas
 pub mod MeasuringLemmas
+pub mod SelectLemmas

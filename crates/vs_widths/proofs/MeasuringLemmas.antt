@@ -21,21 +21,25 @@ use Rattle.vs_design.specs.Stores.{Store}
 use Rattle.vs_design.specs.Uses.{joined}
 use Rattle.vs_design.specs.WellFormed.{choice_size, picked_size, sum_size, at_most_64}
 use Rattle.vs_eval.specs.Values.{chosen, concatenated}
-use Rattle.vs_widths.specs.declared.bindings.Shape.{Shape}
-use Rattle.vs_widths.specs.declared.faults.WidthReason.{WidthReason}
-use Rattle.vs_widths.specs.declared.faults.WidthReason.TheVariants.{TooWide}
-use Rattle.vs_widths.specs.declared.faults.WidthFault.{WidthFault}
-use Rattle.vs_widths.specs.declared.faults.WidthFault.TheVariants.{Memory, Refused}
-use Rattle.vs_widths.specs.declared.forms.Form.{Form}
-use Rattle.vs_widths.specs.declared.forms.Form.TheVariants as v
-use Rattle.vs_widths.specs.declared.forms.Form.TheOpen as f
-use Rattle.vs_widths.specs.declared.forms.Measured.{Measured}
-use Rattle.vs_widths.specs.Environment.{Environment}
-use Rattle.vs_widths.specs.Findings.{Finding, Has, Lacks, stands, together, alone, alike, linked_shape, second, unsigned, beside, repeated, too_wide}
-use Rattle.vs_widths.specs.Expressions.{Meant, own, meant, meant_step, number_meant, name_meant, unary_finding, unary_meant, cast_meant, linked_meant, chain_meant, choice_finding, choice_meant, sum_finding, joined_value, concat_meant, count_finding, natural_of, positive, repeated_value, repeat_meant}
-use Rattle.vs_widths.specs.Typing.{Refuses}
-use Rattle.vs_widths.specs.passes.Forms.{Sense, sense, meaning, links_meant, pairs_meant, Each, each_none, each_more, IsFlexible, IsMeasured, Measures, IsOwnPart, IsClosedPart, IsChoicePair, IsPartOf, AreJoined, IsCount, IsRepetition, Repeats}
-use Rattle.vs_widths.proofs.FittingLemmas.{layer, pairs_sensed}
+use Rattle.vs_forms.specs.declared.shape.Shape.{Shape}
+use Rattle.vs_selects.specs.declared.faults.WidthReason.{WidthReason}
+use Rattle.vs_selects.specs.declared.faults.WidthReason.TheVariants.{TooWide}
+use Rattle.vs_selects.specs.declared.faults.WidthFault.{WidthFault}
+use Rattle.vs_selects.specs.declared.faults.WidthFault.TheVariants.{Memory, Refused}
+use Rattle.vs_forms.specs.declared.forms.Form.{Form}
+use Rattle.vs_forms.specs.declared.forms.Form.TheVariants as v
+use Rattle.vs_forms.specs.declared.forms.Form.TheOpen as f
+use Rattle.vs_forms.specs.declared.forms.Measured.{Measured}
+use Rattle.vs_selects.specs.Environment.{Environment}
+use Rattle.vs_selects.specs.Findings.{Finding, Has, Lacks, stands, together, alone, alike, linked_shape, second, unsigned, beside, repeated, too_wide, Refuses}
+use Rattle.vs_selects.specs.Meants.{Meant, own}
+use Rattle.vs_widths.specs.Expressions.{meant, meant_step, number_meant, name_meant, unary_finding, unary_meant, cast_meant, linked_meant, chain_meant, choice_finding, choice_meant, sum_finding, joined_value, concat_meant, repeated_value, repeat_meant}
+use Rattle.vs_selects.specs.Constants.{count_finding, natural_of, positive}
+use Rattle.vs_forms.specs.Senses.{Sense, sense}
+use Rattle.vs_selects.specs.passes.Measures.{meaning, IsFlexible, IsMeasured, Measures, IsOwnPart, IsClosedPart, IsCount}
+use Rattle.vs_widths.specs.passes.Forms.{links_meant, pairs_meant, IsChoicePair, IsPartOf, AreJoined, IsRepetition, Repeats}
+use Rattle.vs_forms.specs.Each.{Each, each_none, each_more}
+use Rattle.vs_forms.proofs.FittingLemmas.{layer, pairs_sensed}
 use Rattle.vs_widths.proofs.LinkingLemmas.{meant_same}
 
 -- ---- faults
@@ -44,7 +48,7 @@ pub refused_by : (a b : Finding) (d : WidthFault) → ((r : WidthReason) → sta
 refused_by a b Memory h k = tt
 refused_by a b (Refused r) h k = h r k
 
-or_right : (a b : Bool) → b ≡ true → (a || b) ≡ true
+pub or_right : (a b : Bool) → b ≡ true → (a || b) ≡ true
 or_right true b h = refl
 or_right false b h = h
 
@@ -82,7 +86,7 @@ stands_sum a (m ∷ ms) r h = stands_sum (together beside a m.finding) ms r (sta
 -- ---- forms of expressions
 
 module _ (env : Environment) where
-  form : (y : Expr-F Expr) (z : Expr) → roll-Expr y ≡ z → meant env z ≡ meant_step env (map-Expr Expr Meant (meant env) y)
+  pub form : (y : Expr-F Expr) (z : Expr) → roll-Expr y ≡ z → meant env z ≡ meant_step env (map-Expr Expr Meant (meant env) y)
   form y z h = ap (meant env) (sym h) ∙ fold-roll-Expr Meant (meant_step env) y
 
   pub meant_Number : (l : Literal) → meant env (e.Number l) ≡ number_meant l

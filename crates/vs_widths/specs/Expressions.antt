@@ -1,45 +1,44 @@
 -- The size, the sign and the value of an expression of a source.
-use Rattle.std.specs.Prelude.{ℕ, zero, suc, ◌^◌, ℤ, pos, nat_lt, Bool, true, false, ◌&&◌, if◌then◌else◌, List, [], ◌∷◌, ◌++◌, Option, Some, None, length, map, take}
+use Rattle.std.specs.Prelude.{ℕ, Bool, true, false, List, [], ◌∷◌, ◌++◌, Option, Some, None, length, map, take}
 use Rattle.vs_logic4.specs.declared.digit.Digit.{Digit}
-use Rattle.vs_logic4.specs.declared.digit.Digit.TheVariants.{One}
 use Rattle.vs_logic4.specs.declared.operators.Unary.{Unary}
 use Rattle.vs_logic4.specs.declared.operators.Binary.{Binary}
 use Rattle.vs_logic4.specs.declared.operators.Sizing.{Sizing}
 use Rattle.vs_logic4.specs.declared.operators.Sizing.TheVariants.{Alike, Shift, Comparison, Logical}
-use Rattle.vs_logic4.specs.Operators.{unary, binary, gives_bit, sizing_of}
-use Rattle.vs_logic4.specs.Vectors.{resized, same_digit, top_digit}
-use Rattle.vs_logic4.specs.Arithmetic.{known_number, known_signed_number}
+use Rattle.vs_logic4.specs.Operators.{unary, gives_bit, sizing_of}
+use Rattle.vs_logic4.specs.Vectors.{resized}
 use Rattle.vs_logic4.specs.Parts.{replication}
 use Rattle.vs_tokens.specs.declared.token.Literal.{Literal}
 use Rattle.vs_syntax.specs.declared.tree.Expr.{Expr}
 use Rattle.vs_syntax.specs.declared.tree.Expr.TheOpen.{Expr-F}
 use Rattle.vs_syntax.specs.declared.tree.Expr.TheOpen as f
 use Rattle.vs_syntax.specs.declared.tree.Expr.TheFolds.{fold-Expr}
+use Rattle.vs_syntax.specs.declared.tree.PartSelect.{PartSelect}
 use Rattle.vs_design.specs.declared.range.BitRange.{BitRange}
+use Rattle.vs_design.specs.declared.signal.Bounds.{Bounds}
 use Rattle.vs_design.specs.Stores.{Store, word_of}
 use Rattle.vs_design.specs.Uses.{whole, joined}
-use Rattle.vs_eval.specs.Values.{operand_value, left_side, right_side, chosen, concatenated}
-use Rattle.vs_widths.specs.declared.bindings.Binding.{Binding}
-use Rattle.vs_widths.specs.Environment.{Environment}
-use Rattle.vs_widths.specs.Findings.{Finding, Has, Lacks, unknown, not_constant, together, alone, alike, linked_shape, second, beside, repeated, at_found}
-
--- What an expression means: its size and sign, the ranges that it reads, in the order of the text, and its value in a store at a time in ticks at
--- the size and with the sign of its context (clauses 5.4 and 5.5).
-pub record Meant : Type 0 where
-  pub finding : Finding
-  pub reads : List BitRange
-  pub at : Store → ℕ → ℕ → Bool → List Digit
-
--- the value at an expression's own size and sign (clause 5.4.1)
-abbrev pub own : Meant → Store → ℕ → List Digit
-own m store time = at_found m.finding (m.at store time)
+use Rattle.vs_eval.specs.Values.{operand_value, chosen, concatenated}
+use Rattle.vs_forms.specs.Operations.{operated}
+use Rattle.vs_forms.specs.declared.shape.Shape.{Shape}
+use Rattle.vs_selects.specs.declared.bindings.Binding.{Binding}
+use Rattle.vs_selects.specs.Environment.{Environment}
+use Rattle.vs_selects.specs.Findings.{Finding, Has, Lacks, unknown, wrong_kind, together, alone, alike, linked_shape, second, beside, repeated, at_found}
+use Rattle.vs_selects.specs.Meants.{Meant, own}
+use Rattle.vs_selects.specs.Constants.{natural_of, positive, count_finding}
+use Rattle.vs_selects.specs.Selects.{Select, select_meant}
 
 -- ---- names
+
+-- the size and sign of a signal that is no array; an array has no value without a select (clauses 4.9 and 5.2.2)
+abbrev pub signal_finding : Option Bounds → Shape → Finding
+signal_finding None s = Has s.width s.signed
+signal_finding (Some words) s = Lacks wrong_kind
 
 -- the size and sign of the signal of a name (clause 12.7)
 abbrev pub name_finding : Option Binding → Finding
 name_finding None = Lacks unknown
-name_finding (Some b) = Has b.meaning.shape.width b.meaning.shape.signed
+name_finding (Some b) = signal_finding b.meaning.words b.meaning.shape
 
 -- what a name reads: the whole of its signal
 abbrev pub name_reads : Option Binding → List BitRange
@@ -64,10 +63,6 @@ unary_value true op m store time width signed = resized signed width (unary op (
 unary_value false op m store time width signed = unary op (m.at store time width signed)
 
 -- ---- operators of two operands
-
--- what an operator gives of two sides, each at the size at which the operator takes it (clauses 5.1 and 5.4.1)
-abbrev pub operated : Binary → ℕ → Bool → List Digit → List Digit → List Digit
-operated op width signed left right = binary op signed (left_side (sizing_of op) width left) (right_side (sizing_of op) width right)
 
 -- the value of the result: operands of one context have its size and sign, those of a comparison their own larger size and common sign, a shift's
 -- amount and the sides of `&&` and `||` their own (clauses 5.4.1 and 5.5.1)
@@ -128,54 +123,7 @@ concat_meant first rest = record {
   at = λ store time width signed. resized signed width (joined_value first rest store time);
 }
 
--- ---- constants
-
--- a size and sign, where nothing is read
-abbrev pub where_none : List BitRange → ℕ → Bool → Finding
-where_none [] width signed = Has width signed
-where_none (r ∷ rs) width signed = Lacks not_constant
-
--- the size and sign of an expression, where it names no signal (clause 5.1.14)
-abbrev pub constant_finding : Meant → Finding
-constant_finding m = alone (where_none m.reads) m.finding
-
--- the number of a value, where it is known and not negative (clause 3.5.1)
-abbrev pub natural_number : Bool → List Digit → Option ℕ
-natural_number signed digits = if signed && same_digit (top_digit digits) One then None else known_number digits
-
--- a number below 2^63
-abbrev pub below_half : Option ℕ → Option ℤ
-below_half None = None
-below_half (Some n) = if nat_lt n (2 ^ 63) then Some (pos n) else None
-
--- the whole number of a value, where it is known and 64 bits with a sign hold it (clause 3.5.1; the bound: profile)
-abbrev pub whole_number : Bool → List Digit → Option ℤ
-whole_number true digits = known_signed_number digits
-whole_number false digits = below_half (known_number digits)
-
--- the number of digits by a sign that was found
-abbrev pub natural_at : Finding → List Digit → Option ℕ
-natural_at (Has width signed) digits = natural_number signed digits
-natural_at (Lacks faults) digits = None
-
--- the number of a constant by its own size and sign, where it is known and not negative (clause 3.5.1)
-abbrev pub natural_of : Meant → Option ℕ
-natural_of m = natural_at m.finding (own m [] 0)
-
--- a number from 1 on
-abbrev pub positive : Option ℕ → Option ℕ
-positive None = None
-positive (Some zero) = None
-positive (Some (suc n)) = Some (suc n)
-
--- a size and sign, where a number is known
-abbrev pub where_some : Option ℕ → ℕ → Bool → Finding
-where_some None width signed = Lacks not_constant
-where_some (Some n) width signed = Has width signed
-
--- the size and sign of a replication's count, which is a constant from 1 on (clause 5.1.14; from 1: profile)
-abbrev pub count_finding : Meant → Finding
-count_finding m = alone (where_some (positive (natural_of m))) (constant_finding m)
+-- ---- replications
 
 -- digits so many times; none where the number isn't known (clause 5.1.14)
 abbrev pub repeated_value : Option ℕ → List Digit → List Digit
@@ -222,6 +170,7 @@ cast_meant sign x = record {
 abbrev pub meant_step : Environment → Expr-F Meant → Meant
 meant_step env (f.Number l) = number_meant l
 meant_step env (f.Name n) = name_meant (env n.items)
+meant_step env (f.Select n ss) = select_meant (env n.items) ss.items
 meant_step env (f.Group x) = x.value
 meant_step env (f.Unary op x) = unary_meant op x.value
 meant_step env (f.Chain x links) = chain_meant x.value links.items
@@ -233,3 +182,12 @@ meant_step env (f.Cast sign x) = cast_meant sign x.value
 -- what an expression means, by its form (clauses 5.1, 5.4 and 5.5)
 abbrev pub meant : Environment → Expr → Meant
 meant env = fold-Expr Meant (meant_step env)
+
+-- what a select means
+abbrev pub meant_select : Environment → Expr × Option (PartSelect × Expr) → Select
+meant_select env (e, None) = (meant env e, None)
+meant_select env (e, Some (how, m)) = (meant env e, Some (how, meant env m))
+
+-- what the selects behind a name mean
+abbrev pub meant_selects : Environment → List (Expr × Option (PartSelect × Expr)) → List Select
+meant_selects env ss = map (meant_select env) ss

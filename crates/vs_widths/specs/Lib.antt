@@ -1,6 +1,9 @@
+pub use Rattle.vs_selects.specs.Constants
+pub use Rattle.vs_selects.specs.Environment
+pub use Rattle.vs_selects.specs.Findings
+pub use Rattle.vs_selects.specs.Meants
+pub use Rattle.vs_selects.specs.Selects
 pub mod Names
-pub mod Environment
-pub mod Findings
 pub mod Expressions
 pub mod Typing
 pub mod passes

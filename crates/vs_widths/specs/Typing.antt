@@ -1,24 +1,22 @@
 -- Expressions of a design that are what those of a source are.
 use Rattle.std.specs.Prelude.{◌≡◌, ℕ, Bool, true, false, List, Some, length}
+use Rattle.std.specs.List.{list_all}
 use Rattle.vs_logic4.specs.declared.digit.Digit.{Digit}
 use Rattle.vs_design.specs.declared.expression.Typed.{Typed}
+use Rattle.vs_design.specs.declared.range.BitRange.{BitRange}
 use Rattle.vs_design.specs.Stores.{Store}
 use Rattle.vs_design.specs.Uses.{reads}
 use Rattle.vs_design.specs.WellFormed.{size_of}
 use Rattle.vs_eval.specs.Values.{value_of}
 use Rattle.vs_syntax.specs.declared.tree.Expr.{Expr}
-use Rattle.vs_widths.specs.declared.faults.WidthFault.{WidthFault}
-use Rattle.vs_widths.specs.declared.faults.WidthFault.TheVariants.{Memory, Refused}
-use Rattle.vs_widths.specs.declared.faults.WidthReason.{WidthReason}
-use Rattle.vs_widths.specs.declared.constants.Const.{Const}
-use Rattle.vs_widths.specs.Environment.{Environment}
-use Rattle.vs_widths.specs.Findings.{Finding, Has, stands}
-use Rattle.vs_widths.specs.Expressions.{meant, own, constant_finding}
-
--- a fault that stands, or want of memory
-abbrev pub Refuses : Finding → WidthFault → Type 0
-Refuses found Memory = Unit {0}
-Refuses found (Refused r) = stands r found ≡ true
+use Rattle.vs_selects.specs.declared.bindings.Binding.{Binding}
+use Rattle.vs_selects.specs.declared.faults.WidthReason.{WidthReason}
+use Rattle.vs_selects.specs.declared.constants.Const.{Const}
+use Rattle.vs_selects.specs.Environment.{Environment}
+use Rattle.vs_selects.specs.Findings.{Has, stands}
+use Rattle.vs_selects.specs.Meants.{own}
+use Rattle.vs_selects.specs.Constants.{constant_finding}
+use Rattle.vs_widths.specs.Expressions.{meant}
 
 -- The expression of a design that one of a source is at a size and a sign: no fault stands, and it has this size, the source's value in each store,
 -- and reads what the source names (clauses 5.4 and 5.5).
@@ -38,3 +36,12 @@ pub record IsConstantAt (env : Environment) (e : Expr) (width : ℕ) (signed : B
   pub sound : (r : WidthReason) → stands r (constant_finding (meant env e)) ≡ false
   pub value : (store : Store) → (meant env e).at store 0 width signed ≡ v
   pub length_is : length v ≡ width
+
+-- a test that holds of the number of each signal to which a name is bound
+abbrev pub HoldsOfSignals : Environment → (ℕ → Bool) → Type 0
+HoldsOfSignals env test = (name : List ℕ) (b : Binding) → env name ≡ Some b → test b.signal ≡ true
+
+-- an expression reads signals to which names are bound, and no others
+abbrev pub ReadsNamed : Type 0
+ReadsNamed = (env : Environment) (test : ℕ → Bool) → HoldsOfSignals env test → (e : Expr) →
+    list_all (λ (r : BitRange). test r.signal) (meant env e).reads ≡ true

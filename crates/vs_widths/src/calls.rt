@@ -1,19 +1,18 @@
 //! What the crates above ask of an expression.
 ghost use Rattle.std.specs.Prelude.{◌≡◌, IfOk, IfErr};
 ghost use Rattle.vs_widths.specs.Names.{meaning_of};
-ghost use Rattle.vs_widths.specs.Expressions.{meant, constant_finding};
-ghost use Rattle.vs_widths.specs.Findings.{Has};
-ghost use Rattle.vs_widths.specs.Typing.{Refuses, IsTyped, IsConstant, IsConstantAt};
+ghost use Rattle.vs_widths.specs.Expressions.{meant};
+ghost use Rattle.vs_selects.specs.Constants.{constant_finding};
+ghost use Rattle.vs_selects.specs.Findings.{Has, Refuses};
+ghost use Rattle.vs_widths.specs.Typing.{IsTyped, IsConstant, IsConstantAt};
 
-use crate::bindings::{Binding, Shape};
-use crate::constants::{Const, known};
-use crate::faults::WidthFault;
-use crate::fitting::fitted;
 use crate::measuring::measured;
 use crate::names::Names;
 use std::alloc::Global;
 use vs_design::Typed;
+use vs_forms::{Shape, fitted};
 use vs_logic4::Vec4;
+use vs_selects::{Binding, Const, WidthFault, known};
 use vs_syntax::Expr;
 
 /// The size and sign that an expression has by itself (IEEE 1364-2005, clauses 5.4.1 and 5.5.1).

@@ -3,14 +3,14 @@ ghost use Rattle.std.specs.Prelude.{◌≡◌, Some, IfOk, true, false, max};
 ghost use Rattle.vs_logic4.specs.Operators.{sizing_of};
 ghost use Rattle.vs_logic4.specs.declared.operators.Sizing.TheVariants as sizing;
 ghost use Rattle.vs_widths.specs.Expressions.{linked_meant};
-ghost use Rattle.vs_widths.specs.Findings.{Has, alike};
-ghost use Rattle.vs_widths.specs.passes.Forms.{sense, meaning, ends_in_test, IsFlexible, IsMeasured, IsOwnPart, IsOperated, IsTestLink, IsTested};
+ghost use Rattle.vs_selects.specs.Findings.{Has, alike};
+ghost use Rattle.vs_forms.specs.Senses.{sense};
+ghost use Rattle.vs_selects.specs.passes.Measures.{meaning, IsFlexible, IsMeasured, IsOwnPart};
+ghost use Rattle.vs_widths.specs.passes.Forms.{ends_in_test, IsOperated, IsTestLink, IsTested};
 
-use crate::bindings::Shape;
-use crate::fitting::BIT;
-use crate::forms::{Form, Measured};
 use std::alloc::{AllocError, Global};
 use vs_design::Link;
+use vs_forms::{BIT, Form, Measured, Shape};
 use vs_logic4::{Binary, Sizing};
 
 /// The size and sign of two operands of one context (IEEE 1364-2005, clauses 5.4.1 and 5.5.1).

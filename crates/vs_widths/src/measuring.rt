@@ -1,21 +1,20 @@
 //! The own size and sign of each part of an expression.
 ghost use Rattle.std.specs.Prelude.{◌≡◌, ◌<◌, ◌≤◌, false, IfOk, map};
 ghost use Rattle.vs_widths.specs.Names.{meaning_of};
-ghost use Rattle.vs_widths.specs.Expressions.{meant, number_meant, name_meant, unary_meant, chain_meant, choice_meant};
-ghost use Rattle.vs_widths.specs.passes.Forms.{meaning, links_meant, pairs_meant, IsFlexible, IsMeasured, Measures, IsClosedPart, Joins, Repeats};
+ghost use Rattle.vs_widths.specs.Expressions.{meant, meant_selects, number_meant, name_meant, unary_meant, chain_meant, choice_meant};
+ghost use Rattle.vs_selects.specs.passes.Measures.{meaning, IsFlexible, IsMeasured, Measures, IsClosedPart};
+ghost use Rattle.vs_widths.specs.passes.Forms.{links_meant, pairs_meant, Joins, Repeats};
+ghost use Rattle.vs_widths.specs.passes.Selects.{MeasuresSelects};
 
-use crate::bindings::{Binding, Shape};
-use crate::constants::count_of;
-use crate::faults::{WidthFault, WidthReason};
-use crate::fitting::BIT;
-use crate::forms::{Form, Measured};
 use crate::linking::{joined_shape, linked, own};
 use crate::names::Names;
 use std::alloc::{AllocError, Global};
 use vs_design::Count;
+use vs_forms::{BIT, Form, Measured, Shape};
 use vs_lexer::Literal;
 use vs_logic4::{Binary, Unary};
-use vs_syntax::Expr;
+use vs_selects::{Binding, WidthFault, WidthReason, count_of, named, operand};
+use vs_syntax::{Expr, PartSelect};
 
 const TOO_WIDE: WidthFault = WidthFault::Refused(WidthReason::TooWide);
 
@@ -27,6 +26,11 @@ pub fn measured(alloc: Global, names: &Names<Binding>, e: &Expr) -> Result<Measu
     match e {
         Expr::Number(literal) => Ok(of_number(*literal)),
         Expr::Name(name) => of_name(names.find(name)),
+        Expr::Select(name, selects) => {
+            let selects = measured_selects(alloc, names, selects)?;
+            let place = named(alloc, names.find(name), selects)?;
+            Ok(operand(alloc, place)?)
+        }
         Expr::Group(inner) => measured(alloc, names, inner),
         Expr::Unary(operator, x) => {
             let x = measured(alloc, names, x)?;
@@ -49,7 +53,7 @@ pub fn measured(alloc: Global, names: &Names<Binding>, e: &Expr) -> Result<Measu
             let first = measured(alloc, names, first)?;
             let parts = measured_parts(alloc, names, first, rest)?;
             let count = measured(alloc, names, count)?;
-            let times = count_of(alloc, count)?;
+            let times = count_of(alloc, &count)?;
             repeated(alloc, times, parts)
         }
         Expr::Cast(signed, x) => {
@@ -61,6 +65,28 @@ pub fn measured(alloc: Global, names: &Names<Binding>, e: &Expr) -> Result<Measu
             Ok(closed(alloc, shape, x)?)
         }
     }
+}
+
+/// The selects behind a name.
+#[cycle(measured)]
+pub fn measured_selects(
+    alloc: Global,
+    names: &Names<Binding>,
+    selects: &[(Expr, Option<(PartSelect, Expr)>)],
+) -> Result<Vec<(Measured, Option<(PartSelect, Measured)>)>, WidthFault>
+    ensures { MeasuresSelects (meant_selects (meaning_of names.now) selects.now) result }
+{
+    let mut done = Vec::new(alloc);
+    for (index, part) in selects {
+        let index = measured(alloc, names, index)?;
+        let Some((how, e)) = part else {
+            done.push((index, None))?;
+            continue;
+        };
+        let other = measured(alloc, names, e)?;
+        done.push((index, Some((*how, other))))?;
+    }
+    Ok(done)
 }
 
 /// An operand and those behind it.
@@ -167,10 +193,13 @@ fn of_name(binding: Option<Binding>) -> Result<Measured, WidthFault>
     ensures { Measures (name_meant binding) result }
 {
     match binding {
-        Some(binding) => Ok(Measured {
-            shape: binding.meaning.shape,
-            form: Form::Signal(binding.signal),
-        }),
+        Some(binding) => match binding.meaning.words {
+            None => Ok(Measured {
+                shape: binding.meaning.shape,
+                form: Form::Signal(binding.signal),
+            }),
+            Some(_) => Err(WidthFault::Refused(WidthReason::WrongKind)),
+        },
         None => Err(WidthFault::Refused(WidthReason::Unknown)),
     }
 }

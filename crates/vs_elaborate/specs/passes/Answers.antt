@@ -2,8 +2,8 @@
 use Rattle.std.specs.Prelude.{◌≡◌, ℕ, Bool, true, false, List, ◌++◌, Result, Ok, Err, MatchResult}
 use Rattle.std.specs.Borrow.{Bor}
 use Rattle.std.specs.Prelude.{map}
-use Rattle.vs_widths.specs.declared.faults.WidthFault.{WidthFault}
-use Rattle.vs_widths.specs.declared.faults.WidthFault.TheVariants as width
+use Rattle.vs_selects.specs.declared.faults.WidthFault.{WidthFault}
+use Rattle.vs_selects.specs.declared.faults.WidthFault.TheVariants as width
 use Rattle.vs_elaborate.specs.declared.faults.Reason.{Reason}
 use Rattle.vs_elaborate.specs.declared.faults.Reason.TheVariants.{Width}
 use Rattle.vs_elaborate.specs.declared.faults.BodyFault.{BodyFault}

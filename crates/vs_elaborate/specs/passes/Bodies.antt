@@ -1,28 +1,21 @@
 -- What the functions on expressions and statements answer.
-use Rattle.std.specs.Prelude.{◌≡◌, ℕ, zero, suc, ◌+◌, Bool, false, ◌||◌, List, [], ◌∷◌, Option, Some, map}
+use Rattle.std.specs.Prelude.{◌≡◌, ℕ, zero, suc, ◌+◌, Bool, ◌||◌, List, [], ◌∷◌, map}
 use Rattle.std.specs.List.{list_any}
 use Rattle.vs_syntax.specs.declared.tree.Stmt.{Stmt}
 use Rattle.vs_design.specs.Uses.{joined}
 use Rattle.vs_design.specs.declared.statement.Statement.{Statement}
 use Rattle.vs_design.specs.WellFormed.{numbers}
-use Rattle.vs_widths.specs.declared.bindings.Binding.{Binding}
+use Rattle.vs_selects.specs.declared.bindings.Binding.{Binding}
 use Rattle.vs_widths.specs.Names.{meaning_of}
-use Rattle.vs_widths.specs.Environment.{Environment}
-use Rattle.vs_elaborate.specs.declared.assignments.AssignmentKind.{AssignmentKind}
+use Rattle.vs_selects.specs.Environment.{Environment}
 use Rattle.vs_elaborate.specs.declared.faults.Reason.{Reason}
-use Rattle.vs_elaborate.specs.declared.faults.Reason.TheVariants.{Width}
-use Rattle.vs_elaborate.specs.Statements.{IsStatement, AreStatements, target_fault, has_fault, is_overfull, count_of, total}
+use Rattle.vs_elaborate.specs.Statements.{IsStatement, AreStatements, has_fault, is_overfull, count_of, total}
 use Rattle.vs_elaborate.specs.Scopes.{Behavior}
 use Rattle.vs_elaborate.specs.Processes.{IsBody, statements_of}
 
 -- names with what they are bound to
 abbrev pub Bindings : Type 0
 Bindings = List (List ℕ × Binding)
-
--- a fault of a target
-abbrev pub target_faults : AssignmentKind → Option Binding → Reason → Bool
-target_faults how b (Width w) = target_fault w how b
-target_faults how b _ = false
 
 -- so many numbers, from this one on
 abbrev pub counting : ℕ → ℕ → List ℕ

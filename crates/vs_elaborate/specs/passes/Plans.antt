@@ -7,12 +7,12 @@ use Rattle.std.specs.declared.vec.Vec.{Vec}
 use Rattle.std.specs.declared.alloc.Global.{Global}
 use Rattle.vs_syntax.specs.declared.tree.Module.{Module}
 use Rattle.vs_design.specs.declared.signal.Signal.{Signal}
+use Rattle.vs_design.specs.WellFormed.{driven}
 use Rattle.vs_design.specs.declared.design.Assign.{Assign}
 use Rattle.vs_design.specs.declared.design.Process.{Process}
 use Rattle.vs_design.specs.declared.design.Entry.TheVariants.{Enter, Declare, Leave}
-use Rattle.vs_widths.specs.declared.faults.WidthReason.{WidthReason}
 use Rattle.vs_widths.specs.Names.{meaning_of}
-use Rattle.vs_widths.specs.Environment.{Environment}
+use Rattle.vs_selects.specs.Environment.{Environment}
 use Rattle.vs_elaborate.specs.declared.faults.Reason.{Reason}
 use Rattle.vs_elaborate.specs.declared.faults.Reason.TheVariants.{NoModule, DeclaredTwice, DrivenTwice, Limit, Width}
 use Rattle.vs_elaborate.specs.declared.faults.ElabFault.{ElabFault}
@@ -20,12 +20,13 @@ use Rattle.vs_elaborate.specs.declared.faults.ElabFault.TheVariants.{Memory, At}
 use Rattle.vs_elaborate.specs.declared.plans.Frame.{Frame}
 use Rattle.vs_elaborate.specs.declared.plans.Plan.{Plan}
 use Rattle.vs_elaborate.specs.Printed.{Path, printed_name}
-use Rattle.vs_elaborate.specs.Scopes.{Scope, DeclaredName, Assignment, Behavior, module_named, names_in, meaning_as, drivers_of, behaviors_of, declarations_of, named}
+use Rattle.vs_elaborate.specs.Scopes.{Scope, DeclaredName, Assignment, Behavior, module_named, names_in, declaration_fault, meaning_as, drivers_of, behaviors_of, declarations_of, named}
 use Rattle.vs_elaborate.specs.Processes.{behavior_fault, driver_fault}
 use Rattle.vs_elaborate.specs.Faults.{Repeated, NamesTwice, Holds}
 use Rattle.vs_elaborate.specs.DesignOf.{declared, signal_of, signals_of, PartOf, parts_from, IsProcess, IsAssign}
 use Rattle.vs_elaborate.specs.passes.Answers.{borrowed}
 use Rattle.vs_elaborate.specs.passes.Bodies.{Bindings, counting}
+use Rattle.vs_elaborate.specs.passes.Marks.{SharesBit}
 
 -- the scope that a frame stands for
 abbrev pub scope_of : Frame → Scope
@@ -62,7 +63,7 @@ pub record SameBodies (start plan : Plan) : Type 0 where
 pub record Declares (s : Scope) (names : Bindings) (plan start : Plan) (done : List DeclaredName) : Type 0 where
   pub bound : Binds names (length start.signals.items) done
   pub distinct : IsDistinct bytes_eq (names_in done)
-  pub sized : (w : WidthReason) → list_any (λ (d : DeclaredName). d.size.faults w) done ≡ false
+  pub sized : (r : Reason) → list_any (declaration_fault r) done ≡ false
   pub shown : map declared plan.signals.items ≡ map declared start.signals.items ++ map (signal_of s) done
   pub lines : plan.outline.items ≡ start.outline.items ++ map Declare (counting (length start.signals.items) (length done))
   pub room : length plan.signals.items ≤ 65536
@@ -71,8 +72,8 @@ pub record Declares (s : Scope) (names : Bindings) (plan start : Plan) (done : L
 -- why names get no signals: one is declared twice, a range has a fault, or there are too many
 abbrev pub DeclaresNot : Scope → Plan → List DeclaredName → Reason → Path → Type 0
 DeclaresNot s start ds DeclaredTwice p = (n : List ℕ) × (p ≡ named s n) × Repeated (names_in ds) n
-DeclaresNot s start ds Limit p = (65536 < length start.signals.items + length ds) × (p ≡ s.path)
-DeclaresNot s start ds (Width w) p = (list_any (λ (d : DeclaredName). d.size.faults w) ds ≡ true) × (p ≡ s.path)
+DeclaresNot s start ds Limit p = ((65536 < length start.signals.items + length ds) ⊎ (list_any (declaration_fault Limit) ds ≡ true)) × (p ≡ s.path)
+DeclaresNot s start ds (Width w) p = (list_any (declaration_fault (Width w)) ds ≡ true) × (p ≡ s.path)
 DeclaresNot s start ds _ p = ⊥
 
 -- ---- parts of a scope
@@ -119,7 +120,7 @@ RunsNot s names start = AddsNot (λ r. behavior_fault r (meaning_of names)) s
 -- a scope without faults
 pub record IsSoundScope (s : Scope) (names : Bindings) : Type 0 where
   pub distinct : IsDistinct bytes_eq (names_in (declarations_of s))
-  pub sized : (w : WidthReason) → list_any (λ (d : DeclaredName). d.size.faults w) (declarations_of s) ≡ false
+  pub sized : (r : Reason) → list_any (declaration_fault r) (declarations_of s) ≡ false
   pub processes : (r : Reason) → list_any (behavior_fault r (meaning_of names)) (behaviors_of s) ≡ false
   pub drivers : (r : Reason) → list_any (driver_fault r (meaning_of names)) (drivers_of s) ≡ false
 
@@ -148,14 +149,10 @@ OpensNot s old r p = Holds (environment_from (length old.signals.items) s) s r p
 
 -- ---- drivers of a plan
 
--- the signals that continuous assignments drive
-abbrev pub driven_signals : List Assign → List ℕ
-driven_signals xs = map (λ (a : Assign). a.target.signal) xs
-
--- a signal that two of the plan's continuous assignments drive, by the path that its signal shows
+-- a signal of which the plan's continuous assignments drive a bit twice, by the path that the signal shows
 pub record IsDrivenTwice (plan : Plan) (bytes : List ℕ) : Type 0 where
   pub number : ℕ
-  pub repeated : Repeated (driven_signals plan.assigns.items) number
+  pub shares : SharesBit plan.signals.items (driven plan.assigns.items) number
   pub signal : Signal
   pub stands : slice_get plan.signals.items number ≡ Some signal
   pub path : bytes ≡ signal.path.items

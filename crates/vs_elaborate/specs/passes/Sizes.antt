@@ -3,13 +3,14 @@ use Rattle.std.specs.Prelude.{◌≡◌, ℕ, ◌+◌, ◌<◌, Bool, false, Lis
 use Rattle.vs_syntax.specs.declared.tree.Range.{Range}
 use Rattle.vs_syntax.specs.declared.tree.Item.{Item}
 use Rattle.vs_design.specs.declared.signal.Bounds.{Bounds}
-use Rattle.vs_widths.specs.Environment.{Environment}
+use Rattle.vs_selects.specs.Environment.{Environment}
 use Rattle.vs_widths.specs.Names.{meaning_of}
-use Rattle.vs_widths.specs.declared.faults.WidthReason.{WidthReason}
+use Rattle.vs_selects.specs.declared.faults.WidthReason.{WidthReason}
 use Rattle.vs_elaborate.specs.declared.faults.Reason.{Reason}
 use Rattle.vs_elaborate.specs.declared.faults.Reason.TheVariants.{Width}
 use Rattle.vs_elaborate.specs.declared.sizes.Size.{Size}
-use Rattle.vs_elaborate.specs.Ranges.{range_bounds, distance, Sized}
+use Rattle.vs_elaborate.specs.declared.words.WordCount.{WordCount}
+use Rattle.vs_elaborate.specs.Ranges.{range_bounds, distance, Sized, Words, word_count}
 use Rattle.vs_elaborate.specs.Scopes.{DeclaredName, unsized_names, unsized_in}
 use Rattle.vs_elaborate.specs.passes.Bodies.{Bindings}
 
@@ -18,7 +19,7 @@ abbrev pub width_faults : (WidthReason → Bool) → Reason → Bool
 width_faults faults (Width w) = faults w
 width_faults faults _ = false
 
--- the bounds of a range, and its size
+-- the bounds of a range of bits, and its size
 pub record IsRange (env : Environment) (r : Range) (p : Bounds × ℕ) : Type 0 where
   pub found : range_bounds env (Some r) ≡ Some p.0
   pub narrow : distance p.0 < 64
@@ -28,6 +29,11 @@ pub record IsRange (env : Environment) (r : Range) (p : Bounds × ℕ) : Type 0 
 pub record IsSize (z : Sized) (s : Size) : Type 0 where
   pub shape : s.shape ≡ z.shape
   pub bounds : s.bounds ≡ z.bounds
+
+-- what a declaration says of the words of a name
+pub record AreWords (z : Words) (w : WordCount) : Type 0 where
+  pub bounds : w.bounds ≡ z.bounds
+  pub count : w.count ≡ word_count z.bounds
 
 -- the first of two values that is there
 abbrev pub first_of : {A : Type 0} → Option A → Option A → Option A

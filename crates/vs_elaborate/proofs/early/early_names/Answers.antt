@@ -1,7 +1,7 @@
 use Rattle.std.proofs.Common.{[], None, arith}
 use Rattle.std.specs.List.{flat_map}
 use Rattle.vs_elaborate.specs.Scopes.{declared_in}
-use Rattle.vs_elaborate.proofs.SizeLemmas.{adds_nothing, adds_more, adds_all}
+use Rattle.vs_elaborate.proofs.SizeLemmas.{adds_more, adds_all}
 use Rattle.vs_elaborate.proofs.early.early_names.Goals as goal
 
 pub loop-item-preserved : goal.loop-item-preserved

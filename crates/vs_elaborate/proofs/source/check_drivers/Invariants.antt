@@ -1,7 +1,7 @@
-use Rattle.std.proofs.Common.{length, take}
-use Rattle.vs_elaborate.specs.passes.Plans.{driven_signals}
-use Rattle.vs_elaborate.proofs.FaultLemmas.{Marked}
+use Rattle.std.proofs.Common.{take}
+use Rattle.vs_design.specs.WellFormed.{driven}
+use Rattle.vs_elaborate.specs.passes.Marks.{Marks}
 use Rattle.vs_elaborate.proofs.source.check_drivers.Given as goal
 
 abbrev pub invariant-loop-assign : goal.invariant-loop-assign
-invariant-loop-assign l = Marked (length l.plan.signals.items) (driven_signals (take l.assign-index l.plan.assigns.items)) l.driven.items
+invariant-loop-assign l = Marks l.plan.signals.items (driven (take l.assign-index l.plan.assigns.items)) l.marks.items

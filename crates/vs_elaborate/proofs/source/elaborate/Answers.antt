@@ -32,7 +32,7 @@ check_drivers-requires c =
     let found : Finds ms c.args.top.now m = rw c.deref.ensures.value at c.in_ok-module.ensures in
     let empty : IsEmpty c.new-plan.result = record { signals = c.new-plan.ensures.signals; assigns = c.new-plan.ensures.assigns; processes = c.new-plan.ensures.processes; outline = c.new-plan.ensures.outline } in
     let done : Made (top_scope m) plan = made (top_scope m) c.new-plan.result plan empty (subst (λ z. Opens z c.new-plan.result plan) same c.in_ok-open.ensures) in
-    drivers_within (top_scope m) plan done
+    record { within = drivers_within (top_scope m) plan done; room = done.room }
 
 pub returns-in_err-check_drivers : goal.returns-in_err-check_drivers
 returns-in_err-check_drivers c =

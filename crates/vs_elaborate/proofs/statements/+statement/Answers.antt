@@ -8,19 +8,19 @@ statement-returns-in_ok-number-in-Null t c = rw c.in-Null.is (states_Null c.args
 
 pub statement-returns-in_ok-target-in-Assign : goal.statement-returns-in_ok-target-in-Assign
 statement-returns-in_ok-target-in-Assign t c =
-    rw c.in-Assign.is (states_Assign c.args.names.now c.args.next.now c.in_ok-number-in-Assign.number _ c.in-Assign.target _ c.in-Assign.e c.in_ok-target-in-Assign.target c.in_ok-target-in-Assign.source c.in_ok-number-in-Assign.ensures c.deref.ensures.value c.in_ok-target-in-Assign.ensures)
+    rw c.in-Assign.is (states_Assign c.args.names.now c.args.next.now c.in_ok-number-in-Assign.number _ c.in-Assign.left c.in-Assign.e c.in_ok-target-in-Assign.target c.in_ok-target-in-Assign.source c.in_ok-number-in-Assign.ensures c.in_ok-target-in-Assign.ensures)
 
 pub statement-returns-in_ok-target-in-Later : goal.statement-returns-in_ok-target-in-Later
 statement-returns-in_ok-target-in-Later t c =
-    rw c.in-Later.is (states_Later c.args.names.now c.args.next.now c.in_ok-number-in-Later.number _ c.in-Later.target _ c.in-Later.e c.in_ok-target-in-Later.target c.in_ok-target-in-Later.source c.in_ok-number-in-Later.ensures c.deref-in-Later.ensures.value c.in_ok-target-in-Later.ensures)
+    rw c.in-Later.is (states_Later c.args.names.now c.args.next.now c.in_ok-number-in-Later.number _ c.in-Later.left c.in-Later.e c.in_ok-target-in-Later.target c.in_ok-target-in-Later.source c.in_ok-number-in-Later.ensures c.in_ok-target-in-Later.ensures)
 
 pub statement-returns-in_ok-inner-in-Block : goal.statement-returns-in_ok-inner-in-Block
-statement-returns-in_ok-inner-in-Block t c = rw c.in-Block.is (states_Block c.args.names.now c.args.next.now _ c.in-Block.inner _ c.in_ok-inner-in-Block.inner c.deref-in-Block.ensures.value c.in_ok-inner-in-Block.ensures)
+statement-returns-in_ok-inner-in-Block t c = rw c.in-Block.is (states_Block c.args.names.now c.args.next.now _ c.in-Block.inner _ c.in_ok-inner-in-Block.inner c.deref.ensures.value c.in_ok-inner-in-Block.ensures)
 
 pub statement-returns-in_err-inner-in-Block : goal.statement-returns-in_err-inner-in-Block
 statement-returns-in_err-inner-in-Block t c =
     let p = err_from_is_err_and c.from_residual-in_err-inner-in-Block.result c.from_residual-in_err-inner-in-Block.ensures.1 in
-    rw (p.1, p.2, c.in-Block.is) (block_refused _ c.args.next.now c.in-Block.inner _ c.in_err-inner-in-Block.field-0.0 c.deref-in-Block.ensures.value c.in_err-inner-in-Block.ensures)
+    rw (p.1, p.2, c.in-Block.is) (block_refused _ c.args.next.now c.in-Block.inner _ c.in_err-inner-in-Block.field-0.0 c.deref.ensures.value c.in_err-inner-in-Block.ensures)
 
 pub statement-returns-in_ok-new-in-Delay : goal.statement-returns-in_ok-new-in-Delay
 statement-returns-in_ok-new-in-Delay t c =

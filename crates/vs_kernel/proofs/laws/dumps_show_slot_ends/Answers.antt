@@ -1,4 +1,4 @@
-use Rattle.std.proofs.Common.{◌≡◌, ℕ, Bool, true, false, List, ◌++◌, subst}
+use Rattle.std.proofs.Common.{◌≡◌, true, false, List, ◌++◌, subst}
 use Rattle.std.specs.Prelude.{IfSome, filter, if◌then◌else◌}
 use Rattle.vs_design.specs.Traces.{Slot, AreRising}
 use Rattle.vs_process.specs.Executions.{after, slots, trace, is_by, is_complete}

@@ -2,9 +2,9 @@ use Rattle.std.proofs.Common.{◌≡◌, ◌∙◌, ◌<◌, ◌≤◌, sym, fal
 use Rattle.std.proofs.lemmas.Bool.{false≢true}
 use Rattle.vs_process.specs.Executions.{is_complete}
 use Rattle.vs_process.specs.States.{State}
-use Rattle.vs_kernel.specs.Touches.{HasSources}
+use Rattle.vs_state.specs.Touches.{HasSources}
 use Rattle.vs_kernel.proofs.RunsLemmas.{begins, goes_on, limited, incomplete, complete_past, complete_over, reached, quiet, header_failed, move_failed, end_failed, part_failed, slots_whole, on_err}
-use Rattle.vs_kernel.proofs.SourcesLemmas.{has_sources}
+use Rattle.vs_state.specs.Sources.{has_sources}
 use Rattle.vs_kernel.proofs.run.execute.Goals as goal
 use Rattle.vs_kernel.proofs.run.execute.Goals.{then-loop-state-test+else-time-until, else-loop-state-test}
 

@@ -2,8 +2,8 @@ use Rattle.std.proofs.lemmas.Result.{err_from_is_err_and}
 use Rattle.vs_syntax.specs.Grammar.{nothing, ◌or◌, form, range}
 use Rattle.vs_syntax.specs.Reading.{stuck_second}
 use Rattle.vs_syntax.proofs.Gets.{gets_seq}
-use Rattle.vs_parser.specs.Answers.{seen}
-use Rattle.vs_parser.proofs.Exits.{fails_by}
+use Rattle.vs_expressions.specs.Answers.{seen}
+use Rattle.vs_expressions.proofs.Exits.{fails_by}
 use Rattle.vs_parser.proofs.declaration.declared_form.Goals as goal
 
 pub returns-in_err-range : goal.returns-in_err-range

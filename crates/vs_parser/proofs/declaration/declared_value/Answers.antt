@@ -2,8 +2,8 @@ use Rattle.std.proofs.Common.{refl}
 use Rattle.std.proofs.lemmas.Result.{err_from_is_err_and}
 use Rattle.vs_tokens.specs.declared.token.Mark.TheVariants as m
 use Rattle.vs_syntax.specs.Grammar.{nothing, ◌·◌, ◌or◌, part, mark, an_expr}
-use Rattle.vs_parser.specs.Answers.{seen}
-use Rattle.vs_parser.proofs.Exits.{fails_by}
+use Rattle.vs_expressions.specs.Answers.{seen}
+use Rattle.vs_expressions.proofs.Exits.{fails_by}
 use Rattle.vs_parser.proofs.Declarations.{absent, present_stuck, present_read}
 use Rattle.vs_parser.proofs.declaration.declared_value.Goals as goal
 

@@ -5,9 +5,9 @@ use Rattle.vs_syntax.specs.Symbols.{the_mark, first}
 use Rattle.vs_syntax.specs.Grammar.{mark, ◌or◌}
 use Rattle.vs_syntax.specs.Reading.{stuck_right}
 use Rattle.vs_syntax.proofs.Gets.{gets_left, gets_right}
-use Rattle.vs_parser.specs.Answers.{seen}
-use Rattle.vs_parser.proofs.Exits.{fails_by, goes_at}
-use Rattle.vs_parser.proofs.Tokens.{read_token}
+use Rattle.vs_expressions.specs.Answers.{seen}
+use Rattle.vs_expressions.proofs.Exits.{fails_by, goes_at}
+use Rattle.vs_expressions.proofs.Tokens.{read_token}
 use Rattle.vs_parser.proofs.head.expect_timing.Goals as goal
 
 pub returns-in_err-rest-in-None : goal.returns-in_err-rest-in-None

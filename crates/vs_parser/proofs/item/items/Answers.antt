@@ -4,9 +4,9 @@ use Rattle.vs_syntax.specs.Grammar.{part, many, an_item}
 use Rattle.vs_syntax.specs.Views.{item_tree}
 use Rattle.vs_syntax.specs.Reading.{stuck_many}
 use Rattle.vs_syntax.proofs.Gets.{gets_stop}
-use Rattle.vs_parser.specs.Answers.{seen}
-use Rattle.vs_parser.proofs.Exits.{fails_by}
-use Rattle.vs_parser.proofs.Rows.{along_push, all_read}
+use Rattle.vs_expressions.specs.Answers.{seen}
+use Rattle.vs_expressions.proofs.Exits.{fails_by}
+use Rattle.vs_expressions.proofs.Rows.{along_push, all_read}
 use Rattle.vs_parser.proofs.Items.{item_goes}
 use Rattle.vs_parser.proofs.item.items.Goals as goal
 

@@ -1,8 +1,8 @@
 use Rattle.std.proofs.Common.{length, map}
 use Rattle.vs_syntax.specs.Grammar.{part, an_item}
 use Rattle.vs_syntax.specs.Views.{item_tree}
-use Rattle.vs_parser.specs.Answers.{seen}
-use Rattle.vs_parser.proofs.Rows.{Along}
+use Rattle.vs_expressions.specs.Answers.{seen}
+use Rattle.vs_expressions.proofs.Rows.{Along}
 use Rattle.vs_parser.proofs.item.items.Given as goal
 
 abbrev pub invariant-loop-word : goal.invariant-loop-word

@@ -4,8 +4,8 @@ use Rattle.vs_tokens.specs.declared.token.Word.TheVariants as w
 use Rattle.vs_syntax.specs.Grammar.{part, many, name, mark, word, a_module, an_item}
 use Rattle.vs_syntax.specs.Reading.{stuck_first, stuck_second}
 use Rattle.vs_syntax.proofs.Gets.{gets_seq}
-use Rattle.vs_parser.specs.Answers.{seen}
-use Rattle.vs_parser.proofs.Exits.{fails_by}
+use Rattle.vs_expressions.specs.Answers.{seen}
+use Rattle.vs_expressions.proofs.Exits.{fails_by}
 use Rattle.vs_parser.proofs.Items.{module_stuck, module_read}
 use Rattle.vs_parser.proofs.item.module.Goals as goal
 

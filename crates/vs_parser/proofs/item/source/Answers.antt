@@ -6,9 +6,9 @@ use Rattle.vs_syntax.specs.Grammar.{part, a_source, a_module}
 use Rattle.vs_syntax.specs.Views.{module_tree}
 use Rattle.vs_syntax.specs.Reading.{stuck_part, stuck_many}
 use Rattle.vs_syntax.proofs.Gets.{gets_part, gets_stop}
-use Rattle.vs_parser.specs.Answers.{seen}
-use Rattle.vs_parser.proofs.Exits.{fails_by, goes_at}
-use Rattle.vs_parser.proofs.Rows.{along_push, all_read}
+use Rattle.vs_expressions.specs.Answers.{seen}
+use Rattle.vs_expressions.proofs.Exits.{fails_by, goes_at}
+use Rattle.vs_expressions.proofs.Rows.{along_push, all_read}
 use Rattle.vs_parser.proofs.item.source.Goals as goal
 
 pub returns-in_err-inner : goal.returns-in_err-inner

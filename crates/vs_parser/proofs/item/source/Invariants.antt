@@ -1,8 +1,8 @@
 use Rattle.std.proofs.Common.{length, map}
 use Rattle.vs_syntax.specs.Grammar.{part, a_module}
 use Rattle.vs_syntax.specs.Views.{module_tree}
-use Rattle.vs_parser.specs.Answers.{seen}
-use Rattle.vs_parser.proofs.Rows.{Along}
+use Rattle.vs_expressions.specs.Answers.{seen}
+use Rattle.vs_expressions.proofs.Rows.{Along}
 use Rattle.vs_parser.proofs.item.source.Given as goal
 
 abbrev pub invariant-loop-after : goal.invariant-loop-after

@@ -2,8 +2,8 @@ use Rattle.std.proofs.lemmas.Result.{err_from_is_err_and}
 use Rattle.vs_tokens.specs.declared.token.Mark.TheVariants as m
 use Rattle.vs_syntax.specs.Grammar.{part, mark, listed}
 use Rattle.vs_syntax.specs.Reading.{stuck_first}
-use Rattle.vs_parser.specs.Answers.{seen}
-use Rattle.vs_parser.proofs.Exits.{fails_by}
+use Rattle.vs_expressions.specs.Answers.{seen}
+use Rattle.vs_expressions.proofs.Exits.{fails_by}
 use Rattle.vs_parser.proofs.Lists.{behind_push, other_stuck, end_stuck, listed_read, pushed_one, gets_from}
 use Rattle.vs_parser.proofs.list.listed.Goals as goal
 

@@ -1,6 +1,6 @@
 use Rattle.std.proofs.Common.{length, map}
 use Rattle.vs_tokens.specs.declared.token.Mark.TheVariants as m
-use Rattle.vs_parser.specs.Answers.{seen}
+use Rattle.vs_expressions.specs.Answers.{seen}
 use Rattle.vs_parser.proofs.Lists.{Behind}
 use Rattle.vs_parser.proofs.list.listed.Given as goal
 

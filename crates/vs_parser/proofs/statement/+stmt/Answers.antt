@@ -6,11 +6,11 @@ use Rattle.vs_syntax.specs.Grammar.{◌·◌, part, many, word, number, a_stmt}
 use Rattle.vs_syntax.specs.Views.{stmt_tree}
 use Rattle.vs_syntax.specs.Reading.{stuck_here, stuck_first, stuck_second}
 use Rattle.vs_syntax.proofs.Gets.{gets_seq, gets_stop}
-use Rattle.vs_parser.specs.Answers.{seen}
-use Rattle.vs_parser.proofs.Exits.{fails_by}
-use Rattle.vs_parser.proofs.Rows.{along_push, shorter, all_read}
+use Rattle.vs_expressions.specs.Answers.{seen}
+use Rattle.vs_expressions.proofs.Exits.{fails_by}
+use Rattle.vs_expressions.proofs.Rows.{along_push, shorter, all_read}
 use Rattle.vs_parser.proofs.Statements.{need_of, begins_of, head_goes, head_deep, null_read, block_stuck, block_read, delay_stuck, delay_read, row_stuck}
-use Rattle.vs_parser.proofs.Tokens.{none_at, other_at, read_number}
+use Rattle.vs_expressions.proofs.Tokens.{none_at, other_at, read_number}
 use Rattle.vs_parser.proofs.Trees.{tree_Null, tree_Block, tree_Delay}
 use Rattle.vs_parser.proofs.statement.+stmt.Goals as goal
 

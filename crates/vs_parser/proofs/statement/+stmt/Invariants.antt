@@ -1,8 +1,8 @@
 use Rattle.std.proofs.Common.{◌+◌, ◌*◌, length, map}
 use Rattle.vs_syntax.specs.Grammar.{part, a_stmt}
 use Rattle.vs_syntax.specs.Views.{stmt_tree}
-use Rattle.vs_parser.specs.Answers.{seen}
-use Rattle.vs_parser.proofs.Rows.{Along}
+use Rattle.vs_expressions.specs.Answers.{seen}
+use Rattle.vs_expressions.proofs.Rows.{Along}
 use Rattle.vs_parser.proofs.statement.+stmt.Given as goal
 
 abbrev pub decreases-stmt : goal.decreases-stmt

@@ -1,10 +1,28 @@
-use Rattle.std.proofs.Common.{refl, arith, rules}
+use Rattle.std.proofs.Common.{Some, None, refl, arith, rules}
 use Rattle.std.proofs.lemmas.Result.{err_from_is_err_and}
 use Rattle.vs_widths.specs.Names.{meaning_of}
-use Rattle.vs_widths.specs.passes.Forms.{each_none, IsChoicePair, IsPartOf}
-use Rattle.vs_widths.proofs.FittingLemmas.{each_step}
+use Rattle.vs_forms.specs.Each.{each_none}
+use Rattle.vs_widths.specs.passes.Forms.{IsChoicePair, IsPartOf}
+use Rattle.vs_forms.proofs.FittingLemmas.{each_step}
 use Rattle.vs_widths.proofs.MeasuringLemmas.{chain_refused, choice_refused, concat_refused, count_refused, repeat_refused, parts_failed, form_Unary, form_Choice, form_Concat, form_Repeat, links_step, link_refused, pair_of, pairs_step, condition_refused, operand_refused, pairs_end, sum_one, part_of, parts_step, size_step, part_refused, part_too_wide, parts_end}
+use Rattle.vs_widths.proofs.SelectLemmas.{falls_by, first_most, select_refused, place_refused, place_measured, selects_step, bit_meaning, part_meaning, index_refused, other_refused}
 use Rattle.vs_widths.proofs.measuring.+measured.Goals as goal
+
+pub measured-returns-in_err-selects-in-Select : goal.measured-returns-in_err-selects-in-Select
+measured-returns-in_err-selects-in-Select t c =
+    let p = err_from_is_err_and c.from_residual.result c.from_residual.ensures.1 in
+    rw (p.1, p.2, c.in-Select.is) (select_refused (meaning_of c.args.names.now) c.in-Select.name c.in-Select.selects c.deref-in-Select.result.now c.in_err-selects-in-Select.field-0.0 c.deref-in-Select.ensures.value c.in_err-selects-in-Select.ensures)
+
+pub measured-returns-in_err-place-in-Select : goal.measured-returns-in_err-place-in-Select
+measured-returns-in_err-place-in-Select t c =
+    let p = err_from_is_err_and c.from_residual-in_err-place-in-Select.result c.from_residual-in_err-place-in-Select.ensures.1 in
+    rw (p.1, p.2, c.in-Select.is) (place_refused (meaning_of c.args.names.now) c.in-Select.name c.in-Select.selects c.find-in-Select.result c.deref-in-Select-2.result.now c.deref-in-Select.result.now c.in_ok-selects-in-Select.selects.items
+    c.in_err-place-in-Select.field-0.0 c.find-in-Select.ensures c.deref-in-Select-2.ensures.value c.deref-in-Select.ensures.value c.in_ok-selects-in-Select.ensures c.in_err-place-in-Select.ensures)
+
+pub measured-returns-in_ok-operand-in-Select : goal.measured-returns-in_ok-operand-in-Select
+measured-returns-in_ok-operand-in-Select t c =
+    rw c.in-Select.is (place_measured (meaning_of c.args.names.now) c.in-Select.name c.in-Select.selects c.find-in-Select.result c.deref-in-Select-2.result.now c.deref-in-Select.result.now c.in_ok-selects-in-Select.selects.items
+    c.in_ok-place-in-Select.place c.in_ok-operand-in-Select.field-0 c.find-in-Select.ensures c.deref-in-Select-2.ensures.value c.deref-in-Select.ensures.value c.in_ok-selects-in-Select.ensures c.in_ok-place-in-Select.ensures c.in_ok-operand-in-Select.ensures)
 
 pub measured-returns-in_err-first-in-Chain : goal.measured-returns-in_err-first-in-Chain
 measured-returns-in_err-first-in-Chain t c =
@@ -126,3 +144,29 @@ pub measured_parts-returns : goal.measured_parts-returns
 measured_parts-returns t c =
     parts_end (meaning_of c.args.names.now) c.args.first c.in_ok-first.first c.unsigned.result c.loop-e.width c.args.rest.now c.loop-e.e-index c.loop-e.done c.in_ok-new.field-0 (omega arith) c.in_ok-new.ensures.ok c.requires.flexible c.in_ok-first.ensures (omega arith) c.unsigned.ensures.sign c.unsigned.ensures.width
     c.loop-e.invariant.whole c.loop-e.invariant.sizes c.loop-e.invariant.parts
+
+pub measured_selects-measured-requires : goal.measured_selects-measured-requires
+measured_selects-measured-requires t c =
+    (falls_by _ c.args.selects.now c.loop-index.index-index t _ c.loop-index-item.result (omega arith) c.loop-index-item.is c.decreases (first_most _ _), tt)
+
+pub measured_selects-returns-in_err-index : goal.measured_selects-returns-in_err-index
+measured_selects-returns-in_err-index t c =
+    let p = err_from_is_err_and c.from_residual.result c.from_residual.ensures.1 in
+    rw (p.1, p.2) (index_refused (meaning_of c.args.names.now) c.args.selects.now c.loop-index.index-index c.loop-index-item.result _ (omega arith) c.loop-index-item.is c.in_err-index.ensures)
+
+pub measured_selects-returns-in_err-other : goal.measured_selects-returns-in_err-other
+measured_selects-returns-in_err-other t c =
+    let p = err_from_is_err_and c.from_residual-in_err-other.result c.from_residual-in_err-other.ensures.1 in
+    rw (p.1, p.2) (other_refused (meaning_of c.args.names.now) c.args.selects.now c.loop-index.index-index c.loop-index-item.result _ _ _ (omega arith) c.loop-index-item.is c.in-Some.is c.in_err-other.ensures)
+
+pub measured_selects-loop-index-preserved-in_default : goal.measured_selects-loop-index-preserved-in_default
+measured_selects-loop-index-preserved-in_default t c =
+    selects_step (meaning_of c.args.names.now) c.args.selects.now c.loop-index.index-index c.loop-index-item.result c.loop-index.done.items _ (c.in_ok-index.index, None) (omega arith) c.loop-index-item.is c.in_ok-push.ensures.items
+    c.loop-index.invariant (bit_meaning (meaning_of c.args.names.now) c.loop-index-item.result c.in_ok-index.index c.in_default.is c.in_ok-index.ensures) c.in_ok-index.ensures.flexible
+
+pub measured_selects-loop-index-preserved : goal.measured_selects-loop-index-preserved
+measured_selects-loop-index-preserved t c =
+    selects_step (meaning_of c.args.names.now) c.args.selects.now c.loop-index.index-index c.loop-index-item.result c.loop-index.done.items _ (c.in_ok-index.index, Some (c.in-Some.how, c.in_ok-other.other)) (omega arith) c.loop-index-item.is
+    c.in_ok-push-2.ensures.items c.loop-index.invariant
+    (part_meaning (meaning_of c.args.names.now) c.loop-index-item.result c.in-Some.how c.in-Some.e c.in_ok-index.index c.in_ok-other.other c.in-Some.is c.in_ok-index.ensures c.in_ok-other.ensures)
+    (c.in_ok-index.ensures.flexible, c.in_ok-other.ensures.flexible)

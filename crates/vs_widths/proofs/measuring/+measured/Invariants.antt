@@ -1,11 +1,17 @@
 use Rattle.std.proofs.Common.{◌≡◌, ℕ, ◌<◌, ◌≤◌, Some, ◌∷◌, take, drop}
 use Rattle.vs_design.specs.WellFormed.{sum_size}
 use Rattle.vs_widths.specs.Names.{meaning_of}
-use Rattle.vs_widths.specs.Findings.{Has}
-use Rattle.vs_widths.specs.Expressions.{chain_meant, choice_finding}
-use Rattle.vs_widths.specs.passes.Forms.{meaning, links_meant, pairs_meant, Each, IsFlexible, IsChoicePair, IsPartOf}
+use Rattle.vs_selects.specs.Findings.{Has}
+use Rattle.vs_widths.specs.Expressions.{meant_selects, chain_meant, choice_finding}
+use Rattle.vs_selects.specs.passes.Measures.{meaning, IsFlexible}
+use Rattle.vs_widths.specs.passes.Forms.{links_meant, pairs_meant, IsChoicePair, IsPartOf}
+use Rattle.vs_forms.specs.Each.{Each}
 use Rattle.vs_widths.proofs.MeasuringLemmas.{sum_from, sizes_of}
+use Rattle.vs_widths.specs.passes.Selects.{AreMeasured}
 use Rattle.vs_widths.proofs.measuring.+measured.Given as goal
+
+abbrev pub invariant-measured_selects-loop-index : goal.invariant-measured_selects-loop-index
+invariant-measured_selects-loop-index l = AreMeasured (meant_selects (meaning_of l.names) (take l.index-index l.selects)) l.done.items
 
 abbrev pub invariant-measured_links-loop-operator : goal.invariant-measured_links-loop-operator
 invariant-measured_links-loop-operator l = record {

@@ -1,0 +1,153 @@
+-- A source says the same as itself.
+use Rattle.std.proofs.Common.{◌≡◌, List, [], ◌∷◌, Option, Some, None, map, refl, subst}
+use Rattle.vs_logic4.specs.declared.operators.Binary.{Binary}
+use Rattle.vs_syntax.specs.declared.tree.Expr.{Expr, Expr-F, roll-Expr, ind-Expr, map-Expr}
+use Rattle.vs_syntax.specs.declared.tree.Expr.TheShapes.{former-Expr-Select-1-at-4, former-Expr-Select-1-at-5}
+use Rattle.vs_syntax.specs.declared.tree.Expr.TheOpen as f
+use Rattle.vs_syntax.specs.declared.tree.PartSelect.{PartSelect}
+use Rattle.vs_syntax.specs.declared.tree.Left.{Left, Left-F, roll-Left, ind-Left, map-Left}
+use Rattle.vs_syntax.specs.declared.tree.Left.TheOpen as h
+use Rattle.vs_syntax.specs.declared.tree.Left.TheVariants.{rolls-Name as rolls-Place, rolls-Concat as rolls-Places}
+use Rattle.vs_syntax.specs.declared.tree.Expr.TheVariants.{rolls-Number, rolls-Name, rolls-Select, rolls-Group, rolls-Unary, rolls-Chain, rolls-Choice, rolls-Concat, rolls-Repeat, rolls-Cast}
+use Rattle.vs_syntax.specs.declared.tree.Stmt.{Stmt, Stmt-F, roll-Stmt, ind-Stmt, map-Stmt}
+use Rattle.vs_syntax.specs.declared.tree.Stmt.TheOpen as g
+use Rattle.vs_syntax.specs.declared.tree.Stmt.TheVariants.{rolls-Null, rolls-Assign, rolls-Later, rolls-Block, rolls-Delay}
+use Rattle.vs_syntax.specs.declared.tree.Declarator.{Declarator}
+use Rattle.vs_syntax.specs.declared.tree.Form.{Form}
+use Rattle.vs_syntax.specs.declared.tree.Range.{Range}
+use Rattle.vs_syntax.specs.declared.tree.Item.{Item}
+use Rattle.vs_syntax.specs.declared.tree.Item.TheVariants as i
+use Rattle.vs_syntax.specs.declared.tree.Module.{Module}
+use Rattle.vs_syntax.specs.Same.{SameExpr, same_number, same_name, same_select, SameSelects, same_no_select, same_more_selects, SameSecond, same_no_second, same_second, SameLeft, same_place, same_places, SameLefts, same_no_left, same_more_lefts, same_group, same_unary, same_chain, same_choice, same_concat, same_repeat, same_cast, SameLinks, same_no_link, same_link, SamePairs, same_no_pair, same_pair, SameExprs, same_no_expr, same_more_exprs, SameStmt, same_null, same_assign, same_later, same_block, same_delay, SameStmts, same_no_stmt, same_more_stmts, Pairwise, no_pair, pair_more, SameValue, same_no_value, same_value, SameDeclarator, SameAssignment, SameRange, same_no_range, same_range, SameForm, SameItem, same_wire, same_reg, same_integer, same_assigns, same_initial, same_always, SameModule}
+
+-- ---- expressions
+
+abbrev InnerExpr : Type 0
+InnerExpr = (x : Expr) × SameExpr x x
+
+abbrev bare_expr : Expr-F InnerExpr → Expr-F Expr
+bare_expr y = map-Expr InnerExpr Expr (λ p. p.0) y
+
+second_itself : (o : Option (PartSelect × InnerExpr)) → SameSecond (former-Expr-Select-1-at-4.map InnerExpr Expr (λ p. p.0) o) (former-Expr-Select-1-at-4.map InnerExpr Expr (λ p. p.0) o)
+second_itself None = same_no_second
+second_itself (Some x) = same_second _ _ refl x.1.1
+
+inner_selects : (xs : List (InnerExpr × Option (PartSelect × InnerExpr))) → SameSelects (map (λ x. former-Expr-Select-1-at-5.map InnerExpr Expr (λ p. p.0) x) xs) (map (λ x. former-Expr-Select-1-at-5.map InnerExpr Expr (λ p. p.0) x) xs)
+inner_selects [] = same_no_select
+inner_selects (x ∷ xs) = same_more_selects _ _ _ _ x.0.1 (second_itself x.1) (inner_selects xs)
+
+links_themselves : (ls : List (Binary × InnerExpr)) → SameLinks (map (λ l. (l.0, l.1.0)) ls) (map (λ l. (l.0, l.1.0)) ls)
+links_themselves [] = same_no_link
+links_themselves (l ∷ ls) = same_link _ _ _ _ refl l.1.1 (links_themselves ls)
+
+pairs_themselves : (ps : List (InnerExpr × InnerExpr)) → SamePairs (map (λ p. (p.0.0, p.1.0)) ps) (map (λ p. (p.0.0, p.1.0)) ps)
+pairs_themselves [] = same_no_pair
+pairs_themselves (p ∷ ps) = same_pair _ _ _ _ p.0.1 p.1.1 (pairs_themselves ps)
+
+exprs_themselves : (xs : List InnerExpr) → SameExprs (map (λ p. p.0) xs) (map (λ p. p.0) xs)
+exprs_themselves [] = same_no_expr
+exprs_themselves (x ∷ xs) = same_more_exprs _ _ _ _ x.1 (exprs_themselves xs)
+
+expr_layer : (y : Expr-F InnerExpr) → SameExpr (roll-Expr (bare_expr y)) (roll-Expr (bare_expr y))
+expr_layer (f.Number l) = rw (rolls-Number l) (same_number l)
+expr_layer (f.Name n) = rw (rolls-Name n) (same_name n n refl)
+expr_layer (f.Select n ss) = rw (rolls-Select n _) (same_select n n _ _ refl (inner_selects ss.items))
+expr_layer (f.Group x) = rw (rolls-Group _) (same_group _ _ x.value.1)
+expr_layer (f.Unary op x) = rw (rolls-Unary op _) (same_unary op _ _ x.value.1)
+expr_layer (f.Chain x ls) = rw (rolls-Chain _ _) (same_chain _ _ _ _ x.value.1 (links_themselves ls.items))
+expr_layer (f.Choice ps x) = rw (rolls-Choice _ _) (same_choice _ _ _ _ (pairs_themselves ps.items) x.value.1)
+expr_layer (f.Concat x xs) = rw (rolls-Concat _ _) (same_concat _ _ _ _ x.value.1 (exprs_themselves xs.items))
+expr_layer (f.Repeat n x xs) = rw (rolls-Repeat _ _ _) (same_repeat _ _ _ _ _ _ n.value.1 x.value.1 (exprs_themselves xs.items))
+expr_layer (f.Cast s x) = rw (rolls-Cast s _) (same_cast s _ _ x.value.1)
+
+expr_settled : (x : Expr-F Expr) (y : Expr-F InnerExpr) → bare_expr y ≡ x → SameExpr (roll-Expr x) (roll-Expr x)
+expr_settled x y is = subst (λ (u : Expr-F Expr). SameExpr (roll-Expr u) (roll-Expr u)) is (expr_layer y)
+
+expr_itself : (x : Expr) → SameExpr x x
+expr_itself = ind-Expr (λ x. SameExpr x x) expr_settled
+
+-- ---- left sides
+
+selects_themselves : (xs : List (Expr × Option (PartSelect × Expr))) → SameSelects xs xs
+selects_themselves [] = same_no_select
+selects_themselves (x ∷ xs) = same_more_selects x x xs xs (expr_itself x.0) (second x.1) (selects_themselves xs)
+  where
+    second : (o : Option (PartSelect × Expr)) → SameSecond o o
+    second None = same_no_second
+    second (Some y) = same_second y y refl (expr_itself y.1)
+
+abbrev InnerLeft : Type 0
+InnerLeft = (x : Left) × SameLeft x x
+
+abbrev bare_left : Left-F InnerLeft → Left-F Left
+bare_left y = map-Left InnerLeft Left (λ p. p.0) y
+
+lefts_themselves : (xs : List InnerLeft) → SameLefts (map (λ p. p.0) xs) (map (λ p. p.0) xs)
+lefts_themselves [] = same_no_left
+lefts_themselves (x ∷ xs) = same_more_lefts _ _ _ _ x.1 (lefts_themselves xs)
+
+left_layer : (y : Left-F InnerLeft) → SameLeft (roll-Left (bare_left y)) (roll-Left (bare_left y))
+left_layer (h.Name n ss) = rw (rolls-Place n ss) (same_place n n ss ss refl (selects_themselves ss.items))
+left_layer (h.Concat x xs) = rw (rolls-Places _ _) (same_places _ _ _ _ x.value.1 (lefts_themselves xs.items))
+
+left_settled : (x : Left-F Left) (y : Left-F InnerLeft) → bare_left y ≡ x → SameLeft (roll-Left x) (roll-Left x)
+left_settled x y is = subst (λ (u : Left-F Left). SameLeft (roll-Left u) (roll-Left u)) is (left_layer y)
+
+left_itself : (x : Left) → SameLeft x x
+left_itself = ind-Left (λ x. SameLeft x x) left_settled
+
+-- ---- statements
+
+abbrev InnerStmt : Type 0
+InnerStmt = (x : Stmt) × SameStmt x x
+
+abbrev bare_stmt : Stmt-F InnerStmt → Stmt-F Stmt
+bare_stmt y = map-Stmt InnerStmt Stmt (λ p. p.0) y
+
+stmts_themselves : (xs : List InnerStmt) → SameStmts (map (λ p. p.0) xs) (map (λ p. p.0) xs)
+stmts_themselves [] = same_no_stmt
+stmts_themselves (x ∷ xs) = same_more_stmts _ _ _ _ x.1 (stmts_themselves xs)
+
+stmt_layer : (y : Stmt-F InnerStmt) → SameStmt (roll-Stmt (bare_stmt y)) (roll-Stmt (bare_stmt y))
+stmt_layer g.Null = rw rolls-Null same_null
+stmt_layer (g.Assign n v) = rw (rolls-Assign n v) (same_assign n n v v (left_itself n) (expr_itself v))
+stmt_layer (g.Later n v) = rw (rolls-Later n v) (same_later n n v v (left_itself n) (expr_itself v))
+stmt_layer (g.Block xs) = rw (rolls-Block _) (same_block _ _ (stmts_themselves xs.items))
+stmt_layer (g.Delay l x) = rw (rolls-Delay l _) (same_delay l _ _ x.value.1)
+
+stmt_settled : (x : Stmt-F Stmt) (y : Stmt-F InnerStmt) → bare_stmt y ≡ x → SameStmt (roll-Stmt x) (roll-Stmt x)
+stmt_settled x y is = subst (λ (u : Stmt-F Stmt). SameStmt (roll-Stmt u) (roll-Stmt u)) is (stmt_layer y)
+
+stmt_itself : (x : Stmt) → SameStmt x x
+stmt_itself = ind-Stmt (λ x. SameStmt x x) stmt_settled
+
+-- ---- modules
+
+all_themselves : {A : Type 0} (R : A → A → Type 0) → ((x : A) → R x x) → (xs : List A) → Pairwise R xs xs
+all_themselves R h [] = no_pair
+all_themselves R h (x ∷ xs) = pair_more x x xs xs (h x) (all_themselves R h xs)
+
+value_itself : (o : Option Expr) → SameValue o o
+value_itself None = same_no_value
+value_itself (Some x) = same_value x x (expr_itself x)
+
+range_itself : (o : Option Range) → SameRange o o
+range_itself None = same_no_range
+range_itself (Some r) = same_range r r (expr_itself r.left) (expr_itself r.right)
+
+declarators_themselves : (ds : List Declarator) → Pairwise SameDeclarator ds ds
+declarators_themselves ds = all_themselves SameDeclarator (λ d. record { name = refl; words = range_itself d.words; value = value_itself d.value }) ds
+
+form_itself : (f : Form) → SameForm f f
+form_itself f = record { signed = refl; range = range_itself f.range }
+
+item_itself : (x : Item) → SameItem x x
+item_itself (i.Wire f ds) = same_wire f f ds ds (form_itself f) (declarators_themselves ds.items)
+item_itself (i.Reg f ds) = same_reg f f ds ds (form_itself f) (declarators_themselves ds.items)
+item_itself (i.Integer ds) = same_integer ds ds (declarators_themselves ds.items)
+item_itself (i.Assign xs) = same_assigns xs xs (all_themselves SameAssignment (λ a. record { target = left_itself a.target; value = expr_itself a.value }) xs.items)
+item_itself (i.Initial x) = same_initial x x (stmt_itself x)
+item_itself (i.Always x) = same_always x x (stmt_itself x)
+
+pub modules_themselves : (ms : List Module) → Pairwise SameModule ms ms
+modules_themselves ms = all_themselves SameModule (λ m. record { name = refl; items = all_themselves SameItem item_itself m.items.items }) ms

@@ -1,0 +1,84 @@
+-- When two designs say the same: they differ at most in where their parts lie in memory.
+use Rattle.std.specs.Prelude.{◌≡◌, ℕ, List, [], ◌∷◌, map}
+use Rattle.std.specs.List.{AllZip}
+use Rattle.std.specs.declared.vec.Vec.{Vec}
+use Rattle.std.specs.declared.boxed.Box.{Box}
+use Rattle.std.specs.declared.alloc.Global.{Global}
+use Rattle.vs_logic4.specs.declared.digit.Digit.{Digit}
+use Rattle.vs_design.specs.declared.expression.Typed.{Typed}
+use Rattle.vs_design.specs.declared.statement.Target.{Target}
+use Rattle.vs_design.specs.declared.statement.Ticks.{Ticks}
+use Rattle.vs_design.specs.declared.statement.Statement.{Statement}
+use Rattle.vs_design.specs.declared.statement.Statement.TheVariants as d
+use Rattle.vs_design.specs.declared.design.Assign.{Assign}
+use Rattle.vs_design.specs.declared.design.Process.{Process}
+use Rattle.vs_design.specs.declared.design.Entry.{Entry}
+use Rattle.vs_design.specs.declared.design.Entry.TheVariants.{Enter, Declare, Leave}
+use Rattle.vs_design.specs.Parts.{Parts}
+use Rattle.vs_design.specs.Stores.{Store}
+use Rattle.vs_design.specs.Uses.{reads, writes, target_reads}
+use Rattle.vs_design.specs.WellFormed.{size_of, numbers}
+use Rattle.vs_eval.specs.Values.{value_of}
+use Rattle.vs_eval.specs.Targets.{assigned}
+use Rattle.vs_elaborate.specs.DesignOf.{declared}
+
+-- The expressions say the same: one size, one value in every store, and the same ranges read (clauses 5.4 and 5.5).
+pub record SameTyped (x x' : Typed) : Type 0 where
+  pub size : size_of x ≡ size_of x'
+  pub value : (store : Store) (time : ℕ) → value_of x store time ≡ value_of x' store time
+  pub ranges : reads x ≡ reads x'
+
+-- The targets say the same: one size, the same ranges written, the same read by indices, and one write in every store (clauses 6.1 and 9.2).
+pub record SameTarget (t t' : Target) : Type 0 where
+  pub width : t.width ≡ t'.width
+  pub ranges : writes t ≡ writes t'
+  pub indices : target_reads t ≡ target_reads t'
+  pub write : (digits : List Digit) (store : Store) (time : ℕ) → assigned t digits store time ≡ assigned t' digits store time
+
+-- The sides of two assignments say the same (clause 6).
+pub record SameSides (t t' : Target) (x x' : Typed) : Type 0 where
+  pub target : SameTarget t t'
+  pub source : SameTyped x x'
+
+mutual
+  -- The statements say the same, their numbers apart (clause 9).
+  pub data SameStatement : Statement → Statement → Type 0 where
+    null_same : (k k' : ℕ) → SameStatement (d.Null k) (d.Null k')
+    assign_same : (k k' : ℕ) (t t' : Target) (x x' : Typed) → SameSides t t' x x' → SameStatement (d.Assign k t x) (d.Assign k' t' x')
+    later_same : (k k' : ℕ) (t t' : Target) (x x' : Typed) → SameSides t t' x x' → SameStatement (d.Later k t x) (d.Later k' t' x')
+    block_same : (xs xs' : Vec Statement Global) → SameStatements xs.items xs'.items → SameStatement (d.Block xs) (d.Block xs')
+    delay_same : (k k' : ℕ) (n n' : Ticks) (x x' : Box Statement Global) → n.count ≡ n'.count → SameStatement x.value x'.value →
+        SameStatement (d.Delay k n x) (d.Delay k' n' x')
+    forever_same : (k k' : ℕ) (x x' : Box Statement Global) → SameStatement x.value x'.value → SameStatement (d.Forever k x) (d.Forever k' x')
+
+  -- The same of statements one after another (clause 9.8.1).
+  pub data SameStatements : List Statement → List Statement → Type 0 where
+    statements_end : SameStatements [] []
+    statement_same : (x x' : Statement) (xs xs' : List Statement) → SameStatement x x' → SameStatements xs xs' → SameStatements (x ∷ xs) (x' ∷ xs')
+
+-- The continuous assignments say the same (clause 6.1).
+pub record SameAssign (a a' : Assign) : Type 0 where
+  pub name : a.name.items ≡ a'.name.items
+  pub sides : SameSides a.target a'.target a.source a'.source
+
+-- The processes say the same, with the numbers of their statements (clause 9.9).
+pub record SameProcess (p p' : Process) : Type 0 where
+  pub name : p.name.items ≡ p'.name.items
+  pub kind : p.kind ≡ p'.kind
+  pub body : SameStatement p.body p'.body
+  pub numbered : numbers p.body ≡ numbers p'.body
+
+-- The lines of two outlines say the same (clause 18.2.3).
+abbrev pub SameEntry : Entry → Entry → Type 0
+SameEntry (Enter k n) (Enter k' n') = (k ≡ k') × (n.items ≡ n'.items)
+SameEntry (Declare i) (Declare j) = i ≡ j
+SameEntry Leave Leave = Unit {0}
+SameEntry _ _ = ⊥
+
+-- The designs say the same (clause 12).
+pub record SameDesign (d d' : Parts) : Type 0 where
+  pub timescale : d.timescale ≡ d'.timescale
+  pub signals : map declared d.signals ≡ map declared d'.signals
+  pub assigns : AllZip SameAssign d.assigns d'.assigns
+  pub processes : AllZip SameProcess d.processes d'.processes
+  pub outline : AllZip SameEntry d.outline d'.outline

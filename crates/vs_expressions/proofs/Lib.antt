@@ -1,0 +1,10 @@
+pub mod Tokens
+pub mod Exits
+pub mod Trees
+pub mod Rows
+pub mod Lists
+pub mod OperatorLemmas
+pub mod Choices
+pub mod Selects
+pub mod Expressions
+pub mod Lefts

@@ -1,0 +1,95 @@
+-- How the parts of a select make it, and where it stops.
+use Rattle.std.specs.Prelude.{◌≡◌, ℕ, ◌-◌, ◌<◌, ◌≤◌, Bool, true, false, List, [], ◌∷◌, refl}
+use Rattle.std.proofs.Common.{ap, arith}
+use Rattle.vs_tokens.specs.declared.token.Mark.TheVariants as m
+use Rattle.vs_syntax.specs.Symbols.{Symbol, a_mark, any_name, first}
+use Rattle.vs_syntax.specs.Grammar.{Grammar, ◌·◌, part, mark, name, number, many, chain, one_or_more, part_marks, second, select, an_expr, an_operand}
+use Rattle.vs_syntax.specs.Tables.{goes}
+use Rattle.vs_syntax.specs.Derivation.{Tree, empty, leaf, both, down, height}
+use Rattle.vs_syntax.specs.Reading.{Gets, Stuck, stuck_second, stuck_left, stuck_right, stuck_many, stuck_part, stuck_link, stuck_high}
+use Rattle.vs_syntax.specs.Views.{row_of, part_mark, selects_tree}
+use Rattle.vs_syntax.specs.declared.tree.PartSelect.{PartSelect}
+use Rattle.vs_syntax.specs.declared.tree.PartSelect.TheVariants as p
+use Rattle.vs_syntax.proofs.Gets.{gets_nothing, gets_token, gets_seq, gets_left, gets_right, gets_part, gets_stop, gets_one, gets_chain}
+use Rattle.vs_expressions.proofs.Exits.{goes_at}
+use Rattle.vs_expressions.proofs.Rows.{Along, all_read, more_read, more_stuck, some_there}
+
+-- what stands between the two expressions of a part-select
+pub part_goes : (ts after : List Symbol) (k : PartSelect) → ts ≡ a_mark (part_mark k) ∷ after → goes part_marks ts ≡ true
+part_goes ts after p.Bounds e = ap (goes part_marks) e
+part_goes ts after p.Upward e = ap (goes part_marks) e
+part_goes ts after p.Downward e = ap (goes part_marks) e
+
+pub part_read : (room : ℕ) (ts after : List Symbol) (k : PartSelect) → ts ≡ a_mark (part_mark k) ∷ after → Gets part_marks room ts (leaf (a_mark (part_mark k))) after
+part_read room ts after p.Bounds e = rw e (gets_left refl (gets_token refl))
+part_read room ts after p.Upward e = rw e (gets_right refl (gets_left refl (gets_token refl)))
+part_read room ts after p.Downward e = rw e (gets_right refl (gets_right refl (gets_token refl)))
+
+-- no mark of a part-select
+pub no_part : (ts : List Symbol) → goes (mark m.Colon) ts ≡ false → goes (mark m.PlusColon) ts ≡ false → goes (mark m.MinusColon) ts ≡ false → goes part_marks ts ≡ false
+no_part ts h i k = cc
+
+-- the second expression
+pub second_none : (room : ℕ) (ts : List Symbol) → goes part_marks ts ≡ false → Gets second room ts empty ts
+second_none room ts h = gets_right h gets_nothing
+
+pub second_stuck : (room : ℕ) (deep : Bool) (ts after at : List Symbol) (k : PartSelect) → ts ≡ a_mark (part_mark k) ∷ after → Stuck (part an_expr) room deep after at → Stuck second room deep ts at
+second_stuck room deep ts after at k e s =
+    let none : 0 ≤ room = omega arith in
+    stuck_left (part_goes ts after k e) none (stuck_second (part_read room ts after k e) s)
+
+pub second_read : (room : ℕ) (ts after rest : List Symbol) (k : PartSelect) (x : Tree) → ts ≡ a_mark (part_mark k) ∷ after → Gets (part an_expr) room after x rest → Gets second room ts (both (leaf (a_mark (part_mark k))) x) rest
+second_read room ts after rest k x e q = gets_left (part_goes ts after k e) (gets_seq (part_read room ts after k e) q)
+
+-- a select behind its bracket
+abbrev pub select_rest : Grammar
+select_rest = part an_expr · second · mark m.CloseBracket
+
+pub select_goes : (ts after : List Symbol) → ts ≡ a_mark m.OpenBracket ∷ after → goes select ts ≡ true
+select_goes ts after e = ap (goes select) e
+
+pub select_stuck : (room : ℕ) (deep : Bool) (ts after at : List Symbol) → ts ≡ a_mark m.OpenBracket ∷ after → Stuck select_rest room deep after at → Stuck select room deep ts at
+select_stuck room deep ts after at e s = rw e (stuck_second (gets_token refl) s)
+
+pub select_read : (room : ℕ) (ts after rest : List Symbol) (x : Tree) → ts ≡ a_mark m.OpenBracket ∷ after → Gets select_rest room after x rest → Gets select room ts (both (leaf (a_mark m.OpenBracket)) x) rest
+select_read room ts after rest x e q = rw e (gets_seq (gets_token refl) q)
+
+-- selects one after another
+pub selects_stuck : (room : ℕ) (deep : Bool) (start rest after at : List Symbol) (xs : List Tree) → Along select room start rest xs → rest ≡ a_mark m.OpenBracket ∷ after → Stuck select room deep rest at → Stuck (many select) room deep start at
+selects_stuck room deep start rest after at xs l e s =
+    let none : 0 ≤ room = omega arith in
+    l.stops deep at (stuck_many (select_goes rest after e) none s)
+
+pub selects_read : (room : ℕ) (start rest : List Symbol) (xs : List Tree) → Along select room start rest xs → goes (mark m.OpenBracket) rest ≡ false → Gets (many select) room start (row_of xs) rest
+selects_read room start rest xs l h = all_read select room start rest rest xs l (gets_stop h)
+
+-- what stands behind a name has a select where a bracket is next
+some_selects : (room : ℕ) (start after rest : List Symbol) (xs : List Tree) → start ≡ a_mark m.OpenBracket ∷ after → Gets (many select) room start (row_of xs) rest → selects_tree xs ≡ row_of xs
+some_selects room start after rest [] e q = absurd (some_there select room start rest (select_goes start after e) q)
+some_selects room start after rest (x ∷ xs) e q = refl
+
+-- a name as an operand
+pub named_stuck : (room : ℕ) (deep : Bool) (ts at : List Symbol) → first ts ≡ any_name → Stuck (chain name (one_or_more select)) room deep ts at → Stuck (part an_operand) room deep ts at
+named_stuck room deep ts at e s =
+    let none : 0 ≤ room = omega arith in
+    stuck_part (stuck_right (goes_at number ts any_name false e refl) none (stuck_left (goes_at (chain name (one_or_more select)) ts any_name true e refl) none s))
+
+named_read : (room : ℕ) (ts rest : List Symbol) (x : Tree) → first ts ≡ any_name → Gets (chain name (one_or_more select)) room ts x rest → Gets (part an_operand) room ts x rest
+named_read room ts rest x e q = gets_part (gets_right (goes_at number ts any_name false e refl) (gets_left (goes_at (chain name (one_or_more select)) ts any_name true e refl) q))
+
+pub name_alone : (room : ℕ) (ts rest : List Symbol) (x : Tree) → first ts ≡ any_name → Gets name room ts x rest → goes (mark m.OpenBracket) rest ≡ false → Gets (part an_operand) room ts x rest
+name_alone room ts rest x e q h = named_read room ts rest x e (gets_one h q)
+
+pub name_high : (room : ℕ) (ts start after : List Symbol) (s : Symbol) → first ts ≡ any_name → Gets name room ts (leaf s) start → start ≡ a_mark m.OpenBracket ∷ after → room ≡ 0 → Stuck (part an_operand) room true ts start
+name_high room ts start after s e q f h = named_stuck room true ts start e (stuck_high q (ap (goes (one_or_more select)) f) (omega (arith, h)))
+
+pub name_stuck : (room : ℕ) (deep : Bool) (ts start after at : List Symbol) (s : Symbol) → first ts ≡ any_name → 0 < room → Gets name room ts (leaf s) start → start ≡ a_mark m.OpenBracket ∷ after → Stuck (many select) (room - 1) deep start at → Stuck (part an_operand) room deep ts at
+name_stuck room deep ts start after at s e h q f t = named_stuck room deep ts at e (stuck_link q h (ap (goes (one_or_more select)) f) (more_stuck t))
+
+pub name_read : (room : ℕ) (ts start after rest : List Symbol) (s : Symbol) (xs : List Tree) → first ts ≡ any_name → 0 < room → Gets name room ts (leaf s) start → start ≡ a_mark m.OpenBracket ∷ after → Gets (many select) (room - 1) start (row_of xs) rest → Gets (part an_operand) room ts (down (both (leaf s) (selects_tree xs))) rest
+name_read room ts start after rest s xs e h q f t =
+    rw (some_selects (room - 1) start after rest xs f t)
+    (named_read room ts rest (down (both (leaf s) (row_of xs))) e (gets_chain q h (ap (goes (one_or_more select)) f) (more_read select (room - 1) start rest (row_of xs) (select_goes start after f) t)))
+
+pub name_height : (room : ℕ) (start after rest : List Symbol) (s : Symbol) (xs : List Tree) → start ≡ a_mark m.OpenBracket ∷ after → Gets (many select) room start (row_of xs) rest → height (down (both (leaf s) (selects_tree xs))) ≡ height (down (row_of xs))
+name_height room start after rest s xs e q = let k : height (selects_tree xs) ≡ height (row_of xs) = ap height (some_selects room start after rest xs e q) in omega (arith, k)

@@ -1,0 +1,36 @@
+-- What a function that reads a part of a source answers.
+use Rattle.std.specs.Prelude.{ℕ, true, false, List, Result, Ok, Err}
+use Rattle.vs_tokens.specs.declared.token.Token.{Token}
+use Rattle.vs_lexer.specs.Tokens.{lexemes}
+use Rattle.vs_syntax.specs.Symbols.{Symbol, symbols}
+use Rattle.vs_syntax.specs.Grammar.{Grammar}
+use Rattle.vs_syntax.specs.Derivation.{Tree}
+use Rattle.vs_syntax.specs.Reading.{Gets, Stuck}
+use Rattle.vs_syntax.specs.Views.{expr_tree}
+use Rattle.vs_expressions.specs.declared.expression.Nested.{Nested}
+use Rattle.vs_expressions.specs.declared.reading.Read.{Read}
+use Rattle.vs_expressions.specs.declared.reading.Stop.{Stop}
+use Rattle.vs_expressions.specs.declared.reading.Stop.TheVariants as stop
+
+-- the symbols of tokens
+abbrev pub seen : List Token → List Symbol
+seen ts = symbols (lexemes ts)
+
+-- why and where reading stopped at these symbols, unless memory ran out
+abbrev pub Fails : Grammar → ℕ → List Symbol → Stop → Type 0
+Fails a room ts stop.Memory = Unit {0}
+Fails a room ts (stop.Unexpected at) = Stuck a room false ts (seen at.now)
+Fails a room ts (stop.TooDeep at) = Stuck a room true ts (seen at.now)
+
+-- a tree of the part and the symbols behind it, or why and where reading stopped
+abbrev pub Answers : {X : Type 0} → Grammar → ℕ → List Symbol → (X → Tree) → (X → List Symbol) → Result X Stop → Type 0
+Answers a room ts tree rest (Ok x) = Gets a room ts (tree x) (rest x)
+Answers a room ts tree rest (Err e) = Fails a room ts e
+
+-- the same of what is read of tokens
+abbrev pub Reads : {X : Type 0} → Grammar → ℕ → List Token → (X → Tree) → Result (Read X) Stop → Type 0
+Reads a room ts tree r = Answers a room (seen ts) (λ x. tree x.tree) (λ x. seen x.rest.now) r
+
+-- the same of an expression with its nesting
+abbrev pub Nests : Grammar → ℕ → List Symbol → Result Nested Stop → Type 0
+Nests a room ts r = Answers a room ts (λ x. expr_tree x.tree) (λ x. seen x.rest.now) r

@@ -1,0 +1,560 @@
+//! Reading expressions.
+ghost use Rattle.std.specs.Prelude.{◌≡◌, ℕ, suc, max, ◌∷◌, map, IfOk};
+ghost use Rattle.vs_tokens.specs.declared.token.Mark.TheVariants as m;
+ghost use Rattle.vs_syntax.specs.Symbols.{a_mark, a_cast, any_name, any_number, first};
+ghost use Rattle.vs_syntax.specs.Grammar.{◌·◌, part, many, mark, a_level, a_condition, an_expr, an_operand, other_parts, second, select};
+ghost use Rattle.vs_syntax.specs.Derivation.{leaf, both, height};
+ghost use Rattle.vs_syntax.specs.Views.{row_of, unary_mark, others_tree, repeated_tree, closed_tree, second_tree, second_trees, chosen_tree, expr_tree};
+ghost use Rattle.vs_syntax.specs.Reading.{Gets};
+ghost use Rattle.vs_expressions.specs.Answers.{seen, Answers, Reads, Nests};
+
+use crate::head::{OperandHead, operand_head};
+use crate::operator::{LEVELS, binary_at};
+use crate::reading::{Read, Stop};
+use crate::token::{expect_mark, expect_name, literal, mark_at, next, part_select_at};
+use std::alloc::Global;
+use vs_lexer::{Mark, Token};
+use vs_logic4::Unary;
+use vs_syntax::{Expr, PartSelect};
+
+/// An expression that was read: its syntax tree, its nesting (in nodes), and the tokens behind it.
+#[derive(Drop)]
+pub(crate) struct Nested<'t, 's> {
+    tree: Expr,
+    height: u32,
+    rest: &'t [Token<'s>],
+}
+
+/// Selects that were read, in the order of the text, their nesting (in nodes), and the tokens behind
+/// them.
+#[derive(Drop)]
+pub(crate) struct ReadSelects<'t, 's> {
+    pub(crate) tree: Vec<(Expr, Option<(PartSelect, Expr)>)>,
+    pub(crate) height: u32,
+    pub(crate) rest: &'t [Token<'s>],
+}
+
+/// A select that was read: its expressions, their nesting, and the tokens behind it.
+#[derive(Drop)]
+struct ReadSelect<'t, 's> {
+    tree: (Expr, Option<(PartSelect, Expr)>),
+    height: u32,
+    rest: &'t [Token<'s>],
+}
+
+/// The second expression of a part-select that was read, if one was, its nesting, and the tokens
+/// behind it.
+#[derive(Drop)]
+struct ReadSecond<'t, 's> {
+    tree: Option<(PartSelect, Expr)>,
+    height: u32,
+    rest: &'t [Token<'s>],
+}
+
+/// What stands behind a condition: the operand for it, and the next condition or the last operand;
+/// their nesting, and the tokens behind them.
+#[derive(Drop)]
+struct ReadArm<'t, 's> {
+    value: Expr,
+    other: Expr,
+    height: u32,
+    rest: &'t [Token<'s>],
+}
+
+/// The parts of a concatenation behind the first one, their nesting, and the tokens behind the
+/// brace.
+#[derive(Drop)]
+struct ReadOthers<'t, 's> {
+    tree: Vec<Expr>,
+    height: u32,
+    rest: &'t [Token<'s>],
+}
+
+/// The parts of a multiple concatenation, the first and the others, their nesting, and the tokens
+/// behind the braces.
+#[derive(Drop)]
+struct ReadParts<'t, 's> {
+    first: Expr,
+    others: Vec<Expr>,
+    height: u32,
+    rest: &'t [Token<'s>],
+}
+
+/// Reads an expression, in at most `room` nodes below one another.
+pub fn expr<'t, 's>(
+    alloc: Global,
+    room: u32,
+    tokens: &'t [Token<'s>],
+) -> Result<Read<'t, 's, Expr>, Stop<'t, 's>>
+    ensures { Reads (part an_expr) room tokens.now expr_tree result }
+{
+    let read = nested_expr(alloc, room, tokens)?;
+    Ok(Read {
+        tree: read.tree,
+        rest: read.rest,
+    })
+}
+
+/// Reads an expression and its nesting.
+#[cycle(expr)]
+fn nested_expr<'t, 's>(
+    alloc: Global,
+    room: u32,
+    tokens: &'t [Token<'s>],
+) -> Result<Nested<'t, 's>, Stop<'t, 's>>
+    ensures reads { Nests (part an_expr) room (seen tokens.now) result }
+    ensures height { IfOk result (λ x. x.height ≡ height (expr_tree x.tree)) }
+{
+    let first = operands(alloc, room, tokens, LEVELS)?;
+    choice(alloc, room, first.tree, first.height, first.rest)
+}
+
+/// Reads what stands behind a first condition, which was read: it alone, or a node of all
+/// conditions and operands.
+#[cycle(expr)]
+fn choice<'t, 's>(
+    alloc: Global,
+    room: u32,
+    first: Expr,
+    first_height: u32,
+    start: &'t [Token<'s>],
+) -> Result<Nested<'t, 's>, Stop<'t, 's>>
+    requires { first_height ≡ height (expr_tree first) }
+    ensures reads { (ts : _) → Gets (part a_condition) room ts (expr_tree first) (seen start.now)
+        → Nests (part an_expr) room ts result }
+    ensures height { IfOk result (λ x. x.height ≡ height (expr_tree x.tree)) }
+{
+    let Some(_) = mark_at(start, Mark::Question) else {
+        return Ok(Nested {
+            tree: first,
+            height: first_height,
+            rest: start,
+        });
+    };
+    if first_height >= room {
+        return Err(Stop::TooDeep(start));
+    }
+    let mut height = first_height;
+    // All of them, but from a call: so the borrow checker can join it with what the loop sets.
+    let (_none, mut rest) = start.split_at(0);
+    let mut last = first;
+    let mut pairs = Vec::new(alloc);
+    while let Some(after) = mark_at(rest, Mark::Question) {
+        let read = arm(alloc, room - 1, after)?;
+        height = height.max(read.height);
+        rest = read.rest;
+        pairs.push((last, read.value))?;
+        last = read.other;
+    }
+    let other = Box::new(alloc, last)?;
+    Ok(Nested {
+        tree: Expr::Choice(pairs, other),
+        height: height + 1,
+        rest,
+    })
+}
+
+/// Reads what stands behind the `?` of a condition.
+#[cycle(expr)]
+fn arm<'t, 's>(
+    alloc: Global,
+    room: u32,
+    tokens: &'t [Token<'s>],
+) -> Result<ReadArm<'t, 's>, Stop<'t, 's>>
+    ensures reads { Answers (part an_expr · mark m.Colon · part a_condition) room (seen tokens.now)
+        (λ x. both (expr_tree x.value) (both (leaf (a_mark m.Colon)) (expr_tree x.other)))
+        (λ x. seen x.rest.now) result }
+    ensures height { IfOk result
+        (λ x. x.height ≡ max (height (expr_tree x.value)) (height (expr_tree x.other))) }
+{
+    let value = nested_expr(alloc, room, tokens)?;
+    let after = expect_mark(value.rest, Mark::Colon)?;
+    let other = operands(alloc, room, after, LEVELS)?;
+    Ok(ReadArm {
+        value: value.tree,
+        other: other.tree,
+        height: value.height.max(other.height),
+        rest: other.rest,
+    })
+}
+
+/// Reads operands with operators of the `top` tightest levels between them: an operand, and then
+/// level by level what goes on with it. So the depth of the stack doesn't grow with the levels.
+#[cycle(expr)]
+fn operands<'t, 's>(
+    alloc: Global,
+    room: u32,
+    tokens: &'t [Token<'s>],
+    top: usize,
+) -> Result<Nested<'t, 's>, Stop<'t, 's>>
+    ensures reads { Nests (part (a_level top)) room (seen tokens.now) result }
+    ensures height { IfOk result (λ x. x.height ≡ height (expr_tree x.tree)) }
+{
+    let mut read = operand(alloc, room, tokens)?;
+    for level in 0..top {
+        read = chain(alloc, room, read.tree, read.height, read.rest, level)?;
+    }
+    Ok(read)
+}
+
+/// Reads the operands behind the first one, which was read, with operators of the level between
+/// them: the first one alone, or a node of all of them.
+#[cycle(expr)]
+fn chain<'t, 's>(
+    alloc: Global,
+    room: u32,
+    first: Expr,
+    first_height: u32,
+    start: &'t [Token<'s>],
+    level: usize,
+) -> Result<Nested<'t, 's>, Stop<'t, 's>>
+    requires { first_height ≡ height (expr_tree first) }
+    ensures reads { (ts : _) → Gets (part (a_level level)) room ts (expr_tree first) (seen start.now)
+        → Nests (part (a_level (suc level))) room ts result }
+    ensures height { IfOk result (λ x. x.height ≡ height (expr_tree x.tree)) }
+{
+    let Some(_) = binary_at(start, level) else {
+        return Ok(Nested {
+            tree: first,
+            height: first_height,
+            rest: start,
+        });
+    };
+    if first_height >= room {
+        return Err(Stop::TooDeep(start));
+    }
+    let mut height = first_height;
+    // All of them, but from a call: so the borrow checker can join it with what the loop sets.
+    let (_none, mut rest) = start.split_at(0);
+    let mut links = Vec::new(alloc);
+    while let Some((operator, after)) = binary_at(rest, level) {
+        let other = operands(alloc, room - 1, after, level)?;
+        height = height.max(other.height);
+        rest = other.rest;
+        links.push((operator, other.tree))?;
+    }
+    Ok(Nested {
+        tree: Expr::Chain(Box::new(alloc, first)?, links),
+        height: height + 1,
+        rest,
+    })
+}
+
+/// Reads an operand.
+#[cycle(expr)]
+fn operand<'t, 's>(
+    alloc: Global,
+    room: u32,
+    tokens: &'t [Token<'s>],
+) -> Result<Nested<'t, 's>, Stop<'t, 's>>
+    ensures reads { Nests (part an_operand) room (seen tokens.now) result }
+    ensures height { IfOk result (λ x. x.height ≡ height (expr_tree x.tree)) }
+{
+    let Some(head) = operand_head(tokens) else {
+        return Err(Stop::Unexpected(tokens));
+    };
+    match head {
+        OperandHead::Number => number(tokens),
+        OperandHead::Name => named(alloc, room, tokens),
+        OperandHead::Unary(operator, after) => prefixed(alloc, room, tokens, operator, after),
+        OperandHead::Open(after) => group(alloc, room, tokens, after),
+        OperandHead::Brace(after) => braces(alloc, room, tokens, after),
+        OperandHead::Cast(signed, after) => cast(alloc, room, tokens, signed, after),
+    }
+}
+
+/// Reads a number. It has no nodes.
+fn number<'t, 's>(tokens: &'t [Token<'s>]) -> Result<Nested<'t, 's>, Stop<'t, 's>>
+    requires { first (seen tokens.now) ≡ any_number }
+    ensures reads { (room : ℕ) → Nests (part an_operand) room (seen tokens.now) result }
+    ensures height { IfOk result (λ x. x.height ≡ height (expr_tree x.tree)) }
+{
+    let Some((first, rest)) = next(tokens) else {
+        return Err(Stop::Unexpected(tokens));
+    };
+    let Some(number) = literal(first.kind) else {
+        return Err(Stop::Unexpected(tokens));
+    };
+    Ok(Nested {
+        tree: Expr::Number(number),
+        height: 0,
+        rest,
+    })
+}
+
+/// Reads a name and its selects: it alone, which has no nodes, or a node of it and of them.
+#[cycle(expr)]
+fn named<'t, 's>(
+    alloc: Global,
+    room: u32,
+    tokens: &'t [Token<'s>],
+) -> Result<Nested<'t, 's>, Stop<'t, 's>>
+    requires { first (seen tokens.now) ≡ any_name }
+    ensures reads { Nests (part an_operand) room (seen tokens.now) result }
+    ensures height { IfOk result (λ x. x.height ≡ height (expr_tree x.tree)) }
+{
+    let (name, start) = expect_name(alloc, tokens)?;
+    let Some(_) = mark_at(start, Mark::OpenBracket) else {
+        return Ok(Nested {
+            tree: Expr::Name(name),
+            height: 0,
+            rest: start,
+        });
+    };
+    if room == 0 {
+        return Err(Stop::TooDeep(start));
+    }
+    let read = selects(alloc, room - 1, start)?;
+    Ok(Nested {
+        tree: Expr::Select(name, read.tree),
+        height: read.height + 1,
+        rest: read.rest,
+    })
+}
+
+/// Reads the selects that are next, in at most `room` nodes below one another.
+#[cycle(expr)]
+pub(crate) fn selects<'t, 's>(
+    alloc: Global,
+    room: u32,
+    tokens: &'t [Token<'s>],
+) -> Result<ReadSelects<'t, 's>, Stop<'t, 's>>
+    ensures reads { Answers (many select) room (seen tokens.now)
+        (λ x. row_of (map chosen_tree x.tree.items)) (λ x. seen x.rest.now) result }
+    ensures height { IfOk result (λ x. x.height ≡ height (row_of (map chosen_tree x.tree.items))) }
+{
+    let mut height: u32 = 0;
+    // All of them, but from a call: so the borrow checker can join it with what the loop sets.
+    let (_none, mut rest) = tokens.split_at(0);
+    let mut tree = Vec::new(alloc);
+    while let Some(after) = mark_at(rest, Mark::OpenBracket) {
+        let read = chosen(alloc, room, rest, after)?;
+        height = height.max(read.height);
+        rest = read.rest;
+        tree.push(read.tree)?;
+    }
+    Ok(ReadSelects { tree, height, rest })
+}
+
+/// Reads a select, behind whose bracket `after` stands.
+#[cycle(expr)]
+fn chosen<'t, 's>(
+    alloc: Global,
+    room: u32,
+    tokens: &'t [Token<'s>],
+    after: &'t [Token<'s>],
+) -> Result<ReadSelect<'t, 's>, Stop<'t, 's>>
+    requires { seen tokens.now ≡ a_mark m.OpenBracket ∷ seen after.now }
+    ensures reads { Answers select room (seen tokens.now) (λ x. chosen_tree x.tree) (λ x. seen x.rest.now) result }
+    ensures height { IfOk result (λ x. x.height ≡ height (chosen_tree x.tree)) }
+{
+    let index = nested_expr(alloc, room, after)?;
+    let other = second(alloc, room, index.rest)?;
+    let rest = expect_mark(other.rest, Mark::CloseBracket)?;
+    Ok(ReadSelect {
+        tree: (index.tree, other.tree),
+        height: index.height.max(other.height),
+        rest,
+    })
+}
+
+/// Reads the second expression of a part-select and what stands before it, if that is next.
+#[cycle(expr)]
+fn second<'t, 's>(
+    alloc: Global,
+    room: u32,
+    tokens: &'t [Token<'s>],
+) -> Result<ReadSecond<'t, 's>, Stop<'t, 's>>
+    ensures reads { Answers second room (seen tokens.now)
+        (λ x. second_tree (second_trees x.tree)) (λ x. seen x.rest.now) result }
+    ensures height { IfOk result (λ x. x.height ≡ height (second_tree (second_trees x.tree))) }
+{
+    let Some((kind, after)) = part_select_at(tokens) else {
+        return Ok(ReadSecond {
+            tree: None,
+            height: 0,
+            rest: tokens,
+        });
+    };
+    let value = nested_expr(alloc, room, after)?;
+    Ok(ReadSecond {
+        tree: Some((kind, value.tree)),
+        height: value.height,
+        rest: value.rest,
+    })
+}
+
+/// Reads an operator, behind which `after` stands, and its operand.
+#[cycle(expr)]
+fn prefixed<'t, 's>(
+    alloc: Global,
+    room: u32,
+    tokens: &'t [Token<'s>],
+    operator: Unary,
+    after: &'t [Token<'s>],
+) -> Result<Nested<'t, 's>, Stop<'t, 's>>
+    requires { seen tokens.now ≡ a_mark (unary_mark operator) ∷ seen after.now }
+    ensures reads { Nests (part an_operand) room (seen tokens.now) result }
+    ensures height { IfOk result (λ x. x.height ≡ height (expr_tree x.tree)) }
+{
+    if room == 0 {
+        return Err(Stop::TooDeep(tokens));
+    }
+    let inner = operand(alloc, room - 1, after)?;
+    let height = inner.height + 1;
+    let rest = inner.rest;
+    let tree = Expr::Unary(operator, Box::new(alloc, inner.tree)?);
+    Ok(Nested { tree, height, rest })
+}
+
+/// Reads an expression in parentheses, behind whose `(` `after` stands.
+#[cycle(expr)]
+fn group<'t, 's>(
+    alloc: Global,
+    room: u32,
+    tokens: &'t [Token<'s>],
+    after: &'t [Token<'s>],
+) -> Result<Nested<'t, 's>, Stop<'t, 's>>
+    requires { seen tokens.now ≡ a_mark m.Open ∷ seen after.now }
+    ensures reads { Nests (part an_operand) room (seen tokens.now) result }
+    ensures height { IfOk result (λ x. x.height ≡ height (expr_tree x.tree)) }
+{
+    if room == 0 {
+        return Err(Stop::TooDeep(tokens));
+    }
+    let inner = closed(alloc, room - 1, after)?;
+    let height = inner.height + 1;
+    let rest = inner.rest;
+    let tree = Expr::Group(Box::new(alloc, inner.tree)?);
+    Ok(Nested { tree, height, rest })
+}
+
+/// Reads a conversion to signed or to unsigned, behind whose name `after` stands.
+#[cycle(expr)]
+fn cast<'t, 's>(
+    alloc: Global,
+    room: u32,
+    tokens: &'t [Token<'s>],
+    signed: bool,
+    after: &'t [Token<'s>],
+) -> Result<Nested<'t, 's>, Stop<'t, 's>>
+    requires { seen tokens.now ≡ a_cast signed ∷ seen after.now }
+    ensures reads { Nests (part an_operand) room (seen tokens.now) result }
+    ensures height { IfOk result (λ x. x.height ≡ height (expr_tree x.tree)) }
+{
+    if room == 0 {
+        return Err(Stop::TooDeep(tokens));
+    }
+    let opened = expect_mark(after, Mark::Open)?;
+    let inner = closed(alloc, room - 1, opened)?;
+    let height = inner.height + 1;
+    let rest = inner.rest;
+    let tree = Expr::Cast(signed, Box::new(alloc, inner.tree)?);
+    Ok(Nested { tree, height, rest })
+}
+
+/// Reads an expression and the parenthesis behind it.
+#[cycle(expr)]
+fn closed<'t, 's>(
+    alloc: Global,
+    room: u32,
+    tokens: &'t [Token<'s>],
+) -> Result<Nested<'t, 's>, Stop<'t, 's>>
+    ensures reads { Answers (part an_expr · mark m.Close) room (seen tokens.now)
+        (λ x. closed_tree (expr_tree x.tree)) (λ x. seen x.rest.now) result }
+    ensures height { IfOk result (λ x. x.height ≡ height (expr_tree x.tree)) }
+{
+    let inner = nested_expr(alloc, room, tokens)?;
+    let rest = expect_mark(inner.rest, Mark::Close)?;
+    Ok(Nested {
+        tree: inner.tree,
+        height: inner.height,
+        rest,
+    })
+}
+
+/// Reads a concatenation or a multiple one, behind whose `{` `after` stands. Either is one node.
+#[cycle(expr)]
+fn braces<'t, 's>(
+    alloc: Global,
+    room: u32,
+    tokens: &'t [Token<'s>],
+    after: &'t [Token<'s>],
+) -> Result<Nested<'t, 's>, Stop<'t, 's>>
+    requires { seen tokens.now ≡ a_mark m.OpenBrace ∷ seen after.now }
+    ensures reads { Nests (part an_operand) room (seen tokens.now) result }
+    ensures height { IfOk result (λ x. x.height ≡ height (expr_tree x.tree)) }
+{
+    if room == 0 {
+        return Err(Stop::TooDeep(tokens));
+    }
+    let first = nested_expr(alloc, room - 1, after)?;
+    let Some(inner) = mark_at(first.rest, Mark::OpenBrace) else {
+        let behind = others(alloc, room - 1, first.rest)?;
+        let height = first.height.max(behind.height) + 1;
+        let rest = behind.rest;
+        let tree = Expr::Concat(Box::new(alloc, first.tree)?, behind.tree);
+        return Ok(Nested { tree, height, rest });
+    };
+    let parts = repeated(alloc, room - 1, inner)?;
+    let height = first.height.max(parts.height) + 1;
+    let rest = parts.rest;
+    let times = Box::new(alloc, first.tree)?;
+    let part = Box::new(alloc, parts.first)?;
+    let tree = Expr::Repeat(times, part, parts.others);
+    Ok(Nested { tree, height, rest })
+}
+
+/// Reads the parts of a multiple concatenation, and the braces behind them.
+#[cycle(expr)]
+fn repeated<'t, 's>(
+    alloc: Global,
+    room: u32,
+    tokens: &'t [Token<'s>],
+) -> Result<ReadParts<'t, 's>, Stop<'t, 's>>
+    ensures reads { Answers (part an_expr · other_parts an_expr · mark m.CloseBrace) room (seen tokens.now)
+        (λ x. repeated_tree (expr_tree x.first) (map expr_tree x.others.items))
+        (λ x. seen x.rest.now) result }
+    ensures height { IfOk result
+        (λ x. x.height ≡ height (repeated_tree (expr_tree x.first) (map expr_tree x.others.items))) }
+{
+    let part = nested_expr(alloc, room, tokens)?;
+    let parts = others(alloc, room, part.rest)?;
+    let rest = expect_mark(parts.rest, Mark::CloseBrace)?;
+    Ok(ReadParts {
+        first: part.tree,
+        others: parts.tree,
+        height: part.height.max(parts.height),
+        rest,
+    })
+}
+
+/// Reads the parts of a concatenation behind the first one, and the brace behind them.
+#[cycle(expr)]
+fn others<'t, 's>(
+    alloc: Global,
+    room: u32,
+    tokens: &'t [Token<'s>],
+) -> Result<ReadOthers<'t, 's>, Stop<'t, 's>>
+    ensures reads { Answers (other_parts an_expr) room (seen tokens.now)
+        (λ x. others_tree (map expr_tree x.tree.items)) (λ x. seen x.rest.now) result }
+    ensures height { IfOk result
+        (λ x. x.height ≡ height (others_tree (map expr_tree x.tree.items))) }
+{
+    let mut height: u32 = 0;
+    // All of them, but from a call: so the borrow checker can join it with what the loop sets.
+    let (_none, mut rest) = tokens.split_at(0);
+    let mut tree = Vec::new(alloc);
+    while let Some(after) = mark_at(rest, Mark::Comma) {
+        let part = nested_expr(alloc, room, after)?;
+        height = height.max(part.height);
+        rest = part.rest;
+        tree.push(part.tree)?;
+    }
+    let behind = expect_mark(rest, Mark::CloseBrace)?;
+    Ok(ReadOthers {
+        tree,
+        height,
+        rest: behind,
+    })
+}

@@ -1,0 +1,99 @@
+//! Reading the left sides of assignments.
+ghost use Rattle.std.specs.Prelude.{◌≡◌, ◌≤◌, ◌∷◌, map};
+ghost use Rattle.vs_tokens.specs.declared.token.Mark.TheVariants as m;
+ghost use Rattle.vs_syntax.specs.Symbols.{a_mark, any_name, first};
+ghost use Rattle.vs_syntax.specs.Grammar.{part, other_parts, a_target};
+ghost use Rattle.vs_syntax.specs.Tables.{low_of};
+ghost use Rattle.vs_syntax.specs.Views.{others_tree, left_tree};
+ghost use Rattle.vs_expressions.specs.Answers.{seen, Reads};
+
+use crate::expression::selects;
+use crate::head::{LeftHead, left_head};
+use crate::reading::{Read, Stop};
+use crate::token::{expect_mark, expect_name, mark_at};
+use std::alloc::Global;
+use vs_lexer::{Mark, Token};
+use vs_syntax::Left;
+
+/// Reads the left side of an assignment, in at most `room` nodes below one another.
+#[cycle(left)]
+pub fn left<'t, 's>(
+    alloc: Global,
+    room: u32,
+    tokens: &'t [Token<'s>],
+) -> Result<Read<'t, 's, Left>, Stop<'t, 's>>
+    ensures { Reads (part a_target) room tokens.now left_tree result }
+{
+    let Some(head) = left_head(tokens) else {
+        return Err(Stop::Unexpected(tokens));
+    };
+    match head {
+        LeftHead::Name => place(alloc, room, tokens),
+        LeftHead::Brace(after) => places(alloc, room, tokens, after),
+    }
+}
+
+/// Reads a name and its selects. They are a node.
+fn place<'t, 's>(
+    alloc: Global,
+    room: u32,
+    tokens: &'t [Token<'s>],
+) -> Result<Read<'t, 's, Left>, Stop<'t, 's>>
+    requires { first (seen tokens.now) ≡ any_name }
+    ensures { Reads (part a_target) room tokens.now left_tree result }
+{
+    if room == 0 {
+        return Err(Stop::TooDeep(tokens));
+    }
+    let (name, after_name) = expect_name(alloc, tokens)?;
+    let read = selects(alloc, room - 1, after_name)?;
+    Ok(Read {
+        tree: Left::Name(name, read.tree),
+        rest: read.rest,
+    })
+}
+
+/// Reads left sides in braces, behind the first of which `after` stands. They are a node.
+#[cycle(left)]
+fn places<'t, 's>(
+    alloc: Global,
+    room: u32,
+    tokens: &'t [Token<'s>],
+    after: &'t [Token<'s>],
+) -> Result<Read<'t, 's, Left>, Stop<'t, 's>>
+    requires { seen tokens.now ≡ a_mark m.OpenBrace ∷ seen after.now }
+    ensures { Reads (part a_target) room tokens.now left_tree result }
+{
+    if room < 2 {
+        return Err(Stop::TooDeep(tokens));
+    }
+    let first = left(alloc, room - 1, after)?;
+    let behind = other_places(alloc, room - 1, first.rest)?;
+    Ok(Read {
+        tree: Left::Concat(Box::new(alloc, first.tree)?, behind.tree),
+        rest: behind.rest,
+    })
+}
+
+/// Reads the left sides in braces behind the first one, and the brace behind them.
+#[cycle(left)]
+fn other_places<'t, 's>(
+    alloc: Global,
+    room: u32,
+    tokens: &'t [Token<'s>],
+) -> Result<Read<'t, 's, Vec<Left>>, Stop<'t, 's>>
+    requires { low_of a_target ≤ room }
+    ensures { Reads (other_parts a_target) room tokens.now
+        (λ xs. others_tree (map left_tree xs.items)) result }
+{
+    // All of them, but from a call: so the borrow checker can join it with what the loop sets.
+    let (_none, mut rest) = tokens.split_at(0);
+    let mut tree = Vec::new(alloc);
+    while let Some(after) = mark_at(rest, Mark::Comma) {
+        let part = left(alloc, room, after)?;
+        rest = part.rest;
+        tree.push(part.tree)?;
+    }
+    let behind = expect_mark(rest, Mark::CloseBrace)?;
+    Ok(Read { tree, rest: behind })
+}

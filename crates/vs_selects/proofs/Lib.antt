@@ -1,0 +1,3 @@
+pub mod ConstantLemmas
+pub mod PlaceLemmas
+pub mod FixingLemmas

@@ -1,0 +1,97 @@
+//! Places that no store changes.
+ghost use Rattle.std.specs.Prelude.{◌≡◌, IfOk};
+ghost use Rattle.vs_selects.specs.Selects.{Named, operand_meant};
+ghost use Rattle.vs_selects.specs.passes.Measures.{IsMeasured, IsOwnPart};
+ghost use Rattle.vs_selects.specs.passes.Places.{Fixes, IsPlaced, IsChosen, StandsAlone};
+
+use crate::constants::{reads_nothing, value_alone};
+use crate::places::Place;
+use std::alloc::{AllocError, Global};
+use vs_design::{Selection, Slice};
+use vs_eval::{place_of, reads_hold, word_place};
+use vs_forms::{Form, Measured, fitted};
+use vs_logic4::Vec4;
+
+/// The value of an index, where it reads nothing.
+fn alone(alloc: Global, x: &Measured) -> Result<Option<Vec4>, AllocError>
+    ensures { IfOk result (λ v. StandsAlone x.now v) }
+{
+    let y = fitted(alloc, &x.form, x.shape)?;
+    let is_constant = reads_nothing(alloc, &y)?;
+    if is_constant {
+        reads_hold();
+        Ok(Some(value_alone(alloc, &y)?))
+    } else {
+        Ok(None)
+    }
+}
+
+/// The bits of a place whose indices read nothing.
+pub fn fixed(alloc: Global, place: &Place) -> Result<Option<Slice>, AllocError>
+    ensures { IfOk result (λ s. Fixes place.now s) }
+{
+    let extent = &place.extent;
+    let Some(word) = alone(alloc, &place.word)? else {
+        return Ok(None);
+    };
+    let Some(low) = alone(alloc, &extent.index)? else {
+        return Ok(None);
+    };
+    let width = extent.shape.width;
+    Ok(Some(Slice {
+        signal: place.signal,
+        word: word_place(place.words, word),
+        low: place_of(extent.axis, width, low) as i32,
+        width,
+    }))
+}
+
+/// The bits of a place whose indices aren't constant.
+pub fn selection(place: &Place) -> Selection
+    ensures signal { result.signal ≡ place.now.signal }
+    ensures words { result.words ≡ place.now.words }
+    ensures bits { result.bits ≡ place.now.extent.axis }
+    ensures width { result.width ≡ place.now.extent.shape.width }
+{
+    Selection {
+        signal: place.signal,
+        words: place.words,
+        bits: place.extent.axis,
+        width: place.extent.shape.width,
+    }
+}
+
+/// An index at its own size and sign, whatever the context.
+fn own(alloc: Global, x: Measured) -> Result<Box<Form>, AllocError>
+    ensures { IfOk result (λ y. IsOwnPart x y.value) }
+{
+    let form = Form::Own(x.shape, Box::new(alloc, x.form)?);
+    Ok(Box::new(alloc, form)?)
+}
+
+/// The bits of a place, before they are brought to a context.
+fn chosen(alloc: Global, place: Place) -> Result<Form, AllocError>
+    ensures { IfOk result (λ y. (n : Named) → IsPlaced n place → IsChosen n y) }
+{
+    match fixed(alloc, &place)? {
+        Some(slice) => Ok(Form::Slice(slice)),
+        None => {
+            let selection = selection(&place);
+            let word = own(alloc, place.word)?;
+            let low = own(alloc, place.extent.index)?;
+            Ok(Form::Select(selection, word, low))
+        }
+    }
+}
+
+/// The bits of a place as an operand.
+pub fn operand(alloc: Global, place: Place) -> Result<Measured, AllocError>
+    ensures { IfOk result (λ y. (n : Named) → IsPlaced n place → IsMeasured (operand_meant n) y) }
+{
+    let shape = place.extent.shape;
+    let form = chosen(alloc, place)?;
+    Ok(Measured {
+        shape,
+        form: Form::Closed(shape, Box::new(alloc, form)?),
+    })
+}

@@ -1,0 +1,4 @@
+pub mod DifferencesLemmas
+pub mod ExecutionsLemmas
+pub mod StoresLemmas
+pub mod TouchesLemmas

@@ -1,0 +1,105 @@
+//! Continuous assignments in a run.
+ghost use Rattle.std.specs.Prelude.{◌≡◌, not, OnOk};
+ghost use Rattle.vs_state.specs.Touches.{woken};
+ghost use Rattle.vs_process.specs.States as states;
+
+use std::alloc::{AllocError, Global};
+use std::marker::Model;
+use vs_design::{Assign, Store, Target, Typed};
+use vs_eval::{cut_value, write_of};
+use vs_logic4::Vec4;
+
+/// A continuous assignment: what it drives and evaluates, whether it has to be evaluated, and the value that waits to be
+/// written (IEEE 1364-2005, clause 6.1).
+#[derive(Drop)]
+pub(crate) struct AssignState<'a> {
+    target: &'a Target,
+    source: &'a Typed,
+    needs: bool,
+    pending: Option<Vec4>,
+}
+
+impl<'a> Model for AssignState<'a> {
+    ghost use Rattle.std.specs.Coded.{codes};
+    ghost use Rattle.vs_design.specs.contracts.expression.Typed as expression;
+    ghost use Rattle.vs_process.specs.States as states;
+
+    ghost Value = { states.AssignState };
+
+    ghost coded = { Prim.hlevel (codes, expression.the_row.coded) };
+
+    ghost view = { λ x. record { target = x.target.now; source = x.source.now; needs = x.needs; pending = x.pending } };
+}
+
+impl<'a> AssignState<'a> {
+    /// The assignment at the start of a run: it has to be evaluated.
+    pub(crate) fn start(assign: &'a Assign) -> Self
+        ensures { result ≡ states.start_assign assign.entry.now }
+    {
+        AssignState {
+            target: &assign.target,
+            source: &assign.source,
+            needs: true,
+            pending: None,
+        }
+    }
+
+    /// Whether it has to be evaluated.
+    pub(crate) fn needs(&self) -> bool
+        ensures { result ≡ self.now.needs }
+    {
+        self.needs
+    }
+
+    /// What it drives.
+    pub(crate) fn target(&self) -> &'a Target
+        ensures { result.now ≡ self.now.target }
+    {
+        self.target
+    }
+
+    /// Evaluates it at a time in ticks: a value that would change nothing leaves nothing pending, another one takes the place
+    /// of an older one.
+    pub(crate) fn evaluate(
+        &mut self,
+        alloc: Global,
+        store: &Store,
+        time: u64,
+    ) -> Result<(), AllocError>
+        ensures { OnOk result (self.new ≡ states.evaluated store.now time self.old) }
+    {
+        let digits = cut_value(self.target, self.source, store, time);
+        let write = write_of(alloc, self.target, digits, store, time)?;
+        self.needs = false;
+        self.pending = if store.has(&write) {
+            None
+        } else {
+            Some(digits)
+        };
+        Ok(())
+    }
+
+    /// The value that waits to be written.
+    pub(crate) fn pending(&self) -> Option<Vec4>
+        ensures { result ≡ self.now.pending }
+    {
+        self.pending
+    }
+
+    /// Leaves nothing pending.
+    pub(crate) fn settle(&mut self)
+        ensures { self.new ≡ states.settled self.old }
+    {
+        self.pending = None;
+    }
+
+    /// It has to be evaluated; the answer is whether that is new.
+    pub(crate) fn wake(&mut self) -> bool
+        ensures woken { self.new ≡ woken self.old }
+        ensures new { result ≡ not self.old.needs }
+    {
+        let new = !self.needs;
+        self.needs = true;
+        new
+    }
+}

@@ -1,0 +1,15 @@
+//! States of the runs of a design, and their moves (IEEE 1364-2005, clause 11).
+//!
+//! A state holds what the definition of `vs_process` holds; `State::make` makes of it what the definition's move makes.
+#![tactic(auto)]
+
+mod assign;
+mod changes;
+mod differences;
+mod moves;
+mod search;
+mod state;
+mod update;
+
+pub use state::State;
+pub use update::Update;

@@ -1,0 +1,171 @@
+//! The moves of a run: each makes of the state what the definition's move makes of it.
+ghost use Rattle.std.specs.Prelude.{◌≡◌, ◌<◌, ◌^◌, ◌∷◌, [], true, false, is_some, slice_get, OnOk};
+ghost use Rattle.vs_process.specs.Executions as executions;
+ghost use Rattle.vs_process.specs.Places.{is_going};
+ghost use Rattle.vs_process.specs.States as states;
+ghost use Rattle.vs_state.specs.Touches.{HasSources, behind_effect};
+
+use crate::changes::{activate_all, rouse_all, wake_all, wake_for, wake_readers};
+use crate::differences::word_difference;
+use crate::state::State;
+use crate::update::Update;
+use std::alloc::AllocError;
+use vs_design::{Design, Part, Write};
+use vs_eval::write_of;
+use vs_process::{Effect, Move};
+
+impl<'a> State<'a> {
+    /// Makes a write of one part; the assignments that read a bit which it changes have to be evaluated.
+    fn write_part(&mut self, design: &Design, part: Part, write: &Write) -> Result<(), AllocError>
+        requires one { write.now ≡ part ∷ [] }
+        requires sources { HasSources design.now self.old }
+        ensures { OnOk result (self.new ≡ states.written self.old write.now) }
+    {
+        let before = self.store.word(part.signal, part.word);
+        self.store.put(write);
+        let behind = self.store.word(part.signal, part.word);
+        let differing = word_difference(before, behind);
+        let readers = design.readers(part.signal);
+        wake_readers(
+            &mut self.assigns,
+            &mut self.woken,
+            readers,
+            part.word,
+            differing,
+        )?;
+        Ok(())
+    }
+
+    /// Makes a write; the assignments that read a bit which it changes have to be evaluated.
+    fn write(&mut self, design: &Design, write: &Write) -> Result<(), AllocError>
+        requires sources { HasSources design.now self.old }
+        ensures { OnOk result (self.new ≡ states.written self.old write.now) }
+    {
+        let parts = write.parts();
+        if parts.len() == 1 {
+            return self.write_part(design, parts[0], write);
+        }
+        wake_for(
+            &mut self.assigns,
+            &mut self.woken,
+            design,
+            &self.store,
+            write,
+        )?;
+        self.store.put(write);
+        Ok(())
+    }
+
+    /// Appends a nonblocking update that is due in this slot.
+    fn queue(&mut self, process: usize, write: Write) -> Result<(), AllocError>
+        ensures { OnOk result (self.new ≡ behind_effect self.old process (Effect.Update write)) }
+    {
+        let update = Update::new(self.serial, process, self.time, write);
+        self.updates.push_back(update)?;
+        self.serial = self.serial.wrapping_add(1);
+        Ok(())
+    }
+
+    /// Does what a step of a process does beyond its place.
+    fn perform(&mut self, design: &Design, process: usize, effect: Effect) -> Result<(), AllocError>
+        requires sources { HasSources design.now self.old }
+        ensures { OnOk result (self.new ≡ behind_effect self.old process effect) }
+    {
+        match effect {
+            Effect::Nothing => Ok(()),
+            Effect::Write(write) => self.write(design, &write),
+            Effect::Update(write) => self.queue(process, write),
+        }
+    }
+
+    /// A step of an active process.
+    fn step(&mut self, design: &Design, process: usize) -> Result<(), AllocError>
+        requires active { executions.if_some is_going (slice_get self.old.places process) ≡ true }
+        requires early { self.old.time < 2 ^ 62 }
+        requires sources { HasSources design.now self.old }
+        ensures { OnOk result (self.new ≡ states.stepped self.old process (slice_get self.old.places process)) }
+    {
+        if let Some(place) = self.places.get_mut(process) {
+            let effect = place.step(self.alloc, &self.store, self.time)?;
+            self.perform(design, process, effect)?;
+        }
+        Ok(())
+    }
+
+    /// The evaluation of a continuous assignment.
+    fn evaluate(&mut self, assign: usize) -> Result<(), AllocError>
+        ensures { OnOk result (self.new ≡ states.evaluate self.old assign (slice_get self.old.assigns assign)) }
+    {
+        let Some(x) = self.assigns.get_mut(assign) else {
+            return Ok(());
+        };
+        x.evaluate(self.alloc, &self.store, self.time)?;
+        Ok(())
+    }
+
+    /// The update of a continuous assignment.
+    fn propagate(&mut self, design: &Design, assign: usize) -> Result<(), AllocError>
+        requires waits { executions.if_some (λ x. is_some x.pending) (slice_get self.old.assigns assign) ≡ true }
+        requires sources { HasSources design.now self.old }
+        ensures { OnOk result (self.new ≡ states.propagate self.old assign (slice_get self.old.assigns assign)) }
+    {
+        let Some(x) = self.assigns.get_mut(assign) else {
+            return Ok(());
+        };
+        let Some(digits) = x.pending() else {
+            return Ok(());
+        };
+        let target = x.target();
+        x.settle();
+        let change = write_of(self.alloc, target, digits, &self.store, self.time)?;
+        self.write(design, &change)?;
+        Ok(())
+    }
+
+    /// A nonblocking update.
+    fn update(&mut self, design: &Design, index: usize) -> Result<(), AllocError>
+        requires sources { HasSources design.now self.old }
+        ensures { OnOk result (self.new ≡ states.make self.old index (slice_get self.old.updates index)) }
+    {
+        let Some(update) = self.updates.remove(index) else {
+            return Ok(());
+        };
+        self.write(design, update.what())?;
+        Ok(())
+    }
+
+    /// The slot ends: time goes to the least due time, or the execution is over.
+    fn end_slot(&mut self)
+        requires going { self.old.over ≡ false }
+        ensures { self.new ≡ executions.apply Move.EndSlot self.old }
+    {
+        match self.next_time() {
+            None => self.over = true,
+            Some(time) => {
+                wake_all(&mut self.places, time);
+                self.time = time;
+            }
+        }
+    }
+
+    /// Makes an enabled move.
+    pub fn make(&mut self, design: &Design, choice: Move) -> Result<(), AllocError>
+        requires going { self.old.over ≡ false }
+        requires enabled { executions.is_enabled self.old choice ≡ true }
+        requires early { self.old.time < 2 ^ 62 }
+        requires sources { HasSources design.now self.old }
+        ensures { OnOk result (self.new ≡ executions.apply choice self.old) }
+    {
+        self.woken.clear();
+        match choice {
+            Move::Step(process) => self.step(design, process)?,
+            Move::Evaluate(assign) => self.evaluate(assign)?,
+            Move::Propagate(assign) => self.propagate(design, assign)?,
+            Move::Make(index) => self.update(design, index)?,
+            Move::Rouse => rouse_all(&mut self.places),
+            Move::Activate => activate_all(&mut self.updates, self.time),
+            Move::EndSlot => self.end_slot(),
+        }
+        Ok(())
+    }
+}

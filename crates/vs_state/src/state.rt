@@ -1,0 +1,189 @@
+//! The state of a run.
+ghost use Rattle.std.specs.Prelude.{◌≡◌, false, map, slice_get, is_some, IfOk};
+ghost use Rattle.vs_process.specs.Executions.{if_some};
+ghost use Rattle.vs_process.specs.Places.{is_going, is_inactive, start_place};
+ghost use Rattle.vs_process.specs.States as states;
+
+use crate::assign::AssignState;
+use crate::update::Update;
+use std::alloc::{AllocError, Global};
+use std::collections::VecDeque;
+use std::marker::Model;
+use vs_design::{Assign, Design, Process, Store};
+use vs_process::Place;
+
+/// The state of a run. A contract sees it as a state of the definition.
+#[derive(Drop)]
+pub struct State<'a> {
+    pub(crate) alloc: Global,
+    pub(crate) store: Store,
+    pub(crate) places: Vec<Place<'a>>,
+    pub(crate) assigns: Vec<AssignState<'a>>,
+    /// The nonblocking updates that wait, in the order of execution.
+    pub(crate) updates: VecDeque<Update>,
+    /// The time of the slot, in ticks.
+    pub(crate) time: u64,
+    pub(crate) over: bool,
+    /// How many nonblocking updates were made so far; no part of the definition's state.
+    pub(crate) serial: u64,
+    /// The continuous assignments that the last move has woken; no part of the definition's state.
+    pub(crate) woken: Vec<usize>,
+}
+
+impl<'a> Model for State<'a> {
+    ghost use Rattle.std.specs.Prelude.{[], false};
+    ghost use Rattle.std.specs.Coded.{codes};
+    ghost use Rattle.vs_design.specs.contracts.expression.Typed as expression;
+    ghost use Rattle.vs_design.specs.contracts.statement.Statement as statement;
+    ghost use Rattle.vs_process.specs.States as states;
+
+    ghost Value = { states.State };
+
+    ghost coded = { Prim.hlevel (codes, statement.the_row.coded, expression.the_row.coded) };
+
+    ghost view = { λ m. record {
+      store = m.store;
+      places = m.places.items;
+      assigns = m.assigns.items;
+      updates = m.updates.items;
+      calls = [];
+      time = m.time;
+      finishing = false;
+      over = m.over;
+    } };
+}
+
+fn start_places<'a>(alloc: Global, processes: &'a [Process]) -> Result<Vec<Place<'a>>, AllocError>
+    ensures { IfOk result (λ places. places.items ≡ map (λ p. start_place p.body) processes.entry.now) }
+{
+    let mut places = Vec::new(alloc);
+    for process in processes {
+        places.push(Place::start(alloc, &process.body)?)?;
+    }
+    Ok(places)
+}
+
+fn start_assigns<'a>(
+    alloc: Global,
+    assigns: &'a [Assign],
+) -> Result<Vec<AssignState<'a>>, AllocError>
+    ensures { IfOk result (λ all. all.items ≡ map states.start_assign assigns.entry.now) }
+{
+    let mut all = Vec::new(alloc);
+    for assign in assigns {
+        all.push(AssignState::start(assign))?;
+    }
+    Ok(all)
+}
+
+impl<'a> State<'a> {
+    /// The state in which every execution of a design begins.
+    pub fn start(alloc: Global, design: &'a Design) -> Result<Self, AllocError>
+        ensures { IfOk result (λ state. state ≡ states.start design.entry.now) }
+    {
+        let store = Store::start(alloc, design)?;
+        let places = start_places(alloc, design.processes())?;
+        let assigns = start_assigns(alloc, design.assigns())?;
+        Ok(State {
+            alloc,
+            store,
+            places,
+            assigns,
+            updates: VecDeque::new(alloc),
+            time: 0,
+            over: false,
+            serial: 0,
+            woken: Vec::new(alloc),
+        })
+    }
+
+    /// The time of the slot, in ticks.
+    pub fn time(&self) -> u64
+        ensures { result ≡ self.now.time }
+    {
+        self.time
+    }
+
+    /// Whether the execution is over.
+    pub fn is_over(&self) -> bool
+        ensures over { result ≡ self.now.over }
+        ensures finishing { self.now.finishing ≡ false }
+    {
+        self.over
+    }
+
+    /// The store.
+    pub fn store(&self) -> &Store
+        ensures { result.now ≡ self.now.store }
+    {
+        &self.store
+    }
+
+    /// Whether a process is active.
+    pub fn is_going(&self, process: usize) -> bool
+        ensures { result ≡ if_some is_going (slice_get self.now.places process) }
+    {
+        match self.places.get(process) {
+            Some(place) => place.is_going(),
+            None => false,
+        }
+    }
+
+    /// Whether a process is inactive.
+    pub fn is_inactive(&self, process: usize) -> bool
+        ensures { result ≡ if_some is_inactive (slice_get self.now.places process) }
+    {
+        match self.places.get(process) {
+            Some(place) => place.is_inactive(),
+            None => false,
+        }
+    }
+
+    /// Whether a delay of a process hasn't ended.
+    pub fn is_asleep(&self, process: usize) -> bool {
+        match self.places.get(process) {
+            Some(place) => place.due().is_some(),
+            None => false,
+        }
+    }
+
+    /// Whether a continuous assignment has to be evaluated.
+    pub fn needs(&self, assign: usize) -> bool
+        ensures { result ≡ if_some (λ d. d.needs) (slice_get self.now.assigns assign) }
+    {
+        match self.assigns.get(assign) {
+            Some(x) => x.needs(),
+            None => false,
+        }
+    }
+
+    /// Whether a value of a continuous assignment waits to be written.
+    pub fn is_pending(&self, assign: usize) -> bool
+        ensures { result ≡ if_some (λ d. is_some d.pending) (slice_get self.now.assigns assign) }
+    {
+        match self.assigns.get(assign) {
+            Some(x) => x.pending().is_some(),
+            None => false,
+        }
+    }
+
+    /// How many processes there are.
+    pub fn process_count(&self) -> usize {
+        self.places.len()
+    }
+
+    /// How many continuous assignments there are.
+    pub fn assign_count(&self) -> usize {
+        self.assigns.len()
+    }
+
+    /// The nonblocking updates that wait, in the order of execution.
+    pub fn updates(&self) -> &VecDeque<Update> {
+        &self.updates
+    }
+
+    /// The continuous assignments that the last move has woken.
+    pub fn woken(&self) -> &[usize] {
+        &self.woken
+    }
+}

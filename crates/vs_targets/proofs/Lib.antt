@@ -1,0 +1,3 @@
+pub mod AimLemmas
+pub mod ReadLemmas
+pub mod LeftLemmas

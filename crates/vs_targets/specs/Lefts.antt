@@ -1,0 +1,77 @@
+-- What the left side of an assignment means.
+use Rattle.std.specs.Prelude.{Bool, true, false, ◌||◌, not, List, [], ◌∷◌, ◌++◌, Option, Some, None, map}
+use Rattle.vs_syntax.specs.declared.tree.Left.{Left}
+use Rattle.vs_syntax.specs.declared.tree.Left.TheOpen.{Left-F}
+use Rattle.vs_syntax.specs.declared.tree.Left.TheOpen as f
+use Rattle.vs_syntax.specs.declared.tree.Left.TheFolds.{fold-Left}
+use Rattle.vs_design.specs.Kinds.{is_variable}
+use Rattle.vs_design.specs.declared.range.BitRange.{BitRange}
+use Rattle.vs_design.specs.declared.signal.SignalKind.{SignalKind}
+use Rattle.vs_selects.specs.declared.bindings.Binding.{Binding}
+use Rattle.vs_selects.specs.declared.faults.WidthReason.{WidthReason}
+use Rattle.vs_selects.specs.Environment.{Environment}
+use Rattle.vs_selects.specs.Findings.{Finding, Lacks, stands, wrong_kind, not_constant, together, beside}
+use Rattle.vs_selects.specs.Selects.{Select, Named, named}
+use Rattle.vs_widths.specs.Expressions.{meant_selects}
+use Rattle.vs_targets.specs.declared.kinds.AssignmentKind.{AssignmentKind}
+use Rattle.vs_targets.specs.declared.kinds.AssignmentKind.TheVariants.{Procedural, Continuous}
+
+-- What the left side of an assignment means: its size, and what its places are, the lowest first (clauses 6.1 and 9.2).
+pub record Aimed : Type 0 where
+  pub finding : Finding
+  pub places : List Named
+
+-- a size and sign where a test holds; otherwise a fault, beside those that stand
+abbrev pub wanted : (WidthReason → Bool) → Bool → Finding → Finding
+wanted faults true found = found
+wanted faults false found = Lacks (λ r. faults r || stands r found)
+
+-- whether an assignment of this kind may assign to a signal of that kind: a procedural one to a variable, and a continuous one to a net (clauses 6.1
+-- and 9.2)
+abbrev pub takes : AssignmentKind → SignalKind → Bool
+takes Procedural kind = is_variable kind
+takes Continuous kind = not (is_variable kind)
+
+-- the same of what a name is bound to; a name that is no signal has a fault of its own
+abbrev pub takes_bound : AssignmentKind → Option Binding → Bool
+takes_bound how None = true
+takes_bound how (Some b) = takes how b.meaning.kind
+
+-- whether the target of an assignment of this kind may have indices that read this: that of a continuous one has constants alone (clause 6.1)
+abbrev pub takes_reads : AssignmentKind → List BitRange → Bool
+takes_reads Procedural reads = true
+takes_reads Continuous [] = true
+takes_reads Continuous (r ∷ rs) = false
+
+-- what a name with its selects means as a target, by what the name is bound to (clauses 6.1 and 9.2)
+abbrev pub name_aimed : AssignmentKind → Option Binding → List Select → Aimed
+name_aimed how b ss = record {
+  finding = wanted wrong_kind (takes_bound how b) (wanted not_constant (takes_reads how (named b ss).reads) (named b ss).finding);
+  places = named b ss ∷ [];
+}
+
+-- the sum of the sizes of parts (clause 5.1.14; at most 64: profile)
+abbrev pub sum_found : Finding → List Finding → Finding
+sum_found found [] = found
+sum_found found (x ∷ xs) = sum_found (together beside found x) xs
+
+-- the places of parts, those of the last one the lowest (clause 5.1.14)
+abbrev pub from_last : List (List Named) → List Named
+from_last [] = []
+from_last (ns ∷ nss) = from_last nss ++ ns
+
+-- `{first, ..}` (clause 5.1.14)
+abbrev pub concat_aimed : Aimed → List Aimed → Aimed
+concat_aimed first rest = record {
+  finding = sum_found first.finding (map (λ (a : Aimed). a.finding) rest);
+  places = from_last (map (λ (a : Aimed). a.places) (first ∷ rest));
+}
+
+-- one layer of a left side, with what each inner one means in its place
+abbrev pub aimed_step : AssignmentKind → Environment → Left-F Aimed → Aimed
+aimed_step how env (f.Name n ss) = name_aimed how (env n.items) (meant_selects env ss.items)
+aimed_step how env (f.Concat x xs) = concat_aimed x.value xs.items
+
+-- what the left side of an assignment means, by its form (clauses 6.1 and 9.2)
+abbrev pub aimed : AssignmentKind → Environment → Left → Aimed
+aimed how env = fold-Left Aimed (aimed_step how env)
