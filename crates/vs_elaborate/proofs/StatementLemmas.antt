@@ -25,18 +25,19 @@ use Rattle.vs_design.specs.declared.statement.Statement.TheVariants.{rolls-Null 
 use Rattle.vs_design.specs.declared.statement.Statement.TheOpen as g
 use Rattle.vs_design.specs.declared.statement.Statement.TheFolds.{fold-roll-Statement}
 use Rattle.vs_targets.specs.declared.kinds.AssignmentKind.TheVariants.{Procedural}
-use Rattle.vs_elaborate.specs.declared.faults.Reason.{Reason}
-use Rattle.vs_elaborate.specs.declared.faults.Reason.TheVariants.{NoModule, DeclaredTwice, DrivenTwice, Limit, Width}
-use Rattle.vs_elaborate.specs.declared.faults.BodyFault.{BodyFault}
+use Rattle.vs_scopes.specs.declared.faults.Reason.{Reason}
+use Rattle.vs_scopes.specs.declared.faults.Reason.TheVariants.{NoModule, Inside, PortMismatch, ParameterMismatch, DeclaredTwice, DrivenTwice, Limit, Width}
+use Rattle.vs_scopes.specs.declared.faults.BodyFault.{BodyFault}
 use Rattle.vs_selects.specs.Environment.{Environment}
 use Rattle.vs_widths.specs.Names.{meaning_of}
 use Rattle.vs_elaborate.specs.Statements.{IsAssignment, IsStatement, is_null, is_assign, is_later, is_block, is_delay, AreStatements, are_none, are_more, assign_fault, delay_of, delay_fault, fault_step, has_fault, count_step, count_of, total, is_overfull}
-use Rattle.vs_elaborate.specs.Scopes.{Assignment, Assignee, places, sets, runs, repeats}
+use Rattle.vs_elaborate.specs.Members.{Assignment, Assignee, places, sets, runs, repeats}
 use Rattle.vs_elaborate.specs.Processes.{is_set, is_run, is_repeat, behavior_fault}
-use Rattle.vs_elaborate.specs.passes.Answers.{Refuses, Elaborates}
-use Rattle.vs_elaborate.specs.passes.Bodies.{Bindings, counting, MeansStatement, MeansStatements, MeansBody, statement_fault, statements_fault, overfull_fault}
-use Rattle.vs_elaborate.proofs.Folds.{any_of_map, both_false, left_true, right_true, any_push, any_at, take_push}
-use Rattle.vs_elaborate.proofs.AnswerLemmas.{refused_by, answered_by}
+use Rattle.vs_scopes.specs.Scopes.{Bindings}
+use Rattle.vs_scopes.specs.passes.Answers.{Refuses, Elaborates}
+use Rattle.vs_elaborate.specs.passes.Bodies.{counting, MeansStatement, MeansStatements, MeansBody, statement_fault, statements_fault, overfull_fault}
+use Rattle.vs_scopes.proofs.Folds.{any_of_map, both_false, left_true, right_true, any_push, any_at, take_push}
+use Rattle.vs_scopes.proofs.AnswerLemmas.{refused_by, answered_by}
 
 -- ---- faults, by form
 
@@ -120,6 +121,9 @@ counting_more a (suc m) n =
 pub overfull_more : (r : Reason) (m n : ℕ) → m ≤ n → is_overfull r m ≡ true → is_overfull r n ≡ true
 overfull_more Limit m n h k = le-leb (2 ^ 32) n (let e : 2 ^ 32 ≤ m = leb-true (2 ^ 32) m k in omega (arith, e))
 overfull_more NoModule m n h k = k
+overfull_more Inside m n h k = k
+overfull_more PortMismatch m n h k = k
+overfull_more ParameterMismatch m n h k = k
 overfull_more DeclaredTwice m n h k = k
 overfull_more DrivenTwice m n h k = k
 overfull_more (Width w) m n h k = k
@@ -132,6 +136,9 @@ small_false true m n f h = absurd (let e : n ≤ m = f refl in omega arith)
 pub not_overfull : (r : Reason) (n : ℕ) → n < 2 ^ 32 → is_overfull r n ≡ false
 not_overfull Limit n h = small_false (nat_le (2 ^ 32) n) n (2 ^ 32) (λ e. leb-true (2 ^ 32) n e) h
 not_overfull NoModule n h = refl
+not_overfull Inside n h = refl
+not_overfull PortMismatch n h = refl
+not_overfull ParameterMismatch n h = refl
 not_overfull DeclaredTwice n h = refl
 not_overfull DrivenTwice n h = refl
 not_overfull (Width w) n h = refl

@@ -1,9 +1,13 @@
-pub mod Printed
+pub use Rattle.vs_scopes.specs.Printed
+pub use Rattle.vs_scopes.specs.Ranges
+pub use Rattle.vs_scopes.specs.Connections
+pub use Rattle.vs_scopes.specs.Parameters
+pub use Rattle.vs_scopes.specs.Scopes
+pub use Rattle.vs_scopes.specs.Texts
+pub mod Members
 pub mod Statements
-pub mod Ranges
-pub mod Scopes
+pub mod Drivers
 pub mod Processes
 pub mod Faults
 pub mod DesignOf
-pub mod Texts
 pub mod passes

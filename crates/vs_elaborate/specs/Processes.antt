@@ -9,11 +9,11 @@ use Rattle.vs_design.specs.declared.statement.Statement.{Statement}
 use Rattle.vs_design.specs.declared.statement.Statement.TheVariants as d
 use Rattle.vs_design.specs.declared.design.ProcessKind.{ProcessKind}
 use Rattle.vs_design.specs.declared.design.ProcessKind.TheVariants.{Initial, Always}
-use Rattle.vs_targets.specs.declared.kinds.AssignmentKind.TheVariants.{Procedural, Continuous}
-use Rattle.vs_elaborate.specs.declared.faults.Reason.{Reason}
+use Rattle.vs_targets.specs.declared.kinds.AssignmentKind.TheVariants.{Procedural}
+use Rattle.vs_scopes.specs.declared.faults.Reason.{Reason}
 use Rattle.vs_selects.specs.Environment.{Environment}
 use Rattle.vs_elaborate.specs.Statements.{IsAssignment, IsStatement, assign_fault, has_fault, count_of, is_overfull}
-use Rattle.vs_elaborate.specs.Scopes.{Assignment, Behavior, sets, runs, repeats}
+use Rattle.vs_elaborate.specs.Members.{Assignment, Behavior, sets, runs, repeats}
 
 -- whether a process runs once or for ever (clauses 6.2.1 and 9.9)
 abbrev pub kind_of : Behavior → ProcessKind
@@ -42,7 +42,3 @@ part_fault r env (repeats x) = has_fault r env x
 -- whether a process has a fault: one of its parts has it, or it has more statements than have numbers (profile)
 abbrev pub behavior_fault : Reason → Environment → Behavior → Bool
 behavior_fault r env b = part_fault r env b || is_overfull r (statements_of b)
-
--- whether a continuous assignment has a fault
-abbrev pub driver_fault : Reason → Environment → Assignment → Bool
-driver_fault r env a = assign_fault r Continuous env a.target a.value

@@ -20,24 +20,25 @@ use Rattle.vs_design.specs.declared.statement.Statement.TheVariants as d
 use Rattle.vs_selects.specs.declared.faults.WidthReason.TheVariants.{NotConstant}
 use Rattle.vs_selects.specs.Environment.{Environment}
 use Rattle.vs_selects.specs.Findings.{Has, stands}
+use Rattle.vs_selects.specs.Meants.{Meant}
 use Rattle.vs_selects.specs.Constants.{natural_number}
 use Rattle.vs_widths.specs.Expressions.{meant}
-use Rattle.vs_widths.specs.Typing.{IsTyped}
+use Rattle.vs_widths.specs.Typing.{IsTypedAs}
 use Rattle.vs_targets.specs.declared.kinds.AssignmentKind.{AssignmentKind}
 use Rattle.vs_targets.specs.declared.kinds.AssignmentKind.TheVariants.{Procedural}
 use Rattle.vs_targets.specs.Lefts.{Aimed, aimed, name_aimed}
 use Rattle.vs_targets.specs.Aiming.{IsTarget}
-use Rattle.vs_elaborate.specs.declared.faults.Reason.{Reason}
-use Rattle.vs_elaborate.specs.declared.faults.Reason.TheVariants.{Limit, Width}
-use Rattle.vs_elaborate.specs.Scopes.{Assignee, places, named_signal}
+use Rattle.vs_scopes.specs.declared.faults.Reason.{Reason}
+use Rattle.vs_scopes.specs.declared.faults.Reason.TheVariants.{Limit, Width}
+use Rattle.vs_elaborate.specs.Members.{Assignee, places, named_signal}
 
--- The right side of an assignment to a target of this size, as an expression of a design: at the larger of that size and its own, and at its own
+-- What the right side of an assignment means, as an expression of a design, where the target has this size: at the larger of that size and its own, and at its own
 -- sign (clauses 5.4.1 and 5.5.1).
-pub record IsSource (env : Environment) (e : Expr) (target : ℕ) (x : Typed) : Type 0 where
+pub record IsSource (m : Meant) (target : ℕ) (x : Typed) : Type 0 where
   pub width : ℕ
   pub signed : Bool
-  pub has : (meant env e).finding ≡ Has width signed
-  pub typed : IsTyped env e (max target width) signed x
+  pub has : m.finding ≡ Has width signed
+  pub typed : IsTypedAs m (max target width) signed x
 
 -- what an assignment of this kind assigns to (clauses 6.1.1, 6.2.1 and 9.2)
 abbrev pub assigned_to : AssignmentKind → Environment → Assignee → Aimed
@@ -47,7 +48,7 @@ assigned_to how env (named_signal n) = name_aimed how (env n) []
 -- The two sides of an assignment of this kind: its places, and the expression (clause 6).
 pub record IsAssignment (how : AssignmentKind) (env : Environment) (a : Assignee) (e : Expr) (t : Target) (x : Typed) : Type 0 where
   pub target : IsTarget how env (assigned_to how env a) t
-  pub source : IsSource env e t.width x
+  pub source : IsSource (meant env e) t.width x
 
 -- the ticks of a delay, where its literal is a number from 0 on (clause 9.7.1; a negative one is refused: profile)
 abbrev pub delay_of : Literal → Option ℕ

@@ -1,6 +1,5 @@
 -- What the functions of this crate tell one another: nothing that is promised rests on these.
-pub mod Answers
 pub mod Bodies
-pub mod Sizes
+pub mod Ends
 pub mod Marks
 pub mod Plans

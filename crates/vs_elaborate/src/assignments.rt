@@ -2,27 +2,32 @@
 ghost use Rattle.std.specs.Prelude.{◌≤◌};
 ghost use Rattle.vs_widths.specs.Names.{meaning_of};
 ghost use Rattle.vs_selects.specs.Findings.{stands};
-ghost use Rattle.vs_widths.specs.Expressions.{meant};
-ghost use Rattle.vs_elaborate.specs.Scopes.{places, named_signal};
+ghost use Rattle.vs_widths.specs.Expressions.{meant, name_meant};
+ghost use Rattle.vs_elaborate.specs.Members.{places, named_signal};
 ghost use Rattle.vs_elaborate.specs.Statements.{assign_fault, IsSource, IsAssignment};
-ghost use Rattle.vs_elaborate.specs.passes.Answers.{Elaborates};
-ghost use Rattle.vs_elaborate.specs.passes.Sizes.{width_faults};
+ghost use Rattle.vs_scopes.specs.passes.Answers.{Elaborates};
+ghost use Rattle.vs_scopes.specs.passes.Sizes.{width_faults};
 
-use crate::faults::BodyFault;
 use std::alloc::Global;
 use vs_design::{Target, Typed};
 use vs_forms::Shape;
+use vs_scopes::BodyFault;
 use vs_selects::Binding;
 use vs_syntax::{Expr, Left};
 use vs_targets::{AssignmentKind, name_target, target};
-use vs_widths::{Names, shape_of, typed};
+use vs_widths::{Names, shape_of, shape_of_name, typed, typed_name};
 
 /// The right side of an assignment to a target of this size.
-fn source(alloc: Global, names: &Names<Binding>, width: u32, e: &Expr) -> Result<Typed, BodyFault>
+pub fn source(
+    alloc: Global,
+    names: &Names<Binding>,
+    width: u32,
+    e: &Expr,
+) -> Result<Typed, BodyFault>
     requires { width ≤ 64 }
     ensures { let env = meaning_of names.now in
         Elaborates (width_faults (λ w. stands w (meant env e.now).finding))
-        (IsSource env e.now width) result }
+        (IsSource (meant env e.now) width) result }
 {
     let right = shape_of(alloc, names, e)?;
     let context = Shape {
@@ -30,6 +35,25 @@ fn source(alloc: Global, names: &Names<Binding>, width: u32, e: &Expr) -> Result
         signed: right.signed,
     };
     Ok(typed(alloc, names, context, e)?)
+}
+
+/// What a name means, as the right side of an assignment to a target of this size.
+pub fn name_source(
+    alloc: Global,
+    names: &Names<Binding>,
+    width: u32,
+    name: &[u8],
+) -> Result<Typed, BodyFault>
+    requires { width ≤ 64 }
+    ensures { let m = name_meant (meaning_of names.now name.now) in
+        Elaborates (width_faults (λ w. stands w m.finding)) (IsSource m width) result }
+{
+    let right = shape_of_name(names, name)?;
+    let context = Shape {
+        width: width.max(right.width),
+        signed: right.signed,
+    };
+    Ok(typed_name(alloc, names, context, name)?)
 }
 
 /// The two sides of an assignment of this kind.

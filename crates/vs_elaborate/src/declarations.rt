@@ -1,21 +1,22 @@
 //! What a scope declares, as signals of a design.
-ghost use Rattle.std.specs.Prelude.{◌≡◌, ◌<◌, ◌∷◌, [], length, IfOk};
+ghost use Rattle.std.specs.Prelude.{◌≡◌, ◌<◌, ◌∷◌, [], Option, length, map, IfOk};
+ghost use Rattle.vs_syntax.specs.declared.tree.Range.{Range};
 ghost use Rattle.std.specs.List.{flat_map};
-ghost use Rattle.vs_widths.specs.Names.{meaning_of};
-ghost use Rattle.vs_elaborate.specs.Ranges.{Sized, Words};
-ghost use Rattle.vs_elaborate.specs.Scopes.{declared_as, declared_by, declared_in, selectable};
+ghost use Rattle.vs_scopes.specs.Ranges.{Sized, Words, words_as};
+ghost use Rattle.vs_scopes.specs.Scopes.{declared_as, declared_by, declared_by_port, declared_in, declarations_of, selectable};
 ghost use Rattle.vs_elaborate.specs.DesignOf.{declared, signal_of};
-ghost use Rattle.vs_elaborate.specs.passes.Answers.{Elaborates, Grows};
-ghost use Rattle.vs_elaborate.specs.passes.Plans.{scope_of, Declares, DeclaresNot};
-ghost use Rattle.vs_elaborate.specs.passes.Sizes.{width_faults, IsSize, AreWords};
+ghost use Rattle.vs_scopes.specs.passes.Answers.{Elaborates, Grows};
+ghost use Rattle.vs_elaborate.specs.passes.Plans.{scope_of, declared_so, Declares, DeclaresNot};
+ghost use Rattle.vs_scopes.specs.passes.Sizes.{width_faults, IsSize, AreWords};
 
-use crate::faults::{BodyFault, ElabFault, Reason};
+use crate::naming::declare_once;
 use crate::plans::{Frame, Plan, member_fault, part_fault, scope_fault};
-use crate::printed::{print_member, print_name};
-use crate::sizes::{INTEGER, Size, declared_size, declared_words};
-use crate::words::WordCount;
 use std::alloc::{AllocError, Global};
 use vs_design::{Bounds, Entry, Signal, SignalKind};
+use vs_scopes::{
+    BodyFault, ElabFault, INTEGER, Reason, Size, WordCount, declared_size, declared_words,
+    port_size, print_member, print_name,
+};
 use vs_selects::{Binding, Meaning};
 use vs_syntax::{Declarator, Item};
 use vs_widths::Names;
@@ -30,7 +31,10 @@ fn selectable_range(kind: SignalKind, range: Option<Bounds>) -> Option<Bounds>
     match kind {
         SignalKind::Wire => range,
         SignalKind::Reg => range,
-        SignalKind::Integer => Some(Bounds { left: 31, right: 0 }),
+        SignalKind::Integer => match range {
+            Some(range) => Some(range),
+            None => Some(Bounds { left: 31, right: 0 }),
+        },
     }
 }
 
@@ -65,27 +69,28 @@ fn signal(
 fn declare_name<'s>(
     alloc: Global,
     frame: &Frame,
-    before: &Names<Binding>,
     kind: SignalKind,
     size: &Result<Size, BodyFault>,
-    declarator: &'s Declarator,
+    words: &Result<WordCount, BodyFault>,
+    name: &'s [u8],
     names: &mut Names<'s, Binding>,
     plan: &mut Plan,
 ) -> Result<(), ElabFault>
     requires { 0 < length frame.now.path.items }
-    ensures { (z : Sized) → Elaborates (width_faults z.faults) (IsSize z) size.now →
+    ensures { (z : Sized) (range : Option Range) → Elaborates (width_faults z.faults) (IsSize z) size.now →
+        Elaborates (words_as (scope_of frame.now).known kind range).faults (AreWords (words_as (scope_of frame.now).known kind range)) words.now →
         Grows (Declares (scope_of frame.now) names.old plan.old)
         (Declares (scope_of frame.now) names.new plan.new)
         (DeclaresNot (scope_of frame.now))
-        (declared_by (meaning_of before.now) kind z declarator.entry.now ∷ []) result }
+        (declared_so (scope_of frame.now).known kind z range name.entry.now ∷ []) result }
 {
     let size = match size {
         Ok(size) => *size,
         Err(fault) => return Err(part_fault(alloc, frame, *fault)),
     };
-    let words = match declared_words(alloc, before, kind, &declarator.words) {
-        Ok(words) => words,
-        Err(fault) => return Err(part_fault(alloc, frame, fault)),
+    let words = match words {
+        Ok(words) => *words,
+        Err(fault) => return Err(part_fault(alloc, frame, *fault)),
     };
     let number = plan.signals.len();
     let meaning = Meaning {
@@ -95,17 +100,13 @@ fn declare_name<'s>(
         words: words.bounds,
         count: words.count,
     };
-    let binding = Binding {
-        meaning,
-        signal: number,
-    };
-    if !names.declare(&declarator.name, binding)? {
-        return Err(member_fault(alloc, frame, &declarator.name, Reason::DeclaredTwice));
+    if !declare_once(names, name, Binding::Signal(meaning, number))? {
+        return Err(member_fault(alloc, frame, name, Reason::DeclaredTwice));
     }
     if number >= SIGNAL_LIMIT {
         return Err(scope_fault(alloc, frame, Reason::Limit));
     }
-    let signal = signal(alloc, frame, kind, size, words, &declarator.name)?;
+    let signal = signal(alloc, frame, kind, size, words, name)?;
     plan.signals.push(signal)?;
     plan.outline.push(Entry::Declare(number))?;
     Ok(())
@@ -115,7 +116,6 @@ fn declare_name<'s>(
 fn declare_names<'s>(
     alloc: Global,
     frame: &Frame,
-    before: &Names<Binding>,
     kind: SignalKind,
     size: &Result<Size, BodyFault>,
     declarators: &'s [Declarator],
@@ -127,19 +127,28 @@ fn declare_names<'s>(
         Grows (Declares (scope_of frame.now) names.old plan.old)
         (Declares (scope_of frame.now) names.new plan.new)
         (DeclaresNot (scope_of frame.now))
-        (declared_as (meaning_of before.now) kind z declarators.entry.now) result }
+        (declared_as (scope_of frame.now).known kind z declarators.entry.now) result }
 {
     for declarator in declarators {
-        declare_name(alloc, frame, before, kind, size, declarator, names, plan)?;
+        let words = declared_words(alloc, &frame.known, kind, &declarator.words);
+        declare_name(
+            alloc,
+            frame,
+            kind,
+            size,
+            &words,
+            &declarator.name,
+            names,
+            plan,
+        )?;
     }
     Ok(())
 }
 
-/// Gives the names of an item their signals. In its range names are bound as before sizes are known.
+/// Gives the names of an item their signals.
 fn declare_item<'s>(
     alloc: Global,
     frame: &Frame,
-    before: &Names<Binding>,
     item: &'s Item,
     names: &mut Names<'s, Binding>,
     plan: &mut Plan,
@@ -148,60 +157,34 @@ fn declare_item<'s>(
     ensures { Grows (Declares (scope_of frame.now) names.old plan.old)
         (Declares (scope_of frame.now) names.new plan.new)
         (DeclaresNot (scope_of frame.now))
-        (declared_in (meaning_of before.now) item.entry.now) result }
+        (declared_in (scope_of frame.now).known item.entry.now) result }
 {
     match item {
         Item::Wire(form, list) => {
-            let size = declared_size(alloc, before, form);
-            declare_names(
-                alloc,
-                frame,
-                before,
-                SignalKind::Wire,
-                &size,
-                list,
-                names,
-                plan,
-            )
+            let size = declared_size(alloc, &frame.known, form);
+            declare_names(alloc, frame, SignalKind::Wire, &size, list, names, plan)
         }
         Item::Reg(form, list) => {
-            let size = declared_size(alloc, before, form);
-            declare_names(
-                alloc,
-                frame,
-                before,
-                SignalKind::Reg,
-                &size,
-                list,
-                names,
-                plan,
-            )
+            let size = declared_size(alloc, &frame.known, form);
+            declare_names(alloc, frame, SignalKind::Reg, &size, list, names, plan)
         }
         Item::Integer(list) => {
             let size = Ok(INTEGER);
-            declare_names(
-                alloc,
-                frame,
-                before,
-                SignalKind::Integer,
-                &size,
-                list,
-                names,
-                plan,
-            )
+            declare_names(alloc, frame, SignalKind::Integer, &size, list, names, plan)
         }
+        Item::Parameter(_, _) => Ok(()),
+        Item::Localparam(_, _) => Ok(()),
+        Item::Instances(_, _, _) => Ok(()),
         Item::Assign(_) => Ok(()),
         Item::Initial(_) => Ok(()),
         Item::Always(_) => Ok(()),
     }
 }
 
-/// Gives the names of items their signals. In their ranges names are bound as before sizes are known.
-pub fn declare<'s>(
+/// Gives the ports of a scope their signals (IEEE 1364-2005, clause 12.3.3).
+fn declare_ports<'s>(
     alloc: Global,
-    frame: &Frame,
-    before: &Names<Binding>,
-    items: &'s [Item],
+    frame: &Frame<'s, '_>,
     names: &mut Names<'s, Binding>,
     plan: &mut Plan,
 ) -> Result<(), ElabFault>
@@ -209,10 +192,49 @@ pub fn declare<'s>(
     ensures { Grows (Declares (scope_of frame.now) names.old plan.old)
         (Declares (scope_of frame.now) names.new plan.new)
         (DeclaresNot (scope_of frame.now))
-        (flat_map (declared_in (meaning_of before.now)) items.entry.now) result }
+        (map (declared_by_port (scope_of frame.now).known) (scope_of frame.now).ports) result }
 {
-    for item in items {
-        declare_item(alloc, frame, before, item, names, plan)?;
+    for port in &frame.ports {
+        let size = port_size(alloc, &frame.known, port);
+        let words = declared_words(alloc, &frame.known, port.kind, &None);
+        declare_name(
+            alloc, frame, port.kind, &size, &words, port.name, names, plan,
+        )?;
     }
     Ok(())
+}
+
+/// Gives the names of the items of a scope their signals.
+fn declare_items<'s>(
+    alloc: Global,
+    frame: &Frame<'s, '_>,
+    names: &mut Names<'s, Binding>,
+    plan: &mut Plan,
+) -> Result<(), ElabFault>
+    requires { 0 < length frame.now.path.items }
+    ensures { Grows (Declares (scope_of frame.now) names.old plan.old)
+        (Declares (scope_of frame.now) names.new plan.new)
+        (DeclaresNot (scope_of frame.now))
+        (flat_map (declared_in (scope_of frame.now).known) (scope_of frame.now).items) result }
+{
+    for item in frame.items {
+        declare_item(alloc, frame, item, names, plan)?;
+    }
+    Ok(())
+}
+
+/// Gives the names of a scope their signals: those of its ports, and then those of its items.
+pub fn declare<'s>(
+    alloc: Global,
+    frame: &Frame<'s, '_>,
+    names: &mut Names<'s, Binding>,
+    plan: &mut Plan,
+) -> Result<(), ElabFault>
+    requires { 0 < length frame.now.path.items }
+    ensures { Grows (Declares (scope_of frame.now) names.old plan.old)
+        (Declares (scope_of frame.now) names.new plan.new)
+        (DeclaresNot (scope_of frame.now)) (declarations_of (scope_of frame.now)) result }
+{
+    declare_ports(alloc, frame, names, plan)?;
+    declare_items(alloc, frame, names, plan)
 }

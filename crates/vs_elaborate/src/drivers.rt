@@ -4,18 +4,17 @@ ghost use Rattle.std.specs.List.{flat_map};
 ghost use Rattle.vs_widths.specs.Names.{meaning_of};
 ghost use Rattle.vs_targets.specs.declared.kinds.AssignmentKind.TheVariants.{Continuous};
 ghost use Rattle.vs_elaborate.specs.Statements.{IsAssignment};
-ghost use Rattle.vs_elaborate.specs.Scopes.{Assignment, values_of, net_assignment, drivers_in};
-ghost use Rattle.vs_elaborate.specs.Processes.{driver_fault};
-ghost use Rattle.vs_elaborate.specs.passes.Answers.{Elaborates, Grows};
-ghost use Rattle.vs_elaborate.specs.passes.Bodies.{Bindings};
+ghost use Rattle.vs_elaborate.specs.Members.{Assignment, values_of, net_assignment, drivers_in};
+ghost use Rattle.vs_elaborate.specs.Drivers.{driver_fault};
+ghost use Rattle.vs_scopes.specs.passes.Answers.{Elaborates, Grows};
+ghost use Rattle.vs_scopes.specs.Scopes.{Bindings};
 ghost use Rattle.vs_elaborate.specs.passes.Plans.{scope_of, Drives, DrivesNot};
 
 use crate::assignments::{assignment, declared_assignment};
-use crate::faults::{BodyFault, ElabFault};
 use crate::plans::{Frame, Plan, part_fault};
-use crate::printed::print_part;
 use std::alloc::Global;
 use vs_design::{Assign, Target, Typed};
+use vs_scopes::{BodyFault, ElabFault, print_part};
 use vs_selects::Binding;
 use vs_syntax::{Declarator, Item, NetAssignment};
 use vs_targets::AssignmentKind;
@@ -113,6 +112,9 @@ fn drive_item(
         Item::Wire(_, list) => drive_declared(alloc, frame, names, first, list, plan),
         Item::Reg(_, _) => Ok(()),
         Item::Integer(_) => Ok(()),
+        Item::Parameter(_, _) => Ok(()),
+        Item::Localparam(_, _) => Ok(()),
+        Item::Instances(_, _, _) => Ok(()),
         Item::Assign(list) => drive_assigned(alloc, frame, names, first, list, plan),
         Item::Initial(_) => Ok(()),
         Item::Always(_) => Ok(()),

@@ -2,20 +2,18 @@
 #![tactic(auto)]
 
 mod assignments;
+mod connecting;
 mod declarations;
 mod drivers;
-mod early;
-mod faults;
+mod entering;
 mod marks;
+mod naming;
+mod own;
 mod plans;
-mod printed;
 mod processes;
-mod sizes;
 mod source;
 mod statements;
-mod texts;
-mod words;
+mod uses;
 
-pub use faults::{ElabFault, Reason};
 pub use source::elaborate;
-pub use texts::fault_text;
+pub use vs_scopes::{ElabFault, Reason, fault_text};

@@ -2,19 +2,19 @@
 ghost use Rattle.std.specs.Prelude.{◌≡◌, ◌∷◌, []};
 ghost use Rattle.std.specs.List.{flat_map};
 ghost use Rattle.vs_widths.specs.Names.{meaning_of};
-ghost use Rattle.vs_elaborate.specs.Scopes.{Behavior, named_signal, sets, runs, repeats, setting, behaviors_in};
+ghost use Rattle.vs_elaborate.specs.Members.{Behavior, named_signal, sets, runs, repeats, setting, behaviors_in};
 ghost use Rattle.vs_elaborate.specs.Processes.{kind_of, behavior_fault};
-ghost use Rattle.vs_elaborate.specs.passes.Answers.{Elaborates, Grows};
-ghost use Rattle.vs_elaborate.specs.passes.Bodies.{Bindings, MeansBody};
+ghost use Rattle.vs_scopes.specs.passes.Answers.{Elaborates, Grows};
+ghost use Rattle.vs_scopes.specs.Scopes.{Bindings};
+ghost use Rattle.vs_elaborate.specs.passes.Bodies.{MeansBody};
 ghost use Rattle.vs_elaborate.specs.passes.Plans.{scope_of, Runs, RunsNot};
 
 use crate::assignments::declared_assignment;
-use crate::faults::{BodyFault, ElabFault};
 use crate::plans::{Frame, Plan, part_fault};
-use crate::printed::print_part;
 use crate::statements::{PROCEDURAL, statement, take_number};
 use std::alloc::Global;
 use vs_design::{Process, ProcessKind, Statement};
+use vs_scopes::{BodyFault, ElabFault, print_part};
 use vs_selects::Binding;
 use vs_syntax::{Declarator, Expr, Item, Stmt};
 use vs_widths::Names;
@@ -139,6 +139,9 @@ fn run_item(
         Item::Wire(_, _) => Ok(()),
         Item::Reg(_, list) => run_declared(alloc, frame, names, first, list, plan),
         Item::Integer(list) => run_declared(alloc, frame, names, first, list, plan),
+        Item::Parameter(_, _) => Ok(()),
+        Item::Localparam(_, _) => Ok(()),
+        Item::Instances(_, _, _) => Ok(()),
         Item::Assign(_) => Ok(()),
         Item::Initial(s) => {
             let body = run_body(alloc, names, s);

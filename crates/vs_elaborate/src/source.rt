@@ -1,25 +1,30 @@
 //! Designs of sources.
-ghost use Rattle.std.specs.Prelude.{◌≡◌, ◌<◌, ◌≤◌, ◌∷◌, [], length, IfOk, MatchResult, OnOk, IfErr};
+ghost use Rattle.std.specs.Prelude.{◌≡◌, ◌<◌, ◌≤◌, ◌+◌, ◌∷◌, [], List, length, IfOk, MatchResult, OnOk, IfErr};
 ghost use Rattle.std.specs.List.{IsDistinct};
 ghost use Rattle.vs_design.specs.WellFormed.{share_a_bit, driven};
-ghost use Rattle.vs_elaborate.specs.Faults.{Faults};
-ghost use Rattle.vs_elaborate.specs.DesignOf.{DesignOf};
-ghost use Rattle.vs_elaborate.specs.passes.Answers.{IsFaultAt, Told};
+ghost use Rattle.vs_syntax.specs.declared.tree.Module.{Module as Tree};
+ghost use Rattle.vs_scopes.specs.Scopes.{top_scope, scopes_within};
+ghost use Rattle.vs_scopes.specs.passes.Answers.{IsFaultAt, Told};
+ghost use Rattle.vs_elaborate.specs.Faults.{Faults, HoldsIn, Stands};
+ghost use Rattle.vs_elaborate.specs.DesignOf.{DesignOf, outline_within};
+ghost use Rattle.vs_elaborate.specs.passes.Ends.{AreLefts};
 ghost use Rattle.vs_elaborate.specs.passes.Marks.{AreWithin};
-ghost use Rattle.vs_elaborate.specs.passes.Plans.{scope_of, Opens, OpensNot, Lists, ListsNot, Finds, FindsNot, IsDrivenTwice, DrivenTwiceOnly};
+ghost use Rattle.vs_elaborate.specs.passes.Plans.{scope_of, Opens, Made, IsTopFrame, TopNot, Lists, ListsNot, IsDrivenTwice, DrivenTwiceOnly};
 
-use crate::declarations::declare;
-use crate::drivers::drive_items;
-use crate::early::early_names;
-use crate::faults::{ElabFault, Reason};
+use crate::entering::enter;
 use crate::marks::{mark_ranges, no_marks};
-use crate::plans::{Frame, Plan};
-use crate::printed::print_name;
-use crate::processes::run_items;
+use crate::own::open_own;
+use crate::plans::{Frame, Plan, scope_fault};
+use crate::uses::listed_uses;
 use std::alloc::Global;
 use vs_design::{DEFAULT_TIMESCALE, Design, Entry, ScopeKind, writes};
+use vs_scopes::{ElabFault, ParameterRefusal, Reason, module_ports, print_name, values};
+use vs_selects::Binding;
 use vs_syntax::{Module, Source};
 use vs_widths::Names;
+
+/// A design has at most this many levels of instances, the top among them.
+const LEVELS: u32 = 64;
 
 /// A fault at a module's name.
 fn module_fault(alloc: Global, name: &[u8], reason: Reason) -> ElabFault
@@ -47,40 +52,89 @@ fn list_modules<'s>(
     Ok(names)
 }
 
-/// The module of a name, among modules whose names differ.
-fn find_module<'s>(
+/// The frame of the top module.
+fn top_frame<'s, 'o>(
     alloc: Global,
-    modules: &'s [Module],
-    top: &[u8],
-) -> Result<&'s Module, ElabFault>
-    ensures { MatchResult result (λ m. Finds modules.entry.now top.now m.now)
-        (Told (FindsNot modules.entry.now top.now)) }
+    module: &'s Module,
+    outer: &'o Names<'s, Binding>,
+) -> Result<Frame<'s, 'o>, ElabFault>
+    requires { outer.now ≡ [] }
+    ensures { MatchResult result (λ f. IsTopFrame «module».entry.now (scope_of f)) (Told (TopNot «module».entry.now)) }
 {
-    let names = list_modules(alloc, modules)?;
-    match names.find(top) {
-        Some(module) => Ok(module),
-        None => Err(module_fault(alloc, top, Reason::NoModule)),
-    }
+    let values = match values(alloc, outer, module, None) {
+        Ok(values) => values,
+        Err(ParameterRefusal::Own(reason)) => {
+            return Err(module_fault(alloc, &module.name, Reason::Width(reason)));
+        }
+        Err(_) => return Err(ElabFault::Memory),
+    };
+    let ports = module_ports(alloc, module)?;
+    let mut path = Vec::new(alloc);
+    path.push(module.name.as_slice())?;
+    let mut within = Vec::new(alloc);
+    within.push(module.name.as_slice())?;
+    Ok(Frame {
+        path,
+        name: &module.name,
+        kind: ScopeKind::Module,
+        number: 0,
+        base: 0,
+        ports,
+        items: &module.items,
+        constants: values.constants,
+        known: values.known,
+        within,
+        outer,
+        ends: Vec::new(alloc),
+    })
 }
 
-/// Adds a scope.
-fn open(alloc: Global, frame: &Frame, plan: &mut Plan) -> Result<(), ElabFault>
+/// Adds a scope and those inside it, which are at most so many levels.
+fn open<'s>(
+    alloc: Global,
+    modules: &Names<'s, &'s Module>,
+    room: u32,
+    frame: &Frame<'s, '_>,
+    plan: &mut Plan,
+) -> Result<(), ElabFault>
     requires rooted { 0 < length frame.now.path.items }
+    requires levels { length frame.now.path.items + room ≡ 65 }
+    requires number { frame.now.number ≡ plan.old.scopes }
+    requires base { frame.now.base ≡ length plan.old.signals.items }
     requires room { length plan.old.signals.items ≤ 65536 }
-    ensures { MatchResult result (λ _. Opens (scope_of frame.now) plan.old plan.new)
-        (Told (OpensNot (scope_of frame.now) plan.old)) }
+    requires lefts { AreLefts (scope_of frame.now) }
+    requires listed { (ms : List Tree) × Lists ms modules.now }
+    ensures { (ms : List Tree) → Lists ms modules.now → MatchResult result
+        (λ _. Opens ms (scopes_within room ms (scope_of frame.now)) (outline_within room ms (scope_of frame.now)) plan.old plan.new)
+        (Told (HoldsIn ms (scopes_within room ms (scope_of frame.now)))) }
 {
-    let title = print_name(alloc, frame.name)?;
-    plan.outline.push(Entry::Enter(frame.kind, title))?;
-    let before = early_names(alloc, frame.items)?;
-    let mut names = Names::new(alloc);
-    declare(alloc, frame, &before, frame.items, &mut names, plan)?;
-    let first = plan.assigns.len();
-    drive_items(alloc, frame, &names, first, frame.items, plan)?;
-    let first = plan.processes.len();
-    run_items(alloc, frame, &names, first, frame.items, plan)?;
+    if room == 0 {
+        return Err(scope_fault(alloc, frame, Reason::Limit));
+    }
+    let uses = listed_uses(alloc, frame.items)?;
+    let names = open_own(alloc, frame, &uses, plan)?;
+    for one in &uses {
+        let (number, base) = (plan.scopes, plan.signals.len());
+        let inner = enter(alloc, modules, frame, &names, one, number, base)?;
+        open(alloc, modules, room - 1, &inner, plan)?;
+    }
     plan.outline.push(Entry::Leave)?;
     Ok(())
+}
+
+/// Everything that a source and the name of its top module define, but that bits may be driven twice.
+fn open_top(alloc: Global, modules: &[Module], top: &[u8]) -> Result<Plan, ElabFault>
+    ensures { MatchResult result (Made modules.now top.now) (Told (Stands modules.now top.now)) }
+{
+    let names = list_modules(alloc, modules)?;
+    let Some(module) = names.find(top) else {
+        return Err(module_fault(alloc, top, Reason::NoModule));
+    };
+    let outer = Names::new(alloc);
+    let frame = top_frame(alloc, module, &outer)?;
+    let mut plan = Plan::new(alloc);
+    open(alloc, &names, LEVELS, &frame, &mut plan)?;
+    Ok(plan)
 }
 
 /// Sees that no bit of a net is driven twice.
@@ -109,17 +163,7 @@ pub fn elaborate(alloc: Global, source: &Source, top: &[u8]) -> Result<Design, E
     ensures { MatchResult result (DesignOf source.now.modules.items top.now)
         (Faults source.now.modules.items top.now) }
 {
-    let module = find_module(alloc, &source.modules, top)?;
-    let mut path = Vec::new(alloc);
-    path.push(module.name.as_slice())?;
-    let frame = Frame {
-        path,
-        name: &module.name,
-        kind: ScopeKind::Module,
-        items: &module.items,
-    };
-    let mut plan = Plan::new(alloc);
-    open(alloc, &frame, &mut plan)?;
+    let plan = open_top(alloc, &source.modules, top)?;
     check_drivers(alloc, &plan)?;
     let design = Design::new(
         alloc,

@@ -2,14 +2,14 @@
 ghost use Rattle.std.specs.Prelude.{◌≡◌, ◌+◌, Some};
 ghost use Rattle.vs_widths.specs.Names.{meaning_of};
 ghost use Rattle.vs_elaborate.specs.Statements.{delay_of, delay_fault};
-ghost use Rattle.vs_elaborate.specs.passes.Answers.{Elaborates};
+ghost use Rattle.vs_scopes.specs.passes.Answers.{Elaborates};
 ghost use Rattle.vs_elaborate.specs.passes.Bodies.{MeansStatement, MeansStatements, statement_fault, statements_fault, overfull_fault};
 
 use crate::assignments::assignment;
-use crate::faults::{BodyFault, Reason};
 use std::alloc::Global;
 use vs_design::{Statement, Ticks};
 use vs_lexer::Literal;
+use vs_scopes::{BodyFault, Reason};
 use vs_selects::{Binding, Const, WidthReason};
 use vs_syntax::Stmt;
 use vs_targets::AssignmentKind;

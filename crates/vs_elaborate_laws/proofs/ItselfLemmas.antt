@@ -18,7 +18,19 @@ use Rattle.vs_syntax.specs.declared.tree.Range.{Range}
 use Rattle.vs_syntax.specs.declared.tree.Item.{Item}
 use Rattle.vs_syntax.specs.declared.tree.Item.TheVariants as i
 use Rattle.vs_syntax.specs.declared.tree.Module.{Module}
-use Rattle.vs_syntax.specs.Same.{SameExpr, same_number, same_name, same_select, SameSelects, same_no_select, same_more_selects, SameSecond, same_no_second, same_second, SameLeft, same_place, same_places, SameLefts, same_no_left, same_more_lefts, same_group, same_unary, same_chain, same_choice, same_concat, same_repeat, same_cast, SameLinks, same_no_link, same_link, SamePairs, same_no_pair, same_pair, SameExprs, same_no_expr, same_more_exprs, SameStmt, same_null, same_assign, same_later, same_block, same_delay, SameStmts, same_no_stmt, same_more_stmts, Pairwise, no_pair, pair_more, SameValue, same_no_value, same_value, SameDeclarator, SameAssignment, SameRange, same_no_range, same_range, SameForm, SameItem, same_wire, same_reg, same_integer, same_assigns, same_initial, same_always, SameModule}
+use Rattle.std.specs.declared.vec.Vec.{Vec}
+use Rattle.std.specs.declared.alloc.Global.{Global}
+use Rattle.vs_syntax.specs.declared.tree.Constant.{Constant}
+use Rattle.vs_syntax.specs.declared.tree.Connection.{Connection}
+use Rattle.vs_syntax.specs.declared.tree.Connections.{Connections}
+use Rattle.vs_syntax.specs.declared.tree.Connections.TheVariants as c
+use Rattle.vs_syntax.specs.declared.tree.HeaderParameter.{HeaderParameter}
+use Rattle.vs_syntax.specs.declared.tree.Instance.{Instance}
+use Rattle.vs_syntax.specs.declared.tree.ParameterForm.{ParameterForm}
+use Rattle.vs_syntax.specs.declared.tree.ParameterForm.TheVariants as q
+use Rattle.vs_syntax.specs.declared.tree.Port.{Port}
+use Rattle.vs_syntax.specs.declared.tree.PortForm.{PortForm}
+use Rattle.vs_syntax.specs.Same.{SameExpr, same_number, same_name, same_select, SameSelects, same_no_select, same_more_selects, SameSecond, same_no_second, same_second, SameLeft, same_place, same_places, SameLefts, same_no_left, same_more_lefts, same_group, same_unary, same_chain, same_choice, same_concat, same_repeat, same_cast, SameLinks, same_no_link, same_link, SamePairs, same_no_pair, same_pair, SameExprs, same_no_expr, same_more_exprs, SameStmt, same_null, same_assign, same_later, same_block, same_delay, SameStmts, same_no_stmt, same_more_stmts, Pairwise, no_pair, pair_more, SameValue, same_no_value, same_value, SameDeclarator, SameAssignment, SameRange, same_no_range, same_range, SameForm, SameItem, same_wire, same_reg, same_integer, same_assigns, same_initial, same_always, SameModule, SameOption, both_absent, both_there, SameParameterForm, same_integer_word, same_vector, SameConstant, SameHeaderParameter, SamePortForm, SamePort, SamePorts, SameConnection, SameConnections, same_ordered, same_named, SameInstance, same_parameters, same_localparams, same_instances}
 
 -- ---- expressions
 
@@ -141,13 +153,54 @@ declarators_themselves ds = all_themselves SameDeclarator (λ d. record { name =
 form_itself : (f : Form) → SameForm f f
 form_itself f = record { signed = refl; range = range_itself f.range }
 
+option_itself : {A : Type 0} (R : A → A → Type 0) → ((x : A) → R x x) → (o : Option A) → SameOption R o o
+option_itself R h None = both_absent
+option_itself R h (Some x) = both_there x x (h x)
+
+parameter_form_itself : (f : ParameterForm) → SameParameterForm f f
+parameter_form_itself q.Integer = same_integer_word
+parameter_form_itself (q.Vector f) = same_vector f f (form_itself f)
+
+constants_themselves : (xs : List Constant) → Pairwise SameConstant xs xs
+constants_themselves xs = all_themselves SameConstant (λ x. record { name = refl; value = expr_itself x.value }) xs
+
+connection_itself : (x : Connection) → SameConnection x x
+connection_itself x = record { name = refl; value = value_itself x.value }
+
+connections_themselves : (x : Connections) → SameConnections x x
+connections_themselves (c.Ordered x xs) = same_ordered x x xs xs (value_itself x) (all_themselves SameValue value_itself xs.items)
+connections_themselves (c.Named x xs) = same_named x x xs xs (connection_itself x) (all_themselves SameConnection connection_itself xs.items)
+
+instances_themselves : (xs : List Instance) → Pairwise SameInstance xs xs
+instances_themselves xs = all_themselves SameInstance (λ x. record { name = refl; ports = connections_themselves x.ports }) xs
+
+port_form_itself : (f : PortForm) → SamePortForm f f
+port_form_itself f = record { direction = refl; kind = refl; form = form_itself f.form }
+
+ports_themselves : (xs : Vec Port Global) → SamePorts xs xs
+ports_themselves xs = all_themselves SamePort (λ x. record { form = option_itself SamePortForm port_form_itself x.form; name = refl }) xs.items
+
+header_itself : (xs : List HeaderParameter) → Pairwise SameHeaderParameter xs xs
+header_itself xs = all_themselves SameHeaderParameter (λ x. record { form = option_itself SameParameterForm parameter_form_itself x.form; name = refl; value = expr_itself x.value }) xs
+
 item_itself : (x : Item) → SameItem x x
 item_itself (i.Wire f ds) = same_wire f f ds ds (form_itself f) (declarators_themselves ds.items)
 item_itself (i.Reg f ds) = same_reg f f ds ds (form_itself f) (declarators_themselves ds.items)
 item_itself (i.Integer ds) = same_integer ds ds (declarators_themselves ds.items)
+item_itself (i.Parameter f xs) = same_parameters f f xs xs (parameter_form_itself f) (constants_themselves xs.items)
+item_itself (i.Localparam f xs) = same_localparams f f xs xs (parameter_form_itself f) (constants_themselves xs.items)
+item_itself (i.Instances n o xs) = same_instances n n o o xs xs refl (option_itself SameConnections connections_themselves o) (instances_themselves xs.items)
 item_itself (i.Assign xs) = same_assigns xs xs (all_themselves SameAssignment (λ a. record { target = left_itself a.target; value = expr_itself a.value }) xs.items)
 item_itself (i.Initial x) = same_initial x x (stmt_itself x)
 item_itself (i.Always x) = same_always x x (stmt_itself x)
 
+module_itself : (m : Module) → SameModule m m
+module_itself m = record {
+  name = refl;
+  parameters = header_itself m.parameters.items;
+  ports = option_itself SamePorts ports_themselves m.ports;
+  items = all_themselves SameItem item_itself m.items.items;
+}
+
 pub modules_themselves : (ms : List Module) → Pairwise SameModule ms ms
-modules_themselves ms = all_themselves SameModule (λ m. record { name = refl; items = all_themselves SameItem item_itself m.items.items }) ms
+modules_themselves ms = all_themselves SameModule module_itself ms

@@ -1,5 +1,7 @@
-pub mod OneLineLemmas
-pub mod SameTypedLemmas
-pub mod SameStatementLemmas
-pub mod SameDesignLemmas
 pub mod ItselfLemmas
+pub mod OneLineLemmas
+pub mod SameDesignLemmas
+pub mod SameParameterLemmas
+pub mod SameScopeLemmas
+pub mod SameStatementLemmas
+pub mod SameTypedLemmas

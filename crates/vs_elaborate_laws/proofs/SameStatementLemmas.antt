@@ -35,12 +35,13 @@ use Rattle.vs_targets.specs.declared.kinds.AssignmentKind.{AssignmentKind}
 use Rattle.vs_targets.specs.declared.kinds.AssignmentKind.TheVariants.{Procedural}
 use Rattle.vs_targets.specs.Lefts.{Aimed, name_aimed}
 use Rattle.vs_targets.specs.Aiming.{IsPlace, IsTarget}
-use Rattle.vs_elaborate.specs.Scopes.{Assignee, places, named_signal}
+use Rattle.vs_elaborate.specs.Members.{Assignee, places, named_signal}
 use Rattle.vs_selects.specs.Environment.{Environment}
 use Rattle.vs_selects.specs.Findings.{Finding, Has, Lacks}
-use Rattle.vs_widths.specs.Typing.{IsTyped}
-use Rattle.vs_elaborate.specs.Statements.{assigned_to, IsAssignment, delay_of, IsStatement, is_null, is_assign, is_later, is_block, is_delay, AreStatements, are_none, are_more}
-use Rattle.vs_elaborate_laws.specs.Same.{SameTarget, SameSides, SameStatement, null_same, assign_same, later_same, block_same, delay_same, forever_same, SameStatements, statements_end, statement_same}
+use Rattle.vs_widths.specs.Expressions.{meant}
+use Rattle.vs_widths.specs.Typing.{IsTypedAs}
+use Rattle.vs_elaborate.specs.Statements.{assigned_to, IsSource, IsAssignment, delay_of, IsStatement, is_null, is_assign, is_later, is_block, is_delay, AreStatements, are_none, are_more}
+use Rattle.vs_elaborate_laws.specs.Same.{SameTyped, SameTarget, SameSides, SameStatement, null_same, assign_same, later_same, block_same, delay_same, forever_same, SameStatements, statements_end, statement_same}
 use Rattle.vs_elaborate.proofs.StatementLemmas.{numbers_Null, numbers_Assign, numbers_Later, numbers_Block, numbers_Delay, numbers_Forever}
 use Rattle.vs_elaborate_laws.proofs.SameTypedLemmas.{by_both, same_meant, same_aimed, one_typed}
 
@@ -117,16 +118,24 @@ module _ (how : AssignmentKind) (env : Environment) where
     write = λ digits store time. one_parts 0 m.places t.parts.items t'.parts.items digits store time h.places k.places;
   }
 
+-- sources of assignments that mean one thing, at one size of the target
+one_source : (v : Meant) (w w' : ℕ) (x x' : Typed) → w ≡ w' → IsSource v w x → IsSource v w' x' → SameTyped x x'
+one_source v w w' x x' i h k =
+    let one : Has h.width h.signed ≡ Has k.width k.signed = sym h.has ∙ k.has in
+    let width : max w h.width ≡ max w' k.width = ap₂ max i (ap found_width one) in
+    let sign : h.signed ≡ k.signed = ap found_sign one in
+    one_typed v (max w h.width) h.signed x x' h.typed (subst (λ z. IsTypedAs v z h.signed x') (sym width) (subst (λ z. IsTypedAs v (max w' k.width) z x') (sym sign) k.typed))
+
+-- the sides of assignments whose targets and sources mean one thing
+pub one_pair : (how : AssignmentKind) (env : Environment) (a a' : Aimed) (v v' : Meant) (u u' : Target) (x x' : Typed) → a ≡ a' → v ≡ v' → IsTarget how env a u → IsSource v u.width x → IsTarget how env a' u' → IsSource v' u'.width x' → SameSides u u' x x'
+one_pair how env a a' v v' u u' x x' i m h y k z =
+    let target = one_target how env a' u u' (subst (λ t. IsTarget how env t u) i h) k in
+    record { target = target; source = one_source v' u.width u'.width x x' target.width (subst (λ t. IsSource t u.width x) m y) z }
+
 -- the sides of assignments that say the same
 pub one_sides : (how : AssignmentKind) (env : Environment) (a a' : Assignee) (v v' : Expr) (u u' : Target) (x x' : Typed) → SameAssignee a a' → SameExpr v v' → IsAssignment how env a v u x → IsAssignment how env a' v' u' x' → SameSides u u' x x'
 one_sides how env a a' v v' u u' x x' i m h k =
-    let target = one_target how env (assigned_to how env a') u u' (subst (λ z. IsTarget how env z u) (same_assigned how env a a' i) h.target) k.target in
-    let one : Has h.source.width h.source.signed ≡ Has k.source.width k.source.signed = sym h.source.has ∙ ap (λ (z : Meant). z.finding) (same_meant env v v' m) ∙ k.source.has in
-    let width : max u.width h.source.width ≡ max u'.width k.source.width = ap₂ max target.width (ap found_width one) in
-    let sign : h.source.signed ≡ k.source.signed = ap found_sign one in
-    let typed : IsTyped env v' (max u.width h.source.width) h.source.signed x' =
-    subst (λ z. IsTyped env v' z h.source.signed x') (sym width) (subst (λ z. IsTyped env v' (max u'.width k.source.width) z x') (sym sign) k.source.typed) in
-    record { target = target; source = one_typed env (max u.width h.source.width) h.source.signed v v' x x' m h.source.typed typed }
+    one_pair how env (assigned_to how env a) (assigned_to how env a') (meant env v) (meant env v') u u' x x' (same_assigned how env a a' i) (same_meant env v v' m) h.target h.source k.target k.source
 
 mutual
   -- statements that say the same are one in a design

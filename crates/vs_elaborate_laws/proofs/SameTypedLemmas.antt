@@ -1,11 +1,12 @@
 -- Expressions that say the same mean one thing.
-use Rattle.std.proofs.Common.{◌≡◌, ℕ, Bool, Option, Some, None, List, ◌∷◌, map, refl, ap, ap₂, sym, subst, ◌∙◌}
+use Rattle.std.proofs.Common.{◌≡◌, ℕ, Bool, ◌&&◌, cond, Option, Some, None, List, [], ◌∷◌, map, refl, ap, ap₂, sym, subst, ◌∙◌}
+use Rattle.std.specs.List.{list_all}
 use Rattle.std.specs.declared.vec.Vec.{Vec}
 use Rattle.std.specs.declared.boxed.Box.{Box}
 use Rattle.std.specs.declared.alloc.Global.{Global}
 use Rattle.vs_logic4.specs.declared.operators.Unary.{Unary}
 use Rattle.vs_logic4.specs.declared.operators.Binary.{Binary}
-use Rattle.vs_syntax.specs.declared.tree.Expr.{Expr, fold-roll-Expr}
+use Rattle.vs_syntax.specs.declared.tree.Expr.{Expr, Expr-F, map-Expr, roll-Expr, fold-roll-Expr, para-roll-Expr}
 use Rattle.vs_syntax.specs.declared.tree.Expr.TheVariants as e
 use Rattle.vs_syntax.specs.declared.tree.Expr.TheVariants.{rolls-Name, rolls-Select, rolls-Group, rolls-Unary, rolls-Chain, rolls-Choice, rolls-Concat, rolls-Repeat, rolls-Cast}
 use Rattle.vs_syntax.specs.declared.tree.Expr.TheShapes.{former-Expr-Select-1-at-4, former-Expr-Select-1-at-5}
@@ -21,9 +22,10 @@ use Rattle.vs_selects.specs.Environment.{Environment}
 use Rattle.vs_selects.specs.Meants.{Meant}
 use Rattle.vs_selects.specs.Selects.{Select, select_meant}
 use Rattle.vs_targets.specs.declared.kinds.AssignmentKind.{AssignmentKind}
-use Rattle.vs_targets.specs.Lefts.{Aimed, aimed, aimed_step, name_aimed, concat_aimed}
+use Rattle.vs_targets.specs.Lefts.{Aimed, aimed, aimed_step, name_aimed, concat_aimed, is_left, is_left_step, as_left, as_left_step, expr_aimed, no_target}
+use Rattle.vs_targets.proofs.ExprLemmas.{as_left_Name, as_left_Select, as_left_Concat}
 use Rattle.vs_widths.specs.Expressions.{meant, meant_step, meant_select, meant_selects, name_meant, unary_meant, chain_meant, choice_meant, concat_meant, repeat_meant, cast_meant}
-use Rattle.vs_widths.specs.Typing.{IsTyped}
+use Rattle.vs_widths.specs.Typing.{IsTypedAs}
 use Rattle.vs_elaborate_laws.specs.Same.{SameTyped}
 
 -- what is related to what one is
@@ -130,12 +132,67 @@ module _ (env : Environment) where
       same_aims _ _ same_no_left = refl
       same_aims _ _ (same_more_lefts x x' xs xs' m r) = ap₂ (λ k ks. k ∷ ks) (same_aimed x x' m) (same_aims xs xs' r)
 
-  -- and are one in a design
-  pub one_typed : (w : ℕ) (g : Bool) (x x' : Expr) (y y' : Typed) → SameExpr x x' → IsTyped env x w g y → IsTyped env x' w g y' → SameTyped y y'
-  one_typed w g x x' y y' m h k =
-      let same = same_meant x x' m in
-      record {
-        size = h.size ∙ sym k.size;
-        value = λ store time. h.value store time ∙ ap (λ (z : Meant). z.at store time w g) same ∙ sym (k.value store time);
-        ranges = h.ranges ∙ ap (λ (z : Meant). z.reads) same ∙ sym k.ranges;
+  -- ---- expressions with the form of a left side
+
+  has_form : (y : Expr-F Expr) (z : Expr) → roll-Expr y ≡ z → is_left z ≡ is_left_step (map-Expr Expr Bool is_left y)
+  has_form y z h = ap is_left (sym h) ∙ fold-roll-Expr Bool is_left_step y
+
+  module _ (how : AssignmentKind) where
+    abbrev with_aim : Expr → Expr × Aimed
+    with_aim y = (y, as_left how env y)
+
+    as_form : (y : Expr-F Expr) (z : Expr) → roll-Expr y ≡ z → as_left how env z ≡ as_left_step how env (map-Expr Expr (Expr × Aimed) with_aim y)
+    as_form y z h = ap (as_left how env) (sym h) ∙ para-roll-Expr Aimed (as_left_step how env) y
+
+    -- two expressions have the form of a left side, or neither, and mean one thing as targets
+    record IsAimedAlike (x x' : Expr) : Type 0 where
+      form : is_left x ≡ is_left x'
+      aim : as_left how env x ≡ as_left how env x'
+
+    -- two expressions of one layer that is none of a left side
+    no_form : (y y' : Expr-F Expr) (x x' : Expr) → roll-Expr y ≡ x → roll-Expr y' ≡ x' → is_left_step (map-Expr Expr Bool is_left y) ≡ is_left_step (map-Expr Expr Bool is_left y') → as_left_step how env (map-Expr Expr (Expr × Aimed) with_aim y) ≡ as_left_step how env (map-Expr Expr (Expr × Aimed) with_aim y') → IsAimedAlike x x'
+    no_form y y' x x' h h' p q = record { form = has_form y x h ∙ p ∙ sym (has_form y' x' h'); aim = as_form y x h ∙ q ∙ sym (as_form y' x' h') }
+
+    mutual
+      alike : (x x' : Expr) → SameExpr x x' → IsAimedAlike x x'
+      alike _ _ (same_number l) = record { form = refl; aim = refl }
+      alike _ _ (same_name n n' i) = record {
+        form = has_form (f.Name n) (e.Name n) (rolls-Name n) ∙ sym (has_form (f.Name n') (e.Name n') (rolls-Name n'));
+        aim = as_left_Name how env n ∙ ap (λ m. name_aimed how (env m) []) i ∙ sym (as_left_Name how env n');
       }
+      alike _ _ (same_select n n' ss ss' i r) = record {
+        form = has_form (f.Select n ss) (e.Select n ss) (rolls-Select n ss) ∙ sym (has_form (f.Select n' ss') (e.Select n' ss') (rolls-Select n' ss'));
+        aim = as_left_Select how env n ss ∙ ap₂ (λ m cs. name_aimed how (env m) cs) i (same_named ss.items ss'.items r) ∙ sym (as_left_Select how env n' ss');
+      }
+      alike _ _ (same_group x x' m) = no_form (f.Group x) (f.Group x') (e.Group x) (e.Group x') (rolls-Group x) (rolls-Group x') refl refl
+      alike _ _ (same_unary op x x' m) = no_form (f.Unary op x) (f.Unary op x') (e.Unary op x) (e.Unary op x') (rolls-Unary op x) (rolls-Unary op x') refl refl
+      alike _ _ (same_chain x x' ls ls' m r) = no_form (f.Chain x ls) (f.Chain x' ls') (e.Chain x ls) (e.Chain x' ls') (rolls-Chain x ls) (rolls-Chain x' ls') refl refl
+      alike _ _ (same_choice ps ps' x x' r m) = no_form (f.Choice ps x) (f.Choice ps' x') (e.Choice ps x) (e.Choice ps' x') (rolls-Choice ps x) (rolls-Choice ps' x') refl refl
+      alike _ _ (same_concat x x' xs xs' m r) =
+          let first = alike x.value x'.value m in
+          let rest = all_alike xs.items xs'.items r in
+          record {
+            form = has_form (f.Concat x xs) (e.Concat x xs) (rolls-Concat x xs) ∙ ap₂ (λ a as'. a && list_all (λ b. b) as') first.form rest.0 ∙ sym (has_form (f.Concat x' xs') (e.Concat x' xs') (rolls-Concat x' xs'));
+            aim = as_left_Concat how env x xs ∙ ap₂ concat_aimed first.aim rest.1 ∙ sym (as_left_Concat how env x' xs');
+          }
+      alike _ _ (same_repeat n n' x x' xs xs' k m r) = no_form (f.Repeat n x xs) (f.Repeat n' x' xs') (e.Repeat n x xs) (e.Repeat n' x' xs') (rolls-Repeat n x xs) (rolls-Repeat n' x' xs') refl refl
+      alike _ _ (same_cast s x x' m) = no_form (f.Cast s x) (f.Cast s x') (e.Cast s x) (e.Cast s x') (rolls-Cast s x) (rolls-Cast s x') refl refl
+
+      all_alike : (xs xs' : List Expr) → SameExprs xs xs' → (map is_left xs ≡ map is_left xs') × (map (as_left how env) xs ≡ map (as_left how env) xs')
+      all_alike _ _ same_no_expr = (refl, refl)
+      all_alike _ _ (same_more_exprs x x' xs xs' m r) =
+          let first = alike x x' m in
+          let rest = all_alike xs xs' r in
+          (ap₂ (λ a as'. a ∷ as') first.form rest.0, ap₂ (λ a as'. a ∷ as') first.aim rest.1)
+
+    -- expressions that say the same mean one thing as targets
+    pub same_expr_aimed : (x x' : Expr) → SameExpr x x' → expr_aimed how env x ≡ expr_aimed how env x'
+    same_expr_aimed x x' m = let a = alike x x' m in ap₂ (λ b t. cond b t no_target) a.form a.aim
+
+-- two expressions of a design that mean one thing say the same
+pub one_typed : (m : Meant) (w : ℕ) (g : Bool) (y y' : Typed) → IsTypedAs m w g y → IsTypedAs m w g y' → SameTyped y y'
+one_typed m w g y y' h k = record {
+  size = h.size ∙ sym k.size;
+  value = λ store time. h.value store time ∙ sym (k.value store time);
+  ranges = h.ranges ∙ sym k.ranges;
+}

@@ -1,7 +1,7 @@
 //! How operands and left sides begin.
 ghost use Rattle.std.specs.Prelude.{◌≡◌, false, ◌∷◌, MatchOption};
 ghost use Rattle.vs_syntax.specs.Symbols.{a_mark, the_mark};
-ghost use Rattle.vs_syntax.specs.Grammar.{part, a_target, an_operand};
+ghost use Rattle.vs_syntax.specs.Grammar.{part, a_target, an_expr, an_operand};
 ghost use Rattle.vs_syntax.specs.Tables.{among, operand_fronts, goes};
 ghost use Rattle.vs_expressions.specs.Answers.{seen};
 ghost use Rattle.vs_expressions.specs.Heads.{BeginsOperand, BeginsTarget};
@@ -53,6 +53,13 @@ pub(crate) fn operand_head<'t, 's>(tokens: &'t [Token<'s>]) -> Option<OperandHea
         },
         _ => None,
     }
+}
+
+/// Whether the next token can begin an expression.
+pub fn begins_expr(tokens: &[Token]) -> bool
+    ensures { result ≡ goes (part an_expr) (seen tokens.now) }
+{
+    operand_head(tokens).is_some()
 }
 
 /// How the operand begins that the mark begins, behind which `rest` stands, if it begins one.

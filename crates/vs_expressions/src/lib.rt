@@ -9,6 +9,7 @@ mod reading;
 mod token;
 
 pub use expression::expr;
+pub use head::begins_expr;
 pub use left_side::left;
 pub use reading::{Read, Stop};
 pub use token::{cast, expect_mark, expect_name, expect_word, literal, mark_at, next, word_at};

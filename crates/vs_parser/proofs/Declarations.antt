@@ -1,11 +1,10 @@
 -- How the parts of declarations and net assignments make them, and where they stop.
 use Rattle.std.specs.Prelude.{◌≡◌, ℕ, max, ◌≤◌, Bool, true, false, List, ◌∷◌, Option, None, Some, refl}
 use Rattle.std.proofs.Common.{arith}
-use Rattle.vs_tokens.specs.declared.token.Mark.{Mark}
 use Rattle.vs_tokens.specs.declared.token.Mark.TheVariants as m
 use Rattle.vs_tokens.specs.declared.token.Word.TheVariants as w
-use Rattle.vs_syntax.specs.Symbols.{Symbol, a_mark, a_word, the_mark, same_class}
-use Rattle.vs_syntax.specs.Grammar.{Grammar, nothing, ◌·◌, ◌or◌, part, mark, word, range, an_expr}
+use Rattle.vs_syntax.specs.Symbols.{Symbol, a_mark, a_word, Class, class_of, same_class}
+use Rattle.vs_syntax.specs.Grammar.{Grammar, nothing, token, ◌·◌, ◌or◌, part, mark, word, range, form, parameter_form, an_expr}
 use Rattle.vs_syntax.specs.Tables.{low, goes}
 use Rattle.vs_syntax.specs.Derivation.{Tree, empty, leaf, both}
 use Rattle.vs_syntax.specs.Reading.{Gets, Stuck, stuck_second, stuck_left, stuck_right}
@@ -14,20 +13,20 @@ use Rattle.vs_syntax.specs.declared.tree.Range.{Range}
 use Rattle.vs_syntax.proofs.Fronts.{or_left, same_class-refl}
 use Rattle.vs_syntax.proofs.Gets.{gets_nothing, gets_token, gets_seq, gets_left, gets_right}
 
--- a part behind its mark, which may be absent
-pub absent : (x : Mark) (g : Grammar) (room : ℕ) (ts : List Symbol) → goes (mark x) ts ≡ false → Gets (mark x · g or nothing) room ts empty ts
-absent x g room ts h = gets_right h gets_nothing
+-- a part behind its token, which may be absent
+pub absent : (c : Class) (g : Grammar) (room : ℕ) (ts : List Symbol) → goes (token c) ts ≡ false → Gets (token c · g or nothing) room ts empty ts
+absent c g room ts h = gets_right h gets_nothing
 
-goes_present : (x : Mark) (g : Grammar) (after : List Symbol) → goes (mark x · g) (a_mark x ∷ after) ≡ true
-goes_present x g after = or_left (same_class (the_mark x) (the_mark x)) false (same_class-refl (the_mark x))
+goes_present : (s : Symbol) (g : Grammar) (after : List Symbol) → goes (token (class_of s) · g) (s ∷ after) ≡ true
+goes_present s g after = or_left (same_class (class_of s) (class_of s)) false (same_class-refl (class_of s))
 
-pub present_stuck : (x : Mark) (g : Grammar) (room : ℕ) (deep : Bool) (ts after at : List Symbol) → low g ≡ 0 → ts ≡ a_mark x ∷ after → Stuck g room deep after at → Stuck (mark x · g or nothing) room deep ts at
-present_stuck x g room deep ts after at n e s =
+pub present_stuck : (s : Symbol) (g : Grammar) (room : ℕ) (deep : Bool) (ts after at : List Symbol) → low g ≡ 0 → ts ≡ s ∷ after → Stuck g room deep after at → Stuck (token (class_of s) · g or nothing) room deep ts at
+present_stuck s g room deep ts after at n e p =
     let none : max 0 (low g) ≤ room = omega (arith, n) in
-    rw e (stuck_left (goes_present x g after) none (stuck_second (gets_token refl) s))
+    rw e (stuck_left (goes_present s g after) none (stuck_second (gets_token refl) p))
 
-pub present_read : (x : Mark) (g : Grammar) (room : ℕ) (ts after rest : List Symbol) (y : Tree) → ts ≡ a_mark x ∷ after → Gets g room after y rest → Gets (mark x · g or nothing) room ts (both (leaf (a_mark x)) y) rest
-present_read x g room ts after rest y e p = rw e (gets_left (goes_present x g after) (gets_seq (gets_token refl) p))
+pub present_read : (s : Symbol) (g : Grammar) (room : ℕ) (ts after rest : List Symbol) (y : Tree) → ts ≡ s ∷ after → Gets g room after y rest → Gets (token (class_of s) · g or nothing) room ts (both (leaf s) y) rest
+present_read s g room ts after rest y e p = rw e (gets_left (goes_present s g after) (gets_seq (gets_token refl) p))
 
 -- the word of signed names
 pub is_signed : (room : ℕ) (ts after : List Symbol) → ts ≡ a_word w.Signed ∷ after → Gets (word w.Signed or nothing) room ts (leaf (a_word w.Signed)) after
@@ -60,3 +59,15 @@ value_read room ts after rest x e p = rw e (gets_left refl (gets_seq (gets_token
 pub told_range : (r : Option Range) → range_tree r ≡ told_tree r None
 told_range None = refl
 told_range (Some r) = refl
+
+-- the type of parameters
+pub integer_read : (room : ℕ) (ts after : List Symbol) → ts ≡ a_word w.Integer ∷ after → Gets parameter_form room ts (leaf (a_word w.Integer)) after
+integer_read room ts after e = rw e (gets_left refl (gets_token refl))
+
+pub vector_read : (room : ℕ) (ts rest : List Symbol) (x : Tree) → goes (word w.Integer) ts ≡ false → Gets form room ts x rest → Gets parameter_form room ts x rest
+vector_read room ts rest x h p = gets_right h p
+
+pub vector_stuck : (room : ℕ) (deep : Bool) (ts at : List Symbol) → goes (word w.Integer) ts ≡ false → Stuck form room deep ts at → Stuck parameter_form room deep ts at
+vector_stuck room deep ts at h s =
+    let none : 0 ≤ room = omega arith in
+    stuck_right h none s

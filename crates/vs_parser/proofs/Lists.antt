@@ -1,64 +1,84 @@
--- Lists of parts with a separator before each but the first.
-use Rattle.std.specs.Prelude.{◌≡◌, ℕ, ◌≤◌, Bool, false, List, [], ◌∷◌, ◌++◌, map, drop, refl}
+-- Lists with commas.
+use Rattle.std.specs.Prelude.{◌≡◌, ℕ, ◌≤◌, Bool, true, false, List, [], ◌∷◌, ◌++◌, map, drop, refl}
 use Rattle.std.proofs.Common.{sym, ◌∙◌, ap, subst, append_assoc, arith}
 use Rattle.std.proofs.lemmas.List.{append-nil, map-append}
-use Rattle.vs_syntax.specs.Symbols.{Symbol, a_mark}
-use Rattle.vs_tokens.specs.declared.token.Mark.{Mark}
 use Rattle.vs_tokens.specs.declared.token.Mark.TheVariants as m
-use Rattle.vs_syntax.specs.Grammar.{Part, Grammar, many, part, mark, listed}
-use Rattle.vs_syntax.specs.Tables.{low, low_of, goes}
+use Rattle.vs_syntax.specs.Symbols.{Symbol, a_mark, class_of}
+use Rattle.vs_syntax.specs.Grammar.{Grammar, ◌·◌, mark}
+use Rattle.vs_syntax.specs.Tables.{low, goes}
 use Rattle.vs_syntax.specs.Derivation.{Tree, leaf, both}
-use Rattle.vs_syntax.specs.Reading.{Gets, Stuck, stuck_first, stuck_second, stuck_many}
-use Rattle.vs_syntax.specs.Views.{row_of, listed_tree}
+use Rattle.vs_syntax.specs.Reading.{Gets, Stuck, stuck_second, stuck_many}
+use Rattle.vs_syntax.specs.Views.{commas_tree, listed_tree}
+use Rattle.vs_syntax.proofs.Fronts.{or_left, same_class-refl}
 use Rattle.vs_syntax.proofs.Gets.{gets_token, gets_seq, gets_stop}
 use Rattle.vs_tokens.specs.declared.token.Token.{Token}
 use Rattle.vs_expressions.specs.Answers.{seen}
-use Rattle.vs_expressions.proofs.Lists.{another, goes_another, another_read}
 use Rattle.vs_expressions.proofs.Rows.{Along, along_none, along_push, all_read}
+use Rattle.vs_parser.specs.Lists.{behind_commas, Grown}
 
--- From the start to the rest these parts were read behind the first ones, each behind its separator.
-pub record Behind (sign : Mark) (p : Part) (room : ℕ) (start rest : List Symbol) (xs ys : List Tree) : Type 0 where
-  pub others : List Tree
+-- a tree behind its comma
+abbrev pub comma_before : Tree → Tree
+comma_before x = both (leaf (a_mark m.Comma)) x
+
+-- To the elements `xs` those were added that stand from the start to the rest, each behind its comma.
+pub record Adding {X : Type 0} (g : Grammar) (room : ℕ) (tree : X → Tree) (start rest : List Symbol) (xs ys : List X) : Type 0 where
+  pub others : List X
   pub all : ys ≡ xs ++ others
-  pub along : Along (another sign p) room start rest (map (both (leaf (a_mark sign))) others)
+  pub along : Along (mark m.Comma · g) room start rest (map comma_before (map tree others))
 
-pub behind_none : (sign : Mark) (p : Part) (room : ℕ) (ts : List Symbol) (xs : List Tree) → Behind sign p room ts ts xs xs
-behind_none sign p room ts xs = record { others = []; all = sym (append-nil xs); along = along_none (another sign p) room ts }
+pub adding_none : {X : Type 0} (g : Grammar) (room : ℕ) (tree : X → Tree) (ts : List Symbol) (xs : List X) → Adding g room tree ts ts xs xs
+adding_none g room tree ts xs = record { others = []; all = sym (append-nil xs); along = along_none (mark m.Comma · g) room ts }
 
--- one more, for what was pushed to a list
-pub behind_push : {X : Type 0} (sign : Mark) (p : Part) (room : ℕ) (start rest after behind : List Symbol) (tree : X → Tree) (xs : List Tree) (ys zs : List X) (x : X) → zs ≡ ys ++ x ∷ [] → Behind sign p room start rest xs (map tree ys) → rest ≡ a_mark sign ∷ after → Gets (part p) room after (tree x) behind → Behind sign p room start behind xs (map tree zs)
-behind_push sign p room start rest after behind tree xs ys zs x e l f q = record {
-  others = l.others ++ tree x ∷ [];
-  all = ap (map tree) e ∙ map-append tree ys (x ∷ []) ∙ ap (λ u. u ++ tree x ∷ []) l.all ∙ append_assoc xs l.others (tree x ∷ []);
-  along = along_push (another sign p) room start rest behind (both (leaf (a_mark sign))) l.others _ (tree x) refl l.along (goes_another sign p rest after f) (another_read sign p room rest after behind (tree x) f q);
+goes_comma : (g : Grammar) (ts after : List Symbol) → ts ≡ a_mark m.Comma ∷ after → goes (mark m.Comma · g) ts ≡ true
+goes_comma g ts after e = ap (goes (mark m.Comma · g)) e ∙ or_left _ false (same_class-refl (class_of (a_mark m.Comma)))
+
+comma_read : (g : Grammar) (room : ℕ) (ts after rest : List Symbol) (x : Tree) → ts ≡ a_mark m.Comma ∷ after → Gets g room after x rest → Gets (mark m.Comma · g) room ts (comma_before x) rest
+comma_read g room ts after rest x e q = rw e (gets_seq (gets_token refl) q)
+
+-- one more
+pub adding_push : {X : Type 0} (g : Grammar) (room : ℕ) (tree : X → Tree) (start rest after behind : List Symbol) (xs ys zs : List X) (x : X) → zs ≡ ys ++ x ∷ [] → Adding g room tree start rest xs ys → rest ≡ a_mark m.Comma ∷ after → Gets g room after (tree x) behind → Adding g room tree start behind xs zs
+adding_push g room tree start rest after behind xs ys zs x e l f q = record {
+  others = l.others ++ x ∷ [];
+  all = e ∙ ap (λ u. u ++ x ∷ []) l.all ∙ append_assoc xs l.others (x ∷ []);
+  along = along_push (mark m.Comma · g) room start rest behind comma_before (map tree l.others) _ (tree x) (map-append tree l.others (x ∷ [])) l.along (goes_comma g rest after f) (comma_read g room rest after behind (tree x) f q);
 }
 
--- what stops a part behind its separator
-pub behind_stuck : {xs ys : List Tree} (sign : Mark) (p : Part) (room : ℕ) (deep : Bool) (start rest after at : List Symbol) → low_of p ≤ room → Behind sign p room start rest xs ys → rest ≡ a_mark sign ∷ after → Stuck (part p) room deep after at → Stuck (many (another sign p)) room deep start at
-behind_stuck sign p room deep start rest after at n l e s =
-    let k : low (another sign p) ≤ room = omega (arith, n) in
-    l.along.stops deep at (stuck_many (goes_another sign p rest after e) k (subst (λ (u : List Symbol). Stuck (another sign p) room deep u at) (sym e) (stuck_second (gets_token refl) s)))
+-- what stops one of them behind its comma
+pub adding_stuck : {X : Type 0} (g : Grammar) (room : ℕ) (deep : Bool) (tree : X → Tree) (start rest after at : List Symbol) (xs ys : List X) → low g ≤ room → Adding g room tree start rest xs ys → rest ≡ a_mark m.Comma ∷ after → Stuck g room deep after at → Stuck (behind_commas g) room deep start at
+adding_stuck g room deep tree start rest after at xs ys n l e s =
+    let k : low (mark m.Comma · g) ≤ room = omega (arith, n) in
+    l.along.stops deep at (stuck_many (goes_comma g rest after e) k (subst (λ (u : List Symbol). Stuck (mark m.Comma · g) room deep u at) (sym e) (stuck_second (gets_token refl) s)))
 
--- all of them behind the first
-pub all_behind : {xs ys : List Tree} (sign : Mark) (p : Part) (room : ℕ) (start rest : List Symbol) → (l : Behind sign p room start rest xs ys) → goes (another sign p) rest ≡ false → Gets (many (another sign p)) room start (row_of (map (both (leaf (a_mark sign))) l.others)) rest
-all_behind sign p room start rest l h = all_read (another sign p) room start rest rest (map (both (leaf (a_mark sign))) l.others) l.along (gets_stop h)
+-- all of them
+pub all_added : {X : Type 0} (g : Grammar) (room : ℕ) (tree : X → Tree) (start rest : List Symbol) (xs ys : List X) → Adding g room tree start rest xs ys → goes (mark m.Comma) rest ≡ false → Grown g room tree start rest xs ys
+all_added g room tree start rest xs ys l h = record {
+  others = l.others;
+  all = l.all;
+  gets = all_read (mark m.Comma · g) room start rest rest (map comma_before (map tree l.others)) l.along (gets_stop h);
+}
 
--- the parts of a list behind the first, and the whole list
-pub other_stuck : {xs ys : List Tree} (p : Part) (room : ℕ) (deep : Bool) (ts start rest after at : List Symbol) (x : Tree) → low_of p ≤ room → Gets (part p) room ts x start → Behind m.Comma p room start rest xs ys → rest ≡ a_mark m.Comma ∷ after → Stuck (part p) room deep after at → Stuck (listed p) room deep ts at
-other_stuck p room deep ts start rest after at x n q l e s = stuck_second q (stuck_first (behind_stuck m.Comma p room deep start rest after at n l e s))
+-- what was added to nothing
+pub grown_none : {X : Type 0} (g : Grammar) (room : ℕ) (tree : X → Tree) (ts rest : List Symbol) (xs ys : List X) → Grown g room tree ts rest xs ys → xs ≡ [] → Gets (behind_commas g) room ts (commas_tree (map tree ys)) rest
+grown_none g room tree ts rest xs ys l e =
+    let i : ys ≡ l.others = l.all ∙ ap (λ u. u ++ l.others) e in
+    subst (λ u. Gets (behind_commas g) room ts (commas_tree (map tree u)) rest) (sym i) l.gets
 
-pub end_stuck : {xs ys : List Tree} (p : Part) (room : ℕ) (deep : Bool) (ts start rest at : List Symbol) (x : Tree) → Gets (part p) room ts x start → Behind m.Comma p room start rest xs ys → goes (mark m.Comma) rest ≡ false → Stuck (mark m.Semicolon) room deep rest at → Stuck (listed p) room deep ts at
-end_stuck p room deep ts start rest at x q l h s = stuck_second q (stuck_second (all_behind m.Comma p room start rest l h) s)
-
-pub listed_read : (p : Part) (room : ℕ) (ts start rest at : List Symbol) (x : Tree) (xs ys : List Tree) → Gets (part p) room ts x start → Behind m.Comma p room start rest xs ys → xs ≡ x ∷ [] → goes (mark m.Comma) rest ≡ false → Gets (mark m.Semicolon) room rest (leaf (a_mark m.Semicolon)) at → Gets (listed p) room ts (listed_tree ys) at
-listed_read p room ts start rest at x xs ys q l e h r =
+-- what was added to one
+pub grown_one : {X : Type 0} (g : Grammar) (room : ℕ) (tree : X → Tree) (ts rest : List Symbol) (x : X) (xs ys : List X) (P : List X → Type 0) → (l : Grown g room tree ts rest xs ys) → xs ≡ x ∷ [] → P (x ∷ l.others) → P ys
+grown_one g room tree ts rest x xs ys P l e p =
     let i : ys ≡ x ∷ l.others = l.all ∙ ap (λ u. u ++ l.others) e in
-    subst (λ (u : List Tree). Gets (listed p) room ts (listed_tree u) at) (sym i) (gets_seq q (gets_seq (all_behind m.Comma p room start rest l h) r))
+    subst P (sym i) p
+
+-- a list with its end: the first, the others and what stands behind them
+pub listed_read : {X : Type 0} (g : Grammar) (room : ℕ) (tree : X → Tree) (ts start rest at : List Symbol) (x : X) (xs ys : List X) → Gets g room ts (tree x) start → Grown g room tree start rest xs ys → xs ≡ x ∷ [] → Gets (mark m.Semicolon) room rest (leaf (a_mark m.Semicolon)) at → Gets (g · behind_commas g · mark m.Semicolon) room ts (listed_tree (map tree ys)) at
+listed_read g room tree ts start rest at x xs ys q l e r =
+    grown_one g room tree start rest x xs ys (λ u. Gets (g · behind_commas g · mark m.Semicolon) room ts (listed_tree (map tree u)) at) l e
+    (gets_seq q (gets_seq l.gets r))
 
 -- the first of a list
-pub pushed_one : {X : Type 0} (tree : X → Tree) (xs ys : List X) (x : X) → ys ≡ xs ++ x ∷ [] → xs ≡ [] → map tree ys ≡ tree x ∷ []
-pushed_one tree xs ys x e f = ap (map tree) (e ∙ ap (λ u. u ++ x ∷ []) f)
+pub pushed_one : {X : Type 0} (xs ys : List X) (x : X) → ys ≡ xs ++ x ∷ [] → xs ≡ [] → ys ≡ x ∷ []
+pushed_one xs ys x e f = e ∙ ap (λ u. u ++ x ∷ []) f
 
--- the same, from where a loop starts
-pub gets_from : (a : Grammar) (room : ℕ) (ts : List Symbol) (x : Tree) (us vs : List Token) → vs ≡ drop 0 us → Gets a room ts x (seen us) → Gets a room ts x (seen vs)
-gets_from a room ts x us vs e q = subst (λ (u : List Token). Gets a room ts x (seen u)) (sym e) q
+-- before the first one
+pub adding_start : {X : Type 0} (g : Grammar) (room : ℕ) (tree : X → Tree) (ts us : List Token) (xs : List X) → us ≡ drop 0 ts → Adding g room tree (seen ts) (seen us) xs xs
+adding_start g room tree ts us xs e = subst (λ (u : List Token). Adding g room tree (seen ts) (seen u) xs xs) (sym e) (adding_none g room tree (seen ts) xs)

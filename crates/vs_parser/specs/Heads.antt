@@ -4,12 +4,16 @@ use Rattle.vs_tokens.specs.declared.token.Mark.{Mark}
 use Rattle.vs_tokens.specs.declared.token.Mark.TheVariants as m
 use Rattle.vs_tokens.specs.declared.token.Word.{Word}
 use Rattle.vs_tokens.specs.declared.token.Word.TheVariants as w
-use Rattle.vs_syntax.specs.Symbols.{Symbol, a_mark, a_word, Class, the_mark, the_word, any_name, first}
-use Rattle.vs_syntax.specs.Grammar.{Grammar, ◌·◌, part, form, listed, a_net, a_variable, an_assignment, a_stmt}
+use Rattle.vs_syntax.specs.Symbols.{Symbol, a_mark, a_word, a_name, Class, the_mark, the_word, any_name, first}
+use Rattle.vs_syntax.specs.Grammar.{Grammar, nothing, ◌·◌, ◌or◌, part, many, mark, word, name, form, listed, instances, parameter_form, port_form, a_constant, a_net, a_port, a_variable, an_assignment, a_stmt}
+use Rattle.vs_syntax.specs.declared.tree.PortKind.{PortKind}
+use Rattle.vs_syntax.specs.declared.tree.PortKind.TheVariants as k
 use Rattle.vs_parser.specs.declared.head.StatementHead.{StatementHead}
 use Rattle.vs_parser.specs.declared.head.StatementHead.TheVariants as s
-use Rattle.vs_parser.specs.declared.head.ItemWord.{ItemWord}
-use Rattle.vs_parser.specs.declared.head.ItemWord.TheVariants as i
+use Rattle.vs_parser.specs.declared.head.ItemHead.{ItemHead}
+use Rattle.vs_parser.specs.declared.head.ItemHead.TheVariants as i
+use Rattle.vs_parser.specs.declared.head.DeclarationWord.{DeclarationWord}
+use Rattle.vs_parser.specs.declared.head.DeclarationWord.TheVariants as d
 use Rattle.vs_parser.specs.declared.head.Timing.{Timing}
 use Rattle.vs_parser.specs.declared.head.Timing.TheVariants as t
 use Rattle.vs_expressions.specs.Answers.{seen}
@@ -30,27 +34,55 @@ class_of_statement s.Brace = the_mark m.OpenBrace
 class_of_statement (s.Block rest) = the_word w.Begin
 class_of_statement (s.Delay rest) = the_mark m.Hash
 
--- the word of an item that begins so
-abbrev pub word_of : ItemWord → Word
-word_of i.Wire = w.Wire
-word_of i.Reg = w.Reg
-word_of i.Integer = w.Integer
-word_of i.Assign = w.Assign
-word_of i.Initial = w.Initial
-word_of i.Always = w.Always
+-- the word of a declaration
+abbrev pub word_of : DeclarationWord → Word
+word_of d.Wire = w.Wire
+word_of d.Reg = w.Reg
+word_of d.Integer = w.Integer
+word_of d.Parameter = w.Parameter
+word_of d.Localparam = w.Localparam
 
--- the symbols begin an item so, and these stand behind its word
-abbrev pub BeginsItem : List Symbol → ItemWord → List Symbol → Type 0
-BeginsItem ts k after = ts ≡ a_word (word_of k) ∷ after
+-- the first symbol of an item that begins so
+abbrev pub symbol_of : ItemHead → Symbol
+symbol_of (i.Name bytes) = a_name bytes.now
+symbol_of (i.Declaration d) = a_word (word_of d)
+symbol_of i.Assign = a_word w.Assign
+symbol_of i.Initial = a_word w.Initial
+symbol_of i.Always = a_word w.Always
 
--- what stands behind the word of an item that begins so
-abbrev pub body_of : ItemWord → Grammar
-body_of i.Wire = form · listed a_net
-body_of i.Reg = form · listed a_variable
-body_of i.Integer = listed a_variable
+-- the symbols begin an item so, and these stand behind the first one
+abbrev pub BeginsItem : List Symbol → ItemHead → List Symbol → Type 0
+BeginsItem ts k after = ts ≡ symbol_of k ∷ after
+
+-- what stands behind the word of a declaration
+abbrev pub declaration_of : DeclarationWord → Grammar
+declaration_of d.Wire = form · listed a_net
+declaration_of d.Reg = form · listed a_variable
+declaration_of d.Integer = listed a_variable
+declaration_of d.Parameter = parameter_form · listed a_constant
+declaration_of d.Localparam = parameter_form · listed a_constant
+
+-- what stands behind the first symbol of an item that begins so
+abbrev pub body_of : ItemHead → Grammar
+body_of (i.Name bytes) = instances
+body_of (i.Declaration d) = declaration_of d
 body_of i.Assign = listed an_assignment
 body_of i.Initial = part a_stmt
 body_of i.Always = part a_stmt
+
+-- the word of the kind of a port, or nothing (clause A.2.1.2)
+abbrev pub port_kind : Grammar
+port_kind = word w.Wire or word w.Reg or word w.Integer or nothing
+
+-- the word of the kind of a port
+abbrev pub kind_word : PortKind → Word
+kind_word k.Wire = w.Wire
+kind_word k.Reg = w.Reg
+kind_word k.Integer = w.Integer
+
+-- the ports in the parentheses of a header, the first with its direction (clause A.1.3; profile)
+abbrev pub ports_within : Grammar
+ports_within = (port_form · name) · many (mark m.Comma · part a_port) or nothing
 
 -- the sign of an assignment as a statement (IEEE 1364-2005, clauses 9.2.1 and 9.2.2)
 abbrev pub sign_of : Timing → Mark

@@ -11,6 +11,10 @@ use Rattle.vs_syntax.specs.Symbols.{cast_of}
 abbrev pub is_in_grammar : Word → Bool
 is_in_grammar w.Module = true
 is_in_grammar w.Endmodule = true
+is_in_grammar w.Input = true
+is_in_grammar w.Output = true
+is_in_grammar w.Parameter = true
+is_in_grammar w.Localparam = true
 is_in_grammar w.Wire = true
 is_in_grammar w.Reg = true
 is_in_grammar w.Integer = true

@@ -1,3 +1,4 @@
 pub mod Heads
+pub mod Lists
 pub mod LeftOut
 pub mod Faults

@@ -3,13 +3,13 @@ ghost use Rattle.std.specs.Prelude.{ℕ, ◌≤◌, map};
 ghost use Rattle.vs_tokens.specs.declared.token.Mark.TheVariants as m;
 ghost use Rattle.vs_tokens.specs.declared.token.Word.TheVariants as w;
 ghost use Rattle.vs_syntax.specs.Grammar.{nothing, part, mark, word, ◌·◌, ◌or◌, form, range, a_net, a_variable, an_assignment, an_expr};
-ghost use Rattle.vs_syntax.specs.Grammar as g;
-ghost use Rattle.vs_syntax.specs.Tables.{low_of};
+ghost use Rattle.vs_syntax.specs.Tables.{low};
 ghost use Rattle.vs_syntax.specs.Derivation.{both};
 ghost use Rattle.vs_syntax.specs.Views.{listed_tree, signed_tree, range_tree, form_tree};
 ghost use Rattle.vs_syntax.specs.Views.{value_tree, told_tree, declarator_tree, net_assignment_tree};
 ghost use Rattle.vs_syntax.specs.Reading.{Gets};
 ghost use Rattle.vs_expressions.specs.Answers.{seen, Reads};
+ghost use Rattle.vs_parser.specs.Lists.{behind_commas};
 
 use crate::list::{Element, listed};
 use std::alloc::Global;
@@ -29,7 +29,7 @@ pub(crate) struct Assignment;
 impl Element for Net {
     type Syntax = Declarator;
 
-    ghost kind = { a_net };
+    ghost grammar = { part a_net };
 
     ghost tree_of = { declarator_tree };
 
@@ -45,7 +45,7 @@ impl Element for Net {
 impl Element for Variable {
     type Syntax = Declarator;
 
-    ghost kind = { a_variable };
+    ghost grammar = { part a_variable };
 
     ghost tree_of = { declarator_tree };
 
@@ -61,7 +61,7 @@ impl Element for Variable {
 impl Element for Assignment {
     type Syntax = NetAssignment;
 
-    ghost kind = { an_assignment };
+    ghost grammar = { part an_assignment };
 
     ghost tree_of = { net_assignment_tree };
 
@@ -80,8 +80,8 @@ pub(crate) fn declared<'t, 's, T: Element<Syntax = Declarator>>(
     room: u32,
     tokens: &'t [Token<'s>],
 ) -> Result<Read<'t, 's, (Form, Vec<Declarator>)>, Stop<'t, 's>>
-    requires { low_of T.kind ≤ room }
-    ensures { Reads (form · g.listed T.kind) room tokens.now
+    requires { low T.grammar ≤ room }
+    ensures { Reads (form · T.grammar · behind_commas T.grammar · mark m.Semicolon) room tokens.now
         (λ x. both (form_tree x.0) (listed_tree (map T.tree_of x.1.items))) result }
 {
     let said = declared_form(alloc, room, tokens)?;
@@ -93,7 +93,7 @@ pub(crate) fn declared<'t, 's, T: Element<Syntax = Declarator>>(
 }
 
 /// Reads what a declaration says of its names.
-fn declared_form<'t, 's>(
+pub(crate) fn declared_form<'t, 's>(
     alloc: Global,
     room: u32,
     tokens: &'t [Token<'s>],

@@ -58,6 +58,10 @@ fn in_grammar(word: Word) -> bool
         word,
         Word::Module
             | Word::Endmodule
+            | Word::Input
+            | Word::Output
+            | Word::Parameter
+            | Word::Localparam
             | Word::Wire
             | Word::Reg
             | Word::Integer

@@ -1,15 +1,18 @@
 //! How statements and items begin.
-ghost use Rattle.std.specs.Prelude.{◌≡◌, ℕ, false, MatchOption};
+ghost use Rattle.std.specs.Prelude.{◌≡◌, ◌∷◌, ℕ, false, MatchOption};
 ghost use Rattle.vs_tokens.specs.declared.token.Mark.TheVariants as m;
-ghost use Rattle.vs_syntax.specs.Symbols.{a_mark, the_word};
-ghost use Rattle.vs_syntax.specs.Grammar.{◌or◌, mark, part, a_stmt, an_item};
+ghost use Rattle.vs_tokens.specs.declared.token.Word.TheVariants as w;
+ghost use Rattle.vs_syntax.specs.Symbols.{a_mark, a_word, class_of};
+ghost use Rattle.vs_syntax.specs.Grammar.{◌or◌, mark, word, part, a_stmt, an_item};
 ghost use Rattle.vs_syntax.specs.Tables.{need, fronts_of, goes};
 ghost use Rattle.vs_syntax.specs.Derivation.{leaf};
 ghost use Rattle.vs_expressions.specs.Answers.{seen, Answers};
-ghost use Rattle.vs_parser.specs.Heads.{BeginsStatement, BeginsItem, class_of_statement, word_of, sign_of};
+ghost use Rattle.vs_syntax.specs.Views.{direction_word};
+ghost use Rattle.vs_parser.specs.Heads.{BeginsStatement, BeginsItem, class_of_statement, symbol_of, port_kind, kind_word, sign_of};
 
 use vs_expressions::{Stop, expect_mark, mark_at, next};
 use vs_lexer::{Kind, Mark, Token, Word};
+use vs_syntax::{Direction, PortKind};
 
 /// What a statement begins with, and mostly the tokens behind that.
 #[derive(Drop)]
@@ -27,20 +30,33 @@ pub(crate) enum StatementHead<'t, 's> {
 }
 
 /// What an item begins with.
-#[derive(Clone, Copy, Debug)]
-pub(crate) enum ItemWord {
-    /// `wire`
-    Wire,
-    /// `reg`
-    Reg,
-    /// `integer`
-    Integer,
+#[derive(Clone, Copy)]
+pub(crate) enum ItemHead<'s> {
+    /// The name of a module, by its bytes.
+    Name(&'s [u8]),
+    /// The word of a declaration.
+    Declaration(DeclarationWord),
     /// `assign`
     Assign,
     /// `initial`
     Initial,
     /// `always`
     Always,
+}
+
+/// The word that a declaration begins with.
+#[derive(Clone, Copy)]
+pub(crate) enum DeclarationWord {
+    /// `wire`
+    Wire,
+    /// `reg`
+    Reg,
+    /// `integer`
+    Integer,
+    /// `parameter`
+    Parameter,
+    /// `localparam`
+    Localparam,
 }
 
 /// When an assignment as a statement assigns.
@@ -87,20 +103,23 @@ pub(crate) fn least_statement(head: &StatementHead) -> u32
     }
 }
 
-/// How the item begins that is next, if one is, and the tokens behind that word.
-pub(crate) fn item_head<'t, 's>(tokens: &'t [Token<'s>]) -> Option<(ItemWord, &'t [Token<'s>])>
+/// How the item begins that is next, if one is, and the tokens behind its first one.
+pub(crate) fn item_head<'t, 's>(tokens: &'t [Token<'s>]) -> Option<(ItemHead<'s>, &'t [Token<'s>])>
     ensures { MatchOption result (goes (part an_item) (seen tokens.now) ≡ false)
         (λ x. BeginsItem (seen tokens.now) x.0 (seen x.1.now)) }
 {
     let (first, rest) = next(tokens)?;
     match first.kind {
+        Kind::Name => Some((ItemHead::Name(first.name()), rest)),
         Kind::Word(word) => match word {
-            Word::Wire => Some((ItemWord::Wire, rest)),
-            Word::Reg => Some((ItemWord::Reg, rest)),
-            Word::Integer => Some((ItemWord::Integer, rest)),
-            Word::Assign => Some((ItemWord::Assign, rest)),
-            Word::Initial => Some((ItemWord::Initial, rest)),
-            Word::Always => Some((ItemWord::Always, rest)),
+            Word::Wire => Some((ItemHead::Declaration(DeclarationWord::Wire), rest)),
+            Word::Reg => Some((ItemHead::Declaration(DeclarationWord::Reg), rest)),
+            Word::Integer => Some((ItemHead::Declaration(DeclarationWord::Integer), rest)),
+            Word::Parameter => Some((ItemHead::Declaration(DeclarationWord::Parameter), rest)),
+            Word::Localparam => Some((ItemHead::Declaration(DeclarationWord::Localparam), rest)),
+            Word::Assign => Some((ItemHead::Assign, rest)),
+            Word::Initial => Some((ItemHead::Initial, rest)),
+            Word::Always => Some((ItemHead::Always, rest)),
             _ => None,
         },
         _ => None,
@@ -108,16 +127,48 @@ pub(crate) fn item_head<'t, 's>(tokens: &'t [Token<'s>]) -> Option<(ItemWord, &'
 }
 
 /// The least nesting of an item that begins so, in nodes.
-pub(crate) fn least_item(word: ItemWord) -> u32
-    ensures { result ≡ need (the_word (word_of word)) (fronts_of an_item) }
+pub(crate) fn least_item(head: ItemHead) -> u32
+    ensures { result ≡ need (class_of (symbol_of head.entry)) (fronts_of an_item) }
 {
-    match word {
-        ItemWord::Wire => 1,
-        ItemWord::Reg => 1,
-        ItemWord::Integer => 1,
-        ItemWord::Assign => 2,
-        ItemWord::Initial => 2,
-        ItemWord::Always => 2,
+    match head {
+        ItemHead::Name(_) => 1,
+        ItemHead::Declaration(_) => 1,
+        ItemHead::Assign => 2,
+        ItemHead::Initial => 2,
+        ItemHead::Always => 2,
+    }
+}
+
+/// The direction that is next, if one is, and the tokens behind it.
+pub(crate) fn direction_at<'t, 's>(tokens: &'t [Token<'s>]) -> Option<(Direction, &'t [Token<'s>])>
+    ensures { MatchOption result (goes (word w.Input or word w.Output) (seen tokens.now) ≡ false)
+        (λ x. seen tokens.now ≡ a_word (direction_word x.0) ∷ seen x.1.now) }
+{
+    let (first, rest) = next(tokens)?;
+    match first.kind {
+        Kind::Word(word) => match word {
+            Word::Input => Some((Direction::Input, rest)),
+            Word::Output => Some((Direction::Output, rest)),
+            _ => None,
+        },
+        _ => None,
+    }
+}
+
+/// The kind of a port that is next, if one is, and the tokens behind it.
+pub(crate) fn kind_at<'t, 's>(tokens: &'t [Token<'s>]) -> Option<(PortKind, &'t [Token<'s>])>
+    ensures { MatchOption result (goes port_kind (seen tokens.now) ≡ false)
+        (λ x. seen tokens.now ≡ a_word (kind_word x.0) ∷ seen x.1.now) }
+{
+    let (first, rest) = next(tokens)?;
+    match first.kind {
+        Kind::Word(word) => match word {
+            Word::Wire => Some((PortKind::Wire, rest)),
+            Word::Reg => Some((PortKind::Reg, rest)),
+            Word::Integer => Some((PortKind::Integer, rest)),
+            _ => None,
+        },
+        _ => None,
     }
 }
 

@@ -4,8 +4,11 @@
 mod declaration;
 mod fault;
 mod head;
+mod header;
+mod instance;
 mod item;
 mod list;
+mod parameter;
 mod parser;
 mod statement;
 

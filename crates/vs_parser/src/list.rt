@@ -1,10 +1,12 @@
 //! Reading lists with commas.
-ghost use Rattle.std.specs.Prelude.{◌≡◌, ◌≤◌, map};
-ghost use Rattle.vs_syntax.specs.Grammar.{Part, part, listed};
-ghost use Rattle.vs_syntax.specs.Tables.{low_of};
+ghost use Rattle.std.specs.Prelude.{◌≡◌, ◌≤◌, map, MatchResult};
+ghost use Rattle.vs_tokens.specs.declared.token.Mark.TheVariants as m;
+ghost use Rattle.vs_syntax.specs.Grammar.{Grammar, ◌·◌, mark};
+ghost use Rattle.vs_syntax.specs.Tables.{low};
 ghost use Rattle.vs_syntax.specs.Derivation.{Tree};
 ghost use Rattle.vs_syntax.specs.Views.{listed_tree};
-ghost use Rattle.vs_expressions.specs.Answers.{Reads};
+ghost use Rattle.vs_expressions.specs.Answers.{seen, Fails, Reads};
+ghost use Rattle.vs_parser.specs.Lists.{behind_commas, Grown};
 
 use std::alloc::Global;
 use vs_expressions::{Read, Stop, expect_mark, mark_at};
@@ -15,8 +17,8 @@ pub(crate) trait Element {
     /// What one of them is read as.
     type Syntax: Drop;
 
-    /// The part of the grammar that one of them is.
-    ghost kind: { Part };
+    /// The grammar of one of them.
+    ghost grammar: { Grammar };
 
     /// The tree of one of them.
     ghost tree_of: { Self.Syntax → Tree };
@@ -27,8 +29,31 @@ pub(crate) trait Element {
         room: u32,
         tokens: &'t [Token<'s>],
     ) -> Result<Read<'t, 's, Self::Syntax>, Stop<'t, 's>>
-        requires { low_of kind ≤ room }
-        ensures { Reads (part kind) room tokens.now tree_of result };
+        requires { low grammar ≤ room }
+        ensures { Reads grammar room tokens.now tree_of result };
+}
+
+/// Reads those that stand behind a comma each, in at most `room` nodes below one another, and adds
+/// them to `tree`.
+pub(crate) fn others<'t, 's, T: Element>(
+    alloc: Global,
+    room: u32,
+    tokens: &'t [Token<'s>],
+    mut tree: Vec<T::Syntax>,
+) -> Result<Read<'t, 's, Vec<T::Syntax>>, Stop<'t, 's>>
+    requires { low T.grammar ≤ room }
+    ensures { MatchResult result
+        (λ r. Grown T.grammar room T.tree_of (seen tokens.now) (seen r.rest.now) tree.items r.tree.items)
+        (λ e. Fails (behind_commas T.grammar) room (seen tokens.now) e) }
+{
+    // All of them, but from a call: so the borrow checker can join it with what the loop sets.
+    let (_none, mut rest) = tokens.split_at(0);
+    while let Some(after) = mark_at(rest, Mark::Comma) {
+        let other = T::read(alloc, room, after)?;
+        rest = other.rest;
+        tree.push(other.tree)?;
+    }
+    Ok(Read { tree, rest })
 }
 
 /// Reads one or more with commas between them, and the semicolon behind them, in at most `room`
@@ -38,19 +63,17 @@ pub(crate) fn listed<'t, 's, T: Element>(
     room: u32,
     tokens: &'t [Token<'s>],
 ) -> Result<Read<'t, 's, Vec<T::Syntax>>, Stop<'t, 's>>
-    requires { low_of T.kind ≤ room }
-    ensures { Reads (listed T.kind) room tokens.now (λ xs. listed_tree (map T.tree_of xs.items)) result }
+    requires { low T.grammar ≤ room }
+    ensures { Reads (T.grammar · behind_commas T.grammar · mark m.Semicolon) room tokens.now
+        (λ xs. listed_tree (map T.tree_of xs.items)) result }
 {
     let first = T::read(alloc, room, tokens)?;
-    // All of them, but from a call: so the borrow checker can join it with what the loop sets.
-    let (_none, mut rest) = first.rest.split_at(0);
     let mut tree = Vec::new(alloc);
     tree.push(first.tree)?;
-    while let Some(after) = mark_at(rest, Mark::Comma) {
-        let other = T::read(alloc, room, after)?;
-        rest = other.rest;
-        tree.push(other.tree)?;
-    }
-    let behind = expect_mark(rest, Mark::Semicolon)?;
-    Ok(Read { tree, rest: behind })
+    let all = others::<T>(alloc, room, first.rest, tree)?;
+    let rest = expect_mark(all.rest, Mark::Semicolon)?;
+    Ok(Read {
+        tree: all.tree,
+        rest,
+    })
 }

@@ -3,6 +3,7 @@
 use crate::assigns::ASSIGNS;
 use crate::fifo::FIFO;
 use crate::headers::{EMPTY, ONE_VARIABLE, VARIABLES};
+use crate::hierarchy::HIERARCHY;
 use crate::running::{Row, compare_all};
 use crate::selects::{SELECTS, STEPS};
 use crate::vectors::VECTORS;
@@ -59,6 +60,12 @@ fn dumps(rt: HostRuntime) -> Result<(), Fail> {
     for rows in [DUMPS, ASSIGNS, FIFO, VECTORS] {
         compare_all(&rt, rt.alloc(), rows)?;
     }
+    Ok(())
+}
+
+#[test]
+fn hierarchy(rt: HostRuntime) -> Result<(), Fail> {
+    compare_all(&rt, rt.alloc(), HIERARCHY)?;
     Ok(())
 }
 

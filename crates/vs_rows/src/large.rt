@@ -90,3 +90,44 @@ fn large_sources(rt: HostRuntime) -> Result<(), Fail> {
     }
     Ok(())
 }
+
+/// A chain of 70 modules, each instantiated in the one before, from the top on.
+fn chain(alloc: Global) -> Result<Vec<u8>, AllocError> {
+    let mut source = Vec::from_slice(alloc, b"module t; m1 u(); endmodule ")?;
+    for i in 1..70_usize {
+        source.extend_from_slice(b"module m")?;
+        source.extend_from_slice(i.to_string(alloc)?.as_bytes())?;
+        source.extend_from_slice(b"; ")?;
+        if i < 69 {
+            source.extend_from_slice(b"m")?;
+            source.extend_from_slice(i.saturating_add(1).to_string(alloc)?.as_bytes())?;
+            source.extend_from_slice(b" u(); ")?;
+        }
+        source.extend_from_slice(b"endmodule ")?;
+    }
+    Ok(source)
+}
+
+/// The path of the first instance below so many levels.
+fn path_below(alloc: Global, levels: usize) -> Result<Vec<u8>, AllocError> {
+    let mut path = Vec::from_slice(alloc, b"t")?;
+    for _ in 0..levels {
+        path.extend_from_slice(b".u")?;
+    }
+    Ok(path)
+}
+
+// The top is the first of 64 levels.
+#[test]
+fn deep_hierarchy(rt: HostRuntime) -> Result<(), Fail> {
+    let alloc = rt.alloc();
+    let answer = run(alloc, "vsim elab --top t", &chain(alloc)?)?;
+    let mut err = Vec::from_slice(alloc, b"vsim: E7 at ")?;
+    err.extend_from_slice(&path_below(alloc, 64)?)?;
+    err.push(b'\n')?;
+    assert_eq!(rt; answer.err.as_slice(), err.as_slice());
+    assert_eq!(rt; answer.status, 1);
+    let fits = run(alloc, "vsim elab --top m6", &chain(alloc)?)?;
+    assert_eq!(rt; fits.status, 0);
+    Ok(())
+}

@@ -12,11 +12,15 @@ mod fifo;
 #[cfg(test)]
 mod headers;
 #[cfg(test)]
+mod hierarchy;
+#[cfg(test)]
 mod large;
 #[cfg(test)]
 mod orders;
 #[cfg(test)]
 mod refusals;
+#[cfg(test)]
+mod refused_hierarchy;
 #[cfg(test)]
 mod refused_selects;
 #[cfg(test)]

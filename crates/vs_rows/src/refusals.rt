@@ -1,5 +1,6 @@
 //! Rows that are refused, and sources that are cut.
 
+use crate::refused_hierarchy::REFUSED_HIERARCHY;
 use crate::refused_selects::REFUSED_SELECTS;
 use crate::running::{Row, compare, run};
 use std::alloc::{AllocError, Global};
@@ -132,6 +133,12 @@ fn compare_refusals(
 #[test]
 fn refusals(rt: HostRuntime) -> Result<(), Fail> {
     compare_refusals(&rt, rt.alloc(), REFUSALS)?;
+    Ok(())
+}
+
+#[test]
+fn refused_hierarchy(rt: HostRuntime) -> Result<(), Fail> {
+    compare_refusals(&rt, rt.alloc(), REFUSED_HIERARCHY)?;
     Ok(())
 }
 

@@ -6,8 +6,35 @@ use vs_lexer::lex;
 use vs_parser::parse;
 
 /// Sources, and the texts of their faults.
-const ROWS: [(&str, &str); 77] = [
+const ROWS: [(&str, &str); 98] = [
     ("module t; initial fork join endmodule", "P2 at 18: fork"),
+    ("module t(a); endmodule", "P1 at 9"),
+    ("module t(, input a); endmodule", "P1 at 9"),
+    ("module t(input a, ); endmodule", "P1 at 18"),
+    ("module t(input signed reg a); endmodule", "P1 at 22"),
+    ("module t(inout a); endmodule", "P2 at 9: inout"),
+    ("module t(output reg a = 0); endmodule", "P1 at 22"),
+    ("module t #(); endmodule", "P1 at 11"),
+    ("module t #(A = 1); endmodule", "P1 at 11"),
+    ("module t #(parameter A); endmodule", "P1 at 22"),
+    ("module t #(localparam A = 1); endmodule", "P1 at 11"),
+    (
+        "module t (input a) #(parameter A = 1); endmodule",
+        "P1 at 19",
+    ),
+    (
+        "module t; parameter integer signed A = 1; endmodule",
+        "P1 at 28",
+    ),
+    ("module t; parameter A; endmodule", "P1 at 21"),
+    ("module t; s u; endmodule", "P1 at 13"),
+    ("module t; s; endmodule", "P1 at 11"),
+    ("module t; s #1 u(); endmodule", "P1 at 13"),
+    ("module t; s u(.a); endmodule", "P1 at 16"),
+    ("module t; s u(.a(1), 2); endmodule", "P1 at 21"),
+    ("module t; s u(1, .a(2)); endmodule", "P1 at 17"),
+    ("module t; s u(.a(1), ); endmodule", "P1 at 21"),
+    ("module t; s u(a) v(b); endmodule", "P1 at 17"),
     ("module t; initial a = 1 endmodule", "P1 at 24"),
     ("module t; reg a; endmodule ;", "P1 at 27"),
     ("module t; initial a <= b ** 2; endmodule", "P2 at 25: **"),

@@ -1,4 +1,5 @@
 //! Syntax trees of sources.
+use crate::instances::{constants_shown, instances_shown};
 use std::alloc::Global;
 use std::process::Abort;
 use std::test::Fail;
@@ -8,7 +9,7 @@ use vs_parser::parse;
 use vs_syntax::{Declarator, Expr, Form, Item, Left, NetAssignment, PartSelect, Range, Stmt};
 
 /// Two texts behind a text.
-fn put(text: &mut Vec<u8>, before: &[u8], inner: &[u8]) -> Result<(), Fail> {
+pub(crate) fn put(text: &mut Vec<u8>, before: &[u8], inner: &[u8]) -> Result<(), Fail> {
     text.extend_from_slice(before)?;
     text.extend_from_slice(inner)?;
     Ok(())
@@ -18,7 +19,7 @@ fn put(text: &mut Vec<u8>, before: &[u8], inner: &[u8]) -> Result<(), Fail> {
 const DEPTH: u32 = 256;
 
 /// An expression in one line, each chain, each conditional and each operator with its operand in brackets, each select behind a bar.
-fn shown(alloc: Global, e: &Expr) -> Result<Vec<u8>, Fail> {
+pub(crate) fn shown(alloc: Global, e: &Expr) -> Result<Vec<u8>, Fail> {
     shown_within(alloc, DEPTH, e)
 }
 
@@ -351,7 +352,7 @@ fn names_shown(alloc: Global, names: &[Declarator]) -> Result<Vec<u8>, Fail> {
 }
 
 /// What a declaration says of its names.
-fn form_shown(alloc: Global, form: &Form) -> Result<Vec<u8>, Fail> {
+pub(crate) fn form_shown(alloc: Global, form: &Form) -> Result<Vec<u8>, Fail> {
     let mut text = Vec::new(alloc);
     if form.signed {
         text.extend_from_slice(b" signed")?;
@@ -393,6 +394,27 @@ fn item_shown(alloc: Global, item: &Item) -> Result<Vec<u8>, Fail> {
             text.extend_from_slice(&names_shown(alloc, names)?)?;
         }
         Item::Integer(names) => put(&mut text, b"integer", &names_shown(alloc, names)?)?,
+        Item::Parameter(form, constants) => {
+            put(
+                &mut text,
+                b"parameter",
+                &constants_shown(alloc, form, constants)?,
+            )?;
+        }
+        Item::Localparam(form, constants) => {
+            put(
+                &mut text,
+                b"localparam",
+                &constants_shown(alloc, form, constants)?,
+            )?;
+        }
+        Item::Instances(name, overrides, instances) => {
+            put(
+                &mut text,
+                name,
+                &instances_shown(alloc, overrides, instances)?,
+            )?;
+        }
         Item::Initial(Stmt::Assign(left, value)) => {
             text.extend_from_slice(&sides_shown(alloc, left, b" = ", value)?)?;
         }
@@ -412,7 +434,7 @@ fn item_shown(alloc: Global, item: &Item) -> Result<Vec<u8>, Fail> {
 }
 
 /// Declarations (clauses 4.2, 4.3 and 4.8), and what they are shown as.
-const DECLARATIONS: [(&str, &str); 15] = [
+const DECLARATIONS: [(&str, &str); 26] = [
     ("wire a;", "wire a"),
     ("wire a, b = c, d;", "wire a b = c d"),
     ("wire signed a;", "wire signed a"),
@@ -439,6 +461,23 @@ const DECLARATIONS: [(&str, &str); 15] = [
         "reg m from 0 to 0 n p = q r from s to t",
     ),
     ("integer n [1:2];", "integer n from 0 to 0"),
+    ("parameter A = b;", "parameter A = b"),
+    (
+        "parameter integer A = b, C = d;",
+        "parameter integer A = b C = d",
+    ),
+    (
+        "localparam signed [a:b] C = d + e;",
+        "localparam signed from a to b C = [d + e]",
+    ),
+    ("s u();", "s u (|)"),
+    ("s u(,);", "s u (| |)"),
+    ("s u(a, , b + c);", "s u (a | [b + c])"),
+    ("s u(.a(b), .c());", "s u ( .a b .c |)"),
+    ("s u(a), v(b);", "s u (a) v (b)"),
+    ("s #(a, b) u(c);", "s # (a b) u (c)"),
+    ("s #(.A(b), .C(d)) u(.e(f));", "s # ( .A b .C d) u ( .e f)"),
+    ("s #() u();", "s # (|) u (|)"),
     (
         "assign a = b, c[d] = e, {f, g[h:i]} = j;",
         "assign a = b c|d = e {f, g|h to i} = j",

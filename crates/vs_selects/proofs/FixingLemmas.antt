@@ -1,5 +1,5 @@
 -- Places that no store changes.
-use Rattle.std.proofs.Common.{◌≡◌, ℕ, suc, ◌<◌, ◌≤◌, ℤ, pos, negsuc, neg_ℤ, ◌≤ℤ◌, ◌<ℤ◌, nat_lt, if◌then◌else◌, Bool, true, false, List, [], ◌∷◌, ◌++◌, Option, Some, None, option_map, refl, ap, ap₂, sym, subst, ◌∙◌, arith}
+use Rattle.std.proofs.Common.{◌≡◌, ℕ, suc, ◌<◌, ◌≤◌, ℤ, pos, negsuc, neg_ℤ, ◌≤ℤ◌, nat_lt, if◌then◌else◌, Bool, true, false, List, [], ◌∷◌, ◌++◌, Option, Some, None, option_map, refl, ap, ap₂, sym, subst, ◌∙◌, arith}
 use Rattle.std.proofs.lemmas.Bool.{ltb-true}
 use Rattle.std.proofs.lemmas.Int.{ints}
 use Rattle.std.specs.declared.boxed.Box.{Box}
@@ -12,7 +12,7 @@ use Rattle.vs_design.specs.declared.expression.Selection.{Selection}
 use Rattle.vs_design.specs.declared.range.BitRange.{BitRange}
 use Rattle.vs_design.specs.Selects.{index_number, lowest, in_reach, reached, place_of, word_place}
 use Rattle.vs_design.specs.Stores.{Store, word_of}
-use Rattle.vs_design.specs.Uses.{all_words, slice_range, bits_from}
+use Rattle.vs_design.specs.Uses.{all_words, slice_range}
 use Rattle.vs_design.specs.WellFormed.{indexed_size}
 use Rattle.vs_eval.specs.Values.{bits_value, selection_value}
 use mir.Syntax.{w32}
@@ -24,10 +24,10 @@ use Rattle.vs_forms.specs.declared.forms.Form.TheOpen as f
 use Rattle.vs_forms.specs.Senses.{sense}
 use Rattle.vs_forms.proofs.FittingLemmas.{layer}
 use Rattle.vs_selects.specs.declared.places.Place.{Place}
-use Rattle.vs_selects.specs.Findings.{Finding, Has, at_found}
-use Rattle.vs_selects.specs.Meants.{Meant, own}
+use Rattle.vs_selects.specs.Findings.{Has, at_found}
+use Rattle.vs_selects.specs.Meants.{Meant}
 use Rattle.vs_selects.specs.Selects.{Named, size_found, range_by, named_range, named_reads, named_value, operand_meant}
-use Rattle.vs_selects.specs.passes.Measures.{meaning, IsFlexible, IsMeasured, IsOwnPart}
+use Rattle.vs_selects.specs.passes.Measures.{meaning, IsMeasured, IsOwnPart}
 use Rattle.vs_selects.specs.passes.Places.{IsPlaced, IsAlone, IsFixed, IsChosen}
 
 -- ---- how far a place may be out of range

@@ -1,5 +1,5 @@
 -- What a name with selects names.
-use Rattle.std.proofs.Common.{◌≡◌, ℕ, suc, ◌+◌, ◌≤◌, ◌<◌, ℤ, pos, ◌-ℤ◌, unsigned_abs, Bool, true, false, ◌||◌, List, [], ◌∷◌, ◌++◌, Option, Some, None, IsSome, is_some, length, take, drop, slice_index_or, nat_le, refl, ap, ap₂, sym, subst, ◌∙◌, arith}
+use Rattle.std.proofs.Common.{◌≡◌, ℕ, suc, ◌≤◌, ◌<◌, ℤ, pos, ◌-ℤ◌, unsigned_abs, Bool, true, false, List, [], ◌∷◌, ◌++◌, Option, Some, None, is_some, length, take, drop, slice_index_or, refl, ap, ap₂, sym, subst, ◌∙◌, arith}
 use Rattle.std.specs.List.{All}
 use Rattle.std.proofs.lemmas.Bool.{le-leb}
 use Rattle.vs_logic4.specs.declared.digit.Digit.{Digit}
@@ -8,10 +8,9 @@ use Rattle.vs_syntax.specs.declared.tree.PartSelect.{PartSelect}
 use Rattle.vs_design.specs.declared.expression.Axis.{Axis}
 use Rattle.vs_design.specs.declared.range.BitRange.{BitRange}
 use Rattle.vs_design.specs.declared.signal.Bounds.{Bounds}
-use Rattle.vs_design.specs.Selects.{index_number, reached, place_of, word_place, from_zero}
+use Rattle.vs_design.specs.Selects.{index_number, reached, place_of, from_zero}
 use Rattle.vs_design.specs.Stores.{Store}
 use Rattle.vs_forms.specs.declared.shape.Shape.{Shape}
-use Rattle.vs_forms.specs.declared.forms.Form.{Form}
 use Rattle.vs_forms.specs.declared.forms.Form.TheVariants as v
 use Rattle.vs_forms.specs.declared.forms.Form.TheOpen as f
 use Rattle.vs_forms.specs.declared.forms.Measured.{Measured}
@@ -21,13 +20,13 @@ use Rattle.vs_selects.specs.declared.faults.WidthReason.{WidthReason}
 use Rattle.vs_selects.specs.declared.faults.WidthReason.TheVariants.{WrongKind}
 use Rattle.vs_selects.specs.declared.faults.WidthFault.{WidthFault}
 use Rattle.vs_selects.specs.declared.faults.WidthFault.TheVariants.{Memory, Refused}
-use Rattle.vs_selects.specs.declared.bindings.Binding.{Binding}
+use Rattle.vs_selects.specs.declared.bindings.Meaning.{Meaning}
 use Rattle.vs_selects.specs.declared.places.Extent.{Extent}
 use Rattle.vs_selects.specs.declared.places.Place.{Place}
-use Rattle.vs_selects.specs.Findings.{Finding, Has, Lacks, stands, not_constant, together, alone, second, unsigned, Refuses}
-use Rattle.vs_selects.specs.Meants.{Meant, own}
+use Rattle.vs_selects.specs.Findings.{Finding, Has, Lacks, stands, together, alone, second, Refuses}
+use Rattle.vs_selects.specs.Meants.{own}
 use Rattle.vs_selects.specs.Constants.{where_none, where_some, whole_of, natural_of, positive, constant_finding, whole_finding, count_finding}
-use Rattle.vs_selects.specs.Selects.{Select, Span, lowest_of, lowest_at, between, bounds_finding, bounds_span, is_reversed, counted, base_finding, all_bits, span_of, Named, in_signal, in_word, in_array, of_words, named}
+use Rattle.vs_selects.specs.Selects.{Select, Span, lowest_of, lowest_at, between, bounds_finding, bounds_span, is_reversed, counted, base_finding, all_bits, span_of, in_signal, in_word, in_array, of_words}
 use Rattle.vs_selects.specs.passes.Measures.{meaning, IsFlexible, IsWhole}
 use Rattle.vs_selects.specs.passes.Places.{select_meaning, selects_meaning, IsFlexibleSelect, IsZero, IsAxis, IsExtent, IsPlaced}
 
@@ -159,21 +158,20 @@ placed_in_word b count signal a x e s h k l p = record {
 
 -- ---- selects of an array
 
-array_placed_by : (b : Bounds) (x : Binding) (y : Measured × Option (PartSelect × Measured)) (ys : List (Measured × Option (PartSelect × Measured))) (i : Measured) (a : Axis) (e : Extent) → y ≡ (i, None) →
-    IsAxis b x.meaning.count 0 a → a.signed ≡ i.shape.signed → IsFlexible i.form → IsExtent (span_of x.meaning.bits x.meaning.shape (selects_meaning ys)) e →
-    IsPlaced (in_array b x (select_meaning y ∷ selects_meaning ys)) (record { signal = x.signal; words = a; word = i; extent = e })
-array_placed_by b x y ys i a e h k l m p =
-    rw h (placed_in_word b x.meaning.count x.signal a i e (span_of x.meaning.bits x.meaning.shape (selects_meaning ys)) k l m p)
+array_placed_by : (b : Bounds) (x : Meaning) (signal : ℕ) (y : Measured × Option (PartSelect × Measured)) (ys : List (Measured × Option (PartSelect × Measured))) (i : Measured) (a : Axis) (e : Extent) → y ≡ (i, None) →
+    IsAxis b x.count 0 a → a.signed ≡ i.shape.signed → IsFlexible i.form → IsExtent (span_of x.bits x.shape (selects_meaning ys)) e →
+    IsPlaced (in_array b x signal (select_meaning y ∷ selects_meaning ys)) (record { signal = signal; words = a; word = i; extent = e })
+array_placed_by b x signal y ys i a e h k l m p =
+    rw h (placed_in_word b x.count signal a i e (span_of x.bits x.shape (selects_meaning ys)) k l m p)
 
-pub array_placed : (b : Bounds) (x : Binding) (xs rest : List (Measured × Option (PartSelect × Measured))) (i : Measured) (o : Option (PartSelect × Measured)) (a : Axis) (e : Extent) → (length xs ≡ 0 → ⊥) →
-    (i, o) ≡ slice_index_or xs 0 (i, o) → rest ≡ take 0 xs ++ drop 1 xs → is_some o ≡ false → All IsFlexibleSelect xs → IsAxis b x.meaning.count 0 a → a.signed ≡ i.shape.signed →
-    IsExtent (span_of x.meaning.bits x.meaning.shape (selects_meaning rest)) e → IsPlaced (in_array b x (selects_meaning xs)) (record { signal = x.signal; words = a; word = i; extent = e })
-array_placed b x [] rest i o a e h k r n m l g p = absurd (h refl)
-array_placed b x (y ∷ ys) rest i (Some z) a e h k r n m l g p = cc
-array_placed b x (y ∷ ys) rest i None a e h k r n m l g p =
+pub array_placed : (b : Bounds) (x : Meaning) (signal : ℕ) (xs rest : List (Measured × Option (PartSelect × Measured))) (i : Measured) (o : Option (PartSelect × Measured)) (a : Axis) (e : Extent) → (length xs ≡ 0 → ⊥) →
+    (i, o) ≡ slice_index_or xs 0 (i, o) → rest ≡ take 0 xs ++ drop 1 xs → is_some o ≡ false → All IsFlexibleSelect xs → IsAxis b x.count 0 a → a.signed ≡ i.shape.signed →
+    IsExtent (span_of x.bits x.shape (selects_meaning rest)) e → IsPlaced (in_array b x signal (selects_meaning xs)) (record { signal = signal; words = a; word = i; extent = e })
+array_placed b x signal [] rest i o a e h k r n m l g p = absurd (h refl)
+array_placed b x signal (y ∷ ys) rest i (Some z) a e h k r n m l g p = cc
+array_placed b x signal (y ∷ ys) rest i None a e h k r n m l g p =
     let flexible : IsFlexibleSelect (i, None) = subst IsFlexibleSelect (sym k) (m 0 (i, None) (omega arith)) in
-    array_placed_by b x y ys i a e (sym k) l g flexible (subst (λ z. IsExtent (span_of x.meaning.bits x.meaning.shape (selects_meaning z)) e) r p)
+    array_placed_by b x signal y ys i a e (sym k) l g flexible (subst (λ z. IsExtent (span_of x.bits x.shape (selects_meaning z)) e) r p)
 
-pub named_placed : (o : Option Binding) (b : Binding) (ss : List Select) (p : Place) → o ≡ Some b → b.meaning.words ≡ None →
-    IsPlaced (in_signal b.signal (span_of b.meaning.bits b.meaning.shape ss)) p → IsPlaced (named o ss) p
-named_placed o b ss p h k q = rw (h, k) q
+pub words_placed : (o : Option Bounds) (m : Meaning) (signal : ℕ) (ss : List Select) (p : Place) → o ≡ None → IsPlaced (in_signal signal (span_of m.bits m.shape ss)) p → IsPlaced (of_words o m signal ss) p
+words_placed o m signal ss p h q = rw h q

@@ -12,7 +12,9 @@ use Rattle.vs_design.specs.Stores.{Store, word_of}
 use Rattle.vs_design.specs.Uses.{all_words, bits_from}
 use Rattle.vs_eval.specs.Values.{bits_value}
 use Rattle.vs_forms.specs.declared.shape.Shape.{Shape}
+use Rattle.vs_selects.specs.declared.bindings.Meaning.{Meaning}
 use Rattle.vs_selects.specs.declared.bindings.Binding.{Binding}
+use Rattle.vs_selects.specs.declared.bindings.Binding.TheVariants.{Signal, Constant, Pending, Other}
 use Rattle.vs_selects.specs.declared.faults.WidthReason.{WidthReason}
 use Rattle.vs_selects.specs.Findings.{Finding, Has, Lacks, stands, unknown, wrong_kind, not_constant, together, alone, second, unsigned, at_found}
 use Rattle.vs_selects.specs.Meants.{Meant, own}
@@ -174,20 +176,23 @@ in_word b count signal i s = record {
 }
 
 -- what selects choose of an array: the first the word, and those behind it of its bits (clause 5.2.2)
-abbrev pub in_array : Bounds → Binding → List Select → Named
-in_array b x [] = in_signal x.signal (no_bits wrong_kind [])
-in_array b x ((i, None) ∷ ss) = in_word b x.meaning.count x.signal i (span_of x.meaning.bits x.meaning.shape ss)
-in_array b x ((i, Some m) ∷ ss) = in_signal x.signal (no_bits wrong_kind ((i, Some m) ∷ ss))
+abbrev pub in_array : Bounds → Meaning → ℕ → List Select → Named
+in_array b x signal [] = in_signal signal (no_bits wrong_kind [])
+in_array b x signal ((i, None) ∷ ss) = in_word b x.count signal i (span_of x.bits x.shape ss)
+in_array b x signal ((i, Some m) ∷ ss) = in_signal signal (no_bits wrong_kind ((i, Some m) ∷ ss))
 
 -- what selects choose of a signal, with the range of its words where it is an array
-abbrev pub of_words : Option Bounds → Binding → List Select → Named
-of_words None x ss = in_signal x.signal (span_of x.meaning.bits x.meaning.shape ss)
-of_words (Some b) x ss = in_array b x ss
+abbrev pub of_words : Option Bounds → Meaning → ℕ → List Select → Named
+of_words None x signal ss = in_signal signal (span_of x.bits x.shape ss)
+of_words (Some b) x signal ss = in_array b x signal ss
 
--- what a name with selects names, by what the name is bound to (clauses 5.2 and 12.7)
+-- what a name with selects names, by what it is bound to (clauses 5.2 and 12.7); bits of a constant can't be selected (profile)
 abbrev pub named : Option Binding → List Select → Named
 named None ss = in_signal 0 (no_bits unknown ss)
-named (Some x) ss = of_words x.meaning.words x ss
+named (Some (Signal x signal)) ss = of_words x.words x signal ss
+named (Some (Constant c)) ss = in_signal 0 (no_bits wrong_kind ss)
+named (Some Pending) ss = in_signal 0 (no_bits not_constant ss)
+named (Some Other) ss = in_signal 0 (no_bits wrong_kind ss)
 
 -- ---- values
 

@@ -1,6 +1,7 @@
 //! What names are bound to.
 ghost use Rattle.std.specs.Prelude.{◌<◌, ◌≤◌, ◌^◌};
 
+use crate::constants::Const;
 use vs_design::{Bounds, SignalKind};
 use vs_forms::Shape;
 
@@ -23,9 +24,13 @@ pub struct Meaning {
 
 /// What a name is bound to.
 #[derive(Clone, Copy)]
-pub struct Binding {
-    /// What the name means.
-    pub meaning: Meaning,
-    /// The number of its signal in design order.
-    pub signal: usize,
+pub enum Binding {
+    /// A signal: what its name means, and its number in design order.
+    Signal(Meaning, usize),
+    /// A constant of this value (IEEE 1364-2005, clause 12.2).
+    Constant(Const),
+    /// A constant whose value isn't known yet where it is asked for.
+    Pending,
+    /// What has no value: an instance.
+    Other,
 }

@@ -11,15 +11,15 @@ pub enum WidthReason {
     /// A size of more than 64 bits (profile).
     #[error("X1")]
     TooWide,
-    /// A name that is no signal. There are no implicit nets (IEEE 1364-2005, clause 4.5): each net has a declaration.
+    /// A name that isn't declared. There are no implicit nets (IEEE 1364-2005, clause 4.5): each net has a declaration.
     #[error("X2")]
     Unknown,
     /// No constant where one is wanted, or one out of its range: a delay that is negative or has an x or z digit, a count of a replication or
     /// the size of a part-select below 1, bounds of a part-select that run against those of the range.
     #[error("X3")]
     NotConstant,
-    /// A net that a procedural assignment assigns to, or a variable that a continuous one does; or selects that the declaration of the name
-    /// doesn't allow.
+    /// A net that a procedural assignment assigns to, or a variable that a continuous one does; selects that the declaration of the name
+    /// doesn't allow; or a name that has no value.
     #[error("X4")]
     WrongKind,
 }

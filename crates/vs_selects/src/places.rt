@@ -1,11 +1,11 @@
 //! What a name with its selects names (IEEE 1364-2005, clauses 5.2.1 and 5.2.2).
 ghost use Rattle.std.specs.Prelude.{◌≡◌, ◌<◌, ◌≤◌, ◌^◌};
 ghost use Rattle.std.specs.List.{All};
-ghost use Rattle.vs_selects.specs.Selects.{Span, all_bits, bit_span, bounds_span, base_span, below_base, select_span, span_of, is_reversed, named, in_array, in_signal};
+ghost use Rattle.vs_selects.specs.Selects.{Span, all_bits, bit_span, bounds_span, base_span, below_base, select_span, span_of, is_reversed, named, of_words, in_array, in_signal};
 ghost use Rattle.vs_selects.specs.passes.Measures.{meaning, IsFlexible};
 ghost use Rattle.vs_selects.specs.passes.Places.{select_meaning, selects_meaning, IsFlexibleSelect, IsZero, IsAxis, IsExtent, Extends, IsPlaced, Places};
 
-use crate::bindings::Binding;
+use crate::bindings::{Binding, Meaning};
 use crate::constants::{NOT_CONSTANT, count_of, whole_of};
 use crate::faults::{WidthFault, WidthReason};
 use std::alloc::Global;
@@ -248,11 +248,12 @@ fn in_signal(signal: usize, extent: Extent) -> Place
 fn in_array(
     alloc: Global,
     words: Bounds,
-    binding: Binding,
+    meaning: Meaning,
+    signal: usize,
     selects: Vec<(Measured, Option<(PartSelect, Measured)>)>,
 ) -> Result<Place, WidthFault>
     requires flexible { All IsFlexibleSelect selects.items }
-    ensures { Places (in_array words binding (selects_meaning selects.items)) result }
+    ensures { Places (in_array words meaning signal (selects_meaning selects.items)) result }
 {
     if selects.len() == 0 {
         return Err(WRONG_KIND);
@@ -262,14 +263,32 @@ fn in_array(
     if part.is_some() {
         return Err(WRONG_KIND);
     }
-    let meaning = binding.meaning;
     let extent = bits_of(alloc, meaning.bits, meaning.shape, selects)?;
     Ok(Place {
-        signal: binding.signal,
+        signal,
         words: axis(words, meaning.count, 0, index.shape.signed),
         word: index,
         extent,
     })
+}
+
+/// What selects choose of a signal.
+fn of_words(
+    alloc: Global,
+    meaning: Meaning,
+    signal: usize,
+    selects: Vec<(Measured, Option<(PartSelect, Measured)>)>,
+) -> Result<Place, WidthFault>
+    requires flexible { All IsFlexibleSelect selects.items }
+    ensures { Places (of_words meaning.words meaning signal (selects_meaning selects.items)) result }
+{
+    match meaning.words {
+        None => {
+            let extent = bits_of(alloc, meaning.bits, meaning.shape, selects)?;
+            Ok(in_signal(signal, extent))
+        }
+        Some(words) => in_array(alloc, words, meaning, signal, selects),
+    }
 }
 
 /// What a name with its selects names.
@@ -284,12 +303,10 @@ pub fn named(
     let Some(binding) = binding else {
         return Err(WidthFault::Refused(WidthReason::Unknown));
     };
-    let meaning = binding.meaning;
-    match meaning.words {
-        None => {
-            let extent = bits_of(alloc, meaning.bits, meaning.shape, selects)?;
-            Ok(in_signal(binding.signal, extent))
-        }
-        Some(words) => in_array(alloc, words, binding, selects),
+    match binding {
+        Binding::Signal(meaning, signal) => of_words(alloc, meaning, signal, selects),
+        Binding::Constant(_) => Err(WRONG_KIND),
+        Binding::Pending => Err(NOT_CONSTANT),
+        Binding::Other => Err(WRONG_KIND),
     }
 }

@@ -1,14 +1,17 @@
 -- How the program ends: its exit status (profile).
-use Rattle.std.specs.Prelude.{ℕ, ◌≡◌, ◌⊎◌, Option, List}
+use Rattle.std.specs.Prelude.{ℕ, ◌≡◌, ◌⊎◌, Option, None, Some, List}
 use Rattle.std.specs.Io.KnownBytes.{Keeps}
 use Rattle.vs_kernel.specs.declared.outcome.Outcome.{Outcome}
 use Rattle.vs_sim.specs.declared.fault.SimFault.{SimFault}
 use Rattle.vs_sim.specs.declared.words.Request.{Request}
+use Rattle.vs_sim.specs.declared.words.Call.{Call}
+use Rattle.vs_sim.specs.declared.words.Call.TheVariants.{Run, Elab}
 use Rattle.vs_sim.specs.declared.words.Text.{Text}
 use Rattle.vs_sim.specs.declared.words.Text.TheVariants.{Lines, Dump}
 use Rattle.vs_sim.specs.Asks.{WordsAsk}
 use Rattle.vs_sim.specs.Honesty.{IsRun, Fails}
 use Rattle.vs_sim.specs.Inputs.{IsKept}
+use Rattle.vs_sim.specs.Listing.{IsListed}
 use Rattle.vs_sim.specs.Statuses.{outcome_status, fault_status}
 
 -- a run of these bytes, as it was asked for, gave this outcome
@@ -22,17 +25,46 @@ abbrev pub Wrote : Text → List ℕ → Request → Outcome → Option (List �
 Wrote Dump bytes q outcome old new = IsRun bytes q.top.now q.until.count q.steps.count outcome old new
 Wrote Lines bytes q outcome old new = HasRun bytes q outcome × Keeps old new
 
--- how a run that was asked for ends, with the bytes kept of the input: by its outcome, by its fault, or with 3 where a device or memory failed
-pub data EndsRun (input : Option (List ℕ)) (q : Request) (status : ℕ) : Type 0 where
-  by_outcome : (bytes : List ℕ) (outcome : Outcome) → IsKept input bytes → HasRun bytes q outcome → status ≡ outcome_status outcome → EndsRun input q status
-  by_fault : (bytes : List ℕ) (fault : SimFault) → IsKept input bytes → Fails bytes q.top.now fault → status ≡ fault_status fault → EndsRun input q status
-  by_device : status ≡ 3 → EndsRun input q status
+-- the listing of the design that these bytes and a top define was written
+pub record HasListed (bytes top : List ℕ) : Type 0 where
+  pub old : Option (List ℕ)
+  pub new : Option (List ℕ)
+  pub listed : IsListed bytes top old new
 
--- the status where the words ask for no run: 0 for help, 3 for want of memory or a device, 64 for a fault of the words
+-- the top that a call asks for
+abbrev pub top_of : Call → List ℕ
+top_of (Run q) = q.top.now
+top_of (Elab top) = top.now
+
+-- what a call did with these bytes: a run gave an outcome, or the design was listed
+abbrev pub HasDone : List ℕ → Call → Option Outcome → Type 0
+HasDone bytes (Run q) (Some outcome) = HasRun bytes q outcome
+HasDone bytes (Elab top) None = HasListed bytes top.now
+HasDone bytes call _ = ⊥
+
+-- what a call wrote to the writer
+abbrev pub HasWritten : List ℕ → Call → Option Outcome → Option (List ℕ) → Option (List ℕ) → Type 0
+HasWritten bytes (Run q) (Some outcome) old new = Wrote q.text bytes q outcome old new
+HasWritten bytes (Elab top) None old new = IsListed bytes top.now old new
+HasWritten bytes call _ old new = ⊥
+
+-- the status of what was done
+abbrev pub done_status : Option Outcome → ℕ
+done_status None = 0
+done_status (Some outcome) = outcome_status outcome
+
+-- how a call that was asked for ends, with the bytes kept of the input: by what it did, by its fault, or with 3 where a device or memory failed
+pub data EndsCall (input : Option (List ℕ)) (call : Call) (status : ℕ) : Type 0 where
+  by_doing : (bytes : List ℕ) (done : Option Outcome) → IsKept input bytes → HasDone bytes call done → status ≡ done_status done → EndsCall input call status
+  by_fault : (bytes : List ℕ) (fault : SimFault) → IsKept input bytes → Fails bytes (top_of call) fault → status ≡ fault_status fault →
+      EndsCall input call status
+  by_device : status ≡ 3 → EndsCall input call status
+
+-- the status where the words ask for nothing: 0 for help, 3 for want of memory or a device, 64 for a fault of the words
 abbrev pub IsWordsStatus : ℕ → Type 0
 IsWordsStatus status = (status ≡ 0) ⊎ ((status ≡ 3) ⊎ (status ≡ 64))
 
 -- how the program ends, with these words and this input
 pub data Ends (words : List (List ℕ)) (input : Option (List ℕ)) (status : ℕ) : Type 0 where
-  without_run : IsWordsStatus status → Ends words input status
-  with_run : (q : Request) → WordsAsk words q → EndsRun input q status → Ends words input status
+  without_call : IsWordsStatus status → Ends words input status
+  with_call : (call : Call) → WordsAsk words call → EndsCall input call status → Ends words input status

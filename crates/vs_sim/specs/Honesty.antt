@@ -7,7 +7,7 @@ use Rattle.vs_syntax.specs.Derives.{Derives}
 use Rattle.vs_syntax.specs.declared.tree.Source.{Source}
 use Rattle.vs_parser.specs.Faults.{IsRefused}
 use Rattle.vs_parser.specs.declared.fault.ParseFault.{ParseFault}
-use Rattle.vs_elaborate.specs.declared.faults.ElabFault.{ElabFault}
+use Rattle.vs_scopes.specs.declared.faults.ElabFault.{ElabFault}
 use Rattle.vs_design.specs.Parts.{Parts}
 use Rattle.vs_elaborate.specs.DesignOf.{DesignOf}
 use Rattle.vs_elaborate.specs.Faults.{Faults}

@@ -4,8 +4,8 @@ use Rattle.vs_lexer.specs.declared.fault.LexFault.{LexFault}
 use Rattle.vs_lexer.specs.declared.fault.LexFault.TheVariants as lex
 use Rattle.vs_parser.specs.declared.fault.ParseFault.{ParseFault}
 use Rattle.vs_parser.specs.declared.fault.ParseFault.TheVariants as parse
-use Rattle.vs_elaborate.specs.declared.faults.ElabFault.{ElabFault}
-use Rattle.vs_elaborate.specs.declared.faults.ElabFault.TheVariants as elab
+use Rattle.vs_scopes.specs.declared.faults.ElabFault.{ElabFault}
+use Rattle.vs_scopes.specs.declared.faults.ElabFault.TheVariants as elab
 use Rattle.vs_kernel.specs.declared.outcome.Outcome.{Outcome}
 use Rattle.vs_kernel.specs.declared.outcome.Outcome.TheVariants as o
 use Rattle.vs_sim.specs.declared.fault.SimFault.{SimFault}

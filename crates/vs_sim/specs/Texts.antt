@@ -2,7 +2,7 @@
 use Rattle.std.specs.Prelude.{ℕ, List, codes}
 use Rattle.vs_lexer.specs.Faults as lexer
 use Rattle.vs_parser.specs.Faults as parser
-use Rattle.vs_elaborate.specs.Texts as elaborate
+use Rattle.vs_scopes.specs.Texts as elaborate
 use Rattle.vs_kernel.specs.declared.outcome.RunFault.TheVariants as run
 use Rattle.vs_sim.specs.declared.fault.SimFault.{SimFault}
 use Rattle.vs_sim.specs.declared.fault.SimFault.TheVariants.{Lex, Parse, Elab, Run, Memory}

@@ -1,16 +1,17 @@
 //! The program: words, a reader and two writers in, an exit status out.
 ghost use Rattle.std.specs.Prelude.{◌≡◌, ◌⊎◌, map, IfOk, IfErr};
 ghost use Rattle.vs_sim.specs.Asks.{WordsAsk};
-ghost use Rattle.vs_sim.specs.Ends.{Ends, EndsRun, Wrote, IsWordsStatus};
+ghost use Rattle.vs_sim.specs.Ends.{Ends, EndsCall, HasWritten, Wrote, IsWordsStatus, done_status, top_of};
 ghost use Rattle.vs_sim.specs.Honesty.{Fails};
-ghost use Rattle.vs_sim.specs.Statuses.{outcome_status, fault_status};
+ghost use Rattle.vs_sim.specs.Statuses.{fault_status};
 
 use crate::dropped::Dropped;
 use crate::fault::SimFault;
 use crate::input::{InputFault, read_source};
+use crate::listing::list_design;
 use crate::simulation::{Policy, simulate};
 use crate::texts::{fault_status, fault_text};
-use crate::words::{Request, Text, is_help, is_memory, read_words};
+use crate::words::{Call, Request, Text, is_help, is_memory, read_words};
 use clap::Error;
 use std::alloc::Global;
 use std::io::{self, BufWriter, ErrorKind, Read, Write};
@@ -38,7 +39,7 @@ pub fn program<R: Read + Drop, O: Write + Drop, E: Write + Drop>(
     ensures { Ends (map (λ w. w.now) words.entry.now) (R.remaining input) result }
 {
     match read_words(alloc, words) {
-        Ok(Some(request)) => run_request(alloc, request, input, out, err),
+        Ok(Some(call)) => answer(alloc, call, input, out, err),
         Ok(None) => MISUSED,
         Err(error) => tell_words(&error, out, err),
     }
@@ -82,15 +83,15 @@ fn tell<E: Write + Drop>(mut err: E, text: &[u8], status: u8) -> u8
     status
 }
 
-// Reads the source and runs it.
-fn run_request<R: Read + Drop, O: Write + Drop, E: Write + Drop>(
+// Reads the source and does with it what a call asks for.
+fn answer<R: Read + Drop, O: Write + Drop, E: Write + Drop>(
     alloc: Global,
-    request: Request,
+    call: Call,
     input: R,
     out: O,
     err: E,
 ) -> u8
-    ensures { EndsRun (R.remaining input) request.entry result }
+    ensures { EndsCall (R.remaining input) call.entry result }
 {
     let source = match read_source(alloc, input) {
         Ok(source) => source,
@@ -100,10 +101,10 @@ fn run_request<R: Read + Drop, O: Write + Drop, E: Write + Drop>(
     let Ok(buffer) = BufWriter::new(alloc, out) else {
         return tell(err, b"memory", FAILED);
     };
-    let (result, mut buffer) = run_source(alloc, request, &source, buffer);
+    let (result, mut buffer) = do_call(alloc, call, &source, buffer);
     match result {
-        Ok(outcome) => match buffer.flush() {
-            Ok(()) => tell_outcome(outcome, err),
+        Ok(done) => match buffer.flush() {
+            Ok(()) => tell_done(done, err),
             Err(_) => tell(err, b"write", FAILED),
         },
         Err(fault) => tell_fault(alloc, &fault, err),
@@ -151,12 +152,40 @@ fn run_source<'s, W: Write>(
     (result, shown.into_inner())
 }
 
-// What an outcome tells the user.
-fn tell_outcome<E: Write + Drop>(outcome: Outcome, mut err: E) -> u8
-    ensures { result ≡ outcome_status outcome }
+// Does what a call asks for; its text goes to the writer, which comes back.
+fn do_call<'s, W: Write>(
+    alloc: Global,
+    call: Call,
+    source: &'s [u8],
+    writer: W,
+) -> (Result<Option<Outcome>, SimFault<'s>>, W)
+    ensures ok { IfOk result.0 (λ done. HasWritten source.entry.now call.entry done (W.contents writer) (W.contents result.1)) }
+    ensures err { IfErr result.0 (λ fault. Fails source.entry.now (top_of call.entry) fault) }
 {
-    match outcome {
-        Outcome::StepLimit(time) => {
+    match call {
+        Call::Run(request) => {
+            let (result, writer) = run_source(alloc, request, source, writer);
+            match result {
+                Ok(outcome) => (Ok(Some(outcome)), writer),
+                Err(fault) => (Err(fault), writer),
+            }
+        }
+        Call::Elab(top) => {
+            let mut writer = writer;
+            match list_design(alloc, source, top.as_bytes(), &mut writer) {
+                Ok(()) => (Ok(None), writer),
+                Err(fault) => (Err(fault), writer),
+            }
+        }
+    }
+}
+
+// What is told the user of what was done.
+fn tell_done<E: Write + Drop>(done: Option<Outcome>, mut err: E) -> u8
+    ensures { result ≡ done_status done }
+{
+    match done {
+        Some(Outcome::StepLimit(time)) => {
             let _ = writeln!(err, "vsim: step limit at {time}");
             LIMITED
         }

@@ -24,7 +24,11 @@ pub enum Policy {
 }
 
 // The design that a source and a top define.
-fn design_of<'s>(alloc: Global, source: &'s [u8], top: &[u8]) -> Result<Design, SimFault<'s>>
+pub(crate) fn design_of<'s>(
+    alloc: Global,
+    source: &'s [u8],
+    top: &[u8],
+) -> Result<Design, SimFault<'s>>
     ensures { MatchResult result (λ d. Defines source.entry.now top.now d)
         (λ fault. DefinesNone source.entry.now top.now fault) }
 {

@@ -1,7 +1,7 @@
 //! The words of a command line.
 ghost use Rattle.std.specs.Prelude.{◌≡◌, IfOk, IfSome, map};
 ghost use Rattle.clap.specs.Words.{found_of};
-ghost use Rattle.vs_sim.specs.Asks.{Asks, WordsAsk};
+ghost use Rattle.vs_sim.specs.Asks.{Asks, AsksAs, WordsAsk, is_elab};
 
 use clap::error::ErrorKind;
 use clap::{Arg, ArgAction, ArgMatches, Command, Error};
@@ -30,6 +30,15 @@ pub struct Request<'a> {
     pub text: Text,
 }
 
+/// What the words of a call ask for.
+#[derive(Clone, Copy)]
+pub enum Call<'a> {
+    /// `vsim run`: a run.
+    Run(Request<'a>),
+    /// `vsim elab`: the listing of the design with this top.
+    Elab(&'a str),
+}
+
 // An option with a number from 0 to 2^62 - 1.
 fn number<'a>(alloc: Global, name: &'a str, help: &'a str) -> Arg<'a> {
     Arg::new(alloc, name)
@@ -40,13 +49,27 @@ fn number<'a>(alloc: Global, name: &'a str, help: &'a str) -> Arg<'a> {
         .value_parser(clap::value_parser!(u64).range(0..=4611686018427387903))
 }
 
-fn run_command<'a>(alloc: Global) -> Result<Command<'a>, Error> {
-    let top = Arg::new(alloc, "top")
+// The option with the name of the top module.
+fn top<'a>(alloc: Global) -> Arg<'a> {
+    Arg::new(alloc, "top")
         .long("top")
         .value_name("NAME")
         .help("The top module")
         .action(ArgAction::Set)
-        .required(true);
+        .required(true)
+}
+
+fn elab_command<'a>(alloc: Global) -> Result<Command<'a>, Error> {
+    Ok(
+        Command::new(alloc, "elab")
+            .about(
+                "Lists the signals, assignments and processes of a design that standard input has",
+            )
+            .arg(top(alloc))?,
+    )
+}
+
+fn run_command<'a>(alloc: Global) -> Result<Command<'a>, Error> {
     let until = number(alloc, "until", "The moment up to which it runs, in ticks").required(true);
     let steps = number(alloc, "steps", "The most steps that the run may take").default_value(
         "10000000",
@@ -66,7 +89,7 @@ fn run_command<'a>(alloc: Global) -> Result<Command<'a>, Error> {
     Ok(
         Command::new(alloc, "run")
             .about("Runs a design that standard input has")
-            .arg(top)?
+            .arg(top(alloc))?
             .arg(until)?
             .arg(steps)?
             .arg(policy)?
@@ -104,18 +127,30 @@ fn asked<'a>(matches: &ArgMatches<'a>) -> Option<Request<'a>>
     })
 }
 
+// What the matches of a subcommand ask for.
+fn call_of<'a>(name: &str, matches: &ArgMatches<'a>) -> Option<Call<'a>>
+    ensures { IfSome result (λ call. AsksAs (is_elab name.now) (found_of matches.now) call) }
+{
+    if name == "elab" {
+        Some(Call::Elab(matches.get_str("top")?))
+    } else {
+        Some(Call::Run(asked(matches)?))
+    }
+}
+
 /// What the words ask for; they begin with the program's own name. A fault of the words, and a call for help, is `clap`'s error, whose text is to
 /// be printed.
-pub fn read_words<'a>(alloc: Global, words: &'a [&'a str]) -> Result<Option<Request<'a>>, Error>
-    ensures { IfOk result (λ request. IfSome request (λ q. WordsAsk (map (λ w. w.now) words.entry.now) q)) }
+pub fn read_words<'a>(alloc: Global, words: &'a [&'a str]) -> Result<Option<Call<'a>>, Error>
+    ensures { IfOk result (λ call. IfSome call (λ q. WordsAsk (map (λ w. w.now) words.entry.now) q)) }
 {
     let command = Command::new(alloc, "vsim")
         .about("Simulates a Verilog design")
         .subcommand_required(true)
-        .subcommand(run_command(alloc)?)?;
+        .subcommand(run_command(alloc)?)?
+        .subcommand(elab_command(alloc)?)?;
     let matches = command.try_get_matches_from(words)?;
     match matches.subcommand() {
-        Some((_, run)) => Ok(asked(run)),
+        Some((name, matches)) => Ok(call_of(name, matches)),
         None => Ok(None),
     }
 }

@@ -1,7 +1,7 @@
 -- The tables are those of the rules.
 use Rattle.std.specs.Prelude.{◌≡◌, ℕ, zero, suc, List, [], ◌∷◌, refl}
 use Rattle.vs_tokens.specs.declared.token.Mark.{Mark}
-use Rattle.vs_syntax.specs.Grammar.{Part, a_source, a_module, an_item, a_net, a_variable, an_assignment, a_stmt, a_target, an_expr, a_level, operands, levels, level_at, rule}
+use Rattle.vs_syntax.specs.Grammar.{Part, a_source, a_module, a_header_parameter, a_port, an_item, a_constant, an_instance, a_connection, a_net, a_variable, an_assignment, a_stmt, a_target, an_expr, a_level, operands, levels, level_at, rule}
 use Rattle.vs_syntax.specs.Tables.{null_of, low_of, operand_fronts, fronts_of, null, low, fronts}
 
 operands_null : (p : Part) (ops : List Mark) → null (operands p ops) ≡ null_of p
@@ -19,7 +19,12 @@ operands_fronts n (op ∷ ops) = refl
 pub rule_null : (p : Part) → null (rule p) ≡ null_of p
 rule_null a_source = refl
 rule_null a_module = refl
+rule_null a_header_parameter = refl
+rule_null a_port = refl
 rule_null an_item = refl
+rule_null a_constant = refl
+rule_null an_instance = refl
+rule_null a_connection = refl
 rule_null a_net = refl
 rule_null a_variable = refl
 rule_null an_assignment = refl
@@ -32,7 +37,12 @@ rule_null (a_level (suc n)) = operands_null (a_level n) (level_at levels n)
 pub rule_low : (p : Part) → low (rule p) ≡ low_of p
 rule_low a_source = refl
 rule_low a_module = refl
+rule_low a_header_parameter = refl
+rule_low a_port = refl
 rule_low an_item = refl
+rule_low a_constant = refl
+rule_low an_instance = refl
+rule_low a_connection = refl
 rule_low a_net = refl
 rule_low a_variable = refl
 rule_low an_assignment = refl
@@ -45,7 +55,12 @@ rule_low (a_level (suc n)) = operands_low (a_level n) (level_at levels n)
 pub rule_fronts : (p : Part) → fronts (rule p) ≡ fronts_of p
 rule_fronts a_source = refl
 rule_fronts a_module = refl
+rule_fronts a_header_parameter = refl
+rule_fronts a_port = refl
 rule_fronts an_item = refl
+rule_fronts a_constant = refl
+rule_fronts an_instance = refl
+rule_fronts a_connection = refl
 rule_fronts a_net = refl
 rule_fronts a_variable = refl
 rule_fronts an_assignment = refl

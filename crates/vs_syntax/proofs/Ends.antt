@@ -5,7 +5,7 @@ use Rattle.vs_tokens.specs.declared.token.Mark.{Mark}
 use Rattle.vs_tokens.specs.declared.token.Mark.TheVariants as m
 use Rattle.vs_tokens.specs.declared.token.Word.TheVariants as w
 use Rattle.vs_syntax.specs.Symbols.{Symbol, Class, the_mark, the_word, same_class, first}
-use Rattle.vs_syntax.specs.Grammar.{Part, a_source, a_module, an_item, a_net, a_variable, an_assignment, a_stmt, a_target, an_expr, a_level, Grammar, nothing, token, seq, either, many, part, node, chain, optional, ◌·◌, one_or_more, one_mark, operands, a_condition, arm, levels, level_at, rule}
+use Rattle.vs_syntax.specs.Grammar.{Part, a_source, a_module, a_header_parameter, a_port, an_item, a_constant, an_instance, a_connection, a_net, a_variable, an_assignment, a_stmt, a_target, an_expr, a_level, Grammar, nothing, token, seq, either, many, part, node, chain, optional, ◌·◌, one_or_more, one_mark, operands, a_condition, arm, levels, level_at, rule}
 use Rattle.vs_syntax.specs.Tables.{Front, at_least, mark_fronts, null, fronts, among, goes}
 use Rattle.vs_syntax.specs.Derivation.{Tree, tokens, Is, is_nothing, is_token, is_seq, is_left, is_right, is_stop, is_more, is_part, is_node, is_one, is_chain, is_present, is_absent}
 use Rattle.vs_syntax.proofs.Fronts.{clash, or_false, goes_same, among-append, among-seq}
@@ -24,6 +24,8 @@ expr_lasts = at_least (the_mark m.Question) 0 ∷ level_lasts (length levels)
 -- since that reading says itself that no such token stands behind.
 abbrev pub lasts_of : Bool → Part → List Front
 lasts_of plain a_source = at_least (the_word w.Module) 0 ∷ []
+lasts_of plain a_header_parameter = expr_lasts
+lasts_of plain a_constant = expr_lasts
 lasts_of plain a_net = at_least (the_mark m.Assign) 0 ∷ expr_lasts
 lasts_of plain a_variable = at_least (the_mark m.Assign) 0 ∷ at_least (the_mark m.OpenBracket) 0 ∷ expr_lasts
 lasts_of plain an_assignment = expr_lasts
@@ -92,6 +94,10 @@ expr_goes_on plain c h =
     let o = or_false (same_class c (the_mark m.Question)) (among c (level_lasts (length levels))) h in
     chain_goes_on plain (part a_condition) arm c refl o.1 (behind_three (among c (level_lasts (length levels))) o.1) (or_nothing (same_class c (the_mark m.Question)) ∙ o.0)
 
+kept_one : (low : Bool) → low ≡ false → (low || false) ≡ false
+kept_one true h = cc
+kept_one false h = refl
+
 kept : (low : Bool) → low ≡ false → ((low || false) || false) ≡ false
 kept true h = cc
 kept false h = refl
@@ -110,7 +116,12 @@ operand_goes_on plain c h = rw h refl
 pub rule_goes_on : (plain : Bool) (p : Part) (c : Class) → among c (lasts_of plain p) ≡ false → goes_on plain (rule p) c ≡ false
 rule_goes_on plain a_source c h = h
 rule_goes_on plain a_module c h = refl
+rule_goes_on plain a_header_parameter c h = kept_one (among c expr_lasts) h
+rule_goes_on plain a_port c h = refl
 rule_goes_on plain an_item c h = refl
+rule_goes_on plain a_constant c h = kept (among c expr_lasts) h
+rule_goes_on plain an_instance c h = refl
+rule_goes_on plain a_connection c h = refl
 rule_goes_on plain a_stmt c h = refl
 rule_goes_on plain a_target c h = kept (among c (lasts_of plain a_target)) h
 rule_goes_on plain a_net c h = net_goes_on (same_class c (the_mark m.Assign)) (among c expr_lasts) h

@@ -10,7 +10,7 @@ use Rattle.vs_tokens.specs.declared.token.Mark.{Mark}
 use Rattle.vs_tokens.specs.declared.token.Mark.TheVariants as m
 use Rattle.vs_tokens.specs.declared.token.Word.TheVariants as w
 use Rattle.vs_syntax.specs.Symbols.{Symbol, a_mark, a_word, a_name, a_number, a_cast, another, Class, no_token, the_mark, the_word, any_name, any_number, the_cast, any_other, class_of, same_class, first}
-use Rattle.vs_syntax.specs.Grammar.{Part, a_source, a_module, an_item, a_net, a_variable, an_assignment, a_stmt, a_target, an_expr, a_level, Grammar, nothing, token, seq, either, many, part, node, chain, optional, select, operands, levels, level_at, rule}
+use Rattle.vs_syntax.specs.Grammar.{Part, a_source, a_module, a_header_parameter, a_port, an_item, a_constant, an_instance, a_connection, a_net, a_variable, an_assignment, a_stmt, a_target, an_expr, a_level, Grammar, nothing, token, seq, either, many, part, node, chain, optional, select, operands, levels, level_at, rule}
 use Rattle.vs_syntax.specs.Tables.{low_of, mark_fronts, null, low, fronts, among, goes}
 use Rattle.vs_syntax.specs.Derivation.{Tree, empty, leaf, both, down, tokens, height, Is, is_nothing, is_token, is_seq, is_left, is_right, is_stop, is_part, is_node, is_one, is_absent}
 use Rattle.vs_syntax.proofs.Ends.{goes_on, again, level_lasts, link_fronts}
@@ -43,11 +43,20 @@ sample-class any_number h = refl
 sample-class the_cast h = refl
 sample-class any_other h = refl
 
+-- a least name with its value
+abbrev pub least_constant : Tree
+least_constant = both (leaf (sample any_name)) (both (leaf (a_mark m.Assign)) (leaf (sample any_number)))
+
 -- a least tree of each part
 abbrev pub least_of : Part → Tree
 least_of a_source = empty
-least_of a_module = both (leaf (a_word w.Module)) (both (leaf (sample any_name)) (both (leaf (a_mark m.Semicolon)) (both empty (leaf (a_word w.Endmodule)))))
+least_of a_module = both (leaf (a_word w.Module)) (both (leaf (sample any_name)) (both empty (both empty (both (leaf (a_mark m.Semicolon)) (both empty (leaf (a_word w.Endmodule)))))))
+least_of a_header_parameter = both empty least_constant
+least_of a_port = both empty (leaf (sample any_name))
 least_of an_item = down (both (leaf (a_word w.Reg)) (both (both empty empty) (both (both (leaf (sample any_name)) empty) (both empty (leaf (a_mark m.Semicolon))))))
+least_of a_constant = least_constant
+least_of an_instance = both (leaf (sample any_name)) (both (leaf (a_mark m.Open)) (both (both empty empty) (leaf (a_mark m.Close))))
+least_of a_connection = both (leaf (a_mark m.Dot)) (both (leaf (sample any_name)) (both (leaf (a_mark m.Open)) (both empty (leaf (a_mark m.Close)))))
 least_of a_net = both (leaf (sample any_name)) empty
 least_of a_variable = both (leaf (sample any_name)) empty
 least_of an_assignment = both (down (both (leaf (sample any_name)) empty)) (both (leaf (a_mark m.Assign)) (leaf (sample any_number)))
@@ -82,11 +91,20 @@ expr_least = is_part (is_one refl (level_least (length levels) [] refl))
 target_least : {more : List Symbol} → goes select more ≡ false → Is (part a_target) (least_of a_target) more
 target_least h = is_part (is_node (is_left refl (is_seq (is_token refl) (is_stop h))))
 
+constant_least : Is (part a_constant) least_constant []
+constant_least = is_part (is_seq (is_token refl) (is_seq (is_token refl) expr_least))
+
 pub rule_least : (p : Part) → Is (part p) (least_of p) []
 rule_least a_source = is_part (is_stop refl)
-rule_least a_module = is_part (is_seq (is_token refl) (is_seq (is_token refl) (is_seq (is_token refl) (is_seq (is_stop refl) (is_token refl)))))
-rule_least an_item = is_part (is_node (is_right refl (is_left refl (is_seq (is_token refl) (is_seq (is_seq (is_right refl is_nothing) (is_right refl is_nothing))
-    (is_seq (is_part (is_seq (is_token refl) (is_right refl (is_right refl is_nothing)))) (is_seq (is_stop refl) (is_token refl))))))))
+rule_least a_module = is_part (is_seq (is_token refl) (is_seq (is_token refl) (is_seq (is_right refl is_nothing) (is_seq (is_right refl is_nothing)
+    (is_seq (is_token refl) (is_seq (is_stop refl) (is_token refl)))))))
+rule_least a_header_parameter = is_part (is_seq (is_right refl is_nothing) constant_least)
+rule_least a_port = is_part (is_seq (is_right refl is_nothing) (is_token refl))
+rule_least an_item = is_part (is_node (is_right refl (is_right refl (is_left refl (is_seq (is_token refl) (is_seq (is_seq (is_right refl is_nothing) (is_right refl is_nothing))
+    (is_seq (is_part (is_seq (is_token refl) (is_right refl (is_right refl is_nothing)))) (is_seq (is_stop refl) (is_token refl)))))))))
+rule_least a_constant = constant_least
+rule_least an_instance = is_part (is_seq (is_token refl) (is_seq (is_token refl) (is_seq (is_right refl (is_seq (is_right refl is_nothing) (is_stop refl))) (is_token refl))))
+rule_least a_connection = is_part (is_seq (is_token refl) (is_seq (is_token refl) (is_seq (is_token refl) (is_seq (is_right refl is_nothing) (is_token refl)))))
 rule_least a_net = is_part (is_seq (is_token refl) (is_right refl is_nothing))
 rule_least a_variable = is_part (is_seq (is_token refl) (is_right refl (is_right refl is_nothing)))
 rule_least an_assignment = is_part (is_seq (target_least refl) (is_seq (is_token refl) expr_least))
@@ -98,7 +116,12 @@ rule_least (a_level n) = level_least n [] (level_end n)
 least_of-height : (p : Part) → height (least_of p) ≡ low_of p
 least_of-height a_source = refl
 least_of-height a_module = refl
+least_of-height a_header_parameter = refl
+least_of-height a_port = refl
 least_of-height an_item = refl
+least_of-height a_constant = refl
+least_of-height an_instance = refl
+least_of-height a_connection = refl
 least_of-height a_net = refl
 least_of-height a_variable = refl
 least_of-height an_assignment = refl
@@ -153,7 +176,12 @@ row_passes p f (ops ∷ ls) h (suc n) = row_passes (λ k. p (suc k)) (λ k. f (s
 pub rule_sound : (p : Part) → sound (rule p) ≡ true
 rule_sound a_source = refl
 rule_sound a_module = refl
+rule_sound a_header_parameter = refl
+rule_sound a_port = refl
 rule_sound an_item = refl
+rule_sound a_constant = refl
+rule_sound an_instance = refl
+rule_sound a_connection = refl
 rule_sound a_net = refl
 rule_sound a_variable = refl
 rule_sound an_assignment = refl

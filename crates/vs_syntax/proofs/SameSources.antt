@@ -1,7 +1,9 @@
 -- Statements, items and sources of one tree of the grammar say the same.
 use Rattle.std.specs.Prelude.{◌≡◌, Bool, true, false, List, [], ◌∷◌, ◌++◌, Option, None, Some, map, refl}
 use Rattle.std.proofs.Common.{sym, ◌∙◌, ap, subst}
+use Rattle.std.specs.Option.{option_map}
 use Rattle.std.specs.declared.boxed.Box.{Box}
+use Rattle.std.specs.declared.vec.Vec.{Vec}
 use Rattle.std.specs.declared.alloc.Global.{Global}
 use Rattle.vs_tokens.specs.declared.token.Literal.{Literal}
 use Rattle.vs_tokens.specs.declared.token.Mark.TheVariants as m
@@ -14,17 +16,32 @@ use Rattle.vs_syntax.specs.declared.tree.Stmt.{Stmt, Stmt-F, roll-Stmt, out-Stmt
 use Rattle.vs_syntax.specs.declared.tree.Stmt.TheOpen as f
 use Rattle.vs_syntax.specs.declared.tree.Stmt.TheVariants as s
 use Rattle.vs_syntax.specs.declared.tree.Stmt.TheVariants.{rolls-Null, rolls-Assign, rolls-Later, rolls-Block, rolls-Delay}
+use Rattle.vs_syntax.specs.declared.tree.ParameterForm.{ParameterForm}
+use Rattle.vs_syntax.specs.declared.tree.ParameterForm.TheVariants as q
+use Rattle.vs_syntax.specs.declared.tree.HeaderParameter.{HeaderParameter}
+use Rattle.vs_syntax.specs.declared.tree.Constant.{Constant}
+use Rattle.vs_syntax.specs.declared.tree.Direction.{Direction}
+use Rattle.vs_syntax.specs.declared.tree.Direction.TheVariants as o
+use Rattle.vs_syntax.specs.declared.tree.PortKind.{PortKind}
+use Rattle.vs_syntax.specs.declared.tree.PortKind.TheVariants as k
+use Rattle.vs_syntax.specs.declared.tree.PortForm.{PortForm}
+use Rattle.vs_syntax.specs.declared.tree.Port.{Port}
+use Rattle.vs_syntax.specs.declared.tree.Connection.{Connection}
+use Rattle.vs_syntax.specs.declared.tree.Connections.{Connections}
+use Rattle.vs_syntax.specs.declared.tree.Connections.TheVariants as c
+use Rattle.vs_syntax.specs.declared.tree.Instance.{Instance}
 use Rattle.vs_syntax.specs.declared.tree.Item.{Item}
 use Rattle.vs_syntax.specs.declared.tree.Item.TheVariants as i
 use Rattle.vs_syntax.specs.declared.tree.Module.{Module}
 use Rattle.vs_syntax.specs.declared.tree.Source.{Source}
-use Rattle.vs_syntax.specs.Symbols.{Symbol, a_mark}
+use Rattle.vs_tokens.specs.declared.token.Word.TheVariants as w
+use Rattle.vs_syntax.specs.Symbols.{Symbol, a_mark, a_word}
 use Rattle.vs_syntax.specs.Derivation.{Tree, leaf, both, tokens}
 use Rattle.vs_syntax.specs.Derives.{Derives}
-use Rattle.vs_syntax.specs.Views.{row_of, listed_tree, value_tree, told_tree, declarator_tree, signed_tree, range_tree, form_tree, net_assignment_tree, stmt_step, stmt_tree, item_tree, module_tree, source_tree}
-use Rattle.vs_syntax.specs.Same.{SameStmt, same_null, same_assign, same_later, same_block, same_delay, SameStmts, same_no_stmt, same_more_stmts, Pairwise, no_pair, pair_more, SameValue, same_no_value, same_value, SameDeclarator, SameRange, same_no_range, same_range, SameForm, SameAssignment, SameItem, same_wire, same_reg, same_integer, same_assigns, same_initial, same_always, SameModule, SameSource}
+use Rattle.vs_syntax.specs.Views.{row_of, listed_tree, value_tree, told_tree, declarator_tree, signed_tree, range_tree, form_tree, net_assignment_tree, stmt_step, stmt_tree, parameter_form_tree, constant_tree, parameter_word_tree, header_parameter_tree, header_parameters_tree, direction_word, kind_tree, port_form_tree, port_tree, ports_tree, header_ports_tree, end_tree, connection_tree, connections_tree, overrides_tree, instance_tree, item_tree, module_tree, source_tree}
+use Rattle.vs_syntax.specs.Same.{SameStmt, same_null, same_assign, same_later, same_block, same_delay, SameStmts, same_no_stmt, same_more_stmts, Pairwise, no_pair, pair_more, SameValue, same_no_value, same_value, SameDeclarator, SameRange, same_no_range, same_range, SameForm, SameOption, both_absent, both_there, SameParameterForm, same_integer_word, same_vector, SameConstant, SameHeaderParameter, SamePortForm, SamePort, SamePorts, SameConnection, SameConnections, same_ordered, same_named, SameInstance, SameAssignment, SameItem, same_wire, same_reg, same_integer, same_parameters, same_localparams, same_instances, same_assigns, same_initial, same_always, SameModule, SameSource}
 use Rattle.vs_syntax.proofs.Unique.{unique}
-use Rattle.vs_syntax.proofs.Sameness.{same_expr}
+use Rattle.vs_syntax.proofs.Sameness.{same_expr, expr_there, expr_alone}
 use Rattle.vs_syntax.proofs.SameLefts.{same_left}
 
 -- a statement of which the other one of its tree says the same
@@ -135,17 +152,128 @@ same_form f f' h = record { signed = same_sign f.signed f'.signed (cc); range = 
 same_assignment : (a a' : NetAssignment) → net_assignment_tree a ≡ net_assignment_tree a' → SameAssignment a a'
 same_assignment a a' h = record { target = same_left a.target a'.target (cc); value = same_expr a.value a'.value (cc) }
 
+same_parameter_form : (f f' : ParameterForm) → parameter_form_tree f ≡ parameter_form_tree f' → SameParameterForm f f'
+same_parameter_form q.Integer q.Integer h = same_integer_word
+same_parameter_form q.Integer (q.Vector f') h = cc
+same_parameter_form (q.Vector f) q.Integer h = cc
+same_parameter_form (q.Vector f) (q.Vector f') h = same_vector f f' (same_form f f' h)
+
+same_constant : (x x' : Constant) → constant_tree x ≡ constant_tree x' → SameConstant x x'
+same_constant x x' h = record { name = cc; value = same_expr x.value x'.value (cc) }
+
+same_parameter_word : (f f' : Option ParameterForm) → parameter_word_tree f ≡ parameter_word_tree f' → SameOption SameParameterForm f f'
+same_parameter_word None None h = both_absent
+same_parameter_word None (Some f') h = cc
+same_parameter_word (Some f) None h = cc
+same_parameter_word (Some f) (Some f') h = both_there f f' (same_parameter_form f f' (cc))
+
+same_header_parameter : (x x' : HeaderParameter) → header_parameter_tree x ≡ header_parameter_tree x' → SameHeaderParameter x x'
+same_header_parameter x x' h = record { form = same_parameter_word x.form x'.form (cc); name = cc; value = same_expr x.value x'.value (cc) }
+
+same_header_parameters : (xs xs' : List HeaderParameter) → header_parameters_tree (map header_parameter_tree xs) ≡ header_parameters_tree (map header_parameter_tree xs') → Pairwise SameHeaderParameter xs xs'
+same_header_parameters [] [] h = no_pair
+same_header_parameters [] (x' ∷ xs') h = cc
+same_header_parameters (x ∷ xs) [] h = cc
+same_header_parameters (x ∷ xs) (x' ∷ xs') h =
+    pair_more x x' xs xs' (same_header_parameter x x' (cc)) (comma_pairs SameHeaderParameter header_parameter_tree same_header_parameter xs xs' (cc))
+
+same_direction : (d d' : Direction) → direction_word d ≡ direction_word d' → d ≡ d'
+same_direction o.Input o.Input h = refl
+same_direction o.Input o.Output h = cc
+same_direction o.Output o.Input h = cc
+same_direction o.Output o.Output h = refl
+
+-- the kind of a port by its word
+abbrev kind_at : Tree → Option PortKind
+kind_at (leaf (a_word w.Wire)) = Some k.Wire
+kind_at (leaf (a_word w.Reg)) = Some k.Reg
+kind_at (leaf (a_word w.Integer)) = Some k.Integer
+kind_at _ = None
+
+kind_back : (x : Option PortKind) → kind_at (kind_tree x) ≡ x
+kind_back None = refl
+kind_back (Some k.Wire) = refl
+kind_back (Some k.Reg) = refl
+kind_back (Some k.Integer) = refl
+
+same_kind : (x x' : Option PortKind) → kind_tree x ≡ kind_tree x' → x ≡ x'
+same_kind x x' h = sym (kind_back x) ∙ ap kind_at h ∙ kind_back x'
+
+same_port_form : (f f' : Option PortForm) → port_form_tree f ≡ port_form_tree f' → SameOption SamePortForm f f'
+same_port_form None None h = both_absent
+same_port_form None (Some f') h = cc
+same_port_form (Some f) None h = cc
+same_port_form (Some f) (Some f') h = both_there f f' (record { direction = same_direction f.direction f'.direction (cc); kind = same_kind f.kind f'.kind (cc); form = same_form f.form f'.form (cc) })
+
+same_port : (x x' : Port) → port_tree x ≡ port_tree x' → SamePort x x'
+same_port x x' h = record { form = same_port_form x.form x'.form (cc); name = cc }
+
+same_port_list : (xs xs' : List Port) → ports_tree (map port_tree xs) ≡ ports_tree (map port_tree xs') → Pairwise SamePort xs xs'
+same_port_list [] [] h = no_pair
+same_port_list [] (x' ∷ xs') h = cc
+same_port_list (x ∷ xs) [] h = cc
+same_port_list (x ∷ xs) (x' ∷ xs') h = pair_more x x' xs xs' (same_port x x' (cc)) (comma_pairs SamePort port_tree same_port xs xs' (cc))
+
+-- the trees of ports
+abbrev port_trees : Vec Port Global → List Tree
+port_trees xs = map port_tree xs.items
+
+same_ports : (x x' : Option (Vec Port Global)) → header_ports_tree (option_map port_trees x) ≡ header_ports_tree (option_map port_trees x') → SameOption SamePorts x x'
+same_ports None None h = both_absent
+same_ports None (Some xs') h = cc
+same_ports (Some xs) None h = cc
+same_ports (Some xs) (Some xs') h = both_there xs xs' (same_port_list xs.items xs'.items (cc))
+
+same_end : (v v' : Option Expr) → end_tree v ≡ end_tree v' → SameValue v v'
+same_end None None h = same_no_value
+same_end None (Some x') h = absurd (expr_there x' (sym h))
+same_end (Some x) None h = absurd (expr_there x h)
+same_end (Some x) (Some x') h = same_value x x' (same_expr x x' h)
+
+same_connection : (x x' : Connection) → connection_tree x ≡ connection_tree x' → SameConnection x x'
+same_connection x x' h = record { name = cc; value = same_end x.value x'.value (cc) }
+
+-- a connection by name is no expression
+no_connection : (v : Option Expr) (x : Connection) → end_tree v ≡ connection_tree x → ⊥
+no_connection None x h = cc
+no_connection (Some v) x h = expr_alone v _ _ _ h
+
+same_connections : (x x' : Connections) → connections_tree x ≡ connections_tree x' → SameConnections x x'
+same_connections (c.Ordered x xs) (c.Ordered x' xs') h = same_ordered x x' xs xs' (same_end x x' (cc)) (comma_pairs SameValue end_tree same_end xs.items xs'.items (cc))
+same_connections (c.Ordered x xs) (c.Named x' xs') h = absurd (no_connection x x' (cc))
+same_connections (c.Named x xs) (c.Ordered x' xs') h = absurd (no_connection x' x (cc))
+same_connections (c.Named x xs) (c.Named x' xs') h =
+    same_named x x' xs xs' (same_connection x x' (cc)) (comma_pairs SameConnection connection_tree same_connection xs.items xs'.items (cc))
+
+same_overrides : (x x' : Option Connections) → overrides_tree x ≡ overrides_tree x' → SameOption SameConnections x x'
+same_overrides None None h = both_absent
+same_overrides None (Some x') h = cc
+same_overrides (Some x) None h = cc
+same_overrides (Some x) (Some x') h = both_there x x' (same_connections x x' (cc))
+
+same_instance : (x x' : Instance) → instance_tree x ≡ instance_tree x' → SameInstance x x'
+same_instance x x' h = record { name = cc; ports = same_connections x.ports x'.ports (cc) }
+
 same_item : (x x' : Item) → item_tree x ≡ item_tree x' → SameItem x x'
 same_item (i.Wire f ds) (i.Wire f' ds') h = same_wire f f' ds ds' (same_form f f' (cc)) (listed_pairs SameDeclarator declarator_tree same_declarator ds.items ds'.items (cc))
 same_item (i.Reg f ds) (i.Reg f' ds') h = same_reg f f' ds ds' (same_form f f' (cc)) (listed_pairs SameDeclarator declarator_tree same_declarator ds.items ds'.items (cc))
 same_item (i.Integer ds) (i.Integer ds') h = same_integer ds ds' (listed_pairs SameDeclarator declarator_tree same_declarator ds.items ds'.items (cc))
+same_item (i.Parameter f xs) (i.Parameter f' xs') h = same_parameters f f' xs xs' (same_parameter_form f f' (cc)) (listed_pairs SameConstant constant_tree same_constant xs.items xs'.items (cc))
+same_item (i.Localparam f xs) (i.Localparam f' xs') h = same_localparams f f' xs xs' (same_parameter_form f f' (cc)) (listed_pairs SameConstant constant_tree same_constant xs.items xs'.items (cc))
+same_item (i.Instances n o xs) (i.Instances n' o' xs') h =
+    same_instances n n' o o' xs xs' (cc) (same_overrides o o' (cc)) (listed_pairs SameInstance instance_tree same_instance xs.items xs'.items (cc))
 same_item (i.Assign xs) (i.Assign xs') h = same_assigns xs xs' (listed_pairs SameAssignment net_assignment_tree same_assignment xs.items xs'.items (cc))
 same_item (i.Initial x) (i.Initial x') h = same_initial x x' (same_stmt x x' (cc))
 same_item (i.Always x) (i.Always x') h = same_always x x' (same_stmt x x' (cc))
 same_item _ _ h = cc
 
 same_module : (x x' : Module) → module_tree x ≡ module_tree x' → SameModule x x'
-same_module x x' h = record { name = cc; items = pairs SameItem item_tree same_item x.items.items x'.items.items (cc) }
+same_module x x' h = record {
+  name = cc;
+  parameters = same_header_parameters x.parameters.items x'.parameters.items (cc);
+  ports = same_ports x.ports x'.ports (cc);
+  items = pairs SameItem item_tree same_item x.items.items x'.items.items (cc);
+}
 
 -- Sources of one tree say the same.
 pub same_source : (x x' : Source) → source_tree x ≡ source_tree x' → SameSource x x'

@@ -18,7 +18,7 @@ use Rattle.vs_syntax.specs.declared.tree.Expr.TheShapes.{former-Expr-Select-1-at
 use Rattle.vs_syntax.specs.declared.tree.Expr.TheVariants as e
 use Rattle.vs_syntax.specs.declared.tree.Expr.TheVariants.{rolls-Number, rolls-Name, rolls-Select, rolls-Group, rolls-Unary, rolls-Chain, rolls-Choice, rolls-Concat, rolls-Repeat, rolls-Cast}
 use Rattle.vs_syntax.specs.Symbols.{a_mark, a_number, a_cast}
-use Rattle.vs_syntax.specs.Derivation.{Tree, leaf, both, down}
+use Rattle.vs_syntax.specs.Derivation.{Tree, empty, leaf, both, down}
 use Rattle.vs_syntax.specs.Views.{row_of, unary_mark, binary_mark, part_mark, commas_tree, link_tree, head_of, arms_of, choice_tree, second_tree, select_tree, selects_tree, expr_step, expr_tree}
 use Rattle.vs_syntax.specs.Same.{SameExpr, same_number, same_name, same_select, same_group, same_unary, same_chain, same_choice, same_concat, same_repeat, same_cast, SameSelects, same_no_select, same_more_selects, SameSecond, same_no_second, same_second, SameLinks, same_no_link, same_link, SamePairs, same_no_pair, same_pair, SameExprs, same_no_expr, same_more_exprs}
 
@@ -307,3 +307,27 @@ settled x y is x' h =
 -- Expressions of one tree say the same.
 pub same_expr : (x x' : Expr) → expr_tree x ≡ expr_tree x' → SameExpr x x'
 same_expr = ind-Expr Settled settled
+
+choice_there : (ps : List (Tree × Tree)) (x : Tree) → choice_tree ps x ≡ empty → ⊥
+choice_there [] x h = cc
+choice_there (p ∷ ps) x h = cc
+
+layer_there : (x : Expr-F Expr) → layer x ≡ empty → ⊥
+layer_there (f.Choice ps x) h = choice_there (paired ps.items) (expr_tree x.value) h
+layer_there _ h = cc
+
+-- An expression has a tree that isn't empty.
+pub expr_there : (x : Expr) → expr_tree x ≡ empty → ⊥
+expr_there x h = layer_there (out-Expr x) (sym (opened x) ∙ h)
+
+choice_alone : (ps : List (Tree × Tree)) (x y z u : Tree) → choice_tree ps x ≡ both y (both z u) → ⊥
+choice_alone [] x y z u h = cc
+choice_alone (p ∷ ps) x y z u h = cc
+
+layer_alone : (x : Expr-F Expr) (y z u : Tree) → layer x ≡ both y (both z u) → ⊥
+layer_alone (f.Choice ps x) y z u h = choice_alone (paired ps.items) (expr_tree x.value) y z u h
+layer_alone _ y z u h = cc
+
+-- The tree of an expression is none of several parts that follow one another.
+pub expr_alone : (x : Expr) (y z u : Tree) → expr_tree x ≡ both y (both z u) → ⊥
+expr_alone x y z u h = layer_alone (out-Expr x) y z u (sym (opened x) ∙ h)

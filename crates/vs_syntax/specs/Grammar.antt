@@ -11,8 +11,18 @@ pub data Part : Type 0 where
   -- the text of a source (clause A.1.2)
   a_source : Part
   a_module : Part
+  -- a parameter in the header of a module, with the word or without (clauses A.1.3 and A.2.4)
+  a_header_parameter : Part
+  -- a port in the header of a module, with its direction or without (clause A.1.3)
+  a_port : Part
   -- an item of a module (clause A.1.4)
   an_item : Part
+  -- a name of a declaration of parameters, with its value (clause A.2.4)
+  a_constant : Part
+  -- an instance of a module (clause A.4.1)
+  an_instance : Part
+  -- a connection by name (clause A.4.1)
+  a_connection : Part
   -- a name of a declaration of nets, with a declaration assignment or without (clauses A.2.3 and A.2.4)
   a_net : Part
   -- a name of a declaration of variables, with a declaration assignment, with the range of its words, or alone (clauses A.2.2.1 and A.2.5)
@@ -172,11 +182,42 @@ range = mark m.OpenBracket · part an_expr · mark m.Colon · part an_expr · ma
 abbrev pub form : Grammar
 form = (word w.Signed or nothing) · (range or nothing)
 
--- the items of a module, each by its word (clause A.1.4; profile)
+-- the type of parameters (clauses A.2.1.1 and A.2.4)
+abbrev pub parameter_form : Grammar
+parameter_form = word w.Integer or form
+
+-- the parameters in the header of a module, the first with the word (clause A.1.3)
+abbrev pub header_parameters : Grammar
+header_parameters = mark m.Hash · mark m.Open · ((word w.Parameter · parameter_form) · part a_constant)
+    · many (mark m.Comma · part a_header_parameter) · mark m.Close
+
+-- what stands before the name of a port: its direction, its kind, its sign and its range (clause A.2.1.2)
+abbrev pub port_form : Grammar
+port_form = (word w.Input or word w.Output) · (word w.Wire or word w.Reg or word w.Integer or nothing) · form
+
+-- the ports in the header of a module, the first with its direction (clause A.1.3; profile)
+abbrev pub header_ports : Grammar
+header_ports = mark m.Open · ((port_form · name) · many (mark m.Comma · part a_port) or nothing) · mark m.Close
+
+-- an expression, or nothing
+abbrev pub an_end : Grammar
+an_end = part an_expr or nothing
+
+-- what ports are connected to, or the values of parameters: by name, or in order (clause A.4.1)
+abbrev pub connections : Grammar
+connections = part a_connection · many (mark m.Comma · part a_connection) or an_end · many (mark m.Comma · an_end)
+
+-- instances of a module, behind its name (clause A.4.1)
+abbrev pub instances : Grammar
+instances = (mark m.Hash · mark m.Open · connections · mark m.Close or nothing) · listed an_instance
+
+-- the items of a module that begin with a word, each by it (clause A.1.4; profile)
 abbrev pub items : List (Class × Grammar)
 items = (the_word w.Wire, form · listed a_net)
     ∷ (the_word w.Reg, form · listed a_variable)
     ∷ (the_word w.Integer, listed a_variable)
+    ∷ (the_word w.Parameter, parameter_form · listed a_constant)
+    ∷ (the_word w.Localparam, parameter_form · listed a_constant)
     ∷ (the_word w.Assign, listed an_assignment)
     ∷ (the_word w.Initial, part a_stmt)
     ∷ (the_word w.Always, part a_stmt)
@@ -193,8 +234,14 @@ statements = (the_mark m.Semicolon, nothing)
 -- selects.
 abbrev pub rule : Part → Grammar
 rule a_source = many (part a_module)
-rule a_module = word w.Module · name · mark m.Semicolon · many (part an_item) · word w.Endmodule
-rule an_item = node (one_of items)
+rule a_module = word w.Module · name · (header_parameters or nothing) · (header_ports or nothing) · mark m.Semicolon
+    · many (part an_item) · word w.Endmodule
+rule a_header_parameter = (word w.Parameter · parameter_form or nothing) · part a_constant
+rule a_port = (port_form or nothing) · name
+rule an_item = node (name · instances or one_of items)
+rule a_constant = name · mark m.Assign · part an_expr
+rule an_instance = name · mark m.Open · connections · mark m.Close
+rule a_connection = mark m.Dot · name · mark m.Open · an_end · mark m.Close
 rule a_net = name · (mark m.Assign · part an_expr or nothing)
 rule a_variable = name · (mark m.Assign · part an_expr or range or nothing)
 rule an_assignment = part a_target · mark m.Assign · part an_expr

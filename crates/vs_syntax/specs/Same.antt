@@ -15,6 +15,16 @@ use Rattle.vs_syntax.specs.declared.tree.Range.{Range}
 use Rattle.vs_syntax.specs.declared.tree.Form.{Form}
 use Rattle.vs_syntax.specs.declared.tree.Declarator.{Declarator}
 use Rattle.vs_syntax.specs.declared.tree.NetAssignment.{NetAssignment}
+use Rattle.vs_syntax.specs.declared.tree.ParameterForm.{ParameterForm}
+use Rattle.vs_syntax.specs.declared.tree.ParameterForm.TheVariants as q
+use Rattle.vs_syntax.specs.declared.tree.HeaderParameter.{HeaderParameter}
+use Rattle.vs_syntax.specs.declared.tree.Constant.{Constant}
+use Rattle.vs_syntax.specs.declared.tree.PortForm.{PortForm}
+use Rattle.vs_syntax.specs.declared.tree.Port.{Port}
+use Rattle.vs_syntax.specs.declared.tree.Connection.{Connection}
+use Rattle.vs_syntax.specs.declared.tree.Connections.{Connections}
+use Rattle.vs_syntax.specs.declared.tree.Connections.TheVariants as c
+use Rattle.vs_syntax.specs.declared.tree.Instance.{Instance}
 use Rattle.vs_syntax.specs.declared.tree.Stmt.{Stmt}
 use Rattle.vs_syntax.specs.declared.tree.Stmt.TheVariants as s
 use Rattle.vs_syntax.specs.declared.tree.Item.{Item}
@@ -101,7 +111,12 @@ pub data Pairwise {A : Type 0} (R : A → A → Type 0) : List A → List A → 
   no_pair : Pairwise R [] []
   pair_more : (x x' : A) (xs xs' : List A) → R x x' → Pairwise R xs xs' → Pairwise R (x ∷ xs) (x' ∷ xs')
 
--- Right sides that are both absent, or say the same (profile).
+-- Both absent, or both there and related (profile).
+pub data SameOption {A : Type 0} (R : A → A → Type 0) : Option A → Option A → Type 0 where
+  both_absent : SameOption R None None
+  both_there : (x x' : A) → R x x' → SameOption R (Some x) (Some x')
+
+-- Expressions that are both absent, or say the same (profile).
 pub data SameValue : Option Expr → Option Expr → Type 0 where
   same_no_value : SameValue None None
   same_value : (x x' : Expr) → SameExpr x x' → SameValue (Some x) (Some x')
@@ -122,6 +137,54 @@ pub record SameForm (f f' : Form) : Type 0 where
   pub signed : f.signed ≡ f'.signed
   pub range : SameRange f.range f'.range
 
+-- The types of parameters are the same (profile).
+pub data SameParameterForm : ParameterForm → ParameterForm → Type 0 where
+  same_integer_word : SameParameterForm q.Integer q.Integer
+  same_vector : (f f' : Form) → SameForm f f' → SameParameterForm (q.Vector f) (q.Vector f')
+
+-- The names of a declaration of parameters and their values say the same (profile).
+pub record SameConstant (x x' : Constant) : Type 0 where
+  pub name : x.name.items ≡ x'.name.items
+  pub value : SameExpr x.value x'.value
+
+-- The parameters in the header of a module say the same (profile).
+pub record SameHeaderParameter (x x' : HeaderParameter) : Type 0 where
+  pub form : SameOption SameParameterForm x.form x'.form
+  pub name : x.name.items ≡ x'.name.items
+  pub value : SameExpr x.value x'.value
+
+-- What stands before the names of ports is the same (profile).
+pub record SamePortForm (f f' : PortForm) : Type 0 where
+  pub direction : f.direction ≡ f'.direction
+  pub kind : f.kind ≡ f'.kind
+  pub form : SameForm f.form f'.form
+
+-- The ports say the same (profile).
+pub record SamePort (x x' : Port) : Type 0 where
+  pub form : SameOption SamePortForm x.form x'.form
+  pub name : x.name.items ≡ x'.name.items
+
+-- The same of ports one after another (profile).
+abbrev pub SamePorts : Vec Port Global → Vec Port Global → Type 0
+SamePorts xs xs' = Pairwise SamePort xs.items xs'.items
+
+-- The connections by name say the same (profile).
+pub record SameConnection (x x' : Connection) : Type 0 where
+  pub name : x.name.items ≡ x'.name.items
+  pub value : SameValue x.value x'.value
+
+-- What ports are connected to, or the values of parameters, say the same (profile).
+pub data SameConnections : Connections → Connections → Type 0 where
+  same_ordered : (x x' : Option Expr) (xs xs' : Vec (Option Expr) Global) → SameValue x x' → Pairwise SameValue xs.items xs'.items →
+      SameConnections (c.Ordered x xs) (c.Ordered x' xs')
+  same_named : (x x' : Connection) (xs xs' : Vec Connection Global) →
+      SameConnection x x' → Pairwise SameConnection xs.items xs'.items → SameConnections (c.Named x xs) (c.Named x' xs')
+
+-- The instances say the same (profile).
+pub record SameInstance (x x' : Instance) : Type 0 where
+  pub name : x.name.items ≡ x'.name.items
+  pub ports : SameConnections x.ports x'.ports
+
 -- The assignments of an `assign` item say the same (profile).
 pub record SameAssignment (a a' : NetAssignment) : Type 0 where
   pub target : SameLeft a.target a'.target
@@ -135,6 +198,13 @@ pub data SameItem : Item → Item → Type 0 where
       SameForm f f' → Pairwise SameDeclarator ds.items ds'.items → SameItem (i.Reg f ds) (i.Reg f' ds')
   same_integer : (ds ds' : Vec Declarator Global) →
       Pairwise SameDeclarator ds.items ds'.items → SameItem (i.Integer ds) (i.Integer ds')
+  same_parameters : (f f' : ParameterForm) (xs xs' : Vec Constant Global) →
+      SameParameterForm f f' → Pairwise SameConstant xs.items xs'.items → SameItem (i.Parameter f xs) (i.Parameter f' xs')
+  same_localparams : (f f' : ParameterForm) (xs xs' : Vec Constant Global) →
+      SameParameterForm f f' → Pairwise SameConstant xs.items xs'.items → SameItem (i.Localparam f xs) (i.Localparam f' xs')
+  same_instances : (n n' : Vec ℕ Global) (o o' : Option Connections) (xs xs' : Vec Instance Global) → n.items ≡ n'.items →
+      SameOption SameConnections o o' → Pairwise SameInstance xs.items xs'.items →
+      SameItem (i.Instances n o xs) (i.Instances n' o' xs')
   same_assigns : (xs xs' : Vec NetAssignment Global) →
       Pairwise SameAssignment xs.items xs'.items → SameItem (i.Assign xs) (i.Assign xs')
   same_initial : (x x' : Stmt) → SameStmt x x' → SameItem (i.Initial x) (i.Initial x')
@@ -143,6 +213,8 @@ pub data SameItem : Item → Item → Type 0 where
 -- The modules say the same (profile).
 pub record SameModule (m m' : Module) : Type 0 where
   pub name : m.name.items ≡ m'.name.items
+  pub parameters : Pairwise SameHeaderParameter m.parameters.items m'.parameters.items
+  pub ports : SameOption SamePorts m.ports m'.ports
   pub items : Pairwise SameItem m.items.items m'.items.items
 
 -- The sources say the same (profile).

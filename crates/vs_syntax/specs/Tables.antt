@@ -4,7 +4,7 @@ use Rattle.vs_tokens.specs.declared.token.Mark.{Mark}
 use Rattle.vs_tokens.specs.declared.token.Mark.TheVariants as m
 use Rattle.vs_tokens.specs.declared.token.Word.TheVariants as w
 use Rattle.vs_syntax.specs.Symbols.{Symbol, Class, the_mark, the_word, any_name, any_number, the_cast, same_class, first}
-use Rattle.vs_syntax.specs.Grammar.{Part, a_source, a_module, an_item, a_net, a_variable, an_assignment, a_stmt, a_target, an_expr, a_level, Grammar, nothing, token, seq, either, many, part, node, chain, optional, prefixes}
+use Rattle.vs_syntax.specs.Grammar.{Part, a_source, a_module, a_header_parameter, a_port, an_item, a_constant, an_instance, a_connection, a_net, a_variable, an_assignment, a_stmt, a_target, an_expr, a_level, Grammar, nothing, token, seq, either, many, part, node, chain, optional, prefixes}
 
 -- a class that can begin a part, and the least nesting of a part that it begins
 pub record Front : Type 0 where
@@ -24,7 +24,12 @@ null_of _ = false
 abbrev pub low_of : Part → ℕ
 low_of a_source = 0
 low_of a_module = 0
+low_of a_header_parameter = 0
+low_of a_port = 0
 low_of an_item = 1
+low_of a_constant = 0
+low_of an_instance = 0
+low_of a_connection = 0
 low_of a_net = 0
 low_of a_variable = 0
 low_of an_assignment = 1
@@ -48,13 +53,21 @@ operand_fronts = at_least any_number 0
 abbrev pub fronts_of : Part → List Front
 fronts_of a_source = at_least (the_word w.Module) 0 ∷ []
 fronts_of a_module = at_least (the_word w.Module) 0 ∷ []
-fronts_of an_item = at_least (the_word w.Wire) 1
+fronts_of a_header_parameter = at_least (the_word w.Parameter) 0 ∷ at_least any_name 0 ∷ []
+fronts_of a_port = at_least (the_word w.Input) 0 ∷ at_least (the_word w.Output) 0 ∷ at_least any_name 0 ∷ []
+fronts_of an_item = at_least any_name 1
+    ∷ at_least (the_word w.Wire) 1
     ∷ at_least (the_word w.Reg) 1
     ∷ at_least (the_word w.Integer) 1
+    ∷ at_least (the_word w.Parameter) 1
+    ∷ at_least (the_word w.Localparam) 1
     ∷ at_least (the_word w.Assign) 2
     ∷ at_least (the_word w.Initial) 2
     ∷ at_least (the_word w.Always) 2
     ∷ []
+fronts_of a_constant = at_least any_name 0 ∷ []
+fronts_of an_instance = at_least any_name 0 ∷ []
+fronts_of a_connection = at_least (the_mark m.Dot) 0 ∷ []
 fronts_of a_net = at_least any_name 0 ∷ []
 fronts_of a_variable = at_least any_name 0 ∷ []
 fronts_of an_assignment = at_least any_name 1 ∷ at_least (the_mark m.OpenBrace) 2 ∷ []

@@ -9,7 +9,7 @@ use Rattle.vs_tokens.specs.declared.token.Mark.{Mark}
 use Rattle.vs_tokens.specs.declared.token.Mark.TheVariants as m
 use Rattle.vs_tokens.specs.declared.token.Word.{Word}
 use Rattle.vs_tokens.specs.declared.token.Word.TheVariants as w
-use Rattle.vs_syntax.specs.Symbols.{a_mark, a_word, a_name, a_number, a_cast}
+use Rattle.vs_syntax.specs.Symbols.{Symbol, a_mark, a_word, a_name, a_number, a_cast}
 use Rattle.vs_syntax.specs.Derivation.{Tree, empty, leaf, both, down}
 use Rattle.vs_syntax.specs.declared.tree.Expr.{Expr, Expr-F, fold-Expr}
 use Rattle.vs_syntax.specs.declared.tree.Expr.TheOpen as e
@@ -21,6 +21,22 @@ use Rattle.vs_syntax.specs.declared.tree.Range.{Range}
 use Rattle.vs_syntax.specs.declared.tree.Form.{Form}
 use Rattle.vs_syntax.specs.declared.tree.Declarator.{Declarator}
 use Rattle.vs_syntax.specs.declared.tree.NetAssignment.{NetAssignment}
+use Rattle.std.specs.declared.vec.Vec.{Vec}
+use Rattle.std.specs.declared.alloc.Global.{Global}
+use Rattle.vs_syntax.specs.declared.tree.ParameterForm.{ParameterForm}
+use Rattle.vs_syntax.specs.declared.tree.ParameterForm.TheVariants as q
+use Rattle.vs_syntax.specs.declared.tree.HeaderParameter.{HeaderParameter}
+use Rattle.vs_syntax.specs.declared.tree.Constant.{Constant}
+use Rattle.vs_syntax.specs.declared.tree.Direction.{Direction}
+use Rattle.vs_syntax.specs.declared.tree.Direction.TheVariants as o
+use Rattle.vs_syntax.specs.declared.tree.PortKind.{PortKind}
+use Rattle.vs_syntax.specs.declared.tree.PortKind.TheVariants as k
+use Rattle.vs_syntax.specs.declared.tree.PortForm.{PortForm}
+use Rattle.vs_syntax.specs.declared.tree.Port.{Port}
+use Rattle.vs_syntax.specs.declared.tree.Connection.{Connection}
+use Rattle.vs_syntax.specs.declared.tree.Connections.{Connections}
+use Rattle.vs_syntax.specs.declared.tree.Connections.TheVariants as c
+use Rattle.vs_syntax.specs.declared.tree.Instance.{Instance}
 use Rattle.vs_syntax.specs.declared.tree.Stmt.{Stmt, Stmt-F, fold-Stmt}
 use Rattle.vs_syntax.specs.declared.tree.Stmt.TheOpen as s
 use Rattle.vs_syntax.specs.declared.tree.Item.{Item}
@@ -229,32 +245,130 @@ stmt_step (s.Delay l x) = down (both (leaf (a_mark m.Hash)) (both (leaf (a_numbe
 abbrev pub stmt_tree : Stmt → Tree
 stmt_tree = fold-Stmt Tree stmt_step
 
--- the word of an item
-abbrev pub item_word : Item → Word
-item_word (i.Wire f ds) = w.Wire
-item_word (i.Reg f ds) = w.Reg
-item_word (i.Integer ds) = w.Integer
-item_word (i.Assign xs) = w.Assign
-item_word (i.Initial x) = w.Initial
-item_word (i.Always x) = w.Always
+-- the type of parameters
+abbrev pub parameter_form_tree : ParameterForm → Tree
+parameter_form_tree q.Integer = leaf (a_word w.Integer)
+parameter_form_tree (q.Vector f) = form_tree f
 
--- what stands behind the word of an item
+-- a name and its value
+abbrev pub valued_tree : List ℕ → Expr → Tree
+valued_tree n x = both (name_tree n) (both (leaf (a_mark m.Assign)) (expr_tree x))
+
+-- a name of a declaration of parameters, with its value
+abbrev pub constant_tree : Constant → Tree
+constant_tree x = valued_tree x.name.items x.value
+
+-- the word `parameter` with the type behind it, where it is there
+abbrev pub parameter_word_tree : Option ParameterForm → Tree
+parameter_word_tree None = empty
+parameter_word_tree (Some f) = both (leaf (a_word w.Parameter)) (parameter_form_tree f)
+
+-- a parameter in the header of a module
+abbrev pub header_parameter_tree : HeaderParameter → Tree
+header_parameter_tree p = both (parameter_word_tree p.form) (valued_tree p.name.items p.value)
+
+-- the parameters in the header of a module
+abbrev pub header_parameters_tree : List Tree → Tree
+header_parameters_tree [] = empty
+header_parameters_tree (x ∷ xs) =
+    both (leaf (a_mark m.Hash)) (both (leaf (a_mark m.Open)) (both x (both (commas_tree xs) (leaf (a_mark m.Close)))))
+
+-- the word of a direction
+abbrev pub direction_word : Direction → Word
+direction_word o.Input = w.Input
+direction_word o.Output = w.Output
+
+-- the word of a port's kind, where it is there
+abbrev pub kind_tree : Option PortKind → Tree
+kind_tree None = empty
+kind_tree (Some k.Wire) = leaf (a_word w.Wire)
+kind_tree (Some k.Reg) = leaf (a_word w.Reg)
+kind_tree (Some k.Integer) = leaf (a_word w.Integer)
+
+-- what stands before the name of a port, where it is there
+abbrev pub port_form_tree : Option PortForm → Tree
+port_form_tree None = empty
+port_form_tree (Some f) = both (leaf (a_word (direction_word f.direction))) (both (kind_tree f.kind) (form_tree f.form))
+
+-- a port in the header of a module
+abbrev pub port_tree : Port → Tree
+port_tree p = both (port_form_tree p.form) (name_tree p.name.items)
+
+-- ports with commas between
+abbrev pub ports_tree : List Tree → Tree
+ports_tree [] = empty
+ports_tree (x ∷ xs) = both x (commas_tree xs)
+
+-- the ports in the header of a module, where it has a list of them
+abbrev pub header_ports_tree : Option (List Tree) → Tree
+header_ports_tree None = empty
+header_ports_tree (Some xs) = both (leaf (a_mark m.Open)) (both (ports_tree xs) (leaf (a_mark m.Close)))
+
+-- an expression, or nothing
+abbrev pub end_tree : Option Expr → Tree
+end_tree None = empty
+end_tree (Some x) = expr_tree x
+
+-- a connection by name
+abbrev pub connection_tree : Connection → Tree
+connection_tree c = both (leaf (a_mark m.Dot)) (both (name_tree c.name.items)
+    (both (leaf (a_mark m.Open)) (both (end_tree c.value) (leaf (a_mark m.Close)))))
+
+-- what ports are connected to, or the values of parameters
+abbrev pub connections_tree : Connections → Tree
+connections_tree (c.Ordered x xs) = both (end_tree x) (commas_tree (map end_tree xs.items))
+connections_tree (c.Named x xs) = both (connection_tree x) (commas_tree (map connection_tree xs.items))
+
+-- the values of the parameters of instances, where they are there
+abbrev pub overrides_tree : Option Connections → Tree
+overrides_tree None = empty
+overrides_tree (Some x) = both (leaf (a_mark m.Hash)) (both (leaf (a_mark m.Open)) (both (connections_tree x) (leaf (a_mark m.Close))))
+
+-- an instance
+abbrev pub instance_tree : Instance → Tree
+instance_tree x = both (name_tree x.name.items) (both (leaf (a_mark m.Open)) (both (connections_tree x.ports) (leaf (a_mark m.Close))))
+
+-- the symbol that an item begins with: its word, or the name of a module
+abbrev pub item_symbol : Item → Symbol
+item_symbol (i.Wire f ds) = a_word w.Wire
+item_symbol (i.Reg f ds) = a_word w.Reg
+item_symbol (i.Integer ds) = a_word w.Integer
+item_symbol (i.Parameter f xs) = a_word w.Parameter
+item_symbol (i.Localparam f xs) = a_word w.Localparam
+item_symbol (i.Instances n o xs) = a_name n.items
+item_symbol (i.Assign xs) = a_word w.Assign
+item_symbol (i.Initial x) = a_word w.Initial
+item_symbol (i.Always x) = a_word w.Always
+
+-- names of a declaration of parameters behind their type
+abbrev pub constants_tree : ParameterForm → List Constant → Tree
+constants_tree f xs = both (parameter_form_tree f) (listed_tree (map constant_tree xs))
+
+-- what stands behind the first symbol of an item
 abbrev pub body_tree : Item → Tree
 body_tree (i.Wire f ds) = declared_tree f ds.items
 body_tree (i.Reg f ds) = declared_tree f ds.items
 body_tree (i.Integer ds) = listed_tree (map declarator_tree ds.items)
+body_tree (i.Parameter f xs) = constants_tree f xs.items
+body_tree (i.Localparam f xs) = constants_tree f xs.items
+body_tree (i.Instances n o xs) = both (overrides_tree o) (listed_tree (map instance_tree xs.items))
 body_tree (i.Assign xs) = listed_tree (map net_assignment_tree xs.items)
 body_tree (i.Initial x) = stmt_tree x
 body_tree (i.Always x) = stmt_tree x
 
 -- an item of a module
 abbrev pub item_tree : Item → Tree
-item_tree x = down (both (leaf (a_word (item_word x))) (body_tree x))
+item_tree x = down (both (leaf (item_symbol x)) (body_tree x))
+
+-- the parts of a module's header behind its name
+abbrev pub header_tree : Module → Tree → Tree
+header_tree x rest = both (header_parameters_tree (map header_parameter_tree x.parameters.items))
+    (both (header_ports_tree (option_map (λ (ps : Vec Port Global). map port_tree ps.items) x.ports)) rest)
 
 -- a module
 abbrev pub module_tree : Module → Tree
-module_tree x = both (leaf (a_word w.Module)) (both (name_tree x.name.items)
-    (both (leaf (a_mark m.Semicolon)) (both (row_of (map item_tree x.items.items)) (leaf (a_word w.Endmodule)))))
+module_tree x = both (leaf (a_word w.Module)) (both (name_tree x.name.items) (header_tree x
+    (both (leaf (a_mark m.Semicolon)) (both (row_of (map item_tree x.items.items)) (leaf (a_word w.Endmodule))))))
 
 -- a source
 abbrev pub source_tree : Source → Tree

@@ -6,5 +6,7 @@ mod tree;
 
 pub use law::{names_are_tokens, one_source, one_tree, plain_reading, tables_agree};
 pub use tree::{
-    Declarator, Expr, Form, Item, Left, Module, NetAssignment, PartSelect, Range, Source, Stmt,
+    Connection, Connections, Constant, Declarator, Direction, Expr, Form, HeaderParameter,
+    Instance, Item, Left, Module, NetAssignment, ParameterForm, PartSelect, Port, PortForm,
+    PortKind, Range, Source, Stmt,
 };

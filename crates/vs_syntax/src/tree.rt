@@ -14,8 +14,108 @@ pub struct Source {
 pub struct Module {
     /// The bytes of its name; those of an escaped name without the backslash.
     pub name: Vec<u8>,
+    /// The parameters in its header, in the order of the text; where there are none, it has no list of them (clause 12.2).
+    pub parameters: Vec<HeaderParameter>,
+    /// Its ports, in the order of the text, where it has a list of them (clause 12.3.4).
+    pub ports: Option<Vec<Port>>,
     /// Its items, in the order of the text.
     pub items: Vec<Item>,
+}
+
+/// What a declaration of parameters says of them (IEEE 1364-2005, clauses 4.10.1 and 12.2).
+#[derive(Drop)]
+pub enum ParameterForm {
+    /// `integer`
+    Integer,
+    /// Whether they are signed, and their range; of neither, each takes those of its value.
+    Vector(Form),
+}
+
+/// A parameter in the header of a module (IEEE 1364-2005, clause 12.2).
+#[derive(Drop)]
+pub struct HeaderParameter {
+    /// What stands behind the word `parameter`; without that word, what is said of the one before holds.
+    pub form: Option<ParameterForm>,
+    /// The bytes of its name.
+    pub name: Vec<u8>,
+    /// Its value where nothing overrides it.
+    pub value: Expr,
+}
+
+/// A name that a declaration of parameters gives a value (IEEE 1364-2005, clause 4.10).
+#[derive(Drop)]
+pub struct Constant {
+    /// The bytes of the name.
+    pub name: Vec<u8>,
+    /// The value, where nothing overrides it.
+    pub value: Expr,
+}
+
+/// Which way a port goes (IEEE 1364-2005, clause 12.3.3).
+#[derive(Clone, Copy, PartialEq, Eq, Debug)]
+pub enum Direction {
+    /// `input`
+    Input,
+    /// `output`
+    Output,
+}
+
+/// The word of what a port is declared as, beside its direction (IEEE 1364-2005, clause 12.3.4).
+#[derive(Clone, Copy, PartialEq, Eq, Debug)]
+pub enum PortKind {
+    /// `wire`
+    Wire,
+    /// `reg`
+    Reg,
+    /// `integer`
+    Integer,
+}
+
+/// What stands before the name of a port (IEEE 1364-2005, clause 12.3.4).
+#[derive(Drop)]
+pub struct PortForm {
+    /// Its direction.
+    pub direction: Direction,
+    /// What it is declared as, where the text says so.
+    pub kind: Option<PortKind>,
+    /// Its sign and its range.
+    pub form: Form,
+}
+
+/// A port of a module (IEEE 1364-2005, clause 12.3.4).
+#[derive(Drop)]
+pub struct Port {
+    /// What stands before its name; without that, what is said of the one before holds.
+    pub form: Option<PortForm>,
+    /// The bytes of its name.
+    pub name: Vec<u8>,
+}
+
+/// A connection by name (IEEE 1364-2005, clauses 12.2.2.2 and 12.3.6).
+#[derive(Drop)]
+pub struct Connection {
+    /// The bytes of the name of the port or of the parameter.
+    pub name: Vec<u8>,
+    /// What it is connected to, or the value that overrides it; there may be nothing.
+    pub value: Option<Expr>,
+}
+
+/// What stands in the parentheses of an instance, or in those of the values of its parameters (IEEE 1364-2005, clauses 12.2.2 and 12.3).
+#[derive(Drop)]
+pub enum Connections {
+    /// In the order of the ports or of the parameters: the first, and the others. Each may be left out. `()` holds nothing.
+    Ordered(Option<Expr>, Vec<Option<Expr>>),
+    /// By name: the first, and the others.
+    Named(Connection, Vec<Connection>),
+}
+
+/// An instance of a module (IEEE 1364-2005, clause 12.1.2).
+#[derive(Drop)]
+pub struct Instance {
+    /// The bytes of its name.
+    pub name: Vec<u8>,
+    /// What its ports are connected to.
+    pub ports: Connections,
 }
 
 /// A name that a declaration declares (IEEE 1364-2005, clauses 6.1.1 and 6.2.1).
@@ -65,6 +165,12 @@ pub enum Item {
     Reg(Form, Vec<Declarator>),
     /// `integer` and its names, in the order of the text (clause 4.8).
     Integer(Vec<Declarator>),
+    /// `parameter`, what it says of its names, and they with their values, in the order of the text (clause 4.10.1).
+    Parameter(ParameterForm, Vec<Constant>),
+    /// `localparam`, the same of names that nothing overrides (clause 4.10.2).
+    Localparam(ParameterForm, Vec<Constant>),
+    /// Instances: the bytes of the module's name, the values of its parameters, and the instances in the order of the text (clause 12.1.2).
+    Instances(Vec<u8>, Option<Connections>, Vec<Instance>),
     /// `assign` with its assignments, in the order of the text (clause 6.1.2).
     Assign(Vec<NetAssignment>),
     /// `initial` and its statement (clause 9.9.1).

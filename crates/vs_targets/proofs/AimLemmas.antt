@@ -19,7 +19,9 @@ use Rattle.vs_design.specs.WellFormed.{aim_width, size_of}
 use Rattle.vs_forms.specs.declared.shape.Shape.{Shape}
 use Rattle.vs_forms.specs.Each.{Each, each_none, each_more}
 use Rattle.vs_forms.specs.Senses.{sense, IsFitted}
+use Rattle.vs_selects.specs.declared.bindings.Meaning.{Meaning}
 use Rattle.vs_selects.specs.declared.bindings.Binding.{Binding}
+use Rattle.vs_selects.specs.declared.bindings.Binding.TheVariants.{Signal, Constant, Pending, Other}
 use Rattle.vs_selects.specs.declared.faults.WidthReason.{WidthReason}
 use Rattle.vs_selects.specs.declared.faults.WidthReason.TheVariants.{Unknown, NotConstant, WrongKind}
 use Rattle.vs_selects.specs.declared.faults.WidthFault.{WidthFault}
@@ -35,7 +37,7 @@ use Rattle.vs_selects.specs.passes.Places.{IsPlaced, IsFixed}
 use Rattle.vs_selects.proofs.FixingLemmas.{fixed_range, fixed_reads, chosen_range}
 use Rattle.vs_targets.specs.declared.kinds.AssignmentKind.{AssignmentKind}
 use Rattle.vs_targets.specs.declared.kinds.AssignmentKind.TheVariants.{Procedural, Continuous}
-use Rattle.vs_targets.specs.Lefts.{wanted, takes, takes_bound, takes_reads, name_aimed}
+use Rattle.vs_targets.specs.Lefts.{wanted, takes_bound, takes_reads, name_aimed}
 use Rattle.vs_targets.specs.Aiming.{is_none_read, is_fixed, IsPlace, IsTarget}
 use Rattle.vs_targets.specs.passes.Aims.{takes_aim, IsAim, IsTakenAim, select_passes, AreWithin}
 
@@ -103,17 +105,20 @@ module _ (r : WidthReason) where
   span_stands (Some b) s ((i, Some (k.Downward, m)) ∷ []) h = base_stands _ i m h
   span_stands (Some b) s (x ∷ y ∷ xs) h = or_right (wrong_kind r) _ h
 
-  words_stand : (w : Option Bounds) (b : Binding) (ss : List Select) → list_any (stands_in r) ss ≡ true → stands r (of_words w b ss).finding ≡ true
-  words_stand None b ss h = span_stands b.meaning.bits b.meaning.shape ss h
-  words_stand (Some w) b [] h = or_right (wrong_kind r) _ h
-  words_stand (Some w) b ((i, Some m) ∷ ss) h = or_right (wrong_kind r) _ h
-  words_stand (Some w) b ((i, None) ∷ ss) h =
-      let rest = (span_of b.meaning.bits b.meaning.shape ss).finding in
-      either _ (stands r i.finding) (list_any (stands_in r) ss) h (λ z. stands_left second i.finding rest r z) (λ z. stands_right second i.finding rest r (span_stands b.meaning.bits b.meaning.shape ss z))
+  words_stand : (w : Option Bounds) (m : Meaning) (k : ℕ) (ss : List Select) → list_any (stands_in r) ss ≡ true → stands r (of_words w m k ss).finding ≡ true
+  words_stand None m k ss h = span_stands m.bits m.shape ss h
+  words_stand (Some w) m k [] h = or_right (wrong_kind r) _ h
+  words_stand (Some w) m k ((i, Some n) ∷ ss) h = or_right (wrong_kind r) _ h
+  words_stand (Some w) m k ((i, None) ∷ ss) h =
+      let rest = (span_of m.bits m.shape ss).finding in
+      either _ (stands r i.finding) (list_any (stands_in r) ss) h (λ z. stands_left second i.finding rest r z) (λ z. stands_right second i.finding rest r (span_stands m.bits m.shape ss z))
 
   any_stands : (b : Option Binding) (ss : List Select) → list_any (stands_in r) ss ≡ true → stands r (named b ss).finding ≡ true
   any_stands None ss h = or_right (unknown r) _ h
-  any_stands (Some b) ss h = words_stand b.meaning.words b ss h
+  any_stands (Some (Signal m k)) ss h = words_stand m.words m k ss h
+  any_stands (Some (Constant c)) ss h = or_right (wrong_kind r) _ h
+  any_stands (Some Pending) ss h = or_right (not_constant r) _ h
+  any_stands (Some Other) ss h = or_right (wrong_kind r) _ h
 
 -- a fault of an expression of a select is one of the target
 pub selects_refused : (how : AssignmentKind) (b : Option Binding) (ss : List Select) (d : WidthFault) → Refuses (Lacks (λ r. list_any (stands_in r) ss)) d → Refuses (name_aimed how b ss).finding d
@@ -123,8 +128,8 @@ unwanted : (faults : WidthReason → Bool) (x : Finding) (r : WidthReason) (b : 
 unwanted faults x r true h k = cc
 unwanted faults x r false h k = rw k refl
 
-pub kind_refused : (how : AssignmentKind) (b : Binding) (ss : List Select) → takes how b.meaning.kind ≡ false → stands WrongKind (name_aimed how (Some b) ss).finding ≡ true
-kind_refused how b ss h = unwanted wrong_kind (wanted not_constant (takes_reads how (named (Some b) ss).reads) (named (Some b) ss).finding) WrongKind (takes how b.meaning.kind) h refl
+pub kind_refused : (how : AssignmentKind) (b : Binding) (ss : List Select) → takes_bound how (Some b) ≡ false → stands WrongKind (name_aimed how (Some b) ss).finding ≡ true
+kind_refused how b ss h = unwanted wrong_kind (wanted not_constant (takes_reads how (named (Some b) ss).reads) (named (Some b) ss).finding) WrongKind (takes_bound how (Some b)) h refl
 
 reads_out : (how : AssignmentKind) (x : Aim) (rs : List BitRange) → is_fixed x ≡ is_none_read rs → takes_aim how x ≡ false → takes_reads how rs ≡ false
 reads_out how (a.Fixed s) rs e h = cc
@@ -135,7 +140,7 @@ reads_out Continuous (a.Chosen s word low) (r ∷ rs) e h = refl
 pub reads_refused : (how : AssignmentKind) (b : Binding) (ss : List Select) (x : Aim) → IsAim (named (Some b) ss) x → takes_aim how x ≡ false → stands NotConstant (name_aimed how (Some b) ss).finding ≡ true
 reads_refused how b ss x p h =
     let none : takes_reads how (named (Some b) ss).reads ≡ false = reads_out how x (named (Some b) ss).reads p.fixed h in
-    stands_wanted wrong_kind (takes how b.meaning.kind) _ NotConstant (unwanted not_constant (named (Some b) ss).finding NotConstant (takes_reads how (named (Some b) ss).reads) none refl)
+    stands_wanted wrong_kind (takes_bound how (Some b)) _ NotConstant (unwanted not_constant (named (Some b) ss).finding NotConstant (takes_reads how (named (Some b) ss).reads) none refl)
 
 pub unknown_refused : (how : AssignmentKind) (ss : List Select) → stands Unknown (name_aimed how None ss).finding ≡ true
 unknown_refused Procedural ss = refl
@@ -197,7 +202,7 @@ reads_taken Continuous x [] e h = refl
 reads_taken Continuous (a.Fixed s) (r ∷ rs) e h = sym e
 reads_taken Continuous (a.Chosen s word low) (r ∷ rs) e h = h
 
-pub taken_aim : (how : AssignmentKind) (b : Binding) (ss : List Select) (x : Aim) → takes how b.meaning.kind ≡ true → IsAim (named (Some b) ss) x → takes_aim how x ≡ true → IsTakenAim how b ss x
+pub taken_aim : (how : AssignmentKind) (b : Binding) (ss : List Select) (x : Aim) → takes_bound how (Some b) ≡ true → IsAim (named (Some b) ss) x → takes_aim how x ≡ true → IsTakenAim how b ss x
 taken_aim how b ss x h p k = record { is = p; taken = h; constant = reads_taken how x (named (Some b) ss).reads p.fixed k }
 
 and_left : (x y : Bool) → (x && y) ≡ true → x ≡ true
@@ -208,11 +213,11 @@ and_right : (x y : Bool) → (x && y) ≡ true → y ≡ true
 and_right true y h = h
 and_right false y h = cc
 
-signal_of : (w : Option Bounds) (b : Binding) (ss : List Select) → (of_words w b ss).signal ≡ b.signal
-signal_of None b ss = refl
-signal_of (Some w) b [] = refl
-signal_of (Some w) b ((i, None) ∷ ss) = refl
-signal_of (Some w) b ((i, Some m) ∷ ss) = refl
+signal_of : (w : Option Bounds) (m : Meaning) (k : ℕ) (ss : List Select) → (of_words w m k ss).signal ≡ k
+signal_of None m k ss = refl
+signal_of (Some w) m k [] = refl
+signal_of (Some w) m k ((i, None) ∷ ss) = refl
+signal_of (Some w) m k ((i, Some n) ∷ ss) = refl
 
 module _ (test : ℕ → Bool) where
   abbrev passes : List BitRange → Bool
@@ -227,34 +232,38 @@ module _ (test : ℕ → Bool) where
   span_within (Some b) s ((i, Some (k.Downward, m)) ∷ []) h = and_left _ _ (and_left _ _ h)
   span_within (Some b) s (x ∷ y ∷ xs) h = refl
 
-  named_within : (w : Option Bounds) (b : Binding) (ss : List Select) → list_all (select_passes test) ss ≡ true → passes (of_words w b ss).reads ≡ true
-  named_within None b ss h = span_within b.meaning.bits b.meaning.shape ss h
-  named_within (Some w) b [] h = refl
-  named_within (Some w) b ((i, Some m) ∷ ss) h = refl
-  named_within (Some w) b ((i, None) ∷ ss) h =
-      let rest = (span_of b.meaning.bits b.meaning.shape ss).reads in
+  named_within : (w : Option Bounds) (m : Meaning) (k : ℕ) (ss : List Select) → list_all (select_passes test) ss ≡ true → passes (of_words w m k ss).reads ≡ true
+  named_within None m k ss h = span_within m.bits m.shape ss h
+  named_within (Some w) m k [] h = refl
+  named_within (Some w) m k ((i, Some n) ∷ ss) h = refl
+  named_within (Some w) m k ((i, None) ∷ ss) h =
+      let rest = (span_of m.bits m.shape ss).reads in
       let one : passes i.reads ≡ true = and_left _ _ h in
-      let two : passes rest ≡ true = span_within b.meaning.bits b.meaning.shape ss (and_right _ _ h) in
+      let two : passes rest ≡ true = span_within m.bits m.shape ss (and_right _ _ h) in
       list_all-append (λ (r : BitRange). test r.signal) i.reads rest ∙ ap₂ (λ x y. x && y) one two
 
 place_of_name : (how : AssignmentKind) (env : Environment) (name : List ℕ) (b : Binding) (ss : List Select) (x : Aim) → env name ≡ Some b → AreWithin env ss → IsTakenAim how b ss x → IsPlace how env (named (Some b) ss) x
-place_of_name how env name b ss x e w h = record {
+place_of_name how env name (Signal m k) ss x e w h = record {
   signed = h.is.signed;
   found = h.is.found;
   name = name;
-  binding = b;
+  meaning = m;
+  number = k;
   bound = e;
-  signal = signal_of b.meaning.words b ss;
+  signal = signal_of m.words m k ss;
   taken = h.taken;
-  within = λ test holds. named_within test b.meaning.words b ss (w test holds);
+  within = λ test holds. named_within test m.words m k ss (w test holds);
   constant = h.constant;
-  scalar = λ none store time. ap (λ z. (of_words z b ss).word store time) none;
+  scalar = λ none store time. ap (λ z. (of_words z m k ss).word store time) none;
   fixed = h.is.fixed;
   range = h.is.range;
   reads = h.is.reads;
   sizes = h.is.sizes;
   part = h.is.part;
 }
+place_of_name how env name (Constant c) ss x e w h = let no : false ≡ true = h.taken in cc
+place_of_name how env name Pending ss x e w h = let no : false ≡ true = h.taken in cc
+place_of_name how env name Other ss x e w h = let no : false ≡ true = h.taken in cc
 
 sum_alone : (x : ℕ) → sum (x ∷ []) ≡ x
 sum_alone x = omega arith

@@ -56,10 +56,10 @@ from_last_push (ms ∷ nss) ns = ap (λ z. z ++ ms) (from_last_push nss ns) ∙ 
 sum_of_two : (xs ys : List ℕ) → sum (xs ++ ys) ≡ sum xs + sum ys
 sum_of_two xs ys = sum_by-append (λ x. x) xs ys
 
-split_at : (ls : List Left) (i : ℕ) (m : Left) → i < length ls → m ≡ get_or ls i m → take (i + 1) ls ≡ take i ls ++ m ∷ []
+split_at : {A : Type 0} (ls : List A) (i : ℕ) (m : A) → i < length ls → m ≡ get_or ls i m → take (i + 1) ls ≡ take i ls ++ m ∷ []
 split_at ls i m h k = take_more ls i m h ∙ ap (λ z. take i ls ++ z ∷ []) (sym k)
 
-split_front : (ls : List Left) (i : ℕ) (m : Left) → i < length ls → m ≡ get_or ls i m → ls ≡ take i ls ++ m ∷ drop (i + 1) ls
+split_front : {A : Type 0} (ls : List A) (i : ℕ) (m : A) → i < length ls → m ≡ get_or ls i m → ls ≡ take i ls ++ m ∷ drop (i + 1) ls
 split_front ls i m h k =
     let next : suc i ≡ i + 1 = omega arith in
     sym (take-append-drop i ls) ∙ ap (λ z. take i ls ++ z) (drop-cons ls i m h ∙ ap₂ (λ z n. z ∷ drop n ls) (sym k) next)
@@ -95,60 +95,55 @@ selects_within env ((e, None) ∷ es) test h = ap₂ (λ p q. p && q) (reads_wit
 selects_within env ((e, Some (how, m)) ∷ es) test h =
     ap₂ (λ p q. p && q) (ap₂ (λ p q. p && q) (reads_within env test h e) (reads_within env test h m)) (selects_within env es test h)
 
-pub name_selects_refused : (how : AssignmentKind) (env : Environment) (n : Vec ℕ Global) (ss : Vec (Expr × Option (PartSelect × Expr)) Global) (es : List (Expr × Option (PartSelect × Expr))) (d : WidthFault) → es ≡ ss.items →
-    Refuses (Lacks (λ r. list_any (stands_in r) (meant_selects env es))) d → Refuses (aimed how env (l.Name n ss)).finding d
-name_selects_refused how env n ss es d k h =
-    refuses_as _ _ d (ap (λ z. z.finding) (aimed_Name how env n ss))
-    (selects_refused how (env n.items) (meant_selects env ss.items) d (subst (λ z. Refuses (Lacks (λ r. list_any (stands_in r) (meant_selects env z))) d) k h))
+pub name_selects_refused : (how : AssignmentKind) (env : Environment) (m : Aimed) (name : List ℕ) (ss es : List (Expr × Option (PartSelect × Expr))) (d : WidthFault) → m ≡ name_aimed how (env name) (meant_selects env ss) → es ≡ ss →
+    Refuses (Lacks (λ r. list_any (stands_in r) (meant_selects env es))) d → Refuses m.finding d
+name_selects_refused how env m name ss es d e k h =
+    refuses_as _ _ d (ap (λ z. z.finding) e)
+    (selects_refused how (env name) (meant_selects env ss) d (subst (λ z. Refuses (Lacks (λ r. list_any (stands_in r) (meant_selects env z))) d) k h))
 
-pub name_aims : (how : AssignmentKind) (env : Environment) (n : Vec ℕ Global) (ss : Vec (Expr × Option (PartSelect × Expr)) Global) (name : List ℕ) (es : List (Expr × Option (PartSelect × Expr))) (qs : List Select) (r : Result Target WidthFault) →
-    name ≡ n.items → es ≡ ss.items → qs ≡ meant_selects env es → Aims how env (name_aimed how (env name) qs) r → Aims how env (aimed how env (l.Name n ss)) r
-name_aims how env n ss name es qs r k h e p =
-    aims_as how env (name_aimed how (env name) qs) (aimed how env (l.Name n ss)) r
-    (aimed_Name how env n ss ∙ ap₂ (λ b z. name_aimed how b z) (ap env (sym k)) (ap (meant_selects env) (sym h) ∙ sym e)) p
+pub name_aims : (how : AssignmentKind) (env : Environment) (m : Aimed) (name n : List ℕ) (ss qs : List Select) (r : Result Target WidthFault) → m ≡ name_aimed how (env name) ss → n ≡ name → qs ≡ ss →
+    Aims how env (name_aimed how (env n) qs) r → Aims how env m r
+name_aims how env m name n ss qs r e k h p =
+    aims_as how env (name_aimed how (env n) qs) m r (e ∙ ap₂ (λ b z. name_aimed how b z) (ap env (sym k)) (sym h)) p
 
 -- ---- concatenations
 
-pub concat_refused : (how : AssignmentKind) (env : Environment) (b : Box Left Global) (ls : Vec Left Global) (left : Left) (d : WidthFault) → left ≡ b.value → Refuses (aimed how env left).finding d → Refuses (aimed how env (l.Concat b ls)).finding d
-concat_refused how env b ls left d k h =
-    refuses_as _ _ d (ap (λ z. z.finding) (aimed_Concat how env b ls))
-    (first_refused (aimed how env b.value) (map (aimed how env) ls.items) d (subst (λ z. Refuses (aimed how env z).finding d) k h))
+pub concat_refused : (m a : Aimed) (ms : List Aimed) (d : WidthFault) → m ≡ concat_aimed a ms → Refuses a.finding d → Refuses m.finding d
+concat_refused m a ms d e h = refuses_as _ _ d (ap (λ z. z.finding) e) (first_refused a ms d h)
 
-pub concat_aims : (how : AssignmentKind) (env : Environment) (b : Box Left Global) (ls : Vec Left Global) (left : Left) (es : List Left) (r : Result Target WidthFault) → left ≡ b.value → es ≡ ls.items →
-    Aims how env (concat_aimed (aimed how env left) (map (aimed how env) es)) r → Aims how env (aimed how env (l.Concat b ls)) r
-concat_aims how env b ls left es r k h p =
-    aims_as how env (concat_aimed (aimed how env left) (map (aimed how env) es)) (aimed how env (l.Concat b ls)) r
-    (aimed_Concat how env b ls ∙ ap₂ (λ m z. concat_aimed m (map (aimed how env) z)) (ap (aimed how env) (sym k)) (sym h)) p
+pub concat_aims : (how : AssignmentKind) (env : Environment) (m a b : Aimed) (ms ns : List Aimed) (r : Result Target WidthFault) → m ≡ concat_aimed a ms → b ≡ a → ns ≡ ms → Aims how env (concat_aimed b ns) r → Aims how env m r
+concat_aims how env m a b ms ns r e k h p = aims_as how env (concat_aimed b ns) m r (e ∙ ap₂ concat_aimed (sym k) (sym h)) p
 
-module _ (how : AssignmentKind) (env : Environment) where
-  abbrev pub found_of : Left → Finding
-  found_of left = (aimed how env left).finding
+-- parts of a kind that mean targets
+module _ (how : AssignmentKind) (env : Environment) {A : Type 0} (g : A → Aimed) where
+  abbrev pub found_of : A → Finding
+  found_of a = (g a).finding
 
-  abbrev pub front : Aimed → List Left → Aimed
-  front m ls = concat_aimed m (map (aimed how env) ls)
+  abbrev pub front : Aimed → List A → Aimed
+  front m ls = concat_aimed m (map g ls)
 
   -- a fault of the parts up to one of them
-  part_stands : (m : Aimed) (ls : List Left) (i : ℕ) (left : Left) (d : WidthFault) → i < length ls → left ≡ get_or ls i left →
-      Refuses (together beside (front m (take i ls)).finding (found_of left)) d → Refuses (front m ls).finding d
-  part_stands m ls i left d h k bad =
-      let whole : ls ≡ take i ls ++ left ∷ drop (i + 1) ls = split_front ls i left h k in
-      let here = together beside (front m (take i ls)).finding (found_of left) in
-      let rest = map (λ (a : Aimed). a.finding) (map (aimed how env) (drop (i + 1) ls)) in
+  part_stands : (m : Aimed) (ls : List A) (i : ℕ) (part : A) (d : WidthFault) → i < length ls → part ≡ get_or ls i part →
+      Refuses (together beside (front m (take i ls)).finding (found_of part)) d → Refuses (front m ls).finding d
+  part_stands m ls i part d h k bad =
+      let whole : ls ≡ take i ls ++ part ∷ drop (i + 1) ls = split_front ls i part h k in
+      let here = together beside (front m (take i ls)).finding (found_of part) in
+      let rest = map (λ (a : Aimed). a.finding) (map g (drop (i + 1) ls)) in
       let same : (front m ls).finding ≡ sum_found here rest =
-      ap (λ z. (front m z).finding) whole ∙ ap (λ z. sum_found m.finding (map (λ (a : Aimed). a.finding) z)) (map-append (aimed how env) (take i ls) (left ∷ drop (i + 1) ls))
-      ∙ ap (sum_found m.finding) (map-append (λ (a : Aimed). a.finding) (map (aimed how env) (take i ls)) (map (aimed how env) (left ∷ drop (i + 1) ls)))
-      ∙ sum_append m.finding (map (λ (a : Aimed). a.finding) (map (aimed how env) (take i ls))) (found_of left ∷ rest) in
+      ap (λ z. (front m z).finding) whole ∙ ap (λ z. sum_found m.finding (map (λ (a : Aimed). a.finding) z)) (map-append g (take i ls) (part ∷ drop (i + 1) ls))
+      ∙ ap (sum_found m.finding) (map-append (λ (a : Aimed). a.finding) (map g (take i ls)) (map g (part ∷ drop (i + 1) ls)))
+      ∙ sum_append m.finding (map (λ (a : Aimed). a.finding) (map g (take i ls))) (found_of part ∷ rest) in
       refuses_as _ _ d same (refused_by here (sum_found here rest) d (λ r s. stands_sum here rest r s) bad)
 
-  pub part_refused : (m : Aimed) (ls : List Left) (i : ℕ) (left : Left) (d : WidthFault) → i < length ls → left ≡ get_or ls i left → Refuses (found_of left) d → Refuses (front m ls).finding d
-  part_refused m ls i left d h k bad =
+  pub part_refused : (m : Aimed) (ls : List A) (i : ℕ) (part : A) (d : WidthFault) → i < length ls → part ≡ get_or ls i part → Refuses (found_of part) d → Refuses (front m ls).finding d
+  part_refused m ls i part d h k bad =
       let before = (front m (take i ls)).finding in
-      part_stands m ls i left d h k (refused_by (found_of left) (together beside before (found_of left)) d (λ r s. stands_right beside before (found_of left) r s) bad)
+      part_stands m ls i part d h k (refused_by (found_of part) (together beside before (found_of part)) d (λ r s. stands_right beside before (found_of part) r s) bad)
 
-  pub sum_refused : (m : Aimed) (ls : List Left) (i : ℕ) (left : Left) (high low : Target) (d : WidthFault) → i < length ls → left ≡ get_or ls i left → IsTarget how env (front m (take i ls)) high →
-      IsTarget how env (aimed how env left) low → Refuses (unsigned (high.width + low.width)) d → Refuses (front m ls).finding d
-  sum_refused m ls i left high low d h k p q bad =
-      part_stands m ls i left d h k (refuses_as _ _ d (ap₂ (together beside) p.found q.found) bad)
+  pub sum_refused : (m : Aimed) (ls : List A) (i : ℕ) (part : A) (high low : Target) (d : WidthFault) → i < length ls → part ≡ get_or ls i part → IsTarget how env (front m (take i ls)) high →
+      IsTarget how env (g part) low → Refuses (unsigned (high.width + low.width)) d → Refuses (front m ls).finding d
+  sum_refused m ls i part high low d h k p q bad =
+      part_stands m ls i part d h k (refuses_as _ _ d (ap₂ (together beside) p.found q.found) bad)
 
   fits : (n : ℕ) → n ≤ 64 → unsigned n ≡ Has n false
   fits n h = rw (le-leb n 64 h) refl
@@ -167,22 +162,22 @@ module _ (how : AssignmentKind) (env : Environment) where
         ∙ sym (ap (map named_range) f ∙ map-append named_range n.places m.places);
   }
 
-  pub parts_step : (m : Aimed) (ls : List Left) (i : ℕ) (left : Left) (high low t : Target) → i < length ls → left ≡ get_or ls i left → IsTarget how env (front m (take i ls)) high →
-      IsTarget how env (aimed how env left) low → IsJoined high low t → IsTarget how env (front m (take (i + 1) ls)) t
-  parts_step m ls i left high low t h k p q j =
+  pub parts_step : (m : Aimed) (ls : List A) (i : ℕ) (part : A) (high low t : Target) → i < length ls → part ≡ get_or ls i part → IsTarget how env (front m (take i ls)) high →
+      IsTarget how env (g part) low → IsJoined high low t → IsTarget how env (front m (take (i + 1) ls)) t
+  parts_step m ls i part high low t h k p q j =
       let before = take i ls in
-      let more : map (aimed how env) (take (i + 1) ls) ≡ map (aimed how env) before ++ aimed how env left ∷ [] =
-      ap (map (aimed how env)) (split_at ls i left h k) ∙ map-append (aimed how env) before (left ∷ []) in
-      behind (front m before) (aimed how env left) high low t p q j (front m (take (i + 1) ls))
+      let more : map g (take (i + 1) ls) ≡ map g before ++ g part ∷ [] =
+      ap (map g) (split_at ls i part h k) ∙ map-append g before (part ∷ []) in
+      behind (front m before) (g part) high low t p q j (front m (take (i + 1) ls))
       (ap (λ z. sum_found m.finding (map (λ (a : Aimed). a.finding) z)) more
-      ∙ ap (sum_found m.finding) (map-append (λ (a : Aimed). a.finding) (map (aimed how env) before) (aimed how env left ∷ []))
-      ∙ sum_append m.finding (map (λ (a : Aimed). a.finding) (map (aimed how env) before)) (found_of left ∷ []))
+      ∙ ap (sum_found m.finding) (map-append (λ (a : Aimed). a.finding) (map g before) (g part ∷ []))
+      ∙ sum_append m.finding (map (λ (a : Aimed). a.finding) (map g before)) (found_of part ∷ []))
       (ap (λ z. from_last (m.places ∷ map (λ (a : Aimed). a.places) z)) more
-      ∙ ap (λ z. from_last (m.places ∷ z)) (map-append (λ (a : Aimed). a.places) (map (aimed how env) before) (aimed how env left ∷ []))
-      ∙ from_last_push (m.places ∷ map (λ (a : Aimed). a.places) (map (aimed how env) before)) (aimed how env left).places)
+      ∙ ap (λ z. from_last (m.places ∷ z)) (map-append (λ (a : Aimed). a.places) (map g before) (g part ∷ []))
+      ∙ from_last_push (m.places ∷ map (λ (a : Aimed). a.places) (map g before)) (g part).places)
 
-  pub parts_end : (m : Aimed) (ls : List Left) (i : ℕ) (t : Target) → length ls ≤ i → IsTarget how env (front m (take i ls)) t → IsTarget how env (front m ls) t
+  pub parts_end : (m : Aimed) (ls : List A) (i : ℕ) (t : Target) → length ls ≤ i → IsTarget how env (front m (take i ls)) t → IsTarget how env (front m ls) t
   parts_end m ls i t h p = subst (λ z. IsTarget how env (front m z) t) (take_all i ls h) p
 
-  pub parts_start : (m : Aimed) (ls : List Left) (t : Target) → IsTarget how env m t → IsTarget how env (front m (take 0 ls)) t
+  pub parts_start : (m : Aimed) (ls : List A) (t : Target) → IsTarget how env m t → IsTarget how env (front m (take 0 ls)) t
   parts_start m ls t p = record { signed = p.signed; found = p.found; places = p.places; width = p.width; ranges = p.ranges }

@@ -1,3 +1,4 @@
 pub mod AimLemmas
 pub mod ReadLemmas
 pub mod LeftLemmas
+pub mod ExprLemmas

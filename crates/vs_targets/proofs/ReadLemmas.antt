@@ -12,10 +12,12 @@ use Rattle.vs_syntax.specs.declared.tree.PartSelect.{PartSelect}
 use Rattle.vs_syntax.specs.declared.tree.PartSelect.TheVariants as p
 use Rattle.vs_design.specs.declared.signal.Bounds.{Bounds}
 use Rattle.vs_forms.specs.declared.shape.Shape.{Shape}
+use Rattle.vs_selects.specs.declared.bindings.Meaning.{Meaning}
 use Rattle.vs_selects.specs.declared.bindings.Binding.{Binding}
+use Rattle.vs_selects.specs.declared.bindings.Binding.TheVariants.{Signal, Constant, Pending, Other}
 use Rattle.vs_selects.specs.Findings.{Finding, Has, Lacks}
 use Rattle.vs_selects.specs.Meants.{Meant}
-use Rattle.vs_selects.specs.Selects.{Select, select_span, span_of, Named, in_array, of_words, named, range_by, named_reads, select_meant}
+use Rattle.vs_selects.specs.Selects.{Select, select_span, span_of, Named, in_array, of_words, range_by, named_reads, select_meant}
 use Rattle.vs_widths.specs.Typing.{HoldsOfSignals, ReadsNamed}
 use Rattle.vs_selects.specs.Environment.{Environment}
 use Rattle.vs_widths.specs.Expressions.{meant, meant_step, name_meant, linked_meant, chain_meant}
@@ -60,14 +62,14 @@ module _ (test : ℕ → Bool) where
   abbrev Names : Named → Type 0
   Names n = (test n.signal ≡ true) × Within n.reads
 
-  array_within : (b : Bounds) (x : Binding) (xs : List Select) → test x.signal ≡ true → AllWithin xs → Names (in_array b x xs)
-  array_within b x [] k h = (k, refl)
-  array_within b x ((i, None) ∷ xs) k h = (k, both_within i.reads (span_of x.meaning.bits x.meaning.shape xs).reads h.0 (span_within x.meaning.bits x.meaning.shape xs h.1))
-  array_within b x ((i, Some m) ∷ xs) k h = (k, refl)
+  array_within : (b : Bounds) (m : Meaning) (n : ℕ) (xs : List Select) → test n ≡ true → AllWithin xs → Names (in_array b m n xs)
+  array_within b m n [] k h = (k, refl)
+  array_within b m n ((i, None) ∷ xs) k h = (k, both_within i.reads (span_of m.bits m.shape xs).reads h.0 (span_within m.bits m.shape xs h.1))
+  array_within b m n ((i, Some x) ∷ xs) k h = (k, refl)
 
-  words_within : (o : Option Bounds) (x : Binding) (xs : List Select) → test x.signal ≡ true → AllWithin xs → Names (of_words o x xs)
-  words_within None x xs k h = (k, span_within x.meaning.bits x.meaning.shape xs h)
-  words_within (Some b) x xs k h = array_within b x xs k h
+  words_within : (o : Option Bounds) (m : Meaning) (n : ℕ) (xs : List Select) → test n ≡ true → AllWithin xs → Names (of_words o m n xs)
+  words_within None m n xs k h = (k, span_within m.bits m.shape xs h)
+  words_within (Some b) m n xs k h = array_within b m n xs k h
 
   operand_within : (n : Named) (found : Finding) → Names n → Within (named_reads found n)
   operand_within n (Has width signed) h = both_true _ _ (range_signal n.reads) h.1
@@ -92,7 +94,10 @@ module _ (test : ℕ → Bool) where
 
     name_within : (m : List ℕ) (o : Option Binding) → env m ≡ o → Within (name_meant o).reads
     name_within m None h = refl
-    name_within m (Some b) h = both_true _ _ (good m b h) refl
+    name_within m (Some (Signal x n)) h = both_true _ _ (good m x n h) refl
+    name_within m (Some (Constant c)) h = refl
+    name_within m (Some Pending) h = refl
+    name_within m (Some Other) h = refl
 
     chain_within : (first : Meant) (links : List ReadLink) → Within first.reads → Within (chain_meant first (map link_meant links)).reads
     chain_within first [] h = h
@@ -132,7 +137,10 @@ module _ (test : ℕ → Bool) where
 
     select_within : (m : List ℕ) (o : Option Binding) (xs : List Select) → env m ≡ o → AllWithin xs → Within (select_meant o xs).reads
     select_within m None xs h k = refl
-    select_within m (Some b) xs h k = operand_within (named (Some b) xs) (named (Some b) xs).finding (words_within b.meaning.words b xs (good m b h) k)
+    select_within m (Some (Signal x n)) xs h k = operand_within (of_words x.words x n xs) (of_words x.words x n xs).finding (words_within x.words x n xs (good m x n h) k)
+    select_within m (Some (Constant c)) xs h k = refl
+    select_within m (Some Pending) xs h k = refl
+    select_within m (Some Other) xs h k = refl
 
     inner : (y : Expr-F ((e : Expr) × Reads e)) → Within (meant_step env (map-Expr Expr Meant (meant env) (map-Expr ((e : Expr) × Reads e) Expr bare y))).reads
     inner (f.Number l) = refl

@@ -1,11 +1,11 @@
 //! Places of a target: names with their selects.
-ghost use Rattle.std.specs.Prelude.{◌≡◌, ◌∷◌, [], IfOk};
+ghost use Rattle.std.specs.Prelude.{◌≡◌, ◌∷◌, true, [], Some, IfOk};
 ghost use Rattle.std.specs.List.{All};
 ghost use Rattle.vs_design.specs.WellFormed.{aim_width};
 ghost use Rattle.vs_selects.specs.Selects.{Named};
 ghost use Rattle.vs_selects.specs.passes.Places.{selects_meaning, IsFlexibleSelect, IsPlaced};
 ghost use Rattle.vs_widths.specs.Names.{meaning_of};
-ghost use Rattle.vs_targets.specs.Lefts.{name_aimed};
+ghost use Rattle.vs_targets.specs.Lefts.{takes_bound, name_aimed};
 ghost use Rattle.vs_targets.specs.passes.Aims.{takes_aim, IsAim, AimsAt, AreWithin, Aims};
 
 use crate::kinds::{AssignmentKind, takes_kind};
@@ -42,20 +42,31 @@ fn takes_aim(how: AssignmentKind, aim: &Aim) -> bool
     }
 }
 
-/// What is bound to a name, with selects behind the name, as a place of a target.
+/// Whether an assignment of a kind may assign to what a name is bound to: to a signal of the right kind alone
+/// (IEEE 1364-2005, clauses 6.1 and 9.2).
+fn takes_bound(how: AssignmentKind, binding: Binding) -> bool
+    ensures { result ≡ takes_bound how (Some binding) }
+{
+    match binding {
+        Binding::Signal(meaning, _) => takes_kind(how, meaning.kind),
+        Binding::Constant(_) => false,
+        Binding::Pending => false,
+        Binding::Other => false,
+    }
+}
+
+/// What is bound to a name, with selects behind the name, as a place of a target, where an assignment of the kind takes it.
 fn bound_aim(
     alloc: Global,
     how: AssignmentKind,
     binding: Binding,
     selects: Vec<(Measured, Option<(PartSelect, Measured)>)>,
 ) -> Result<Aim, WidthFault>
+    requires taken { takes_bound how (Some binding) ≡ true }
     requires flexible { All IsFlexibleSelect selects.items }
     ensures { AimsAt how binding (selects_meaning selects.items) result }
 {
     let place = named(alloc, Some(binding), selects)?;
-    if !takes_kind(how, binding.meaning.kind) {
-        return Err(WidthFault::Refused(WidthReason::WrongKind));
-    }
     let aim = aim(alloc, &place)?;
     if !takes_aim(how, &aim) {
         return Err(WidthFault::Refused(WidthReason::NotConstant));
@@ -91,6 +102,9 @@ pub fn named_target(
 {
     match names.find(name) {
         Some(binding) => {
+            if !takes_bound(how, binding) {
+                return Err(WidthFault::Refused(WidthReason::WrongKind));
+            }
             let aim = bound_aim(alloc, how, binding, selects)?;
             Ok(alone(alloc, aim)?)
         }

@@ -1,4 +1,5 @@
-//! Left sides of assignments: from those of a source to those of a design (IEEE 1364-2005, clauses 6.1 and 9.2).
+//! Left sides of assignments, and what output ports are connected to: from those of a source to those of a design (IEEE 1364-2005,
+//! clauses 6.1, 9.2 and 12.3.9.2).
 #![tactic(auto)]
 
 mod aiming;
@@ -6,4 +7,4 @@ mod kinds;
 mod lefts;
 
 pub use kinds::{AssignmentKind, takes_kind};
-pub use lefts::{name_target, target};
+pub use lefts::{expr_target, is_left, name_target, target};

@@ -7,7 +7,7 @@ use Rattle.std.specs.BTreeMap.{BTreeMap, get_by, UpdatesBy}
 use Rattle.std.specs.Ordering.{is_eq, nat_cmp}
 use Rattle.std.specs.Cmp.Lexicographic.{slice_cmp}
 use Rattle.std.proofs.lemmas.Map.Text.{is_eq-slice_cmp, btree_map_updates_str}
-use Rattle.vs_widths.specs.Names.{by_bytes, meaning_of, Declares}
+use Rattle.vs_widths.specs.Names.{by_bytes, meaning_of, Binds, Declares}
 
 none_from_false : {A : Type 0} (o : Option A) → false ≡ is_some o → o ≡ None
 none_from_false None h = refl
@@ -23,16 +23,19 @@ module _ {V : Type 0} where
   pub found_by_bytes : (n : List ℕ) (m : BTreeMap (Bor (List ℕ)) V) → get_by (λ k. slice_cmp nat_cmp n k.now) m ≡ meaning_of (by_bytes m.entries) n
   found_by_bytes n m = lookup_by_bytes n m.entries
 
+  -- a name with a new meaning
+  pub binds : (m new : BTreeMap (Bor (List ℕ)) V) (env : List (List ℕ × V)) (n : List ℕ) (v : V) → by_bytes m.entries ≡ env →
+      UpdatesBy (λ x y. slice_cmp nat_cmp x.now y.now) (λ k. slice_cmp nat_cmp n k.now) m new (Some v) → Binds env (by_bytes new.entries) n v
+  binds m new env n v e h =
+      let P : List (List ℕ × V) → Type 0 = λ z. Binds z (by_bytes new.entries) n v in
+      subst P e (λ k. sym (found_by_bytes k new) ∙ btree_map_updates_str n m new (Some v) h k ∙ ap (λ o. cond (bytes_eq n k) (Some v) o) (found_by_bytes k m))
+
   -- a fresh name
   pub declares_fresh : (m new : BTreeMap (Bor (List ℕ)) V) (env : List (List ℕ × V)) (n : List ℕ) (v : V) → by_bytes m.entries ≡ env →
       UpdatesBy (λ x y. slice_cmp nat_cmp x.now y.now) (λ k. slice_cmp nat_cmp n k.now) m new (Some v) →
       false ≡ is_some (get_by (λ k. slice_cmp nat_cmp n k.now) m) → Declares true env (by_bytes new.entries) n v
   declares_fresh m new env n v e h absent =
-      let P : List (List ℕ × V) → Type 0 = λ z. Declares true z (by_bytes new.entries) n v in
-      subst P e (
-        sym (found_by_bytes n m) ∙ none_from_false _ absent,
-        λ k. sym (found_by_bytes k new) ∙ btree_map_updates_str n m new (Some v) h k ∙ ap (λ o. cond (bytes_eq n k) (Some v) o) (found_by_bytes k m),
-      )
+      (subst (λ z. meaning_of z n ≡ None) e (sym (found_by_bytes n m) ∙ none_from_false _ absent), binds m new env n v e h)
 
   pub declares_known : (m : BTreeMap (Bor (List ℕ)) V) (env : List (List ℕ × V)) (n : List ℕ) (v : V) → by_bytes m.entries ≡ env →
       true ≡ is_some (get_by (λ k. slice_cmp nat_cmp n k.now) m) → IsSome (meaning_of env n)

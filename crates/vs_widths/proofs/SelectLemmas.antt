@@ -16,12 +16,14 @@ use Rattle.vs_syntax.specs.declared.tree.PartSelect.TheVariants as p
 use Rattle.vs_design.specs.declared.signal.Bounds.{Bounds}
 use Rattle.vs_forms.specs.declared.shape.Shape.{Shape}
 use Rattle.vs_forms.specs.declared.forms.Measured.{Measured}
+use Rattle.vs_selects.specs.declared.bindings.Meaning.{Meaning}
 use Rattle.vs_selects.specs.declared.bindings.Binding.{Binding}
+use Rattle.vs_selects.specs.declared.bindings.Binding.TheVariants.{Signal, Constant, Pending, Other}
 use Rattle.vs_selects.specs.declared.places.Place.{Place}
 use Rattle.vs_selects.specs.declared.faults.WidthReason.{WidthReason}
 use Rattle.vs_selects.specs.declared.faults.WidthFault.{WidthFault}
 use Rattle.vs_selects.specs.Environment.{Environment}
-use Rattle.vs_selects.specs.Findings.{Has, Lacks, stands, second, wrong_kind, unknown, Refuses}
+use Rattle.vs_selects.specs.Findings.{Has, Lacks, stands, second, wrong_kind, unknown, not_constant, Refuses}
 use Rattle.vs_selects.specs.Meants.{Meant}
 use Rattle.vs_selects.specs.Constants.{where_none, constant_finding, natural_of, whole_of, positive}
 use Rattle.vs_selects.specs.Selects.{Select, stands_in, between, counted, select_span, span_of, Named, in_array, of_words, named, select_meant, operand_meant}
@@ -65,22 +67,25 @@ span_stands None s (a ∷ ss) r h = or_right (wrong_kind r) (list_any (stands_in
 span_stands (Some b) s (a ∷ []) r h = select_stands b s.width a r (or_none (stands_in r a) h)
 span_stands (Some b) s (a ∷ c ∷ ss) r h = or_right (wrong_kind r) (list_any (stands_in r) (a ∷ c ∷ ss)) h
 
-array_stands : (b : Bounds) (y : Binding) (ss : List Select) (r : WidthReason) → list_any (stands_in r) ss ≡ true → stands r (in_array b y ss).finding ≡ true
-array_stands b y [] r h = cc
-array_stands b y ((i, None) ∷ ss) r h =
-    let rest = (span_of y.meaning.bits y.meaning.shape ss).finding in
-    ⊎_elim (λ k. stands_left second i.finding rest r k) (λ k. stands_right second i.finding rest r (span_stands y.meaning.bits y.meaning.shape ss r k))
+array_stands : (b : Bounds) (y : Meaning) (signal : ℕ) (ss : List Select) (r : WidthReason) → list_any (stands_in r) ss ≡ true → stands r (in_array b y signal ss).finding ≡ true
+array_stands b y signal [] r h = cc
+array_stands b y signal ((i, None) ∷ ss) r h =
+    let rest = (span_of y.bits y.shape ss).finding in
+    ⊎_elim (λ k. stands_left second i.finding rest r k) (λ k. stands_right second i.finding rest r (span_stands y.bits y.shape ss r k))
     (or_parts (stands r i.finding) (list_any (stands_in r) ss) h)
-array_stands b y ((i, Some m) ∷ ss) r h = or_right (wrong_kind r) (list_any (stands_in r) ((i, Some m) ∷ ss)) h
+array_stands b y signal ((i, Some m) ∷ ss) r h = or_right (wrong_kind r) (list_any (stands_in r) ((i, Some m) ∷ ss)) h
 
-words_stand : (o : Option Bounds) (y : Binding) (ss : List Select) (r : WidthReason) → list_any (stands_in r) ss ≡ true → stands r (of_words o y ss).finding ≡ true
-words_stand None y ss r h = span_stands y.meaning.bits y.meaning.shape ss r h
-words_stand (Some b) y ss r h = array_stands b y ss r h
+words_stand : (o : Option Bounds) (y : Meaning) (signal : ℕ) (ss : List Select) (r : WidthReason) → list_any (stands_in r) ss ≡ true → stands r (of_words o y signal ss).finding ≡ true
+words_stand None y signal ss r h = span_stands y.bits y.shape ss r h
+words_stand (Some b) y signal ss r h = array_stands b y signal ss r h
 
 -- a fault of an expression of a select is one of the whole
 pub named_stands : (o : Option Binding) (ss : List Select) (r : WidthReason) → list_any (stands_in r) ss ≡ true → stands r (named o ss).finding ≡ true
 named_stands None ss r h = or_right (unknown r) (list_any (stands_in r) ss) h
-named_stands (Some y) ss r h = words_stand y.meaning.words y ss r h
+named_stands (Some (Signal y signal)) ss r h = words_stand y.words y signal ss r h
+named_stands (Some (Constant c)) ss r h = or_right (wrong_kind r) (list_any (stands_in r) ss) h
+named_stands (Some Pending) ss r h = or_right (not_constant r) (list_any (stands_in r) ss) h
+named_stands (Some Other) ss r h = or_right (wrong_kind r) (list_any (stands_in r) ss) h
 
 any_in : {A B : Type 0} (f : A → B) (q : B → Bool) (xs : List A) (i : ℕ) (a : A) → i < length xs → a ≡ get_or xs i a → q (f a) ≡ true → list_any q (map f xs) ≡ true
 any_in f q [] i a h k l = absurd (omega arith)

@@ -22,8 +22,9 @@ use Rattle.vs_eval.specs.Values.{operand_value, chosen, concatenated}
 use Rattle.vs_forms.specs.Operations.{operated}
 use Rattle.vs_forms.specs.declared.shape.Shape.{Shape}
 use Rattle.vs_selects.specs.declared.bindings.Binding.{Binding}
+use Rattle.vs_selects.specs.declared.bindings.Binding.TheVariants.{Signal, Constant, Pending, Other}
 use Rattle.vs_selects.specs.Environment.{Environment}
-use Rattle.vs_selects.specs.Findings.{Finding, Has, Lacks, unknown, wrong_kind, together, alone, alike, linked_shape, second, beside, repeated, at_found}
+use Rattle.vs_selects.specs.Findings.{Finding, Has, Lacks, unknown, wrong_kind, not_constant, together, alone, alike, linked_shape, second, beside, repeated, at_found}
 use Rattle.vs_selects.specs.Meants.{Meant, own}
 use Rattle.vs_selects.specs.Constants.{natural_of, positive, count_finding}
 use Rattle.vs_selects.specs.Selects.{Select, select_meant}
@@ -35,20 +36,24 @@ abbrev pub signal_finding : Option Bounds → Shape → Finding
 signal_finding None s = Has s.width s.signed
 signal_finding (Some words) s = Lacks wrong_kind
 
--- the size and sign of the signal of a name (clause 12.7)
+-- the size and sign of the signal or the constant of a name (clauses 12.2 and 12.7)
 abbrev pub name_finding : Option Binding → Finding
 name_finding None = Lacks unknown
-name_finding (Some b) = signal_finding b.meaning.words b.meaning.shape
+name_finding (Some (Signal m signal)) = signal_finding m.words m.shape
+name_finding (Some (Constant c)) = Has (length c.value) c.signed
+name_finding (Some Pending) = Lacks not_constant
+name_finding (Some Other) = Lacks wrong_kind
 
--- what a name reads: the whole of its signal
+-- what a name reads: the whole of its signal, and nothing where it has none
 abbrev pub name_reads : Option Binding → List BitRange
-name_reads None = []
-name_reads (Some b) = whole b.signal ∷ []
+name_reads (Some (Signal m signal)) = whole signal ∷ []
+name_reads _ = []
 
--- the value of the signal of a name, at the size and with the sign of its context (clause 5.5.2)
+-- the value of the signal or the constant of a name, at the size and with the sign of its context (clause 5.5.2)
 abbrev pub name_value : Option Binding → Store → ℕ → ℕ → Bool → List Digit
-name_value None store time width signed = []
-name_value (Some b) store time width signed = operand_value signed width (word_of store b.signal 0)
+name_value (Some (Signal m signal)) store time width signed = operand_value signed width (word_of store signal 0)
+name_value (Some (Constant c)) store time width signed = resized signed width c.value
+name_value _ store time width signed = []
 
 -- ---- operators of one operand
 
@@ -142,13 +147,17 @@ repeat_meant count first rest = record {
 
 -- ---- expressions
 
+-- digits that are a number of this sign (clause 5.5.1)
+abbrev pub digits_meant : List Digit → Bool → Meant
+digits_meant value sign = record {
+  finding = Has (length value) sign;
+  reads = [];
+  at = λ store time width signed. resized signed width value;
+}
+
 -- a number (clauses 3.5.1 and 5.5.1)
 abbrev pub number_meant : Literal → Meant
-number_meant l = record {
-  finding = Has (length l.value) l.signed;
-  reads = [];
-  at = λ store time width signed. resized signed width l.value;
-}
+number_meant l = digits_meant l.value l.signed
 
 -- a name (clause 12.7)
 abbrev pub name_meant : Option Binding → Meant

@@ -12,7 +12,11 @@ by_bytes es = map (λ e. (e.0.now, e.1)) es
 abbrev pub meaning_of : {V : Type 0} → List (List ℕ × V) → List ℕ → Option V
 meaning_of names n = lookup (bytes_eq n) names
 
+-- a name means what it is given, and the others what they did
+abbrev pub Binds : {V : Type 0} → List (List ℕ × V) → List (List ℕ × V) → List ℕ → V → Type 0
+Binds old new n v = (k : List ℕ) → meaning_of new k ≡ update bytes_eq (meaning_of old) n (Some v) k
+
 -- a fresh name means what it is given, and the others what they did; another one is there already
 abbrev pub Declares : {V : Type 0} → Bool → List (List ℕ × V) → List (List ℕ × V) → List ℕ → V → Type 0
-Declares true old new n v = (meaning_of old n ≡ None) × ((k : List ℕ) → meaning_of new k ≡ update bytes_eq (meaning_of old) n (Some v) k)
+Declares true old new n v = (meaning_of old n ≡ None) × Binds old new n v
 Declares false old new n v = IsSome (meaning_of old n)

@@ -9,22 +9,27 @@ use Rattle.vs_design.specs.Uses.{reads}
 use Rattle.vs_design.specs.WellFormed.{size_of}
 use Rattle.vs_eval.specs.Values.{value_of}
 use Rattle.vs_syntax.specs.declared.tree.Expr.{Expr}
-use Rattle.vs_selects.specs.declared.bindings.Binding.{Binding}
+use Rattle.vs_selects.specs.declared.bindings.Meaning.{Meaning}
+use Rattle.vs_selects.specs.declared.bindings.Binding.TheVariants.{Signal}
 use Rattle.vs_selects.specs.declared.faults.WidthReason.{WidthReason}
 use Rattle.vs_selects.specs.declared.constants.Const.{Const}
 use Rattle.vs_selects.specs.Environment.{Environment}
 use Rattle.vs_selects.specs.Findings.{Has, stands}
-use Rattle.vs_selects.specs.Meants.{own}
+use Rattle.vs_selects.specs.Meants.{Meant, own}
 use Rattle.vs_selects.specs.Constants.{constant_finding}
 use Rattle.vs_widths.specs.Expressions.{meant}
 
--- The expression of a design that one of a source is at a size and a sign: no fault stands, and it has this size, the source's value in each store,
--- and reads what the source names (clauses 5.4 and 5.5).
-pub record IsTyped (env : Environment) (e : Expr) (width : ℕ) (signed : Bool) (y : Typed) : Type 0 where
-  pub sound : (r : WidthReason) → stands r (meant env e).finding ≡ false
+-- The expression of a design that means this at a size and a sign: no fault stands, and it has this size, this value in each store, and reads
+-- this (clauses 5.4 and 5.5).
+pub record IsTypedAs (m : Meant) (width : ℕ) (signed : Bool) (y : Typed) : Type 0 where
+  pub sound : (r : WidthReason) → stands r m.finding ≡ false
   pub size : size_of y ≡ Some width
-  pub value : (store : Store) (time : ℕ) → value_of y store time ≡ (meant env e).at store time width signed
-  pub ranges : reads y ≡ (meant env e).reads
+  pub value : (store : Store) (time : ℕ) → value_of y store time ≡ m.at store time width signed
+  pub ranges : reads y ≡ m.reads
+
+-- the expression of a design that one of a source is at a size and a sign
+abbrev pub IsTyped : Environment → Expr → ℕ → Bool → Typed → Type 0
+IsTyped env e = IsTypedAs (meant env e)
 
 -- The value that an expression of a source has by itself in each store: it names no signal, and has the size and sign of the value (clause 5.4.1).
 pub record IsConstant (env : Environment) (e : Expr) (c : Const) : Type 0 where
@@ -39,7 +44,7 @@ pub record IsConstantAt (env : Environment) (e : Expr) (width : ℕ) (signed : B
 
 -- a test that holds of the number of each signal to which a name is bound
 abbrev pub HoldsOfSignals : Environment → (ℕ → Bool) → Type 0
-HoldsOfSignals env test = (name : List ℕ) (b : Binding) → env name ≡ Some b → test b.signal ≡ true
+HoldsOfSignals env test = (name : List ℕ) (m : Meaning) (k : ℕ) → env name ≡ Some (Signal m k) → test k ≡ true
 
 -- an expression reads signals to which names are bound, and no others
 abbrev pub ReadsNamed : Type 0

@@ -1,12 +1,13 @@
 //! What the crates above ask of an expression.
 ghost use Rattle.std.specs.Prelude.{◌≡◌, IfOk, IfErr};
 ghost use Rattle.vs_widths.specs.Names.{meaning_of};
-ghost use Rattle.vs_widths.specs.Expressions.{meant};
+ghost use Rattle.vs_widths.specs.Expressions.{meant, name_meant};
+ghost use Rattle.vs_selects.specs.declared.faults.WidthFault.TheVariants.{Memory};
 ghost use Rattle.vs_selects.specs.Constants.{constant_finding};
 ghost use Rattle.vs_selects.specs.Findings.{Has, Refuses};
-ghost use Rattle.vs_widths.specs.Typing.{IsTyped, IsConstant, IsConstantAt};
+ghost use Rattle.vs_widths.specs.Typing.{IsTyped, IsTypedAs, IsConstant, IsConstantAt};
 
-use crate::measuring::measured;
+use crate::measuring::{measured, of_name};
 use crate::names::Names;
 use std::alloc::Global;
 use vs_design::Typed;
@@ -34,6 +35,29 @@ pub fn typed(
     ensures fault { IfErr result (Refuses (meant (meaning_of names.now) e.now).finding) }
 {
     let x = measured(alloc, names, e)?;
+    Ok(fitted(alloc, &x.form, shape)?)
+}
+
+/// The size and sign of what a name means (IEEE 1364-2005, clauses 12.2 and 12.7).
+pub fn shape_of_name(names: &Names<Binding>, name: &[u8]) -> Result<Shape, WidthFault>
+    ensures shape { IfOk result (λ s. (name_meant (meaning_of names.now name.now)).finding ≡ Has s.width s.signed) }
+    ensures fault { IfErr result (Refuses (name_meant (meaning_of names.now name.now)).finding) }
+    ensures memory { IfErr result (λ e. e ≡ Memory → ⊥) }
+{
+    Ok(of_name(names.find(name))?.shape)
+}
+
+/// What a name means, at a size and a sign (IEEE 1364-2005, clauses 12.2 and 12.7).
+pub fn typed_name(
+    alloc: Global,
+    names: &Names<Binding>,
+    shape: Shape,
+    name: &[u8],
+) -> Result<Typed, WidthFault>
+    ensures typed { IfOk result (IsTypedAs (name_meant (meaning_of names.now name.now)) shape.width shape.signed) }
+    ensures fault { IfErr result (Refuses (name_meant (meaning_of names.now name.now)).finding) }
+{
+    let x = of_name(names.find(name))?;
     Ok(fitted(alloc, &x.form, shape)?)
 }
 

@@ -6,7 +6,7 @@ mod linking;
 mod measuring;
 mod names;
 
-pub use calls::{constant, constant_at, shape_of, typed};
+pub use calls::{constant, constant_at, shape_of, shape_of_name, typed, typed_name};
 pub use measuring::measured_selects;
 pub use names::Names;
 pub use vs_forms::Shape;

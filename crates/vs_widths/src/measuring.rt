@@ -1,7 +1,9 @@
 //! The own size and sign of each part of an expression.
-ghost use Rattle.std.specs.Prelude.{◌≡◌, ◌<◌, ◌≤◌, false, IfOk, map};
+ghost use Rattle.std.specs.Prelude.{◌≡◌, ◌<◌, ◌≤◌, false, Some, IfOk, IfErr, map};
 ghost use Rattle.vs_widths.specs.Names.{meaning_of};
-ghost use Rattle.vs_widths.specs.Expressions.{meant, meant_selects, number_meant, name_meant, unary_meant, chain_meant, choice_meant};
+ghost use Rattle.vs_widths.specs.Expressions.{meant, meant_selects, digits_meant, name_meant, unary_meant, chain_meant, choice_meant};
+ghost use Rattle.vs_selects.specs.declared.bindings.Binding.TheVariants.{Signal};
+ghost use Rattle.vs_selects.specs.declared.faults.WidthFault.TheVariants.{Memory};
 ghost use Rattle.vs_selects.specs.passes.Measures.{meaning, IsFlexible, IsMeasured, Measures, IsClosedPart};
 ghost use Rattle.vs_widths.specs.passes.Forms.{links_meant, pairs_meant, Joins, Repeats};
 ghost use Rattle.vs_widths.specs.passes.Selects.{MeasuresSelects};
@@ -11,12 +13,13 @@ use crate::names::Names;
 use std::alloc::{AllocError, Global};
 use vs_design::Count;
 use vs_forms::{BIT, Form, Measured, Shape};
-use vs_lexer::Literal;
-use vs_logic4::{Binary, Unary};
-use vs_selects::{Binding, WidthFault, WidthReason, count_of, named, operand};
+use vs_logic4::{Binary, Unary, Vec4};
+use vs_selects::{Binding, Meaning, WidthFault, WidthReason, count_of, named, operand};
 use vs_syntax::{Expr, PartSelect};
 
 const TOO_WIDE: WidthFault = WidthFault::Refused(WidthReason::TooWide);
+
+const WRONG_KIND: WidthFault = WidthFault::Refused(WidthReason::WrongKind);
 
 /// An expression with its own size and sign, and those of its parts.
 #[cycle(measured)]
@@ -24,7 +27,7 @@ pub fn measured(alloc: Global, names: &Names<Binding>, e: &Expr) -> Result<Measu
     ensures { Measures (meant (meaning_of names.now) e.now) result }
 {
     match e {
-        Expr::Number(literal) => Ok(of_number(*literal)),
+        Expr::Number(literal) => Ok(of_digits(literal.value, literal.signed)),
         Expr::Name(name) => of_name(names.find(name)),
         Expr::Select(name, selects) => {
             let selects = measured_selects(alloc, names, selects)?;
@@ -175,32 +178,45 @@ fn unsigned(width: u32) -> Shape
 }
 
 /// A number.
-fn of_number(literal: Literal) -> Measured
-    ensures { IsMeasured (number_meant literal) result }
+fn of_digits(value: Vec4, signed: bool) -> Measured
+    ensures { IsMeasured (digits_meant value signed) result }
 {
-    let value = literal.value;
     Measured {
         shape: Shape {
             width: value.width(),
-            signed: literal.signed,
+            signed,
         },
         form: Form::Number(value),
     }
 }
 
-/// A name.
-fn of_name(binding: Option<Binding>) -> Result<Measured, WidthFault>
-    ensures { Measures (name_meant binding) result }
+/// A signal.
+fn of_signal(meaning: Meaning, signal: usize) -> Result<Measured, WidthFault>
+    ensures measures { Measures (name_meant (Some (Signal meaning signal))) result }
+    ensures memory { IfErr result (λ e. e ≡ Memory → ⊥) }
 {
+    match meaning.words {
+        None => Ok(Measured {
+            shape: meaning.shape,
+            form: Form::Signal(signal),
+        }),
+        Some(_) => Err(WRONG_KIND),
+    }
+}
+
+/// A name, by what it is bound to.
+pub fn of_name(binding: Option<Binding>) -> Result<Measured, WidthFault>
+    ensures measures { Measures (name_meant binding) result }
+    ensures memory { IfErr result (λ e. e ≡ Memory → ⊥) }
+{
+    let Some(binding) = binding else {
+        return Err(WidthFault::Refused(WidthReason::Unknown));
+    };
     match binding {
-        Some(binding) => match binding.meaning.words {
-            None => Ok(Measured {
-                shape: binding.meaning.shape,
-                form: Form::Signal(binding.signal),
-            }),
-            Some(_) => Err(WidthFault::Refused(WidthReason::WrongKind)),
-        },
-        None => Err(WidthFault::Refused(WidthReason::Unknown)),
+        Binding::Signal(meaning, signal) => of_signal(meaning, signal),
+        Binding::Constant(constant) => Ok(of_digits(constant.value, constant.signed)),
+        Binding::Pending => Err(WidthFault::Refused(WidthReason::NotConstant)),
+        Binding::Other => Err(WRONG_KIND),
     }
 }
 

@@ -1,6 +1,6 @@
 //! Names and what they mean.
-ghost use Rattle.std.specs.Prelude.{◌≡◌, ℕ, [], Some, None, IfOk};
-ghost use Rattle.vs_widths.specs.Names.{meaning_of, Declares};
+ghost use Rattle.std.specs.Prelude.{◌≡◌, ℕ, [], Some, None, IfOk, OnOk};
+ghost use Rattle.vs_widths.specs.Names.{meaning_of, Binds, Declares};
 
 use std::alloc::{AllocFailed, Global};
 use std::collections::BTreeMap;
@@ -44,6 +44,14 @@ impl<'s, V: Copy> Names<'s, V> {
         }
         self.meanings.insert(name, meaning)?;
         Ok(true)
+    }
+
+    /// Gives a name this meaning, whether it had one or not.
+    pub fn bind(&mut self, name: &'s [u8], meaning: V) -> Result<(), AllocFailed<(&'s [u8], V)>>
+        ensures { OnOk result (Binds self.old self.new name.now meaning) }
+    {
+        self.meanings.insert(name, meaning)?;
+        Ok(())
     }
 
     /// What a name means, where it is declared.

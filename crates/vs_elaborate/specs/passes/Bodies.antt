@@ -5,17 +5,13 @@ use Rattle.vs_syntax.specs.declared.tree.Stmt.{Stmt}
 use Rattle.vs_design.specs.Uses.{joined}
 use Rattle.vs_design.specs.declared.statement.Statement.{Statement}
 use Rattle.vs_design.specs.WellFormed.{numbers}
-use Rattle.vs_selects.specs.declared.bindings.Binding.{Binding}
 use Rattle.vs_widths.specs.Names.{meaning_of}
 use Rattle.vs_selects.specs.Environment.{Environment}
-use Rattle.vs_elaborate.specs.declared.faults.Reason.{Reason}
+use Rattle.vs_scopes.specs.declared.faults.Reason.{Reason}
+use Rattle.vs_scopes.specs.Scopes.{Bindings}
 use Rattle.vs_elaborate.specs.Statements.{IsStatement, AreStatements, has_fault, is_overfull, count_of, total}
-use Rattle.vs_elaborate.specs.Scopes.{Behavior}
+use Rattle.vs_elaborate.specs.Members.{Behavior}
 use Rattle.vs_elaborate.specs.Processes.{IsBody, statements_of}
-
--- names with what they are bound to
-abbrev pub Bindings : Type 0
-Bindings = List (List ℕ × Binding)
 
 -- so many numbers, from this one on
 abbrev pub counting : ℕ → ℕ → List ℕ

@@ -1,5 +1,5 @@
 -- Names with selects whose indices are measured.
-use Rattle.std.specs.Prelude.{◌≡◌, ℕ, ℤ, Bool, List, [], ◌∷◌, ◌++◌, Option, Some, None, Result, Ok, Err, map}
+use Rattle.std.specs.Prelude.{◌≡◌, ℕ, Bool, List, [], ◌∷◌, ◌++◌, Option, Some, None, Result, Ok, Err, map}
 use Rattle.vs_syntax.specs.declared.tree.PartSelect.{PartSelect}
 use Rattle.vs_logic4.specs.declared.digit.Digit.{Digit}
 use Rattle.vs_logic4.specs.declared.digit.Digit.TheVariants.{Zero}
@@ -15,7 +15,7 @@ use Rattle.vs_selects.specs.declared.faults.WidthFault.{WidthFault}
 use Rattle.vs_selects.specs.declared.places.Extent.{Extent}
 use Rattle.vs_selects.specs.declared.places.Place.{Place}
 use Rattle.vs_selects.specs.Findings.{Has, Refuses}
-use Rattle.vs_selects.specs.Meants.{Meant, own}
+use Rattle.vs_selects.specs.Meants.{own}
 use Rattle.vs_selects.specs.Selects.{Select, Span, Named, ascends, size_found, named_range, named_value}
 use Rattle.vs_selects.specs.passes.Measures.{meaning, IsFlexible}
 

@@ -18,7 +18,7 @@ use Rattle.vs_selects.specs.Selects.{Select, Named, named, named_range}
 use Rattle.vs_widths.specs.Typing.{HoldsOfSignals}
 use Rattle.vs_targets.specs.declared.kinds.AssignmentKind.{AssignmentKind}
 use Rattle.vs_targets.specs.declared.kinds.AssignmentKind.TheVariants.{Procedural, Continuous}
-use Rattle.vs_targets.specs.Lefts.{Aimed, takes, takes_reads, name_aimed}
+use Rattle.vs_targets.specs.Lefts.{Aimed, takes_bound, takes_reads, name_aimed}
 use Rattle.vs_targets.specs.Aiming.{is_none_read, is_fixed, has_sized_indices, named_part, IsTarget}
 
 -- a place of a design that is what is named
@@ -40,7 +40,7 @@ takes_aim Continuous (Chosen s word low) = false
 -- the same of what is bound to a name, where an assignment takes it
 pub record IsTakenAim (how : AssignmentKind) (b : Binding) (ss : List Select) (a : Aim) : Type 0 where
   pub is : IsAim (named (Some b) ss) a
-  pub taken : takes how b.meaning.kind ≡ true
+  pub taken : takes_bound how (Some b) ≡ true
   pub constant : takes_reads how (named (Some b) ss).reads ≡ true
 
 -- such a place, or a fault
@@ -51,7 +51,8 @@ AimsAt how b ss (Err e) = Refuses (name_aimed how (Some b) ss).finding e
 -- a select whose expressions read signals of which a test holds
 abbrev pub select_passes : (ℕ → Bool) → Select → Bool
 select_passes test (i, None) = list_all (λ (r : BitRange). test r.signal) i.reads
-select_passes test (i, Some (how, m)) = list_all (λ (r : BitRange). test r.signal) i.reads && list_all (λ (r : BitRange). test r.signal) m.reads
+select_passes test (i, Some (how, m)) =
+    list_all (λ (r : BitRange). test r.signal) i.reads && list_all (λ (r : BitRange). test r.signal) m.reads
 
 -- selects whose expressions read signals to which names are bound
 abbrev pub AreWithin : Environment → List Select → Type 0

@@ -1,5 +1,5 @@
 use Rattle.vs_widths.specs.Names.{meaning_of}
-use Rattle.vs_elaborate.specs.Scopes.{places}
+use Rattle.vs_elaborate.specs.Members.{places}
 use Rattle.vs_elaborate.proofs.AssignmentLemmas.{assigns}
 use Rattle.vs_elaborate.proofs.assignments.assignment.Goals as goal
 

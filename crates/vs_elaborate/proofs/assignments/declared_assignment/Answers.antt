@@ -1,5 +1,5 @@
 use Rattle.vs_widths.specs.Names.{meaning_of}
-use Rattle.vs_elaborate.specs.Scopes.{named_signal}
+use Rattle.vs_elaborate.specs.Members.{named_signal}
 use Rattle.vs_elaborate.proofs.AssignmentLemmas.{assigns}
 use Rattle.vs_elaborate.proofs.assignments.declared_assignment.Goals as goal
 

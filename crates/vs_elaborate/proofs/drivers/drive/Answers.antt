@@ -5,4 +5,4 @@ use Rattle.vs_elaborate.proofs.drivers.drive.Goals as goal
 
 pub returns-in_ok-push-in-Ok : goal.returns-in_ok-push-in-Ok
 returns-in_ok-push-in-Ok c names a e start done r =
-    drives_push (scope_of c.args.frame.now) names c.args.first c.saturating_sub-number.result c.args.plan.now _ start done _ _ c.in_ok-push-in-Ok.ensures.items refl (record { signals = refl; outline = refl }) (omega (arith, c.saturating_sub-number.ensures, c.len.ensures, c.args.plan.now.assigns.ok.0)) (rw c.deref.ensures.value at c.in_ok-name-in-Ok.ensures) (rw c.in-Ok.is at e) r
+    drives_push (scope_of c.args.frame.now) names c.args.first c.saturating_sub-number.result c.args.plan.now _ start done _ _ c.in_ok-push-in-Ok.ensures.items refl (record { signals = refl; outline = refl; scopes = refl }) (omega (arith, c.saturating_sub-number.ensures, c.len.ensures, c.args.plan.now.assigns.ok.0)) (rw c.deref.ensures.value at c.in_ok-name-in-Ok.ensures) (rw c.in-Ok.is at e) r

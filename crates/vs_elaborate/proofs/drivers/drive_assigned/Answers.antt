@@ -1,8 +1,8 @@
 use Rattle.std.proofs.Common.{arith}
 use Rattle.std.proofs.lemmas.Result.{err_from_is_err_and}
-use Rattle.vs_elaborate.specs.Scopes.{net_assignment}
+use Rattle.vs_elaborate.specs.Members.{net_assignment}
 use Rattle.vs_elaborate.specs.passes.Plans.{scope_of, Drives, DrivesNot}
-use Rattle.vs_elaborate.proofs.AnswerLemmas.{one_more, one_all, one_fault}
+use Rattle.vs_scopes.proofs.AnswerLemmas.{one_more, one_all, one_fault}
 use Rattle.vs_elaborate.proofs.PlanLemmas.{drives_not_more}
 use Rattle.vs_elaborate.proofs.drivers.drive_assigned.Goals as goal
 

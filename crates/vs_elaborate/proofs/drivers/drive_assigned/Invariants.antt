@@ -1,7 +1,7 @@
 use Rattle.std.proofs.Common.{map, take}
-use Rattle.vs_elaborate.specs.Scopes.{net_assignment}
+use Rattle.vs_elaborate.specs.Members.{net_assignment}
 use Rattle.vs_elaborate.specs.passes.Plans.{scope_of, Drives}
-use Rattle.vs_elaborate.proofs.AnswerLemmas.{Kept}
+use Rattle.vs_scopes.proofs.AnswerLemmas.{Kept}
 use Rattle.vs_elaborate.proofs.drivers.drive_assigned.Given as goal
 
 abbrev pub invariant-loop-one : goal.invariant-loop-one

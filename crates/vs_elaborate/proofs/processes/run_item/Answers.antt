@@ -1,5 +1,5 @@
 use Rattle.std.proofs.Common.{refl}
-use Rattle.vs_elaborate.specs.Scopes.{runs, repeats}
+use Rattle.vs_elaborate.specs.Members.{runs, repeats}
 use Rattle.vs_elaborate.proofs.processes.run_item.Goals as goal
 
 pub returns-in-Reg : goal.returns-in-Reg

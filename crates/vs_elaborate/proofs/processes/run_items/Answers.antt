@@ -1,8 +1,8 @@
 use Rattle.std.proofs.Common.{arith}
 use Rattle.std.proofs.lemmas.Result.{err_from_is_err_and}
-use Rattle.vs_elaborate.specs.Scopes.{behaviors_in}
+use Rattle.vs_elaborate.specs.Members.{behaviors_in}
 use Rattle.vs_elaborate.specs.passes.Plans.{scope_of, Runs, RunsNot}
-use Rattle.vs_elaborate.proofs.AnswerLemmas.{kept_more, kept_all, kept_fault}
+use Rattle.vs_scopes.proofs.AnswerLemmas.{kept_more, kept_all, kept_fault}
 use Rattle.vs_elaborate.proofs.PlanLemmas.{runs_not_more}
 use Rattle.vs_elaborate.proofs.processes.run_items.Goals as goal
 

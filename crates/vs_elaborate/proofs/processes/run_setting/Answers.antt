@@ -1,7 +1,7 @@
 use Rattle.std.proofs.Common.{refl}
-use Rattle.vs_elaborate.specs.Scopes.{named_signal, sets}
+use Rattle.vs_elaborate.specs.Members.{named_signal, sets}
 use Rattle.vs_elaborate.specs.passes.Plans.{scope_of, Runs, RunsNot}
-use Rattle.vs_elaborate.proofs.AnswerLemmas.{grows_same}
+use Rattle.vs_scopes.proofs.AnswerLemmas.{grows_same}
 use Rattle.vs_elaborate.proofs.PlanLemmas.{setting_some}
 use Rattle.vs_elaborate.proofs.processes.run_setting.Goals as goal
 

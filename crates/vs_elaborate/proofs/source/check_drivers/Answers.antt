@@ -1,5 +1,5 @@
 use Rattle.std.proofs.Common.{◌<◌, length, ap, arith}
-use Rattle.vs_elaborate.proofs.FaultLemmas.{check_more, check_shared, written_back, ranges_within, same_clones}
+use Rattle.vs_elaborate.proofs.SourceLemmas.{check_more, check_shared, written_back, ranges_within, same_clones}
 use Rattle.vs_elaborate.proofs.source.check_drivers.Goals as goal
 
 pub no_marks-requires : goal.no_marks-requires

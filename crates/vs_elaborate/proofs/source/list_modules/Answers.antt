@@ -1,5 +1,5 @@
 use Rattle.std.proofs.Common.{refl, arith}
-use Rattle.vs_elaborate.proofs.FaultLemmas.{lists_none, lists_more, listed_twice}
+use Rattle.vs_elaborate.proofs.SourceLemmas.{lists_none, lists_more, listed_twice}
 use Rattle.vs_elaborate.proofs.source.list_modules.Goals as goal
 
 pub loop-module-init : goal.loop-module-init

@@ -5,10 +5,10 @@ use Rattle.vs_expressions.specs.Answers.{seen}
 use Rattle.vs_expressions.proofs.Rows.{Along}
 use Rattle.vs_parser.proofs.item.items.Given as goal
 
-abbrev pub invariant-loop-word : goal.invariant-loop-word
-invariant-loop-word l = record {
+abbrev pub invariant-loop-head : goal.invariant-loop-head
+invariant-loop-head l = record {
   along : Along (part an_item) l.room (seen l.tokens) (seen l.rest) (map item_tree l.tree.items);
 }
 
-abbrev pub decreases-loop-word : goal.decreases-loop-word
-decreases-loop-word l = length (seen l.rest)
+abbrev pub decreases-loop-head : goal.decreases-loop-head
+decreases-loop-head l = length (seen l.rest)

@@ -1,7 +1,7 @@
 use Rattle.std.proofs.lemmas.Result.{err_from_is_err_and}
 use Rattle.vs_tokens.specs.declared.token.Mark.TheVariants as m
 use Rattle.vs_tokens.specs.declared.token.Word.TheVariants as w
-use Rattle.vs_syntax.specs.Grammar.{part, many, name, mark, word, a_module, an_item}
+use Rattle.vs_syntax.specs.Grammar.{◌or◌, nothing, part, many, name, mark, word, header_parameters, header_ports, a_module, an_item}
 use Rattle.vs_syntax.specs.Reading.{stuck_first, stuck_second}
 use Rattle.vs_syntax.proofs.Gets.{gets_seq}
 use Rattle.vs_expressions.specs.Answers.{seen}
@@ -16,26 +16,40 @@ returns-in_err-name c =
     (λ deep at s. module_stuck c.args.room deep _ _ at c.requires.first (stuck_first s))
     c.in_err-name.field-0.0 (c.in_err-name.ensures c.args.room))
 
+pub returns-in_err-parameters : goal.returns-in_err-parameters
+returns-in_err-parameters c =
+    let p = err_from_is_err_and c.from_residual-in_err-parameters.result c.from_residual-in_err-parameters.ensures.1 in
+    rw (p.1, p.2) (fails_by (header_parameters or nothing) (part a_module) c.args.room c.args.room (seen c.in_ok-name.after_name.now) (seen c.args.tokens.now)
+    (λ deep at s. module_stuck c.args.room deep _ _ at c.requires.first (stuck_second (c.in_ok-name.ensures c.args.room) (stuck_first s)))
+    c.in_err-parameters.field-0.0 c.in_err-parameters.ensures)
+
+pub returns-in_err-ports : goal.returns-in_err-ports
+returns-in_err-ports c =
+    let p = err_from_is_err_and c.from_residual-in_err-ports.result c.from_residual-in_err-ports.ensures.1 in
+    rw (p.1, p.2) (fails_by (header_ports or nothing) (part a_module) c.args.room c.args.room (seen c.in_ok-parameters.parameters.rest.now) (seen c.args.tokens.now)
+    (λ deep at s. module_stuck c.args.room deep _ _ at c.requires.first (stuck_second (c.in_ok-name.ensures c.args.room) (stuck_second c.in_ok-parameters.ensures (stuck_first s))))
+    c.in_err-ports.field-0.0 c.in_err-ports.ensures)
+
 pub returns-in_err-after_header : goal.returns-in_err-after_header
 returns-in_err-after_header c =
     let p = err_from_is_err_and c.from_residual-in_err-after_header.result c.from_residual-in_err-after_header.ensures.1 in
-    rw (p.1, p.2) (fails_by (mark m.Semicolon) (part a_module) c.args.room c.args.room (seen c.in_ok-name.after_name.now) (seen c.args.tokens.now)
-    (λ deep at s. module_stuck c.args.room deep _ _ at c.requires.first (stuck_second (c.in_ok-name.ensures c.args.room) (stuck_first s)))
+    rw (p.1, p.2) (fails_by (mark m.Semicolon) (part a_module) c.args.room c.args.room (seen c.in_ok-ports.ports.rest.now) (seen c.args.tokens.now)
+    (λ deep at s. module_stuck c.args.room deep _ _ at c.requires.first (stuck_second (c.in_ok-name.ensures c.args.room) (stuck_second c.in_ok-parameters.ensures (stuck_second c.in_ok-ports.ensures (stuck_first s)))))
     c.in_err-after_header.field-0.0 (c.in_err-after_header.ensures c.args.room))
 
 pub returns-in_err-inner : goal.returns-in_err-inner
 returns-in_err-inner c =
     let p = err_from_is_err_and c.from_residual-in_err-inner.result c.from_residual-in_err-inner.ensures.1 in
     rw (p.1, p.2) (fails_by (many (part an_item)) (part a_module) c.args.room c.args.room (seen c.in_ok-after_header.after_header.now) (seen c.args.tokens.now)
-    (λ deep at s. module_stuck c.args.room deep _ _ at c.requires.first (stuck_second (c.in_ok-name.ensures c.args.room) (stuck_second (c.in_ok-after_header.ensures c.args.room) (stuck_first s))))
+    (λ deep at s. module_stuck c.args.room deep _ _ at c.requires.first (stuck_second (c.in_ok-name.ensures c.args.room) (stuck_second c.in_ok-parameters.ensures (stuck_second c.in_ok-ports.ensures (stuck_second (c.in_ok-after_header.ensures c.args.room) (stuck_first s))))))
     c.in_err-inner.field-0.0 c.in_err-inner.ensures)
 
 pub returns-in_err-rest : goal.returns-in_err-rest
 returns-in_err-rest c =
     let p = err_from_is_err_and c.from_residual-in_err-rest.result c.from_residual-in_err-rest.ensures.1 in
     rw (p.1, p.2) (fails_by (word w.Endmodule) (part a_module) c.args.room c.args.room (seen c.in_ok-inner.inner.rest.now) (seen c.args.tokens.now)
-    (λ deep at s. module_stuck c.args.room deep _ _ at c.requires.first (stuck_second (c.in_ok-name.ensures c.args.room) (stuck_second (c.in_ok-after_header.ensures c.args.room) (stuck_second c.in_ok-inner.ensures s))))
+    (λ deep at s. module_stuck c.args.room deep _ _ at c.requires.first (stuck_second (c.in_ok-name.ensures c.args.room) (stuck_second c.in_ok-parameters.ensures (stuck_second c.in_ok-ports.ensures (stuck_second (c.in_ok-after_header.ensures c.args.room) (stuck_second c.in_ok-inner.ensures s))))))
     c.in_err-rest.field-0.0 (c.in_err-rest.ensures c.args.room))
 
 pub returns : goal.returns
-returns c = module_read c.args.room _ _ _ _ c.requires.first (gets_seq (c.in_ok-name.ensures c.args.room) (gets_seq (c.in_ok-after_header.ensures c.args.room) (gets_seq c.in_ok-inner.ensures (c.in_ok-rest.ensures c.args.room))))
+returns c = module_read c.args.room _ _ _ _ c.requires.first (gets_seq (c.in_ok-name.ensures c.args.room) (gets_seq c.in_ok-parameters.ensures (gets_seq c.in_ok-ports.ensures (gets_seq (c.in_ok-after_header.ensures c.args.room) (gets_seq c.in_ok-inner.ensures (c.in_ok-rest.ensures c.args.room))))))

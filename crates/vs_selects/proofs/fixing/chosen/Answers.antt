@@ -1,6 +1,6 @@
 use Rattle.std.proofs.Common.{subst}
 use Rattle.vs_selects.specs.passes.Places.{Fixes}
-use Rattle.vs_selects.proofs.FixingLemmas.{fixed_chosen, select_chosen}
+use Rattle.vs_selects.proofs.FixingLemmas.{select_chosen}
 use Rattle.vs_selects.proofs.fixing.chosen.Goals as goal
 
 pub returns-in_ok-low-in-None : goal.returns-in_ok-low-in-None

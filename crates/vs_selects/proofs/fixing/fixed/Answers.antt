@@ -1,7 +1,6 @@
-use Rattle.std.proofs.Common.{◌≡◌, refl, subst, ap, ◌∙◌, rules, w32, w64}
-use Rattle.std.proofs.lemmas.Int.{to_z-of_z, ints}
+use Rattle.std.proofs.Common.{refl, subst, ap, ◌∙◌, rules, w32, w64}
+use Rattle.std.proofs.lemmas.Int.{to_z-of_z}
 use mir.Val.{SFits, to_z, of_z}
-use Rattle.vs_design.specs.Selects.{place_of}
 use Rattle.vs_selects.specs.passes.Places.{StandsAlone}
 use Rattle.vs_selects.proofs.FixingLemmas.{cast_fits, fixed_as}
 use Rattle.vs_selects.proofs.fixing.fixed.Goals as goal

@@ -1,4 +1,4 @@
-use Rattle.std.proofs.Common.{sym, subst, ◌∙◌, ap, arith}
+use Rattle.std.proofs.Common.{sym, subst, arith}
 use Rattle.vs_selects.specs.passes.Places.{IsFlexibleSelect}
 use Rattle.vs_selects.proofs.PlaceLemmas.{no_range, too_many}
 use Rattle.vs_selects.proofs.places.bits_of.Goals as goal

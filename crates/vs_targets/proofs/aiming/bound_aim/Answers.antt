@@ -1,6 +1,5 @@
 use Rattle.std.proofs.Common.{◌≡◌, true, false, rules}
 use Rattle.vs_selects.specs.passes.Places.{selects_meaning}
-use Rattle.vs_targets.specs.Lefts.{takes}
 use Rattle.vs_targets.specs.passes.Aims.{takes_aim}
 use Rattle.vs_targets.proofs.AimLemmas.{reads_refused, taken_aim}
 use Rattle.vs_targets.proofs.aiming.bound_aim.Goals as goal
@@ -12,6 +11,5 @@ returns-then-not-takes_aim c =
 
 pub returns : goal.returns
 returns c =
-    let kind : takes c.args.how c.args.binding.meaning.kind ≡ true = search rules in
     let in' : takes_aim c.args.how c.in_ok-aim.aim ≡ true = search rules in
-    taken_aim c.args.how c.args.binding (selects_meaning c.args.selects.items) c.in_ok-aim.aim kind (c.in_ok-aim.ensures _ c.in_ok-place.ensures) in'
+    taken_aim c.args.how c.args.binding (selects_meaning c.args.selects.items) c.in_ok-aim.aim c.requires.taken (c.in_ok-aim.ensures _ c.in_ok-place.ensures) in'

@@ -1,0 +1,266 @@
+-- The signals of scopes by their numbers, and what names of a scope are bound to.
+use Rattle.std.proofs.Common.{◌≡◌, ℕ, zero, suc, ◌+◌, ◌-◌, ◌<◌, Bool, true, false, ◌||◌, not, cond, List, [], ◌∷◌, ◌++◌, Option, Some, None, ⊎_elim, append_assoc, length, map, take, slice_get, All, refl, ap, sym, subst, ◌∙◌, zero-add, add-zero, arith, true≢false, option_map}
+use Rattle.std.specs.List.{flat_map, AllByRecursion}
+use Rattle.std.specs.Str.{bytes_eq}
+use Rattle.std.proofs.lemmas.Bool.{cases_lt}
+use Rattle.std.proofs.lemmas.Option.{none-some, same_Some, slice_get-map, slice_get_within, get_or_from_slice_get}
+use Rattle.std.proofs.lemmas.List.{length-map, length-append}
+use Rattle.vs_syntax.specs.declared.tree.Declarator.{Declarator}
+use Rattle.vs_syntax.specs.declared.tree.Range.{Range}
+use Rattle.vs_syntax.specs.declared.tree.Item.{Item}
+use Rattle.vs_syntax.specs.declared.tree.Item.TheVariants as t
+use Rattle.vs_syntax.specs.declared.tree.Module.{Module}
+use Rattle.vs_design.specs.Kinds.{is_variable}
+use Rattle.vs_design.specs.declared.signal.Signal.{Signal}
+use Rattle.vs_design.specs.declared.signal.SignalKind.{SignalKind}
+use Rattle.vs_selects.specs.declared.bindings.Meaning.{Meaning}
+use Rattle.vs_selects.specs.declared.bindings.Binding.{Binding}
+use Rattle.vs_selects.specs.declared.bindings.Binding.TheVariants as b
+use Rattle.vs_selects.specs.declared.constants.Const.{Const}
+use Rattle.vs_selects.specs.declared.faults.WidthReason.TheVariants.{WrongKind}
+use Rattle.vs_selects.specs.Environment.{Environment}
+use Rattle.vs_widths.specs.Names.{meaning_of}
+use Rattle.vs_scopes.specs.declared.faults.Reason.TheVariants.{Width}
+use Rattle.vs_scopes.specs.Ranges.{Sized, bounds_fault, Words, words_fault, words_as, word_count}
+use Rattle.vs_scopes.specs.Scopes.{Bindings, Scope, Use, DeclaredName, ModulePort, declared_by_port, declared_as, declared_in, declaration_fault, declarations_of, names_of, uses_of, meaning_as, named, numbered_names, constant_names, instance_names, environment, scopes_of, signal_count, signal_paths}
+use Rattle.vs_scopes.proofs.Folds.{any_false_at}
+use Rattle.vs_scopes.proofs.PathsLists.{each_append}
+use Rattle.vs_scopes.proofs.PathsNumbered.{scopes_are_numbered}
+use Rattle.vs_scopes.proofs.PathsWithin.{scopes_stand_in_scopes}
+use Rattle.vs_elaborate.specs.DesignOf.{Declared, declared, signal_of, signals_of}
+use Rattle.vs_elaborate.specs.passes.Plans.{IsSoundScope}
+
+-- ---- lists that are joined
+
+pub at_front : {A : Type 0} (xs ys : List A) (i : ℕ) (x : A) → slice_get xs i ≡ Some x → slice_get (xs ++ ys) i ≡ Some x
+at_front [] ys i x h = absurd (none-some x h)
+at_front (z ∷ xs) ys zero x h = h
+at_front (z ∷ xs) ys (suc i) x h = at_front xs ys i x h
+
+pub at_behind : {A : Type 0} (xs ys : List A) (i : ℕ) → slice_get (xs ++ ys) (length xs + i) ≡ slice_get ys i
+at_behind [] ys i = ap (slice_get ys) (zero-add i)
+at_behind (z ∷ xs) ys i =
+    let e : length (z ∷ xs) + i ≡ suc (length xs + i) = omega arith in
+    ap (slice_get (z ∷ xs ++ ys)) e ∙ at_behind xs ys i
+
+-- an element of what a function lists of one of many
+pub flat_at : {A B : Type 0} (f : A → List B) (xs : List A) (i j : ℕ) (x : A) (y : B) → slice_get xs i ≡ Some x → slice_get (f x) j ≡ Some y → slice_get (flat_map f xs) (length (flat_map f (take i xs)) + j) ≡ Some y
+flat_at f [] i j x y h k = absurd (none-some x h)
+flat_at f (z ∷ xs) zero j x y h k =
+    ap (slice_get (f z ++ flat_map f xs)) (zero-add j) ∙ at_front (f z) (flat_map f xs) j y (ap (λ q. slice_get (f q) j) (same_Some z x h) ∙ k)
+flat_at f (z ∷ xs) (suc i) j x y h k =
+    let e : length (flat_map f (take (suc i) (z ∷ xs))) + j ≡ length (f z) + (length (flat_map f (take i xs)) + j) = omega (arith, length-append (f z) (flat_map f (take i xs))) in
+    ap (slice_get (f z ++ flat_map f xs)) e ∙ at_behind (f z) (flat_map f xs) (length (flat_map f (take i xs)) + j) ∙ flat_at f xs i j x y h k
+
+-- an element that is there
+pub there : {A : Type 0} (xs : List A) (i : ℕ) → i < length xs → (x : A) × (slice_get xs i ≡ Some x)
+there [] i h = absurd (omega arith)
+there (x ∷ xs) zero h = (x, refl)
+there (x ∷ xs) (suc i) h = there xs i (omega arith)
+
+pub each_at : {A : Type 0} (P : A → Type 0) (xs : List A) (i : ℕ) (x : A) → AllByRecursion P xs → slice_get xs i ≡ Some x → P x
+each_at P [] i x h k = absurd (none-some x k)
+each_at P (y ∷ ys) zero x h k = subst P (same_Some y x k) h.0
+each_at P (y ∷ ys) (suc i) x h k = each_at P ys i x h.1 k
+
+pub all_at : {A : Type 0} (P : A → Type 0) (xs : List A) (i : ℕ) (x : A) → All P xs → slice_get xs i ≡ Some x → P x
+all_at P xs i x h k = subst P (get_or_from_slice_get xs i x x k) (h i x (slice_get_within xs i x k))
+
+-- ---- signals by their numbers
+
+pub signals_counted : (ss : List Scope) → length (flat_map signals_of ss) ≡ signal_count ss
+signals_counted [] = refl
+signals_counted (s ∷ ss) =
+    let own = length-map (declarations_of s) (signal_of s) in
+    let others = signals_counted ss in
+    omega (arith, own, others, length-append (signals_of s) (flat_map signals_of ss), length-append (declarations_of s) (flat_map declarations_of ss))
+
+-- the declaration at a number among those of scopes, with its scope
+pub record IsLocated (ss : List Scope) (k : ℕ) : Type 0 where
+  pub scope : Scope
+  pub name : DeclaredName
+  pub declares : slice_get (flat_map declarations_of ss) k ≡ Some name
+  pub signal : slice_get (flat_map signals_of ss) k ≡ Some (signal_of scope name)
+  pub path : slice_get (signal_paths ss) k ≡ Some (named scope name.name)
+
+located_first : (s : Scope) (ss : List Scope) (k : ℕ) (d : DeclaredName) → slice_get (declarations_of s) k ≡ Some d → IsLocated (s ∷ ss) k
+located_first s ss k d h = record {
+  scope = s;
+  name = d;
+  declares = at_front (declarations_of s) (flat_map declarations_of ss) k d h;
+  signal = at_front (signals_of s) (flat_map signals_of ss) k (signal_of s d) (slice_get-map (signal_of s) (declarations_of s) k ∙ ap (option_map (signal_of s)) h);
+  path = at_front (map (named s) (names_of s)) (signal_paths ss) k (named s d.name) (
+      slice_get-map (named s) (names_of s) k ∙ ap (option_map (named s)) (slice_get-map (λ (z : DeclaredName). z.name) (declarations_of s) k ∙ ap (option_map (λ (z : DeclaredName). z.name)) h)
+      );
+}
+
+located_later : (s : Scope) (ss : List Scope) (k : ℕ) → IsLocated ss k → IsLocated (s ∷ ss) (length (declarations_of s) + k)
+located_later s ss k l =
+    let paths : length (declarations_of s) + k ≡ length (map (named s) (names_of s)) + k =
+    omega (arith, length-map (declarations_of s) (λ (z : DeclaredName). z.name), length-map (names_of s) (named s)) in
+    let shown : length (declarations_of s) + k ≡ length (signals_of s) + k = omega (arith, length-map (declarations_of s) (signal_of s)) in
+    record {
+      scope = l.scope;
+      name = l.name;
+      declares = at_behind (declarations_of s) (flat_map declarations_of ss) k ∙ l.declares;
+      signal = ap (slice_get (signals_of s ++ flat_map signals_of ss)) shown ∙ at_behind (signals_of s) (flat_map signals_of ss) k ∙ l.signal;
+      path = ap (slice_get (map (named s) (names_of s) ++ signal_paths ss)) paths ∙ at_behind (map (named s) (names_of s)) (signal_paths ss) k ∙ l.path;
+    }
+
+pub located : (ss : List Scope) (k : ℕ) → k < signal_count ss → IsLocated ss k
+located [] k h = absurd (omega arith)
+located (s ∷ ss) k h = ⊎_elim
+    (λ below. (let d = there (declarations_of s) k below in located_first s ss k d.0 d.1))
+    (λ above.
+    (let j = k - length (declarations_of s) in
+    let e : length (declarations_of s) + j ≡ k = omega (arith, above) in
+    let inside : j < signal_count ss = omega (arith, above, h, length-append (declarations_of s) (flat_map declarations_of ss)) in
+    subst (IsLocated (s ∷ ss)) e (located_later s ss j (located ss j inside))))
+    (cases_lt k (length (declarations_of s)))
+
+-- ---- what names are bound to
+
+abbrev is_signal : Binding → Bool
+is_signal (b.Signal m k) = true
+is_signal _ = false
+
+abbrev number_in : Binding → ℕ
+number_in (b.Signal m k) = k
+number_in _ = 0
+
+abbrev meaning_in : Meaning → Binding → Meaning
+meaning_in d (b.Signal m k) = m
+meaning_in d _ = d
+
+-- the declaration of a signal that a name is bound to
+pub record IsBound (base : ℕ) (ds : List DeclaredName) (m : Meaning) (k : ℕ) : Type 0 where
+  pub place : ℕ
+  pub name : DeclaredName
+  pub stands : slice_get ds place ≡ Some name
+  pub number : k ≡ base + place
+  pub meaning : m ≡ meaning_as name
+
+no_instance : (us : List Use) (n : List ℕ) (m : Meaning) (k : ℕ) → meaning_of (instance_names us) n ≡ Some (b.Signal m k) → ⊥
+no_instance [] n m k h = none-some (b.Signal m k) h
+no_instance (u ∷ us) n m k h = by (bytes_eq n u.name) (no_instance us n m k) h
+  where
+    by : (c : Bool) → (meaning_of (instance_names us) n ≡ Some (b.Signal m k) → ⊥) → cond c (Some b.Other) (meaning_of (instance_names us) n) ≡ Some (b.Signal m k) → ⊥
+    by true rest e = true≢false (sym (ap is_signal (same_Some b.Other (b.Signal m k) e)))
+    by false rest e = rest e
+
+no_constant : (cs : List (List ℕ × Const)) (rest : Bindings) (n : List ℕ) (m : Meaning) (k : ℕ) → meaning_of (constant_names cs ++ rest) n ≡ Some (b.Signal m k) → meaning_of rest n ≡ Some (b.Signal m k)
+no_constant [] rest n m k h = h
+no_constant (c ∷ cs) rest n m k h = by (bytes_eq n c.0) (no_constant cs rest n m k) h
+  where
+    by : (a : Bool) → (meaning_of (constant_names cs ++ rest) n ≡ Some (b.Signal m k) → meaning_of rest n ≡ Some (b.Signal m k)) → cond a (Some (b.Constant c.1)) (meaning_of (constant_names cs ++ rest) n) ≡ Some (b.Signal m k) → meaning_of rest n ≡ Some (b.Signal m k)
+    by true others e = absurd (true≢false (sym (ap is_signal (same_Some (b.Constant c.1) (b.Signal m k) e))))
+    by false others e = others e
+
+numbered_at : (base : ℕ) (ds : List DeclaredName) (us : List Use) (n : List ℕ) (m : Meaning) (k : ℕ) → meaning_of (numbered_names base ds ++ instance_names us) n ≡ Some (b.Signal m k) → IsBound base ds m k
+numbered_at base [] us n m k h = absurd (no_instance us n m k h)
+numbered_at base (d ∷ ds) us n m k h = by (bytes_eq n d.name) (numbered_at (suc base) ds us n m k) h
+  where
+    by : (c : Bool) → (meaning_of (numbered_names (suc base) ds ++ instance_names us) n ≡ Some (b.Signal m k) → IsBound (suc base) ds m k) → cond c (Some (b.Signal (meaning_as d) base)) (meaning_of (numbered_names (suc base) ds ++ instance_names us) n) ≡ Some (b.Signal m k) → IsBound base (d ∷ ds) m k
+    by true rest e =
+        let same = same_Some (b.Signal (meaning_as d) base) (b.Signal m k) e in
+        record { place = 0; name = d; stands = refl; number = sym (ap number_in same) ∙ sym (add-zero base); meaning = sym (ap (meaning_in m) same) }
+    by false rest e =
+        let p = rest e in
+        record { place = suc p.place; name = p.name; stands = p.stands; number = omega (arith, p.number); meaning = p.meaning }
+
+pub bound_at : (s : Scope) (n : List ℕ) (m : Meaning) (k : ℕ) → environment s n ≡ Some (b.Signal m k) → IsBound s.base (declarations_of s) m k
+bound_at s n m k h =
+    let names = numbered_names s.base (declarations_of s) in
+    let uses = instance_names (uses_of s) in
+    numbered_at s.base (declarations_of s) (uses_of s) n m k (no_constant s.constants (names ++ uses) n m k (ap (λ z. meaning_of z n) (sym (append_assoc (constant_names s.constants) names uses)) ∙ h))
+
+-- ---- nets are no arrays
+
+-- the words of a declared name, by a range
+abbrev IsWorded : Environment → DeclaredName → Type 0
+IsWorded env d = (o : Option Range) × (d.words ≡ words_as env d.kind o)
+
+ports_worded : (env : Environment) (ps : List ModulePort) → AllByRecursion (IsWorded env) (map (declared_by_port env) ps)
+ports_worded env [] = tt
+ports_worded env (p ∷ ps) = ((None, refl), ports_worded env ps)
+
+declarators_worded : (env : Environment) (kind : SignalKind) (z : Sized) (ds : List Declarator) → AllByRecursion (IsWorded env) (declared_as env kind z ds)
+declarators_worded env kind z [] = tt
+declarators_worded env kind z (d ∷ ds) = ((d.words, refl), declarators_worded env kind z ds)
+
+item_worded : (env : Environment) (x : Item) → AllByRecursion (IsWorded env) (declared_in env x)
+item_worded env (t.Wire f ds) = declarators_worded env _ _ ds.items
+item_worded env (t.Reg f ds) = declarators_worded env _ _ ds.items
+item_worded env (t.Integer ds) = declarators_worded env _ _ ds.items
+item_worded env (t.Parameter f xs) = tt
+item_worded env (t.Localparam f xs) = tt
+item_worded env (t.Instances n o xs) = tt
+item_worded env (t.Assign xs) = tt
+item_worded env (t.Initial x) = tt
+item_worded env (t.Always x) = tt
+
+items_worded : (env : Environment) (xs : List Item) → AllByRecursion (IsWorded env) (flat_map (declared_in env) xs)
+items_worded env [] = tt
+items_worded env (x ∷ xs) = each_append (IsWorded env) (declared_in env x) (flat_map (declared_in env) xs) (item_worded env x) (items_worded env xs)
+
+worded : (s : Scope) → AllByRecursion (IsWorded s.known) (declarations_of s)
+worded s = each_append (IsWorded s.known) (map (declared_by_port s.known) s.ports) (flat_map (declared_in s.known) s.items) (ports_worded s.known s.ports) (items_worded s.known s.items)
+
+right_false : (a c : Bool) → (a || c) ≡ false → c ≡ false
+right_false true c h = absurd (true≢false h)
+right_false false c h = h
+
+-- a net without faults is no array
+no_words : (env : Environment) (d : DeclaredName) → IsWorded env d → declaration_fault (Width WrongKind) d ≡ false → is_variable d.kind ≡ false → d.words.bounds ≡ None
+no_words env d (None, e) h k = ap (λ (z : Words). z.bounds) e
+no_words env d (Some r, e) h k =
+    let fault : words_fault (Width WrongKind) env d.kind (Some r) ≡ false = ap (λ (z : Words). z.faults (Width WrongKind)) (sym e) ∙ right_false (d.size.faults WrongKind) _ h in
+    absurd (true≢false (sym (ap not k) ∙ right_false (bounds_fault WrongKind env r) _ fault))
+
+-- ---- names are signals of the design
+
+-- the signal of a number is what its name means; a net is no array
+pub record IsMeant (ss : List Signal) (m : Meaning) (k : ℕ) : Type 0 where
+  pub signal : Signal
+  pub stands : slice_get ss k ≡ Some signal
+  pub kind : signal.kind ≡ m.kind
+  pub of_net : is_variable m.kind ≡ false → (m.words ≡ None) × (signal.count ≡ 1)
+
+-- each signal to which a name is bound is what its name means
+abbrev pub IsGood : List Signal → Environment → Type 0
+IsGood ss env = (n : List ℕ) (m : Meaning) (k : ℕ) → env n ≡ Some (b.Signal m k) → IsMeant ss m k
+
+pub signal_shown : (d : Declared) (o : Option Signal) → option_map declared o ≡ Some d → (x : Signal) × (o ≡ Some x) × (declared x ≡ d)
+signal_shown d None h = absurd (none-some d h)
+signal_shown d (Some x) h = (x, refl, same_Some _ _ h)
+
+-- the signal at a number, by what it shows
+pub signal_at : (now : List Signal) (all : List Declared) (k : ℕ) (d : Declared) → map declared now ≡ all → slice_get all k ≡ Some d → (x : Signal) × (slice_get now k ≡ Some x) × (declared x ≡ d)
+signal_at now all k d shown h = signal_shown d (slice_get now k) (sym (slice_get-map declared now k) ∙ ap (λ l. slice_get l k) shown ∙ h)
+
+module _ (ms : List Module) (top : List ℕ) (now : List Signal) (shown : map declared now ≡ flat_map signals_of (scopes_of ms top)) (sound : All (IsSoundScope ms) (scopes_of ms top)) where
+  pub good_inside : (i : ℕ) (s : Scope) → slice_get (scopes_of ms top) i ≡ Some s → IsGood now (environment s)
+  good_inside i s h n m k e =
+      let ss = scopes_of ms top in
+      let bound = bound_at s n m k e in
+      let numbers = scopes_are_numbered ms top i s h in
+      let d = bound.name in
+      let at : k ≡ length (flat_map signals_of (take i ss)) + bound.place = omega (arith, bound.number, numbers.1, signals_counted (take i ss)) in
+      let own : slice_get (signals_of s) bound.place ≡ Some (signal_of s d) = slice_get-map (signal_of s) (declarations_of s) bound.place ∙ ap (option_map (signal_of s)) bound.stands in
+      let found = signal_at now (flat_map signals_of ss) k (signal_of s d) shown (ap (slice_get (flat_map signals_of ss)) at ∙ flat_at signals_of ss i bound.place s (signal_of s d) h own) in
+      let scope = all_at (IsSoundScope ms) ss i s sound h in
+      record {
+        signal = found.0;
+        stands = found.1;
+        kind = ap (λ (z : Declared). z.kind) found.2 ∙ ap (λ (z : Meaning). z.kind) (sym bound.meaning);
+        of_net = λ v.
+            (let none : d.words.bounds ≡ None =
+            no_words s.known d (each_at (IsWorded s.known) (declarations_of s) bound.place d (worded s) bound.stands) (any_false_at (declaration_fault (Width WrongKind)) (declarations_of s) bound.place d (scope.sized (Width WrongKind)) bound.stands) (ap (λ (z : Meaning). is_variable z.kind) (sym bound.meaning) ∙ v) in
+            (ap (λ (z : Meaning). z.words) bound.meaning ∙ none, ap (λ (z : Declared). z.count) found.2 ∙ ap word_count none));
+      }
+
+  pub good_around : (i : ℕ) (s : Scope) → slice_get (scopes_of ms top) i ≡ Some s → IsGood now s.outer
+  good_around i s h = ⊎_elim
+      (λ t. λ n m k e. absurd (none-some (b.Signal m k) (sym (t n) ∙ e)))
+      (λ w. subst (IsGood now) (sym w.3.bound) (good_inside w.0 w.1 w.2))
+      (scopes_stand_in_scopes ms top i s h)

@@ -1,7 +1,0 @@
-use Rattle.std.proofs.Common.{◌≡◌, ◌+◌, take}
-use Rattle.vs_elaborate.specs.Printed.{printed}
-use Rattle.vs_elaborate.specs.passes.Answers.{borrowed}
-use Rattle.vs_elaborate.proofs.printed.print_path.Given as goal
-
-abbrev pub invariant-loop-name : goal.invariant-loop-name
-invariant-loop-name l = l.text.items ≡ printed (borrowed (take (l.name-index + 1) l.path))

@@ -1,0 +1,192 @@
+-- The parameters of a module, and their values.
+use Rattle.std.specs.Prelude.{ℕ, Bool, true, false, ◌||◌, max, take, List, [], ◌∷◌, ◌++◌, Option, None, Some, map, if◌then◌else◌}
+use Rattle.std.specs.List.{flat_map, list_any}
+use Rattle.std.specs.Map.{update}
+use Rattle.std.specs.Str.{bytes_eq}
+use Rattle.vs_syntax.specs.declared.tree.Expr.{Expr}
+use Rattle.vs_syntax.specs.declared.tree.Range.{Range}
+use Rattle.vs_syntax.specs.declared.tree.Constant.{Constant}
+use Rattle.vs_syntax.specs.declared.tree.Connections.{Connections}
+use Rattle.vs_syntax.specs.declared.tree.HeaderParameter.{HeaderParameter}
+use Rattle.vs_syntax.specs.declared.tree.ParameterForm.{ParameterForm}
+use Rattle.vs_syntax.specs.declared.tree.ParameterForm.TheVariants.{Integer, Vector}
+use Rattle.vs_syntax.specs.declared.tree.Module.{Module}
+use Rattle.vs_syntax.specs.declared.tree.Item.{Item}
+use Rattle.vs_syntax.specs.declared.tree.Item.TheVariants as i
+use Rattle.vs_selects.specs.declared.bindings.Binding.TheVariants as b
+use Rattle.vs_selects.specs.declared.constants.Const.{Const}
+use Rattle.vs_selects.specs.declared.faults.WidthReason.{WidthReason}
+use Rattle.vs_selects.specs.declared.faults.WidthReason.TheVariants.{TooWide, Unknown, NotConstant, WrongKind}
+use Rattle.vs_selects.specs.Environment.{Environment}
+use Rattle.vs_selects.specs.Findings.{Finding, Has, Lacks, stands}
+use Rattle.vs_selects.specs.Meants.{Meant, own}
+use Rattle.vs_selects.specs.Selects.{size_found}
+use Rattle.vs_selects.specs.Constants.{constant_finding}
+use Rattle.vs_widths.specs.Expressions.{meant}
+use Rattle.vs_scopes.specs.Ranges.{Sized, sized_as}
+use Rattle.vs_scopes.specs.Connections.{ends_of, is_mismatch}
+
+-- ---- declarations
+
+-- a parameter as the text declares it: whether nothing may override it, what is said of it, its name and its value (clauses 4.10 and 12.2)
+pub record Parameter : Type 0 where
+  pub fixed : Bool
+  pub form : Option ParameterForm
+  pub name : List ℕ
+  pub value : Expr
+
+-- what is said of a name, and of those before it where nothing is said (clause 12.2)
+abbrev pub said : {A : Type 0} → Option A → Option A → Option A
+said before None = before
+said before (Some form) = Some form
+
+-- the parameters of a header (clause 12.2)
+abbrev pub header_parameters : Option ParameterForm → List HeaderParameter → List Parameter
+header_parameters before [] = []
+header_parameters before (p ∷ ps) =
+    record { fixed = false; form = said before p.form; name = p.name.items; value = p.value } ∷ header_parameters (said before p.form) ps
+
+abbrev pub item_parameter : Bool → ParameterForm → Constant → Parameter
+item_parameter fixed form c = record { fixed = fixed; form = Some form; name = c.name.items; value = c.value }
+
+-- the parameters that an item declares; nothing overrides those of a `localparam` (clause 4.10)
+abbrev pub parameters_in : Item → List Parameter
+parameters_in (i.Wire f ds) = []
+parameters_in (i.Reg f ds) = []
+parameters_in (i.Integer ds) = []
+parameters_in (i.Parameter f xs) = map (item_parameter false f) xs.items
+parameters_in (i.Localparam f xs) = map (item_parameter true f) xs.items
+parameters_in (i.Instances n o xs) = []
+parameters_in (i.Assign xs) = []
+parameters_in (i.Initial x) = []
+parameters_in (i.Always x) = []
+
+-- the parameters of a module in the order of the text, those of its header first
+abbrev pub parameters_of : Module → List Parameter
+parameters_of m = header_parameters None m.parameters.items ++ flat_map parameters_in m.items.items
+
+-- the names of parameters that may be overridden, in the order of the text
+abbrev pub overridable : List Parameter → List (List ℕ)
+overridable [] = []
+overridable (p ∷ ps) = if p.fixed then overridable ps else p.name ∷ overridable ps
+
+-- ---- overrides
+
+-- a parameter, with the expression that overrides it, where there is one
+abbrev pub Given : Type 0
+Given = Parameter × Option Expr
+
+abbrev pub first_end : List (Option Expr) → Option Expr
+first_end [] = None
+first_end (x ∷ xs) = x
+
+abbrev pub other_ends : List (Option Expr) → List (Option Expr)
+other_ends [] = []
+other_ends (x ∷ xs) = xs
+
+-- parameters with what overrides them, one for each that may be overridden
+abbrev pub given_from : List Parameter → List (Option Expr) → List Given
+given_from [] xs = []
+given_from (p ∷ ps) xs = if p.fixed then (p, None) ∷ given_from ps xs else (p, first_end xs) ∷ given_from ps (other_ends xs)
+
+-- the expressions that override parameters, in the order of those (clause 12.2.2)
+abbrev pub overriding : Option Connections → List Parameter → List (Option Expr)
+overriding None ps = []
+overriding (Some c) ps = ends_of c (overridable ps)
+
+-- the parameters of a module with what overrides them (clause 12.2.2)
+abbrev pub given_to : Option Connections → Module → List Given
+given_to c m = given_from (parameters_of m) (overriding c (parameters_of m))
+
+-- whether overrides don't fit these parameters (clause 12.2.2)
+abbrev pub do_not_fit : Option Connections → List Parameter → Bool
+do_not_fit None ps = false
+do_not_fit (Some c) ps = is_mismatch c (overridable ps)
+
+-- the same of the parameters of a module
+abbrev pub is_override_mismatch : Option Connections → Module → Bool
+is_override_mismatch c m = do_not_fit c (parameters_of m)
+
+-- ---- values
+
+-- what a parameter takes of its value: the size, with the sign too or signed whatever it is; or neither, for it has its own (clause 12.2)
+pub data Takes : Type 0 where
+  the_size : Bool → Takes
+  neither : Sized → Takes
+
+abbrev pub vector_takes : Environment → Bool → Option Range → Takes
+vector_takes env signed None = the_size signed
+vector_takes env signed (Some r) = neither (sized_as env signed 0 (Some r))
+
+-- what a parameter takes of its value by what is said of it, where names are bound so (clause 12.2; 32: profile)
+abbrev pub takes_by : Environment → Option ParameterForm → Takes
+takes_by env None = the_size false
+takes_by env (Some Integer) = neither (sized_as env true 31 None)
+takes_by env (Some (Vector f)) = vector_takes env f.signed f.range
+
+-- the sign that was found
+abbrev pub sign_found : Finding → Bool
+sign_found (Has width signed) = signed
+sign_found (Lacks faults) = false
+
+-- The constant that an expression gives a parameter: with a size of its own it is given the value as in an assignment (clauses 5.4.1 and 12.2).
+abbrev pub constant_by : Takes → Meant → Const
+constant_by (the_size signed) m = record { value = own m [] 0; signed = signed || sign_found m.finding }
+constant_by (neither z) m = record {
+  value = take z.shape.width (m.at [] 0 (max z.shape.width (size_found m.finding)) (sign_found m.finding));
+  signed = z.shape.signed;
+}
+
+-- a fault of what is said of a parameter
+abbrev pub takes_fault : WidthReason → Takes → Bool
+takes_fault w (the_size signed) = false
+takes_fault w (neither z) = z.faults w
+
+-- what the value of a parameter means: it is an expression of the module, where names are bound so, or of the scope around it
+abbrev pub given_meant : Environment → Environment → Given → Meant
+given_meant around env (p, None) = meant env p.value
+given_meant around env (p, Some e) = meant around e
+
+-- the constant that a parameter is
+abbrev pub constant_given : Environment → Environment → Given → Const
+constant_given around env g = constant_by (takes_by env g.0.form) (given_meant around env g)
+
+-- a fault of a parameter in its module: one of what is said of it, or one of its value that nothing overrides
+abbrev pub own_fault : WidthReason → Environment → Given → Bool
+own_fault w env (p, None) = takes_fault w (takes_by env p.form) || stands w (constant_finding (meant env p.value))
+own_fault w env (p, Some e) = takes_fault w (takes_by env p.form)
+
+-- a fault of what overrides a parameter, in the scope around
+abbrev pub outer_fault : WidthReason → Environment → Given → Bool
+outer_fault w around (p, None) = false
+outer_fault w around (p, Some e) = stands w (constant_finding (meant around e))
+
+-- ---- one after another
+
+-- what names are bound to with this one to this constant
+abbrev pub with_constant : Environment → List ℕ → Const → Environment
+with_constant env n c = update bytes_eq env n (Some (b.Constant c))
+
+-- What names are bound to in a module behind these parameters: the value of one may name those before it (clause 12.2; profile).
+abbrev pub known_behind : Environment → Environment → List Given → Environment
+known_behind around env [] = env
+known_behind around env (g ∷ gs) = known_behind around (with_constant env g.0.name (constant_given around env g)) gs
+
+-- the constants that parameters are, each by its name
+abbrev pub constants_of : Environment → Environment → List Given → List (List ℕ × Const)
+constants_of around env [] = []
+constants_of around env (g ∷ gs) =
+    (g.0.name, constant_given around env g) ∷ constants_of around (with_constant env g.0.name (constant_given around env g)) gs
+
+-- a fault of one of these parameters in their module
+abbrev pub own_faults : WidthReason → Environment → Environment → List Given → Bool
+own_faults w around env [] = false
+own_faults w around env (g ∷ gs) = own_fault w env g || own_faults w around (with_constant env g.0.name (constant_given around env g)) gs
+
+-- a fault of one of the expressions that override these
+abbrev pub outer_faults : WidthReason → Environment → List Given → Bool
+outer_faults w around gs = list_any (outer_fault w around) gs
+
+-- whether any fault stands
+abbrev pub any_fault : (WidthReason → Bool) → Bool
+any_fault faults = faults TooWide || faults Unknown || faults NotConstant || faults WrongKind
