@@ -6,7 +6,7 @@ use Rattle.vs_tokens.specs.declared.token.Kind.TheVariants as k
 use Rattle.vs_lexer.specs.NameLines.{is_one_line, has_one_line_name, is_one_line_token}
 use Rattle.vs_lexer.specs.Spelling.{IsSpelled}
 use Rattle.vs_lexer.specs.Tokens.{Lexeme}
-use Rattle.vs_syntax.specs.Symbols.{Symbol, a_name, cast_of, system_symbol, symbol_of, symbol, symbols}
+use Rattle.vs_syntax.specs.Symbols.{Symbol, a_name, cast_of, system_symbol, symbol_of, symbols}
 use Rattle.vs_syntax.specs.SourceNames.{NamesAreTokens}
 use Rattle.vs_syntax.specs.declared.tree.Module.{Module}
 use Rattle.vs_design.specs.OneLine.{HasNamesOfOneLine}

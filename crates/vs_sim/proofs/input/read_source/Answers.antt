@@ -1,4 +1,3 @@
-use Rattle.std.proofs.Common.{◌≡◌, subst, ap, ◌∙◌}
 use Rattle.vs_sim.proofs.Inputs.{kept_of}
 use Rattle.vs_sim.proofs.input.read_source.Goals as goal
 

@@ -1,4 +1,4 @@
-use Rattle.std.proofs.Common.{◌≡◌, ℕ, List, map, refl, sym, ◌∙◌, ap}
+use Rattle.std.proofs.Common.{◌≡◌, ℕ, List, map, sym}
 use Rattle.std.specs.Prelude.{Option, Some, None, IfSome, option_map}
 use Rattle.clap.specs.Words.{App, HasMatchesOf, app_of, found_of, subcommand_name_of, subcommand_rows_of}
 use Rattle.clap.specs.Walk.{rows_of}
