@@ -1,5 +1,6 @@
 mod Drivers
 mod Kept
+mod PlanesLemmas
 mod Stores
 mod Tables
 mod UsesLemmas

@@ -1,8 +1,6 @@
 -- Lemmas on stores.
-use Rattle.std.proofs.Common.{◌≡◌, ◌≢◌, ℕ, zero, suc, ◌==◌, ◌&&◌, ◌||◌, ◌++◌, take, ◌⊎◌, inl, inr, Bool, true, false, not, if◌then◌else◌, Option, Some, None, List, [], ◌∷◌, map, length, slice_get, option_map, refl, sym, ◌∙◌, ap, ap₂, ⊎_elim}
+use Rattle.std.proofs.Common.{◌≡◌, ◌≢◌, ℕ, zero, suc, ◌==◌, ◌&&◌, ◌||◌, ◌⊎◌, inl, inr, Bool, true, false, not, if◌then◌else◌, Option, Some, None, List, [], ◌∷◌, map, length, slice_get, option_map, refl, sym, ◌∙◌, ap, ap₂, ⊎_elim}
 use Rattle.std.specs.Prelude.{slice_set}
-use Rattle.std.specs.declared.vec.Vec.{Vec}
-use Rattle.std.specs.declared.alloc.Global.{Global}
 use Rattle.std.specs.List.{list_any, list_all}
 use Rattle.std.proofs.lemmas.Bool.{eqb-false}
 use Rattle.std.proofs.lemmas.Bool.Decides.{eqb_tells}
@@ -49,25 +47,6 @@ changed_at-set f (suc i) (y ∷ xs) x h = ap (λ ys. y ∷ ys) (changed_at-set f
 -- a change past the end
 pub changed_at-past : {A : Type 0} (f : A → A) (i : ℕ) (xs : List A) → slice_get xs i ≡ None → xs ≡ changed_at f i xs
 changed_at-past f i xs h = sym (changed_at-kept f i xs (λ x found. absurd (none-some x (sym h ∙ found))))
-
--- ---- the words in memory
-
--- the words of signals, as lists
-abbrev pub lists : {A : Type 0} → List (Vec A Global) → List (List A)
-lists {A = A} rows = map (λ (row : Vec A Global). row.items) rows
-
--- the words of one signal changed
-pub lists-changed : {A : Type 0} (f : List A → List A) (i : ℕ) (rows : List (Vec A Global)) (row new : Vec A Global) → slice_get rows i ≡ Some row → new.items ≡ f row.items →
-    lists (slice_set rows i new) ≡ changed_at f i (lists rows)
-lists-changed f i [] row new h e = absurd (none-some row h)
-lists-changed {A = A} f zero (x ∷ xs) row new h e = ap (λ y. y ∷ lists xs) (e ∙ ap (λ (v : Vec A Global). f v.items) (sym (same_Some x row h)))
-lists-changed f (suc i) (x ∷ xs) row new h e = ap (λ ys. x.items ∷ ys) (lists-changed f i xs row new h e)
-
--- no signal to change
-pub lists-past : {A : Type 0} (f : List A → List A) (i : ℕ) (rows : List (Vec A Global)) → slice_get rows i ≡ None → lists rows ≡ changed_at f i (lists rows)
-lists-past f i [] h = refl
-lists-past f zero (x ∷ xs) h = absurd (none-some x (sym h))
-lists-past f (suc i) (x ∷ xs) h = ap (λ ys. x.items ∷ ys) (lists-past f i xs h)
 
 -- ---- a word behind a write
 
@@ -283,9 +262,3 @@ same_tests false false h k = k refl
 -- a write changes nothing where each word that it names is kept
 pub keeps_all : (store : Store) (w : Write) → list_all (keeps store w) w ≡ changes_nothing store w
 keeps_all store w = same_tests (list_all (keeps store w) w) _ (λ h. none_changed store w w h) (λ h. all_keep store w w h)
-
--- one row more
-pub lists-more : {A : Type 0} (rows : List (Vec A Global)) (i : ℕ) (row : Vec A Global) → slice_get rows i ≡ Some row → take (suc i) (lists rows) ≡ take i (lists rows) ++ row.items ∷ []
-lists-more [] i row h = absurd (none-some row h)
-lists-more {A = A} (x ∷ rows) zero row h = ap (λ (r : Vec A Global). r.items ∷ []) (same_Some x row h)
-lists-more (x ∷ rows) (suc i) row h = ap (λ rs. x.items ∷ rs) (lists-more rows i row h)

@@ -12,3 +12,4 @@ pub mod Traces
 pub mod Uses
 pub mod WellFormed
 pub mod Writes
+pub mod passes

@@ -6,7 +6,9 @@
 
 mod design;
 mod expression;
+mod extent;
 mod laws;
+mod planes;
 mod range;
 mod readers;
 mod signal;

@@ -1,10 +1,12 @@
 //! Stores.
 ghost use Rattle.std.specs.Prelude.{◌≡◌, IfOk, length, map};
-ghost use Rattle.vs_design.specs.Stores.{word_of, put, put_part, overlaid, changed_at, changes_nothing, start_store};
+ghost use Rattle.vs_design.specs.Stores.{word_of, put, put_part, overlaid, changes_nothing, start_store};
 ghost use Rattle.vs_design.specs.Behind.{behind, keeps};
 ghost use Rattle.vs_design.specs.Drivers.{undriven_word, driven_word, driven_at, driven_by, all_driven, in_copies};
 
 use crate::design::{Assign, Design};
+use crate::extent::Extent;
+use crate::planes::{fill, set_word, spot, word_at};
 use crate::signal::{Signal, SignalKind};
 use crate::statement::Aim;
 use crate::uses::aim_range;
@@ -13,21 +15,23 @@ use std::alloc::{AllocError, Global};
 use std::marker::Model;
 use vs_logic4::Vec4;
 
-/// The values of a design's signals: for each, in design order, those of its words.
+/// The values of a design's signals: for each, in design order, those of its words. Two flat planes of bits hold them.
 #[derive(Drop)]
 pub struct Store {
-    words: Vec<Vec<Vec4>>,
+    extents: Vec<Extent>,
+    values: Vec<u64>,
+    unknowns: Vec<u64>,
 }
 
 impl Model for Store {
-    ghost use Rattle.std.specs.Prelude.{Vec, map};
-    ghost use Rattle.std.specs.declared.alloc.Global.{Global};
-    ghost use Rattle.vs_logic4.specs.declared.digit.Digit.{Digit};
     ghost use Rattle.vs_design.specs.Stores.{Store};
+    ghost use Rattle.vs_design.specs.passes.Planes.{store_of, ArePlanesOf};
 
     ghost Value = { Store };
 
-    ghost view = { λ s. map (λ words. words.items) s.words.items };
+    ghost view = { λ s. store_of s.extents.items s.values.items s.unknowns.items };
+
+    ghost invariant = { λ s. ArePlanesOf s.extents.items s.values.items s.unknowns.items };
 }
 
 impl Store {
@@ -42,22 +46,40 @@ impl Store {
     }
 
     /// Each word as often as its signal has words.
-    fn copies(alloc: Global, signals: &[Signal], first: &[Vec4]) -> Result<Self, AllocError>
-        requires { length first.now ≡ length signals.now }
-        ensures { IfOk result (λ s. s ≡ in_copies signals.now first.now) }
+    fn copies(alloc: Global, signals: &[Signal], words: &[Vec4]) -> Result<Self, AllocError>
+        requires { length words.now ≡ length signals.now }
+        ensures { IfOk result (λ s. s ≡ in_copies signals.now words.now) }
     {
-        let mut words = Vec::new(alloc);
+        let mut extents = Vec::with_capacity(alloc, signals.len())?;
+        let mut values = Vec::new(alloc);
+        let mut unknowns = Vec::new(alloc);
         for i in 0..signals.len() {
-            words.push(vec![in alloc; first[i]; signals[i].count as usize]?)?;
+            let count = signals[i].count;
+            let word = words[i];
+            let first = values.len();
+            fill(&mut values, count, word.value_plane())?;
+            fill(&mut unknowns, count, word.unknown_plane())?;
+            extents.push(Extent {
+                first,
+                count,
+                width: word.width(),
+            })?;
         }
-        Ok(Store { words })
+        Ok(Store {
+            extents,
+            values,
+            unknowns,
+        })
     }
 
     /// A word of a signal, where there is one. A signal that isn't an array has the word 0 alone.
     pub fn word(&self, signal: usize, word: usize) -> Option<Vec4>
         ensures { result ≡ word_of self.now signal word }
     {
-        Some(*self.words.get(signal)?.get(word)?)
+        match spot(&self.extents, signal, word) {
+            Some(at) => Some(word_at(&self.values, &self.unknowns, at)),
+            None => None,
+        }
     }
 
     /// Makes a write: its parts one after another, digits out of range dropped, and a part without a word too (IEEE 1364-2005, clause 5.2.1).
@@ -72,10 +94,11 @@ impl Store {
     fn put_part(&mut self, part: Part)
         ensures { self.new ≡ put_part self.old part }
     {
-        let Some(words) = self.words.get_mut(part.signal) else {
+        let Some(at) = spot(&self.extents, part.signal, part.word) else {
             return;
         };
-        put_word(words, part);
+        let word = over(word_at(&self.values, &self.unknowns, at), part);
+        set_word(&mut self.values, &mut self.unknowns, at, word);
     }
 
     /// The word of a signal behind a write, where there is one.
@@ -114,23 +137,12 @@ impl Store {
     pub fn copy(&self, alloc: Global) -> Result<Self, AllocError>
         ensures { IfOk result (λ s. s ≡ self.now) }
     {
-        let mut all = Vec::new(alloc);
-        for words in &self.words {
-            all.push(copied(alloc, words)?)?;
-        }
-        Ok(Store { words: all })
+        Ok(Store {
+            extents: Vec::from_slice(alloc, &self.extents)?,
+            values: Vec::from_slice(alloc, &self.values)?,
+            unknowns: Vec::from_slice(alloc, &self.unknowns)?,
+        })
     }
-}
-
-/// The words of a signal once more.
-fn copied(alloc: Global, words: &[Vec4]) -> Result<Vec<Vec4>, AllocError>
-    ensures { IfOk result (λ all. all.items ≡ words.now) }
-{
-    let mut all = Vec::with_capacity(alloc, words.len())?;
-    for word in words {
-        all.push(*word)?;
-    }
-    Ok(all)
 }
 
 /// A word with the digits of a part laid over it; those out of range are dropped (IEEE 1364-2005, clause 5.2.1).
@@ -138,17 +150,6 @@ fn over(word: Vec4, part: Part) -> Vec4
     ensures { result ≡ overlaid part.low part.digits word }
 {
     word.put(part.low, part.digits)
-}
-
-/// Lays the digits of a part over its word among those of its signal; a part without a word is dropped.
-fn put_word(words: &mut Vec<Vec4>, part: Part)
-    ensures { words.new.items ≡ changed_at (overlaid part.low part.digits) part.word words.old.items }
-{
-    let index = part.word;
-    if index < words.len() {
-        let word = words[index];
-        words[index] = over(word, part);
-    }
 }
 
 /// A word of a signal behind parts of a write.

@@ -1,7 +1,10 @@
 use Rattle.std.proofs.Common.{◌≡◌, take}
 use Rattle.vs_design.specs.Drivers.{in_copies}
-use Rattle.vs_design.proofs.Stores.{lists}
+use Rattle.vs_design.specs.passes.Planes.{store_of, ArePlanesOf}
 use Rattle.vs_design.proofs.store.Store.copies.Given as goal
 
 abbrev pub invariant-loop-i : goal.invariant-loop-i
-invariant-loop-i l = lists l.words.items ≡ take l.i (in_copies l.signals l.first)
+invariant-loop-i l = record {
+  planes : ArePlanesOf l.extents.items l.values.items l.unknowns.items;
+  store : store_of l.extents.items l.values.items l.unknowns.items ≡ take l.i (in_copies l.signals l.words);
+}
