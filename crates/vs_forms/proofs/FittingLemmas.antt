@@ -1,31 +1,25 @@
 -- Forms at the size and with the sign of a context.
-use Rattle.std.proofs.Common.{◌≡◌, ℕ, ◌+◌, ◌*◌, ◌<◌, Bool, false, if◌then◌else◌, List, [], ◌∷◌, ◌++◌, Option, Some, None, Result, Ok, Err, IfOk, option_map, length, map, take, get_or, refl, ap, ap₂, sym, subst, ◌∙◌}
+use Rattle.std.proofs.Common.{◌≡◌, ℕ, ◌+◌, ◌<◌, Bool, false, List, [], ◌∷◌, ◌++◌, Option, Some, None, Result, Ok, Err, IfOk, option_map, length, map, take, get_or, refl, ap, ap₂, sym, subst, ◌∙◌}
 use Rattle.std.proofs.lemmas.List.{take_more}
 use Rattle.std.specs.declared.vec.Vec.{Vec}
 use Rattle.std.specs.declared.boxed.Box.{Box}
 use Rattle.std.specs.declared.alloc.Global.{Global}
 use Rattle.vs_logic4.specs.declared.digit.Digit.{Digit}
-use Rattle.vs_logic4.specs.declared.operators.Unary.{Unary}
 use Rattle.vs_logic4.specs.declared.operators.Binary.{Binary}
-use Rattle.vs_logic4.specs.Operators.{unary, gives_bit, sizing_of}
+use Rattle.vs_logic4.specs.Operators.{sizing_of}
 use Rattle.vs_logic4.specs.Vectors.{resized}
-use Rattle.vs_logic4.specs.Extensions.{length-resized}
 use Rattle.vs_logic4.specs.Comparisons.{truth}
-use Rattle.vs_logic4.specs.Parts.{replication}
 use Rattle.vs_design.specs.declared.expression.Link.{Link}
-use Rattle.vs_design.specs.declared.expression.Count.{Count}
-use Rattle.vs_design.specs.declared.expression.Extension.{Extension}
-use Rattle.vs_design.specs.declared.expression.Operand.{Operand}
 use Rattle.vs_design.specs.declared.expression.Slice.{Slice}
 use Rattle.vs_design.specs.declared.expression.Selection.{Selection}
 use Rattle.vs_design.specs.declared.expression.Typed.{Typed, Typed-F, fold-roll-Typed, map-Typed, roll-Typed}
 use Rattle.vs_design.specs.declared.expression.Typed.TheVariants as t
 use Rattle.vs_design.specs.declared.expression.Typed.TheOpen as o
 use Rattle.vs_design.specs.declared.range.BitRange.{BitRange}
-use Rattle.vs_design.specs.Stores.{Store, word_of}
-use Rattle.vs_design.specs.Uses.{whole, all_words, joined, reads, reads_step}
+use Rattle.vs_design.specs.Stores.{Store}
+use Rattle.vs_design.specs.Uses.{all_words, joined, reads, reads_step}
 use Rattle.vs_design.specs.WellFormed.{sized_by, linked_size, chain_size, picked_size, choice_size, indexed_size, sum_size, at_most_64, size_of, size_step}
-use Rattle.vs_eval.specs.Values.{linked, chained, picked, chosen, concatenated, value_of, value_step, operand_value, selection_value}
+use Rattle.vs_eval.specs.Values.{linked, chained, picked, chosen, concatenated, value_of, value_step, selection_value}
 use Rattle.vs_forms.specs.declared.shape.Shape.{Shape}
 use Rattle.vs_forms.specs.declared.forms.Form.{Form, Form-F, fold-roll-Form, map-Form, roll-Form}
 use Rattle.vs_forms.specs.declared.forms.Form.TheVariants as v
@@ -63,13 +57,6 @@ fitted_as x z h w g y e k size value ranges =
       ranges = ap reads (sym k) ∙ fold-roll-Typed (List BitRange) reads_step y ∙ ranges;
     })
 
-pub extends_as : (x : Typed) (b : Box Typed Global) (s : Extension) → b.value ≡ x → IsExtended x s.width s.signed (t.Resized s b)
-extends_as x b s h = record {
-  size = ap size_of (sym (t.rolls-Resized s b)) ∙ fold-roll-Typed (Option ℕ) size_step (o.Resized s b) ∙ ap (λ z. option_map (λ n. s.width) (size_of z)) h;
-  value = λ store time. ap (λ z. value_of z store time) (sym (t.rolls-Resized s b)) ∙ fold-roll-Typed (List Digit) (value_step store time) (o.Resized s b) ∙ ap (λ z. resized s.signed s.width (value_of z store time)) h;
-  ranges = ap reads (sym (t.rolls-Resized s b)) ∙ fold-roll-Typed (List BitRange) reads_step (o.Resized s b) ∙ ap reads h;
-}
-
 -- a part that is brought to a context
 pub fitted_extended : (x : Form-F Form) (z : Form) → roll-Form x ≡ z → (w : ℕ) (g : Bool) (y e : Typed) → IsExtended y w g e →
     option_map (λ n. w) (size_of y) ≡ (form_step (map-Form Form Sense sense x)).size w →
@@ -83,35 +70,18 @@ fitted_extended x z h w g y e k size value ranges =
       ranges = k.ranges ∙ ranges;
     })
 
-pub fits_Number : (ds es : List Digit) (w : ℕ) (g : Bool) → es ≡ resized g w ds → IsFitted (sense (v.Number ds)) w g (t.Number es)
-fits_Number ds es w g h =
-    fitted_as (f.Number ds) (v.Number ds) (v.rolls-Number ds) w g (o.Number es) (t.Number es) (t.rolls-Number es)
-    (ap Some (ap length h ∙ length-resized g w ds)) (λ store time. h) refl
-
-pub fits_Signal : (n : ℕ) (p : Operand) (w : ℕ) (g : Bool) → p.signal ≡ n → p.width ≡ w → p.signed ≡ g → IsFitted (sense (v.Signal n)) w g (t.Signal p)
-fits_Signal n p w g h k l =
-    fitted_as (f.Signal n) (v.Signal n) (v.rolls-Signal n) w g (o.Signal p) (t.Signal p) (t.rolls-Signal p) (ap Some k)
-    (λ store time. ap (λ z. operand_value z p.width (word_of store p.signal 0)) l ∙ ap (λ z. operand_value g z (word_of store p.signal 0)) k ∙ ap (λ z. operand_value g w (word_of store z 0)) h)
-    (ap (λ z. whole z ∷ []) h)
-
 pub fits_Slice : (n : Slice) (w : ℕ) (g : Bool) → IsFitted (sense (v.Slice n)) w g (t.Slice n)
 fits_Slice n w g = fitted_as (f.Slice n) (v.Slice n) (v.rolls-Slice n) w g (o.Slice n) (t.Slice n) (t.rolls-Slice n) refl (λ store time. refl) refl
 
-pub fits_Select : (s : Selection) (xw xl : Box Form Global) (aw al : Form) (bw bl : Box Typed Global) (yw yl : Typed) (w : ℕ) (g : Bool) → aw ≡ xw.value → al ≡ xl.value →
-    bw.value ≡ yw → bl.value ≡ yl → IsFitted (sense aw) w g yw → IsFitted (sense al) w g yl → IsFitted (sense (v.Select s xw xl)) w g (t.Select s bw bl)
-fits_Select s xw xl aw al bw bl yw yl w g hw hl kw kl pw pl =
-    let qw : IsFitted (sense xw.value) w g bw.value = subst (λ z. IsFitted (sense z) w g bw.value) hw (subst (λ z. IsFitted (sense aw) w g z) (sym kw) pw) in
-    let ql : IsFitted (sense xl.value) w g bl.value = subst (λ z. IsFitted (sense z) w g bl.value) hl (subst (λ z. IsFitted (sense al) w g z) (sym kl) pl) in
+pub fits_Select : (s : Selection) (xw xl : Box Form Global) (aw al : Form) (bw bl : Box Typed Global) (w : ℕ) (g : Bool) → aw ≡ xw.value → al ≡ xl.value →
+    IsFitted (sense aw) w g bw.value → IsFitted (sense al) w g bl.value → IsFitted (sense (v.Select s xw xl)) w g (t.Select s bw bl)
+fits_Select s xw xl aw al bw bl w g hw hl pw pl =
+    let qw : IsFitted (sense xw.value) w g bw.value = subst (λ z. IsFitted (sense z) w g bw.value) hw pw in
+    let ql : IsFitted (sense xl.value) w g bl.value = subst (λ z. IsFitted (sense z) w g bl.value) hl pl in
     fitted_as (f.Select s xw xl) (v.Select s xw xl) (v.rolls-Select s xw xl) w g (o.Select s bw bl) (t.Select s bw bl) (t.rolls-Select s bw bl)
     (ap₂ (indexed_size s.width) qw.size ql.size)
     (λ store time. ap₂ (selection_value s store) (qw.value store time) (ql.value store time))
     (ap₂ (λ a b. all_words s.signal ∷ a ++ b) qw.ranges ql.ranges)
-
-pub fits_Unary : (op : Unary) (x : Box Form Global) (a : Form) (b : Box Typed Global) (y : Typed) (w : ℕ) (g : Bool) → a ≡ x.value → b.value ≡ y → IsFitted (sense a) w g y → IsFitted (sense (v.Unary op x)) w g (t.Unary op b)
-fits_Unary op x a b y w g h k p =
-    let q : IsFitted (sense x.value) w g b.value = subst (λ z. IsFitted (sense z) w g b.value) h (subst (λ z. IsFitted (sense a) w g z) (sym k) p) in
-    fitted_as (f.Unary op x) (v.Unary op x) (v.rolls-Unary op x) w g (o.Unary op b) (t.Unary op b) (t.rolls-Unary op b)
-    (ap (option_map (λ n. if gives_bit op then 1 else n)) q.size) (λ store time. ap (unary op) (q.value store time)) q.ranges
 
 -- ---- operands behind the first one
 
@@ -184,20 +154,20 @@ tests_reads _ _ (each_more x y xs ys h r) = ap₂ (λ a b. a ++ b) h.fits.ranges
 
 -- ---- chains
 
-pub fits_Chain : (x : Box Form Global) (ls : Vec (Binary × Form) Global) (a : Form) (ks : List (Binary × Form)) (b : Box Typed Global) (y : Typed) (ys : Vec (Link × Typed) Global) (w : ℕ) (g : Bool) → a ≡ x.value → ks ≡ ls.items → b.value ≡ y →
-    IsFitted (sense a) w g y → Each (IsLink w g) ks ys.items → IsFitted (sense (v.Chain x ls)) w g (t.Chain b ys)
-fits_Chain x ls a ks b y ys w g h l k p r =
-    let q : IsFitted (sense x.value) w g b.value = subst (λ z. IsFitted (sense z) w g b.value) h (subst (λ z. IsFitted (sense a) w g z) (sym k) p) in
+pub fits_Chain : (x : Box Form Global) (ls : Vec (Binary × Form) Global) (a : Form) (ks : List (Binary × Form)) (b : Box Typed Global) (ys : Vec (Link × Typed) Global) (w : ℕ) (g : Bool) → a ≡ x.value → ks ≡ ls.items →
+    IsFitted (sense a) w g b.value → Each (IsLink w g) ks ys.items → IsFitted (sense (v.Chain x ls)) w g (t.Chain b ys)
+fits_Chain x ls a ks b ys w g h l p r =
+    let q : IsFitted (sense x.value) w g b.value = subst (λ z. IsFitted (sense z) w g b.value) h p in
     let e : Each (IsLink w g) ls.items ys.items = subst (λ z. Each (IsLink w g) z ys.items) l r in
     fitted_as (f.Chain x ls) (v.Chain x ls) (v.rolls-Chain x ls) w g (o.Chain b ys) (t.Chain b ys) (t.rolls-Chain b ys)
     (ap (λ z. chain_size z (links_sized ys.items)) q.size ∙ links_size w g ((sense x.value).size w) ls.items ys.items e)
     (λ store time. ap (λ z. chained z (links_valued store time ys.items)) (q.value store time) ∙ links_value w g store time ((sense x.value).at store time w g) ls.items ys.items e)
     (ap₂ (λ c d. c ++ d) q.ranges (links_reads w g ls.items ys.items e))
 
-pub fits_Tests : (x : Box Form Global) (ls : Vec (Link × Form) Global) (a : Form) (ks : List (Link × Form)) (b : Box Typed Global) (y : Typed) (ys : Vec (Link × Typed) Global) (w : ℕ) (g : Bool) (e : Typed) → a ≡ x.value → ks ≡ ls.items → b.value ≡ y →
-    IsFitted (sense a) 1 false y → Each IsTest ks ys.items → IsExtended (t.Chain b ys) w g e → IsFitted (sense (v.Tests x ls)) w g e
-fits_Tests x ls a ks b y ys w g e h l k p r z =
-    let q : IsFitted (sense x.value) 1 false b.value = subst (λ z. IsFitted (sense z) 1 false b.value) h (subst (λ z. IsFitted (sense a) 1 false z) (sym k) p) in
+pub fits_Tests : (x : Box Form Global) (ls : Vec (Link × Form) Global) (a : Form) (ks : List (Link × Form)) (b : Box Typed Global) (ys : Vec (Link × Typed) Global) (w : ℕ) (g : Bool) (e : Typed) → a ≡ x.value → ks ≡ ls.items →
+    IsFitted (sense a) 1 false b.value → Each IsTest ks ys.items → IsExtended (t.Chain b ys) w g e → IsFitted (sense (v.Tests x ls)) w g e
+fits_Tests x ls a ks b ys w g e h l p r z =
+    let q : IsFitted (sense x.value) 1 false b.value = subst (λ z. IsFitted (sense z) 1 false b.value) h p in
     let d : Each IsTest ls.items ys.items = subst (λ z. Each IsTest z ys.items) l r in
     let first = sense x.value in
     fitted_extended (f.Tests x ls) (v.Tests x ls) (v.rolls-Tests x ls) w g (t.Chain b ys) e z
@@ -244,10 +214,10 @@ pairs_reads : (w : ℕ) (g : Bool) (ps : List (Form × Form)) (qs : List (Typed 
 pairs_reads w g _ _ each_none = refl
 pairs_reads w g _ _ (each_more x y xs ys h r) = ap₂ (λ a b. a ++ b) (ap₂ (λ a b. a ++ b) h.condition.ranges h.value.ranges) (pairs_reads w g xs ys r)
 
-pub fits_Choice : (ps : Vec (Form × Form) Global) (x : Box Form Global) (ks : List (Form × Form)) (a : Form) (qs : Vec (Typed × Typed) Global) (b : Box Typed Global) (y : Typed) (w : ℕ) (g : Bool) → ks ≡ ps.items → a ≡ x.value → b.value ≡ y →
-    Each (IsPair w g) ks qs.items → IsFitted (sense a) w g y → IsFitted (sense (v.Choice ps x)) w g (t.Choice qs b)
-fits_Choice ps x ks a qs b y w g l h k r p =
-    let q : IsFitted (sense x.value) w g b.value = subst (λ z. IsFitted (sense z) w g b.value) h (subst (λ z. IsFitted (sense a) w g z) (sym k) p) in
+pub fits_Choice : (ps : Vec (Form × Form) Global) (x : Box Form Global) (ks : List (Form × Form)) (a : Form) (qs : Vec (Typed × Typed) Global) (b : Box Typed Global) (w : ℕ) (g : Bool) → ks ≡ ps.items → a ≡ x.value →
+    Each (IsPair w g) ks qs.items → IsFitted (sense a) w g b.value → IsFitted (sense (v.Choice ps x)) w g (t.Choice qs b)
+fits_Choice ps x ks a qs b w g l h r p =
+    let q : IsFitted (sense x.value) w g b.value = subst (λ z. IsFitted (sense z) w g b.value) h p in
     let e : Each (IsPair w g) ps.items qs.items = subst (λ z. Each (IsPair w g) z qs.items) l r in
     fitted_as (f.Choice ps x) (v.Choice ps x) (v.rolls-Choice ps x) w g (o.Choice qs b) (t.Choice qs b) (t.rolls-Choice qs b)
     (pairs_size w g (size_of b.value) ps.items qs.items e ∙ ap (choice_size (map (λ (p : Sense × Sense). (p.0.size w, p.1.size w)) (pairs_sensed ps.items))) q.size)
@@ -270,29 +240,17 @@ parts_reads : (w : ℕ) (g : Bool) (xs : List Form) (ys : List Typed) → Each (
 parts_reads w g _ _ each_none = refl
 parts_reads w g _ _ (each_more x y xs ys h r) = ap₂ (λ a b. a ++ b) h.ranges (parts_reads w g xs ys r)
 
-pub fits_Concat : (x : Box Form Global) (xs : Vec Form Global) (a : Form) (ks : List Form) (b : Box Typed Global) (y : Typed) (ys : Vec Typed Global) (w : ℕ) (g : Bool) → a ≡ x.value → ks ≡ xs.items → b.value ≡ y →
-    IsFitted (sense a) w g y → Each (IsPart w g) ks ys.items → IsFitted (sense (v.Concat x xs)) w g (t.Concat b ys)
-fits_Concat x xs a ks b y ys w g h l k p r =
-    let q : IsFitted (sense x.value) w g b.value = subst (λ z. IsFitted (sense z) w g b.value) h (subst (λ z. IsFitted (sense a) w g z) (sym k) p) in
+pub fits_Concat : (x : Box Form Global) (xs : Vec Form Global) (a : Form) (ks : List Form) (b : Box Typed Global) (ys : Vec Typed Global) (w : ℕ) (g : Bool) → a ≡ x.value → ks ≡ xs.items →
+    IsFitted (sense a) w g b.value → Each (IsPart w g) ks ys.items → IsFitted (sense (v.Concat x xs)) w g (t.Concat b ys)
+fits_Concat x xs a ks b ys w g h l p r =
+    let q : IsFitted (sense x.value) w g b.value = subst (λ z. IsFitted (sense z) w g b.value) h p in
     let e : Each (IsPart w g) xs.items ys.items = subst (λ z. Each (IsPart w g) z ys.items) l r in
     fitted_as (f.Concat x xs) (v.Concat x xs) (v.rolls-Concat x xs) w g (o.Concat b ys) (t.Concat b ys) (t.rolls-Concat b ys)
     (ap at_most_64 (ap₂ (λ c d. sum_size (c ∷ d)) q.size (parts_size w g xs.items ys.items e)))
     (λ store time. ap₂ concatenated (q.value store time) (parts_value w g store time xs.items ys.items e))
     (ap₂ (λ c d. c ++ d) q.ranges (parts_reads w g xs.items ys.items e))
 
-pub fits_Repeat : (n : Count) (x : Box Form Global) (a : Form) (b : Box Typed Global) (y : Typed) (w : ℕ) (g : Bool) → a ≡ x.value → b.value ≡ y → IsFitted (sense a) w g y → IsFitted (sense (v.Repeat n x)) w g (t.Repeat n b)
-fits_Repeat n x a b y w g h k p =
-    let q : IsFitted (sense x.value) w g b.value = subst (λ z. IsFitted (sense z) w g b.value) h (subst (λ z. IsFitted (sense a) w g z) (sym k) p) in
-    fitted_as (f.Repeat n x) (v.Repeat n x) (v.rolls-Repeat n x) w g (o.Repeat n b) (t.Repeat n b) (t.rolls-Repeat n b)
-    (ap (λ z. at_most_64 (option_map (λ m. n.times * m) z)) q.size) (λ store time. ap (λ z. take 64 (replication n.times z)) (q.value store time)) q.ranges
-
 -- ---- parts with a size of their own
-
-pub fits_Own : (s : Shape) (x : Box Form Global) (a : Form) (y : Typed) (w : ℕ) (g : Bool) → a ≡ x.value → IsFitted (sense a) s.width s.signed y → IsFitted (sense (v.Own s x)) w g y
-fits_Own s x a y w g h p =
-    let q : IsFitted (sense x.value) s.width s.signed y = subst (λ z. IsFitted (sense z) s.width s.signed y) h p in
-    let same = layer (f.Own s x) (v.Own s x) (v.rolls-Own s x) in
-    subst (λ z. IsFitted z w g y) (sym same) (record { size = q.size; value = q.value; ranges = q.ranges })
 
 pub fits_Closed : (s : Shape) (x : Box Form Global) (a : Form) (y e : Typed) (w : ℕ) (g : Bool) → a ≡ x.value → IsFitted (sense a) s.width s.signed y → IsExtended y w g e → IsFitted (sense (v.Closed s x)) w g e
 fits_Closed s x a y e w g h p k =
@@ -302,12 +260,7 @@ fits_Closed s x a y e w g h p k =
 
 -- ---- what is brought to a context, where memory suffices
 
-pub tests_fitted : {E : Type 0} (x : Box Form Global) (ls : Vec (Link × Form) Global) (a : Form) (ks : List (Link × Form)) (b : Box Typed Global) (y : Typed) (ys : Vec (Link × Typed) Global) (w : ℕ) (g : Bool) (r : Result Typed E) → a ≡ x.value → ks ≡ ls.items → b.value ≡ y →
-    IsFitted (sense a) 1 false y → Each IsTest ks ys.items → IfOk r (λ e. IsExtended (t.Chain b ys) w g e) → IfOk r (λ e. IsFitted (sense (v.Tests x ls)) w g e)
-tests_fitted x ls a ks b y ys w g (Ok e) h l k p r z = fits_Tests x ls a ks b y ys w g e h l k p r z
-tests_fitted x ls a ks b y ys w g (Err d) h l k p r z = z
-
-pub closed_fitted : {E : Type 0} (s : Shape) (x : Box Form Global) (a : Form) (y : Typed) (w : ℕ) (g : Bool) (r : Result Typed E) → a ≡ x.value → IsFitted (sense a) s.width s.signed y →
-    IfOk r (λ e. IsExtended y w g e) → IfOk r (λ e. IsFitted (sense (v.Closed s x)) w g e)
-closed_fitted s x a y w g (Ok e) h p k = fits_Closed s x a y e w g h p k
-closed_fitted s x a y w g (Err d) h p k = k
+pub tests_fitted : {E : Type 0} (x : Box Form Global) (ls : Vec (Link × Form) Global) (a : Form) (ks : List (Link × Form)) (b : Box Typed Global) (ys : Vec (Link × Typed) Global) (w : ℕ) (g : Bool) (r : Result Typed E) → a ≡ x.value → ks ≡ ls.items →
+    IsFitted (sense a) 1 false b.value → Each IsTest ks ys.items → IfOk r (λ e. IsExtended (t.Chain b ys) w g e) → IfOk r (λ e. IsFitted (sense (v.Tests x ls)) w g e)
+tests_fitted x ls a ks b ys w g (Ok e) h l p r z = fits_Tests x ls a ks b ys w g e h l p r z
+tests_fitted x ls a ks b ys w g (Err d) h l p r z = z

@@ -23,48 +23,58 @@ pub fn fitted(alloc: Global, form: &Form, shape: Shape) -> Result<Typed, AllocEr
         })),
         Form::Slice(slice) => Ok(Typed::Slice(*slice)),
         Form::Select(selection, word, low) => {
-            let word = fitted(alloc, word, shape)?;
-            let low = fitted(alloc, low, shape)?;
-            Ok(Typed::Select(*selection, Box::new(alloc, word)?, Box::new(alloc, low)?))
+            let word = boxed(alloc, word, shape)?;
+            let low = boxed(alloc, low, shape)?;
+            Ok(Typed::Select(*selection, word, low))
         }
         Form::Unary(operator, x) => {
-            let x = fitted(alloc, x, shape)?;
-            Ok(Typed::Unary(*operator, Box::new(alloc, x)?))
+            let x = boxed(alloc, x, shape)?;
+            Ok(Typed::Unary(*operator, x))
         }
         Form::Chain(first, links) => {
-            let first = fitted(alloc, first, shape)?;
+            let first = boxed(alloc, first, shape)?;
             let links = fitted_links(alloc, links, shape)?;
-            Ok(Typed::Chain(Box::new(alloc, first)?, links))
+            Ok(Typed::Chain(first, links))
         }
         Form::Tests(first, links) => {
-            let first = fitted(alloc, first, BIT)?;
+            let first = boxed(alloc, first, BIT)?;
             let links = fitted_tests(alloc, links)?;
-            extended(alloc, Typed::Chain(Box::new(alloc, first)?, links), shape)
+            extended(alloc, Typed::Chain(first, links), shape)
         }
         Form::Choice(pairs, last) => {
             let pairs = fitted_pairs(alloc, pairs, shape)?;
-            let last = fitted(alloc, last, shape)?;
-            Ok(Typed::Choice(pairs, Box::new(alloc, last)?))
+            let last = boxed(alloc, last, shape)?;
+            Ok(Typed::Choice(pairs, last))
         }
         Form::Concat(first, rest) => {
-            let first = fitted(alloc, first, shape)?;
+            let first = boxed(alloc, first, shape)?;
             let rest = fitted_parts(alloc, rest, shape)?;
-            Ok(Typed::Concat(Box::new(alloc, first)?, rest))
+            Ok(Typed::Concat(first, rest))
         }
         Form::Repeat(count, x) => {
-            let x = fitted(alloc, x, shape)?;
-            Ok(Typed::Repeat(*count, Box::new(alloc, x)?))
+            let x = boxed(alloc, x, shape)?;
+            Ok(Typed::Repeat(*count, x))
         }
         Form::Own(own, x) => fitted(alloc, x, *own),
         Form::Closed(own, x) => {
-            let x = fitted(alloc, x, *own)?;
-            extended(alloc, x, shape)
+            let x = boxed(alloc, x, *own)?;
+            Ok(resized(x, shape))
         }
     }
 }
 
+/// A form at the size and with the sign of a context, in a box: never inlined, so that a deep form takes little stack.
+#[cycle(fitted)]
+#[inline(never)]
+fn boxed(alloc: Global, form: &Form, shape: Shape) -> Result<Box<Typed>, AllocError>
+    ensures { IfOk result (λ y. IsFitted (sense form.now) shape.width shape.signed y.value) }
+{
+    Ok(Box::new(alloc, fitted(alloc, form, shape)?)?)
+}
+
 /// Operands behind the first one, at the size and with the sign of a context.
 #[cycle(fitted)]
+#[inline(never)]
 fn fitted_links(
     alloc: Global,
     links: &[(Binary, Form)],
@@ -87,6 +97,7 @@ fn fitted_links(
 
 /// Operands behind the first one, each at the size and with the sign of its link.
 #[cycle(fitted)]
+#[inline(never)]
 fn fitted_tests(alloc: Global, links: &[(Link, Form)]) -> Result<Vec<(Link, Typed)>, AllocError>
     ensures { IfOk result (λ ys. Each IsTest links.now ys.items) }
 {
@@ -104,6 +115,7 @@ fn fitted_tests(alloc: Global, links: &[(Link, Form)]) -> Result<Vec<(Link, Type
 
 /// Conditions and the operands behind them, at the size and with the sign of a context.
 #[cycle(fitted)]
+#[inline(never)]
 fn fitted_pairs(
     alloc: Global,
     pairs: &[(Form, Form)],
@@ -122,6 +134,7 @@ fn fitted_pairs(
 
 /// Parts of a concatenation, at the size and with the sign of a context.
 #[cycle(fitted)]
+#[inline(never)]
 fn fitted_parts(alloc: Global, parts: &[Form], shape: Shape) -> Result<Vec<Typed>, AllocError>
     ensures { IfOk result (λ ys. Each (IsPart shape.width shape.signed) parts.now ys.items) }
 {
@@ -133,12 +146,20 @@ fn fitted_parts(alloc: Global, parts: &[Form], shape: Shape) -> Result<Vec<Typed
 }
 
 /// An operand brought to the size and sign of a context.
-fn extended(alloc: Global, x: Typed, shape: Shape) -> Result<Typed, AllocError>
-    ensures { IfOk result (λ y. IsExtended x shape.width shape.signed y) }
+fn resized(x: Box<Typed>, shape: Shape) -> Typed
+    ensures { IsExtended x.value shape.width shape.signed result }
 {
     let extension = Extension {
         width: shape.width,
         signed: shape.signed,
     };
-    Ok(Typed::Resized(extension, Box::new(alloc, x)?))
+    Typed::Resized(extension, x)
+}
+
+/// An operand brought to the size and sign of a context.
+#[inline(never)]
+fn extended(alloc: Global, x: Typed, shape: Shape) -> Result<Typed, AllocError>
+    ensures { IfOk result (λ y. IsExtended x shape.width shape.signed y) }
+{
+    Ok(resized(Box::new(alloc, x)?, shape))
 }

@@ -90,6 +90,7 @@ pub fn value_alone(alloc: Global, y: &Typed) -> Result<Vec4, AllocError>
 }
 
 /// A count, as that of a replication or the size of a part-select (IEEE 1364-2005, clauses 5.1.14 and 5.2.1).
+#[inline(never)]
 pub fn count_of(alloc: Global, count: &Measured) -> Result<u64, WidthFault>
     requires flexible { IsFlexible count.now.form }
     ensures { Counts (meaning count.now) result }

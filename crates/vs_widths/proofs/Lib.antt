@@ -1,5 +1,6 @@
-pub mod NameLemmas
+pub mod DepthLemmas
 pub mod LinkingLemmas
 pub mod MeasuringLemmas
+pub mod NameLemmas
 pub mod SelectLemmas
 pub mod TypingLemmas

@@ -34,9 +34,9 @@ use Rattle.vs_selects.specs.Environment.{Environment}
 use Rattle.vs_selects.specs.Findings.{Finding, Has, Lacks, stands, together, alone, alike, linked_shape, second, unsigned, beside, repeated, too_wide, Refuses}
 use Rattle.vs_selects.specs.Meants.{Meant, own}
 use Rattle.vs_widths.specs.Expressions.{meant, meant_step, number_meant, name_meant, unary_finding, unary_meant, cast_meant, linked_meant, chain_meant, choice_finding, choice_meant, sum_finding, joined_value, concat_meant, repeated_value, repeat_meant}
-use Rattle.vs_selects.specs.Constants.{count_finding, natural_of, positive}
+use Rattle.vs_selects.specs.Constants.{where_none, where_some, constant_finding, count_finding, natural_of, positive}
 use Rattle.vs_forms.specs.Senses.{Sense, sense}
-use Rattle.vs_selects.specs.passes.Measures.{meaning, IsFlexible, IsMeasured, Measures, IsOwnPart, IsClosedPart, IsCount}
+use Rattle.vs_selects.specs.passes.Measures.{meaning, IsFlexible, IsMeasured, Measures, IsOwnPart, IsCount}
 use Rattle.vs_widths.specs.passes.Forms.{links_meant, pairs_meant, IsChoicePair, IsPartOf, AreJoined, IsRepetition, Repeats}
 use Rattle.vs_forms.specs.Each.{Each, each_none, each_more}
 use Rattle.vs_forms.proofs.FittingLemmas.{layer, pairs_sensed}
@@ -120,9 +120,6 @@ module _ (env : Environment) where
 pub measures_as : (m n : Meant) (r : Result Measured WidthFault) → n ≡ m → Measures m r → Measures n r
 measures_as m n r h k = subst (λ z. Measures z r) (sym h) k
 
-pub measured_as : (m n : Meant) (y : Measured) → n ≡ m → IsMeasured m y → IsMeasured n y
-measured_as m n y h k = subst (λ z. IsMeasured z y) (sym h) k
-
 pub refuses_as : (a b : Finding) (d : WidthFault) → b ≡ a → Refuses a d → Refuses b d
 refuses_as a b d h k = subst (λ z. Refuses z d) (sym h) k
 
@@ -148,28 +145,28 @@ drop_end (y ∷ ys) (suc i) h = drop_end ys i (omega arith)
 
 module _ (env : Environment) where
   -- a loop's step over operands
-  pub links_step : (all b new first : Measured) (ls : List (Binary × Expr)) (i : ℕ) (l : Binary × Expr) → i < length ls → l ≡ get_or ls i l → IsMeasured (meant env l.1) b →
-      IsMeasured (linked_meant (meaning all) (l.0, meaning b)) new → chain_meant (meaning all) (links_meant env (drop i ls)) ≡ chain_meant (meaning first) (links_meant env ls) →
-      chain_meant (meaning new) (links_meant env (drop (i + 1) ls)) ≡ chain_meant (meaning first) (links_meant env ls)
+  pub links_step : (all b new : Measured) (first : Meant) (ls : List (Binary × Expr)) (i : ℕ) (l : Binary × Expr) → i < length ls → l ≡ get_or ls i l → IsMeasured (meant env l.1) b →
+      IsMeasured (linked_meant (meaning all) (l.0, meaning b)) new → chain_meant (meaning all) (links_meant env (drop i ls)) ≡ chain_meant first (links_meant env ls) →
+      chain_meant (meaning new) (links_meant env (drop (i + 1) ls)) ≡ chain_meant first (links_meant env ls)
   links_step all b new first ls i l h k p q whole =
       let rest = links_meant env (drop (i + 1) ls) in
       let same : meaning new ≡ linked_meant (meaning all) (l.0, meant env l.1) = sym q.means ∙ ap (λ z. linked_meant (meaning all) (l.0, z)) (sym p.means) in
       ap (λ z. chain_meant z rest) same ∙ ap (λ z. chain_meant (meaning all) (links_meant env z)) (sym (front_of ls i l h k)) ∙ whole
 
   -- a fault of an operand
-  pub link_refused : (all first : Measured) (ls : List (Binary × Expr)) (i : ℕ) (l : Binary × Expr) (d : WidthFault) → i < length ls → l ≡ get_or ls i l → Refuses (meant env l.1).finding d →
-      chain_meant (meaning all) (links_meant env (drop i ls)) ≡ chain_meant (meaning first) (links_meant env ls) → Refuses (chain_meant (meaning first) (links_meant env ls)).finding d
+  pub link_refused : (all : Measured) (first : Meant) (ls : List (Binary × Expr)) (i : ℕ) (l : Binary × Expr) (d : WidthFault) → i < length ls → l ≡ get_or ls i l → Refuses (meant env l.1).finding d →
+      chain_meant (meaning all) (links_meant env (drop i ls)) ≡ chain_meant first (links_meant env ls) → Refuses (chain_meant first (links_meant env ls)).finding d
   link_refused all first ls i l d h k bad whole =
       let rest = links_meant env (drop (i + 1) ls) in
-      let here : chain_meant (meaning first) (links_meant env ls) ≡ chain_meant (linked_meant (meaning all) (l.0, meant env l.1)) rest =
+      let here : chain_meant first (links_meant env ls) ≡ chain_meant (linked_meant (meaning all) (l.0, meant env l.1)) rest =
       sym whole ∙ ap (λ z. chain_meant (meaning all) (links_meant env z)) (front_of ls i l h k) in
       refuses_as _ _ d (ap (λ z. z.finding) here) (
       refused_by (meant env l.1).finding (chain_meant (linked_meant (meaning all) (l.0, meant env l.1)) rest).finding d
       (λ r s. stands_chain (linked_meant (meaning all) (l.0, meant env l.1)) rest r (stands_right (linked_shape (sizing_of l.0)) (meaning all).finding (meant env l.1).finding r s)) bad
       )
 
-  pub links_end : (all first : Measured) (ls : List (Binary × Expr)) (i : ℕ) → length ls ≤ i → IsFlexible all.form →
-      chain_meant (meaning all) (links_meant env (drop i ls)) ≡ chain_meant (meaning first) (links_meant env ls) → IsMeasured (chain_meant (meaning first) (links_meant env ls)) all
+  pub links_end : (all : Measured) (first : Meant) (ls : List (Binary × Expr)) (i : ℕ) → length ls ≤ i → IsFlexible all.form →
+      chain_meant (meaning all) (links_meant env (drop i ls)) ≡ chain_meant first (links_meant env ls) → IsMeasured (chain_meant first (links_meant env ls)) all
   links_end all first ls i h p whole = record {
     means = sym whole ∙ ap (λ z. chain_meant (meaning all) (links_meant env z)) (drop_end ls i h);
     flexible = p;
@@ -366,14 +363,6 @@ module _ (env : Environment) where
         value = λ store time w g. ap (λ z. z.at store time w g) same ∙ ap₂ concatenated (ap (λ z. (sense z).at store time w g) k ∙ q.value store time w g) (parts_value store time w g es xs.items all);
       }
 
--- a concatenation, brought to its context
-pub is_concat : (first : Meant) (rest : List Meant) (x y : Measured) → AreJoined first rest x → IsClosedPart x x.shape y → IsMeasured (concat_meant first rest) y
-is_concat first rest x y h c = record {
-  means = meant_same (concat_meant first rest) (meaning y) (h.found ∙ ap (λ a. Has a.width a.signed) (sym c.shape_is)) (sym (c.ranges ∙ h.ranges))
-      (λ store time w g. sym (c.value store time w g ∙ ap (resized g w) (h.value store time x.shape.width x.shape.signed)));
-  flexible = λ w. c.size w ∙ ap (option_map (λ n. w)) (h.size x.shape.width);
-}
-
 -- ---- replications
 
 pub is_repeat : (count : Measured) (n : ℕ) (first : Meant) (rest : List Meant) (x y : Measured) → IsCount (meaning count) n → AreJoined first rest x → IsRepetition n x y →
@@ -395,87 +384,61 @@ repeat_too_wide count n first rest x d k h bad =
     let counted = k.found count.shape.width count.shape.signed refl in
     refuses_as _ _ d (ap₂ (together (λ w s width signed. repeated (positive (natural_of (meaning count))) width)) counted h.found ∙ ap (λ z. repeated z x.shape.width) k.times) bad
 
-repeats : (count : Measured) (n : ℕ) (first : Meant) (rest : List Meant) (x : Measured) (r : Result Measured WidthFault) → IsCount (meaning count) n → AreJoined first rest x → Repeats n x r → Measures (repeat_meant (meaning count) first rest) r
+pub repeats : (count : Measured) (n : ℕ) (first : Meant) (rest : List Meant) (x : Measured) (r : Result Measured WidthFault) → IsCount (meaning count) n → AreJoined first rest x → Repeats n x r → Measures (repeat_meant (meaning count) first rest) r
 repeats count n first rest x (Ok y) k h q = is_repeat count n first rest x y k h q
 repeats count n first rest x (Err d) k h q = repeat_too_wide count n first rest x d k h q
+
+-- ---- faults of the first part
+
+pub chain_refused : (a : Meant) (ls : List (Binary × Meant)) (d : WidthFault) → Refuses a.finding d → Refuses (chain_meant a ls).finding d
+chain_refused a ls d h = refused_by a.finding (chain_meant a ls).finding d (λ r s. stands_chain a ls r s) h
+
+pub choice_refused : (ps : List (Meant × Meant)) (a : Meant) (d : WidthFault) → Refuses a.finding d → Refuses (choice_meant ps a).finding d
+choice_refused ps a d h = refused_by a.finding (choice_finding a.finding ps) d (λ r s. stands_choice a.finding ps r s) h
+
+pub concat_refused : (a : Meant) (ms : List Meant) (d : WidthFault) → Refuses a.finding d → Refuses (concat_meant a ms).finding d
+concat_refused a ms d h =
+    let f = λ (width : ℕ) (signed : Bool). Has width false in
+    refused_by a.finding (concat_meant a ms).finding d (λ r s. stands_sum (alone f a.finding) ms r (stands_alone f a.finding r s)) h
+
+pub count_refused : (count first : Meant) (rest : List Meant) (d : WidthFault) → Refuses (count_finding count) d → Refuses (repeat_meant count first rest).finding d
+count_refused count first rest d h =
+    refused_by (count_finding count) (repeat_meant count first rest).finding d
+    (λ r s. stands_left (λ w t width signed. repeated (positive (natural_of count)) width) (count_finding count) (concat_meant first rest).finding r s) h
+
+pub counted_refused : (count : Meant) (d : WidthFault) → Refuses count.finding d → Refuses (count_finding count) d
+counted_refused count d h =
+    refused_by count.finding (count_finding count) d
+    (λ r s. stands_alone (where_some (positive (natural_of count))) (constant_finding count) r (stands_alone (where_none count.reads) count.finding r s)) h
+
+pub parts_refused : (count first : Meant) (rest : List Meant) (d : WidthFault) → Refuses (concat_meant first rest).finding d → Refuses (repeat_meant count first rest).finding d
+parts_refused count first rest d h =
+    refused_by (concat_meant first rest).finding (repeat_meant count first rest).finding d
+    (λ r s. stands_right (λ w t width signed. repeated (positive (natural_of count)) width) (count_finding count) (concat_meant first rest).finding r s) h
 
 -- ---- each form
 
 module _ (env : Environment) where
-  pub chain_refused : (b : Box Expr Global) (ls : Vec (Binary × Expr) Global) (a : Expr) (d : WidthFault) → a ≡ b.value → Refuses (meant env a).finding d → Refuses (meant env (e.Chain b ls)).finding d
-  chain_refused b ls a d k h =
-      refuses_as _ _ d (ap (λ z. z.finding) (meant_Chain env b ls)) (
-      refused_by (meant env b.value).finding (chain_meant (meant env b.value) (links_meant env ls.items)).finding d
-      (λ r s. stands_chain (meant env b.value) (links_meant env ls.items) r s) (subst (λ z. Refuses (meant env z).finding d) k h)
-      )
+  pub form_Unary : (op : Unary) (b : Box Expr Global) (a : Expr) (r : Result Measured WidthFault) → a ≡ b.value → Measures (unary_meant op (meant env a)) r → Measures (meant env (e.Unary op b)) r
+  form_Unary op b a r k h = measures_as _ _ r (meant_Unary env op b ∙ ap (λ z. unary_meant op (meant env z)) (sym k)) h
 
-  pub choice_refused : (ps : Vec (Expr × Expr) Global) (b : Box Expr Global) (a : Expr) (d : WidthFault) → a ≡ b.value → Refuses (meant env a).finding d → Refuses (meant env (e.Choice ps b)).finding d
-  choice_refused ps b a d k h =
-      refuses_as _ _ d (ap (λ z. z.finding) (meant_Choice env ps b)) (
-      refused_by (meant env b.value).finding (choice_meant (pairs_meant env ps.items) (meant env b.value)).finding d
-      (λ r s. stands_choice (meant env b.value).finding (pairs_meant env ps.items) r s) (subst (λ z. Refuses (meant env z).finding d) k h)
-      )
+  pub form_Cast : (s : Bool) (b : Box Expr Global) (a : Expr) (r : Result Measured WidthFault) → a ≡ b.value → Measures (cast_meant s (meant env a)) r → Measures (meant env (e.Cast s b)) r
+  form_Cast s b a r k h = measures_as _ _ r (meant_Cast env s b ∙ ap (λ z. cast_meant s (meant env z)) (sym k)) h
 
-  stands_concat : (m : Meant) (ms : List Meant) (r : WidthReason) → stands r m.finding ≡ true → stands r (concat_meant m ms).finding ≡ true
-  stands_concat m ms r s = stands_sum (alone (λ width signed. Has width false) m.finding) ms r (stands_alone (λ width signed. Has width false) m.finding r s)
+  pub form_Chain : (b : Box Expr Global) (ls : Vec (Binary × Expr) Global) (a : Expr) (ks : List (Binary × Expr)) (r : Result Measured WidthFault) → a ≡ b.value → ks ≡ ls.items →
+      Measures (chain_meant (meant env a) (links_meant env ks)) r → Measures (meant env (e.Chain b ls)) r
+  form_Chain b ls a ks r k l h = measures_as _ _ r (meant_Chain env b ls ∙ ap₂ (λ z y. chain_meant (meant env z) (links_meant env y)) (sym k) (sym l)) h
 
-  pub concat_refused : (b : Box Expr Global) (es : Vec Expr Global) (a : Expr) (d : WidthFault) → a ≡ b.value → Refuses (meant env a).finding d → Refuses (meant env (e.Concat b es)).finding d
-  concat_refused b es a d k h =
-      refuses_as _ _ d (ap (λ z. z.finding) (meant_Concat env b es)) (
-      refused_by (meant env b.value).finding (concat_meant (meant env b.value) (map (meant env) es.items)).finding d
-      (λ r s. stands_concat (meant env b.value) (map (meant env) es.items) r s) (subst (λ z. Refuses (meant env z).finding d) k h)
-      )
+  pub form_Choice : (ps : Vec (Expr × Expr) Global) (b : Box Expr Global) (ks : List (Expr × Expr)) (a : Expr) (r : Result Measured WidthFault) → ks ≡ ps.items → a ≡ b.value →
+      Measures (choice_meant (pairs_meant env ks) (meant env a)) r → Measures (meant env (e.Choice ps b)) r
+  form_Choice ps b ks a r l k h = measures_as _ _ r (meant_Choice env ps b ∙ ap₂ (λ z y. choice_meant (pairs_meant env z) (meant env y)) (sym l) (sym k)) h
 
-  -- the size of a replication, from those of its parts
-  abbrev pub repeat_finding : Meant → Meant → List Meant → Finding
-  repeat_finding count first rest = (repeat_meant count first rest).finding
+  pub form_Concat : (b : Box Expr Global) (es : Vec Expr Global) (a : Expr) (ks : List Expr) (r : Result Measured WidthFault) → a ≡ b.value → ks ≡ es.items →
+      Measures (concat_meant (meant env a) (map (meant env) ks)) r → Measures (meant env (e.Concat b es)) r
+  form_Concat b es a ks r k l h = measures_as _ _ r (meant_Concat env b es ∙ ap₂ (λ z y. concat_meant (meant env z) (map (meant env) y)) (sym k) (sym l)) h
 
-  pub count_refused : (n b : Box Expr Global) (es : Vec Expr Global) (a : Expr) (count : Measured) (d : WidthFault) → a ≡ n.value → IsMeasured (meant env a) count → Refuses (count_finding (meaning count)) d → Refuses (meant env (e.Repeat n b es)).finding d
-  count_refused n b es a count d k h bad =
-      let parts = concat_meant (meant env b.value) (map (meant env) es.items) in
-      let same : meant env n.value ≡ meaning count = ap (meant env) (sym k) ∙ h.means in
-      refuses_as _ _ d (ap (λ z. z.finding) (meant_Repeat env n b es) ∙ ap (λ z. repeat_finding z (meant env b.value) (map (meant env) es.items)) same) (
-      refused_by (count_finding (meaning count)) (repeat_finding (meaning count) (meant env b.value) (map (meant env) es.items)) d
-      (λ r s. stands_left (λ w t width signed. repeated (positive (natural_of (meaning count))) width) (count_finding (meaning count)) parts.finding r s) bad
-      )
-
-  pub parts_refused : (n b : Box Expr Global) (es : Vec Expr Global) (d : WidthFault) → Refuses (concat_meant (meant env b.value) (map (meant env) es.items)).finding d → Refuses (meant env (e.Repeat n b es)).finding d
-  parts_refused n b es d bad =
-      let parts = concat_meant (meant env b.value) (map (meant env) es.items) in
-      refuses_as _ _ d (ap (λ z. z.finding) (meant_Repeat env n b es)) (
-      refused_by parts.finding (repeat_finding (meant env n.value) (meant env b.value) (map (meant env) es.items)) d
-      (λ r s. stands_right (λ w t width signed. repeated (positive (natural_of (meant env n.value))) width) (count_finding (meant env n.value)) parts.finding r s) bad
-      )
-
-  pub parts_failed : (n b : Box Expr Global) (es : Vec Expr Global) (a : Expr) (ks : List Expr) (first : Measured) (d : WidthFault) → a ≡ b.value → ks ≡ es.items → IsMeasured (meant env a) first →
-      Refuses (concat_meant (meaning first) (map (meant env) ks)).finding d → Refuses (meant env (e.Repeat n b es)).finding d
-  parts_failed n b es a ks first d k l h bad =
-      parts_refused n b es d (refuses_as _ _ d (ap₂ (λ m z. (concat_meant m (map (meant env) z)).finding) (ap (meant env) (sym k) ∙ h.means) (sym l)) bad)
-
-  pub repeat_refused : (n b : Box Expr Global) (es : Vec Expr Global) (a : Expr) (d : WidthFault) → a ≡ b.value → Refuses (meant env a).finding d → Refuses (meant env (e.Repeat n b es)).finding d
-  repeat_refused n b es a d k h =
-      parts_refused n b es d (
-      refused_by (meant env b.value).finding (concat_meant (meant env b.value) (map (meant env) es.items)).finding d
-      (λ r s. stands_concat (meant env b.value) (map (meant env) es.items) r s) (subst (λ z. Refuses (meant env z).finding d) k h)
-      )
-
-  pub form_Unary : (op : Unary) (b : Box Expr Global) (a : Expr) (y z : Measured) → a ≡ b.value → IsMeasured (meant env a) y → IsMeasured (unary_meant op (meaning y)) z → IsMeasured (meant env (e.Unary op b)) z
-  form_Unary op b a y z k h p = measured_as _ _ z (meant_Unary env op b ∙ ap (unary_meant op) (ap (meant env) (sym k) ∙ h.means)) p
-
-  pub form_Choice : (ps : Vec (Expr × Expr) Global) (b : Box Expr Global) (ks : List (Expr × Expr)) (a : Expr) (last : Measured) (r : Result Measured WidthFault) → ks ≡ ps.items → a ≡ b.value → IsMeasured (meant env a) last →
-      Measures (choice_meant (pairs_meant env ks) (meaning last)) r → Measures (meant env (e.Choice ps b)) r
-  form_Choice ps b ks a last r l k h p =
-      measures_as _ _ r (meant_Choice env ps b ∙ ap₂ (λ z m. choice_meant (pairs_meant env z) m) (sym l) (ap (meant env) (sym k) ∙ h.means)) p
-
-  pub form_Concat : (b : Box Expr Global) (es : Vec Expr Global) (a : Expr) (ks : List Expr) (first parts y : Measured) → a ≡ b.value → ks ≡ es.items → IsMeasured (meant env a) first → AreJoined (meaning first) (map (meant env) ks) parts →
-      IsClosedPart parts parts.shape y → IsMeasured (meant env (e.Concat b es)) y
-  form_Concat b es a ks first parts y k l h p c =
-      measured_as _ _ y (meant_Concat env b es ∙ ap₂ (λ m z. concat_meant m (map (meant env) z)) (ap (meant env) (sym k) ∙ h.means) (sym l)) (is_concat (meaning first) (map (meant env) ks) parts y p c)
-
-  pub form_Repeat : (n b : Box Expr Global) (es : Vec Expr Global) (m a : Expr) (ks : List Expr) (count first parts : Measured) (times : ℕ) (r : Result Measured WidthFault) → m ≡ n.value → a ≡ b.value → ks ≡ es.items → IsMeasured (meant env m) count →
-      IsCount (meaning count) times → IsMeasured (meant env a) first → AreJoined (meaning first) (map (meant env) ks) parts → Repeats times parts r → Measures (meant env (e.Repeat n b es)) r
-  form_Repeat n b es m a ks count first parts times r j k l g i h p q =
-      let same : meant env (e.Repeat n b es) ≡ repeat_meant (meaning count) (meaning first) (map (meant env) ks) =
-      meant_Repeat env n b es ∙ ap (λ z. repeat_meant z (meant env b.value) (map (meant env) es.items)) (ap (meant env) (sym j) ∙ g.means)
-      ∙ ap₂ (λ z y. repeat_meant (meaning count) z (map (meant env) y)) (ap (meant env) (sym k) ∙ h.means) (sym l) in
-      measures_as _ _ r same (repeats count times (meaning first) (map (meant env) ks) parts r i p q)
+  pub form_Repeat : (n b : Box Expr Global) (es : Vec Expr Global) (m a : Expr) (ks : List Expr) (r : Result Measured WidthFault) → m ≡ n.value → a ≡ b.value → ks ≡ es.items →
+      Measures (repeat_meant (meant env m) (meant env a) (map (meant env) ks)) r → Measures (meant env (e.Repeat n b es)) r
+  form_Repeat n b es m a ks r j k l h =
+      measures_as _ _ r (meant_Repeat env n b es ∙ ap (λ z. repeat_meant (meant env z) (meant env b.value) (map (meant env) es.items)) (sym j)
+      ∙ ap₂ (λ z y. repeat_meant (meant env m) (meant env z) (map (meant env) y)) (sym k) (sym l)) h

@@ -1,6 +1,5 @@
 -- Names with selects, measured.
-use Rattle.std.proofs.Common.{◌≡◌, ℕ, zero, suc, ◌+◌, ◌*◌, max, ◌<◌, ◌≤◌, Bool, true, false, ◌||◌, ◌⊎◌, inl, inr, List, [], ◌∷◌, ◌++◌, Option, Some, None, length, map, take, get_or, refl, ap, ap₂, sym, subst, ◌∙◌, ⊎_elim, arith}
-use denote.Param.Weighed.{most, at_most}
+use Rattle.std.proofs.Common.{◌≡◌, ℕ, zero, suc, ◌+◌, ◌<◌, Bool, true, false, ◌||◌, ◌⊎◌, inl, inr, List, [], ◌∷◌, ◌++◌, Option, Some, None, Result, length, map, take, get_or, refl, ap, ap₂, sym, subst, ◌∙◌, ⊎_elim, arith}
 use Rattle.std.specs.List.{All, list_any}
 use Rattle.std.proofs.lemmas.List.{take_more}
 use Rattle.std.proofs.lemmas.List.Elements.{All-push}
@@ -19,7 +18,6 @@ use Rattle.vs_forms.specs.declared.forms.Measured.{Measured}
 use Rattle.vs_selects.specs.declared.bindings.Meaning.{Meaning}
 use Rattle.vs_selects.specs.declared.bindings.Binding.{Binding}
 use Rattle.vs_selects.specs.declared.bindings.Binding.TheVariants.{Signal, Constant, Pending, Other}
-use Rattle.vs_selects.specs.declared.places.Place.{Place}
 use Rattle.vs_selects.specs.declared.faults.WidthReason.{WidthReason}
 use Rattle.vs_selects.specs.declared.faults.WidthFault.{WidthFault}
 use Rattle.vs_selects.specs.Environment.{Environment}
@@ -27,8 +25,8 @@ use Rattle.vs_selects.specs.Findings.{Has, Lacks, stands, second, wrong_kind, un
 use Rattle.vs_selects.specs.Meants.{Meant}
 use Rattle.vs_selects.specs.Constants.{where_none, constant_finding, natural_of, whole_of, positive}
 use Rattle.vs_selects.specs.Selects.{Select, stands_in, between, counted, select_span, span_of, Named, in_array, of_words, named, select_meant, operand_meant}
-use Rattle.vs_selects.specs.passes.Measures.{IsMeasured}
-use Rattle.vs_selects.specs.passes.Places.{select_meaning, selects_meaning, IsFlexibleSelect, IsPlaced}
+use Rattle.vs_selects.specs.passes.Measures.{IsMeasured, Measures}
+use Rattle.vs_selects.specs.passes.Places.{select_meaning, selects_meaning, IsFlexibleSelect}
 use Rattle.vs_widths.specs.Expressions.{meant, meant_select, meant_selects}
 use Rattle.vs_widths.specs.passes.Selects.{AreMeasured}
 use Rattle.vs_widths.proofs.MeasuringLemmas.{refused_by, or_right, stands_alone, stands_left, stands_right, form}
@@ -94,18 +92,6 @@ any_in f q (y ∷ ys) zero a h k l =
     rw here refl
 any_in f q (y ∷ ys) (suc i) a h k l = or_right (q (f y)) (list_any q (map f ys)) (any_in f q ys i a (omega arith) k l)
 
--- ---- depths
-
-pub first_most : (a b : ℕ) → a ≤ max a b
-first_most a b = omega arith
-
--- an expression of an element of a list is no deeper than the list
-pub falls_by : {X : Type 0} (depth : X → ℕ) (xs : List X) (i t n : ℕ) (a : X) → i < length xs → a ≡ get_or xs i a → 2 * most depth xs + 1 ≡ t → n ≤ depth a → 2 * n + 0 < t
-falls_by depth xs i t n a h k e l =
-    let m : depth (get_or xs i a) ≤ most depth xs = at_most depth xs i a h in
-    let same : depth a ≡ depth (get_or xs i a) = ap depth k in
-    omega arith
-
 -- ---- forms
 
 module _ (env : Environment) where
@@ -134,16 +120,11 @@ module _ (env : Environment) where
       o ≡ env name → name ≡ n.items → xs ≡ ss.items → AreMeasured (meant_selects env xs) ms → named o (selects_meaning ms) ≡ named (env n.items) (meant_selects env ss.items)
   named_same n ss o name xs ms h k l p = ap₂ named (h ∙ ap env k) (p.means ∙ ap (meant_selects env) l)
 
-  -- a fault of the whole
-  pub place_refused : (n : Vec ℕ Global) (ss : Vec (Expr × Option (PartSelect × Expr)) Global) (o : Option Binding) (name : List ℕ) (xs : List (Expr × Option (PartSelect × Expr))) (ms : List (Measured × Option (PartSelect × Measured))) (d : WidthFault) →
-      o ≡ env name → name ≡ n.items → xs ≡ ss.items → AreMeasured (meant_selects env xs) ms → Refuses (named o (selects_meaning ms)).finding d → Refuses (meant env (e.Select n ss)).finding d
-  place_refused n ss o name xs ms d h k l p q =
-      rw meant_Select (subst (λ (z : Named). Refuses z.finding d) (named_same n ss o name xs ms h k l p) q)
-
-  pub place_measured : (n : Vec ℕ Global) (ss : Vec (Expr × Option (PartSelect × Expr)) Global) (o : Option Binding) (name : List ℕ) (xs : List (Expr × Option (PartSelect × Expr))) (ms : List (Measured × Option (PartSelect × Measured))) (t : Place) (y : Measured) →
-      o ≡ env name → name ≡ n.items → xs ≡ ss.items → AreMeasured (meant_selects env xs) ms → IsPlaced (named o (selects_meaning ms)) t → ((q : Named) → IsPlaced q t → IsMeasured (operand_meant q) y) → IsMeasured (meant env (e.Select n ss)) y
-  place_measured n ss o name xs ms t y h k l p q g =
-      rw meant_Select (subst (λ (z : Named). IsMeasured (operand_meant z) y) (named_same n ss o name xs ms h k l p) (g (named o (selects_meaning ms)) q))
+  -- the whole
+  pub place_measures : (n : Vec ℕ Global) (ss : Vec (Expr × Option (PartSelect × Expr)) Global) (o : Option Binding) (name : List ℕ) (xs : List (Expr × Option (PartSelect × Expr))) (ms : List (Measured × Option (PartSelect × Measured))) (r : Result Measured WidthFault) →
+      o ≡ env name → name ≡ n.items → xs ≡ ss.items → AreMeasured (meant_selects env xs) ms → Measures (select_meant o (selects_meaning ms)) r → Measures (meant env (e.Select n ss)) r
+  place_measures n ss o name xs ms r h k l p q =
+      subst (λ z. Measures z r) (sym (meant_Select n ss)) (subst (λ (z : Named). Measures (operand_meant z) r) (named_same n ss o name xs ms h k l p) q)
 
   -- ---- a loop over selects
 

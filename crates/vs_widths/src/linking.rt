@@ -32,6 +32,7 @@ pub fn own(alloc: Global, x: Measured) -> Result<Form, AllocError>
 }
 
 /// What an operator makes of an operand and the one behind it.
+#[inline(never)]
 pub fn linked(
     alloc: Global,
     left: Measured,

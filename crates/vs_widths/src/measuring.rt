@@ -1,11 +1,16 @@
 //! The own size and sign of each part of an expression.
-ghost use Rattle.std.specs.Prelude.{◌≡◌, ◌<◌, ◌≤◌, false, Some, IfOk, IfErr, map};
+ghost use Rattle.std.specs.Prelude.{◌≡◌, ◌<◌, ◌≤◌, false, List, Some, IfOk, IfErr, OnOk, map};
 ghost use Rattle.vs_widths.specs.Names.{meaning_of};
-ghost use Rattle.vs_widths.specs.Expressions.{meant, meant_selects, digits_meant, name_meant, unary_meant, chain_meant, choice_meant};
+ghost use Rattle.vs_widths.specs.Expressions.{meant, meant_selects, digits_meant, name_meant, unary_meant};
+ghost use Rattle.vs_widths.specs.Expressions.{chain_meant, choice_meant, concat_meant, repeat_meant, cast_meant};
 ghost use Rattle.vs_selects.specs.declared.bindings.Binding.TheVariants.{Signal};
 ghost use Rattle.vs_selects.specs.declared.faults.WidthFault.TheVariants.{Memory};
+ghost use Rattle.std.specs.List.{All};
+ghost use Rattle.vs_selects.specs.Meants.{Meant};
+ghost use Rattle.vs_selects.specs.Selects.{select_meant};
 ghost use Rattle.vs_selects.specs.passes.Measures.{meaning, IsFlexible, IsMeasured, Measures, IsClosedPart};
-ghost use Rattle.vs_widths.specs.passes.Forms.{links_meant, pairs_meant, Joins, Repeats};
+ghost use Rattle.vs_selects.specs.passes.Places.{selects_meaning, IsFlexibleSelect};
+ghost use Rattle.vs_widths.specs.passes.Forms.{links_meant, pairs_meant, AddsPair, AddsPart, AreJoined, Joins, Repeats};
 ghost use Rattle.vs_widths.specs.passes.Selects.{MeasuresSelects};
 
 use crate::linking::{joined_shape, linked, own};
@@ -31,42 +36,15 @@ pub fn measured(alloc: Global, names: &Names<Binding>, e: &Expr) -> Result<Measu
         Expr::Name(name) => of_name(names.find(name)),
         Expr::Select(name, selects) => {
             let selects = measured_selects(alloc, names, selects)?;
-            let place = named(alloc, names.find(name), selects)?;
-            Ok(operand(alloc, place)?)
+            of_select(alloc, names.find(name), selects)
         }
         Expr::Group(inner) => measured(alloc, names, inner),
-        Expr::Unary(operator, x) => {
-            let x = measured(alloc, names, x)?;
-            Ok(of_unary(alloc, *operator, x)?)
-        }
-        Expr::Chain(first, links) => {
-            let first = measured(alloc, names, first)?;
-            measured_links(alloc, names, first, links)
-        }
-        Expr::Choice(pairs, last) => {
-            let last = measured(alloc, names, last)?;
-            measured_pairs(alloc, names, pairs, last)
-        }
-        Expr::Concat(first, rest) => {
-            let first = measured(alloc, names, first)?;
-            let parts = measured_parts(alloc, names, first, rest)?;
-            Ok(closed(alloc, parts.shape, parts)?)
-        }
-        Expr::Repeat(count, first, rest) => {
-            let first = measured(alloc, names, first)?;
-            let parts = measured_parts(alloc, names, first, rest)?;
-            let count = measured(alloc, names, count)?;
-            let times = count_of(alloc, &count)?;
-            repeated(alloc, times, parts)
-        }
-        Expr::Cast(signed, x) => {
-            let x = measured(alloc, names, x)?;
-            let shape = Shape {
-                width: x.shape.width,
-                signed: *signed,
-            };
-            Ok(closed(alloc, shape, x)?)
-        }
+        Expr::Unary(operator, x) => measured_unary(alloc, names, *operator, x),
+        Expr::Chain(first, links) => measured_links(alloc, names, first, links),
+        Expr::Choice(pairs, last) => measured_pairs(alloc, names, pairs, last),
+        Expr::Concat(first, rest) => measured_concat(alloc, names, first, rest),
+        Expr::Repeat(count, first, rest) => measured_repeat(alloc, names, count, first, rest),
+        Expr::Cast(signed, x) => measured_cast(alloc, names, *signed, x),
     }
 }
 
@@ -92,18 +70,33 @@ pub fn measured_selects(
     Ok(done)
 }
 
+/// An operator and its operand.
+#[cycle(measured)]
+#[inline(never)]
+fn measured_unary(
+    alloc: Global,
+    names: &Names<Binding>,
+    operator: Unary,
+    x: &Expr,
+) -> Result<Measured, WidthFault>
+    ensures { Measures (unary_meant operator (meant (meaning_of names.now) x.now)) result }
+{
+    let x = measured(alloc, names, x)?;
+    Ok(of_unary(alloc, operator, x)?)
+}
+
 /// An operand and those behind it.
 #[cycle(measured)]
+#[inline(never)]
 fn measured_links(
     alloc: Global,
     names: &Names<Binding>,
-    first: Measured,
+    first: &Expr,
     links: &[(Binary, Expr)],
 ) -> Result<Measured, WidthFault>
-    requires flexible { IsFlexible first.form }
-    ensures { Measures (chain_meant (meaning first) (links_meant (meaning_of names.now) links.now)) result }
+    ensures { Measures (chain_meant (meant (meaning_of names.now) first.now) (links_meant (meaning_of names.now) links.now)) result }
 {
-    let mut all = first;
+    let mut all = measured(alloc, names, first)?;
     for (operator, e) in links {
         let operand = measured(alloc, names, e)?;
         all = linked(alloc, all, *operator, operand)?;
@@ -113,41 +106,43 @@ fn measured_links(
 
 /// Operands behind conditions, and the last operand.
 #[cycle(measured)]
+#[inline(never)]
 fn measured_pairs(
     alloc: Global,
     names: &Names<Binding>,
     pairs: &[(Expr, Expr)],
-    last: Measured,
+    last: &Expr,
 ) -> Result<Measured, WidthFault>
-    requires flexible { IsFlexible last.form }
-    ensures { Measures (choice_meant (pairs_meant (meaning_of names.now) pairs.now) (meaning last)) result }
+    ensures { Measures (choice_meant (pairs_meant (meaning_of names.now) pairs.now) (meant (meaning_of names.now) last.now)) result }
 {
-    let mut shape = last.shape;
+    let fallback = measured(alloc, names, last)?;
+    let mut shape = fallback.shape;
     let mut done = Vec::new(alloc);
     for (condition, e) in pairs {
         let condition = measured(alloc, names, condition)?;
         let operand = measured(alloc, names, e)?;
         shape = joined_shape(shape, operand.shape);
-        done.push((own(alloc, condition)?, operand.form))?;
+        add_pair(alloc, &mut done, condition, operand.form)?;
     }
     Ok(Measured {
         shape,
-        form: Form::Choice(done, Box::new(alloc, last.form)?),
+        form: Form::Choice(done, Box::new(alloc, fallback.form)?),
     })
 }
 
 /// The parts of a concatenation beside one another, which no context changes.
 #[cycle(measured)]
+#[inline(never)]
 fn measured_parts(
     alloc: Global,
     names: &Names<Binding>,
-    first: Measured,
+    first: &Expr,
     rest: &[Expr],
 ) -> Result<Measured, WidthFault>
-    requires flexible { IsFlexible first.form }
-    ensures { Joins (meaning first) (map (meant (meaning_of names.now)) rest.now) result }
+    ensures { Joins (meant (meaning_of names.now) first.now) (map (meant (meaning_of names.now)) rest.now) result }
 {
-    let mut width = first.shape.width;
+    let highest = measured(alloc, names, first)?;
+    let mut width = highest.shape.width;
     let mut done = Vec::new(alloc);
     for e in rest {
         let part = measured(alloc, names, e)?;
@@ -155,13 +150,104 @@ fn measured_parts(
             return Err(TOO_WIDE);
         }
         width += part.shape.width;
-        done.push(own(alloc, part)?)?;
+        add_part(alloc, &mut done, part)?;
     }
-    let first = own(alloc, first)?;
+    let highest = own(alloc, highest)?;
     Ok(Measured {
         shape: unsigned(width),
-        form: Form::Concat(Box::new(alloc, first)?, done),
+        form: Form::Concat(Box::new(alloc, highest)?, done),
     })
+}
+
+/// A concatenation.
+#[cycle(measured)]
+#[inline(never)]
+fn measured_concat(
+    alloc: Global,
+    names: &Names<Binding>,
+    first: &Expr,
+    rest: &[Expr],
+) -> Result<Measured, WidthFault>
+    ensures { Measures (concat_meant (meant (meaning_of names.now) first.now) (map (meant (meaning_of names.now)) rest.now)) result }
+{
+    let parts = measured_parts(alloc, names, first, rest)?;
+    Ok(closed(alloc, parts.shape, parts)?)
+}
+
+/// A concatenation so many times.
+#[cycle(measured)]
+#[inline(never)]
+fn measured_repeat(
+    alloc: Global,
+    names: &Names<Binding>,
+    count: &Expr,
+    first: &Expr,
+    rest: &[Expr],
+) -> Result<Measured, WidthFault>
+    ensures { Measures (repeat_meant (meant (meaning_of names.now) count.now) (meant (meaning_of names.now) first.now)
+        (map (meant (meaning_of names.now)) rest.now)) result }
+{
+    let parts = measured_parts(alloc, names, first, rest)?;
+    measured_times(alloc, names, count, parts)
+}
+
+/// Joined parts as often as a count says.
+#[cycle(measured)]
+#[inline(never)]
+fn measured_times(
+    alloc: Global,
+    names: &Names<Binding>,
+    count: &Expr,
+    parts: Measured,
+) -> Result<Measured, WidthFault>
+    ensures { (first : Meant) (rest : List Meant) → AreJoined first rest parts
+        → Measures (repeat_meant (meant (meaning_of names.now) count.now) first rest) result }
+{
+    let count = measured(alloc, names, count)?;
+    let times = count_of(alloc, &count)?;
+    repeated(alloc, times, parts)
+}
+
+/// An expression as a signed or an unsigned number.
+#[cycle(measured)]
+#[inline(never)]
+fn measured_cast(
+    alloc: Global,
+    names: &Names<Binding>,
+    signed: bool,
+    x: &Expr,
+) -> Result<Measured, WidthFault>
+    ensures { Measures (cast_meant signed (meant (meaning_of names.now) x.now)) result }
+{
+    let x = measured(alloc, names, x)?;
+    let shape = Shape {
+        width: x.shape.width,
+        signed,
+    };
+    Ok(closed(alloc, shape, x)?)
+}
+
+/// A condition, which has its own size and sign, and the operand behind it, added to those before them.
+#[inline(never)]
+fn add_pair(
+    alloc: Global,
+    done: &mut Vec<(Form, Form)>,
+    condition: Measured,
+    operand: Form,
+) -> Result<(), AllocError>
+    ensures { OnOk result (AddsPair condition operand done.old.items done.new.items) }
+{
+    done.push((own(alloc, condition)?, operand))?;
+    Ok(())
+}
+
+/// A part, which has its own size and sign, added to those before it.
+#[inline(never)]
+fn add_part(alloc: Global, done: &mut Vec<Form>, part: Measured) -> Result<(), AllocError>
+    ensures { OnOk result (AddsPart part done.old.items done.new.items) }
+{
+    done.push(own(alloc, part)?)?;
+    Ok(())
 }
 
 /// The size and sign of a concatenation of so many bits (IEEE 1364-2005, clause 5.5.1).
@@ -205,6 +291,7 @@ fn of_signal(meaning: Meaning, signal: usize) -> Result<Measured, WidthFault>
 }
 
 /// A name, by what it is bound to.
+#[inline(never)]
 pub fn of_name(binding: Option<Binding>) -> Result<Measured, WidthFault>
     ensures measures { Measures (name_meant binding) result }
     ensures memory { IfErr result (λ e. e ≡ Memory → ⊥) }
@@ -220,7 +307,22 @@ pub fn of_name(binding: Option<Binding>) -> Result<Measured, WidthFault>
     }
 }
 
+/// A name with selects, by what it is bound to.
+#[inline(never)]
+fn of_select(
+    alloc: Global,
+    binding: Option<Binding>,
+    selects: Vec<(Measured, Option<(PartSelect, Measured)>)>,
+) -> Result<Measured, WidthFault>
+    requires flexible { All IsFlexibleSelect selects.items }
+    ensures { Measures (select_meant binding (selects_meaning selects.items)) result }
+{
+    let place = named(alloc, binding, selects)?;
+    Ok(operand(alloc, place)?)
+}
+
 /// An operator and its operand.
+#[inline(never)]
 fn of_unary(alloc: Global, operator: Unary, x: Measured) -> Result<Measured, AllocError>
     requires flexible { IsFlexible x.form }
     ensures { IfOk result (λ y. IsMeasured (unary_meant operator (meaning x)) y) }
@@ -239,6 +341,7 @@ fn of_unary(alloc: Global, operator: Unary, x: Measured) -> Result<Measured, All
 }
 
 /// A part that has its own size and sign, brought to those of its context, with the size and sign that its context sees.
+#[inline(never)]
 fn closed(alloc: Global, shape: Shape, x: Measured) -> Result<Measured, AllocError>
     ensures { IfOk result (λ y. IsClosedPart x shape y) }
 {
@@ -249,6 +352,7 @@ fn closed(alloc: Global, shape: Shape, x: Measured) -> Result<Measured, AllocErr
 }
 
 /// Joined parts so many times.
+#[inline(never)]
 fn repeated(alloc: Global, times: u64, parts: Measured) -> Result<Measured, WidthFault>
     requires some { 0 < times }
     ensures { Repeats times parts result }

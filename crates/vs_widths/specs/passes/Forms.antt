@@ -19,7 +19,7 @@ use Rattle.vs_selects.specs.declared.faults.WidthFault.{WidthFault}
 use Rattle.vs_selects.specs.Environment.{Environment}
 use Rattle.vs_selects.specs.Findings.{Has, unsigned, Refuses}
 use Rattle.vs_selects.specs.Meants.{Meant, own}
-use Rattle.vs_selects.specs.passes.Measures.{IsFlexible}
+use Rattle.vs_selects.specs.passes.Measures.{IsFlexible, IsOwnPart}
 use Rattle.vs_widths.specs.Expressions.{meant, concat_meant, joined_value}
 
 -- whether the last of the operators gives one bit
@@ -82,6 +82,18 @@ pub record IsJoinedPart (m : Meant) (y : Form) : Type 0 where
 -- the same of a part of a source
 abbrev pub IsPartOf : Environment → Expr → Form → Type 0
 IsPartOf env e y = IsJoinedPart (meant env e) y
+
+-- a condition at its own size and sign and the operand behind it, added to those before them
+pub record AddsPair (condition : Measured) (operand : Form) (before after : List (Form × Form)) : Type 0 where
+  pub part : Form
+  pub own_part : IsOwnPart condition part
+  pub added : after ≡ before ++ (part, operand) ∷ []
+
+-- a part at its own size and sign, added to those before it
+pub record AddsPart (x : Measured) (before after : List Form) : Type 0 where
+  pub part : Form
+  pub own_part : IsOwnPart x part
+  pub added : after ≡ before ++ part ∷ []
 
 -- the parts of a concatenation, joined, before they are brought to a context
 pub record AreJoined (first : Meant) (rest : List Meant) (x : Measured) : Type 0 where

@@ -1,40 +1,40 @@
 use Rattle.std.proofs.Common.{refl, arith}
 use Rattle.vs_forms.specs.Each.{each_none}
 use Rattle.vs_forms.specs.Senses.{IsLink, IsTest, IsPair, IsPart}
-use Rattle.vs_forms.proofs.FittingLemmas.{each_step, fits_Slice, fits_Select, fits_Chain, fits_Choice, fits_Concat, tests_fitted, closed_fitted}
+use Rattle.vs_forms.proofs.FittingLemmas.{each_step, fits_Slice, fits_Select, fits_Chain, fits_Choice, fits_Concat, fits_Closed, tests_fitted}
 use Rattle.vs_forms.proofs.fitting.+fitted.Goals as goal
 
 pub fitted-returns-in-Slice : goal.fitted-returns-in-Slice
 fitted-returns-in-Slice t c = rw c.in-Slice.is (fits_Slice c.in-Slice.slice c.args.shape.width c.args.shape.signed)
 
-pub fitted-returns-in_ok-new-in-Select-2 : goal.fitted-returns-in_ok-new-in-Select-2
-fitted-returns-in_ok-new-in-Select-2 t c =
-    rw c.in-Select.is (fits_Select c.in-Select.selection c.in-Select.word c.in-Select.low _ _ c.in_ok-new-in-Select.field-0 c.in_ok-new-in-Select-2.field-0 c.in_ok-word-in-Select.word c.in_ok-low-in-Select.low c.args.shape.width c.args.shape.signed
-    c.deref.ensures c.deref-in-Select.ensures c.in_ok-new-in-Select.ensures.ok c.in_ok-new-in-Select-2.ensures.ok c.in_ok-word-in-Select.ensures c.in_ok-low-in-Select.ensures)
+pub fitted-returns-in_ok-low-in-Select : goal.fitted-returns-in_ok-low-in-Select
+fitted-returns-in_ok-low-in-Select t c =
+    rw c.in-Select.is (fits_Select c.in-Select.selection c.in-Select.word c.in-Select.low _ _ c.in_ok-word-in-Select.word c.in_ok-low-in-Select.low c.args.shape.width c.args.shape.signed
+    c.deref.ensures c.deref-in-Select.ensures c.in_ok-word-in-Select.ensures c.in_ok-low-in-Select.ensures)
 
-pub fitted-returns-in_ok-new-in-Chain : goal.fitted-returns-in_ok-new-in-Chain
-fitted-returns-in_ok-new-in-Chain t c =
-    rw c.in-Chain.is (fits_Chain c.in-Chain.first c.in-Chain.links _ c.deref-in-Chain-2.result.now c.in_ok-new-in-Chain.field-0 c.in_ok-first-in-Chain.first c.in_ok-links-in-Chain.links c.args.shape.width c.args.shape.signed
-    c.deref-in-Chain.ensures c.deref-in-Chain-2.ensures.value c.in_ok-new-in-Chain.ensures.ok c.in_ok-first-in-Chain.ensures c.in_ok-links-in-Chain.ensures)
+pub fitted-returns-in_ok-links-in-Chain : goal.fitted-returns-in_ok-links-in-Chain
+fitted-returns-in_ok-links-in-Chain t c =
+    rw c.in-Chain.is (fits_Chain c.in-Chain.first c.in-Chain.links _ c.deref-in-Chain-2.result.now c.in_ok-first-in-Chain.first c.in_ok-links-in-Chain.links c.args.shape.width c.args.shape.signed
+    c.deref-in-Chain.ensures c.deref-in-Chain-2.ensures.value c.in_ok-first-in-Chain.ensures c.in_ok-links-in-Chain.ensures)
 
-pub fitted-returns-in_ok-new-in-Tests : goal.fitted-returns-in_ok-new-in-Tests
-fitted-returns-in_ok-new-in-Tests t c =
-    rw c.in-Tests.is (tests_fitted c.in-Tests.first c.in-Tests.links _ c.deref-in-Tests-2.result.now c.in_ok-new-in-Tests.field-0 c.in_ok-first-in-Tests.first c.in_ok-links-in-Tests.links c.args.shape.width c.args.shape.signed c.extended.result
-    c.deref-in-Tests.ensures c.deref-in-Tests-2.ensures.value c.in_ok-new-in-Tests.ensures.ok c.in_ok-first-in-Tests.ensures c.in_ok-links-in-Tests.ensures c.extended.ensures)
+pub fitted-returns-in_ok-links-in-Tests : goal.fitted-returns-in_ok-links-in-Tests
+fitted-returns-in_ok-links-in-Tests t c =
+    rw c.in-Tests.is (tests_fitted c.in-Tests.first c.in-Tests.links _ c.deref-in-Tests-2.result.now c.in_ok-first-in-Tests.first c.in_ok-links-in-Tests.links c.args.shape.width c.args.shape.signed c.extended.result
+    c.deref-in-Tests.ensures c.deref-in-Tests-2.ensures.value c.in_ok-first-in-Tests.ensures c.in_ok-links-in-Tests.ensures c.extended.ensures)
 
-pub fitted-returns-in_ok-new-in-Choice : goal.fitted-returns-in_ok-new-in-Choice
-fitted-returns-in_ok-new-in-Choice t c =
-    rw c.in-Choice.is (fits_Choice c.in-Choice.pairs c.in-Choice.last c.deref-in-Choice.result.now _ c.in_ok-pairs-in-Choice.pairs c.in_ok-new-in-Choice.field-0 c.in_ok-last-in-Choice.last c.args.shape.width c.args.shape.signed
-    c.deref-in-Choice.ensures.value c.deref-in-Choice-2.ensures c.in_ok-new-in-Choice.ensures.ok c.in_ok-pairs-in-Choice.ensures c.in_ok-last-in-Choice.ensures)
+pub fitted-returns-in_ok-last-in-Choice : goal.fitted-returns-in_ok-last-in-Choice
+fitted-returns-in_ok-last-in-Choice t c =
+    rw c.in-Choice.is (fits_Choice c.in-Choice.pairs c.in-Choice.last c.deref-in-Choice.result.now _ c.in_ok-pairs-in-Choice.pairs c.in_ok-last-in-Choice.last c.args.shape.width c.args.shape.signed
+    c.deref-in-Choice.ensures.value c.deref-in-Choice-2.ensures c.in_ok-pairs-in-Choice.ensures c.in_ok-last-in-Choice.ensures)
 
-pub fitted-returns-in_ok-new-in-Concat : goal.fitted-returns-in_ok-new-in-Concat
-fitted-returns-in_ok-new-in-Concat t c =
-    rw c.in-Concat.is (fits_Concat c.in-Concat.first c.in-Concat.rest _ c.deref-in-Concat-2.result.now c.in_ok-new-in-Concat.field-0 c.in_ok-first-in-Concat.first c.in_ok-rest-in-Concat.rest c.args.shape.width c.args.shape.signed
-    c.deref-in-Concat.ensures c.deref-in-Concat-2.ensures.value c.in_ok-new-in-Concat.ensures.ok c.in_ok-first-in-Concat.ensures c.in_ok-rest-in-Concat.ensures)
+pub fitted-returns-in_ok-rest-in-Concat : goal.fitted-returns-in_ok-rest-in-Concat
+fitted-returns-in_ok-rest-in-Concat t c =
+    rw c.in-Concat.is (fits_Concat c.in-Concat.first c.in-Concat.rest _ c.deref-in-Concat-2.result.now c.in_ok-first-in-Concat.first c.in_ok-rest-in-Concat.rest c.args.shape.width c.args.shape.signed
+    c.deref-in-Concat.ensures c.deref-in-Concat-2.ensures.value c.in_ok-first-in-Concat.ensures c.in_ok-rest-in-Concat.ensures)
 
 pub fitted-returns-in_ok-x-in-Closed : goal.fitted-returns-in_ok-x-in-Closed
 fitted-returns-in_ok-x-in-Closed t c =
-    rw c.in-Closed.is (closed_fitted c.in-Closed.own c.in-Closed.x _ c.in_ok-x-in-Closed.x c.args.shape.width c.args.shape.signed c.extended-in-Closed.result c.deref-in-Closed.ensures c.in_ok-x-in-Closed.ensures c.extended-in-Closed.ensures)
+    rw c.in-Closed.is (fits_Closed c.in-Closed.own c.in-Closed.x _ c.in_ok-x-in-Closed.x.value c.resized.result c.args.shape.width c.args.shape.signed c.deref-in-Closed.ensures c.in_ok-x-in-Closed.ensures c.resized.ensures)
 
 pub fitted_links-loop-operator-init : goal.fitted_links-loop-operator-init
 fitted_links-loop-operator-init t c = rw c.new-done.ensures.items each_none

@@ -6,7 +6,7 @@ use Rattle.vs_widths.specs.Names.{meaning_of}
 use Rattle.vs_widths.specs.Expressions.{meant_selects}
 use Rattle.vs_targets.specs.Lefts.{as_left}
 use Rattle.vs_targets.specs.passes.Aims.{AreWithin}
-use Rattle.vs_widths.proofs.SelectLemmas.{falls_by}
+use Rattle.vs_widths.proofs.DepthLemmas.{falls_by}
 use Rattle.vs_targets.proofs.LeftLemmas.{selects_within, name_selects_refused, name_aims, concat_refused, concat_aims, parts_start, part_refused, sum_refused, parts_step, parts_end}
 use Rattle.vs_targets.proofs.ExprLemmas.{as_left_Name, as_left_Select, as_left_Concat, left_at, no_deeper}
 use Rattle.vs_targets.proofs.lefts.+aim_expr.Goals as goal
@@ -52,7 +52,7 @@ aim_exprs-loop-e-init t c = record { whole = λ m h. parts_start c.args.how (mea
 
 pub aim_exprs-aim_expr-requires : goal.aim_exprs-aim_expr-requires
 aim_exprs-aim_expr-requires t c =
-    (falls_by _ c.args.rest.now c.loop-e.e-index t _ c.e-item.result (omega arith) c.e-item.is c.decreases (no_deeper _), left_at c.args.rest.now c.loop-e.e-index c.e-item.result (omega arith) c.e-item.is c.requires.left)
+    (falls_by 2 _ c.args.rest.now c.loop-e.e-index t _ c.e-item.result (omega arith) c.e-item.is c.decreases (no_deeper _), left_at c.args.rest.now c.loop-e.e-index c.e-item.result (omega arith) c.e-item.is c.requires.left)
 
 pub aim_exprs-returns-in_err-part : goal.aim_exprs-returns-in_err-part
 aim_exprs-returns-in_err-part t c =

@@ -1,0 +1,29 @@
+-- Depths of expressions.
+use Rattle.std.proofs.Common.{◌≡◌, ℕ, ◌+◌, ◌*◌, max, ◌<◌, ◌≤◌, List, length, get_or, ap, arith}
+use denote.Param.Weighed.{most, at_most}
+use Rattle.std.proofs.Math.Nat.{mul-le-mul_left}
+use Rattle.vs_logic4.specs.declared.operators.Binary.{Binary}
+use Rattle.vs_syntax.specs.declared.tree.Expr.{Expr, size-Expr}
+
+-- the depth of the deepest of some expressions
+abbrev pub parts_depth : List Expr → ℕ
+parts_depth es = most size-Expr es
+
+-- that of the deepest behind operators
+abbrev pub links_depth : List (Binary × Expr) → ℕ
+links_depth ls = most (λ (l : Binary × Expr). max 0 (max (size-Expr l.1) 0)) ls
+
+-- that of the deepest among conditions and the operands behind them
+abbrev pub pairs_depth : List (Expr × Expr) → ℕ
+pairs_depth ps = most (λ (p : Expr × Expr). max (size-Expr p.0) (max (size-Expr p.1) 0)) ps
+
+pub first_most : (a b : ℕ) → a ≤ max a b
+first_most a b = omega arith
+
+-- an expression of an element of a list is no deeper than the list
+pub falls_by : {X : Type 0} (k : ℕ) (depth : X → ℕ) (xs : List X) (i t n : ℕ) (a : X) → i < length xs → a ≡ get_or xs i a → k * most depth xs + 1 ≡ t → n ≤ depth a → k * n + 0 < t
+falls_by k depth xs i t n a h j e l =
+    let m : depth (get_or xs i a) ≤ most depth xs = at_most depth xs i a h in
+    let same : depth a ≡ depth (get_or xs i a) = ap depth j in
+    let all : k * n ≤ k * most depth xs = mul-le-mul_left k (omega arith) in
+    omega arith
