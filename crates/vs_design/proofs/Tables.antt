@@ -1,9 +1,9 @@
--- Lemmas on the table of readers.
-use Rattle.std.proofs.Common.{◌≡◌, ◌≢◌, ℕ, zero, suc, ◌<◌, ◌≤◌, Bool, true, nat_lt, if◌then◌else◌, List, [], ◌∷◌, ◌++◌, Some, None, length, get_or, slice_get, refl, sym, ◌∙◌, ap, subst, ⊎_elim, arith, append_assoc}
+-- Lemmas on the tables of readers and of listeners.
+use Rattle.std.proofs.Common.{◌≡◌, ◌≢◌, ℕ, zero, suc, ◌<◌, ◌-◌, ◌==◌, ◌&&◌, ◌||◌, ◌≤◌, Bool, true, false, nat_lt, if◌then◌else◌, List, [], ◌∷◌, ◌++◌, Some, None, length, get_or, slice_get, refl, sym, ◌∙◌, ap, subst, ⊎_elim, arith, append_assoc, eq-eqb}
 use Rattle.std.specs.Prelude.{slice_set}
 use Rattle.std.specs.declared.vec.Vec.{Vec}
 use Rattle.std.specs.declared.alloc.Global.{Global}
-use Rattle.std.specs.List.{list_all, All, AllByRecursion}
+use Rattle.std.specs.List.{list_all, list_any, All, AllByRecursion}
 use Rattle.std.proofs.lemmas.Bool.{and_parts, ne_eqb, cases_lt}
 use Rattle.std.proofs.lemmas.Bool.Decides.{eqb_tells}
 use borrow.Author.Tests.{ltb-true}
@@ -11,14 +11,19 @@ use Rattle.std.proofs.lemmas.List.{get_or_past}
 use Rattle.std.proofs.lemmas.List.Elements.{recursion_from_All}
 use Rattle.std.proofs.lemmas.Option.{none-some, same_Some}
 use Rattle.vs_design.specs.declared.design.Assign.{Assign}
+use Rattle.vs_design.specs.declared.design.Process.{Process}
+use Rattle.vs_design.specs.declared.statement.EventTerm.{EventTerm}
 use Rattle.vs_design.specs.declared.range.BitRange.{BitRange}
 use Rattle.vs_design.specs.declared.signal.Signal.{Signal}
 use Rattle.vs_design.specs.declared.readers.Reader.{Reader}
 use Rattle.vs_design.specs.Stores.{changed_at}
-use Rattle.vs_design.specs.Uses.{reads}
+use Rattle.vs_design.specs.Uses.{reads, is_of}
 use Rattle.vs_design.specs.Readers.{readings, readers_from, readers}
-use Rattle.vs_design.specs.Tables.{rows, noted, all_noted, tabled, empty_rows, AreReaders}
-use Rattle.vs_design.specs.WellFormed.{is_within, size_of, is_at_least, is_net_aim, is_sound_target, is_sound_assign}
+use Rattle.vs_design.specs.Listeners.{listeners_from, listeners}
+use Rattle.vs_design.specs.Statements.{event_terms, listens}
+use Rattle.vs_design.specs.Tables.{rows, noted, all_noted, tabled, empty_rows, AreReaders, ends_with, ending_with, all_heard, heard, AreListeners}
+use Rattle.vs_design.specs.WellFormed.{is_within, size_of, is_at_least, is_net_aim, is_sound_target, is_sound_assign, is_sound_statement, is_sound_process, counts_from, numbers, is_body_of}
+use Rattle.vs_design.proofs.StatementLemmas.{listens-past}
 use Rattle.vs_design.proofs.Stores.{length-changed_at}
 
 append-none : {A : Type 0} (xs : List A) → xs ++ [] ≡ xs
@@ -27,25 +32,18 @@ append-none (x ∷ xs) = ap (λ ys. x ∷ ys) (append-none xs)
 
 -- ---- the code's rows
 
-rows-written : (i : ℕ) (r : Reader) (table : List (Vec Reader Global)) (row new : Vec Reader Global) → slice_get table i ≡ Some row → new.items ≡ row.items ++ r ∷ [] →
-    rows (slice_set table i new) ≡ changed_at (λ row. row ++ r ∷ []) i (rows table)
-rows-written i r [] row new h e = absurd (none-some row h)
-rows-written zero r (x ∷ xs) row new h e = ap (λ y. y ∷ rows xs) (e ∙ ap (λ (v : Vec Reader Global). v.items ++ r ∷ []) (sym (same_Some x row h)))
-rows-written (suc i) r (x ∷ xs) row new h e = ap (λ ys. x.items ∷ ys) (rows-written i r xs row new h e)
+-- a table with one row changed
+pub rows-changed : {A : Type 0} (f : List A → List A) (i : ℕ) (table : List (Vec A Global)) (row new : Vec A Global) → slice_get table i ≡ Some row → new.items ≡ f row.items →
+    rows (slice_set table i new) ≡ changed_at f i (rows table)
+rows-changed f i [] row new h e = absurd (none-some row h)
+rows-changed {A = A} f zero (x ∷ xs) row new h e = ap (λ y. y ∷ rows xs) (e ∙ ap (λ (v : Vec A Global). f v.items) (sym (same_Some x row h)))
+rows-changed f (suc i) (x ∷ xs) row new h e = ap (λ ys. x.items ∷ ys) (rows-changed f i xs row new h e)
 
--- a row with one reader more
-pub rows-noted : (r : Reader) (table : List (Vec Reader Global)) (row new : Vec Reader Global) → slice_get table r.range.signal ≡ Some row → new.items ≡ row.items ++ r ∷ [] →
-    rows (slice_set table r.range.signal new) ≡ noted r (rows table)
-rows-noted r table row new h e = rows-written r.range.signal r table row new h e
-
-rows-past : (i : ℕ) (r : Reader) (table : List (Vec Reader Global)) → slice_get table i ≡ None → rows table ≡ changed_at (λ row. row ++ r ∷ []) i (rows table)
-rows-past i r [] h = refl
-rows-past zero r (x ∷ xs) h = absurd (none-some x (sym h))
-rows-past (suc i) r (x ∷ xs) h = ap (λ ys. x.items ∷ ys) (rows-past i r xs h)
-
--- no row for the reader
-pub rows-not_noted : (r : Reader) (table : List (Vec Reader Global)) → slice_get table r.range.signal ≡ None → rows table ≡ noted r (rows table)
-rows-not_noted r table h = rows-past r.range.signal r table h
+-- no row to change
+pub rows-past : {A : Type 0} (f : List A → List A) (i : ℕ) (table : List (Vec A Global)) → slice_get table i ≡ None → rows table ≡ changed_at f i (rows table)
+rows-past f i [] h = refl
+rows-past f zero (x ∷ xs) h = absurd (none-some x (sym h))
+rows-past f (suc i) (x ∷ xs) h = ap (λ ys. x.items ∷ ys) (rows-past f i xs h)
 
 -- ---- what stands in a row
 
@@ -58,12 +56,12 @@ length-tabled : (number : ℕ) (assigns : List Assign) (table : List (List Reade
 length-tabled number [] table = refl
 length-tabled number (a ∷ rest) table = length-tabled (suc number) rest (all_noted number (reads a.source) table) ∙ length-all_noted number (reads a.source) table
 
-at_changed : (f : List Reader → List Reader) (i : ℕ) (table : List (List Reader)) → i < length table → get_or (changed_at f i table) i [] ≡ f (get_or table i [])
+at_changed : {A : Type 0} (f : List A → List A) (i : ℕ) (table : List (List A)) → i < length table → get_or (changed_at f i table) i [] ≡ f (get_or table i [])
 at_changed f i [] h = absurd (omega arith)
 at_changed f zero (x ∷ xs) h = refl
 at_changed f (suc i) (x ∷ xs) h = at_changed f i xs (omega arith)
 
-at_other : (f : List Reader → List Reader) (i j : ℕ) (table : List (List Reader)) → i ≢ j → get_or (changed_at f i table) j [] ≡ get_or table j []
+at_other : {A : Type 0} (f : List A → List A) (i j : ℕ) (table : List (List A)) → i ≢ j → get_or (changed_at f i table) j [] ≡ get_or table j []
 at_other f i j [] h = refl
 at_other f zero zero (x ∷ xs) h = absurd (h refl)
 at_other f zero (suc j) (x ∷ xs) h = refl
@@ -119,24 +117,153 @@ readers-past ss number (a ∷ rest) s h le =
     ap (λ rs. rs ++ readers_from (suc number) rest s) (readings-past (length ss) number (reads a.source) s source.0 le)
     ∙ readers-past ss (suc number) rest s h.1 le
 
-none_at : (n s : ℕ) → get_or (empty_rows n) s [] ≡ []
+none_at : {A : Type 0} (n s : ℕ) → get_or (empty_rows {A = A} n) s [] ≡ []
 none_at zero s = refl
 none_at (suc n) zero = refl
 none_at (suc n) (suc s) = none_at n s
 
-length-empty_rows : (n : ℕ) → length (empty_rows n) ≡ n
-length-empty_rows zero = refl
-length-empty_rows (suc n) = ap suc (length-empty_rows n)
+length-empty_rows : (A : Type 0) (n : ℕ) → length (empty_rows {A = A} n) ≡ n
+length-empty_rows A zero = refl
+length-empty_rows A (suc n) = ap suc (length-empty_rows A n)
 
 -- the table of sound continuous assignments has each signal's readers
 pub table_is : (ss : List Signal) (assigns : List Assign) (table : List (Vec Reader Global)) → All (λ (a : Assign). is_sound_assign ss a ≡ true) assigns →
     rows table ≡ tabled 0 assigns (empty_rows (length ss)) → AreReaders assigns table
 table_is ss assigns table sound h s =
-    let start = empty_rows (length ss) in
+    let start : List (List Reader) = empty_rows (length ss) in
     ap (λ (t : List (List Reader)). get_or t s []) h
     ∙ ⊎_elim
-    (λ below. at_tabled 0 assigns start s (subst (λ k. s < k) (sym (length-empty_rows (length ss))) below) ∙ ap (λ row. row ++ readers assigns s) (none_at (length ss) s))
+    (λ below. at_tabled 0 assigns start s (subst (λ k. s < k) (sym (length-empty_rows Reader (length ss))) below) ∙ ap (λ row. row ++ readers assigns s) (none_at (length ss) s))
     (λ above.
-    get_or_past (tabled 0 assigns start) s [] (subst (λ k. k ≤ s) (sym (length-tabled 0 assigns start ∙ length-empty_rows (length ss))) above)
+    get_or_past (tabled 0 assigns start) s [] (subst (λ k. k ≤ s) (sym (length-tabled 0 assigns start ∙ length-empty_rows Reader (length ss))) above)
     ∙ sym (readers-past ss 0 assigns s (recursion_from_All _ assigns sound) above))
+    (cases_lt s (length ss))
+
+-- ---- listeners
+
+-- a row in which no number stands that is this one or a later one, at its end
+abbrev IsBefore : ℕ → List ℕ → Type 0
+IsBefore number row = (later : ℕ) → number ≤ later → ends_with later row ≡ false
+
+-- what is added to a row where this holds
+abbrev added : ℕ → Bool → List ℕ
+added number b = if b then number ∷ [] else []
+
+ends-pushed : (n m : ℕ) (row : List ℕ) → ends_with n (row ++ m ∷ []) ≡ (m == n)
+ends-pushed n m [] = refl
+ends-pushed n m (x ∷ []) = refl
+ends-pushed n m (x ∷ k ∷ rest) = ends-pushed n m (k ∷ rest)
+
+-- the end of a row
+pub last_tells : (n m : ℕ) (row : List ℕ) → slice_get row (length row - 1) ≡ Some m → ends_with n row ≡ (m == n)
+last_tells n m [] h = absurd (none-some m h)
+last_tells n m (x ∷ []) h = ap (λ k. k == n) (same_Some x m h)
+last_tells n m (x ∷ k ∷ rest) h =
+    let back : suc (length (k ∷ rest) - 1) ≡ length (x ∷ k ∷ rest) - 1 = omega arith in
+    last_tells n m (k ∷ rest) (ap (slice_get (x ∷ k ∷ rest)) back ∙ h)
+
+-- a row of a table with a process in it where event terms name its signal
+abbrev row_heard : ℕ → List EventTerm → ℕ → List ℕ → List ℕ
+row_heard number [] s row = row
+row_heard number (t ∷ ts) s row = row_heard number ts s (if is_of s t.range then ending_with number row else row)
+
+pub ending-stays : (number : ℕ) (row : List ℕ) → ends_with number row ≡ true → ending_with number row ≡ row
+ending-stays number row h = ap (λ b. if b then row else row ++ number ∷ []) h
+
+pub ending-pushed : (number : ℕ) (row : List ℕ) → ends_with number row ≡ false → ending_with number row ≡ row ++ number ∷ []
+ending-pushed number row h = ap (λ b. if b then row else row ++ number ∷ []) h
+
+either_way : {A : Type 0} (b : Bool) (x : A) → (if b then x else x) ≡ x
+either_way true x = refl
+either_way false x = refl
+
+row-stays : (number : ℕ) (ts : List EventTerm) (s : ℕ) (row : List ℕ) → ends_with number row ≡ true → row_heard number ts s row ≡ row
+row-stays number [] s row h = refl
+row-stays number (t ∷ ts) s row h =
+    ap (λ r. row_heard number ts s (if is_of s t.range then r else row)) (ending-stays number row h)
+    ∙ ap (row_heard number ts s) (either_way (is_of s t.range) row)
+    ∙ row-stays number ts s row h
+
+row-heard : (number : ℕ) (ts : List EventTerm) (s : ℕ) (row : List ℕ) → ends_with number row ≡ false →
+    row_heard number ts s row ≡ row ++ added number (list_any (λ (t : EventTerm). is_of s t.range) ts)
+row-heard number [] s row h = sym (append-none row)
+row-heard number (t ∷ ts) s row h = by_test (is_of s t.range) (row-heard number ts s row h)
+  where
+    by_test : (b : Bool) → row_heard number ts s row ≡ row ++ added number (list_any (λ (t : EventTerm). is_of s t.range) ts) →
+        row_heard number ts s (if b then ending_with number row else row) ≡ row ++ added number (b || list_any (λ (t : EventTerm). is_of s t.range) ts)
+    by_test true rest =
+        ap (row_heard number ts s) (ending-pushed number row h)
+        ∙ row-stays number ts s (row ++ number ∷ []) (ends-pushed number number row ∙ eq-eqb number number refl)
+    by_test false rest = rest
+
+length-all_heard : (number : ℕ) (ts : List EventTerm) (table : List (List ℕ)) → length (all_heard number ts table) ≡ length table
+length-all_heard number [] table = refl
+length-all_heard number (t ∷ ts) table =
+    length-all_heard number ts (changed_at (ending_with number) t.range.signal table) ∙ length-changed_at _ t.range.signal table
+
+length-heard : (number : ℕ) (processes : List Process) (table : List (List ℕ)) → length (heard number processes table) ≡ length table
+length-heard number [] table = refl
+length-heard number (p ∷ rest) table =
+    length-heard (suc number) rest (all_heard number (event_terms p.body) table) ∙ length-all_heard number (event_terms p.body) table
+
+at_all_heard : (number : ℕ) (ts : List EventTerm) (table : List (List ℕ)) (s : ℕ) → s < length table →
+    get_or (all_heard number ts table) s [] ≡ row_heard number ts s (get_or table s [])
+at_all_heard number [] table s h = refl
+at_all_heard number (t ∷ ts) table s h =
+    at_all_heard number ts (changed_at (ending_with number) t.range.signal table) s (subst (λ k. s < k) (sym (length-changed_at _ t.range.signal table)) h)
+    ∙ ap (row_heard number ts s)
+    (⊎_elim
+    (λ same.
+    ap (λ k. get_or (changed_at (ending_with number) k table) s []) same.1 ∙ at_changed (ending_with number) s table h
+    ∙ ap (λ b. if b then ending_with number (get_or table s []) else get_or table s []) (sym same.0))
+    (λ other. at_other (ending_with number) t.range.signal s table other.1 ∙ ap (λ b. if b then ending_with number (get_or table s []) else get_or table s []) (sym other.0))
+    (eqb_tells t.range.signal s))
+
+before-added : (number : ℕ) (row : List ℕ) (b : Bool) → IsBefore number row → IsBefore (suc number) (row ++ added number b)
+before-added number row true h later le = ends-pushed later number row ∙ ne_eqb number later (omega arith)
+before-added number row false h later le = ap (ends_with later) (append-none row) ∙ h later (omega arith)
+
+listeners-more : (number : ℕ) (p : Process) (rest : List Process) (s : ℕ) (row : List ℕ) →
+    (row ++ added number (listens p.body s)) ++ listeners_from (suc number) rest s ≡ row ++ listeners_from number (p ∷ rest) s
+listeners-more number p rest s row = append_assoc row (added number (listens p.body s)) (listeners_from (suc number) rest s) ∙ ap (λ r. row ++ r) (by_test (listens p.body s))
+  where
+    by_test : (b : Bool) → added number b ++ listeners_from (suc number) rest s ≡ (if b then number ∷ listeners_from (suc number) rest s else listeners_from (suc number) rest s)
+    by_test true = refl
+    by_test false = refl
+
+at_heard : (number : ℕ) (processes : List Process) (table : List (List ℕ)) (s : ℕ) → s < length table → IsBefore number (get_or table s []) →
+    get_or (heard number processes table) s [] ≡ get_or table s [] ++ listeners_from number processes s
+at_heard number [] table s h before = sym (append-none (get_or table s []))
+at_heard number (p ∷ rest) table s h before =
+    let terms = event_terms p.body in
+    let next = all_heard number terms table in
+    let row = get_or table s [] in
+    let is : get_or next s [] ≡ row ++ added number (listens p.body s) = at_all_heard number terms table s h ∙ row-heard number terms s row (before number (omega arith)) in
+    at_heard (suc number) rest next s (subst (λ k. s < k) (sym (length-all_heard number terms table)) h)
+    (subst (IsBefore (suc number)) (sym is) (before-added number row (listens p.body s) before))
+    ∙ ap (λ r. r ++ listeners_from (suc number) rest s) is
+    ∙ listeners-more number p rest s row
+
+listeners-past : (ss : List Signal) (number : ℕ) (processes : List Process) (s : ℕ) → AllByRecursion (λ (p : Process). is_sound_process ss p ≡ true) processes → length ss ≤ s →
+    listeners_from number processes s ≡ []
+listeners-past ss number [] s h le = refl
+listeners-past ss number (p ∷ rest) s h le =
+    let numbered = and_parts (is_sound_statement ss p.body && counts_from 0 (numbers p.body)) (is_body_of p.kind p.body) h.0 in
+    let sound = and_parts (is_sound_statement ss p.body) (counts_from 0 (numbers p.body)) numbered.0 in
+    ap (λ b. if b then number ∷ listeners_from (suc number) rest s else listeners_from (suc number) rest s) (listens-past ss p.body s sound.0 le)
+    ∙ listeners-past ss (suc number) rest s h.1 le
+
+-- the table of sound processes has each signal's listeners
+pub listeners_are : (ss : List Signal) (processes : List Process) (table : List (Vec ℕ Global)) → All (λ (p : Process). is_sound_process ss p ≡ true) processes →
+    rows table ≡ heard 0 processes (empty_rows (length ss)) → AreListeners processes table
+listeners_are ss processes table sound h s =
+    let start : List (List ℕ) = empty_rows (length ss) in
+    ap (λ (t : List (List ℕ)). get_or t s []) h
+    ∙ ⊎_elim
+    (λ below.
+    at_heard 0 processes start s (subst (λ k. s < k) (sym (length-empty_rows ℕ (length ss))) below) (λ later le. ap (ends_with later) (none_at (length ss) s))
+    ∙ ap (λ row. row ++ listeners processes s) (none_at (length ss) s))
+    (λ above.
+    get_or_past (heard 0 processes start) s [] (subst (λ k. k ≤ s) (sym (length-heard 0 processes start ∙ length-empty_rows ℕ (length ss))) above)
+    ∙ sym (listeners-past ss 0 processes s (recursion_from_All _ processes sound) above))
     (cases_lt s (length ss))

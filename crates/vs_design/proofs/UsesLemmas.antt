@@ -12,7 +12,8 @@ use Rattle.vs_design.specs.declared.expression.Typed.TheFolds.{fold-roll-Typed}
 use Rattle.vs_design.specs.declared.range.BitRange.{BitRange}
 use Rattle.vs_design.specs.Uses.{reads, reads_step, joined}
 
-joined_each : {A B : Type 0} (f : B → List BitRange) (g : A → B) (xs : List A) → joined (map f (map g xs)) ≡ joined (map (λ x. f (g x)) xs)
+-- lists of images, joined
+pub joined_each : {A B C : Type 0} (f : B → List C) (g : A → B) (xs : List A) → joined (map f (map g xs)) ≡ joined (map (λ x. f (g x)) xs)
 joined_each f g [] = refl
 joined_each f g (x ∷ xs) = ap (λ rs. f (g x) ++ rs) (joined_each f g xs)
 
@@ -34,6 +35,6 @@ pub reads_Concat : (x : Box Typed Global) (others : Vec Typed Global) → reads 
 reads_Concat x others = ap reads (sym (rolls-Concat x others)) ∙ fold-roll-Typed (List BitRange) reads_step (t.Concat x others)
 
 -- two lists pushed one after another
-pub both_pushed : (start front back : List BitRange) {middle end all : List BitRange} → middle ≡ start ++ front → end ≡ middle ++ back → all ≡ front ++ back → end ≡ start ++ all
+pub both_pushed : {A : Type 0} (start front back : List A) {middle end all : List A} → middle ≡ start ++ front → end ≡ middle ++ back → all ≡ front ++ back → end ≡ start ++ all
 both_pushed start front back first second is =
     second ∙ ap (λ rs. rs ++ back) first ∙ append_assoc start front back ∙ ap (λ rs. start ++ rs) (sym is)

@@ -2,10 +2,12 @@ pub mod Behind
 pub mod Drivers
 pub mod Kinds
 pub mod Laws
+pub mod Listeners
 pub mod OneLine
 pub mod Parts
 pub mod Readers
 pub mod Selects
+pub mod Statements
 pub mod Stores
 pub mod Tables
 pub mod Traces

@@ -1,7 +1,9 @@
 -- What holds of every design.
-use Rattle.std.specs.Prelude.{◌≡◌, ℕ, suc, ◌+◌, ◌*◌, Bool, true, false, ◌&&◌, ◌==◌, not, if◌then◌else◌, nat_lt, nat_le, nat_eq, min, max, sum, List, [], ◌∷◌, Option, Some, None, is_some, option_map, length, map, slice_get, ◌<◌}
+use Rattle.std.specs.Prelude.{◌≡◌, ℕ, suc, ◌+◌, ◌*◌, Bool, true, false, ◌&&◌, ◌==◌, not, if◌then◌else◌, nat_lt, nat_le, nat_eq, min, max, sum, List, [], ◌∷◌, ◌++◌, Option, Some, None, is_some, option_map, length, map, slice_get, ◌<◌}
 use Rattle.std.specs.List.{list_all, flat_map, IsDistinct, All, Contains}
 use Rattle.std.specs.Str.{bytes_eq}
+use Rattle.std.specs.declared.vec.Vec.{Vec}
+use Rattle.std.specs.declared.alloc.Global.{Global}
 use Rattle.vs_logic4.specs.declared.operators.Sizing.{Sizing}
 use Rattle.vs_logic4.specs.declared.operators.Sizing.TheVariants.{Alike, Shift, Comparison, Logical}
 use Rattle.vs_logic4.specs.Operators.{gives_bit, sizing_of}
@@ -13,6 +15,7 @@ use Rattle.vs_design.specs.declared.range.Bits.{Bits}
 use Rattle.vs_design.specs.declared.statement.Aim.{Aim}
 use Rattle.vs_design.specs.declared.statement.Aim.TheVariants.{Fixed, Chosen}
 use Rattle.vs_design.specs.declared.statement.Target.{Target}
+use Rattle.vs_design.specs.declared.statement.EventTerm.{EventTerm}
 use Rattle.vs_design.specs.declared.statement.Statement.{Statement}
 use Rattle.vs_design.specs.declared.statement.Statement.TheOpen.{Statement-F}
 use Rattle.vs_design.specs.declared.statement.Statement.TheOpen as f
@@ -91,6 +94,11 @@ size_step (t.Resized size x) = option_map (λ n. size.width) x.value
 -- the size of an expression in bits, where its operands have those that they must have (clause 5.4.1)
 abbrev pub size_of : Typed → Option ℕ
 size_of = fold-Typed (Option ℕ) size_step
+
+-- whether two sizes are known and equal
+abbrev pub same_size : Option ℕ → Option ℕ → Bool
+same_size (Some n) (Some m) = n == m
+same_size _ _ = false
 
 -- whether a size is known, and isn't below this one
 abbrev pub is_at_least : ℕ → Option ℕ → Bool
@@ -181,29 +189,56 @@ driven assigns = flat_map (λ (a : Assign). writes a.target) assigns
 
 -- ---- statements
 
--- one layer of a statement: whether its assignments are sound, with the answer for each inner statement in its place
+-- whether a condition or a count reads signals of the design alone, and has a size (clauses 5.4.1, 9.4 and 9.6)
+abbrev pub is_sound_operand : List Signal → Typed → Bool
+is_sound_operand ss e = is_within ss e && is_some (size_of e)
+
+-- whether the size of an expression of a `case` item is that of the `case` expression (clause 9.5)
+abbrev pub is_alike : Typed → Typed → Bool
+is_alike x e = same_size (size_of x) (size_of e)
+
+-- whether the expressions of a `case` item are sound, where the `case` expression is this one (clause 9.5)
+abbrev pub are_sound_labels : List Signal → Typed → List Typed → Bool
+are_sound_labels ss x es = list_all (λ e. is_sound_operand ss e && is_alike x e) es
+
+-- whether the bits of event terms are of signals of the design (clause 9.7.2)
+abbrev pub are_sound_terms : List Signal → List EventTerm → Bool
+are_sound_terms ss terms = are_within ss (map (λ (t : EventTerm). t.range) terms)
+
+-- one layer of a statement: whether its assignments and its expressions are sound, with the answer for each inner statement in its place
 abbrev pub sound_step : List Signal → Statement-F Bool → Bool
 sound_step ss (f.Null n) = true
 sound_step ss (f.Assign n t e) = is_sound_assignment ss t e
 sound_step ss (f.Later n t e) = is_sound_assignment ss t e
 sound_step ss (f.Block all) = list_all (λ b. b) all.items
 sound_step ss (f.Delay n ticks body) = body.value
+sound_step ss (f.Event n terms body) = are_sound_terms ss terms.items && body.value
+sound_step ss (f.If n e a b) = is_sound_operand ss e && a.value && b.value
+sound_step ss (f.Case n kind x items) =
+    is_sound_operand ss x && list_all (λ (i : Vec Typed Global × Bool). are_sound_labels ss x i.0.items && i.1) items.items
+sound_step ss (f.While n e body) = is_sound_operand ss e && body.value
+sound_step ss (f.Repeat n signed e body) = is_sound_operand ss e && body.value
 sound_step ss (f.Forever n body) = body.value
 
--- whether the assignments of a statement are sound
+-- whether the assignments and the expressions of a statement are sound
 abbrev pub is_sound_statement : List Signal → Statement → Bool
 is_sound_statement ss = fold-Statement Bool (sound_step ss)
 
--- one layer of a statement: its number and those in it, in the order of the text
+-- one layer of a statement: its number and those in it, in their order
 abbrev pub numbers_step : Statement-F (List ℕ) → List ℕ
 numbers_step (f.Null n) = n ∷ []
 numbers_step (f.Assign n t e) = n ∷ []
 numbers_step (f.Later n t e) = n ∷ []
 numbers_step (f.Block all) = joined all.items
 numbers_step (f.Delay n ticks body) = n ∷ body.value
+numbers_step (f.Event n terms body) = n ∷ body.value
+numbers_step (f.If n e a b) = n ∷ a.value ++ b.value
+numbers_step (f.Case n kind x items) = n ∷ joined (map (λ (i : Vec Typed Global × List ℕ). i.1) items.items)
+numbers_step (f.While n e body) = n ∷ body.value
+numbers_step (f.Repeat n signed e body) = n ∷ body.value
 numbers_step (f.Forever n body) = n ∷ body.value
 
--- the numbers of a statement and of those in it, in the order of the text
+-- the numbers of a statement and of those in it, in their order
 abbrev pub numbers : Statement → List ℕ
 numbers = fold-Statement (List ℕ) numbers_step
 
@@ -221,7 +256,7 @@ abbrev pub is_body_of : ProcessKind → Statement → Bool
 is_body_of Initial body = true
 is_body_of Always body = is_forever (out-Statement body)
 
--- whether a process is sound: its assignments, its statements' numbers, its kind
+-- whether a process is sound: its assignments and expressions, its statements' numbers, its kind
 abbrev pub is_sound_process : List Signal → Process → Bool
 is_sound_process ss p = is_sound_statement ss p.body && counts_from 0 (numbers p.body) && is_body_of p.kind p.body
 

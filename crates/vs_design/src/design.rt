@@ -1,10 +1,12 @@
 //! A design.
 ghost use Rattle.std.specs.Prelude.{◌≡◌, IfOk};
+ghost use Rattle.vs_design.specs.Listeners.{listeners};
 ghost use Rattle.vs_design.specs.Readers.{readers};
 ghost use Rattle.vs_design.specs.WellFormed.{WellFormed};
 
 use crate::expression::Typed;
-use crate::readers::{Reader, table_of};
+use crate::listeners;
+use crate::readers::{self, Reader};
 use crate::signal::Signal;
 use crate::statement::{Statement, Target};
 use crate::timescale::Timescale;
@@ -72,12 +74,14 @@ pub struct Design {
     outline: Vec<Entry>,
     // For each signal, which continuous assignments read it.
     readers: Vec<Vec<Reader>>,
+    // For each signal, which processes have an event control that names it.
+    listeners: Vec<Vec<usize>>,
 }
 
 impl Model for Design {
     ghost use Rattle.std.specs.Coded.{codes};
     ghost use Rattle.vs_design.specs.Parts.{Parts};
-    ghost use Rattle.vs_design.specs.Tables.{AreReaders};
+    ghost use Rattle.vs_design.specs.Tables.{AreReaders, AreListeners};
     ghost use Rattle.vs_design.specs.WellFormed.{WellFormed};
     ghost use Rattle.vs_design.specs.contracts.expression.Typed as expression;
     ghost use Rattle.vs_design.specs.contracts.statement.Statement as statement;
@@ -88,7 +92,7 @@ impl Model for Design {
 
     ghost view = { λ d. record { timescale = d.timescale; signals = d.signals.items; assigns = d.assigns.items; processes = d.processes.items; outline = d.outline.items } };
 
-    ghost invariant = { λ d. WellFormed (record { timescale = d.timescale; signals = d.signals.items; assigns = d.assigns.items; processes = d.processes.items; outline = d.outline.items }) × AreReaders d.assigns.items d.readers.items };
+    ghost invariant = { λ d. WellFormed (record { timescale = d.timescale; signals = d.signals.items; assigns = d.assigns.items; processes = d.processes.items; outline = d.outline.items }) × AreReaders d.assigns.items d.readers.items × AreListeners d.processes.items d.listeners.items };
 }
 
 impl Design {
@@ -116,7 +120,8 @@ impl Design {
           outline = outline.items;
         }) }
     {
-        let readers = table_of(alloc, &assigns, signals.len())?;
+        let readers = readers::table_of(alloc, &assigns, signals.len())?;
+        let listeners = listeners::table_of(alloc, &processes, signals.len())?;
         Ok(Design {
             timescale,
             signals,
@@ -124,6 +129,7 @@ impl Design {
             processes,
             outline,
             readers,
+            listeners,
         })
     }
 
@@ -167,6 +173,16 @@ impl Design {
         ensures { result.now ≡ readers self.now.assigns signal }
     {
         match self.readers.get(signal) {
+            Some(row) => row,
+            None => &[],
+        }
+    }
+
+    /// The processes of which an event control names a signal, by their numbers, in design order (IEEE 1364-2005, clause 9.7.2).
+    pub fn listeners(&self, signal: usize) -> &[usize]
+        ensures { result.now ≡ listeners self.now.processes signal }
+    {
+        match self.listeners.get(signal) {
             Some(row) => row,
             None => &[],
         }

@@ -47,7 +47,8 @@ fn note_all(
     Ok(())
 }
 
-fn empty_table(alloc: Global, signals: usize) -> Result<Vec<Vec<Reader>>, AllocError>
+/// A table of as many rows, all of them empty.
+pub(crate) fn empty_table<T: Drop>(alloc: Global, signals: usize) -> Result<Vec<Vec<T>>, AllocError>
     ensures { IfOk result (λ table. rows table.items ≡ empty_rows signals) }
 {
     let mut table = Vec::new(alloc);

@@ -1,6 +1,6 @@
 //! Which bits an expression reads and an assignment writes.
 ghost use Rattle.std.specs.Prelude.{◌≡◌, ◌++◌, ◌∷◌, [], IfOk, OnOk, map};
-ghost use Rattle.vs_design.specs.Uses.{reads, writes, whole, joined, all_words, bits_from, slice_range, aim_range};
+ghost use Rattle.vs_design.specs.Uses.{reads, writes, whole, joined, all_words, bits_from, slice_range, aim_range, aim_reads, target_reads};
 
 use crate::expression::{Link, Slice, Typed};
 use crate::range::{BitRange, Bits};
@@ -29,8 +29,8 @@ fn all_words(signal: usize) -> BitRange
     }
 }
 
-/// Those of so many bits from a place on that lie at places from 0 on.
-fn bits_from(low: i32, width: u32) -> Bits
+/// Those of so many bits from a place on that lie at places from 0 on (IEEE 1364-2005, clause 5.2.1).
+pub fn bits_from(low: i32, width: u32) -> Bits
     ensures { result ≡ bits_from low width }
 {
     if low >= 0 {
@@ -58,7 +58,7 @@ fn slice_range(slice: Slice) -> BitRange
 }
 
 #[cycle(reads)]
-fn push_reads(out: &mut Vec<BitRange>, e: &Typed) -> Result<(), AllocError>
+pub(crate) fn push_reads(out: &mut Vec<BitRange>, e: &Typed) -> Result<(), AllocError>
     ensures { OnOk result (out.new.items ≡ out.old.items ++ reads e.now) }
 {
     match e {
@@ -110,7 +110,7 @@ fn push_pair_reads(out: &mut Vec<BitRange>, pairs: &[(Typed, Typed)]) -> Result<
 }
 
 #[cycle(reads)]
-fn push_all_reads(out: &mut Vec<BitRange>, all: &[Typed]) -> Result<(), AllocError>
+pub(crate) fn push_all_reads(out: &mut Vec<BitRange>, all: &[Typed]) -> Result<(), AllocError>
     ensures { OnOk result (out.new.items ≡ out.old.items ++ joined (map reads all.now)) }
 {
     for e in all {
@@ -126,6 +126,28 @@ pub fn reads(alloc: Global, e: &Typed) -> Result<Vec<BitRange>, AllocError>
     let mut out = Vec::new(alloc);
     push_reads(&mut out, e)?;
     Ok(out)
+}
+
+fn push_aim_reads(out: &mut Vec<BitRange>, aim: &Aim) -> Result<(), AllocError>
+    ensures { OnOk result (out.new.items ≡ out.old.items ++ aim_reads aim.now) }
+{
+    match aim {
+        Aim::Fixed(_) => Ok(()),
+        Aim::Chosen(_, index, low) => {
+            push_reads(out, index)?;
+            push_reads(out, low)
+        }
+    }
+}
+
+/// Adds the ranges that the indices of a target read.
+pub(crate) fn push_target_reads(out: &mut Vec<BitRange>, target: &Target) -> Result<(), AllocError>
+    ensures { OnOk result (out.new.items ≡ out.old.items ++ target_reads target.now) }
+{
+    for aim in &target.parts {
+        push_aim_reads(out, aim)?;
+    }
+    Ok(())
 }
 
 /// The range that an assignment to one place writes.

@@ -1,4 +1,6 @@
 pub mod AssignmentLemmas
+pub mod CaseLemmas
+pub mod EventLemmas
 pub mod StatementLemmas
 pub mod MarkLemmas
 pub mod SignalLemmas
@@ -6,6 +8,7 @@ pub mod OutlineLemmas
 pub mod PartLemmas
 pub mod SoundLemmas
 pub mod DriverLemmas
+pub mod ReadsLemmas
 pub mod WellFormedLemmas
 pub mod MadeLemmas
 pub mod BindLemmas

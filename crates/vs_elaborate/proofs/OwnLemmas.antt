@@ -1,15 +1,18 @@
 -- A scope's own members, from the passes over them.
-use Rattle.std.proofs.Common.{◌≡◌, ℕ, Bool, true, false, List, [], ◌∷◌, ◌++◌, length, map, refl, ap, sym, subst, ◌∙◌, append_assoc, inl, inr, ⊎_elim, arith, true≢false}
+use Rattle.std.proofs.Common.{◌≡◌, ℕ, Bool, true, false, List, [], ◌∷◌, ◌++◌, None, Some, length, map, refl, ap, sym, subst, ◌∙◌, append_assoc, inl, inr, ⊎_elim, arith, true≢false}
 use Rattle.std.proofs.Math.Path.{fun_ext}
 use Rattle.std.specs.List.{list_any, AllZip, IsDistinct}
 use Rattle.std.specs.Str.{bytes_eq}
 use Rattle.std.specs.declared.vec.Vec.{Vec}
 use Rattle.std.specs.declared.alloc.Global.{Global}
 use Rattle.std.proofs.lemmas.List.{append-nil, map-append}
-use Rattle.vs_tokens.specs.declared.token.Literal.{Literal}
 use Rattle.vs_syntax.specs.declared.tree.Expr.{Expr}
 use Rattle.vs_syntax.specs.declared.tree.Stmt.{Stmt, Stmt-F, roll-Stmt, ind-Stmt, map-Stmt}
-use Rattle.vs_syntax.specs.declared.tree.Stmt.TheVariants.{rolls-Null, rolls-Assign, rolls-Later, rolls-Block, rolls-Delay}
+use Rattle.vs_syntax.specs.declared.tree.Stmt.TheFolds.{fold-roll-Stmt}
+use Rattle.vs_syntax.specs.declared.tree.CaseLabel.{CaseLabel}
+use Rattle.vs_syntax.specs.declared.tree.DelayValue.{DelayValue}
+use Rattle.vs_syntax.specs.declared.tree.EventControl.{EventControl}
+use Rattle.vs_targets.specs.declared.kinds.AssignmentKind.TheVariants.{Procedural}
 use Rattle.vs_syntax.specs.declared.tree.Stmt.TheOpen as f
 use Rattle.vs_design.specs.declared.design.Entry.TheVariants.{Enter}
 use Rattle.vs_selects.specs.declared.bindings.Binding.{Binding}
@@ -24,8 +27,8 @@ use Rattle.vs_scopes.specs.declared.faults.ElabFault.{ElabFault}
 use Rattle.vs_scopes.specs.Printed.{Path, printed_name}
 use Rattle.vs_scopes.specs.Scopes.{Scope, Use, Bindings, declarations_of, names_of, uses_of, all_names_of, environment, constant_names, numbered_names, instance_names}
 use Rattle.vs_scopes.specs.passes.Answers.{Told}
-use Rattle.vs_elaborate.specs.Statements.{assign_fault, delay_fault, has_fault, is_overfull}
-use Rattle.vs_elaborate.specs.Members.{Assignee, Assignment, PortDriver, Behavior, sets, runs, repeats, drivers_of, port_drivers_of, behaviors_of}
+use Rattle.vs_elaborate.specs.Statements.{assign_fault, operand_fault, case_fault, delay_fault, event_fault, fault_step, has_fault, is_overfull}
+use Rattle.vs_elaborate.specs.Members.{Assignee, places, Assignment, PortDriver, Behavior, sets, runs, repeats, drivers_of, port_drivers_of, behaviors_of}
 use Rattle.vs_elaborate.specs.Drivers.{driver_fault, port_driver_fault}
 use Rattle.vs_elaborate.specs.Processes.{behavior_fault}
 use Rattle.vs_elaborate.specs.Faults.{Repeated, HasFault}
@@ -33,7 +36,6 @@ use Rattle.vs_elaborate.specs.DesignOf.{declared, signal_of, IsEntry, declare_fr
 use Rattle.vs_elaborate.specs.passes.Plans.{keys, Bound, BoundNot, Declares, DeclaresNot, Connects, ConnectsNot, Drives, DrivesNot, Runs, RunsNot, HoldsOwn, Begins, Fills, FillsNot}
 use Rattle.vs_scopes.proofs.Folds.{both_false}
 use Rattle.vs_scopes.proofs.AnswerLemmas.{told_by}
-use Rattle.vs_elaborate.proofs.StatementLemmas.{fault_Null, fault_Assign, fault_Later, fault_Block, fault_Delay}
 use Rattle.vs_elaborate.proofs.BindLemmas.{numbered_keys, repeated_more}
 use Rattle.vs_elaborate.proofs.PlanLemmas.{same_signals_over}
 
@@ -62,7 +64,7 @@ all_keys s base us e =
     ∙ ap (λ z. z ++ keys (instance_names us)) (front_keys s base) ∙ ap (λ z. (parameter_names s ++ names_of s) ++ z) (instance_keys us) ∙ ap (λ z. (parameter_names s ++ names_of s) ++ map (λ (u : Use). u.name) z) e
 
 twice : (s : Scope) (r : Reason) (p : Path) (before bs : Bindings) (rest : List (List ℕ)) → keys (before ++ bs) ++ rest ≡ all_names_of s → BoundNot s before bs r p → HoldsOwn s r p
-twice s DeclaredTwice p before bs rest e h = record { name = h.0; repeated = subst (λ z. Repeated z h.0) e (repeated_more (keys (before ++ bs)) rest h.0 h.2); path = h.1 }
+twice s DeclaredTwice p before bs rest e h = inl (record { name = h.0; repeated = subst (λ z. Repeated z h.0) e (repeated_more (keys (before ++ bs)) rest h.0 h.2); path = h.1 })
 twice s NoModule p before bs rest e h = h
 twice s Inside p before bs rest e h = h
 twice s PortMismatch p before bs rest e h = absurd h
@@ -92,7 +94,7 @@ declares_told s start e b h = told_by (DeclaresNot s start (declarations_of s)) 
     by DeclaredTwice p h =
         let uses = map (λ (u : Use). u.name) (uses_of s) in
         let all : (keys (constant_names s.constants) ++ names_of s) ++ uses ≡ all_names_of s = ap (λ z. (z ++ names_of s) ++ uses) (constant_keys s.constants) in
-        record { name = h.0; repeated = subst (λ z. Repeated z h.0) all (repeated_more (keys (constant_names s.constants) ++ names_of s) uses h.0 h.2); path = h.1 }
+        inl (record { name = h.0; repeated = subst (λ z. Repeated z h.0) all (repeated_more (keys (constant_names s.constants) ++ names_of s) uses h.0 h.2); path = h.1 })
     by Limit p h = ⊎_elim (λ l. inl (inr (inr (omega (arith, l, b))), h.1)) (λ f. inr (inl (f, h.1))) h.0
     by (Width w) p h = inl h
     by NoModule p h = absurd h
@@ -155,7 +157,10 @@ module _ (s : Scope) (names : Bindings) (start : Plan) (e : ElabFault) where
 -- a reason that isn't one of a statement
 pub record IsApart (r : Reason) (env : Environment) : Type 0 where
   pub assign : (how : AssignmentKind) (a : Assignee) (e : Expr) → assign_fault r how env a e ≡ false
-  pub delay : (l : Literal) → delay_fault r l ≡ false
+  pub operand : (e : Expr) → operand_fault r env e ≡ false
+  pub cases : (e : Expr) (ls : List CaseLabel) → case_fault r env e ls ≡ false
+  pub delay : (d : DelayValue) → delay_fault r env d ≡ false
+  pub event : (e : EventControl) → event_fault r env e ≡ false
 
 module _ (r : Reason) (env : Environment) (apart : IsApart r env) where
   abbrev Sound : Stmt → Type 0
@@ -167,16 +172,31 @@ module _ (r : Reason) (env : Environment) (apart : IsApart r env) where
   abbrev bare : Stmt-F Inner → Stmt-F Stmt
   bare y = map-Stmt Inner Stmt (λ p. p.0) y
 
-  none_in : (xs : List Inner) → list_any (has_fault r env) (map (λ p. p.0) xs) ≡ false
+  none_in : (xs : List Inner) → list_any (λ b. b) (map (has_fault r env) (map (λ p. p.0) xs)) ≡ false
   none_in [] = refl
   none_in (x ∷ xs) = both_false (has_fault r env x.0) _ x.1 (none_in xs)
 
+  none_item : (xs : List (CaseLabel × Inner)) → list_any (λ (x : CaseLabel × Bool). x.1) (map (λ (x : CaseLabel × Stmt). (x.0, has_fault r env x.1)) (map (λ (x : CaseLabel × Inner). (x.0, x.1.0)) xs)) ≡ false
+  none_item [] = refl
+  none_item (x ∷ xs) = both_false (has_fault r env x.1.0) _ x.1.1 (none_item xs)
+
+  step : (y : Stmt-F Inner) → fault_step r env (map-Stmt Stmt Bool (has_fault r env) (bare y)) ≡ false
+  step f.Null = refl
+  step (f.Assign l e) = apart.assign Procedural (places l) e
+  step (f.Later l e) = apart.assign Procedural (places l) e
+  step (f.Block xs) = none_in xs.items
+  step (f.If e x None) = both_false _ _ (both_false _ _ (apart.operand e) x.value.1) refl
+  step (f.If e x (Some o)) = both_false _ _ (both_false _ _ (apart.operand e) x.value.1) o.value.1
+  step (f.Case kind e xs) = both_false _ _ (apart.cases e _) (none_item xs.items)
+  step (f.For l a c m b x) = both_false _ _ (both_false _ _ (both_false _ _ (apart.assign Procedural (places l) a) (apart.operand c)) (apart.assign Procedural (places m) b)) x.value.1
+  step (f.While e x) = both_false _ _ (apart.operand e) x.value.1
+  step (f.Repeat e x) = both_false _ _ (apart.operand e) x.value.1
+  step (f.Forever x) = x.value.1
+  step (f.Delay d x) = both_false _ _ (apart.delay d) x.value.1
+  step (f.Event e x) = both_false _ _ (apart.event e) x.value.1
+
   layer : (y : Stmt-F Inner) → Sound (roll-Stmt (bare y))
-  layer f.Null = rw rolls-Null (fault_Null r env)
-  layer (f.Assign l e) = rw (rolls-Assign l e) (fault_Assign r env l e ∙ apart.assign _ _ e)
-  layer (f.Later l e) = rw (rolls-Later l e) (fault_Later r env l e ∙ apart.assign _ _ e)
-  layer (f.Block xs) = rw (rolls-Block _) (fault_Block r env _ ∙ none_in xs.items)
-  layer (f.Delay l x) = rw (rolls-Delay l _) (fault_Delay r env l _ ∙ both_false (delay_fault r l) _ (apart.delay l) x.value.1)
+  layer y = fold-roll-Stmt Bool (fault_step r env) (bare y) ∙ step y
 
   settled : (x : Stmt-F Stmt) (y : Stmt-F Inner) → bare y ≡ x → Sound (roll-Stmt x)
   settled x y is = subst (λ (u : Stmt-F Stmt). Sound (roll-Stmt u)) is (layer y)
@@ -224,9 +244,11 @@ fills_told s names e b h = told_by (FillsNot s names) (HoldsOwn s) e by h
     by Limit p (inl h) = absurd (true≢false (sym h.0 ∙ any_none (port_driver_fault Limit (meaning_of names) s.outer) (port_drivers_of s) (λ d. refl)))
     by Limit p (inr (inl h)) = inr (inr (text Limit p h))
     by Limit p (inr (inr h)) = inr (inr (process Limit p h))
-    by NoModule p h = absurd (nothing_fills s names NoModule p (record { apart = λ env. record { assign = λ how a e. refl; delay = λ l. refl }; port = λ own outer d. refl; full = λ n. refl }) h)
-    by Inside p h = absurd (nothing_fills s names Inside p (record { apart = λ env. record { assign = λ how a e. refl; delay = λ l. refl }; port = λ own outer d. refl; full = λ n. refl }) h)
-    by PortMismatch p h = absurd (nothing_fills s names PortMismatch p (record { apart = λ env. record { assign = λ how a e. refl; delay = λ l. refl }; port = λ own outer d. refl; full = λ n. refl }) h)
-    by ParameterMismatch p h = absurd (nothing_fills s names ParameterMismatch p (record { apart = λ env. record { assign = λ how a e. refl; delay = λ l. refl }; port = λ own outer d. refl; full = λ n. refl }) h)
-    by DeclaredTwice p h = absurd (nothing_fills s names DeclaredTwice p (record { apart = λ env. record { assign = λ how a e. refl; delay = λ l. refl }; port = λ own outer d. refl; full = λ n. refl }) h)
-    by DrivenTwice p h = absurd (nothing_fills s names DrivenTwice p (record { apart = λ env. record { assign = λ how a e. refl; delay = λ l. refl }; port = λ own outer d. refl; full = λ n. refl }) h)
+    by NoModule p h = absurd (nothing_fills s names NoModule p (record { apart = λ env. record { assign = λ how a e. refl; operand = λ e. refl; cases = λ e ls. refl; delay = λ d. refl; event = λ e. refl }; port = λ own outer d. refl; full = λ n. refl }) h)
+    by Inside p h = absurd (nothing_fills s names Inside p (record { apart = λ env. record { assign = λ how a e. refl; operand = λ e. refl; cases = λ e ls. refl; delay = λ d. refl; event = λ e. refl }; port = λ own outer d. refl; full = λ n. refl }) h)
+    by PortMismatch p h = absurd (nothing_fills s names PortMismatch p (record { apart = λ env. record { assign = λ how a e. refl; operand = λ e. refl; cases = λ e ls. refl; delay = λ d. refl; event = λ e. refl }; port = λ own outer d. refl; full = λ n. refl }) h)
+    by ParameterMismatch p h = absurd (nothing_fills s names ParameterMismatch p (record { apart = λ env. record { assign = λ how a e. refl; operand = λ e. refl; cases = λ e ls. refl; delay = λ d. refl; event = λ e. refl }; port = λ own outer d. refl; full = λ n. refl }) h)
+    by DeclaredTwice p (inl h) = absurd (true≢false (sym h.0 ∙ any_none (port_driver_fault DeclaredTwice (meaning_of names) s.outer) (port_drivers_of s) (λ d. refl)))
+    by DeclaredTwice p (inr (inl h)) = absurd (true≢false (sym h.0 ∙ any_none (driver_fault DeclaredTwice (meaning_of names)) (drivers_of s) (λ a. refl)))
+    by DeclaredTwice p (inr (inr h)) = inr (process DeclaredTwice p h)
+    by DrivenTwice p h = absurd (nothing_fills s names DrivenTwice p (record { apart = λ env. record { assign = λ how a e. refl; operand = λ e. refl; cases = λ e ls. refl; delay = λ d. refl; event = λ e. refl }; port = λ own outer d. refl; full = λ n. refl }) h)

@@ -49,7 +49,8 @@ module _ (ms : List Module) (s : Scope) (sound : IsSoundScope ms s) where
   none_holds PortMismatch p (inl h) = no_instance is_port_mismatch (λ u k. k.ports) p h
   none_holds PortMismatch p (inr h) = true≢false (sym h.0 ∙ sound.ports)
   none_holds ParameterMismatch p h = no_instance (λ u m. is_override_mismatch u.overrides m) (λ u k. k.fits) p h
-  none_holds DeclaredTwice p h = not_repeated (all_names_of s) h.name sound.distinct h.repeated
+  none_holds DeclaredTwice p (inl h) = not_repeated (all_names_of s) h.name sound.distinct h.repeated
+  none_holds DeclaredTwice p (inr h) = no_part DeclaredTwice p h
   none_holds DrivenTwice p h = h
   none_holds Limit p (inl h) = within_limits p h
   none_holds Limit p (inr (inl h)) = true≢false (sym h.0 ∙ sound.sized Limit)

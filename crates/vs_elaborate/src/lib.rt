@@ -2,12 +2,15 @@
 #![tactic(auto)]
 
 mod assignments;
+mod cases;
 mod connecting;
 mod declarations;
 mod drivers;
 mod entering;
+mod events;
 mod marks;
 mod naming;
+mod operands;
 mod own;
 mod plans;
 mod processes;

@@ -11,7 +11,15 @@ use Rattle.vs_syntax.specs.declared.tree.Left.TheVariants.{rolls-Name as rolls-P
 use Rattle.vs_syntax.specs.declared.tree.Expr.TheVariants.{rolls-Number, rolls-Name, rolls-Select, rolls-Group, rolls-Unary, rolls-Chain, rolls-Choice, rolls-Concat, rolls-Repeat, rolls-Cast}
 use Rattle.vs_syntax.specs.declared.tree.Stmt.{Stmt, Stmt-F, roll-Stmt, ind-Stmt, map-Stmt}
 use Rattle.vs_syntax.specs.declared.tree.Stmt.TheOpen as g
-use Rattle.vs_syntax.specs.declared.tree.Stmt.TheVariants.{rolls-Null, rolls-Assign, rolls-Later, rolls-Block, rolls-Delay}
+use Rattle.vs_syntax.specs.declared.tree.Stmt.TheShapes.{former-Stmt-If-2-at-2}
+use Rattle.vs_syntax.specs.declared.tree.Stmt.TheVariants.{rolls-Null, rolls-Assign, rolls-Later, rolls-Block, rolls-If, rolls-Case, rolls-For, rolls-While, rolls-Repeat as rolls-Times, rolls-Forever, rolls-Delay, rolls-Event}
+use Rattle.vs_syntax.specs.declared.tree.CaseLabel.{CaseLabel}
+use Rattle.vs_syntax.specs.declared.tree.CaseLabel.TheVariants as b
+use Rattle.vs_syntax.specs.declared.tree.DelayValue.{DelayValue}
+use Rattle.vs_syntax.specs.declared.tree.DelayValue.TheVariants as v
+use Rattle.vs_syntax.specs.declared.tree.EventControl.{EventControl}
+use Rattle.vs_syntax.specs.declared.tree.EventControl.TheVariants as w
+use Rattle.vs_syntax.specs.declared.tree.EventExpr.{EventExpr}
 use Rattle.vs_syntax.specs.declared.tree.Declarator.{Declarator}
 use Rattle.vs_syntax.specs.declared.tree.Form.{Form}
 use Rattle.vs_syntax.specs.declared.tree.Range.{Range}
@@ -19,6 +27,7 @@ use Rattle.vs_syntax.specs.declared.tree.Item.{Item}
 use Rattle.vs_syntax.specs.declared.tree.Item.TheVariants as i
 use Rattle.vs_syntax.specs.declared.tree.Module.{Module}
 use Rattle.std.specs.declared.vec.Vec.{Vec}
+use Rattle.std.specs.declared.boxed.Box.{Box}
 use Rattle.std.specs.declared.alloc.Global.{Global}
 use Rattle.vs_syntax.specs.declared.tree.Constant.{Constant}
 use Rattle.vs_syntax.specs.declared.tree.Connection.{Connection}
@@ -30,7 +39,7 @@ use Rattle.vs_syntax.specs.declared.tree.ParameterForm.{ParameterForm}
 use Rattle.vs_syntax.specs.declared.tree.ParameterForm.TheVariants as q
 use Rattle.vs_syntax.specs.declared.tree.Port.{Port}
 use Rattle.vs_syntax.specs.declared.tree.PortForm.{PortForm}
-use Rattle.vs_syntax.specs.Same.{SameExpr, same_number, same_name, same_select, SameSelects, same_no_select, same_more_selects, SameSecond, same_no_second, same_second, SameLeft, same_place, same_places, SameLefts, same_no_left, same_more_lefts, same_group, same_unary, same_chain, same_choice, same_concat, same_repeat, same_cast, SameLinks, same_no_link, same_link, SamePairs, same_no_pair, same_pair, SameExprs, same_no_expr, same_more_exprs, SameStmt, same_null, same_assign, same_later, same_block, same_delay, SameStmts, same_no_stmt, same_more_stmts, Pairwise, no_pair, pair_more, SameValue, same_no_value, same_value, SameDeclarator, SameAssignment, SameRange, same_no_range, same_range, SameForm, SameItem, same_wire, same_reg, same_integer, same_assigns, same_initial, same_always, SameModule, SameOption, both_absent, both_there, SameParameterForm, same_integer_word, same_vector, SameConstant, SameHeaderParameter, SamePortForm, SamePort, SamePorts, SameConnection, SameConnections, same_ordered, same_named, SameInstance, same_parameters, same_localparams, same_instances}
+use Rattle.vs_syntax.specs.Same.{SameExpr, same_number, same_name, same_select, SameSelects, same_no_select, same_more_selects, SameSecond, same_no_second, same_second, SameLeft, same_place, same_places, SameLefts, same_no_left, same_more_lefts, same_group, same_unary, same_chain, same_choice, same_concat, same_repeat, same_cast, SameLinks, same_no_link, same_link, SamePairs, same_no_pair, same_pair, SameExprs, same_no_expr, same_more_exprs, SameStmt, same_null, same_assign, same_later, same_block, same_if, same_case, same_for, same_while, same_repeated, same_forever, same_delay, same_event, SameElse, same_no_else, same_else, SameCaseItems, same_no_item, same_more_items, SameDelay, same_delay_number, same_delay_name, same_delay_group, SameEventExpr, SameOtherEvent, SameEvent, same_star, same_grouped_star, same_event_name, same_terms, SameLabel, same_expressions, same_default, SameStmts, same_no_stmt, same_more_stmts, Pairwise, no_pair, pair_more, SameValue, same_no_value, same_value, SameDeclarator, SameAssignment, SameRange, same_no_range, same_range, SameForm, SameItem, same_wire, same_reg, same_integer, same_assigns, same_initial, same_always, SameModule, SameOption, both_absent, both_there, SameParameterForm, same_integer_word, same_vector, SameConstant, SameHeaderParameter, SamePortForm, SamePort, SamePorts, SameConnection, SameConnections, same_ordered, same_named, SameInstance, same_parameters, same_localparams, same_instances}
 
 -- ---- expressions
 
@@ -108,6 +117,34 @@ left_settled x y is = subst (λ (u : Left-F Left). SameLeft (roll-Left u) (roll-
 left_itself : (x : Left) → SameLeft x x
 left_itself = ind-Left (λ x. SameLeft x x) left_settled
 
+-- ---- delays, event controls and labels
+
+all_themselves : {A : Type 0} (R : A → A → Type 0) → ((x : A) → R x x) → (xs : List A) → Pairwise R xs xs
+all_themselves R h [] = no_pair
+all_themselves R h (x ∷ xs) = pair_more x x xs xs (h x) (all_themselves R h xs)
+
+delay_itself : (l : DelayValue) → SameDelay l l
+delay_itself (v.Number l) = same_delay_number l
+delay_itself (v.Name n) = same_delay_name n n refl
+delay_itself (v.Group e) = same_delay_group e e (expr_itself e)
+
+term_itself : (t : EventExpr) → SameEventExpr t t
+term_itself t = record { edge = refl; name = refl; selects = selects_themselves t.selects.items }
+
+event_itself : (e : EventControl) → SameEvent e e
+event_itself w.Star = same_star
+event_itself w.GroupedStar = same_grouped_star
+event_itself (w.Name n) = same_event_name n n refl
+event_itself (w.Terms t ts) = same_terms t t ts ts (term_itself t) (all_themselves SameOtherEvent (λ x. record { separator = refl; event = term_itself x.1 }) ts.items)
+
+labels_themselves : (es : List Expr) → SameExprs es es
+labels_themselves [] = same_no_expr
+labels_themselves (e ∷ es) = same_more_exprs e e es es (expr_itself e) (labels_themselves es)
+
+label_itself : (l : CaseLabel) → SameLabel l l
+label_itself (b.Expressions e es) = same_expressions e e es es (expr_itself e) (labels_themselves es.items)
+label_itself (b.Default colon) = same_default colon
+
 -- ---- statements
 
 abbrev InnerStmt : Type 0
@@ -120,12 +157,27 @@ stmts_themselves : (xs : List InnerStmt) → SameStmts (map (λ p. p.0) xs) (map
 stmts_themselves [] = same_no_stmt
 stmts_themselves (x ∷ xs) = same_more_stmts _ _ _ _ x.1 (stmts_themselves xs)
 
+else_itself : (o : Option (Box InnerStmt Global)) → SameElse (former-Stmt-If-2-at-2.map InnerStmt Stmt (λ p. p.0) o) (former-Stmt-If-2-at-2.map InnerStmt Stmt (λ p. p.0) o)
+else_itself None = same_no_else
+else_itself (Some x) = same_else _ _ x.value.1
+
+items_themselves : (xs : List (CaseLabel × InnerStmt)) → SameCaseItems (map (λ x. (x.0, x.1.0)) xs) (map (λ x. (x.0, x.1.0)) xs)
+items_themselves [] = same_no_item
+items_themselves (x ∷ xs) = same_more_items _ _ _ _ (label_itself x.0) x.1.1 (items_themselves xs)
+
 stmt_layer : (y : Stmt-F InnerStmt) → SameStmt (roll-Stmt (bare_stmt y)) (roll-Stmt (bare_stmt y))
 stmt_layer g.Null = rw rolls-Null same_null
 stmt_layer (g.Assign n v) = rw (rolls-Assign n v) (same_assign n n v v (left_itself n) (expr_itself v))
 stmt_layer (g.Later n v) = rw (rolls-Later n v) (same_later n n v v (left_itself n) (expr_itself v))
 stmt_layer (g.Block xs) = rw (rolls-Block _) (same_block _ _ (stmts_themselves xs.items))
-stmt_layer (g.Delay l x) = rw (rolls-Delay l _) (same_delay l _ _ x.value.1)
+stmt_layer (g.If e x o) = rw (rolls-If e _ _) (same_if e e _ _ _ _ (expr_itself e) x.value.1 (else_itself o))
+stmt_layer (g.Case kind e xs) = rw (rolls-Case kind e _) (same_case kind e e _ _ (expr_itself e) (items_themselves xs.items))
+stmt_layer (g.For l a c m b x) = rw (rolls-For l a c m b _) (same_for l l a a c c m m b b _ _ (left_itself l) (expr_itself a) (expr_itself c) (left_itself m) (expr_itself b) x.value.1)
+stmt_layer (g.While e x) = rw (rolls-While e _) (same_while e e _ _ (expr_itself e) x.value.1)
+stmt_layer (g.Repeat e x) = rw (rolls-Times e _) (same_repeated e e _ _ (expr_itself e) x.value.1)
+stmt_layer (g.Forever x) = rw (rolls-Forever _) (same_forever _ _ x.value.1)
+stmt_layer (g.Delay l x) = rw (rolls-Delay l _) (same_delay l l _ _ (delay_itself l) x.value.1)
+stmt_layer (g.Event e x) = rw (rolls-Event e _) (same_event e e _ _ (event_itself e) x.value.1)
 
 stmt_settled : (x : Stmt-F Stmt) (y : Stmt-F InnerStmt) → bare_stmt y ≡ x → SameStmt (roll-Stmt x) (roll-Stmt x)
 stmt_settled x y is = subst (λ (u : Stmt-F Stmt). SameStmt (roll-Stmt u) (roll-Stmt u)) is (stmt_layer y)
@@ -134,10 +186,6 @@ stmt_itself : (x : Stmt) → SameStmt x x
 stmt_itself = ind-Stmt (λ x. SameStmt x x) stmt_settled
 
 -- ---- modules
-
-all_themselves : {A : Type 0} (R : A → A → Type 0) → ((x : A) → R x x) → (xs : List A) → Pairwise R xs xs
-all_themselves R h [] = no_pair
-all_themselves R h (x ∷ xs) = pair_more x x xs xs (h x) (all_themselves R h xs)
 
 value_itself : (o : Option Expr) → SameValue o o
 value_itself None = same_no_value

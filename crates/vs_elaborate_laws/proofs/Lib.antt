@@ -1,7 +1,9 @@
 pub mod ItselfLemmas
 pub mod OneLineLemmas
 pub mod SameDesignLemmas
+pub mod SameEventLemmas
 pub mod SameParameterLemmas
 pub mod SameScopeLemmas
 pub mod SameStatementLemmas
+pub mod SameTargetLemmas
 pub mod SameTypedLemmas

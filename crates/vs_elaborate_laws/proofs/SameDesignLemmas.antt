@@ -29,7 +29,8 @@ use Rattle.vs_elaborate.specs.Processes.{kind_of, IsBody, is_set, is_run, is_rep
 use Rattle.vs_elaborate.specs.DesignOf.{signals_of, PartOf, parts_from, port_part, assigns_of, processes_of, IsProcess, IsAssign, Line, enter, declare, leave, IsEntry, outline_of, Represents, DesignOf}
 use Rattle.vs_elaborate_laws.specs.Same.{SameSides, SameStatement, assign_same, forever_same, SameAssign, SameProcess, SameEntry, SameDesign}
 use Rattle.vs_elaborate_laws.proofs.SameTypedLemmas.{same_meant, same_expr_aimed}
-use Rattle.vs_elaborate_laws.proofs.SameStatementLemmas.{SameAssignee, one_pair, one_sides, one_statement, same_count, one_count}
+use Rattle.vs_elaborate_laws.proofs.SameStatementLemmas.{one_statement, same_count, one_count}
+use Rattle.vs_elaborate_laws.proofs.SameTargetLemmas.{SameAssignee, one_pair, one_sides}
 use Rattle.vs_elaborate_laws.proofs.SameParameterLemmas.{pair_append, pair_map, pair_flat, flat_one, SameModulePort}
 use Rattle.vs_elaborate_laws.proofs.SameScopeLemmas.{SameScope, environment_same, signals_same, scopes_same, outlines_same}
 

@@ -1,64 +1,84 @@
 -- Statements of sources that say the same are one in a design.
-use Rattle.std.proofs.Common.{◌≡◌, ℕ, suc, ◌+◌, ◌==◌, Bool, true, false, List, [], ◌∷◌, ◌++◌, pos, Some, length, map, max, refl, ap, ap₂, sym, subst, ◌∙◌, arith}
+use Rattle.std.proofs.Common.{◌≡◌, ℕ, suc, ◌+◌, ◌==◌, Bool, true, List, [], ◌∷◌, ◌++◌, Option, Some, length, map, refl, ap, ap₂, sym, subst, ◌∙◌, arith}
 use Rattle.std.proofs.lemmas.List.{length-append}
 use Rattle.std.proofs.lemmas.Bool.{and_parts, eqb-true}
 use Rattle.std.proofs.lemmas.Option.{same_Some}
+use Rattle.std.specs.List.{AllZip, flat_map}
 use Rattle.std.specs.declared.vec.Vec.{Vec}
 use Rattle.std.specs.declared.boxed.Box.{Box}
 use Rattle.std.specs.declared.alloc.Global.{Global}
-use Rattle.vs_tokens.specs.declared.token.Literal.{Literal}
+use Rattle.vs_logic4.specs.declared.case.CaseKind.{CaseKind}
+use Rattle.vs_syntax.specs.declared.tree.CaseLabel.{CaseLabel}
+use Rattle.vs_syntax.specs.declared.tree.DelayValue.{DelayValue}
 use Rattle.vs_syntax.specs.declared.tree.Expr.{Expr}
 use Rattle.vs_syntax.specs.declared.tree.Left.{Left}
 use Rattle.vs_syntax.specs.declared.tree.Stmt.{Stmt}
 use Rattle.vs_syntax.specs.declared.tree.Stmt.TheVariants as s
-use Rattle.vs_syntax.specs.declared.tree.Stmt.TheVariants.{rolls-Null, rolls-Assign, rolls-Later, rolls-Block, rolls-Delay}
+use Rattle.vs_syntax.specs.declared.tree.Stmt.TheVariants.{rolls-Null, rolls-Assign, rolls-Later, rolls-Block, rolls-If, rolls-Case, rolls-For, rolls-While, rolls-Repeat, rolls-Forever, rolls-Delay, rolls-Event}
 use Rattle.vs_syntax.specs.declared.tree.Stmt.TheOpen as g
 use Rattle.vs_syntax.specs.declared.tree.Stmt.TheOpen.{Stmt-F}
-use Rattle.vs_syntax.specs.declared.tree.Stmt.TheViews.{out-Stmt, out-roll-Stmt}
-use Rattle.vs_syntax.specs.Same.{SameExpr, SameStmt, SameLeft, same_null, same_assign, same_later, same_block, same_delay, SameStmts, same_no_stmt, same_more_stmts}
-use Rattle.vs_logic4.specs.declared.digit.Digit.{Digit}
-use Rattle.vs_logic4.specs.Parts.{selected}
-use Rattle.vs_design.specs.Uses.{joined, aim_reads}
-use Rattle.vs_design.specs.Stores.{Store}
-use Rattle.vs_design.specs.declared.statement.Aim.{Aim}
-use Rattle.vs_eval.specs.Targets.{part_at, parts_from}
-use Rattle.vs_design.specs.WellFormed.{numbers, counts_from, aim_width}
+use Rattle.vs_syntax.specs.declared.tree.Stmt.TheViews.{roll-Stmt, out-Stmt, out-roll-Stmt}
+use Rattle.vs_syntax.specs.Same.{SameExpr, SameExprs, same_no_expr, same_more_exprs, SameDelay, same_delay_number, same_delay_name, same_delay_group, SameLabel, same_expressions, same_default, SameStmt, same_null, same_assign, same_later, same_block, same_if, same_case, same_for, same_while, same_repeated, same_forever, same_delay, same_event, SameStmts, same_no_stmt, same_more_stmts, SameElse, same_no_else, same_else, SameCaseItems, same_no_item, same_more_items}
 use Rattle.vs_design.specs.declared.expression.Typed.{Typed}
+use Rattle.vs_design.specs.declared.statement.EventTerm.{EventTerm}
 use Rattle.vs_design.specs.declared.statement.Target.{Target}
 use Rattle.vs_design.specs.declared.statement.Ticks.{Ticks}
 use Rattle.vs_design.specs.declared.statement.Statement.{Statement}
 use Rattle.vs_design.specs.declared.statement.Statement.TheVariants as d
-use Rattle.vs_forms.specs.Each.{Each, each_none, each_more}
-use Rattle.vs_selects.specs.Meants.{Meant}
-use Rattle.vs_selects.specs.Selects.{Named}
-use Rattle.vs_targets.specs.declared.kinds.AssignmentKind.{AssignmentKind}
-use Rattle.vs_targets.specs.declared.kinds.AssignmentKind.TheVariants.{Procedural}
-use Rattle.vs_targets.specs.Lefts.{Aimed, name_aimed}
-use Rattle.vs_targets.specs.Aiming.{IsPlace, IsTarget}
-use Rattle.vs_elaborate.specs.Members.{Assignee, places, named_signal}
+use Rattle.vs_design.specs.Uses.{joined}
+use Rattle.vs_design.specs.WellFormed.{numbers, counts_from}
 use Rattle.vs_selects.specs.Environment.{Environment}
-use Rattle.vs_selects.specs.Findings.{Finding, Has, Lacks}
-use Rattle.vs_widths.specs.Expressions.{meant}
+use Rattle.vs_selects.specs.Constants.{constant_finding, natural_at}
+use Rattle.vs_selects.specs.Findings.{Finding, Has, together, alike}
+use Rattle.vs_selects.specs.Meants.{own}
+use Rattle.vs_widths.specs.Expressions.{meant, name_meant}
 use Rattle.vs_widths.specs.Typing.{IsTypedAs}
-use Rattle.vs_elaborate.specs.Statements.{assigned_to, IsSource, IsAssignment, delay_of, IsStatement, is_null, is_assign, is_later, is_block, is_delay, AreStatements, are_none, are_more}
-use Rattle.vs_elaborate_laws.specs.Same.{SameTyped, SameTarget, SameSides, SameStatement, null_same, assign_same, later_same, block_same, delay_same, forever_same, SameStatements, statements_end, statement_same}
-use Rattle.vs_elaborate.proofs.StatementLemmas.{numbers_Null, numbers_Assign, numbers_Later, numbers_Block, numbers_Delay, numbers_Forever}
-use Rattle.vs_elaborate_laws.proofs.SameTypedLemmas.{by_both, same_meant, same_aimed, one_typed}
+use Rattle.vs_targets.specs.declared.kinds.AssignmentKind.TheVariants.{Procedural}
+use Rattle.vs_elaborate.specs.Members.{places}
+use Rattle.vs_elaborate.specs.Statements.{IsAssignment, IsOperand, delay_meant, delay_of, AreEvents, label_exprs, common_finding, case_finding, AreTypedAt, no_typed, more_typed, IsStatement, is_null, is_assign, is_later, is_block, is_if, is_case, is_for, is_while, is_repeat, is_forever, is_delay, is_event, IsElse, no_else, an_else, AreItems, no_items, more_items, AreStatements, are_none, are_more}
+use Rattle.vs_elaborate.proofs.StatementLemmas.{numbers_Null, numbers_Assign, numbers_Later, numbers_Block, numbers_Delay, numbers_Event, numbers_If, numbers_Case, numbers_While, numbers_Repeat, numbers_Forever, item_numbers}
+use Rattle.vs_elaborate_laws.specs.Same.{SameTyped, SameSides, SameStatement, null_same, assign_same, later_same, block_same, delay_same, event_same, if_same, case_same, while_same, repeat_same, forever_same, SameItems, items_end, item_same, SameStatements, statements_end, statement_same}
+use Rattle.vs_elaborate_laws.proofs.SameEventLemmas.{one_events}
+use Rattle.vs_elaborate_laws.proofs.SameTargetLemmas.{found_width, found_sign, one_sides}
+use Rattle.vs_elaborate_laws.proofs.SameTypedLemmas.{by_both, same_meant, one_typed}
 
-out_Null : out-Stmt s.Null ≡ g.Null
-out_Null = ap out-Stmt (sym rolls-Null) ∙ out-roll-Stmt g.Null
+-- ---- statements by their form
 
-out_Assign : (n : Left) (v : Expr) → out-Stmt (s.Assign n v) ≡ g.Assign n v
-out_Assign n v = ap out-Stmt (sym (rolls-Assign n v)) ∙ out-roll-Stmt (g.Assign n v)
+-- a `for` of a source in a design: its assignments, its condition and its statement, and how they stand there
+record IsLoop (env : Environment) (l : Left) (a c : Expr) (m : Left) (b : Expr) (x : Stmt) (made : Statement) : Type 0 where
+  i : ℕ
+  j : ℕ
+  k : ℕ
+  t : Target
+  u : Target
+  y : Typed
+  w : Typed
+  z : Typed
+  signed : Bool
+  all : Vec Statement Global
+  inner : Vec Statement Global
+  body : Box Statement Global
+  one : Statement
+  first : IsAssignment Procedural env (places l) a t y
+  condition : IsOperand env c signed z
+  second : IsAssignment Procedural env (places m) b u w
+  statement : IsStatement env x one
+  inner_is : inner.items ≡ one ∷ d.Assign k u w ∷ []
+  body_is : body.value ≡ d.Block inner
+  all_is : all.items ≡ d.Assign i t y ∷ d.While j z body ∷ []
+  is : made ≡ d.Block all
 
-out_Later : (n : Left) (v : Expr) → out-Stmt (s.Later n v) ≡ g.Later n v
-out_Later n v = ap out-Stmt (sym (rolls-Later n v)) ∙ out-roll-Stmt (g.Later n v)
-
-out_Block : (xs : Vec Stmt Global) → out-Stmt (s.Block xs) ≡ g.Block xs
-out_Block xs = ap out-Stmt (sym (rolls-Block xs)) ∙ out-roll-Stmt (g.Block xs)
-
-out_Delay : (l : Literal) (x : Box Stmt Global) → out-Stmt (s.Delay l x) ≡ g.Delay l x
-out_Delay l x = ap out-Stmt (sym (rolls-Delay l x)) ∙ out-roll-Stmt (g.Delay l x)
+-- a `case` of a source in a design: its expressions at their common size and sign, and its items
+record IsChoice (env : Environment) (kind : CaseKind) (e : Expr) (xs : List (CaseLabel × Stmt)) (made : Statement) : Type 0 where
+  k : ℕ
+  z : Typed
+  width : ℕ
+  signed : Bool
+  ys : Vec (Vec Typed Global × Statement) Global
+  found : case_finding env e (map (λ (x : CaseLabel × Stmt). x.0) xs) ≡ Has width signed
+  typed : IsTypedAs (meant env e) width signed z
+  items : AreItems env width signed xs ys.items
+  is : made ≡ d.Case k kind z ys
 
 -- what the statement of a design is, by the form of the source's
 abbrev StatementLayer : Environment → Stmt-F Stmt → Statement → Type 0
@@ -66,100 +86,187 @@ StatementLayer env g.Null y = (k : ℕ) × (y ≡ d.Null k)
 StatementLayer env (g.Assign n v) y = (k : ℕ) × (u : Target) × (x : Typed) × IsAssignment Procedural env (places n) v u x × (y ≡ d.Assign k u x)
 StatementLayer env (g.Later n v) y = (k : ℕ) × (u : Target) × (x : Typed) × IsAssignment Procedural env (places n) v u x × (y ≡ d.Later k u x)
 StatementLayer env (g.Block xs) y = (ys : Vec Statement Global) × AreStatements env xs.items ys.items × (y ≡ d.Block ys)
-StatementLayer env (g.Delay l x) y = (k : ℕ) × (n : Ticks) × (z : Box Statement Global) × (delay_of l ≡ Some n.count) × IsStatement env x.value z.value × (y ≡ d.Delay k n z)
+StatementLayer env (g.If e x o) y = (k : ℕ) × (z : Typed) × (signed : Bool) × (u w : Box Statement Global) × IsOperand env e signed z × IsStatement env x.value u.value × IsElse env o w.value × (y ≡ d.If k z u w)
+StatementLayer env (g.Case kind e xs) y = IsChoice env kind e xs.items y
+StatementLayer env (g.For l a c m b x) y = IsLoop env l a c m b x.value y
+StatementLayer env (g.While e x) y = (k : ℕ) × (z : Typed) × (signed : Bool) × (u : Box Statement Global) × IsOperand env e signed z × IsStatement env x.value u.value × (y ≡ d.While k z u)
+StatementLayer env (g.Repeat e x) y = (k : ℕ) × (z : Typed) × (signed : Bool) × (u : Box Statement Global) × IsOperand env e signed z × IsStatement env x.value u.value × (y ≡ d.Repeat k signed z u)
+StatementLayer env (g.Forever x) y = (k : ℕ) × (u : Box Statement Global) × IsStatement env x.value u.value × (y ≡ d.Forever k u)
+StatementLayer env (g.Delay l x) y = (k : ℕ) × (n : Ticks) × (u : Box Statement Global) × (delay_of env l ≡ Some n.count) × IsStatement env x.value u.value × (y ≡ d.Delay k n u)
+StatementLayer env (g.Event e x) y = (k : ℕ) × (ts : Vec EventTerm Global) × (u : Box Statement Global) × IsStatement env x.value u.value × AreEvents env u.value e ts.items × (y ≡ d.Event k ts u)
+
+-- what a statement of this form has, its layer has, and the other way round
+layered : (env : Environment) (y : Stmt-F Stmt) (z : Stmt) (made : Statement) → roll-Stmt y ≡ z → StatementLayer env y made → StatementLayer env (out-Stmt z) made
+layered env y z made h l = subst (λ o. StatementLayer env o made) (sym (ap out-Stmt (sym h) ∙ out-roll-Stmt y)) l
+
+unlayered : (env : Environment) (y : Stmt-F Stmt) (z : Stmt) (made : Statement) → roll-Stmt y ≡ z → StatementLayer env (out-Stmt z) made → StatementLayer env y made
+unlayered env y z made h l = subst (λ o. StatementLayer env o made) (ap out-Stmt (sym h) ∙ out-roll-Stmt y) l
 
 statement_layer : (env : Environment) (x : Stmt) (y : Statement) → IsStatement env x y → StatementLayer env (out-Stmt x) y
-statement_layer env _ _ (is_null k) = subst (λ z. StatementLayer env z (d.Null k)) (sym out_Null) (k, refl)
-statement_layer env _ _ (is_assign n v k u x h) = subst (λ z. StatementLayer env z (d.Assign k u x)) (sym (out_Assign n v)) (k, u, x, h, refl)
-statement_layer env _ _ (is_later n v k u x h) = subst (λ z. StatementLayer env z (d.Later k u x)) (sym (out_Later n v)) (k, u, x, h, refl)
-statement_layer env _ _ (is_block xs ys h) = subst (λ z. StatementLayer env z (d.Block ys)) (sym (out_Block xs)) (ys, h, refl)
-statement_layer env _ _ (is_delay l k n x y h j) = subst (λ z. StatementLayer env z (d.Delay k n y)) (sym (out_Delay l x)) (k, n, y, h, j, refl)
+statement_layer env x y (is_null k) = layered env g.Null x y rolls-Null (k, refl)
+statement_layer env x y (is_assign l e k t v h) = layered env (g.Assign l e) x y (rolls-Assign l e) (k, t, v, h, refl)
+statement_layer env x y (is_later l e k t v h) = layered env (g.Later l e) x y (rolls-Later l e) (k, t, v, h, refl)
+statement_layer env x y (is_block xs ys h) = layered env (g.Block xs) x y (rolls-Block xs) (ys, h, refl)
+statement_layer env x y (is_if e k z signed b o u w h p q) = layered env (g.If e b o) x y (rolls-If e b o) (k, z, signed, u, w, h, p, q, refl)
+statement_layer env x y (is_case kind e k z width signed xs ys f h n p) =
+    layered env (g.Case kind e xs) x y (rolls-Case kind e xs) (record { k = k; z = z; width = width; signed = signed; ys = ys; found = f; typed = h; items = p; is = refl })
+statement_layer env x made (is_for l a c m b v i j k t u y w z signed all inner body one f h n p q r o) =
+    layered env (g.For l a c m b v) x made (rolls-For l a c m b v)
+    (record { i = i; j = j; k = k; t = t; u = u; y = y; w = w; z = z; signed = signed; all = all; inner = inner; body = body; one = one; first = f; condition = h; second = n; statement = p; inner_is = q; body_is = r; all_is = o; is = refl })
+statement_layer env x y (is_while e k z signed b u h p) = layered env (g.While e b) x y (rolls-While e b) (k, z, signed, u, h, p, refl)
+statement_layer env x y (is_repeat e k z signed b u h p) = layered env (g.Repeat e b) x y (rolls-Repeat e b) (k, z, signed, u, h, p, refl)
+statement_layer env x y (is_forever k b u p) = layered env (g.Forever b) x y (rolls-Forever b) (k, u, p, refl)
+statement_layer env x y (is_delay l k n b u h p) = layered env (g.Delay l b) x y (rolls-Delay l b) (k, n, u, h, p, refl)
+statement_layer env x y (is_event e k ts b u p h) = layered env (g.Event e b) x y (rolls-Event e b) (k, ts, u, p, h, refl)
 
--- a size and a sign that were found
-abbrev found_width : Finding → ℕ
-found_width (Has w g) = w
-found_width (Lacks faults) = 0
+-- the layer of a statement of a known form
+by_form : (env : Environment) (y : Stmt-F Stmt) (z : Stmt) (made : Statement) → roll-Stmt y ≡ z → IsStatement env z made → StatementLayer env y made
+by_form env y z made h k = unlayered env y z made h (statement_layer env z made k)
 
-abbrev found_sign : Finding → Bool
-found_sign (Has w g) = g
-found_sign (Lacks faults) = false
+-- ---- expressions and delays
 
--- what assignments assign to says the same
-abbrev pub SameAssignee : Assignee → Assignee → Type 0
-SameAssignee (places l) (places l') = SameLeft l l'
-SameAssignee (named_signal n) (named_signal n') = n ≡ n'
-SameAssignee _ _ = ⊥
+-- expressions at one size and sign of expressions that say the same
+both_typed : (env : Environment) (e e' : Expr) (w : ℕ) (g : Bool) (y y' : Typed) → SameExpr e e' → IsTypedAs (meant env e) w g y → IsTypedAs (meant env e') w g y' → SameTyped y y'
+both_typed env e e' w g y y' m h k = one_typed (meant env e) w g y y' h (subst (λ v. IsTypedAs v w g y') (sym (same_meant env e e' m)) k)
 
-same_assigned : (how : AssignmentKind) (env : Environment) (a a' : Assignee) → SameAssignee a a' → assigned_to how env a ≡ assigned_to how env a'
-same_assigned how env (places l) (places l') h = same_aimed env how l l' h
-same_assigned how env (named_signal n) (named_signal n') h = ap (λ m. name_aimed how (env m) []) h
-same_assigned how env (places l) (named_signal n') h = absurd h
-same_assigned how env (named_signal n) (places l') h = absurd h
+-- the same at two sizes and signs that are one
+found_typed : (env : Environment) (e e' : Expr) (w w' : ℕ) (g g' : Bool) (y y' : Typed) → SameExpr e e' → Has w g ≡ Has w' g' → IsTypedAs (meant env e) w g y → IsTypedAs (meant env e') w' g' y' → SameTyped y y'
+found_typed env e e' w w' g g' y y' m i h k =
+    both_typed env e e' w g y y' m h (subst (λ z. IsTypedAs (meant env e') z g y') (sym (ap found_width i)) (subst (λ z. IsTypedAs (meant env e') w' z y') (sym (ap found_sign i)) k))
 
--- places that are what is named have its size, and read and write what it does
-module _ (how : AssignmentKind) (env : Environment) where
-  one_indices : (ns : List Named) (aims bims : List Aim) → Each (IsPlace how env) ns aims → Each (IsPlace how env) ns bims → joined (map aim_reads aims) ≡ joined (map aim_reads bims)
-  one_indices _ _ _ each_none each_none = refl
-  one_indices _ _ _ (each_more n a ns aims p ps) (each_more _ b _ bims q qs) = ap₂ (λ x y. x ++ y) (p.reads ∙ sym q.reads) (one_indices ns aims bims ps qs)
+-- conditions and counts that say the same have one sign
+one_sign : (env : Environment) (e e' : Expr) (g g' : Bool) (y y' : Typed) → SameExpr e e' → IsOperand env e g y → IsOperand env e' g' y' → g ≡ g'
+one_sign env e e' g g' y y' m h k = ap found_sign (sym h.has ∙ ap (λ v. v.finding) (same_meant env e e' m) ∙ k.has)
 
-  one_parts : (place : ℕ) (ns : List Named) (aims bims : List Aim) (digits : List Digit) (store : Store) (time : ℕ) → Each (IsPlace how env) ns aims → Each (IsPlace how env) ns bims → parts_from place aims digits store time ≡ parts_from place bims digits store time
-  one_parts place _ _ _ digits store time each_none each_none = refl
-  one_parts place _ _ _ digits store time (each_more n a ns aims p ps) (each_more _ b _ bims q qs) =
-      let width : aim_width a ≡ aim_width b = ap found_width (sym p.found ∙ q.found) in
-      let given = selected (pos place) (aim_width a) digits in
-      ap₂ (λ x y. x ∷ y) (p.part given store time ∙ sym (q.part given store time) ∙ ap (λ w. part_at b (selected (pos place) w digits) store time) width)
-      (one_parts (place + aim_width a) ns aims bims digits store time ps qs ∙ ap (λ w. parts_from (place + w) bims digits store time) width)
+-- conditions and counts that say the same are one
+one_operand : (env : Environment) (e e' : Expr) (g g' : Bool) (y y' : Typed) → SameExpr e e' → IsOperand env e g y → IsOperand env e' g' y' → SameTyped y y'
+one_operand env e e' g g' y y' m h k =
+    found_typed env e e' h.width k.width g g' y y' m (sym h.has ∙ ap (λ v. v.finding) (same_meant env e e' m) ∙ k.has) h.typed k.typed
 
-  one_target : (m : Aimed) (t t' : Target) → IsTarget how env m t → IsTarget how env m t' → SameTarget t t'
-  one_target m t t' h k = record {
-    width = ap found_width (sym h.found ∙ k.found);
-    ranges = h.ranges ∙ sym k.ranges;
-    indices = one_indices m.places t.parts.items t'.parts.items h.places k.places;
-    write = λ digits store time. one_parts 0 m.places t.parts.items t'.parts.items digits store time h.places k.places;
-  }
+same_delay_meant : (env : Environment) (l l' : DelayValue) → SameDelay l l' → delay_meant env l ≡ delay_meant env l'
+same_delay_meant env _ _ (same_delay_number n) = refl
+same_delay_meant env _ _ (same_delay_name n n' i) = ap (λ m. name_meant (env m)) i
+same_delay_meant env _ _ (same_delay_group e e' m) = same_meant env e e' m
 
--- sources of assignments that mean one thing, at one size of the target
-one_source : (v : Meant) (w w' : ℕ) (x x' : Typed) → w ≡ w' → IsSource v w x → IsSource v w' x' → SameTyped x x'
-one_source v w w' x x' i h k =
-    let one : Has h.width h.signed ≡ Has k.width k.signed = sym h.has ∙ k.has in
-    let width : max w h.width ≡ max w' k.width = ap₂ max i (ap found_width one) in
-    let sign : h.signed ≡ k.signed = ap found_sign one in
-    one_typed v (max w h.width) h.signed x x' h.typed (subst (λ z. IsTypedAs v z h.signed x') (sym width) (subst (λ z. IsTypedAs v (max w' k.width) z x') (sym sign) k.typed))
+-- delays that say the same have as many ticks
+same_ticks : (env : Environment) (l l' : DelayValue) → SameDelay l l' → delay_of env l ≡ delay_of env l'
+same_ticks env l l' m = ap (λ v. natural_at (constant_finding v) (own v [] 0)) (same_delay_meant env l l' m)
 
--- the sides of assignments whose targets and sources mean one thing
-pub one_pair : (how : AssignmentKind) (env : Environment) (a a' : Aimed) (v v' : Meant) (u u' : Target) (x x' : Typed) → a ≡ a' → v ≡ v' → IsTarget how env a u → IsSource v u.width x → IsTarget how env a' u' → IsSource v' u'.width x' → SameSides u u' x x'
-one_pair how env a a' v v' u u' x x' i m h y k z =
-    let target = one_target how env a' u u' (subst (λ t. IsTarget how env t u) i h) k in
-    record { target = target; source = one_source v' u.width u'.width x x' target.width (subst (λ t. IsSource t u.width x) m y) z }
+-- ---- the expressions of a `case`
 
--- the sides of assignments that say the same
-pub one_sides : (how : AssignmentKind) (env : Environment) (a a' : Assignee) (v v' : Expr) (u u' : Target) (x x' : Typed) → SameAssignee a a' → SameExpr v v' → IsAssignment how env a v u x → IsAssignment how env a' v' u' x' → SameSides u u' x x'
-one_sides how env a a' v v' u u' x x' i m h k =
-    one_pair how env (assigned_to how env a) (assigned_to how env a') (meant env v) (meant env v') u u' x x' (same_assigned how env a a' i) (same_meant env v v' m) h.target h.source k.target k.source
+exprs_append : (as' bs cs es : List Expr) → SameExprs as' bs → SameExprs cs es → SameExprs (as' ++ cs) (bs ++ es)
+exprs_append _ _ cs es same_no_expr k = k
+exprs_append _ _ cs es (same_more_exprs x x' xs xs' m r) k = same_more_exprs x x' (xs ++ cs) (xs' ++ es) m (exprs_append xs xs' cs es r k)
+
+same_label_exprs : (l l' : CaseLabel) → SameLabel l l' → SameExprs (label_exprs l) (label_exprs l')
+same_label_exprs _ _ (same_expressions x x' xs xs' m r) = same_more_exprs x x' xs.items xs'.items m r
+same_label_exprs _ _ (same_default colon) = same_no_expr
+
+-- the expressions of the items of a `case`
+abbrev exprs_of : List (CaseLabel × Stmt) → List Expr
+exprs_of xs = flat_map label_exprs (map (λ (x : CaseLabel × Stmt). x.0) xs)
+
+same_item_exprs : (xs xs' : List (CaseLabel × Stmt)) → SameCaseItems xs xs' → SameExprs (exprs_of xs) (exprs_of xs')
+same_item_exprs _ _ same_no_item = same_no_expr
+same_item_exprs _ _ (same_more_items x x' xs xs' m h r) = exprs_append (label_exprs x.0) (label_exprs x'.0) (exprs_of xs) (exprs_of xs') (same_label_exprs x.0 x'.0 m) (same_item_exprs xs xs' r)
+
+same_common : (env : Environment) (f f' : Finding) (es es' : List Expr) → f ≡ f' → SameExprs es es' → common_finding env f es ≡ common_finding env f' es'
+same_common env f f' _ _ i same_no_expr = i
+same_common env f f' _ _ i (same_more_exprs x x' xs xs' m r) =
+    same_common env (together alike f (meant env x).finding) (together alike f' (meant env x').finding) xs xs' (ap₂ (λ a b. together alike a b) i (ap (λ v. v.finding) (same_meant env x x' m))) r
+
+-- expressions of an item at one size and sign
+one_labels : (env : Environment) (w : ℕ) (g : Bool) (es es' : List Expr) (ys ys' : List Typed) → SameExprs es es' → AreTypedAt env w g es ys → AreTypedAt env w g es' ys' → AllZip SameTyped ys ys'
+one_labels env w g _ _ _ _ same_no_expr no_typed no_typed = tt
+one_labels env w g _ _ _ _ (same_more_exprs x x' xs xs' m r) (more_typed _ y _ ys h hs) (more_typed _ y' _ ys' k ks) =
+    (both_typed env x x' w g y y' m h k, one_labels env w g xs xs' ys ys' r hs ks)
+
+-- ---- statements
+
+-- loops whose parts say the same
+loops_same : (env : Environment) (l l' : Left) (a a' c c' : Expr) (m m' : Left) (b b' : Expr) (x x' : Stmt) (y y' : Statement) (p : IsLoop env l a c m b x y) (q : IsLoop env l' a' c' m' b' x' y') →
+    SameSides p.t q.t p.y q.y → SameTyped p.z q.z → SameSides p.u q.u p.w q.w → SameStatement p.one q.one → SameStatement y y'
+loops_same env l l' a a' c c' m m' b b' x x' y y' p q first condition second statement =
+    let inside = by_both SameStatements p.inner.items q.inner.items _ _ p.inner_is q.inner_is
+    (statement_same p.one q.one _ _ statement (statement_same _ _ [] [] (assign_same p.k q.k p.u q.u p.w q.w second) statements_end)) in
+    let body = by_both SameStatement p.body.value q.body.value _ _ p.body_is q.body_is (block_same p.inner q.inner inside) in
+    let all = by_both SameStatements p.all.items q.all.items _ _ p.all_is q.all_is
+    (statement_same _ _ _ _ (assign_same p.i q.i p.t q.t p.y q.y first) (statement_same _ _ [] [] (while_same p.j q.j p.z q.z p.body q.body condition body) statements_end)) in
+    by_both SameStatement y y' _ _ p.is q.is (block_same p.all q.all all)
 
 mutual
   -- statements that say the same are one in a design
   pub one_statement : (env : Environment) (x x' : Stmt) (y y' : Statement) → SameStmt x x' → IsStatement env x y → IsStatement env x' y' → SameStatement y y'
   one_statement env _ _ y y' same_null h k =
-      let p = subst (λ z. StatementLayer env z y) out_Null (statement_layer env s.Null y h) in
-      let q = subst (λ z. StatementLayer env z y') out_Null (statement_layer env s.Null y' k) in
+      let p = by_form env g.Null s.Null y rolls-Null h in
+      let q = by_form env g.Null s.Null y' rolls-Null k in
       by_both SameStatement y y' _ _ p.1 q.1 (null_same p.0 q.0)
-  one_statement env _ _ y y' (same_assign n n' v v' i m) h k =
-      let p = subst (λ z. StatementLayer env z y) (out_Assign n v) (statement_layer env (s.Assign n v) y h) in
-      let q = subst (λ z. StatementLayer env z y') (out_Assign n' v') (statement_layer env (s.Assign n' v') y' k) in
-      by_both SameStatement y y' _ _ p.4 q.4 (assign_same p.0 q.0 p.1 q.1 p.2 q.2 (one_sides Procedural env (places n) (places n') v v' p.1 q.1 p.2 q.2 i m p.3 q.3))
-  one_statement env _ _ y y' (same_later n n' v v' i m) h k =
-      let p = subst (λ z. StatementLayer env z y) (out_Later n v) (statement_layer env (s.Later n v) y h) in
-      let q = subst (λ z. StatementLayer env z y') (out_Later n' v') (statement_layer env (s.Later n' v') y' k) in
-      by_both SameStatement y y' _ _ p.4 q.4 (later_same p.0 q.0 p.1 q.1 p.2 q.2 (one_sides Procedural env (places n) (places n') v v' p.1 q.1 p.2 q.2 i m p.3 q.3))
+  one_statement env _ _ y y' (same_assign l l' e e' i m) h k =
+      let p = by_form env (g.Assign l e) (s.Assign l e) y (rolls-Assign l e) h in
+      let q = by_form env (g.Assign l' e') (s.Assign l' e') y' (rolls-Assign l' e') k in
+      by_both SameStatement y y' _ _ p.4 q.4 (assign_same p.0 q.0 p.1 q.1 p.2 q.2 (one_sides Procedural env (places l) (places l') e e' p.1 q.1 p.2 q.2 i m p.3 q.3))
+  one_statement env _ _ y y' (same_later l l' e e' i m) h k =
+      let p = by_form env (g.Later l e) (s.Later l e) y (rolls-Later l e) h in
+      let q = by_form env (g.Later l' e') (s.Later l' e') y' (rolls-Later l' e') k in
+      by_both SameStatement y y' _ _ p.4 q.4 (later_same p.0 q.0 p.1 q.1 p.2 q.2 (one_sides Procedural env (places l) (places l') e e' p.1 q.1 p.2 q.2 i m p.3 q.3))
   one_statement env _ _ y y' (same_block xs xs' m) h k =
-      let p = subst (λ z. StatementLayer env z y) (out_Block xs) (statement_layer env (s.Block xs) y h) in
-      let q = subst (λ z. StatementLayer env z y') (out_Block xs') (statement_layer env (s.Block xs') y' k) in
+      let p = by_form env (g.Block xs) (s.Block xs) y (rolls-Block xs) h in
+      let q = by_form env (g.Block xs') (s.Block xs') y' (rolls-Block xs') k in
       by_both SameStatement y y' _ _ p.2 q.2 (block_same p.0 q.0 (one_statements env xs.items xs'.items p.0.items q.0.items m p.1 q.1))
-  one_statement env _ _ y y' (same_delay l x x' m) h k =
-      let p = subst (λ z. StatementLayer env z y) (out_Delay l x) (statement_layer env (s.Delay l x) y h) in
-      let q = subst (λ z. StatementLayer env z y') (out_Delay l x') (statement_layer env (s.Delay l x') y' k) in
-      by_both SameStatement y y' _ _ p.5 q.5 (delay_same p.0 q.0 p.1 q.1 p.2 q.2 (same_Some p.1.count q.1.count (sym p.3 ∙ q.3)) (one_statement env x.value x'.value p.2.value q.2.value m p.4 q.4))
+  one_statement env _ _ y y' (same_if e e' x x' o o' i m r) h k =
+      let p = by_form env (g.If e x o) (s.If e x o) y (rolls-If e x o) h in
+      let q = by_form env (g.If e' x' o') (s.If e' x' o') y' (rolls-If e' x' o') k in
+      by_both SameStatement y y' _ _ p.8 q.8
+      (if_same p.0 q.0 p.1 q.1 p.3 q.3 p.4 q.4 (one_operand env e e' p.2 q.2 p.1 q.1 i p.5 q.5) (one_statement env x.value x'.value p.3.value q.3.value m p.6 q.6) (one_else env o o' p.4.value q.4.value r p.7 q.7))
+  one_statement env _ _ y y' (same_case kind e e' xs xs' i m) h k =
+      let p = by_form env (g.Case kind e xs) (s.Case kind e xs) y (rolls-Case kind e xs) h in
+      let q = by_form env (g.Case kind e' xs') (s.Case kind e' xs') y' (rolls-Case kind e' xs') k in
+      let one : Has p.width p.signed ≡ Has q.width q.signed
+      = sym p.found ∙ same_common env (meant env e).finding (meant env e').finding (exprs_of xs.items) (exprs_of xs'.items) (ap (λ v. v.finding) (same_meant env e e' i)) (same_item_exprs xs.items xs'.items m) ∙ q.found in
+      by_both SameStatement y y' _ _ p.is q.is
+      (case_same p.k q.k kind p.z q.z p.ys q.ys (found_typed env e e' p.width q.width p.signed q.signed p.z q.z i one p.typed q.typed)
+      (one_items env p.width q.width p.signed q.signed xs.items xs'.items p.ys.items q.ys.items (ap found_width one) (ap found_sign one) m p.items q.items))
+  one_statement env _ _ y y' (same_for l l' a a' c c' n n' b b' x x' i1 i2 i3 i4 i5 m) h k =
+      let p = by_form env (g.For l a c n b x) (s.For l a c n b x) y (rolls-For l a c n b x) h in
+      let q = by_form env (g.For l' a' c' n' b' x') (s.For l' a' c' n' b' x') y' (rolls-For l' a' c' n' b' x') k in
+      loops_same env l l' a a' c c' n n' b b' x.value x'.value y y' p q (one_sides Procedural env (places l) (places l') a a' p.t q.t p.y q.y i1 i2 p.first q.first)
+      (one_operand env c c' p.signed q.signed p.z q.z i3 p.condition q.condition) (one_sides Procedural env (places n) (places n') b b' p.u q.u p.w q.w i4 i5 p.second q.second)
+      (one_statement env x.value x'.value p.one q.one m p.statement q.statement)
+  one_statement env _ _ y y' (same_while e e' x x' i m) h k =
+      let p = by_form env (g.While e x) (s.While e x) y (rolls-While e x) h in
+      let q = by_form env (g.While e' x') (s.While e' x') y' (rolls-While e' x') k in
+      by_both SameStatement y y' _ _ p.6 q.6 (while_same p.0 q.0 p.1 q.1 p.3 q.3 (one_operand env e e' p.2 q.2 p.1 q.1 i p.4 q.4) (one_statement env x.value x'.value p.3.value q.3.value m p.5 q.5))
+  one_statement env _ _ y y' (same_repeated e e' x x' i m) h k =
+      let p = by_form env (g.Repeat e x) (s.Repeat e x) y (rolls-Repeat e x) h in
+      let q = by_form env (g.Repeat e' x') (s.Repeat e' x') y' (rolls-Repeat e' x') k in
+      by_both SameStatement y y' _ _ p.6 (q.6 ∙ ap (λ z. d.Repeat q.0 z q.1 q.3) (sym (one_sign env e e' p.2 q.2 p.1 q.1 i p.4 q.4)))
+      (repeat_same p.0 q.0 p.2 p.1 q.1 p.3 q.3 (one_operand env e e' p.2 q.2 p.1 q.1 i p.4 q.4) (one_statement env x.value x'.value p.3.value q.3.value m p.5 q.5))
+  one_statement env _ _ y y' (same_forever x x' m) h k =
+      let p = by_form env (g.Forever x) (s.Forever x) y (rolls-Forever x) h in
+      let q = by_form env (g.Forever x') (s.Forever x') y' (rolls-Forever x') k in
+      by_both SameStatement y y' _ _ p.3 q.3 (forever_same p.0 q.0 p.1 q.1 (one_statement env x.value x'.value p.1.value q.1.value m p.2 q.2))
+  one_statement env _ _ y y' (same_delay l l' x x' i m) h k =
+      let p = by_form env (g.Delay l x) (s.Delay l x) y (rolls-Delay l x) h in
+      let q = by_form env (g.Delay l' x') (s.Delay l' x') y' (rolls-Delay l' x') k in
+      by_both SameStatement y y' _ _ p.5 q.5
+      (delay_same p.0 q.0 p.1 q.1 p.2 q.2 (same_Some p.1.count q.1.count (sym p.3 ∙ same_ticks env l l' i ∙ q.3)) (one_statement env x.value x'.value p.2.value q.2.value m p.4 q.4))
+  one_statement env _ _ y y' (same_event e e' x x' i m) h k =
+      let p = by_form env (g.Event e x) (s.Event e x) y (rolls-Event e x) h in
+      let q = by_form env (g.Event e' x') (s.Event e' x') y' (rolls-Event e' x') k in
+      let body = one_statement env x.value x'.value p.2.value q.2.value m p.3 q.3 in
+      by_both SameStatement y y' _ _ p.5 q.5 (event_same p.0 q.0 p.1 q.1 p.2 q.2 (one_events env p.2.value q.2.value e e' p.1.items q.1.items body i p.4 q.4) body)
+
+  one_else : (env : Environment) (o o' : Option (Box Stmt Global)) (y y' : Statement) → SameElse o o' → IsElse env o y → IsElse env o' y' → SameStatement y y'
+  one_else env _ _ _ _ same_no_else (no_else ys h) (no_else ys' k) = block_same ys ys' (by_both SameStatements ys.items ys'.items [] [] h k statements_end)
+  one_else env _ _ _ _ (same_else x x' m) (an_else _ y h) (an_else _ y' k) = one_statement env x.value x'.value y y' m h k
+
+  one_items : (env : Environment) (w w' : ℕ) (g g' : Bool) (xs xs' : List (CaseLabel × Stmt)) (ys ys' : List (Vec Typed Global × Statement)) → w ≡ w' → g ≡ g' → SameCaseItems xs xs' →
+      AreItems env w g xs ys → AreItems env w' g' xs' ys' → SameItems ys ys'
+  one_items env w w' g g' _ _ _ _ i j same_no_item (no_items _ _) (no_items _ _) = items_end
+  one_items env w w' g g' _ _ _ _ i j (same_more_items x x' xs xs' m n r) (more_items _ _ _ y _ ys h p hs) (more_items _ _ _ y' _ ys' k q ks) =
+      let sized = subst (λ z. AreTypedAt env z g (label_exprs x'.0) y'.0.items) (sym i) (subst (λ z. AreTypedAt env w' z (label_exprs x'.0) y'.0.items) (sym j) k) in
+      item_same y y' ys ys' (one_labels env w g (label_exprs x.0) (label_exprs x'.0) y.0.items y'.0.items (same_label_exprs x.0 x'.0 m) h sized) (one_statement env x.1 x'.1 y.1 y'.1 n p q)
+      (one_items env w w' g g' xs xs' ys ys' i j r hs ks)
 
   one_statements : (env : Environment) (xs xs' : List Stmt) (ys ys' : List Statement) → SameStmts xs xs' → AreStatements env xs ys → AreStatements env xs' ys' → SameStatements ys ys'
   one_statements env _ _ _ _ same_no_stmt are_none are_none = statements_end
@@ -168,6 +275,10 @@ mutual
 
 -- ---- the numbers of statements
 
+-- lists with as many elements, one after another
+as_many : (a a' b b' : List ℕ) → length a ≡ length a' → length b ≡ length b' → length (a ++ b) ≡ length (a' ++ b')
+as_many a a' b b' h k = length-append a b ∙ ap₂ (λ m n. m + n) h k ∙ sym (length-append a' b')
+
 mutual
   pub same_count : (y y' : Statement) → SameStatement y y' → length (numbers y) ≡ length (numbers y')
   same_count _ _ (null_same k k') = ap length (numbers_Null k) ∙ sym (ap length (numbers_Null k'))
@@ -175,12 +286,23 @@ mutual
   same_count _ _ (later_same k k' u u' x x' m) = ap length (numbers_Later k u x) ∙ sym (ap length (numbers_Later k' u' x'))
   same_count _ _ (block_same xs xs' m) = ap length (numbers_Block xs) ∙ same_counts xs.items xs'.items m ∙ sym (ap length (numbers_Block xs'))
   same_count _ _ (delay_same k k' n n' x x' c m) = ap length (numbers_Delay k n x) ∙ ap suc (same_count x.value x'.value m) ∙ sym (ap length (numbers_Delay k' n' x'))
+  same_count _ _ (event_same k k' ts ts' x x' c m) = ap length (numbers_Event k ts x) ∙ ap suc (same_count x.value x'.value m) ∙ sym (ap length (numbers_Event k' ts' x'))
+  same_count _ _ (if_same k k' e e' x x' z z' h m r) =
+      ap length (numbers_If k e x z) ∙ ap suc (as_many (numbers x.value) (numbers x'.value) (numbers z.value) (numbers z'.value) (same_count x.value x'.value m) (same_count z.value z'.value r)) ∙ sym (ap length (numbers_If k' e' x' z'))
+  same_count _ _ (case_same k k' kind e e' xs xs' h m) = ap length (numbers_Case k kind e xs) ∙ ap suc (same_item_counts xs.items xs'.items m) ∙ sym (ap length (numbers_Case k' kind e' xs'))
+  same_count _ _ (while_same k k' e e' x x' h m) = ap length (numbers_While k e x) ∙ ap suc (same_count x.value x'.value m) ∙ sym (ap length (numbers_While k' e' x'))
+  same_count _ _ (repeat_same k k' signed e e' x x' h m) = ap length (numbers_Repeat k signed e x) ∙ ap suc (same_count x.value x'.value m) ∙ sym (ap length (numbers_Repeat k' signed e' x'))
   same_count _ _ (forever_same k k' x x' m) = ap length (numbers_Forever k x) ∙ ap suc (same_count x.value x'.value m) ∙ sym (ap length (numbers_Forever k' x'))
 
   same_counts : (xs xs' : List Statement) → SameStatements xs xs' → length (joined (map numbers xs)) ≡ length (joined (map numbers xs'))
   same_counts _ _ statements_end = refl
   same_counts _ _ (statement_same x x' xs xs' m r) =
-      length-append (numbers x) (joined (map numbers xs)) ∙ ap (λ z. z + length (joined (map numbers xs))) (same_count x x' m) ∙ ap (λ z. length (numbers x') + z) (same_counts xs xs' r) ∙ sym (length-append (numbers x') (joined (map numbers xs')))
+      as_many (numbers x) (numbers x') (joined (map numbers xs)) (joined (map numbers xs')) (same_count x x' m) (same_counts xs xs' r)
+
+  same_item_counts : (xs xs' : List (Vec Typed Global × Statement)) → SameItems xs xs' → length (joined (map item_numbers xs)) ≡ length (joined (map item_numbers xs'))
+  same_item_counts _ _ items_end = refl
+  same_item_counts _ _ (item_same x x' xs xs' h m r) =
+      as_many (numbers x.1) (numbers x'.1) (joined (map item_numbers xs)) (joined (map item_numbers xs')) (same_count x.1 x'.1 m) (same_item_counts xs xs' r)
 
 -- numbers that count up from one on are determined by how many they are
 pub one_count : (a : ℕ) (ns ms : List ℕ) → length ns ≡ length ms → counts_from a ns ≡ true → counts_from a ms ≡ true → ns ≡ ms

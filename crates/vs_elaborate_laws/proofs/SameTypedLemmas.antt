@@ -107,7 +107,7 @@ module _ (env : Environment) where
     same_parts _ _ (same_more_exprs x x' xs xs' m r) = ap₂ (λ k ks. k ∷ ks) (same_meant x x' m) (same_parts xs xs' r)
 
   -- what the selects of a left side mean
-  same_named : (ss ss' : List (Expr × Option (PartSelect × Expr))) → SameSelects ss ss' → meant_selects env ss ≡ meant_selects env ss'
+  pub same_named : (ss ss' : List (Expr × Option (PartSelect × Expr))) → SameSelects ss ss' → meant_selects env ss ≡ meant_selects env ss'
   same_named _ _ same_no_select = refl
   same_named _ _ (same_more_selects (x, o) (x', o') xs xs' m r rs) = ap₂ (λ k ks. k ∷ ks) (one o o' r) (same_named xs xs' rs)
     where

@@ -1,11 +1,13 @@
 -- When two designs say the same: they differ at most in where their parts lie in memory.
-use Rattle.std.specs.Prelude.{◌≡◌, ℕ, List, [], ◌∷◌, map}
+use Rattle.std.specs.Prelude.{◌≡◌, ℕ, Bool, List, [], ◌∷◌, map}
 use Rattle.std.specs.List.{AllZip}
 use Rattle.std.specs.declared.vec.Vec.{Vec}
 use Rattle.std.specs.declared.boxed.Box.{Box}
 use Rattle.std.specs.declared.alloc.Global.{Global}
+use Rattle.vs_logic4.specs.declared.case.CaseKind.{CaseKind}
 use Rattle.vs_logic4.specs.declared.digit.Digit.{Digit}
 use Rattle.vs_design.specs.declared.expression.Typed.{Typed}
+use Rattle.vs_design.specs.declared.statement.EventTerm.{EventTerm}
 use Rattle.vs_design.specs.declared.statement.Target.{Target}
 use Rattle.vs_design.specs.declared.statement.Ticks.{Ticks}
 use Rattle.vs_design.specs.declared.statement.Statement.{Statement}
@@ -49,7 +51,23 @@ mutual
     block_same : (xs xs' : Vec Statement Global) → SameStatements xs.items xs'.items → SameStatement (d.Block xs) (d.Block xs')
     delay_same : (k k' : ℕ) (n n' : Ticks) (x x' : Box Statement Global) → n.count ≡ n'.count → SameStatement x.value x'.value →
         SameStatement (d.Delay k n x) (d.Delay k' n' x')
+    event_same : (k k' : ℕ) (ts ts' : Vec EventTerm Global) (x x' : Box Statement Global) → ts.items ≡ ts'.items → SameStatement x.value x'.value →
+        SameStatement (d.Event k ts x) (d.Event k' ts' x')
+    if_same : (k k' : ℕ) (e e' : Typed) (x x' z z' : Box Statement Global) → SameTyped e e' → SameStatement x.value x'.value →
+        SameStatement z.value z'.value → SameStatement (d.If k e x z) (d.If k' e' x' z')
+    case_same : (k k' : ℕ) (kind : CaseKind) (e e' : Typed) (xs xs' : Vec (Vec Typed Global × Statement) Global) → SameTyped e e' →
+        SameItems xs.items xs'.items → SameStatement (d.Case k kind e xs) (d.Case k' kind e' xs')
+    while_same : (k k' : ℕ) (e e' : Typed) (x x' : Box Statement Global) → SameTyped e e' → SameStatement x.value x'.value →
+        SameStatement (d.While k e x) (d.While k' e' x')
+    repeat_same : (k k' : ℕ) (signed : Bool) (e e' : Typed) (x x' : Box Statement Global) → SameTyped e e' → SameStatement x.value x'.value →
+        SameStatement (d.Repeat k signed e x) (d.Repeat k' signed e' x')
     forever_same : (k k' : ℕ) (x x' : Box Statement Global) → SameStatement x.value x'.value → SameStatement (d.Forever k x) (d.Forever k' x')
+
+  -- The same of the items of a `case`, each with its expressions (clause 9.5).
+  pub data SameItems : List (Vec Typed Global × Statement) → List (Vec Typed Global × Statement) → Type 0 where
+    items_end : SameItems [] []
+    item_same : (x x' : Vec Typed Global × Statement) (xs xs' : List (Vec Typed Global × Statement)) → AllZip SameTyped x.0.items x'.0.items →
+        SameStatement x.1 x'.1 → SameItems xs xs' → SameItems (x ∷ xs) (x' ∷ xs')
 
   -- The same of statements one after another (clause 9.8.1).
   pub data SameStatements : List Statement → List Statement → Type 0 where

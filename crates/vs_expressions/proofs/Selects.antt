@@ -7,7 +7,7 @@ use Rattle.vs_syntax.specs.Grammar.{Grammar, ◌·◌, part, mark, name, number,
 use Rattle.vs_syntax.specs.Tables.{goes}
 use Rattle.vs_syntax.specs.Derivation.{Tree, empty, leaf, both, down, height}
 use Rattle.vs_syntax.specs.Reading.{Gets, Stuck, stuck_second, stuck_left, stuck_right, stuck_many, stuck_part, stuck_link, stuck_high}
-use Rattle.vs_syntax.specs.Views.{row_of, part_mark, selects_tree}
+use Rattle.vs_syntax.specs.Views.{row_of, part_mark, some_tree}
 use Rattle.vs_syntax.specs.declared.tree.PartSelect.{PartSelect}
 use Rattle.vs_syntax.specs.declared.tree.PartSelect.TheVariants as p
 use Rattle.vs_syntax.proofs.Gets.{gets_nothing, gets_token, gets_seq, gets_left, gets_right, gets_part, gets_stop, gets_one, gets_chain}
@@ -64,7 +64,7 @@ pub selects_read : (room : ℕ) (start rest : List Symbol) (xs : List Tree) → 
 selects_read room start rest xs l h = all_read select room start rest rest xs l (gets_stop h)
 
 -- what stands behind a name has a select where a bracket is next
-some_selects : (room : ℕ) (start after rest : List Symbol) (xs : List Tree) → start ≡ a_mark m.OpenBracket ∷ after → Gets (many select) room start (row_of xs) rest → selects_tree xs ≡ row_of xs
+some_selects : (room : ℕ) (start after rest : List Symbol) (xs : List Tree) → start ≡ a_mark m.OpenBracket ∷ after → Gets (many select) room start (row_of xs) rest → some_tree xs ≡ row_of xs
 some_selects room start after rest [] e q = absurd (some_there select room start rest (select_goes start after e) q)
 some_selects room start after rest (x ∷ xs) e q = refl
 
@@ -86,10 +86,10 @@ name_high room ts start after s e q f h = named_stuck room true ts start e (stuc
 pub name_stuck : (room : ℕ) (deep : Bool) (ts start after at : List Symbol) (s : Symbol) → first ts ≡ any_name → 0 < room → Gets name room ts (leaf s) start → start ≡ a_mark m.OpenBracket ∷ after → Stuck (many select) (room - 1) deep start at → Stuck (part an_operand) room deep ts at
 name_stuck room deep ts start after at s e h q f t = named_stuck room deep ts at e (stuck_link q h (ap (goes (one_or_more select)) f) (more_stuck t))
 
-pub name_read : (room : ℕ) (ts start after rest : List Symbol) (s : Symbol) (xs : List Tree) → first ts ≡ any_name → 0 < room → Gets name room ts (leaf s) start → start ≡ a_mark m.OpenBracket ∷ after → Gets (many select) (room - 1) start (row_of xs) rest → Gets (part an_operand) room ts (down (both (leaf s) (selects_tree xs))) rest
+pub name_read : (room : ℕ) (ts start after rest : List Symbol) (s : Symbol) (xs : List Tree) → first ts ≡ any_name → 0 < room → Gets name room ts (leaf s) start → start ≡ a_mark m.OpenBracket ∷ after → Gets (many select) (room - 1) start (row_of xs) rest → Gets (part an_operand) room ts (down (both (leaf s) (some_tree xs))) rest
 name_read room ts start after rest s xs e h q f t =
     rw (some_selects (room - 1) start after rest xs f t)
     (named_read room ts rest (down (both (leaf s) (row_of xs))) e (gets_chain q h (ap (goes (one_or_more select)) f) (more_read select (room - 1) start rest (row_of xs) (select_goes start after f) t)))
 
-pub name_height : (room : ℕ) (start after rest : List Symbol) (s : Symbol) (xs : List Tree) → start ≡ a_mark m.OpenBracket ∷ after → Gets (many select) room start (row_of xs) rest → height (down (both (leaf s) (selects_tree xs))) ≡ height (down (row_of xs))
-name_height room start after rest s xs e q = let k : height (selects_tree xs) ≡ height (row_of xs) = ap height (some_selects room start after rest xs e q) in omega (arith, k)
+pub name_height : (room : ℕ) (start after rest : List Symbol) (s : Symbol) (xs : List Tree) → start ≡ a_mark m.OpenBracket ∷ after → Gets (many select) room start (row_of xs) rest → height (down (both (leaf s) (some_tree xs))) ≡ height (down (row_of xs))
+name_height room start after rest s xs e q = let k : height (some_tree xs) ≡ height (row_of xs) = ap height (some_selects room start after rest xs e q) in omega (arith, k)

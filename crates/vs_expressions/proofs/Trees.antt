@@ -4,7 +4,7 @@ use Rattle.std.proofs.Common.{ap, sym, ◌∙◌}
 use Rattle.vs_tokens.specs.declared.token.Mark.TheVariants as m
 use Rattle.vs_syntax.specs.Symbols.{a_mark, a_number, a_cast}
 use Rattle.vs_syntax.specs.Derivation.{Tree, leaf, both, down}
-use Rattle.vs_syntax.specs.Views.{row_of, name_tree, unary_mark, link_tree, choice_tree, others_tree, repeated_tree, closed_tree, select_tree, selects_tree, chosen_tree, expr_step, expr_tree}
+use Rattle.vs_syntax.specs.Views.{row_of, name_tree, unary_mark, link_tree, choice_tree, others_tree, repeated_tree, closed_tree, select_tree, some_tree, chosen_tree, expr_step, expr_tree}
 use Rattle.vs_logic4.specs.declared.operators.Binary.{Binary}
 use Rattle.vs_syntax.specs.declared.tree.Expr.{Expr, fold-roll-Expr}
 use Rattle.vs_syntax.specs.declared.tree.PartSelect.{PartSelect}
@@ -27,8 +27,8 @@ mapped : (xs : List (Expr × Option (PartSelect × Expr))) → map select_tree (
 mapped [] = refl
 mapped (x ∷ xs) = rw (mapped_one x.0 x.1, mapped xs) refl
 
-pub tree_Select : (n ss : _) → expr_tree (e.Select n ss) ≡ down (both (name_tree n.items) (selects_tree (map chosen_tree ss.items)))
-tree_Select n ss = ap expr_tree (sym (rolls-Select n ss)) ∙ fold-roll-Expr Tree expr_step _ ∙ ap (λ u. down (both (name_tree n.items) (selects_tree u))) (mapped ss.items)
+pub tree_Select : (n ss : _) → expr_tree (e.Select n ss) ≡ down (both (name_tree n.items) (some_tree (map chosen_tree ss.items)))
+tree_Select n ss = ap expr_tree (sym (rolls-Select n ss)) ∙ fold-roll-Expr Tree expr_step _ ∙ ap (λ u. down (both (name_tree n.items) (some_tree u))) (mapped ss.items)
 
 pub tree_Group : (x : _) → expr_tree (e.Group x) ≡ down (both (leaf (a_mark m.Open)) (closed_tree (expr_tree x.value)))
 tree_Group x = ap expr_tree (sym (rolls-Group x)) ∙ fold-roll-Expr Tree expr_step _

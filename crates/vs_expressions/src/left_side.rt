@@ -2,9 +2,9 @@
 ghost use Rattle.std.specs.Prelude.{◌≡◌, ◌≤◌, ◌∷◌, map};
 ghost use Rattle.vs_tokens.specs.declared.token.Mark.TheVariants as m;
 ghost use Rattle.vs_syntax.specs.Symbols.{a_mark, any_name, first};
-ghost use Rattle.vs_syntax.specs.Grammar.{part, other_parts, a_target};
+ghost use Rattle.vs_syntax.specs.Grammar.{part, many, select, other_parts, a_target};
 ghost use Rattle.vs_syntax.specs.Tables.{low_of};
-ghost use Rattle.vs_syntax.specs.Views.{others_tree, left_tree};
+ghost use Rattle.vs_syntax.specs.Views.{row_of, chosen_tree, others_tree, left_tree};
 ghost use Rattle.vs_expressions.specs.Answers.{seen, Reads};
 
 use crate::expression::selects;
@@ -13,7 +13,7 @@ use crate::reading::{Read, Stop};
 use crate::token::{expect_mark, expect_name, mark_at};
 use std::alloc::Global;
 use vs_lexer::{Mark, Token};
-use vs_syntax::Left;
+use vs_syntax::{Expr, Left, PartSelect};
 
 /// Reads the left side of an assignment, in at most `room` nodes below one another.
 #[cycle(left)]
@@ -49,6 +49,21 @@ fn place<'t, 's>(
     let read = selects(alloc, room - 1, after_name)?;
     Ok(Read {
         tree: Left::Name(name, read.tree),
+        rest: read.rest,
+    })
+}
+
+/// Reads the selects that are next behind a name, in at most `room` nodes below one another.
+pub fn name_selects<'t, 's>(
+    alloc: Global,
+    room: u32,
+    tokens: &'t [Token<'s>],
+) -> Result<Read<'t, 's, Vec<(Expr, Option<(PartSelect, Expr)>)>>, Stop<'t, 's>>
+    ensures { Reads (many select) room tokens.now (λ xs. row_of (map chosen_tree xs.items)) result }
+{
+    let read = selects(alloc, room, tokens)?;
+    Ok(Read {
+        tree: read.tree,
         rest: read.rest,
     })
 }

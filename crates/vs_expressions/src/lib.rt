@@ -10,6 +10,6 @@ mod token;
 
 pub use expression::expr;
 pub use head::begins_expr;
-pub use left_side::left;
+pub use left_side::{left, name_selects};
 pub use reading::{Read, Stop};
 pub use token::{cast, expect_mark, expect_name, expect_word, literal, mark_at, next, word_at};

@@ -16,8 +16,10 @@ use Rattle.vs_design.specs.WellFormed.{WellFormed, size_step, size_of, is_sound_
 use Rattle.vs_process.specs.declared.moves.Grain.{Grain}
 use Rattle.vs_process.specs.declared.moves.Move.{Move}
 use Rattle.vs_process.specs.declared.moves.Move.TheVariants.{Step, Evaluate, Propagate, Make, Rouse, Activate, EndSlot}
-use Rattle.vs_process.specs.Places.{Place, ended}
-use Rattle.vs_process.specs.States.{AssignState, State, Update, evaluate, make, propagate, propagate_value, roused, stepped}
+use Rattle.vs_flatcode.specs.Places.{Place, ended}
+use Rattle.vs_process.specs.States.{AssignState, State, Update, evaluate, make, propagate, propagate_value, roused, stepped, wakened}
+use Rattle.vs_design.specs.Stores.{put}
+use Rattle.vs_eval.specs.Targets.{assigned}
 use Rattle.vs_process.specs.Executions.{after, ends, next_time, places_at}
 use Rattle.vs_independence.specs.Carry.{ACarryIsDisciplined, carried, carrying, first_assign, low_bit, second_assign}
 use Rattle.vs_independence.specs.Discipline.{Begins, IsOrdered, KeepsApart}
@@ -113,11 +115,11 @@ propagated_nowhere s j (Some x) h = at_value x.pending
   where
     at_value : (o : _) → (propagate_value s j x o).places ≡ []
     at_value None = h
-    at_value (Some digits) = h
+    at_value (Some digits) = ap (λ l. map (wakened s.store (put s.store (assigned x.target digits s.store s.time))) l) h
 
 made_nowhere : (s : State) (i : ℕ) (o : Option Update) → s.places ≡ [] → (make s i o).places ≡ []
 made_nowhere s i None h = h
-made_nowhere s i (Some u) h = h
+made_nowhere s i (Some u) h = ap (λ l. map (wakened s.store (put s.store u.what)) l) h
 
 nowhere : (g : Global) (moves : List Move) → (after (carrying g) moves).places ≡ []
 nowhere g [] = refl

@@ -9,12 +9,13 @@ use Rattle.vs_design.specs.Parts.{Parts}
 use Rattle.vs_design.specs.Stores.{Store, put, is_driven}
 use Rattle.vs_process.specs.declared.moves.Move.{Move}
 use Rattle.vs_process.specs.declared.moves.Move.TheVariants.{Step, Evaluate, Propagate, Make, Rouse, Activate, EndSlot}
-use Rattle.vs_process.specs.Places.{Place, going, sleeping, inactive, ended, is_going, is_inactive}
+use Rattle.vs_flatcode.specs.Places.{Place, going, sleeping, inactive, waiting, ended, is_going, is_inactive}
 use Rattle.vs_process.specs.States.{State, AssignState, Update, is_due, activated, stepped, evaluate, propagate, propagate_value, make}
 use Rattle.vs_process.specs.Executions.{is_first, if_some, is_busy, has_inactive, has_due, is_enabled, apply, ends, next_time, slot_behind, places_at, time_at}
 use Rattle.vs_process.proofs.Lists.{any_at, none_at}
 use Rattle.vs_independence.specs.Threads.{Thread, IsThread, iterate, turn, opening, writes, any_names}
 use Rattle.vs_independence.proofs.Assigns.{DrivesWell}
+use Rattle.vs_independence.proofs.Events.{IsSilent}
 use Rattle.vs_independence.proofs.Stores.{names_some, by, left, put_active, put_active_local, put_active_by, by-left, by-activated, filter_hit}
 use Rattle.vs_independence.proofs.Threads.{is_stopped, stopped_unique}
 use Rattle.vs_independence.proofs.Settle.{AllIdle, settled_unique, idle_unique}
@@ -39,12 +40,14 @@ not_going : (p : Place) → is_stopped p ≡ true → is_going p ≡ true → �
 not_going (going gait todo) h g = false≢true h
 not_going (sleeping due todo) h g = false≢true g
 not_going (inactive todo) h g = false≢true g
+not_going (waiting terms todo) h g = false≢true g
 not_going ended h g = false≢true g
 
 not_inactive : (p : Place) → is_stopped p ≡ true → is_inactive p ≡ true → ⊥
 not_inactive (going gait todo) h g = false≢true g
 not_inactive (sleeping due todo) h g = false≢true g
 not_inactive (inactive todo) h g = false≢true h
+not_inactive (waiting terms todo) h g = false≢true g
 not_inactive ended h g = false≢true g
 
 -- an element of a list of which all pass
@@ -103,45 +106,45 @@ IsInner EndSlot = ⊥
 IsInner _ = Unit {0}
 
 -- every move within a slot keeps what holds there
-pub inner_kept : (d : Parts) → DrivesWell d → (b s : State) → Apart d b → (m : Move) → IsInner m → is_enabled s m ≡ true → InSlot d b s → InSlot d b (apply m s)
-inner_kept d well b s apart (Step i) inner h (inl r) =
+pub inner_kept : (d : Parts) → DrivesWell d → (b s : State) → Apart d b → IsSilent s → (m : Move) → IsInner m → is_enabled s m ≡ true → InSlot d b s → InSlot d b (apply m s)
+inner_kept d well b s apart silent (Step i) inner h (inl r) =
     let p = some_of is_going (slice_get s.places i) h in
-    inl (subst (λ (o : Option Place). Runs d b (stepped s i o)) (sym p.1) (step_runs d b s apart r i p.0 p.1 p.2))
-inner_kept d well b s apart (Step i) inner h (inr m) =
+    inl (subst (λ (o : Option Place). Runs d b (stepped s i o)) (sym p.1) (step_runs d b s apart silent r i p.0 p.1 p.2))
+inner_kept d well b s apart silent (Step i) inner h (inr m) =
     let p = some_of is_going (slice_get s.places i) h in
     absurd (not_going p.0 (stopped_at d b s m i p.0 p.1) p.2)
-inner_kept d well b s apart (Evaluate j) inner h (inl r) =
+inner_kept d well b s apart silent (Evaluate j) inner h (inl r) =
     let x = some_of (λ (x : AssignState). x.needs) (slice_get s.assigns j) h in
     inl (subst (λ (o : Option AssignState). Runs d b (evaluate s j o)) (sym x.1) (evaluate_runs d well b s r j x.0 x.1 x.2))
-inner_kept d well b s apart (Evaluate j) inner h (inr m) =
+inner_kept d well b s apart silent (Evaluate j) inner h (inr m) =
     let x = some_of (λ (x : AssignState). x.needs) (slice_get s.assigns j) h in
     inr (subst (λ (o : Option AssignState). Making d b (evaluate s j o)) (sym x.1) (evaluate_makes d well b s m j x.0 x.1))
-inner_kept d well b s apart (Propagate j) inner h (inl r) =
+inner_kept d well b s apart silent (Propagate j) inner h (inl r) =
     let x = some_of (λ (x : AssignState). is_some x.pending) (slice_get s.assigns j) h in
     let v = pending_of x.0.pending x.2 in
     inl (subst (λ (o : Option AssignState). Runs d b (propagate s j o)) (sym x.1)
-    (subst (λ (p : Option (List Digit)). Runs d b (propagate_value s j x.0 p)) (sym v.1) (propagate_runs d well b s apart r j x.0 v.0 x.1 v.1)))
-inner_kept d well b s apart (Propagate j) inner h (inr m) =
+    (subst (λ (p : Option (List Digit)). Runs d b (propagate_value s j x.0 p)) (sym v.1) (propagate_runs d well b s apart silent r j x.0 v.0 x.1 v.1)))
+inner_kept d well b s apart silent (Propagate j) inner h (inr m) =
     let x = some_of (λ (x : AssignState). is_some x.pending) (slice_get s.assigns j) h in
     let v = pending_of x.0.pending x.2 in
     inr (subst (λ (o : Option AssignState). Making d b (propagate s j o)) (sym x.1)
-    (subst (λ (p : Option (List Digit)). Making d b (propagate_value s j x.0 p)) (sym v.1) (propagate_makes d well b s m j x.0 v.0 x.1 v.1)))
-inner_kept d well b s apart (Make i) inner h (inl (th, r)) =
+    (subst (λ (p : Option (List Digit)). Making d b (propagate_value s j x.0 p)) (sym v.1) (propagate_makes d well b s silent m j x.0 v.0 x.1 v.1)))
+inner_kept d well b s apart silent (Make i) inner h (inl (th, r)) =
     let u = some_of (is_first s.updates i) (slice_get s.updates i) h in
     let active = (and_parts u.0.active _ u.2).0 in
     let waits = and_parts (not u.0.active && leb b.time u.0.due) (names_some u.0.what) (all_get (is_waiting b.time) s.updates i u.0 u.1 r.mades.waiting) in
     absurd (true≢false (sym (and_parts (not u.0.active) (leb b.time u.0.due) waits.0).0 ∙ not_from_true u.0.active active))
-inner_kept d well b s apart (Make i) inner h (inr m) =
+inner_kept d well b s apart silent (Make i) inner h (inr m) =
     let u = some_of (is_first s.updates i) (slice_get s.updates i) h in
-    inr (subst (λ (o : Option Update). Making d b (make s i o)) (sym u.1) (make_makes d b s m i u.0 u.1 u.2))
-inner_kept d well b s apart Rouse inner h (inl r) = inl (rouse_runs d b s r)
-inner_kept d well b s apart Rouse inner h (inr m) =
+    inr (subst (λ (o : Option Update). Making d b (make s i o)) (sym u.1) (make_makes d b s silent m i u.0 u.1 u.2))
+inner_kept d well b s apart silent Rouse inner h (inl r) = inl (rouse_runs d b s r)
+inner_kept d well b s apart silent Rouse inner h (inr m) =
     let p = any_at is_inactive s.places (at_rouse s h).inactive in
     absurd (not_inactive p.1 (stopped_at d b s m p.0 p.1 p.2) p.3)
-inner_kept d well b s apart Activate inner h (inl r) =
+inner_kept d well b s apart silent Activate inner h (inl r) =
     let a = at_activate s h in
     inr (activate_makes d b s r a.quiet.going a.inactive)
-inner_kept d well b s apart Activate inner h (inr m) =
+inner_kept d well b s apart silent Activate inner h (inr m) =
     let u = any_at (is_due s.time) s.updates (at_activate s h).due in
     let due = and_parts (not u.1.active) (u.1.due == s.time) u.3 in
     let done = (and_parts (u.1.active || ltb b.time u.1.due) (names_some u.1.what) (all_get (is_settled b.time) s.updates u.0 u.1 u.2 m.settled)).0 in
@@ -153,7 +156,7 @@ inner_kept d well b s apart Activate inner h (inr m) =
           let same : s.time ≡ b.time = m.slot.time in
           omega (arith, up, now, same)
     ])
-inner_kept d well b s apart EndSlot inner h i = absurd inner
+inner_kept d well b s apart silent EndSlot inner h i = absurd inner
 
 -- the last state of a slot
 pub record Ends (d : Parts) (b s : State) : Type 0 where

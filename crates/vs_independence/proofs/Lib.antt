@@ -3,6 +3,8 @@ pub mod Stores
 pub mod StepReads
 pub mod Threads
 pub mod Assigns
+pub mod Todos
+pub mod Events
 pub mod Feeds
 pub mod Settle
 pub mod Running

@@ -1,5 +1,5 @@
 -- What holds in a slot once its updates are activated: all processes have stopped, and what the updates will make of the undriven signals is fixed.
-use Rattle.std.proofs.Common.{◌≤◌, ◌⊎◌, cond, ltb, leb, leb-true, lt-ltb, eq-eqb, ap₂, arith, ◌≡◌, ℕ, zero, suc, ◌==◌, Bool, true, false, ◌&&◌, ◌||◌, not, Some, List, [], ◌∷◌, map, take, get_or, slice_get, refl, sym, ◌∙◌, ap, inl, inr, eqb-true}
+use Rattle.std.proofs.Common.{◌≤◌, ◌⊎◌, cond, ltb, leb, leb-true, lt-ltb, eq-eqb, ap₂, arith, ◌≡◌, ℕ, zero, suc, ◌==◌, Bool, true, false, ◌&&◌, ◌||◌, not, Some, List, [], ◌∷◌, map, take, get_or, slice_get, slice_set, refl, sym, ◌∙◌, ap, subst, inl, inr, eqb-true}
 use Rattle.std.specs.List.{list_any, list_all}
 use Rattle.std.proofs.lemmas.Bool.{cases_eq, not_from_true, or_from, cases_Bool, and_parts, and_from, or_parts, or_left, or_right, not-true}
 use Rattle.std.proofs.lemmas.List.Folds.{list_all-map}
@@ -10,8 +10,8 @@ use Rattle.vs_design.specs.Stores.{Store, put, is_driven}
 use Rattle.vs_design.specs.Writes.{Write, names, shares}
 use Rattle.vs_design.specs.declared.write.Part.{Part}
 use Rattle.vs_eval.specs.Targets.{assigned}
-use Rattle.vs_process.specs.Places.{Place, ended, is_going, is_inactive}
-use Rattle.vs_process.specs.States.{State, AssignState, Update, without, make, evaluate, propagate_value, is_due, activated}
+use Rattle.vs_flatcode.specs.Places.{Place, ended, is_going, is_inactive}
+use Rattle.vs_process.specs.States.{State, AssignState, Update, without, make, evaluate, propagate_value, settled, is_due, activated}
 use Rattle.vs_process.specs.Executions.{is_first}
 use Rattle.vs_process.proofs.Lists.{any_without, at_any, any_at, none_at, list_all_like}
 use Rattle.vs_process.proofs.Assigns.{AssignsSound, sound_written, sound_evaluated, sound_propagated}
@@ -20,6 +20,7 @@ use Rattle.vs_independence.specs.Threads.{Thread, any_names}
 use Rattle.vs_independence.proofs.Stores.{put_swap, names_some, put_active, put_active_local, by, left, filter_miss}
 use Rattle.vs_independence.proofs.Threads.{is_stopped, stopped_from}
 use Rattle.vs_independence.proofs.Assigns.{DrivesWell}
+use Rattle.vs_independence.proofs.Events.{IsSilent, written_silent}
 use Rattle.vs_independence.proofs.Running.{WithinSlot, is_waiting, Running}
 use Rattle.vs_independence.proofs.Moves.{Runs, propagated_undriven}
 
@@ -158,8 +159,8 @@ all_without p zero (x ∷ xs) h = (and_parts (p x) (list_all p xs) h).1
 all_without p (suc i) (x ∷ xs) h = let parts = and_parts (p x) (list_all p xs) h in and_from (p x) (list_all p (without i xs)) parts.0 (all_without p i xs parts.1)
 
 -- an activated update is made
-pub make_makes : (d : Parts) (b s : State) → Making d b s → (i : ℕ) (u : Update) → slice_get s.updates i ≡ Some u → is_first s.updates i u ≡ true → Making d b (make s i (Some u))
-make_makes d b s m i u is first = record {
+pub make_makes : (d : Parts) (b s : State) → IsSilent s → Making d b s → (i : ℕ) (u : Update) → slice_get s.updates i ≡ Some u → is_first s.updates i u ≡ true → Making d b (make s i (Some u))
+make_makes d b s silent m i u is first = subst (Making d b) (sym (written_silent (record s { updates = without i s.updates }) u.what silent)) (record {
   before = m.before;
   th = m.th;
   runs = m.runs;
@@ -172,7 +173,7 @@ make_makes d b s m i u is first = record {
   rest = λ v. ap (by v) (left_without s.updates i u is active) ∙ m.rest v;
   settled = all_without (is_settled b.time) i s.updates m.settled;
   undriven = λ v h. m.undriven v (any_without (λ (x : Update). names x.what v) i s.updates h);
-}
+})
   where
     active : u.active ≡ true
     active = (and_parts u.active (not (list_any (λ (older : Update). older.active && shares older.what u.what) (take i s.updates))) first).0
@@ -197,8 +198,8 @@ evaluate_makes d well b s m j x is = record {
   undriven = m.undriven;
 }
 
-pub propagate_makes : (d : Parts) → DrivesWell d → (b s : State) → Making d b s → (j : ℕ) (x : AssignState) (digits : List Digit) → slice_get s.assigns j ≡ Some x → x.pending ≡ Some digits → Making d b (propagate_value s j x (Some digits))
-propagate_makes d well b s m j x digits is waits = record {
+pub propagate_makes : (d : Parts) → DrivesWell d → (b s : State) → IsSilent s → Making d b s → (j : ℕ) (x : AssignState) (digits : List Digit) → slice_get s.assigns j ≡ Some x → x.pending ≡ Some digits → Making d b (propagate_value s j x (Some digits))
+propagate_makes d well b s silent m j x digits is waits = subst (Making d b) (sym (written_silent (record s { assigns = slice_set s.assigns j (settled x) }) (assigned x.target digits s.store s.time) silent)) (record {
   before = m.before;
   th = m.th;
   runs = m.runs;
@@ -211,7 +212,7 @@ propagate_makes d well b s m j x digits is waits = record {
   rest = m.rest;
   settled = m.settled;
   undriven = m.undriven;
-}
+})
 
 -- no process goes, none is inactive and none of the updates is due once more
 pub stopped_at : (d : Parts) (b s : State) → Making d b s → (i : ℕ) (p : Place) → slice_get s.places i ≡ Some p → is_stopped p ≡ true

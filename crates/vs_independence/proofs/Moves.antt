@@ -1,5 +1,5 @@
 -- Each move of a slot, before its updates are activated, keeps what holds there.
-use Rattle.std.proofs.Common.{◌≡◌, ℕ, ◌<◌, true, false, ◌||◌, Option, Some, None, List, map, length, get_or, slice_get, slice_set, refl, sym, ◌∙◌, ap, subst, inl, inr}
+use Rattle.std.proofs.Common.{◌≡◌, ℕ, ◌<◌, true, false, ◌||◌, Option, Some, None, List, map, length, get_or, slice_get, slice_set, sym, ◌∙◌, ap, subst, inl, inr}
 use Rattle.std.specs.List.{list_any}
 use Rattle.std.proofs.Math.ListN.{get_or-map}
 use Rattle.std.proofs.lemmas.Bool.{false_from_ne_true, or_left, or_right, true≢false, false≢true}
@@ -11,10 +11,11 @@ use Rattle.vs_design.specs.Stores.{Store, put, is_changed, is_driven}
 use Rattle.vs_design.specs.Uses.{writes_signal}
 use Rattle.vs_design.specs.Writes.{Write, names}
 use Rattle.vs_eval.specs.Targets.{assigned}
-use Rattle.vs_process.specs.Places.{Todo, Place, going, sleeping, inactive, ended, is_going}
-use Rattle.vs_process.specs.declared.moves.Gait.{Gait}
-use Rattle.vs_process.specs.Steps.{Out, step}
-use Rattle.vs_process.specs.States.{State, AssignState, place_behind, todo_of, performed, written_behind, calls_behind, updates_behind, evaluate, propagate_value, roused}
+use Rattle.vs_flatcode.specs.Places.{Todo, Place, going, sleeping, inactive, waiting, ended, is_going}
+use Rattle.vs_flatcode.specs.declared.gait.Gait.{Gait}
+use Rattle.vs_flatcode.specs.Steps.{Out, step}
+use Rattle.vs_process.specs.States.{State, AssignState, place_behind, performed, written_behind, calls_behind, updates_behind, evaluate, propagate_value, settled, roused}
+use Rattle.vs_flatcode.specs.Places.{todo_of}
 use Rattle.vs_process.proofs.WellFormed.{is_sound_place, is_sound_todo}
 use Rattle.vs_process.proofs.Assigns.{AssignsSound, IsUndriven, assign_driven, assigned_other, sound_behind, sound_evaluated, sound_propagated}
 use Rattle.vs_independence.specs.Threads.{store_behind, Thread, IsThread, log_behind, moved, turn_at, writes, place_reads, todo_reads}
@@ -22,6 +23,7 @@ use Rattle.vs_independence.proofs.Lists.{at, at_each}
 use Rattle.vs_independence.proofs.StepReads.{step_reads, IsPlain, step_plain}
 use Rattle.vs_independence.proofs.Threads.{thread_turns, rouse_thread, thread_rouses}
 use Rattle.vs_independence.proofs.Assigns.{DrivesWell, assigns_behind}
+use Rattle.vs_independence.proofs.Events.{IsSilent, behind_silent, written_silent}
 use Rattle.vs_independence.proofs.Running.{Apart, AllThreads, Sources, Mades, Running, reads_agree}
 use Rattle.vs_independence.proofs.Steps.{at_this, all_at, sources_step, mades_step, finishes_step}
 use Rattle.vs_independence.proofs.Nets.{all_stirred_more, nets_behind, nets_evaluated, nets_propagated}
@@ -48,18 +50,19 @@ performed_at s i place out = record s {
   finishing = s.finishing || out.finish;
 }
 
-written_is : (s : State) (o : Option Write) → written_behind s o ≡ record s { store = store_behind s.store o; assigns = assigns_behind s.store o s.assigns }
-written_is s None = refl
-written_is s (Some w) = refl
+-- the continuous assignments do not ask where processes are
+behind_sound : (d : Parts) (s : State) (o : Option Write) → AssignsSound d (written_behind s o).store (written_behind s o).assigns → AssignsSound d (store_behind s.store o) (assigns_behind s.store o s.assigns)
+behind_sound d s None h = h
+behind_sound d s (Some w) h = h
 
-pub performed_is : (s : State) (i : ℕ) (place : Place) (out : Out) → performed s i place out ≡ performed_at s i place out
-performed_is s i place out =
+pub performed_is : (s : State) (i : ℕ) (place : Place) (out : Out) → IsSilent s → performed s i place out ≡ performed_at s i place out
+performed_is s i place out silent =
     ap (λ (t : State). record t {
       places = slice_set t.places i (place_behind place s.time out.next);
       updates = updates_behind i s.time out.update s.updates;
       calls = calls_behind i out.call s.calls;
       finishing = s.finishing || out.finish;
-    }) (written_is s out.write)
+    }) (behind_silent s out.write silent)
 
 -- a step of the thread's, taken by the process
 stepped_runs : (d : Parts) (b s : State) (th : ℕ → Thread) → Apart d b → Running d b s th → (i : ℕ) (gait : Gait) (todo : Todo) (out : Out) → slice_get s.places i ≡ Some (going gait todo) → IsPlain out →
@@ -71,7 +74,7 @@ stepped_runs d b s th apart r i gait todo out is plain turned = record {
     calls = ap (λ c. calls_behind i c s.calls) plain.call ∙ r.slot.calls;
     count = length-set s.places i (place_behind (going gait todo) s.time out.next) ∙ r.slot.count;
   };
-  sound = subst (λ (t : State). AssignsSound d t.store t.assigns) (written_is s out.write) (sound_behind d s out.write undriven r.sound);
+  sound = behind_sound d s out.write (sound_behind d s out.write undriven r.sound);
   threads = all_at b th i tn r.threads turned;
   places = at_each (λ k t. get_or (slice_set s.places i (place_behind (going gait todo) s.time out.next)) k ended ≡ t.place) th i tn
       (get_or-set_same s.places i (place_behind (going gait todo) s.time out.next) ended within ∙ ap (λ t. place_behind (going gait todo) t out.next) r.slot.time)
@@ -95,11 +98,11 @@ stepped_runs d b s th apart r i gait todo out is plain turned = record {
     undriven w e v h = apart.variables i v tn turned (log_names (th i).log out.write w v e h)
 
 -- a step of an active process
-pub step_runs : (d : Parts) (b s : State) → Apart d b → Runs d b s → (i : ℕ) (p : Place) → slice_get s.places i ≡ Some p → is_going p ≡ true → Runs d b (performed s i p (step (todo_of p) s.store s.time))
-step_runs d b s apart (th, r) i (going gait todo) is h = (
+pub step_runs : (d : Parts) (b s : State) → Apart d b → IsSilent s → Runs d b s → (i : ℕ) (p : Place) → slice_get s.places i ≡ Some p → is_going p ≡ true → Runs d b (performed s i p (step (todo_of p) s.store s.time))
+step_runs d b s apart silent (th, r) i (going gait todo) is h = (
   at th i (moved b.time i (going gait todo) (step todo (th i).view b.time) (th i)),
   subst (λ out. Running d b (performed s i (going gait todo) out) (at th i (moved b.time i (going gait todo) (step todo (th i).view b.time) (th i)))) (sym same_out)
-      (subst (λ t. Running d b t (at th i (moved b.time i (going gait todo) (step todo (th i).view b.time) (th i)))) (sym (performed_is s i (going gait todo) (step todo (th i).view b.time)))
+      (subst (λ t. Running d b t (at th i (moved b.time i (going gait todo) (step todo (th i).view b.time) (th i)))) (sym (performed_is s i (going gait todo) (step todo (th i).view b.time) silent))
       (stepped_runs d b s th apart r i gait todo (step todo (th i).view b.time) is (step_plain d.signals todo (th i).view b.time sound) turned)),
 )
   where
@@ -117,9 +120,10 @@ step_runs d b s apart (th, r) i (going gait todo) is h = (
 
     same_out : step todo s.store s.time ≡ step todo (th i).view b.time
     same_out = step_reads s.store (th i).view todo s.time agree ∙ ap (step todo (th i).view) r.slot.time
-step_runs d b s apart (th, r) i (sleeping due todo) is h = absurd (false≢true h)
-step_runs d b s apart (th, r) i (inactive todo) is h = absurd (false≢true h)
-step_runs d b s apart (th, r) i ended is h = absurd (false≢true h)
+step_runs d b s apart silent (th, r) i (sleeping due todo) is h = absurd (false≢true h)
+step_runs d b s apart silent (th, r) i (inactive todo) is h = absurd (false≢true h)
+step_runs d b s apart silent (th, r) i (waiting terms todo) is h = absurd (false≢true h)
+step_runs d b s apart silent (th, r) i ended is h = absurd (false≢true h)
 
 -- an evaluation of a continuous assignment
 pub evaluate_runs : (d : Parts) → DrivesWell d → (b s : State) → Runs d b s → (j : ℕ) (x : AssignState) → slice_get s.assigns j ≡ Some x → x.needs ≡ true → Runs d b (evaluate s j (Some x))
@@ -155,10 +159,10 @@ propagated_undriven d store time assigns sound j x digits is v undriven =
     (false_from_ne_true (writes_signal x.target v) (λ named. true≢false (sym (assign_driven d store assigns sound j x v is named) ∙ undriven)))
 
 -- an update of a continuous assignment
-pub propagate_runs : (d : Parts) → DrivesWell d → (b s : State) → Apart d b → Runs d b s → (j : ℕ) (x : AssignState) (digits : List Digit) → slice_get s.assigns j ≡ Some x → x.pending ≡ Some digits → Runs d b (propagate_value s j x (Some digits))
-propagate_runs d well b s apart (th, r) j x digits is waits = (
+pub propagate_runs : (d : Parts) → DrivesWell d → (b s : State) → Apart d b → IsSilent s → Runs d b s → (j : ℕ) (x : AssignState) (digits : List Digit) → slice_get s.assigns j ≡ Some x → x.pending ≡ Some digits → Runs d b (propagate_value s j x (Some digits))
+propagate_runs d well b s apart silent (th, r) j x digits is waits = (
   th,
-  record {
+  subst (λ t. Running d b t th) (sym (written_silent (record s { assigns = slice_set s.assigns j (settled x) }) (assigned x.target digits s.store s.time) silent)) (record {
     slot = record { time = r.slot.time; over = r.slot.over; calls = r.slot.calls; count = r.slot.count };
     sound = sound_propagated d well.places s.store s.time s.assigns j x digits is waits r.sound;
     threads = r.threads;
@@ -167,7 +171,7 @@ propagate_runs d well b s apart (th, r) j x digits is waits = (
     mades = r.mades;
     finishes = r.finishes;
     nets = nets_propagated d well b s.store s.time s.assigns th r.sound j x digits is waits r.nets;
-  },
+  }),
 )
 
 -- the inactive processes become active

@@ -10,7 +10,7 @@ use Rattle.vs_design.specs.Stores.{Store, chosen_bits, chosen_words, is_changed,
 use Rattle.vs_design.specs.Uses.{covers, writes_signal}
 use Rattle.vs_design.specs.Uses as uses
 use Rattle.vs_eval.specs.Laws.{digit_of}
-use Rattle.vs_process.specs.Places.{Place, ended}
+use Rattle.vs_flatcode.specs.Places.{Place, ended}
 use Rattle.vs_process.specs.States.{State, AssignState, Update}
 use Rattle.vs_process.proofs.Lists.{any_at, none_from}
 use Rattle.vs_process.proofs.Values.{not_changed, same_unchanged}

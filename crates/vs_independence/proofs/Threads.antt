@@ -4,8 +4,8 @@ use Rattle.std.specs.List.{list_any}
 use Rattle.std.proofs.lemmas.Bool.{or_parts, cases_lt, false≢true}
 use Rattle.vs_design.specs.Stores.{Store}
 use Rattle.vs_design.specs.Writes.{Write, names}
-use Rattle.vs_process.specs.Places.{Place, going, sleeping, inactive, ended, is_going, is_inactive}
-use Rattle.vs_process.specs.Steps.{step}
+use Rattle.vs_flatcode.specs.Places.{Place, going, sleeping, inactive, waiting, ended, is_going, is_inactive}
+use Rattle.vs_flatcode.specs.Steps.{step}
 use Rattle.vs_process.specs.States.{State, roused}
 use Rattle.vs_process.proofs.Stores.{put_other}
 use Rattle.vs_independence.specs.Threads.{store_behind, Thread, log_behind, turn_at, turn, iterate, opening, IsThread, writes}
@@ -14,18 +14,21 @@ abbrev pub is_stopped : Place → Bool
 is_stopped (going gait todo) = false
 is_stopped (inactive todo) = false
 is_stopped (sleeping due todo) = true
+is_stopped (waiting terms todo) = true
 is_stopped ended = true
 
 pub stopped_from : (p : Place) → is_going p ≡ false → is_inactive p ≡ false → is_stopped p ≡ true
 stopped_from (going gait todo) g i = cc
 stopped_from (inactive todo) g i = cc
 stopped_from (sleeping due todo) g i = refl
+stopped_from (waiting terms todo) g i = refl
 stopped_from ended g i = refl
 
 stopped_stays : (time i : ℕ) (p : Place) (th : Thread) → is_stopped p ≡ true → turn_at time i p th ≡ th
 stopped_stays time i (going gait todo) th h = absurd (false≢true h)
 stopped_stays time i (inactive todo) th h = absurd (false≢true h)
 stopped_stays time i (sleeping due todo) th h = refl
+stopped_stays time i (waiting terms todo) th h = refl
 stopped_stays time i ended th h = refl
 
 -- what has come to a stop stays
@@ -60,10 +63,8 @@ rouse_thread th = record th { place = roused th.place }
 roused_at : (b : State) (i : ℕ) (p : Place) (th : Thread) → IsThread b i (turn_at b.time i p th) → IsThread b i th → th.place ≡ p → IsThread b i (record th { place = roused p })
 roused_at b i (going gait todo) th turned h e = subst (λ p. IsThread b i (record th { place = p })) e h
 roused_at b i (inactive todo) th turned h e = turned
-roused_at b i (sleeping due todo) th turned h e = turned_is
-  where
-    turned_is : IsThread b i (record th { place = sleeping due todo })
-    turned_is = subst (λ p. IsThread b i (record th { place = p })) e h
+roused_at b i (sleeping due todo) th turned h e = subst (λ p. IsThread b i (record th { place = p })) e h
+roused_at b i (waiting terms todo) th turned h e = subst (λ p. IsThread b i (record th { place = p })) e h
 roused_at b i ended th turned h e = subst (λ p. IsThread b i (record th { place = p })) e h
 
 pub thread_rouses : (b : State) (i : ℕ) (th : Thread) → IsThread b i th → IsThread b i (rouse_thread th)
@@ -80,6 +81,7 @@ turned_view : (time i : ℕ) (p : Place) (th : Thread) (v : ℕ) → writes (tur
 turned_view time i (going gait todo) th v h = written_view th.view th.log (step todo th.view time).write v h
 turned_view time i (inactive todo) th v h = (h, refl)
 turned_view time i (sleeping due todo) th v h = (h, refl)
+turned_view time i (waiting terms todo) th v h = (h, refl)
 turned_view time i ended th v h = (h, refl)
 
 iterated_view : (b : State) (i n v : ℕ) → writes (iterate n (turn b.time i) (opening b i)) v ≡ false → slice_get (iterate n (turn b.time i) (opening b i)).view v ≡ slice_get b.store v

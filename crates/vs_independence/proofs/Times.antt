@@ -5,10 +5,10 @@ use Rattle.std.proofs.lemmas.Bool.{cond_both, cases_Bool, cases_lt, eqb-false, a
 use Rattle.std.proofs.lemmas.List.Folds.{list_all-map}
 use Rattle.vs_design.specs.declared.design.Process.{Process}
 use Rattle.vs_design.specs.Writes.{Write, names}
-use Rattle.vs_process.specs.declared.moves.Gait.{Gait}
-use Rattle.vs_process.specs.declared.moves.Gait.TheVariants.{Woken, Fresh}
-use Rattle.vs_process.specs.Places.{Todo, Place, going, sleeping, inactive, ended, active_at, stepped_gait, start_place, flat}
-use Rattle.vs_process.specs.Steps.{Next, on, after, step}
+use Rattle.vs_flatcode.specs.declared.gait.Gait.{Gait}
+use Rattle.vs_flatcode.specs.declared.gait.Gait.TheVariants.{Woken, Fresh}
+use Rattle.vs_flatcode.specs.Places.{Todo, Place, going, sleeping, inactive, waiting, ended, active_at, stepped_gait, start_place, flat}
+use Rattle.vs_flatcode.specs.Steps.{Next, on, after, wait, step}
 use Rattle.vs_process.specs.States.{State, Update, place_behind, paused, woken_at}
 use Rattle.vs_process.specs.Executions.{earlier, next_wake, next_update, next_time, ends, slot_behind, places_at, time_at}
 use Rattle.vs_process.proofs.Lists.{list_all_like}
@@ -21,6 +21,7 @@ abbrev pub is_later : ℕ → Place → Bool
 is_later time (sleeping due todo) = ltb time due
 is_later time (going gait todo) = true
 is_later time (inactive todo) = true
+is_later time (waiting terms todo) = true
 is_later time ended = true
 
 later_active : (time : ℕ) (gait : Gait) (todo : Todo) → is_later time (active_at gait todo) ≡ true
@@ -35,11 +36,13 @@ later_paused time ticks todo =
 later_behind : (time : ℕ) (gait : Gait) (todo : Todo) (next : Next) → is_later time (place_behind (going gait todo) time next) ≡ true
 later_behind time gait todo (on rest) = later_active time (stepped_gait gait) rest
 later_behind time gait todo (after n ticks rest) = later_paused time ticks rest
+later_behind time gait todo (wait n terms rest) = refl
 
 later_turn : (time i : ℕ) (p : Place) (th : Thread) → is_later time th.place ≡ true → is_later time (turn_at time i p th).place ≡ true
 later_turn time i (going gait todo) th h = later_behind time gait todo (step todo th.view time).next
 later_turn time i (inactive todo) th h = later_active time Woken todo
 later_turn time i (sleeping due todo) th h = h
+later_turn time i (waiting terms todo) th h = h
 later_turn time i ended th h = h
 
 later_iterate : (b : State) (i n : ℕ) → is_later b.time (get_or b.places i ended) ≡ true → is_later b.time (iterate n (turn b.time i) (opening b i)).place ≡ true
@@ -77,6 +80,7 @@ abbrev pub is_after : ℕ → Place → Bool
 is_after t (sleeping due todo) = leb t due
 is_after t (going gait todo) = true
 is_after t (inactive todo) = true
+is_after t (waiting terms todo) = true
 is_after t ended = true
 
 above_earlier : (low : ℕ) (best : Option ℕ) (due : ℕ) → Above low best → low < due → Above low (earlier best due)
@@ -100,6 +104,7 @@ above_wake low best (sleeping due todo ∷ places) a h =
     above_wake low (earlier best due) places (above_earlier low best due a (ltb-true low due parts.0)) parts.1
 above_wake low best (going gait todo ∷ places) a h = above_wake low best places a h
 above_wake low best (inactive todo ∷ places) a h = above_wake low best places a h
+above_wake low best (waiting terms todo ∷ places) a h = above_wake low best places a h
 above_wake low best (ended ∷ places) a h = above_wake low best places a h
 
 -- an update that is due later
@@ -123,6 +128,7 @@ wake_least best (sleeping due todo ∷ places) t e =
     (q.0, and_from (leb t due) (list_all (is_after t) places) (le-leb t due q.1) r.1)
 wake_least best (going gait todo ∷ places) t e = wake_least best places t e
 wake_least best (inactive todo ∷ places) t e = wake_least best places t e
+wake_least best (waiting terms todo ∷ places) t e = wake_least best places t e
 wake_least best (ended ∷ places) t e = wake_least best places t e
 
 -- where no delay ends, none ends before anything
@@ -135,6 +141,7 @@ wake_none best (sleeping due todo ∷ places) t e = absurd (never best due (wake
     never (Some u) due e = cc
 wake_none best (going gait todo ∷ places) t e = wake_none best places t e
 wake_none best (inactive todo ∷ places) t e = wake_none best places t e
+wake_none best (waiting terms todo ∷ places) t e = wake_none best places t e
 wake_none best (ended ∷ places) t e = wake_none best places t e
 
 update_least : (best : Option ℕ) (us : List Update) (t : ℕ) → next_update best us ≡ Some t → AtMost t best × (list_all (λ (u : Update). leb t u.due) us ≡ true)
@@ -269,6 +276,7 @@ same_next s t time places fs ft same =
 after_less : (t u : ℕ) (p : Place) → t ≤ u → is_after u p ≡ true → is_after t p ≡ true
 after_less t u (going gait todo) le h = refl
 after_less t u (inactive todo) le h = refl
+after_less t u (waiting terms todo) le h = refl
 after_less t u ended le h = refl
 after_less t u (sleeping due todo) le h = let more : u ≤ due = leb-true u due h in le-leb t due (omega (arith, le, more))
 
@@ -283,6 +291,7 @@ after_next s t e = by_wake (next_wake None s.places) refl (update_least (next_wa
 later_woken : (t : ℕ) (p : Place) → is_after t p ≡ true → is_later t (woken_at t p) ≡ true
 later_woken t (going gait todo) h = refl
 later_woken t (inactive todo) h = refl
+later_woken t (waiting terms todo) h = refl
 later_woken t ended h = refl
 later_woken t (sleeping due todo) h =
     cond_both (due == t) (active_at Woken todo) (sleeping due todo) (λ p. is_later t p ≡ true) (λ e. later_active t Woken todo)

@@ -6,9 +6,9 @@ use Rattle.vs_design.specs.declared.signal.Signal.{Signal}
 use Rattle.vs_design.specs.Parts.{Parts}
 use Rattle.vs_design.specs.WellFormed.{WellFormed}
 use Rattle.vs_design.specs.Writes.{Write, names}
-use Rattle.vs_process.specs.declared.moves.Gait.TheVariants.{Woken}
-use Rattle.vs_process.specs.Places.{Place, going, sleeping, inactive, ended}
-use Rattle.vs_process.specs.Steps.{step}
+use Rattle.vs_flatcode.specs.declared.gait.Gait.TheVariants.{Woken}
+use Rattle.vs_flatcode.specs.Places.{Place, going, sleeping, inactive, waiting, ended}
+use Rattle.vs_flatcode.specs.Steps.{step}
 use Rattle.vs_process.specs.States.{State}
 use Rattle.vs_process.proofs.WellFormed.{IsVariable, drives_apart, is_sound_place, sound_active, sound_next, sound_made, sound_place_behind, step_names}
 use Rattle.vs_independence.specs.Threads.{Thread, IsThread, log_behind, turn_at, turn, iterate, opening, writes, any_names}
@@ -47,6 +47,7 @@ sound_turn ss time i (going gait todo) th p h =
     }
 sound_turn ss time i (inactive todo) th p h = record { place = sound_active ss Woken todo p; log = h.log; made = h.made }
 sound_turn ss time i (sleeping due todo) th p h = h
+sound_turn ss time i (waiting terms todo) th p h = h
 sound_turn ss time i ended th p h = h
 
 sound_iterate : (ss : List Signal) (b : State) (i n : ℕ) → SoundThread ss (opening b i) → SoundThread ss (iterate n (turn b.time i) (opening b i))

@@ -10,7 +10,7 @@ use Rattle.vs_design.specs.WellFormed.{WellFormed}
 use Rattle.vs_process.specs.declared.moves.Grain.{Grain}
 use Rattle.vs_process.specs.declared.moves.Move.{Move}
 use Rattle.vs_process.specs.declared.moves.Move.TheVariants.{Step, Evaluate, Propagate, Make, Rouse, Activate, EndSlot}
-use Rattle.vs_process.specs.Places.{ended}
+use Rattle.vs_flatcode.specs.Places.{ended}
 use Rattle.vs_process.specs.States.{State, AssignState, Called, start, start_assign}
 use Rattle.vs_process.specs.Executions.{allowed, apply, after, Legal, slot_behind, strobe_line, ended_slot, slots, is_complete, is_by, finish_time, trace}
 use Rattle.vs_process.proofs.Times.{enabled_of}
@@ -19,7 +19,7 @@ use Rattle.vs_process.proofs.Assigns.{sound_start}
 use Rattle.vs_process.proofs.WellFormed.{variable_undriven}
 use Rattle.vs_process.proofs.Idle.{IsSound, after_sound}
 use Rattle.vs_independence.specs.Threads.{opening}
-use Rattle.vs_independence.specs.Discipline.{Independent, here, IsAtStart, Begins, KeepsApart, Disciplined}
+use Rattle.vs_independence.specs.Discipline.{Independent, HasNoEvents, here, IsAtStart, Begins, KeepsApart, Disciplined}
 use Rattle.vs_independence.proofs.Threads.{thread_opens}
 use Rattle.vs_independence.proofs.Running.{WithinSlot, Apart, is_waiting, by_start}
 use Rattle.vs_independence.proofs.Moves.{Runs}
@@ -27,6 +27,7 @@ use Rattle.vs_independence.proofs.Making.{Making}
 use Rattle.vs_independence.proofs.Ends.{InSlot, IsInner, inner_kept, Ends, slot_ends, all_future, Alike, ends_unique, behind_alike}
 use Rattle.vs_independence.proofs.Times.{is_later, all_from_get, later_thread, later_start, goes_on}
 use Rattle.vs_independence.proofs.Assigns.{DrivesWell}
+use Rattle.vs_independence.proofs.Events.{IsSilent, after_silent}
 use Rattle.vs_independence.proofs.Feeds.{into_named}
 use Rattle.vs_independence.proofs.WellFormed.{drives_well, sound_thread}
 
@@ -77,6 +78,7 @@ pub record Fits (grain : Grain) (d : Parts) : Type 0 where
   pub formed : WellFormed d
   pub drives : DrivesWell d
   pub apart : (b : State) → Begins grain d b → KeepsApart d b
+  pub no_events : HasNoEvents d
 
 -- the state at the beginning of all runs
 start_runs : (d : Parts) → Runs d (start d) (start d)
@@ -140,20 +142,20 @@ apart_at grain d dis moves l =
     apart_in d dis.formed (after d (cut moves)) (after_sound d dis.formed (cut moves))
     (dis.apart (after d (cut moves)) (record { moves = cut moves; legal = cut_legal grain d moves l; at_start = cut_starts moves; is = refl }))
 
-inner_holds : (grain : Grain) (d : Parts) → Fits grain d → (b s : State) → Apart d b → (m : Move) → IsInner m → allowed grain d s m ≡ true → Holds d b s → Holds d b (apply m s)
-inner_holds grain d dis b s apart m inner h holds = record {
+inner_holds : (grain : Grain) (d : Parts) → Fits grain d → (b s : State) → Apart d b → IsSilent s → (m : Move) → IsInner m → allowed grain d s m ≡ true → Holds d b s → Holds d b (apply m s)
+inner_holds grain d dis b s apart silent m inner h holds = record {
   later = holds.later;
-  in_slot = inner_kept d dis.drives b s apart m inner (enabled_of grain d s m h).1 holds.in_slot;
+  in_slot = inner_kept d dis.drives b s apart silent m inner (enabled_of grain d s m h).1 holds.in_slot;
 }
 
 pub holds : (grain : Grain) (d : Parts) → Fits grain d → (moves : List Move) → Legal grain d moves → Holds d (after d (cut moves)) (after d moves)
 holds grain d dis [] l = record { later = later_start d.processes 0; in_slot = inl (start_runs d) }
-holds grain d dis (Step i ∷ moves) l = inner_holds grain d dis (after d (cut moves)) (after d moves) (apart_at grain d dis moves l.0) (Step i) tt l.1 (holds grain d dis moves l.0)
-holds grain d dis (Evaluate j ∷ moves) l = inner_holds grain d dis (after d (cut moves)) (after d moves) (apart_at grain d dis moves l.0) (Evaluate j) tt l.1 (holds grain d dis moves l.0)
-holds grain d dis (Propagate j ∷ moves) l = inner_holds grain d dis (after d (cut moves)) (after d moves) (apart_at grain d dis moves l.0) (Propagate j) tt l.1 (holds grain d dis moves l.0)
-holds grain d dis (Make i ∷ moves) l = inner_holds grain d dis (after d (cut moves)) (after d moves) (apart_at grain d dis moves l.0) (Make i) tt l.1 (holds grain d dis moves l.0)
-holds grain d dis (Rouse ∷ moves) l = inner_holds grain d dis (after d (cut moves)) (after d moves) (apart_at grain d dis moves l.0) Rouse tt l.1 (holds grain d dis moves l.0)
-holds grain d dis (Activate ∷ moves) l = inner_holds grain d dis (after d (cut moves)) (after d moves) (apart_at grain d dis moves l.0) Activate tt l.1 (holds grain d dis moves l.0)
+holds grain d dis (Step i ∷ moves) l = inner_holds grain d dis (after d (cut moves)) (after d moves) (apart_at grain d dis moves l.0) (after_silent d dis.no_events moves) (Step i) tt l.1 (holds grain d dis moves l.0)
+holds grain d dis (Evaluate j ∷ moves) l = inner_holds grain d dis (after d (cut moves)) (after d moves) (apart_at grain d dis moves l.0) (after_silent d dis.no_events moves) (Evaluate j) tt l.1 (holds grain d dis moves l.0)
+holds grain d dis (Propagate j ∷ moves) l = inner_holds grain d dis (after d (cut moves)) (after d moves) (apart_at grain d dis moves l.0) (after_silent d dis.no_events moves) (Propagate j) tt l.1 (holds grain d dis moves l.0)
+holds grain d dis (Make i ∷ moves) l = inner_holds grain d dis (after d (cut moves)) (after d moves) (apart_at grain d dis moves l.0) (after_silent d dis.no_events moves) (Make i) tt l.1 (holds grain d dis moves l.0)
+holds grain d dis (Rouse ∷ moves) l = inner_holds grain d dis (after d (cut moves)) (after d moves) (apart_at grain d dis moves l.0) (after_silent d dis.no_events moves) Rouse tt l.1 (holds grain d dis moves l.0)
+holds grain d dis (Activate ∷ moves) l = inner_holds grain d dis (after d (cut moves)) (after d moves) (apart_at grain d dis moves l.0) (after_silent d dis.no_events moves) Activate tt l.1 (holds grain d dis moves l.0)
 holds grain d dis (EndSlot ∷ moves) l =
     let b = after d (cut moves) in
     let s = after d moves in
@@ -378,7 +380,7 @@ equal grain d dis until xs ys lx ly cx cy =
     ]
 
 -- the theorem
-pub independent : (grain : Grain) (d : Parts) → WellFormed d → Disciplined grain d → Independent grain d
-independent grain d formed dis until xs ys lx ly cx cy =
+pub independent : (grain : Grain) (d : Parts) → WellFormed d → HasNoEvents d → Disciplined grain d → Independent grain d
+independent grain d formed none dis until xs ys lx ly cx cy =
     same_trace_self (trace d xs until) (trace d ys until)
-    (equal grain d (record { formed = formed; drives = drives_well d formed dis.ordered; apart = dis.apart }) until xs ys lx ly (complete_from until (after d xs) cx) (complete_from until (after d ys) cy))
+    (equal grain d (record { formed = formed; drives = drives_well d formed dis.ordered; apart = dis.apart; no_events = none }) until xs ys lx ly (complete_from until (after d xs) cx) (complete_from until (after d ys) cy))

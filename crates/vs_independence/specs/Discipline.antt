@@ -1,9 +1,11 @@
 -- What makes traces independent of the order of steps, and that they are.
 use Rattle.std.specs.Prelude.{ℕ, ◌≡◌, ◌<◌, true, Some, List, [], ◌∷◌, slice_get}
-use Rattle.std.specs.List.{Contains}
+use Rattle.std.specs.List.{All, Contains}
 use Rattle.vs_design.specs.declared.design.Assign.{Assign}
+use Rattle.vs_design.specs.declared.design.Process.{Process}
 use Rattle.vs_design.specs.declared.range.BitRange.{BitRange}
 use Rattle.vs_design.specs.Parts.{Parts}
+use Rattle.vs_design.specs.Statements.{event_terms}
 use Rattle.vs_design.specs.Traces.{SameTrace}
 use Rattle.vs_design.specs.Uses.{reads, writes_signal}
 use Rattle.vs_design.specs.WellFormed.{WellFormed}
@@ -21,6 +23,10 @@ Independent grain d =
     (until : ℕ) (xs ys : List Move) → Legal grain d xs → Legal grain d ys →
     is_complete until (after d xs) ≡ true → is_complete until (after d ys) ≡ true →
     SameTrace (trace d xs until) (trace d ys until)
+
+-- no process of a design has an event control with a term: none has one, but for an `@*` before a statement that reads nothing (clause 9.7)
+abbrev pub HasNoEvents : Parts → Type 0
+HasNoEvents d = All (λ (p : Process). event_terms p.body ≡ []) d.processes
 
 -- a change of the signal `u` can reach a range through continuous assignments
 pub data Reaches (assigns : List Assign) (u : ℕ) : BitRange → Type 0 where
@@ -70,6 +76,6 @@ pub record Disciplined (grain : Grain) (d : Parts) : Type 0 where
   pub ordered : IsOrdered d
   pub apart : (b : State) → Begins grain d b → KeepsApart d b
 
--- the traces of a disciplined design do not depend on the order in which its permitted steps are taken
+-- the traces of a disciplined design without event controls do not depend on the order in which its permitted steps are taken
 abbrev pub DisciplineMakesIndependent : Type 0
-DisciplineMakesIndependent = (grain : Grain) (d : Parts) → WellFormed d → Disciplined grain d → Independent grain d
+DisciplineMakesIndependent = (grain : Grain) (d : Parts) → WellFormed d → HasNoEvents d → Disciplined grain d → Independent grain d

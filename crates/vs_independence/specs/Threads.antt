@@ -1,15 +1,19 @@
 -- Threads: a process alone, within one time slot.
-use Rattle.std.specs.Prelude.{◌||◌, ◌++◌, ℕ, zero, suc, ◌≡◌, Bool, false, Option, Some, None, List, [], ◌∷◌, get_or}
+use Rattle.std.specs.Prelude.{◌||◌, ◌++◌, ℕ, zero, suc, ◌≡◌, Bool, false, Option, Some, None, List, [], ◌∷◌, map, get_or}
 use Rattle.std.specs.List.{list_any}
+use Rattle.std.specs.declared.vec.Vec.{Vec}
+use Rattle.std.specs.declared.alloc.Global.{Global}
+use Rattle.vs_design.specs.declared.expression.Typed.{Typed}
 use Rattle.vs_design.specs.declared.statement.Statement.TheOpen.{Statement-F}
 use Rattle.vs_design.specs.declared.statement.Statement.{Statement}
 use Rattle.vs_design.specs.declared.statement.Statement.TheViews.{out-Statement}
 use Rattle.vs_design.specs.Stores.{Store, put}
 use Rattle.vs_design.specs.declared.range.BitRange.{BitRange}
-use Rattle.vs_design.specs.Uses.{reads, target_reads}
+use Rattle.vs_design.specs.Statements.{all_reads, assignment_reads}
+use Rattle.vs_design.specs.Uses.{joined, reads}
 use Rattle.vs_design.specs.Writes.{Write, names}
-use Rattle.vs_process.specs.Places.{perform, turns, Todo, Place, going, sleeping, inactive, ended}
-use Rattle.vs_process.specs.Steps.{Out, step}
+use Rattle.vs_flatcode.specs.Places.{perform, turns, Todo, Place, going, sleeping, inactive, waiting, ended}
+use Rattle.vs_flatcode.specs.Steps.{Out, step}
 use Rattle.vs_process.specs.States.{State, Update, place_behind, updates_behind, roused}
 
 -- a process on a store of its own: where it is, its store, what it has written by blocking assignments, the updates that it has made, and
@@ -44,6 +48,7 @@ abbrev pub turn_at : ℕ → ℕ → Place → Thread → Thread
 turn_at time i (going gait todo) th = moved time i (going gait todo) (step todo th.view time) th
 turn_at time i (inactive todo) th = record th { place = roused (inactive todo) }
 turn_at time i (sleeping due todo) th = th
+turn_at time i (waiting terms todo) th = th
 turn_at time i ended th = th
 
 -- a thread one turn later: a step, or the end of a delay of zero; a stopped thread stays
@@ -71,19 +76,28 @@ writes th v = list_any (λ w. names w v) th.log
 abbrev pub any_names : List Update → ℕ → Bool
 any_names us v = list_any (λ (u : Update). names u.what v) us
 
--- the ranges that the step of a statement reads
-abbrev pub statement_reads : Statement-F Statement → List BitRange
-statement_reads (Statement-F.Null n) = []
-statement_reads (Statement-F.Assign n t e) = target_reads t ++ reads e
-statement_reads (Statement-F.Later n t e) = target_reads t ++ reads e
-statement_reads (Statement-F.Block all) = []
-statement_reads (Statement-F.Delay n ticks body) = []
-statement_reads (Statement-F.Forever n body) = []
+-- the ranges that the expressions of a `case` item read (clause 9.5)
+abbrev pub item_reads : Vec Typed Global × Statement → List BitRange
+item_reads i = all_reads i.0.items
+
+-- the ranges that the step of a statement reads: an assignment, a condition, a count, or a `case` expression and those of its items
+abbrev pub own_reads : Statement-F Statement → List BitRange
+own_reads (Statement-F.Null n) = []
+own_reads (Statement-F.Assign n t e) = assignment_reads t e
+own_reads (Statement-F.Later n t e) = assignment_reads t e
+own_reads (Statement-F.Block all) = []
+own_reads (Statement-F.Delay n ticks body) = []
+own_reads (Statement-F.Event n terms body) = []
+own_reads (Statement-F.If n e a b) = reads e
+own_reads (Statement-F.Case n kind x items) = reads x ++ joined (map item_reads items.items)
+own_reads (Statement-F.While n e body) = reads e
+own_reads (Statement-F.Repeat n signed e body) = reads e
+own_reads (Statement-F.Forever n body) = []
 
 -- the ranges that the next step of what is to be done reads
 abbrev pub todo_reads : Todo → List BitRange
 todo_reads [] = []
-todo_reads (perform s ∷ rest) = statement_reads (out-Statement s)
+todo_reads (perform s ∷ rest) = own_reads (out-Statement s)
 todo_reads (turns n s ∷ rest) = []
 
 abbrev pub place_reads : Place → List BitRange

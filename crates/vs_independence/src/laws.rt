@@ -3,7 +3,8 @@ ghost use Rattle.vs_independence.specs.Carry.{ACarryIsDisciplined};
 ghost use Rattle.vs_independence.specs.Discipline.{DisciplineMakesIndependent};
 ghost use Rattle.vs_independence.specs.Race.{ARaceIsSeen};
 
-/// All executions of a well formed, disciplined design that are complete to a moment have the same trace to it, at both grains.
+/// All executions of a well formed, disciplined design without event controls that are complete to a moment have the same trace to it, at both
+/// grains.
 pub fn discipline_makes_independent()
     ensures { DisciplineMakesIndependent }
 {}

@@ -11,14 +11,16 @@ use Rattle.vs_design.specs.Parts.{Parts}
 use Rattle.vs_design.specs.Stores.{Store}
 use Rattle.vs_design.specs.Traces.{Slot}
 use Rattle.vs_design.specs.Writes.{Write}
-use Rattle.vs_process.specs.declared.moves.Grain.{Grain}
 use Rattle.vs_process.specs.declared.moves.Grain.TheVariants.{Statement, Block}
 use Rattle.vs_process.specs.declared.moves.Move.{Move}
 use Rattle.vs_process.specs.declared.moves.Move.TheVariants.{Step, Evaluate, Propagate, Make, Rouse, Activate, EndSlot}
-use Rattle.vs_process.specs.Executions.{after, Legal, slots, trace, is_by, is_enabled, is_kept_out, is_free, allowed, apply, ended_slot, finish_time, strobe_line, is_complete, next_time, time_at}
-use Rattle.vs_process.specs.Places.{Place}
-use Rattle.vs_process.specs.States.{State, AssignState, Update, start, stepped, evaluate, propagate, propagate_value, make, written_behind, todo_of}
-use Rattle.vs_process.specs.Steps.{step}
+use Rattle.vs_process.specs.Executions.{after, Legal, slots, trace, is_by, is_combinational, is_enabled, is_free, allowed, apply, ended_slot, finish_time, strobe_line, is_complete, next_time, time_at}
+use Rattle.vs_flatcode.specs.Places.{Place}
+use Rattle.vs_process.specs.Blocks.{BlocksExclude, InsideFollows, inside_behind, inside_block, is_inside_at, is_inside_number, is_step_of_any}
+use Rattle.vs_kernel.specs.Insides.{inside_told, is_told}
+use Rattle.vs_process.specs.States.{State, AssignState, Update, start, stepped, evaluate, propagate, propagate_value, make, written_behind}
+use Rattle.vs_flatcode.specs.Places.{todo_of}
+use Rattle.vs_flatcode.specs.Steps.{step}
 use Rattle.vs_vcd.specs.Progress.{Progress, HasWritten, IsSlotAt, WritesPiece, vcd_slot}
 use Rattle.vs_vcd.specs.Sinks.{AppendsPart}
 use Rattle.vs_vcd.specs.declared.fault.VcdFault.{VcdFault}
@@ -39,23 +41,51 @@ pub record HasRun (d : Parts) (until steps taken : ℕ) (now : State) (writer : 
   pub written : HasWritten writer d (slots d moves)
   pub text : Appends old new (vcd_header d ++ vcd_slots d (slots d moves))
 
--- no process is a combinational block, so none keeps a move out
-kept_out : (ps : List Process) (xs : List Place) (first : ℕ) (m : Move) → is_kept_out ps xs first m ≡ false
-kept_out [] xs first m = refl
-kept_out (p ∷ ps) [] first m = refl
-kept_out (p ∷ ps) (x ∷ xs) first m = kept_out ps xs (suc first) m
-
-free : (grain : Grain) (d : Parts) (s : State) (m : Move) → is_free grain d s m ≡ true
-free Statement d s m = refl
-free Block d s m = ap not (kept_out d.processes s.places 0 m)
-
 three : (over enabled free : Bool) → over ≡ false → enabled ≡ true → free ≡ true → (not over && enabled && free) ≡ true
 three false true true p q r = refl
 three _ _ _ p q r = cc
 
--- an enabled move is permitted at both grains
-pub permitted : (grain : Grain) (d : Parts) (s : State) (m : Move) → s.over ≡ false → is_enabled s m ≡ true → allowed grain d s m ≡ true
-permitted grain d s m over enabled = three s.over (is_enabled s m) (is_free grain d s m) over enabled (free grain d s m)
+-- an enabled move is allowed at grain statement
+pub permitted : (d : Parts) (s : State) (m : Move) → s.over ≡ false → is_enabled s m ≡ true → allowed Statement d s m ≡ true
+permitted d s m over enabled = three s.over (is_enabled s m) true over enabled refl
+
+-- at grain block it is allowed where no combinational block has left its control, or where it is a step of the one that has
+pub permitted_block : {d : Parts} {until steps taken : ℕ} {now : State} {writer : Progress} {old new : Option (List ℕ)} →
+    (r : HasRun d until steps taken now writer old new) → BlocksExclude → (inside : Option ℕ) (m : Move) → inside ≡ inside_block d.processes now.places →
+    now.over ≡ false → is_enabled now m ≡ true → is_step_of_any inside m ≡ true → allowed Block d now m ≡ true
+permitted_block {d} {until} {steps} {taken} {now} {writer} {old} {new} r exclude inside m here over enabled free =
+    let same : is_free Block d now m ≡ is_step_of_any (inside_block d.processes now.places) m =
+    subst (λ (t : State). is_free Block d t m ≡ is_step_of_any (inside_block d.processes t.places) m) r.state ((exclude d r.moves r.block).1 m)
+    in
+    three now.over (is_enabled now m) (is_free Block d now m) over enabled (same ∙ ap (λ (o : Option ℕ). is_step_of_any o m) (sym here) ∙ free)
+
+told_at : (ps : List Process) (xs : List Place) (i : ℕ) → is_told (slice_get (map is_combinational ps) i) (slice_get xs i) ≡ is_inside_number ps xs i
+told_at [] xs i = refl
+told_at (p ∷ ps) [] zero = refl
+told_at (p ∷ ps) [] (suc i) = told_none ps i
+  where
+    told_none : (ps : List Process) (i : ℕ) → is_told (slice_get (map is_combinational ps) i) None ≡ is_inside_at (slice_get ps i) None
+    told_none [] i = refl
+    told_none (p ∷ ps) zero = refl
+    told_none (p ∷ ps) (suc i) = told_none ps i
+told_at (p ∷ ps) (x ∷ xs) zero = refl
+told_at (p ∷ ps) (x ∷ xs) (suc i) = told_at ps xs i
+
+told_behind : (ps : List Process) (xs : List Place) (m : Move) → inside_told (map is_combinational ps) xs m ≡ inside_behind ps xs m
+told_behind ps xs (Step i) = ap (λ (b : Bool). if b then Some i else None) (told_at ps xs i)
+told_behind ps xs (Evaluate j) = refl
+told_behind ps xs (Propagate j) = refl
+told_behind ps xs (Make i) = refl
+told_behind ps xs Rouse = refl
+told_behind ps xs Activate = refl
+told_behind ps xs EndSlot = refl
+
+-- the block that has left its control behind a move
+pub inside_next : (d : Parts) (s t : State) (m : Move) (blocks : List Bool) (inside : Option ℕ) → InsideFollows → blocks ≡ map is_combinational d.processes → allowed Block d s m ≡ true → t ≡ apply m s →
+    inside ≡ inside_told blocks t.places m → inside ≡ inside_block d.processes t.places
+inside_next d s t m blocks inside follows told block next is =
+    is ∙ ap (λ (l : List Bool). inside_told l t.places m) told ∙ told_behind d.processes t.places m
+    ∙ subst (λ (r : State). inside_behind d.processes r.places m ≡ inside_block d.processes r.places) (sym next) (sym (follows d s m block))
 
 pub append_none : (old : Option (List ℕ)) → Appends old old []
 append_none None = tt

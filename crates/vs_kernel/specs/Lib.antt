@@ -1,4 +1,5 @@
 pub mod Faults
+pub mod Insides
 pub mod Runs
 pub mod Shows
 pub mod Stages

@@ -1,6 +1,7 @@
 //! The list of enabled events, in the order in which the kernel offers them to its policy.
 //!
 //! It is a hint: what stands in it is tested before it is made, so that nothing of a run's contract rests on it.
+ghost use Rattle.std.specs.Prelude.{◌≡◌};
 
 use crate::policy::Pick;
 use std::alloc::{AllocError, Global};
@@ -76,6 +77,8 @@ pub(crate) struct Agenda {
     inactive: Vec<usize>,
     /// The sleeping processes in the order in which they went to sleep.
     asleep: Vec<usize>,
+    /// The index of the last move's event, where it stood in the list.
+    last: Option<usize>,
 }
 
 impl Agenda {
@@ -89,6 +92,7 @@ impl Agenda {
             proposed: vec![in alloc; false; state.assign_count()]?,
             inactive: Vec::new(alloc),
             asleep: Vec::new(alloc),
+            last: None,
         };
         for assign in 0..state.assign_count() {
             agenda.add(Item::Evaluate(assign))?;
@@ -189,6 +193,16 @@ impl Agenda {
         None
     }
 
+    /// The next step of the process whose step was the last move. Its event is where it was: behind a step the list only grows at its end.
+    pub(crate) fn again(&self, process: usize) -> Choice
+        ensures { result.choice ≡ Move.Step process }
+    {
+        Choice {
+            choice: Move::Step(process),
+            index: self.last,
+        }
+    }
+
     /// The move of the event at an index of the list.
     pub(crate) fn move_at(&self, index: usize, state: &State) -> Option<Move> {
         match self.entries.get(index)?.item {
@@ -266,9 +280,8 @@ impl Agenda {
     /// Brings the list up to date behind a move: an event that is no longer enabled leaves it, and what has become
     /// enabled enters at its end.
     pub(crate) fn follow(&mut self, made: Choice, state: &State) -> Result<(), AllocError> {
-        for assign in state.woken() {
-            self.add(Item::Evaluate(*assign))?;
-        }
+        self.last = made.index;
+        self.add_woken(state)?;
         match made.choice {
             Move::Step(process) => self.follow_step(process, made.index, state),
             Move::Evaluate(assign) => self.follow_evaluation(assign, made.index, state),
@@ -287,6 +300,18 @@ impl Agenda {
         }
     }
 
+    /// Puts what the last move has woken at the end: the continuous assignments, then the processes, each in design order.
+    fn add_woken(&mut self, state: &State) -> Result<(), AllocError> {
+        for assign in state.woken() {
+            self.add(Item::Evaluate(*assign))?;
+        }
+        for process in state.woken_processes() {
+            self.add_step(*process, state)?;
+        }
+        Ok(())
+    }
+
+    /// A process that isn't active behind its step leaves the list.
     fn follow_step(
         &mut self,
         process: usize,

@@ -6,16 +6,13 @@ ghost use Rattle.vs_kernel.specs.declared.kernel.Status.TheVariants as statuses;
 ghost use Rattle.vs_process.specs.Permitted.{NeverStuck};
 ghost use Rattle.vs_vcd.specs.Sinks.{failed_after};
 
-use crate::agenda::Agenda;
 use crate::outcome::{Outcome, RunFault};
 use crate::policy::Pick;
-use crate::run::execute;
+use crate::run::launch;
 use std::alloc::{AllocError, Global};
 use std::marker::Model;
-use std::mem;
 use vs_design::Design;
 use vs_process::never_stuck;
-use vs_state::State;
 use vs_vcd::Sink;
 
 /// Whether a kernel may run.
@@ -29,36 +26,26 @@ pub enum Status {
     Failed,
 }
 
-/// How far a kernel has come.
-#[derive(Drop)]
-enum Stage<'a> {
-    Ready(State<'a>, Agenda),
-    Done,
-    Failed,
-}
-
 /// The run of a design under a policy. A contract sees the design, and whether it may run.
 #[derive(Drop)]
 pub struct Kernel<'a, P> {
     alloc: Global,
     design: &'a Design,
     policy: P,
-    stage: Stage<'a>,
+    status: Status,
 }
 
 impl<'a, P> Model for Kernel<'a, P> {
     ghost use Rattle.std.specs.Coded.{codes};
     ghost use Rattle.vs_design.specs.contracts.expression.Typed as expression;
     ghost use Rattle.vs_design.specs.contracts.statement.Statement as statement;
-    ghost use Rattle.vs_kernel.specs.Stages.{Course, status_of, IsAtStart};
+    ghost use Rattle.vs_kernel.specs.Stages.{Course};
 
     ghost Value = { Course };
 
     ghost coded = { Prim.hlevel (codes, statement.the_row.coded, expression.the_row.coded) };
 
-    ghost view = { λ k. record { design = k.design.now; status = status_of k.stage } };
-
-    ghost invariant = { λ k. IsAtStart k.design.now k.stage };
+    ghost view = { λ k. record { design = k.design.now; status = k.status } };
 }
 
 impl<'a, P: Pick + Drop> Kernel<'a, P> {
@@ -66,13 +53,11 @@ impl<'a, P: Pick + Drop> Kernel<'a, P> {
     pub fn new(alloc: Global, design: &'a Design, policy: P) -> Result<Self, AllocError>
         ensures { IfOk result (λ kernel. kernel ≡ record { design = design.entry.now; status = statuses.Ready }) }
     {
-        let state = State::start(alloc, design)?;
-        let agenda = Agenda::start(alloc, design.signals().len(), &state)?;
         Ok(Kernel {
             alloc,
             design,
             policy,
-            stage: Stage::Ready(state, agenda),
+            status: Status::Ready,
         })
     }
 
@@ -80,11 +65,7 @@ impl<'a, P: Pick + Drop> Kernel<'a, P> {
     pub fn status(&self) -> Status
         ensures { result ≡ self.now.status }
     {
-        match &self.stage {
-            Stage::Ready(_, _) => Status::Ready,
-            Stage::Done => Status::Done,
-            Stage::Failed => Status::Failed,
-        }
+        self.status
     }
 
     /// Runs the design until its time is past `until`, in ticks, or no event is left, in at most `steps` permitted steps
@@ -116,26 +97,16 @@ impl<'a, P: Pick + Drop> Kernel<'a, P> {
     {
         let _ = lines;
         never_stuck();
-        match mem::replace(&mut self.stage, Stage::Failed) {
-            Stage::Ready(state, agenda) => {
-                let outcome = execute(
-                    self.alloc,
-                    self.design,
-                    state,
-                    agenda,
-                    &mut self.policy,
-                    until,
-                    steps,
-                    vcd,
-                )?;
-                self.stage = Stage::Done;
+        match self.status {
+            Status::Ready => {
+                self.status = Status::Failed;
+                let design = self.design;
+                let outcome = launch(self.alloc, design, &mut self.policy, until, steps, vcd)?;
+                self.status = Status::Done;
                 Ok(outcome)
             }
-            Stage::Done => {
-                self.stage = Stage::Done;
-                Err(RunFault::Done)
-            }
-            Stage::Failed => Err(RunFault::Failed),
+            Status::Done => Err(RunFault::Done),
+            Status::Failed => Err(RunFault::Failed),
         }
     }
 }

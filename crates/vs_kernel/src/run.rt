@@ -1,9 +1,12 @@
 //! The loop of a run.
-ghost use Rattle.std.specs.Prelude.{◌≡◌, ◌<◌, ◌^◌, ◌++◌, false, true, List, IfOk, OnOk, OnErr};
+ghost use Rattle.std.specs.Prelude.{◌≡◌, ◌<◌, ◌^◌, ◌++◌, ℕ, false, true, Some, List, map, IfOk, OnOk, OnErr};
 ghost use Rattle.vs_design.specs.Parts.{Parts};
 ghost use Rattle.vs_design.specs.Traces.{Slot};
 ghost use Rattle.vs_kernel.specs.Runs.{RanTo, HasBegun, AppendsSlots, AppendsSlotsPart};
+ghost use Rattle.vs_kernel.specs.Insides.{inside_told};
 ghost use Rattle.vs_state.specs.Touches.{HasSources};
+ghost use Rattle.vs_state.specs.Waits.{HasTerms};
+ghost use Rattle.vs_process.specs.Blocks.{is_step_of_any};
 ghost use Rattle.vs_process.specs.Executions as executions;
 ghost use Rattle.vs_process.specs.States as states;
 ghost use Rattle.vs_vcd.specs.Progress.{HasWritten, is_write_fault};
@@ -13,18 +16,68 @@ use crate::agenda::{Agenda, Choice};
 use crate::outcome::Outcome;
 use crate::policy::Pick;
 use std::alloc::{AllocError, Global};
-use vs_design::Design;
-use vs_process::{Grain, Move};
+use vs_design::{Design, Process};
+use vs_process::{
+    Code, Move, blocks_exclude, compile, inside_follows, inside_goes_on, is_combinational,
+    none_inside_first,
+};
 use vs_state::State;
 use vs_vcd::{Sink, VcdFault, Writer};
 
-/// The next move: what the policy chooses of the list, where that is enabled; else a move that the state has. It is allowed at both grains.
-pub(crate) fn choose<P: Pick>(state: &State, agenda: &mut Agenda, policy: &mut P) -> Choice
-    requires going { state.now.over ≡ false }
-    ensures enabled { executions.is_enabled state.now result.choice ≡ true }
-    ensures statement { (d : Parts) → executions.allowed Grain.Statement d state.now result.choice ≡ true }
-    ensures block { (d : Parts) → executions.allowed Grain.Block d state.now result.choice ≡ true }
+/// For each process whether it is a combinational block.
+fn blocks_of(alloc: Global, processes: &[Process]) -> Result<Vec<bool>, AllocError>
+    ensures { IfOk result (λ blocks. blocks.items ≡ map executions.is_combinational processes.now) }
 {
+    let mut blocks = Vec::new(alloc);
+    for process in processes {
+        blocks.push(is_combinational(process))?;
+    }
+    Ok(blocks)
+}
+
+/// The codes of the processes' bodies, one each in order.
+fn codes_of<'a>(alloc: Global, processes: &'a [Process]) -> Result<Vec<Code<'a>>, AllocError>
+    ensures { IfOk result (λ codes. codes.items ≡ map (λ p. p.body) processes.entry.now) }
+{
+    let mut codes = Vec::new(alloc);
+    for process in processes {
+        codes.push(compile(alloc, &process.body)?)?;
+    }
+    Ok(codes)
+}
+
+/// The combinational block that has taken a step since its control, behind a move: that of the move's step, if it is one.
+fn inside_behind(blocks: &[bool], state: &State, made: Move) -> Option<usize>
+    ensures { result ≡ inside_told blocks.now state.now.places made }
+{
+    let Move::Step(process) = made else {
+        return None;
+    };
+    let Some(block) = blocks.get(process) else {
+        return None;
+    };
+    if *block && state.is_inside(process) {
+        Some(process)
+    } else {
+        None
+    }
+}
+
+/// The next move. A combinational block that has left its control goes on, which is no choice; else it is what the policy chooses of the list,
+/// where that is enabled, and else a move that the state has.
+pub(crate) fn choose<P: Pick>(
+    state: &State,
+    inside: Option<usize>,
+    agenda: &mut Agenda,
+    policy: &mut P,
+) -> Choice
+    requires goes_on { (process : ℕ) → inside ≡ Some process → executions.is_enabled state.now (Move.Step process) ≡ true }
+    ensures enabled { executions.is_enabled state.now result.choice ≡ true }
+    ensures free { is_step_of_any inside result.choice ≡ true }
+{
+    if let Some(process) = inside {
+        return agenda.again(process);
+    }
     if let Some(index) = agenda.pick(policy) {
         if let Some(choice) = agenda.move_at(index, state)
             && state.is_enabled(choice)
@@ -76,6 +129,7 @@ pub(crate) fn advance(
     requires enabled { executions.is_enabled state.old next.choice ≡ true }
     requires early { state.old.time < 2 ^ 62 }
     requires sources { HasSources design.now state.old }
+    requires terms { HasTerms design.now state.old }
     ensures { OnOk result (state.new ≡ executions.apply next.choice state.old) }
 {
     state.make(design, next.choice)?;
@@ -84,7 +138,7 @@ pub(crate) fn advance(
 }
 
 /// Runs a design from its start.
-pub(crate) fn execute<P: Pick, V: Sink>(
+fn execute<P: Pick, V: Sink>(
     alloc: Global,
     design: &Design,
     mut state: State,
@@ -100,15 +154,22 @@ pub(crate) fn execute<P: Pick, V: Sink>(
     ensures begun { OnErr result (HasBegun design.now until steps (V.bytes vcd.old) (V.bytes vcd.new)) }
     ensures failures { V.failed vcd.new ≡ failed_after (is_write_fault result) (V.failed vcd.old) }
 {
+    blocks_exclude();
+    inside_follows();
+    inside_goes_on();
+    none_inside_first();
+    let blocks = blocks_of(alloc, design.processes())?;
     let mut writer = Writer::header(alloc, vcd, design)?;
+    let mut inside = None;
     let mut count = 0;
     while !state.is_over() && state.time() <= until {
         if count == steps {
             return Ok(Outcome::StepLimit(state.time()));
         }
-        let next = choose(&state, &mut agenda, policy);
+        let next = choose(&state, inside, &mut agenda, policy);
         note(alloc, &mut writer, vcd, &state, next.choice)?;
         advance(&mut state, design, &mut agenda, next)?;
+        inside = inside_behind(&blocks, &state, next.choice);
         count += 1;
     }
     writer.finish(vcd, until)?;
@@ -117,4 +178,43 @@ pub(crate) fn execute<P: Pick, V: Sink>(
     } else {
         Ok(Outcome::Reached)
     }
+}
+
+/// Runs a design from its start; these are the codes of its processes, one each in order.
+fn execute_codes<P: Pick, V: Sink>(
+    alloc: Global,
+    design: &Design,
+    codes: &[Code],
+    policy: &mut P,
+    until: u64,
+    steps: u64,
+    vcd: &mut V,
+) -> Result<Outcome, VcdFault>
+    requires codes { codes.now ≡ map (λ p. p.body) design.now.processes }
+    requires early { until < 2 ^ 62 }
+    ensures ran { IfOk result (λ outcome. RanTo design.now until steps outcome (V.bytes vcd.old) (V.bytes vcd.new)) }
+    ensures begun { OnErr result (HasBegun design.now until steps (V.bytes vcd.old) (V.bytes vcd.new)) }
+    ensures failures { V.failed vcd.new ≡ failed_after (is_write_fault result) (V.failed vcd.old) }
+{
+    let state = State::start(alloc, design, codes)?;
+    let agenda = Agenda::start(alloc, design.signals().len(), &state)?;
+    execute(alloc, design, state, agenda, policy, until, steps, vcd)
+}
+
+/// Compiles the processes of a design, and runs it from its start.
+pub(crate) fn launch<P: Pick, V: Sink>(
+    alloc: Global,
+    design: &Design,
+    policy: &mut P,
+    until: u64,
+    steps: u64,
+    vcd: &mut V,
+) -> Result<Outcome, VcdFault>
+    requires early { until < 2 ^ 62 }
+    ensures ran { IfOk result (λ outcome. RanTo design.now until steps outcome (V.bytes vcd.old) (V.bytes vcd.new)) }
+    ensures begun { OnErr result (HasBegun design.now until steps (V.bytes vcd.old) (V.bytes vcd.new)) }
+    ensures failures { V.failed vcd.new ≡ failed_after (is_write_fault result) (V.failed vcd.old) }
+{
+    let codes = codes_of(alloc, design.processes())?;
+    execute_codes(alloc, design, &codes, policy, until, steps, vcd)
 }

@@ -2,6 +2,7 @@ pub mod Bits
 pub mod Bitwise
 pub mod Positions
 pub mod Comparisons
+pub mod Cases
 pub mod Numbers
 pub mod Arithmetic
 pub mod Signs

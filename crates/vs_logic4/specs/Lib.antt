@@ -5,6 +5,9 @@ pub mod Sameness
 pub mod Extensions
 pub mod Tables
 pub mod Bitwise
+pub mod Cases
+pub mod CasePlanes
+pub mod Edges
 pub mod Comparisons
 pub mod Arithmetic
 pub mod Shifts

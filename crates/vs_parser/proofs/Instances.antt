@@ -15,7 +15,7 @@ use Rattle.vs_expressions.specs.declared.reading.Read.{Read}
 use Rattle.vs_expressions.specs.declared.reading.Stop.{Stop}
 use Rattle.vs_expressions.specs.Answers.{seen, Reads}
 use Rattle.vs_expressions.proofs.Exits.{fails_by, goes_at}
-use Rattle.vs_parser.specs.Lists.{behind_commas}
+use Rattle.vs_statements.specs.Lists.{behind_commas}
 
 -- connections in parentheses
 abbrev pub within : Grammar

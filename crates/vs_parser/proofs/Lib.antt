@@ -1,6 +1,3 @@
-pub mod Trees
-pub mod Lists
-pub mod Statements
 pub mod Declarations
 pub mod Headers
 pub mod Instances

@@ -1,38 +1,16 @@
--- How statements and items begin.
+-- How items begin.
 use Rattle.std.specs.Prelude.{◌≡◌, List, ◌∷◌}
-use Rattle.vs_tokens.specs.declared.token.Mark.{Mark}
 use Rattle.vs_tokens.specs.declared.token.Mark.TheVariants as m
 use Rattle.vs_tokens.specs.declared.token.Word.{Word}
 use Rattle.vs_tokens.specs.declared.token.Word.TheVariants as w
-use Rattle.vs_syntax.specs.Symbols.{Symbol, a_mark, a_word, a_name, Class, the_mark, the_word, any_name, first}
+use Rattle.vs_syntax.specs.Symbols.{Symbol, a_word, a_name}
 use Rattle.vs_syntax.specs.Grammar.{Grammar, nothing, ◌·◌, ◌or◌, part, many, mark, word, name, form, listed, instances, parameter_form, port_form, a_constant, a_net, a_port, a_variable, an_assignment, a_stmt}
 use Rattle.vs_syntax.specs.declared.tree.PortKind.{PortKind}
 use Rattle.vs_syntax.specs.declared.tree.PortKind.TheVariants as k
-use Rattle.vs_parser.specs.declared.head.StatementHead.{StatementHead}
-use Rattle.vs_parser.specs.declared.head.StatementHead.TheVariants as s
 use Rattle.vs_parser.specs.declared.head.ItemHead.{ItemHead}
 use Rattle.vs_parser.specs.declared.head.ItemHead.TheVariants as i
 use Rattle.vs_parser.specs.declared.head.DeclarationWord.{DeclarationWord}
 use Rattle.vs_parser.specs.declared.head.DeclarationWord.TheVariants as d
-use Rattle.vs_parser.specs.declared.head.Timing.{Timing}
-use Rattle.vs_parser.specs.declared.head.Timing.TheVariants as t
-use Rattle.vs_expressions.specs.Answers.{seen}
-
--- the symbols begin a statement so
-abbrev pub BeginsStatement : List Symbol → StatementHead → Type 0
-BeginsStatement ts (s.Null rest) = ts ≡ a_mark m.Semicolon ∷ seen rest.now
-BeginsStatement ts s.Name = first ts ≡ any_name
-BeginsStatement ts s.Brace = first ts ≡ the_mark m.OpenBrace
-BeginsStatement ts (s.Block rest) = ts ≡ a_word w.Begin ∷ seen rest.now
-BeginsStatement ts (s.Delay rest) = ts ≡ a_mark m.Hash ∷ seen rest.now
-
--- the class of the first symbol of a statement that begins so
-abbrev pub class_of_statement : StatementHead → Class
-class_of_statement (s.Null rest) = the_mark m.Semicolon
-class_of_statement s.Name = any_name
-class_of_statement s.Brace = the_mark m.OpenBrace
-class_of_statement (s.Block rest) = the_word w.Begin
-class_of_statement (s.Delay rest) = the_mark m.Hash
 
 -- the word of a declaration
 abbrev pub word_of : DeclarationWord → Word
@@ -83,8 +61,3 @@ kind_word k.Integer = w.Integer
 -- the ports in the parentheses of a header, the first with its direction (clause A.1.3; profile)
 abbrev pub ports_within : Grammar
 ports_within = (port_form · name) · many (mark m.Comma · part a_port) or nothing
-
--- the sign of an assignment as a statement (IEEE 1364-2005, clauses 9.2.1 and 9.2.2)
-abbrev pub sign_of : Timing → Mark
-sign_of t.Blocking = m.Assign
-sign_of t.Nonblocking = m.LessEqual

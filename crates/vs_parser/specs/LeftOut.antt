@@ -24,6 +24,20 @@ is_in_grammar w.Initial = true
 is_in_grammar w.Always = true
 is_in_grammar w.Begin = true
 is_in_grammar w.End = true
+is_in_grammar w.If = true
+is_in_grammar w.Else = true
+is_in_grammar w.Case = true
+is_in_grammar w.Casez = true
+is_in_grammar w.Casex = true
+is_in_grammar w.Endcase = true
+is_in_grammar w.Default = true
+is_in_grammar w.For = true
+is_in_grammar w.While = true
+is_in_grammar w.Repeat = true
+is_in_grammar w.Forever = true
+is_in_grammar w.Posedge = true
+is_in_grammar w.Negedge = true
+is_in_grammar w.Or = true
 is_in_grammar _ = false
 
 -- no conversion to signed or to unsigned

@@ -9,12 +9,12 @@ ghost use Rattle.vs_syntax.specs.Views.{listed_tree, signed_tree, range_tree, fo
 ghost use Rattle.vs_syntax.specs.Views.{value_tree, told_tree, declarator_tree, net_assignment_tree};
 ghost use Rattle.vs_syntax.specs.Reading.{Gets};
 ghost use Rattle.vs_expressions.specs.Answers.{seen, Reads};
-ghost use Rattle.vs_parser.specs.Lists.{behind_commas};
+ghost use Rattle.vs_statements.specs.Lists.{behind_commas};
 
-use crate::list::{Element, listed};
 use std::alloc::Global;
 use vs_expressions::{Read, Stop, expect_mark, expect_name, expr, left, mark_at, word_at};
 use vs_lexer::{Mark, Token, Word};
+use vs_statements::{Element, listed};
 use vs_syntax::{Declarator, Expr, Form, NetAssignment, Range};
 
 /// A name of a declaration of nets.

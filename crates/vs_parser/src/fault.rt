@@ -71,6 +71,20 @@ fn in_grammar(word: Word) -> bool
             | Word::Always
             | Word::Begin
             | Word::End
+            | Word::If
+            | Word::Else
+            | Word::Case
+            | Word::Casez
+            | Word::Casex
+            | Word::Endcase
+            | Word::Default
+            | Word::For
+            | Word::While
+            | Word::Repeat
+            | Word::Forever
+            | Word::Posedge
+            | Word::Negedge
+            | Word::Or
     )
 }
 

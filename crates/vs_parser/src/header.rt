@@ -17,11 +17,11 @@ ghost use Rattle.vs_parser.specs.Heads.{port_kind, ports_within};
 
 use crate::declaration::declared_form;
 use crate::head::{direction_at, kind_at};
-use crate::list::{Element, others};
 use crate::parameter;
 use std::alloc::Global;
 use vs_expressions::{Read, Stop, expect_mark, expect_name, expect_word, mark_at, word_at};
 use vs_lexer::{Mark, Token, Word};
+use vs_statements::{Element, others};
 use vs_syntax::{Direction, Form, HeaderParameter, ParameterForm, Port, PortForm, PortKind};
 
 /// A parameter in the header of a module behind the first one.

@@ -7,12 +7,12 @@ ghost use Rattle.vs_syntax.specs.Grammar as g;
 ghost use Rattle.vs_syntax.specs.Derivation.{leaf, both};
 ghost use Rattle.vs_syntax.specs.Views.{listed_tree, end_tree, connection_tree, connections_tree, overrides_tree, instance_tree};
 ghost use Rattle.vs_expressions.specs.Answers.{Reads};
-ghost use Rattle.vs_parser.specs.Lists.{behind_commas};
+ghost use Rattle.vs_statements.specs.Lists.{behind_commas};
 
-use crate::list::{Element, listed, others};
 use std::alloc::Global;
 use vs_expressions::{Read, Stop, begins_expr, expect_mark, expect_name, expr, mark_at};
 use vs_lexer::{Mark, Token};
+use vs_statements::{Element, listed, others};
 use vs_syntax::{Connection, Connections, Expr, Instance};
 
 /// A connection by name.

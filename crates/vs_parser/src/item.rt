@@ -12,12 +12,11 @@ use crate::declaration::{Assignment, Net, Variable, declared};
 use crate::head::{DeclarationWord, ItemHead, item_head, least_item};
 use crate::header::{header_parameters, header_ports};
 use crate::instance::instances;
-use crate::list::listed;
 use crate::parameter::parameters;
-use crate::statement::stmt;
 use std::alloc::Global;
 use vs_expressions::{Read, Stop, expect_mark, expect_name, expect_word, word_at};
 use vs_lexer::{Mark, Token, Word};
+use vs_statements::{listed, stmt};
 use vs_syntax::{Item, Module, Source};
 
 /// Reads an item, behind whose first token `after` stands, in at most `room` nodes below one another.

@@ -7,10 +7,8 @@ mod head;
 mod header;
 mod instance;
 mod item;
-mod list;
 mod parameter;
 mod parser;
-mod statement;
 
 pub use fault::ParseFault;
 pub use parser::parse;

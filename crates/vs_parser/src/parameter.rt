@@ -6,10 +6,10 @@ ghost use Rattle.vs_syntax.specs.Views.{constant_tree, constants_tree, parameter
 ghost use Rattle.vs_expressions.specs.Answers.{Reads};
 
 use crate::declaration::declared_form;
-use crate::list::{Element, listed};
 use std::alloc::Global;
 use vs_expressions::{Read, Stop, expect_mark, expect_name, expr, word_at};
 use vs_lexer::{Mark, Token, Word};
+use vs_statements::{Element, listed};
 use vs_syntax::{Constant, ParameterForm};
 
 /// A name of a declaration of parameters.

@@ -16,7 +16,7 @@ use Rattle.vs_eval.specs.Laws.{digit_of}
 use Rattle.vs_eval.specs.Targets.{assigned}
 use Rattle.vs_eval.specs.Values.{target_value}
 use Rattle.vs_process.specs.States.{State, AssignState, start_assign, touched, evaluated, settled, written_behind}
-use Rattle.vs_process.specs.Steps.{assignment}
+use Rattle.vs_flatcode.specs.Steps.{assignment}
 use Rattle.vs_process.specs.Idle.{IsIdle}
 use Rattle.vs_process.proofs.Digits.{Keeps, kept_digit, put_again, put_swapped, unnamed_keeps}
 use Rattle.vs_process.proofs.Lists.{any_at, at_any, map_at, map_cases, none_at, none_from, same_gets, set_cases}

@@ -1,21 +1,26 @@
 -- At grain block at most one combinational block has taken a step since its control, and it can take the next.
-use Rattle.std.proofs.Common.{◌≡◌, ℕ, zero, suc, ◌+◌, ◌==◌, ◌||◌, ◌&&◌, not, Bool, true, false, Option, Some, None, List, [], ◌∷◌, map, slice_get, slice_set, if◌then◌else◌, refl, sym, ◌∙◌, ap, subst, inl, inr, ◌⊎◌, ⊎_elim, arith, eq-eqb}
+use Rattle.std.proofs.Common.{◌≡◌, ℕ, zero, suc, ◌+◌, ◌==◌, ◌||◌, ◌&&◌, not, Bool, true, false, Option, Some, None, List, [], ◌∷◌, map, slice_get, slice_set, if◌then◌else◌, refl, sym, ◌∙◌, ap, inl, inr, ◌⊎◌, ⊎_elim, arith, eq-eqb}
 use Rattle.std.proofs.lemmas.Bool.{cases_Bool, or_parts, not-true}
 use Rattle.std.proofs.lemmas.Bool.Decides.{eqb_tells}
 use Rattle.vs_logic4.specs.declared.digit.Digit.{Digit}
 use Rattle.vs_design.specs.declared.design.Process.{Process}
 use Rattle.vs_design.specs.Parts.{Parts}
-use Rattle.vs_process.specs.declared.moves.Gait.TheVariants.{Fresh, Woken}
+use Rattle.vs_design.specs.Stores.{Store, put}
+use Rattle.vs_design.specs.Writes.{Write}
+use Rattle.vs_edges.specs.Waking.{wake_any}
+use Rattle.vs_eval.specs.Targets.{assigned}
+use Rattle.vs_flatcode.specs.declared.gait.Gait.TheVariants.{Fresh, Woken}
 use Rattle.vs_process.specs.declared.moves.Grain.TheVariants.{Block}
 use Rattle.vs_process.specs.declared.moves.Move.{Move}
 use Rattle.vs_process.specs.declared.moves.Move.TheVariants.{Step, Evaluate, Propagate, Make, Rouse, Activate, EndSlot}
-use Rattle.vs_process.specs.Places.{Todo, Place, going, sleeping, inactive, ended, active_at, is_going, is_inside, start_place, flat}
-use Rattle.vs_process.specs.States.{State, AssignState, Update, stepped, evaluate, propagate, propagate_value, make, roused, woken_at, todo_of, place_behind}
-use Rattle.vs_process.specs.Steps.{step}
-use Rattle.vs_process.specs.Executions.{after, apply, Legal, is_enabled, is_free, is_kept_out, is_step_of, is_combinational, if_some, ends, next_time, places_at}
+use Rattle.vs_flatcode.specs.Places.{Todo, Place, going, sleeping, inactive, waiting, ended, active_at, is_going, is_inside, start_place, flat}
+use Rattle.vs_process.specs.States.{State, AssignState, Update, stepped, evaluate, propagate, propagate_value, make, roused, wakened, woken_at, place_behind, written_behind}
+use Rattle.vs_flatcode.specs.Places.{todo_of}
+use Rattle.vs_flatcode.specs.Steps.{step}
+use Rattle.vs_process.specs.Blocks.{BlocksExclude, InsideFollows, InsideGoesOn, NoneInsideFirst, inside_behind, inside_block, inside_from, is_inside_at, is_inside_block, is_inside_number, is_step_of_any}
+use Rattle.vs_process.specs.Executions.{after, allowed, apply, Legal, is_enabled, is_free, is_kept_out, is_step_of, is_combinational, if_some, ends, next_time, places_at}
 use Rattle.vs_process.specs.Permitted.{CanGo}
 use Rattle.vs_process.proofs.Permitted.{AllFree, allow}
-use Rattle.vs_process.proofs.Times.{behind_places}
 
 -- whether the process at an index passes a test and is inside
 abbrev inside_at : (Process → Bool) → List Process → List Place → ℕ → Bool
@@ -77,6 +82,7 @@ inside_going test (p ∷ ps) [] i h = cc
 inside_going test (p ∷ ps) (going gait todo ∷ xs) zero h = refl
 inside_going test (p ∷ ps) (sleeping due todo ∷ xs) zero h = no_inside (test p) h
 inside_going test (p ∷ ps) (inactive todo ∷ xs) zero h = no_inside (test p) h
+inside_going test (p ∷ ps) (waiting terms todo ∷ xs) zero h = no_inside (test p) h
 inside_going test (p ∷ ps) (ended ∷ xs) zero h = no_inside (test p) h
 inside_going test (p ∷ ps) (x ∷ xs) (suc i) h = inside_going test ps xs i h
 
@@ -106,17 +112,26 @@ inside-roused : (x : Place) → is_inside (roused x) ≡ is_inside x
 inside-roused (going gait todo) = refl
 inside-roused (sleeping due todo) = refl
 inside-roused (inactive todo) = active_outside todo
+inside-roused (waiting terms todo) = refl
 inside-roused ended = refl
 
-woken_outside : (b : Bool) (due : ℕ) (todo : Todo) → is_inside (if b then active_at Woken todo else sleeping due todo) ≡ false
-woken_outside true due todo = active_outside todo
-woken_outside false due todo = refl
+woken_outside : (b : Bool) (todo : Todo) (place : Place) → is_inside place ≡ false → is_inside (if b then active_at Woken todo else place) ≡ false
+woken_outside true todo place h = active_outside todo
+woken_outside false todo place h = h
 
 inside-woken_at : (time : ℕ) (x : Place) → is_inside (woken_at time x) ≡ is_inside x
 inside-woken_at time (going gait todo) = refl
-inside-woken_at time (sleeping due todo) = woken_outside (due == time) due todo
+inside-woken_at time (sleeping due todo) = woken_outside (due == time) todo (sleeping due todo) refl
 inside-woken_at time (inactive todo) = refl
+inside-woken_at time (waiting terms todo) = refl
 inside-woken_at time ended = refl
+
+inside-wakened : (old new : Store) (x : Place) → is_inside (wakened old new x) ≡ is_inside x
+inside-wakened old new (going gait todo) = refl
+inside-wakened old new (sleeping due todo) = refl
+inside-wakened old new (inactive todo) = refl
+inside-wakened old new (waiting terms todo) = woken_outside (wake_any terms old new) todo (waiting terms todo) refl
+inside-wakened old new ended = refl
 
 inside_at-slot : (test : Process → Bool) (b : Bool) (next : Option ℕ) (ps : List Process) (xs : List Place) (k : ℕ) → inside_at test ps (places_at b next xs) k ≡ inside_at test ps xs k
 inside_at-slot test true next ps xs k = refl
@@ -136,68 +151,84 @@ inside_at-start test (p ∷ ps) (suc k) = inside_at-start test ps k
 abbrev pub AtMostOne : (Process → Bool) → List Process → List Place → Type 0
 AtMostOne test ps xs = (i k : ℕ) → inside_at test ps xs i ≡ true → inside_at test ps xs k ≡ true → i ≡ k
 
-same_places : (test : Process → Bool) (ps : List Process) (xs ys : List Place) → ((k : ℕ) → inside_at test ps ys k ≡ inside_at test ps xs k) → AtMostOne test ps xs → AtMostOne test ps ys
-same_places test ps xs ys same h i k hi hk = h i k (sym (same i) ∙ hi) (sym (same k) ∙ hk)
-
 equal_step : (i k : ℕ) → (i == k) ≡ true → k ≡ i
 equal_step i k h = ⊎_elim (λ same. sym same.1) (λ other. absurd (let no_way : true ≡ false = sym h ∙ other.0 in cc)) (eqb_tells i k)
 
--- behind a step that no such process keeps out
-one_behind : (test : Process → Bool) (ps : List Process) (xs : List Place) (i : ℕ) (y : Place) → kept_out test ps xs 0 (Step i) ≡ false → AtMostOne test ps (slice_set xs i y)
-one_behind test ps xs i y h a b ha hb = only a ha ∙ sym (only b hb)
-  where
-    only : (k : ℕ) → inside_at test ps (slice_set xs i y) k ≡ true → k ≡ i
-    only k hk =
-        ⊎_elim (λ same. same.1)
-        (λ other.
-        let before : inside_at test ps xs k ≡ true = sym (inside_at-set_other test ps xs i k y other.1) ∙ hk in
-        let e : 0 + k ≡ k = omega arith in
-        equal_step i k (ap (λ n. is_step_of n (Step i)) (sym e) ∙ step_only test ps xs 0 (Step i) h k before))
-        (eqb_tells k i)
+-- a move is a step of one process at most
+one_step : (m : Move) (i k : ℕ) → is_step_of i m ≡ true → is_step_of k m ≡ true → i ≡ k
+one_step (Step j) i k h g = equal_step j i h ∙ sym (equal_step j k g)
+one_step (Evaluate j) i k h g = cc
+one_step (Propagate j) i k h g = cc
+one_step (Make j) i k h g = cc
+one_step Rouse i k h g = cc
+one_step Activate i k h g = cc
+one_step EndSlot i k h g = cc
 
-one_stepped : (test : Process → Bool) (ps : List Process) (s : State) (i : ℕ) (o : Option Place) → kept_out test ps s.places 0 (Step i) ≡ false → AtMostOne test ps s.places → AtMostOne test ps (stepped s i o).places
-one_stepped test ps s i None h one = one
-one_stepped test ps s i (Some x) h one =
-    subst (λ (xs : List Place). AtMostOne test ps (slice_set xs i (place_behind x s.time (step (todo_of x) s.store s.time).next))) (sym (behind_places s (step (todo_of x) s.store s.time).write))
-    (one_behind test ps s.places i (place_behind x s.time (step (todo_of x) s.store s.time).next) h)
+-- the processes that are inside in these places were so in those
+abbrev SameInside : (Process → Bool) → List Process → List Place → List Place → Type 0
+SameInside test ps xs ys = (k : ℕ) → inside_at test ps ys k ≡ inside_at test ps xs k
 
-evaluate_places : (s : State) (j : ℕ) (o : Option AssignState) → (evaluate s j o).places ≡ s.places
-evaluate_places s j None = refl
-evaluate_places s j (Some x) = refl
+same_behind : (test : Process → Bool) (ps : List Process) (s : State) (w : Option Write) → SameInside test ps s.places (written_behind s w).places
+same_behind test ps s None k = refl
+same_behind test ps s (Some w) k = inside_at-map test (wakened s.store (put s.store w)) (inside-wakened s.store (put s.store w)) ps s.places k
 
-value_places : (s : State) (j : ℕ) (x : AssignState) (o : Option (List Digit)) → (propagate_value s j x o).places ≡ s.places
-value_places s j x None = refl
-value_places s j x (Some v) = refl
+same_evaluate : (test : Process → Bool) (ps : List Process) (s : State) (j : ℕ) (o : Option AssignState) → SameInside test ps s.places (evaluate s j o).places
+same_evaluate test ps s j None k = refl
+same_evaluate test ps s j (Some x) k = refl
 
-propagate_places : (s : State) (j : ℕ) (o : Option AssignState) → (propagate s j o).places ≡ s.places
-propagate_places s j None = refl
-propagate_places s j (Some x) = value_places s j x x.pending
+same_value : (test : Process → Bool) (ps : List Process) (s : State) (j : ℕ) (x : AssignState) (o : Option (List Digit)) → SameInside test ps s.places (propagate_value s j x o).places
+same_value test ps s j x None k = refl
+same_value test ps s j x (Some v) k = same_behind test ps s (Some (assigned x.target v s.store s.time)) k
 
-make_places : (s : State) (i : ℕ) (o : Option Update) → (make s i o).places ≡ s.places
-make_places s i None = refl
-make_places s i (Some u) = refl
+same_propagate : (test : Process → Bool) (ps : List Process) (s : State) (j : ℕ) (o : Option AssignState) → SameInside test ps s.places (propagate s j o).places
+same_propagate test ps s j None k = refl
+same_propagate test ps s j (Some x) k = same_value test ps s j x x.pending k
 
-one_applied : (test : Process → Bool) (ps : List Process) (m : Move) (s : State) → kept_out test ps s.places 0 m ≡ false → AtMostOne test ps s.places → AtMostOne test ps (apply m s).places
-one_applied test ps (Step i) s h one = one_stepped test ps s i (slice_get s.places i) h one
-one_applied test ps (Evaluate j) s h one = subst (AtMostOne test ps) (sym (evaluate_places s j (slice_get s.assigns j))) one
-one_applied test ps (Propagate j) s h one = subst (AtMostOne test ps) (sym (propagate_places s j (slice_get s.assigns j))) one
-one_applied test ps (Make i) s h one = subst (AtMostOne test ps) (sym (make_places s i (slice_get s.updates i))) one
-one_applied test ps Rouse s h one = same_places test ps s.places (map roused s.places) (inside_at-map test roused inside-roused ps s.places) one
-one_applied test ps Activate s h one = one
-one_applied test ps EndSlot s h one = same_places test ps s.places (places_at (ends s) (next_time s) s.places) (inside_at-slot test (ends s) (next_time s) ps s.places) one
+same_make : (test : Process → Bool) (ps : List Process) (s : State) (i : ℕ) (o : Option Update) → SameInside test ps s.places (make s i o).places
+same_make test ps s i None k = refl
+same_make test ps s i (Some u) k = same_behind test ps s (Some u.what) k
+
+-- behind a step of a process, the other processes are inside where they were
+other_stepped : (test : Process → Bool) (ps : List Process) (s : State) (i : ℕ) (o : Option Place) (k : ℕ) → (k ≡ i → ⊥) → inside_at test ps (stepped s i o).places k ≡ inside_at test ps s.places k
+other_stepped test ps s i None k apart = refl
+other_stepped test ps s i (Some x) k apart =
+    let out = step (todo_of x) s.store s.time in
+    inside_at-set_other test ps (written_behind s out.write).places i k (place_behind x s.time out.next) apart ∙ same_behind test ps s out.write k
+
+-- a process that is inside behind a move was so before it, or the move is its step
+was_inside : (test : Process → Bool) (ps : List Process) (m : Move) (s : State) (k : ℕ) → inside_at test ps (apply m s).places k ≡ true → (is_step_of k m ≡ true) ⊎ (inside_at test ps s.places k ≡ true)
+was_inside test ps (Step i) s k h =
+    ⊎_elim (λ same. inl (eq-eqb i k (sym same.1))) (λ other. inr (sym (other_stepped test ps s i (slice_get s.places i) k other.1) ∙ h)) (eqb_tells k i)
+was_inside test ps (Evaluate j) s k h = inr (sym (same_evaluate test ps s j (slice_get s.assigns j) k) ∙ h)
+was_inside test ps (Propagate j) s k h = inr (sym (same_propagate test ps s j (slice_get s.assigns j) k) ∙ h)
+was_inside test ps (Make i) s k h = inr (sym (same_make test ps s i (slice_get s.updates i) k) ∙ h)
+was_inside test ps Rouse s k h = inr (sym (inside_at-map test roused inside-roused ps s.places k) ∙ h)
+was_inside test ps Activate s k h = inr h
+was_inside test ps EndSlot s k h = inr (sym (inside_at-slot test (ends s) (next_time s) ps s.places k) ∙ h)
+
+-- behind a move that no such process keeps out, each one that is inside is that of which it is a step
+only_stepped : (test : Process → Bool) (ps : List Process) (m : Move) (s : State) → kept_out test ps s.places 0 m ≡ false → (k : ℕ) → inside_at test ps (apply m s).places k ≡ true → is_step_of k m ≡ true
+only_stepped test ps m s h k here =
+    elim (was_inside test ps m s k here) [
+      | inl own ↦ own
+      | inr before ↦ let e : 0 + k ≡ k = omega arith in ap (λ n. is_step_of n m) (sym e) ∙ step_only test ps s.places 0 m h k before
+    ]
 
 and_last : (a b c : Bool) → (a && b && c) ≡ true → c ≡ true
 and_last true true c h = h
 and_last true false c h = cc
 and_last false b c h = cc
 
+-- behind a move that is allowed at grain block, each block that is inside is that of which it is a step
+pub allowed_steps : (d : Parts) (s : State) (m : Move) → allowed Block d s m ≡ true → (k : ℕ) → inside_at is_combinational d.processes (apply m s).places k ≡ true → is_step_of k m ≡ true
+allowed_steps d s m h =
+    only_stepped is_combinational d.processes m s
+    (sym (kept_out-same d.processes s.places 0 m) ∙ not-true _ (and_last (not s.over) (is_enabled s m) (is_free Block d s m) h))
+
 -- at grain block at most one combinational block is inside
 pub one_inside : (d : Parts) (moves : List Move) → Legal Block d moves → AtMostOne is_combinational d.processes (after d moves).places
 one_inside d [] h = λ i k hi hk. let no_way : false ≡ true = sym (inside_at-start is_combinational d.processes i) ∙ hi in cc
-one_inside d (m ∷ before) h =
-    one_applied is_combinational d.processes m (after d before)
-    (sym (kept_out-same d.processes (after d before).places 0 m) ∙ not-true _ (and_last (not (after d before).over) (is_enabled (after d before) m) (is_free Block d (after d before) m) h.1))
-    (one_inside d before h.0)
+one_inside d (m ∷ before) h = λ i k hi hk. one_step m i k (allowed_steps d (after d before) m h.1 i hi) (allowed_steps d (after d before) m h.1 k hk)
 
 -- some such process is inside, or none is
 some_inside : (test : Process → Bool) (ps : List Process) (xs : List Place) → ((i : ℕ) × (inside_at test ps xs i ≡ true)) ⊎ ((i : ℕ) → inside_at test ps xs i ≡ false)
@@ -229,3 +260,133 @@ block_goes d s one goes over =
       | inl found ↦ allow Block d s (Step found.0) over (inside_going is_combinational d.processes s.places found.0 found.1) (free_if d s (Step found.0) (λ k here. eq-eqb found.0 k (one found.0 k found.1 here)))
       | inr none ↦ goes (λ m. free_if d s m (λ k here. let no_way : false ≡ true = sym (none k) ∙ here in cc)) over
     ]
+
+-- ---- the block that is inside, by its number
+
+nowhere : (o : Option Process) → is_inside_at o None ≡ false
+nowhere None = refl
+nowhere (Some p) = refl
+
+inside_number-at : (ps : List Process) (xs : List Place) (i : ℕ) → is_inside_number ps xs i ≡ inside_at is_combinational ps xs i
+inside_number-at [] xs i = refl
+inside_number-at (p ∷ ps) [] i = nowhere (slice_get (p ∷ ps) i)
+inside_number-at (p ∷ ps) (x ∷ xs) zero = refl
+inside_number-at (p ∷ ps) (x ∷ xs) (suc i) = inside_number-at ps xs i
+
+if_true : {A : Type 0} (b : Bool) (x y : A) → b ≡ true → (if b then x else y) ≡ x
+if_true b x y e = ap (λ c. if c then x else y) e
+
+if_false : {A : Type 0} (b : Bool) (x y : A) → b ≡ false → (if b then x else y) ≡ y
+if_false b x y e = ap (λ c. if c then x else y) e
+
+inside_from-none : (number : ℕ) (ps : List Process) (xs : List Place) → ((k : ℕ) → inside_at is_combinational ps xs k ≡ false) → inside_from number ps xs ≡ None
+inside_from-none number [] xs h = refl
+inside_from-none number (p ∷ ps) [] h = refl
+inside_from-none number (p ∷ ps) (x ∷ xs) h = if_false (is_inside_block p x) (Some number) (inside_from (suc number) ps xs) (h 0) ∙ inside_from-none (suc number) ps xs (λ k. h (suc k))
+
+inside_from-some : (number : ℕ) (ps : List Process) (xs : List Place) (i : ℕ) → inside_at is_combinational ps xs i ≡ true → ((k : ℕ) → inside_at is_combinational ps xs k ≡ true → k ≡ i) →
+    inside_from number ps xs ≡ Some (number + i)
+inside_from-some number [] xs i here only = cc
+inside_from-some number (p ∷ ps) [] i here only = cc
+inside_from-some number (p ∷ ps) (x ∷ xs) zero here only =
+    let e : number ≡ number + 0 = omega arith in
+    if_true (is_inside_block p x) (Some number) (inside_from (suc number) ps xs) here ∙ ap Some e
+inside_from-some number (p ∷ ps) (x ∷ xs) (suc i) here only =
+    let e : suc number + i ≡ number + suc i = omega arith in
+    elim (cases_Bool (is_inside_block p x)) [
+      | inl first ↦ let same : 0 ≡ suc i = only 0 first in cc
+      | inr later ↦
+          if_false (is_inside_block p x) (Some number) (inside_from (suc number) ps xs) later
+          ∙ inside_from-some (suc number) ps xs i here (λ k h. let same : suc k ≡ suc i = only (suc k) h in cc) ∙ ap Some e
+    ]
+
+inside_block-some : (ps : List Process) (xs : List Place) (i : ℕ) → inside_at is_combinational ps xs i ≡ true → ((k : ℕ) → inside_at is_combinational ps xs k ≡ true → k ≡ i) → inside_block ps xs ≡ Some i
+inside_block-some ps xs i here only = let e : 0 + i ≡ i = omega arith in inside_from-some 0 ps xs i here only ∙ ap Some e
+
+none_if : (b : Bool) → (b ≡ true → ⊥) → b ≡ false
+none_if true h = absurd (h refl)
+none_if false h = refl
+
+bool_same : (a b : Bool) → (a ≡ true → b ≡ true) → (b ≡ true → a ≡ true) → a ≡ b
+bool_same true b to back = sym (to refl)
+bool_same false true to back = back refl
+bool_same false false to back = refl
+
+-- a free move is a step of each block that is inside
+free_steps : (d : Parts) (s : State) (m : Move) (i : ℕ) → inside_at is_combinational d.processes s.places i ≡ true → is_free Block d s m ≡ true → is_step_of i m ≡ true
+free_steps d s m i here free =
+    let e : 0 + i ≡ i = omega arith in
+    ap (λ n. is_step_of n m) (sym e) ∙ step_only is_combinational d.processes s.places 0 m (sym (kept_out-same d.processes s.places 0 m) ∙ not-true _ free) i here
+
+free_one : (d : Parts) (s : State) → AtMostOne is_combinational d.processes s.places → (m : Move) → is_free Block d s m ≡ is_step_of_any (inside_block d.processes s.places) m
+free_one d s one m =
+    elim (some_inside is_combinational d.processes s.places) [
+      | inl found ↦
+          bool_same (is_free Block d s m) (is_step_of found.0 m) (free_steps d s m found.0 found.1)
+          (λ own. free_if d s m (λ k here. ap (λ n. is_step_of n m) (one k found.0 here found.1) ∙ own))
+          ∙ ap (λ o. is_step_of_any o m) (sym (inside_block-some d.processes s.places found.0 found.1 (λ k here. one k found.0 here found.1)))
+      | inr none ↦
+          free_if d s m (λ k here. let no_way : false ≡ true = sym (none k) ∙ here in cc)
+          ∙ ap (λ o. is_step_of_any o m) (sym (inside_from-none 0 d.processes s.places none))
+    ]
+
+-- at most one block is inside, and moves are free by it
+pub blocks_exclude : BlocksExclude
+blocks_exclude d moves legal =
+    let places = (after d moves).places in (
+      λ i k hi hk. one_inside d moves legal i k (sym (inside_number-at d.processes places i) ∙ hi) (sym (inside_number-at d.processes places k) ∙ hk),
+      free_one d (after d moves) (one_inside d moves legal),
+    )
+
+-- where each block that is inside is that of which a move is a step, the block of that step is inside or none is
+follows_by : (ps : List Process) (xs : List Place) (m : Move) → ((k : ℕ) → inside_at is_combinational ps xs k ≡ true → is_step_of k m ≡ true) → inside_block ps xs ≡ inside_behind ps xs m
+follows_by ps xs (Step i) only =
+    elim (cases_Bool (is_inside_number ps xs i)) [
+      | inl here ↦
+          inside_block-some ps xs i (sym (inside_number-at ps xs i) ∙ here) (λ k h. equal_step i k (only k h)) ∙ sym (if_true (is_inside_number ps xs i) (Some i) None here)
+      | inr not_here ↦
+          inside_from-none 0 ps xs
+          (λ k. none_if (inside_at is_combinational ps xs k)
+          (λ h.
+          let same : k ≡ i = equal_step i k (only k h) in
+          let here : is_inside_number ps xs i ≡ true = inside_number-at ps xs i ∙ ap (inside_at is_combinational ps xs) (sym same) ∙ h in
+          let no_way : true ≡ false = sym here ∙ not_here in
+          cc))
+          ∙ sym (if_false (is_inside_number ps xs i) (Some i) None not_here)
+    ]
+follows_by ps xs (Evaluate j) only = inside_from-none 0 ps xs (λ k. none_if (inside_at is_combinational ps xs k) (λ h. let no_way = only k h in cc))
+follows_by ps xs (Propagate j) only = inside_from-none 0 ps xs (λ k. none_if (inside_at is_combinational ps xs k) (λ h. let no_way = only k h in cc))
+follows_by ps xs (Make j) only = inside_from-none 0 ps xs (λ k. none_if (inside_at is_combinational ps xs k) (λ h. let no_way = only k h in cc))
+follows_by ps xs Rouse only = inside_from-none 0 ps xs (λ k. none_if (inside_at is_combinational ps xs k) (λ h. let no_way = only k h in cc))
+follows_by ps xs Activate only = inside_from-none 0 ps xs (λ k. none_if (inside_at is_combinational ps xs k) (λ h. let no_way = only k h in cc))
+follows_by ps xs EndSlot only = inside_from-none 0 ps xs (λ k. none_if (inside_at is_combinational ps xs k) (λ h. let no_way = only k h in cc))
+
+-- the block that is inside behind an allowed move
+pub inside_follows : InsideFollows
+inside_follows d s m h = follows_by d.processes (apply m s).places m (allowed_steps d s m h)
+
+-- where an execution begins, none is
+pub none_inside_first : NoneInsideFirst
+none_inside_first d = inside_from-none 0 d.processes (map (λ (p : Process). start_place p.body) d.processes) (inside_at-start is_combinational d.processes)
+
+-- the first block that is inside is inside
+inside_from-found : (number : ℕ) (ps : List Process) (xs : List Place) (j : ℕ) → inside_from number ps xs ≡ Some j → (i : ℕ) × (j ≡ number + i) × (inside_at is_combinational ps xs i ≡ true)
+inside_from-found number [] xs j h = cc
+inside_from-found number (p ∷ ps) [] j h = cc
+inside_from-found number (p ∷ ps) (x ∷ xs) j h =
+    elim (cases_Bool (is_inside_block p x)) [
+      | inl here ↦
+          let e : Some number ≡ Some j = sym (if_true (is_inside_block p x) (Some number) (inside_from (suc number) ps xs) here) ∙ h in
+          let first : number ≡ j = cc in
+          (0, omega (arith, first), here)
+      | inr later ↦
+          let r = inside_from-found (suc number) ps xs j (sym (if_false (is_inside_block p x) (Some number) (inside_from (suc number) ps xs) later) ∙ h) in
+          (suc r.0, omega (arith, r.1), r.2)
+    ]
+
+-- it is active
+pub inside_goes_on : InsideGoesOn
+inside_goes_on d s i h =
+    let r = inside_from-found 0 d.processes s.places i h in
+    let e : r.0 ≡ i = omega (arith, r.1) in
+    inside_going is_combinational d.processes s.places i (ap (inside_at is_combinational d.processes s.places) (sym e) ∙ r.2)

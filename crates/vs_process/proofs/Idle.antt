@@ -1,25 +1,26 @@
 -- What holds in every state that an execution of a well formed design reaches; so an idle continuous assignment has its value.
-use Rattle.std.proofs.Common.{◌≡◌, ℕ, true, Option, Some, None, List, [], ◌∷◌, slice_get, slice_set, refl, sym, ◌∙◌, subst}
+use Rattle.std.proofs.Common.{◌≡◌, ℕ, true, Option, Some, None, List, [], ◌∷◌, slice_get, refl, sym, ◌∙◌, subst}
 use Rattle.std.specs.List.{list_any, list_all}
 use Rattle.std.proofs.lemmas.Bool.{false≢true}
 use Rattle.std.proofs.lemmas.List.Folds.{list_all-map}
 use Rattle.vs_logic4.specs.declared.digit.Digit.{Digit}
 use Rattle.vs_design.specs.declared.design.Assign.{Assign}
 use Rattle.vs_design.specs.Parts.{Parts}
-use Rattle.vs_design.specs.Stores.{changes_nothing}
+use Rattle.vs_design.specs.Stores.{put, changes_nothing}
 use Rattle.vs_design.specs.WellFormed.{WellFormed}
-use Rattle.vs_design.specs.Writes.{names}
+use Rattle.vs_design.specs.Writes.{Write, names}
+use Rattle.vs_eval.specs.Targets.{assigned}
 use Rattle.vs_process.specs.declared.moves.Grain.{Grain}
 use Rattle.vs_process.specs.declared.moves.Move.{Move}
-use Rattle.vs_process.specs.Places.{Place}
-use Rattle.vs_process.specs.Steps.{Out, step, assignment}
-use Rattle.vs_process.specs.States.{State, AssignState, Update, todo_of, place_behind, performed, stepped, evaluate, propagate_value, propagate, make, roused}
+use Rattle.vs_flatcode.specs.Places.{Place}
+use Rattle.vs_flatcode.specs.Steps.{Out, step, assignment}
+use Rattle.vs_process.specs.States.{State, AssignState, Update, place_behind, performed, stepped, written_behind, evaluate, propagate_value, propagate, make, roused}
+use Rattle.vs_flatcode.specs.Places.{todo_of}
 use Rattle.vs_process.specs.Executions.{after, apply, Legal, ends, next_time}
 use Rattle.vs_process.specs.declared.moves.Move.TheVariants.{Step, Evaluate, Propagate, Make, Rouse, Activate, EndSlot}
 use Rattle.vs_process.specs.Idle.{HasValueIfIdle}
-use Rattle.vs_process.proofs.WellFormed.{IsVariable, NamesVariables, any_activated, is_sound_place, is_sound_todo, next_todo, drives_apart, sound_made, sound_next, sound_place_behind, sound_places_at, sound_roused, sound_start_places, step_names, variable_undriven}
+use Rattle.vs_process.proofs.WellFormed.{IsVariable, NamesVariables, any_activated, is_sound_place, is_sound_todo, next_todo, drives_apart, sound_made, sound_next, sound_all_wakened, sound_place_behind, sound_places_at, sound_roused, sound_start_places, step_names, variable_undriven}
 use Rattle.vs_process.proofs.Assigns.{AssignsSound, assign_fixed, assign_of, idle_value, sound_behind, sound_evaluated, sound_propagated, sound_start, sound_written}
-use Rattle.vs_process.proofs.Times.{behind_places}
 use Rattle.vs_process.proofs.Lists.{all_at, all_set, any_without, at_any, list_all_like}
 
 -- the continuous assignments are sound, processes still do what is sound, and updates name variables alone
@@ -28,12 +29,15 @@ pub record IsSound (d : Parts) (s : State) : Type 0 where
   pub places : list_all (is_sound_place d.signals) s.places ≡ true
   pub updates : (v : ℕ) → list_any (λ (u : Update). names u.what v) s.updates ≡ true → IsVariable d.signals v
 
+behind_sound : (d : Parts) (s : State) (o : Option Write) → list_all (is_sound_place d.signals) s.places ≡ true → list_all (is_sound_place d.signals) (written_behind s o).places ≡ true
+behind_sound d s None h = h
+behind_sound d s (Some w) h = sound_all_wakened d.signals s.store (put s.store w) s.places h
+
 performed_sound : (d : Parts) → WellFormed d → (s : State) (i : ℕ) (place : Place) (out : Out) → NamesVariables d.signals out → is_sound_todo d.signals (next_todo out.next) ≡ true → IsSound d s →
     IsSound d (performed s i place out)
 performed_sound d formed s i place out named next h = record {
   assigns = sound_behind d s out.write (λ w is v n. variable_undriven d formed v (named.write w is v n)) h.assigns;
-  places = subst (λ xs. list_all (is_sound_place d.signals) (slice_set xs i (place_behind place s.time out.next)) ≡ true) (sym (behind_places s out.write))
-      (all_set (is_sound_place d.signals) s.places i (place_behind place s.time out.next) (sound_place_behind d.signals place s.time out.next next) h.places);
+  places = all_set (is_sound_place d.signals) (written_behind s out.write).places i (place_behind place s.time out.next) (sound_place_behind d.signals place s.time out.next next) (behind_sound d s out.write h.places);
   updates = sound_made d.signals i s.time s.updates out.update named.update h.updates;
 }
 
@@ -50,7 +54,7 @@ evaluate_sound d formed s j (Some x) is h = record { assigns = sound_evaluated d
 value_sound : (d : Parts) → WellFormed d → (s : State) (j : ℕ) (x : AssignState) (o : Option (List Digit)) → slice_get s.assigns j ≡ Some x → x.pending ≡ o → IsSound d s → IsSound d (propagate_value s j x o)
 value_sound d formed s j x None is waits h = h
 value_sound d formed s j x (Some digits) is waits h =
-    record { assigns = sound_propagated d (drives_apart d formed) s.store s.time s.assigns j x digits is waits h.assigns; places = h.places; updates = h.updates }
+    record { assigns = sound_propagated d (drives_apart d formed) s.store s.time s.assigns j x digits is waits h.assigns; places = sound_all_wakened d.signals s.store (put s.store (assigned x.target digits s.store s.time)) s.places h.places; updates = h.updates }
 
 propagate_sound : (d : Parts) → WellFormed d → (s : State) (j : ℕ) (o : Option AssignState) → slice_get s.assigns j ≡ o → IsSound d s → IsSound d (propagate s j o)
 propagate_sound d formed s j None is h = h
@@ -60,7 +64,7 @@ make_sound : (d : Parts) → WellFormed d → (s : State) (i : ℕ) (o : Option 
 make_sound d formed s i None is h = h
 make_sound d formed s i (Some u) is h = record {
   assigns = sound_written d s.store s.assigns u.what (λ v n. variable_undriven d formed v (h.updates v (at_any (λ (x : Update). names x.what v) s.updates i u is n))) h.assigns;
-  places = h.places;
+  places = sound_all_wakened d.signals s.store (put s.store u.what) s.places h.places;
   updates = λ v n. h.updates v (any_without (λ (x : Update). names x.what v) i s.updates n);
 }
 

@@ -2,7 +2,7 @@
 use Rattle.std.proofs.Common.{◌≡◌, ℕ, zero, suc, ◌+◌, ◌<◌, ◌≤◌, ◌^◌, ◌==◌, ◌||◌, ◌&&◌, not, Bool, true, false, Option, Some, None, List, [], ◌∷◌, ◌++◌, map, slice_get, slice_set, leb, refl, sym, ◌∙◌, subst, ⊎_elim, arith}
 use Rattle.std.specs.Prelude.{filter, is_none, is_some, if◌then◌else◌}
 use Rattle.std.specs.List.{list_any}
-use Rattle.std.proofs.lemmas.Bool.{leb-true, or_parts, and_parts, not-true}
+use Rattle.std.proofs.lemmas.Bool.{cond_both, leb-true, or_parts, and_parts, not-true}
 use Rattle.std.proofs.lemmas.Bool.Decides.{eqb_tells}
 use Rattle.std.proofs.lemmas.List.{append-nil}
 use Rattle.std.proofs.lemmas.List.Elements.{filter-append}
@@ -10,17 +10,21 @@ use Rattle.vs_logic4.specs.declared.digit.Digit.{Digit}
 use Rattle.vs_design.specs.declared.design.Process.{Process}
 use Rattle.vs_design.specs.Parts.{Parts}
 use Rattle.vs_design.specs.Traces.{Slot, AreRising, AreRisingAfter}
+use Rattle.vs_design.specs.Stores.{Store, put}
 use Rattle.vs_design.specs.Writes.{Write}
-use Rattle.vs_process.specs.declared.moves.Gait.{Gait}
-use Rattle.vs_process.specs.declared.moves.Gait.TheVariants.{Fresh, Woken}
+use Rattle.vs_edges.specs.Waking.{wake_any}
+use Rattle.vs_eval.specs.Targets.{assigned}
+use Rattle.vs_flatcode.specs.declared.gait.Gait.{Gait}
+use Rattle.vs_flatcode.specs.declared.gait.Gait.TheVariants.{Fresh, Woken}
 use Rattle.vs_process.specs.declared.moves.Grain.{Grain}
 use Rattle.vs_process.specs.declared.moves.Move.{Move}
 use Rattle.vs_process.specs.declared.moves.Move.TheVariants.{Step, Evaluate, Propagate, Make, Rouse, Activate, EndSlot}
 use Rattle.vs_process.specs.Executions.{after, apply, Legal, allowed, is_enabled, is_free, is_busy, has_inactive, has_due, earlier, next_wake, next_update, next_time, ends, places_at, time_at, slot_behind, slots, ended_slot, is_by, trace}
-use Rattle.vs_process.specs.Places.{Todo, Place, going, sleeping, inactive, ended, active_at, is_going, start_place, flat}
-use Rattle.vs_process.specs.States.{State, AssignState, Update, stepped, performed, evaluate, propagate, propagate_value, make, without, roused, woken_at, is_due, activated, paused, place_behind, updates_behind, written_behind, todo_of}
-use Rattle.vs_process.specs.Steps.{Next, on, Out, step}
-use Rattle.vs_process.specs.Steps as steps
+use Rattle.vs_flatcode.specs.Places.{Todo, Place, going, sleeping, inactive, waiting, ended, active_at, is_going, start_place, flat}
+use Rattle.vs_process.specs.States.{State, AssignState, Update, stepped, performed, evaluate, propagate, propagate_value, make, without, roused, woken_at, is_due, activated, paused, place_behind, updates_behind, wakened, written_behind}
+use Rattle.vs_flatcode.specs.Places.{todo_of}
+use Rattle.vs_flatcode.specs.Steps.{Next, on, Out, step}
+use Rattle.vs_flatcode.specs.Steps as steps
 
 -- ---- a fact of each element
 
@@ -86,11 +90,18 @@ later_behind : (place : Place) (time : ℕ) (next : Next) → Later time (place_
 later_behind (going gait todo) time (on rest) = later_active time _ rest
 later_behind (sleeping due todo) time (on rest) = tt
 later_behind (inactive todo) time (on rest) = tt
+later_behind (waiting terms todo) time (on rest) = tt
 later_behind ended time (on rest) = tt
 later_behind (going gait todo) time (steps.after n ticks rest) = later_paused time ticks rest
 later_behind (sleeping due todo) time (steps.after n ticks rest) = later_paused time ticks rest
 later_behind (inactive todo) time (steps.after n ticks rest) = later_paused time ticks rest
+later_behind (waiting terms todo) time (steps.after n ticks rest) = later_paused time ticks rest
 later_behind ended time (steps.after n ticks rest) = later_paused time ticks rest
+later_behind (going gait todo) time (steps.wait n terms rest) = tt
+later_behind (sleeping due todo) time (steps.wait n terms rest) = tt
+later_behind (inactive todo) time (steps.wait n terms rest) = tt
+later_behind (waiting t todo) time (steps.wait n terms rest) = tt
+later_behind ended time (steps.wait n terms rest) = tt
 
 later_start : (ps : List Process) → Each (Later 0) (map (λ (p : Process). start_place p.body) ps)
 later_start [] = tt
@@ -100,7 +111,18 @@ later_roused : (time : ℕ) (x : Place) → Later time x → Later time (roused 
 later_roused time (going gait todo) h = tt
 later_roused time (sleeping due todo) h = h
 later_roused time (inactive todo) h = later_active time Woken todo
+later_roused time (waiting terms todo) h = tt
 later_roused time ended h = tt
+
+later_wakened : (time : ℕ) (old new : Store) (x : Place) → Later time x → Later time (wakened old new x)
+later_wakened time old new (going gait todo) h = tt
+later_wakened time old new (sleeping due todo) h = h
+later_wakened time old new (inactive todo) h = tt
+later_wakened time old new (waiting terms todo) h = cond_both (wake_any terms old new) (active_at Woken todo) (waiting terms todo) (Later time) (λ e. later_active time Woken todo) (λ e. tt)
+later_wakened time old new ended h = tt
+
+later_all_wakened : (time : ℕ) (old new : Store) (xs : List Place) → Each (Later time) xs → Each (Later time) (map (wakened old new) xs)
+later_all_wakened time old new xs h = each-map (Later time) (Later time) (wakened old new) (later_wakened time old new) xs h
 
 due_behind : (by time : ℕ) (u : Option (ℕ × Write)) (us : List Update) → Each (NotBefore time) us → Each (NotBefore time) (updates_behind by time u us)
 due_behind by time None us h = h
@@ -110,17 +132,19 @@ behind_time : (s : State) (w : Option Write) → (written_behind s w).time ≡ s
 behind_time s None = refl
 behind_time s (Some w) = refl
 
-pub behind_places : (s : State) (w : Option Write) → (written_behind s w).places ≡ s.places
-behind_places s None = refl
-behind_places s (Some w) = refl
+behind_later : (s : State) (w : Option Write) → Each (Later s.time) s.places → Each (Later s.time) (written_behind s w).places
+behind_later s None h = h
+behind_later s (Some w) h = later_all_wakened s.time s.store (put s.store w) s.places h
 
 timed_performed : (s : State) (i : ℕ) (x : Place) (out : Out) → Timed s → Timed (performed s i x out)
 timed_performed s i x out h =
     let us = updates_behind i s.time out.update s.updates in
     let y = place_behind x s.time out.next in
     subst (λ (t : ℕ). TimedAt t (slice_set (written_behind s out.write).places i y) us) (sym (behind_time s out.write))
-    (subst (λ (xs : List Place). TimedAt s.time (slice_set xs i y) us) (sym (behind_places s out.write))
-    (record { places = each-set (Later s.time) s.places i y h.places (later_behind x s.time out.next); updates = due_behind i s.time out.update s.updates h.updates }))
+    (record {
+      places = each-set (Later s.time) (written_behind s out.write).places i y (behind_later s out.write h.places) (later_behind x s.time out.next);
+      updates = due_behind i s.time out.update s.updates h.updates;
+    })
 
 timed_stepped : (s : State) (i : ℕ) (o : Option Place) → Timed s → Timed (stepped s i o)
 timed_stepped s i None h = h
@@ -132,7 +156,7 @@ timed_evaluate s j (Some x) h = h
 
 timed_value : (s : State) (j : ℕ) (x : AssignState) (o : Option (List Digit)) → Timed s → Timed (propagate_value s j x o)
 timed_value s j x None h = h
-timed_value s j x (Some v) h = h
+timed_value s j x (Some v) h = record { places = later_all_wakened s.time s.store (put s.store (assigned x.target v s.store s.time)) s.places h.places; updates = h.updates }
 
 timed_propagate : (s : State) (j : ℕ) (o : Option AssignState) → Timed s → Timed (propagate s j o)
 timed_propagate s j None h = h
@@ -140,7 +164,7 @@ timed_propagate s j (Some x) h = timed_value s j x x.pending h
 
 timed_make : (s : State) (i : ℕ) (o : Option Update) → Timed s → Timed (make s i o)
 timed_make s i None h = h
-timed_make s i (Some u) h = record { places = h.places; updates = each-without (NotBefore s.time) s.updates i h.updates }
+timed_make s i (Some u) h = record { places = later_all_wakened s.time s.store (put s.store u.what) s.places h.places; updates = each-without (NotBefore s.time) s.updates i h.updates }
 
 -- ---- the least due time
 
@@ -176,6 +200,7 @@ above_wake time best [] h k = h
 above_wake time best (going gait todo ∷ xs) h k = above_wake time best xs h k.1
 above_wake time best (sleeping due todo ∷ xs) h k = above_wake time (earlier best due) xs (above_earlier time best due h k.0) k.1
 above_wake time best (inactive todo ∷ xs) h k = above_wake time best xs h k.1
+above_wake time best (waiting terms todo ∷ xs) h k = above_wake time best xs h k.1
 above_wake time best (ended ∷ xs) h k = above_wake time best xs h k.1
 
 above_update : (time : ℕ) (best : Option ℕ) (us : List Update) → Above time best → Each (Past time) us → Above time (next_update best us)
@@ -187,6 +212,7 @@ least_wake best [] n h = h
 least_wake best (going gait todo ∷ xs) n h = least_wake best xs n h
 least_wake best (sleeping due todo ∷ xs) n h = least_wake (earlier best due) xs n (least_earlier best due n h)
 least_wake best (inactive todo ∷ xs) n h = least_wake best xs n h
+least_wake best (waiting terms todo ∷ xs) n h = least_wake best xs n h
 least_wake best (ended ∷ xs) n h = least_wake best xs n h
 
 least_update : (best : Option ℕ) (us : List Update) (n : ℕ) → AtMost best n → AtMost (next_update best us) n
@@ -198,12 +224,14 @@ each_wake best [] = tt
 each_wake best (going gait todo ∷ xs) = (tt, each_wake best xs)
 each_wake best (sleeping due todo ∷ xs) = (least_wake (earlier best due) xs due (new_earlier best due), each_wake (earlier best due) xs)
 each_wake best (inactive todo ∷ xs) = (tt, each_wake best xs)
+each_wake best (waiting terms todo ∷ xs) = (tt, each_wake best xs)
 each_wake best (ended ∷ xs) = (tt, each_wake best xs)
 
 not_after_more : (o : Option ℕ) (us : List Update) (x : Place) → NotAfter o x → NotAfter (next_update o us) x
 not_after_more o us (going gait todo) h = tt
 not_after_more o us (sleeping due todo) h = least_update o us due h
 not_after_more o us (inactive todo) h = tt
+not_after_more o us (waiting terms todo) h = tt
 not_after_more o us ended h = tt
 
 each_update : (best : Option ℕ) (us : List Update) → Each (λ (u : Update). AtMost (next_update best us) u.due) us
@@ -233,6 +261,7 @@ later_woken t (sleeping due todo) h =
     (λ other. let apart : due ≡ t → ⊥ = other.1 in let late : t < due = omega (arith, h, apart) in subst (λ (b : Bool). Later t (if b then active_at Woken todo else sleeping due todo)) (sym other.0) late)
     (eqb_tells due t)
 later_woken t (inactive todo) h = tt
+later_woken t (waiting terms todo) h = tt
 later_woken t ended h = tt
 
 or_none : (f : Bool) {P : Type 0} → (f || true) ≡ false → P

@@ -1,9 +1,15 @@
 -- What a well formed design says of its continuous assignments and of what its processes write.
 use Rattle.std.proofs.Common.{◌≡◌, ℕ, zero, suc, ◌+◌, ◌==◌, ◌&&◌, ◌||◌, not, Bool, true, false, Option, Some, None, List, [], ◌∷◌, map, slice_get, sum, refl, sym, ◌∙◌, ap, subst, inl, inr, eqb-true}
-use Rattle.std.specs.Prelude.{is_some}
+use Rattle.std.specs.Prelude.{is_some, ◌++◌, find}
+use Rattle.std.specs.declared.vec.Vec.{Vec}
+use Rattle.std.specs.declared.alloc.Global.{Global}
 use Rattle.std.specs.List.{list_any, list_all}
 use Rattle.std.proofs.lemmas.Bool.{and_parts, and_from, cases_Bool, cond_both, or_cases, true≢false, false≢true, not-true}
 use Rattle.std.proofs.lemmas.List.Folds.{list_all-append, list_all-map, list_any-append}
+use Rattle.vs_logic4.specs.declared.digit.Digit.{Digit}
+use Rattle.vs_logic4.specs.declared.digit.Digit.TheVariants.{Zero, One, X, Z}
+use Rattle.vs_logic4.specs.declared.case.CaseKind.{CaseKind}
+use Rattle.vs_logic4.specs.Comparisons.{truth}
 use Rattle.vs_design.specs.declared.signal.Signal.{Signal}
 use Rattle.vs_design.specs.declared.design.Assign.{Assign}
 use Rattle.vs_design.specs.declared.design.Process.{Process}
@@ -20,20 +26,22 @@ use Rattle.vs_design.specs.Kinds.{is_variable}
 use Rattle.vs_design.specs.Parts.{Parts}
 use Rattle.vs_design.specs.Stores.{Store, is_driven}
 use Rattle.vs_design.specs.Uses.{aim_range, covers, is_of, writes, writes_signal}
-use Rattle.vs_design.specs.WellFormed.{WellFormed, aim_width, is_of_variable, is_of_net, is_variable_aim, is_net_aim, is_sound_target, is_within, share_a_bit, size_of, is_source, is_sound_assignment, is_sound_assign, sound_step, is_sound_statement, is_sound_process, counts_from, numbers, is_body_of}
+use Rattle.vs_design.specs.WellFormed.{WellFormed, aim_width, is_of_variable, is_of_net, is_variable_aim, is_net_aim, is_sound_target, is_within, share_a_bit, size_of, is_source, is_sound_assignment, is_sound_assign, sound_step, is_sound_statement, is_sound_process, is_sound_operand, are_sound_labels, are_sound_terms, counts_from, numbers, is_body_of}
 use Rattle.vs_design.specs.Writes.{Write, names}
-use Rattle.vs_process.specs.declared.moves.Gait.{Gait}
-use Rattle.vs_process.specs.declared.moves.Gait.TheVariants.{Fresh, Woken}
-use Rattle.vs_process.specs.Places.{Item, perform, turns, Todo, Place, going, sleeping, inactive, ended, active_at, stepped_gait, start_place, flat}
-use Rattle.vs_process.specs.Stacks.{flat_all}
-use Rattle.vs_process.specs.Steps.{Next, on, after, Out, step, statement_step, assignment}
-use Rattle.vs_process.specs.States.{Update, activated, roused, todo_of, place_behind, paused, updates_behind, woken_at}
+use Rattle.vs_flatcode.specs.declared.gait.Gait.{Gait}
+use Rattle.vs_flatcode.specs.declared.gait.Gait.TheVariants.{Fresh, Woken}
+use Rattle.vs_flatcode.specs.Places.{Item, perform, turns, Todo, Place, going, sleeping, inactive, waiting, ended, active_at, stepped_gait, start_place, flat}
+use Rattle.vs_flatcode.specs.Drafts.{flat_all}
+use Rattle.vs_edges.specs.Waking.{wake_any}
+use Rattle.vs_flatcode.specs.Steps.{Next, on, after, wait, Out, step, statement_step, assignment, branch, item_matches, is_default, first_of, flat_item, taken, turns_for, repeated}
+use Rattle.vs_process.specs.States.{Update, activated, roused, place_behind, paused, updates_behind, wakened, woken_at}
+use Rattle.vs_flatcode.specs.Places.{todo_of}
 use Rattle.vs_process.specs.Executions.{places_at}
-use Rattle.vs_eval.specs.Values.{target_value}
+use Rattle.vs_eval.specs.Values.{target_value, value_of}
 use Rattle.vs_process.proofs.Assigns.{DrivesApart}
 use Rattle.vs_process.proofs.Lists.{all_at, all_slice, any_at, list_all_like, map_cases}
 use Rattle.vs_process.proofs.Ranges.{assigned_names, distinct_flat, is_fixed, shares_covered}
-use Rattle.vs_process.proofs.Todos.{flat-Block}
+use Rattle.vs_flatcode.proofs.Shapes.{flat-Block}
 
 -- ---- continuous assignments
 
@@ -127,6 +135,11 @@ flat-rolled_block (Statement-F.Assign n t e) xs h = cc
 flat-rolled_block (Statement-F.Later n t e) xs h = cc
 flat-rolled_block (Statement-F.Block v) xs h = let e : v.items ≡ xs = cc in ap flat (rolls-Block v) ∙ flat-Block v ∙ ap flat_all e
 flat-rolled_block (Statement-F.Delay n ticks body) xs h = cc
+flat-rolled_block (Statement-F.Event n terms body) xs h = cc
+flat-rolled_block (Statement-F.If n e a b) xs h = cc
+flat-rolled_block (Statement-F.Case n kind e items) xs h = cc
+flat-rolled_block (Statement-F.While n e body) xs h = cc
+flat-rolled_block (Statement-F.Repeat n signed e body) xs h = cc
 flat-rolled_block (Statement-F.Forever n body) xs h = cc
 
 abbrev FlatSound : List Signal → Statement → Type 0
@@ -151,6 +164,11 @@ sound_layer ss (Statement-F.Null n) = sound_leaf ss (Statement-F.Null n) refl
 sound_layer ss (Statement-F.Assign n t e) = sound_leaf ss (Statement-F.Assign n t e) refl
 sound_layer ss (Statement-F.Later n t e) = sound_leaf ss (Statement-F.Later n t e) refl
 sound_layer ss (Statement-F.Delay n ticks body) = sound_leaf ss (map-Statement (WithSound ss) Statement (λ p. p.0) (Statement-F.Delay n ticks body)) refl
+sound_layer ss (Statement-F.Event n terms body) = sound_leaf ss (map-Statement (WithSound ss) Statement (λ p. p.0) (Statement-F.Event n terms body)) refl
+sound_layer ss (Statement-F.If n e a b) = sound_leaf ss (map-Statement (WithSound ss) Statement (λ p. p.0) (Statement-F.If n e a b)) refl
+sound_layer ss (Statement-F.Case n kind e items) = sound_leaf ss (map-Statement (WithSound ss) Statement (λ p. p.0) (Statement-F.Case n kind e items)) refl
+sound_layer ss (Statement-F.While n e body) = sound_leaf ss (map-Statement (WithSound ss) Statement (λ p. p.0) (Statement-F.While n e body)) refl
+sound_layer ss (Statement-F.Repeat n signed e body) = sound_leaf ss (map-Statement (WithSound ss) Statement (λ p. p.0) (Statement-F.Repeat n signed e body)) refl
 sound_layer ss (Statement-F.Forever n body) = sound_leaf ss (map-Statement (WithSound ss) Statement (λ p. p.0) (Statement-F.Forever n body)) refl
 sound_layer ss (Statement-F.Block all) = λ h.
     let x : Statement-F Statement = map-Statement (WithSound ss) Statement (λ p. p.0) (Statement-F.Block all) in
@@ -164,9 +182,47 @@ sound_flat ss s = ind-Statement (FlatSound ss) (λ x y is. subst (λ z. FlatSoun
 pub next_todo : Next → Todo
 next_todo (on rest) = rest
 next_todo (after n ticks rest) = rest
+next_todo (wait n terms rest) = rest
 
 abbrev pub sound_out : List Signal → Statement-F Statement → Bool
 sound_out ss f = sound_step ss (map-Statement Statement Bool (is_sound_statement ss) f)
+
+-- one of the two that a condition chooses
+branch_each : {A : Type 0} (P : A → Type 0) (d : Digit) (a b : A) → P a → P b → P (branch d a b)
+branch_each P Zero a b x y = y
+branch_each P One a b x y = x
+branch_each P X a b x y = y
+branch_each P Z a b x y = y
+
+find_each : {A : Type 0} (P : Option A → Type 0) (p : A → Bool) (xs : List A) → P None → ((i : ℕ) (x : A) → slice_get xs i ≡ Some x → P (Some x)) → P (find p xs)
+find_each P p [] none some = none
+find_each P p (x ∷ xs) none some = cond_both (p x) (Some x) (find p xs) P (λ e. some 0 x refl) (λ e. find_each P p xs none (λ i. some (suc i)))
+
+first_each : {A : Type 0} (P : Option A → Type 0) (a b : Option A) → P a → P b → P (first_of a b)
+first_each P None b x y = y
+first_each P (Some a) b x y = x
+
+-- the item that a `case` takes is one of its items
+taken_each : (P : Option (Vec Typed Global × Statement) → Type 0) (kind : CaseKind) (digits : List Digit) (store : Store) (time : ℕ) (items : List (Vec Typed Global × Statement)) →
+    P None → ((i : ℕ) (x : Vec Typed Global × Statement) → slice_get items i ≡ Some x → P (Some x)) → P (taken kind digits store time items)
+taken_each P kind digits store time items none some =
+    first_each P (find (item_matches kind digits store time) items) (find is_default items) (find_each P (item_matches kind digits store time) items none some) (find_each P is_default items none some)
+
+sound_before : (ss : List Signal) (xs ys : Todo) → is_sound_todo ss xs ≡ true → is_sound_todo ss ys ≡ true → is_sound_todo ss (xs ++ ys) ≡ true
+sound_before ss xs ys x y = list_all-append (is_sound_item ss) xs ys ∙ and_from (is_sound_todo ss xs) (is_sound_todo ss ys) x y
+
+sound_repeated : (ss : List Signal) (n : ℕ) (s : Statement) (rest : Todo) → is_sound_statement ss s ≡ true → is_sound_todo ss rest ≡ true → is_sound_todo ss (repeated n s rest) ≡ true
+sound_repeated ss zero s rest h r = r
+sound_repeated ss (suc n) s rest h r = sound_before ss (flat s) (turns n s ∷ rest) (sound_flat ss s h) (and_from (is_sound_statement ss s) (is_sound_todo ss rest) h r)
+
+-- the statements of the items of a sound `case`
+sound_items : (ss : List Signal) (x : Typed) (items : List (Vec Typed Global × Statement)) →
+    list_all (λ (i : Vec Typed Global × Bool). are_sound_labels ss x i.0.items && i.1) (map (λ (i : Vec Typed Global × Statement). (i.0, is_sound_statement ss i.1)) items) ≡ true →
+    (i : ℕ) (z : Vec Typed Global × Statement) → slice_get items i ≡ Some z → is_sound_statement ss z.1 ≡ true
+sound_items ss x items h i z is =
+    (and_parts (are_sound_labels ss x z.0.items) (is_sound_statement ss z.1)
+    (all_at (λ (i : Vec Typed Global × Statement). are_sound_labels ss x i.0.items && is_sound_statement ss i.1) items i z is
+    (sym (list_all-map (λ (i : Vec Typed Global × Bool). are_sound_labels ss x i.0.items && i.1) (λ (i : Vec Typed Global × Statement). (i.0, is_sound_statement ss i.1)) items) ∙ h))).1
 
 sound_statement_next : (ss : List Signal) (s : Statement) (f : Statement-F Statement) (rest : Todo) (store : Store) (time : ℕ) →
     is_sound_statement ss s ≡ true → sound_out ss f ≡ true → is_sound_todo ss rest ≡ true → is_sound_todo ss (next_todo (statement_step s f rest store time).next) ≡ true
@@ -174,13 +230,28 @@ unfolding next_todo
 sound_statement_next ss s (Statement-F.Null n) rest store time whole h r = r
 sound_statement_next ss s (Statement-F.Assign n t e) rest store time whole h r = r
 sound_statement_next ss s (Statement-F.Later n t e) rest store time whole h r = r
-sound_statement_next ss s (Statement-F.Block all) rest store time whole h r =
-    list_all-append (is_sound_item ss) (flat s) rest ∙ and_from (is_sound_todo ss (flat s)) (is_sound_todo ss rest) (sound_flat ss s whole) r
-sound_statement_next ss s (Statement-F.Delay n ticks body) rest store time whole h r =
-    list_all-append (is_sound_item ss) (flat body.value) rest ∙ and_from (is_sound_todo ss (flat body.value)) (is_sound_todo ss rest) (sound_flat ss body.value h) r
+sound_statement_next ss s (Statement-F.Block all) rest store time whole h r = sound_before ss (flat s) rest (sound_flat ss s whole) r
+sound_statement_next ss s (Statement-F.Delay n ticks body) rest store time whole h r = sound_before ss (flat body.value) rest (sound_flat ss body.value h) r
+sound_statement_next ss s (Statement-F.Event n terms body) rest store time whole h r =
+    sound_before ss (flat body.value) rest (sound_flat ss body.value (and_parts (are_sound_terms ss terms.items) (is_sound_statement ss body.value) h).1) r
+sound_statement_next ss s (Statement-F.If n e a b) rest store time whole h r =
+    let parts = and_parts (is_sound_operand ss e && is_sound_statement ss a.value) (is_sound_statement ss b.value) h in
+    let first = (and_parts (is_sound_operand ss e) (is_sound_statement ss a.value) parts.0).1 in
+    branch_each (λ (t : Todo). is_sound_todo ss (t ++ rest) ≡ true) (truth (value_of e store time)) (flat a.value) (flat b.value)
+    (sound_before ss (flat a.value) rest (sound_flat ss a.value first) r) (sound_before ss (flat b.value) rest (sound_flat ss b.value parts.1) r)
+sound_statement_next ss s (Statement-F.Case n kind x items) rest store time whole h r =
+    let parts = and_parts (is_sound_operand ss x) _ h in
+    taken_each (λ o. is_sound_todo ss (flat_item o ++ rest) ≡ true) kind (value_of x store time) store time items.items r
+    (λ i z is. sound_before ss (flat z.1) rest (sound_flat ss z.1 (sound_items ss x items.items parts.1 i z is)) r)
+sound_statement_next ss s (Statement-F.While n e body) rest store time whole h r =
+    let inner = (and_parts (is_sound_operand ss e) (is_sound_statement ss body.value) h).1 in
+    branch_each (λ (t : Todo). is_sound_todo ss t ≡ true) (truth (value_of e store time)) (flat body.value ++ perform s ∷ rest) rest
+    (sound_before ss (flat body.value) (perform s ∷ rest) (sound_flat ss body.value inner) (and_from (is_sound_statement ss s) (is_sound_todo ss rest) whole r)) r
+sound_statement_next ss s (Statement-F.Repeat n signed e body) rest store time whole h r =
+    let inner = (and_parts (is_sound_operand ss e) (is_sound_statement ss body.value) h).1 in
+    sound_repeated ss (turns_for signed (value_of e store time)) body.value rest inner r
 sound_statement_next ss s (Statement-F.Forever n body) rest store time whole h r =
-    list_all-append (is_sound_item ss) (flat body.value) (perform s ∷ rest)
-    ∙ and_from (is_sound_todo ss (flat body.value)) (is_sound_todo ss (perform s ∷ rest)) (sound_flat ss body.value h) (and_from (is_sound_statement ss s) (is_sound_todo ss rest) whole r)
+    sound_before ss (flat body.value) (perform s ∷ rest) (sound_flat ss body.value h) (and_from (is_sound_statement ss s) (is_sound_todo ss rest) whole r)
 
 pub opened : (ss : List Signal) (s : Statement) → is_sound_statement ss s ≡ true → sound_out ss (out-Statement s) ≡ true
 opened ss s h = sym (fold_out-Statement Bool (sound_step ss) s) ∙ h
@@ -192,11 +263,9 @@ sound_next ss [] store time h = refl
 sound_next ss (perform s ∷ rest) store time h =
     let parts = and_parts (is_sound_statement ss s) (is_sound_todo ss rest) h in
     sound_statement_next ss s (out-Statement s) rest store time parts.0 (opened ss s parts.0) parts.1
-sound_next ss (turns zero s ∷ rest) store time h = (and_parts (is_sound_statement ss s) (is_sound_todo ss rest) h).1
-sound_next ss (turns (suc n) s ∷ rest) store time h =
+sound_next ss (turns n s ∷ rest) store time h =
     let parts = and_parts (is_sound_statement ss s) (is_sound_todo ss rest) h in
-    list_all-append (is_sound_item ss) (flat s) (turns n s ∷ rest)
-    ∙ and_from (is_sound_todo ss (flat s)) (is_sound_todo ss (turns n s ∷ rest)) (sound_flat ss s parts.0) (and_from (is_sound_statement ss s) (is_sound_todo ss rest) parts.0 parts.1)
+    sound_repeated ss n s rest parts.0 parts.1
 
 -- the writes and updates of a step name variables alone
 pub record NamesVariables (ss : List Signal) (out : Out) : Type 0 where
@@ -225,6 +294,11 @@ statement_names ss s (Statement-F.Later n t e) rest store time h = record {
 }
 statement_names ss s (Statement-F.Block all) rest store time h = names_none ss (statement_step s (Statement-F.Block all) rest store time) refl refl
 statement_names ss s (Statement-F.Delay n ticks body) rest store time h = names_none ss (statement_step s (Statement-F.Delay n ticks body) rest store time) refl refl
+statement_names ss s (Statement-F.Event n terms body) rest store time h = names_none ss (statement_step s (Statement-F.Event n terms body) rest store time) refl refl
+statement_names ss s (Statement-F.If n e a b) rest store time h = names_none ss (statement_step s (Statement-F.If n e a b) rest store time) refl refl
+statement_names ss s (Statement-F.Case n kind x items) rest store time h = names_none ss (statement_step s (Statement-F.Case n kind x items) rest store time) refl refl
+statement_names ss s (Statement-F.While n e body) rest store time h = names_none ss (statement_step s (Statement-F.While n e body) rest store time) refl refl
+statement_names ss s (Statement-F.Repeat n signed e body) rest store time h = names_none ss (statement_step s (Statement-F.Repeat n signed e body) rest store time) refl refl
 statement_names ss s (Statement-F.Forever n body) rest store time h = names_none ss (statement_step s (Statement-F.Forever n body) rest store time) refl refl
 
 pub step_names : (ss : List Signal) (todo : Todo) (store : Store) (time : ℕ) → is_sound_todo ss todo ≡ true → NamesVariables ss (step todo store time)
@@ -232,8 +306,7 @@ step_names ss [] store time h = names_none ss (step [] store time) refl refl
 step_names ss (perform s ∷ rest) store time h =
     let parts = and_parts (is_sound_statement ss s) (is_sound_todo ss rest) h in
     statement_names ss s (out-Statement s) rest store time (opened ss s parts.0)
-step_names ss (turns zero s ∷ rest) store time h = names_none ss (step (turns zero s ∷ rest) store time) refl refl
-step_names ss (turns (suc n) s ∷ rest) store time h = names_none ss (step (turns (suc n) s ∷ rest) store time) refl refl
+step_names ss (turns n s ∷ rest) store time h = names_none ss (step (turns n s ∷ rest) store time) refl refl
 
 -- ---- places and updates
 
@@ -250,11 +323,18 @@ unfolding next_todo
 sound_place_behind ss (going gait todo) time (on rest) h = sound_active ss (stepped_gait gait) rest h
 sound_place_behind ss (sleeping due todo) time (on rest) h = refl
 sound_place_behind ss (inactive todo) time (on rest) h = refl
+sound_place_behind ss (waiting terms todo) time (on rest) h = refl
 sound_place_behind ss ended time (on rest) h = refl
 sound_place_behind ss (going gait todo) time (after n ticks rest) h = sound_paused ss time ticks rest h
 sound_place_behind ss (sleeping due todo) time (after n ticks rest) h = sound_paused ss time ticks rest h
 sound_place_behind ss (inactive todo) time (after n ticks rest) h = sound_paused ss time ticks rest h
+sound_place_behind ss (waiting terms todo) time (after n ticks rest) h = sound_paused ss time ticks rest h
 sound_place_behind ss ended time (after n ticks rest) h = sound_paused ss time ticks rest h
+sound_place_behind ss (going gait todo) time (wait n terms rest) h = h
+sound_place_behind ss (sleeping due todo) time (wait n terms rest) h = h
+sound_place_behind ss (inactive todo) time (wait n terms rest) h = h
+sound_place_behind ss (waiting t todo) time (wait n terms rest) h = h
+sound_place_behind ss ended time (wait n terms rest) h = h
 
 -- the updates behind a step name variables alone
 pub sound_made : (ss : List Signal) (i time : ℕ) (us : List Update) (o : Option (ℕ × Write)) → ((u : ℕ × Write) → o ≡ Some u → (v : ℕ) → names u.1 v ≡ true → IsVariable ss v) →
@@ -309,11 +389,27 @@ pub sound_roused : (ss : List Signal) (p : Place) → is_sound_place ss p ≡ tr
 sound_roused ss (going gait todo) h = h
 sound_roused ss (sleeping due todo) h = h
 sound_roused ss (inactive todo) h = sound_active ss Woken todo h
+sound_roused ss (waiting terms todo) h = h
 sound_roused ss ended h = h
+
+-- a place behind a change of the store
+pub sound_wakened : (ss : List Signal) (old new : Store) (p : Place) → is_sound_place ss p ≡ true → is_sound_place ss (wakened old new p) ≡ true
+sound_wakened ss old new (going gait todo) h = h
+sound_wakened ss old new (sleeping due todo) h = h
+sound_wakened ss old new (inactive todo) h = h
+sound_wakened ss old new (waiting terms todo) h =
+    cond_both (wake_any terms old new) (active_at Woken todo) (waiting terms todo) (λ p. is_sound_place ss p ≡ true) (λ e. sound_active ss Woken todo h) (λ e. h)
+sound_wakened ss old new ended h = h
+
+-- all places behind a change of the store
+pub sound_all_wakened : (ss : List Signal) (old new : Store) (places : List Place) → list_all (is_sound_place ss) places ≡ true → list_all (is_sound_place ss) (map (wakened old new) places) ≡ true
+sound_all_wakened ss old new places h =
+    list_all-map (is_sound_place ss) (wakened old new) places ∙ list_all_like (is_sound_place ss) (λ p. is_sound_place ss (wakened old new p)) places (sound_wakened ss old new) h
 
 sound_woken : (ss : List Signal) (t : ℕ) (p : Place) → is_sound_place ss p ≡ true → is_sound_place ss (woken_at t p) ≡ true
 sound_woken ss t (going gait todo) h = h
 sound_woken ss t (inactive todo) h = h
+sound_woken ss t (waiting terms todo) h = h
 sound_woken ss t ended h = h
 sound_woken ss t (sleeping due todo) h = cond_both (due == t) (active_at Woken todo) (sleeping due todo) (λ p. is_sound_place ss p ≡ true) (λ e. sound_active ss Woken todo h) (λ e. h)
 

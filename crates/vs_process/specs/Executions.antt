@@ -1,16 +1,26 @@
 -- What is permitted at each moment, and executions.
 use Rattle.std.specs.Prelude.{ℕ, suc, ◌==◌, ◌≡◌, ◌&&◌, ◌||◌, not, Bool, true, false, Option, Some, None, List, [], ◌∷◌, ◌++◌, map, filter, take, is_some, is_none, leb, slice_get, if◌then◌else◌, min, nat_lt}
-use Rattle.std.specs.List.{list_any}
+use Rattle.std.specs.List.{list_any, list_all}
+use Rattle.vs_logic4.specs.declared.edge.Edge.{Edge}
+use Rattle.vs_logic4.specs.declared.edge.Edge.TheVariants.{Any}
 use Rattle.vs_design.specs.declared.design.Process.{Process}
+use Rattle.vs_design.specs.declared.design.ProcessKind.{ProcessKind}
+use Rattle.vs_design.specs.declared.design.ProcessKind.TheVariants.{Initial, Always}
+use Rattle.vs_design.specs.declared.statement.EventTerm.{EventTerm}
+use Rattle.vs_design.specs.declared.statement.Statement.{Statement}
+use Rattle.vs_design.specs.declared.statement.Statement.TheOpen.{Statement-F}
+use Rattle.vs_design.specs.declared.statement.Statement.TheOpen as f
+use Rattle.vs_design.specs.declared.statement.Statement.TheViews.{out-Statement}
+use Rattle.vs_design.specs.Statements.{has_control}
 use Rattle.vs_design.specs.Parts.{Parts}
 use Rattle.vs_design.specs.Stores.{Store}
 use Rattle.vs_design.specs.Traces.{Line, Slot, Trace}
 use Rattle.vs_design.specs.Writes.{shares}
 use Rattle.vs_process.specs.declared.moves.Grain.{Grain}
-use Rattle.vs_process.specs.declared.moves.Grain.TheVariants.{Statement, Block}
+use Rattle.vs_process.specs.declared.moves.Grain.TheVariants as g
 use Rattle.vs_process.specs.declared.moves.Move.{Move}
 use Rattle.vs_process.specs.declared.moves.Move.TheVariants.{Step, Evaluate, Propagate, Make, Rouse, Activate, EndSlot}
-use Rattle.vs_process.specs.Places.{Place, sleeping, is_going, is_inactive, is_inside}
+use Rattle.vs_flatcode.specs.Places.{Place, sleeping, is_going, is_inactive, is_inside}
 use Rattle.vs_process.specs.States.{AssignState, Update, Called, State, start, stepped, evaluate, propagate, make, roused, is_due, activated, woken_at}
 
 -- whether an update is activated and no older activated one names a signal that it names (clause 11.4.1; the free order between signals: profile)
@@ -44,10 +54,30 @@ is_enabled s Rouse = not (is_busy s) && has_inactive s
 is_enabled s Activate = not (is_busy s) && not (has_inactive s) && has_due s
 is_enabled s EndSlot = not (is_busy s) && not (has_inactive s) && not (has_due s)
 
+abbrev pub is_any : Edge → Bool
+is_any Any = true
+is_any _ = false
+
+abbrev pub is_level : EventTerm → Bool
+is_level t = is_any t.edge
+
+-- whether a statement is a control of level terms alone before a statement without timing control
+abbrev pub waits_for_levels : Statement-F Statement → Bool
+waits_for_levels (f.Event n terms body) = list_all is_level terms.items && not (has_control body.value)
+waits_for_levels _ = false
+
+abbrev pub is_block_body : Statement-F Statement → Bool
+is_block_body (f.Forever n body) = waits_for_levels (out-Statement body.value)
+is_block_body _ = false
+
+abbrev pub is_always : ProcessKind → Bool
+is_always Always = true
+is_always Initial = false
+
 -- whether a process is a combinational block: an `always` whose statement is one control of level terms before a statement without timing
--- control; the language has no event controls yet, so none is
+-- control (profile)
 abbrev pub is_combinational : Process → Bool
-is_combinational p = false
+is_combinational p = is_always p.kind && is_block_body (out-Statement p.body)
 
 abbrev pub is_step_of : ℕ → Move → Bool
 is_step_of i (Step k) = k == i
@@ -60,8 +90,8 @@ is_kept_out (p ∷ ps) [] first m = false
 is_kept_out (p ∷ ps) (x ∷ xs) first m = is_combinational p && is_inside x && not (is_step_of first m) || is_kept_out ps xs (suc first) m
 
 abbrev pub is_free : Grain → Parts → State → Move → Bool
-is_free Statement d s m = true
-is_free Block d s m = not (is_kept_out d.processes s.places 0 m)
+is_free g.Statement d s m = true
+is_free g.Block d s m = not (is_kept_out d.processes s.places 0 m)
 
 -- whether a move is permitted in a state
 abbrev pub allowed : Grain → Parts → State → Move → Bool

@@ -1,9 +1,9 @@
+pub mod Blocks
 pub mod Effects
+pub mod Examples
 pub mod Executions
 pub mod Idle
 pub mod Laws
 pub mod Permitted
-pub mod Places
 pub mod States
-pub mod Stacks
-pub mod Steps
+pub mod Waits

@@ -5,6 +5,7 @@ use Rattle.vs_logic4.specs.declared.digit.Digit.{Digit}
 use Rattle.vs_design.specs.declared.design.Assign.{Assign}
 use Rattle.vs_design.specs.declared.design.Process.{Process}
 use Rattle.vs_design.specs.declared.expression.Typed.{Typed}
+use Rattle.vs_design.specs.declared.statement.EventTerm.{EventTerm}
 use Rattle.vs_design.specs.declared.statement.Target.{Target}
 use Rattle.vs_design.specs.Parts.{Parts}
 use Rattle.vs_design.specs.Stores.{Store, put, is_changed, changes_nothing, start_store}
@@ -12,9 +13,10 @@ use Rattle.vs_design.specs.Uses.{reads}
 use Rattle.vs_design.specs.Writes.{Write}
 use Rattle.vs_eval.specs.Targets.{assigned}
 use Rattle.vs_eval.specs.Values.{target_value}
-use Rattle.vs_process.specs.declared.moves.Gait.TheVariants.{Woken}
-use Rattle.vs_process.specs.Places.{Todo, Place, going, sleeping, inactive, ended, active_at, stepped_gait, start_place}
-use Rattle.vs_process.specs.Steps.{Call, Next, on, after, Out, step}
+use Rattle.vs_flatcode.specs.declared.gait.Gait.TheVariants.{Woken}
+use Rattle.vs_edges.specs.Waking.{wake_any}
+use Rattle.vs_flatcode.specs.Places.{Todo, Place, going, sleeping, inactive, waiting, ended, active_at, stepped_gait, start_place, todo_of}
+use Rattle.vs_flatcode.specs.Steps.{Call, Next, on, after, wait, Out, step}
 
 -- a continuous assignment in a state: what it is, whether it has to be evaluated, and the value that waits to be written (clause 6.1; one pending value: profile)
 pub record AssignState : Type 0 where
@@ -66,9 +68,31 @@ start d = record {
 abbrev pub touched : Store → Store → AssignState → AssignState
 touched old new x = record x { needs = x.needs || list_any (is_changed old new) (reads x.source) }
 
--- a state whose store has changed: what has to be evaluated is decided between the store before and the store behind
+-- a place behind a change of the store: a process that waits for one of these terms becomes active (clause 9.7.2)
+abbrev pub wakened : Store → Store → Place → Place
+wakened old new (waiting terms todo) = if wake_any terms old new then active_at Woken todo else waiting terms todo
+wakened old new (going gait todo) = going gait todo
+wakened old new (sleeping due todo) = sleeping due todo
+wakened old new (inactive todo) = inactive todo
+wakened old new ended = ended
+
+-- the terms that a process waits for; none where it waits for no event
+abbrev pub terms_of : Place → List EventTerm
+terms_of (waiting terms todo) = terms
+terms_of _ = []
+
+-- a process that waits for an event becomes active (clause 9.7.2)
+abbrev pub triggered : Place → Place
+triggered (waiting terms todo) = active_at Woken todo
+triggered place = place
+
+-- a state whose store has changed: who wakes, and what has to be evaluated, is decided between the store before and the store behind
 abbrev pub refreshed : Store → State → State
-refreshed new s = record s { store = new; assigns = map (touched s.store new) s.assigns }
+refreshed new s = record s {
+  store = new;
+  places = map (wakened s.store new) s.places;
+  assigns = map (touched s.store new) s.assigns;
+}
 
 -- a state after a write, which is one change however many parts it has
 abbrev pub written : State → Write → State
@@ -96,12 +120,7 @@ abbrev pub place_behind : Place → ℕ → Next → Place
 place_behind (going gait todo) time (on rest) = active_at (stepped_gait gait) rest
 place_behind _ time (on rest) = ended
 place_behind _ time (after number ticks rest) = paused time ticks rest
-
-abbrev pub todo_of : Place → Todo
-todo_of (going gait todo) = todo
-todo_of (sleeping due todo) = todo
-todo_of (inactive todo) = todo
-todo_of ended = []
+place_behind _ time (wait number terms rest) = waiting terms rest
 
 -- a state after a step of a process, of which this came
 abbrev pub performed : State → ℕ → Place → Out → State

@@ -1,4 +1,6 @@
 //! Laws of executions.
+ghost use Rattle.vs_process.specs.Blocks.{BlocksExclude, InsideFollows, InsideGoesOn, NoneInsideFirst};
+ghost use Rattle.vs_process.specs.Examples.{BlocksAreTold};
 ghost use Rattle.vs_process.specs.Idle.{IdleHaveValues};
 ghost use Rattle.vs_process.specs.Laws.{TimesRise};
 ghost use Rattle.vs_process.specs.Permitted.{NeverStuck, MovesArePermitted};
@@ -22,4 +24,30 @@ pub fn idle_assigns_have_values()
 /// The slots of an execution's trace end at rising times.
 pub fn times_rise()
     ensures { TimesRise }
+{}
+
+/// At grain block at most one combinational block has taken a step since its control, and a move is free where none has, or where it is a step of
+/// that one.
+pub fn blocks_exclude()
+    ensures { BlocksExclude }
+{}
+
+/// Behind a move that is allowed at grain block, the one block that has taken a step since its control is that of the move's step, or there is none.
+pub fn inside_follows()
+    ensures { InsideFollows }
+{}
+
+/// Where an execution begins, no combinational block has taken a step since its control.
+pub fn none_inside_first()
+    ensures { NoneInsideFirst }
+{}
+
+/// A combinational block that has taken a step since its control can take the next one.
+pub fn inside_goes_on()
+    ensures { InsideGoesOn }
+{}
+
+/// The process of `always @* begin t = a & b; y = t | c; end` is a combinational block, and that of `always @(posedge clk) a <= b;` isn't.
+pub fn blocks_are_told()
+    ensures { BlocksAreTold }
 {}

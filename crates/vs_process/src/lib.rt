@@ -1,12 +1,18 @@
 //! Executions of a design (IEEE 1364-2005, clause 11): places of processes, states, moves, and what is permitted.
 #![tactic(auto)]
 
+mod combinational;
 mod effect;
 mod laws;
 mod moves;
 mod place;
 
+pub use combinational::is_combinational;
 pub use effect::Effect;
-pub use laws::{idle_assigns_have_values, moves_are_permitted, never_stuck, times_rise};
-pub use moves::{Gait, Grain, Move};
+pub use laws::{
+    blocks_are_told, blocks_exclude, idle_assigns_have_values, inside_follows, inside_goes_on,
+    moves_are_permitted, never_stuck, none_inside_first, times_rise,
+};
+pub use moves::{Grain, Move};
 pub use place::Place;
+pub use vs_flatcode::{Code, Gait, compile};

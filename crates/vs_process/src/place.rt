@@ -1,104 +1,48 @@
 //! Where a process is.
-ghost use Rattle.std.specs.Prelude.{◌≡◌, ◌++◌, ◌∷◌, [], ◌<◌, ◌^◌, ◌+◌, IfOk, OnOk, OnErr, vec_len, drop, true};
-ghost use Rattle.vs_process.specs.Places.{flat, start_place, is_going, is_inactive, stepped_gait};
-ghost use Rattle.vs_process.specs.Stacks.{seen, flat_all, paused_wait, Extends};
-ghost use Rattle.vs_process.specs.Effects.{Stepped};
-ghost use Rattle.vs_process.specs.Steps.{assignment};
-ghost use Rattle.vs_process.specs.States.{roused, woken_at, due_of};
+ghost use Rattle.std.specs.Prelude.{◌≡◌, ◌<◌, ◌^◌, IfOk, OnErr, true};
+ghost use Rattle.vs_flatcode.specs.Landings.{made_out};
+ghost use Rattle.vs_flatcode.specs.Places.{Todo, going, start_place, is_going, is_inactive, is_inside, stepped_gait};
+ghost use Rattle.vs_process.specs.Waits.{place_of, paused_wait};
+ghost use Rattle.vs_process.specs.Effects.{Leads, Stepped};
+ghost use Rattle.vs_process.specs.States.{roused, woken_at, due_of, terms_of, triggered};
 
 use crate::effect::Effect;
-use crate::moves::Gait;
 use std::alloc::{AllocError, Global};
 use std::marker::Model;
-use vs_design::{Statement, Store, Target, Typed, Write};
-use vs_eval::{cut_value, write_of};
+use vs_design::{EventTerm, Store};
+use vs_flatcode::{Code, Cursor, Gait, Made};
 
 // What a process waits for.
-#[derive(Clone, Copy, PartialEq, Eq, Debug)]
-enum Wait {
+#[derive(Clone, Copy)]
+enum Wait<'a> {
     // Nothing: it is active.
     Nothing(Gait),
     // The end of a delay, at this time.
     Until(u64),
     // The end of a delay of zero ticks.
     Inactive,
+    // One of these event terms.
+    Terms(&'a [EventTerm]),
 }
 
 /// The place of a process: what it still has to do, and what it waits for.
 #[derive(Drop)]
 pub struct Place<'a> {
-    stack: Vec<&'a Statement>,
-    wait: Wait,
+    cursor: Cursor<'a>,
+    wait: Wait<'a>,
 }
 
 impl<'a> Model for Place<'a> {
     ghost use Rattle.std.specs.Coded.{codes};
     ghost use Rattle.vs_design.specs.contracts.statement.Statement as statement;
-    ghost use Rattle.vs_process.specs.Places.{Place};
-    ghost use Rattle.vs_process.specs.Stacks.{place_of};
+    ghost use Rattle.vs_flatcode.specs.Places.{Place};
+    ghost use Rattle.vs_process.specs.Waits.{place_of};
 
     ghost Value = { Place };
 
     ghost coded = { Prim.hlevel (codes, statement.the_row.coded) };
 
-    ghost view = { λ s. place_of s.wait s.stack.items };
-}
-
-// Puts a statement on the stack of what is still to be done, blocks opened.
-#[cycle(flat)]
-fn push_flat<'a>(stack: &mut Vec<&'a Statement>, s: &'a Statement) -> Result<(), AllocError>
-    ensures ok { OnOk result (seen stack.new.items ≡ flat s.entry.now ++ seen stack.old.items) }
-    ensures kept { Extends stack.old.items stack.new.items }
-{
-    match s {
-        Statement::Block(inner) => push_all(stack, inner),
-        _ => Ok(stack.push(s)?),
-    }
-}
-
-#[cycle(flat)]
-fn push_all<'a>(stack: &mut Vec<&'a Statement>, all: &'a [Statement]) -> Result<(), AllocError>
-    ensures ok { OnOk result (seen stack.new.items ≡ flat_all all.entry.now ++ seen stack.old.items) }
-    ensures kept { Extends stack.old.items stack.new.items }
-{
-    for i in (0..all.len()).rev() {
-        push_flat(stack, &all[i])?;
-    }
-    Ok(())
-}
-
-// Puts a statement on the stack, blocks opened. Without memory the stack is as it was.
-fn push_whole<'a>(stack: &mut Vec<&'a Statement>, s: &'a Statement) -> Result<(), AllocError>
-    ensures ok { OnOk result (seen stack.new.items ≡ flat s.entry.now ++ seen stack.old.items) }
-    ensures kept { OnOk result (Extends stack.old.items stack.new.items) }
-    ensures err { OnErr result (stack.new.items ≡ stack.old.items) }
-{
-    let depth = stack.len();
-    let pushed = push_flat(stack, s);
-    if pushed.is_err() {
-        stack.truncate(depth);
-    }
-    pushed
-}
-
-// Puts a statement in the place of the topmost one, blocks opened. Without memory the stack is as it was.
-fn replace_top<'a>(stack: &mut Vec<&'a Statement>, s: &'a Statement) -> Result<(), AllocError>
-    requires { 0 < vec_len stack.old }
-    ensures ok { OnOk result (seen stack.new.items ≡ flat s.entry.now ++ drop 1 (seen stack.old.items)) }
-    ensures err { OnErr result (stack.new.items ≡ stack.old.items) }
-{
-    let top = stack.len() - 1;
-    push_whole(stack, s)?;
-    stack.remove(top);
-    Ok(())
-}
-
-// Takes the topmost statement off the stack.
-fn pop(stack: &mut Vec<&Statement>)
-    requires { 0 < vec_len stack.old }
-    ensures { seen stack.new.items ≡ drop 1 (seen stack.old.items) }
-{
-    stack.pop();
+    ghost view = { λ s. place_of s.wait s.cursor };
 }
 
 // The gait behind a step.
@@ -113,7 +57,7 @@ fn gait_behind(gait: Gait) -> Gait
 }
 
 // What a process waits for when a delay begins.
-fn pause(time: u64, ticks: u64) -> Wait
+fn pause<'a>(time: u64, ticks: u64) -> Wait<'a>
     requires early { time < 2 ^ 62 }
     requires short { ticks < 2 ^ 62 }
     ensures { result ≡ paused_wait time ticks }
@@ -125,29 +69,27 @@ fn pause(time: u64, ticks: u64) -> Wait
     }
 }
 
-// The write of an assignment.
-fn assignment(
-    alloc: Global,
-    target: &Target,
-    e: &Typed,
-    store: &Store,
-    time: u64,
-) -> Result<Write, AllocError>
-    ensures { IfOk result (λ w. w ≡ assignment target.now e.now store.now time) }
+// What a process of this gait waits for behind a step that makes this, and what the step does to the rest of the state.
+fn behind<'a>(gait: Gait, time: u64, made: Made<'a>) -> (Wait<'a>, Effect)
+    requires early { time < 2 ^ 62 }
+    ensures { (old todo : Todo) → Leads (made_out made.entry todo) (going gait old) time (place_of result.0 todo) result.1 }
 {
-    let digits = cut_value(target, e, store, time);
-    write_of(alloc, target, digits, store, time)
+    match made {
+        Made::Nothing => (Wait::Nothing(gait_behind(gait)), Effect::Nothing),
+        Made::Write(write) => (Wait::Nothing(gait_behind(gait)), Effect::Write(write)),
+        Made::Update(write) => (Wait::Nothing(gait_behind(gait)), Effect::Update(write)),
+        Made::Delay(_, ticks) => (pause(time, ticks.count), Effect::Nothing),
+        Made::Wait(_, terms) => (Wait::Terms(terms), Effect::Nothing),
+    }
 }
 
 impl<'a> Place<'a> {
-    /// The start of a process with this body.
-    pub fn start(alloc: Global, body: &'a Statement) -> Result<Self, AllocError>
-        ensures { IfOk result (λ place. place ≡ start_place body.entry.now) }
+    /// The start of a process with this code.
+    pub fn start(alloc: Global, code: &'a Code<'a>) -> Result<Self, AllocError>
+        ensures { IfOk result (λ place. place ≡ start_place code.entry.now) }
     {
-        let mut stack = Vec::new(alloc);
-        push_flat(&mut stack, body)?;
         Ok(Place {
-            stack,
+            cursor: Cursor::start(alloc, code)?,
             wait: Wait::Nothing(Gait::Fresh),
         })
     }
@@ -157,9 +99,8 @@ impl<'a> Place<'a> {
         ensures { result ≡ is_going self.now }
     {
         match self.wait {
-            Wait::Nothing(_) => !self.stack.is_empty(),
-            Wait::Until(_) => false,
-            Wait::Inactive => false,
+            Wait::Nothing(_) => !self.cursor.is_empty(),
+            _ => false,
         }
     }
 
@@ -180,6 +121,36 @@ impl<'a> Place<'a> {
         match self.wait {
             Wait::Until(due) => Some(due),
             _ => None,
+        }
+    }
+
+    /// Whether the process is active and has taken a step since its timing control ended.
+    pub fn is_inside(&self) -> bool
+        ensures { result ≡ is_inside self.now }
+    {
+        match self.wait {
+            Wait::Nothing(Gait::Inside) => !self.cursor.is_empty(),
+            _ => false,
+        }
+    }
+
+    /// The event terms that the process waits for; none where it waits for no event (IEEE 1364-2005, clause 9.7.2).
+    pub fn terms(&self) -> &[EventTerm]
+        ensures { result.now ≡ terms_of self.now }
+    {
+        match self.wait {
+            Wait::Terms(terms) => terms,
+            _ => &[],
+        }
+    }
+
+    /// A process that waits for an event becomes active; another stays as it is.
+    pub fn trigger(&mut self)
+        ensures { self.new ≡ triggered self.old }
+    {
+        match self.wait {
+            Wait::Terms(_) => self.wait = Wait::Nothing(Gait::Woken),
+            _ => {}
         }
     }
 
@@ -218,29 +189,9 @@ impl<'a> Place<'a> {
         let Wait::Nothing(gait) = self.wait else {
             return Ok(Effect::Nothing);
         };
-        let Some(&s) = self.stack.last() else {
-            return Ok(Effect::Nothing);
-        };
-        let mut behind = Wait::Nothing(gait_behind(gait));
-        let mut effect = Effect::Nothing;
-        match s {
-            Statement::Null(_) => pop(&mut self.stack),
-            Statement::Assign(_, target, e) => {
-                effect = Effect::Write(assignment(alloc, target, e, store, time)?);
-                pop(&mut self.stack);
-            }
-            Statement::Later(_, target, e) => {
-                effect = Effect::Update(assignment(alloc, target, e, store, time)?);
-                pop(&mut self.stack);
-            }
-            Statement::Block(_) => replace_top(&mut self.stack, s)?,
-            Statement::Delay(_, ticks, body) => {
-                replace_top(&mut self.stack, body)?;
-                behind = pause(time, ticks.count);
-            }
-            Statement::Forever(_, body) => push_whole(&mut self.stack, body)?,
-        }
-        self.wait = behind;
+        let made = self.cursor.step(alloc, store, time)?;
+        let (wait, effect) = behind(gait, time, made);
+        self.wait = wait;
         Ok(effect)
     }
 }

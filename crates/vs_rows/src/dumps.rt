@@ -1,11 +1,13 @@
 //! Rows whose value change dump is given.
 
 use crate::assigns::ASSIGNS;
+use crate::events::{EDGES, WAITS, WAKES};
 use crate::fifo::FIFO;
 use crate::headers::{EMPTY, ONE_VARIABLE, VARIABLES};
 use crate::hierarchy::HIERARCHY;
 use crate::running::{Row, compare_all};
 use crate::selects::{SELECTS, STEPS};
+use crate::statements::{CHOICES, COUNTED, COUNTED_LOOPS, DELAYS, LOOPS};
 use crate::vectors::VECTORS;
 use std::test::Fail;
 
@@ -73,5 +75,48 @@ fn hierarchy(rt: HostRuntime) -> Result<(), Fail> {
 fn selects(rt: HostRuntime) -> Result<(), Fail> {
     compare_all(&rt, rt.alloc(), SELECTS)?;
     compare_all(&rt, rt.alloc(), STEPS)?;
+    Ok(())
+}
+
+#[test]
+fn edges(rt: HostRuntime) -> Result<(), Fail> {
+    compare_all(&rt, rt.alloc(), EDGES)?;
+    Ok(())
+}
+
+#[test]
+fn wakes(rt: HostRuntime) -> Result<(), Fail> {
+    compare_all(&rt, rt.alloc(), WAKES)?;
+    Ok(())
+}
+
+#[test]
+fn waits(rt: HostRuntime) -> Result<(), Fail> {
+    compare_all(&rt, rt.alloc(), WAITS)?;
+    Ok(())
+}
+
+#[test]
+fn choices(rt: HostRuntime) -> Result<(), Fail> {
+    compare_all(&rt, rt.alloc(), CHOICES)?;
+    Ok(())
+}
+
+#[test]
+fn loops(rt: HostRuntime) -> Result<(), Fail> {
+    compare_all(&rt, rt.alloc(), LOOPS)?;
+    Ok(())
+}
+
+#[test]
+fn delays(rt: HostRuntime) -> Result<(), Fail> {
+    compare_all(&rt, rt.alloc(), DELAYS)?;
+    Ok(())
+}
+
+#[test]
+fn counted(rt: HostRuntime) -> Result<(), Fail> {
+    compare_all(&rt, rt.alloc(), COUNTED)?;
+    compare_all(&rt, rt.alloc(), COUNTED_LOOPS)?;
     Ok(())
 }

@@ -8,6 +8,8 @@ mod devices;
 #[cfg(test)]
 mod dumps;
 #[cfg(test)]
+mod events;
+#[cfg(test)]
 mod fifo;
 #[cfg(test)]
 mod headers;
@@ -24,9 +26,13 @@ mod refused_hierarchy;
 #[cfg(test)]
 mod refused_selects;
 #[cfg(test)]
+mod refused_statements;
+#[cfg(test)]
 mod running;
 #[cfg(test)]
 mod selects;
+#[cfg(test)]
+mod statements;
 #[cfg(test)]
 mod vectors;
 #[cfg(test)]

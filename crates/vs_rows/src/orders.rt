@@ -97,6 +97,26 @@ const ORDERS: &[Order] = &[
         source: "module t; reg a, b, c, d; wire x, y; assign x = a; assign y = b; initial begin a = 1; b = 1; a = 0; end initial begin c = x; d = y; end endmodule",
         out: &[SIX, "#0\n$dumpvars\n0!\n1\"\n0#\nx$\n0%\n1&\n$end\n"],
     },
+    // At 1 one edge wakes both processes: the second one goes first, so both variables are then 0.
+    Order {
+        choices: &[0, 0, 0, 0, 0, 0, 0, 0, 1, 0],
+        until: 1,
+        source: "module t; reg c, a, b; initial begin a = 0; b = 1; #1 c = 1; end always @(posedge c) a = b; always @(posedge c) b = a; endmodule",
+        out: &[
+            "$timescale 1 ns $end\n$scope module t $end\n$var reg 1 ! c $end\n$var reg 1 \" a $end\n$var reg 1 # b $end\n$upscope $end\n$enddefinitions $end\n",
+            "#0\n$dumpvars\nx!\n0\"\n1#\n$end\n#1\n1!\n0#\n",
+        ],
+    },
+    // The block that `a = 1` wakes goes first, and runs to its control before `a = 0`.
+    Order {
+        choices: &[0, 0, 0, 0, 1, 0, 0],
+        until: 1,
+        source: "module t; reg a, t, y; always @* begin t = a; y = t ^ a; end initial begin #1 a = 1; a = 0; end endmodule",
+        out: &[
+            "$timescale 1 ns $end\n$scope module t $end\n$var reg 1 ! a $end\n$var reg 1 \" t $end\n$var reg 1 # y $end\n$upscope $end\n$enddefinitions $end\n",
+            "#0\n$dumpvars\nx!\nx\"\nx#\n$end\n#1\n0!\n0\"\n0#\n",
+        ],
+    },
 ];
 
 // The outcome of a run under an order's policy, and the dump.

@@ -2,6 +2,7 @@
 
 use crate::refused_hierarchy::REFUSED_HIERARCHY;
 use crate::refused_selects::REFUSED_SELECTS;
+use crate::refused_statements::REFUSED_STATEMENTS;
 use crate::running::{Row, compare, run};
 use std::alloc::{AllocError, Global};
 use std::process::Abort;
@@ -64,7 +65,8 @@ const REFUSALS: &[(&str, &str)] = &[
         "vsim: E8 X3 at t\n",
     ),
     ("module t; initial #4'b1x ; endmodule", "vsim: E8 X3 at t\n"),
-    ("module t; initial #(-1) ; endmodule", "vsim: P1 at 19\n"),
+    ("module t; initial #(-1) ; endmodule", "vsim: E8 X3 at t\n"),
+    ("module t; initial #-1 ; endmodule", "vsim: P1 at 19\n"),
     // Sizes and constants of expressions.
     (
         "module t; wire a = {64'd0, 1'b1}; endmodule",
@@ -106,6 +108,7 @@ const CUT: &[&str] = &[
     "module t; reg a; initial a = 1 endmodule",
     "module t; reg a, b; wire y = ~(a | b), z; assign z = a & b ^ y; endmodule",
     "module t; reg a = 0; always begin #5 a <= ~a; end endmodule",
+    "module t; reg a, b; always @(posedge a or b) if (a) case (b) 1, 0: ; default b = 1; endcase else repeat (2) #(1) while (b) forever @* ; endmodule",
     "module t; reg [3:0] a, m [0:1]; wire y = a[1 +: 2]; initial {a[0], {m[a[1]][2:1]}} = m[1][0]; endmodule",
 ];
 
@@ -145,6 +148,12 @@ fn refused_hierarchy(rt: HostRuntime) -> Result<(), Fail> {
 #[test]
 fn refused_selects(rt: HostRuntime) -> Result<(), Fail> {
     compare_refusals(&rt, rt.alloc(), REFUSED_SELECTS)?;
+    Ok(())
+}
+
+#[test]
+fn refused_statements(rt: HostRuntime) -> Result<(), Fail> {
+    compare_refusals(&rt, rt.alloc(), REFUSED_STATEMENTS)?;
     Ok(())
 }
 

@@ -154,6 +154,35 @@ fn show_statement(
             text.extend_from_slice(delay.as_bytes())?;
             show_statement(alloc, design, inner, text)?;
         }
+        Statement::Event(number, _, inner) => {
+            show_number(alloc, *number, text)?;
+            text.extend_from_slice(b"@ ")?;
+            show_statement(alloc, design, inner, text)?;
+        }
+        Statement::If(number, _, one, other) => {
+            show_number(alloc, *number, text)?;
+            text.extend_from_slice(b"if ")?;
+            show_statement(alloc, design, one, text)?;
+            text.extend_from_slice(b" else ")?;
+            show_statement(alloc, design, other, text)?;
+        }
+        Statement::Case(number, _, _, items) => {
+            show_number(alloc, *number, text)?;
+            text.extend_from_slice(b"case ")?;
+            for (_, one) in items {
+                show_statement(alloc, design, one, text)?;
+            }
+        }
+        Statement::While(number, _, inner) => {
+            show_number(alloc, *number, text)?;
+            text.extend_from_slice(b"while ")?;
+            show_statement(alloc, design, inner, text)?;
+        }
+        Statement::Repeat(number, _, _, inner) => {
+            show_number(alloc, *number, text)?;
+            text.extend_from_slice(b"repeat ")?;
+            show_statement(alloc, design, inner, text)?;
+        }
         Statement::Forever(number, inner) => {
             show_number(alloc, *number, text)?;
             text.extend_from_slice(b"forever ")?;

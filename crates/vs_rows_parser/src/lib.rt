@@ -6,4 +6,6 @@ mod instances;
 #[cfg(test)]
 mod refused;
 #[cfg(test)]
+mod statements;
+#[cfg(test)]
 mod trees;

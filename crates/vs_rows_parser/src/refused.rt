@@ -125,7 +125,12 @@ fn answered(alloc: Global, source: &[u8]) -> Result<Vec<u8>, Fail> {
 }
 
 /// The source is answered by this text.
-fn is_answered(rt: &impl Abort, alloc: Global, source: &[u8], text: &[u8]) -> Result<(), Fail> {
+pub(crate) fn is_answered(
+    rt: &impl Abort,
+    alloc: Global,
+    source: &[u8],
+    text: &[u8],
+) -> Result<(), Fail> {
     let answer = answered(alloc, source)?;
     assert_eq!(rt; answer.as_slice(), text);
     Ok(())

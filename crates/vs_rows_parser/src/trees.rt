@@ -105,7 +105,7 @@ fn shown_within(alloc: Global, depth: u32, e: &Expr) -> Result<Vec<u8>, Fail> {
 }
 
 /// The selects behind the name of a left side, each with a bar before its first expression.
-fn selects_shown(
+pub(crate) fn selects_shown(
     alloc: Global,
     selects: &[(Expr, Option<(PartSelect, Expr)>)],
 ) -> Result<Vec<u8>, Fail> {
@@ -362,7 +362,12 @@ pub(crate) fn form_shown(alloc: Global, form: &Form) -> Result<Vec<u8>, Fail> {
 }
 
 /// Both sides of an assignment in one line, with the sign between them.
-fn sides_shown(alloc: Global, left: &Left, sign: &[u8], value: &Expr) -> Result<Vec<u8>, Fail> {
+pub(crate) fn sides_shown(
+    alloc: Global,
+    left: &Left,
+    sign: &[u8],
+    value: &Expr,
+) -> Result<Vec<u8>, Fail> {
     let mut text = left_shown(alloc, left)?;
     put(&mut text, sign, &shown(alloc, value)?)?;
     Ok(text)

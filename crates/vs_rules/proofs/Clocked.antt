@@ -1,5 +1,5 @@
 -- A clocked design keeps the rules, so it is independent: the rules are not empty.
-use Rattle.std.proofs.Common.{◌≡◌, ℕ, zero, suc, ◌+◌, ◌%◌, ◌<◌, ◌==◌, ◌||◌, ◌⊎◌, ◌++◌, Bool, true, false, Option, Some, option_map, List, [], ◌∷◌, length, slice_get, refl, sym, ◌∙◌, ap, subst, inl, inr, arith, lit<, nat_lt}
+use Rattle.std.proofs.Common.{◌≡◌, ℕ, zero, suc, ◌+◌, ◌%◌, ◌<◌, ◌==◌, ◌||◌, ◌⊎◌, ◌++◌, Bool, true, false, Option, Some, option_map, List, [], ◌∷◌, length, slice_get, refl, sym, ◌∙◌, ap, subst, inl, inr, arith, append-nil, lit<, nat_lt}
 use Rattle.std.proofs.lemmas.Option.{none-some, same_Some}
 use Rattle.std.proofs.lemmas.Bool.{or_cases, eqb-true, eq-eqb, false≢true, true≢false}
 use Rattle.std.proofs.lemmas.List.Elements.{All-nil, All-cons}
@@ -24,29 +24,28 @@ use Rattle.vs_design.specs.declared.statement.Ticks.{Ticks}
 use Rattle.vs_design.specs.declared.expression.Typed.{Typed, fold-roll-Typed}
 use Rattle.vs_design.specs.declared.expression.Typed.TheVariants as e
 use Rattle.vs_design.specs.declared.expression.Typed.TheOpen as t
+use Rattle.vs_design.specs.declared.statement.EventTerm.{EventTerm}
+use Rattle.vs_design.specs.Statements.{event_terms, event_terms_step}
 use Rattle.vs_design.specs.Uses.{whole, reads, reads_step, writes_signal}
 use Rattle.vs_design.specs.WellFormed.{WellFormed, size_step, size_of, is_sound_assignment, is_sound_assign, sound_step, is_sound_statement, numbers_step, numbers, is_sound_process}
-use Rattle.vs_process.specs.Places.{Todo, perform, turns, flat}
-use Rattle.vs_process.specs.Steps.{Next, on, after, step, statement_step}
+use Rattle.vs_flatcode.specs.Places.{Todo, perform, flat}
+use Rattle.vs_flatcode.specs.Steps.{Next, on, after, wait}
 use Rattle.vs_process.proofs.Lists.{any_at}
-use Rattle.vs_process.proofs.Todos.{flat-Block}
+use Rattle.vs_flatcode.proofs.Shapes.{flat-Block}
 use Rattle.vs_independence.specs.Feeds.{writes_into}
 use Rattle.vs_independence.proofs.Feeds.{into_named}
 use Rattle.vs_independence.proofs.Lists.{contains_at}
 use Rattle.vs_independence.specs.Race.{boxed, name, bit, operand, target}
-use Rattle.vs_independence.specs.Discipline.{Reaches, here, through}
-use Rattle.vs_independence.proofs.Race.{size_number, size_operand, reads_number, reads_operand, sound_assign, numbers_assign}
+use Rattle.vs_independence.specs.Discipline.{HasNoEvents, Reaches, here, through}
+use Rattle.vs_independence.proofs.Race.{terms_assign, size_number, size_operand, reads_number, reads_operand, sound_assign, numbers_assign}
 use Rattle.vs_independence.proofs.Whole.{independent}
-use Rattle.vs_rules.specs.Points.{Among, statement_nexts, Goes, first_todo, WritesNow, WritesLater, ReadsNow, Point, Late, Slot0, RunsAt}
+use Rattle.vs_rules.specs.Points.{Among, Goes, first_todo, WritesNow, WritesLater, ReadsNow, Point, Late, Slot0, RunsAt}
 use Rattle.vs_rules.specs.Claims.{Name, SignalClaim, controls_step, controls_in, controls_of, slots_of, list_of, ends_at, claim_of, writer_in, second_in, is_writer, is_second}
 use Rattle.vs_rules.specs.Rules.{Writes, now, later, IsBlocking, by, IsListed, IsKnown, process_names, signal_names, K1_Signal, K1_Assign, K1_Process, K1_Names, K2, HasMode, K3, K4, K8, IsOwn, AreApart, K9, K10, Ruled}
 use Rattle.vs_rules.specs.Clocked.{turned, inverse, half, clock, taken, late, nothing, pause, period, two, five, seven, three, reader, cleared, clocked, clocked_claims, AClockedDesignIsRuled}
 use Rattle.vs_rules.proofs.Rules.{ruled_is_disciplined}
 
--- ---- without branches, each path of the text is that of each store
-
-abbrev next_of : Todo → Next
-next_of k = (step k [] 0).next
+-- ---- where there is one way on
 
 among_none : (n : Next) (xs : List Next) → xs ≡ [] → Among n xs → ⊥
 among_none n _ e (Among.first xs) = cc
@@ -56,19 +55,9 @@ among_one : (n m : Next) → Among n (m ∷ []) → m ≡ n
 among_one n _ (Among.first _) = refl
 among_one n m (Among.further _ _ h) = absurd (among_none n [] refl h)
 
-statement_next : (s : Statement) (f : Statement-F Statement) (rest : Todo) (n : Next) → Among n (statement_nexts s f rest) → (statement_step s f rest [] 0).next ≡ n
-statement_next s (Statement-F.Null m) rest n h = among_one n _ h
-statement_next s (Statement-F.Assign m x e) rest n h = among_one n _ h
-statement_next s (Statement-F.Later m x e) rest n h = among_one n _ h
-statement_next s (Statement-F.Block all) rest n h = among_one n _ h
-statement_next s (Statement-F.Delay m ticks body) rest n h = among_one n _ h
-statement_next s (Statement-F.Forever m body) rest n h = among_one n _ h
-
-one_next : (k : Todo) (n : Next) → Goes k n → next_of k ≡ n
-one_next [] n h = among_one n _ h
-one_next (perform s ∷ rest) n h = statement_next s (out-Statement s) rest n h
-one_next (turns zero s ∷ rest) n h = among_one n _ h
-one_next (turns (suc m) s ∷ rest) n h = among_one n _ h
+-- what holds of the one way on holds of each
+only : (P : Next → Type 0) (n m : Next) → Among n (m ∷ []) → P m → P n
+only P n m h p = subst P (among_one n m h) p
 
 -- ---- the residues of the certificate
 
@@ -178,39 +167,42 @@ data Early (g : Global) : ℕ → Todo → Type 0 where
   rests : (i : ℕ) → Early g i []
 
 -- a way on leads to a point again
-abbrev NextSpot : Global → ℕ → Todo → Next → Type 0
-NextSpot g i k (on l) = Spot g i l
-NextSpot g i k (after number ticks l) = Spot g i l × ((r : ℕ) → residues i number r ≡ true → Run g i l r) × (i ≡ 2 → ⊥)
+abbrev NextSpot : Global → ℕ → Next → Type 0
+NextSpot g i (on l) = Spot g i l
+NextSpot g i (wait number terms l) = ⊥
+NextSpot g i (after number ticks l) = Spot g i l × ((r : ℕ) → residues i number r ≡ true → Run g i l r) × (i ≡ 2 → ⊥)
 
 -- so does the end of a statement
 abbrev RestSpot : Global → ℕ → Todo → Type 0
 RestSpot g i [] = Unit {0}
 RestSpot g i (x ∷ rest) = Spot g i rest
 
-abbrev NextRun : Global → ℕ → Todo → ℕ → Next → Type 0
-NextRun g i k r (on l) = Run g i l r
-NextRun g i k r (after number ticks l) = residues i number ((r + ticks) % 10) ≡ true
+abbrev NextRun : Global → ℕ → ℕ → Next → Type 0
+NextRun g i r (on l) = Run g i l r
+NextRun g i r (wait number terms l) = ⊥
+NextRun g i r (after number ticks l) = residues i number ((r + ticks) % 10) ≡ true
 
-abbrev NextEarly : Global → ℕ → Todo → Next → Type 0
-NextEarly g i k (on l) = Early g i l
-NextEarly g i k (after number ticks l) = (0 < ticks) × (residues i number (ticks % 10) ≡ true)
+abbrev NextEarly : Global → ℕ → Next → Type 0
+NextEarly g i (on l) = Early g i l
+NextEarly g i (wait number terms l) = ⊥
+NextEarly g i (after number ticks l) = (0 < ticks) × (residues i number (ticks % 10) ≡ true)
 
 -- a block is what stands in it
 opened : (g : Global) → flat (period g) ≡ perform (late g) ∷ perform (pause g) ∷ []
 opened g = flat-Block (two g (late g) (pause g))
 
-spot_next : (g : Global) (i : ℕ) (k : Todo) → Spot g i k → NextSpot g i k (next_of k)
+spot_next : (g : Global) (i : ℕ) (k : Todo) → Spot g i k → (n : Next) → Goes k n → NextSpot g i n
 unfolding out-Statement denote.Hole.Carrier.out
-spot_next g _ _ Spot.clock_loops = Spot.clock_waits
-spot_next g _ _ Spot.clock_waits = (Spot.clock_turns, λ r h. Run.clock_turns r h, λ e. differ 0 2 refl e)
-spot_next g _ _ Spot.clock_turns = Spot.clock_loops
-spot_next g _ _ Spot.reader_loops = subst (λ l. Spot g 1 (l ++ perform (reader g) ∷ [])) (sym (opened g)) Spot.reader_waits
-spot_next g _ _ Spot.reader_waits = (Spot.reader_takes, λ r h. Run.reader_takes r (named 7 r h), λ e. differ 1 2 refl e)
-spot_next g _ _ Spot.reader_takes = Spot.reader_pauses
-spot_next g _ _ Spot.reader_pauses = (Spot.reader_ends, λ r h. Run.reader_ends r (named 0 r h), λ e. differ 1 2 refl e)
-spot_next g _ _ Spot.reader_ends = Spot.reader_loops
-spot_next g _ _ Spot.clears = Spot.rests 2
-spot_next g _ _ (Spot.rests i) = Spot.rests i
+spot_next g _ _ Spot.clock_loops n h = only (NextSpot g 0) n _ h (Spot.clock_waits)
+spot_next g _ _ Spot.clock_waits n h = only (NextSpot g 0) n _ h ((Spot.clock_turns, λ r h. Run.clock_turns r h, λ e. differ 0 2 refl e))
+spot_next g _ _ Spot.clock_turns n h = only (NextSpot g 0) n _ h (Spot.clock_loops)
+spot_next g _ _ Spot.reader_loops n h = only (NextSpot g 1) n _ h (subst (λ l. Spot g 1 (l ++ perform (reader g) ∷ [])) (sym (opened g)) Spot.reader_waits)
+spot_next g _ _ Spot.reader_waits n h = only (NextSpot g 1) n _ h ((Spot.reader_takes, λ r h. Run.reader_takes r (named 7 r h), λ e. differ 1 2 refl e))
+spot_next g _ _ Spot.reader_takes n h = only (NextSpot g 1) n _ h (Spot.reader_pauses)
+spot_next g _ _ Spot.reader_pauses n h = only (NextSpot g 1) n _ h ((Spot.reader_ends, λ r h. Run.reader_ends r (named 0 r h), λ e. differ 1 2 refl e))
+spot_next g _ _ Spot.reader_ends n h = only (NextSpot g 1) n _ h (Spot.reader_loops)
+spot_next g _ _ Spot.clears n h = only (NextSpot g 2) n _ h (Spot.rests 2)
+spot_next g _ _ (Spot.rests i) n h = only (NextSpot g i) n _ h (Spot.rests i)
 
 spot_rest : (g : Global) (i : ℕ) (k : Todo) → Spot g i k → RestSpot g i k
 spot_rest g _ _ Spot.clock_loops = Spot.rests 0
@@ -224,25 +216,25 @@ spot_rest g _ _ Spot.reader_ends = Spot.reader_loops
 spot_rest g _ _ Spot.clears = Spot.rests 2
 spot_rest g _ _ (Spot.rests i) = tt
 
-run_next : (g : Global) (i : ℕ) (k : Todo) (r : ℕ) → Run g i k r → NextRun g i k r (next_of k)
+run_next : (g : Global) (i : ℕ) (k : Todo) (r : ℕ) → Run g i k r → (n : Next) → Goes k n → NextRun g i r n
 unfolding out-Statement denote.Hole.Carrier.out
-run_next g _ _ _ (Run.clock_loops r h) = Run.clock_waits r h
-run_next g _ _ _ (Run.clock_waits r h) = five_later r h
-run_next g _ _ _ (Run.clock_turns r h) = Run.clock_loops r h
-run_next g _ _ _ (Run.reader_loops r h) = subst (λ l. Run g 1 (l ++ perform (reader g) ∷ []) r) (sym (opened g)) (Run.reader_waits r h)
-run_next g _ _ _ (Run.reader_waits r h) = subst (λ n. residues 1 1 ((n + 7) % 10) ≡ true) h refl
-run_next g _ _ _ (Run.reader_takes r h) = Run.reader_pauses r h
-run_next g _ _ _ (Run.reader_pauses r h) = subst (λ n. residues 1 3 ((n + 3) % 10) ≡ true) h refl
-run_next g _ _ _ (Run.reader_ends r h) = Run.reader_loops r h
+run_next g _ _ _ (Run.clock_loops r h) n w = only (NextRun g 0 r) n _ w (Run.clock_waits r h)
+run_next g _ _ _ (Run.clock_waits r h) n w = only (NextRun g 0 r) n _ w (five_later r h)
+run_next g _ _ _ (Run.clock_turns r h) n w = only (NextRun g 0 r) n _ w (Run.clock_loops r h)
+run_next g _ _ _ (Run.reader_loops r h) n w = only (NextRun g 1 r) n _ w (subst (λ l. Run g 1 (l ++ perform (reader g) ∷ []) r) (sym (opened g)) (Run.reader_waits r h))
+run_next g _ _ _ (Run.reader_waits r h) n w = only (NextRun g 1 r) n _ w (subst (λ n. residues 1 1 ((n + 7) % 10) ≡ true) h refl)
+run_next g _ _ _ (Run.reader_takes r h) n w = only (NextRun g 1 r) n _ w (Run.reader_pauses r h)
+run_next g _ _ _ (Run.reader_pauses r h) n w = only (NextRun g 1 r) n _ w (subst (λ n. residues 1 3 ((n + 3) % 10) ≡ true) h refl)
+run_next g _ _ _ (Run.reader_ends r h) n w = only (NextRun g 1 r) n _ w (Run.reader_loops r h)
 
-early_next : (g : Global) (i : ℕ) (k : Todo) → Early g i k → NextEarly g i k (next_of k)
+early_next : (g : Global) (i : ℕ) (k : Todo) → Early g i k → (n : Next) → Goes k n → NextEarly g i n
 unfolding out-Statement denote.Hole.Carrier.out
-early_next g _ _ Early.clock_loops = Early.clock_waits
-early_next g _ _ Early.clock_waits = (lit< tt, refl)
-early_next g _ _ Early.reader_loops = subst (λ l. Early g 1 (l ++ perform (reader g) ∷ [])) (sym (opened g)) Early.reader_waits
-early_next g _ _ Early.reader_waits = (lit< tt, refl)
-early_next g _ _ Early.clears = Early.rests 2
-early_next g _ _ (Early.rests i) = Early.rests i
+early_next g _ _ Early.clock_loops n h = only (NextEarly g 0) n _ h (Early.clock_waits)
+early_next g _ _ Early.clock_waits n h = only (NextEarly g 0) n _ h ((lit< tt, refl))
+early_next g _ _ Early.reader_loops n h = only (NextEarly g 1) n _ h (subst (λ l. Early g 1 (l ++ perform (reader g) ∷ [])) (sym (opened g)) Early.reader_waits)
+early_next g _ _ Early.reader_waits n h = only (NextEarly g 1) n _ h ((lit< tt, refl))
+early_next g _ _ Early.clears n h = only (NextEarly g 2) n _ h (Early.rests 2)
+early_next g _ _ (Early.rests i) n h = only (NextEarly g i) n _ h (Early.rests i)
 
 first_spot : (g : Global) (i : ℕ) → Spot g i (first_todo (clocked g) i)
 unfolding out-Statement denote.Hole.Carrier.out
@@ -258,29 +250,25 @@ first_early g (suc zero) = Early.reader_loops
 first_early g (suc (suc zero)) = Early.clears
 first_early g (suc (suc (suc i))) = Early.rests (suc (suc (suc i)))
 
-spot_goes : (g : Global) (i : ℕ) (k : Todo) (n : Next) → Spot g i k → Goes k n → NextSpot g i k n
-spot_goes g i k n s h = subst (NextSpot g i k) (one_next k n h) (spot_next g i k s)
-
 spot_of : (g : Global) (i : ℕ) (k : Todo) → Point (first_todo (clocked g) i) k → Spot g i k
 spot_of g i _ Point.begins = first_spot g i
-spot_of g i _ (Point.goes_on k l p h) = spot_goes g i k (on l) (spot_of g i k p) h
-spot_of g i _ (Point.waits k l number ticks p h) = (spot_goes g i k (after number ticks l) (spot_of g i k p) h).0
+spot_of g i _ (Point.goes_on k l p h) = spot_next g i k (spot_of g i k p) (on l) h
+spot_of g i _ (Point.waits k l number ticks p h) = (spot_next g i k (spot_of g i k p) (after number ticks l) h).0
+spot_of g i _ (Point.listens k l number terms p h) = absurd (spot_next g i k (spot_of g i k p) (wait number terms l) h)
 spot_of g i _ (Point.skips x rest p) = spot_rest g i (x ∷ rest) (spot_of g i (x ∷ rest) p)
-
-early_goes : (g : Global) (i : ℕ) (k : Todo) (n : Next) → Early g i k → Goes k n → NextEarly g i k n
-early_goes g i k n s h = subst (NextEarly g i k) (one_next k n h) (early_next g i k s)
 
 early_of : (g : Global) (i : ℕ) (k : Todo) → Slot0 (first_todo (clocked g) i) k → Early g i k
 early_of g i _ Slot0.begins = first_early g i
-early_of g i _ (Slot0.goes_on k l p h) = early_goes g i k (on l) (early_of g i k p) h
-early_of g i _ (Slot0.waits k l number p h) = absurd (let up = (early_goes g i k (after number 0 l) (early_of g i k p) h).0 in omega (arith, up))
+early_of g i _ (Slot0.goes_on k l p h) = early_next g i k (early_of g i k p) (on l) h
+early_of g i _ (Slot0.waits k l number p h) = absurd (let up = (early_next g i k (early_of g i k p) (after number 0 l) h).0 in omega (arith, up))
 
 run_of : (g : Global) (i : ℕ) (k : Todo) (r : ℕ) → RunsAt (ends_at (clocked g) clocked_claims i) (first_todo (clocked g) i) k r → Run g i k r
-run_of g i _ _ (RunsAt.ends c l number ticks r p h s) = (spot_goes g i c (after number ticks l) (spot_of g i c p) h).1 r (sym (ends_are g i number r) ∙ s)
-run_of g i _ _ (RunsAt.goes_on k l r p h) = subst (NextRun g i k r) (one_next k (on l) h) (run_next g i k r (run_of g i k r p))
+run_of g i _ _ (RunsAt.ends c l number ticks r p h s) = (spot_next g i c (spot_of g i c p) (after number ticks l) h).1 r (sym (ends_are g i number r) ∙ s)
+run_of g i _ _ (RunsAt.goes_on k l r p h) = run_next g i k r (run_of g i k r p) (on l) h
 
 never_late : (g : Global) (k : Todo) → Late (first_todo (clocked g) 2) k → ⊥
-never_late g _ (Late.waits k l number ticks p h) = (spot_goes g 2 k (after number ticks l) (spot_of g 2 k p) h).2 refl
+never_late g _ (Late.waits k l number ticks p h) = (spot_next g 2 k (spot_of g 2 k p) (after number ticks l) h).2 refl
+never_late g _ (Late.listens k l number terms p h) = spot_next g 2 k (spot_of g 2 k p) (wait number terms l) h
 never_late g _ (Late.goes_on k l p h) = never_late g k p
 
 -- ---- who writes what: two processes write `d` by `=`, one of them not in the first slot
@@ -367,18 +355,22 @@ reads_none x r is h = none_in r (subst (λ rs. Contains rs r) is h)
 reads_inverse : (g : Global) (r : BitRange) → Contains (reads (inverse g 0)) r → 0 ≡ r.signal
 reads_inverse g r h = reads_one (inverse g 0) 0 r (reads_unary g u.Not (operand 0) ∙ reads_operand 0) h
 
+-- so do assignments to constant places
+reads_source : (x : Typed) (r : BitRange) → Contains (reads x ++ []) r → Contains (reads x) r
+reads_source x r h = subst (λ rs. Contains rs r) (append-nil (reads x)) h
+
 -- who reads what
 has_read : (g : Global) (i : ℕ) (r : BitRange) (k : Todo) → Spot g i k → ReadsNow k r → ((i ≡ 0) × (0 ≡ r.signal)) ⊎ ((i ≡ 1) × (2 ≡ r.signal))
 unfolding out-Statement denote.Hole.Carrier.out
 has_read g _ r _ Spot.clock_loops h = absurd (none_in r h)
 has_read g _ r _ Spot.clock_waits h = absurd (none_in r h)
-has_read g _ r _ Spot.clock_turns h = inl (refl, reads_inverse g r h)
+has_read g _ r _ Spot.clock_turns h = inl (refl, reads_inverse g r (reads_source (inverse g 0) r h))
 has_read g _ r _ Spot.reader_waits h = absurd (none_in r h)
 has_read g _ r _ Spot.reader_loops h = absurd (none_in r h)
 has_read g _ r _ Spot.reader_pauses h = absurd (none_in r h)
 has_read g _ r _ Spot.reader_ends h = absurd (none_in r h)
-has_read g _ r _ Spot.reader_takes h = inr (refl, reads_one (operand 2) 2 r (reads_operand 2) h)
-has_read g _ r _ Spot.clears h = absurd (reads_none (e.Number (Zero ∷ [])) r (reads_number (Zero ∷ [])) h)
+has_read g _ r _ Spot.reader_takes h = inr (refl, reads_one (operand 2) 2 r (reads_operand 2) (reads_source (operand 2) r h))
+has_read g _ r _ Spot.clears h = absurd (reads_none (e.Number (Zero ∷ [])) r (reads_number (Zero ∷ [])) (reads_source (e.Number (Zero ∷ [])) r h))
 has_read g _ r _ (Spot.rests i) h = absurd (none_in r h)
 
 early_read : (g : Global) (i : ℕ) (r : BitRange) (k : Todo) → Early g i k → ReadsNow k r → ⊥
@@ -387,7 +379,7 @@ early_read g _ r _ Early.clock_loops h = none_in r h
 early_read g _ r _ Early.clock_waits h = none_in r h
 early_read g _ r _ Early.reader_loops h = none_in r h
 early_read g _ r _ Early.reader_waits h = none_in r h
-early_read g _ r _ Early.clears h = reads_none (e.Number (Zero ∷ [])) r (reads_number (Zero ∷ [])) h
+early_read g _ r _ Early.clears h = reads_none (e.Number (Zero ∷ [])) r (reads_number (Zero ∷ [])) (reads_source (e.Number (Zero ∷ [])) r h)
 early_read g _ r _ (Early.rests i) h = none_in r h
 
 clock_residue : (g : Global) (k : Todo) (r : ℕ) → Run g 0 k r → residues 0 1 r ≡ true
@@ -560,9 +552,9 @@ k4 g j = record {
 k8 : (g : Global) (i : ℕ) → K8 (clocked g) clocked_claims i
 k8 g i = record {
   one_each = ap length (lists_are g i) ∙ as_many i ∙ ap length (sym (controls_are g i));
-  from_start = λ number ticks k l s h up. ends_are g i number (ticks % 10) ∙ (early_goes g i k (after number ticks l) (early_of g i k s) h).1;
+  from_start = λ number ticks k l s h up. ends_are g i number (ticks % 10) ∙ (early_next g i k (early_of g i k s) (after number ticks l) h).1;
   from_residue = λ number ticks r k l x h.
-      ends_are g i number ((r + ticks) % 10) ∙ subst (NextRun g i k r) (one_next k (after number ticks l) h) (run_next g i k r (run_of g i k r x));
+      ends_are g i number ((r + ticks) % 10) ∙ run_next g i k r (run_of g i k r x) (after number ticks l) h;
 }
   where
     as_many : (i : ℕ) → length (lists_at i) ≡ length (numbers_at i)
@@ -711,6 +703,38 @@ formed g = record {
   assign_names = (tt, tt);
 }
 
+-- ---- it has no event controls
+
+terms_later : (n : ℕ) (x : Target) (v : Typed) → event_terms (y.Later n x v) ≡ []
+terms_later n x v = ap event_terms (sym (y.rolls-Later n x v)) ∙ fold-roll-Statement (List EventTerm) event_terms_step (f.Later n x v)
+
+terms_null : (n : ℕ) → event_terms (y.Null n) ≡ []
+terms_null n = ap event_terms (sym (y.rolls-Null n)) ∙ fold-roll-Statement (List EventTerm) event_terms_step (f.Null n)
+
+terms_delay : (g : Global) (n : ℕ) (x : Ticks) (s : Statement) → event_terms (y.Delay n x (boxed g s)) ≡ event_terms s
+terms_delay g n x s = ap event_terms (sym (y.rolls-Delay n x (boxed g s))) ∙ fold-roll-Statement (List EventTerm) event_terms_step (f.Delay n x (boxed g s))
+
+terms_forever : (g : Global) (n : ℕ) (s : Statement) → event_terms (y.Forever n (boxed g s)) ≡ event_terms s
+terms_forever g n s = ap event_terms (sym (y.rolls-Forever n (boxed g s))) ∙ fold-roll-Statement (List EventTerm) event_terms_step (f.Forever n (boxed g s))
+
+terms_block : (g : Global) (s z : Statement) → event_terms (y.Block (two g s z)) ≡ event_terms s ++ (event_terms z ++ [])
+terms_block g s z = ap event_terms (sym (y.rolls-Block (two g s z))) ∙ fold-roll-Statement (List EventTerm) event_terms_step (f.Block (two g s z))
+
+terms_clock : (g : Global) → event_terms (clock g) ≡ []
+terms_clock g = terms_forever g 0 (half g) ∙ terms_delay g 1 five (turned g) ∙ terms_assign 2 (target g 0) (inverse g 0)
+
+terms_reader : (g : Global) → event_terms (reader g) ≡ []
+terms_reader g = rw (terms_forever g 0 (period g), terms_block g (late g) (pause g), terms_delay g 1 seven (taken g), terms_later 2 (target g 1) (operand 2), terms_delay g 3 three nothing, terms_null 4) refl
+
+abbrev SilentProcess : Process → Type 0
+SilentProcess p = event_terms p.body ≡ []
+
+no_events : (g : Global) → HasNoEvents (clocked g)
+no_events g =
+    All-cons SilentProcess (process_0 g) (process_1 g ∷ process_2 g ∷ []) (terms_clock g)
+    (All-cons SilentProcess (process_1 g) (process_2 g ∷ []) (terms_reader g)
+    (All-cons SilentProcess (process_2 g) [] (terms_assign 0 (target g 0) (e.Number (Zero ∷ []))) (All-nil SilentProcess)))
+
 pub clocked_is_ruled : AClockedDesignIsRuled
 clocked_is_ruled g =
-    (formed g, ruled g, λ grain. independent grain (clocked g) (formed g) (ruled_is_disciplined grain (clocked g) clocked_claims (formed g) (ruled g)))
+    (formed g, no_events g, ruled g, λ grain. independent grain (clocked g) (formed g) (no_events g) (ruled_is_disciplined grain (clocked g) clocked_claims (formed g) (no_events g) (ruled g)))

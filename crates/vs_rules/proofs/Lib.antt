@@ -1,3 +1,4 @@
 mod Points
 mod Rules
 mod Clocked
+mod Branch

@@ -11,29 +11,30 @@ use Rattle.vs_design.specs.declared.design.Assign.{Assign}
 use Rattle.vs_design.specs.declared.design.Process.{Process}
 use Rattle.vs_design.specs.declared.statement.Target.{Target}
 use Rattle.vs_design.specs.Parts.{Parts}
-use Rattle.vs_design.specs.Stores.{Store, put, is_driven}
+use Rattle.vs_design.specs.Stores.{put, is_driven}
 use Rattle.std.specs.List.{Contains}
 use Rattle.vs_design.specs.declared.range.BitRange.{BitRange}
 use Rattle.vs_design.specs.Uses.{writes_signal}
 use Rattle.vs_design.specs.WellFormed.{WellFormed}
 use Rattle.vs_design.specs.Writes.{Write}
 use Rattle.vs_eval.specs.Targets.{assigned}
-use Rattle.vs_process.specs.declared.moves.Gait.{Gait}
-use Rattle.vs_process.specs.declared.moves.Gait.TheVariants.{Woken, Fresh}
+use Rattle.vs_flatcode.specs.declared.gait.Gait.{Gait}
+use Rattle.vs_flatcode.specs.declared.gait.Gait.TheVariants.{Woken, Fresh}
 use Rattle.vs_process.specs.declared.moves.Grain.{Grain}
 use Rattle.vs_process.specs.declared.moves.Move.{Move}
 use Rattle.vs_process.specs.declared.moves.Move.TheVariants.{Step, Evaluate, Propagate, Make, Rouse, Activate, EndSlot}
-use Rattle.vs_process.specs.Places.{Todo, Place, going, sleeping, inactive, ended, active_at, start_place, flat, is_going}
-use Rattle.vs_process.specs.Steps.{step}
-use Rattle.vs_process.specs.States.{State, AssignState, Update, start, todo_of, place_behind, performed, stepped, evaluate, propagate, propagate_value, make, roused, woken_at, start_assign, evaluated, settled}
+use Rattle.vs_flatcode.specs.Places.{Todo, Place, going, sleeping, inactive, waiting, ended, active_at, start_place, flat, is_going}
+use Rattle.vs_flatcode.specs.Steps.{step}
+use Rattle.vs_process.specs.States.{State, AssignState, Update, start, written_behind, place_behind, performed, stepped, evaluate, propagate, propagate_value, make, without, roused, woken_at, start_assign, evaluated, settled}
+use Rattle.vs_flatcode.specs.Places.{todo_of}
 use Rattle.vs_process.specs.Executions.{after, Legal, ends, next_time, slot_behind, places_at, time_at}
 use Rattle.vs_process.proofs.Lists.{map_at, distinct_place}
 use Rattle.vs_process.proofs.Assigns.{links, link_of, driven, links_touched, links_set}
 use Rattle.vs_process.proofs.WellFormed.{variable_undriven}
 use Rattle.vs_process.proofs.Times.{enabled_of}
 use Rattle.vs_independence.specs.Threads.{Thread, IsThread, place_reads}
-use Rattle.vs_independence.specs.Discipline.{Reaches, here, through, IsAtStart, Begins, IsOrdered, KeepsApart, Disciplined}
-use Rattle.vs_independence.proofs.Assigns.{assigns_behind}
+use Rattle.vs_independence.specs.Discipline.{HasNoEvents, Reaches, here, through, IsAtStart, Begins, IsOrdered, KeepsApart, Disciplined}
+use Rattle.vs_independence.proofs.Events.{IsSilent, after_silent, written_silent}
 use Rattle.vs_independence.proofs.Feeds.{into_named}
 use Rattle.vs_independence.proofs.Settle.{AllIdle}
 use Rattle.vs_independence.proofs.Threads.{is_stopped, stopped_from}
@@ -41,10 +42,10 @@ use Rattle.vs_independence.proofs.Making.{none_get}
 use Rattle.vs_independence.proofs.Ends.{AtEnd, at_end, all_idle, some_of}
 use Rattle.vs_independence.proofs.Times.{is_after, after_next, get_from_all}
 use Rattle.vs_independence.proofs.Moves.{performed_at, performed_is}
-use Rattle.vs_rules.specs.Points.{Point, Late, Slot0, WritesNow, WritesLater, ReadsNow, Hot, RunsAt, first_todo}
+use Rattle.vs_rules.specs.Points.{erased, Point, Late, Slot0, WritesNow, WritesLater, ReadsNow, Hot, RunsAt, first_todo}
 use Rattle.vs_rules.specs.Claims.{Name, Claims, claim_of, writer_in, second_in, names_process, is_writer, is_second, place_of, ends_at}
 use Rattle.vs_rules.specs.Rules.{now, later, by, K2, K4, K10, Ruled}
-use Rattle.vs_rules.proofs.Points.{At, at_zero, at_later, Here, Stands, Closed, stands_step, stands_roused, stands_active, HotAt, Walked, walked}
+use Rattle.vs_rules.proofs.Points.{erased_flat, erased_reads, At, at_zero, at_later, Here, Stands, Closed, stands_step, stands_roused, stands_active, HotAt, Walked, walked}
 
 -- every process stands where the rules say
 abbrev pub AllStand : Parts → Claims → State → Type 0
@@ -53,24 +54,27 @@ AllStand d c s = (i : ℕ) → Stands (ends_at d c i) c.modulus (first_todo d i)
 closed_of : (d : Parts) (c : Claims) → Ruled d c → (i : ℕ) → Closed (ends_at d c i) c.modulus (first_todo d i)
 closed_of d c r i = record { from_start = (r.residues i).from_start; from_residue = (r.residues i).from_residue }
 
+-- a place at which a process can start: no turns are left
 abbrev IsBeginning : Place → Type 0
-IsBeginning (going gait todo) = Unit {0}
+IsBeginning (going gait todo) = erased todo ≡ todo
 IsBeginning (sleeping due todo) = ⊥
 IsBeginning (inactive todo) = ⊥
+IsBeginning (waiting terms todo) = ⊥
 IsBeginning ended = Unit {0}
 
-active_begins : (gait : Gait) (k : Todo) → IsBeginning (active_at gait k)
-active_begins gait [] = tt
-active_begins gait (i ∷ rest) = tt
+active_begins : (gait : Gait) (k : Todo) → erased k ≡ k → IsBeginning (active_at gait k)
+active_begins gait [] h = tt
+active_begins gait (i ∷ rest) h = h
 
 start_begins : (ps : List Process) (i : ℕ) → IsBeginning (get_or (map (λ (p : Process). start_place p.body) ps) i ended)
 start_begins [] i = tt
-start_begins (p ∷ ps) zero = active_begins Fresh (flat p.body)
+start_begins (p ∷ ps) zero = active_begins Fresh (flat p.body) (erased_flat p.body)
 start_begins (p ∷ ps) (suc i) = start_begins ps i
 
 beginning_stands : (may_end : ℕ → ℕ → Bool) (m : ℕ) (p : Place) → IsBeginning p → Stands may_end m (todo_of p) 0 p
-beginning_stands may_end m (going gait k) b = record { point = Point.begins; at = at_zero refl Slot0.begins }
+beginning_stands may_end m (going gait k) b = subst (Here may_end m k 0) (sym b) (record { point = Point.begins; at = at_zero refl Slot0.begins })
 beginning_stands may_end m (sleeping due k) b = absurd b
+beginning_stands may_end m (waiting terms k) b = absurd b
 beginning_stands may_end m (inactive k) b = absurd b
 beginning_stands may_end m ended b = tt
 
@@ -91,38 +95,40 @@ stepped_stands d c r s i (going gait k) is h all j =
     next = place_behind (going gait k) s.time (step k s.store s.time).next
 stepped_stands d c r s i (sleeping due k) is h all j = absurd (false≢true h)
 stepped_stands d c r s i (inactive k) is h all j = absurd (false≢true h)
+stepped_stands d c r s i (waiting terms k) is h all j = absurd (false≢true h)
 stepped_stands d c r s i ended is h all j = absurd (false≢true h)
 
-step_stands : (d : Parts) (c : Claims) → Ruled d c → (s : State) (i : ℕ) (p : Place) → slice_get s.places i ≡ Some p → is_going p ≡ true → AllStand d c s → AllStand d c (performed s i p (step (todo_of p) s.store s.time))
-step_stands d c r s i p is h all = subst (AllStand d c) (sym (performed_is s i p (step (todo_of p) s.store s.time))) (stepped_stands d c r s i p is h all)
+step_stands : (d : Parts) (c : Claims) → Ruled d c → (s : State) → IsSilent s → (i : ℕ) (p : Place) → slice_get s.places i ≡ Some p → is_going p ≡ true → AllStand d c s → AllStand d c (performed s i p (step (todo_of p) s.store s.time))
+step_stands d c r s silent i p is h all = subst (AllStand d c) (sym (performed_is s i p (step (todo_of p) s.store s.time) silent)) (stepped_stands d c r s i p is h all)
 
-propagate_stands : (d : Parts) (c : Claims) (s : State) (j : ℕ) (o : Option AssignState) → AllStand d c s → AllStand d c (propagate s j o)
-propagate_stands d c s j None all = all
-propagate_stands d c s j (Some x) all = at_value x.pending
+propagate_stands : (d : Parts) (c : Claims) (s : State) → IsSilent s → (j : ℕ) (o : Option AssignState) → AllStand d c s → AllStand d c (propagate s j o)
+propagate_stands d c s silent j None all = all
+propagate_stands d c s silent j (Some x) all = at_value x.pending
   where
     at_value : (o : _) → AllStand d c (propagate_value s j x o)
     at_value None = all
-    at_value (Some digits) = all
+    at_value (Some digits) = subst (AllStand d c) (sym (written_silent (record s { assigns = slice_set s.assigns j (settled x) }) (assigned x.target digits s.store s.time) silent)) all
 
 evaluate_stands : (d : Parts) (c : Claims) (s : State) (j : ℕ) (o : Option AssignState) → AllStand d c s → AllStand d c (evaluate s j o)
 evaluate_stands d c s j None all = all
 evaluate_stands d c s j (Some x) all = all
 
-make_stands : (d : Parts) (c : Claims) (s : State) (i : ℕ) (o : Option Update) → AllStand d c s → AllStand d c (make s i o)
-make_stands d c s i None all = all
-make_stands d c s i (Some u) all = all
+make_stands : (d : Parts) (c : Claims) (s : State) → IsSilent s → (i : ℕ) (o : Option Update) → AllStand d c s → AllStand d c (make s i o)
+make_stands d c s silent i None all = all
+make_stands d c s silent i (Some u) all = subst (AllStand d c) (sym (written_silent (record s { updates = without i s.updates }) u.what silent)) all
 
 -- a process that has stopped, at the next slot
 woken_stands : (may_end : ℕ → ℕ → Bool) (m : ℕ) (first : Todo) (time t : ℕ) (p : Place) → is_stopped p ≡ true → is_after t p ≡ true → Stands may_end m first time p → Stands may_end m first t (woken_at t p)
 woken_stands may_end m first time t (going gait k) still up h = absurd (false≢true still)
 woken_stands may_end m first time t (inactive k) still up h = absurd (false≢true still)
+woken_stands may_end m first time t (waiting terms k) still up h = h
 woken_stands may_end m first time t ended still up h = h
 woken_stands may_end m first time t (sleeping due k) still up h =
     cond_both (due == t) (active_at Woken k) (sleeping due k) (Stands may_end m first t)
     (λ e. let is : due ≡ t = eqb-true due t e in
     let less : time < due = h.up in
     let later : 0 < t = omega (arith, is, less) in
-    stands_active may_end m first t Woken k (record { point = h.point; at = at_later later h.late (subst (λ n. RunsAt may_end first k (n % m)) is h.runs) }))
+    stands_active may_end m first t Woken k (record { point = h.point; at = at_later later h.late (subst (λ n. RunsAt may_end first (erased k) (n % m)) is h.runs) }))
     (λ e. let ne : due ≡ t → ⊥ = eqb-false due t e in
     let le : t ≤ due = leb-true t due up in
     record { point = h.point; up = omega (arith, ne, le); late = h.late; runs = h.runs })
@@ -144,31 +150,31 @@ rouse_stands : (d : Parts) (c : Claims) (s : State) → AllStand d c s → AllSt
 rouse_stands d c s all i =
     subst (Stands (ends_at d c i) c.modulus (first_todo d i) s.time) (sym (get_or-map roused s.places i ended)) (stands_roused (ends_at d c i) c.modulus (first_todo d i) s.time (get_or s.places i ended) (all i))
 
-pub all_stand : (grain : Grain) (d : Parts) (c : Claims) → Ruled d c → (moves : List Move) → Legal grain d moves → AllStand d c (after d moves)
-all_stand grain d c r [] l = start_stands d c
-all_stand grain d c r (Step i ∷ moves) l =
+pub all_stand : (grain : Grain) (d : Parts) (c : Claims) → HasNoEvents d → Ruled d c → (moves : List Move) → Legal grain d moves → AllStand d c (after d moves)
+all_stand grain d c none r [] l = start_stands d c
+all_stand grain d c none r (Step i ∷ moves) l =
     let s = after d moves in
     let p = some_of is_going (slice_get s.places i) (enabled_of grain d s (Step i) l.1).1 in
-    subst (λ (o : Option Place). AllStand d c (stepped s i o)) (sym p.1) (step_stands d c r s i p.0 p.1 p.2 (all_stand grain d c r moves l.0))
-all_stand grain d c r (Evaluate j ∷ moves) l = evaluate_stands d c (after d moves) j (slice_get (after d moves).assigns j) (all_stand grain d c r moves l.0)
-all_stand grain d c r (Propagate j ∷ moves) l = propagate_stands d c (after d moves) j (slice_get (after d moves).assigns j) (all_stand grain d c r moves l.0)
-all_stand grain d c r (Make i ∷ moves) l = make_stands d c (after d moves) i (slice_get (after d moves).updates i) (all_stand grain d c r moves l.0)
-all_stand grain d c r (Rouse ∷ moves) l = rouse_stands d c (after d moves) (all_stand grain d c r moves l.0)
-all_stand grain d c r (Activate ∷ moves) l = all_stand grain d c r moves l.0
-all_stand grain d c r (EndSlot ∷ moves) l = behind_stands d c (after d moves) (at_end (after d moves) (enabled_of grain d (after d moves) EndSlot l.1).1) (all_stand grain d c r moves l.0)
+    subst (λ (o : Option Place). AllStand d c (stepped s i o)) (sym p.1) (step_stands d c r s (after_silent d none moves) i p.0 p.1 p.2 (all_stand grain d c none r moves l.0))
+all_stand grain d c none r (Evaluate j ∷ moves) l = evaluate_stands d c (after d moves) j (slice_get (after d moves).assigns j) (all_stand grain d c none r moves l.0)
+all_stand grain d c none r (Propagate j ∷ moves) l =
+    propagate_stands d c (after d moves) (after_silent d none moves) j (slice_get (after d moves).assigns j) (all_stand grain d c none r moves l.0)
+all_stand grain d c none r (Make i ∷ moves) l = make_stands d c (after d moves) (after_silent d none moves) i (slice_get (after d moves).updates i) (all_stand grain d c none r moves l.0)
+all_stand grain d c none r (Rouse ∷ moves) l = rouse_stands d c (after d moves) (all_stand grain d c none r moves l.0)
+all_stand grain d c none r (Activate ∷ moves) l = all_stand grain d c none r moves l.0
+all_stand grain d c none r (EndSlot ∷ moves) l = behind_stands d c (after d moves) (at_end (after d moves) (enabled_of grain d (after d moves) EndSlot l.1).1) (all_stand grain d c none r moves l.0)
 
 -- what is assigned where stays, whatever the moves
 abbrev IsLinked : Parts → State → Type 0
 IsLinked d s = links s.assigns ≡ links (map start_assign d.assigns)
 
-behind_linked : (store : Store) (o : Option Write) (xs : List AssignState) → links (assigns_behind store o xs) ≡ links xs
-behind_linked store None xs = refl
-behind_linked store (Some w) xs = links_touched store (put store w) xs
+behind_linked : (s : State) (o : Option Write) → links (written_behind s o).assigns ≡ links s.assigns
+behind_linked s None = refl
+behind_linked s (Some w) = links_touched s.store (put s.store w) s.assigns
 
 stepped_linked : (d : Parts) (s : State) (i : ℕ) (o : Option Place) → IsLinked d s → IsLinked d (stepped s i o)
 stepped_linked d s i None h = h
-stepped_linked d s i (Some p) h =
-    subst (IsLinked d) (sym (performed_is s i p (step (todo_of p) s.store s.time))) (behind_linked s.store (step (todo_of p) s.store s.time).write s.assigns ∙ h)
+stepped_linked d s i (Some p) h = behind_linked s (step (todo_of p) s.store s.time).write ∙ h
 
 evaluate_linked : (d : Parts) (s : State) (j : ℕ) (o : Option AssignState) → slice_get s.assigns j ≡ o → IsLinked d s → IsLinked d (evaluate s j o)
 evaluate_linked d s j None is h = h
@@ -213,9 +219,9 @@ idle_at_start grain d (Rouse ∷ moves) l a up = absurd a
 idle_at_start grain d (Activate ∷ moves) l a up = absurd a
 idle_at_start grain d (EndSlot ∷ moves) l a up = all_idle (after d moves).assigns (at_end (after d moves) (enabled_of grain d (after d moves) EndSlot l.1).1).quiet.assigns
 
-beginning : (grain : Grain) (d : Parts) (c : Claims) → Ruled d c → (b : State) → Begins grain d b → Beginning d c b
-beginning grain d c r b h =
-    subst (Beginning d c) h.is (record { stand = all_stand grain d c r h.moves h.legal; links = linked d h.moves; idle = idle_at_start grain d h.moves h.legal h.at_start })
+beginning : (grain : Grain) (d : Parts) (c : Claims) → HasNoEvents d → Ruled d c → (b : State) → Begins grain d b → Beginning d c b
+beginning grain d c none r b h =
+    subst (Beginning d c) h.is (record { stand = all_stand grain d c none r h.moves h.legal; links = linked d h.moves; idle = idle_at_start grain d h.moves h.legal h.at_start })
 
 -- what reaches a range of an undriven signal is that signal
 reaches_undriven : (assigns : List Assign) (u : ℕ) (r : BitRange) → Reaches assigns u r → is_driven assigns r.signal ≡ false → u ≡ r.signal
@@ -265,7 +271,7 @@ alone d c formed W v named early first time i j k l x y wx wy = by_cases (named 
     by_cases (inr si) (inl wj) = absurd (second_first i j k l x y wx wy si wj)
     by_cases (inl wi) (inr sj) = absurd (second_first j i l k y x wy wx sj wi)
 
-alone_now : (d : Parts) (c : Claims) → WellFormed d → (v : ℕ) → K2 d c v → (time i j : ℕ) (k l : Todo) → Here (ends_at d c i) c.modulus (first_todo d i) time k →
+pub alone_now : (d : Parts) (c : Claims) → WellFormed d → (v : ℕ) → K2 d c v → (time i j : ℕ) (k l : Todo) → Here (ends_at d c i) c.modulus (first_todo d i) time k →
     Here (ends_at d c j) c.modulus (first_todo d j) time l → WritesNow k v → WritesNow l v → j ≡ i
 alone_now d c formed v r =
     alone d c formed WritesNow v (λ i k p w. r.named i (now k p w)) r.early_now (λ i j k l si p wk wj s wl. r.first_alone i j l si wj s wl)
@@ -304,9 +310,10 @@ none_in x (k, within, is) = omega (arith, within)
 -- a place that reads is one where the process can be
 reading : (may_end : ℕ → ℕ → Bool) (m : ℕ) (first : Todo) (time : ℕ) (q : BitRange) (p : Place) → Stands may_end m first time p → Contains (place_reads p) q →
     (k : Todo) × Here may_end m first time k × ReadsNow k q × ((u : ℕ) → HotAt first u p → Hot first u k)
-reading may_end m first time q (going gait k) h reads = (k, h, reads, λ u hot. hot)
+reading may_end m first time q (going gait k) h reads = (erased k, h, subst (λ rs. Contains rs q) (sym (erased_reads k)) reads, λ u hot. hot)
 reading may_end m first time q (sleeping due k) h reads = absurd (none_in q reads)
 reading may_end m first time q (inactive k) h reads = absurd (none_in q reads)
+reading may_end m first time q (waiting terms k) h reads = absurd (none_in q reads)
 reading may_end m first time q ended h reads = absurd (none_in q reads)
 
 -- a process doesn't read what the slot found unsettled
@@ -320,8 +327,8 @@ settled_at d c formed r b beg i j u q k x (at_zero z s) reads is needs named rea
     true≢false (sym (driven d.assigns j a.0 u a.1 (ap (λ (t : Target). writes_signal t u) a.2 ∙ named)) ∙ ap (is_driven d.assigns) same ∙ undriven)
 
 -- the processes of each slot keep apart
-pub keeps_apart : (grain : Grain) (d : Parts) (c : Claims) → WellFormed d → Ruled d c → (b : State) → Begins grain d b → KeepsApart d b
-keeps_apart grain d c formed r b h = record {
+pub keeps_apart : (grain : Grain) (d : Parts) (c : Claims) → WellFormed d → HasNoEvents d → Ruled d c → (b : State) → Begins grain d b → KeepsApart d b
+keeps_apart grain d c formed none r b h = record {
   only = λ i j v th other is that x y.
       let wx = (walk i th is).wrote v x in let wy = (walk j other that).wrote v y in
       alone_now d c formed v (r.writers v) b.time i j wx.k wy.k wx.here wy.here wx.writes wy.writes;
@@ -341,11 +348,11 @@ keeps_apart grain d c formed r b h = record {
       ];
   reads_settled = λ i j u q th x is reads at_j needs named reach.
       let k = reading (ends_at d c i) c.modulus (first_todo d i) b.time q th.place (walk i th is).stands reads in
-      settled_at d c formed r b (beginning grain d c r b h) i j u q k.0 x k.1.at k.2 at_j needs named reach;
+      settled_at d c formed r b (beginning grain d c none r b h) i j u q k.0 x k.1.at k.2 at_j needs named reach;
 }
   where
     walk : (i : ℕ) (th : Thread) → IsThread b i th → Walked (ends_at d c i) c.modulus (first_todo d i) b.time th
-    walk i th is = walked (ends_at d c i) c.modulus (first_todo d i) (closed_of d c r i) b i th ((beginning grain d c r b h).stand i) is
+    walk i th is = walked (ends_at d c i) c.modulus (first_todo d i) (closed_of d c r i) b i th ((beginning grain d c none r b h).stand i) is
 
 -- the rank of an assignment: its place in the order
 abbrev rank_in : List Name → Option Assign → ℕ
@@ -364,5 +371,5 @@ ordered d c r = record {
 }
 
 -- a well formed design that keeps the rules is disciplined
-pub ruled_is_disciplined : (grain : Grain) (d : Parts) (c : Claims) → WellFormed d → Ruled d c → Disciplined grain d
-ruled_is_disciplined grain d c formed r = record { ordered = ordered d c r.order; apart = keeps_apart grain d c formed r }
+pub ruled_is_disciplined : (grain : Grain) (d : Parts) (c : Claims) → WellFormed d → HasNoEvents d → Ruled d c → Disciplined grain d
+ruled_is_disciplined grain d c formed none r = record { ordered = ordered d c r.order; apart = keeps_apart grain d c formed none r }

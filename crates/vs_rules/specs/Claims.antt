@@ -1,7 +1,10 @@
--- What a certificate says, as far as the rules of today's language read it.
-use Rattle.std.specs.Prelude.{ℕ, suc, ◌==◌, Bool, false, Option, Some, None, List, [], ◌∷◌, slice_get, if◌then◌else◌}
+-- What a certificate says, as far as the rules read it: they speak of designs without event controls.
+use Rattle.std.specs.Prelude.{ℕ, suc, ◌==◌, Bool, false, Option, Some, None, List, [], ◌∷◌, ◌++◌, map, slice_get, if◌then◌else◌}
 use Rattle.std.specs.List.{list_any}
 use Rattle.std.specs.Str.{bytes_eq}
+use Rattle.std.specs.declared.vec.Vec.{Vec}
+use Rattle.std.specs.declared.alloc.Global.{Global}
+use Rattle.vs_design.specs.declared.expression.Typed.{Typed}
 use Rattle.vs_design.specs.declared.signal.Signal.{Signal}
 use Rattle.vs_design.specs.declared.design.Process.{Process}
 use Rattle.vs_design.specs.declared.statement.Statement.{Statement}
@@ -96,6 +99,11 @@ controls_step (f.Assign n t e) = []
 controls_step (f.Later n t e) = []
 controls_step (f.Block all) = joined all.items
 controls_step (f.Delay n ticks body) = n ∷ body.value
+controls_step (f.Event n terms body) = body.value
+controls_step (f.If n e a b) = a.value ++ b.value
+controls_step (f.Case n kind x items) = joined (map (λ (i : Vec Typed Global × List ℕ). i.1) items.items)
+controls_step (f.While n e body) = body.value
+controls_step (f.Repeat n signed e body) = body.value
 controls_step (f.Forever n body) = body.value
 
 -- the numbers of the delay controls of a text, in its order

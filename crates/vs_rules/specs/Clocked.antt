@@ -17,7 +17,7 @@ use Rattle.vs_design.specs.declared.expression.Typed.TheVariants as e
 use Rattle.vs_design.specs.Parts.{Parts}
 use Rattle.vs_design.specs.WellFormed.{WellFormed}
 use Rattle.vs_process.specs.declared.moves.Grain.{Grain}
-use Rattle.vs_independence.specs.Discipline.{Independent}
+use Rattle.vs_independence.specs.Discipline.{HasNoEvents, Independent}
 use Rattle.vs_independence.specs.Race.{boxed, letter, name, bit, nanosecond, operand, target}
 use Rattle.vs_rules.specs.Claims.{Name, net, nonblocking, blocking, Claims}
 use Rattle.vs_rules.specs.Rules.{Ruled}
@@ -121,7 +121,7 @@ clocked_claims = record {
       ∷ [];
 }
 
--- some well formed design keeps the rules, and so is independent
+-- some well formed design without event controls keeps the rules, and so is independent
 abbrev pub AClockedDesignIsRuled : Type 0
 AClockedDesignIsRuled =
-    (g : Global) → WellFormed (clocked g) × Ruled (clocked g) clocked_claims × ((grain : Grain) → Independent grain (clocked g))
+    (g : Global) → WellFormed (clocked g) × HasNoEvents (clocked g) × Ruled (clocked g) clocked_claims × ((grain : Grain) → Independent grain (clocked g))

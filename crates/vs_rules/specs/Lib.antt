@@ -3,3 +3,4 @@ pub mod Claims
 pub mod Rules
 pub mod Laws
 pub mod Clocked
+pub mod Branch

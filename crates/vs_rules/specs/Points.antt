@@ -1,15 +1,20 @@
 -- The points of processes and the paths of their texts.
-use Rattle.std.specs.Prelude.{ℕ, zero, suc, ◌≡◌, ◌++◌, Bool, true, false, List, [], ◌∷◌, get_or}
-use Rattle.std.specs.List.{Contains}
+use Rattle.std.specs.Prelude.{ℕ, ◌≡◌, ◌++◌, Bool, true, false, List, [], ◌∷◌, map, get_or}
+use Rattle.std.specs.List.{Contains, list_any}
+use Rattle.std.specs.declared.vec.Vec.{Vec}
+use Rattle.std.specs.declared.alloc.Global.{Global}
+use Rattle.vs_design.specs.declared.expression.Typed.{Typed}
 use Rattle.vs_design.specs.declared.range.BitRange.{BitRange}
+use Rattle.vs_design.specs.declared.statement.EventTerm.{EventTerm}
 use Rattle.vs_design.specs.declared.statement.Statement.{Statement}
 use Rattle.vs_design.specs.declared.statement.Statement.TheOpen.{Statement-F}
 use Rattle.vs_design.specs.declared.statement.Statement.TheViews.{out-Statement}
 use Rattle.vs_design.specs.Parts.{Parts}
 use Rattle.vs_design.specs.Uses.{writes_signal}
-use Rattle.vs_process.specs.Places.{Item, perform, turns, Todo, ended, flat}
-use Rattle.vs_process.specs.Steps.{Next, on, after}
-use Rattle.vs_process.specs.States.{start, todo_of}
+use Rattle.vs_flatcode.specs.Places.{Item, perform, turns, Todo, ended, flat}
+use Rattle.vs_flatcode.specs.Steps.{Next, on, after, wait, is_default}
+use Rattle.vs_process.specs.States.{start}
+use Rattle.vs_flatcode.specs.Places.{todo_of}
 use Rattle.vs_independence.specs.Threads.{todo_reads}
 
 -- ---- paths
@@ -19,22 +24,50 @@ pub data Among {A : Type 0} (x : A) : List A → Type 0 where
   first : (xs : List A) → Among x (x ∷ xs)
   further : (y : A) (xs : List A) → Among x xs → Among x (y ∷ xs)
 
--- where a path of the text can go from a statement in one step, and how: on, or through a delay control; every branch and both outcomes of
--- every test count, whatever the stores (profile)
+-- something that is to be done, but for the turns that a `repeat` has left: 0 stand for any
+abbrev pub erased_item : Item → Item
+erased_item (perform s) = perform s
+erased_item (turns n s) = turns 0 s
+
+-- what is to be done, but for turns that are left
+abbrev pub erased : Todo → Todo
+erased todo = map erased_item todo
+
+-- where a step leads, but for turns that are left
+abbrev pub erased_next : Next → Next
+erased_next (on rest) = on (erased rest)
+erased_next (after number ticks rest) = after number ticks (erased rest)
+erased_next (wait number terms rest) = wait number terms (erased rest)
+
+-- past a `case`, where none of its items is a `default` (clause 9.5)
+abbrev pub past : Bool → Todo → List Next
+past true rest = []
+past false rest = on rest ∷ []
+
+-- where a path can go from a `case`: to each item, or past them
+abbrev pub case_nexts : List (Vec Typed Global × Statement) → Todo → List Next
+case_nexts items rest = map (λ (i : Vec Typed Global × Statement). on (flat i.1 ++ rest)) items ++ past (list_any is_default items) rest
+
+-- where a path of the text can go from a statement in one step, and how: on, or through a control; every branch and both outcomes of every test
+-- count, whatever the stores (profile)
 abbrev pub statement_nexts : Statement → Statement-F Statement → Todo → List Next
 statement_nexts s (Statement-F.Null n) rest = on rest ∷ []
 statement_nexts s (Statement-F.Assign n t e) rest = on rest ∷ []
 statement_nexts s (Statement-F.Later n t e) rest = on rest ∷ []
 statement_nexts s (Statement-F.Block all) rest = on (flat s ++ rest) ∷ []
 statement_nexts s (Statement-F.Delay n ticks body) rest = after n ticks.count (flat body.value ++ rest) ∷ []
+statement_nexts s (Statement-F.Event n terms body) rest = wait n terms.items (flat body.value ++ rest) ∷ []
+statement_nexts s (Statement-F.If n e a b) rest = on (flat a.value ++ rest) ∷ on (flat b.value ++ rest) ∷ []
+statement_nexts s (Statement-F.Case n kind x items) rest = case_nexts items.items rest
+statement_nexts s (Statement-F.While n e body) rest = on (flat body.value ++ perform s ∷ rest) ∷ on rest ∷ []
+statement_nexts s (Statement-F.Repeat n signed e body) rest = on (flat body.value ++ turns 0 body.value ∷ rest) ∷ on rest ∷ []
 statement_nexts s (Statement-F.Forever n body) rest = on (flat body.value ++ perform s ∷ rest) ∷ []
 
 -- where a path of the text can go from a point in one step
 abbrev pub nexts : Todo → List Next
 nexts [] = on [] ∷ []
 nexts (perform s ∷ rest) = statement_nexts s (out-Statement s) rest
-nexts (turns zero s ∷ rest) = on rest ∷ []
-nexts (turns (suc n) s ∷ rest) = on (flat s ++ turns n s ∷ rest) ∷ []
+nexts (turns n s ∷ rest) = on (flat s ++ turns 0 s ∷ rest) ∷ on rest ∷ []
 
 abbrev pub Goes : Todo → Next → Type 0
 Goes k next = Among next (nexts k)
@@ -77,26 +110,28 @@ ReadsNow k r = Contains (todo_reads k) r
 
 -- ---- points
 
--- the points of a process that does this first: what it has to do where a statement of its text stands next, be it that a path leads there or
--- not, as behind a `forever`
+-- the points of a process that does this first: what it has to do, but for turns that are left, where a statement of its text stands next, be it
+-- that a path leads there or not, as behind a `forever`
 pub data Point (first : Todo) : Todo → Type 0 where
   begins : Point first first
   goes_on : (k l : Todo) → Point first k → Goes k (on l) → Point first l
   waits : (k l : Todo) (number ticks : ℕ) → Point first k → Goes k (after number ticks l) → Point first l
+  listens : (k l : Todo) (number : ℕ) (terms : List EventTerm) → Point first k → Goes k (wait number terms l) → Point first l
   skips : (i : Item) (rest : Todo) → Point first (i ∷ rest) → Point first rest
 
--- those to which a path leads from behind some delay control, one of zero ticks too
+-- those to which a path leads from behind some delay control, one of zero ticks too, or event control
 pub data Late (first : Todo) : Todo → Type 0 where
   waits : (k l : Todo) (number ticks : ℕ) → Point first k → Goes k (after number ticks l) → Late first l
+  listens : (k l : Todo) (number : ℕ) (terms : List EventTerm) → Point first k → Goes k (wait number terms l) → Late first l
   goes_on : (k l : Todo) → Late first k → Goes k (on l) → Late first l
 
--- slot-0 points: those to which a path without a positive delay leads from the start
+-- slot-0 points: those to which a path without a positive delay and without an event control leads from the start
 pub data Slot0 (first : Todo) : Todo → Type 0 where
   begins : Slot0 first first
   goes_on : (k l : Todo) → Slot0 first k → Goes k (on l) → Slot0 first l
   waits : (k l : Todo) (number : ℕ) → Slot0 first k → Goes k (after number 0 l) → Slot0 first l
 
--- those at which a variable is hot: a path without a positive delay leads there from behind a write of it by `=`
+-- those at which a variable is hot: a path without a positive delay and without an event control leads there from behind a write of it by `=`
 pub data Hot (first : Todo) (v : ℕ) : Todo → Type 0 where
   writes : (k l : Todo) → Point first k → WritesNow k v → Goes k (on l) → Hot first v l
   writes_waits : (k l : Todo) (number : ℕ) → Point first k → WritesNow k v → Goes k (after number 0 l) → Hot first v l

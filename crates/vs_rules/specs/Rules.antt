@@ -7,8 +7,8 @@ use Rattle.vs_design.specs.Kinds.{is_variable}
 use Rattle.vs_design.specs.Parts.{Parts}
 use Rattle.vs_design.specs.declared.range.BitRange.{BitRange}
 use Rattle.vs_design.specs.Uses.{reads_signal}
-use Rattle.vs_process.specs.Places.{Todo}
-use Rattle.vs_process.specs.Steps.{after}
+use Rattle.vs_flatcode.specs.Places.{Todo}
+use Rattle.vs_flatcode.specs.Steps.{after}
 use Rattle.vs_independence.specs.Feeds.{feeds}
 use Rattle.vs_independence.specs.Discipline.{Reaches}
 use Rattle.vs_rules.specs.Points.{Goes, first_todo, WritesNow, WritesLater, ReadsNow, Point, Late, Slot0, Hot, RunsAt}
@@ -79,7 +79,7 @@ pub record K1_Signal (d : Parts) (c : Claims) (v : ℕ) : Type 0 where
 pub record K1_Assign (d : Parts) (c : Claims) (j : ℕ) : Type 0 where
   pub listed : (a : Assign) → slice_get d.assigns j ≡ Some a → IsListed a.name.items c.order (signal_names c) (process_names c)
 
--- K1 of a process, of which none stands in the order: no process is a combinational block
+-- K1 of a process, of which none stands in the order: without event controls no process is a combinational block
 pub record K1_Process (d : Parts) (c : Claims) (i : ℕ) : Type 0 where
   pub listed : (p : Process) → slice_get d.processes i ≡ Some p → IsListed p.name.items (process_names c) c.order (signal_names c)
 
@@ -134,7 +134,7 @@ ReadsAlone d c v = (i : ℕ) × IsWriter d c v i × ((j : ℕ) → Reads d j v �
 abbrev pub HasMode : Parts → Claims → ℕ → Mode → Type 0
 HasMode d c v net = HasKind false d v
 HasMode d c v unwritten = (i : ℕ) → Writes d i v → ⊥
--- no process is a combinational block: the language has no event controls yet
+-- without event controls no process is a combinational block
 HasMode d c v combinational = ⊥
 HasMode d c v nonblocking = WritesLaterAlone d c v
 HasMode d c v blocking = WritesNowAlone d c v
@@ -184,7 +184,8 @@ pub record K10 (d : Parts) (c : Claims) (i : ℕ) : Type 0 where
 
 -- ---- all rules
 
--- a design keeps the rules under what a certificate claims; a number past the end is of no subject, and nothing is asked of it
+-- a design keeps the rules under what a certificate claims; a number past the end is of no subject, and nothing is asked of it. They are rules of
+-- designs without event controls: a path through one makes no run slots
 pub record Ruled (d : Parts) (c : Claims) : Type 0 where
   pub signals_named : (v : ℕ) → K1_Signal d c v
   pub assigns_named : (j : ℕ) → K1_Assign d c j

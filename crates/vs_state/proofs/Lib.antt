@@ -1,4 +1,5 @@
-pub mod DifferencesLemmas
+pub mod ChangedLemmas
 pub mod ExecutionsLemmas
-pub mod StoresLemmas
 pub mod TouchesLemmas
+pub mod WaitsLemmas
+pub mod TermsLemmas

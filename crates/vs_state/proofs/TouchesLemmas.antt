@@ -1,5 +1,5 @@
 -- Which continuous assignments a write wakes.
-use Rattle.std.proofs.Common.{◌≡◌, ℕ, zero, suc, ◌≤◌, ◌||◌, ◌&&◌, Bool, true, false, Option, Some, List, [], ◌∷◌, ◌++◌, map, length, slice_get, slice_set, if◌then◌else◌, refl, sym, ◌∙◌, ap, ap₂, arith, append_assoc}
+use Rattle.std.proofs.Common.{◌≡◌, ℕ, suc, ◌||◌, ◌&&◌, Bool, true, false, Option, Some, List, [], ◌∷◌, ◌++◌, map, length, if◌then◌else◌, refl, sym, ◌∙◌, ap, ap₂, arith, append_assoc}
 use Rattle.std.specs.List.{list_any}
 use Rattle.std.proofs.Math.Bool.{or-false}
 use Rattle.std.proofs.lemmas.List.{length-append}
@@ -8,16 +8,17 @@ use Rattle.vs_design.specs.declared.design.Assign.{Assign}
 use Rattle.vs_design.specs.declared.expression.Typed.{Typed}
 use Rattle.vs_design.specs.declared.range.BitRange.{BitRange}
 use Rattle.vs_design.specs.declared.readers.Reader.{Reader}
-use Rattle.vs_design.specs.declared.write.Part.{Part}
 use Rattle.vs_design.specs.Parts.{Parts}
 use Rattle.vs_design.specs.Readers.{readers, readers_from, readings}
-use Rattle.vs_design.specs.Stores.{Store, is_changed, word_of, changed_at, put}
+use Rattle.vs_design.specs.Stores.{Store, is_changed, put}
 use Rattle.vs_design.specs.Uses.{reads, is_of, has_word}
 use Rattle.vs_design.specs.Writes.{Write}
 use Rattle.vs_process.specs.States.{AssignState, touched}
-use Rattle.vs_state.specs.Touches.{AreOf, HaveOneSize, word_difference, sees, word_changes, part_changes, woken, woken_in, all_woken, woken_by, woken_parts}
-use Rattle.vs_state.proofs.DifferencesLemmas.{sees_difference}
-use Rattle.vs_state.proofs.StoresLemmas.{changed_by_parts}
+use Rattle.vs_edges.specs.Differences.{bits_differ, HaveOneSize, difference, word_difference, sees, word_changes, part_changes}
+use Rattle.vs_state.proofs.ChangedLemmas.{changed_behind}
+use Rattle.vs_state.specs.Touches.{AreOf, woken, woken_in, all_woken, woken_by, woken_parts}
+use Rattle.vs_edges.proofs.DifferencesLemmas.{sees_difference}
+use Rattle.vs_edges.proofs.StoresLemmas.{same_bits_differ, changed_by_parts}
 
 -- ---- waking the readers of a signal
 
@@ -32,12 +33,6 @@ or_true : (b : Bool) → b || true ≡ true
 or_true true = refl
 or_true false = refl
 
-changed_behind : (front : List AssignState) (x : AssignState) (xs : List AssignState) (n : ℕ) → n ≡ length front → changed_at woken n (front ++ x ∷ xs) ≡ front ++ woken x ∷ xs
-changed_behind [] x xs zero h = refl
-changed_behind [] x xs (suc n) h = cc
-changed_behind (y ∷ ys) x xs zero h = cc
-changed_behind (y ∷ ys) x xs (suc n) h = ap (λ (l : List AssignState). y ∷ l) (changed_behind ys x xs n (omega arith))
-
 module _ (test : BitRange → Bool) (signal : ℕ) where
   all_woken-append : (rs qs : List Reader) (xs : List AssignState) → all_woken test (rs ++ qs) xs ≡ all_woken test qs (all_woken test rs xs)
   all_woken-append [] qs xs = refl
@@ -47,7 +42,7 @@ module _ (test : BitRange → Bool) (signal : ℕ) where
       ((y : AssignState) → all_woken test (readings n rs signal) (front ++ y ∷ xs) ≡ front ++ more_needed (list_any (among signal test) rs) y ∷ xs) →
       (t : Bool) → all_woken test (readings n rs signal) (if t then woken_in n (front ++ x ∷ xs) else front ++ x ∷ xs) ≡ front ++ more_needed (t || list_any (among signal test) rs) x ∷ xs
   by_test front x xs n rs h rest true =
-      ap (all_woken test (readings n rs signal)) (changed_behind front x xs n h) ∙ rest (woken x) ∙ ap (λ (b : Bool). front ++ record x { needs = b } ∷ xs) (sym (or_true x.needs))
+      ap (all_woken test (readings n rs signal)) (changed_behind woken front x xs n h) ∙ rest (woken x) ∙ ap (λ (b : Bool). front ++ record x { needs = b } ∷ xs) (sym (or_true x.needs))
   by_test front x xs n rs h rest false = rest x
 
   one_by : (front : List AssignState) (x : AssignState) (xs : List AssignState) (n : ℕ) (r : BitRange) (rs : List BitRange) → n ≡ length front →
@@ -99,13 +94,19 @@ wake_word_readers d xs signal word before behind same size =
     ∙ wakes_alike (among signal test) (word_changes signal word before behind)
     (λ r. ap (λ (b : Bool). is_of signal r && (has_word r.word word && b)) (sees_difference r.bits before behind size)) xs
 
--- what is woken for a part of a write, where both values of its word are known
-pub woken_for_part : (d : Parts) (xs ys : List AssignState) (p : Part) (old new : Store) (before behind : Option (List Digit)) (number : ℕ) (rs : List Reader) → AreOf d xs →
-    HaveOneSize before behind → before ≡ word_of old p.signal p.word → behind ≡ word_of new p.signal p.word → number ≡ word_difference before behind → rs ≡ readers d.assigns p.signal →
-    ys ≡ all_woken (sees p.word number) rs xs → ys ≡ map (woken_by (part_changes old new p)) xs
-woken_for_part d xs ys p old new before behind number rs same size was is differing read woken =
-    woken ∙ ap₂ (λ (n : ℕ) (l : List Reader). all_woken (sees p.word n) l xs) differing read ∙ wake_word_readers d xs p.signal p.word before behind same size
-    ∙ ap₂ (λ (a b : Option (List Digit)). map (woken_by (word_changes p.signal p.word a b)) xs) was is
+-- what is woken for a word, both of whose values are known
+pub woken_for_word : (d : Parts) (xs ys : List AssignState) (signal word : ℕ) (before behind : List Digit) (number : ℕ) (rs : List Reader) → AreOf d xs → length before ≡ length behind →
+    number ≡ difference before behind → rs ≡ readers d.assigns signal → ys ≡ all_woken (sees word number) rs xs → ys ≡ map (woken_by (word_changes signal word (Some before) (Some behind))) xs
+woken_for_word d xs ys signal word before behind number rs same size differing read woken =
+    woken ∙ ap₂ (λ (n : ℕ) (l : List Reader). all_woken (sees word n) l xs) differing read ∙ wake_word_readers d xs signal word (Some before) (Some behind) same (ap Some size)
+
+same_bits : (signal word : ℕ) (o : Option (List Digit)) (r : BitRange) → word_changes signal word o o r ≡ false
+same_bits signal word o r = and_none (is_of signal r) (has_word r.word word) (bits_differ r.bits o o) (same_bits_differ r.bits o)
+  where
+    and_none : (a b c : Bool) → c ≡ false → (a && (b && c)) ≡ false
+    and_none true true c h = h
+    and_none true false c h = refl
+    and_none false b c h = refl
 
 -- ---- the parts of a write
 
@@ -137,6 +138,10 @@ wakes_none (x ∷ xs) = ap₂ (λ (b : Bool) (l : List AssignState). record x { 
     none [] = refl
     none (r ∷ rs) = none rs
 
+-- a word that isn't there wakes none, nor does one that keeps its value
+pub same_wakes_none : (xs : List AssignState) (signal word : ℕ) (o : Option (List Digit)) → xs ≡ map (woken_by (word_changes signal word o o)) xs
+same_wakes_none xs signal word o = wakes_none xs ∙ wakes_alike (λ r. false) (word_changes signal word o o) (λ r. sym (same_bits signal word o r)) xs
+
 parts_wake : (old new : Store) (ps : Write) (xs : List AssignState) → woken_parts old new ps xs ≡ map (woken_by (λ r. list_any (λ p. part_changes old new p r) ps)) xs
 parts_wake old new [] xs = wakes_none xs
 parts_wake old new (p ∷ ps) xs =
@@ -155,16 +160,3 @@ woken_of d test xs h = sources xs ∙ h
     sources : (xs : List AssignState) → map (λ (x : AssignState). x.source) (map (woken_by test) xs) ≡ map (λ (x : AssignState). x.source) xs
     sources [] = refl
     sources (x ∷ xs) = ap (λ (l : List Typed). x.source ∷ l) (sources xs)
-
--- ---- one assignment
-
--- one assignment that is woken
-pub woken-there : (xs : List AssignState) (i : ℕ) (x y : AssignState) → slice_get xs i ≡ Some x → y ≡ woken x → slice_set xs i y ≡ woken_in i xs
-woken-there [] i x y here is = cc
-woken-there (z ∷ zs) zero x y here is = let e : z ≡ x = cc in ap (λ (v : AssignState). v ∷ zs) (is ∙ ap woken (sym e))
-woken-there (z ∷ zs) (suc i) x y here is = ap (λ (l : List AssignState). z ∷ l) (woken-there zs i x y here is)
-
-pub woken-past : (xs : List AssignState) (i : ℕ) → length xs ≤ i → xs ≡ woken_in i xs
-woken-past [] i h = refl
-woken-past (z ∷ zs) zero h = absurd (omega arith)
-woken-past (z ∷ zs) (suc i) h = ap (λ (l : List AssignState). z ∷ l) (woken-past zs i (omega arith))

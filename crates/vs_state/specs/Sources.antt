@@ -8,11 +8,12 @@ use Rattle.vs_design.specs.Stores.{Store}
 use Rattle.vs_process.specs.declared.moves.Move.{Move}
 use Rattle.vs_process.specs.declared.moves.Move.TheVariants.{Step, Evaluate, Propagate, Make, Rouse, Activate, EndSlot}
 use Rattle.vs_process.specs.Executions.{after, apply}
-use Rattle.vs_process.specs.Places.{Place}
+use Rattle.vs_flatcode.specs.Places.{Place}
 use Rattle.vs_process.specs.States.{State, AssignState, Update, stepped, evaluate, propagate, propagate_value, make, evaluated, settled, touched, start_assign}
-use Rattle.vs_process.specs.Steps.{step}
+use Rattle.vs_flatcode.specs.Steps.{step}
 use Rattle.vs_design.specs.Writes.{Write}
-use Rattle.vs_process.specs.States.{written, written_behind, todo_of}
+use Rattle.vs_process.specs.States.{written, written_behind}
+use Rattle.vs_flatcode.specs.Places.{todo_of}
 use Rattle.vs_state.specs.Touches.{HasSources}
 
 abbrev sources : List AssignState → List Typed

@@ -5,11 +5,11 @@
 
 mod assign;
 mod changes;
-mod differences;
 mod moves;
 mod search;
 mod state;
 mod update;
+mod woken;
 
 pub use state::State;
 pub use update::Update;

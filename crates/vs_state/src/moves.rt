@@ -1,12 +1,12 @@
 //! The moves of a run: each makes of the state what the definition's move makes of it.
 ghost use Rattle.std.specs.Prelude.{◌≡◌, ◌<◌, ◌^◌, ◌∷◌, [], true, false, is_some, slice_get, OnOk};
 ghost use Rattle.vs_process.specs.Executions as executions;
-ghost use Rattle.vs_process.specs.Places.{is_going};
+ghost use Rattle.vs_flatcode.specs.Places.{is_going};
 ghost use Rattle.vs_process.specs.States as states;
 ghost use Rattle.vs_state.specs.Touches.{HasSources, behind_effect};
+ghost use Rattle.vs_state.specs.Waits.{HasTerms};
 
-use crate::changes::{activate_all, rouse_all, wake_all, wake_for, wake_readers};
-use crate::differences::word_difference;
+use crate::changes::{activate_all, rouse_all, wake_all, wake_change, wake_for};
 use crate::state::State;
 use crate::update::Update;
 use std::alloc::AllocError;
@@ -15,30 +15,34 @@ use vs_eval::write_of;
 use vs_process::{Effect, Move};
 
 impl<'a> State<'a> {
-    /// Makes a write of one part; the assignments that read a bit which it changes have to be evaluated.
+    /// Makes a write of one part, and wakes what waits for a change that it makes.
     fn write_part(&mut self, design: &Design, part: Part, write: &Write) -> Result<(), AllocError>
         requires one { write.now ≡ part ∷ [] }
         requires sources { HasSources design.now self.old }
+        requires terms { HasTerms design.now self.old }
         ensures { OnOk result (self.new ≡ states.written self.old write.now) }
     {
         let before = self.store.word(part.signal, part.word);
         self.store.put(write);
         let behind = self.store.word(part.signal, part.word);
-        let differing = word_difference(before, behind);
-        let readers = design.readers(part.signal);
-        wake_readers(
+        wake_change(
             &mut self.assigns,
+            &mut self.places,
             &mut self.woken,
-            readers,
+            design,
+            part.signal,
             part.word,
-            differing,
+            before,
+            behind,
         )?;
         Ok(())
     }
 
-    /// Makes a write; the assignments that read a bit which it changes have to be evaluated.
+    /// Makes a write: the assignments that read a bit which it changes have to be evaluated, and the processes that wait for a change which it
+    /// makes become active.
     fn write(&mut self, design: &Design, write: &Write) -> Result<(), AllocError>
         requires sources { HasSources design.now self.old }
+        requires terms { HasTerms design.now self.old }
         ensures { OnOk result (self.new ≡ states.written self.old write.now) }
     {
         let parts = write.parts();
@@ -47,11 +51,13 @@ impl<'a> State<'a> {
         }
         wake_for(
             &mut self.assigns,
+            &mut self.places,
             &mut self.woken,
             design,
             &self.store,
             write,
         )?;
+        self.woken.sort();
         self.store.put(write);
         Ok(())
     }
@@ -69,6 +75,7 @@ impl<'a> State<'a> {
     /// Does what a step of a process does beyond its place.
     fn perform(&mut self, design: &Design, process: usize, effect: Effect) -> Result<(), AllocError>
         requires sources { HasSources design.now self.old }
+        requires terms { (w : Write) → effect ≡ Effect.Write w → HasTerms design.now self.old }
         ensures { OnOk result (self.new ≡ behind_effect self.old process effect) }
     {
         match effect {
@@ -83,6 +90,7 @@ impl<'a> State<'a> {
         requires active { executions.if_some is_going (slice_get self.old.places process) ≡ true }
         requires early { self.old.time < 2 ^ 62 }
         requires sources { HasSources design.now self.old }
+        requires terms { HasTerms design.now self.old }
         ensures { OnOk result (self.new ≡ states.stepped self.old process (slice_get self.old.places process)) }
     {
         if let Some(place) = self.places.get_mut(process) {
@@ -107,6 +115,7 @@ impl<'a> State<'a> {
     fn propagate(&mut self, design: &Design, assign: usize) -> Result<(), AllocError>
         requires waits { executions.if_some (λ x. is_some x.pending) (slice_get self.old.assigns assign) ≡ true }
         requires sources { HasSources design.now self.old }
+        requires terms { HasTerms design.now self.old }
         ensures { OnOk result (self.new ≡ states.propagate self.old assign (slice_get self.old.assigns assign)) }
     {
         let Some(x) = self.assigns.get_mut(assign) else {
@@ -125,6 +134,7 @@ impl<'a> State<'a> {
     /// A nonblocking update.
     fn update(&mut self, design: &Design, index: usize) -> Result<(), AllocError>
         requires sources { HasSources design.now self.old }
+        requires terms { HasTerms design.now self.old }
         ensures { OnOk result (self.new ≡ states.make self.old index (slice_get self.old.updates index)) }
     {
         let Some(update) = self.updates.remove(index) else {
@@ -154,6 +164,7 @@ impl<'a> State<'a> {
         requires enabled { executions.is_enabled self.old choice ≡ true }
         requires early { self.old.time < 2 ^ 62 }
         requires sources { HasSources design.now self.old }
+        requires terms { HasTerms design.now self.old }
         ensures { OnOk result (self.new ≡ executions.apply choice self.old) }
     {
         self.woken.clear();

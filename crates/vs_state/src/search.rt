@@ -2,7 +2,7 @@
 ghost use Rattle.std.specs.Prelude.{◌≡◌, ◌||◌, Bool, true, false, None, is_some, slice_get, MatchOption};
 ghost use Rattle.std.specs.List.{list_any};
 ghost use Rattle.vs_process.specs.Executions as executions;
-ghost use Rattle.vs_process.specs.Places.{is_going, is_inactive};
+ghost use Rattle.vs_flatcode.specs.Places.{is_going, is_inactive};
 ghost use Rattle.vs_process.specs.States as states;
 
 use crate::assign::AssignState;

@@ -1,16 +1,17 @@
 //! The state of a run.
 ghost use Rattle.std.specs.Prelude.{◌≡◌, false, map, slice_get, is_some, IfOk};
 ghost use Rattle.vs_process.specs.Executions.{if_some};
-ghost use Rattle.vs_process.specs.Places.{is_going, is_inactive, start_place};
+ghost use Rattle.vs_flatcode.specs.Places.{is_going, is_inactive, is_inside, start_place};
 ghost use Rattle.vs_process.specs.States as states;
 
 use crate::assign::AssignState;
 use crate::update::Update;
+use crate::woken::Woken;
 use std::alloc::{AllocError, Global};
 use std::collections::VecDeque;
 use std::marker::Model;
-use vs_design::{Assign, Design, Process, Store};
-use vs_process::Place;
+use vs_design::{Assign, Design, Store};
+use vs_process::{Code, Place};
 
 /// The state of a run. A contract sees it as a state of the definition.
 #[derive(Drop)]
@@ -26,8 +27,8 @@ pub struct State<'a> {
     pub(crate) over: bool,
     /// How many nonblocking updates were made so far; no part of the definition's state.
     pub(crate) serial: u64,
-    /// The continuous assignments that the last move has woken; no part of the definition's state.
-    pub(crate) woken: Vec<usize>,
+    /// What the last move has woken; no part of the definition's state.
+    pub(crate) woken: Woken,
 }
 
 impl<'a> Model for State<'a> {
@@ -53,12 +54,12 @@ impl<'a> Model for State<'a> {
     } };
 }
 
-fn start_places<'a>(alloc: Global, processes: &'a [Process]) -> Result<Vec<Place<'a>>, AllocError>
-    ensures { IfOk result (λ places. places.items ≡ map (λ p. start_place p.body) processes.entry.now) }
+fn start_places<'a>(alloc: Global, codes: &'a [Code<'a>]) -> Result<Vec<Place<'a>>, AllocError>
+    ensures { IfOk result (λ places. places.items ≡ map start_place codes.entry.now) }
 {
     let mut places = Vec::new(alloc);
-    for process in processes {
-        places.push(Place::start(alloc, &process.body)?)?;
+    for code in codes {
+        places.push(Place::start(alloc, code)?)?;
     }
     Ok(places)
 }
@@ -77,12 +78,17 @@ fn start_assigns<'a>(
 }
 
 impl<'a> State<'a> {
-    /// The state in which every execution of a design begins.
-    pub fn start(alloc: Global, design: &'a Design) -> Result<Self, AllocError>
+    /// The state in which every execution of a design begins; these are the codes of its processes, one each in order.
+    pub fn start(
+        alloc: Global,
+        design: &'a Design,
+        codes: &'a [Code<'a>],
+    ) -> Result<Self, AllocError>
+        requires codes { codes.now ≡ map (λ p. p.body) design.now.processes }
         ensures { IfOk result (λ state. state ≡ states.start design.entry.now) }
     {
         let store = Store::start(alloc, design)?;
-        let places = start_places(alloc, design.processes())?;
+        let places = start_places(alloc, codes)?;
         let assigns = start_assigns(alloc, design.assigns())?;
         Ok(State {
             alloc,
@@ -93,7 +99,7 @@ impl<'a> State<'a> {
             time: 0,
             over: false,
             serial: 0,
-            woken: Vec::new(alloc),
+            woken: Woken::none(alloc),
         })
     }
 
@@ -184,6 +190,21 @@ impl<'a> State<'a> {
 
     /// The continuous assignments that the last move has woken.
     pub fn woken(&self) -> &[usize] {
-        &self.woken
+        &self.woken.assigns
+    }
+
+    /// The processes that the last move has made active by an event control, in design order, each once.
+    pub fn woken_processes(&self) -> &[usize] {
+        &self.woken.processes
+    }
+
+    /// Whether a process is active and has taken a step since its timing control ended.
+    pub fn is_inside(&self, process: usize) -> bool
+        ensures { result ≡ if_some is_inside (slice_get self.now.places process) }
+    {
+        match self.places.get(process) {
+            Some(place) => place.is_inside(),
+            None => false,
+        }
     }
 }

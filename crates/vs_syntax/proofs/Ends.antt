@@ -5,7 +5,7 @@ use Rattle.vs_tokens.specs.declared.token.Mark.{Mark}
 use Rattle.vs_tokens.specs.declared.token.Mark.TheVariants as m
 use Rattle.vs_tokens.specs.declared.token.Word.TheVariants as w
 use Rattle.vs_syntax.specs.Symbols.{Symbol, Class, the_mark, the_word, same_class, first}
-use Rattle.vs_syntax.specs.Grammar.{Part, a_source, a_module, a_header_parameter, a_port, an_item, a_constant, an_instance, a_connection, a_net, a_variable, an_assignment, a_stmt, a_target, an_expr, a_level, Grammar, nothing, token, seq, either, many, part, node, chain, optional, ◌·◌, one_or_more, one_mark, operands, a_condition, arm, levels, level_at, rule}
+use Rattle.vs_syntax.specs.Grammar.{Part, a_source, a_module, a_header_parameter, a_port, an_item, a_constant, an_instance, a_connection, a_net, a_variable, an_assignment, a_stmt, a_case_item, an_event_expr, a_target, an_expr, a_level, Grammar, nothing, token, seq, either, many, part, node, chain, optional, ◌·◌, one_or_more, one_mark, operands, a_condition, arm, levels, level_at, rule}
 use Rattle.vs_syntax.specs.Tables.{Front, at_least, mark_fronts, null, fronts, among, goes}
 use Rattle.vs_syntax.specs.Derivation.{Tree, tokens, Is, is_nothing, is_token, is_seq, is_left, is_right, is_stop, is_more, is_part, is_node, is_one, is_chain, is_present, is_absent}
 use Rattle.vs_syntax.proofs.Fronts.{clash, or_false, goes_same, among-append, among-seq}
@@ -20,6 +20,11 @@ level_lasts (suc n) = mark_fronts 0 (level_at levels n) ++ level_lasts n
 abbrev pub expr_lasts : List Front
 expr_lasts = at_least (the_mark m.Question) 0 ∷ level_lasts (length levels)
 
+-- with what a statement can go on: in the plain reading with nothing
+abbrev pub stmt_lasts : Bool → List Front
+stmt_lasts true = []
+stmt_lasts false = at_least (the_word w.Else) 0 ∷ []
+
 -- With what a part can go on behind its last token; in the plain reading without the classes of optional parts at its end,
 -- since that reading says itself that no such token stands behind.
 abbrev pub lasts_of : Bool → Part → List Front
@@ -30,6 +35,10 @@ lasts_of plain a_net = at_least (the_mark m.Assign) 0 ∷ expr_lasts
 lasts_of plain a_variable = at_least (the_mark m.Assign) 0 ∷ at_least (the_mark m.OpenBracket) 0 ∷ expr_lasts
 lasts_of plain an_assignment = expr_lasts
 lasts_of plain a_target = at_least (the_mark m.OpenBracket) 0 ∷ []
+lasts_of plain an_event_expr = at_least (the_mark m.OpenBracket) 0 ∷ []
+lasts_of plain an_item = stmt_lasts plain
+lasts_of plain a_stmt = stmt_lasts plain
+lasts_of plain a_case_item = stmt_lasts plain
 lasts_of plain an_expr = expr_lasts
 lasts_of plain (a_level n) = level_lasts n
 lasts_of plain _ = []
@@ -118,11 +127,16 @@ rule_goes_on plain a_source c h = h
 rule_goes_on plain a_module c h = refl
 rule_goes_on plain a_header_parameter c h = kept_one (among c expr_lasts) h
 rule_goes_on plain a_port c h = refl
-rule_goes_on plain an_item c h = refl
+rule_goes_on true an_item c h = refl
+rule_goes_on false an_item c h = rw (or_false (same_class c (the_word w.Else)) false h).0 refl
 rule_goes_on plain a_constant c h = kept (among c expr_lasts) h
 rule_goes_on plain an_instance c h = refl
 rule_goes_on plain a_connection c h = refl
-rule_goes_on plain a_stmt c h = refl
+rule_goes_on true a_stmt c h = refl
+rule_goes_on false a_stmt c h = rw (or_false (same_class c (the_word w.Else)) false h).0 refl
+rule_goes_on true a_case_item c h = refl
+rule_goes_on false a_case_item c h = rw (or_false (same_class c (the_word w.Else)) false h).0 refl
+rule_goes_on plain an_event_expr c h = rw (or_false (same_class c (the_mark m.OpenBracket)) false h).0 refl
 rule_goes_on plain a_target c h = kept (among c (lasts_of plain a_target)) h
 rule_goes_on plain a_net c h = net_goes_on (same_class c (the_mark m.Assign)) (among c expr_lasts) h
 rule_goes_on plain a_variable c h = variable_goes_on (same_class c (the_mark m.Assign)) (same_class c (the_mark m.OpenBracket)) (among c expr_lasts) h

@@ -10,7 +10,7 @@ use Rattle.vs_tokens.specs.declared.token.Mark.{Mark}
 use Rattle.vs_tokens.specs.declared.token.Mark.TheVariants as m
 use Rattle.vs_tokens.specs.declared.token.Word.TheVariants as w
 use Rattle.vs_syntax.specs.Symbols.{Symbol, a_mark, a_word, a_name, a_number, a_cast, another, Class, no_token, the_mark, the_word, any_name, any_number, the_cast, any_other, class_of, same_class, first}
-use Rattle.vs_syntax.specs.Grammar.{Part, a_source, a_module, a_header_parameter, a_port, an_item, a_constant, an_instance, a_connection, a_net, a_variable, an_assignment, a_stmt, a_target, an_expr, a_level, Grammar, nothing, token, seq, either, many, part, node, chain, optional, select, operands, levels, level_at, rule}
+use Rattle.vs_syntax.specs.Grammar.{Part, a_source, a_module, a_header_parameter, a_port, an_item, a_constant, an_instance, a_connection, a_net, a_variable, an_assignment, a_stmt, a_case_item, an_event_expr, a_target, an_expr, a_level, Grammar, nothing, token, seq, either, many, part, node, chain, optional, select, operands, levels, level_at, rule}
 use Rattle.vs_syntax.specs.Tables.{low_of, mark_fronts, null, low, fronts, among, goes}
 use Rattle.vs_syntax.specs.Derivation.{Tree, empty, leaf, both, down, tokens, height, Is, is_nothing, is_token, is_seq, is_left, is_right, is_stop, is_part, is_node, is_one, is_absent}
 use Rattle.vs_syntax.proofs.Ends.{goes_on, again, level_lasts, link_fronts}
@@ -47,6 +47,10 @@ sample-class any_other h = refl
 abbrev pub least_constant : Tree
 least_constant = both (leaf (sample any_name)) (both (leaf (a_mark m.Assign)) (leaf (sample any_number)))
 
+-- a least statement
+abbrev pub least_stmt : Tree
+least_stmt = down (both (leaf (a_mark m.Semicolon)) empty)
+
 -- a least tree of each part
 abbrev pub least_of : Part → Tree
 least_of a_source = empty
@@ -60,7 +64,9 @@ least_of a_connection = both (leaf (a_mark m.Dot)) (both (leaf (sample any_name)
 least_of a_net = both (leaf (sample any_name)) empty
 least_of a_variable = both (leaf (sample any_name)) empty
 least_of an_assignment = both (down (both (leaf (sample any_name)) empty)) (both (leaf (a_mark m.Assign)) (leaf (sample any_number)))
-least_of a_stmt = down (both (leaf (a_mark m.Semicolon)) empty)
+least_of a_stmt = least_stmt
+least_of a_case_item = both (leaf (a_word w.Default)) (both empty least_stmt)
+least_of an_event_expr = both empty (both (leaf (sample any_name)) empty)
 least_of a_target = down (both (leaf (sample any_name)) empty)
 least_of an_expr = leaf (sample any_number)
 least_of (a_level n) = leaf (sample any_number)
@@ -94,6 +100,9 @@ target_least h = is_part (is_node (is_left refl (is_seq (is_token refl) (is_stop
 constant_least : Is (part a_constant) least_constant []
 constant_least = is_part (is_seq (is_token refl) (is_seq (is_token refl) expr_least))
 
+stmt_least : Is (part a_stmt) least_stmt []
+stmt_least = is_part (is_node (is_right refl (is_left refl (is_seq (is_token refl) is_nothing))))
+
 pub rule_least : (p : Part) → Is (part p) (least_of p) []
 rule_least a_source = is_part (is_stop refl)
 rule_least a_module = is_part (is_seq (is_token refl) (is_seq (is_token refl) (is_seq (is_right refl is_nothing) (is_seq (is_right refl is_nothing)
@@ -108,7 +117,9 @@ rule_least a_connection = is_part (is_seq (is_token refl) (is_seq (is_token refl
 rule_least a_net = is_part (is_seq (is_token refl) (is_right refl is_nothing))
 rule_least a_variable = is_part (is_seq (is_token refl) (is_right refl (is_right refl is_nothing)))
 rule_least an_assignment = is_part (is_seq (target_least refl) (is_seq (is_token refl) expr_least))
-rule_least a_stmt = is_part (is_node (is_right refl (is_left refl (is_seq (is_token refl) is_nothing))))
+rule_least a_stmt = stmt_least
+rule_least a_case_item = is_part (is_left refl (is_seq (is_token refl) (is_seq (is_right refl is_nothing) stmt_least)))
+rule_least an_event_expr = is_part (is_seq (is_right refl (is_right refl is_nothing)) (is_seq (is_token refl) (is_stop refl)))
 rule_least a_target = target_least refl
 rule_least an_expr = expr_least
 rule_least (a_level n) = level_least n [] (level_end n)
@@ -126,6 +137,8 @@ least_of-height a_net = refl
 least_of-height a_variable = refl
 least_of-height an_assignment = refl
 least_of-height a_stmt = refl
+least_of-height a_case_item = refl
+least_of-height an_event_expr = refl
 least_of-height a_target = refl
 least_of-height an_expr = refl
 least_of-height (a_level n) = refl
@@ -186,6 +199,8 @@ rule_sound a_net = refl
 rule_sound a_variable = refl
 rule_sound an_assignment = refl
 rule_sound a_stmt = refl
+rule_sound a_case_item = refl
+rule_sound an_event_expr = refl
 rule_sound a_target = refl
 rule_sound an_expr = refl
 rule_sound (a_level zero) = refl

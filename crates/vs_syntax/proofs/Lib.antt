@@ -12,5 +12,7 @@ pub mod Plainly
 pub mod Deeper
 pub mod Sameness
 pub mod SameLefts
+pub mod SameRows
+pub mod SameStmts
 pub mod SameSources
 pub mod SourceNamesLemmas

@@ -1,12 +1,12 @@
 -- Left sides of one tree of the grammar say the same.
-use Rattle.std.specs.Prelude.{◌≡◌, List, [], ◌∷◌, Option, None, Some, map}
+use Rattle.std.specs.Prelude.{◌≡◌, List, [], ◌∷◌, Option, None, Some, map, refl}
 use Rattle.std.proofs.Common.{sym, ◌∙◌, ap, subst}
 use Rattle.vs_syntax.specs.declared.tree.PartSelect.{PartSelect}
 use Rattle.vs_syntax.specs.declared.tree.Expr.{Expr}
 use Rattle.vs_syntax.specs.declared.tree.Left.{Left, Left-F, roll-Left, out-Left, roll-out-Left, ind-Left, map-Left, fold-roll-Left}
 use Rattle.vs_syntax.specs.declared.tree.Left.TheOpen as f
 use Rattle.vs_syntax.specs.declared.tree.Left.TheVariants.{rolls-Name, rolls-Concat}
-use Rattle.vs_syntax.specs.Derivation.{Tree}
+use Rattle.vs_syntax.specs.Derivation.{Tree, down}
 use Rattle.vs_syntax.specs.Views.{commas_tree, row_of, second_tree, second_trees, chosen_tree, left_step, left_tree}
 use Rattle.vs_syntax.specs.Same.{SameSelects, same_no_select, same_more_selects, SameSecond, same_no_second, same_second, SameLeft, same_place, same_places, SameLefts, same_no_left, same_more_lefts}
 use Rattle.vs_syntax.proofs.Sameness.{part_by, same_expr}
@@ -35,7 +35,7 @@ same_seconds None (Some x') h = cc
 same_seconds (Some x) None h = cc
 same_seconds (Some x) (Some x') h = same_second x x' (part_by x.0 x'.0 (cc)) (same_expr x.1 x'.1 (cc))
 
-same_selects : (xs xs' : List (Expr × Option (PartSelect × Expr))) → row_of (map chosen_tree xs) ≡ row_of (map chosen_tree xs') → SameSelects xs xs'
+pub same_selects : (xs xs' : List (Expr × Option (PartSelect × Expr))) → row_of (map chosen_tree xs) ≡ row_of (map chosen_tree xs') → SameSelects xs xs'
 same_selects [] [] h = same_no_select
 same_selects [] (x' ∷ xs') h = cc
 same_selects (x ∷ xs) [] h = cc
@@ -64,3 +64,11 @@ settled x y is x' h =
 -- Left sides of one tree say the same.
 pub same_left : (x x' : Left) → left_tree x ≡ left_tree x' → SameLeft x x'
 same_left = ind-Left Settled settled
+
+layer_down : (x : Left-F Left) → (y : Tree) × (layer x ≡ down y)
+layer_down (f.Name n ss) = (_, refl)
+layer_down (f.Concat x xs) = (_, refl)
+
+-- The tree of a left side is a node.
+pub left_down : (x : Left) → (y : Tree) × (left_tree x ≡ down y)
+left_down x = let d = layer_down (out-Left x) in (d.0, opened x ∙ d.1)

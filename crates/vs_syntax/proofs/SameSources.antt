@@ -1,21 +1,14 @@
--- Statements, items and sources of one tree of the grammar say the same.
+-- Items and sources of one tree of the grammar say the same.
 use Rattle.std.specs.Prelude.{◌≡◌, Bool, true, false, List, [], ◌∷◌, ◌++◌, Option, None, Some, map, refl}
-use Rattle.std.proofs.Common.{sym, ◌∙◌, ap, subst}
+use Rattle.std.proofs.Common.{sym, ◌∙◌, ap}
 use Rattle.std.specs.Option.{option_map}
-use Rattle.std.specs.declared.boxed.Box.{Box}
 use Rattle.std.specs.declared.vec.Vec.{Vec}
 use Rattle.std.specs.declared.alloc.Global.{Global}
-use Rattle.vs_tokens.specs.declared.token.Literal.{Literal}
-use Rattle.vs_tokens.specs.declared.token.Mark.TheVariants as m
 use Rattle.vs_syntax.specs.declared.tree.Range.{Range}
 use Rattle.vs_syntax.specs.declared.tree.Form.{Form}
 use Rattle.vs_syntax.specs.declared.tree.Declarator.{Declarator}
 use Rattle.vs_syntax.specs.declared.tree.NetAssignment.{NetAssignment}
 use Rattle.vs_syntax.specs.declared.tree.Expr.{Expr}
-use Rattle.vs_syntax.specs.declared.tree.Stmt.{Stmt, Stmt-F, roll-Stmt, out-Stmt, roll-out-Stmt, ind-Stmt, map-Stmt, fold-roll-Stmt}
-use Rattle.vs_syntax.specs.declared.tree.Stmt.TheOpen as f
-use Rattle.vs_syntax.specs.declared.tree.Stmt.TheVariants as s
-use Rattle.vs_syntax.specs.declared.tree.Stmt.TheVariants.{rolls-Null, rolls-Assign, rolls-Later, rolls-Block, rolls-Delay}
 use Rattle.vs_syntax.specs.declared.tree.ParameterForm.{ParameterForm}
 use Rattle.vs_syntax.specs.declared.tree.ParameterForm.TheVariants as q
 use Rattle.vs_syntax.specs.declared.tree.HeaderParameter.{HeaderParameter}
@@ -35,80 +28,16 @@ use Rattle.vs_syntax.specs.declared.tree.Item.TheVariants as i
 use Rattle.vs_syntax.specs.declared.tree.Module.{Module}
 use Rattle.vs_syntax.specs.declared.tree.Source.{Source}
 use Rattle.vs_tokens.specs.declared.token.Word.TheVariants as w
-use Rattle.vs_syntax.specs.Symbols.{Symbol, a_mark, a_word}
-use Rattle.vs_syntax.specs.Derivation.{Tree, leaf, both, tokens}
+use Rattle.vs_syntax.specs.Symbols.{Symbol, a_word}
+use Rattle.vs_syntax.specs.Derivation.{Tree, leaf, tokens}
 use Rattle.vs_syntax.specs.Derives.{Derives}
-use Rattle.vs_syntax.specs.Views.{row_of, listed_tree, value_tree, told_tree, declarator_tree, signed_tree, range_tree, form_tree, net_assignment_tree, stmt_step, stmt_tree, parameter_form_tree, constant_tree, parameter_word_tree, header_parameter_tree, header_parameters_tree, direction_word, kind_tree, port_form_tree, port_tree, ports_tree, header_ports_tree, end_tree, connection_tree, connections_tree, overrides_tree, instance_tree, item_tree, module_tree, source_tree}
-use Rattle.vs_syntax.specs.Same.{SameStmt, same_null, same_assign, same_later, same_block, same_delay, SameStmts, same_no_stmt, same_more_stmts, Pairwise, no_pair, pair_more, SameValue, same_no_value, same_value, SameDeclarator, SameRange, same_no_range, same_range, SameForm, SameOption, both_absent, both_there, SameParameterForm, same_integer_word, same_vector, SameConstant, SameHeaderParameter, SamePortForm, SamePort, SamePorts, SameConnection, SameConnections, same_ordered, same_named, SameInstance, SameAssignment, SameItem, same_wire, same_reg, same_integer, same_parameters, same_localparams, same_instances, same_assigns, same_initial, same_always, SameModule, SameSource}
+use Rattle.vs_syntax.specs.Views.{value_tree, told_tree, declarator_tree, signed_tree, range_tree, form_tree, net_assignment_tree, parameter_form_tree, constant_tree, parameter_word_tree, header_parameter_tree, header_parameters_tree, direction_word, kind_tree, port_form_tree, port_tree, ports_tree, header_ports_tree, end_tree, connection_tree, connections_tree, overrides_tree, instance_tree, item_tree, module_tree, source_tree}
+use Rattle.vs_syntax.specs.Same.{Pairwise, no_pair, pair_more, SameValue, same_no_value, same_value, SameDeclarator, SameRange, same_no_range, same_range, SameForm, SameOption, both_absent, both_there, SameParameterForm, same_integer_word, same_vector, SameConstant, SameHeaderParameter, SamePortForm, SamePort, SamePorts, SameConnection, SameConnections, same_ordered, same_named, SameInstance, SameAssignment, SameItem, same_wire, same_reg, same_integer, same_parameters, same_localparams, same_instances, same_assigns, same_initial, same_always, SameModule, SameSource}
 use Rattle.vs_syntax.proofs.Unique.{unique}
 use Rattle.vs_syntax.proofs.Sameness.{same_expr, expr_there, expr_alone}
 use Rattle.vs_syntax.proofs.SameLefts.{same_left}
-
--- a statement of which the other one of its tree says the same
-abbrev Settled : Stmt → Type 0
-Settled x = (x' : Stmt) → stmt_tree x ≡ stmt_tree x' → SameStmt x x'
-
-abbrev Inner : Type 0
-Inner = (x : Stmt) × Settled x
-
--- one layer of a statement as a tree
-abbrev layer : Stmt-F Stmt → Tree
-layer x = stmt_step (map-Stmt Stmt Tree stmt_tree x)
-
--- one layer without what is settled of the inner ones
-abbrev bare : Stmt-F Inner → Stmt-F Stmt
-bare y = map-Stmt Inner Stmt (λ p. p.0) y
-
-opened : (x : Stmt) → stmt_tree x ≡ layer (out-Stmt x)
-opened x = ap stmt_tree (sym (roll-out-Stmt x)) ∙ fold-roll-Stmt Tree stmt_step (out-Stmt x)
-
-same_rows : (xs : List Inner) (xs' : List Stmt) → row_of (map stmt_tree (map (λ p. p.0) xs)) ≡ row_of (map stmt_tree xs') → SameStmts (map (λ p. p.0) xs) xs'
-same_rows [] [] h = same_no_stmt
-same_rows [] (x' ∷ xs') h = cc
-same_rows (x ∷ xs) [] h = cc
-same_rows (x ∷ xs) (x' ∷ xs') h = same_more_stmts _ x' _ xs' (x.1 x' (cc)) (same_rows xs xs' (cc))
-
-same_delays : (l l' : Literal) (x x' : Box Stmt Global) → l ≡ l' → SameStmt x.value x'.value → SameStmt (s.Delay l x) (s.Delay l' x')
-same_delays l l' x x' h p = subst (λ (k : Literal). SameStmt (s.Delay l x) (s.Delay k x')) h (same_delay l x x' p)
-
--- one layer each
-same_layers : (y : Stmt-F Inner) (x' : Stmt-F Stmt) → layer (bare y) ≡ layer x' → SameStmt (roll-Stmt (bare y)) (roll-Stmt x')
-same_layers f.Null f.Null h = rw rolls-Null same_null
-same_layers (f.Assign n x) (f.Assign n' x') h = rw (rolls-Assign n x, rolls-Assign n' x') (same_assign n n' x x' (same_left n n' (cc)) (same_expr x x' (cc)))
-same_layers (f.Later n x) (f.Later n' x') h = rw (rolls-Later n x, rolls-Later n' x') (same_later n n' x x' (same_left n n' (cc)) (same_expr x x' (cc)))
-same_layers (f.Block xs) (f.Block xs') h = rw (rolls-Block _, rolls-Block xs') (same_block _ xs' (same_rows xs.items xs'.items (cc)))
-same_layers (f.Delay l x) (f.Delay l' x') h = rw (rolls-Delay l _, rolls-Delay l' x') (same_delays l l' _ x' (cc) (x.value.1 x'.value (cc)))
-same_layers _ _ h = cc
-
-settled : (x : Stmt-F Stmt) (y : Stmt-F Inner) → bare y ≡ x → Settled (roll-Stmt x)
-settled x y is x' h =
-    subst (λ (u : Stmt). SameStmt (roll-Stmt x) u) (roll-out-Stmt x')
-    (subst (λ (u : Stmt-F Stmt). SameStmt (roll-Stmt u) (roll-Stmt (out-Stmt x'))) is
-    (same_layers y (out-Stmt x') (ap layer is ∙ sym (fold-roll-Stmt Tree stmt_step x) ∙ h ∙ opened x')))
-
--- Statements of one tree say the same.
-pub same_stmt : (x x' : Stmt) → stmt_tree x ≡ stmt_tree x' → SameStmt x x'
-same_stmt = ind-Stmt Settled settled
-
--- parts of one row, each with the one in its place
-pairs : {A : Type 0} (R : A → A → Type 0) (tree : A → Tree) → ((x x' : A) → tree x ≡ tree x' → R x x') → (xs xs' : List A) → row_of (map tree xs) ≡ row_of (map tree xs') → Pairwise R xs xs'
-pairs R tree f [] [] h = no_pair
-pairs R tree f [] (x' ∷ xs') h = cc
-pairs R tree f (x ∷ xs) [] h = cc
-pairs R tree f (x ∷ xs) (x' ∷ xs') h = pair_more x x' xs xs' (f x x' (cc)) (pairs R tree f xs xs' (cc))
-
--- the same of parts behind commas
-comma_pairs : {A : Type 0} (R : A → A → Type 0) (tree : A → Tree) → ((x x' : A) → tree x ≡ tree x' → R x x') → (xs xs' : List A) → row_of (map (both (leaf (a_mark m.Comma))) (map tree xs)) ≡ row_of (map (both (leaf (a_mark m.Comma))) (map tree xs')) → Pairwise R xs xs'
-comma_pairs R tree f [] [] h = no_pair
-comma_pairs R tree f [] (x' ∷ xs') h = cc
-comma_pairs R tree f (x ∷ xs) [] h = cc
-comma_pairs R tree f (x ∷ xs) (x' ∷ xs') h = pair_more x x' xs xs' (f x x' (cc)) (comma_pairs R tree f xs xs' (cc))
-
-listed_pairs : {A : Type 0} (R : A → A → Type 0) (tree : A → Tree) → ((x x' : A) → tree x ≡ tree x' → R x x') → (xs xs' : List A) → listed_tree (map tree xs) ≡ listed_tree (map tree xs') → Pairwise R xs xs'
-listed_pairs R tree f [] [] h = no_pair
-listed_pairs R tree f [] (x' ∷ xs') h = cc
-listed_pairs R tree f (x ∷ xs) [] h = cc
-listed_pairs R tree f (x ∷ xs) (x' ∷ xs') h = pair_more x x' xs xs' (f x x' (cc)) (comma_pairs R tree f xs xs' (cc))
+use Rattle.vs_syntax.proofs.SameRows.{pairs, comma_pairs, listed_pairs}
+use Rattle.vs_syntax.proofs.SameStmts.{same_stmt}
 
 same_option : (v v' : Option Expr) → value_tree v ≡ value_tree v' → SameValue v v'
 same_option None None h = same_no_value

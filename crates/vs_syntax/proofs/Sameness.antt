@@ -17,9 +17,10 @@ use Rattle.vs_syntax.specs.declared.tree.Expr.TheOpen as f
 use Rattle.vs_syntax.specs.declared.tree.Expr.TheShapes.{former-Expr-Select-1-at-4, former-Expr-Select-1-at-5}
 use Rattle.vs_syntax.specs.declared.tree.Expr.TheVariants as e
 use Rattle.vs_syntax.specs.declared.tree.Expr.TheVariants.{rolls-Number, rolls-Name, rolls-Select, rolls-Group, rolls-Unary, rolls-Chain, rolls-Choice, rolls-Concat, rolls-Repeat, rolls-Cast}
-use Rattle.vs_syntax.specs.Symbols.{a_mark, a_number, a_cast}
+use Rattle.vs_tokens.specs.declared.token.Word.{Word}
+use Rattle.vs_syntax.specs.Symbols.{a_mark, a_word, a_number, a_cast}
 use Rattle.vs_syntax.specs.Derivation.{Tree, empty, leaf, both, down}
-use Rattle.vs_syntax.specs.Views.{row_of, unary_mark, binary_mark, part_mark, commas_tree, link_tree, head_of, arms_of, choice_tree, second_tree, select_tree, selects_tree, expr_step, expr_tree}
+use Rattle.vs_syntax.specs.Views.{row_of, unary_mark, binary_mark, part_mark, commas_tree, link_tree, head_of, arms_of, choice_tree, second_tree, select_tree, some_tree, expr_step, expr_tree}
 use Rattle.vs_syntax.specs.Same.{SameExpr, same_number, same_name, same_select, same_group, same_unary, same_chain, same_choice, same_concat, same_repeat, same_cast, SameSelects, same_no_select, same_more_selects, SameSecond, same_no_second, same_second, SameLinks, same_no_link, same_link, SamePairs, same_no_pair, same_pair, SameExprs, same_no_expr, same_more_exprs}
 
 -- an operator by its mark
@@ -164,7 +165,7 @@ second_trees o = former-Expr-Select-1-at-4.map Expr Tree expr_tree o
 abbrev select_trees : List (Expr × Option (PartSelect × Expr)) → List (Tree × Option (PartSelect × Tree))
 select_trees xs = map (λ x. former-Expr-Select-1-at-5.map Expr Tree expr_tree x) xs
 
-selects_form : (xs : List (Tree × Option (PartSelect × Tree))) → form_of_row (selects_tree (map select_tree xs)) ≡ 9
+selects_form : (xs : List (Tree × Option (PartSelect × Tree))) → form_of_row (some_tree (map select_tree xs)) ≡ 9
 selects_form [] = refl
 selects_form (x ∷ xs) = refl
 
@@ -263,7 +264,7 @@ same_select_rows [] (x' ∷ xs') h = cc
 same_select_rows (x ∷ xs) [] h = cc
 same_select_rows (x ∷ xs) (x' ∷ xs') h = same_more_selects _ x' _ xs' (x.0.1 x'.0 (cc)) (same_seconds x.1 x'.1 (cc)) (same_select_rows xs xs' (cc))
 
-same_selected : (xs : List (Inner × Option (PartSelect × Inner))) (xs' : List (Expr × Option (PartSelect × Expr))) → selects_tree (map select_tree (select_trees (bare_selects xs))) ≡ selects_tree (map select_tree (select_trees xs')) → SameSelects (bare_selects xs) xs'
+same_selected : (xs : List (Inner × Option (PartSelect × Inner))) (xs' : List (Expr × Option (PartSelect × Expr))) → some_tree (map select_tree (select_trees (bare_selects xs))) ≡ some_tree (map select_tree (select_trees xs')) → SameSelects (bare_selects xs) xs'
 same_selected [] [] h = same_no_select
 same_selected [] (x' ∷ xs') h = cc
 same_selected (x ∷ xs) [] h = cc
@@ -319,6 +320,18 @@ layer_there _ h = cc
 -- An expression has a tree that isn't empty.
 pub expr_there : (x : Expr) → expr_tree x ≡ empty → ⊥
 expr_there x h = layer_there (out-Expr x) (sym (opened x) ∙ h)
+
+choice_no_word : (ps : List (Tree × Tree)) (x : Tree) (v : Word) → choice_tree ps x ≡ leaf (a_word v) → ⊥
+choice_no_word [] x v h = cc
+choice_no_word (p ∷ ps) x v h = cc
+
+layer_no_word : (x : Expr-F Expr) (v : Word) → layer x ≡ leaf (a_word v) → ⊥
+layer_no_word (f.Choice ps x) v h = choice_no_word (paired ps.items) (expr_tree x.value) v h
+layer_no_word _ v h = cc
+
+-- The tree of an expression is no reserved word.
+pub expr_no_word : (x : Expr) (v : Word) → expr_tree x ≡ leaf (a_word v) → ⊥
+expr_no_word x v h = layer_no_word (out-Expr x) v (sym (opened x) ∙ h)
 
 choice_alone : (ps : List (Tree × Tree)) (x y z u : Tree) → choice_tree ps x ≡ both y (both z u) → ⊥
 choice_alone [] x y z u h = cc

@@ -31,6 +31,10 @@ pub data Part : Type 0 where
   an_assignment : Part
   -- a statement (clause A.6.4)
   a_stmt : Part
+  -- an item of a `case` statement (clause A.6.7)
+  a_case_item : Part
+  -- a term of an event control (clause A.6.5)
+  an_event_expr : Part
   -- the left side of an assignment (clause A.8.5)
   a_target : Part
   -- an expression (clause A.8.3)
@@ -223,11 +227,52 @@ items = (the_word w.Wire, form · listed a_net)
     ∷ (the_word w.Always, part a_stmt)
     ∷ []
 
+-- an expression in parentheses that are no node, and what stands behind them
+abbrev pub guarded : Grammar → Grammar
+guarded a = mark m.Open · part an_expr · mark m.Close · a
+
+-- a statement and, where the next token is `else`, the statement behind that (clause A.6.6)
+abbrev pub branches : Grammar
+branches = part a_stmt · optional (the_word w.Else) (part a_stmt)
+
+-- the items of a `case` statement, and the word behind them (clause A.6.7)
+abbrev pub case_items : Grammar
+case_items = one_or_more (part a_case_item) · word w.Endcase
+
+-- an assignment without a semicolon
+abbrev pub assignment : Grammar
+assignment = part a_target · mark m.Assign · part an_expr
+
+-- what stands behind `for`: two assignments with the condition between them, and the statement (clause A.6.8)
+abbrev pub for_parts : Grammar
+for_parts = mark m.Open · assignment · mark m.Semicolon · part an_expr · mark m.Semicolon · assignment · mark m.Close · part a_stmt
+
+-- a delay (clause A.6.5)
+abbrev pub delay : Grammar
+delay = number or name or mark m.Open · part an_expr · mark m.Close
+
+-- terms of an event control (clause A.6.5)
+abbrev pub event_exprs : Grammar
+event_exprs = part an_event_expr · many ((word w.Or or mark m.Comma) · part an_event_expr)
+
+-- what an event control waits for (clause A.6.5)
+abbrev pub event : Grammar
+event = mark m.Star or name or mark m.Open · (mark m.Star or event_exprs) · mark m.Close
+
 -- the statements that begin with a word or a mark of their own (clause A.6.4; profile)
 abbrev pub statements : List (Class × Grammar)
 statements = (the_mark m.Semicolon, nothing)
     ∷ (the_word w.Begin, many (part a_stmt) · word w.End)
-    ∷ (the_mark m.Hash, number · part a_stmt)
+    ∷ (the_word w.If, guarded branches)
+    ∷ (the_word w.Case, guarded case_items)
+    ∷ (the_word w.Casez, guarded case_items)
+    ∷ (the_word w.Casex, guarded case_items)
+    ∷ (the_word w.For, for_parts)
+    ∷ (the_word w.While, guarded (part a_stmt))
+    ∷ (the_word w.Repeat, guarded (part a_stmt))
+    ∷ (the_word w.Forever, part a_stmt)
+    ∷ (the_mark m.Hash, delay · part a_stmt)
+    ∷ (the_mark m.At, event · part a_stmt)
     ∷ []
 
 -- The rules of the grammar. A target is a node, though it be a name alone; the number of an expression is none, and a name only with its
@@ -246,6 +291,9 @@ rule a_net = name · (mark m.Assign · part an_expr or nothing)
 rule a_variable = name · (mark m.Assign · part an_expr or range or nothing)
 rule an_assignment = part a_target · mark m.Assign · part an_expr
 rule a_stmt = node (part a_target · (mark m.Assign or mark m.LessEqual) · part an_expr · mark m.Semicolon or one_of statements)
+rule a_case_item = word w.Default · (mark m.Colon or nothing) · part a_stmt
+    or part an_expr · many (mark m.Comma · part an_expr) · mark m.Colon · part a_stmt
+rule an_event_expr = (word w.Posedge or word w.Negedge or nothing) · name · many select
 rule a_target = node (name · many select or mark m.OpenBrace · part a_target · other_parts a_target)
 rule an_expr = chain (part a_condition) (one_or_more arm)
 rule (a_level zero) = number or chain name (one_or_more select) or node (one_of compounds)

@@ -25,6 +25,15 @@ use Rattle.vs_syntax.specs.declared.tree.Connection.{Connection}
 use Rattle.vs_syntax.specs.declared.tree.Connections.{Connections}
 use Rattle.vs_syntax.specs.declared.tree.Connections.TheVariants as c
 use Rattle.vs_syntax.specs.declared.tree.Instance.{Instance}
+use Rattle.vs_logic4.specs.declared.case.CaseKind.{CaseKind}
+use Rattle.vs_syntax.specs.declared.tree.DelayValue.{DelayValue}
+use Rattle.vs_syntax.specs.declared.tree.DelayValue.TheVariants as d
+use Rattle.vs_syntax.specs.declared.tree.Separator.{Separator}
+use Rattle.vs_syntax.specs.declared.tree.EventExpr.{EventExpr}
+use Rattle.vs_syntax.specs.declared.tree.EventControl.{EventControl}
+use Rattle.vs_syntax.specs.declared.tree.EventControl.TheVariants as v
+use Rattle.vs_syntax.specs.declared.tree.CaseLabel.{CaseLabel}
+use Rattle.vs_syntax.specs.declared.tree.CaseLabel.TheVariants as n
 use Rattle.vs_syntax.specs.declared.tree.Stmt.{Stmt}
 use Rattle.vs_syntax.specs.declared.tree.Stmt.TheVariants as s
 use Rattle.vs_syntax.specs.declared.tree.Item.{Item}
@@ -92,6 +101,42 @@ mutual
     same_no_left : SameLefts [] []
     same_more_lefts : (x x' : Left) (xs xs' : List Left) → SameLeft x x' → SameLefts xs xs' → SameLefts (x ∷ xs) (x' ∷ xs')
 
+-- Lists of one length whose elements are related, each with the one in its place (profile).
+pub data Pairwise {A : Type 0} (R : A → A → Type 0) : List A → List A → Type 0 where
+  no_pair : Pairwise R [] []
+  pair_more : (x x' : A) (xs xs' : List A) → R x x' → Pairwise R xs xs' → Pairwise R (x ∷ xs) (x' ∷ xs')
+
+-- The delays say the same (profile).
+pub data SameDelay : DelayValue → DelayValue → Type 0 where
+  same_delay_number : (l : Literal) → SameDelay (d.Number l) (d.Number l)
+  same_delay_name : (n n' : Vec ℕ Global) → n.items ≡ n'.items → SameDelay (d.Name n) (d.Name n')
+  same_delay_group : (x x' : Expr) → SameExpr x x' → SameDelay (d.Group x) (d.Group x')
+
+-- The terms of event controls say the same (profile).
+pub record SameEventExpr (x x' : EventExpr) : Type 0 where
+  pub edge : x.edge ≡ x'.edge
+  pub name : x.name.items ≡ x'.name.items
+  pub selects : SameSelects x.selects.items x'.selects.items
+
+-- The same of terms with what stands before them (profile).
+pub record SameOtherEvent (x x' : Separator × EventExpr) : Type 0 where
+  pub separator : x.0 ≡ x'.0
+  pub event : SameEventExpr x.1 x'.1
+
+-- The event controls wait for the same (profile).
+pub data SameEvent : EventControl → EventControl → Type 0 where
+  same_star : SameEvent v.Star v.Star
+  same_grouped_star : SameEvent v.GroupedStar v.GroupedStar
+  same_event_name : (n n' : Vec ℕ Global) → n.items ≡ n'.items → SameEvent (v.Name n) (v.Name n')
+  same_terms : (x x' : EventExpr) (xs xs' : Vec (Separator × EventExpr) Global) →
+      SameEventExpr x x' → Pairwise SameOtherEvent xs.items xs'.items → SameEvent (v.Terms x xs) (v.Terms x' xs')
+
+-- What stands before the statements of `case` items is the same (profile).
+pub data SameLabel : CaseLabel → CaseLabel → Type 0 where
+  same_expressions : (x x' : Expr) (xs xs' : Vec Expr Global) →
+      SameExpr x x' → SameExprs xs.items xs'.items → SameLabel (n.Expressions x xs) (n.Expressions x' xs')
+  same_default : (colon : Bool) → SameLabel (n.Default colon) (n.Default colon)
+
 mutual
   -- The statements say the same (profile).
   pub data SameStmt : Stmt → Stmt → Type 0 where
@@ -99,17 +144,38 @@ mutual
     same_assign : (l l' : Left) (x x' : Expr) → SameLeft l l' → SameExpr x x' → SameStmt (s.Assign l x) (s.Assign l' x')
     same_later : (l l' : Left) (x x' : Expr) → SameLeft l l' → SameExpr x x' → SameStmt (s.Later l x) (s.Later l' x')
     same_block : (xs xs' : Vec Stmt Global) → SameStmts xs.items xs'.items → SameStmt (s.Block xs) (s.Block xs')
-    same_delay : (l : Literal) (x x' : Box Stmt Global) → SameStmt x.value x'.value → SameStmt (s.Delay l x) (s.Delay l x')
+    same_if : (c c' : Expr) (x x' : Box Stmt Global) (o o' : Option (Box Stmt Global)) →
+        SameExpr c c' → SameStmt x.value x'.value → SameElse o o' → SameStmt (s.If c x o) (s.If c' x' o')
+    same_case : (kind : CaseKind) (x x' : Expr) (is is' : Vec (CaseLabel × Stmt) Global) →
+        SameExpr x x' → SameCaseItems is.items is'.items → SameStmt (s.Case kind x is) (s.Case kind x' is')
+    same_for : (l l' : Left) (x x' c c' : Expr) (k k' : Left) (y y' : Expr) (b b' : Box Stmt Global) →
+        SameLeft l l' → SameExpr x x' → SameExpr c c' → SameLeft k k' → SameExpr y y' → SameStmt b.value b'.value →
+        SameStmt (s.For l x c k y b) (s.For l' x' c' k' y' b')
+    same_while : (c c' : Expr) (x x' : Box Stmt Global) →
+        SameExpr c c' → SameStmt x.value x'.value → SameStmt (s.While c x) (s.While c' x')
+    same_repeated : (c c' : Expr) (x x' : Box Stmt Global) →
+        SameExpr c c' → SameStmt x.value x'.value → SameStmt (s.Repeat c x) (s.Repeat c' x')
+    same_forever : (x x' : Box Stmt Global) → SameStmt x.value x'.value → SameStmt (s.Forever x) (s.Forever x')
+    same_delay : (v v' : DelayValue) (x x' : Box Stmt Global) →
+        SameDelay v v' → SameStmt x.value x'.value → SameStmt (s.Delay v x) (s.Delay v' x')
+    same_event : (v v' : EventControl) (x x' : Box Stmt Global) →
+        SameEvent v v' → SameStmt x.value x'.value → SameStmt (s.Event v x) (s.Event v' x')
 
   -- The same of statements one after another (profile).
   pub data SameStmts : List Stmt → List Stmt → Type 0 where
     same_no_stmt : SameStmts [] []
     same_more_stmts : (x x' : Stmt) (xs xs' : List Stmt) → SameStmt x x' → SameStmts xs xs' → SameStmts (x ∷ xs) (x' ∷ xs')
 
--- Lists of one length whose elements are related, each with the one in its place (profile).
-pub data Pairwise {A : Type 0} (R : A → A → Type 0) : List A → List A → Type 0 where
-  no_pair : Pairwise R [] []
-  pair_more : (x x' : A) (xs xs' : List A) → R x x' → Pairwise R xs xs' → Pairwise R (x ∷ xs) (x' ∷ xs')
+  -- The same of the statements behind `else`: both absent, or both there (profile).
+  pub data SameElse : Option (Box Stmt Global) → Option (Box Stmt Global) → Type 0 where
+    same_no_else : SameElse None None
+    same_else : (x x' : Box Stmt Global) → SameStmt x.value x'.value → SameElse (Some x) (Some x')
+
+  -- The same of `case` items: as many, each of them in its place (profile).
+  pub data SameCaseItems : List (CaseLabel × Stmt) → List (CaseLabel × Stmt) → Type 0 where
+    same_no_item : SameCaseItems [] []
+    same_more_items : (x x' : CaseLabel × Stmt) (xs xs' : List (CaseLabel × Stmt)) →
+        SameLabel x.0 x'.0 → SameStmt x.1 x'.1 → SameCaseItems xs xs' → SameCaseItems (x ∷ xs) (x' ∷ xs')
 
 -- Both absent, or both there and related (profile).
 pub data SameOption {A : Type 0} (R : A → A → Type 0) : Option A → Option A → Type 0 where

@@ -4,7 +4,7 @@ use Rattle.vs_tokens.specs.declared.token.Mark.{Mark}
 use Rattle.vs_tokens.specs.declared.token.Mark.TheVariants as m
 use Rattle.vs_tokens.specs.declared.token.Word.TheVariants as w
 use Rattle.vs_syntax.specs.Symbols.{Symbol, Class, the_mark, the_word, any_name, any_number, the_cast, same_class, first}
-use Rattle.vs_syntax.specs.Grammar.{Part, a_source, a_module, a_header_parameter, a_port, an_item, a_constant, an_instance, a_connection, a_net, a_variable, an_assignment, a_stmt, a_target, an_expr, a_level, Grammar, nothing, token, seq, either, many, part, node, chain, optional, prefixes}
+use Rattle.vs_syntax.specs.Grammar.{Part, a_source, a_module, a_header_parameter, a_port, an_item, a_constant, an_instance, a_connection, a_net, a_variable, an_assignment, a_stmt, a_case_item, an_event_expr, a_target, an_expr, a_level, Grammar, nothing, token, seq, either, many, part, node, chain, optional, prefixes}
 
 -- a class that can begin a part, and the least nesting of a part that it begins
 pub record Front : Type 0 where
@@ -34,6 +34,8 @@ low_of a_net = 0
 low_of a_variable = 0
 low_of an_assignment = 1
 low_of a_stmt = 1
+low_of a_case_item = 1
+low_of an_event_expr = 0
 low_of a_target = 1
 low_of an_expr = 0
 low_of (a_level n) = 0
@@ -48,6 +50,11 @@ abbrev pub operand_fronts : List Front
 operand_fronts = at_least any_number 0
     ∷ at_least any_name 0
     ∷ (mark_fronts 1 prefixes ++ at_least (the_mark m.Open) 1 ∷ at_least (the_mark m.OpenBrace) 1 ∷ at_least the_cast 1 ∷ [])
+
+-- the same classes, each beside a part of this nesting
+abbrev pub beside : ℕ → List Front → List Front
+beside n [] = []
+beside n (f ∷ fs) = at_least f.class (max n f.need) ∷ beside n fs
 
 -- what can begin a part
 abbrev pub fronts_of : Part → List Front
@@ -75,8 +82,19 @@ fronts_of a_stmt = at_least any_name 2
     ∷ at_least (the_mark m.OpenBrace) 3
     ∷ at_least (the_mark m.Semicolon) 1
     ∷ at_least (the_word w.Begin) 1
+    ∷ at_least (the_word w.If) 2
+    ∷ at_least (the_word w.Case) 2
+    ∷ at_least (the_word w.Casez) 2
+    ∷ at_least (the_word w.Casex) 2
+    ∷ at_least (the_word w.For) 2
+    ∷ at_least (the_word w.While) 2
+    ∷ at_least (the_word w.Repeat) 2
+    ∷ at_least (the_word w.Forever) 2
     ∷ at_least (the_mark m.Hash) 2
+    ∷ at_least (the_mark m.At) 2
     ∷ []
+fronts_of a_case_item = at_least (the_word w.Default) 1 ∷ beside 1 operand_fronts
+fronts_of an_event_expr = at_least (the_word w.Posedge) 0 ∷ at_least (the_word w.Negedge) 0 ∷ at_least any_name 0 ∷ []
 fronts_of a_target = at_least any_name 1 ∷ at_least (the_mark m.OpenBrace) 2 ∷ []
 fronts_of an_expr = operand_fronts
 fronts_of (a_level n) = operand_fronts
@@ -104,11 +122,6 @@ low (part p) = low_of p
 low (node a) = suc (low a)
 low (chain a b) = low a
 low (optional c a) = 0
-
--- the same classes, each beside a part of this nesting
-abbrev pub beside : ℕ → List Front → List Front
-beside n [] = []
-beside n (f ∷ fs) = at_least f.class (max n f.need) ∷ beside n fs
 
 -- the same classes, one node up
 abbrev pub above : List Front → List Front

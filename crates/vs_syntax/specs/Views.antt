@@ -9,6 +9,10 @@ use Rattle.vs_tokens.specs.declared.token.Mark.{Mark}
 use Rattle.vs_tokens.specs.declared.token.Mark.TheVariants as m
 use Rattle.vs_tokens.specs.declared.token.Word.{Word}
 use Rattle.vs_tokens.specs.declared.token.Word.TheVariants as w
+use Rattle.vs_logic4.specs.declared.case.CaseKind.{CaseKind}
+use Rattle.vs_logic4.specs.declared.case.CaseKind.TheVariants as h
+use Rattle.vs_logic4.specs.declared.edge.Edge.{Edge}
+use Rattle.vs_logic4.specs.declared.edge.Edge.TheVariants as g
 use Rattle.vs_syntax.specs.Symbols.{Symbol, a_mark, a_word, a_name, a_number, a_cast}
 use Rattle.vs_syntax.specs.Derivation.{Tree, empty, leaf, both, down}
 use Rattle.vs_syntax.specs.declared.tree.Expr.{Expr, Expr-F, fold-Expr}
@@ -37,6 +41,16 @@ use Rattle.vs_syntax.specs.declared.tree.Connection.{Connection}
 use Rattle.vs_syntax.specs.declared.tree.Connections.{Connections}
 use Rattle.vs_syntax.specs.declared.tree.Connections.TheVariants as c
 use Rattle.vs_syntax.specs.declared.tree.Instance.{Instance}
+use Rattle.std.specs.declared.boxed.Box.{Box}
+use Rattle.vs_syntax.specs.declared.tree.DelayValue.{DelayValue}
+use Rattle.vs_syntax.specs.declared.tree.DelayValue.TheVariants as d
+use Rattle.vs_syntax.specs.declared.tree.Separator.{Separator}
+use Rattle.vs_syntax.specs.declared.tree.Separator.TheVariants as r
+use Rattle.vs_syntax.specs.declared.tree.EventExpr.{EventExpr}
+use Rattle.vs_syntax.specs.declared.tree.EventControl.{EventControl}
+use Rattle.vs_syntax.specs.declared.tree.EventControl.TheVariants as v
+use Rattle.vs_syntax.specs.declared.tree.CaseLabel.{CaseLabel}
+use Rattle.vs_syntax.specs.declared.tree.CaseLabel.TheVariants as n
 use Rattle.vs_syntax.specs.declared.tree.Stmt.{Stmt, Stmt-F, fold-Stmt}
 use Rattle.vs_syntax.specs.declared.tree.Stmt.TheOpen as s
 use Rattle.vs_syntax.specs.declared.tree.Item.{Item}
@@ -147,10 +161,10 @@ second_tree (Some x) = both (leaf (a_mark (part_mark x.0))) x.1
 abbrev pub select_tree : Tree × Option (PartSelect × Tree) → Tree
 select_tree x = both (leaf (a_mark m.OpenBracket)) (both x.0 (both (second_tree x.1) (leaf (a_mark m.CloseBracket))))
 
--- the selects behind the name of an operand; without a select no tree of the grammar
-abbrev pub selects_tree : List Tree → Tree
-selects_tree [] = down empty
-selects_tree (x ∷ xs) = both x (row_of xs)
+-- one or more parts that follow one another; without a part no tree of the grammar
+abbrev pub some_tree : List Tree → Tree
+some_tree [] = down empty
+some_tree (x ∷ xs) = both x (row_of xs)
 
 -- an expression and the parenthesis behind it
 abbrev pub closed_tree : Tree → Tree
@@ -160,7 +174,7 @@ closed_tree x = both x (leaf (a_mark m.Close))
 abbrev pub expr_step : Expr-F Tree → Tree
 expr_step (e.Number l) = leaf (a_number l)
 expr_step (e.Name n) = name_tree n.items
-expr_step (e.Select n ss) = down (both (name_tree n.items) (selects_tree (map select_tree ss.items)))
+expr_step (e.Select n ss) = down (both (name_tree n.items) (some_tree (map select_tree ss.items)))
 expr_step (e.Group x) = down (both (leaf (a_mark m.Open)) (closed_tree x.value))
 expr_step (e.Unary op x) = down (both (leaf (a_mark (unary_mark op))) x.value)
 expr_step (e.Chain x ls) = down (both x.value (row_of (map link_tree ls.items)))
@@ -233,13 +247,101 @@ net_assignment_tree a = both (left_tree a.target) (both (leaf (a_mark m.Assign))
 abbrev pub assigned_tree : Left → Mark → Expr → Tree
 assigned_tree l sign x = down (both (left_tree l) (both (leaf (a_mark sign)) (both (expr_tree x) (leaf (a_mark m.Semicolon)))))
 
+-- an expression in parentheses that are no node, and what stands behind them
+abbrev pub guarded_tree : Tree → Tree → Tree
+guarded_tree x rest = both (leaf (a_mark m.Open)) (both x (both (leaf (a_mark m.Close)) rest))
+
+-- the statement behind `else`, where there is one
+abbrev pub else_tree : Option (Box Tree Global) → Tree
+else_tree None = empty
+else_tree (Some x) = both (leaf (a_word w.Else)) x.value
+
+-- the word that a `case` statement begins with
+abbrev pub case_word : CaseKind → Word
+case_word h.Case = w.Case
+case_word h.Casez = w.Casez
+case_word h.Casex = w.Casex
+
+-- a colon, where it is there
+abbrev pub colon_tree : Bool → Tree
+colon_tree true = leaf (a_mark m.Colon)
+colon_tree false = empty
+
+-- an item of a `case` statement by what stands before its statement
+abbrev pub labelled_tree : CaseLabel → Tree → Tree
+labelled_tree (n.Expressions x xs) body =
+    both (expr_tree x) (both (commas_tree (map expr_tree xs.items)) (both (leaf (a_mark m.Colon)) body))
+labelled_tree (n.Default colon) body = both (leaf (a_word w.Default)) (both (colon_tree colon) body)
+
+-- an item of a `case` statement
+abbrev pub case_item_tree : CaseLabel × Tree → Tree
+case_item_tree i = labelled_tree i.0 i.1
+
+-- the items of a `case` statement, and the word behind them
+abbrev pub case_items_tree : List (CaseLabel × Tree) → Tree
+case_items_tree items = both (some_tree (map case_item_tree items)) (leaf (a_word w.Endcase))
+
+-- an assignment without a semicolon, and what stands behind it
+abbrev pub assignment_tree : Left → Expr → Tree → Tree
+assignment_tree l x rest = both (both (left_tree l) (both (leaf (a_mark m.Assign)) (expr_tree x))) rest
+
+-- a semicolon, and what stands behind it
+abbrev pub semicolon_tree : Tree → Tree
+semicolon_tree rest = both (leaf (a_mark m.Semicolon)) rest
+
+-- what stands behind `for`
+abbrev pub for_tree : Left → Expr → Expr → Left → Expr → Tree → Tree
+for_tree l x c k y body = both (leaf (a_mark m.Open))
+    (assignment_tree l x (semicolon_tree (both (expr_tree c) (semicolon_tree (assignment_tree k y (both (leaf (a_mark m.Close)) body))))))
+
+-- a delay
+abbrev pub delay_tree : DelayValue → Tree
+delay_tree (d.Number l) = leaf (a_number l)
+delay_tree (d.Name n) = name_tree n.items
+delay_tree (d.Group x) = both (leaf (a_mark m.Open)) (closed_tree (expr_tree x))
+
+-- the word of an edge, where it has one
+abbrev pub edge_tree : Edge → Tree
+edge_tree g.Any = empty
+edge_tree g.Posedge = leaf (a_word w.Posedge)
+edge_tree g.Negedge = leaf (a_word w.Negedge)
+
+-- a term of an event control
+abbrev pub event_expr_tree : EventExpr → Tree
+event_expr_tree x = both (edge_tree x.edge) (both (name_tree x.name.items) (row_of (map chosen_tree x.selects.items)))
+
+-- what stands between two terms of an event control
+abbrev pub separator_tree : Separator → Tree
+separator_tree r.Or = leaf (a_word w.Or)
+separator_tree r.Comma = leaf (a_mark m.Comma)
+
+-- a term of an event control, behind what stands before it
+abbrev pub other_event_tree : Separator × EventExpr → Tree
+other_event_tree x = both (separator_tree x.0) (event_expr_tree x.1)
+
+-- what an event control waits for
+abbrev pub event_tree : EventControl → Tree
+event_tree v.Star = leaf (a_mark m.Star)
+event_tree v.GroupedStar = both (leaf (a_mark m.Open)) (closed_tree (leaf (a_mark m.Star)))
+event_tree (v.Name n) = name_tree n.items
+event_tree (v.Terms x xs) =
+    both (leaf (a_mark m.Open)) (closed_tree (both (event_expr_tree x) (row_of (map other_event_tree xs.items))))
+
 -- a statement, where the trees of the inner ones stand in their place
 abbrev pub stmt_step : Stmt-F Tree → Tree
 stmt_step s.Null = down (both (leaf (a_mark m.Semicolon)) empty)
 stmt_step (s.Assign l x) = assigned_tree l m.Assign x
 stmt_step (s.Later l x) = assigned_tree l m.LessEqual x
 stmt_step (s.Block xs) = down (both (leaf (a_word w.Begin)) (both (row_of xs.items) (leaf (a_word w.End))))
-stmt_step (s.Delay l x) = down (both (leaf (a_mark m.Hash)) (both (leaf (a_number l)) x.value))
+stmt_step (s.If c x o) = down (both (leaf (a_word w.If)) (guarded_tree (expr_tree c) (both x.value (else_tree o))))
+stmt_step (s.Case kind x items) =
+    down (both (leaf (a_word (case_word kind))) (guarded_tree (expr_tree x) (case_items_tree items.items)))
+stmt_step (s.For l x c k y body) = down (both (leaf (a_word w.For)) (for_tree l x c k y body.value))
+stmt_step (s.While c x) = down (both (leaf (a_word w.While)) (guarded_tree (expr_tree c) x.value))
+stmt_step (s.Repeat c x) = down (both (leaf (a_word w.Repeat)) (guarded_tree (expr_tree c) x.value))
+stmt_step (s.Forever x) = down (both (leaf (a_word w.Forever)) x.value)
+stmt_step (s.Delay v x) = down (both (leaf (a_mark m.Hash)) (both (delay_tree v) x.value))
+stmt_step (s.Event v x) = down (both (leaf (a_mark m.At)) (both (event_tree v) x.value))
 
 -- a statement
 abbrev pub stmt_tree : Stmt → Tree

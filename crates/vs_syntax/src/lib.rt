@@ -6,7 +6,7 @@ mod tree;
 
 pub use law::{names_are_tokens, one_source, one_tree, plain_reading, tables_agree};
 pub use tree::{
-    Connection, Connections, Constant, Declarator, Direction, Expr, Form, HeaderParameter,
-    Instance, Item, Left, Module, NetAssignment, ParameterForm, PartSelect, Port, PortForm,
-    PortKind, Range, Source, Stmt,
+    CaseLabel, Connection, Connections, Constant, Declarator, DelayValue, Direction, EventControl,
+    EventExpr, Expr, Form, HeaderParameter, Instance, Item, Left, Module, NetAssignment,
+    ParameterForm, PartSelect, Port, PortForm, PortKind, Range, Separator, Source, Stmt,
 };

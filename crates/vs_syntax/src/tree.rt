@@ -1,6 +1,6 @@
 //! The syntax tree.
 use vs_lexer::Literal;
-use vs_logic4::{Binary, Unary};
+use vs_logic4::{Binary, CaseKind, Edge, Unary};
 
 /// A source text: its modules, in the order of the text (IEEE 1364-2005, clause A.1.2).
 #[derive(Drop)]
@@ -179,6 +179,59 @@ pub enum Item {
     Always(Stmt),
 }
 
+/// A delay, in units of time (IEEE 1364-2005, clauses 9.7.1 and A.2.2.3).
+#[derive(Drop)]
+pub enum DelayValue {
+    /// A number.
+    Number(Literal),
+    /// A name.
+    Name(Vec<u8>),
+    /// An expression in parentheses.
+    Group(Expr),
+}
+
+/// A term of an event control (IEEE 1364-2005, clause 9.7.2).
+#[derive(Drop)]
+pub struct EventExpr {
+    /// `posedge` or `negedge`; of neither any change.
+    pub edge: Edge,
+    /// The bytes of the name.
+    pub name: Vec<u8>,
+    /// Its selects, of which there may be none.
+    pub selects: Vec<(Expr, Option<(PartSelect, Expr)>)>,
+}
+
+/// What stands between two terms of an event control (IEEE 1364-2005, clauses 9.7.3 and 9.7.4).
+#[derive(Clone, Copy, PartialEq, Eq, Debug)]
+pub enum Separator {
+    /// `or`
+    Or,
+    /// A comma.
+    Comma,
+}
+
+/// What stands behind the `@` of an event control (IEEE 1364-2005, clauses 9.7.2 to 9.7.5).
+#[derive(Drop)]
+pub enum EventControl {
+    /// `*`
+    Star,
+    /// `(*)`
+    GroupedStar,
+    /// A name.
+    Name(Vec<u8>),
+    /// Terms in parentheses: the first, and each other one with what stands before it.
+    Terms(EventExpr, Vec<(Separator, EventExpr)>),
+}
+
+/// What stands before the statement of a `case` item (IEEE 1364-2005, clause 9.5).
+#[derive(Drop)]
+pub enum CaseLabel {
+    /// Expressions: the first, and the others.
+    Expressions(Expr, Vec<Expr>),
+    /// `default`: whether a colon stands behind it.
+    Default(bool),
+}
+
 /// A statement (IEEE 1364-2005, clause A.6.4).
 #[derive(Drop)]
 pub enum Stmt {
@@ -190,8 +243,22 @@ pub enum Stmt {
     Later(Left, Expr),
     /// `begin`, statements and `end` (clause 9.8.1).
     Block(Vec<Stmt>),
-    /// `#` with a delay in units of time before a statement (clause 9.7.1).
-    Delay(Literal, Box<Stmt>),
+    /// `if`: the condition, the statement behind it, and that behind `else`, where there is one (clause 9.4).
+    If(Expr, Box<Stmt>, Option<Box<Stmt>>),
+    /// `case`, `casez` or `casex`: the expression, and the items in the order of the text, of which there is at least one (clause 9.5).
+    Case(CaseKind, Expr, Vec<(CaseLabel, Stmt)>),
+    /// `for`: the two sides of the first assignment, the condition, the two sides of the second assignment, and the statement (clause 9.6).
+    For(Left, Expr, Expr, Left, Expr, Box<Stmt>),
+    /// `while`: the condition and the statement (clause 9.6).
+    While(Expr, Box<Stmt>),
+    /// `repeat`: the count and the statement (clause 9.6).
+    Repeat(Expr, Box<Stmt>),
+    /// `forever` and its statement (clause 9.6).
+    Forever(Box<Stmt>),
+    /// `#`, a delay, and the statement behind it (clause 9.7.1).
+    Delay(DelayValue, Box<Stmt>),
+    /// `@`, what it waits for, and the statement behind it (clause 9.7.2).
+    Event(EventControl, Box<Stmt>),
 }
 
 /// The left side of an assignment (IEEE 1364-2005, clauses 6.1.2 and 9.2).

@@ -36,7 +36,7 @@ use Rattle.vs_selects.specs.passes.Measures.{meaning}
 use Rattle.vs_selects.specs.passes.Places.{IsPlaced, IsFixed}
 use Rattle.vs_selects.proofs.FixingLemmas.{fixed_range, fixed_reads, chosen_range}
 use Rattle.vs_targets.specs.declared.kinds.AssignmentKind.{AssignmentKind}
-use Rattle.vs_targets.specs.declared.kinds.AssignmentKind.TheVariants.{Procedural, Continuous}
+use Rattle.vs_targets.specs.declared.kinds.AssignmentKind.TheVariants.{Procedural, Continuous, Event}
 use Rattle.vs_targets.specs.Lefts.{wanted, takes_bound, takes_reads, name_aimed}
 use Rattle.vs_targets.specs.Aiming.{is_none_read, is_fixed, IsPlace, IsTarget}
 use Rattle.vs_targets.specs.passes.Aims.{takes_aim, IsAim, IsTakenAim, select_passes, AreWithin}
@@ -136,6 +136,8 @@ reads_out how (a.Fixed s) rs e h = cc
 reads_out Procedural (a.Chosen s word low) rs e h = h
 reads_out Continuous (a.Chosen s word low) [] e h = sym e
 reads_out Continuous (a.Chosen s word low) (r ∷ rs) e h = refl
+reads_out Event (a.Chosen s word low) [] e h = sym e
+reads_out Event (a.Chosen s word low) (r ∷ rs) e h = refl
 
 pub reads_refused : (how : AssignmentKind) (b : Binding) (ss : List Select) (x : Aim) → IsAim (named (Some b) ss) x → takes_aim how x ≡ false → stands NotConstant (name_aimed how (Some b) ss).finding ≡ true
 reads_refused how b ss x p h =
@@ -145,6 +147,7 @@ reads_refused how b ss x p h =
 pub unknown_refused : (how : AssignmentKind) (ss : List Select) → stands Unknown (name_aimed how None ss).finding ≡ true
 unknown_refused Procedural ss = refl
 unknown_refused Continuous ss = refl
+unknown_refused Event ss = refl
 
 -- ---- places
 
@@ -201,6 +204,9 @@ reads_taken Procedural x rs e h = refl
 reads_taken Continuous x [] e h = refl
 reads_taken Continuous (a.Fixed s) (r ∷ rs) e h = sym e
 reads_taken Continuous (a.Chosen s word low) (r ∷ rs) e h = h
+reads_taken Event x [] e h = refl
+reads_taken Event (a.Fixed s) (r ∷ rs) e h = sym e
+reads_taken Event (a.Chosen s word low) (r ∷ rs) e h = h
 
 pub taken_aim : (how : AssignmentKind) (b : Binding) (ss : List Select) (x : Aim) → takes_bound how (Some b) ≡ true → IsAim (named (Some b) ss) x → takes_aim how x ≡ true → IsTakenAim how b ss x
 taken_aim how b ss x h p k = record { is = p; taken = h; constant = reads_taken how x (named (Some b) ss).reads p.fixed k }

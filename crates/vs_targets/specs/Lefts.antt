@@ -21,7 +21,7 @@ use Rattle.vs_selects.specs.Findings.{Finding, Lacks, stands, wrong_kind, not_co
 use Rattle.vs_selects.specs.Selects.{Select, Named, named}
 use Rattle.vs_widths.specs.Expressions.{meant_selects}
 use Rattle.vs_targets.specs.declared.kinds.AssignmentKind.{AssignmentKind}
-use Rattle.vs_targets.specs.declared.kinds.AssignmentKind.TheVariants.{Procedural, Continuous}
+use Rattle.vs_targets.specs.declared.kinds.AssignmentKind.TheVariants.{Procedural, Continuous, Event}
 
 -- What the left side of an assignment means: its size, and what its places are, the lowest first (clauses 6.1 and 9.2).
 pub record Aimed : Type 0 where
@@ -33,10 +33,12 @@ abbrev pub wanted : (WidthReason → Bool) → Bool → Finding → Finding
 wanted faults true found = found
 wanted faults false found = Lacks (λ r. faults r || stands r found)
 
--- whether an assignment of this kind may assign to a signal of that kind: procedural to variables, continuous to nets (clauses 6.1 and 9.2)
+-- whether an assignment of this kind may assign to a signal of that kind: procedural to variables, continuous to nets; an event control waits for
+-- any (clauses 6.1, 9.2 and 9.7.2)
 abbrev pub takes : AssignmentKind → SignalKind → Bool
 takes Procedural kind = is_variable kind
 takes Continuous kind = not (is_variable kind)
+takes Event kind = true
 
 -- the same of what a name is bound to: what is no signal is assigned nothing; a name that isn't declared has a fault of its own
 abbrev pub takes_bound : AssignmentKind → Option Binding → Bool
@@ -46,11 +48,14 @@ takes_bound how (Some (Constant c)) = false
 takes_bound how (Some Pending) = false
 takes_bound how (Some Other) = false
 
--- whether the target of an assignment of this kind may have indices that read this: of a continuous one they are constant (clause 6.1)
+-- whether the target of an assignment of this kind may have indices that read this: of a continuous one, and of what an event control waits for,
+-- they are constant (clause 6.1; events: profile)
 abbrev pub takes_reads : AssignmentKind → List BitRange → Bool
 takes_reads Procedural reads = true
 takes_reads Continuous [] = true
 takes_reads Continuous (r ∷ rs) = false
+takes_reads Event [] = true
+takes_reads Event (r ∷ rs) = false
 
 -- what a name with its selects means as a target, by what the name is bound to (clauses 6.1 and 9.2)
 abbrev pub name_aimed : AssignmentKind → Option Binding → List Select → Aimed

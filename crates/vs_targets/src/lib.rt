@@ -5,6 +5,8 @@
 mod aiming;
 mod kinds;
 mod lefts;
+mod selected;
 
 pub use kinds::{AssignmentKind, takes_kind};
 pub use lefts::{expr_target, is_left, name_target, target};
+pub use selected::selected_target;

@@ -262,7 +262,7 @@ pub record IsSoundScope (ms : List Module) (s : Scope) : Type 0 where
 -- the condition of a fault of a scope's own members, with its path
 abbrev pub HoldsOwn : Scope → Reason → Path → Type 0
 HoldsOwn s PortMismatch p = HasWrongPort s p
-HoldsOwn s DeclaredTwice p = DeclaresTwice s p
+HoldsOwn s DeclaredTwice p = DeclaresTwice s p ⊎ HasFault s DeclaredTwice p
 HoldsOwn s Limit p = PassesLimit s p ⊎ HasRangeFault s Limit p ⊎ HasFault s Limit p
 HoldsOwn s (Width w) p = HasRangeFault s (Width w) p ⊎ HasPortFault s (Width w) p ⊎ HasFault s (Width w) p
 HoldsOwn s _ p = ⊥

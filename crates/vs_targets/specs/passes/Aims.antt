@@ -17,7 +17,7 @@ use Rattle.vs_selects.specs.Findings.{Has, unsigned, Refuses}
 use Rattle.vs_selects.specs.Selects.{Select, Named, named, named_range}
 use Rattle.vs_widths.specs.Typing.{HoldsOfSignals}
 use Rattle.vs_targets.specs.declared.kinds.AssignmentKind.{AssignmentKind}
-use Rattle.vs_targets.specs.declared.kinds.AssignmentKind.TheVariants.{Procedural, Continuous}
+use Rattle.vs_targets.specs.declared.kinds.AssignmentKind.TheVariants.{Procedural, Continuous, Event}
 use Rattle.vs_targets.specs.Lefts.{Aimed, takes_bound, takes_reads, name_aimed}
 use Rattle.vs_targets.specs.Aiming.{is_none_read, is_fixed, has_sized_indices, named_part, IsTarget}
 
@@ -31,11 +31,13 @@ pub record IsAim (n : Named) (a : Aim) : Type 0 where
   pub sizes : has_sized_indices a ≡ true
   pub part : (digits : List Digit) (store : Store) (time : ℕ) → part_at a digits store time ≡ named_part n digits store time
 
--- whether the target of an assignment of this kind may have such a place: that of a continuous one has constant indices alone (clause 6.1)
+-- whether the target of an assignment of this kind may have such a place: that of a continuous one, and what an event control waits for, has
+-- constant indices alone (clause 6.1; events: profile)
 abbrev pub takes_aim : AssignmentKind → Aim → Bool
 takes_aim how (Fixed s) = true
 takes_aim Procedural (Chosen s word low) = true
 takes_aim Continuous (Chosen s word low) = false
+takes_aim Event (Chosen s word low) = false
 
 -- the same of what is bound to a name, where an assignment takes it
 pub record IsTakenAim (how : AssignmentKind) (b : Binding) (ss : List Select) (a : Aim) : Type 0 where

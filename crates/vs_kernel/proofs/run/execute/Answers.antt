@@ -1,9 +1,12 @@
-use Rattle.std.proofs.Common.{◌≡◌, ◌∙◌, ◌<◌, ◌≤◌, sym, false, true, subst, arith}
+use Rattle.std.proofs.Common.{◌≡◌, ◌∙◌, ◌<◌, ◌≤◌, sym, ap, map, false, true, subst, arith}
 use Rattle.std.proofs.lemmas.Bool.{false≢true}
-use Rattle.vs_process.specs.Executions.{is_complete}
+use Rattle.vs_process.specs.Executions.{is_combinational, is_complete}
 use Rattle.vs_process.specs.States.{State}
+use Rattle.vs_process.specs.Blocks.{inside_block}
 use Rattle.vs_state.specs.Touches.{HasSources}
-use Rattle.vs_kernel.proofs.RunsLemmas.{begins, goes_on, limited, incomplete, complete_past, complete_over, reached, quiet, header_failed, move_failed, end_failed, part_failed, slots_whole, on_err}
+use Rattle.vs_state.specs.Waits.{HasTerms}
+use Rattle.vs_state.proofs.TermsLemmas.{has_terms}
+use Rattle.vs_kernel.proofs.RunsLemmas.{append_none, begins, inside_next, permitted, permitted_block, goes_on, limited, incomplete, complete_past, complete_over, reached, quiet, header_failed, move_failed, end_failed, part_failed, slots_whole, on_err}
 use Rattle.vs_state.specs.Sources.{has_sources}
 use Rattle.vs_kernel.proofs.run.execute.Goals as goal
 use Rattle.vs_kernel.proofs.run.execute.Goals.{then-loop-state-test+else-time-until, else-loop-state-test}
@@ -11,11 +14,14 @@ use Rattle.vs_kernel.proofs.run.execute.Goals.{then-loop-state-test+else-time-un
 pub loop-state-init : goal.loop-state-init
 loop-state-init g c = record {
   run = begins c.requires.start c.in_ok-writer.ensures.written c.in_ok-writer.ensures.bytes;
+  inside = sym (ap (λ (s : State). inside_block c.args.design.now.processes s.places) c.requires.start ∙ c.none_inside_first.ensures c.args.design.now);
   failures = c.in_ok-writer.ensures.failures;
 }
 
 pub choose-next-requires : goal.choose-next-requires
-choose-next-requires g c = record { going = sym c.is_over.ensures.over ∙ c.loop-state-test.true }
+choose-next-requires g c = record {
+  goes_on = λ process is. c.inside_goes_on.ensures c.args.design.now c.loop-state.state process (sym c.loop-state.invariant.inside ∙ is);
+}
 
 pub advance-requires : goal.advance-requires
 advance-requires g c = record {
@@ -23,15 +29,22 @@ advance-requires g c = record {
   enabled = c.choose-next.ensures.enabled;
   early = omega (arith, c.requires.early, c.time.ensures, c.if-time-until.true);
   sources = subst (λ (s : State). HasSources c.args.design.now s) c.loop-state.invariant.run.state (has_sources c.args.design.now c.loop-state.invariant.run.moves);
+  terms = subst (λ (s : State). HasTerms c.args.design.now s) c.loop-state.invariant.run.state (has_terms c.args.design.now c.loop-state.invariant.run.moves);
 }
 
 pub loop-state-preserved : goal.loop-state-preserved
 loop-state-preserved g c =
     let over = sym c.is_over.ensures.over ∙ c.loop-state-test.true in
     let early : c.loop-state.state.time ≤ c.args.until = omega (arith, c.time.ensures, c.if-time-until.true) in
+    let block =
+    permitted_block c.loop-state.invariant.run c.blocks_exclude.ensures c.loop-state.inside c.choose-next.result.choice c.loop-state.invariant.inside over c.choose-next.ensures.enabled c.choose-next.ensures.free
+    in
     record {
+      inside =
+          inside_next c.args.design.now c.loop-state.state c.advance.new.state c.choose-next.result.choice c.deref.result.now c.inside_behind-inside.result
+          c.inside_follows.ensures (c.deref.ensures.value ∙ c.in_ok-blocks.ensures ∙ ap (map is_combinational) c.processes.ensures) block c.in_ok-advance.ensures c.inside_behind-inside.ensures;
       run =
-          goes_on c.loop-state.invariant.run c.choose-next.result.choice (c.choose-next.ensures.statement c.args.design.now) (c.choose-next.ensures.block c.args.design.now)
+          goes_on c.loop-state.invariant.run c.choose-next.result.choice (permitted c.args.design.now c.loop-state.state c.choose-next.result.choice over c.choose-next.ensures.enabled) block
           (incomplete c.args.until c.loop-state.state over early) c.if-count-steps.false c.in_ok-advance.ensures
           (c.in_ok-note.ensures.written c.args.design.now) (c.in_ok-note.ensures.bytes c.args.design.now);
       failures = c.in_ok-note.ensures.failures ∙ c.loop-state.invariant.failures;
@@ -55,6 +68,9 @@ returns-clause-ran g c =
     in
     reached c.loop-state.invariant.run going late c.is_over-2.ensures.finishing (c.in_ok-finish.ensures.bytes c.args.design.now)
 
+pub returns-in_err-blocks-clause-begun : goal.returns-in_err-blocks-clause-begun
+returns-in_err-blocks-clause-begun g c = on_err _ (header_failed (0, append_none _))
+
 pub returns-in_err-writer-clause-begun : goal.returns-in_err-writer-clause-begun
 returns-in_err-writer-clause-begun g c = on_err _ (header_failed (part_failed _ _ _ _ c.in_err-writer.ensures.bytes))
 
@@ -63,7 +79,9 @@ returns-in_err-note-clause-begun g c =
     let over = sym c.is_over.ensures.over ∙ c.loop-state-test.true in
     let early : c.loop-state.state.time ≤ c.args.until = omega (arith, c.time.ensures, c.if-time-until.true) in
     on_err _
-    (move_failed c.loop-state.invariant.run c.choose-next.result.choice (c.choose-next.ensures.statement c.args.design.now) (c.choose-next.ensures.block c.args.design.now) over c.is_over.ensures.finishing
+    (move_failed c.loop-state.invariant.run c.choose-next.result.choice (permitted c.args.design.now c.loop-state.state c.choose-next.result.choice over c.choose-next.ensures.enabled)
+    (permitted_block c.loop-state.invariant.run c.blocks_exclude.ensures c.loop-state.inside c.choose-next.result.choice c.loop-state.invariant.inside over c.choose-next.ensures.enabled c.choose-next.ensures.free)
+    over c.is_over.ensures.finishing
     (incomplete c.args.until c.loop-state.state over early) c.if-count-steps.false (c.in_err-note.ensures.part c.args.design.now))
 
 pub returns-in_err-advance-clause-begun : goal.returns-in_err-advance-clause-begun
@@ -71,7 +89,9 @@ returns-in_err-advance-clause-begun g c =
     let over = sym c.is_over.ensures.over ∙ c.loop-state-test.true in
     let early : c.loop-state.state.time ≤ c.args.until = omega (arith, c.time.ensures, c.if-time-until.true) in
     on_err _
-    (move_failed c.loop-state.invariant.run c.choose-next.result.choice (c.choose-next.ensures.statement c.args.design.now) (c.choose-next.ensures.block c.args.design.now) over c.is_over.ensures.finishing
+    (move_failed c.loop-state.invariant.run c.choose-next.result.choice (permitted c.args.design.now c.loop-state.state c.choose-next.result.choice over c.choose-next.ensures.enabled)
+    (permitted_block c.loop-state.invariant.run c.blocks_exclude.ensures c.loop-state.inside c.choose-next.result.choice c.loop-state.invariant.inside over c.choose-next.ensures.enabled c.choose-next.ensures.free)
+    over c.is_over.ensures.finishing
     (incomplete c.args.until c.loop-state.state over early) c.if-count-steps.false (λ before h. slots_whole _ _ c.args.design.now before _ (c.in_ok-note.ensures.bytes c.args.design.now before h)))
 
 pub returns-in_err-finish-clause-begun : goal.returns-in_err-finish-clause-begun

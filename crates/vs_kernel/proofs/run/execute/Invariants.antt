@@ -1,10 +1,12 @@
 use Rattle.std.proofs.Common.{◌≡◌, ◌-◌}
+use Rattle.vs_process.specs.Blocks.{inside_block}
 use Rattle.vs_kernel.proofs.RunsLemmas.{HasRun}
 use Rattle.vs_kernel.proofs.run.execute.Given as goal
 
 abbrev pub invariant-loop-state : goal.invariant-loop-state
 invariant-loop-state g l = record {
   run : HasRun l.design l.until l.steps l.count l.state l.writer (g.V.Sink.bytes l.fn.vcd) (g.V.Sink.bytes l.vcd);
+  inside : l.inside ≡ inside_block l.design.processes l.state.places;
   failures : g.V.Sink.failed l.vcd ≡ g.V.Sink.failed l.fn.vcd;
 }
 

@@ -5,7 +5,7 @@ use Rattle.vs_syntax.specs.Reading.{stuck_first, stuck_second}
 use Rattle.vs_syntax.proofs.Gets.{gets_seq}
 use Rattle.vs_expressions.specs.Answers.{seen}
 use Rattle.vs_expressions.proofs.Exits.{fails_by}
-use Rattle.vs_parser.specs.Lists.{behind_commas}
+use Rattle.vs_statements.specs.Lists.{behind_commas}
 use Rattle.vs_parser.proofs.declaration.declared.Goals as goal
 
 pub returns-in_err-said : goal.returns-in_err-said

@@ -4,7 +4,7 @@ use Rattle.vs_syntax.specs.Reading.{stuck_first}
 use Rattle.vs_expressions.specs.Answers.{seen}
 use Rattle.vs_expressions.proofs.Exits.{fails_by}
 use Rattle.vs_parser.specs.Heads.{ports_within}
-use Rattle.vs_parser.proofs.Lists.{pushed_one}
+use Rattle.vs_statements.proofs.Lists.{pushed_one}
 use Rattle.vs_parser.proofs.Headers.{no_ports, ports_stuck, ports_answers}
 use Rattle.vs_parser.proofs.header.ports.Goals as goal
 

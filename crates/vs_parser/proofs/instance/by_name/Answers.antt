@@ -5,9 +5,9 @@ use Rattle.vs_syntax.specs.Views.{connection_tree}
 use Rattle.vs_syntax.proofs.Gets.{gets_seq}
 use Rattle.vs_expressions.specs.Answers.{seen}
 use Rattle.vs_expressions.proofs.Exits.{fails_by}
-use Rattle.vs_parser.specs.Lists.{behind_commas}
+use Rattle.vs_statements.specs.Lists.{behind_commas}
 use Rattle.vs_parser.proofs.Instances.{named}
-use Rattle.vs_parser.proofs.Lists.{grown_none}
+use Rattle.vs_statements.proofs.Lists.{grown_none}
 use Rattle.vs_parser.proofs.instance.by_name.Goals as goal
 
 pub returns-in_err-first : goal.returns-in_err-first

@@ -1,5 +1,6 @@
 use Rattle.std.proofs.Common.{◌≡◌, drop}
-use Rattle.vs_state.specs.Touches.{all_woken, sees}
+use Rattle.vs_edges.specs.Differences.{sees}
+use Rattle.vs_state.specs.Touches.{all_woken}
 use Rattle.vs_state.proofs.changes.wake_readers.Given as goal
 
 abbrev pub invariant-loop-reader : goal.invariant-loop-reader

@@ -3,6 +3,7 @@ use Rattle.std.proofs.lemmas.Option.{slice_get_read}
 use Rattle.vs_process.specs.States.{AssignState, State}
 use Rattle.vs_state.specs.Sources.{sources-set}
 use Rattle.vs_state.specs.Touches.{HasSources}
+use Rattle.vs_state.specs.Waits.{HasTerms}
 use Rattle.vs_state.proofs.ExecutionsLemmas.{propagate_at}
 use Rattle.vs_state.proofs.state.State.propagate.Goals as goal
 
@@ -27,4 +28,5 @@ write-requires c =
       sources =
           sources-set assigns c.args.assign c.in-Some.x.now c.settle.new.self here (ap (λ (x : AssignState). x.source) c.settle.ensures)
           ∙ subst (λ (s : State). HasSources c.args.design.now s) (sym c.self.view_is) c.requires.sources;
+      terms = subst (λ (s : State). HasTerms c.args.design.now s) (sym c.self.view_is) c.requires.terms;
     }

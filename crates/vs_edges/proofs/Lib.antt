@@ -1,0 +1,3 @@
+pub mod DifferencesLemmas
+pub mod StoresLemmas
+pub mod WakingLemmas

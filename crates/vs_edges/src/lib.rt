@@ -1,0 +1,12 @@
+//! When event controls wake (IEEE 1364-2005, clause 9.7.2).
+//!
+//! A change is judged word by word: a write wakes what the words that its parts name wake, each compared before and behind the whole write.
+#![tactic(auto)]
+
+mod differences;
+mod laws;
+mod waking;
+
+pub use differences::{difference, sees};
+pub use laws::waking_by_words;
+pub use waking::woken;

@@ -1,0 +1,74 @@
+//! Whether the change of a word wakes an event control.
+ghost use Rattle.std.specs.Prelude.{◌≡◌, ◌==◌, length, Some};
+ghost use Rattle.vs_edges.specs.Waking.{edge_digit, edge_word, is_edge_of, term_wakes, word_wakes};
+
+use crate::differences::{difference, sees};
+use vs_design::{Bits, EventTerm};
+use vs_logic4::{Digit, Edge, Vec4};
+
+/// The lowest of those of a word's digits that a range of bits has, where there is one.
+fn edge_digit(bits: Option<Bits>, word: Vec4) -> Option<Digit>
+    ensures { result ≡ edge_digit bits (Some word) }
+{
+    let Some(b) = bits else {
+        return Some(word.digit(0));
+    };
+    if b.width > 0 && b.low < word.width() {
+        Some(word.digit(b.low))
+    } else {
+        None
+    }
+}
+
+/// Whether the change of a word is such an edge of the lowest bit of a range.
+fn is_edge_in(edge: Edge, bits: Option<Bits>, before: Vec4, behind: Vec4) -> bool
+    ensures { result ≡ is_edge_of edge (edge_digit bits (Some before)) (edge_digit bits (Some behind)) }
+{
+    match (edge_digit(bits, before), edge_digit(bits, behind)) {
+        (Some(before), Some(behind)) => edge.is_between(before, behind),
+        _ => false,
+    }
+}
+
+/// Whether this word is the first of those that a range has.
+fn is_edge_word(only: Option<usize>, word: usize) -> bool
+    ensures { result ≡ (edge_word only == word) }
+{
+    match only {
+        None => word == 0,
+        Some(first) => first == word,
+    }
+}
+
+/// Whether the change of one word of a signal wakes a term.
+fn wakes(term: EventTerm, signal: usize, word: usize, before: Vec4, behind: Vec4) -> bool
+    requires { length before ≡ length behind }
+    ensures { result ≡ term_wakes signal word (Some before) (Some behind) term }
+{
+    if term.range.signal != signal {
+        return false;
+    }
+    match term.edge {
+        Edge::Any => sees(term.range, word, difference(before, behind)),
+        edge => {
+            is_edge_word(term.range.word, word) && is_edge_in(edge, term.range.bits, before, behind)
+        }
+    }
+}
+
+/// Whether the change of one word of a signal from `before` to `behind`, which are of one size, wakes one of these terms
+/// (IEEE 1364-2005, clause 9.7.2).
+pub fn woken(terms: &[EventTerm], signal: usize, word: usize, before: Vec4, behind: Vec4) -> bool
+    requires { length before ≡ length behind }
+    ensures { result ≡ word_wakes terms.now signal word (Some before) (Some behind) }
+{
+    if before == behind {
+        return false;
+    }
+    for term in terms {
+        if wakes(*term, signal, word, before, behind) {
+            return true;
+        }
+    }
+    false
+}

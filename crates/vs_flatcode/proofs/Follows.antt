@@ -1,0 +1,117 @@
+-- The code of a process does what the process does.
+use Rattle.std.proofs.Common.{Global, ◌≡◌, ℕ, zero, suc, ◌<◌, Bool, true, false, Option, Some, None, List, [], ◌∷◌, ◌++◌, length, refl, sym, ◌∙◌, ap, subst, arith}
+use Rattle.std.specs.Prelude.{slice_get, Vec, find, if◌then◌else◌}
+use Rattle.vs_logic4.specs.declared.digit.Digit.{Digit}
+use Rattle.vs_logic4.specs.declared.digit.Digit.TheVariants.{Zero, One, X, Z}
+use Rattle.vs_logic4.specs.Comparisons.{truth}
+use Rattle.vs_design.specs.declared.expression.Typed.{Typed}
+use Rattle.vs_design.specs.declared.statement.Statement.{Statement}
+use Rattle.vs_design.specs.declared.statement.Statement.TheOpen.{Statement-F}
+use Rattle.vs_design.specs.declared.statement.Statement.TheViews.{out-Statement}
+use Rattle.vs_design.specs.Stores.{Store}
+use Rattle.vs_eval.specs.Values.{value_of}
+use Rattle.vs_flatcode.specs.declared.draft.Op.{Op}
+use Rattle.vs_flatcode.specs.declared.draft.Task.{Task}
+use Rattle.vs_flatcode.specs.declared.draft.Task.TheVariants.{Perform, Turns}
+use Rattle.vs_flatcode.specs.declared.made.Made.{Made}
+use Rattle.vs_flatcode.specs.Places.{Todo, flat, perform}
+use Rattle.vs_flatcode.specs.Steps.{step, statement_step, branch, first_of, flat_item, repeated, item_matches, is_default, turns_for}
+use Rattle.vs_flatcode.specs.Links.{Link, todo_at, item_of}
+use Rattle.vs_flatcode.specs.Codes.{Layout, IsCode, IsTurn, LeadAll, FitsStatement, FitsTask, links_of, link_of, layout_of, job_of}
+use Rattle.vs_flatcode.specs.Landings.{Landing, landing, made_out, IsMade, turned, start_where, place_or, layer_lands, lands, todo_behind}
+use Rattle.vs_flatcode.proofs.Links.{todo_here}
+use Rattle.vs_flatcode.proofs.Drafts.{link_here}
+
+-- what is done from one of two places on
+branch_leads : (links : List Link) (cs : List ℕ) (d : Digit) (a b : Todo) (p q : ℕ) → todo_at links cs p ≡ a → todo_at links cs q ≡ b → branch d a b ≡ todo_at links cs (branch d p q)
+branch_leads links cs One a b p q h k = sym h
+branch_leads links cs Zero a b p q h k = sym k
+branch_leads links cs X a b p q h k = sym k
+branch_leads links cs Z a b p q h k = sym k
+
+branch_front : (d : Digit) (a b rest : Todo) → branch d a b ++ rest ≡ branch d (a ++ rest) (b ++ rest)
+branch_front One a b rest = refl
+branch_front Zero a b rest = refl
+branch_front X a b rest = refl
+branch_front Z a b rest = refl
+
+-- a `repeat` with so many turns left
+turned_leads : (c : Layout) (x : Op) (s : Statement) (cs : List ℕ) (left : ℕ) → length cs ≡ c.counters → IsTurn c x.counter s x.first x.behind →
+    repeated left s (todo_at c.links cs x.behind) ≡ todo_at c.links (turned left x cs).counters (turned left x cs).place
+turned_leads c x s cs zero e h = refl
+turned_leads c x s cs (suc left) e h = sym (h.leads cs left (omega (arith, h.below, e)))
+
+-- one item more
+found_one : (links : List Link) (cs : List ℕ) (behind : ℕ) (b : Bool) (i : Vec Typed Global × Statement) (p : ℕ) (f : Option (Vec Typed Global × Statement)) (g : Option ℕ) (other : Option (Vec Typed Global × Statement)) (start : Option ℕ) →
+    flat i.1 ++ todo_at links cs behind ≡ todo_at links cs p → flat_item (first_of f other) ++ todo_at links cs behind ≡ todo_at links cs (place_or behind (first_of g start)) →
+    flat_item (first_of (if b then Some i else f) other) ++ todo_at links cs behind ≡ todo_at links cs (place_or behind (first_of (if b then Some p else g) start))
+found_one links cs behind true i p f g other start h e = h
+found_one links cs behind false i p f g other start h e = e
+
+-- an item that is found starts where it must
+found_leads : (links : List Link) (cs : List ℕ) (test : Vec Typed Global × Statement → Bool) (items : List (Vec Typed Global × Statement)) (starts : List ℕ) (behind : ℕ) →
+    LeadAll links items starts behind → (other : Option (Vec Typed Global × Statement)) (start : Option ℕ) → flat_item other ++ todo_at links cs behind ≡ todo_at links cs (place_or behind start) →
+    flat_item (first_of (find test items) other) ++ todo_at links cs behind ≡ todo_at links cs (place_or behind (first_of (start_where test items starts) start))
+found_leads links cs test [] [] behind h other start e = e
+found_leads links cs test [] (p ∷ starts) behind h other start e = absurd h
+found_leads links cs test (i ∷ items) [] behind h other start e = absurd h
+found_leads links cs test (i ∷ items) (p ∷ starts) behind h other start e =
+    found_one links cs behind (test i) i p (find test items) (start_where test items starts) other start (sym (h.0 cs)) (found_leads links cs test items starts behind h.1 other start e)
+
+first_none : {A : Type 0} (o : Option A) → first_of o None ≡ o
+first_none None = refl
+first_none (Some x) = refl
+
+default_leads : (links : List Link) (cs : List ℕ) (items : List (Vec Typed Global × Statement)) (starts : List ℕ) (behind : ℕ) → LeadAll links items starts behind →
+    flat_item (find is_default items) ++ todo_at links cs behind ≡ todo_at links cs (place_or behind (start_where is_default items starts))
+default_leads links cs items starts behind h =
+    ap (λ (o : Option (Vec Typed Global × Statement)). flat_item o ++ todo_at links cs behind) (sym (first_none (find is_default items)))
+    ∙ found_leads links cs is_default items starts behind h None None refl
+    ∙ ap (λ (o : Option ℕ). todo_at links cs (place_or behind o)) (first_none (start_where is_default items starts))
+
+follows_statement : (c : Layout) (x : Op) (here : ℕ) (cs : List ℕ) (s : Statement) (f : Statement-F Statement) (store : Store) (time : ℕ) → length cs ≡ c.counters → FitsStatement c x here s f →
+    todo_at c.links cs here ≡ perform s ∷ todo_at c.links cs x.behind →
+    todo_behind (statement_step s f (todo_at c.links cs x.behind) store time).next ≡ todo_at c.links (layer_lands x f cs store time).counters (layer_lands x f cs store time).place
+follows_statement c x here cs s (Statement-F.Null n) store time e h at = refl
+follows_statement c x here cs s (Statement-F.Assign n t v) store time e h at = refl
+follows_statement c x here cs s (Statement-F.Later n t v) store time e h at = refl
+follows_statement c x here cs s (Statement-F.Block all) store time e h at = sym (h cs)
+follows_statement c x here cs s (Statement-F.Delay n ticks body) store time e h at = sym (h cs)
+follows_statement c x here cs s (Statement-F.Event n terms body) store time e h at = sym (h cs)
+follows_statement c x here cs s (Statement-F.If n v a b) store time e h at =
+    branch_front (truth (value_of v store time)) (flat a.value) (flat b.value) (todo_at c.links cs x.behind)
+    ∙ branch_leads c.links cs (truth (value_of v store time)) (flat a.value ++ todo_at c.links cs x.behind) (flat b.value ++ todo_at c.links cs x.behind) x.first x.second (h.0 cs) (h.1 cs)
+follows_statement c x here cs s (Statement-F.Case n kind v items) store time e h at =
+    found_leads c.links cs (item_matches kind (value_of v store time) store time) items.items x.starts.items x.behind h (find is_default items.items) (start_where is_default items.items x.starts.items)
+    (default_leads c.links cs items.items x.starts.items x.behind h)
+follows_statement c x here cs s (Statement-F.While n v body) store time e h at =
+    branch_leads c.links cs (truth (value_of v store time)) (flat body.value ++ perform s ∷ todo_at c.links cs x.behind) (todo_at c.links cs x.behind) x.first x.behind
+    (h cs ∙ ap (λ (t : Todo). flat body.value ++ t) at) refl
+follows_statement c x here cs s (Statement-F.Repeat n signed v body) store time e h at = turned_leads c x body.value cs (turns_for signed (value_of v store time)) e h
+follows_statement c x here cs s (Statement-F.Forever n body) store time e h at = sym (h cs ∙ ap (λ (t : Todo). flat body.value ++ t) at)
+
+follows_task : (c : Layout) (x : Op) (here : ℕ) (cs : List ℕ) (task : Task) (store : Store) (time : ℕ) → length cs ≡ c.counters → FitsTask c x here task →
+    todo_at c.links cs here ≡ item_of cs (job_of x.counter task) ∷ todo_at c.links cs x.behind →
+    todo_behind (step (item_of cs (job_of x.counter task) ∷ todo_at c.links cs x.behind) store time).next ≡ todo_at c.links (lands x task cs store time).counters (lands x task cs store time).place
+follows_task c x here cs (Perform s) store time e h at = follows_statement c x here cs s.now (out-Statement s.now) store time e h at
+follows_task c x here cs (Turns s) store time e h at = turned_leads c x s.now cs (Rattle.std.proofs.Common.get_or cs x.counter 0) e h
+
+-- an instruction leads to what the process has to do behind its step
+pub follows : (ops : List Op) (cs : List ℕ) (i : ℕ) (x : Op) (store : Store) (time : ℕ) → IsCode ops (length cs) → slice_get ops i ≡ Some x →
+    (todo_at (links_of ops) cs (suc i) ≡ item_of cs (job_of x.counter x.task) ∷ todo_at (links_of ops) cs x.behind)
+    × (todo_behind (step (todo_at (links_of ops) cs (suc i)) store time).next ≡ todo_at (links_of ops) (lands x x.task cs store time).counters (lands x x.task cs store time).place)
+follows ops cs i x store time h e =
+    let at : todo_at (links_of ops) cs (suc i) ≡ item_of cs (job_of x.counter x.task) ∷ todo_at (links_of ops) cs x.behind =
+    todo_here (links_of ops) cs i (link_of x) h.linked (link_here ops i x e) in
+    (at, ap (λ (t : Todo). todo_behind (step t store time).next) at ∙ follows_task (layout_of ops (length cs)) x (suc i) cs x.task store time refl (h.fits i x e) at)
+
+-- what a step of the code makes is what the step of the process makes
+pub stepped : (ops : List Op) (cs : List ℕ) (place i : ℕ) (x : Op) (store : Store) (time : ℕ) (made : Made) (next : ℕ) (counters : List ℕ) → IsCode ops (length cs) → place ≡ suc i → slice_get ops i ≡ Some x →
+    landing next counters ≡ lands x x.task cs store time → IsMade (item_of cs (job_of x.counter x.task)) store time made →
+    step (todo_at (links_of ops) cs place) store time ≡ made_out made (todo_at (links_of ops) counters next)
+stepped ops cs place i x store time made next counters h at e l m =
+    let f = follows ops cs i x store time h e in
+    let here : Todo = todo_at (links_of ops) cs (suc i) in
+    ap (λ (p : ℕ). step (todo_at (links_of ops) cs p) store time) at
+    ∙ subst (λ (t : Todo). step t store time ≡ made_out made (todo_behind (step t store time).next)) (sym f.0) (m (todo_at (links_of ops) cs x.behind))
+    ∙ ap (made_out made) (f.1 ∙ ap (λ (k : Landing). todo_at (links_of ops) k.counters k.place) (sym l))

@@ -1,0 +1,186 @@
+//! Where a process stands in its flat code.
+ghost use Rattle.std.specs.Prelude.{◌≡◌, slice_set, IfOk, OnErr, MatchOption};
+ghost use Rattle.vs_flatcode.specs.Places.{perform, flat};
+ghost use Rattle.vs_flatcode.specs.Steps.{step, has_nothing};
+ghost use Rattle.vs_flatcode.specs.Links.{item_of};
+ghost use Rattle.vs_flatcode.specs.Codes.{job_of, StandsAt, IsEnd};
+ghost use Rattle.vs_flatcode.specs.Landings.{landing, turned, statement_lands, lands, made_out, IsMade};
+
+use crate::choices::{assignment, branch, start_taken, turns_for};
+use crate::code::Code;
+use crate::draft::{Op, Task};
+use crate::made::Made;
+use std::alloc::{AllocError, Global};
+use std::marker::Model;
+use vs_design::{Statement, Store};
+use vs_eval::value;
+
+/// Where a process stands in its code, with the counters of its statements `repeat`. A contract sees it as what the process still
+/// has to do.
+#[derive(Drop)]
+pub struct Cursor<'a> {
+    ops: &'a [Op<'a>],
+    place: usize,
+    counters: Vec<u64>,
+}
+
+impl<'a> Model for Cursor<'a> {
+    ghost use Rattle.std.specs.Prelude.{length};
+    ghost use Rattle.std.specs.Coded.{codes};
+    ghost use Rattle.vs_design.specs.contracts.statement.Statement as statement;
+    ghost use Rattle.vs_flatcode.specs.Places.{Todo};
+    ghost use Rattle.vs_flatcode.specs.Links.{todo_at};
+    ghost use Rattle.vs_flatcode.specs.Codes.{links_of, IsCode};
+
+    ghost Value = { Todo };
+
+    ghost coded = { Prim.hlevel (codes, statement.the_row.coded) };
+
+    ghost view = { λ c. todo_at (links_of c.ops.now) c.counters.items c.place };
+
+    ghost invariant = { λ c. IsCode c.ops.now (length c.counters.items) };
+}
+
+// The instruction at a place, where it isn't the end.
+fn op_at<'a>(ops: &'a [Op<'a>], place: usize) -> Option<&'a Op<'a>>
+    ensures { MatchOption result (IsEnd ops.entry.now place) (λ x. StandsAt ops.entry.now place x.now) }
+{
+    if place == 0 {
+        return None;
+    }
+    if place > ops.len() {
+        return None;
+    }
+    Some(&ops[place - 1])
+}
+
+// Sets a counter.
+fn set_counter(counters: &mut Vec<u64>, k: usize, left: u64)
+    ensures { counters.new.items ≡ slice_set counters.old.items k left }
+{
+    if k < counters.len() {
+        counters[k] = left;
+    }
+}
+
+// A test of a `repeat` with so many turns left: where it leads.
+fn turn(op: &Op, counters: &mut Vec<u64>, left: u64) -> usize
+    ensures { landing result counters.new.items ≡ turned left op.now counters.old.items }
+{
+    if left == 0 {
+        return op.behind;
+    }
+    set_counter(counters, op.counter, left - 1);
+    op.first
+}
+
+// The step of a statement: what it makes, and where it leads.
+fn perform<'a>(
+    alloc: Global,
+    op: &Op<'a>,
+    s: &'a Statement,
+    counters: &mut Vec<u64>,
+    store: &Store,
+    time: u64,
+) -> Result<(Made<'a>, usize), AllocError>
+    ensures lands { IfOk result (λ r. landing r.1 counters.new.items
+        ≡ statement_lands op.now s.entry.now counters.old.items store.now time) }
+    ensures made { IfOk result (λ r. IsMade (perform s.entry.now) store.now time r.0) }
+    ensures err { OnErr result (counters.new.items ≡ counters.old.items) }
+{
+    match s {
+        Statement::Null(_) => Ok((Made::Nothing, op.behind)),
+        Statement::Assign(_, target, e) => {
+            let write = assignment(alloc, target, e, store, time)?;
+            Ok((Made::Write(write), op.behind))
+        }
+        Statement::Later(_, target, e) => {
+            let write = assignment(alloc, target, e, store, time)?;
+            Ok((Made::Update(write), op.behind))
+        }
+        Statement::Block(_) => Ok((Made::Nothing, op.first)),
+        Statement::Delay(n, ticks, _) => Ok((Made::Delay(*n, *ticks), op.first)),
+        Statement::Event(n, terms, _) => Ok((Made::Wait(*n, terms), op.first)),
+        Statement::If(_, e, _, _) => {
+            let place = branch(e, store, time, op.first, op.second);
+            Ok((Made::Nothing, place))
+        }
+        Statement::Case(_, kind, e, items) => {
+            let digits = value(e, store, time);
+            let place = start_taken(*kind, digits, store, time, items, &op.starts, op.behind);
+            Ok((Made::Nothing, place))
+        }
+        Statement::While(_, e, _) => {
+            let place = branch(e, store, time, op.first, op.behind);
+            Ok((Made::Nothing, place))
+        }
+        Statement::Repeat(_, signed, e, _) => {
+            let left = turns_for(*signed, value(e, store, time));
+            let place = turn(op, counters, left);
+            Ok((Made::Nothing, place))
+        }
+        Statement::Forever(_, _) => Ok((Made::Nothing, op.first)),
+    }
+}
+
+// The step of an instruction: what it makes, and where it leads.
+fn run<'a>(
+    alloc: Global,
+    op: &Op<'a>,
+    counters: &mut Vec<u64>,
+    store: &Store,
+    time: u64,
+) -> Result<(Made<'a>, usize), AllocError>
+    ensures lands { IfOk result (λ r. landing r.1 counters.new.items
+        ≡ lands op.now op.now.task counters.old.items store.now time) }
+    ensures made { IfOk result (λ r. IsMade (item_of counters.old.items (job_of op.now.counter op.now.task)) store.now time r.0) }
+    ensures err { OnErr result (counters.new.items ≡ counters.old.items) }
+{
+    match op.task {
+        Task::Perform(s) => perform(alloc, op, s, counters, store, time),
+        Task::Turns(_) => {
+            let left = counters.get(op.counter).copied().unwrap_or(0);
+            let place = turn(op, counters, left);
+            Ok((Made::Nothing, place))
+        }
+    }
+}
+
+impl<'a> Cursor<'a> {
+    /// The start of a process with this code.
+    pub fn start(alloc: Global, code: &'a Code<'a>) -> Result<Self, AllocError>
+        ensures { IfOk result (λ cursor. cursor ≡ flat code.entry.now) }
+    {
+        let (ops, counters, place) = code.parts();
+        let counters = vec![in alloc; 0; counters]?;
+        Ok(Cursor {
+            ops,
+            place,
+            counters,
+        })
+    }
+
+    /// Whether the process has nothing left to do.
+    pub fn is_empty(&self) -> bool
+        ensures { result ≡ has_nothing self.now }
+    {
+        match op_at(self.ops, self.place) {
+            Some(_) => false,
+            None => true,
+        }
+    }
+
+    /// One step of the process (IEEE 1364-2005, clauses 9.2 and 9.4 to 9.7) at `time`, in ticks: what it makes beside what the process
+    /// still has to do. Without memory the process stands where it stood.
+    pub fn step(&mut self, alloc: Global, store: &Store, time: u64) -> Result<Made<'a>, AllocError>
+        ensures ok { IfOk result (λ made. step self.old store.now time ≡ made_out made self.new) }
+        ensures err { OnErr result (self.new ≡ self.old) }
+    {
+        let Some(op) = op_at(self.ops, self.place) else {
+            return Ok(Made::Nothing);
+        };
+        let (made, place) = run(alloc, op, &mut self.counters, store, time)?;
+        self.place = place;
+        Ok(made)
+    }
+}

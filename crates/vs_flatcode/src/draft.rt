@@ -1,0 +1,242 @@
+//! The flat code of a process while it is written, from its end to its start.
+ghost use Rattle.std.specs.Prelude.{ℕ, ◌≡◌, ◌≢◌, ◌++◌, ◌∷◌, [], ◌<◌, ◌≤◌, suc, length, map, Some, slice_get, IfOk};
+ghost use Rattle.vs_flatcode.specs.Places.{perform, flat};
+ghost use Rattle.vs_flatcode.specs.Codes.{links_of, layout_of};
+ghost use Rattle.vs_flatcode.specs.Drafts.{flat_all, IsReady, IsEmitted, Written, drafted, AlwaysLeadAll, AlwaysTurn, IsNext, op_of, IsLoop, IsHead};
+
+use std::alloc::{AllocError, Global};
+use vs_design::{Statement, Typed};
+
+/// What is done at a place.
+#[derive(Drop)]
+pub(crate) enum Task<'a> {
+    /// A statement.
+    Perform(&'a Statement),
+    /// A test of a `repeat` that has its count, by the statement in it (IEEE 1364-2005, clause 9.6).
+    Turns(&'a Statement),
+}
+
+/// An instruction: what is done, and the places where it goes on. Place 0 is the end of the code; the instruction of index i has place
+/// i + 1.
+#[derive(Drop)]
+pub(crate) struct Op<'a> {
+    /// What is done.
+    pub(crate) task: Task<'a>,
+    /// The place behind it.
+    pub(crate) behind: usize,
+    /// The start of the statement in it; of an `if` that of the first.
+    pub(crate) first: usize,
+    /// The start of what an `if` does else.
+    pub(crate) second: usize,
+    /// The starts of the items of a `case`.
+    pub(crate) starts: Vec<usize>,
+    /// The counter of a `repeat`: how many others it stands in.
+    pub(crate) counter: usize,
+}
+
+/// The code that has been written.
+#[derive(Drop)]
+pub(crate) struct Draft<'a> {
+    /// Its instructions.
+    pub(crate) ops: Vec<Op<'a>>,
+    /// How many counters they have.
+    pub(crate) counters: usize,
+}
+
+// Puts an instruction, and answers its place.
+fn put<'a>(draft: &mut Draft<'a>, op: Op<'a>) -> Result<usize, AllocError>
+    ensures ops { IfOk result (λ _. draft.new.ops.items ≡ draft.old.ops.items ++ op.entry ∷ []) }
+    ensures counters { draft.new.counters ≡ draft.old.counters }
+    ensures place { IfOk result (λ p. p ≡ suc (length draft.old.ops.items)) }
+{
+    draft.ops.push(op)?;
+    Ok(draft.ops.len())
+}
+
+// Writes where the statement in an instruction starts.
+fn set_first(ops: &mut Vec<Op>, i: usize, first: usize)
+    requires within { i < length ops.old.items }
+    ensures links { links_of ops.new.items ≡ links_of ops.old.items }
+    ensures here { (x : Op) → slice_get ops.old.items i ≡ Some x → slice_get ops.new.items i ≡ Some (record x { first = first }) }
+    ensures others { (j : ℕ) → j ≢ i → slice_get ops.new.items j ≡ slice_get ops.old.items j }
+{
+    ops[i].first = first;
+}
+
+// Puts the instruction of a statement, which goes on where it must.
+fn put_statement<'a>(
+    draft: &mut Draft<'a>,
+    s: &'a Statement,
+    next: usize,
+    first: usize,
+    second: usize,
+    starts: Vec<usize>,
+    depth: usize,
+) -> Result<usize, AllocError>
+    requires ready { IsReady draft.old next depth }
+    requires next { IsNext draft.old (op_of s next first second starts depth) s.now }
+    ensures { IfOk result (λ p. IsEmitted draft.old draft.new (flat s.entry.now) next p) }
+{
+    let op = Op {
+        task: Task::Perform(s),
+        behind: next,
+        first,
+        second,
+        starts,
+        counter: depth,
+    };
+    let place = put(draft, op)?;
+    Ok(place)
+}
+
+// Puts an instruction that goes on nowhere yet, and answers its place.
+fn put_head<'a>(
+    alloc: Global,
+    draft: &mut Draft<'a>,
+    task: Task<'a>,
+    next: usize,
+    depth: usize,
+) -> Result<usize, AllocError>
+    requires ready { IsReady draft.old next depth }
+    ensures { IfOk result (λ p. IsHead draft.old draft.new task.entry next depth p) }
+{
+    let op = Op {
+        task,
+        behind: next,
+        first: next,
+        second: next,
+        starts: Vec::new(alloc),
+        counter: depth,
+    };
+    let place = put(draft, op)?;
+    Ok(place)
+}
+
+// The code of the items of a `case`, and where each starts.
+#[cycle(emit)]
+fn emit_items<'a>(
+    alloc: Global,
+    draft: &mut Draft<'a>,
+    items: &'a [(Vec<Typed>, Statement)],
+    next: usize,
+    depth: usize,
+) -> Result<Vec<usize>, AllocError>
+    requires ready { IsReady draft.old next depth }
+    ensures written { IfOk result (λ _. Written draft.old draft.new) }
+    ensures leads { IfOk result (λ starts. AlwaysLeadAll (drafted draft.new) items.entry.now starts.items next) }
+{
+    let mut starts = Vec::new(alloc);
+    for (_, s) in items {
+        let start = emit(alloc, draft, s, next, depth)?;
+        starts.push(start)?;
+    }
+    Ok(starts)
+}
+
+// The code of a statement that stands behind the one in it again.
+#[cycle(emit)]
+fn emit_loop<'a>(
+    alloc: Global,
+    draft: &mut Draft<'a>,
+    body: &'a Statement,
+    s: &'a Statement,
+    next: usize,
+    depth: usize,
+) -> Result<usize, AllocError>
+    requires ready { IsReady draft.old next depth }
+    requires single { IsLoop s.now body.now }
+    ensures { IfOk result (λ p. IsEmitted draft.old draft.new (flat s.entry.now) next p) }
+{
+    let i = draft.ops.len();
+    let head = put_head(alloc, draft, Task::Perform(s), next, depth)?;
+    let first = emit(alloc, draft, body, head, depth)?;
+    set_first(&mut draft.ops, i, first);
+    Ok(head)
+}
+
+// The code of the statement in a `repeat` and of the test behind it, and where the statement starts.
+#[cycle(emit)]
+fn emit_turns<'a>(
+    alloc: Global,
+    draft: &mut Draft<'a>,
+    body: &'a Statement,
+    next: usize,
+    depth: usize,
+) -> Result<usize, AllocError>
+    requires ready { IsReady draft.old next depth }
+    ensures written { IfOk result (λ _. Written draft.old draft.new) }
+    ensures turn { IfOk result (λ first. AlwaysTurn (drafted draft.new) depth body.entry.now first next) }
+{
+    let i = draft.ops.len();
+    draft.counters = draft.counters.max(depth + 1);
+    let test = put_head(alloc, draft, Task::Turns(body), next, depth)?;
+    let first = emit(alloc, draft, body, test, depth + 1)?;
+    set_first(&mut draft.ops, i, first);
+    Ok(first)
+}
+
+// The code of statements one after another.
+#[cycle(emit)]
+fn emit_all<'a>(
+    alloc: Global,
+    draft: &mut Draft<'a>,
+    all: &'a [Statement],
+    next: usize,
+    depth: usize,
+) -> Result<usize, AllocError>
+    requires ready { IsReady draft.old next depth }
+    ensures { IfOk result (λ p. IsEmitted draft.old draft.new (flat_all all.entry.now) next p) }
+{
+    let mut place = next;
+    for i in (0..all.len()).rev() {
+        place = emit(alloc, draft, &all[i], place, depth)?;
+    }
+    Ok(place)
+}
+
+/// Writes the code of a statement in front of what is done at `next`, where it stands in `depth` statements `repeat`. Answers its place.
+#[cycle(emit)]
+pub(crate) fn emit<'a>(
+    alloc: Global,
+    draft: &mut Draft<'a>,
+    s: &'a Statement,
+    next: usize,
+    depth: usize,
+) -> Result<usize, AllocError>
+    requires ready { IsReady draft.old next depth }
+    ensures { IfOk result (λ p. IsEmitted draft.old draft.new (flat s.entry.now) next p) }
+{
+    match s {
+        Statement::Null(_) => put_statement(draft, s, next, next, next, Vec::new(alloc), depth),
+        Statement::Assign(_, _, _) => {
+            put_statement(draft, s, next, next, next, Vec::new(alloc), depth)
+        }
+        Statement::Later(_, _, _) => {
+            put_statement(draft, s, next, next, next, Vec::new(alloc), depth)
+        }
+        Statement::Block(all) => emit_all(alloc, draft, all, next, depth),
+        Statement::Delay(_, _, body) => {
+            let first = emit(alloc, draft, body, next, depth)?;
+            put_statement(draft, s, next, first, next, Vec::new(alloc), depth)
+        }
+        Statement::Event(_, _, body) => {
+            let first = emit(alloc, draft, body, next, depth)?;
+            put_statement(draft, s, next, first, next, Vec::new(alloc), depth)
+        }
+        Statement::If(_, _, a, b) => {
+            let second = emit(alloc, draft, b, next, depth)?;
+            let first = emit(alloc, draft, a, next, depth)?;
+            put_statement(draft, s, next, first, second, Vec::new(alloc), depth)
+        }
+        Statement::Case(_, _, _, items) => {
+            let starts = emit_items(alloc, draft, items, next, depth)?;
+            put_statement(draft, s, next, next, next, starts, depth)
+        }
+        Statement::While(_, _, body) => emit_loop(alloc, draft, body, s, next, depth),
+        Statement::Repeat(_, _, _, body) => {
+            let first = emit_turns(alloc, draft, body, next, depth)?;
+            put_statement(draft, s, next, first, next, Vec::new(alloc), depth)
+        }
+        Statement::Forever(_, body) => emit_loop(alloc, draft, body, s, next, depth),
+    }
+}

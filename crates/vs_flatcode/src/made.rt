@@ -1,0 +1,18 @@
+//! What a step of a process makes.
+
+use vs_design::{EventTerm, Ticks, Write};
+
+/// What a step of a process makes, beside what the process still has to do.
+#[derive(Drop)]
+pub enum Made<'a> {
+    /// Nothing.
+    Nothing,
+    /// The write of a blocking assignment (IEEE 1364-2005, clause 9.2.1).
+    Write(Write),
+    /// A nonblocking update, due in this slot (clause 9.2.2).
+    Update(Write),
+    /// A delay of so many ticks, by the delay control of this number in the process's text (clause 9.7.1).
+    Delay(u32, Ticks),
+    /// A wait for one of these terms, by the event control of this number in the process's text (clause 9.7.2).
+    Wait(u32, &'a [EventTerm]),
+}

@@ -1,0 +1,55 @@
+-- Which processes a write wakes.
+use Rattle.std.specs.Prelude.{ℕ, ◌≡◌, Bool, true, Option, List, [], ◌∷◌, map, if◌then◌else◌}
+use Rattle.std.specs.List.{list_any}
+use Rattle.vs_logic4.specs.declared.digit.Digit.{Digit}
+use Rattle.vs_design.specs.declared.design.Process.{Process}
+use Rattle.vs_design.specs.declared.statement.EventTerm.{EventTerm}
+use Rattle.vs_design.specs.declared.write.Part.{Part}
+use Rattle.vs_design.specs.Parts.{Parts}
+use Rattle.vs_design.specs.Statements.{listens}
+use Rattle.vs_design.specs.Stores.{Store, word_of, changed_at}
+use Rattle.vs_design.specs.Uses.{is_of}
+use Rattle.vs_design.specs.Writes.{Write}
+use Rattle.vs_edges.specs.Waking.{word_wakes}
+use Rattle.vs_flatcode.specs.Places.{Place}
+use Rattle.vs_process.specs.States.{State, terms_of, triggered}
+
+-- ---- what is woken
+
+-- a process behind the change of one word of a signal: it becomes active where it waits for that (clause 9.7.2)
+abbrev pub triggered_by : ℕ → ℕ → Option (List Digit) → Option (List Digit) → Place → Place
+triggered_by signal word before behind x = if word_wakes (terms_of x) signal word before behind then triggered x else x
+
+-- places of which those of these numbers are changed
+abbrev pub changed_all : (Place → Place) → List ℕ → List Place → List Place
+changed_all f [] xs = xs
+changed_all f (i ∷ rest) xs = changed_all f rest (changed_at f i xs)
+
+-- a process behind the change of the word of a part between two stores
+abbrev pub triggered_part : Store → Store → Part → Place → Place
+triggered_part old new p = triggered_by p.signal p.word (word_of old p.signal p.word) (word_of new p.signal p.word)
+
+-- processes that the parts of a write wake between two stores, one after another
+abbrev pub triggered_parts : Store → Store → Write → List Place → List Place
+triggered_parts old new [] xs = xs
+triggered_parts old new (p ∷ ps) xs = triggered_parts old new ps (map (triggered_part old new p) xs)
+
+-- ---- the processes of a design
+
+-- whether one of some terms names a signal
+abbrev pub name_signal : ℕ → List EventTerm → Bool
+name_signal signal terms = list_any (λ (t : EventTerm). is_of signal t.range) terms
+
+-- a process waits for changes of signals that an event control of its text names
+abbrev pub WaitsWithin : Process → Place → Type 0
+WaitsWithin p x = (signal : ℕ) → name_signal signal (terms_of x) ≡ true → listens p.body signal ≡ true
+
+-- each of some processes does
+abbrev pub WaitWithin : List Process → List Place → Type 0
+WaitWithin [] [] = Unit {0}
+WaitWithin (p ∷ ps) (x ∷ xs) = WaitsWithin p x × WaitWithin ps xs
+WaitWithin _ _ = ⊥
+
+-- the processes of a state wait for changes of signals that the event controls of the design's processes name
+abbrev pub HasTerms : Parts → State → Type 0
+HasTerms d s = WaitWithin d.processes s.places

@@ -1,0 +1,25 @@
+use Rattle.std.proofs.lemmas.Result.{err_from_is_err_and}
+use Rattle.vs_tokens.specs.declared.token.Mark.TheVariants as m
+use Rattle.vs_syntax.specs.Grammar.{◌·◌, part, mark, an_expr}
+use Rattle.vs_syntax.specs.Reading.{stuck_first, stuck_second}
+use Rattle.vs_syntax.proofs.Gets.{gets_seq}
+use Rattle.vs_expressions.specs.Answers.{seen}
+use Rattle.vs_expressions.proofs.Exits.{fails_by}
+use Rattle.vs_statements.proofs.control.closed.Goals as goal
+
+pub returns-in_err-inner : goal.returns-in_err-inner
+returns-in_err-inner c =
+    let p = err_from_is_err_and c.from_residual.result c.from_residual.ensures.1 in
+    rw (p.1, p.2) (fails_by (part an_expr) (part an_expr · mark m.Close) c.args.room c.args.room (seen c.args.tokens.now) (seen c.args.tokens.now)
+    (λ deep at s. stuck_first s)
+    c.in_err-inner.field-0.0 c.in_err-inner.ensures)
+
+pub returns-in_err-rest : goal.returns-in_err-rest
+returns-in_err-rest c =
+    let p = err_from_is_err_and c.from_residual-in_err-rest.result c.from_residual-in_err-rest.ensures.1 in
+    rw (p.1, p.2) (fails_by (mark m.Close) (part an_expr · mark m.Close) c.args.room c.args.room (seen c.in_ok-inner.inner.rest.now) (seen c.args.tokens.now)
+    (λ deep at s. stuck_second c.in_ok-inner.ensures s)
+    c.in_err-rest.field-0.0 (c.in_err-rest.ensures c.args.room))
+
+pub returns : goal.returns
+returns c = gets_seq c.in_ok-inner.ensures (c.in_ok-rest.ensures c.args.room)

@@ -1,0 +1,87 @@
+-- How statements and their parts begin.
+use Rattle.std.specs.Prelude.{◌≡◌, List, ◌∷◌}
+use Rattle.vs_tokens.specs.declared.token.Mark.{Mark}
+use Rattle.vs_tokens.specs.declared.token.Mark.TheVariants as m
+use Rattle.vs_tokens.specs.declared.token.Word.TheVariants as w
+use Rattle.vs_syntax.specs.Symbols.{Symbol, a_mark, a_word, Class, the_mark, any_name, any_number, class_of, first}
+use Rattle.vs_syntax.specs.Grammar.{Grammar, nothing, ◌·◌, ◌or◌, many, part, word, guarded, branches, case_items, for_parts, delay, event, a_stmt}
+use Rattle.vs_syntax.specs.declared.tree.Separator.{Separator}
+use Rattle.vs_syntax.specs.declared.tree.Separator.TheVariants as r
+use Rattle.vs_statements.specs.declared.head.StatementWord.{StatementWord}
+use Rattle.vs_statements.specs.declared.head.StatementWord.TheVariants as s
+use Rattle.vs_statements.specs.declared.head.StatementHead.{StatementHead}
+use Rattle.vs_statements.specs.declared.head.StatementHead.TheVariants as h
+use Rattle.vs_statements.specs.declared.head.DelayHead.{DelayHead}
+use Rattle.vs_statements.specs.declared.head.DelayHead.TheVariants as d
+use Rattle.vs_statements.specs.declared.head.EventHead.{EventHead}
+use Rattle.vs_statements.specs.declared.head.EventHead.TheVariants as v
+use Rattle.vs_statements.specs.declared.head.Timing.{Timing}
+use Rattle.vs_statements.specs.declared.head.Timing.TheVariants as t
+
+-- the first symbol of a statement that begins with the word or the mark
+abbrev pub symbol_of : StatementWord → Symbol
+symbol_of s.Null = a_mark m.Semicolon
+symbol_of s.Block = a_word w.Begin
+symbol_of s.If = a_word w.If
+symbol_of s.Case = a_word w.Case
+symbol_of s.Casez = a_word w.Casez
+symbol_of s.Casex = a_word w.Casex
+symbol_of s.For = a_word w.For
+symbol_of s.While = a_word w.While
+symbol_of s.Repeat = a_word w.Repeat
+symbol_of s.Forever = a_word w.Forever
+symbol_of s.Delay = a_mark m.Hash
+symbol_of s.Event = a_mark m.At
+
+-- what stands behind it
+abbrev pub behind_of : StatementWord → Grammar
+behind_of s.Null = nothing
+behind_of s.Block = many (part a_stmt) · word w.End
+behind_of s.If = guarded branches
+behind_of s.Case = guarded case_items
+behind_of s.Casez = guarded case_items
+behind_of s.Casex = guarded case_items
+behind_of s.For = for_parts
+behind_of s.While = guarded (part a_stmt)
+behind_of s.Repeat = guarded (part a_stmt)
+behind_of s.Forever = part a_stmt
+behind_of s.Delay = delay · part a_stmt
+behind_of s.Event = event · part a_stmt
+
+-- the symbols begin a statement so, and these stand behind the first one
+abbrev pub BeginsStatement : List Symbol → StatementHead → List Symbol → Type 0
+BeginsStatement ts h.Name after = first ts ≡ any_name
+BeginsStatement ts h.Brace after = first ts ≡ the_mark m.OpenBrace
+BeginsStatement ts (h.Word k) after = ts ≡ symbol_of k ∷ after
+
+-- the class of the first symbol of a statement that begins so
+abbrev pub class_of_statement : StatementHead → Class
+class_of_statement h.Name = any_name
+class_of_statement h.Brace = the_mark m.OpenBrace
+class_of_statement (h.Word k) = class_of (symbol_of k)
+
+-- the symbols begin a delay so, and these stand behind the first one
+abbrev pub BeginsDelay : List Symbol → DelayHead → List Symbol → Type 0
+BeginsDelay ts d.Number after = first ts ≡ any_number
+BeginsDelay ts d.Name after = first ts ≡ any_name
+BeginsDelay ts d.Open after = ts ≡ a_mark m.Open ∷ after
+
+-- the symbols begin what an event control waits for so, and these stand behind the first one
+abbrev pub BeginsEvent : List Symbol → EventHead → List Symbol → Type 0
+BeginsEvent ts v.Star after = ts ≡ a_mark m.Star ∷ after
+BeginsEvent ts v.Name after = first ts ≡ any_name
+BeginsEvent ts v.Open after = ts ≡ a_mark m.Open ∷ after
+
+-- what stands between two terms of an event control
+abbrev pub separator_symbol : Separator → Symbol
+separator_symbol r.Or = a_word w.Or
+separator_symbol r.Comma = a_mark m.Comma
+
+-- the word of an edge, or nothing (clause A.6.5)
+abbrev pub edge_word : Grammar
+edge_word = word w.Posedge or word w.Negedge or nothing
+
+-- the sign of an assignment as a statement (clauses 9.2.1 and 9.2.2)
+abbrev pub sign_of : Timing → Mark
+sign_of t.Blocking = m.Assign
+sign_of t.Nonblocking = m.LessEqual

@@ -1,0 +1,130 @@
+//! Reading assignments, and expressions before a mark.
+ghost use Rattle.std.specs.Prelude.{◌≡◌, ◌≤◌, true};
+ghost use Rattle.vs_tokens.specs.declared.token.Mark.TheVariants as m;
+ghost use Rattle.vs_syntax.specs.Grammar.{Grammar, ◌·◌, part, mark, assignment, guarded, for_parts, a_stmt, a_target, an_expr};
+ghost use Rattle.vs_syntax.specs.Tables.{goes};
+ghost use Rattle.vs_syntax.specs.Derivation.{both};
+ghost use Rattle.vs_syntax.specs.Views.{expr_tree, left_tree, assigned_tree, guarded_tree, for_tree, stmt_tree};
+ghost use Rattle.vs_expressions.specs.Answers.{seen, Reads};
+ghost use Rattle.vs_statements.specs.Heads.{sign_of};
+ghost use Rattle.vs_statements.specs.Parts.{Leads, marked, sides_tree};
+
+use crate::head::{Timing, expect_timing};
+use std::alloc::Global;
+use vs_expressions::{Read, Stop, expect_mark, expr, left};
+use vs_lexer::{Mark, Token};
+use vs_syntax::{Expr, Left, Stmt};
+
+/// What stands in the parentheses of a `for` statement.
+#[derive(Drop)]
+pub(crate) struct ForHeader {
+    /// The two sides of the first assignment.
+    pub first: (Left, Expr),
+    /// The condition.
+    pub condition: Expr,
+    /// The two sides of the second assignment.
+    pub step: (Left, Expr),
+}
+
+/// Reads an assignment as a statement, which begins with its left side.
+pub(crate) fn assigned_stmt<'t, 's>(
+    alloc: Global,
+    room: u32,
+    tokens: &'t [Token<'s>],
+) -> Result<Read<'t, 's, Stmt>, Stop<'t, 's>>
+    requires room { 2 ≤ room }
+    requires first { goes (part a_target) (seen tokens.now) ≡ true }
+    ensures { Reads (part a_stmt) room tokens.now stmt_tree result }
+{
+    let target = left(alloc, room - 1, tokens)?;
+    let (timing, after_sign) = expect_timing(target.rest)?;
+    let value = expr(alloc, room - 1, after_sign)?;
+    let rest = expect_mark(value.rest, Mark::Semicolon)?;
+    Ok(Read {
+        tree: assigned(timing, target.tree, value.tree),
+        rest,
+    })
+}
+
+/// The assignment of a value to a target.
+fn assigned(timing: Timing, target: Left, value: Expr) -> Stmt
+    ensures { stmt_tree result ≡ assigned_tree target (sign_of timing) value }
+{
+    match timing {
+        Timing::Blocking => Stmt::Assign(target, value),
+        Timing::Nonblocking => Stmt::Later(target, value),
+    }
+}
+
+/// Reads an expression and the mark behind it.
+fn expr_until<'t, 's>(
+    alloc: Global,
+    room: u32,
+    tokens: &'t [Token<'s>],
+    end: Mark,
+) -> Result<Read<'t, 's, Expr>, Stop<'t, 's>>
+    ensures { (a : Grammar) → Leads a (part an_expr · mark end · a)
+        (λ x y. both (expr_tree x) (marked end y)) room tokens.now result }
+{
+    let value = expr(alloc, room, tokens)?;
+    let rest = expect_mark(value.rest, end)?;
+    Ok(Read {
+        tree: value.tree,
+        rest,
+    })
+}
+
+/// Reads an expression in parentheses that are no node.
+pub(crate) fn guard<'t, 's>(
+    alloc: Global,
+    room: u32,
+    tokens: &'t [Token<'s>],
+) -> Result<Read<'t, 's, Expr>, Stop<'t, 's>>
+    ensures { (a : Grammar) → Leads a (guarded a) (λ x y. guarded_tree (expr_tree x) y) room tokens.now result }
+{
+    let inside = expect_mark(tokens, Mark::Open)?;
+    expr_until(alloc, room, inside, Mark::Close)
+}
+
+/// Reads the two sides of a blocking assignment, and the mark behind it.
+fn sides_until<'t, 's>(
+    alloc: Global,
+    room: u32,
+    tokens: &'t [Token<'s>],
+    end: Mark,
+) -> Result<Read<'t, 's, (Left, Expr)>, Stop<'t, 's>>
+    ensures { (a : Grammar) → Leads a (assignment · mark end · a)
+        (λ x y. both (sides_tree x) (marked end y)) room tokens.now result }
+{
+    let target = left(alloc, room, tokens)?;
+    let after_sign = expect_mark(target.rest, Mark::Assign)?;
+    let value = expr(alloc, room, after_sign)?;
+    let rest = expect_mark(value.rest, end)?;
+    Ok(Read {
+        tree: (target.tree, value.tree),
+        rest,
+    })
+}
+
+/// Reads what stands in the parentheses of a `for` statement, with them.
+pub(crate) fn for_header<'t, 's>(
+    alloc: Global,
+    room: u32,
+    tokens: &'t [Token<'s>],
+) -> Result<Read<'t, 's, ForHeader>, Stop<'t, 's>>
+    ensures { Leads (part a_stmt) for_parts
+        (λ x y. for_tree x.first.0 x.first.1 x.condition x.step.0 x.step.1 y) room tokens.now result }
+{
+    let inside = expect_mark(tokens, Mark::Open)?;
+    let first = sides_until(alloc, room, inside, Mark::Semicolon)?;
+    let condition = expr_until(alloc, room, first.rest, Mark::Semicolon)?;
+    let step = sides_until(alloc, room, condition.rest, Mark::Close)?;
+    Ok(Read {
+        tree: ForHeader {
+            first: first.tree,
+            condition: condition.tree,
+            step: step.tree,
+        },
+        rest: step.rest,
+    })
+}

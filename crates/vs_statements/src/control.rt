@@ -1,0 +1,194 @@
+//! Reading delays, and what event controls wait for.
+ghost use Rattle.std.specs.Prelude.{◌≡◌, ℕ, map};
+ghost use Rattle.vs_tokens.specs.declared.token.Mark.TheVariants as m;
+ghost use Rattle.vs_tokens.specs.declared.token.Word.TheVariants as w;
+ghost use Rattle.vs_syntax.specs.Symbols.{any_number, first};
+ghost use Rattle.vs_syntax.specs.Grammar.{◌·◌, ◌or◌, many, part, mark, word, delay, event, event_exprs, an_expr, an_event_expr};
+ghost use Rattle.vs_syntax.specs.Derivation.{both};
+ghost use Rattle.vs_syntax.specs.Views.{row_of, closed_tree, expr_tree, delay_tree, event_expr_tree, other_event_tree, event_tree};
+ghost use Rattle.vs_expressions.specs.Answers.{seen, Reads};
+ghost use Rattle.vs_statements.specs.Parts.{ReadsWithin, marked};
+
+use crate::head::{DelayHead, EventHead, delay_head, edge_at, event_head, separator_at};
+use std::alloc::Global;
+use vs_expressions::{
+    Read, Stop, expect_mark, expect_name, expr, literal, mark_at, name_selects, next,
+};
+use vs_lexer::{Mark, Token};
+use vs_syntax::{DelayValue, EventControl, EventExpr, Expr, Separator};
+
+/// Reads a delay.
+pub(crate) fn delay_value<'t, 's>(
+    alloc: Global,
+    room: u32,
+    tokens: &'t [Token<'s>],
+) -> Result<Read<'t, 's, DelayValue>, Stop<'t, 's>>
+    ensures { Reads delay room tokens.now delay_tree result }
+{
+    let Some((head, after)) = delay_head(tokens) else {
+        return Err(Stop::Unexpected(tokens));
+    };
+    match head {
+        DelayHead::Number => delay_number(tokens),
+        DelayHead::Name => {
+            let (name, rest) = expect_name(alloc, tokens)?;
+            Ok(Read {
+                tree: DelayValue::Name(name),
+                rest,
+            })
+        }
+        DelayHead::Open => {
+            let inner = closed(alloc, room, after)?;
+            Ok(Read {
+                tree: DelayValue::Group(inner.tree),
+                rest: inner.rest,
+            })
+        }
+    }
+}
+
+/// Reads a delay that is a number.
+fn delay_number<'t, 's>(tokens: &'t [Token<'s>]) -> Result<Read<'t, 's, DelayValue>, Stop<'t, 's>>
+    requires { first (seen tokens.now) ≡ any_number }
+    ensures { (room : ℕ) → Reads delay room tokens.now delay_tree result }
+{
+    let Some((first, rest)) = next(tokens) else {
+        return Err(Stop::Unexpected(tokens));
+    };
+    let Some(time) = literal(first.kind) else {
+        return Err(Stop::Unexpected(tokens));
+    };
+    Ok(Read {
+        tree: DelayValue::Number(time),
+        rest,
+    })
+}
+
+/// Reads an expression and the parenthesis behind it.
+fn closed<'t, 's>(
+    alloc: Global,
+    room: u32,
+    tokens: &'t [Token<'s>],
+) -> Result<Read<'t, 's, Expr>, Stop<'t, 's>>
+    ensures { Reads (part an_expr · mark m.Close) room tokens.now (λ x. closed_tree (expr_tree x)) result }
+{
+    let inner = expr(alloc, room, tokens)?;
+    let rest = expect_mark(inner.rest, Mark::Close)?;
+    Ok(Read {
+        tree: inner.tree,
+        rest,
+    })
+}
+
+/// Reads what an event control waits for.
+pub(crate) fn event_control<'t, 's>(
+    alloc: Global,
+    room: u32,
+    tokens: &'t [Token<'s>],
+) -> Result<Read<'t, 's, EventControl>, Stop<'t, 's>>
+    ensures { Reads event room tokens.now event_tree result }
+{
+    let Some((head, after)) = event_head(tokens) else {
+        return Err(Stop::Unexpected(tokens));
+    };
+    match head {
+        EventHead::Star => Ok(Read {
+            tree: EventControl::Star,
+            rest: after,
+        }),
+        EventHead::Name => {
+            let (name, rest) = expect_name(alloc, tokens)?;
+            Ok(Read {
+                tree: EventControl::Name(name),
+                rest,
+            })
+        }
+        EventHead::Open => event_group(alloc, room, after),
+    }
+}
+
+/// Reads what stands in the parentheses of an event control, and the one behind it.
+fn event_group<'t, 's>(
+    alloc: Global,
+    room: u32,
+    tokens: &'t [Token<'s>],
+) -> Result<Read<'t, 's, EventControl>, Stop<'t, 's>>
+    ensures { ReadsWithin event_tree (marked m.Open) ((mark m.Star or event_exprs) · mark m.Close)
+        room tokens.now result }
+{
+    match mark_at(tokens, Mark::Star) {
+        Some(after) => {
+            let rest = expect_mark(after, Mark::Close)?;
+            Ok(Read {
+                tree: EventControl::GroupedStar,
+                rest,
+            })
+        }
+        None => {
+            let terms = event_terms(alloc, room, tokens)?;
+            let behind = expect_mark(terms.rest, Mark::Close)?;
+            Ok(Read {
+                tree: EventControl::Terms(terms.tree.0, terms.tree.1),
+                rest: behind,
+            })
+        }
+    }
+}
+
+/// Reads the terms of an event control: the first, and the others with what stands before each of them.
+fn event_terms<'t, 's>(
+    alloc: Global,
+    room: u32,
+    tokens: &'t [Token<'s>],
+) -> Result<Read<'t, 's, (EventExpr, Vec<(Separator, EventExpr)>)>, Stop<'t, 's>>
+    ensures { Reads event_exprs room tokens.now
+        (λ x. both (event_expr_tree x.0) (row_of (map other_event_tree x.1.items))) result }
+{
+    let first = event_term(alloc, room, tokens)?;
+    let others = other_terms(alloc, room, first.rest)?;
+    Ok(Read {
+        tree: (first.tree, others.tree),
+        rest: others.rest,
+    })
+}
+
+/// Reads the terms of an event control behind the first one.
+fn other_terms<'t, 's>(
+    alloc: Global,
+    room: u32,
+    tokens: &'t [Token<'s>],
+) -> Result<Read<'t, 's, Vec<(Separator, EventExpr)>>, Stop<'t, 's>>
+    ensures { Reads (many ((word w.Or or mark m.Comma) · part an_event_expr)) room tokens.now
+        (λ xs. row_of (map other_event_tree xs.items)) result }
+{
+    let mut tree = Vec::new(alloc);
+    // All of them, but from a call: so the borrow checker can join it with what the loop sets.
+    let (_none, mut rest) = tokens.split_at(0);
+    while let Some((separator, after)) = separator_at(rest) {
+        let term = event_term(alloc, room, after)?;
+        rest = term.rest;
+        tree.push((separator, term.tree))?;
+    }
+    Ok(Read { tree, rest })
+}
+
+/// Reads a term of an event control.
+fn event_term<'t, 's>(
+    alloc: Global,
+    room: u32,
+    tokens: &'t [Token<'s>],
+) -> Result<Read<'t, 's, EventExpr>, Stop<'t, 's>>
+    ensures { Reads (part an_event_expr) room tokens.now event_expr_tree result }
+{
+    let (edge, after_edge) = edge_at(tokens);
+    let (name, after_name) = expect_name(alloc, after_edge)?;
+    let selects = name_selects(alloc, room, after_name)?;
+    Ok(Read {
+        tree: EventExpr {
+            edge,
+            name,
+            selects: selects.tree,
+        },
+        rest: selects.rest,
+    })
+}

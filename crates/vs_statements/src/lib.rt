@@ -1,0 +1,12 @@
+//! Reading statements, and lists with commas (IEEE 1364-2005, clauses A.6.2 to A.6.8).
+#![tactic(auto)]
+
+mod assignment;
+mod control;
+mod head;
+mod label;
+mod list;
+mod statement;
+
+pub use list::{Element, listed, others};
+pub use statement::stmt;

@@ -1,0 +1,373 @@
+//! Reading statements. What one form of them needs is never inlined, so that a level of nesting takes little stack.
+ghost use Rattle.std.specs.Prelude.{◌≡◌, ◌≤◌, map};
+ghost use Rattle.vs_tokens.specs.declared.token.Mark.TheVariants as m;
+ghost use Rattle.vs_tokens.specs.declared.token.Word.TheVariants as w;
+ghost use Rattle.vs_syntax.specs.Symbols.{a_mark, a_word, the_word};
+ghost use Rattle.vs_syntax.specs.Grammar.{◌·◌, part, many, word, optional, guarded, branches, case_items, for_parts, delay, event, a_stmt, a_case_item};
+ghost use Rattle.vs_syntax.specs.Tables.{low};
+ghost use Rattle.vs_syntax.specs.Derivation.{leaf, both};
+ghost use Rattle.vs_syntax.specs.Views.{some_tree, case_word, expr_tree, guarded_tree, stmt_tree};
+ghost use Rattle.vs_expressions.specs.Answers.{seen, Reads};
+ghost use Rattle.vs_statements.specs.Heads.{BeginsStatement, symbol_of, behind_of};
+ghost use Rattle.vs_statements.specs.Parts.{ReadsWithin, headed, boxed_tree, other_tree, labelled_stmt_tree};
+
+use crate::assignment::{assigned_stmt, for_header, guard};
+use crate::control::{delay_value, event_control};
+use crate::head::{
+    StatementHead, StatementWord, begins_case_item, least_statement, statement_head,
+};
+use crate::label::case_label;
+use std::alloc::Global;
+use vs_expressions::{Read, Stop, expect_word, word_at};
+use vs_lexer::{Token, Word};
+use vs_logic4::CaseKind;
+use vs_syntax::{CaseLabel, Expr, Stmt};
+
+/// Reads a statement, in at most `room` nodes below one another.
+#[cycle(stmt)]
+pub fn stmt<'t, 's>(
+    alloc: Global,
+    room: u32,
+    tokens: &'t [Token<'s>],
+) -> Result<Read<'t, 's, Stmt>, Stop<'t, 's>>
+    ensures { Reads (part a_stmt) room tokens.now stmt_tree result }
+{
+    let Some((head, after)) = statement_head(tokens) else {
+        return Err(Stop::Unexpected(tokens));
+    };
+    headed(alloc, room, tokens, head, after)
+}
+
+/// Reads a statement that begins as `head` says, behind whose first token `after` stands.
+#[cycle(stmt)]
+fn headed<'t, 's>(
+    alloc: Global,
+    room: u32,
+    tokens: &'t [Token<'s>],
+    head: StatementHead,
+    after: &'t [Token<'s>],
+) -> Result<Read<'t, 's, Stmt>, Stop<'t, 's>>
+    requires { BeginsStatement (seen tokens.now) head (seen after.now) }
+    ensures { Reads (part a_stmt) room tokens.now stmt_tree result }
+{
+    if room < least_statement(head) {
+        return Err(Stop::TooDeep(tokens));
+    }
+    match head {
+        StatementHead::Name => assigned_stmt(alloc, room, tokens),
+        StatementHead::Brace => assigned_stmt(alloc, room, tokens),
+        StatementHead::Word(word) => behind(alloc, room - 1, after, word),
+    }
+}
+
+/// Reads a statement behind the word or the mark that it begins with.
+#[cycle(stmt)]
+fn behind<'t, 's>(
+    alloc: Global,
+    room: u32,
+    tokens: &'t [Token<'s>],
+    word: StatementWord,
+) -> Result<Read<'t, 's, Stmt>, Stop<'t, 's>>
+    requires { low (behind_of word) ≤ room }
+    ensures { ReadsWithin stmt_tree (headed (symbol_of word)) (behind_of word) room tokens.now result }
+{
+    match word {
+        StatementWord::Null => Ok(Read {
+            tree: Stmt::Null,
+            rest: tokens,
+        }),
+        StatementWord::Block => block(alloc, room, tokens),
+        StatementWord::If => conditional(alloc, room, tokens),
+        StatementWord::Case => case_stmt(alloc, room, tokens, CaseKind::Case),
+        StatementWord::Casez => case_stmt(alloc, room, tokens, CaseKind::Casez),
+        StatementWord::Casex => case_stmt(alloc, room, tokens, CaseKind::Casex),
+        StatementWord::For => for_stmt(alloc, room, tokens),
+        StatementWord::While => while_stmt(alloc, room, tokens),
+        StatementWord::Repeat => repeat_stmt(alloc, room, tokens),
+        StatementWord::Forever => forever_stmt(alloc, room, tokens),
+        StatementWord::Delay => delayed_stmt(alloc, room, tokens),
+        StatementWord::Event => event_stmt(alloc, room, tokens),
+    }
+}
+
+/// Reads a statement into a box.
+#[cycle(stmt)]
+#[inline(never)]
+fn boxed<'t, 's>(
+    alloc: Global,
+    room: u32,
+    tokens: &'t [Token<'s>],
+) -> Result<Read<'t, 's, Box<Stmt>>, Stop<'t, 's>>
+    ensures { Reads (part a_stmt) room tokens.now boxed_tree result }
+{
+    let inner = stmt(alloc, room, tokens)?;
+    let rest = inner.rest;
+    let tree = Box::new(alloc, inner.tree)?;
+    Ok(Read { tree, rest })
+}
+
+/// Reads what stands behind the `begin` of a block: its statements, and `end`.
+#[cycle(stmt)]
+#[inline(never)]
+fn block<'t, 's>(
+    alloc: Global,
+    room: u32,
+    tokens: &'t [Token<'s>],
+) -> Result<Read<'t, 's, Stmt>, Stop<'t, 's>>
+    ensures { ReadsWithin stmt_tree (headed (a_word w.Begin)) (many (part a_stmt) · word w.End) room tokens.now result }
+{
+    let mut tree = Vec::new(alloc);
+    // All of them, but from a call: so the borrow checker can join it with what the loop sets.
+    let (_none, mut rest) = tokens.split_at(0);
+    while let Some((head, after)) = statement_head(rest) {
+        let inner = headed(alloc, room, rest, head, after)?;
+        rest = inner.rest;
+        tree.push(inner.tree)?;
+    }
+    let behind = expect_word(rest, Word::End)?;
+    Ok(Read {
+        tree: Stmt::Block(tree),
+        rest: behind,
+    })
+}
+
+/// Reads what stands behind `if`: the condition, the statement, and the one behind `else`, where that is next.
+#[cycle(stmt)]
+#[inline(never)]
+fn conditional<'t, 's>(
+    alloc: Global,
+    room: u32,
+    tokens: &'t [Token<'s>],
+) -> Result<Read<'t, 's, Stmt>, Stop<'t, 's>>
+    requires { 1 ≤ room }
+    ensures { ReadsWithin stmt_tree (headed (a_word w.If)) (guarded branches) room tokens.now result }
+{
+    let condition = guard(alloc, room, tokens)?;
+    let inner = boxed(alloc, room, condition.rest)?;
+    let other = alternative(alloc, room, inner.rest)?;
+    Ok(Read {
+        tree: Stmt::If(condition.tree, inner.tree, other.tree),
+        rest: other.rest,
+    })
+}
+
+/// Reads `else` and the statement behind it, where that is next.
+#[cycle(stmt)]
+#[inline(never)]
+fn alternative<'t, 's>(
+    alloc: Global,
+    room: u32,
+    tokens: &'t [Token<'s>],
+) -> Result<Read<'t, 's, Option<Box<Stmt>>>, Stop<'t, 's>>
+    requires { 1 ≤ room }
+    ensures { Reads (optional (the_word w.Else) (part a_stmt)) room tokens.now other_tree result }
+{
+    let Some(after) = word_at(tokens, Word::Else) else {
+        return Ok(Read {
+            tree: None,
+            rest: tokens,
+        });
+    };
+    let inner = boxed(alloc, room, after)?;
+    Ok(Read {
+        tree: Some(inner.tree),
+        rest: inner.rest,
+    })
+}
+
+/// Reads what stands behind the word of a `case` statement of a kind: the expression, the items, and `endcase`.
+#[cycle(stmt)]
+#[inline(never)]
+fn case_stmt<'t, 's>(
+    alloc: Global,
+    room: u32,
+    tokens: &'t [Token<'s>],
+    kind: CaseKind,
+) -> Result<Read<'t, 's, Stmt>, Stop<'t, 's>>
+    requires { 1 ≤ room }
+    ensures { ReadsWithin stmt_tree (headed (a_word (case_word kind))) (guarded case_items) room tokens.now result }
+{
+    let subject = guard(alloc, room, tokens)?;
+    let items = items(alloc, room, subject.rest)?;
+    Ok(Read {
+        tree: Stmt::Case(kind, subject.tree, items.tree),
+        rest: items.rest,
+    })
+}
+
+/// Reads the items of a `case` statement, and `endcase`.
+#[cycle(stmt)]
+#[inline(never)]
+fn items<'t, 's>(
+    alloc: Global,
+    room: u32,
+    tokens: &'t [Token<'s>],
+) -> Result<Read<'t, 's, Vec<(CaseLabel, Stmt)>>, Stop<'t, 's>>
+    requires { 1 ≤ room }
+    ensures { Reads case_items room tokens.now
+        (λ xs. both (some_tree (map labelled_stmt_tree xs.items)) (leaf (a_word w.Endcase))) result }
+{
+    if !begins_case_item(tokens) {
+        return Err(Stop::Unexpected(tokens));
+    }
+    let mut tree = Vec::new(alloc);
+    // All of them, but from a call: so the borrow checker can join it with what the loop sets.
+    let (_none, mut rest) = tokens.split_at(0);
+    while begins_case_item(rest) {
+        let item = case_item(alloc, room, rest)?;
+        rest = item.rest;
+        tree.push(item.tree)?;
+    }
+    let after = expect_word(rest, Word::Endcase)?;
+    Ok(Read { tree, rest: after })
+}
+
+/// Reads an item of a `case` statement.
+#[cycle(stmt)]
+#[inline(never)]
+fn case_item<'t, 's>(
+    alloc: Global,
+    room: u32,
+    tokens: &'t [Token<'s>],
+) -> Result<Read<'t, 's, (CaseLabel, Stmt)>, Stop<'t, 's>>
+    requires { 1 ≤ room }
+    ensures { Reads (part a_case_item) room tokens.now labelled_stmt_tree result }
+{
+    let label = case_label(alloc, room, tokens)?;
+    let inner = stmt(alloc, room, label.rest)?;
+    Ok(Read {
+        tree: (label.tree, inner.tree),
+        rest: inner.rest,
+    })
+}
+
+/// Reads what stands behind `for`.
+#[cycle(stmt)]
+#[inline(never)]
+fn for_stmt<'t, 's>(
+    alloc: Global,
+    room: u32,
+    tokens: &'t [Token<'s>],
+) -> Result<Read<'t, 's, Stmt>, Stop<'t, 's>>
+    ensures { ReadsWithin stmt_tree (headed (a_word w.For)) for_parts room tokens.now result }
+{
+    let read = for_header(alloc, room, tokens)?;
+    let inner = boxed(alloc, room, read.rest)?;
+    let header = read.tree;
+    Ok(Read {
+        tree: Stmt::For(
+            header.first.0,
+            header.first.1,
+            header.condition,
+            header.step.0,
+            header.step.1,
+            inner.tree,
+        ),
+        rest: inner.rest,
+    })
+}
+
+/// Reads an expression in parentheses and a statement.
+#[cycle(stmt)]
+fn guarded_stmt<'t, 's>(
+    alloc: Global,
+    room: u32,
+    tokens: &'t [Token<'s>],
+) -> Result<Read<'t, 's, (Expr, Box<Stmt>)>, Stop<'t, 's>>
+    ensures { Reads (guarded (part a_stmt)) room tokens.now
+        (λ x. guarded_tree (expr_tree x.0) (boxed_tree x.1)) result }
+{
+    let condition = guard(alloc, room, tokens)?;
+    let inner = boxed(alloc, room, condition.rest)?;
+    Ok(Read {
+        tree: (condition.tree, inner.tree),
+        rest: inner.rest,
+    })
+}
+
+/// Reads what stands behind `while`.
+#[cycle(stmt)]
+#[inline(never)]
+fn while_stmt<'t, 's>(
+    alloc: Global,
+    room: u32,
+    tokens: &'t [Token<'s>],
+) -> Result<Read<'t, 's, Stmt>, Stop<'t, 's>>
+    ensures { ReadsWithin stmt_tree (headed (a_word w.While)) (guarded (part a_stmt)) room tokens.now result }
+{
+    let inner = guarded_stmt(alloc, room, tokens)?;
+    Ok(Read {
+        tree: Stmt::While(inner.tree.0, inner.tree.1),
+        rest: inner.rest,
+    })
+}
+
+/// Reads what stands behind `repeat`.
+#[cycle(stmt)]
+#[inline(never)]
+fn repeat_stmt<'t, 's>(
+    alloc: Global,
+    room: u32,
+    tokens: &'t [Token<'s>],
+) -> Result<Read<'t, 's, Stmt>, Stop<'t, 's>>
+    ensures { ReadsWithin stmt_tree (headed (a_word w.Repeat)) (guarded (part a_stmt)) room tokens.now result }
+{
+    let inner = guarded_stmt(alloc, room, tokens)?;
+    Ok(Read {
+        tree: Stmt::Repeat(inner.tree.0, inner.tree.1),
+        rest: inner.rest,
+    })
+}
+
+/// Reads what stands behind `forever`.
+#[cycle(stmt)]
+#[inline(never)]
+fn forever_stmt<'t, 's>(
+    alloc: Global,
+    room: u32,
+    tokens: &'t [Token<'s>],
+) -> Result<Read<'t, 's, Stmt>, Stop<'t, 's>>
+    ensures { ReadsWithin stmt_tree (headed (a_word w.Forever)) (part a_stmt) room tokens.now result }
+{
+    let inner = boxed(alloc, room, tokens)?;
+    Ok(Read {
+        tree: Stmt::Forever(inner.tree),
+        rest: inner.rest,
+    })
+}
+
+/// Reads what stands behind the `#` of a delay: the time, and the statement.
+#[cycle(stmt)]
+#[inline(never)]
+fn delayed_stmt<'t, 's>(
+    alloc: Global,
+    room: u32,
+    tokens: &'t [Token<'s>],
+) -> Result<Read<'t, 's, Stmt>, Stop<'t, 's>>
+    ensures { ReadsWithin stmt_tree (headed (a_mark m.Hash)) (delay · part a_stmt) room tokens.now result }
+{
+    let time = delay_value(alloc, room, tokens)?;
+    let inner = boxed(alloc, room, time.rest)?;
+    Ok(Read {
+        tree: Stmt::Delay(time.tree, inner.tree),
+        rest: inner.rest,
+    })
+}
+
+/// Reads what stands behind the `@` of an event control: what it waits for, and the statement.
+#[cycle(stmt)]
+#[inline(never)]
+fn event_stmt<'t, 's>(
+    alloc: Global,
+    room: u32,
+    tokens: &'t [Token<'s>],
+) -> Result<Read<'t, 's, Stmt>, Stop<'t, 's>>
+    ensures { ReadsWithin stmt_tree (headed (a_mark m.At)) (event · part a_stmt) room tokens.now result }
+{
+    let control = event_control(alloc, room, tokens)?;
+    let inner = boxed(alloc, room, control.rest)?;
+    Ok(Read {
+        tree: Stmt::Event(control.tree, inner.tree),
+        rest: inner.rest,
+    })
+}
