@@ -1,0 +1,37 @@
+//! Arguments of formats.
+ghost use Rattle.std.specs.Prelude.{◌≡◌, ◌<◌};
+ghost use Rattle.vs_strobe.specs.Lines.{is_signed, arg_value};
+
+use vs_design::{Store, Typed};
+use vs_eval::value;
+use vs_logic4::Vec4;
+
+/// An argument of `$display` or `$strobe` behind the text.
+#[derive(Drop)]
+pub enum FormatArg {
+    /// Whether the value is a signed number, and an expression at its own size.
+    Value(bool, Typed),
+    /// `$time`: the time in units, 64 bits without a sign (IEEE 1364-2005, clause 17.7.1).
+    Time,
+}
+
+/// Whether an argument is a signed number.
+pub(crate) fn is_signed(arg: &FormatArg) -> bool
+    ensures { result ≡ is_signed arg.now }
+{
+    match arg {
+        FormatArg::Value(signed, _) => *signed,
+        FormatArg::Time => false,
+    }
+}
+
+/// The value of an argument in a store at a time in ticks. `ratio` is how many ticks a unit is.
+pub(crate) fn arg_value(ratio: u64, arg: &FormatArg, store: &Store, time: u64) -> Vec4
+    requires { 0 < ratio }
+    ensures { result ≡ arg_value ratio arg.now store.now time }
+{
+    match arg {
+        FormatArg::Value(_, e) => value(e, store, time),
+        FormatArg::Time => Vec4::from_number(64, time / ratio),
+    }
+}
