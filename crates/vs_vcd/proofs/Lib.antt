@@ -3,8 +3,10 @@ pub mod CodeLemmas
 pub mod CodeTableLemmas
 pub mod ExtendLemmas
 pub mod HeaderLemmas
+pub mod KeptLemmas
 pub mod LawLemmas
 pub mod LineLemmas
+pub mod MarkLemmas
 pub mod OneLineLemmas
 pub mod ProgressLemmas
 pub mod Sinking

@@ -1,12 +1,22 @@
 -- How far a value change dump is written after one more slot.
-use Rattle.std.proofs.Common.{◌≡◌, ℕ, Option, Some, List, [], ◌∷◌, ◌++◌, refl, sym, ap, ◌∙◌, append_assoc, append-nil}
-use Rattle.std.specs.Prelude.{if◌then◌else◌}
+use Rattle.std.proofs.Common.{◌≡◌, ℕ, suc, ◌+◌, Bool, true, false, Option, Some, None, Result, List, [], ◌∷◌, ◌++◌, refl, sym, ap, subst, ◌∙◌, append_assoc, append-nil, arith, inl, inr}
+use Rattle.std.proofs.lemmas.Bool.{cases_Bool, cond-true}
+use Rattle.std.specs.Prelude.{Ok, Err, OnOk, codes, slice_get, is_none, if◌then◌else◌}
+use Rattle.vs_logic4.specs.declared.digit.Digit.{Digit}
+use Rattle.vs_logic4.specs.Vectors.{same_digits}
+use Rattle.vs_logic4.specs.Sameness.{same_digits_self}
+use Rattle.vs_design.specs.declared.signal.Signal.{Signal}
 use Rattle.vs_design.specs.Parts.{Parts}
 use Rattle.vs_design.specs.Stores.{Store}
 use Rattle.vs_design.specs.Traces.{Slot}
-use Rattle.vs_vcd.specs.Codes.{shown}
-use Rattle.vs_vcd.specs.Text.{text_of, is_written, first_lines, later_lines, lines_after, slots_lines, last_time_after, vcd_slots}
-use Rattle.vs_vcd.specs.Progress.{last_store_after, last_of, next_lines, time_after, vcd_slot, Progress, HasWritten, IsSlotAt}
+use Rattle.vs_vcd.specs.declared.fault.VcdFault.{VcdFault}
+use Rattle.vs_vcd.specs.declared.kept.Kept.{Kept}
+use Rattle.vs_vcd.specs.Codes.{is_array, shown, shown_from}
+use Rattle.vs_vcd.specs.CodeTables.{code_table}
+use Rattle.vs_vcd.specs.Values.{shown_value}
+use Rattle.vs_vcd.specs.Text.{text_of, time_line, is_written, value_line, change_line, changed_line, coded_lines, timed, first_lines, later_lines, lines_after, slots_lines, last_time_after, vcd_slots}
+use Rattle.vs_vcd.specs.Kept.{codes_of, renewed, kept_lines, coded, first_line, change_from, is_chosen, chosen_line, first_kept, later_kept, next_kept, time_kept}
+use Rattle.vs_vcd.specs.Progress.{last_store_after, last_of, time_of, next_lines, time_after, vcd_slot, Progress, AreKept, AreLast, HasWritten, Covers, Follows, IsSlotAt, WritesPiece}
 use Rattle.vs_vcd.proofs.LineLemmas.{text_of-append}
 
 lines_after-push : (signals : List ℕ) (before : Store) (xs : List Slot) (s : Slot)
@@ -42,14 +52,138 @@ vcd_slots-push d xs s =
     let numbers = shown d in
     ap text_of (slots_lines-push numbers xs s) ∙ text_of-append (slots_lines numbers xs) (next_lines numbers (last_of numbers xs) s.time s.store)
 
+-- ---- what is kept
+
+-- each signal that has a code and isn't looked at has in a store the value kept
+abbrev pub Unseen : Bool → List ℕ → List Kept → Store → Type 0
+Unseen all marks kept store = (i n : ℕ) (k : Kept) → slice_get kept i ≡ Some k → k.code ≡ Some n → is_chosen all marks i ≡ false → k.value ≡ shown_value store i
+
+-- where all are looked at, none isn't
+pub all_seen : (marks : List ℕ) (kept : List Kept) (store : Store) → Unseen true marks kept store
+all_seen marks kept store i n k get code not = cc
+
+covered_by : (o : Option ℕ) (marks : List ℕ) (w : Progress) (store : Store) → w.last ≡ o → Covers marks w store → Unseen (is_none o) marks w.kept store
+covered_by None marks w store is covers i n k get code not = cc
+covered_by (Some t) marks w store is covers i n k get code not = covers t i n k is get code not
+
+-- the first slot looks at all, and marks cover what changed since
+pub marks_cover : (all : Bool) (marks : List ℕ) (w : Progress) (store : Store) → all ≡ is_none w.last → Covers marks w store → Unseen all marks w.kept store
+marks_cover all marks w store first covers = subst (λ b. Unseen b marks w.kept store) (sym first) (covered_by w.last marks w store refl covers)
+
+-- the lines of one signal, by what is kept
+line_by : (before store : Store) (j : ℕ) (value : List Digit) (seen : Bool) (code : Option ℕ) → ((n : ℕ) → code ≡ Some n → value ≡ shown_value before j)
+    → ((n : ℕ) → code ≡ Some n → seen ≡ false → value ≡ shown_value store j)
+    → (if seen then coded (change_from value store j) code else []) ≡ coded (λ n. changed_line before store n j) code
+line_by before store j value true None is unseen = refl
+line_by before store j value false None is unseen = refl
+line_by before store j value true (Some n) is unseen = ap (λ v. change_from v store j n) (is n refl)
+line_by before store j value false (Some n) is unseen =
+    sym (cond-true (same_digits (shown_value before j) (shown_value store j)) [] (change_line store n j ∷ [])
+    (ap (λ v. same_digits v (shown_value store j)) (sym (is n refl) ∙ unseen n refl refl) ∙ same_digits_self (shown_value store j)))
+
+-- one signal, and the signals behind it
+front : (lines : ℕ → ℕ → List (List ℕ)) (first k : ℕ) (array : Bool) (ss : List Signal) (code : Option ℕ) (codes : List (Option ℕ)) (here : List (List ℕ)) (behind : List (List ℕ))
+    → code ∷ codes ≡ (if array then None ∷ code_table first ss else Some first ∷ code_table (suc first) ss) → here ≡ coded (λ n. lines n k) code
+    → ((f : ℕ) → codes ≡ code_table f ss → behind ≡ coded_lines lines f (shown_from (suc k) ss))
+    → here ++ behind ≡ coded_lines lines first (if array then shown_from (suc k) ss else k ∷ shown_from (suc k) ss)
+front lines first k true ss code codes here behind table is rest =
+    let none : code ≡ None = cc in
+    let same : codes ≡ code_table first ss = cc in
+    ap (λ l. l ++ behind) (is ∙ ap (coded (λ n. lines n k)) none) ∙ rest first same
+front lines first k false ss code codes here behind table is rest =
+    let some : code ≡ Some first = cc in
+    let same : codes ≡ code_table (suc first) ss = cc in
+    ap (λ l. l ++ behind) (is ∙ ap (coded (λ n. lines n k)) some) ∙ ap (λ l. lines first k ++ l) (rest (suc first) same)
+
+not_empty : {A : Type 0} {B : Type 0} (array : Bool) (x y : A) (xs ys : List A) → [] ≡ (if array then x ∷ xs else y ∷ ys) → B
+not_empty true x y xs ys h = cc
+not_empty false x y xs ys h = cc
+
+-- the lines by what is kept are those by the signals that are shown
+shown_lines : (lines : ℕ → ℕ → List (List ℕ)) (by : ℕ → Kept → List (List ℕ)) (first k : ℕ) (ss : List Signal) (kept : List Kept) → codes_of kept ≡ code_table first ss
+    → ((i j : ℕ) (e : Kept) → j ≡ k + i → slice_get kept i ≡ Some e → by j e ≡ coded (λ n. lines n j) e.code)
+    → kept_lines by k kept ≡ coded_lines lines first (shown_from k ss)
+shown_lines lines by first k [] [] table is = refl
+shown_lines lines by first k [] (e ∷ es) table is = cc
+shown_lines lines by first k (s ∷ ss) [] table is = not_empty (is_array s) None (Some first) (code_table first ss) (code_table (suc first) ss) table
+shown_lines lines by first k (s ∷ ss) (e ∷ es) table is =
+    front lines first k (is_array s) ss e.code (codes_of es) (by k e) (kept_lines by (suc k) es) table (is 0 k e (omega arith) refl)
+    (λ f same. shown_lines lines by f (suc k) ss es same (λ i j x at get. is (suc i) j x (omega (arith, at)) get))
+
+later_is : (signals : List Signal) (kept : List Kept) (before : Store) (all : Bool) (marks : List ℕ) (t : ℕ) (store : Store) → codes_of kept ≡ code_table 0 signals → AreKept kept before
+    → Unseen all marks kept store → later_kept kept all marks t store ≡ later_lines (shown_from 0 signals) before t store
+later_is signals kept before all marks t store table values unseen =
+    ap (timed t) (shown_lines (changed_line before store) (chosen_line all marks store) 0 0 signals kept table
+    (λ i j e at get.
+    let place : j ≡ i = omega (arith, at) in
+    let here : slice_get kept j ≡ Some e = ap (slice_get kept) place ∙ get in
+    line_by before store j e.value (is_chosen all marks j) e.code (λ n code. values j n e here code) (λ n code not. unseen j n e here code not)))
+
+first_is : (signals : List Signal) (kept : List Kept) (t : ℕ) (store : Store) → codes_of kept ≡ code_table 0 signals → first_kept kept t store ≡ first_lines (shown_from 0 signals) t store
+first_is signals kept t store table =
+    ap (λ l. time_line t ∷ codes "$dumpvars" ∷ l ++ codes "$end" ∷ []) (shown_lines (value_line store) (first_line store) 0 0 signals kept table (λ i j e at get. refl))
+
+lines_by : (signals : List Signal) (kept : List Kept) (o : Option (ℕ × Store)) (last : Option ℕ) (all : Bool) (marks : List ℕ) (t : ℕ) (store : Store) → codes_of kept ≡ code_table 0 signals
+    → last ≡ time_of o → AreLast kept o → Unseen all marks kept store
+    → (next_kept kept last all marks t store ≡ next_lines (shown_from 0 signals) o t store) × (time_kept kept last all marks t store ≡ time_after (shown_from 0 signals) o t store)
+lines_by signals kept None last all marks t store table time values unseen =
+    (ap (λ l. next_kept kept l all marks t store) time ∙ first_is signals kept t store table, ap (λ l. time_kept kept l all marks t store) time)
+lines_by signals kept (Some o) last all marks t store table time values unseen =
+    let same = later_is signals kept o.1 all marks t store table values unseen in (
+      ap (λ l. next_kept kept l all marks t store) time ∙ same,
+      ap (λ l. time_kept kept l all marks t store) time ∙ ap (λ l. if is_written l then t else o.0) same,
+    )
+
+-- the text of one more slot
+pub piece_is : (w : Progress) (all : Bool) (marks : List ℕ) (t : ℕ) (store : Store) (d : Parts) (slots : List Slot) (s : Slot) → HasWritten w d slots → IsSlotAt s t store
+    → Unseen all marks w.kept store → text_of (next_kept w.kept w.last all marks t store) ≡ vcd_slot d slots s
+piece_is w all marks t store d slots s h at unseen =
+    ap text_of ((lines_by d.signals w.kept (last_of (shown d) slots) w.last all marks t store h.codes h.last h.values unseen).0
+    ∙ ap (λ x. next_lines (shown d) (last_of (shown d) slots) x store) (sym at.time) ∙ ap (next_lines (shown d) (last_of (shown d) slots) s.time) (sym at.values))
+
+-- a call that wrote the lines of what is kept wrote one more slot
+pub piece_written : {A : Type 0} (result : Result A VcdFault) (old new : Option (List ℕ)) (w : Progress) (all : Bool) (marks : List ℕ) (t : ℕ) (store : Store) → Unseen all marks w.kept store
+    → WritesPiece result old new (text_of (next_kept w.kept w.last all marks t store)) → (d : Parts) (slots : List Slot) (s : Slot) → HasWritten w d slots → IsSlotAt s t store
+    → WritesPiece result old new (vcd_slot d slots s)
+piece_written result old new w all marks t store unseen wrote d slots s h at = subst (WritesPiece result old new) (piece_is w all marks t store d slots s h at unseen) wrote
+
+-- ---- one more slot is kept
+
+renewed_value : (store : Store) (i : ℕ) (o : Option Kept) (k : Kept) → renewed store i o ≡ Some k → k.value ≡ shown_value store i
+renewed_value store i None k h = cc
+renewed_value store i (Some e) k h = cc
+
+-- behind a slot the values of its store are kept
+all_kept : (old new : Progress) (all : Bool) (marks : List ℕ) (t : ℕ) (store : Store) → Unseen all marks old.kept store → Follows old new all marks t store → AreKept new.kept store
+all_kept old new all marks t store unseen f i n k get code =
+    elim (cases_Bool (is_chosen all marks i)) [
+      | inl here ↦ renewed_value store i (slice_get old.kept i) k (sym (f.chosen i here) ∙ get)
+      | inr not ↦ unseen i n k (sym (f.others i not) ∙ get) code not
+    ]
+
 -- a writer after one more slot
-pub written_more : (signals : List ℕ) (last : Option (ℕ × Store)) (w : Progress) (t written : ℕ) (store copy : Store)
-    → record { signals = signals; last = last } ≡ w → written ≡ time_after signals last t store → copy ≡ store → (d : Parts) (slots : List Slot) (s : Slot) → HasWritten w d slots → IsSlotAt s t store
-    → HasWritten (record { signals = signals; last = Some (written, copy) }) d (slots ++ s ∷ [])
-written_more signals last w t written store copy view time copied d slots s h slot =
-    let same_signals : signals ≡ shown d = ap (λ (p : Progress). p.signals) view ∙ h.signals in
-    let same_last : last ≡ last_of (shown d) slots = ap (λ (p : Progress). p.last) view ∙ h.last in
+written_more : (old new : Progress) (all : Bool) (marks : List ℕ) (t : ℕ) (store : Store) → Unseen all marks old.kept store → Follows old new all marks t store
+    → (d : Parts) (slots : List Slot) (s : Slot) → HasWritten old d slots → IsSlotAt s t store → HasWritten new d (slots ++ s ∷ [])
+written_more old new all marks t store unseen f d slots s h at =
+    let o = last_of (shown d) slots in
+    let push = last_of-push (shown d) slots s in
+    let after : time_kept old.kept old.last all marks t store ≡ time_after (shown d) o s.time s.store =
+    (lines_by d.signals old.kept o old.last all marks t store h.codes h.last h.values unseen).1
+    ∙ ap (λ x. time_after (shown d) o x store) (sym at.time) ∙ ap (time_after (shown d) o s.time) (sym at.values) in
     record {
-      signals = same_signals;
-      last = rw (last_of-push (shown d) slots s, time, copied, same_signals, same_last, slot.time, slot.values) refl;
+      codes = f.codes ∙ h.codes;
+      last = f.last ∙ ap Some after ∙ ap time_of (sym push);
+      values = subst (AreLast new.kept) (sym push) (subst (AreKept new.kept) (sym at.values) (all_kept old new all marks t store unseen f));
     }
+
+pub slot_written : {A : Type 0} (result : Result A VcdFault) (old new : Progress) (all : Bool) (marks : List ℕ) (t : ℕ) (store : Store) → Unseen all marks old.kept store
+    → OnOk result (Follows old new all marks t store)
+    → OnOk result ((d : Parts) (slots : List Slot) (s : Slot) → HasWritten old d slots → IsSlotAt s t store → HasWritten new d (slots ++ s ∷ []))
+slot_written (Ok x) old new all marks t store unseen f = written_more old new all marks t store unseen f
+slot_written (Err x) old new all marks t store unseen f = f
+
+-- behind a slot no signal need be marked
+pub slot_covered : {A : Type 0} (result : Result A VcdFault) (old new : Progress) (all : Bool) (marks : List ℕ) (t : ℕ) (store : Store) → Unseen all marks old.kept store
+    → OnOk result (Follows old new all marks t store) → OnOk result (Covers [] new store)
+slot_covered (Ok x) old new all marks t store unseen f = λ u i n k last get code free. all_kept old new all marks t store unseen f i n k get code
+slot_covered (Err x) old new all marks t store unseen f = f

@@ -4,4 +4,6 @@ pub mod Sinks
 pub mod Values
 pub mod Text
 pub mod Shown
+pub mod Marks
+pub mod Kept
 pub mod Progress

@@ -1,13 +1,18 @@
 -- How far a value change dump is written.
 use Rattle.std.specs.Prelude.{◌≡◌, ℕ, Bool, true, false, if◌then◌else◌}
-use Rattle.std.specs.Prelude.{Option, Some, None, Result, Ok, Err, List, [], ◌∷◌}
+use Rattle.std.specs.Prelude.{Option, Some, None, Result, Ok, Err, List, [], ◌∷◌, slice_get}
 use Rattle.std.specs.Io.KnownBytes.{Appends}
 use Rattle.vs_design.specs.Parts.{Parts}
 use Rattle.vs_design.specs.Stores.{Store}
 use Rattle.vs_design.specs.Traces.{Slot}
 use Rattle.vs_vcd.specs.declared.fault.VcdFault.{VcdFault}
 use Rattle.vs_vcd.specs.declared.fault.VcdFault.TheVariants.{Memory, Write}
+use Rattle.vs_vcd.specs.declared.kept.Kept.{Kept}
 use Rattle.vs_vcd.specs.Codes.{shown}
+use Rattle.vs_vcd.specs.CodeTables.{code_table}
+use Rattle.vs_vcd.specs.Values.{shown_value}
+use Rattle.vs_vcd.specs.Marks.{is_marked}
+use Rattle.vs_vcd.specs.Kept.{codes_of, renewed, is_chosen, time_kept}
 use Rattle.vs_vcd.specs.Sinks.{AppendsPart}
 use Rattle.vs_vcd.specs.Text.{text_of, is_written, first_lines, later_lines, last_time_after}
 
@@ -40,15 +45,38 @@ time_after signals (Some last) time store = if is_written (later_lines signals l
 abbrev pub vcd_slot : Parts → List Slot → Slot → List ℕ
 vcd_slot d slots s = text_of (next_lines (shown d) (last_of (shown d) slots) s.time s.store)
 
--- what a writer knows: the numbers of the signals that it shows, and the last time written with the store at the end of the last slot
+-- what a writer knows: of each signal the number of its code and the value written last, and the last time written
 pub record Progress : Type 0 where
-  pub signals : List ℕ
-  pub last : Option (ℕ × Store)
+  pub kept : List Kept
+  pub last : Option ℕ
+
+-- of each signal that has a code the value that a store shows is kept
+abbrev pub AreKept : List Kept → Store → Type 0
+AreKept kept store = (i n : ℕ) (k : Kept) → slice_get kept i ≡ Some k → k.code ≡ Some n → k.value ≡ shown_value store i
+
+-- the values at the end of the last slot are kept; before the first slot none need be
+abbrev pub AreLast : List Kept → Option (ℕ × Store) → Type 0
+AreLast kept None = Unit {0}
+AreLast kept (Some last) = AreKept kept last.1
 
 -- the header of the design and these slots are written
 pub record HasWritten (w : Progress) (d : Parts) (slots : List Slot) : Type 0 where
-  pub signals : w.signals ≡ shown d
-  pub last : w.last ≡ last_of (shown d) slots
+  pub codes : codes_of w.kept ≡ code_table 0 d.signals
+  pub last : w.last ≡ time_of (last_of (shown d) slots)
+  pub values : AreLast w.kept (last_of (shown d) slots)
+
+-- the marks cover what changed: after a slot, of each signal that has a code and whose block isn't marked the value last
+-- written is that in the store
+abbrev pub Covers : List ℕ → Progress → Store → Type 0
+Covers marks w store = (t i n : ℕ) (k : Kept) → w.last ≡ Some t → slice_get w.kept i ≡ Some k → k.code ≡ Some n
+    → is_marked marks i ≡ false → k.value ≡ shown_value store i
+
+-- a writer after the next slot, at which it looked at all signals, or at those whose blocks are marked
+pub record Follows (old new : Progress) (all : Bool) (marks : List ℕ) (t : ℕ) (store : Store) : Type 0 where
+  pub codes : codes_of new.kept ≡ codes_of old.kept
+  pub last : new.last ≡ Some (time_kept old.kept old.last all marks t store)
+  pub chosen : (i : ℕ) → is_chosen all marks i ≡ true → slice_get new.kept i ≡ renewed store i (slice_get old.kept i)
+  pub others : (i : ℕ) → is_chosen all marks i ≡ false → slice_get new.kept i ≡ slice_get old.kept i
 
 -- the slot has this time and this store
 pub record IsSlotAt (s : Slot) (t : ℕ) (store : Store) : Type 0 where

@@ -4,13 +4,16 @@
 mod codes;
 mod fault;
 mod header;
+mod kept;
 mod law;
 mod lines;
+mod marks;
 mod sink;
 mod value;
 mod writer;
 
 pub use fault::VcdFault;
 pub use law::shows_values_at_slot_ends;
+pub use marks::BLOCK;
 pub use sink::{Counted, Sink, WriteFault, write_all};
 pub use writer::Writer;

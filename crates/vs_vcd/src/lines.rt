@@ -1,9 +1,12 @@
 //! The lines of slots.
-ghost use Rattle.std.specs.Prelude.{◌≡◌, ◌++◌, ◌∷◌, [], OnOk, IfOk};
-ghost use Rattle.vs_vcd.specs.Values.{shown_value};
-ghost use Rattle.vs_vcd.specs.Text.{text_of, time_line, value_line, value_lines, is_same, changed_line, change_lines};
-ghost use Rattle.vs_vcd.specs.Text.{first_lines, is_written, later_lines};
+ghost use Rattle.std.specs.Prelude.{◌≡◌, ◌≤◌, ◌++◌, ◌∷◌, [], ℕ, List, ◌^◌, false, OnOk, IfOk, length, take};
+ghost use Rattle.vs_vcd.specs.Codes.{code};
+ghost use Rattle.vs_vcd.specs.Values.{value_change};
+ghost use Rattle.vs_vcd.specs.Text.{text_of, time_line, is_written};
+ghost use Rattle.vs_vcd.specs.Kept.{kept_lines, first_line, later_line, chosen_line, first_kept, later_kept, AreLater};
 
+use crate::kept::{Kept, shown};
+use crate::marks::{BLOCK, block_range, next_mark};
 use crate::value::push_value;
 use itoa::Buffer;
 use std::alloc::AllocError;
@@ -21,90 +24,133 @@ pub(crate) fn push_time(text: &mut Vec<u8>, time: u64) -> Result<(), AllocError>
     Ok(())
 }
 
-/// The value that a store shows of a signal.
-fn shown(store: &Store, signal: usize) -> Vec4
-    ensures { result ≡ shown_value store.now signal }
+/// Appends the line of a value. `number` is that of the signal's code.
+fn push_change(text: &mut Vec<u8>, value: Vec4, number: usize) -> Result<(), AllocError>
+    ensures { OnOk result (text.new.items ≡ text.old.items ++ text_of (value_change value (code number) ∷ [])) }
 {
-    match store.word(signal, 0) {
-        Some(value) => value,
-        None => Vec4::unknown(1),
-    }
-}
-
-/// Whether two stores show the same value of a signal.
-fn is_unchanged(before: &Store, after: &Store, signal: usize) -> bool
-    ensures { result ≡ is_same before.now after.now signal }
-{
-    shown(before, signal) == shown(after, signal)
-}
-
-/// Appends the line of a signal's value in a store. `number` is that of its code.
-fn push_change(
-    text: &mut Vec<u8>,
-    store: &Store,
-    number: usize,
-    signal: usize,
-) -> Result<(), AllocError>
-    ensures { OnOk result (text.new.items ≡ text.old.items ++ text_of (value_line store.now number signal)) }
-{
-    push_value(text, shown(store, signal), number)?;
+    push_value(text, value, number)?;
     text.push(b'\n')?;
     Ok(())
 }
 
-/// Appends the values of these signals.
-fn push_values(text: &mut Vec<u8>, store: &Store, signals: &[usize]) -> Result<(), AllocError>
-    ensures { OnOk result (text.new.items ≡ text.old.items ++ text_of (value_lines store.now signals.now)) }
+/// Appends the line of the value of a signal, where it has a code.
+fn push_first_line(
+    text: &mut Vec<u8>,
+    store: &Store,
+    signal: usize,
+    kept: Kept,
+) -> Result<(), AllocError>
+    ensures { OnOk result (text.new.items ≡ text.old.items ++ text_of (first_line store.now signal kept)) }
 {
-    for number in 0..signals.len() {
-        push_change(text, store, number, signals[number])?;
+    match kept.code {
+        Some(number) => push_change(text, shown(store, signal), number),
+        None => Ok(()),
     }
-    Ok(())
 }
 
-/// Appends the line of a signal where its value changed. `number` is that of its code.
-fn push_changed(
+/// Appends the line of a signal that has a code, where its value isn't the one kept.
+fn push_later_line(
     text: &mut Vec<u8>,
-    before: &Store,
-    after: &Store,
-    number: usize,
+    store: &Store,
     signal: usize,
+    kept: Kept,
 ) -> Result<(), AllocError>
-    ensures { OnOk result (text.new.items ≡ text.old.items ++ text_of (changed_line before.now after.now number signal)) }
+    ensures { OnOk result (text.new.items ≡ text.old.items ++ text_of (later_line store.now signal kept)) }
 {
-    if is_unchanged(before, after, signal) {
+    let Some(number) = kept.code else {
+        return Ok(());
+    };
+    let value = shown(store, signal);
+    if kept.value == value {
         return Ok(());
     }
-    push_change(text, after, number, signal)
+    push_change(text, value, number)
 }
 
-/// Appends the lines of those of these signals whose values changed. It looks at each of them.
-fn push_changes(
-    text: &mut Vec<u8>,
-    before: &Store,
-    after: &Store,
-    signals: &[usize],
-) -> Result<(), AllocError>
-    ensures { OnOk result (text.new.items ≡ text.old.items ++ text_of (change_lines before.now after.now signals.now)) }
+/// Appends the values of the signals.
+fn push_values(text: &mut Vec<u8>, store: &Store, kept: &[Kept]) -> Result<(), AllocError>
+    ensures { OnOk result (text.new.items ≡ text.old.items ++ text_of (kept_lines (first_line store.now) 0 kept.now)) }
 {
-    for number in 0..signals.len() {
-        push_changed(text, before, after, number, signals[number])?;
+    for signal in 0..kept.len() {
+        push_first_line(text, store, signal, kept[signal])?;
     }
     Ok(())
+}
+
+/// Appends the changes of the signals from one number on, below another.
+fn push_range(
+    text: &mut Vec<u8>,
+    store: &Store,
+    kept: &[Kept],
+    from: usize,
+    to: usize,
+) -> Result<(), AllocError>
+    requires order { from ≤ to }
+    requires within { to ≤ length kept.now }
+    ensures { OnOk result ((start : List ℕ) (lines : ℕ → Kept → List (List ℕ)) → AreLater lines store.now from to
+        → text.old.items ≡ start ++ text_of (kept_lines lines 0 (take from kept.now))
+        → text.new.items ≡ start ++ text_of (kept_lines lines 0 (take to kept.now))) }
+{
+    for signal in from..to {
+        push_later_line(text, store, signal, kept[signal])?;
+    }
+    Ok(())
+}
+
+/// Appends the changes of the signals whose blocks are marked. It looks at these alone.
+fn push_marked(
+    text: &mut Vec<u8>,
+    store: &Store,
+    kept: &[Kept],
+    marks: &[u64],
+) -> Result<(), AllocError>
+    requires few { length marks.now ≤ 2 ^ 57 }
+    ensures { OnOk result (text.new.items ≡ text.old.items ++ text_of (kept_lines (chosen_line false marks.now store.now) 0 kept.now)) }
+{
+    let mut from = 0;
+    while from <= kept.len() / BLOCK {
+        let Some(block) = next_mark(marks, from) else {
+            return Ok(());
+        };
+        let Some(range) = block_range(block, kept.len()) else {
+            return Ok(());
+        };
+        push_range(text, store, kept, range.from, range.to)?;
+        from = block + 1;
+    }
+    Ok(())
+}
+
+/// Appends the changes of the signals: of all, or of those whose blocks are marked.
+fn push_changes(
+    text: &mut Vec<u8>,
+    store: &Store,
+    kept: &[Kept],
+    all: bool,
+    marks: &[u64],
+) -> Result<(), AllocError>
+    requires few { length marks.now ≤ 2 ^ 57 }
+    ensures { OnOk result (text.new.items ≡ text.old.items ++ text_of (kept_lines (chosen_line all marks.now store.now) 0 kept.now)) }
+{
+    if all {
+        push_range(text, store, kept, 0, kept.len())
+    } else {
+        push_marked(text, store, kept, marks)
+    }
 }
 
 /// Appends the first slot of a dump.
 pub(crate) fn push_first(
     text: &mut Vec<u8>,
-    signals: &[usize],
+    kept: &[Kept],
     time: u64,
     store: &Store,
 ) -> Result<(), AllocError>
-    ensures { OnOk result (text.new.items ≡ text.old.items ++ text_of (first_lines signals.now time store.now)) }
+    ensures { OnOk result (text.new.items ≡ text.old.items ++ text_of (first_kept kept.now time store.now)) }
 {
     push_time(text, time)?;
     text.extend_from_slice(b"$dumpvars\n")?;
-    push_values(text, store, signals)?;
+    push_values(text, store, kept)?;
     text.extend_from_slice(b"$end\n")?;
     Ok(())
 }
@@ -112,18 +158,20 @@ pub(crate) fn push_first(
 /// Appends a slot after another one, and answers whether it has a line.
 pub(crate) fn push_later(
     text: &mut Vec<u8>,
-    signals: &[usize],
-    before: &Store,
+    kept: &[Kept],
+    all: bool,
+    marks: &[u64],
     time: u64,
     store: &Store,
 ) -> Result<bool, AllocError>
-    ensures text { OnOk result (text.new.items ≡ text.old.items ++ text_of (later_lines signals.now before.now time store.now)) }
-    ensures written { IfOk result (λ written. written ≡ is_written (later_lines signals.now before.now time store.now)) }
+    requires few { length marks.now ≤ 2 ^ 57 }
+    ensures text { OnOk result (text.new.items ≡ text.old.items ++ text_of (later_kept kept.now all marks.now time store.now)) }
+    ensures written { IfOk result (λ written. written ≡ is_written (later_kept kept.now all marks.now time store.now)) }
 {
     let start = text.len();
     push_time(text, time)?;
     let mark = text.len();
-    push_changes(text, before, store, signals)?;
+    push_changes(text, store, kept, all, marks)?;
     if text.len() == mark {
         text.truncate(start);
         return Ok(false);

@@ -1,54 +1,55 @@
 //! The writer of a value change dump.
-ghost use Rattle.std.specs.Prelude.{◌≡◌, ℕ, ◌++◌, ◌∷◌, [], List, IfOk, OnOk, OnErr};
+ghost use Rattle.std.specs.Prelude.{◌≡◌, ◌≤◌, ◌^◌, ℕ, ◌++◌, ◌∷◌, [], List, IfOk, OnOk, OnErr, is_none, length};
 ghost use Rattle.vs_design.specs.Parts.{Parts};
 ghost use Rattle.vs_design.specs.Traces.{Slot};
 ghost use Rattle.vs_vcd.specs.Sinks.{failed_after};
+ghost use Rattle.vs_vcd.specs.Kept.{next_kept, time_kept};
 ghost use Rattle.vs_vcd.specs.Text.{text_of, end_lines, vcd_header, vcd_slots, vcd_end};
-ghost use Rattle.vs_vcd.specs.Progress.{time_of, next_lines, time_after, vcd_slot, HasWritten, IsSlotAt, is_write_fault, WritesPiece};
+ghost use Rattle.vs_vcd.specs.Progress.{vcd_slot, HasWritten, Covers, Follows, IsSlotAt, is_write_fault, WritesPiece};
 
-use crate::codes::{code_numbers, shown_signals};
+use crate::codes::code_numbers;
 use crate::fault::VcdFault;
 use crate::header::push_header;
+use crate::kept::{Kept, keep, unwritten};
 use crate::lines::{push_first, push_later, push_time};
 use crate::sink::{Sink, write_all};
 use std::alloc::{AllocError, Global};
 use std::marker::Model;
 use vs_design::{Design, Store};
 
-/// Appends the lines of the next slot, and answers the last time written.
+/// Appends the lines of the next slot, and answers the last time written. It looks at all signals, or at those whose blocks are marked.
 fn push_slot(
     text: &mut Vec<u8>,
-    signals: &[usize],
-    last: &Option<(u64, Store)>,
+    kept: &[Kept],
+    last: Option<u64>,
+    all: bool,
+    marks: &[u64],
     time: u64,
     store: &Store,
 ) -> Result<u64, AllocError>
-    ensures text { OnOk result (text.new.items ≡ text.old.items ++ text_of (next_lines signals.now last.now time store.now)) }
-    ensures time { IfOk result (λ written. written ≡ time_after signals.now last.now time store.now) }
+    requires few { length marks.now ≤ 2 ^ 57 }
+    ensures text { OnOk result (text.new.items ≡ text.old.items ++ text_of (next_kept kept.now last all marks.now time store.now)) }
+    ensures time { IfOk result (λ written. written ≡ time_kept kept.now last all marks.now time store.now) }
 {
-    match last {
-        None => {
-            push_first(text, signals, time, store)?;
-            Ok(time)
-        }
-        Some(last) => {
-            if push_later(text, signals, &last.1, time, store)? {
-                Ok(time)
-            } else {
-                Ok(last.0)
-            }
-        }
+    let Some(before) = last else {
+        push_first(text, kept, time, store)?;
+        return Ok(time);
+    };
+    if push_later(text, kept, all, marks, time, store)? {
+        Ok(time)
+    } else {
+        Ok(before)
     }
 }
 
 /// Appends the line of the end, unless its time is the last one written.
-fn push_end(text: &mut Vec<u8>, last: &Option<(u64, Store)>, time: u64) -> Result<(), AllocError>
-    ensures { OnOk result (text.new.items ≡ text.old.items ++ text_of (end_lines (time_of last.now) time)) }
+fn push_end(text: &mut Vec<u8>, last: Option<u64>, time: u64) -> Result<(), AllocError>
+    ensures { OnOk result (text.new.items ≡ text.old.items ++ text_of (end_lines last time)) }
 {
     match last {
         None => push_time(text, time),
         Some(last) => {
-            if last.0 == time {
+            if last == time {
                 Ok(())
             } else {
                 push_time(text, time)
@@ -61,17 +62,20 @@ fn push_end(text: &mut Vec<u8>, last: &Option<(u64, Store)>, time: u64) -> Resul
 fn write_slot<S: Sink>(
     sink: &mut S,
     text: &mut Vec<u8>,
-    signals: &[usize],
-    last: &Option<(u64, Store)>,
+    kept: &[Kept],
+    last: Option<u64>,
+    all: bool,
+    marks: &[u64],
     time: u64,
     store: &Store,
 ) -> Result<u64, VcdFault>
-    ensures time { IfOk result (λ written. written ≡ time_after signals.now last.now time store.now) }
-    ensures bytes { WritesPiece result (S.bytes sink.old) (S.bytes sink.new) (text_of (next_lines signals.now last.now time store.now)) }
+    requires few { length marks.now ≤ 2 ^ 57 }
+    ensures time { IfOk result (λ written. written ≡ time_kept kept.now last all marks.now time store.now) }
+    ensures bytes { WritesPiece result (S.bytes sink.old) (S.bytes sink.new) (text_of (next_kept kept.now last all marks.now time store.now)) }
     ensures failures { S.failed sink.new ≡ failed_after (is_write_fault result) (S.failed sink.old) }
 {
     text.clear();
-    let written = push_slot(text, signals, last, time, store)?;
+    let written = push_slot(text, kept, last, all, marks, time, store)?;
     write_all(sink, text)?;
     Ok(written)
 }
@@ -80,10 +84,10 @@ fn write_slot<S: Sink>(
 fn write_end<S: Sink>(
     sink: &mut S,
     text: &mut Vec<u8>,
-    last: &Option<(u64, Store)>,
+    last: Option<u64>,
     time: u64,
 ) -> Result<(), VcdFault>
-    ensures bytes { WritesPiece result (S.bytes sink.old) (S.bytes sink.new) (text_of (end_lines (time_of last.now) time)) }
+    ensures bytes { WritesPiece result (S.bytes sink.old) (S.bytes sink.new) (text_of (end_lines last time)) }
     ensures failures { S.failed sink.new ≡ failed_after (is_write_fault result) (S.failed sink.old) }
 {
     text.clear();
@@ -95,9 +99,10 @@ fn write_end<S: Sink>(
 /// The writer of a design's value change dump, slot by slot. A contract sees how far it has come.
 #[derive(Drop)]
 pub struct Writer {
-    // The numbers of the signals that are shown.
-    signals: Vec<usize>,
-    last: Option<(u64, Store)>,
+    // Of each signal of the design the number of its code and the value written last.
+    kept: Vec<Kept>,
+    // The last time written.
+    last: Option<u64>,
     text: Vec<u8>,
 }
 
@@ -106,7 +111,7 @@ impl Model for Writer {
 
     ghost Value = { Progress };
 
-    ghost view = { λ w. record { signals = w.signals.items; last = w.last } };
+    ghost view = { λ w. record { kept = w.kept.items; last = w.last } };
 }
 
 impl Writer {
@@ -116,24 +121,62 @@ impl Writer {
         ensures bytes { WritesPiece result (S.bytes sink.old) (S.bytes sink.new) (vcd_header design.now) }
         ensures failures { S.failed sink.new ≡ failed_after (is_write_fault result) (S.failed sink.old) }
     {
-        let signals = shown_signals(alloc, design.signals())?;
         let table = code_numbers(alloc, design.signals())?;
+        let kept = unwritten(alloc, &table)?;
         let mut text = Vec::new(alloc);
         push_header(&mut text, design, &table)?;
         write_all(sink, &text)?;
         Ok(Writer {
-            signals,
+            kept,
             last: None,
             text,
         })
     }
 
+    /// Whether no slot is written yet.
+    fn is_first(&self) -> bool
+        ensures { result ≡ is_none self.now.last }
+    {
+        self.last.is_none()
+    }
+
+    /// Writes the next slot, and keeps its values. It looks at all signals, or at those whose blocks are marked.
+    fn write_next<S: Sink>(
+        &mut self,
+        sink: &mut S,
+        all: bool,
+        marks: &[u64],
+        time: u64,
+        store: &Store,
+    ) -> Result<(), VcdFault>
+        requires few { length marks.now ≤ 2 ^ 57 }
+        ensures follows { OnOk result (Follows self.old self.new all marks.now time store.now) }
+        ensures bytes { WritesPiece result (S.bytes sink.old) (S.bytes sink.new)
+            (text_of (next_kept self.old.kept self.old.last all marks.now time store.now)) }
+        ensures failures { S.failed sink.new ≡ failed_after (is_write_fault result) (S.failed sink.old) }
+        ensures err { OnErr result (self.new ≡ self.old) }
+    {
+        let written = write_slot(
+            sink,
+            &mut self.text,
+            &self.kept,
+            self.last,
+            all,
+            marks,
+            time,
+            store,
+        )?;
+        keep(&mut self.kept, store, all, marks);
+        self.last = Some(written);
+        Ok(())
+    }
+
     /// Writes a slot that ended at a time in ticks with a store. On an error the writer is as before.
     ///
-    /// It looks at every signal that is shown, and copies the store.
+    /// It looks at every signal, and takes memory for nothing but the text.
     pub fn slot<S: Sink>(
         &mut self,
-        alloc: Global,
+        _alloc: Global,
         sink: &mut S,
         time: u64,
         store: &Store,
@@ -145,14 +188,43 @@ impl Writer {
             → WritesPiece result (S.bytes sink.old) (S.bytes sink.new) (vcd_slot d slots s) }
         ensures failures { S.failed sink.new ≡ failed_after (is_write_fault result) (S.failed sink.old) }
         ensures err { OnErr result (self.new ≡ self.old) }
+        // Behind it no signal need be marked.
+        ensures covered { OnOk result (Covers [] self.new store.now) }
         // The pieces of the slots make up the text of the slots.
         ensures pieces { (d : Parts) (slots : List Slot) (s : Slot)
             → vcd_slots d (slots ++ s ∷ []) ≡ vcd_slots d slots ++ vcd_slot d slots s }
     {
-        let copy = store.copy(alloc)?;
-        let written = write_slot(sink, &mut self.text, &self.signals, &self.last, time, store)?;
-        self.last = Some((written, copy));
-        Ok(())
+        self.write_next(sink, true, &[], time, store)
+    }
+
+    /// Writes a slot as `slot` does, and looks only at the signals whose blocks are marked; at the first slot at all of them.
+    ///
+    /// The marks are words of 64 bits, a bit for each `BLOCK` signals, the lowest bit first. A signal whose value isn't the
+    /// one that was written last must be marked; what is marked beyond that costs a look at it.
+    pub fn slot_marked<S: Sink>(
+        &mut self,
+        sink: &mut S,
+        time: u64,
+        store: &Store,
+        marks: &[u64],
+    ) -> Result<(), VcdFault>
+        requires few { length marks.now ≤ 2 ^ 57 }
+        requires covers { Covers marks.now self.old store.now }
+        ensures written { OnOk result ((d : Parts) (slots : List Slot) (s : Slot)
+            → HasWritten self.old d slots → IsSlotAt s time store.now
+            → HasWritten self.new d (slots ++ s ∷ [])) }
+        ensures bytes { (d : Parts) (slots : List Slot) (s : Slot) → HasWritten self.old d slots → IsSlotAt s time store.now
+            → WritesPiece result (S.bytes sink.old) (S.bytes sink.new) (vcd_slot d slots s) }
+        ensures failures { S.failed sink.new ≡ failed_after (is_write_fault result) (S.failed sink.old) }
+        ensures err { OnErr result (self.new ≡ self.old) }
+        // Behind it no signal need be marked.
+        ensures covered { OnOk result (Covers [] self.new store.now) }
+        // The pieces of the slots make up the text of the slots.
+        ensures pieces { (d : Parts) (slots : List Slot) (s : Slot)
+            → vcd_slots d (slots ++ s ∷ []) ≡ vcd_slots d slots ++ vcd_slot d slots s }
+    {
+        let all = self.is_first();
+        self.write_next(sink, all, marks, time, store)
     }
 
     /// Writes the end of the dump: a time in ticks, unless it was the last one written.
@@ -161,6 +233,6 @@ impl Writer {
             → WritesPiece result (S.bytes sink.old) (S.bytes sink.new) (vcd_end d slots time) }
         ensures failures { S.failed sink.new ≡ failed_after (is_write_fault result) (S.failed sink.old) }
     {
-        write_end(sink, &mut self.text, &self.last, time)
+        write_end(sink, &mut self.text, self.last, time)
     }
 }
