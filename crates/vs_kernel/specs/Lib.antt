@@ -1,5 +1,6 @@
 pub mod Faults
 pub mod Insides
+pub mod Policies
 pub mod Runs
 pub mod Shows
 pub mod Stages

@@ -59,7 +59,7 @@ impl Entry {
     }
 }
 
-/// The enabled events in the order in which they came, and the processes that will be.
+/// The enabled events in the order in which they came.
 ///
 /// Events are taken from either end in constant time, from within in the time of the shorter side. An update that
 /// uncovers another one of one of its signals, and an evaluation that drops a waiting value, cost a scan of the list.
@@ -73,10 +73,6 @@ pub(crate) struct Agenda {
     claims: Vec<usize>,
     /// For each continuous assignment, whether its update is listed.
     proposed: Vec<bool>,
-    /// The inactive processes in the order of their arrival.
-    inactive: Vec<usize>,
-    /// The sleeping processes in the order in which they went to sleep.
-    asleep: Vec<usize>,
     /// The index of the last move's event, where it stood in the list.
     last: Option<usize>,
 }
@@ -90,8 +86,6 @@ impl Agenda {
             hidden: 0,
             claims: vec![in alloc; 0; signals]?,
             proposed: vec![in alloc; false; state.assign_count()]?,
-            inactive: Vec::new(alloc),
-            asleep: Vec::new(alloc),
             last: None,
         };
         for assign in 0..state.assign_count() {
@@ -283,7 +277,12 @@ impl Agenda {
         self.last = made.index;
         self.add_woken(state)?;
         match made.choice {
-            Move::Step(process) => self.follow_step(process, made.index, state),
+            Move::Step(process) => {
+                if !state.is_going(process) {
+                    self.remove(made.index);
+                }
+                Ok(())
+            }
             Move::Evaluate(assign) => self.follow_evaluation(assign, made.index, state),
             Move::Propagate(assign) => {
                 self.remove(made.index);
@@ -294,38 +293,18 @@ impl Agenda {
                 self.remove(made.index);
                 Ok(())
             }
-            Move::Rouse => self.follow_rouse(state),
             Move::Activate => self.follow_activation(state),
-            Move::EndSlot => self.follow_slot(state),
+            Move::Rouse | Move::EndSlot => Ok(()),
         }
     }
 
-    /// Puts what the last move has woken at the end: the continuous assignments, then the processes, each in design order.
+    /// Puts what the last move has woken at the end: the continuous assignments, then the processes.
     fn add_woken(&mut self, state: &State) -> Result<(), AllocError> {
         for assign in state.woken() {
             self.add(Item::Evaluate(*assign))?;
         }
         for process in state.woken_processes() {
             self.add_step(*process, state)?;
-        }
-        Ok(())
-    }
-
-    /// A process that isn't active behind its step leaves the list.
-    fn follow_step(
-        &mut self,
-        process: usize,
-        index: Option<usize>,
-        state: &State,
-    ) -> Result<(), AllocError> {
-        if state.is_going(process) {
-            return Ok(());
-        }
-        self.remove(index);
-        if state.is_inactive(process) {
-            self.inactive.push(process)?;
-        } else if state.is_asleep(process) {
-            self.asleep.push(process)?;
         }
         Ok(())
     }
@@ -357,16 +336,6 @@ impl Agenda {
         }
     }
 
-    fn follow_rouse(&mut self, state: &State) -> Result<(), AllocError> {
-        for i in 0..self.inactive.len() {
-            if let Some(process) = self.inactive.get(i).copied() {
-                self.add_step(process, state)?;
-            }
-        }
-        self.inactive.clear();
-        Ok(())
-    }
-
     fn follow_activation(&mut self, state: &State) -> Result<(), AllocError> {
         for i in 0..state.updates().len() {
             if let Some(update) = state.updates().get(i)
@@ -375,17 +344,6 @@ impl Agenda {
                 self.add_update(update.serial(), update.what())?;
             }
         }
-        Ok(())
-    }
-
-    /// The processes whose delay has ended enter in the order in which they went to sleep.
-    fn follow_slot(&mut self, state: &State) -> Result<(), AllocError> {
-        for i in 0..self.asleep.len() {
-            if let Some(process) = self.asleep.get(i).copied() {
-                self.add_step(process, state)?;
-            }
-        }
-        self.asleep.retain(|process| state.is_asleep(*process));
         Ok(())
     }
 }

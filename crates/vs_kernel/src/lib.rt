@@ -14,4 +14,4 @@ mod run;
 pub use kernel::{Kernel, Status};
 pub use laws::dumps_show_slot_ends;
 pub use outcome::{Outcome, RunFault};
-pub use policy::{Fifo, Pick};
+pub use policy::{Fifo, Lifo, Listed, Pick};

@@ -1,13 +1,18 @@
 -- Moves of assignments and updates, and the oldest activated update.
-use Rattle.std.proofs.Common.{◌≡◌, ℕ, zero, suc, ◌<◌, ◌||◌, ◌&&◌, not, Bool, true, false, Some, List, [], ◌∷◌, length, take, get_or, slice_get, slice_set, refl, sym, ◌∙◌, ap, subst, arith}
+use Rattle.std.proofs.Common.{◌≡◌, ℕ, zero, suc, ◌<◌, ◌||◌, ◌&&◌, not, Bool, true, false, Option, Some, None, List, [], ◌∷◌, length, map, take, get_or, slice_get, slice_set, refl, sym, ◌∙◌, ap, subst, arith}
 use Rattle.std.specs.List.{list_any, remove}
 use Rattle.std.proofs.lemmas.List.{get_or-take, length-take}
 use Rattle.std.proofs.lemmas.List.Folds.{list_any_at}
 use Rattle.vs_logic4.specs.declared.digit.Digit.{Digit}
 use Rattle.vs_design.specs.declared.statement.Target.{Target}
+use Rattle.vs_design.specs.declared.expression.Typed.{Typed}
+use Rattle.vs_design.specs.Parts.{Parts}
+use Rattle.vs_design.specs.Stores.{changed_at}
 use Rattle.vs_design.specs.Writes.{Write, shares}
 use Rattle.vs_eval.specs.Targets.{assigned}
 use Rattle.vs_process.specs.Executions.{if_some, is_first}
+use Rattle.vs_state.specs.Touches.{AreOf}
+use Rattle.vs_state.proofs.ChangedLemmas.{changed_there}
 use Rattle.vs_process.specs.States.{State, AssignState, Update, without, written, evaluated, evaluate, propagate, propagate_value, settled, make}
 
 -- whether an update is activated and hides a newer one
@@ -69,18 +74,48 @@ make_at {s} {now} e i u us w here gone what =
     (ap (written (record s { updates = us })) (sym what)
     ∙ ap (λ (l : List Update). written (record s { updates = l }) u.what) (gone ∙ sym (without-remove s.updates i)) ∙ sym (ap (make s i) here))
 
+-- no nonblocking update
+pub make_past : {s now : State} (e : s ≡ now) (i : ℕ) (us : List Update) → slice_get s.updates i ≡ None → us ≡ remove s.updates i → record s { updates = us } ≡ make now i (slice_get now.updates i)
+make_past {s} {now} e i us here gone =
+    subst (λ (t : State). record s { updates = us } ≡ make t i (slice_get t.updates i)) e
+    (ap (λ (l : List Update). record s { updates = l }) (gone ∙ sym (without-remove s.updates i) ∙ none_without s.updates i here) ∙ sym (ap (make s i) here))
+  where
+    none_without : (xs : List Update) (i : ℕ) → slice_get xs i ≡ None → without i xs ≡ xs
+    none_without [] i h = refl
+    none_without (x ∷ xs) zero h = cc
+    none_without (x ∷ xs) (suc i) h = ap (λ (l : List Update). x ∷ l) (none_without xs i h)
+
 -- an evaluation
-pub evaluate_at : {s now : State} (e : s ≡ now) (j : ℕ) (x y : AssignState) → slice_get s.assigns j ≡ Some x → y ≡ evaluated s.store s.time x →
-    record s { assigns = slice_set s.assigns j y } ≡ evaluate now j (slice_get now.assigns j)
-evaluate_at {s} {now} e j x y here after =
-    subst (λ (t : State). record s { assigns = slice_set s.assigns j y } ≡ evaluate t j (slice_get t.assigns j)) e
-    (ap (λ (d : AssignState). record s { assigns = slice_set s.assigns j d }) after ∙ sym (ap (evaluate s j) here))
+pub evaluate_at : {s now : State} (e : s ≡ now) (j time : ℕ) (xs : List AssignState) → time ≡ s.time → xs ≡ changed_at (evaluated s.store time) j s.assigns →
+    record s { assigns = xs } ≡ evaluate now j (slice_get now.assigns j)
+evaluate_at {s} {now} e j time xs same after =
+    subst (λ (t : State). record s { assigns = xs } ≡ evaluate t j (slice_get t.assigns j)) e
+    (ap (λ (l : List AssignState). record s { assigns = l }) (after ∙ ap (λ (n : ℕ). changed_at (evaluated s.store n) j s.assigns) same) ∙ by_get (slice_get s.assigns j) refl)
+  where
+    none_changed : (f : AssignState → AssignState) (xs : List AssignState) (i : ℕ) → slice_get xs i ≡ None → changed_at f i xs ≡ xs
+    none_changed f [] i h = refl
+    none_changed f (x ∷ xs) zero h = cc
+    none_changed f (x ∷ xs) (suc i) h = ap (λ (l : List AssignState). x ∷ l) (none_changed f xs i h)
+
+    by_get : (o : Option AssignState) → slice_get s.assigns j ≡ o → record s { assigns = changed_at (evaluated s.store s.time) j s.assigns } ≡ evaluate s j (slice_get s.assigns j)
+    by_get None here = ap (λ (l : List AssignState). record s { assigns = l }) (none_changed (evaluated s.store s.time) s.assigns j here) ∙ sym (ap (evaluate s j) here)
+    by_get (Some x) here =
+        ap (λ (l : List AssignState). record s { assigns = l }) (sym (changed_there (evaluated s.store s.time) s.assigns j x (evaluated s.store s.time x) here refl)) ∙ sym (ap (evaluate s j) here)
 
 -- a pending value that is written
-pub propagate_at : {s now : State} (e : s ≡ now) (j : ℕ) (x y : AssignState) (t : Target) (v : List Digit) (w : Write) → slice_get s.assigns j ≡ Some x → x.pending ≡ Some v →
-    y ≡ settled x → t ≡ x.target → w ≡ assigned t v s.store s.time → written (record s { assigns = slice_set s.assigns j y }) w ≡ propagate now j (slice_get now.assigns j)
-propagate_at {s} {now} e j x y t v w here waits after target what =
-    subst (λ (r : State). written (record s { assigns = slice_set s.assigns j y }) w ≡ propagate r j (slice_get r.assigns j)) e
-    (ap (λ (d : AssignState). written (record s { assigns = slice_set s.assigns j d }) w) after
-    ∙ ap (written (record s { assigns = slice_set s.assigns j (settled x) })) (what ∙ ap (λ (r : Target). assigned r v s.store s.time) target)
+pub propagate_at : {s now : State} (e : s ≡ now) (j time : ℕ) (x : AssignState) (xs : List AssignState) (t : Target) (v : List Digit) (w : Write) → slice_get s.assigns j ≡ Some x → x.pending ≡ Some v →
+    xs ≡ changed_at settled j s.assigns → t ≡ x.target → time ≡ s.time → w ≡ assigned t v s.store time → written (record s { assigns = xs }) w ≡ propagate now j (slice_get now.assigns j)
+propagate_at {s} {now} e j time x xs t v w here waits after target same what =
+    subst (λ (r : State). written (record s { assigns = xs }) w ≡ propagate r j (slice_get r.assigns j)) e
+    (ap (λ (l : List AssignState). written (record s { assigns = l }) w) (after ∙ sym (changed_there settled s.assigns j x (settled x) here refl))
+    ∙ ap (written (record s { assigns = slice_set s.assigns j (settled x) })) (what ∙ ap (assigned t v s.store) same ∙ ap (λ (r : Target). assigned r v s.store s.time) target)
     ∙ sym (ap (propagate s j) here ∙ ap (propagate_value s j x) waits))
+
+-- an assignment that is settled evaluates the same
+pub settled_sources : (d : Parts) (xs ys : List AssignState) (j : ℕ) → ys ≡ changed_at settled j xs → AreOf d xs → AreOf d ys
+settled_sources d xs ys j after h = ap (map (λ (x : AssignState). x.source)) after ∙ same xs j ∙ h
+  where
+    same : (xs : List AssignState) (j : ℕ) → map (λ (x : AssignState). x.source) (changed_at settled j xs) ≡ map (λ (x : AssignState). x.source) xs
+    same [] j = refl
+    same (x ∷ xs) zero = refl
+    same (x ∷ xs) (suc j) = ap (λ (l : List Typed). x.source ∷ l) (same xs j)

@@ -1,5 +1,5 @@
 -- Which processes a write wakes.
-use Rattle.std.proofs.Common.{◌≡◌, ℕ, zero, suc, ◌+◌, ◌≤◌, ◌||◌, ◌&&◌, Bool, true, false, Option, Some, None, List, [], ◌∷◌, ◌++◌, map, length, slice_get, slice_set, if◌then◌else◌, refl, sym, ◌∙◌, ap, ap₂, subst, arith, append_assoc}
+use Rattle.std.proofs.Common.{◌≡◌, ℕ, zero, suc, ◌+◌, ◌||◌, ◌&&◌, Bool, true, false, Option, Some, None, List, [], ◌∷◌, ◌++◌, map, length, slice_get, slice_set, if◌then◌else◌, refl, sym, ◌∙◌, ap, ap₂, subst, arith, append_assoc}
 use Rattle.std.specs.List.{list_any}
 use Rattle.std.proofs.lemmas.Bool.{or_parts, false_from_ne_true, false≢true}
 use Rattle.std.proofs.Math.Bool.{or-false}
@@ -31,6 +31,7 @@ use Rattle.vs_process.specs.Effects.{Stepped, out_of}
 use Rattle.vs_process.specs.States.{State, terms_of, triggered, wakened, written, performed, stepped, place_behind}
 use Rattle.vs_process.proofs.Waking.{wakened-triggered}
 use Rattle.vs_state.proofs.ChangedLemmas.{changed_behind}
+use Rattle.vs_state.specs.Timelines.{StepsAt}
 use Rattle.vs_state.specs.Touches.{behind_effect}
 use Rattle.vs_state.specs.Waits.{triggered_by, changed_all, triggered_part, triggered_parts, name_signal, WaitsWithin, WaitWithin}
 
@@ -258,15 +259,11 @@ stepped_at {s} {now} same i x y effect here h =
     subst (λ (t : State). behind_effect (record s { places = slice_set s.places i y }) i effect ≡ stepped t i (slice_get t.places i)) same
     (effect_at s i x y effect h ∙ ap (performed s i x) (sym h.0) ∙ sym (ap (stepped s i) here))
 
-none_past : (xs : List Place) (i : ℕ) → length xs ≤ i → slice_get xs i ≡ None
-none_past [] i h = refl
-none_past (x ∷ xs) zero h = absurd (omega arith)
-none_past (x ∷ xs) (suc i) h = none_past xs i (omega arith)
-
--- a step of no process changes nothing
-pub stepped_past : {s now : State} (same : s ≡ now) (i : ℕ) → length s.places ≤ i → now ≡ stepped now i (slice_get now.places i)
-stepped_past {s} {now} same i h =
-    subst (λ (t : State). t ≡ stepped t i (slice_get t.places i)) same (sym (ap (stepped s i) (none_past s.places i h)))
+-- the same of a step whose place stands in the list
+pub stepped_by : {s now : State} (same : s ≡ now) (i time : ℕ) (places : List Place) (effect : Effect) → time ≡ s.time → StepsAt s.places i s.store s.time places effect →
+    behind_effect (record s { places = places; time = time }) i effect ≡ stepped now i (slice_get now.places i)
+stepped_by {s} {now} same i time places effect still h =
+    ap₂ (λ (l : List Place) (t : ℕ). behind_effect (record s { places = l; time = t }) i effect) h.set still ∙ stepped_at same i h.from h.to effect h.here h.stepped
 
 -- ---- no word
 

@@ -1,3 +1,5 @@
+pub mod Listed
 pub mod Sources
+pub mod Timelines
 pub mod Touches
 pub mod Waits

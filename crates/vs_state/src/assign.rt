@@ -1,5 +1,6 @@
 //! Continuous assignments in a run.
-ghost use Rattle.std.specs.Prelude.{◌≡◌, not, OnOk};
+ghost use Rattle.std.specs.Prelude.{◌≡◌, not, OnErr, OnOk};
+ghost use Rattle.vs_state.specs.Timelines.{is_left};
 ghost use Rattle.vs_state.specs.Touches.{woken};
 ghost use Rattle.vs_process.specs.States as states;
 
@@ -51,6 +52,13 @@ impl<'a> AssignState<'a> {
         self.needs
     }
 
+    /// Whether it has to be evaluated or has a value that waits to be written.
+    pub(crate) fn is_left(&self) -> bool
+        ensures { result ≡ is_left self.now }
+    {
+        self.needs || self.pending.is_some()
+    }
+
     /// What it drives.
     pub(crate) fn target(&self) -> &'a Target
         ensures { result.now ≡ self.now.target }
@@ -59,14 +67,15 @@ impl<'a> AssignState<'a> {
     }
 
     /// Evaluates it at a time in ticks: a value that would change nothing leaves nothing pending, another one takes the place
-    /// of an older one.
+    /// of an older one. Without memory it is as it was.
     pub(crate) fn evaluate(
         &mut self,
         alloc: Global,
         store: &Store,
         time: u64,
     ) -> Result<(), AllocError>
-        ensures { OnOk result (self.new ≡ states.evaluated store.now time self.old) }
+        ensures ok { OnOk result (self.new ≡ states.evaluated store.now time self.old) }
+        ensures err { OnErr result (self.new ≡ self.old) }
     {
         let digits = cut_value(self.target, self.source, store, time);
         let write = write_of(alloc, self.target, digits, store, time)?;

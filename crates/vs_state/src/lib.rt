@@ -4,11 +4,16 @@
 #![tactic(auto)]
 
 mod assign;
+mod assigns;
 mod changes;
 mod moves;
+mod places;
+mod processes;
+mod recount;
 mod search;
 mod state;
 mod update;
+mod updates;
 mod woken;
 
 pub use state::State;

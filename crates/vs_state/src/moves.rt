@@ -6,7 +6,7 @@ ghost use Rattle.vs_process.specs.States as states;
 ghost use Rattle.vs_state.specs.Touches.{HasSources, behind_effect};
 ghost use Rattle.vs_state.specs.Waits.{HasTerms};
 
-use crate::changes::{activate_all, rouse_all, wake_all, wake_change, wake_for};
+use crate::changes::{wake_change, wake_for};
 use crate::state::State;
 use crate::update::Update;
 use std::alloc::AllocError;
@@ -27,7 +27,7 @@ impl<'a> State<'a> {
         let behind = self.store.word(part.signal, part.word);
         wake_change(
             &mut self.assigns,
-            &mut self.places,
+            &mut self.processes,
             &mut self.woken,
             design,
             part.signal,
@@ -51,7 +51,7 @@ impl<'a> State<'a> {
         }
         wake_for(
             &mut self.assigns,
-            &mut self.places,
+            &mut self.processes,
             &mut self.woken,
             design,
             &self.store,
@@ -66,8 +66,8 @@ impl<'a> State<'a> {
     fn queue(&mut self, process: usize, write: Write) -> Result<(), AllocError>
         ensures { OnOk result (self.new ≡ behind_effect self.old process (Effect.Update write)) }
     {
-        let update = Update::new(self.serial, process, self.time, write);
-        self.updates.push_back(update)?;
+        let update = Update::new(self.serial, process, self.processes.time(), write);
+        self.updates.push(update)?;
         self.serial = self.serial.wrapping_add(1);
         Ok(())
     }
@@ -93,10 +93,8 @@ impl<'a> State<'a> {
         requires terms { HasTerms design.now self.old }
         ensures { OnOk result (self.new ≡ states.stepped self.old process (slice_get self.old.places process)) }
     {
-        if let Some(place) = self.places.get_mut(process) {
-            let effect = place.step(self.alloc, &self.store, self.time)?;
-            self.perform(design, process, effect)?;
-        }
+        let effect = self.processes.step(process, self.alloc, &self.store)?;
+        self.perform(design, process, effect)?;
         Ok(())
     }
 
@@ -104,10 +102,9 @@ impl<'a> State<'a> {
     fn evaluate(&mut self, assign: usize) -> Result<(), AllocError>
         ensures { OnOk result (self.new ≡ states.evaluate self.old assign (slice_get self.old.assigns assign)) }
     {
-        let Some(x) = self.assigns.get_mut(assign) else {
-            return Ok(());
-        };
-        x.evaluate(self.alloc, &self.store, self.time)?;
+        let time = self.processes.time();
+        self.assigns
+            .evaluate(assign, self.alloc, &self.store, time)?;
         Ok(())
     }
 
@@ -118,15 +115,16 @@ impl<'a> State<'a> {
         requires terms { HasTerms design.now self.old }
         ensures { OnOk result (self.new ≡ states.propagate self.old assign (slice_get self.old.assigns assign)) }
     {
-        let Some(x) = self.assigns.get_mut(assign) else {
+        let Some(x) = self.assigns.get(assign) else {
             return Ok(());
         };
         let Some(digits) = x.pending() else {
             return Ok(());
         };
         let target = x.target();
-        x.settle();
-        let change = write_of(self.alloc, target, digits, &self.store, self.time)?;
+        let time = self.processes.time();
+        let change = write_of(self.alloc, target, digits, &self.store, time)?;
+        self.assigns.settle(assign);
         self.write(design, &change)?;
         Ok(())
     }
@@ -137,7 +135,7 @@ impl<'a> State<'a> {
         requires terms { HasTerms design.now self.old }
         ensures { OnOk result (self.new ≡ states.make self.old index (slice_get self.old.updates index)) }
     {
-        let Some(update) = self.updates.remove(index) else {
+        let Some(update) = self.updates.take(index) else {
             return Ok(());
         };
         self.write(design, update.what())?;
@@ -145,17 +143,15 @@ impl<'a> State<'a> {
     }
 
     /// The slot ends: time goes to the least due time, or the execution is over.
-    fn end_slot(&mut self)
+    fn end_slot(&mut self) -> Result<(), AllocError>
         requires going { self.old.over ≡ false }
-        ensures { self.new ≡ executions.apply Move.EndSlot self.old }
+        ensures { OnOk result (self.new ≡ executions.apply Move.EndSlot self.old) }
     {
         match self.next_time() {
             None => self.over = true,
-            Some(time) => {
-                wake_all(&mut self.places, time);
-                self.time = time;
-            }
+            Some(time) => self.processes.advance(time, &mut self.woken.processes)?,
         }
+        Ok(())
     }
 
     /// Makes an enabled move.
@@ -173,9 +169,9 @@ impl<'a> State<'a> {
             Move::Evaluate(assign) => self.evaluate(assign)?,
             Move::Propagate(assign) => self.propagate(design, assign)?,
             Move::Make(index) => self.update(design, index)?,
-            Move::Rouse => rouse_all(&mut self.places),
-            Move::Activate => activate_all(&mut self.updates, self.time),
-            Move::EndSlot => self.end_slot(),
+            Move::Rouse => self.processes.rouse_all(&mut self.woken.processes),
+            Move::Activate => self.updates.activate(self.processes.time()),
+            Move::EndSlot => self.end_slot()?,
         }
         Ok(())
     }

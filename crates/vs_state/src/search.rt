@@ -1,9 +1,10 @@
 //! What is enabled in a state of a run, and when the next slot is.
-ghost use Rattle.std.specs.Prelude.{◌≡◌, ◌||◌, Bool, true, false, None, is_some, slice_get, MatchOption};
+ghost use Rattle.std.specs.Prelude.{◌≡◌, ◌≤◌, Bool, true, false, None, slice_get, IfSome, MatchOption};
 ghost use Rattle.std.specs.List.{list_any};
 ghost use Rattle.vs_process.specs.Executions as executions;
-ghost use Rattle.vs_flatcode.specs.Places.{is_going, is_inactive};
+ghost use Rattle.vs_flatcode.specs.Places.{is_going};
 ghost use Rattle.vs_process.specs.States as states;
+ghost use Rattle.vs_state.specs.Timelines.{is_left};
 
 use crate::assign::AssignState;
 use crate::state::State;
@@ -12,7 +13,7 @@ use std::collections::VecDeque;
 use vs_process::{Move, Place};
 
 /// The first active process.
-fn active_process(places: &Vec<Place>) -> Option<usize>
+pub(crate) fn active_process(places: &Vec<Place>) -> Option<usize>
     ensures { MatchOption result (list_any is_going places.now.items ≡ false)
         (λ i. executions.if_some is_going (slice_get places.now.items i) ≡ true) }
 {
@@ -25,12 +26,12 @@ fn active_process(places: &Vec<Place>) -> Option<usize>
 }
 
 /// The first continuous assignment that has to be evaluated or has a value that waits to be written.
-fn busy_assign(assigns: &Vec<AssignState>) -> Option<usize>
-    ensures { MatchOption result (list_any (λ d. d.needs || is_some d.pending) assigns.now.items ≡ false)
-        (λ j. executions.if_some (λ d. d.needs || is_some d.pending) (slice_get assigns.now.items j) ≡ true) }
+pub(crate) fn busy_assign(assigns: &Vec<AssignState>) -> Option<usize>
+    ensures { MatchOption result (list_any is_left assigns.now.items ≡ false)
+        (λ j. executions.if_some is_left (slice_get assigns.now.items j) ≡ true) }
 {
     for assign in 0..assigns.len() {
-        if assigns[assign].needs() || assigns[assign].pending().is_some() {
+        if assigns[assign].is_left() {
             return Some(assign);
         }
     }
@@ -38,7 +39,7 @@ fn busy_assign(assigns: &Vec<AssignState>) -> Option<usize>
 }
 
 /// The oldest activated update.
-fn oldest_active(updates: &VecDeque<Update>) -> Option<usize>
+pub(crate) fn oldest_active(updates: &VecDeque<Update>) -> Option<usize>
     ensures { MatchOption result (list_any (λ u. u.active) updates.now.items ≡ false)
         (λ i. executions.if_some (executions.is_first updates.now.items i) (slice_get updates.now.items i) ≡ true) }
 {
@@ -51,7 +52,7 @@ fn oldest_active(updates: &VecDeque<Update>) -> Option<usize>
 }
 
 /// Whether an update is activated and no older activated one names a signal that it names.
-fn is_first(updates: &VecDeque<Update>, index: usize) -> bool
+pub(crate) fn is_first(updates: &VecDeque<Update>, index: usize) -> bool
     ensures { result ≡ executions.if_some (executions.is_first updates.now.items index) (slice_get updates.now.items index) }
 {
     let Some(update) = updates.get(index) else {
@@ -68,15 +69,8 @@ fn is_first(updates: &VecDeque<Update>, index: usize) -> bool
     true
 }
 
-/// Whether a process is inactive.
-fn has_inactive(places: &Vec<Place>) -> bool
-    ensures { result ≡ list_any is_inactive places.now.items }
-{
-    places.iter().any(|place| place.is_inactive())
-}
-
 /// Whether an update is due at this time and not activated.
-fn has_due(updates: &VecDeque<Update>, time: u64) -> bool
+pub(crate) fn has_due(updates: &VecDeque<Update>, time: u64) -> bool
     ensures { result ≡ list_any (states.is_due time) updates.now.items }
 {
     updates.iter().any(|update| update.is_due(time))
@@ -92,21 +86,8 @@ fn earlier(best: Option<u64>, time: u64) -> Option<u64>
     }
 }
 
-/// The least time at which a delay ends.
-fn next_wake(places: &Vec<Place>) -> Option<u64>
-    ensures { result ≡ executions.next_wake None places.now.items }
-{
-    let mut best = None;
-    for process in 0..places.len() {
-        if let Some(due) = places[process].due() {
-            best = earlier(best, due);
-        }
-    }
-    best
-}
-
 /// The least of a time, where there is one, and those at which a nonblocking update is due.
-fn next_update(first: Option<u64>, updates: &VecDeque<Update>) -> Option<u64>
+pub(crate) fn next_update(first: Option<u64>, updates: &VecDeque<Update>) -> Option<u64>
     ensures { result ≡ executions.next_update first updates.now.items }
 {
     let mut best = first;
@@ -119,41 +100,51 @@ fn next_update(first: Option<u64>, updates: &VecDeque<Update>) -> Option<u64>
 impl<'a> State<'a> {
     /// The least due time, in ticks.
     pub(crate) fn next_time(&self) -> Option<u64>
-        ensures { result ≡ executions.next_time self.now }
+        ensures least { result ≡ executions.next_time self.now }
+        ensures not_over { IfSome result (λ time. self.now.time ≤ time) }
     {
-        next_update(next_wake(&self.places), &self.updates)
+        self.updates.next(self.processes.next_wake())
     }
 
-    /// An active event, where there is one.
+    /// Whether an active event is left in the slot.
+    fn is_busy(&self) -> bool
+        ensures { result ≡ executions.is_busy self.now }
+    {
+        self.processes.has_active() || self.assigns.has_left() || self.updates.has_active()
+    }
+
+    /// An active event, where there is one. It looks for it in the whole state.
     fn active_event(&self) -> Option<Move>
         ensures { MatchOption result (executions.is_busy self.now ≡ false) (λ m. executions.is_enabled self.now m ≡ true) }
     {
-        if let Some(process) = active_process(&self.places) {
+        if let Some(process) = self.processes.first_active() {
             return Some(Move::Step(process));
         }
-        if let Some(assign) = busy_assign(&self.assigns) {
+        if let Some(assign) = self.assigns.first_left() {
             if self.needs(assign) {
                 return Some(Move::Evaluate(assign));
             }
             return Some(Move::Propagate(assign));
         }
-        if let Some(index) = oldest_active(&self.updates) {
+        if let Some(index) = self.updates.first_active() {
             return Some(Move::Make(index));
         }
         None
     }
 
-    /// A move that is enabled. It looks at the whole state.
+    /// A move that is enabled. Where no active event is left, it takes no search.
     pub fn enabled_move(&self) -> Move
         ensures { executions.is_enabled self.now result ≡ true }
     {
-        if let Some(choice) = self.active_event() {
+        if self.is_busy()
+            && let Some(choice) = self.active_event()
+        {
             return choice;
         }
-        if has_inactive(&self.places) {
+        if self.processes.has_inactive() {
             return Move::Rouse;
         }
-        if has_due(&self.updates, self.time) {
+        if self.updates.has_due(self.processes.time()) {
             return Move::Activate;
         }
         Move::EndSlot
@@ -167,7 +158,7 @@ impl<'a> State<'a> {
             Move::Step(process) => self.is_going(process),
             Move::Evaluate(assign) => self.needs(assign),
             Move::Propagate(assign) => self.is_pending(assign),
-            Move::Make(index) => is_first(&self.updates, index),
+            Move::Make(index) => self.updates.is_first(index),
             Move::Rouse => false,
             Move::Activate => false,
             Move::EndSlot => false,

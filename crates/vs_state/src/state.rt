@@ -1,29 +1,30 @@
 //! The state of a run.
 ghost use Rattle.std.specs.Prelude.{◌≡◌, false, map, slice_get, is_some, IfOk};
 ghost use Rattle.vs_process.specs.Executions.{if_some};
-ghost use Rattle.vs_flatcode.specs.Places.{is_going, is_inactive, is_inside, start_place};
+ghost use Rattle.vs_flatcode.specs.Places.{is_going, is_inside};
 ghost use Rattle.vs_process.specs.States as states;
 
-use crate::assign::AssignState;
+use crate::assigns::Assigns;
+use crate::processes::Processes;
 use crate::update::Update;
+use crate::updates::Updates;
 use crate::woken::Woken;
 use std::alloc::{AllocError, Global};
 use std::collections::VecDeque;
 use std::marker::Model;
-use vs_design::{Assign, Design, Store};
-use vs_process::{Code, Place};
+use vs_design::{Design, Store};
+use vs_process::Code;
 
 /// The state of a run. A contract sees it as a state of the definition.
 #[derive(Drop)]
 pub struct State<'a> {
     pub(crate) alloc: Global,
     pub(crate) store: Store,
-    pub(crate) places: Vec<Place<'a>>,
-    pub(crate) assigns: Vec<AssignState<'a>>,
+    /// The processes, and the time of the slot.
+    pub(crate) processes: Processes<'a>,
+    pub(crate) assigns: Assigns<'a>,
     /// The nonblocking updates that wait, in the order of execution.
-    pub(crate) updates: VecDeque<Update>,
-    /// The time of the slot, in ticks.
-    pub(crate) time: u64,
+    pub(crate) updates: Updates,
     pub(crate) over: bool,
     /// How many nonblocking updates were made so far; no part of the definition's state.
     pub(crate) serial: u64,
@@ -37,6 +38,7 @@ impl<'a> Model for State<'a> {
     ghost use Rattle.vs_design.specs.contracts.expression.Typed as expression;
     ghost use Rattle.vs_design.specs.contracts.statement.Statement as statement;
     ghost use Rattle.vs_process.specs.States as states;
+    ghost use Rattle.vs_state.specs.Timelines.{AreFrom};
 
     ghost Value = { states.State };
 
@@ -44,37 +46,17 @@ impl<'a> Model for State<'a> {
 
     ghost view = { λ m. record {
       store = m.store;
-      places = m.places.items;
-      assigns = m.assigns.items;
-      updates = m.updates.items;
+      places = m.processes.places;
+      assigns = m.assigns;
+      updates = m.updates;
       calls = [];
-      time = m.time;
+      time = m.processes.time;
       finishing = false;
       over = m.over;
     } };
-}
 
-fn start_places<'a>(alloc: Global, codes: &'a [Code<'a>]) -> Result<Vec<Place<'a>>, AllocError>
-    ensures { IfOk result (λ places. places.items ≡ map start_place codes.entry.now) }
-{
-    let mut places = Vec::new(alloc);
-    for code in codes {
-        places.push(Place::start(alloc, code)?)?;
-    }
-    Ok(places)
-}
-
-fn start_assigns<'a>(
-    alloc: Global,
-    assigns: &'a [Assign],
-) -> Result<Vec<AssignState<'a>>, AllocError>
-    ensures { IfOk result (λ all. all.items ≡ map states.start_assign assigns.entry.now) }
-{
-    let mut all = Vec::new(alloc);
-    for assign in assigns {
-        all.push(AssignState::start(assign))?;
-    }
-    Ok(all)
+    // No update is due before the slot.
+    ghost invariant = { λ m. AreFrom m.processes.time m.updates };
 }
 
 impl<'a> State<'a> {
@@ -88,15 +70,14 @@ impl<'a> State<'a> {
         ensures { IfOk result (λ state. state ≡ states.start design.entry.now) }
     {
         let store = Store::start(alloc, design)?;
-        let places = start_places(alloc, codes)?;
-        let assigns = start_assigns(alloc, design.assigns())?;
+        let processes = Processes::start(alloc, codes)?;
+        let assigns = Assigns::start(alloc, design.assigns())?;
         Ok(State {
             alloc,
             store,
-            places,
+            processes,
             assigns,
-            updates: VecDeque::new(alloc),
-            time: 0,
+            updates: Updates::none(alloc),
             over: false,
             serial: 0,
             woken: Woken::none(alloc),
@@ -107,7 +88,7 @@ impl<'a> State<'a> {
     pub fn time(&self) -> u64
         ensures { result ≡ self.now.time }
     {
-        self.time
+        self.processes.time()
     }
 
     /// Whether the execution is over.
@@ -129,26 +110,8 @@ impl<'a> State<'a> {
     pub fn is_going(&self, process: usize) -> bool
         ensures { result ≡ if_some is_going (slice_get self.now.places process) }
     {
-        match self.places.get(process) {
+        match self.processes.get(process) {
             Some(place) => place.is_going(),
-            None => false,
-        }
-    }
-
-    /// Whether a process is inactive.
-    pub fn is_inactive(&self, process: usize) -> bool
-        ensures { result ≡ if_some is_inactive (slice_get self.now.places process) }
-    {
-        match self.places.get(process) {
-            Some(place) => place.is_inactive(),
-            None => false,
-        }
-    }
-
-    /// Whether a delay of a process hasn't ended.
-    pub fn is_asleep(&self, process: usize) -> bool {
-        match self.places.get(process) {
-            Some(place) => place.due().is_some(),
             None => false,
         }
     }
@@ -175,7 +138,7 @@ impl<'a> State<'a> {
 
     /// How many processes there are.
     pub fn process_count(&self) -> usize {
-        self.places.len()
+        self.processes.len()
     }
 
     /// How many continuous assignments there are.
@@ -185,7 +148,7 @@ impl<'a> State<'a> {
 
     /// The nonblocking updates that wait, in the order of execution.
     pub fn updates(&self) -> &VecDeque<Update> {
-        &self.updates
+        self.updates.items()
     }
 
     /// The continuous assignments that the last move has woken.
@@ -193,7 +156,8 @@ impl<'a> State<'a> {
         &self.woken.assigns
     }
 
-    /// The processes that the last move has made active by an event control, in design order, each once.
+    /// The processes that the last move has made active: by an event control in design order, each once; else in the order in which they came to
+    /// wait.
     pub fn woken_processes(&self) -> &[usize] {
         &self.woken.processes
     }
@@ -202,7 +166,7 @@ impl<'a> State<'a> {
     pub fn is_inside(&self, process: usize) -> bool
         ensures { result ≡ if_some is_inside (slice_get self.now.places process) }
     {
-        match self.places.get(process) {
+        match self.processes.get(process) {
             Some(place) => place.is_inside(),
             None => false,
         }

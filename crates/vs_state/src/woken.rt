@@ -7,7 +7,7 @@ use std::alloc::Global;
 pub(crate) struct Woken {
     /// The continuous assignments that have to be evaluated, and hadn't before.
     pub(crate) assigns: Vec<usize>,
-    /// The processes that have become active by an event control.
+    /// The processes that have become active.
     pub(crate) processes: Vec<usize>,
 }
 

@@ -1,6 +1,11 @@
-use Rattle.std.proofs.Common.{◌≡◌, ◌++◌, map, take, drop}
-use Rattle.vs_process.specs.States.{activated}
+use Rattle.std.proofs.Common.{◌≡◌, ◌++◌, map, length, take, drop}
+use Rattle.vs_process.specs.States.{Update, activated}
+use Rattle.vs_state.specs.Listed.{count}
 use Rattle.vs_state.proofs.changes.activate_all.Given as goal
 
 abbrev pub invariant-loop-i : goal.invariant-loop-i
-invariant-loop-i l = l.updates.items ≡ map (activated l.time) (take l.i l.fn.updates.items) ++ drop l.i l.fn.updates.items
+invariant-loop-i l = record {
+  updates : l.updates.items ≡ map (activated l.time) (take l.i l.fn.updates.items) ++ drop l.i l.fn.updates.items;
+  size : length l.updates.items ≡ length l.fn.updates.items;
+  active : l.active ≡ count (λ (u : Update). u.active) l.updates.items;
+}

@@ -24,13 +24,13 @@ loop-part-preserved c =
     let parts : List Part = c.parts-part-items.result.now in
     let store = c.args.store.now in
     let new = put store c.args.write.now in
-    let xs : List AssignState = c.loop-part.assigns.items in
-    let ys : List Place = c.loop-part.places.items in
-    let woken : c.wake_change.new.assigns.items ≡ map (woken_by (part_changes store new part)) xs =
+    let xs : List AssignState = c.loop-part.assigns in
+    let ys : List Place = c.loop-part.processes.places in
+    let woken : c.wake_change.new.assigns ≡ map (woken_by (part_changes store new part)) xs =
     c.in_ok-wake_change.ensures.assigns
     ∙ ap₂ (λ (a b : Option (List Digit)). map (woken_by (word_changes part.signal part.word a b)) xs) c.word-before.ensures c.word_behind-behind.ensures
     in
-    let triggered : c.wake_change.new.places.items ≡ map (triggered_part store new part) ys =
+    let triggered : c.wake_change.new.processes.places ≡ map (triggered_part store new part) ys =
     c.in_ok-wake_change.ensures.places
     ∙ ap₂ (λ (a b : Option (List Digit)). map (triggered_by part.signal part.word a b) ys) c.word-before.ensures c.word_behind-behind.ensures
     in
@@ -46,4 +46,5 @@ loop-part-preserved c =
       terms =
           subst (WaitWithin c.args.design.now.processes) (sym c.in_ok-wake_change.ensures.places)
           (within_triggered c.args.design.now.processes ys part.signal part.word c.word-before.result c.word_behind-behind.result c.loop-part.invariant.terms);
+      time = c.wake_change.ensures.time ∙ c.loop-part.invariant.time;
     }

@@ -6,8 +6,9 @@ use Rattle.vs_state.proofs.changes.wake_for.Given as goal
 
 abbrev pub invariant-loop-part : goal.invariant-loop-part
 invariant-loop-part l = record {
-  assigns : woken_parts l.store (put l.store l.write) (drop l.part-index l.part-items) l.assigns.items ≡ woken_parts l.store (put l.store l.write) l.write l.fn.assigns.items;
-  places : triggered_parts l.store (put l.store l.write) (drop l.part-index l.part-items) l.places.items ≡ triggered_parts l.store (put l.store l.write) l.write l.fn.places.items;
-  sources : AreOf l.design l.assigns.items;
-  terms : WaitWithin l.design.processes l.places.items;
+  assigns : woken_parts l.store (put l.store l.write) (drop l.part-index l.part-items) l.assigns ≡ woken_parts l.store (put l.store l.write) l.write l.fn.assigns;
+  places : triggered_parts l.store (put l.store l.write) (drop l.part-index l.part-items) l.processes.places ≡ triggered_parts l.store (put l.store l.write) l.write l.fn.processes.places;
+  sources : AreOf l.design l.assigns;
+  terms : WaitWithin l.design.processes l.processes.places;
+  time : l.processes.time ≡ l.fn.processes.time;
 }

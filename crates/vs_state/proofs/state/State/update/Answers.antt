@@ -1,13 +1,22 @@
-use Rattle.std.proofs.Common.{◌≡◌, ◌<◌, ◌∙◌, Some, length, slice_get, refl, sym, arith}
-use Rattle.std.proofs.lemmas.Option.{slice_get_read}
-use Rattle.vs_state.proofs.ExecutionsLemmas.{make_at}
+use Rattle.std.proofs.Common.{◌∙◌, List, sym, subst}
+use Rattle.vs_process.specs.States.{Update}
+use Rattle.vs_state.specs.Timelines.{AreFrom}
+use Rattle.vs_state.proofs.ExecutionsLemmas.{make_at, make_past}
+use Rattle.vs_state.proofs.TimelinesLemmas.{from_remove}
 use Rattle.vs_state.proofs.state.State.update.Goals as goal
+
+pub invariant_of-self : goal.invariant_of-self
+invariant_of-self c =
+    subst (λ (l : List Update). AreFrom c.self.inside.processes.time l) (sym c.take.ensures.rest) (from_remove c.self.inside.processes.time c.self.inside.updates c.args.index c.self.invariant)
+
+pub invariant_of-self-2 : goal.invariant_of-self-2
+invariant_of-self-2 c =
+    subst (λ (l : List Update). AreFrom c.self.inside.processes.time l) (sym c.take.ensures.rest) (from_remove c.self.inside.processes.time c.self.inside.updates c.args.index c.self.invariant)
+
+pub returns-in_default : goal.returns-in_default
+returns-in_default c = make_past c.self.view_is c.args.index c.take.new.self (sym c.take.ensures.taken ∙ c.in_default.is) c.take.ensures.rest
 
 pub returns : goal.returns
 returns c =
-    let updates = c.self.inside.updates.items in
-    let below = c.in-Some.ensures.variant.0 refl in
-    let within : c.args.index < length updates = omega (arith, c.self.inside.updates.ok.0, below) in
-    let here : slice_get updates c.args.index ≡ Some c.in-Some.update = slice_get_read updates (length updates) c.args.index c.in-Some.update refl within c.in-Some.ensures.value in
     c.in_ok-write.ensures
-    ∙ make_at c.self.view_is c.args.index c.in-Some.update c.remove.new.self.items c.what.result.now here c.in-Some.ensures.items (sym c.what.ensures)
+    ∙ make_at c.self.view_is c.args.index c.in-Some.update c.take.new.self c.what.result.now (sym c.take.ensures.taken ∙ c.in-Some.is) c.take.ensures.rest (sym c.what.ensures)

@@ -24,17 +24,17 @@ returns c =
     let part = c.args.part in
     let store = c.self.inside.store in
     let new = put store c.args.write.now in
-    let xs : List AssignState = c.self.inside.assigns.items in
-    let ys : List Place = c.self.inside.places.items in
+    let xs : List AssignState = c.self.inside.assigns in
+    let ys : List Place = c.self.inside.processes.places in
     let behind : c.word-behind.result ≡ word_of new part.signal part.word = rw (← c.put.ensures) c.word-behind.ensures in
-    let woken : c.wake_change.new.assigns.items ≡ map (touched store new) xs =
+    let woken : c.wake_change.new.assigns ≡ map (touched store new) xs =
     c.in_ok-wake_change.ensures.assigns
     ∙ ap₂ (λ (a b : Option (List Digit)). map (woken_by (word_changes part.signal part.word a b)) xs) c.word-before.ensures behind
     ∙ sym (ap (λ (w : Write). woken_parts store new w xs) c.requires.one) ∙ parts_touch c.args.write.now store xs
     in
-    let triggered : c.wake_change.new.places.items ≡ map (wakened store new) ys =
+    let triggered : c.wake_change.new.processes.places ≡ map (wakened store new) ys =
     c.in_ok-wake_change.ensures.places
     ∙ ap₂ (λ (a b : Option (List Digit)). map (triggered_by part.signal part.word a b) ys) c.word-before.ensures behind
     ∙ sym (ap (λ (w : Write). triggered_parts store new w ys) c.requires.one) ∙ parts_wake_places c.args.write.now store ys
     in
-    rw (← c.self.view_is, c.put.ensures, woken, triggered) refl
+    rw (← c.self.view_is, c.put.ensures, woken, triggered, c.wake_change.ensures.time) refl

@@ -1,6 +1,0 @@
-use Rattle.std.proofs.Common.{◌≡◌, ◌++◌, map, take, drop}
-use Rattle.vs_process.specs.States.{roused}
-use Rattle.vs_state.proofs.changes.rouse_all.Given as goal
-
-abbrev pub invariant-loop-process : goal.invariant-loop-process
-invariant-loop-process l = l.places.items ≡ map roused (take l.process l.fn.places.items) ++ drop l.process l.fn.places.items
