@@ -26,6 +26,7 @@ use Rattle.vs_vcd.specs.Sinks.{AppendsPart}
 use Rattle.vs_vcd.specs.declared.fault.VcdFault.{VcdFault}
 use Rattle.vs_vcd.specs.declared.fault.VcdFault.TheVariants as fault
 use Rattle.vs_vcd.specs.Text.{vcd_header, vcd_slots, vcd_end, vcd_text}
+use Rattle.vs_kernel.specs.Turns.{TurnedPart}
 use Rattle.vs_kernel.specs.Runs.{RanTo, HasBegun, StopsAt, text_so_far, AppendsSlots, AppendsSlotsPart}
 use Rattle.vs_kernel.specs.declared.outcome.Outcome.TheVariants.{Reached, Quiet, StepLimit}
 
@@ -412,6 +413,11 @@ move_failed {d} {until} {steps} {taken} {now} {writer} {old} {new} {new'} r m st
 -- a slot that was written whole
 pub slots_whole : (old new : Option (List ℕ)) (d : Parts) (before more : List Slot) → AppendsSlots old new d before more → AppendsSlotsPart old new d before more
 slots_whole old new d before more h = (h.0, h.1, part_all old new h.0 h.2)
+
+-- a step that failed
+pub turned_part : {inside : Option ℕ} {s : State} {writer : Progress} {old new : Option (List ℕ)} (m : Move) → is_enabled s m ≡ true → is_step_of_any inside m ≡ true →
+    ((d : Parts) (before : List Slot) → HasWritten writer d before → AppendsSlotsPart old new d before (ended_slot m s)) → TurnedPart inside s writer old new
+turned_part m enabled free text = record { choice = m; enabled = enabled; free = free; text = text }
 
 -- a slot that wasn't written whole
 pub slot_failed : (fault : VcdFault) (writer : Progress) (old new : Option (List ℕ)) (now : State) (m : Move) (time : ℕ) (store : Store) → m ≡ EndSlot → time ≡ now.time → store ≡ now.store →

@@ -4,4 +4,5 @@ pub mod Policies
 pub mod Runs
 pub mod Shows
 pub mod Stages
+pub mod Turns
 pub mod VcdFaults

@@ -19,8 +19,10 @@ enum Item {
     Propagate(usize),
     /// A step of a process, by its number.
     Step(usize),
-    /// An activated nonblocking update: its number in the order of execution, and the signal that its lowest part names.
-    Make(u64, usize),
+    /// A nonblocking update, by its number among those that were activated last.
+    Make(usize),
+    /// None: an event has left the list from within.
+    Gone,
 }
 
 /// A move and the index of its event in the list, where it stands in it.
@@ -30,62 +32,66 @@ pub(crate) struct Choice {
     pub(crate) index: Option<usize>,
 }
 
-#[derive(Drop)]
+#[derive(Clone, Copy)]
 struct Entry {
     item: Item,
     /// Whether it is an update that waits for an older one which names one of its signals.
     hidden: bool,
-    /// The signals that an update of several parts names, but for that of the lowest part.
-    others: Vec<usize>,
 }
 
-impl Entry {
-    /// Whether it is an update that names a signal.
-    fn names(&self, signal: usize) -> bool {
-        match self.item {
-            Item::Make(_, first) => first == signal || self.others.contains(&signal),
-            _ => false,
-        }
-    }
-
-    /// Whether both are updates and name one signal.
-    fn shares(&self, other: &Entry) -> bool {
-        match other.item {
-            Item::Make(_, first) => {
-                self.names(first) || other.others.iter().any(|signal| self.names(*signal))
-            }
-            _ => false,
-        }
-    }
+/// An activated update: its number in the order of execution, and where the signals that its parts name begin and end.
+#[derive(Clone, Copy)]
+struct Activated {
+    serial: u64,
+    from: usize,
+    to: usize,
 }
 
 /// The enabled events in the order in which they came.
 ///
-/// Events are taken from either end in constant time, from within in the time of the shorter side. An update that
-/// uncovers another one of one of its signals, and an evaluation that drops a waiting value, cost a scan of the list.
+/// Events are taken from either end in constant time. One that leaves from within leaves a gap, which goes as soon as it stands at an end. An
+/// update that uncovers another one of one of its signals costs a scan of the list. Where the first event is always chosen, the list holds no
+/// updates: the oldest activated one comes before all that is listed.
 #[derive(Drop)]
 pub(crate) struct Agenda {
-    alloc: Global,
     entries: VecDeque<Entry>,
+    /// Whether the first event is always chosen.
+    first: bool,
+    /// How many entries have left at the front, modulo 2^64.
+    passed: usize,
     /// How many entries are hidden.
     hidden: usize,
+    /// How many entries are gaps.
+    gaps: usize,
     /// For each signal, how many parts of listed updates name it.
     claims: Vec<usize>,
-    /// For each continuous assignment, whether its update is listed.
-    proposed: Vec<bool>,
+    /// The updates that were activated last, and the signals that they name.
+    activated: Vec<Activated>,
+    signals: Vec<usize>,
+    /// For each continuous assignment whose update is listed, the number of its entry among all that have entered at the end.
+    proposed: Vec<Option<usize>>,
     /// The index of the last move's event, where it stood in the list.
     last: Option<usize>,
 }
 
 impl Agenda {
     /// The list at the start of a run: every continuous assignment, then every active process, in design order.
-    pub(crate) fn start(alloc: Global, signals: usize, state: &State) -> Result<Self, AllocError> {
+    pub(crate) fn start(
+        alloc: Global,
+        first: bool,
+        signals: usize,
+        state: &State,
+    ) -> Result<Self, AllocError> {
         let mut agenda = Agenda {
-            alloc,
             entries: VecDeque::new(alloc),
+            first,
+            passed: 0,
             hidden: 0,
+            gaps: 0,
             claims: vec![in alloc; 0; signals]?,
-            proposed: vec![in alloc; false; state.assign_count()]?,
+            activated: Vec::new(alloc),
+            signals: Vec::new(alloc),
+            proposed: vec![in alloc; None; state.assign_count()]?,
             last: None,
         };
         for assign in 0..state.assign_count() {
@@ -102,7 +108,6 @@ impl Agenda {
         self.entries.push_back(Entry {
             item,
             hidden: false,
-            others: Vec::new(self.alloc),
         })?;
         Ok(())
     }
@@ -117,28 +122,19 @@ impl Agenda {
 
     /// Puts an activated update at the end; it is hidden where an older one which names one of its signals is listed.
     fn add_update(&mut self, serial: u64, what: &Write) -> Result<(), AllocError> {
-        let mut first = None;
-        let mut others = Vec::new(self.alloc);
+        let from = self.signals.len();
         let mut hidden = false;
         for part in what.parts() {
             hidden = hidden || self.is_claimed(part.signal);
-            if first.is_none() {
-                first = Some(part.signal);
-            } else {
-                others.push(part.signal)?;
-            }
+            self.signals.push(part.signal)?;
         }
-        let Some(signal) = first else {
-            return Ok(());
-        };
         for part in what.parts() {
             self.claim(part.signal);
         }
-        self.entries.push_back(Entry {
-            item: Item::Make(serial, signal),
-            hidden,
-            others,
-        })?;
+        let item = Item::Make(self.activated.len());
+        let to = self.signals.len();
+        self.activated.push(Activated { serial, from, to })?;
+        self.entries.push_back(Entry { item, hidden })?;
         if hidden {
             self.hidden = self.hidden.saturating_add(1);
         }
@@ -160,14 +156,32 @@ impl Agenda {
         }
     }
 
+    /// The signals that an event names, if it is an update.
+    fn signals_of(&self, item: Item) -> &[usize] {
+        let Item::Make(number) = item else {
+            return &[];
+        };
+        let Some(update) = self.activated.get(number) else {
+            return &[];
+        };
+        match self.signals.get(update.from..update.to) {
+            Some(signals) => signals,
+            None => &[],
+        }
+    }
+
     /// The index of the event that the policy chooses among those that aren't hidden.
     pub(crate) fn pick<P: Pick>(&self, policy: &mut P) -> Option<usize> {
-        let count = self.entries.len().saturating_sub(self.hidden);
+        let others = self.hidden.saturating_add(self.gaps);
+        let count = self.entries.len().saturating_sub(others);
         if count == 0 {
             return None;
         }
+        if self.first {
+            return Some(0);
+        }
         let number = policy.pick(count);
-        if self.hidden == 0 {
+        if others == 0 {
             return Some(number);
         }
         self.index_of(number)
@@ -177,7 +191,7 @@ impl Agenda {
     fn index_of(&self, number: usize) -> Option<usize> {
         let mut left = number;
         for (index, entry) in self.entries.iter().enumerate() {
-            if !entry.hidden {
+            if !entry.hidden && entry.item != Item::Gone {
                 if left == 0 {
                     return Some(index);
                 }
@@ -203,10 +217,12 @@ impl Agenda {
             Item::Evaluate(assign) => Some(Move::Evaluate(assign)),
             Item::Propagate(assign) => Some(Move::Propagate(assign)),
             Item::Step(process) => Some(Move::Step(process)),
-            Item::Make(serial, _) => {
+            Item::Make(number) => {
+                let serial = self.activated.get(number)?.serial;
                 let mut updates = state.updates().iter();
                 Some(Move::Make(updates.position(|u| u.serial() == serial)?))
             }
+            Item::Gone => None,
         }
     }
 
@@ -215,16 +231,54 @@ impl Agenda {
         let Some(index) = index else {
             return;
         };
-        let Some(entry) = self.entries.remove(index) else {
+        let Some(entry) = self.entries.get_mut(index) else {
             return;
         };
-        if entry.hidden {
+        let left = *entry;
+        entry.item = Item::Gone;
+        entry.hidden = false;
+        if left.item != Item::Gone {
+            self.gaps = self.gaps.saturating_add(1);
+        }
+        if left.hidden {
             self.hidden = self.hidden.saturating_sub(1);
         }
-        if let Item::Make(_, signal) = entry.item {
-            self.release(signal);
-            for other in &entry.others {
-                self.release(*other);
+        self.trim_front();
+        self.trim_back();
+        self.release_all(left.item);
+    }
+
+    /// Takes the gaps at the front away.
+    fn trim_front(&mut self) {
+        for _ in 0..self.entries.len() {
+            match self.entries.front() {
+                Some(entry) if entry.item == Item::Gone => {}
+                _ => return,
+            }
+            let _ = self.entries.pop_front();
+            self.passed = self.passed.wrapping_add(1);
+            self.gaps = self.gaps.saturating_sub(1);
+        }
+    }
+
+    /// Takes the gaps at the end away.
+    fn trim_back(&mut self) {
+        for _ in 0..self.entries.len() {
+            match self.entries.back() {
+                Some(entry) if entry.item == Item::Gone => {}
+                _ => return,
+            }
+            let _ = self.entries.pop_back();
+            self.gaps = self.gaps.saturating_sub(1);
+        }
+    }
+
+    /// An event has left the list: where it is an update, its parts no longer hide others.
+    fn release_all(&mut self, item: Item) {
+        for i in 0..self.signals_of(item).len() {
+            if let Some(signal) = self.signals_of(item).get(i) {
+                let signal = *signal;
+                self.release(signal);
             }
         }
     }
@@ -239,7 +293,9 @@ impl Agenda {
         if *count == 0 {
             return;
         }
-        let Some(index) = self.entries.iter().position(|entry| entry.names(signal)) else {
+        let mut entries = self.entries.iter();
+        let Some(index) = entries.position(|entry| self.signals_of(entry.item).contains(&signal))
+        else {
             return;
         };
         if self.waits(index) {
@@ -258,17 +314,24 @@ impl Agenda {
         let Some(update) = self.entries.get(index) else {
             return false;
         };
-        if update.others.is_empty() {
+        let signals = self.signals_of(update.item);
+        if signals.len() < 2 {
             return false;
         }
         for older in 0..index {
             if let Some(entry) = self.entries.get(older)
-                && entry.shares(update)
+                && self.shares(entry.item, signals)
             {
                 return true;
             }
         }
         false
+    }
+
+    /// Whether an event is an update that names one of these signals.
+    fn shares(&self, item: Item, signals: &[usize]) -> bool {
+        let named = self.signals_of(item);
+        signals.iter().any(|signal| named.contains(signal))
     }
 
     /// Brings the list up to date behind a move: an event that is no longer enabled leaves it, and what has become
@@ -286,7 +349,7 @@ impl Agenda {
             Move::Evaluate(assign) => self.follow_evaluation(assign, made.index, state),
             Move::Propagate(assign) => {
                 self.remove(made.index);
-                self.set_proposed(assign, false);
+                self.set_proposed(assign, None);
                 Ok(())
             }
             Move::Make(_) => {
@@ -316,27 +379,36 @@ impl Agenda {
         state: &State,
     ) -> Result<(), AllocError> {
         self.remove(index);
-        let listed = self.proposed.get(assign).copied().unwrap_or(false);
-        let pending = state.is_pending(assign);
-        if pending && !listed {
-            self.add(Item::Propagate(assign))?;
+        let listed = self.proposed.get(assign).copied().unwrap_or(None);
+        if state.is_pending(assign) {
+            if listed.is_none() {
+                let place = self.passed.wrapping_add(self.entries.len());
+                self.add(Item::Propagate(assign))?;
+                self.set_proposed(assign, Some(place));
+            }
+            return Ok(());
         }
-        if !pending && listed {
-            let update = Item::Propagate(assign);
-            let index = self.entries.iter().position(|entry| entry.item == update);
-            self.remove(index);
+        if let Some(place) = listed {
+            self.remove(Some(place.wrapping_sub(self.passed)));
+            self.set_proposed(assign, None);
         }
-        self.set_proposed(assign, pending);
         Ok(())
     }
 
-    fn set_proposed(&mut self, assign: usize, value: bool) {
+    /// Notes where the update of a continuous assignment is listed.
+    fn set_proposed(&mut self, assign: usize, place: Option<usize>) {
         if let Some(proposed) = self.proposed.get_mut(assign) {
-            *proposed = value;
+            *proposed = place;
         }
     }
 
+    /// Lists the updates that were activated, unless the first event is always chosen.
     fn follow_activation(&mut self, state: &State) -> Result<(), AllocError> {
+        if self.first {
+            return Ok(());
+        }
+        self.activated.clear();
+        self.signals.clear();
         for i in 0..state.updates().len() {
             if let Some(update) = state.updates().get(i)
                 && update.is_active()

@@ -7,6 +7,9 @@ use std::marker::Model;
 /// A policy: it chooses among the events that are enabled, whose order the standard leaves open
 /// (IEEE 1364-2005, clause 11.4.2).
 pub trait Pick {
+    /// Whether it always chooses the first: then `pick` isn't called.
+    const FIRST: bool = false;
+
     /// One of the first `n` numbers: the place of the chosen event in the list of those that are enabled.
     fn pick(&mut self, n: usize) -> usize
         requires { 0 < n }
@@ -18,6 +21,8 @@ pub trait Pick {
 pub struct Fifo;
 
 impl Pick for Fifo {
+    const FIRST: bool = true;
+
     fn pick(&mut self, n: usize) -> usize
         requires { 0 < n }
         ensures in_range { result < n }

@@ -4,6 +4,7 @@ ghost use Rattle.vs_design.specs.Parts.{Parts};
 ghost use Rattle.vs_design.specs.Traces.{Slot};
 ghost use Rattle.vs_kernel.specs.Runs.{RanTo, HasBegun, AppendsSlots, AppendsSlotsPart};
 ghost use Rattle.vs_kernel.specs.Insides.{inside_told};
+ghost use Rattle.vs_kernel.specs.Turns.{Turned, TurnedPart};
 ghost use Rattle.vs_state.specs.Touches.{HasSources};
 ghost use Rattle.vs_state.specs.Waits.{HasTerms};
 ghost use Rattle.vs_process.specs.Blocks.{is_step_of_any};
@@ -63,8 +64,8 @@ fn inside_behind(blocks: &[bool], state: &State, made: Move) -> Option<usize>
     }
 }
 
-/// The next move. A combinational block that has left its control goes on, which is no choice; else it is what the policy chooses of the list,
-/// where that is enabled, and else a move that the state has.
+/// The next move. A combinational block that has left its control goes on, which is no choice. Else it is what the policy chooses of the list,
+/// where that is enabled, and else a move that the state has; where the first is always chosen, the activated updates come first.
 pub(crate) fn choose<P: Pick>(
     state: &State,
     inside: Option<usize>,
@@ -77,6 +78,14 @@ pub(crate) fn choose<P: Pick>(
 {
     if let Some(process) = inside {
         return agenda.again(process);
+    }
+    if P::FIRST
+        && let Some(index) = state.first_update()
+    {
+        return Choice {
+            choice: Move::Make(index),
+            index: None,
+        };
     }
     if let Some(index) = agenda.pick(policy) {
         if let Some(choice) = agenda.move_at(index, state)
@@ -137,18 +146,47 @@ pub(crate) fn advance(
     Ok(())
 }
 
+/// Takes the next step: chooses a move, writes the slot that it ends, if it ends one, and makes it. The answer is the combinational block that
+/// has taken a step since its control, behind the move.
+fn turn<P: Pick, V: Sink>(
+    alloc: Global,
+    design: &Design,
+    blocks: &[bool],
+    state: &mut State,
+    agenda: &mut Agenda,
+    inside: Option<usize>,
+    writer: &mut Writer,
+    policy: &mut P,
+    vcd: &mut V,
+) -> Result<Option<usize>, VcdFault>
+    requires goes_on { (process : ℕ) → inside ≡ Some process → executions.is_enabled state.old (Move.Step process) ≡ true }
+    requires going { state.old.over ≡ false }
+    requires early { state.old.time < 2 ^ 62 }
+    requires sources { HasSources design.now state.old }
+    requires terms { HasTerms design.now state.old }
+    ensures ok { IfOk result (λ next.
+        Turned inside blocks.now state.old state.new writer.old writer.new (V.bytes vcd.old) (V.bytes vcd.new) next) }
+    ensures err { OnErr result (TurnedPart inside state.old writer.old (V.bytes vcd.old) (V.bytes vcd.new)) }
+    ensures failures { V.failed vcd.new ≡ failed_after (is_write_fault result) (V.failed vcd.old) }
+{
+    let next = choose(state, inside, agenda, policy);
+    note(alloc, writer, vcd, state, next.choice)?;
+    advance(state, design, agenda, next)?;
+    Ok(inside_behind(blocks, state, next.choice))
+}
+
 /// Runs a design from its start.
 fn execute<P: Pick, V: Sink>(
     alloc: Global,
     design: &Design,
-    mut state: State,
-    mut agenda: Agenda,
+    state: &mut State,
+    agenda: &mut Agenda,
     policy: &mut P,
     until: u64,
     steps: u64,
     vcd: &mut V,
 ) -> Result<Outcome, VcdFault>
-    requires start { state ≡ states.start design.now }
+    requires start { state.old ≡ states.start design.now }
     requires early { until < 2 ^ 62 }
     ensures ran { IfOk result (λ outcome. RanTo design.now until steps outcome (V.bytes vcd.old) (V.bytes vcd.new)) }
     ensures begun { OnErr result (HasBegun design.now until steps (V.bytes vcd.old) (V.bytes vcd.new)) }
@@ -166,10 +204,18 @@ fn execute<P: Pick, V: Sink>(
         if count == steps {
             return Ok(Outcome::StepLimit(state.time()));
         }
-        let next = choose(&state, inside, &mut agenda, policy);
-        note(alloc, &mut writer, vcd, &state, next.choice)?;
-        advance(&mut state, design, &mut agenda, next)?;
-        inside = inside_behind(&blocks, &state, next.choice);
+        let next = turn(
+            alloc,
+            design,
+            &blocks,
+            state,
+            agenda,
+            inside,
+            &mut writer,
+            policy,
+            vcd,
+        )?;
+        inside = next;
         count += 1;
     }
     writer.finish(vcd, until)?;
@@ -196,9 +242,18 @@ fn execute_codes<P: Pick, V: Sink>(
     ensures begun { OnErr result (HasBegun design.now until steps (V.bytes vcd.old) (V.bytes vcd.new)) }
     ensures failures { V.failed vcd.new ≡ failed_after (is_write_fault result) (V.failed vcd.old) }
 {
-    let state = State::start(alloc, design, codes)?;
-    let agenda = Agenda::start(alloc, design.signals().len(), &state)?;
-    execute(alloc, design, state, agenda, policy, until, steps, vcd)
+    let mut state = State::start(alloc, design, codes)?;
+    let mut agenda = Agenda::start(alloc, P::FIRST, design.signals().len(), &state)?;
+    execute(
+        alloc,
+        design,
+        &mut state,
+        &mut agenda,
+        policy,
+        until,
+        steps,
+        vcd,
+    )
 }
 
 /// Compiles the processes of a design, and runs it from its start.

@@ -12,7 +12,7 @@ use Rattle.vs_design.specs.Writes.{Write, shares}
 use Rattle.vs_eval.specs.Targets.{assigned}
 use Rattle.vs_process.specs.Executions.{if_some, is_first}
 use Rattle.vs_state.specs.Touches.{AreOf}
-use Rattle.vs_state.proofs.ChangedLemmas.{changed_there}
+use Rattle.vs_places.proofs.ChangedLemmas.{changed_there}
 use Rattle.vs_process.specs.States.{State, AssignState, Update, without, written, evaluated, evaluate, propagate, propagate_value, settled, make}
 
 -- whether an update is activated and hides a newer one

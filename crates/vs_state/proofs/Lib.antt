@@ -1,7 +1,5 @@
-pub mod ChangedLemmas
+mod DuesLemmas
 pub mod ExecutionsLemmas
-pub mod ListedLemmas
-pub mod TimelinesLemmas
 pub mod TouchesLemmas
 pub mod WaitsLemmas
 pub mod TermsLemmas

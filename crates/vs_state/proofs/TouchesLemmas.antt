@@ -15,7 +15,7 @@ use Rattle.vs_design.specs.Uses.{reads, is_of, has_word}
 use Rattle.vs_design.specs.Writes.{Write}
 use Rattle.vs_process.specs.States.{AssignState, touched}
 use Rattle.vs_edges.specs.Differences.{bits_differ, HaveOneSize, difference, word_difference, sees, word_changes, part_changes}
-use Rattle.vs_state.proofs.ChangedLemmas.{changed_behind}
+use Rattle.vs_places.proofs.ChangedLemmas.{changed_behind}
 use Rattle.vs_state.specs.Touches.{AreOf, woken, woken_in, all_woken, woken_by, woken_parts}
 use Rattle.vs_edges.proofs.DifferencesLemmas.{sees_difference}
 use Rattle.vs_edges.proofs.StoresLemmas.{same_bits_differ, changed_by_parts}

@@ -30,10 +30,11 @@ use Rattle.vs_process.specs.declared.effect.Effect.TheVariants as e
 use Rattle.vs_process.specs.Effects.{Stepped, out_of}
 use Rattle.vs_process.specs.States.{State, terms_of, triggered, wakened, written, performed, stepped, place_behind}
 use Rattle.vs_process.proofs.Waking.{wakened-triggered}
-use Rattle.vs_state.proofs.ChangedLemmas.{changed_behind}
-use Rattle.vs_state.specs.Timelines.{StepsAt}
+use Rattle.vs_places.proofs.ChangedLemmas.{changed_behind}
+use Rattle.vs_places.specs.Timelines.{StepsAt}
 use Rattle.vs_state.specs.Touches.{behind_effect}
-use Rattle.vs_state.specs.Waits.{triggered_by, changed_all, triggered_part, triggered_parts, name_signal, WaitsWithin, WaitWithin}
+use Rattle.vs_places.specs.Triggers.{triggered_by, changed_all}
+use Rattle.vs_state.specs.Waits.{triggered_part, triggered_parts, name_signal, WaitsWithin, WaitWithin}
 
 -- ---- the listeners of a signal
 
@@ -174,14 +175,6 @@ map_alike f g h (x ∷ xs) = ap₂ (λ (a : Place) (l : List Place). a ∷ l) (h
 pub parts_wake_places : (w : Write) (store : Store) (xs : List Place) → triggered_parts store (put store w) w xs ≡ map (wakened store (put store w)) xs
 parts_wake_places w store xs =
     map_through store (put store w) w xs ∙ map_alike (through store (put store w) w) (wakened store (put store w)) (through_write store w) xs
-
--- ---- one place
-
--- what the code tests of a place that it finds
-pub one_changed : (x : Place) (signal word : ℕ) (before behind : Option (List Digit)) (terms : List EventTerm) (b t : Bool) → terms ≡ terms_of x → b ≡ word_wakes terms signal word before behind → b ≡ t →
-    (if t then triggered x else x) ≡ triggered_by signal word before behind x
-one_changed x signal word before behind terms b t is woken tested =
-    ap (λ (c : Bool). if c then triggered x else x) (sym tested ∙ woken ∙ ap (λ (l : List EventTerm). word_wakes l signal word before behind) is)
 
 -- ---- what a step does
 

@@ -1,5 +1,4 @@
-pub mod Listed
+pub mod Dues
 pub mod Sources
-pub mod Timelines
 pub mod Touches
 pub mod Waits

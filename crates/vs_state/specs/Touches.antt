@@ -1,5 +1,5 @@
 -- Which continuous assignments a write wakes, and what a step of a process does beyond its place.
-use Rattle.std.specs.Prelude.{ℕ, ◌≡◌, ◌||◌, Bool, true, false, List, [], ◌∷◌, ◌++◌, map, if◌then◌else◌}
+use Rattle.std.specs.Prelude.{ℕ, ◌≡◌, ◌||◌, Bool, true, false, is_some, List, [], ◌∷◌, ◌++◌, map, if◌then◌else◌}
 use Rattle.std.specs.List.{list_any}
 use Rattle.vs_design.specs.declared.design.Assign.{Assign}
 use Rattle.vs_design.specs.declared.range.BitRange.{BitRange}
@@ -14,6 +14,10 @@ use Rattle.vs_process.specs.declared.effect.Effect.TheVariants as e
 use Rattle.vs_process.specs.States.{AssignState, State, written}
 
 -- ---- what is woken
+
+-- whether a continuous assignment has to be evaluated or has a value that waits to be written
+abbrev pub is_left : AssignState → Bool
+is_left x = x.needs || is_some x.pending
 
 -- a continuous assignment that has to be evaluated
 abbrev pub woken : AssignState → AssignState

@@ -1,29 +1,19 @@
 -- Which processes a write wakes.
-use Rattle.std.specs.Prelude.{ℕ, ◌≡◌, Bool, true, Option, List, [], ◌∷◌, map, if◌then◌else◌}
+use Rattle.std.specs.Prelude.{ℕ, ◌≡◌, Bool, true, List, [], ◌∷◌, map}
 use Rattle.std.specs.List.{list_any}
-use Rattle.vs_logic4.specs.declared.digit.Digit.{Digit}
 use Rattle.vs_design.specs.declared.design.Process.{Process}
 use Rattle.vs_design.specs.declared.statement.EventTerm.{EventTerm}
 use Rattle.vs_design.specs.declared.write.Part.{Part}
 use Rattle.vs_design.specs.Parts.{Parts}
 use Rattle.vs_design.specs.Statements.{listens}
-use Rattle.vs_design.specs.Stores.{Store, word_of, changed_at}
+use Rattle.vs_design.specs.Stores.{Store, word_of}
 use Rattle.vs_design.specs.Uses.{is_of}
 use Rattle.vs_design.specs.Writes.{Write}
-use Rattle.vs_edges.specs.Waking.{word_wakes}
 use Rattle.vs_flatcode.specs.Places.{Place}
-use Rattle.vs_process.specs.States.{State, terms_of, triggered}
+use Rattle.vs_places.specs.Triggers.{triggered_by}
+use Rattle.vs_process.specs.States.{State, terms_of}
 
 -- ---- what is woken
-
--- a process behind the change of one word of a signal: it becomes active where it waits for that (clause 9.7.2)
-abbrev pub triggered_by : ℕ → ℕ → Option (List Digit) → Option (List Digit) → Place → Place
-triggered_by signal word before behind x = if word_wakes (terms_of x) signal word before behind then triggered x else x
-
--- places of which those of these numbers are changed
-abbrev pub changed_all : (Place → Place) → List ℕ → List Place → List Place
-changed_all f [] xs = xs
-changed_all f (i ∷ rest) xs = changed_all f rest (changed_at f i xs)
 
 -- a process behind the change of the word of a part between two stores
 abbrev pub triggered_part : Store → Store → Part → Place → Place

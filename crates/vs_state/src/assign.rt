@@ -1,7 +1,6 @@
 //! Continuous assignments in a run.
 ghost use Rattle.std.specs.Prelude.{◌≡◌, not, OnErr, OnOk};
-ghost use Rattle.vs_state.specs.Timelines.{is_left};
-ghost use Rattle.vs_state.specs.Touches.{woken};
+ghost use Rattle.vs_state.specs.Touches.{is_left, woken};
 ghost use Rattle.vs_process.specs.States as states;
 
 use std::alloc::{AllocError, Global};

@@ -4,15 +4,14 @@ ghost use Rattle.std.specs.List.{list_any};
 ghost use Rattle.vs_design.specs.Stores.{changed_at};
 ghost use Rattle.vs_process.specs.Executions as executions;
 ghost use Rattle.vs_process.specs.States as states;
-ghost use Rattle.vs_state.specs.Timelines.{is_left};
-ghost use Rattle.vs_state.specs.Touches.{woken_in};
+ghost use Rattle.vs_state.specs.Touches.{is_left, woken_in};
 
 use crate::assign::AssignState;
-use crate::recount::recount;
 use crate::search::busy_assign;
 use std::alloc::{AllocError, Global};
 use std::marker::Model;
 use vs_design::{Assign, Store};
+use vs_places::recount;
 
 /// The continuous assignments, and how many of these have to be evaluated or have a value that waits to be written. A contract sees the
 /// assignments.
@@ -27,8 +26,8 @@ impl<'a> Model for Assigns<'a> {
     ghost use Rattle.std.specs.Coded.{codes};
     ghost use Rattle.vs_design.specs.contracts.expression.Typed as expression;
     ghost use Rattle.vs_process.specs.States as states;
-    ghost use Rattle.vs_state.specs.Listed.{count};
-    ghost use Rattle.vs_state.specs.Timelines.{is_left};
+    ghost use Rattle.vs_places.specs.Listed.{count};
+    ghost use Rattle.vs_state.specs.Touches.{is_left};
 
     ghost Value = { List states.AssignState };
 

@@ -3,13 +3,12 @@ ghost use Rattle.std.specs.Prelude.{◌≡◌, Some, length, map, OnOk};
 ghost use Rattle.vs_design.specs.Stores.{put};
 ghost use Rattle.vs_edges.specs.Differences.{HaveOneSize, sees, word_changes};
 ghost use Rattle.vs_process.specs.States as states;
-ghost use Rattle.vs_state.specs.Listed.{count};
+ghost use Rattle.vs_places.specs.Listed.{count};
 ghost use Rattle.vs_state.specs.Touches.{AreOf, all_woken, woken_by, woken_parts};
-ghost use Rattle.vs_state.specs.Waits.{WaitWithin, changed_all, triggered_by, triggered_parts};
+ghost use Rattle.vs_state.specs.Waits.{WaitWithin, triggered_parts};
+ghost use Rattle.vs_places.specs.Triggers.{changed_all, triggered_by};
 
 use crate::assigns::Assigns;
-use crate::processes::Processes;
-use crate::recount::recount;
 use crate::update::Update;
 use crate::woken::Woken;
 use std::alloc::AllocError;
@@ -17,6 +16,7 @@ use std::collections::VecDeque;
 use vs_design::{Design, Reader, Store, Write};
 use vs_edges::{difference, sees};
 use vs_logic4::Vec4;
+use vs_places::{Processes, recount};
 
 /// The continuous assignments that read one of these bits of a word have to be evaluated; those of which that is new are noted in `woken`.
 pub(crate) fn wake_readers(

@@ -1,29 +1,15 @@
 //! What is enabled in a state of a run, and when the next slot is.
-ghost use Rattle.std.specs.Prelude.{◌≡◌, ◌≤◌, Bool, true, false, None, slice_get, IfSome, MatchOption};
+ghost use Rattle.std.specs.Prelude.{◌≡◌, ◌≤◌, true, false, None, slice_get, IfSome, MatchOption};
 ghost use Rattle.std.specs.List.{list_any};
 ghost use Rattle.vs_process.specs.Executions as executions;
-ghost use Rattle.vs_flatcode.specs.Places.{is_going};
 ghost use Rattle.vs_process.specs.States as states;
-ghost use Rattle.vs_state.specs.Timelines.{is_left};
+ghost use Rattle.vs_state.specs.Touches.{is_left};
 
 use crate::assign::AssignState;
 use crate::state::State;
 use crate::update::Update;
 use std::collections::VecDeque;
-use vs_process::{Move, Place};
-
-/// The first active process.
-pub(crate) fn active_process(places: &Vec<Place>) -> Option<usize>
-    ensures { MatchOption result (list_any is_going places.now.items ≡ false)
-        (λ i. executions.if_some is_going (slice_get places.now.items i) ≡ true) }
-{
-    for process in 0..places.len() {
-        if places[process].is_going() {
-            return Some(process);
-        }
-    }
-    None
-}
+use vs_process::Move;
 
 /// The first continuous assignment that has to be evaluated or has a value that waits to be written.
 pub(crate) fn busy_assign(assigns: &Vec<AssignState>) -> Option<usize>
@@ -130,6 +116,17 @@ impl<'a> State<'a> {
             return Some(Move::Make(index));
         }
         None
+    }
+
+    /// The oldest activated update.
+    pub fn first_update(&self) -> Option<usize>
+        ensures { MatchOption result (list_any (λ u. u.active) self.now.updates ≡ false)
+            (λ i. executions.is_enabled self.now (Move.Make i) ≡ true) }
+    {
+        if !self.updates.has_active() {
+            return None;
+        }
+        self.updates.first_active()
     }
 
     /// A move that is enabled. Where no active event is left, it takes no search.

@@ -5,7 +5,6 @@ ghost use Rattle.vs_flatcode.specs.Places.{is_going, is_inside};
 ghost use Rattle.vs_process.specs.States as states;
 
 use crate::assigns::Assigns;
-use crate::processes::Processes;
 use crate::update::Update;
 use crate::updates::Updates;
 use crate::woken::Woken;
@@ -13,6 +12,7 @@ use std::alloc::{AllocError, Global};
 use std::collections::VecDeque;
 use std::marker::Model;
 use vs_design::{Design, Store};
+use vs_places::Processes;
 use vs_process::Code;
 
 /// The state of a run. A contract sees it as a state of the definition.
@@ -38,7 +38,7 @@ impl<'a> Model for State<'a> {
     ghost use Rattle.vs_design.specs.contracts.expression.Typed as expression;
     ghost use Rattle.vs_design.specs.contracts.statement.Statement as statement;
     ghost use Rattle.vs_process.specs.States as states;
-    ghost use Rattle.vs_state.specs.Timelines.{AreFrom};
+    ghost use Rattle.vs_state.specs.Dues.{AreFrom};
 
     ghost Value = { states.State };
 

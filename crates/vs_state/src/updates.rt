@@ -1,17 +1,17 @@
 //! The nonblocking updates of a run.
-ghost use Rattle.std.specs.Prelude.{◌≡◌, ◌∷◌, ◌++◌, [], false, true, Some, None, map, remove, slice_get, IfSome, OnOk, OnErr, MatchOption};
+ghost use Rattle.std.specs.Prelude.{◌≡◌, ◌∷◌, ◌++◌, [], false, true, Some, None, map, remove, slice_get, OnOk, OnErr, MatchOption};
 ghost use Rattle.std.specs.List.{list_any};
 ghost use Rattle.vs_process.specs.Executions as executions;
 ghost use Rattle.vs_process.specs.States as states;
-ghost use Rattle.vs_state.specs.Listed.{count};
+ghost use Rattle.vs_places.specs.Listed.{count};
 
 use crate::changes::activate_all;
-use crate::recount::recount;
 use crate::search::{has_due, is_first, next_update, oldest_active};
 use crate::update::Update;
 use std::alloc::{AllocError, Global};
 use std::collections::VecDeque;
 use std::marker::Model;
+use vs_places::recount;
 
 /// The nonblocking updates that wait, in the order of execution, and how many of them are activated. A contract sees the updates.
 #[derive(Drop)]
@@ -23,7 +23,7 @@ pub(crate) struct Updates {
 impl Model for Updates {
     ghost use Rattle.std.specs.Prelude.{◌≡◌, List};
     ghost use Rattle.vs_process.specs.States as states;
-    ghost use Rattle.vs_state.specs.Listed.{count};
+    ghost use Rattle.vs_places.specs.Listed.{count};
 
     ghost Value = { List states.Update };
 

@@ -6,7 +6,7 @@ use Rattle.vs_process.specs.Blocks.{inside_block}
 use Rattle.vs_state.specs.Touches.{HasSources}
 use Rattle.vs_state.specs.Waits.{HasTerms}
 use Rattle.vs_state.proofs.TermsLemmas.{has_terms}
-use Rattle.vs_kernel.proofs.RunsLemmas.{append_none, begins, inside_next, permitted, permitted_block, goes_on, limited, incomplete, complete_past, complete_over, reached, quiet, header_failed, move_failed, end_failed, part_failed, slots_whole, on_err}
+use Rattle.vs_kernel.proofs.RunsLemmas.{append_none, begins, inside_next, permitted, permitted_block, goes_on, limited, incomplete, complete_past, complete_over, reached, quiet, header_failed, move_failed, end_failed, part_failed, on_err}
 use Rattle.vs_state.specs.Sources.{has_sources}
 use Rattle.vs_kernel.proofs.run.execute.Goals as goal
 use Rattle.vs_kernel.proofs.run.execute.Goals.{then-loop-state-test+else-time-until, else-loop-state-test}
@@ -18,15 +18,10 @@ loop-state-init g c = record {
   failures = c.in_ok-writer.ensures.failures;
 }
 
-pub choose-next-requires : goal.choose-next-requires
-choose-next-requires g c = record {
+pub turn-requires : goal.turn-requires
+turn-requires g c = record {
   goes_on = λ process is. c.inside_goes_on.ensures c.args.design.now c.loop-state.state process (sym c.loop-state.invariant.inside ∙ is);
-}
-
-pub advance-requires : goal.advance-requires
-advance-requires g c = record {
   going = sym c.is_over.ensures.over ∙ c.loop-state-test.true;
-  enabled = c.choose-next.ensures.enabled;
   early = omega (arith, c.requires.early, c.time.ensures, c.if-time-until.true);
   sources = subst (λ (s : State). HasSources c.args.design.now s) c.loop-state.invariant.run.state (has_sources c.args.design.now c.loop-state.invariant.run.moves);
   terms = subst (λ (s : State). HasTerms c.args.design.now s) c.loop-state.invariant.run.state (has_terms c.args.design.now c.loop-state.invariant.run.moves);
@@ -36,18 +31,16 @@ pub loop-state-preserved : goal.loop-state-preserved
 loop-state-preserved g c =
     let over = sym c.is_over.ensures.over ∙ c.loop-state-test.true in
     let early : c.loop-state.state.time ≤ c.args.until = omega (arith, c.time.ensures, c.if-time-until.true) in
-    let block =
-    permitted_block c.loop-state.invariant.run c.blocks_exclude.ensures c.loop-state.inside c.choose-next.result.choice c.loop-state.invariant.inside over c.choose-next.ensures.enabled c.choose-next.ensures.free
-    in
+    let t = c.in_ok-next.ensures.ok in
+    let block = permitted_block c.loop-state.invariant.run c.blocks_exclude.ensures c.loop-state.inside t.choice c.loop-state.invariant.inside over t.enabled t.free in
     record {
       inside =
-          inside_next c.args.design.now c.loop-state.state c.advance.new.state c.choose-next.result.choice c.deref.result.now c.inside_behind-inside.result
-          c.inside_follows.ensures (c.deref.ensures.value ∙ c.in_ok-blocks.ensures ∙ ap (map is_combinational) c.processes.ensures) block c.in_ok-advance.ensures c.inside_behind-inside.ensures;
+          inside_next c.args.design.now c.loop-state.state c.turn.new.state t.choice c.deref.result.now c.in_ok-next.next
+          c.inside_follows.ensures (c.deref.ensures.value ∙ c.in_ok-blocks.ensures ∙ ap (map is_combinational) c.processes.ensures) block t.made t.told;
       run =
-          goes_on c.loop-state.invariant.run c.choose-next.result.choice (permitted c.args.design.now c.loop-state.state c.choose-next.result.choice over c.choose-next.ensures.enabled) block
-          (incomplete c.args.until c.loop-state.state over early) c.if-count-steps.false c.in_ok-advance.ensures
-          (c.in_ok-note.ensures.written c.args.design.now) (c.in_ok-note.ensures.bytes c.args.design.now);
-      failures = c.in_ok-note.ensures.failures ∙ c.loop-state.invariant.failures;
+          goes_on c.loop-state.invariant.run t.choice (permitted c.args.design.now c.loop-state.state t.choice over t.enabled) block
+          (incomplete c.args.until c.loop-state.state over early) c.if-count-steps.false t.made (t.written c.args.design.now) (t.text c.args.design.now);
+      failures = c.in_ok-next.ensures.failures ∙ c.loop-state.invariant.failures;
     }
 
 pub returns-then-count-steps-clause-ran : goal.returns-then-count-steps-clause-ran
@@ -74,25 +67,16 @@ returns-in_err-blocks-clause-begun g c = on_err _ (header_failed (0, append_none
 pub returns-in_err-writer-clause-begun : goal.returns-in_err-writer-clause-begun
 returns-in_err-writer-clause-begun g c = on_err _ (header_failed (part_failed _ _ _ _ c.in_err-writer.ensures.bytes))
 
-pub returns-in_err-note-clause-begun : goal.returns-in_err-note-clause-begun
-returns-in_err-note-clause-begun g c =
+pub returns-in_err-next-clause-begun : goal.returns-in_err-next-clause-begun
+returns-in_err-next-clause-begun g c =
     let over = sym c.is_over.ensures.over ∙ c.loop-state-test.true in
     let early : c.loop-state.state.time ≤ c.args.until = omega (arith, c.time.ensures, c.if-time-until.true) in
+    let t = c.in_err-next.ensures.err in
     on_err _
-    (move_failed c.loop-state.invariant.run c.choose-next.result.choice (permitted c.args.design.now c.loop-state.state c.choose-next.result.choice over c.choose-next.ensures.enabled)
-    (permitted_block c.loop-state.invariant.run c.blocks_exclude.ensures c.loop-state.inside c.choose-next.result.choice c.loop-state.invariant.inside over c.choose-next.ensures.enabled c.choose-next.ensures.free)
+    (move_failed c.loop-state.invariant.run t.choice (permitted c.args.design.now c.loop-state.state t.choice over t.enabled)
+    (permitted_block c.loop-state.invariant.run c.blocks_exclude.ensures c.loop-state.inside t.choice c.loop-state.invariant.inside over t.enabled t.free)
     over c.is_over.ensures.finishing
-    (incomplete c.args.until c.loop-state.state over early) c.if-count-steps.false (c.in_err-note.ensures.part c.args.design.now))
-
-pub returns-in_err-advance-clause-begun : goal.returns-in_err-advance-clause-begun
-returns-in_err-advance-clause-begun g c =
-    let over = sym c.is_over.ensures.over ∙ c.loop-state-test.true in
-    let early : c.loop-state.state.time ≤ c.args.until = omega (arith, c.time.ensures, c.if-time-until.true) in
-    on_err _
-    (move_failed c.loop-state.invariant.run c.choose-next.result.choice (permitted c.args.design.now c.loop-state.state c.choose-next.result.choice over c.choose-next.ensures.enabled)
-    (permitted_block c.loop-state.invariant.run c.blocks_exclude.ensures c.loop-state.inside c.choose-next.result.choice c.loop-state.invariant.inside over c.choose-next.ensures.enabled c.choose-next.ensures.free)
-    over c.is_over.ensures.finishing
-    (incomplete c.args.until c.loop-state.state over early) c.if-count-steps.false (λ before h. slots_whole _ _ c.args.design.now before _ (c.in_ok-note.ensures.bytes c.args.design.now before h)))
+    (incomplete c.args.until c.loop-state.state over early) c.if-count-steps.false (t.text c.args.design.now))
 
 pub returns-in_err-finish-clause-begun : goal.returns-in_err-finish-clause-begun
 returns-in_err-finish-clause-begun g c =

@@ -3,7 +3,7 @@ use Rattle.std.proofs.Math.ListN.{length-set}
 use Rattle.std.proofs.lemmas.List.Edits.{map_over_more}
 use Rattle.std.proofs.lemmas.Option.{slice_get_read}
 use Rattle.vs_process.specs.States.{Update, activated}
-use Rattle.vs_state.proofs.ListedLemmas.{counted, fits, recounted}
+use Rattle.vs_places.proofs.ListedLemmas.{counted, fits, recounted}
 use Rattle.vs_state.proofs.changes.activate_all.Goals as goal
 
 pub recount-active-requires : goal.recount-active-requires

@@ -1,6 +1,6 @@
 use Rattle.std.proofs.Common.{◌≡◌, ◌++◌, map, length, take, drop}
 use Rattle.vs_process.specs.States.{Update, activated}
-use Rattle.vs_state.specs.Listed.{count}
+use Rattle.vs_places.specs.Listed.{count}
 use Rattle.vs_state.proofs.changes.activate_all.Given as goal
 
 abbrev pub invariant-loop-i : goal.invariant-loop-i

@@ -1,5 +1,5 @@
 use Rattle.std.proofs.Common.{◌≡◌, Some, drop}
-use Rattle.vs_state.specs.Waits.{changed_all, triggered_by}
+use Rattle.vs_places.specs.Triggers.{changed_all, triggered_by}
 use Rattle.vs_state.proofs.changes.trigger_listeners.Given as goal
 
 abbrev pub invariant-loop-process : goal.invariant-loop-process

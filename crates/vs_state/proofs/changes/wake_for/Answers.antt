@@ -8,7 +8,8 @@ use Rattle.vs_edges.proofs.StoresLemmas.{put_size}
 use Rattle.vs_flatcode.specs.Places.{Place}
 use Rattle.vs_process.specs.States.{AssignState}
 use Rattle.vs_state.specs.Touches.{AreOf, woken_by, woken_parts}
-use Rattle.vs_state.specs.Waits.{WaitWithin, triggered_by, triggered_part, triggered_parts}
+use Rattle.vs_state.specs.Waits.{WaitWithin, triggered_part, triggered_parts}
+use Rattle.vs_places.specs.Triggers.{triggered_by}
 use Rattle.vs_state.proofs.TouchesLemmas.{woken_of}
 use Rattle.vs_state.proofs.WaitsLemmas.{within_triggered}
 use Rattle.vs_state.proofs.changes.wake_for.Goals as goal

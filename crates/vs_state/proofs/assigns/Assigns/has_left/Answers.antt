@@ -1,7 +1,7 @@
 use Rattle.std.proofs.Common.{nat_lt, ap, ◌∙◌}
 use Rattle.std.specs.List.{list_any}
-use Rattle.vs_state.specs.Timelines.{is_left}
-use Rattle.vs_state.proofs.ListedLemmas.{count_any}
+use Rattle.vs_state.specs.Touches.{is_left}
+use Rattle.vs_places.proofs.ListedLemmas.{count_any}
 use Rattle.vs_state.proofs.assigns.Assigns.has_left.Goals as goal
 
 pub returns : goal.returns

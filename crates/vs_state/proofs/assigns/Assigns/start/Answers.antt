@@ -1,8 +1,8 @@
 use Rattle.std.proofs.Common.{◌≡◌, length, ap, sym, ◌∙◌, refl, arith}
 use Rattle.vs_process.specs.States.{start_assign}
-use Rattle.vs_state.specs.Listed.{count}
-use Rattle.vs_state.specs.Timelines.{is_left}
-use Rattle.vs_state.proofs.ListedLemmas.{count_start}
+use Rattle.vs_places.specs.Listed.{count}
+use Rattle.vs_state.specs.Touches.{is_left}
+use Rattle.vs_places.proofs.ListedLemmas.{count_start}
 use Rattle.vs_state.proofs.assigns.Assigns.start.Goals as goal
 
 pub invariant_of-result : goal.invariant_of-result

@@ -1,7 +1,7 @@
 use Rattle.std.proofs.Common.{◌∙◌, ℕ, None, ap, sym, subst}
 use Rattle.vs_process.specs.Executions.{next_time, next_wake}
-use Rattle.vs_state.specs.Timelines.{AreFrom}
-use Rattle.vs_state.proofs.TimelinesLemmas.{next_from}
+use Rattle.vs_state.specs.Dues.{AreFrom}
+use Rattle.vs_state.proofs.DuesLemmas.{next_from}
 use Rattle.vs_state.proofs.state.State.end_slot.Goals as goal
 
 pub advance-requires-clause-none_before : goal.advance-requires-clause-none_before

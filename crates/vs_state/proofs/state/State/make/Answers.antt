@@ -1,7 +1,7 @@
 use Rattle.std.proofs.Common.{List, sym, subst}
 use Rattle.vs_process.specs.States.{Update}
-use Rattle.vs_state.specs.Timelines.{AreFrom}
-use Rattle.vs_state.proofs.TimelinesLemmas.{from_activated}
+use Rattle.vs_state.specs.Dues.{AreFrom}
+use Rattle.vs_state.proofs.DuesLemmas.{from_activated}
 use Rattle.vs_state.proofs.state.State.make.Goals as goal
 
 pub invariant_of-self-in-Activate : goal.invariant_of-self-in-Activate

@@ -1,7 +1,7 @@
 use Rattle.std.proofs.Common.{◌≤◌, ℕ, Option, sym, subst}
 use Rattle.std.specs.Option.{IfSome}
 use Rattle.vs_process.specs.States.{State}
-use Rattle.vs_state.proofs.TimelinesLemmas.{next_not_over}
+use Rattle.vs_state.proofs.DuesLemmas.{next_not_over}
 use Rattle.vs_state.proofs.state.State.next_time.Goals as goal
 
 pub returns-clause-not_over : goal.returns-clause-not_over

@@ -1,7 +1,7 @@
 use Rattle.std.proofs.Common.{◌≡◌, ◌∙◌, ℕ, List, ap, sym, subst, arith}
 use Rattle.vs_process.specs.States.{Update}
-use Rattle.vs_state.specs.Timelines.{AreFrom}
-use Rattle.vs_state.proofs.TimelinesLemmas.{from_push}
+use Rattle.vs_state.specs.Dues.{AreFrom}
+use Rattle.vs_state.proofs.DuesLemmas.{from_push}
 use Rattle.vs_state.proofs.state.State.queue.Goals as goal
 
 pub invariant_of-self-2 : goal.invariant_of-self-2

@@ -1,8 +1,8 @@
 use Rattle.std.proofs.Common.{◌∙◌, List, sym, subst}
 use Rattle.vs_process.specs.States.{Update}
-use Rattle.vs_state.specs.Timelines.{AreFrom}
+use Rattle.vs_state.specs.Dues.{AreFrom}
 use Rattle.vs_state.proofs.ExecutionsLemmas.{make_at, make_past}
-use Rattle.vs_state.proofs.TimelinesLemmas.{from_remove}
+use Rattle.vs_state.proofs.DuesLemmas.{from_remove}
 use Rattle.vs_state.proofs.state.State.update.Goals as goal
 
 pub invariant_of-self : goal.invariant_of-self

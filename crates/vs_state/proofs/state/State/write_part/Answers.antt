@@ -7,7 +7,8 @@ use Rattle.vs_edges.proofs.StoresLemmas.{put_size}
 use Rattle.vs_flatcode.specs.Places.{Place}
 use Rattle.vs_process.specs.States.{AssignState, touched, wakened}
 use Rattle.vs_state.specs.Touches.{HasSources, woken_by, woken_parts}
-use Rattle.vs_state.specs.Waits.{HasTerms, triggered_by, triggered_parts}
+use Rattle.vs_state.specs.Waits.{HasTerms, triggered_parts}
+use Rattle.vs_places.specs.Triggers.{triggered_by}
 use Rattle.vs_state.proofs.TouchesLemmas.{parts_touch}
 use Rattle.vs_state.proofs.WaitsLemmas.{parts_wake_places}
 use Rattle.vs_state.proofs.state.State.write_part.Goals as goal

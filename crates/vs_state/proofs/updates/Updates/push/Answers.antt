@@ -1,7 +1,7 @@
 use Rattle.std.proofs.Common.{◌≡◌, ◌++◌, ◌∷◌, [], ℕ, Bool, cond, ap, sym, ◌∙◌, arith}
 use Rattle.vs_process.specs.States.{Update}
-use Rattle.vs_state.specs.Listed.{count}
-use Rattle.vs_state.proofs.ListedLemmas.{count_push}
+use Rattle.vs_places.specs.Listed.{count}
+use Rattle.vs_places.proofs.ListedLemmas.{count_push}
 use Rattle.vs_state.proofs.updates.Updates.push.Goals as goal
 
 pub invariant_of-self-2 : goal.invariant_of-self-2

@@ -2,8 +2,8 @@ use Rattle.std.proofs.Common.{◌≡◌, ◌<◌, ℕ, Bool, List, Some, cond, l
 use Rattle.std.specs.List.{remove}
 use Rattle.std.proofs.lemmas.Option.{slice_get_read}
 use Rattle.vs_process.specs.States.{Update}
-use Rattle.vs_state.specs.Listed.{count}
-use Rattle.vs_state.proofs.ListedLemmas.{counted, fits, count_remove}
+use Rattle.vs_places.specs.Listed.{count}
+use Rattle.vs_places.proofs.ListedLemmas.{counted, fits, count_remove}
 use Rattle.vs_state.proofs.updates.Updates.take.Goals as goal
 
 pub recount-self-inside-requires-clause-some : goal.recount-self-inside-requires-clause-some

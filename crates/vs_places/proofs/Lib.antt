@@ -1,0 +1,4 @@
+pub mod ChangedLemmas
+pub mod ListedLemmas
+mod TimelinesLemmas
+mod TriggersLemmas
