@@ -1,1 +1,2 @@
+mod MarkingLemmas
 pub mod RunsLemmas

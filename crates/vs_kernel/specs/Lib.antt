@@ -1,5 +1,6 @@
 pub mod Faults
 pub mod Insides
+pub mod Marking
 pub mod Policies
 pub mod Runs
 pub mod Shows

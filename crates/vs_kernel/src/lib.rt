@@ -7,6 +7,7 @@
 mod agenda;
 mod kernel;
 mod laws;
+mod marks;
 mod outcome;
 mod policy;
 mod run;

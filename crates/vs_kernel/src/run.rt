@@ -1,19 +1,21 @@
 //! The loop of a run.
-ghost use Rattle.std.specs.Prelude.{◌≡◌, ◌<◌, ◌^◌, ◌++◌, ℕ, false, true, Some, List, map, IfOk, OnOk, OnErr};
+ghost use Rattle.std.specs.Prelude.{◌≡◌, ◌<◌, ◌≤◌, ◌*◌, ◌^◌, ◌++◌, ℕ, false, true, Some, List, length, map, IfOk, OnOk, OnErr};
 ghost use Rattle.vs_design.specs.Parts.{Parts};
 ghost use Rattle.vs_design.specs.Traces.{Slot};
 ghost use Rattle.vs_kernel.specs.Runs.{RanTo, HasBegun, AppendsSlots, AppendsSlotsPart};
 ghost use Rattle.vs_kernel.specs.Insides.{inside_told};
+ghost use Rattle.vs_kernel.specs.Marking.{MarkChanges};
 ghost use Rattle.vs_kernel.specs.Turns.{Turned, TurnedPart};
 ghost use Rattle.vs_state.specs.Touches.{HasSources};
 ghost use Rattle.vs_state.specs.Waits.{HasTerms};
 ghost use Rattle.vs_process.specs.Blocks.{is_step_of_any};
 ghost use Rattle.vs_process.specs.Executions as executions;
 ghost use Rattle.vs_process.specs.States as states;
-ghost use Rattle.vs_vcd.specs.Progress.{HasWritten, is_write_fault};
+ghost use Rattle.vs_vcd.specs.Progress.{Covers, HasWritten, is_write_fault};
 ghost use Rattle.vs_vcd.specs.Sinks.{failed_after};
 
 use crate::agenda::{Agenda, Choice};
+use crate::marks::{clear, mark_all, no_marks};
 use crate::outcome::Outcome;
 use crate::policy::Pick;
 use std::alloc::{AllocError, Global};
@@ -104,14 +106,18 @@ pub(crate) fn choose<P: Pick>(
     }
 }
 
-/// Writes the slot that a move ends, if it ends one.
+/// Writes the slot that a move ends, if it ends one; behind it nothing is marked.
 fn note<V: Sink>(
-    alloc: Global,
     writer: &mut Writer,
     vcd: &mut V,
+    marks: &mut Vec<u64>,
     state: &State,
     choice: Move,
 ) -> Result<(), VcdFault>
+    requires few { length marks.old.items ≤ 2 ^ 57 }
+    requires covers { Covers marks.old.items writer.old state.now.store }
+    ensures covers { OnOk result (Covers marks.new.items writer.new state.now.store) }
+    ensures len { length marks.new.items ≡ length marks.old.items }
     ensures written { OnOk result ((d : Parts) (before : List Slot) → HasWritten writer.old d before
         → HasWritten writer.new d (before ++ executions.ended_slot choice state.now)) }
     ensures bytes { OnOk result ((d : Parts) (before : List Slot) → HasWritten writer.old d before
@@ -123,15 +129,18 @@ fn note<V: Sink>(
     let Move::EndSlot = choice else {
         return Ok(());
     };
-    writer.slot(alloc, vcd, state.time(), state.store())?;
+    writer.slot_marked(vcd, state.time(), state.store(), marks)?;
+    clear(marks);
     Ok(())
 }
 
-/// Makes a move, and brings the list up to date.
+/// Makes a move, marks the signals that it may change, and brings the list up to date. `changed` is room to work in.
 pub(crate) fn advance(
     state: &mut State,
     design: &Design,
     agenda: &mut Agenda,
+    marks: &mut Vec<u64>,
+    changed: &mut Vec<usize>,
     next: Choice,
 ) -> Result<(), AllocError>
     requires going { state.old.over ≡ false }
@@ -139,9 +148,13 @@ pub(crate) fn advance(
     requires early { state.old.time < 2 ^ 62 }
     requires sources { HasSources design.now state.old }
     requires terms { HasTerms design.now state.old }
-    ensures { OnOk result (state.new ≡ executions.apply next.choice state.old) }
+    ensures made { OnOk result (state.new ≡ executions.apply next.choice state.old) }
+    ensures marked { OnOk result (MarkChanges marks.old.items marks.new.items state.old.store state.new.store) }
+    ensures len { length marks.new.items ≡ length marks.old.items }
 {
-    state.make(design, next.choice)?;
+    changed.clear();
+    state.make(design, next.choice, changed)?;
+    mark_all(marks, changed);
     agenda.follow(next, state)?;
     Ok(())
 }
@@ -149,13 +162,14 @@ pub(crate) fn advance(
 /// Takes the next step: chooses a move, writes the slot that it ends, if it ends one, and makes it. The answer is the combinational block that
 /// has taken a step since its control, behind the move.
 fn turn<P: Pick, V: Sink>(
-    alloc: Global,
     design: &Design,
     blocks: &[bool],
     state: &mut State,
     agenda: &mut Agenda,
     inside: Option<usize>,
     writer: &mut Writer,
+    marks: &mut Vec<u64>,
+    changed: &mut Vec<usize>,
     policy: &mut P,
     vcd: &mut V,
 ) -> Result<Option<usize>, VcdFault>
@@ -164,14 +178,19 @@ fn turn<P: Pick, V: Sink>(
     requires early { state.old.time < 2 ^ 62 }
     requires sources { HasSources design.now state.old }
     requires terms { HasTerms design.now state.old }
+    requires few { length marks.old.items ≤ 2 ^ 57 }
+    requires covers { Covers marks.old.items writer.old state.old.store }
+    ensures covers { OnOk result ((d : Parts) (slots : List Slot) → HasWritten writer.new d slots
+        → length d.signals < 512 * length marks.old.items → Covers marks.new.items writer.new state.new.store) }
+    ensures len { length marks.new.items ≡ length marks.old.items }
     ensures ok { IfOk result (λ next.
         Turned inside blocks.now state.old state.new writer.old writer.new (V.bytes vcd.old) (V.bytes vcd.new) next) }
     ensures err { OnErr result (TurnedPart inside state.old writer.old (V.bytes vcd.old) (V.bytes vcd.new)) }
     ensures failures { V.failed vcd.new ≡ failed_after (is_write_fault result) (V.failed vcd.old) }
 {
     let next = choose(state, inside, agenda, policy);
-    note(alloc, writer, vcd, state, next.choice)?;
-    advance(state, design, agenda, next)?;
+    note(writer, vcd, marks, state, next.choice)?;
+    advance(state, design, agenda, marks, changed, next)?;
     Ok(inside_behind(blocks, state, next.choice))
 }
 
@@ -197,6 +216,8 @@ fn execute<P: Pick, V: Sink>(
     inside_goes_on();
     none_inside_first();
     let blocks = blocks_of(alloc, design.processes())?;
+    let mut marks = no_marks(alloc, design.signals().len())?;
+    let mut changed = Vec::new(alloc);
     let mut writer = Writer::header(alloc, vcd, design)?;
     let mut inside = None;
     let mut count = 0;
@@ -205,13 +226,14 @@ fn execute<P: Pick, V: Sink>(
             return Ok(Outcome::StepLimit(state.time()));
         }
         let next = turn(
-            alloc,
             design,
             &blocks,
             state,
             agenda,
             inside,
             &mut writer,
+            &mut marks,
+            &mut changed,
             policy,
             vcd,
         )?;

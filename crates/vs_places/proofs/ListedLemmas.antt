@@ -38,13 +38,17 @@ new_set test (z ∷ zs) zero x y here new (suc i) = or-false (if_some test (slic
 new_set test (z ∷ zs) (suc p) x y here new zero = or-false (test z)
 new_set test (z ∷ zs) (suc p) x y here new (suc i) = new_set test zs p x y here new i
 
-names-push : (ns : List ℕ) (n i : ℕ) → names (ns ++ n ∷ []) i ≡ (names ns i || is_number n i)
+pub names-push : (ns : List ℕ) (n i : ℕ) → names (ns ++ n ∷ []) i ≡ (names ns i || is_number n i)
 names-push [] n i = or-false (is_number n i)
 names-push (m ∷ ns) n i = ap (λ (b : Bool). is_number m i || b) (names-push ns n i) ∙ or_assoc (is_number m i) (names ns i) (is_number n i)
   where
     or_assoc : (a b c : Bool) → (a || (b || c)) ≡ ((a || b) || c)
     or_assoc true b c = refl
     or_assoc false b c = refl
+
+pub is_itself : (n : ℕ) → is_number n n ≡ true
+is_itself zero = refl
+is_itself (suc n) = is_itself n
 
 -- an element that passes the test as the one before it
 pub lists_same : {A : Type 0} {test : A → Bool} {xs : List A} {ns : List ℕ} → Lists test xs ns → (p : ℕ) (x y : A) → slice_get xs p ≡ Some x → test y ≡ test x → Lists test (slice_set xs p y) ns

@@ -18,11 +18,11 @@ use Rattle.vs_process.specs.declared.effect.Effect.{Effect}
 use Rattle.vs_process.specs.Effects.{Stepped}
 use Rattle.vs_process.specs.Executions.{if_some, earlier, next_wake}
 use Rattle.vs_process.specs.States.{roused, woken_at, due_of, place_behind, paused, triggered}
-use Rattle.vs_places.specs.Listed.{is_number, names, Lists}
+use Rattle.vs_places.specs.Listed.{names, Lists}
 use Rattle.vs_places.specs.Timelines.{sleeps_until, AreKept, AreKeptBut, StepsAt}
 use Rattle.vs_places.specs.Triggers.{triggered_by, changed_all}
 use Rattle.vs_places.proofs.ChangedLemmas.{changed_there}
-use Rattle.vs_places.proofs.ListedLemmas.{lists_same, lists_new, lists_map, lists_none, lists_changed, visited}
+use Rattle.vs_places.proofs.ListedLemmas.{is_itself, lists_same, lists_new, lists_map, lists_none, lists_changed, visited}
 
 -- ---- what a place waits for
 
@@ -410,10 +410,6 @@ wakes best (going gait todo ∷ ps) = skip best (going gait todo) ps (next_wake 
 wakes best (inactive todo ∷ ps) = skip best (inactive todo) ps (next_wake best ps) (λ u. refl) (wakes best ps)
 wakes best (waiting terms todo ∷ ps) = skip best (waiting terms todo) ps (next_wake best ps) (λ u. refl) (wakes best ps)
 wakes best (ended ∷ ps) = skip best ended ps (next_wake best ps) (λ u. refl) (wakes best ps)
-
-is_itself : (n : ℕ) → is_number n n ≡ true
-is_itself zero = refl
-is_itself (suc n) = is_itself n
 
 names_none : (ns : List ℕ) → ((i : ℕ) → names ns i ≡ true → ⊥) → ns ≡ []
 names_none [] h = refl

@@ -1,3 +1,4 @@
+mod ChangesLemmas
 mod DuesLemmas
 pub mod ExecutionsLemmas
 pub mod TouchesLemmas

@@ -1,3 +1,4 @@
+pub mod Changes
 pub mod Dues
 pub mod Sources
 pub mod Touches

@@ -3,6 +3,7 @@ ghost use Rattle.std.specs.Prelude.{◌≡◌, ◌<◌, ◌^◌, ◌∷◌, [], 
 ghost use Rattle.vs_process.specs.Executions as executions;
 ghost use Rattle.vs_flatcode.specs.Places.{is_going};
 ghost use Rattle.vs_process.specs.States as states;
+ghost use Rattle.vs_state.specs.Changes.{CoverChanges, CoverWrite};
 ghost use Rattle.vs_state.specs.Touches.{HasSources, behind_effect};
 ghost use Rattle.vs_state.specs.Waits.{HasTerms};
 
@@ -14,14 +15,32 @@ use vs_design::{Design, Part, Write};
 use vs_eval::write_of;
 use vs_process::{Effect, Move};
 
+/// Notes the signals that a write names.
+fn note_signals(changed: &mut Vec<usize>, write: &Write) -> Result<(), AllocError>
+    ensures { OnOk result (CoverWrite changed.new.items write.now) }
+{
+    for part in write.parts() {
+        changed.push(part.signal)?;
+    }
+    Ok(())
+}
+
 impl<'a> State<'a> {
     /// Makes a write of one part, and wakes what waits for a change that it makes.
-    fn write_part(&mut self, design: &Design, part: Part, write: &Write) -> Result<(), AllocError>
+    fn write_part(
+        &mut self,
+        design: &Design,
+        part: Part,
+        write: &Write,
+        changed: &mut Vec<usize>,
+    ) -> Result<(), AllocError>
         requires one { write.now ≡ part ∷ [] }
         requires sources { HasSources design.now self.old }
         requires terms { HasTerms design.now self.old }
-        ensures { OnOk result (self.new ≡ states.written self.old write.now) }
+        ensures made { OnOk result (self.new ≡ states.written self.old write.now) }
+        ensures covers { OnOk result (CoverChanges changed.new.items self.old.store self.new.store) }
     {
+        note_signals(changed, write)?;
         let before = self.store.word(part.signal, part.word);
         self.store.put(write);
         let behind = self.store.word(part.signal, part.word);
@@ -40,15 +59,22 @@ impl<'a> State<'a> {
 
     /// Makes a write: the assignments that read a bit which it changes have to be evaluated, and the processes that wait for a change which it
     /// makes become active.
-    fn write(&mut self, design: &Design, write: &Write) -> Result<(), AllocError>
+    fn write(
+        &mut self,
+        design: &Design,
+        write: &Write,
+        changed: &mut Vec<usize>,
+    ) -> Result<(), AllocError>
         requires sources { HasSources design.now self.old }
         requires terms { HasTerms design.now self.old }
-        ensures { OnOk result (self.new ≡ states.written self.old write.now) }
+        ensures made { OnOk result (self.new ≡ states.written self.old write.now) }
+        ensures covers { OnOk result (CoverChanges changed.new.items self.old.store self.new.store) }
     {
         let parts = write.parts();
         if parts.len() == 1 {
-            return self.write_part(design, parts[0], write);
+            return self.write_part(design, parts[0], write, changed);
         }
+        note_signals(changed, write)?;
         wake_for(
             &mut self.assigns,
             &mut self.processes,
@@ -64,7 +90,8 @@ impl<'a> State<'a> {
 
     /// Appends a nonblocking update that is due in this slot.
     fn queue(&mut self, process: usize, write: Write) -> Result<(), AllocError>
-        ensures { OnOk result (self.new ≡ behind_effect self.old process (Effect.Update write)) }
+        ensures queued { OnOk result (self.new ≡ behind_effect self.old process (Effect.Update write)) }
+        ensures store { self.new.store ≡ self.old.store }
     {
         let update = Update::new(self.serial, process, self.processes.time(), write);
         self.updates.push(update)?;
@@ -73,34 +100,48 @@ impl<'a> State<'a> {
     }
 
     /// Does what a step of a process does beyond its place.
-    fn perform(&mut self, design: &Design, process: usize, effect: Effect) -> Result<(), AllocError>
+    fn perform(
+        &mut self,
+        design: &Design,
+        process: usize,
+        effect: Effect,
+        changed: &mut Vec<usize>,
+    ) -> Result<(), AllocError>
         requires sources { HasSources design.now self.old }
         requires terms { (w : Write) → effect ≡ Effect.Write w → HasTerms design.now self.old }
-        ensures { OnOk result (self.new ≡ behind_effect self.old process effect) }
+        ensures made { OnOk result (self.new ≡ behind_effect self.old process effect) }
+        ensures covers { OnOk result (CoverChanges changed.new.items self.old.store self.new.store) }
     {
         match effect {
             Effect::Nothing => Ok(()),
-            Effect::Write(write) => self.write(design, &write),
+            Effect::Write(write) => self.write(design, &write, changed),
             Effect::Update(write) => self.queue(process, write),
         }
     }
 
     /// A step of an active process.
-    fn step(&mut self, design: &Design, process: usize) -> Result<(), AllocError>
+    fn step(
+        &mut self,
+        design: &Design,
+        process: usize,
+        changed: &mut Vec<usize>,
+    ) -> Result<(), AllocError>
         requires active { executions.if_some is_going (slice_get self.old.places process) ≡ true }
         requires early { self.old.time < 2 ^ 62 }
         requires sources { HasSources design.now self.old }
         requires terms { HasTerms design.now self.old }
-        ensures { OnOk result (self.new ≡ states.stepped self.old process (slice_get self.old.places process)) }
+        ensures made { OnOk result (self.new ≡ states.stepped self.old process (slice_get self.old.places process)) }
+        ensures covers { OnOk result (CoverChanges changed.new.items self.old.store self.new.store) }
     {
         let effect = self.processes.step(process, self.alloc, &self.store)?;
-        self.perform(design, process, effect)?;
+        self.perform(design, process, effect, changed)?;
         Ok(())
     }
 
     /// The evaluation of a continuous assignment.
     fn evaluate(&mut self, assign: usize) -> Result<(), AllocError>
-        ensures { OnOk result (self.new ≡ states.evaluate self.old assign (slice_get self.old.assigns assign)) }
+        ensures made { OnOk result (self.new ≡ states.evaluate self.old assign (slice_get self.old.assigns assign)) }
+        ensures store { self.new.store ≡ self.old.store }
     {
         let time = self.processes.time();
         self.assigns
@@ -109,11 +150,17 @@ impl<'a> State<'a> {
     }
 
     /// The update of a continuous assignment.
-    fn propagate(&mut self, design: &Design, assign: usize) -> Result<(), AllocError>
+    fn propagate(
+        &mut self,
+        design: &Design,
+        assign: usize,
+        changed: &mut Vec<usize>,
+    ) -> Result<(), AllocError>
         requires waits { executions.if_some (λ x. is_some x.pending) (slice_get self.old.assigns assign) ≡ true }
         requires sources { HasSources design.now self.old }
         requires terms { HasTerms design.now self.old }
-        ensures { OnOk result (self.new ≡ states.propagate self.old assign (slice_get self.old.assigns assign)) }
+        ensures made { OnOk result (self.new ≡ states.propagate self.old assign (slice_get self.old.assigns assign)) }
+        ensures covers { OnOk result (CoverChanges changed.new.items self.old.store self.new.store) }
     {
         let Some(x) = self.assigns.get(assign) else {
             return Ok(());
@@ -125,27 +172,34 @@ impl<'a> State<'a> {
         let time = self.processes.time();
         let change = write_of(self.alloc, target, digits, &self.store, time)?;
         self.assigns.settle(assign);
-        self.write(design, &change)?;
+        self.write(design, &change, changed)?;
         Ok(())
     }
 
     /// A nonblocking update.
-    fn update(&mut self, design: &Design, index: usize) -> Result<(), AllocError>
+    fn update(
+        &mut self,
+        design: &Design,
+        index: usize,
+        changed: &mut Vec<usize>,
+    ) -> Result<(), AllocError>
         requires sources { HasSources design.now self.old }
         requires terms { HasTerms design.now self.old }
-        ensures { OnOk result (self.new ≡ states.make self.old index (slice_get self.old.updates index)) }
+        ensures made { OnOk result (self.new ≡ states.make self.old index (slice_get self.old.updates index)) }
+        ensures covers { OnOk result (CoverChanges changed.new.items self.old.store self.new.store) }
     {
         let Some(update) = self.updates.take(index) else {
             return Ok(());
         };
-        self.write(design, update.what())?;
+        self.write(design, update.what(), changed)?;
         Ok(())
     }
 
     /// The slot ends: time goes to the least due time, or the execution is over.
     fn end_slot(&mut self) -> Result<(), AllocError>
         requires going { self.old.over ≡ false }
-        ensures { OnOk result (self.new ≡ executions.apply Move.EndSlot self.old) }
+        ensures made { OnOk result (self.new ≡ executions.apply Move.EndSlot self.old) }
+        ensures store { self.new.store ≡ self.old.store }
     {
         match self.next_time() {
             None => self.over = true,
@@ -154,21 +208,27 @@ impl<'a> State<'a> {
         Ok(())
     }
 
-    /// Makes an enabled move.
-    pub fn make(&mut self, design: &Design, choice: Move) -> Result<(), AllocError>
+    /// Makes an enabled move, and notes in `changed` the signals that it may change.
+    pub fn make(
+        &mut self,
+        design: &Design,
+        choice: Move,
+        changed: &mut Vec<usize>,
+    ) -> Result<(), AllocError>
         requires going { self.old.over ≡ false }
         requires enabled { executions.is_enabled self.old choice ≡ true }
         requires early { self.old.time < 2 ^ 62 }
         requires sources { HasSources design.now self.old }
         requires terms { HasTerms design.now self.old }
-        ensures { OnOk result (self.new ≡ executions.apply choice self.old) }
+        ensures made { OnOk result (self.new ≡ executions.apply choice self.old) }
+        ensures covers { OnOk result (CoverChanges changed.new.items self.old.store self.new.store) }
     {
         self.woken.clear();
         match choice {
-            Move::Step(process) => self.step(design, process)?,
+            Move::Step(process) => self.step(design, process, changed)?,
             Move::Evaluate(assign) => self.evaluate(assign)?,
-            Move::Propagate(assign) => self.propagate(design, assign)?,
-            Move::Make(index) => self.update(design, index)?,
+            Move::Propagate(assign) => self.propagate(design, assign, changed)?,
+            Move::Make(index) => self.update(design, index, changed)?,
             Move::Rouse => self.processes.rouse_all(&mut self.woken.processes),
             Move::Activate => self.updates.activate(self.processes.time()),
             Move::EndSlot => self.end_slot()?,

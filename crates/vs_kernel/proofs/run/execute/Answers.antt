@@ -1,4 +1,4 @@
-use Rattle.std.proofs.Common.{◌≡◌, ◌∙◌, ◌<◌, ◌≤◌, sym, ap, map, false, true, subst, arith}
+use Rattle.std.proofs.Common.{◌≡◌, ◌∙◌, ◌<◌, ◌≤◌, sym, ap, map, length, false, true, subst, arith}
 use Rattle.std.proofs.lemmas.Bool.{false≢true}
 use Rattle.vs_process.specs.Executions.{is_combinational, is_complete}
 use Rattle.vs_process.specs.States.{State}
@@ -6,6 +6,7 @@ use Rattle.vs_process.specs.Blocks.{inside_block}
 use Rattle.vs_state.specs.Touches.{HasSources}
 use Rattle.vs_state.specs.Waits.{HasTerms}
 use Rattle.vs_state.proofs.TermsLemmas.{has_terms}
+use Rattle.vs_kernel.proofs.MarkingLemmas.{covers_first}
 use Rattle.vs_kernel.proofs.RunsLemmas.{append_none, begins, inside_next, permitted, permitted_block, goes_on, limited, incomplete, complete_past, complete_over, reached, quiet, header_failed, move_failed, end_failed, part_failed, on_err}
 use Rattle.vs_state.specs.Sources.{has_sources}
 use Rattle.vs_kernel.proofs.run.execute.Goals as goal
@@ -15,6 +16,9 @@ pub loop-state-init : goal.loop-state-init
 loop-state-init g c = record {
   run = begins c.requires.start c.in_ok-writer.ensures.written c.in_ok-writer.ensures.bytes;
   inside = sym (ap (λ (s : State). inside_block c.args.design.now.processes s.places) c.requires.start ∙ c.none_inside_first.ensures c.args.design.now);
+  covers = covers_first c.in_ok-marks.marks.items c.args.state.now.store c.in_ok-writer.ensures.written;
+  room = omega (arith, c.in_ok-marks.ensures.room, ap length c.signals.ensures);
+  few = c.in_ok-marks.ensures.few;
   failures = c.in_ok-writer.ensures.failures;
 }
 
@@ -25,6 +29,8 @@ turn-requires g c = record {
   early = omega (arith, c.requires.early, c.time.ensures, c.if-time-until.true);
   sources = subst (λ (s : State). HasSources c.args.design.now s) c.loop-state.invariant.run.state (has_sources c.args.design.now c.loop-state.invariant.run.moves);
   terms = subst (λ (s : State). HasTerms c.args.design.now s) c.loop-state.invariant.run.state (has_terms c.args.design.now c.loop-state.invariant.run.moves);
+  few = c.loop-state.invariant.few;
+  covers = c.loop-state.invariant.covers;
 }
 
 pub loop-state-preserved : goal.loop-state-preserved
@@ -40,6 +46,10 @@ loop-state-preserved g c =
       run =
           goes_on c.loop-state.invariant.run t.choice (permitted c.args.design.now c.loop-state.state t.choice over t.enabled) block
           (incomplete c.args.until c.loop-state.state over early) c.if-count-steps.false t.made (t.written c.args.design.now) (t.text c.args.design.now);
+      covers =
+          c.in_ok-next.ensures.covers c.args.design.now _ (t.written c.args.design.now _ c.loop-state.invariant.run.written) c.loop-state.invariant.room;
+      room = omega (arith, c.loop-state.invariant.room, c.turn.ensures.len);
+      few = omega (arith, c.loop-state.invariant.few, c.turn.ensures.len);
       failures = c.in_ok-next.ensures.failures ∙ c.loop-state.invariant.failures;
     }
 
@@ -63,6 +73,9 @@ returns-clause-ran g c =
 
 pub returns-in_err-blocks-clause-begun : goal.returns-in_err-blocks-clause-begun
 returns-in_err-blocks-clause-begun g c = on_err _ (header_failed (0, append_none _))
+
+pub returns-in_err-marks-clause-begun : goal.returns-in_err-marks-clause-begun
+returns-in_err-marks-clause-begun g c = on_err _ (header_failed (0, append_none _))
 
 pub returns-in_err-writer-clause-begun : goal.returns-in_err-writer-clause-begun
 returns-in_err-writer-clause-begun g c = on_err _ (header_failed (part_failed _ _ _ _ c.in_err-writer.ensures.bytes))

@@ -5,9 +5,9 @@ use Rattle.vs_state.specs.Waits.{HasTerms}
 use Rattle.vs_state.proofs.ExecutionsLemmas.{propagate_at, settled_sources}
 use Rattle.vs_state.proofs.state.State.propagate.Goals as goal
 
-pub returns : goal.returns
-returns c =
-    c.in_ok-write.ensures
+pub returns-clause-made : goal.returns-clause-made
+returns-clause-made c =
+    c.in_ok-write.ensures.made
     ∙ propagate_at c.self.view_is c.args.assign c.time-time.result c.in-Some.x.now c.settle.new.self c.target-target.result.now c.in-Some-pending.digits c.in_ok-change.change c.in-Some.ensures
     (sym c.pending.ensures ∙ c.in-Some-pending.is) c.settle.ensures c.target-target.ensures c.time-time.ensures c.in_ok-change.ensures
 

@@ -15,6 +15,6 @@ perform-requires-clause-terms c = λ w is.
     (written_terms h.from h.to store time w (subst (Stepped h.from store time h.to) is h.stepped))
     (subst (HasTerms c.args.design.now) (sym c.self.view_is) c.requires.terms))
 
-pub returns : goal.returns
-returns c =
-    c.in_ok-perform.ensures ∙ stepped_by c.self.view_is c.args.process c.step.new.self.time c.step.new.self.places c.in_ok-effect.effect c.step.ensures.time c.in_ok-effect.ensures.ok
+pub returns-clause-made : goal.returns-clause-made
+returns-clause-made c =
+    c.in_ok-perform.ensures.made ∙ stepped_by c.self.view_is c.args.process c.step.new.self.time c.step.new.self.places c.in_ok-effect.effect c.step.ensures.time c.in_ok-effect.ensures.ok

@@ -13,10 +13,10 @@ pub invariant_of-self-2 : goal.invariant_of-self-2
 invariant_of-self-2 c =
     subst (λ (l : List Update). AreFrom c.self.inside.processes.time l) (sym c.take.ensures.rest) (from_remove c.self.inside.processes.time c.self.inside.updates c.args.index c.self.invariant)
 
-pub returns-in_default : goal.returns-in_default
-returns-in_default c = make_past c.self.view_is c.args.index c.take.new.self (sym c.take.ensures.taken ∙ c.in_default.is) c.take.ensures.rest
+pub returns-in_default-clause-made : goal.returns-in_default-clause-made
+returns-in_default-clause-made c = make_past c.self.view_is c.args.index c.take.new.self (sym c.take.ensures.taken ∙ c.in_default.is) c.take.ensures.rest
 
-pub returns : goal.returns
-returns c =
-    c.in_ok-write.ensures
+pub returns-clause-made : goal.returns-clause-made
+returns-clause-made c =
+    c.in_ok-write.ensures.made
     ∙ make_at c.self.view_is c.args.index c.in-Some.update c.take.new.self c.what.result.now (sym c.take.ensures.taken ∙ c.in-Some.is) c.take.ensures.rest (sym c.what.ensures)

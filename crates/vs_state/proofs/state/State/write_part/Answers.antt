@@ -11,6 +11,7 @@ use Rattle.vs_state.specs.Waits.{HasTerms, triggered_parts}
 use Rattle.vs_places.specs.Triggers.{triggered_by}
 use Rattle.vs_state.proofs.TouchesLemmas.{parts_touch}
 use Rattle.vs_state.proofs.WaitsLemmas.{parts_wake_places}
+use Rattle.vs_state.proofs.ChangesLemmas.{covers_put, covers_seen}
 use Rattle.vs_state.proofs.state.State.write_part.Goals as goal
 
 pub wake_change-requires : goal.wake_change-requires
@@ -20,8 +21,8 @@ wake_change-requires c = record {
   terms = subst (HasTerms c.args.design.now) (sym c.self.view_is) c.requires.terms;
 }
 
-pub returns : goal.returns
-returns c =
+pub returns-clause-made : goal.returns-clause-made
+returns-clause-made c =
     let part = c.args.part in
     let store = c.self.inside.store in
     let new = put store c.args.write.now in
@@ -39,3 +40,8 @@ returns c =
     ∙ sym (ap (λ (w : Write). triggered_parts store new w ys) c.requires.one) ∙ parts_wake_places c.args.write.now store ys
     in
     rw (← c.self.view_is, c.put.ensures, woken, triggered, c.wake_change.ensures.time) refl
+
+pub returns-clause-covers : goal.returns-clause-covers
+returns-clause-covers c =
+    covers_seen c.note_signals.new.changed.items c.put.new.self c.self.view_is
+    (covers_put c.note_signals.new.changed.items c.args.write.now c.self.inside.store c.put.new.self c.in_ok-note_signals.ensures c.put.ensures)
