@@ -14,13 +14,14 @@ use Rattle.vs_design.specs.declared.signal.Signal.{Signal}
 use Rattle.vs_design.specs.declared.design.Assign.{Assign}
 use Rattle.vs_selects.specs.Selects.{named_range}
 use Rattle.vs_scopes.specs.Printed.{Path, printed}
-use Rattle.vs_scopes.specs.Scopes.{Scope, DeclaredName, declarations_of, environment, signal_count, signal_paths, named}
-use Rattle.vs_elaborate.specs.Members.{PortDriver, Driver, of_port, of_text, drivers_of, port_drivers_of}
+use Rattle.vs_scopes.specs.Declarations.{DeclaredName}
+use Rattle.vs_scopes.specs.Scopes.{Scope, declarations_of, environment, signal_count, signal_paths, named}
+use Rattle.vs_opened.specs.Outlines.{Declared, declared, signal_of, signals_of}
+use Rattle.vs_bodies.specs.Members.{PortDriver, Driver, of_port, of_text, drivers_of, port_drivers_of}
 use Rattle.vs_elaborate.specs.Drivers.{IsDriver}
 use Rattle.vs_elaborate.specs.Faults.{aimed_at, ranges_driven, share_bits, DrivesTwice}
-use Rattle.vs_elaborate.specs.DesignOf.{Declared, declared, signal_of, signals_of, PartOf, parts_from, port_part, assigns_of, IsAssign}
-use Rattle.vs_elaborate.specs.passes.Plans.{IsDrivenTwice}
-use Rattle.vs_elaborate.specs.declared.plans.Plan.{Plan}
+use Rattle.vs_elaborate.specs.DesignOf.{PartOf, parts_from, port_part, assigns_of, IsAssign}
+use Rattle.vs_elaborate.specs.passes.Filling.{IsDrivenTwice}
 use Rattle.vs_elaborate.proofs.SignalLemmas.{located, signal_at, signals_counted}
 use Rattle.vs_elaborate.proofs.WellFormedLemmas.{OfNet}
 
@@ -88,11 +89,10 @@ driven_once ss now ps shown h u q r =
     true≢false (sym (share_is now r.net.size.shape.width r.one r.other (size_is ss now shown r.one.signal r.net r.declared) ∙ r.shared) ∙ sym (ap₂ (share_a_bit now) one other) ∙ apart)
 
 -- a signal that is driven twice is a net that is
-pub driven_twice : (ss : List Scope) (p : Plan) (bytes : List ℕ) → map declared p.signals.items ≡ flat_map signals_of ss → AllZip IsAssign p.assigns.items (flat_map assigns_of ss) → All (OfNet p.signals.items) (driven p.assigns.items) → IsDrivenTwice p bytes → (q : Path) × (bytes ≡ printed q) × DrivesTwice ss q
-driven_twice ss p bytes shown assigns nets t =
-    let now = p.signals.items in
+pub driven_twice : (ss : List Scope) (now : List Signal) (xs : List Assign) (bytes : List ℕ) → map declared now ≡ flat_map signals_of ss → AllZip IsAssign xs (flat_map assigns_of ss) → All (OfNet now) (driven xs) → IsDrivenTwice now xs bytes → (q : Path) × (bytes ≡ printed q) × DrivesTwice ss q
+driven_twice ss now xs bytes shown assigns nets t =
     let h = t.shares in
-    let all = driven p.assigns.items in
+    let all = driven xs in
     let within : t.number < length now = slice_get_within now t.number t.signal t.stands in
     let long : length now ≡ signal_count ss = sym (length-map now declared) ∙ ap length shown ∙ signals_counted ss in
     let l = located ss t.number (omega (arith, within, long)) in
@@ -103,7 +103,7 @@ driven_twice ss p bytes shown assigns nets t =
     let net : is_of_net (slice_get now t.number) ≡ true =
     ap (λ i. is_of_net (slice_get now i)) (sym (ap (λ (z : BitRange). z.signal) one ∙ h.signal)) ∙ nets h.first h.one (slice_get_within all h.first h.one h.one_stands) in
     let net' = and_parts (not (is_variable found.0.kind)) (found.0.count == 1) (ap is_of_net (sym found.1) ∙ net) in
-    let ranges = driven_is ss p.assigns.items assigns in (
+    let ranges = driven_is ss xs assigns in (
       named l.scope l.name.name,
       t.path ∙ ap (λ (z : Signal). z.path.items) (sym signal) ∙ ap (λ (z : Declared). z.path) found.2,
       record {

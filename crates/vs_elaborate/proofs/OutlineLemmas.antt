@@ -11,10 +11,11 @@ use Rattle.vs_syntax.specs.declared.tree.Module.{Module}
 use Rattle.vs_design.specs.declared.design.Entry.{Entry}
 use Rattle.vs_design.specs.declared.design.Entry.TheVariants.{Enter, Declare, Leave}
 use Rattle.vs_design.specs.WellFormed.{declared_in as declared_by_outline}
-use Rattle.vs_scopes.specs.Scopes.{Scope, Use, module_named, declarations_of, uses_of, opened, opened_top, listed, below, scopes_within, scopes_of, signal_count, levels}
-use Rattle.vs_scopes.proofs.PathsOpened.{what_is_opened, what_is_opened_top}
-use Rattle.vs_elaborate.specs.DesignOf.{Line, enter, declare, leave, declare_from, outline_around, outline_below, outline_within, outline_of, IsEntry}
-use Rattle.vs_elaborate.specs.passes.Bodies.{counting}
+use Rattle.vs_scopes.specs.Generate.{Inner}
+use Rattle.vs_scopes.specs.Scopes.{Scope, Before, before, behind, within_first, inner_of, module_named, declarations_of, opened, opened_top, listed, below, scopes_within, scopes_of, signal_count, deepest}
+use Rattle.vs_paths.proofs.PathsOpened.{what_is_opened, what_is_opened_top}
+use Rattle.vs_opened.specs.Outlines.{Line, enter, declare, leave, declare_from, outline_around, outline_below, outline_within, outline_of, IsEntry}
+use Rattle.vs_bodies.specs.passes.Bodies.{counting}
 
 -- ---- counting
 
@@ -95,34 +96,36 @@ count_append : (xs ys : List Scope) → signal_count (xs ++ ys) ≡ signal_count
 count_append xs ys = ap length (flat_map-append declarations_of xs ys) ∙ length-append (flat_map declarations_of xs) (flat_map declarations_of ys)
 
 module _ (ms : List Module) (f : Scope → List Scope) (g : Scope → List Line) (inside : (t : Scope) → numbers_in (g t) ≡ counting t.base (signal_count (f t))) (s : Scope) where
-  opened_numbers : (number base : ℕ) (u : Use) (o : Option Scope) → opened s number base u (module_named ms u.of) ≡ o → numbers_in (listed g o) ≡ counting base (signal_count (listed f o))
-  opened_numbers number base u None e = refl
-  opened_numbers number base u (Some t) e = inside t ∙ ap (λ z. counting z (signal_count (f t))) (what_is_opened s number base u (module_named ms u.of) t e).base
+  opened_numbers : (at : Before) (x : Inner) (o : Option Scope) → opened ms s at x ≡ o → numbers_in (listed g o) ≡ counting at.signals (signal_count (listed f o))
+  opened_numbers at x None e = refl
+  opened_numbers at x (Some t) e = inside t ∙ ap (λ (z : Before). counting z.signals (signal_count (f t))) (what_is_opened ms s at x t e).before
 
-  below_numbers : (number base : ℕ) (us : List Use) → numbers_in (outline_below ms f g s number base us) ≡ counting base (signal_count (below ms f s number base us))
-  below_numbers number base [] = refl
-  below_numbers number base (u ∷ us) =
-      let o = opened s number base u (module_named ms u.of) in
+  below_numbers : (at : Before) (xs : List Inner) → numbers_in (outline_below ms f g s at xs) ≡ counting at.signals (signal_count (below ms f s at xs))
+  below_numbers at [] = refl
+  below_numbers at (x ∷ xs) =
+      let o = opened ms s at x in
       let inner = listed f o in
-      let others = below ms f s (number + length inner) (base + signal_count inner) us in
-      flat_map-append line_numbers (listed g o) (outline_below ms f g s (number + length inner) (base + signal_count inner) us)
-      ∙ ap₂ (λ x y. x ++ y) (opened_numbers number base u o refl) (below_numbers (number + length inner) (base + signal_count inner) us)
-      ∙ sym (counting_append base (signal_count inner) (signal_count others)) ∙ ap (counting base) (sym (count_append inner others))
+      let others = below ms f s (behind at inner) xs in
+      flat_map-append line_numbers (listed g o) (outline_below ms f g s (behind at inner) xs)
+      ∙ ap₂ (λ x y. x ++ y) (opened_numbers at x o refl) (below_numbers (behind at inner) xs)
+      ∙ sym (counting_append at.signals (signal_count inner) (signal_count others)) ∙ ap (counting at.signals) (sym (count_append inner others))
 
 within_numbers : (n : ℕ) (ms : List Module) (s : Scope) → numbers_in (outline_within n ms s) ≡ counting s.base (signal_count (scopes_within n ms s))
+unfolding scopes_within
 within_numbers zero ms s = around_numbers s [] ∙ append-nil (counting s.base (length (declarations_of s))) ∙ ap (λ z. counting s.base (length z)) (sym (append-nil (declarations_of s)))
 within_numbers (suc n) ms s =
-    let base = s.base + length (declarations_of s) in
-    let inner = below ms (scopes_within n ms) s (suc s.number) base (uses_of s) in
-    around_numbers s (outline_below ms (scopes_within n ms) (outline_within n ms) s (suc s.number) base (uses_of s))
-    ∙ ap (λ z. counting s.base (length (declarations_of s)) ++ z) (below_numbers ms (scopes_within n ms) (outline_within n ms) (within_numbers n ms) s (suc s.number) base (uses_of s))
-    ∙ sym (counting_append s.base (length (declarations_of s)) (signal_count inner))
-    ∙ ap (counting s.base) (sym (length-append (declarations_of s) (flat_map declarations_of inner)))
+    let own = declarations_of s in
+    let inner = below ms (scopes_within n ms) s (within_first s) (inner_of s) in
+    around_numbers s (outline_below ms (scopes_within n ms) (outline_within n ms) s (within_first s) (inner_of s))
+    ∙ ap (λ z. counting s.base (length own) ++ z) (below_numbers ms (scopes_within n ms) (outline_within n ms) (within_numbers n ms) s (within_first s) (inner_of s))
+    ∙ ap (λ z. counting s.base (length own) ++ counting (s.base + length z) (signal_count inner)) (append-nil own)
+    ∙ sym (counting_append s.base (length own) (signal_count inner))
+    ∙ ap (counting s.base) (sym (length-append own (flat_map declarations_of inner)))
 
 top_numbers : (n : ℕ) (ms : List Module) (o : Option Module) (t : Option Scope) → opened_top o ≡ t → numbers_in (listed (outline_within n ms) t) ≡ counting 0 (signal_count (listed (scopes_within n ms) t))
 top_numbers n ms o None e = refl
-top_numbers n ms o (Some s) e = within_numbers n ms s ∙ ap (λ z. counting z (signal_count (scopes_within n ms s))) (what_is_opened_top o s e).base
+top_numbers n ms o (Some s) e = within_numbers n ms s ∙ ap (λ (z : Before). counting z.signals (signal_count (scopes_within n ms s))) (what_is_opened_top o s e).1.before
 
 -- a design's outline declares the signals from 0 on
 pub outline_declares : (ms : List Module) (top : List ℕ) (es : List Entry) → AllZip IsEntry es (outline_of ms top) → declared_by_outline es ≡ counting 0 (signal_count (scopes_of ms top))
-outline_declares ms top es h = entries_declare es (outline_of ms top) h ∙ top_numbers levels ms (module_named ms top) (opened_top (module_named ms top)) refl
+outline_declares ms top es h = entries_declare es (outline_of ms top) h ∙ top_numbers deepest ms (module_named ms top) (opened_top (module_named ms top)) refl

@@ -1,7 +1,6 @@
 -- The printed names of a design's processes differ, and so do those of its continuous assignments.
-use Rattle.std.proofs.Common.{◌≡◌, ℕ, suc, ◌+◌, ◌^◌, ◌<◌, ◌≤◌, false, List, [], ◌∷◌, ◌++◌, Option, Some, None, length, map, drop, get_or, refl, ap, ap₂, sym, subst, ◌∙◌, arith, true≢false}
+use Rattle.std.proofs.Common.{◌≡◌, ℕ, suc, ◌+◌, ◌^◌, ◌<◌, ◌≤◌, false, List, [], ◌∷◌, Option, Some, None, length, map, drop, get_or, refl, ap, ap₂, sym, subst, ◌∙◌, arith, true≢false}
 use Rattle.std.specs.List.{flat_map, AllZip, AllByRecursion, IsDistinct}
-use Rattle.std.specs.Cmp.Lexicographic.{pointwise}
 use Rattle.std.specs.Str.{bytes_eq}
 use Rattle.std.specs.Str.Parse.{digits_value}
 use Rattle.std.specs.Fmt.{decimal}
@@ -15,15 +14,17 @@ use Rattle.vs_syntax.specs.declared.tree.Direction.{Direction}
 use Rattle.vs_syntax.specs.declared.tree.Direction.TheVariants.{Input, Output}
 use Rattle.vs_design.specs.declared.design.Assign.{Assign}
 use Rattle.vs_design.specs.declared.design.Process.{Process}
-use Rattle.vs_selects.specs.declared.constants.Const.{Const}
 use Rattle.vs_selects.specs.Environment.{Environment}
-use Rattle.vs_scopes.specs.Printed.{Path, printed_name, own_name, port_assign_name, part_name}
-use Rattle.vs_scopes.specs.Scopes.{Scope, Use, DeclaredName, ModulePort, port_names, declared_by_port, declared_in, names_in, names_of, all_names_of, uses_of}
-use Rattle.vs_scopes.specs.Laws.{scope_paths}
-use Rattle.vs_scopes.proofs.PathsLists.{each_append, distinct_append, distinct_left, distinct_right}
-use Rattle.vs_scopes.proofs.PathsParts.{IsPartAt, parts_differ}
-use Rattle.vs_scopes.proofs.PathsPrinted.{name_same}
-use Rattle.vs_elaborate.specs.Members.{PortDriver, connected, port_drivers, port_drivers_of, port_of, Driver, of_text, drivers_of, behaviors_of}
+use Rattle.vs_scopes.specs.Printed.{Path, same_path, printed_name, own_name, port_assign_name, part_name}
+use Rattle.vs_scopes.specs.Ports.{ModulePort, port_names, names_where, is_joined}
+use Rattle.vs_scopes.specs.Declarations.{DeclaredName, declared_by_port, declared_among, not_joined, names_in}
+use Rattle.vs_scopes.specs.Scopes.{Scope, all_names_of}
+use Rattle.vs_paths.specs.Laws.{HasTurnsThatFit, scope_paths}
+use Rattle.vs_paths.proofs.PathsLists.{each_append, distinct_append, distinct_left}
+use Rattle.vs_paths.proofs.PathsParts.{IsPartAt, parts_differ}
+use Rattle.vs_paths.proofs.PathsPrinted.{name_same}
+use Rattle.vs_paths.proofs.TitleLemmas.{signals_differ}
+use Rattle.vs_bodies.specs.Members.{PortDriver, connected, port_drivers, port_drivers_of, port_of, Driver, of_text, drivers_of, behaviors_of}
 use Rattle.vs_elaborate.specs.DesignOf.{PartOf, parts_from, port_part, processes_of, assigns_of, IsProcess, IsAssign}
 
 not_same : (xs ys : List ℕ) → (xs ≡ ys → ⊥) → bytes_eq xs ys ≡ false
@@ -78,12 +79,9 @@ ports_first env (p ∷ ps) = ap (λ z. p.name ∷ z) (ports_first env ps)
 -- the ports of a scope that declares a name once have names that differ
 ports_differ : (s : Scope) → IsDistinct bytes_eq (all_names_of s) → IsDistinct bytes_eq (port_names s.ports)
 ports_differ s d =
-    let constants = map (λ (c : List ℕ × Const). c.0) s.constants in
-    let uses = map (λ (u : Use). u.name) (uses_of s) in
     let ports = map (declared_by_port s.known) s.ports in
-    let others = flat_map (declared_in s.known) s.items in
-    let names : IsDistinct bytes_eq (names_of s) = distinct_right bytes_eq constants (names_of s) (distinct_left bytes_eq (constants ++ names_of s) uses d) in
-    let both = subst (IsDistinct bytes_eq) (map-append (λ (z : DeclaredName). z.name) ports others) names in
+    let others = not_joined (names_where is_joined s.ports) (declared_among s.known s.pieces) in
+    let both = subst (IsDistinct bytes_eq) (map-append (λ (z : DeclaredName). z.name) ports others) (signals_differ s d) in
     subst (IsDistinct bytes_eq) (ports_first s.known s.ports) (distinct_left bytes_eq (names_in ports) (names_in others) both)
 
 port_connected : (d : Direction) (n : List ℕ) (e : Expr) → port_of (connected d n e) ≡ n
@@ -177,14 +175,14 @@ zipped R name f [] (q ∷ qs) h = absurd h
 zipped R name f (p ∷ ps) [] h = absurd h
 zipped R name f (p ∷ ps) (q ∷ qs) h = ap₂ (λ x xs. x ∷ xs) (f p q h.0) (zipped R name f ps qs h.1)
 
-pub processes_named : (ss : List Scope) (ps : List Process) → IsDistinct (pointwise bytes_eq) (scope_paths ss) → AllZip IsProcess ps (flat_map processes_of ss) → length ps ≤ 2 ^ 64 → IsDistinct bytes_eq (map (λ (p : Process). p.name.items) ps)
-processes_named ss ps d h l =
-    let few : length (flat_map processes_of ss) ≤ 2 ^ 64 = omega (arith, l, AllZip-long IsProcess ps (flat_map processes_of ss) h) in
-    subst (IsDistinct bytes_eq) (sym (zipped IsProcess (λ (p : Process). p.name.items) (λ p q r. r.name) ps (flat_map processes_of ss) h))
-    (parts_differ path_of name_of processes_of (λ s. parts_at 112 s 0 (behaviors_of s)) ss d (all_processes ss few))
+pub processes_named : (ss : List Scope) (ps : List Process) → AllByRecursion HasTurnsThatFit (scope_paths ss) → IsDistinct same_path (scope_paths ss) → AllZip (IsProcess ss) ps (flat_map processes_of ss) → length ps ≤ 2 ^ 64 → IsDistinct bytes_eq (map (λ (p : Process). p.name.items) ps)
+processes_named ss ps fit d h l =
+    let few : length (flat_map processes_of ss) ≤ 2 ^ 64 = omega (arith, l, AllZip-long (IsProcess ss) ps (flat_map processes_of ss) h) in
+    subst (IsDistinct bytes_eq) (sym (zipped (IsProcess ss) (λ (p : Process). p.name.items) (λ p q r. r.name) ps (flat_map processes_of ss) h))
+    (parts_differ path_of name_of processes_of (λ s. parts_at 112 s 0 (behaviors_of s)) ss fit d (all_processes ss few))
 
-pub assigns_named : (ss : List Scope) (ps : List Assign) → IsDistinct (pointwise bytes_eq) (scope_paths ss) → AllByRecursion (λ s. IsDistinct bytes_eq (all_names_of s)) ss → AllZip IsAssign ps (flat_map assigns_of ss) → length ps ≤ 2 ^ 64 → IsDistinct bytes_eq (map (λ (p : Assign). p.name.items) ps)
-assigns_named ss ps d once h l =
+pub assigns_named : (ss : List Scope) (ps : List Assign) → AllByRecursion HasTurnsThatFit (scope_paths ss) → IsDistinct same_path (scope_paths ss) → AllByRecursion (λ s. IsDistinct bytes_eq (all_names_of s)) ss → AllZip IsAssign ps (flat_map assigns_of ss) → length ps ≤ 2 ^ 64 → IsDistinct bytes_eq (map (λ (p : Assign). p.name.items) ps)
+assigns_named ss ps fit d once h l =
     let few : length (flat_map assigns_of ss) ≤ 2 ^ 64 = omega (arith, l, AllZip-long IsAssign ps (flat_map assigns_of ss) h) in
     subst (IsDistinct bytes_eq) (sym (zipped IsAssign (λ (p : Assign). p.name.items) (λ p q r. r.name) ps (flat_map assigns_of ss) h))
-    (parts_differ path_of name_of assigns_of assigns_at ss d (all_assigns ss once few))
+    (parts_differ path_of name_of assigns_of assigns_at ss fit d (all_assigns ss once few))

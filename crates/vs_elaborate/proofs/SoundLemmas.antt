@@ -1,67 +1,260 @@
--- In a scope without faults no fault stands.
-use Rattle.std.proofs.Common.{◌≡◌, ℕ, suc, inl, inr, Bool, false, List, [], ◌∷◌, Some, slice_get, get_or, All, refl, ap, sym, ◌∙◌, arith, true≢false}
-use Rattle.std.specs.List.{IsDistinct}
-use Rattle.std.specs.Str.{bytes_eq}
-use Rattle.std.proofs.lemmas.Option.{none-some, slice_get_within, get_or_from_slice_get}
-use Rattle.std.proofs.lemmas.Map.Keys.{apart_from_distinct}
-use Rattle.std.proofs.lemmas.Slice.Eq.{bytes_eq-Decides}
+-- The faults of a source: those that are told while scopes are opened, those of continuous assignments and processes, and nets that are driven twice.
+use Rattle.std.proofs.Common.{◌≡◌, ℕ, suc, zero, ◌⊎◌, inl, inr, Bool, true, false, List, [], ◌∷◌, Some, None, map, slice_get, refl, sym, subst, ◌∙◌, true≢false}
+use Rattle.std.specs.List.{list_any}
+use Rattle.std.proofs.lemmas.Option.{none-some, same_Some}
+use Rattle.vs_syntax.specs.declared.tree.Expr.{Expr}
+use Rattle.vs_syntax.specs.declared.tree.CaseLabel.{CaseLabel}
+use Rattle.vs_syntax.specs.declared.tree.DelayValue.{DelayValue}
+use Rattle.vs_syntax.specs.declared.tree.EventControl.{EventControl}
 use Rattle.vs_syntax.specs.declared.tree.Module.{Module}
+use Rattle.vs_syntax.specs.declared.tree.Stmt.{Stmt, Stmt-F, roll-Stmt, ind-Stmt, map-Stmt}
+use Rattle.vs_syntax.specs.declared.tree.Stmt.TheFolds.{fold-roll-Stmt}
+use Rattle.vs_syntax.specs.declared.tree.Stmt.TheOpen as f
+use Rattle.vs_selects.specs.Environment.{Environment}
+use Rattle.vs_targets.specs.declared.kinds.AssignmentKind.{AssignmentKind}
+use Rattle.vs_targets.specs.declared.kinds.AssignmentKind.TheVariants.{Procedural, Continuous}
 use Rattle.vs_scopes.specs.declared.faults.Reason.{Reason}
-use Rattle.vs_scopes.specs.declared.faults.Reason.TheVariants.{NoModule, Inside, PortMismatch, ParameterMismatch, DeclaredTwice, DrivenTwice, Limit, Width}
+use Rattle.vs_scopes.specs.declared.faults.Reason.TheVariants.{NoModule, Inside, PortMismatch, ParameterMismatch, DeclaredTwice, DrivenTwice, Limit, Width, Endless, Unnamed}
+use Rattle.vs_scopes.specs.declared.faults.ElabFault.{ElabFault}
+use Rattle.vs_scopes.specs.declared.faults.ElabFault.TheVariants.{Memory, At}
 use Rattle.vs_scopes.specs.Printed.{Path}
-use Rattle.vs_scopes.specs.Scopes.{Scope, Use, uses_of, all_names_of, is_inside, is_port_mismatch}
-use Rattle.vs_scopes.specs.Parameters.{is_override_mismatch}
-use Rattle.vs_elaborate.specs.Faults.{Repeated, of_module, AtInstance, parameter_fault, override_fault, HasFault, PassesLimit, Holds, HoldsIn}
-use Rattle.vs_elaborate.specs.passes.Plans.{IsSoundUse, IsSoundScope}
-use Rattle.vs_elaborate.proofs.SignalLemmas.{all_at}
+use Rattle.vs_scopes.specs.Scopes.{Scope, environment, environment_at, scopes_of}
+use Rattle.vs_scopes.specs.passes.Answers.{Told}
+use Rattle.vs_scopes.proofs.Folds.{both_false}
+use Rattle.vs_scopes.proofs.AnswerLemmas.{told_by}
+use Rattle.vs_opened.specs.ScopeFaults.{HoldsOpening, HoldsOpeningIn, HoldsOpeningAbove, StandsOpening}
+use Rattle.vs_bodies.specs.Statements.{assign_fault, operand_fault, case_fault, delay_fault, event_fault, fault_step, has_fault, is_overfull, HasFaultAt, in_statement, in_block}
+use Rattle.vs_bodies.specs.Members.{Assignee, places, Assignment, PortDriver, Behavior, sets, runs, repeats, drivers_of, port_drivers_of}
+use Rattle.vs_bodies.specs.Processes.{statements_of, HasBehaviorFault}
+use Rattle.vs_elaborate.specs.Drivers.{driver_fault, port_driver_fault}
+use Rattle.vs_elaborate.specs.Faults.{Holds, HoldsIn, HoldsAbove, Stands, DrivesTwice, Faults}
+use Rattle.vs_elaborate.specs.passes.Filling.{FillsNot, FillsOneNot}
 
--- names that differ aren't repeated
-pub not_repeated : (ns : List (List ℕ)) (n : List ℕ) → IsDistinct bytes_eq ns → Repeated ns n → ⊥
-not_repeated ns n u r =
-    let apart = apart_from_distinct bytes_eq ns r.first r.second [] u r.before (slice_get_within ns r.second n r.other) in
-    let one = get_or_from_slice_get ns r.first n [] r.one in
-    let other = get_or_from_slice_get ns r.second n [] r.other in
-    let same : bytes_eq n n ≡ false = sym (ap (λ z. bytes_eq z n) one) ∙ sym (ap (bytes_eq (get_or ns r.first [])) other) ∙ apart in
-    true≢false (sym ((bytes_eq-Decides n n).1 refl) ∙ same)
+-- ---- faults that no statement has
 
-module _ (ms : List Module) (s : Scope) (sound : IsSoundScope ms s) where
-  use_at : (i : ℕ) (u : Use) → slice_get (uses_of s) i ≡ Some u → IsSoundUse ms s u
-  use_at i u h = all_at (IsSoundUse ms s) (uses_of s) i u sound.uses h
+-- a reason that isn't one of a statement
+pub record IsApart (r : Reason) (env : Environment) : Type 0 where
+  pub assign : (how : AssignmentKind) (a : Assignee) (e : Expr) → assign_fault r how env a e ≡ false
+  pub operand : (e : Expr) → operand_fault r env e ≡ false
+  pub cases : (e : Expr) (ls : List CaseLabel) → case_fault r env e ls ≡ false
+  pub delay : (d : DelayValue) → delay_fault r env d ≡ false
+  pub event : (e : EventControl) → event_fault r env e ≡ false
 
-  -- a test that the module of no sound instance passes
-  no_instance : (test : Use → Module → Bool) → ((u : Use) (h : IsSoundUse ms s u) → test u h.body ≡ false) → (p : Path) → AtInstance ms s test p → ⊥
-  no_instance test f p h =
-      let u = use_at h.place h.instance h.stands in
-      true≢false (sym h.holds ∙ ap (of_module (test h.instance)) u.found ∙ f h.instance u)
+module _ (r : Reason) (env : Environment) (apart : IsApart r env) where
+  abbrev Sound : Stmt → Type 0
+  Sound x = has_fault r env x ≡ false
 
-  no_part : (r : Reason) (p : Path) → HasFault s r p → ⊥
-  no_part r p (inl f, e) = true≢false (sym f ∙ sound.processes r)
-  no_part r p (inr f, e) = true≢false (sym f ∙ sound.drivers r)
+  abbrev Inner : Type 0
+  Inner = (x : Stmt) × (has_fault r env x ≡ false)
 
-  within_limits : (p : Path) → PassesLimit s p → ⊥
-  within_limits p (inl deep, e) = omega (arith, deep, sound.depth)
-  within_limits p (inr (inl many), e) = omega (arith, many, sound.few)
-  within_limits p (inr (inr many), e) = omega (arith, many, sound.room)
+  abbrev bare : Stmt-F Inner → Stmt-F Stmt
+  bare y = map-Stmt Inner Stmt (λ p. p.0) y
 
-  pub none_holds : (r : Reason) (p : Path) → Holds ms s r p → ⊥
-  none_holds NoModule p h = let u = use_at h.place h.instance h.stands in none-some u.body (sym h.none ∙ u.found)
-  none_holds Inside p h = no_instance (λ u m. is_inside s m) (λ u k. k.outside) p h
-  none_holds PortMismatch p (inl h) = no_instance is_port_mismatch (λ u k. k.ports) p h
-  none_holds PortMismatch p (inr h) = true≢false (sym h.0 ∙ sound.ports)
-  none_holds ParameterMismatch p h = no_instance (λ u m. is_override_mismatch u.overrides m) (λ u k. k.fits) p h
-  none_holds DeclaredTwice p (inl h) = not_repeated (all_names_of s) h.name sound.distinct h.repeated
-  none_holds DeclaredTwice p (inr h) = no_part DeclaredTwice p h
-  none_holds DrivenTwice p h = h
-  none_holds Limit p (inl h) = within_limits p h
-  none_holds Limit p (inr (inl h)) = true≢false (sym h.0 ∙ sound.sized Limit)
-  none_holds Limit p (inr (inr h)) = no_part Limit p h
-  none_holds (Width w) p (inl h) = no_instance (parameter_fault w s) (λ u k. k.parameters w) p h
-  none_holds (Width w) p (inr (inl h)) = let u = use_at h.place h.instance h.stands in true≢false (sym h.holds ∙ ap (of_module (override_fault w s h.instance)) u.found ∙ u.overrides w)
-  none_holds (Width w) p (inr (inr (inl h))) = true≢false (sym h.0 ∙ sound.sized (Width w))
-  none_holds (Width w) p (inr (inr (inr (inl h)))) = true≢false (sym h.0 ∙ sound.port_drivers (Width w))
-  none_holds (Width w) p (inr (inr (inr (inr h)))) = no_part (Width w) p h
+  none_in : (xs : List Inner) → list_any (λ b. b) (map (has_fault r env) (map (λ p. p.0) xs)) ≡ false
+  none_in [] = refl
+  none_in (x ∷ xs) = both_false (has_fault r env x.0) _ x.1 (none_in xs)
 
-pub none_in : (ms : List Module) (ss : List Scope) → All (IsSoundScope ms) ss → (r : Reason) (p : Path) → HoldsIn ms ss r p → ⊥
-none_in ms [] sound r p h = h
-none_in ms (s ∷ ss) sound r p (inl h) = none_holds ms s (sound 0 s (omega arith)) r p h
-none_in ms (s ∷ ss) sound r p (inr h) = none_in ms ss (λ i d l. sound (suc i) d (omega (arith, l))) r p h
+  none_item : (xs : List (CaseLabel × Inner)) → list_any (λ (x : CaseLabel × Bool). x.1) (map (λ (x : CaseLabel × Stmt). (x.0, has_fault r env x.1)) (map (λ (x : CaseLabel × Inner). (x.0, x.1.0)) xs)) ≡ false
+  none_item [] = refl
+  none_item (x ∷ xs) = both_false (has_fault r env x.1.0) _ x.1.1 (none_item xs)
+
+  step : (y : Stmt-F Inner) → fault_step r env (map-Stmt Stmt Bool (has_fault r env) (bare y)) ≡ false
+  step f.Null = refl
+  step (f.Assign l e) = apart.assign Procedural (places l) e
+  step (f.Later l e) = apart.assign Procedural (places l) e
+  step (f.Block xs) = none_in xs.items
+  step (f.Named n ls xs) = refl
+  step (f.If e x None) = both_false _ _ (both_false _ _ (apart.operand e) x.value.1) refl
+  step (f.If e x (Some o)) = both_false _ _ (both_false _ _ (apart.operand e) x.value.1) o.value.1
+  step (f.Case kind e xs) = both_false _ _ (apart.cases e _) (none_item xs.items)
+  step (f.For l a c m b x) = both_false _ _ (both_false _ _ (both_false _ _ (apart.assign Procedural (places l) a) (apart.operand c)) (apart.assign Procedural (places m) b)) x.value.1
+  step (f.While e x) = both_false _ _ (apart.operand e) x.value.1
+  step (f.Repeat e x) = both_false _ _ (apart.operand e) x.value.1
+  step (f.Forever x) = x.value.1
+  step (f.Delay d x) = both_false _ _ (apart.delay d) x.value.1
+  step (f.Event e x) = both_false _ _ (apart.event e) x.value.1
+
+  layer : (y : Stmt-F Inner) → Sound (roll-Stmt (bare y))
+  layer y = fold-roll-Stmt Bool (fault_step r env) (bare y) ∙ step y
+
+  settled : (x : Stmt-F Stmt) (y : Stmt-F Inner) → bare y ≡ x → Sound (roll-Stmt x)
+  settled x y is = subst (λ (u : Stmt-F Stmt). Sound (roll-Stmt u)) is (layer y)
+
+  no_statement : (x : Stmt) → has_fault r env x ≡ false
+  no_statement = ind-Stmt Sound settled
+
+any_none : {A : Type 0} (p : A → Bool) (xs : List A) → ((x : A) → p x ≡ false) → list_any p xs ≡ false
+any_none p [] h = refl
+any_none p (x ∷ xs) h = both_false (p x) _ (h x) (any_none p xs h)
+
+-- a reason that isn't one of a continuous assignment or a process
+pub record IsOutside (r : Reason) : Type 0 where
+  pub apart : (env : Environment) → IsApart r env
+  pub port : (own outer : Environment) (d : PortDriver) → port_driver_fault r own outer d ≡ false
+  pub full : (n : ℕ) → is_overfull r n ≡ false
+
+module _ (r : Reason) (o : IsOutside r) (envs : Path → Environment) (at : Path) where
+  no_fault_at : (p : Path) (x : Stmt) → HasFaultAt envs r at p x → ⊥
+  no_fault_at _ _ (in_statement p x h e) = true≢false (sym h ∙ no_statement r (envs p) (o.apart (envs p)) x)
+  no_fault_at _ _ (in_block p x y i j b k l h) = no_fault_at _ _ h
+
+  no_behavior : (p : Path) (b : Behavior) → HasBehaviorFault envs r at p b → ⊥
+  no_behavior p (sets a) (inl h) = true≢false (sym h.0 ∙ (o.apart (envs p)).assign Procedural a.target a.value)
+  no_behavior p (sets a) (inr h) = true≢false (sym h.0 ∙ o.full 1)
+  no_behavior p (runs x) (inl h) = no_fault_at p x h
+  no_behavior p (runs x) (inr h) = true≢false (sym h.0 ∙ o.full (statements_of (runs x)))
+  no_behavior p (repeats x) (inl h) = no_fault_at p x h
+  no_behavior p (repeats x) (inr h) = true≢false (sym h.0 ∙ o.full (statements_of (repeats x)))
+
+nothing_fills : (ss : List Scope) (s : Scope) (r : Reason) (p : Path) → IsOutside r → FillsNot ss s r p → ⊥
+nothing_fills ss s r p o (inl h) = true≢false (sym h.0 ∙ any_none (port_driver_fault r (environment s) s.outer) (port_drivers_of s) (o.port (environment s) s.outer))
+nothing_fills ss s r p o (inr (inl h)) = no_behavior r o (environment_at ss) p s.path h.behavior h.fault
+nothing_fills ss s r p o (inr (inr h)) = true≢false (sym h.0 ∙ any_none (driver_fault r (environment s)) (drivers_of s) (λ (a : Assignment). (o.apart (environment s)).assign Continuous a.target a.value))
+
+-- ---- faults of a scope
+
+module _ (ms : List Module) (ss : List Scope) (s : Scope) where
+  -- a fault that is told while the scope is opened
+  pub opening_holds : (r : Reason) (p : Path) → HoldsOpening ms s r p → Holds ms ss s r p
+  opening_holds NoModule p h = h
+  opening_holds Inside p h = h
+  opening_holds PortMismatch p h = h
+  opening_holds ParameterMismatch p h = h
+  opening_holds DeclaredTwice p (inl h) = inl h
+  opening_holds DeclaredTwice p (inr h) = inr (inl h)
+  opening_holds DrivenTwice p h = h
+  opening_holds Limit p (inl h) = inl h
+  opening_holds Limit p (inr (inl h)) = inr (inl h)
+  opening_holds Limit p (inr (inr h)) = inr (inr (inl h))
+  opening_holds (Width w) p (inl h) = inl h
+  opening_holds (Width w) p (inr (inl h)) = inr (inl h)
+  opening_holds (Width w) p (inr (inr (inl h))) = inr (inr (inl h))
+  opening_holds (Width w) p (inr (inr (inr (inl h)))) = inr (inr (inr (inl h)))
+  opening_holds (Width w) p (inr (inr (inr (inr h)))) = inr (inr (inr (inr (inl h))))
+  opening_holds Endless p h = h
+  opening_holds Unnamed p h = h
+
+  no_port : (r : Reason) (p : Path) → ((d : PortDriver) → port_driver_fault r (environment s) s.outer d ≡ false) → list_any (port_driver_fault r (environment s) s.outer) (port_drivers_of s) ≡ true → ⊥
+  no_port r p none h = true≢false (sym h ∙ any_none (port_driver_fault r (environment s) s.outer) (port_drivers_of s) none)
+
+  -- a fault of a continuous assignment or a process
+  pub fills_holds : (r : Reason) (p : Path) → FillsNot ss s r p → Holds ms ss s r p
+  fills_holds (Width w) p (inl h) = inr (inr (inr (inr (inr (inl h)))))
+  fills_holds (Width w) p (inr h) = inr (inr (inr (inr (inr (inr h)))))
+  fills_holds Limit p (inl h) = absurd (no_port Limit p (λ d. refl) h.0)
+  fills_holds Limit p (inr h) = inr (inr (inr h))
+  fills_holds DeclaredTwice p (inl h) = absurd (no_port DeclaredTwice p (λ d. refl) h.0)
+  fills_holds DeclaredTwice p (inr h) = inr (inr h)
+  fills_holds NoModule p h = absurd (nothing_fills ss s NoModule p (record { apart = λ env. record { assign = λ how a e. refl; operand = λ e. refl; cases = λ e ls. refl; delay = λ d. refl; event = λ e. refl }; port = λ own outer d. refl; full = λ n. refl }) h)
+  fills_holds Inside p h = absurd (nothing_fills ss s Inside p (record { apart = λ env. record { assign = λ how a e. refl; operand = λ e. refl; cases = λ e ls. refl; delay = λ d. refl; event = λ e. refl }; port = λ own outer d. refl; full = λ n. refl }) h)
+  fills_holds PortMismatch p h = absurd (nothing_fills ss s PortMismatch p (record { apart = λ env. record { assign = λ how a e. refl; operand = λ e. refl; cases = λ e ls. refl; delay = λ d. refl; event = λ e. refl }; port = λ own outer d. refl; full = λ n. refl }) h)
+  fills_holds ParameterMismatch p h = absurd (nothing_fills ss s ParameterMismatch p (record { apart = λ env. record { assign = λ how a e. refl; operand = λ e. refl; cases = λ e ls. refl; delay = λ d. refl; event = λ e. refl }; port = λ own outer d. refl; full = λ n. refl }) h)
+  fills_holds DrivenTwice p h = absurd (nothing_fills ss s DrivenTwice p (record { apart = λ env. record { assign = λ how a e. refl; operand = λ e. refl; cases = λ e ls. refl; delay = λ d. refl; event = λ e. refl }; port = λ own outer d. refl; full = λ n. refl }) h)
+  fills_holds Endless p h = absurd (nothing_fills ss s Endless p (record { apart = λ env. record { assign = λ how a e. refl; operand = λ e. refl; cases = λ e ls. refl; delay = λ d. refl; event = λ e. refl }; port = λ own outer d. refl; full = λ n. refl }) h)
+  fills_holds Unnamed p h = absurd (nothing_fills ss s Unnamed p (record { apart = λ env. record { assign = λ how a e. refl; operand = λ e. refl; cases = λ e ls. refl; delay = λ d. refl; event = λ e. refl }; port = λ own outer d. refl; full = λ n. refl }) h)
+
+  -- each fault is one of these
+  holds_split : (r : Reason) (p : Path) → Holds ms ss s r p → HoldsOpening ms s r p ⊎ FillsNot ss s r p
+  holds_split NoModule p h = inl h
+  holds_split Inside p h = inl h
+  holds_split PortMismatch p h = inl h
+  holds_split ParameterMismatch p h = inl h
+  holds_split DeclaredTwice p (inl h) = inl (inl h)
+  holds_split DeclaredTwice p (inr (inl h)) = inl (inr h)
+  holds_split DeclaredTwice p (inr (inr h)) = inr (inr h)
+  holds_split DrivenTwice p h = absurd h
+  holds_split Limit p (inl h) = inl (inl h)
+  holds_split Limit p (inr (inl h)) = inl (inr (inl h))
+  holds_split Limit p (inr (inr (inl h))) = inl (inr (inr h))
+  holds_split Limit p (inr (inr (inr h))) = inr (inr h)
+  holds_split (Width w) p (inl h) = inl (inl h)
+  holds_split (Width w) p (inr (inl h)) = inl (inr (inl h))
+  holds_split (Width w) p (inr (inr (inl h))) = inl (inr (inr (inl h)))
+  holds_split (Width w) p (inr (inr (inr (inl h)))) = inl (inr (inr (inr (inl h))))
+  holds_split (Width w) p (inr (inr (inr (inr (inl h))))) = inl (inr (inr (inr (inr h))))
+  holds_split (Width w) p (inr (inr (inr (inr (inr (inl h)))))) = inr (inl h)
+  holds_split (Width w) p (inr (inr (inr (inr (inr (inr h)))))) = inr (inr h)
+  holds_split Endless p h = inl h
+  holds_split Unnamed p h = inl h
+
+-- ---- faults of scopes
+
+module _ (ms : List Module) (all : List Scope) (r : Reason) (p : Path) where
+  in_opening : (ss : List Scope) → HoldsOpeningIn ms ss r p → HoldsIn ms all ss r p
+  in_opening [] h = h
+  in_opening (s ∷ ss) (inl h) = inl (opening_holds ms all s r p h)
+  in_opening (s ∷ ss) (inr h) = inr (in_opening ss h)
+
+  in_at : (ss : List Scope) (k : ℕ) (s : Scope) → slice_get ss k ≡ Some s → Holds ms all s r p → HoldsIn ms all ss r p
+  in_at [] k s e h = absurd (none-some s e)
+  in_at (x ∷ ss) zero s e h = inl (subst (λ z. Holds ms all z r p) (sym (same_Some x s e)) h)
+  in_at (x ∷ ss) (suc k) s e h = inr (in_at ss k s e h)
+
+  -- no fault of these kinds stands in scopes
+  none_within : (ss : List Scope) → (HoldsOpeningIn ms ss r p → ⊥) → ((k : ℕ) (s : Scope) → slice_get ss k ≡ Some s → FillsNot all s r p → ⊥) → HoldsIn ms all ss r p → ⊥
+  none_within [] none fills h = h
+  none_within (s ∷ ss) none fills (inl h) = by (holds_split ms all s r p h)
+    where
+      by : HoldsOpening ms s r p ⊎ FillsNot all s r p → ⊥
+      by (inl u) = none (inl u)
+      by (inr u) = fills 0 s refl u
+  none_within (s ∷ ss) none fills (inr h) = none_within ss (λ u. none (inr u)) (λ k t e u. fills (suc k) t e u) h
+
+-- a fault of one of several scopes, that is told while they are opened
+pub opening_at : (ms : List Module) (ss : List Scope) (k : ℕ) (s : Scope) (r : Reason) (p : Path) → slice_get ss k ≡ Some s → HoldsOpening ms s r p → HoldsOpeningIn ms ss r p
+opening_at ms [] k s r p e h = absurd (none-some s e)
+opening_at ms (x ∷ ss) zero s r p e h = inl (subst (λ z. HoldsOpening ms z r p) (sym (same_Some x s e)) h)
+opening_at ms (x ∷ ss) (suc k) s r p e h = inr (opening_at ms ss k s r p e h)
+
+-- ---- faults of a source
+
+module _ (ms : List Module) (top : List ℕ) where
+  above_opening : (r : Reason) (p : Path) → HoldsOpeningAbove ms top r p → HoldsAbove ms top r p
+  above_opening NoModule p h = h
+  above_opening Inside p h = h
+  above_opening PortMismatch p h = h
+  above_opening ParameterMismatch p h = h
+  above_opening DeclaredTwice p h = h
+  above_opening DrivenTwice p h = absurd h
+  above_opening Limit p h = h
+  above_opening (Width w) p h = h
+  above_opening Endless p h = h
+  above_opening Unnamed p h = h
+
+  stands_opening : (r : Reason) (p : Path) → StandsOpening ms top r p → Stands ms top r p
+  stands_opening r p (inl h) = inl (above_opening r p h)
+  stands_opening r p (inr h) = inr (in_opening ms (scopes_of ms top) r p (scopes_of ms top) h)
+
+  stands_filling : (r : Reason) (p : Path) → FillsOneNot (scopes_of ms top) (scopes_of ms top) r p → Stands ms top r p
+  stands_filling r p h = inr (in_at ms (scopes_of ms top) r p (scopes_of ms top) h.place h.scope h.stands (fills_holds ms (scopes_of ms top) h.scope r p h.fault))
+
+  told_stands : (e : ElabFault) → Told (Stands ms top) e → Faults ms top e
+  told_stands Memory h = tt
+  told_stands (At r bytes) h = record { path = h.0; text = h.1; stands = h.2 }
+
+  -- a fault that is told while scopes are opened stands
+  pub opening_told : (e : ElabFault) → Told (StandsOpening ms top) e → Faults ms top e
+  opening_told e h = told_stands e (told_by (StandsOpening ms top) (Stands ms top) e stands_opening h)
+
+  -- a fault of a continuous assignment or a process stands
+  pub filling_told : (e : ElabFault) → Told (FillsOneNot (scopes_of ms top) (scopes_of ms top)) e → Faults ms top e
+  filling_told e h = told_stands e (told_by (FillsOneNot (scopes_of ms top) (scopes_of ms top)) (Stands ms top) e stands_filling h)
+
+  -- where no fault of these kinds stands, none does
+  module _ (none : (r : Reason) (p : Path) → StandsOpening ms top r p → ⊥) (fills : (k : ℕ) (s : Scope) → slice_get (scopes_of ms top) k ≡ Some s → (r : Reason) (p : Path) → FillsNot (scopes_of ms top) s r p → ⊥)
+      (once : (p : Path) → DrivesTwice (scopes_of ms top) p → ⊥) where
+    none_above : (r : Reason) (p : Path) → HoldsAbove ms top r p → ⊥
+    none_above NoModule p h = none NoModule p (inl h)
+    none_above Inside p h = h
+    none_above PortMismatch p h = h
+    none_above ParameterMismatch p h = h
+    none_above DeclaredTwice p h = none DeclaredTwice p (inl h)
+    none_above DrivenTwice p h = once p h
+    none_above Limit p h = h
+    none_above (Width w) p h = none (Width w) p (inl h)
+    none_above Endless p h = h
+    none_above Unnamed p h = h
+
+    pub none_stands : (r : Reason) (p : Path) → Stands ms top r p → ⊥
+    none_stands r p (inl h) = none_above r p h
+    none_stands r p (inr h) = none_within ms (scopes_of ms top) r p (scopes_of ms top) (λ u. none r p (inr u)) (λ k s e u. fills k s e r p u) h

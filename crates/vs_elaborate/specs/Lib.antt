@@ -4,10 +4,12 @@ pub use Rattle.vs_scopes.specs.Connections
 pub use Rattle.vs_scopes.specs.Parameters
 pub use Rattle.vs_scopes.specs.Scopes
 pub use Rattle.vs_scopes.specs.Texts
-pub mod Members
-pub mod Statements
+pub use Rattle.vs_opened.specs.Outlines
+pub use Rattle.vs_opened.specs.ScopeFaults
+pub use Rattle.vs_bodies.specs.Members
+pub use Rattle.vs_bodies.specs.Statements
 pub mod Drivers
-pub mod Processes
+pub use Rattle.vs_bodies.specs.Processes
 pub mod Faults
 pub mod DesignOf
 pub mod passes

@@ -1,5 +1,3 @@
 -- What the functions of this crate tell one another: nothing that is promised rests on these.
-pub mod Bodies
-pub mod Ends
 pub mod Marks
-pub mod Plans
+pub mod Filling

@@ -1,23 +1,23 @@
 //! The continuous assignments of the ports of a scope, as parts of a design.
-ghost use Rattle.std.specs.Prelude.{◌≡◌, ◌<◌, ◌≤◌, ◌∷◌, [], length, true};
+ghost use Rattle.std.specs.Prelude.{◌≡◌, ◌∷◌, [], List, map, true, false};
 ghost use Rattle.vs_widths.specs.Names.{meaning_of};
 ghost use Rattle.vs_targets.specs.Lefts.{is_left};
+ghost use Rattle.vs_scopes.specs.Scopes.{Scope, is_wrong_end, has_wrong_end};
 ghost use Rattle.vs_scopes.specs.passes.Answers.{Elaborates, Grows};
-ghost use Rattle.vs_scopes.specs.passes.Parts.{read_port};
-ghost use Rattle.vs_elaborate.specs.Members.{into, out_of, connected, port_drivers_of};
+ghost use Rattle.vs_scopes.specs.passes.Parts.{read_port, read_ends};
+ghost use Rattle.vs_bodies.specs.Members.{into, out_of, connected, port_drivers};
 ghost use Rattle.vs_elaborate.specs.Drivers.{IsPortAssign, port_driver_fault};
-ghost use Rattle.vs_elaborate.specs.passes.Plans.{scope_of, Connects, ConnectsNot};
-ghost use Rattle.vs_elaborate.specs.passes.Ends.{AreLefts, IsLeftEnd};
+ghost use Rattle.vs_elaborate.specs.passes.Filling.{IsFrame, IsLeftEnd, Connects, ConnectsNot};
 
-use crate::assignments::{name_source, source};
-use crate::plans::{Frame, Plan, outer_fault};
+use crate::contents::Contents;
+use crate::frames::{Frame, outer_fault};
 use std::alloc::Global;
+use vs_bodies::{name_source, source};
 use vs_design::{Assign, Target, Typed};
 use vs_scopes::{BodyFault, ElabFault, ModulePort, print_port_part};
-use vs_selects::Binding;
 use vs_syntax::{Direction, Expr};
 use vs_targets::{AssignmentKind, expr_target, name_target};
-use vs_widths::Names;
+use vs_widths::Levels;
 
 /// The kind of an assignment that drives a net.
 const CONTINUOUS: AssignmentKind = AssignmentKind::Continuous;
@@ -25,8 +25,8 @@ const CONTINUOUS: AssignmentKind = AssignmentKind::Continuous;
 /// The two sides of the assignment of an input: from an expression around the scope to the port (IEEE 1364-2005, clause 12.3.3).
 fn into_port(
     alloc: Global,
-    names: &Names<Binding>,
-    outer: &Names<Binding>,
+    names: &Levels,
+    outer: &Levels,
     port: &[u8],
     e: &Expr,
 ) -> Result<(Target, Typed), BodyFault>
@@ -42,8 +42,8 @@ fn into_port(
 /// The two sides of the assignment of an output: from the port to the left side around the scope (IEEE 1364-2005, clause 12.3.3).
 fn out_of_port(
     alloc: Global,
-    names: &Names<Binding>,
-    outer: &Names<Binding>,
+    names: &Levels,
+    outer: &Levels,
     port: &[u8],
     e: &Expr,
 ) -> Result<(Target, Typed), BodyFault>
@@ -60,8 +60,8 @@ fn out_of_port(
 /// The two sides of the assignment of a port.
 fn port_sides(
     alloc: Global,
-    names: &Names<Binding>,
-    outer: &Names<Binding>,
+    names: &Levels,
+    outer: &Levels,
     port: &ModulePort,
     e: &Expr,
 ) -> Result<(Target, Typed), BodyFault>
@@ -80,21 +80,20 @@ fn port_sides(
 fn drive_port(
     alloc: Global,
     frame: &Frame,
-    names: &Names<Binding>,
+    outer: &Levels,
     port: &ModulePort,
     e: &Expr,
-    plan: &mut Plan,
+    contents: &mut Contents,
 ) -> Result<(), ElabFault>
     requires { IsLeftEnd (read_port port.now) e.now }
-    ensures { Grows (Connects (scope_of frame.now) names.now plan.old)
-        (Connects (scope_of frame.now) names.now plan.new)
-        (ConnectsNot (scope_of frame.now) names.now)
+    ensures { (ss : List Scope) (s : Scope) → IsFrame frame.now ss s → meaning_of outer.now ≡ s.outer →
+        Grows (Connects s contents.old) (Connects s contents.new) (ConnectsNot s)
         (connected port.now.direction port.now.name.now e.now ∷ []) result }
 {
-    match port_sides(alloc, names, frame.outer, port, e) {
+    match port_sides(alloc, frame.view.names, outer, port, e) {
         Ok((target, source)) => {
             let name = print_port_part(alloc, &frame.path, port.name)?;
-            plan.assigns.push(Assign {
+            contents.assigns.push(Assign {
                 name,
                 target,
                 source,
@@ -109,18 +108,20 @@ fn drive_port(
 pub fn drive_ports(
     alloc: Global,
     frame: &Frame,
-    names: &Names<Binding>,
-    plan: &mut Plan,
+    outer: &Levels,
+    ports: &[ModulePort],
+    ends: &[Option<&Expr>],
+    contents: &mut Contents,
 ) -> Result<(), ElabFault>
-    requires { AreLefts (scope_of frame.now) }
-    ensures { Grows (Connects (scope_of frame.now) names.now plan.old)
-        (Connects (scope_of frame.now) names.now plan.new)
-        (ConnectsNot (scope_of frame.now) names.now) (port_drivers_of (scope_of frame.now)) result }
+    requires { has_wrong_end (map read_port ports.now) (read_ends ends.now) ≡ false }
+    ensures { (ss : List Scope) (s : Scope) → IsFrame frame.now ss s → meaning_of outer.now ≡ s.outer →
+        Grows (Connects s contents.old) (Connects s contents.new) (ConnectsNot s)
+        (port_drivers (map read_port ports.now) (read_ends ends.now)) result }
 {
-    let count = frame.ports.len().min(frame.ends.len());
+    let count = ports.len().min(ends.len());
     for place in 0..count {
-        if let Some(e) = frame.ends[place] {
-            drive_port(alloc, frame, names, &frame.ports[place], e, plan)?;
+        if let Some(e) = ends[place] {
+            drive_port(alloc, frame, outer, &ports[place], e, contents)?;
         }
     }
     Ok(())

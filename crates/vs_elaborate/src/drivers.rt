@@ -1,24 +1,23 @@
-//! The continuous assignments of a scope, as parts of a design.
-ghost use Rattle.std.specs.Prelude.{◌≡◌, ◌∷◌, [], map};
+//! The continuous assignments of the text of a scope, as parts of a design.
+ghost use Rattle.std.specs.Prelude.{◌≡◌, ◌∷◌, [], List, map};
 ghost use Rattle.std.specs.List.{flat_map};
-ghost use Rattle.vs_widths.specs.Names.{meaning_of};
 ghost use Rattle.vs_targets.specs.declared.kinds.AssignmentKind.TheVariants.{Continuous};
-ghost use Rattle.vs_elaborate.specs.Statements.{IsAssignment};
-ghost use Rattle.vs_elaborate.specs.Members.{Assignment, values_of, net_assignment, drivers_in};
-ghost use Rattle.vs_elaborate.specs.Drivers.{driver_fault};
+ghost use Rattle.vs_pieces.specs.Reads.{read_piece};
+ghost use Rattle.vs_scopes.specs.Scopes.{Scope, environment};
 ghost use Rattle.vs_scopes.specs.passes.Answers.{Elaborates, Grows};
-ghost use Rattle.vs_scopes.specs.Scopes.{Bindings};
-ghost use Rattle.vs_elaborate.specs.passes.Plans.{scope_of, Drives, DrivesNot};
+ghost use Rattle.vs_bodies.specs.Statements.{IsAssignment};
+ghost use Rattle.vs_bodies.specs.Members.{Assignment, values_of, net_assignment, drivers_by_item, drivers_in};
+ghost use Rattle.vs_elaborate.specs.passes.Filling.{IsFrame, text_faults, Drives, DrivesNot};
 
-use crate::assignments::{assignment, declared_assignment};
-use crate::plans::{Frame, Plan, part_fault};
+use crate::contents::Contents;
+use crate::frames::{Frame, part_fault};
 use std::alloc::Global;
+use vs_bodies::{assignment, declared_assignment};
 use vs_design::{Assign, Target, Typed};
+use vs_pieces::Piece;
 use vs_scopes::{BodyFault, ElabFault, print_part};
-use vs_selects::Binding;
 use vs_syntax::{Declarator, Item, NetAssignment};
 use vs_targets::AssignmentKind;
-use vs_widths::Names;
 
 /// The kind of an assignment that drives a net.
 const CONTINUOUS: AssignmentKind = AssignmentKind::Continuous;
@@ -29,20 +28,18 @@ fn drive(
     frame: &Frame,
     first: usize,
     sides: Result<(Target, Typed), BodyFault>,
-    plan: &mut Plan,
+    contents: &mut Contents,
 ) -> Result<(), ElabFault>
-    ensures { (names : Bindings) (a : Assignment) →
-        Elaborates (λ r. driver_fault r (meaning_of names) a)
-        (λ p. IsAssignment Continuous (meaning_of names) a.target a.value p.0 p.1) sides →
-        Grows (Drives (scope_of frame.now) names first plan.old)
-        (Drives (scope_of frame.now) names first plan.new)
-        (DrivesNot (scope_of frame.now) names) (a ∷ []) result }
+    ensures { (ss : List Scope) (s : Scope) (a : Assignment) → IsFrame frame.now ss s →
+        Elaborates (λ r. text_faults s r a)
+        (λ p. IsAssignment Continuous (environment s) a.target a.value p.0 p.1) sides →
+        Grows (Drives s first contents.old) (Drives s first contents.new) (DrivesNot s) (a ∷ []) result }
 {
     match sides {
         Ok((target, source)) => {
-            let number = plan.assigns.len().saturating_sub(first);
+            let number = contents.assigns.len().saturating_sub(first);
             let name = print_part(alloc, &frame.path, b'a', number)?;
-            plan.assigns.push(Assign {
+            contents.assigns.push(Assign {
                 name,
                 target,
                 source,
@@ -57,19 +54,23 @@ fn drive(
 fn drive_declared(
     alloc: Global,
     frame: &Frame,
-    names: &Names<Binding>,
     first: usize,
     declarators: &[Declarator],
-    plan: &mut Plan,
+    contents: &mut Contents,
 ) -> Result<(), ElabFault>
-    ensures { Grows (Drives (scope_of frame.now) names.now first plan.old)
-        (Drives (scope_of frame.now) names.now first plan.new)
-        (DrivesNot (scope_of frame.now) names.now) (values_of declarators.now) result }
+    ensures { (ss : List Scope) (s : Scope) → IsFrame frame.now ss s →
+        Grows (Drives s first contents.old) (Drives s first contents.new) (DrivesNot s) (values_of declarators.now) result }
 {
     for declarator in declarators {
         if let Some(value) = &declarator.value {
-            let sides = declared_assignment(alloc, names, CONTINUOUS, &declarator.name, value);
-            drive(alloc, frame, first, sides, plan)?;
+            let sides = declared_assignment(
+                alloc,
+                frame.view.names,
+                CONTINUOUS,
+                &declarator.name,
+                value,
+            );
+            drive(alloc, frame, first, sides, contents)?;
         }
     }
     Ok(())
@@ -79,18 +80,16 @@ fn drive_declared(
 fn drive_assigned(
     alloc: Global,
     frame: &Frame,
-    names: &Names<Binding>,
     first: usize,
     list: &[NetAssignment],
-    plan: &mut Plan,
+    contents: &mut Contents,
 ) -> Result<(), ElabFault>
-    ensures { Grows (Drives (scope_of frame.now) names.now first plan.old)
-        (Drives (scope_of frame.now) names.now first plan.new)
-        (DrivesNot (scope_of frame.now) names.now) (map net_assignment list.now) result }
+    ensures { (ss : List Scope) (s : Scope) → IsFrame frame.now ss s →
+        Grows (Drives s first contents.old) (Drives s first contents.new) (DrivesNot s) (map net_assignment list.now) result }
 {
     for one in list {
-        let sides = assignment(alloc, names, CONTINUOUS, &one.target, &one.value);
-        drive(alloc, frame, first, sides, plan)?;
+        let sides = assignment(alloc, frame.view.names, CONTINUOUS, &one.target, &one.value);
+        drive(alloc, frame, first, sides, contents)?;
     }
     Ok(())
 }
@@ -99,43 +98,51 @@ fn drive_assigned(
 fn drive_item(
     alloc: Global,
     frame: &Frame,
-    names: &Names<Binding>,
     first: usize,
     item: &Item,
-    plan: &mut Plan,
+    contents: &mut Contents,
 ) -> Result<(), ElabFault>
-    ensures { Grows (Drives (scope_of frame.now) names.now first plan.old)
-        (Drives (scope_of frame.now) names.now first plan.new)
-        (DrivesNot (scope_of frame.now) names.now) (drivers_in item.now) result }
+    ensures { (ss : List Scope) (s : Scope) → IsFrame frame.now ss s →
+        Grows (Drives s first contents.old) (Drives s first contents.new) (DrivesNot s) (drivers_by_item item.now) result }
 {
     match item {
-        Item::Wire(_, list) => drive_declared(alloc, frame, names, first, list, plan),
-        Item::Reg(_, _) => Ok(()),
-        Item::Integer(_) => Ok(()),
-        Item::Parameter(_, _) => Ok(()),
-        Item::Localparam(_, _) => Ok(()),
-        Item::Instances(_, _, _) => Ok(()),
-        Item::Assign(list) => drive_assigned(alloc, frame, names, first, list, plan),
-        Item::Initial(_) => Ok(()),
-        Item::Always(_) => Ok(()),
+        Item::Wire(_, list) => drive_declared(alloc, frame, first, list, contents),
+        Item::Assign(list) => drive_assigned(alloc, frame, first, list, contents),
+        _ => Ok(()),
     }
 }
 
-/// Adds the continuous assignments of items.
-pub fn drive_items(
+/// Adds the continuous assignments of a piece.
+fn drive_piece(
     alloc: Global,
     frame: &Frame,
-    names: &Names<Binding>,
     first: usize,
-    items: &[Item],
-    plan: &mut Plan,
+    piece: &Piece,
+    contents: &mut Contents,
 ) -> Result<(), ElabFault>
-    ensures { Grows (Drives (scope_of frame.now) names.now first plan.old)
-        (Drives (scope_of frame.now) names.now first plan.new)
-        (DrivesNot (scope_of frame.now) names.now) (flat_map drivers_in items.now) result }
+    ensures { (ss : List Scope) (s : Scope) → IsFrame frame.now ss s →
+        Grows (Drives s first contents.old) (Drives s first contents.new) (DrivesNot s) (drivers_in (read_piece piece.now)) result }
 {
-    for item in items {
-        drive_item(alloc, frame, names, first, item, plan)?;
+    match piece {
+        Piece::Plain(item) => drive_item(alloc, frame, first, item, contents),
+        _ => Ok(()),
+    }
+}
+
+/// Adds the continuous assignments of pieces.
+pub fn drive_pieces(
+    alloc: Global,
+    frame: &Frame,
+    first: usize,
+    pieces: &[Piece],
+    contents: &mut Contents,
+) -> Result<(), ElabFault>
+    ensures { (ss : List Scope) (s : Scope) → IsFrame frame.now ss s →
+        Grows (Drives s first contents.old) (Drives s first contents.new) (DrivesNot s)
+        (flat_map (λ x. drivers_in (read_piece x)) pieces.now) result }
+{
+    for piece in pieces {
+        drive_piece(alloc, frame, first, piece, contents)?;
     }
     Ok(())
 }

@@ -1,57 +1,25 @@
 //! The processes of a scope, as parts of a design.
-ghost use Rattle.std.specs.Prelude.{◌≡◌, ◌∷◌, []};
+ghost use Rattle.std.specs.Prelude.{◌≡◌, ◌∷◌, [], List, Some, length, IfErr};
 ghost use Rattle.std.specs.List.{flat_map};
-ghost use Rattle.vs_widths.specs.Names.{meaning_of};
-ghost use Rattle.vs_elaborate.specs.Members.{Behavior, named_signal, sets, runs, repeats, setting, behaviors_in};
-ghost use Rattle.vs_elaborate.specs.Processes.{kind_of, behavior_fault};
-ghost use Rattle.vs_scopes.specs.passes.Answers.{Elaborates, Grows};
-ghost use Rattle.vs_scopes.specs.Scopes.{Bindings};
-ghost use Rattle.vs_elaborate.specs.passes.Bodies.{MeansBody};
-ghost use Rattle.vs_elaborate.specs.passes.Plans.{scope_of, Runs, RunsNot};
+ghost use Rattle.vs_pieces.specs.Reads.{read_piece};
+ghost use Rattle.vs_scopes.specs.Scopes.{Scope, environment_at};
+ghost use Rattle.vs_scopes.specs.passes.Answers.{Grows};
+ghost use Rattle.vs_scopes.specs.passes.Parts.{read_port};
+ghost use Rattle.vs_bodies.specs.Members.{Behavior, setting, behaviors_by_item, behaviors_in, port_setting};
+ghost use Rattle.vs_bodies.specs.Processes.{kind_of};
+ghost use Rattle.vs_bodies.specs.passes.Bodies.{Embodies};
+ghost use Rattle.vs_bodies.specs.passes.Faults.{IsBelow};
+ghost use Rattle.vs_bodies.specs.passes.Views.{IsPlaced};
+ghost use Rattle.vs_elaborate.specs.passes.Filling.{IsFrame, Runs, RunsNot};
 
-use crate::assignments::declared_assignment;
-use crate::plans::{Frame, Plan, part_fault};
-use crate::statements::{PROCEDURAL, statement, take_number};
+use crate::contents::Contents;
+use crate::frames::{Frame, process_fault};
 use std::alloc::Global;
+use vs_bodies::{StatementFault, repeat_body, run_body, set_body};
 use vs_design::{Process, ProcessKind, Statement};
-use vs_scopes::{BodyFault, ElabFault, print_part};
-use vs_selects::Binding;
-use vs_syntax::{Declarator, Expr, Item, Stmt};
-use vs_widths::Names;
-
-/// The body of a process that sets a variable to the value in its declaration.
-fn set_body(
-    alloc: Global,
-    names: &Names<Binding>,
-    target: &[u8],
-    value: &Expr,
-) -> Result<Statement, BodyFault>
-    ensures { let b = sets (record { target = named_signal target.now; value = value.now }) in
-        Elaborates (λ r. behavior_fault r (meaning_of names.now) b) (MeansBody names.now b) result }
-{
-    let (target, source) = declared_assignment(alloc, names, PROCEDURAL, target, value)?;
-    Ok(Statement::Assign(0, target, source))
-}
-
-/// The body of a process that runs a statement once.
-fn run_body(alloc: Global, names: &Names<Binding>, s: &Stmt) -> Result<Statement, BodyFault>
-    ensures { Elaborates (λ r. behavior_fault r (meaning_of names.now) (runs s.now))
-        (MeansBody names.now (runs s.now)) result }
-{
-    let mut next = 0;
-    statement(alloc, names, &mut next, s)
-}
-
-/// The body of a process that runs a statement for ever.
-fn repeat_body(alloc: Global, names: &Names<Binding>, s: &Stmt) -> Result<Statement, BodyFault>
-    ensures { Elaborates (λ r. behavior_fault r (meaning_of names.now) (repeats s.now))
-        (MeansBody names.now (repeats s.now)) result }
-{
-    let mut next = 0;
-    let number = take_number(&mut next)?;
-    let body = statement(alloc, names, &mut next, s)?;
-    Ok(Statement::Forever(number, Box::new(alloc, body)?))
-}
+use vs_pieces::Piece;
+use vs_scopes::{ElabFault, ModulePort, print_part};
+use vs_syntax::{Declarator, Expr, Item};
 
 /// Adds a process of a scope whose first one has this number in the design.
 fn run(
@@ -59,45 +27,58 @@ fn run(
     frame: &Frame,
     first: usize,
     kind: ProcessKind,
-    body: Result<Statement, BodyFault>,
-    plan: &mut Plan,
+    body: Result<Statement, StatementFault>,
+    contents: &mut Contents,
 ) -> Result<(), ElabFault>
-    ensures { (names : Bindings) (b : Behavior) → kind ≡ kind_of b →
-        Elaborates (λ r. behavior_fault r (meaning_of names) b) (MeansBody names b) body →
-        Grows (Runs (scope_of frame.now) names first plan.old)
-        (Runs (scope_of frame.now) names first plan.new)
-        (RunsNot (scope_of frame.now) names) (b ∷ []) result }
+    requires placed { IsPlaced frame.now.view.list.now frame.now.view.place }
+    requires below { IfErr body (IsBelow (length frame.now.view.list.now)) }
+    ensures { (ss : List Scope) (s : Scope) (b : Behavior) → IsFrame frame.now ss s → kind ≡ kind_of b →
+        Embodies frame.now.view.list.now (environment_at ss) s.path b body →
+        Grows (Runs ss s first contents.old) (Runs ss s first contents.new) (RunsNot ss s) (b ∷ []) result }
 {
     match body {
         Ok(body) => {
-            let number = plan.processes.len().saturating_sub(first);
+            let number = contents.processes.len().saturating_sub(first);
             let name = print_part(alloc, &frame.path, b'p', number)?;
-            plan.processes.push(Process { name, kind, body })?;
+            contents.processes.push(Process { name, kind, body })?;
             Ok(())
         }
-        Err(fault) => Err(part_fault(alloc, frame, fault)),
+        Err(fault) => Err(process_fault(alloc, frame, fault)),
     }
+}
+
+/// Adds the process of the declaration assignment of a variable of this name.
+fn run_value(
+    alloc: Global,
+    frame: &Frame,
+    first: usize,
+    name: &[u8],
+    value: &Expr,
+    contents: &mut Contents,
+) -> Result<(), ElabFault>
+    requires { IsPlaced frame.now.view.list.now frame.now.view.place }
+    ensures { (ss : List Scope) (s : Scope) → IsFrame frame.now ss s →
+        Grows (Runs ss s first contents.old) (Runs ss s first contents.new) (RunsNot ss s) (setting name.now (Some value.now)) result }
+{
+    let body = set_body(alloc, &frame.view, name, value);
+    run(alloc, frame, first, ProcessKind::Initial, body, contents)
 }
 
 /// Adds the process of the declaration assignment of a variable, where it has one.
 fn run_setting(
     alloc: Global,
     frame: &Frame,
-    names: &Names<Binding>,
     first: usize,
     declarator: &Declarator,
-    plan: &mut Plan,
+    contents: &mut Contents,
 ) -> Result<(), ElabFault>
-    ensures { Grows (Runs (scope_of frame.now) names.now first plan.old)
-        (Runs (scope_of frame.now) names.now first plan.new)
-        (RunsNot (scope_of frame.now) names.now)
+    requires { IsPlaced frame.now.view.list.now frame.now.view.place }
+    ensures { (ss : List Scope) (s : Scope) → IsFrame frame.now ss s →
+        Grows (Runs ss s first contents.old) (Runs ss s first contents.new) (RunsNot ss s)
         (setting declarator.now.name.items declarator.now.value) result }
 {
     match &declarator.value {
-        Some(value) => {
-            let body = set_body(alloc, names, &declarator.name, value);
-            run(alloc, frame, first, ProcessKind::Initial, body, plan)
-        }
+        Some(value) => run_value(alloc, frame, first, &declarator.name, value, contents),
         None => Ok(()),
     }
 }
@@ -106,18 +87,17 @@ fn run_setting(
 fn run_declared(
     alloc: Global,
     frame: &Frame,
-    names: &Names<Binding>,
     first: usize,
     declarators: &[Declarator],
-    plan: &mut Plan,
+    contents: &mut Contents,
 ) -> Result<(), ElabFault>
-    ensures { Grows (Runs (scope_of frame.now) names.now first plan.old)
-        (Runs (scope_of frame.now) names.now first plan.new)
-        (RunsNot (scope_of frame.now) names.now)
+    requires { IsPlaced frame.now.view.list.now frame.now.view.place }
+    ensures { (ss : List Scope) (s : Scope) → IsFrame frame.now ss s →
+        Grows (Runs ss s first contents.old) (Runs ss s first contents.new) (RunsNot ss s)
         (flat_map (λ d. setting d.name.items d.value) declarators.now) result }
 {
     for declarator in declarators {
-        run_setting(alloc, frame, names, first, declarator, plan)?;
+        run_setting(alloc, frame, first, declarator, contents)?;
     }
     Ok(())
 }
@@ -126,49 +106,99 @@ fn run_declared(
 fn run_item(
     alloc: Global,
     frame: &Frame,
-    names: &Names<Binding>,
     first: usize,
     item: &Item,
-    plan: &mut Plan,
+    contents: &mut Contents,
 ) -> Result<(), ElabFault>
-    ensures { Grows (Runs (scope_of frame.now) names.now first plan.old)
-        (Runs (scope_of frame.now) names.now first plan.new)
-        (RunsNot (scope_of frame.now) names.now) (behaviors_in item.now) result }
+    requires { IsPlaced frame.now.view.list.now frame.now.view.place }
+    ensures { (ss : List Scope) (s : Scope) → IsFrame frame.now ss s →
+        Grows (Runs ss s first contents.old) (Runs ss s first contents.new) (RunsNot ss s) (behaviors_by_item item.now) result }
 {
     match item {
-        Item::Wire(_, _) => Ok(()),
-        Item::Reg(_, list) => run_declared(alloc, frame, names, first, list, plan),
-        Item::Integer(list) => run_declared(alloc, frame, names, first, list, plan),
-        Item::Parameter(_, _) => Ok(()),
-        Item::Localparam(_, _) => Ok(()),
-        Item::Instances(_, _, _) => Ok(()),
-        Item::Assign(_) => Ok(()),
+        Item::Reg(_, list) => run_declared(alloc, frame, first, list, contents),
+        Item::Integer(list) => run_declared(alloc, frame, first, list, contents),
         Item::Initial(s) => {
-            let body = run_body(alloc, names, s);
-            run(alloc, frame, first, ProcessKind::Initial, body, plan)
+            let body = run_body(alloc, &frame.view, s);
+            run(alloc, frame, first, ProcessKind::Initial, body, contents)
         }
         Item::Always(s) => {
-            let body = repeat_body(alloc, names, s);
-            run(alloc, frame, first, ProcessKind::Always, body, plan)
+            let body = repeat_body(alloc, &frame.view, s);
+            run(alloc, frame, first, ProcessKind::Always, body, contents)
         }
+        _ => Ok(()),
     }
 }
 
-/// Adds the processes of items.
-pub fn run_items(
+/// Adds the processes of a piece.
+fn run_piece(
     alloc: Global,
     frame: &Frame,
-    names: &Names<Binding>,
     first: usize,
-    items: &[Item],
-    plan: &mut Plan,
+    piece: &Piece,
+    contents: &mut Contents,
 ) -> Result<(), ElabFault>
-    ensures { Grows (Runs (scope_of frame.now) names.now first plan.old)
-        (Runs (scope_of frame.now) names.now first plan.new)
-        (RunsNot (scope_of frame.now) names.now) (flat_map behaviors_in items.now) result }
+    requires { IsPlaced frame.now.view.list.now frame.now.view.place }
+    ensures { (ss : List Scope) (s : Scope) → IsFrame frame.now ss s →
+        Grows (Runs ss s first contents.old) (Runs ss s first contents.new) (RunsNot ss s) (behaviors_in (read_piece piece.now)) result }
 {
-    for item in items {
-        run_item(alloc, frame, names, first, item, plan)?;
+    match piece {
+        Piece::Plain(item) => run_item(alloc, frame, first, item, contents),
+        _ => Ok(()),
+    }
+}
+
+/// Adds the processes of pieces.
+pub fn run_pieces(
+    alloc: Global,
+    frame: &Frame,
+    first: usize,
+    pieces: &[Piece],
+    contents: &mut Contents,
+) -> Result<(), ElabFault>
+    requires { IsPlaced frame.now.view.list.now frame.now.view.place }
+    ensures { (ss : List Scope) (s : Scope) → IsFrame frame.now ss s →
+        Grows (Runs ss s first contents.old) (Runs ss s first contents.new) (RunsNot ss s)
+        (flat_map (λ x. behaviors_in (read_piece x)) pieces.now) result }
+{
+    for piece in pieces {
+        run_piece(alloc, frame, first, piece, contents)?;
+    }
+    Ok(())
+}
+
+/// Adds the process of the declaration assignment of a port, where it has one.
+fn run_port(
+    alloc: Global,
+    frame: &Frame,
+    first: usize,
+    port: &ModulePort,
+    contents: &mut Contents,
+) -> Result<(), ElabFault>
+    requires { IsPlaced frame.now.view.list.now frame.now.view.place }
+    ensures { (ss : List Scope) (s : Scope) → IsFrame frame.now ss s →
+        Grows (Runs ss s first contents.old) (Runs ss s first contents.new) (RunsNot ss s) (port_setting (read_port port.now)) result }
+{
+    match port.value {
+        Some(value) => run_value(alloc, frame, first, port.name, value, contents),
+        None => Ok(()),
+    }
+}
+
+/// Adds the processes of the declaration assignments of ports (IEEE 1364-2005, clause 6.2.1).
+pub fn run_ports(
+    alloc: Global,
+    frame: &Frame,
+    first: usize,
+    ports: &[ModulePort],
+    contents: &mut Contents,
+) -> Result<(), ElabFault>
+    requires { IsPlaced frame.now.view.list.now frame.now.view.place }
+    ensures { (ss : List Scope) (s : Scope) → IsFrame frame.now ss s →
+        Grows (Runs ss s first contents.old) (Runs ss s first contents.new) (RunsNot ss s)
+        (flat_map (λ x. port_setting (read_port x)) ports.now) result }
+{
+    for port in ports {
+        run_port(alloc, frame, first, port, contents)?;
     }
     Ok(())
 }

@@ -1,5 +1,5 @@
 -- A source says the same as itself.
-use Rattle.std.proofs.Common.{◌≡◌, List, [], ◌∷◌, Option, Some, None, map, refl, subst}
+use Rattle.std.proofs.Common.{◌≡◌, ℕ, List, [], ◌∷◌, Option, Some, None, map, refl, subst}
 use Rattle.vs_logic4.specs.declared.operators.Binary.{Binary}
 use Rattle.vs_syntax.specs.declared.tree.Expr.{Expr, Expr-F, roll-Expr, ind-Expr, map-Expr}
 use Rattle.vs_syntax.specs.declared.tree.Expr.TheShapes.{former-Expr-Select-1-at-4, former-Expr-Select-1-at-5}
@@ -12,7 +12,7 @@ use Rattle.vs_syntax.specs.declared.tree.Expr.TheVariants.{rolls-Number, rolls-N
 use Rattle.vs_syntax.specs.declared.tree.Stmt.{Stmt, Stmt-F, roll-Stmt, ind-Stmt, map-Stmt}
 use Rattle.vs_syntax.specs.declared.tree.Stmt.TheOpen as g
 use Rattle.vs_syntax.specs.declared.tree.Stmt.TheShapes.{former-Stmt-If-2-at-2}
-use Rattle.vs_syntax.specs.declared.tree.Stmt.TheVariants.{rolls-Null, rolls-Assign, rolls-Later, rolls-Block, rolls-If, rolls-Case, rolls-For, rolls-While, rolls-Repeat as rolls-Times, rolls-Forever, rolls-Delay, rolls-Event}
+use Rattle.vs_syntax.specs.declared.tree.Stmt.TheVariants.{rolls-Null, rolls-Assign, rolls-Later, rolls-Block, rolls-Named, rolls-If, rolls-Case, rolls-For, rolls-While, rolls-Repeat as rolls-Times, rolls-Forever, rolls-Delay, rolls-Event}
 use Rattle.vs_syntax.specs.declared.tree.CaseLabel.{CaseLabel}
 use Rattle.vs_syntax.specs.declared.tree.CaseLabel.TheVariants as b
 use Rattle.vs_syntax.specs.declared.tree.DelayValue.{DelayValue}
@@ -23,6 +23,14 @@ use Rattle.vs_syntax.specs.declared.tree.EventExpr.{EventExpr}
 use Rattle.vs_syntax.specs.declared.tree.Declarator.{Declarator}
 use Rattle.vs_syntax.specs.declared.tree.Form.{Form}
 use Rattle.vs_syntax.specs.declared.tree.Range.{Range}
+use Rattle.vs_syntax.specs.declared.tree.Local.{Local}
+use Rattle.vs_syntax.specs.declared.tree.LocalDeclaration.{LocalDeclaration}
+use Rattle.vs_syntax.specs.declared.tree.LocalDeclaration.TheVariants as loc
+use Rattle.vs_syntax.specs.declared.tree.LoopHeader.{LoopHeader}
+use Rattle.vs_syntax.specs.declared.tree.ModuleItem.{ModuleItem, ModuleItem-F, roll-ModuleItem, ind-ModuleItem, map-ModuleItem}
+use Rattle.vs_syntax.specs.declared.tree.ModuleItem.TheOpen as mi
+use Rattle.vs_syntax.specs.declared.tree.ModuleItem.TheShapes.{former-ModuleItem-If-2-at-2}
+use Rattle.vs_syntax.specs.declared.tree.ModuleItem.TheVariants.{rolls-Plain, rolls-Region, rolls-For as rolls-Loop, rolls-If as rolls-Condition, rolls-Null as rolls-Nothing, rolls-Block as rolls-Generated}
 use Rattle.vs_syntax.specs.declared.tree.Item.{Item}
 use Rattle.vs_syntax.specs.declared.tree.Item.TheVariants as i
 use Rattle.vs_syntax.specs.declared.tree.Module.{Module}
@@ -39,7 +47,7 @@ use Rattle.vs_syntax.specs.declared.tree.ParameterForm.{ParameterForm}
 use Rattle.vs_syntax.specs.declared.tree.ParameterForm.TheVariants as q
 use Rattle.vs_syntax.specs.declared.tree.Port.{Port}
 use Rattle.vs_syntax.specs.declared.tree.PortForm.{PortForm}
-use Rattle.vs_syntax.specs.Same.{SameExpr, same_number, same_name, same_select, SameSelects, same_no_select, same_more_selects, SameSecond, same_no_second, same_second, SameLeft, same_place, same_places, SameLefts, same_no_left, same_more_lefts, same_group, same_unary, same_chain, same_choice, same_concat, same_repeat, same_cast, SameLinks, same_no_link, same_link, SamePairs, same_no_pair, same_pair, SameExprs, same_no_expr, same_more_exprs, SameStmt, same_null, same_assign, same_later, same_block, same_if, same_case, same_for, same_while, same_repeated, same_forever, same_delay, same_event, SameElse, same_no_else, same_else, SameCaseItems, same_no_item, same_more_items, SameDelay, same_delay_number, same_delay_name, same_delay_group, SameEventExpr, SameOtherEvent, SameEvent, same_star, same_grouped_star, same_event_name, same_terms, SameLabel, same_expressions, same_default, SameStmts, same_no_stmt, same_more_stmts, Pairwise, no_pair, pair_more, SameValue, same_no_value, same_value, SameDeclarator, SameAssignment, SameRange, same_no_range, same_range, SameForm, SameItem, same_wire, same_reg, same_integer, same_assigns, same_initial, same_always, SameModule, SameOption, both_absent, both_there, SameParameterForm, same_integer_word, same_vector, SameConstant, SameHeaderParameter, SamePortForm, SamePort, SamePorts, SameConnection, SameConnections, same_ordered, same_named, SameInstance, same_parameters, same_localparams, same_instances}
+use Rattle.vs_syntax.specs.Same.{SameExpr, same_number, same_name, same_select, SameSelects, same_no_select, same_more_selects, SameSecond, same_no_second, same_second, SameLeft, same_place, same_places, SameLefts, same_no_left, same_more_lefts, same_group, same_unary, same_chain, same_choice, same_concat, same_repeat, same_cast, SameLinks, same_no_link, same_link, SamePairs, same_no_pair, same_pair, SameExprs, same_no_expr, same_more_exprs, SameStmt, same_null, same_assign, same_later, same_block, same_named_block, same_if, same_case, same_for, same_while, same_repeated, same_forever, same_delay, same_event, SameElse, same_no_else, same_else, SameCaseItems, same_no_item, same_more_items, SameDelay, same_delay_number, same_delay_name, same_delay_group, SameEventExpr, SameOtherEvent, SameEvent, same_star, same_grouped_star, same_event_name, same_terms, SameLabel, same_expressions, same_default, SameStmts, same_no_stmt, same_more_stmts, Pairwise, no_pair, pair_more, SameValue, same_no_value, same_value, SameDeclarator, SameAssignment, SameRange, same_no_range, same_range, SameForm, SameName, SameLocal, SameLocals, same_local_reg, same_local_integer, SameItem, same_port_item, same_genvars, SameLoopHeader, SameModuleItem, same_plain, same_region, same_generate_loop, same_generate_if, same_no_content, same_generate_block, SameOther, same_no_other, same_other, SameModuleItems, same_no_module_item, same_more_module_items, same_wire, same_reg, same_integer, same_assigns, same_initial, same_always, SameModule, SameOption, both_absent, both_there, SameParameterForm, same_integer_word, same_vector, SameConstant, SameHeaderParameter, SamePortForm, SamePort, SamePorts, SameConnection, SameConnections, same_ordered, same_named, SameInstance, same_parameters, same_localparams, same_instances}
 
 -- ---- expressions
 
@@ -145,6 +153,26 @@ label_itself : (l : CaseLabel) → SameLabel l l
 label_itself (b.Expressions e es) = same_expressions e e es es (expr_itself e) (labels_themselves es.items)
 label_itself (b.Default colon) = same_default colon
 
+-- ---- declarations
+
+value_itself : (o : Option Expr) → SameValue o o
+value_itself None = same_no_value
+value_itself (Some x) = same_value x x (expr_itself x)
+
+range_itself : (o : Option Range) → SameRange o o
+range_itself None = same_no_range
+range_itself (Some r) = same_range r r (expr_itself r.left) (expr_itself r.right)
+
+form_itself : (f : Form) → SameForm f f
+form_itself f = record { signed = refl; range = range_itself f.range }
+
+locals_themselves : (xs : List Local) → Pairwise SameLocal xs xs
+locals_themselves xs = all_themselves SameLocal (λ x. record { name = refl; words = range_itself x.words }) xs
+
+declaration_itself : (x : LocalDeclaration) → SameLocals x x
+declaration_itself (loc.Reg f xs) = same_local_reg f f xs xs (form_itself f) (locals_themselves xs.items)
+declaration_itself (loc.Integer xs) = same_local_integer xs xs (locals_themselves xs.items)
+
 -- ---- statements
 
 abbrev InnerStmt : Type 0
@@ -170,6 +198,8 @@ stmt_layer g.Null = rw rolls-Null same_null
 stmt_layer (g.Assign n v) = rw (rolls-Assign n v) (same_assign n n v v (left_itself n) (expr_itself v))
 stmt_layer (g.Later n v) = rw (rolls-Later n v) (same_later n n v v (left_itself n) (expr_itself v))
 stmt_layer (g.Block xs) = rw (rolls-Block _) (same_block _ _ (stmts_themselves xs.items))
+stmt_layer (g.Named n ls xs) =
+    rw (rolls-Named n ls _) (same_named_block n n ls ls _ _ refl (all_themselves SameLocals declaration_itself ls.items) (stmts_themselves xs.items))
 stmt_layer (g.If e x o) = rw (rolls-If e _ _) (same_if e e _ _ _ _ (expr_itself e) x.value.1 (else_itself o))
 stmt_layer (g.Case kind e xs) = rw (rolls-Case kind e _) (same_case kind e e _ _ (expr_itself e) (items_themselves xs.items))
 stmt_layer (g.For l a c m b x) = rw (rolls-For l a c m b _) (same_for l l a a c c m m b b _ _ (left_itself l) (expr_itself a) (expr_itself c) (left_itself m) (expr_itself b) x.value.1)
@@ -187,19 +217,8 @@ stmt_itself = ind-Stmt (λ x. SameStmt x x) stmt_settled
 
 -- ---- modules
 
-value_itself : (o : Option Expr) → SameValue o o
-value_itself None = same_no_value
-value_itself (Some x) = same_value x x (expr_itself x)
-
-range_itself : (o : Option Range) → SameRange o o
-range_itself None = same_no_range
-range_itself (Some r) = same_range r r (expr_itself r.left) (expr_itself r.right)
-
 declarators_themselves : (ds : List Declarator) → Pairwise SameDeclarator ds ds
 declarators_themselves ds = all_themselves SameDeclarator (λ d. record { name = refl; words = range_itself d.words; value = value_itself d.value }) ds
-
-form_itself : (f : Form) → SameForm f f
-form_itself f = record { signed = refl; range = range_itself f.range }
 
 option_itself : {A : Type 0} (R : A → A → Type 0) → ((x : A) → R x x) → (o : Option A) → SameOption R o o
 option_itself R h None = both_absent
@@ -226,12 +245,17 @@ port_form_itself : (f : PortForm) → SamePortForm f f
 port_form_itself f = record { direction = refl; kind = refl; form = form_itself f.form }
 
 ports_themselves : (xs : Vec Port Global) → SamePorts xs xs
-ports_themselves xs = all_themselves SamePort (λ x. record { form = option_itself SamePortForm port_form_itself x.form; name = refl }) xs.items
+ports_themselves xs = all_themselves SamePort (λ x. record { form = option_itself SamePortForm port_form_itself x.form; name = refl; value = value_itself x.value }) xs.items
 
 header_itself : (xs : List HeaderParameter) → Pairwise SameHeaderParameter xs xs
 header_itself xs = all_themselves SameHeaderParameter (λ x. record { form = option_itself SameParameterForm parameter_form_itself x.form; name = refl; value = expr_itself x.value }) xs
 
+names_themselves : (ns : List (Vec ℕ Global)) → Pairwise SameName ns ns
+names_themselves ns = all_themselves SameName (λ n. refl) ns
+
 item_itself : (x : Item) → SameItem x x
+item_itself (i.Port f ns) = same_port_item f f ns ns (port_form_itself f) (names_themselves ns.items)
+item_itself (i.Genvar ns) = same_genvars ns ns (names_themselves ns.items)
 item_itself (i.Wire f ds) = same_wire f f ds ds (form_itself f) (declarators_themselves ds.items)
 item_itself (i.Reg f ds) = same_reg f f ds ds (form_itself f) (declarators_themselves ds.items)
 item_itself (i.Integer ds) = same_integer ds ds (declarators_themselves ds.items)
@@ -242,12 +266,52 @@ item_itself (i.Assign xs) = same_assigns xs xs (all_themselves SameAssignment (�
 item_itself (i.Initial x) = same_initial x x (stmt_itself x)
 item_itself (i.Always x) = same_always x x (stmt_itself x)
 
+header_of_loop_itself : (h : LoopHeader) → SameLoopHeader h h
+header_of_loop_itself h = record { name = refl; first = expr_itself h.first; condition = expr_itself h.condition; next = refl; step = expr_itself h.step }
+
+-- ---- module items
+
+abbrev InnerItem : Type 0
+InnerItem = (x : ModuleItem) × SameModuleItem x x
+
+abbrev bare_item : ModuleItem-F InnerItem → ModuleItem-F ModuleItem
+bare_item y = map-ModuleItem InnerItem ModuleItem (λ p. p.0) y
+
+inner_items : (xs : List InnerItem) → SameModuleItems (map (λ p. p.0) xs) (map (λ p. p.0) xs)
+inner_items [] = same_no_module_item
+inner_items (x ∷ xs) = same_more_module_items _ _ _ _ x.1 (inner_items xs)
+
+other_itself : (o : Option (Box InnerItem Global)) → SameOther (former-ModuleItem-If-2-at-2.map InnerItem ModuleItem (λ p. p.0) o) (former-ModuleItem-If-2-at-2.map InnerItem ModuleItem (λ p. p.0) o)
+other_itself None = same_no_other
+other_itself (Some x) = same_other _ _ x.value.1
+
+item_layer : (y : ModuleItem-F InnerItem) → SameModuleItem (roll-ModuleItem (bare_item y)) (roll-ModuleItem (bare_item y))
+item_layer (mi.Plain x) = rw (rolls-Plain x) (same_plain x x (item_itself x))
+item_layer (mi.Region xs) = rw (rolls-Region _) (same_region _ _ (inner_items xs.items))
+item_layer (mi.For h x) = rw (rolls-Loop h _) (same_generate_loop h h _ _ (header_of_loop_itself h) x.value.1)
+item_layer (mi.If e x o) = rw (rolls-Condition e _ _) (same_generate_if e e _ _ _ _ (expr_itself e) x.value.1 (other_itself o))
+item_layer mi.Null = rw rolls-Nothing same_no_content
+item_layer (mi.Block n xs) = rw (rolls-Generated n _) (same_generate_block n n _ _ (option_itself SameName (λ m. refl) n) (inner_items xs.items))
+
+item_settled : (x : ModuleItem-F ModuleItem) (y : ModuleItem-F InnerItem) → bare_item y ≡ x → SameModuleItem (roll-ModuleItem x) (roll-ModuleItem x)
+item_settled x y is = subst (λ (u : ModuleItem-F ModuleItem). SameModuleItem (roll-ModuleItem u) (roll-ModuleItem u)) is (item_layer y)
+
+module_item_itself : (x : ModuleItem) → SameModuleItem x x
+module_item_itself = ind-ModuleItem (λ x. SameModuleItem x x) item_settled
+
+module_items_themselves : (xs : List ModuleItem) → SameModuleItems xs xs
+module_items_themselves [] = same_no_module_item
+module_items_themselves (x ∷ xs) = same_more_module_items x x xs xs (module_item_itself x) (module_items_themselves xs)
+
+-- ---- whole modules
+
 module_itself : (m : Module) → SameModule m m
 module_itself m = record {
+  directives = refl;
   name = refl;
   parameters = header_itself m.parameters.items;
   ports = option_itself SamePorts ports_themselves m.ports;
-  items = all_themselves SameItem item_itself m.items.items;
+  items = module_items_themselves m.items.items;
 }
 
 pub modules_themselves : (ms : List Module) → Pairwise SameModule ms ms

@@ -1,8 +1,15 @@
 pub mod ItselfLemmas
+pub mod LayerLemmas
 pub mod OneLineLemmas
+pub mod OneLinePieceLemmas
+pub mod OneLineTextLemmas
+pub mod PairLemmas
 pub mod SameDesignLemmas
 pub mod SameEventLemmas
+pub mod SameInnerLemmas
 pub mod SameParameterLemmas
+pub mod SamePieceLemmas
+pub mod SamePortLemmas
 pub mod SameScopeLemmas
 pub mod SameStatementLemmas
 pub mod SameTargetLemmas

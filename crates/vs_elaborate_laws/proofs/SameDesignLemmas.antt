@@ -7,7 +7,7 @@ use Rattle.vs_syntax.specs.declared.tree.Direction.TheVariants.{Input, Output}
 use Rattle.vs_syntax.specs.declared.tree.Expr.{Expr}
 use Rattle.vs_syntax.specs.declared.tree.Item.{Item}
 use Rattle.vs_syntax.specs.declared.tree.Module.{Module}
-use Rattle.vs_syntax.specs.Same.{SameExpr, SameStmt, Pairwise, no_pair, pair_more, SameValue, same_no_value, same_value, SameDeclarator, SameAssignment, SameItem, same_wire, same_reg, same_integer, same_parameters, same_localparams, same_instances, same_assigns, same_initial, same_always, SameModule}
+use Rattle.vs_syntax.specs.Same.{SameExpr, SameStmt, Pairwise, no_pair, pair_more, SameValue, same_no_value, same_value, SameDeclarator, SameAssignment, SameItem, same_port_item, same_genvars, same_wire, same_reg, same_integer, same_parameters, same_localparams, same_instances, same_assigns, same_initial, same_always, SameModule}
 use Rattle.vs_design.specs.declared.expression.Typed.{Typed}
 use Rattle.vs_design.specs.declared.statement.Target.{Target}
 use Rattle.vs_design.specs.declared.statement.Statement.{Statement}
@@ -21,18 +21,23 @@ use Rattle.vs_selects.specs.Environment.{Environment}
 use Rattle.vs_widths.specs.Expressions.{meant, name_meant}
 use Rattle.vs_targets.specs.Lefts.{name_aimed, expr_aimed}
 use Rattle.vs_targets.specs.declared.kinds.AssignmentKind.TheVariants.{Procedural, Continuous}
-use Rattle.vs_scopes.specs.Printed.{port_assign_name, part_name}
-use Rattle.vs_scopes.specs.Scopes.{Scope, ModulePort, environment, scopes_of}
-use Rattle.vs_elaborate.specs.Members.{Assignment, Behavior, sets, runs, repeats, assignment_of, net_assignment, setting, drivers_in, behaviors_in, drivers_of, behaviors_of, PortDriver, into, out_of, connected, port_drivers, port_drivers_of, port_of, Driver, of_port, of_text}
+use Rattle.vs_pieces.specs.Pieces.{Piece}
+use Rattle.vs_scopes.specs.Printed.{Path, port_assign_name, part_name}
+use Rattle.vs_scopes.specs.Ports.{ModulePort}
+use Rattle.vs_scopes.specs.Scopes.{Scope, environment, environment_at, scopes_of}
+use Rattle.vs_bodies.specs.Members.{Assignment, Behavior, sets, runs, repeats, assignment_of, net_assignment, setting, drivers_by_item, drivers_in, behaviors_by_item, behaviors_in, port_setting, drivers_of, behaviors_of, PortDriver, into, out_of, connected, port_drivers, port_drivers_of, port_of, Driver, of_port, of_text}
 use Rattle.vs_elaborate.specs.Drivers.{IsDriver}
-use Rattle.vs_elaborate.specs.Processes.{kind_of, IsBody, is_set, is_run, is_repeat}
-use Rattle.vs_elaborate.specs.DesignOf.{signals_of, PartOf, parts_from, port_part, assigns_of, processes_of, IsProcess, IsAssign, Line, enter, declare, leave, IsEntry, outline_of, Represents, DesignOf}
+use Rattle.vs_bodies.specs.Processes.{kind_of, IsBody, is_set, is_run, is_repeat}
+use Rattle.vs_opened.specs.Outlines.{signals_of, Line, enter, declare, leave, IsEntry, outline_of}
+use Rattle.vs_elaborate.specs.DesignOf.{PartOf, parts_from, port_part, assigns_of, processes_of, IsProcess, IsAssign, Represents, DesignOf}
 use Rattle.vs_elaborate_laws.specs.Same.{SameSides, SameStatement, assign_same, forever_same, SameAssign, SameProcess, SameEntry, SameDesign}
 use Rattle.vs_elaborate_laws.proofs.SameTypedLemmas.{same_meant, same_expr_aimed}
 use Rattle.vs_elaborate_laws.proofs.SameStatementLemmas.{one_statement, same_count, one_count}
 use Rattle.vs_elaborate_laws.proofs.SameTargetLemmas.{SameAssignee, one_pair, one_sides}
-use Rattle.vs_elaborate_laws.proofs.SameParameterLemmas.{pair_append, pair_map, pair_flat, flat_one, SameModulePort}
-use Rattle.vs_elaborate_laws.proofs.SameScopeLemmas.{SameScope, environment_same, signals_same, scopes_same, outlines_same}
+use Rattle.vs_elaborate_laws.proofs.PairLemmas.{pair_append, pair_map, pair_flat, flat_one}
+use Rattle.vs_elaborate_laws.proofs.SamePieceLemmas.{SamePiece, plain_same, loop_same, choice_same, local_same, inside_same}
+use Rattle.vs_elaborate_laws.proofs.SamePortLemmas.{SameModulePort}
+use Rattle.vs_elaborate_laws.proofs.SameScopeLemmas.{SameScope, environment_same, environments_same, signals_same, scopes_same, outlines_same}
 
 -- ---- parts of scopes that say the same
 
@@ -70,7 +75,9 @@ settings_same : (ds ds' : List Declarator) → Pairwise SameDeclarator ds ds' �
 settings_same ds ds' p =
     pair_flat SameDeclarator SameBehavior (λ (d : Declarator). setting d.name.items d.value) (λ d d' h. setting_same d.name.items d'.name.items d.value d'.value h.name h.value) ds ds' p
 
-item_drives : (x x' : Item) → SameItem x x' → Pairwise SameText (drivers_in x) (drivers_in x')
+item_drives : (x x' : Item) → SameItem x x' → Pairwise SameText (drivers_by_item x) (drivers_by_item x')
+item_drives _ _ (same_port_item f f' ns ns' g p) = no_pair
+item_drives _ _ (same_genvars ns ns' p) = no_pair
 item_drives _ _ (same_wire f f' ds ds' g p) =
     pair_flat SameDeclarator SameText (λ (d : Declarator). assignment_of d.name.items d.value) (λ d d' h. assignment_same d.name.items d'.name.items d.value d'.value h.name h.value) ds.items ds'.items p
 item_drives _ _ (same_reg f f' ds ds' g p) = no_pair
@@ -82,7 +89,16 @@ item_drives _ _ (same_assigns xs xs' p) = pair_map SameAssignment SameText net_a
 item_drives _ _ (same_initial x x' p) = no_pair
 item_drives _ _ (same_always x x' p) = no_pair
 
-item_behaves : (x x' : Item) → SameItem x x' → Pairwise SameBehavior (behaviors_in x) (behaviors_in x')
+piece_drives : (x x' : Piece) → SamePiece x x' → Pairwise SameText (drivers_in x) (drivers_in x')
+piece_drives _ _ (plain_same x x' m) = item_drives x x' m
+piece_drives _ _ (loop_same h h' x x' i m) = no_pair
+piece_drives _ _ (choice_same e e' x x' o o' i m r) = no_pair
+piece_drives _ _ (local_same x x' m) = no_pair
+piece_drives _ _ (inside_same b b' m) = no_pair
+
+item_behaves : (x x' : Item) → SameItem x x' → Pairwise SameBehavior (behaviors_by_item x) (behaviors_by_item x')
+item_behaves _ _ (same_port_item f f' ns ns' g p) = no_pair
+item_behaves _ _ (same_genvars ns ns' p) = no_pair
 item_behaves _ _ (same_wire f f' ds ds' g p) = no_pair
 item_behaves _ _ (same_reg f f' ds ds' g p) = settings_same ds.items ds'.items p
 item_behaves _ _ (same_integer ds ds' p) = settings_same ds.items ds'.items p
@@ -92,6 +108,19 @@ item_behaves _ _ (same_instances n n' o o' xs xs' i g p) = no_pair
 item_behaves _ _ (same_assigns xs xs' p) = no_pair
 item_behaves _ _ (same_initial x x' p) = one_more SameBehavior _ _ p
 item_behaves _ _ (same_always x x' p) = one_more SameBehavior _ _ p
+
+piece_behaves : (x x' : Piece) → SamePiece x x' → Pairwise SameBehavior (behaviors_in x) (behaviors_in x')
+piece_behaves _ _ (plain_same x x' m) = item_behaves x x' m
+piece_behaves _ _ (loop_same h h' x x' i m) = no_pair
+piece_behaves _ _ (choice_same e e' x x' o o' i m r) = no_pair
+piece_behaves _ _ (local_same x x' m) = no_pair
+piece_behaves _ _ (inside_same b b' m) = no_pair
+
+behaviors_same : (s s' : Scope) → SameScope s s' → Pairwise SameBehavior (behaviors_of s) (behaviors_of s')
+behaviors_same s s' h =
+    pair_append SameBehavior (flat_map port_setting s.ports) (flat_map port_setting s'.ports) (flat_map behaviors_in s.pieces) (flat_map behaviors_in s'.pieces)
+    (pair_flat SameModulePort SameBehavior port_setting (λ p p' i. setting_same p.name p'.name p.value p'.value i.name i.value) s.ports s'.ports h.ports)
+    (pair_flat SamePiece SameBehavior behaviors_in piece_behaves s.pieces s'.pieces h.pieces)
 
 connected_one : (d : Direction) (n n' : List ℕ) (e e' : Expr) → n ≡ n' → SameExpr e e' → SamePortDriver (connected d n e) (connected d n' e')
 connected_one Input n n' e e' i h = (i, h)
@@ -124,27 +153,27 @@ port_of_same (out_of n e) (into n' e') m = absurd m
 port_of_same (out_of n e) (out_of n' e') m = m.0
 
 processes_same : (s s' : Scope) → SameScope s s' → Pairwise (SamePart SameBehavior) (processes_of s) (processes_of s')
-processes_same s s' h = numbered_same SameBehavior 112 s s' h 0 (behaviors_of s) (behaviors_of s') (pair_flat SameItem SameBehavior behaviors_in item_behaves s.items s'.items h.items)
+processes_same s s' h = numbered_same SameBehavior 112 s s' h 0 (behaviors_of s) (behaviors_of s') (behaviors_same s s' h)
 
 assigns_same : (s s' : Scope) → SameScope s s' → Pairwise (SamePart SameDriver) (assigns_of s) (assigns_of s')
 assigns_same s s' h =
-    let texts = pair_flat SameItem SameText drivers_in item_drives s.items s'.items h.items in
+    let texts = pair_flat SamePiece SameText drivers_in piece_drives s.pieces s'.pieces h.pieces in
     pair_append (SamePart SameDriver) (map (port_part s) (port_drivers_of s)) (map (port_part s') (port_drivers_of s')) (parts_from 97 s 0 (map of_text (drivers_of s))) (parts_from 97 s' 0 (map of_text (drivers_of s')))
     (pair_map SamePortDriver (SamePart SameDriver) (port_part s) (port_part s') (λ d d' m. record { scope = h; name = ap port_assign_name (port_of_same d d' m); part = m }) (port_drivers_of s) (port_drivers_of s') (ports_same s.ports s'.ports s.ends s'.ends h.ports h.ends))
     (numbered_same SameDriver 97 s s' h 0 (map of_text (drivers_of s)) (map of_text (drivers_of s')) (pair_map SameText SameDriver of_text of_text (λ a a' m. m) (drivers_of s) (drivers_of s') texts))
 
 -- ---- parts of a design
 
-one_body : (env : Environment) (b b' : Behavior) (y y' : Statement) → SameBehavior b b' → IsBody env b y → IsBody env b' y' → SameStatement y y'
-one_body env _ _ _ _ m (is_set a k u x h) (is_set a' k' u' x' h') = assign_same k k' u u' x x' (one_sides Procedural env a.target a'.target a.value a'.value u u' x x' m.0 m.1 h h')
-one_body env _ _ _ _ m (is_set a k u x h) (is_run z y' h') = absurd m
-one_body env _ _ _ _ m (is_set a k u x h) (is_repeat z k' y' h') = absurd m
-one_body env _ _ _ _ m (is_run x y h) (is_set a' k' u' x' h') = absurd m
-one_body env _ _ _ _ m (is_run x y h) (is_run x' y' h') = one_statement env x x' y y' m h h'
-one_body env _ _ _ _ m (is_run x y h) (is_repeat x' k' y' h') = absurd m
-one_body env _ _ _ _ m (is_repeat x k y h) (is_set a' k' u' x' h') = absurd m
-one_body env _ _ _ _ m (is_repeat x k y h) (is_run x' y' h') = absurd m
-one_body env _ _ _ _ m (is_repeat x k y h) (is_repeat x' k' y' h') = forever_same k k' y y' (one_statement env x x' y.value y'.value m h h')
+one_body : (envs : Path → Environment) (at : Path) (b b' : Behavior) (y y' : Statement) → SameBehavior b b' → IsBody envs at b y → IsBody envs at b' y' → SameStatement y y'
+one_body envs at _ _ _ _ m (is_set a k u x h) (is_set a' k' u' x' h') = assign_same k k' u u' x x' (one_sides Procedural (envs at) a.target a'.target a.value a'.value u u' x x' m.0 m.1 h h')
+one_body envs at _ _ _ _ m (is_set a k u x h) (is_run z y' h') = absurd m
+one_body envs at _ _ _ _ m (is_set a k u x h) (is_repeat z k' y' h') = absurd m
+one_body envs at _ _ _ _ m (is_run x y h) (is_set a' k' u' x' h') = absurd m
+one_body envs at _ _ _ _ m (is_run x y h) (is_run x' y' h') = one_statement envs at x x' y y' m h h'
+one_body envs at _ _ _ _ m (is_run x y h) (is_repeat x' k' y' h') = absurd m
+one_body envs at _ _ _ _ m (is_repeat x k y h) (is_set a' k' u' x' h') = absurd m
+one_body envs at _ _ _ _ m (is_repeat x k y h) (is_run x' y' h') = absurd m
+one_body envs at _ _ _ _ m (is_repeat x k y h) (is_repeat x' k' y' h') = forever_same k k' y y' (one_statement envs at x x' y.value y'.value m h h')
 
 kind_same : (b b' : Behavior) → SameBehavior b b' → kind_of b ≡ kind_of b'
 kind_same (sets a) (sets a') m = refl
@@ -181,11 +210,12 @@ one_assign p p' q q' m h k =
       sides = one_driver (environment q.scope) q.scope.outer q.part q'.part p.target p'.target p.source p'.source m.part h.sides sides;
     }
 
-one_process : (p p' : Process) (q q' : PartOf Behavior) → SamePart SameBehavior q q' → IsProcess p q → IsProcess p' q' → SameProcess p p'
-one_process p p' q q' m h k =
-    let own : environment q.scope ≡ environment q'.scope = environment_same q.scope q'.scope m.scope in
-    let other : IsBody (environment q.scope) q'.part p'.body = subst (λ env. IsBody env q'.part p'.body) (sym own) k.body in
-    let body = one_body (environment q.scope) q.part q'.part p.body p'.body m.part h.body other in
+one_process : (ss ss' : List Scope) → Pairwise SameScope ss ss' → (p p' : Process) (q q' : PartOf Behavior) → SamePart SameBehavior q q' → IsProcess ss p q → IsProcess ss' p' q' → SameProcess p p'
+one_process ss ss' same p p' q q' m h k =
+    let envs : environment_at ss ≡ environment_at ss' = environments_same ss ss' same in
+    let moved : IsBody (environment_at ss) q'.scope.path q'.part p'.body = subst (λ env. IsBody env q'.scope.path q'.part p'.body) (sym envs) k.body in
+    let other : IsBody (environment_at ss) q.scope.path q'.part p'.body = subst (λ at. IsBody (environment_at ss) at q'.part p'.body) (sym m.scope.path) moved in
+    let body = one_body (environment_at ss) q.scope.path q.part q'.part p.body p'.body m.part h.body other in
     record {
       name = same_text SameBehavior q q' m p.name.items p'.name.items h.name k.name;
       kind = h.kind ∙ kind_same q.part q'.part m.part ∙ sym k.kind;
@@ -194,8 +224,8 @@ one_process p p' q q' m h k =
     }
 
 -- parts of two designs in step
-module _ {A P : Type 0} (R : P → PartOf A → Type 0) (S : P → P → Type 0) (Q : A → A → Type 0) (step : (p p' : P) (q q' : PartOf A) → SamePart Q q q' → R p q → R p' q' → S p p') where
-  parts_same : (ps ps' : List P) (qs qs' : List (PartOf A)) → Pairwise (SamePart Q) qs qs' → AllZip R ps qs → AllZip R ps' qs' → AllZip S ps ps'
+module _ {A P : Type 0} (R R' : P → PartOf A → Type 0) (S : P → P → Type 0) (Q : A → A → Type 0) (step : (p p' : P) (q q' : PartOf A) → SamePart Q q q' → R p q → R' p' q' → S p p') where
+  parts_same : (ps ps' : List P) (qs qs' : List (PartOf A)) → Pairwise (SamePart Q) qs qs' → AllZip R ps qs → AllZip R' ps' qs' → AllZip S ps ps'
   parts_same [] [] _ _ no_pair h k = tt
   parts_same [] (p' ∷ ps') _ _ no_pair h k = absurd k
   parts_same (p ∷ ps) ps' _ _ no_pair h k = absurd h
@@ -235,8 +265,8 @@ designs_same : (ss ss' : List Scope) (ls ls' : List Line) (d d' : Parts) → Pai
 designs_same ss ss' ls ls' d d' same lines h k = record {
   timescale = h.timescale ∙ sym k.timescale;
   signals = h.signals ∙ flat_one SameScope signals_of signals_same ss ss' same ∙ sym k.signals;
-  assigns = parts_same IsAssign SameAssign SameDriver one_assign d.assigns d'.assigns (flat_map assigns_of ss) (flat_map assigns_of ss') (pair_flat SameScope (SamePart SameDriver) assigns_of assigns_same ss ss' same) h.assigns k.assigns;
-  processes = parts_same IsProcess SameProcess SameBehavior one_process d.processes d'.processes (flat_map processes_of ss) (flat_map processes_of ss') (pair_flat SameScope (SamePart SameBehavior) processes_of processes_same ss ss' same) h.processes k.processes;
+  assigns = parts_same IsAssign IsAssign SameAssign SameDriver one_assign d.assigns d'.assigns (flat_map assigns_of ss) (flat_map assigns_of ss') (pair_flat SameScope (SamePart SameDriver) assigns_of assigns_same ss ss' same) h.assigns k.assigns;
+  processes = parts_same (IsProcess ss) (IsProcess ss') SameProcess SameBehavior (one_process ss ss' same) d.processes d'.processes (flat_map processes_of ss) (flat_map processes_of ss') (pair_flat SameScope (SamePart SameBehavior) processes_of processes_same ss ss' same) h.processes k.processes;
   outline = one_outline d.outline d'.outline ls h.outline (subst (AllZip IsEntry d'.outline) (sym lines) k.outline);
 }
 

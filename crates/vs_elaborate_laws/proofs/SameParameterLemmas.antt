@@ -1,209 +1,36 @@
--- Sizes, ports, connections and parameters of modules that say the same.
-use Rattle.std.proofs.Common.{◌≡◌, ℕ, ℤ, suc, Bool, true, false, ◌&&◌, ◌||◌, true≢false, cond, List, [], ◌∷◌, ◌++◌, Option, Some, None, length, map, refl, ap, ap₂, sym, subst, ◌∙◌}
+-- Connections and parameters of modules that say the same.
+use Rattle.std.proofs.Common.{◌≡◌, ℕ, Bool, true, false, ◌||◌, true≢false, cond, List, [], ◌∷◌, ◌++◌, Option, Some, None, length, map, refl, ap, ap₂, sym, subst, ◌∙◌}
 use Rattle.std.specs.Prelude.{nat_lt}
 use Rattle.std.proofs.Math.Path.{fun_ext}
-use Rattle.std.specs.List.{flat_map}
 use Rattle.std.specs.Str.{bytes_eq}
-use Rattle.std.specs.declared.vec.Vec.{Vec}
-use Rattle.std.specs.declared.alloc.Global.{Global}
 use Rattle.vs_syntax.specs.declared.tree.Constant.{Constant}
 use Rattle.vs_syntax.specs.declared.tree.Connection.{Connection}
 use Rattle.vs_syntax.specs.declared.tree.Connections.{Connections}
-use Rattle.vs_syntax.specs.declared.tree.Declarator.{Declarator}
 use Rattle.vs_syntax.specs.declared.tree.Expr.{Expr}
-use Rattle.vs_syntax.specs.declared.tree.Form.{Form}
 use Rattle.vs_syntax.specs.declared.tree.HeaderParameter.{HeaderParameter}
 use Rattle.vs_syntax.specs.declared.tree.Item.{Item}
 use Rattle.vs_syntax.specs.declared.tree.Module.{Module}
 use Rattle.vs_syntax.specs.declared.tree.ParameterForm.{ParameterForm}
-use Rattle.vs_syntax.specs.declared.tree.Port.{Port}
-use Rattle.vs_syntax.specs.declared.tree.PortForm.{PortForm}
 use Rattle.vs_syntax.specs.declared.tree.Range.{Range}
-use Rattle.vs_syntax.specs.Same.{SameExpr, Pairwise, no_pair, pair_more, SameOption, both_absent, both_there, SameValue, same_no_value, same_value, SameRange, same_no_range, same_range, SameDeclarator, SameForm, SameParameterForm, same_integer_word, same_vector, SameConstant, SameHeaderParameter, SamePortForm, SamePort, SamePorts, SameConnection, SameConnections, same_ordered, same_named, SameInstance, SameItem, same_wire, same_reg, same_integer, same_parameters, same_localparams, same_instances, same_assigns, same_initial, same_always, SameModule}
-use Rattle.vs_design.specs.declared.signal.SignalKind.{SignalKind}
-use Rattle.vs_design.specs.declared.signal.SignalKind.TheVariants as k
+use Rattle.vs_syntax.specs.Same.{SameExpr, Pairwise, no_pair, pair_more, SameOption, both_absent, both_there, SameValue, same_no_value, same_value, SameRange, same_no_range, same_range, SameParameterForm, same_integer_word, same_vector, SameConstant, SameHeaderParameter, SameConnection, SameConnections, same_ordered, same_named, SameItem, same_port_item, same_genvars, same_wire, same_reg, same_integer, same_parameters, same_localparams, same_instances, same_assigns, same_initial, same_always, SameModule}
 use Rattle.vs_selects.specs.declared.bindings.Binding.TheVariants as b
+use Rattle.vs_selects.specs.declared.constants.Const.{Const}
 use Rattle.vs_selects.specs.declared.faults.WidthReason.{WidthReason}
 use Rattle.vs_selects.specs.Environment.{Environment}
-use Rattle.vs_selects.specs.Findings.{too_wide, stands}
-use Rattle.vs_selects.specs.Meants.{Meant, own}
-use Rattle.vs_selects.specs.Constants.{constant_finding, whole_at}
-use Rattle.vs_widths.specs.Names.{meaning_of}
-use Rattle.vs_widths.specs.Expressions.{meant}
-use Rattle.vs_scopes.specs.declared.faults.Reason.{Reason}
-use Rattle.vs_scopes.specs.declared.faults.Reason.TheVariants.{NoModule, Inside, PortMismatch, ParameterMismatch, DeclaredTwice, DrivenTwice, Limit, Width}
-use Rattle.vs_scopes.specs.Ranges.{Sized, Words, range_bounds, words_fault, words_as, is_array_of_nets, number_fault, both_bounds, is_over, shape_with, distance_or, sized_as}
+use Rattle.vs_selects.specs.Findings.{stands}
+use Rattle.vs_selects.specs.Meants.{Meant}
+use Rattle.vs_selects.specs.Constants.{constant_finding}
+use Rattle.vs_scopes.specs.Ranges.{sized_as}
 use Rattle.vs_scopes.specs.Connections.{in_text, in_order, by_name, ends_of, has_twice, has_other, is_mismatch}
-use Rattle.vs_scopes.specs.Parameters.{Parameter, said, header_parameters, item_parameter, parameters_in, parameters_of, overridable, Given, first_end, other_ends, given_from, overriding, given_to, is_override_mismatch, the_size, neither, vector_takes, takes_by, constant_by, takes_fault, given_meant, constant_given, own_fault, outer_fault, with_constant, known_behind, constants_of, own_faults, outer_faults, any_fault}
-use Rattle.vs_scopes.specs.Scopes.{Bindings, ModulePort, kind_of_port, port_as, ports_from, listed_ports, ports_of, port_names, DeclaredName, size_of_kind, declared_by_port, declared_as, declared_in, declared_names, Use, use_of, uses_in, uses_among, unsized_names, pending_names, instance_names, early, has_no_values}
+use Rattle.vs_scopes.specs.Parameters.{Parameter, said, header_parameters, item_parameter, parameters_in, piece_parameters, parameters_among, parameters_of, overridable, Given, first_end, other_ends, given_from, overriding, given_to, is_override_mismatch, the_size, neither, vector_takes, takes_by, constant_by, takes_fault, given_meant, constant_given, own_fault, outer_fault, with_constant, known_behind, constants_of, own_faults, outer_faults, any_fault}
+use Rattle.vs_scopes.specs.Ports.{ModulePort, ports_of}
+use Rattle.vs_scopes.specs.Declarations.{Bindings, DeclaredName, bound_to, unsized_names, pending_names, early_names}
+use Rattle.vs_scopes.specs.Scopes.{Scope, nowhere, outward, early, environment, has_no_values, block_given, with_constants, early_block, block_fault}
+use Rattle.vs_pieces.specs.Pieces.{Piece, pieces_of}
+use Rattle.vs_elaborate_laws.proofs.PairLemmas.{pair_append, pair_map, pair_flat, pair_length, pair_same}
+use Rattle.vs_elaborate_laws.proofs.SamePieceLemmas.{SamePiece, plain_same, loop_same, choice_same, local_same, inside_same}
 use Rattle.vs_elaborate_laws.proofs.SameTypedLemmas.{same_meant}
-
--- ---- lists in step
-
-pub pair_append : {A : Type 0} (R : A → A → Type 0) (xs ys us vs : List A) → Pairwise R xs ys → Pairwise R us vs → Pairwise R (xs ++ us) (ys ++ vs)
-pair_append R _ _ us vs no_pair k = k
-pair_append R _ _ us vs (pair_more x x' xs xs' h r) k = pair_more x x' (xs ++ us) (xs' ++ vs) h (pair_append R xs xs' us vs r k)
-
-pub pair_map : {A B : Type 0} (R : A → A → Type 0) (S : B → B → Type 0) (f f' : A → B) → ((x x' : A) → R x x' → S (f x) (f' x')) → (xs xs' : List A) → Pairwise R xs xs' → Pairwise S (map f xs) (map f' xs')
-pair_map R S f f' step _ _ no_pair = no_pair
-pair_map R S f f' step _ _ (pair_more x x' xs xs' h r) = pair_more (f x) (f' x') (map f xs) (map f' xs') (step x x' h) (pair_map R S f f' step xs xs' r)
-
-pub pair_flat : {A B : Type 0} (R : A → A → Type 0) (S : B → B → Type 0) (f : A → List B) → ((x x' : A) → R x x' → Pairwise S (f x) (f x')) → (xs xs' : List A) → Pairwise R xs xs' → Pairwise S (flat_map f xs) (flat_map f xs')
-pair_flat R S f step _ _ no_pair = no_pair
-pair_flat R S f step _ _ (pair_more x x' xs xs' h r) = pair_append S (f x) (f x') (flat_map f xs) (flat_map f xs') (step x x' h) (pair_flat R S f step xs xs' r)
-
-pub pair_length : {A : Type 0} (R : A → A → Type 0) (xs xs' : List A) → Pairwise R xs xs' → length xs ≡ length xs'
-pair_length R _ _ no_pair = refl
-pair_length R _ _ (pair_more x x' xs xs' h r) = ap suc (pair_length R xs xs' r)
-
--- what a function gives of both is one list
-pub pair_same : {A B : Type 0} (R : A → A → Type 0) (f : A → B) → ((x x' : A) → R x x' → f x ≡ f x') → (xs xs' : List A) → Pairwise R xs xs' → map f xs ≡ map f xs'
-pair_same R f step _ _ no_pair = refl
-pair_same R f step _ _ (pair_more x x' xs xs' h r) = ap₂ (λ y ys. y ∷ ys) (step x x' h) (pair_same R f step xs xs' r)
-
-pub flat_one : {A B : Type 0} (R : A → A → Type 0) (f : A → List B) → ((x x' : A) → R x x' → f x ≡ f x') → (xs xs' : List A) → Pairwise R xs xs' → flat_map f xs ≡ flat_map f xs'
-flat_one R f step _ _ no_pair = refl
-flat_one R f step _ _ (pair_more x x' xs xs' h r) = ap₂ (λ y ys. y ++ ys) (step x x' h) (flat_one R f step xs xs' r)
-
--- ---- sizes
-
--- sizes by what the bounds of a range mean
-abbrev sized_by : Bool → ℕ → Meant → Meant → Sized
-sized_by g n a b =
-    let m = whole_at (constant_finding a) (own a [] 0) in
-    let k = whole_at (constant_finding b) (own b [] 0) in
-    record {
-      shape = shape_with (distance_or n (both_bounds m k)) g;
-      bounds = both_bounds m k;
-      faults = λ w. (number_fault w (constant_finding a) m || number_fault w (constant_finding b) k) || (too_wide w && is_over 63 (both_bounds m k));
-    }
-
-range_sizes : (env : Environment) (g : Bool) (n : ℕ) (o o' : Option Range) → SameRange o o' → sized_as env g n o ≡ sized_as env g n o'
-range_sizes env g n _ _ same_no_range = refl
-range_sizes env g n _ _ (same_range r r' h k) = ap₂ (sized_by g n) (same_meant env r.left r'.left h) (same_meant env r.right r'.right k)
-
-form_sizes : (env : Environment) (n : ℕ) (f f' : Form) → SameForm f f' → sized_as env f.signed n f.range ≡ sized_as env f'.signed n f'.range
-form_sizes env n f f' h = ap (λ g. sized_as env g n f.range) h.signed ∙ range_sizes env f'.signed n f.range f'.range h.range
-
-kind_sizes : (env : Environment) (kind : SignalKind) (f f' : Form) → SameForm f f' → size_of_kind env kind f ≡ size_of_kind env kind f'
-kind_sizes env k.Wire f f' h = form_sizes env 0 f f' h
-kind_sizes env k.Reg f f' h = form_sizes env 0 f f' h
-kind_sizes env k.Integer f f' h = range_sizes env true 31 f.range f'.range h.range
-
--- the faults of words by the findings and the numbers of the bounds of a range
-abbrev word_faults : SignalKind → Meant → Meant → Option ℤ → Option ℤ → Reason → Bool
-word_faults kind a b m n (Width w) = (number_fault w (constant_finding a) m || number_fault w (constant_finding b) n) || is_array_of_nets w kind
-word_faults kind a b m n Limit = is_over 65535 (both_bounds m n)
-word_faults kind a b m n _ = false
-
--- words by what the bounds of a range mean
-abbrev words_by : SignalKind → Meant → Meant → Words
-words_by kind a b =
-    let m = whole_at (constant_finding a) (own a [] 0) in
-    let n = whole_at (constant_finding b) (own b [] 0) in
-    record { bounds = both_bounds m n; faults = word_faults kind a b m n }
-
-range_words : (env : Environment) (kind : SignalKind) (o o' : Option Range) → SameRange o o' → words_as env kind o ≡ words_as env kind o'
-range_words env kind _ _ same_no_range = refl
-range_words env kind _ _ (same_range r r' h k) = words_are r ∙ ap₂ (words_by kind) (same_meant env r.left r'.left h) (same_meant env r.right r'.right k) ∙ sym (words_are r')
-  where
-    by : (r : Range) (q : Reason) → words_fault q env kind (Some r) ≡ (words_by kind (meant env r.left) (meant env r.right)).faults q
-    by r (Width w) = refl
-    by r Limit = refl
-    by r NoModule = refl
-    by r Inside = refl
-    by r PortMismatch = refl
-    by r ParameterMismatch = refl
-    by r DeclaredTwice = refl
-    by r DrivenTwice = refl
-
-    words_are : (r : Range) → words_as env kind (Some r) ≡ words_by kind (meant env r.left) (meant env r.right)
-    words_are r = let P : (Reason → Bool) → Words = λ g. record { bounds = range_bounds env (Some r); faults = g } in ap P (fun_ext (by r))
-
--- ---- ports
-
-pub record SameModulePort (p p' : ModulePort) : Type 0 where
-  pub direction : p.direction ≡ p'.direction
-  pub kind : p.kind ≡ p'.kind
-  pub form : SameForm p.form p'.form
-  pub name : p.name ≡ p'.name
-
-same_said : {A : Type 0} (R : A → A → Type 0) (a a' b b' : Option A) → SameOption R a a' → SameOption R b b' → SameOption R (said a b) (said a' b')
-same_said R a a' _ _ h both_absent = h
-same_said R a a' _ _ h (both_there x x' k) = both_there x x' k
-
-same_port_as : (o o' : Option PortForm) (n n' : List ℕ) → SameOption SamePortForm o o' → n ≡ n' → SameModulePort (port_as o n) (port_as o' n')
-same_port_as _ _ n n' both_absent i = record { direction = refl; kind = refl; form = record { signed = refl; range = same_no_range }; name = i }
-same_port_as _ _ n n' (both_there f f' h) i = record { direction = h.direction; kind = ap kind_of_port h.kind; form = h.form; name = i }
-
-same_ports_from : (a a' : Option PortForm) (ps ps' : List Port) → SameOption SamePortForm a a' → Pairwise SamePort ps ps' → Pairwise SameModulePort (ports_from a ps) (ports_from a' ps')
-same_ports_from a a' _ _ h no_pair = no_pair
-same_ports_from a a' _ _ h (pair_more p p' ps ps' i r) =
-    let next = same_said SamePortForm a a' p.form p'.form h i.form in
-    pair_more (port_as (said a p.form) p.name.items) (port_as (said a' p'.form) p'.name.items) (ports_from (said a p.form) ps) (ports_from (said a' p'.form) ps')
-    (same_port_as (said a p.form) (said a' p'.form) p.name.items p'.name.items next i.name) (same_ports_from (said a p.form) (said a' p'.form) ps ps' next r)
-
-same_listed : (o o' : Option (Vec Port Global)) → SameOption SamePorts o o' → Pairwise SameModulePort (listed_ports o) (listed_ports o')
-same_listed _ _ both_absent = no_pair
-same_listed _ _ (both_there ps ps' h) = same_ports_from None None ps.items ps'.items both_absent h
-
-pub same_ports : (m m' : Module) → SameModule m m' → Pairwise SameModulePort (ports_of m) (ports_of m')
-same_ports m m' h = same_listed m.ports m'.ports h.ports
-
-pub same_port_names : (ps ps' : List ModulePort) → Pairwise SameModulePort ps ps' → port_names ps ≡ port_names ps'
-same_port_names ps ps' h = pair_same SameModulePort (λ (p : ModulePort). p.name) (λ p p' r. r.name) ps ps' h
-
--- ---- declared names
-
-port_declares : (env : Environment) (p p' : ModulePort) → SameModulePort p p' → declared_by_port env p ≡ declared_by_port env p'
-port_declares env p p' h =
-    let P : SignalKind → Sized → List ℕ → DeclaredName = λ kind z n. record { kind = kind; size = z; words = words_as env kind None; name = n } in
-    ap (λ kind. P kind (size_of_kind env kind p.form) p.name) h.kind ∙ ap₂ (P p'.kind) (kind_sizes env p'.kind p.form p'.form h.form) h.name
-
-declarators_declare : (env : Environment) (kind : SignalKind) (z : Sized) (ds ds' : List Declarator) → Pairwise SameDeclarator ds ds' → declared_as env kind z ds ≡ declared_as env kind z ds'
-declarators_declare env kind z _ _ no_pair = refl
-declarators_declare env kind z _ _ (pair_more x x' xs xs' h r) =
-    (let P : List ℕ → Words → DeclaredName = λ n w. record { kind = kind; size = z; words = w; name = n } in ap₂ (λ d ds. d ∷ ds) (ap₂ P h.name (range_words env kind x.words x'.words h.words)) (declarators_declare env kind z xs xs' r))
-
-item_declares : (env : Environment) (x x' : Item) → SameItem x x' → declared_in env x ≡ declared_in env x'
-item_declares env _ _ (same_wire f f' ds ds' g p) = ap (λ z. declared_as env k.Wire z ds.items) (form_sizes env 0 f f' g) ∙ declarators_declare env _ _ ds.items ds'.items p
-item_declares env _ _ (same_reg f f' ds ds' g p) = ap (λ z. declared_as env k.Reg z ds.items) (form_sizes env 0 f f' g) ∙ declarators_declare env _ _ ds.items ds'.items p
-item_declares env _ _ (same_integer ds ds' p) = declarators_declare env _ _ ds.items ds'.items p
-item_declares env _ _ (same_parameters f f' xs xs' g p) = refl
-item_declares env _ _ (same_localparams f f' xs xs' g p) = refl
-item_declares env _ _ (same_instances n n' o o' xs xs' i g p) = refl
-item_declares env _ _ (same_assigns xs xs' p) = refl
-item_declares env _ _ (same_initial x x' p) = refl
-item_declares env _ _ (same_always x x' p) = refl
-
-pub same_declared : (env : Environment) (ps ps' : List ModulePort) (xs xs' : List Item) → Pairwise SameModulePort ps ps' → Pairwise SameItem xs xs' → declared_names env ps xs ≡ declared_names env ps' xs'
-same_declared env ps ps' xs xs' h r = ap₂ (λ a c. a ++ c) (pair_same SameModulePort (declared_by_port env) (port_declares env) ps ps' h) (flat_one SameItem (declared_in env) (item_declares env) xs xs' r)
-
--- ---- instances
-
-pub record SameUse (u u' : Use) : Type 0 where
-  pub of : u.of ≡ u'.of
-  pub overrides : SameOption SameConnections u.overrides u'.overrides
-  pub name : u.name ≡ u'.name
-  pub ports : SameConnections u.ports u'.ports
-
-item_uses : (x x' : Item) → SameItem x x' → Pairwise SameUse (uses_in x) (uses_in x')
-item_uses _ _ (same_wire f f' ds ds' g p) = no_pair
-item_uses _ _ (same_reg f f' ds ds' g p) = no_pair
-item_uses _ _ (same_integer ds ds' p) = no_pair
-item_uses _ _ (same_parameters f f' xs xs' g p) = no_pair
-item_uses _ _ (same_localparams f f' xs xs' g p) = no_pair
-item_uses _ _ (same_instances n n' o o' xs xs' i g p) =
-    pair_map SameInstance SameUse (use_of n.items o) (use_of n'.items o') (λ x x' h. record { of = i; overrides = g; name = h.name; ports = h.ports }) xs.items xs'.items p
-item_uses _ _ (same_assigns xs xs' p) = no_pair
-item_uses _ _ (same_initial x x' p) = no_pair
-item_uses _ _ (same_always x x' p) = no_pair
-
-pub same_uses : (xs xs' : List Item) → Pairwise SameItem xs xs' → Pairwise SameUse (uses_among xs) (uses_among xs')
-same_uses xs xs' h = pair_flat SameItem SameUse uses_in item_uses xs xs' h
-
-pub same_instance_names : (us us' : List Use) → Pairwise SameUse us us' → instance_names us ≡ instance_names us'
-same_instance_names us us' h = pair_same SameUse (λ (u : Use). (u.name, b.Other)) (λ u u' r. ap (λ n. (n, b.Other)) r.name) us us' h
+use Rattle.vs_elaborate_laws.proofs.SamePortLemmas.{range_sizes, SameModulePort, same_said, same_pieces, same_ports, ports_declare, among_declares, same_genvar_names, same_inner_names}
 
 -- ---- connections
 
@@ -260,6 +87,8 @@ same_constants fixed f f' xs xs' h r =
     pair_map SameConstant SameParameter (item_parameter fixed f) (item_parameter fixed f') (λ x x' i. record { fixed = refl; form = both_there f f' h; name = i.name; value = i.value }) xs xs' r
 
 item_parameters : (x x' : Item) → SameItem x x' → Pairwise SameParameter (parameters_in x) (parameters_in x')
+item_parameters _ _ (same_port_item f f' ns ns' g p) = no_pair
+item_parameters _ _ (same_genvars ns ns' p) = no_pair
 item_parameters _ _ (same_wire f f' ds ds' g p) = no_pair
 item_parameters _ _ (same_reg f f' ds ds' g p) = no_pair
 item_parameters _ _ (same_integer ds ds' p) = no_pair
@@ -270,10 +99,22 @@ item_parameters _ _ (same_assigns xs xs' p) = no_pair
 item_parameters _ _ (same_initial x x' p) = no_pair
 item_parameters _ _ (same_always x x' p) = no_pair
 
+piece_parameters_same : (x x' : Piece) → SamePiece x x' → Pairwise SameParameter (piece_parameters x) (piece_parameters x')
+piece_parameters_same _ _ (plain_same x x' m) = item_parameters x x' m
+piece_parameters_same _ _ (loop_same h h' x x' i m) = no_pair
+piece_parameters_same _ _ (choice_same e e' x x' o o' i m r) = no_pair
+piece_parameters_same _ _ (local_same x x' m) = no_pair
+piece_parameters_same _ _ (inside_same b b' m) = no_pair
+
+among_parameters : (xs xs' : List Piece) → Pairwise SamePiece xs xs' → Pairwise SameParameter (parameters_among xs) (parameters_among xs')
+among_parameters xs xs' r = pair_flat SamePiece SameParameter piece_parameters piece_parameters_same xs xs' r
+
 all_parameters : (m m' : Module) → SameModule m m' → Pairwise SameParameter (parameters_of m) (parameters_of m')
 all_parameters m m' h =
-    pair_append SameParameter (header_parameters None m.parameters.items) (header_parameters None m'.parameters.items) (flat_map parameters_in m.items.items) (flat_map parameters_in m'.items.items)
-    (same_header None None m.parameters.items m'.parameters.items both_absent h.parameters) (pair_flat SameItem SameParameter parameters_in item_parameters m.items.items m'.items.items h.items)
+    let xs = pieces_of m.items.items in
+    let xs' = pieces_of m'.items.items in
+    pair_append SameParameter (header_parameters None m.parameters.items) (header_parameters None m'.parameters.items) (parameters_among xs) (parameters_among xs')
+    (same_header None None m.parameters.items m'.parameters.items both_absent h.parameters) (among_parameters xs xs' (same_pieces m m' h))
 
 same_overridable : (ps ps' : List Parameter) → Pairwise SameParameter ps ps' → overridable ps ≡ overridable ps'
 same_overridable _ _ no_pair = refl
@@ -369,14 +210,19 @@ own_faults_same w around env _ _ (pair_more (p, o) (p', o') gs gs' h r) =
     ∙ ap (λ z. own_fault w env (p', o') || own_faults w around z gs) (behind_same around env (p, o) (p', o') h)
     ∙ ap (λ c. own_fault w env (p', o') || c) (own_faults_same w around (with_constant env p'.name (constant_given around env (p', o'))) gs gs' r)
 
+early_names_same : (ps ps' : List Parameter) (qs qs' : List ModulePort) (xs xs' : List Piece) → Pairwise SameParameter ps ps' → Pairwise SameModulePort qs qs' → Pairwise SamePiece xs xs' →
+    early_names ps qs xs ≡ early_names ps' qs' xs'
+early_names_same ps ps' qs qs' xs xs' h k r =
+    let parameters : pending_names ps ≡ pending_names ps' = pair_same SameParameter (λ (p : Parameter). (p.name, b.Pending)) (λ p p' i. ap (λ n. (n, b.Pending)) i.name) ps ps' h in
+    let declared = ap₂ (λ (a c : List DeclaredName). a ++ c) (ports_declare (λ n. None) qs qs' k) (among_declares (λ n. None) xs xs' r) in
+    let genvars = ap (bound_to b.Genvar) (same_genvar_names xs xs' r) in
+    let others = ap (bound_to b.Other) (same_inner_names xs xs' r) in
+    ap₂ (λ (a c : Bindings). a ++ c) (ap₂ (λ (a c : Bindings). a ++ c) (ap₂ (λ (a c : Bindings). a ++ c) parameters (ap unsized_names declared)) genvars) others
+
 same_early : (m m' : Module) → SameModule m m' → early m ≡ early m'
 same_early m m' h =
-    let P : Bindings → Environment = λ names n. meaning_of names n in
-    let parameters : pending_names (parameters_of m) ≡ pending_names (parameters_of m') = pair_same SameParameter (λ (p : Parameter). (p.name, b.Pending)) (λ p p' r. ap (λ n. (n, b.Pending)) r.name) (parameters_of m) (parameters_of m') (all_parameters m m' h) in
-    let signals = ap unsized_names (same_declared (λ n. None) (ports_of m) (ports_of m') m.items.items m'.items.items (same_ports m m' h) h.items) in
-    let uses = same_instance_names (uses_among m.items.items) (uses_among m'.items.items) (same_uses m.items.items m'.items.items h.items) in
-    let front = ap₂ (λ a c. a ++ c) parameters signals in
-    ap P (ap₂ (λ a c. a ++ c) front uses)
+    ap (λ names. outward names nowhere)
+    (early_names_same (parameters_of m) (parameters_of m') (ports_of m) (ports_of m') (pieces_of m.items.items) (pieces_of m'.items.items) (all_parameters m m' h) (same_ports m m' h) (same_pieces m m' h))
 
 -- ---- modules that are instantiated
 
@@ -395,3 +241,29 @@ module _ (around : Environment) (o o' : Option Connections) (m m' : Module) (h :
 
   pub same_no_values : has_no_values around o m ≡ has_no_values around o' m'
   same_no_values = ap₂ (λ a c. a || c) (same_override_mismatch o o' m m' h k) (ap any_fault (fun_ext faults_same))
+
+-- ---- blocks
+
+module _ (s s' : Scope) (environments : environment s ≡ environment s') (cs : List (List ℕ × Const)) (ps ps' : List Piece) (h : Pairwise SamePiece ps ps') where
+  same_block_given : Pairwise SameGiven (block_given ps) (block_given ps')
+  same_block_given = same_given_from (parameters_among ps) (parameters_among ps') [] [] (among_parameters ps ps' h) no_pair
+
+  same_early_block : early_block s cs ps ≡ early_block s' cs ps'
+  same_early_block =
+      ap₂ (λ names env. with_constants (outward names env) cs)
+      (early_names_same (parameters_among ps) (parameters_among ps') [] [] ps ps' (among_parameters ps ps' h) no_pair h) environments
+
+  pub same_block_known : known_behind nowhere (early_block s cs ps) (block_given ps) ≡ known_behind nowhere (early_block s' cs ps') (block_given ps')
+  same_block_known =
+      ap (λ env. known_behind nowhere env (block_given ps)) same_early_block ∙ known_same nowhere (early_block s' cs ps') (block_given ps) (block_given ps') same_block_given
+
+  pub same_block_values : constants_of nowhere (early_block s cs ps) (block_given ps) ≡ constants_of nowhere (early_block s' cs ps') (block_given ps')
+  same_block_values =
+      ap (λ env. constants_of nowhere env (block_given ps)) same_early_block ∙ constants_same nowhere (early_block s' cs ps') (block_given ps) (block_given ps') same_block_given
+
+  block_fault_same : (w : WidthReason) → block_fault s cs ps w ≡ block_fault s' cs ps' w
+  block_fault_same w =
+      ap (λ env. own_faults w nowhere env (block_given ps)) same_early_block ∙ own_faults_same w nowhere (early_block s' cs ps') (block_given ps) (block_given ps') same_block_given
+
+  pub same_block_fault : any_fault (block_fault s cs ps) ≡ any_fault (block_fault s' cs ps')
+  same_block_fault = ap any_fault (fun_ext block_fault_same)

@@ -14,11 +14,11 @@ use Rattle.vs_syntax.specs.declared.tree.Expr.{Expr}
 use Rattle.vs_syntax.specs.declared.tree.Left.{Left}
 use Rattle.vs_syntax.specs.declared.tree.Stmt.{Stmt}
 use Rattle.vs_syntax.specs.declared.tree.Stmt.TheVariants as s
-use Rattle.vs_syntax.specs.declared.tree.Stmt.TheVariants.{rolls-Null, rolls-Assign, rolls-Later, rolls-Block, rolls-If, rolls-Case, rolls-For, rolls-While, rolls-Repeat, rolls-Forever, rolls-Delay, rolls-Event}
+use Rattle.vs_syntax.specs.declared.tree.Stmt.TheVariants.{rolls-Null, rolls-Assign, rolls-Later, rolls-Block, rolls-Named, rolls-If, rolls-Case, rolls-For, rolls-While, rolls-Repeat, rolls-Forever, rolls-Delay, rolls-Event}
 use Rattle.vs_syntax.specs.declared.tree.Stmt.TheOpen as g
 use Rattle.vs_syntax.specs.declared.tree.Stmt.TheOpen.{Stmt-F}
 use Rattle.vs_syntax.specs.declared.tree.Stmt.TheViews.{roll-Stmt, out-Stmt, out-roll-Stmt}
-use Rattle.vs_syntax.specs.Same.{SameExpr, SameExprs, same_no_expr, same_more_exprs, SameDelay, same_delay_number, same_delay_name, same_delay_group, SameLabel, same_expressions, same_default, SameStmt, same_null, same_assign, same_later, same_block, same_if, same_case, same_for, same_while, same_repeated, same_forever, same_delay, same_event, SameStmts, same_no_stmt, same_more_stmts, SameElse, same_no_else, same_else, SameCaseItems, same_no_item, same_more_items}
+use Rattle.vs_syntax.specs.Same.{SameExpr, SameExprs, same_no_expr, same_more_exprs, SameDelay, same_delay_number, same_delay_name, same_delay_group, SameLabel, same_expressions, same_default, SameStmt, same_null, same_assign, same_later, same_block, same_named_block, same_if, same_case, same_for, same_while, same_repeated, same_forever, same_delay, same_event, SameStmts, same_no_stmt, same_more_stmts, SameElse, same_no_else, same_else, SameCaseItems, same_no_item, same_more_items}
 use Rattle.vs_design.specs.declared.expression.Typed.{Typed}
 use Rattle.vs_design.specs.declared.statement.EventTerm.{EventTerm}
 use Rattle.vs_design.specs.declared.statement.Target.{Target}
@@ -34,9 +34,10 @@ use Rattle.vs_selects.specs.Meants.{own}
 use Rattle.vs_widths.specs.Expressions.{meant, name_meant}
 use Rattle.vs_widths.specs.Typing.{IsTypedAs}
 use Rattle.vs_targets.specs.declared.kinds.AssignmentKind.TheVariants.{Procedural}
-use Rattle.vs_elaborate.specs.Members.{places}
-use Rattle.vs_elaborate.specs.Statements.{IsAssignment, IsOperand, delay_meant, delay_of, AreEvents, label_exprs, common_finding, case_finding, AreTypedAt, no_typed, more_typed, IsStatement, is_null, is_assign, is_later, is_block, is_if, is_case, is_for, is_while, is_repeat, is_forever, is_delay, is_event, IsElse, no_else, an_else, AreItems, no_items, more_items, AreStatements, are_none, are_more}
-use Rattle.vs_elaborate.proofs.StatementLemmas.{numbers_Null, numbers_Assign, numbers_Later, numbers_Block, numbers_Delay, numbers_Event, numbers_If, numbers_Case, numbers_While, numbers_Repeat, numbers_Forever, item_numbers}
+use Rattle.vs_scopes.specs.Printed.{plainly, Path}
+use Rattle.vs_bodies.specs.Members.{places}
+use Rattle.vs_bodies.specs.Statements.{IsAssignment, IsOperand, delay_meant, delay_of, AreEvents, label_exprs, common_finding, case_finding, AreTypedAt, no_typed, more_typed, IsStatement, is_null, is_assign, is_later, is_block, is_named, is_if, is_case, is_for, is_while, is_repeat, is_forever, is_delay, is_event, IsElse, no_else, an_else, AreItems, no_items, more_items, AreStatements, are_none, are_more}
+use Rattle.vs_bodies.proofs.StatementLemmas.{numbers_Null, numbers_Assign, numbers_Later, numbers_Block, numbers_Delay, numbers_Event, numbers_If, numbers_Case, numbers_While, numbers_Repeat, numbers_Forever, item_numbers}
 use Rattle.vs_elaborate_laws.specs.Same.{SameTyped, SameSides, SameStatement, null_same, assign_same, later_same, block_same, delay_same, event_same, if_same, case_same, while_same, repeat_same, forever_same, SameItems, items_end, item_same, SameStatements, statements_end, statement_same}
 use Rattle.vs_elaborate_laws.proofs.SameEventLemmas.{one_events}
 use Rattle.vs_elaborate_laws.proofs.SameTargetLemmas.{found_width, found_sign, one_sides}
@@ -45,7 +46,7 @@ use Rattle.vs_elaborate_laws.proofs.SameTypedLemmas.{by_both, same_meant, one_ty
 -- ---- statements by their form
 
 -- a `for` of a source in a design: its assignments, its condition and its statement, and how they stand there
-record IsLoop (env : Environment) (l : Left) (a c : Expr) (m : Left) (b : Expr) (x : Stmt) (made : Statement) : Type 0 where
+record IsLoop (envs : Path → Environment) (p : Path) (l : Left) (a c : Expr) (m : Left) (b : Expr) (x : Stmt) (made : Statement) : Type 0 where
   i : ℕ
   j : ℕ
   k : ℕ
@@ -59,69 +60,71 @@ record IsLoop (env : Environment) (l : Left) (a c : Expr) (m : Left) (b : Expr) 
   inner : Vec Statement Global
   body : Box Statement Global
   one : Statement
-  first : IsAssignment Procedural env (places l) a t y
-  condition : IsOperand env c signed z
-  second : IsAssignment Procedural env (places m) b u w
-  statement : IsStatement env x one
+  first : IsAssignment Procedural (envs p) (places l) a t y
+  condition : IsOperand (envs p) c signed z
+  second : IsAssignment Procedural (envs p) (places m) b u w
+  statement : IsStatement envs p x one
   inner_is : inner.items ≡ one ∷ d.Assign k u w ∷ []
   body_is : body.value ≡ d.Block inner
   all_is : all.items ≡ d.Assign i t y ∷ d.While j z body ∷ []
   is : made ≡ d.Block all
 
 -- a `case` of a source in a design: its expressions at their common size and sign, and its items
-record IsChoice (env : Environment) (kind : CaseKind) (e : Expr) (xs : List (CaseLabel × Stmt)) (made : Statement) : Type 0 where
+record IsChoice (envs : Path → Environment) (p : Path) (kind : CaseKind) (e : Expr) (xs : List (CaseLabel × Stmt)) (made : Statement) : Type 0 where
   k : ℕ
   z : Typed
   width : ℕ
   signed : Bool
   ys : Vec (Vec Typed Global × Statement) Global
-  found : case_finding env e (map (λ (x : CaseLabel × Stmt). x.0) xs) ≡ Has width signed
-  typed : IsTypedAs (meant env e) width signed z
-  items : AreItems env width signed xs ys.items
+  found : case_finding (envs p) e (map (λ (x : CaseLabel × Stmt). x.0) xs) ≡ Has width signed
+  typed : IsTypedAs (meant (envs p) e) width signed z
+  items : AreItems envs p width signed xs ys.items
   is : made ≡ d.Case k kind z ys
 
 -- what the statement of a design is, by the form of the source's
-abbrev StatementLayer : Environment → Stmt-F Stmt → Statement → Type 0
-StatementLayer env g.Null y = (k : ℕ) × (y ≡ d.Null k)
-StatementLayer env (g.Assign n v) y = (k : ℕ) × (u : Target) × (x : Typed) × IsAssignment Procedural env (places n) v u x × (y ≡ d.Assign k u x)
-StatementLayer env (g.Later n v) y = (k : ℕ) × (u : Target) × (x : Typed) × IsAssignment Procedural env (places n) v u x × (y ≡ d.Later k u x)
-StatementLayer env (g.Block xs) y = (ys : Vec Statement Global) × AreStatements env xs.items ys.items × (y ≡ d.Block ys)
-StatementLayer env (g.If e x o) y = (k : ℕ) × (z : Typed) × (signed : Bool) × (u w : Box Statement Global) × IsOperand env e signed z × IsStatement env x.value u.value × IsElse env o w.value × (y ≡ d.If k z u w)
-StatementLayer env (g.Case kind e xs) y = IsChoice env kind e xs.items y
-StatementLayer env (g.For l a c m b x) y = IsLoop env l a c m b x.value y
-StatementLayer env (g.While e x) y = (k : ℕ) × (z : Typed) × (signed : Bool) × (u : Box Statement Global) × IsOperand env e signed z × IsStatement env x.value u.value × (y ≡ d.While k z u)
-StatementLayer env (g.Repeat e x) y = (k : ℕ) × (z : Typed) × (signed : Bool) × (u : Box Statement Global) × IsOperand env e signed z × IsStatement env x.value u.value × (y ≡ d.Repeat k signed z u)
-StatementLayer env (g.Forever x) y = (k : ℕ) × (u : Box Statement Global) × IsStatement env x.value u.value × (y ≡ d.Forever k u)
-StatementLayer env (g.Delay l x) y = (k : ℕ) × (n : Ticks) × (u : Box Statement Global) × (delay_of env l ≡ Some n.count) × IsStatement env x.value u.value × (y ≡ d.Delay k n u)
-StatementLayer env (g.Event e x) y = (k : ℕ) × (ts : Vec EventTerm Global) × (u : Box Statement Global) × IsStatement env x.value u.value × AreEvents env u.value e ts.items × (y ≡ d.Event k ts u)
+abbrev StatementLayer : (Path → Environment) → Path → Stmt-F Stmt → Statement → Type 0
+StatementLayer envs p g.Null y = (k : ℕ) × (y ≡ d.Null k)
+StatementLayer envs p (g.Assign n v) y = (k : ℕ) × (u : Target) × (x : Typed) × IsAssignment Procedural (envs p) (places n) v u x × (y ≡ d.Assign k u x)
+StatementLayer envs p (g.Later n v) y = (k : ℕ) × (u : Target) × (x : Typed) × IsAssignment Procedural (envs p) (places n) v u x × (y ≡ d.Later k u x)
+StatementLayer envs p (g.Block xs) y = (ys : Vec Statement Global) × AreStatements envs p xs.items ys.items × (y ≡ d.Block ys)
+StatementLayer envs p (g.Named n ls xs) y = (ys : Vec Statement Global) × AreStatements envs (p ++ plainly n.items ∷ []) xs.items ys.items × (y ≡ d.Block ys)
+StatementLayer envs p (g.If e x o) y = (k : ℕ) × (z : Typed) × (signed : Bool) × (u w : Box Statement Global) × IsOperand (envs p) e signed z × IsStatement envs p x.value u.value × IsElse envs p o w.value × (y ≡ d.If k z u w)
+StatementLayer envs p (g.Case kind e xs) y = IsChoice envs p kind e xs.items y
+StatementLayer envs p (g.For l a c m b x) y = IsLoop envs p l a c m b x.value y
+StatementLayer envs p (g.While e x) y = (k : ℕ) × (z : Typed) × (signed : Bool) × (u : Box Statement Global) × IsOperand (envs p) e signed z × IsStatement envs p x.value u.value × (y ≡ d.While k z u)
+StatementLayer envs p (g.Repeat e x) y = (k : ℕ) × (z : Typed) × (signed : Bool) × (u : Box Statement Global) × IsOperand (envs p) e signed z × IsStatement envs p x.value u.value × (y ≡ d.Repeat k signed z u)
+StatementLayer envs p (g.Forever x) y = (k : ℕ) × (u : Box Statement Global) × IsStatement envs p x.value u.value × (y ≡ d.Forever k u)
+StatementLayer envs p (g.Delay l x) y = (k : ℕ) × (n : Ticks) × (u : Box Statement Global) × (delay_of (envs p) l ≡ Some n.count) × IsStatement envs p x.value u.value × (y ≡ d.Delay k n u)
+StatementLayer envs p (g.Event e x) y = (k : ℕ) × (ts : Vec EventTerm Global) × (u : Box Statement Global) × IsStatement envs p x.value u.value × AreEvents (envs p) u.value e ts.items × (y ≡ d.Event k ts u)
 
 -- what a statement of this form has, its layer has, and the other way round
-layered : (env : Environment) (y : Stmt-F Stmt) (z : Stmt) (made : Statement) → roll-Stmt y ≡ z → StatementLayer env y made → StatementLayer env (out-Stmt z) made
-layered env y z made h l = subst (λ o. StatementLayer env o made) (sym (ap out-Stmt (sym h) ∙ out-roll-Stmt y)) l
+layered : (envs : Path → Environment) (p : Path) (y : Stmt-F Stmt) (z : Stmt) (made : Statement) → roll-Stmt y ≡ z → StatementLayer envs p y made → StatementLayer envs p (out-Stmt z) made
+layered envs p y z made h l = subst (λ o. StatementLayer envs p o made) (sym (ap out-Stmt (sym h) ∙ out-roll-Stmt y)) l
 
-unlayered : (env : Environment) (y : Stmt-F Stmt) (z : Stmt) (made : Statement) → roll-Stmt y ≡ z → StatementLayer env (out-Stmt z) made → StatementLayer env y made
-unlayered env y z made h l = subst (λ o. StatementLayer env o made) (ap out-Stmt (sym h) ∙ out-roll-Stmt y) l
+unlayered : (envs : Path → Environment) (p : Path) (y : Stmt-F Stmt) (z : Stmt) (made : Statement) → roll-Stmt y ≡ z → StatementLayer envs p (out-Stmt z) made → StatementLayer envs p y made
+unlayered envs p y z made h l = subst (λ o. StatementLayer envs p o made) (ap out-Stmt (sym h) ∙ out-roll-Stmt y) l
 
-statement_layer : (env : Environment) (x : Stmt) (y : Statement) → IsStatement env x y → StatementLayer env (out-Stmt x) y
-statement_layer env x y (is_null k) = layered env g.Null x y rolls-Null (k, refl)
-statement_layer env x y (is_assign l e k t v h) = layered env (g.Assign l e) x y (rolls-Assign l e) (k, t, v, h, refl)
-statement_layer env x y (is_later l e k t v h) = layered env (g.Later l e) x y (rolls-Later l e) (k, t, v, h, refl)
-statement_layer env x y (is_block xs ys h) = layered env (g.Block xs) x y (rolls-Block xs) (ys, h, refl)
-statement_layer env x y (is_if e k z signed b o u w h p q) = layered env (g.If e b o) x y (rolls-If e b o) (k, z, signed, u, w, h, p, q, refl)
-statement_layer env x y (is_case kind e k z width signed xs ys f h n p) =
-    layered env (g.Case kind e xs) x y (rolls-Case kind e xs) (record { k = k; z = z; width = width; signed = signed; ys = ys; found = f; typed = h; items = p; is = refl })
-statement_layer env x made (is_for l a c m b v i j k t u y w z signed all inner body one f h n p q r o) =
-    layered env (g.For l a c m b v) x made (rolls-For l a c m b v)
-    (record { i = i; j = j; k = k; t = t; u = u; y = y; w = w; z = z; signed = signed; all = all; inner = inner; body = body; one = one; first = f; condition = h; second = n; statement = p; inner_is = q; body_is = r; all_is = o; is = refl })
-statement_layer env x y (is_while e k z signed b u h p) = layered env (g.While e b) x y (rolls-While e b) (k, z, signed, u, h, p, refl)
-statement_layer env x y (is_repeat e k z signed b u h p) = layered env (g.Repeat e b) x y (rolls-Repeat e b) (k, z, signed, u, h, p, refl)
-statement_layer env x y (is_forever k b u p) = layered env (g.Forever b) x y (rolls-Forever b) (k, u, p, refl)
-statement_layer env x y (is_delay l k n b u h p) = layered env (g.Delay l b) x y (rolls-Delay l b) (k, n, u, h, p, refl)
-statement_layer env x y (is_event e k ts b u p h) = layered env (g.Event e b) x y (rolls-Event e b) (k, ts, u, p, h, refl)
+statement_layer : (envs : Path → Environment) (p : Path) (x : Stmt) (y : Statement) → IsStatement envs p x y → StatementLayer envs p (out-Stmt x) y
+statement_layer envs p x y (is_null _ k) = layered envs p g.Null x y rolls-Null (k, refl)
+statement_layer envs p x y (is_assign _ l e k t v h) = layered envs p (g.Assign l e) x y (rolls-Assign l e) (k, t, v, h, refl)
+statement_layer envs p x y (is_later _ l e k t v h) = layered envs p (g.Later l e) x y (rolls-Later l e) (k, t, v, h, refl)
+statement_layer envs p x y (is_block _ xs ys h) = layered envs p (g.Block xs) x y (rolls-Block xs) (ys, h, refl)
+statement_layer envs p x y (is_named _ n ls xs ys h) = layered envs p (g.Named n ls xs) x y (rolls-Named n ls xs) (ys, h, refl)
+statement_layer envs p x y (is_if _ e k z signed b o u w h m q) = layered envs p (g.If e b o) x y (rolls-If e b o) (k, z, signed, u, w, h, m, q, refl)
+statement_layer envs p x y (is_case _ kind e k z width signed xs ys f h n m) =
+    layered envs p (g.Case kind e xs) x y (rolls-Case kind e xs) (record { k = k; z = z; width = width; signed = signed; ys = ys; found = f; typed = h; items = m; is = refl })
+statement_layer envs p x made (is_for _ l a c m b v i j k t u y w z signed all inner body one f h n e q r o) =
+    layered envs p (g.For l a c m b v) x made (rolls-For l a c m b v)
+    (record { i = i; j = j; k = k; t = t; u = u; y = y; w = w; z = z; signed = signed; all = all; inner = inner; body = body; one = one; first = f; condition = h; second = n; statement = e; inner_is = q; body_is = r; all_is = o; is = refl })
+statement_layer envs p x y (is_while _ e k z signed b u h m) = layered envs p (g.While e b) x y (rolls-While e b) (k, z, signed, u, h, m, refl)
+statement_layer envs p x y (is_repeat _ e k z signed b u h m) = layered envs p (g.Repeat e b) x y (rolls-Repeat e b) (k, z, signed, u, h, m, refl)
+statement_layer envs p x y (is_forever _ k b u m) = layered envs p (g.Forever b) x y (rolls-Forever b) (k, u, m, refl)
+statement_layer envs p x y (is_delay _ l k n b u h m) = layered envs p (g.Delay l b) x y (rolls-Delay l b) (k, n, u, h, m, refl)
+statement_layer envs p x y (is_event _ e k ts b u m h) = layered envs p (g.Event e b) x y (rolls-Event e b) (k, ts, u, m, h, refl)
 
 -- the layer of a statement of a known form
-by_form : (env : Environment) (y : Stmt-F Stmt) (z : Stmt) (made : Statement) → roll-Stmt y ≡ z → IsStatement env z made → StatementLayer env y made
-by_form env y z made h k = unlayered env y z made h (statement_layer env z made k)
+by_form : (envs : Path → Environment) (p : Path) (y : Stmt-F Stmt) (z : Stmt) (made : Statement) → roll-Stmt y ≡ z → IsStatement envs p z made → StatementLayer envs p y made
+by_form envs p y z made h k = unlayered envs p y z made h (statement_layer envs p z made k)
 
 -- ---- expressions and delays
 
@@ -184,9 +187,9 @@ one_labels env w g _ _ _ _ (same_more_exprs x x' xs xs' m r) (more_typed _ y _ y
 -- ---- statements
 
 -- loops whose parts say the same
-loops_same : (env : Environment) (l l' : Left) (a a' c c' : Expr) (m m' : Left) (b b' : Expr) (x x' : Stmt) (y y' : Statement) (p : IsLoop env l a c m b x y) (q : IsLoop env l' a' c' m' b' x' y') →
+loops_same : (envs : Path → Environment) (at : Path) (l l' : Left) (a a' c c' : Expr) (m m' : Left) (b b' : Expr) (x x' : Stmt) (y y' : Statement) (p : IsLoop envs at l a c m b x y) (q : IsLoop envs at l' a' c' m' b' x' y') →
     SameSides p.t q.t p.y q.y → SameTyped p.z q.z → SameSides p.u q.u p.w q.w → SameStatement p.one q.one → SameStatement y y'
-loops_same env l l' a a' c c' m m' b b' x x' y y' p q first condition second statement =
+loops_same envs at l l' a a' c c' m m' b b' x x' y y' p q first condition second statement =
     let inside = by_both SameStatements p.inner.items q.inner.items _ _ p.inner_is q.inner_is
     (statement_same p.one q.one _ _ statement (statement_same _ _ [] [] (assign_same p.k q.k p.u q.u p.w q.w second) statements_end)) in
     let body = by_both SameStatement p.body.value q.body.value _ _ p.body_is q.body_is (block_same p.inner q.inner inside) in
@@ -196,82 +199,87 @@ loops_same env l l' a a' c c' m m' b b' x x' y y' p q first condition second sta
 
 mutual
   -- statements that say the same are one in a design
-  pub one_statement : (env : Environment) (x x' : Stmt) (y y' : Statement) → SameStmt x x' → IsStatement env x y → IsStatement env x' y' → SameStatement y y'
-  one_statement env _ _ y y' same_null h k =
-      let p = by_form env g.Null s.Null y rolls-Null h in
-      let q = by_form env g.Null s.Null y' rolls-Null k in
+  pub one_statement : (envs : Path → Environment) (at : Path) (x x' : Stmt) (y y' : Statement) → SameStmt x x' → IsStatement envs at x y → IsStatement envs at x' y' → SameStatement y y'
+  one_statement envs at _ _ y y' same_null h k =
+      let p = by_form envs at g.Null s.Null y rolls-Null h in
+      let q = by_form envs at g.Null s.Null y' rolls-Null k in
       by_both SameStatement y y' _ _ p.1 q.1 (null_same p.0 q.0)
-  one_statement env _ _ y y' (same_assign l l' e e' i m) h k =
-      let p = by_form env (g.Assign l e) (s.Assign l e) y (rolls-Assign l e) h in
-      let q = by_form env (g.Assign l' e') (s.Assign l' e') y' (rolls-Assign l' e') k in
-      by_both SameStatement y y' _ _ p.4 q.4 (assign_same p.0 q.0 p.1 q.1 p.2 q.2 (one_sides Procedural env (places l) (places l') e e' p.1 q.1 p.2 q.2 i m p.3 q.3))
-  one_statement env _ _ y y' (same_later l l' e e' i m) h k =
-      let p = by_form env (g.Later l e) (s.Later l e) y (rolls-Later l e) h in
-      let q = by_form env (g.Later l' e') (s.Later l' e') y' (rolls-Later l' e') k in
-      by_both SameStatement y y' _ _ p.4 q.4 (later_same p.0 q.0 p.1 q.1 p.2 q.2 (one_sides Procedural env (places l) (places l') e e' p.1 q.1 p.2 q.2 i m p.3 q.3))
-  one_statement env _ _ y y' (same_block xs xs' m) h k =
-      let p = by_form env (g.Block xs) (s.Block xs) y (rolls-Block xs) h in
-      let q = by_form env (g.Block xs') (s.Block xs') y' (rolls-Block xs') k in
-      by_both SameStatement y y' _ _ p.2 q.2 (block_same p.0 q.0 (one_statements env xs.items xs'.items p.0.items q.0.items m p.1 q.1))
-  one_statement env _ _ y y' (same_if e e' x x' o o' i m r) h k =
-      let p = by_form env (g.If e x o) (s.If e x o) y (rolls-If e x o) h in
-      let q = by_form env (g.If e' x' o') (s.If e' x' o') y' (rolls-If e' x' o') k in
+  one_statement envs at _ _ y y' (same_assign l l' e e' i m) h k =
+      let p = by_form envs at (g.Assign l e) (s.Assign l e) y (rolls-Assign l e) h in
+      let q = by_form envs at (g.Assign l' e') (s.Assign l' e') y' (rolls-Assign l' e') k in
+      by_both SameStatement y y' _ _ p.4 q.4 (assign_same p.0 q.0 p.1 q.1 p.2 q.2 (one_sides Procedural (envs at) (places l) (places l') e e' p.1 q.1 p.2 q.2 i m p.3 q.3))
+  one_statement envs at _ _ y y' (same_later l l' e e' i m) h k =
+      let p = by_form envs at (g.Later l e) (s.Later l e) y (rolls-Later l e) h in
+      let q = by_form envs at (g.Later l' e') (s.Later l' e') y' (rolls-Later l' e') k in
+      by_both SameStatement y y' _ _ p.4 q.4 (later_same p.0 q.0 p.1 q.1 p.2 q.2 (one_sides Procedural (envs at) (places l) (places l') e e' p.1 q.1 p.2 q.2 i m p.3 q.3))
+  one_statement envs at _ _ y y' (same_block xs xs' m) h k =
+      let p = by_form envs at (g.Block xs) (s.Block xs) y (rolls-Block xs) h in
+      let q = by_form envs at (g.Block xs') (s.Block xs') y' (rolls-Block xs') k in
+      by_both SameStatement y y' _ _ p.2 q.2 (block_same p.0 q.0 (one_statements envs at xs.items xs'.items p.0.items q.0.items m p.1 q.1))
+  one_statement envs at _ _ y y' (same_named_block n n' ls ls' xs xs' i m r) h k =
+      let p = by_form envs at (g.Named n ls xs) (s.Named n ls xs) y (rolls-Named n ls xs) h in
+      let q = by_form envs at (g.Named n' ls' xs') (s.Named n' ls' xs') y' (rolls-Named n' ls' xs') k in
+      let inside : AreStatements envs (at ++ plainly n.items ∷ []) xs'.items q.0.items = subst (λ z. AreStatements envs (at ++ plainly z ∷ []) xs'.items q.0.items) (sym i) q.1 in
+      by_both SameStatement y y' _ _ p.2 q.2 (block_same p.0 q.0 (one_statements envs (at ++ plainly n.items ∷ []) xs.items xs'.items p.0.items q.0.items r p.1 inside))
+  one_statement envs at _ _ y y' (same_if e e' x x' o o' i m r) h k =
+      let p = by_form envs at (g.If e x o) (s.If e x o) y (rolls-If e x o) h in
+      let q = by_form envs at (g.If e' x' o') (s.If e' x' o') y' (rolls-If e' x' o') k in
       by_both SameStatement y y' _ _ p.8 q.8
-      (if_same p.0 q.0 p.1 q.1 p.3 q.3 p.4 q.4 (one_operand env e e' p.2 q.2 p.1 q.1 i p.5 q.5) (one_statement env x.value x'.value p.3.value q.3.value m p.6 q.6) (one_else env o o' p.4.value q.4.value r p.7 q.7))
-  one_statement env _ _ y y' (same_case kind e e' xs xs' i m) h k =
-      let p = by_form env (g.Case kind e xs) (s.Case kind e xs) y (rolls-Case kind e xs) h in
-      let q = by_form env (g.Case kind e' xs') (s.Case kind e' xs') y' (rolls-Case kind e' xs') k in
+      (if_same p.0 q.0 p.1 q.1 p.3 q.3 p.4 q.4 (one_operand (envs at) e e' p.2 q.2 p.1 q.1 i p.5 q.5) (one_statement envs at x.value x'.value p.3.value q.3.value m p.6 q.6) (one_else envs at o o' p.4.value q.4.value r p.7 q.7))
+  one_statement envs at _ _ y y' (same_case kind e e' xs xs' i m) h k =
+      let p = by_form envs at (g.Case kind e xs) (s.Case kind e xs) y (rolls-Case kind e xs) h in
+      let q = by_form envs at (g.Case kind e' xs') (s.Case kind e' xs') y' (rolls-Case kind e' xs') k in
       let one : Has p.width p.signed ≡ Has q.width q.signed
-      = sym p.found ∙ same_common env (meant env e).finding (meant env e').finding (exprs_of xs.items) (exprs_of xs'.items) (ap (λ v. v.finding) (same_meant env e e' i)) (same_item_exprs xs.items xs'.items m) ∙ q.found in
+      = sym p.found ∙ same_common (envs at) (meant (envs at) e).finding (meant (envs at) e').finding (exprs_of xs.items) (exprs_of xs'.items) (ap (λ v. v.finding) (same_meant (envs at) e e' i)) (same_item_exprs xs.items xs'.items m) ∙ q.found in
       by_both SameStatement y y' _ _ p.is q.is
-      (case_same p.k q.k kind p.z q.z p.ys q.ys (found_typed env e e' p.width q.width p.signed q.signed p.z q.z i one p.typed q.typed)
-      (one_items env p.width q.width p.signed q.signed xs.items xs'.items p.ys.items q.ys.items (ap found_width one) (ap found_sign one) m p.items q.items))
-  one_statement env _ _ y y' (same_for l l' a a' c c' n n' b b' x x' i1 i2 i3 i4 i5 m) h k =
-      let p = by_form env (g.For l a c n b x) (s.For l a c n b x) y (rolls-For l a c n b x) h in
-      let q = by_form env (g.For l' a' c' n' b' x') (s.For l' a' c' n' b' x') y' (rolls-For l' a' c' n' b' x') k in
-      loops_same env l l' a a' c c' n n' b b' x.value x'.value y y' p q (one_sides Procedural env (places l) (places l') a a' p.t q.t p.y q.y i1 i2 p.first q.first)
-      (one_operand env c c' p.signed q.signed p.z q.z i3 p.condition q.condition) (one_sides Procedural env (places n) (places n') b b' p.u q.u p.w q.w i4 i5 p.second q.second)
-      (one_statement env x.value x'.value p.one q.one m p.statement q.statement)
-  one_statement env _ _ y y' (same_while e e' x x' i m) h k =
-      let p = by_form env (g.While e x) (s.While e x) y (rolls-While e x) h in
-      let q = by_form env (g.While e' x') (s.While e' x') y' (rolls-While e' x') k in
-      by_both SameStatement y y' _ _ p.6 q.6 (while_same p.0 q.0 p.1 q.1 p.3 q.3 (one_operand env e e' p.2 q.2 p.1 q.1 i p.4 q.4) (one_statement env x.value x'.value p.3.value q.3.value m p.5 q.5))
-  one_statement env _ _ y y' (same_repeated e e' x x' i m) h k =
-      let p = by_form env (g.Repeat e x) (s.Repeat e x) y (rolls-Repeat e x) h in
-      let q = by_form env (g.Repeat e' x') (s.Repeat e' x') y' (rolls-Repeat e' x') k in
-      by_both SameStatement y y' _ _ p.6 (q.6 ∙ ap (λ z. d.Repeat q.0 z q.1 q.3) (sym (one_sign env e e' p.2 q.2 p.1 q.1 i p.4 q.4)))
-      (repeat_same p.0 q.0 p.2 p.1 q.1 p.3 q.3 (one_operand env e e' p.2 q.2 p.1 q.1 i p.4 q.4) (one_statement env x.value x'.value p.3.value q.3.value m p.5 q.5))
-  one_statement env _ _ y y' (same_forever x x' m) h k =
-      let p = by_form env (g.Forever x) (s.Forever x) y (rolls-Forever x) h in
-      let q = by_form env (g.Forever x') (s.Forever x') y' (rolls-Forever x') k in
-      by_both SameStatement y y' _ _ p.3 q.3 (forever_same p.0 q.0 p.1 q.1 (one_statement env x.value x'.value p.1.value q.1.value m p.2 q.2))
-  one_statement env _ _ y y' (same_delay l l' x x' i m) h k =
-      let p = by_form env (g.Delay l x) (s.Delay l x) y (rolls-Delay l x) h in
-      let q = by_form env (g.Delay l' x') (s.Delay l' x') y' (rolls-Delay l' x') k in
+      (case_same p.k q.k kind p.z q.z p.ys q.ys (found_typed (envs at) e e' p.width q.width p.signed q.signed p.z q.z i one p.typed q.typed)
+      (one_items envs at p.width q.width p.signed q.signed xs.items xs'.items p.ys.items q.ys.items (ap found_width one) (ap found_sign one) m p.items q.items))
+  one_statement envs at _ _ y y' (same_for l l' a a' c c' n n' b b' x x' i1 i2 i3 i4 i5 m) h k =
+      let p = by_form envs at (g.For l a c n b x) (s.For l a c n b x) y (rolls-For l a c n b x) h in
+      let q = by_form envs at (g.For l' a' c' n' b' x') (s.For l' a' c' n' b' x') y' (rolls-For l' a' c' n' b' x') k in
+      loops_same envs at l l' a a' c c' n n' b b' x.value x'.value y y' p q (one_sides Procedural (envs at) (places l) (places l') a a' p.t q.t p.y q.y i1 i2 p.first q.first)
+      (one_operand (envs at) c c' p.signed q.signed p.z q.z i3 p.condition q.condition) (one_sides Procedural (envs at) (places n) (places n') b b' p.u q.u p.w q.w i4 i5 p.second q.second)
+      (one_statement envs at x.value x'.value p.one q.one m p.statement q.statement)
+  one_statement envs at _ _ y y' (same_while e e' x x' i m) h k =
+      let p = by_form envs at (g.While e x) (s.While e x) y (rolls-While e x) h in
+      let q = by_form envs at (g.While e' x') (s.While e' x') y' (rolls-While e' x') k in
+      by_both SameStatement y y' _ _ p.6 q.6 (while_same p.0 q.0 p.1 q.1 p.3 q.3 (one_operand (envs at) e e' p.2 q.2 p.1 q.1 i p.4 q.4) (one_statement envs at x.value x'.value p.3.value q.3.value m p.5 q.5))
+  one_statement envs at _ _ y y' (same_repeated e e' x x' i m) h k =
+      let p = by_form envs at (g.Repeat e x) (s.Repeat e x) y (rolls-Repeat e x) h in
+      let q = by_form envs at (g.Repeat e' x') (s.Repeat e' x') y' (rolls-Repeat e' x') k in
+      by_both SameStatement y y' _ _ p.6 (q.6 ∙ ap (λ z. d.Repeat q.0 z q.1 q.3) (sym (one_sign (envs at) e e' p.2 q.2 p.1 q.1 i p.4 q.4)))
+      (repeat_same p.0 q.0 p.2 p.1 q.1 p.3 q.3 (one_operand (envs at) e e' p.2 q.2 p.1 q.1 i p.4 q.4) (one_statement envs at x.value x'.value p.3.value q.3.value m p.5 q.5))
+  one_statement envs at _ _ y y' (same_forever x x' m) h k =
+      let p = by_form envs at (g.Forever x) (s.Forever x) y (rolls-Forever x) h in
+      let q = by_form envs at (g.Forever x') (s.Forever x') y' (rolls-Forever x') k in
+      by_both SameStatement y y' _ _ p.3 q.3 (forever_same p.0 q.0 p.1 q.1 (one_statement envs at x.value x'.value p.1.value q.1.value m p.2 q.2))
+  one_statement envs at _ _ y y' (same_delay l l' x x' i m) h k =
+      let p = by_form envs at (g.Delay l x) (s.Delay l x) y (rolls-Delay l x) h in
+      let q = by_form envs at (g.Delay l' x') (s.Delay l' x') y' (rolls-Delay l' x') k in
       by_both SameStatement y y' _ _ p.5 q.5
-      (delay_same p.0 q.0 p.1 q.1 p.2 q.2 (same_Some p.1.count q.1.count (sym p.3 ∙ same_ticks env l l' i ∙ q.3)) (one_statement env x.value x'.value p.2.value q.2.value m p.4 q.4))
-  one_statement env _ _ y y' (same_event e e' x x' i m) h k =
-      let p = by_form env (g.Event e x) (s.Event e x) y (rolls-Event e x) h in
-      let q = by_form env (g.Event e' x') (s.Event e' x') y' (rolls-Event e' x') k in
-      let body = one_statement env x.value x'.value p.2.value q.2.value m p.3 q.3 in
-      by_both SameStatement y y' _ _ p.5 q.5 (event_same p.0 q.0 p.1 q.1 p.2 q.2 (one_events env p.2.value q.2.value e e' p.1.items q.1.items body i p.4 q.4) body)
+      (delay_same p.0 q.0 p.1 q.1 p.2 q.2 (same_Some p.1.count q.1.count (sym p.3 ∙ same_ticks (envs at) l l' i ∙ q.3)) (one_statement envs at x.value x'.value p.2.value q.2.value m p.4 q.4))
+  one_statement envs at _ _ y y' (same_event e e' x x' i m) h k =
+      let p = by_form envs at (g.Event e x) (s.Event e x) y (rolls-Event e x) h in
+      let q = by_form envs at (g.Event e' x') (s.Event e' x') y' (rolls-Event e' x') k in
+      let body = one_statement envs at x.value x'.value p.2.value q.2.value m p.3 q.3 in
+      by_both SameStatement y y' _ _ p.5 q.5 (event_same p.0 q.0 p.1 q.1 p.2 q.2 (one_events (envs at) p.2.value q.2.value e e' p.1.items q.1.items body i p.4 q.4) body)
 
-  one_else : (env : Environment) (o o' : Option (Box Stmt Global)) (y y' : Statement) → SameElse o o' → IsElse env o y → IsElse env o' y' → SameStatement y y'
-  one_else env _ _ _ _ same_no_else (no_else ys h) (no_else ys' k) = block_same ys ys' (by_both SameStatements ys.items ys'.items [] [] h k statements_end)
-  one_else env _ _ _ _ (same_else x x' m) (an_else _ y h) (an_else _ y' k) = one_statement env x.value x'.value y y' m h k
+  one_else : (envs : Path → Environment) (at : Path) (o o' : Option (Box Stmt Global)) (y y' : Statement) → SameElse o o' → IsElse envs at o y → IsElse envs at o' y' → SameStatement y y'
+  one_else envs at _ _ _ _ same_no_else (no_else _ ys h) (no_else _ ys' k) = block_same ys ys' (by_both SameStatements ys.items ys'.items [] [] h k statements_end)
+  one_else envs at _ _ _ _ (same_else x x' m) (an_else _ _ y h) (an_else _ _ y' k) = one_statement envs at x.value x'.value y y' m h k
 
-  one_items : (env : Environment) (w w' : ℕ) (g g' : Bool) (xs xs' : List (CaseLabel × Stmt)) (ys ys' : List (Vec Typed Global × Statement)) → w ≡ w' → g ≡ g' → SameCaseItems xs xs' →
-      AreItems env w g xs ys → AreItems env w' g' xs' ys' → SameItems ys ys'
-  one_items env w w' g g' _ _ _ _ i j same_no_item (no_items _ _) (no_items _ _) = items_end
-  one_items env w w' g g' _ _ _ _ i j (same_more_items x x' xs xs' m n r) (more_items _ _ _ y _ ys h p hs) (more_items _ _ _ y' _ ys' k q ks) =
-      let sized = subst (λ z. AreTypedAt env z g (label_exprs x'.0) y'.0.items) (sym i) (subst (λ z. AreTypedAt env w' z (label_exprs x'.0) y'.0.items) (sym j) k) in
-      item_same y y' ys ys' (one_labels env w g (label_exprs x.0) (label_exprs x'.0) y.0.items y'.0.items (same_label_exprs x.0 x'.0 m) h sized) (one_statement env x.1 x'.1 y.1 y'.1 n p q)
-      (one_items env w w' g g' xs xs' ys ys' i j r hs ks)
+  one_items : (envs : Path → Environment) (at : Path) (w w' : ℕ) (g g' : Bool) (xs xs' : List (CaseLabel × Stmt)) (ys ys' : List (Vec Typed Global × Statement)) → w ≡ w' → g ≡ g' → SameCaseItems xs xs' →
+      AreItems envs at w g xs ys → AreItems envs at w' g' xs' ys' → SameItems ys ys'
+  one_items envs at w w' g g' _ _ _ _ i j same_no_item (no_items _ _ _) (no_items _ _ _) = items_end
+  one_items envs at w w' g g' _ _ _ _ i j (same_more_items x x' xs xs' m n r) (more_items _ _ _ _ y _ ys h p hs) (more_items _ _ _ _ y' _ ys' k q ks) =
+      let sized = subst (λ z. AreTypedAt (envs at) z g (label_exprs x'.0) y'.0.items) (sym i) (subst (λ z. AreTypedAt (envs at) w' z (label_exprs x'.0) y'.0.items) (sym j) k) in
+      item_same y y' ys ys' (one_labels (envs at) w g (label_exprs x.0) (label_exprs x'.0) y.0.items y'.0.items (same_label_exprs x.0 x'.0 m) h sized) (one_statement envs at x.1 x'.1 y.1 y'.1 n p q)
+      (one_items envs at w w' g g' xs xs' ys ys' i j r hs ks)
 
-  one_statements : (env : Environment) (xs xs' : List Stmt) (ys ys' : List Statement) → SameStmts xs xs' → AreStatements env xs ys → AreStatements env xs' ys' → SameStatements ys ys'
-  one_statements env _ _ _ _ same_no_stmt are_none are_none = statements_end
-  one_statements env _ _ _ _ (same_more_stmts x x' xs xs' m r) (are_more _ y _ ys h k) (are_more _ y' _ ys' h' k') =
-      statement_same y y' ys ys' (one_statement env x x' y y' m h h') (one_statements env xs xs' ys ys' r k k')
+  one_statements : (envs : Path → Environment) (at : Path) (xs xs' : List Stmt) (ys ys' : List Statement) → SameStmts xs xs' → AreStatements envs at xs ys → AreStatements envs at xs' ys' → SameStatements ys ys'
+  one_statements envs at _ _ _ _ same_no_stmt (are_none _) (are_none _) = statements_end
+  one_statements envs at _ _ _ _ (same_more_stmts x x' xs xs' m r) (are_more _ _ y _ ys h k) (are_more _ _ y' _ ys' h' k') =
+      statement_same y y' ys ys' (one_statement envs at x x' y y' m h h') (one_statements envs at xs xs' ys ys' r k k')
 
 -- ---- the numbers of statements
 

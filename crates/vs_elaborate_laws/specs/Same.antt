@@ -22,7 +22,7 @@ use Rattle.vs_design.specs.Uses.{reads, writes, target_reads}
 use Rattle.vs_design.specs.WellFormed.{size_of, numbers}
 use Rattle.vs_eval.specs.Values.{value_of}
 use Rattle.vs_eval.specs.Targets.{assigned}
-use Rattle.vs_elaborate.specs.DesignOf.{declared}
+use Rattle.vs_opened.specs.Outlines.{declared}
 
 -- The expressions say the same: one size, one value in every store, and the same ranges read (clauses 5.4 and 5.5).
 pub record SameTyped (x x' : Typed) : Type 0 where

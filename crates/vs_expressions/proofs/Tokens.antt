@@ -1,13 +1,15 @@
 -- Single tokens as symbols.
 use Rattle.std.specs.Prelude.{◌≡◌, ℕ, Bool, false, List, [], ◌∷◌, Option, None, Some, refl}
 use Rattle.std.proofs.Common.{sym, ◌∙◌, ap}
+use Rattle.vs_tokens.specs.declared.token.Directive.{Directive}
+use Rattle.vs_tokens.specs.declared.token.Directive.TheVariants as d
 use Rattle.vs_tokens.specs.declared.token.Kind.{Kind}
 use Rattle.vs_tokens.specs.declared.token.Kind.TheVariants as k
 use Rattle.vs_tokens.specs.declared.token.Literal.{Literal}
 use Rattle.vs_tokens.specs.declared.token.Mark.{Mark}
 use Rattle.vs_tokens.specs.declared.token.Token.{Token}
 use Rattle.vs_lexer.specs.Tokens.{name_of}
-use Rattle.vs_syntax.specs.Symbols.{Symbol, a_name, a_number, Class, the_mark, any_name, any_number, the_cast, any_other, class_of, cast_of, system_symbol, symbol_of, same_class}
+use Rattle.vs_syntax.specs.Symbols.{Symbol, a_name, a_number, Class, the_mark, any_name, any_number, the_cast, the_nettype, any_other, class_of, cast_of, system_symbol, directive_symbol, symbol_of, same_class}
 use Rattle.vs_syntax.specs.Grammar.{token, name, number}
 use Rattle.vs_syntax.specs.Tables.{goes}
 use Rattle.vs_syntax.specs.Derivation.{leaf}
@@ -40,21 +42,29 @@ system_class : (c : Class) (s : Option Bool) → same_class the_cast c ≡ false
 system_class c None h i = i
 system_class c (Some s) h i = h
 
+-- the same of a directive
+directive_class : (c : Class) (x : Directive) → same_class the_nettype c ≡ false → same_class any_other c ≡ false → same_class (class_of (directive_symbol x)) c ≡ false
+directive_class c (d.DefaultNettype x) h i = h
+directive_class c (d.Timescale u p) h i = i
+
 -- no name and no number
 pub no_name : (kind : Kind) (bytes : List ℕ) → (kind ≡ k.Name → ⊥) → same_class (class_of (symbol_of kind bytes)) any_name ≡ false
 no_name k.Name bytes f = absurd (f refl)
 no_name k.System bytes f = system_class any_name (cast_of bytes) refl refl
+no_name (k.Directive x) bytes f = directive_class any_name x refl refl
 no_name _ bytes f = refl
 
 pub no_number : (kind : Kind) (bytes : List ℕ) → ((l : Literal) → kind ≡ k.Number l → ⊥) → same_class (class_of (symbol_of kind bytes)) any_number ≡ false
 no_number (k.Number l) bytes f = absurd (f l refl)
 no_number k.System bytes f = system_class any_number (cast_of bytes) refl refl
+no_number (k.Directive x) bytes f = directive_class any_number x refl refl
 no_number _ bytes f = refl
 
 -- no mark
 pub no_mark : (kind : Kind) (bytes : List ℕ) (x : Mark) → ((y : Mark) → kind ≡ k.Mark y → ⊥) → same_class (class_of (symbol_of kind bytes)) (the_mark x) ≡ false
 no_mark (k.Mark y) bytes x f = absurd (f y refl)
 no_mark k.System bytes x f = system_class (the_mark x) (cast_of bytes) refl refl
+no_mark (k.Directive y) bytes x f = directive_class (the_mark x) y refl refl
 no_mark _ bytes x f = refl
 
 -- no token

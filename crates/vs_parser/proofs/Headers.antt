@@ -7,10 +7,10 @@ use Rattle.vs_tokens.specs.declared.token.Mark.TheVariants as m
 use Rattle.vs_tokens.specs.declared.token.Word.TheVariants as w
 use Rattle.vs_tokens.specs.declared.token.Token.{Token}
 use Rattle.vs_syntax.specs.Symbols.{Symbol, a_mark, a_word, the_word, first}
-use Rattle.vs_syntax.specs.Grammar.{Grammar, nothing, either, ◌·◌, ◌or◌, part, mark, word, name, form, parameter_form, port_form, header_parameters, a_constant, a_header_parameter, a_port}
+use Rattle.vs_syntax.specs.Grammar.{Part, Grammar, nothing, either, ◌·◌, ◌or◌, part, mark, word, name, form, parameter_form, port_form, header_parameters, a_constant, a_header_parameter, a_port_name}
 use Rattle.vs_syntax.specs.Tables.{among, fronts, goes}
 use Rattle.vs_syntax.specs.Derivation.{Tree, empty, leaf, both}
-use Rattle.vs_syntax.specs.Reading.{Gets, Stuck, stuck_second, stuck_left}
+use Rattle.vs_syntax.specs.Reading.{Gets, Stuck, stuck_second, stuck_left, stuck_right}
 use Rattle.vs_syntax.specs.Views.{header_parameter_tree, header_parameters_tree, direction_word, kind_tree, port_tree, ports_tree}
 use Rattle.vs_syntax.specs.declared.tree.Direction.{Direction}
 use Rattle.vs_syntax.specs.declared.tree.Direction.TheVariants as o
@@ -24,9 +24,9 @@ use Rattle.vs_expressions.specs.declared.reading.Read.{Read}
 use Rattle.vs_expressions.specs.declared.reading.Stop.{Stop}
 use Rattle.vs_expressions.specs.Answers.{seen, Fails, Reads}
 use Rattle.vs_expressions.proofs.Exits.{fails_by, goes_at}
-use Rattle.vs_parser.specs.Heads.{port_kind, kind_word, ports_within}
+use Rattle.vs_parser.specs.Heads.{port_kind, kind_word, told_ports, named_ports, ports_within}
 use Rattle.vs_statements.specs.Lists.{behind_commas, Grown}
-use Rattle.vs_parser.proofs.Declarations.{present_read}
+use Rattle.vs_statements.proofs.Forms.{present_read}
 use Rattle.vs_statements.proofs.Lists.{grown_one}
 
 -- neither of two parts
@@ -68,29 +68,47 @@ port_form_stuck room deep d ts after at e s = rw e (stuck_second (direction_read
 pub port_form_read : (room : ℕ) (d : Direction) (ts after rest : List Symbol) (x : Tree) → ts ≡ a_word (direction_word d) ∷ after → Gets (port_kind · form) room after x rest → Gets port_form room ts (both (leaf (a_word (direction_word d))) x) rest
 port_form_read room d ts after rest x e p = rw e (gets_seq (direction_read d room after) p)
 
--- the ports in parentheses
-abbrev pub listed_ports : Grammar
-listed_ports = (port_form · name) · behind_commas (part a_port)
+-- the ports in parentheses, the first with its direction
+told_goes : (d : Direction) (ts after : List Symbol) → ts ≡ a_word (direction_word d) ∷ after → goes told_ports ts ≡ true
+told_goes d ts after e = direction_goes d ts after e
 
-pub no_ports : (room : ℕ) (ts : List Symbol) (xs : List Port) → goes direction ts ≡ false → xs ≡ [] → Gets ports_within room ts (ports_tree (map port_tree xs)) ts
-no_ports room ts xs h e = subst (λ u. Gets ports_within room ts (ports_tree (map port_tree u)) ts) (sym e) (gets_right h gets_nothing)
+-- the ports behind the first one, by what reading them answers
+pub more_ports : (room : ℕ) (a : Grammar) (p : Part) (ts us : List Token) (x : Port) (xs : List Port) (r : Result (Read (Vec Port Global)) Stop) → Gets a room (seen ts) (port_tree x) (seen us) → xs ≡ x ∷ [] →
+    MatchResult r (λ y. Grown (part p) room port_tree (seen us) (seen y.rest.now) xs y.tree.items) (λ e. Fails (behind_commas (part p)) room (seen us) e) → Reads (a · behind_commas (part p)) room ts (λ ps. ports_tree (map port_tree ps.items)) r
+more_ports room a p ts us x xs (Ok y) q h g =
+    grown_one (part p) room port_tree (seen us) (seen y.rest.now) x xs y.tree.items (λ u. Gets (a · behind_commas (part p)) room (seen ts) (ports_tree (map port_tree u)) (seen y.rest.now)) g h
+    (gets_seq q g.gets)
+more_ports room a p ts us x xs (Err s) q h g =
+    fails_by (behind_commas (part p)) (a · behind_commas (part p)) room room (seen us) (seen ts) (λ deep at t. stuck_second q t) s g
 
-listed_goes : (d : Direction) (ts after : List Symbol) → ts ≡ a_word (direction_word d) ∷ after → goes listed_ports ts ≡ true
-listed_goes d ts after e = direction_goes d ts after e
-
-pub ports_stuck : (room : ℕ) (deep : Bool) (d : Direction) (ts after at : List Symbol) → ts ≡ a_word (direction_word d) ∷ after → Stuck listed_ports room deep ts at → Stuck ports_within room deep ts at
-ports_stuck room deep d ts after at e s =
+-- either list, by what reading it answers
+pub told_answers : (room : ℕ) (d : Direction) (ts : List Token) (after : List Symbol) (r : Result (Read (Vec Port Global)) Stop) → seen ts ≡ a_word (direction_word d) ∷ after → Reads told_ports room ts (λ ps. ports_tree (map port_tree ps.items)) r → Reads ports_within room ts (λ ps. ports_tree (map port_tree ps.items)) r
+told_answers room d ts after (Ok y) e q = gets_left (told_goes d (seen ts) after e) q
+told_answers room d ts after (Err s) e q =
     let none : 0 ≤ room = omega arith in
-    stuck_left (listed_goes d ts after e) none s
+    fails_by told_ports ports_within room room (seen ts) (seen ts) (λ deep at t. stuck_left (told_goes d (seen ts) after e) none t) s q
 
--- the ports, by what reading those behind the first one answers
-pub ports_answers : (room : ℕ) (d : Direction) (ts us : List Token) (after : List Symbol) (x : Port) (xs : List Port) (r : Result (Read (Vec Port Global)) Stop) → seen ts ≡ a_word (direction_word d) ∷ after → Gets (port_form · name) room (seen ts) (port_tree x) (seen us) → xs ≡ x ∷ [] →
-    MatchResult r (λ y. Grown (part a_port) room port_tree (seen us) (seen y.rest.now) xs y.tree.items) (λ e. Fails (behind_commas (part a_port)) room (seen us) e) → Reads ports_within room ts (λ ps. ports_tree (map port_tree ps.items)) r
-ports_answers room d ts us after x xs (Ok y) e p h q =
-    grown_one (part a_port) room port_tree (seen us) (seen y.rest.now) x xs y.tree.items (λ u. Gets ports_within room (seen ts) (ports_tree (map port_tree u)) (seen y.rest.now)) q h
-    (gets_left (listed_goes d (seen ts) after e) (gets_seq p q.gets))
-ports_answers room d ts us after x xs (Err s) e p h q =
-    fails_by (behind_commas (part a_port)) ports_within room room (seen us) (seen ts) (λ deep at t. ports_stuck room deep d (seen ts) after at e (stuck_second p t)) s q
+pub named_answers : (room : ℕ) (ts : List Token) (r : Result (Read (Vec Port Global)) Stop) → goes direction (seen ts) ≡ false → Reads named_ports room ts (λ ps. ports_tree (map port_tree ps.items)) r → Reads ports_within room ts (λ ps. ports_tree (map port_tree ps.items)) r
+named_answers room ts (Ok y) h q = gets_right h q
+named_answers room ts (Err s) h q =
+    let none : 0 ≤ room = omega arith in
+    fails_by named_ports ports_within room room (seen ts) (seen ts) (λ deep at t. stuck_right h none t) s q
+
+-- names of ports
+abbrev pub some_names : Grammar
+some_names = part a_port_name · behind_commas (part a_port_name)
+
+pub no_ports : (room : ℕ) (ts : List Symbol) (xs : List Port) → goes name ts ≡ false → xs ≡ [] → Gets named_ports room ts (ports_tree (map port_tree xs)) ts
+no_ports room ts xs h e = subst (λ u. Gets named_ports room ts (ports_tree (map port_tree u)) ts) (sym e) (gets_right h gets_nothing)
+
+pub names_stuck : (room : ℕ) (deep : Bool) (ts at : List Symbol) → goes name ts ≡ true → Stuck some_names room deep ts at → Stuck named_ports room deep ts at
+names_stuck room deep ts at h s =
+    let none : 0 ≤ room = omega arith in
+    stuck_left h none s
+
+pub names_answers : (room : ℕ) (ts : List Token) (r : Result (Read (Vec Port Global)) Stop) → goes name (seen ts) ≡ true → Reads some_names room ts (λ ps. ports_tree (map port_tree ps.items)) r → Reads named_ports room ts (λ ps. ports_tree (map port_tree ps.items)) r
+names_answers room ts (Ok y) h q = gets_left h q
+names_answers room ts (Err s) h q = fails_by some_names named_ports room room (seen ts) (seen ts) (λ deep at t. names_stuck room deep (seen ts) at h t) s q
 
 -- the first parameter, and what stands behind the sign before the parameters
 abbrev pub first_parameter : Grammar

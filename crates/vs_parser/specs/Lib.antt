@@ -1,3 +1,4 @@
 pub mod Heads
+pub mod Generated
 pub mod LeftOut
 pub mod Faults

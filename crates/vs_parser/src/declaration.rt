@@ -1,27 +1,24 @@
 //! Reading declarations and net assignments.
-ghost use Rattle.std.specs.Prelude.{ℕ, ◌≤◌, map};
+ghost use Rattle.std.specs.Prelude.{ℕ};
 ghost use Rattle.vs_tokens.specs.declared.token.Mark.TheVariants as m;
-ghost use Rattle.vs_tokens.specs.declared.token.Word.TheVariants as w;
-ghost use Rattle.vs_syntax.specs.Grammar.{nothing, part, mark, word, ◌·◌, ◌or◌, form, range, a_net, a_variable, an_assignment, an_expr};
-ghost use Rattle.vs_syntax.specs.Tables.{low};
-ghost use Rattle.vs_syntax.specs.Derivation.{both};
-ghost use Rattle.vs_syntax.specs.Views.{listed_tree, signed_tree, range_tree, form_tree};
-ghost use Rattle.vs_syntax.specs.Views.{value_tree, told_tree, declarator_tree, net_assignment_tree};
-ghost use Rattle.vs_syntax.specs.Reading.{Gets};
-ghost use Rattle.vs_expressions.specs.Answers.{seen, Reads};
-ghost use Rattle.vs_statements.specs.Lists.{behind_commas};
+ghost use Rattle.vs_syntax.specs.Grammar.{nothing, part, mark, ◌·◌, ◌or◌, range, a_net, a_variable, a_bare_name, an_assignment, an_expr};
+ghost use Rattle.vs_syntax.specs.Views.{value_tree, told_tree, declarator_tree, net_assignment_tree, bare_name_tree};
+ghost use Rattle.vs_expressions.specs.Answers.{Reads};
 
 use std::alloc::Global;
-use vs_expressions::{Read, Stop, expect_mark, expect_name, expr, left, mark_at, word_at};
-use vs_lexer::{Mark, Token, Word};
-use vs_statements::{Element, listed};
-use vs_syntax::{Declarator, Expr, Form, NetAssignment, Range};
+use vs_expressions::{Read, Stop, expect_mark, expect_name, expr, left, mark_at};
+use vs_lexer::{Mark, Token};
+use vs_statements::{Element, declared_range};
+use vs_syntax::{Declarator, Expr, NetAssignment, Range};
 
 /// A name of a declaration of nets.
 pub(crate) struct Net;
 
 /// A name of a declaration of variables.
 pub(crate) struct Variable;
+
+/// A name alone.
+pub(crate) struct BareName;
 
 /// An assignment of an `assign` item.
 pub(crate) struct Assignment;
@@ -58,6 +55,22 @@ impl Element for Variable {
     }
 }
 
+impl Element for BareName {
+    type Syntax = Vec<u8>;
+
+    ghost grammar = { part a_bare_name };
+
+    ghost tree_of = { bare_name_tree };
+
+    fn read<'t, 's>(
+        alloc: Global,
+        _room: u32,
+        tokens: &'t [Token<'s>],
+    ) -> Result<Read<'t, 's, Vec<u8>>, Stop<'t, 's>> {
+        bare_name(alloc, tokens)
+    }
+}
+
 impl Element for Assignment {
     type Syntax = NetAssignment;
 
@@ -72,81 +85,6 @@ impl Element for Assignment {
     ) -> Result<Read<'t, 's, NetAssignment>, Stop<'t, 's>> {
         net_assignment(alloc, room, tokens)
     }
-}
-
-/// Reads what a declaration says of its names, and they, and the semicolon behind them.
-pub(crate) fn declared<'t, 's, T: Element<Syntax = Declarator>>(
-    alloc: Global,
-    room: u32,
-    tokens: &'t [Token<'s>],
-) -> Result<Read<'t, 's, (Form, Vec<Declarator>)>, Stop<'t, 's>>
-    requires { low T.grammar ≤ room }
-    ensures { Reads (form · T.grammar · behind_commas T.grammar · mark m.Semicolon) room tokens.now
-        (λ x. both (form_tree x.0) (listed_tree (map T.tree_of x.1.items))) result }
-{
-    let said = declared_form(alloc, room, tokens)?;
-    let names = listed::<T>(alloc, room, said.rest)?;
-    Ok(Read {
-        tree: (said.tree, names.tree),
-        rest: names.rest,
-    })
-}
-
-/// Reads what a declaration says of its names.
-pub(crate) fn declared_form<'t, 's>(
-    alloc: Global,
-    room: u32,
-    tokens: &'t [Token<'s>],
-) -> Result<Read<'t, 's, Form>, Stop<'t, 's>>
-    ensures { Reads form room tokens.now form_tree result }
-{
-    let (signed, after) = signed_at(tokens);
-    let range = declared_range(alloc, room, after)?;
-    Ok(Read {
-        tree: Form {
-            signed,
-            range: range.tree,
-        },
-        rest: range.rest,
-    })
-}
-
-/// Whether the word `signed` is next, and the tokens behind it.
-fn signed_at<'t, 's>(tokens: &'t [Token<'s>]) -> (bool, &'t [Token<'s>])
-    ensures { (room : ℕ) → Gets (word w.Signed or nothing) room (seen tokens.now)
-        (signed_tree result.0) (seen result.1.now) }
-{
-    match word_at(tokens, Word::Signed) {
-        Some(rest) => (true, rest),
-        None => (false, tokens),
-    }
-}
-
-/// Reads the range that is next, if one is.
-fn declared_range<'t, 's>(
-    alloc: Global,
-    room: u32,
-    tokens: &'t [Token<'s>],
-) -> Result<Read<'t, 's, Option<Range>>, Stop<'t, 's>>
-    ensures { Reads (range or nothing) room tokens.now range_tree result }
-{
-    let Some(after) = mark_at(tokens, Mark::OpenBracket) else {
-        return Ok(Read {
-            tree: None,
-            rest: tokens,
-        });
-    };
-    let left = expr(alloc, room, after)?;
-    let middle = expect_mark(left.rest, Mark::Colon)?;
-    let right = expr(alloc, room, middle)?;
-    let rest = expect_mark(right.rest, Mark::CloseBracket)?;
-    Ok(Read {
-        tree: Some(Range {
-            left: left.tree,
-            right: right.tree,
-        }),
-        rest,
-    })
 }
 
 /// Reads a name of a declaration of nets, with its declaration assignment where it has one.
@@ -214,7 +152,7 @@ fn told<'t, 's>(
 }
 
 /// Reads the declaration assignment that is next, if one is.
-fn declared_value<'t, 's>(
+pub(crate) fn declared_value<'t, 's>(
     alloc: Global,
     room: u32,
     tokens: &'t [Token<'s>],
@@ -232,6 +170,17 @@ fn declared_value<'t, 's>(
         tree: Some(value.tree),
         rest: value.rest,
     })
+}
+
+/// Reads a name alone.
+fn bare_name<'t, 's>(
+    alloc: Global,
+    tokens: &'t [Token<'s>],
+) -> Result<Read<'t, 's, Vec<u8>>, Stop<'t, 's>>
+    ensures { (room : ℕ) → Reads (part a_bare_name) room tokens.now bare_name_tree result }
+{
+    let (name, rest) = expect_name(alloc, tokens)?;
+    Ok(Read { tree: name, rest })
 }
 
 /// Reads one assignment of an `assign` item.

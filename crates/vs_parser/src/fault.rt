@@ -1,12 +1,12 @@
 //! Why tokens are refused.
 ghost use Rattle.std.specs.Prelude.{◌≡◌, IfOk};
 ghost use Rattle.vs_parser.specs.Faults.{fault_text};
-ghost use Rattle.vs_parser.specs.LeftOut.{is_in_grammar, is_left_out};
+ghost use Rattle.vs_parser.specs.LeftOut.{is_left_out};
 
 use std::alloc::{AllocError, Global};
 use thiserror::Error;
 use vs_expressions::cast;
-use vs_lexer::{Kind, Token, Word};
+use vs_lexer::{Kind, Token};
 
 /// What is wrong with the tokens. The place of a token is that of its first byte in the source.
 #[derive(Clone, Copy, PartialEq, Eq, Debug, Error)]
@@ -50,51 +50,12 @@ impl<'s> ParseFault<'s> {
     }
 }
 
-/// Whether the grammar has a reserved word somewhere.
-fn in_grammar(word: Word) -> bool
-    ensures { result ≡ is_in_grammar word }
-{
-    matches!(
-        word,
-        Word::Module
-            | Word::Endmodule
-            | Word::Input
-            | Word::Output
-            | Word::Parameter
-            | Word::Localparam
-            | Word::Wire
-            | Word::Reg
-            | Word::Integer
-            | Word::Signed
-            | Word::Assign
-            | Word::Initial
-            | Word::Always
-            | Word::Begin
-            | Word::End
-            | Word::If
-            | Word::Else
-            | Word::Case
-            | Word::Casez
-            | Word::Casex
-            | Word::Endcase
-            | Word::Default
-            | Word::For
-            | Word::While
-            | Word::Repeat
-            | Word::Forever
-            | Word::Posedge
-            | Word::Negedge
-            | Word::Or
-    )
-}
-
 /// Whether a token is an operator, a reserved word or a system name that the grammar leaves out.
 pub(crate) fn left_out(token: &Token) -> bool
     ensures { result ≡ is_left_out token.now.kind token.now.bytes.now }
 {
     match token.kind {
         Kind::Mark(mark) => mark.is_left_out(),
-        Kind::Word(word) => !in_grammar(word),
         Kind::LeftOut => true,
         Kind::System => cast(token.bytes).is_none(),
         _ => false,

@@ -1,34 +1,37 @@
 //! Reading the parameters and the ports in the header of a module.
-ghost use Rattle.std.specs.Prelude.{◌≡◌, ◌∷◌, ℕ, map};
+ghost use Rattle.std.specs.Prelude.{◌≡◌, ◌∷◌, ℕ, map, IfOk};
 ghost use Rattle.std.specs.Option.{option_map};
 ghost use Rattle.std.specs.declared.vec.Vec.{Vec};
 ghost use Rattle.std.specs.declared.alloc.Global.{Global};
 ghost use Rattle.vs_tokens.specs.declared.token.Word.TheVariants as w;
 ghost use Rattle.vs_syntax.specs.Symbols.{a_word};
-ghost use Rattle.vs_syntax.specs.Grammar.{◌·◌, ◌or◌, nothing, part, word, name, form, parameter_form, a_constant, a_header_parameter, a_port};
+ghost use Rattle.vs_syntax.specs.Grammar.{◌·◌, ◌or◌, nothing, part, word, parameter_form, a_constant, a_header_parameter, a_port, a_port_name};
 ghost use Rattle.vs_syntax.specs.Grammar as g;
 ghost use Rattle.vs_syntax.specs.Derivation.{both};
 ghost use Rattle.vs_syntax.specs.declared.tree.Port.{Port};
 ghost use Rattle.vs_syntax.specs.Reading.{Gets};
-ghost use Rattle.vs_syntax.specs.Views.{form_tree, parameter_word_tree, header_parameter_tree, header_parameters_tree};
+ghost use Rattle.vs_syntax.specs.Views.{form_tree, listed_tree, bare_name_tree, parameter_word_tree, header_parameter_tree, header_parameters_tree};
 ghost use Rattle.vs_syntax.specs.Views.{direction_word, kind_tree, port_form_tree, port_tree, ports_tree, header_ports_tree};
 ghost use Rattle.vs_expressions.specs.Answers.{seen, Reads};
-ghost use Rattle.vs_parser.specs.Heads.{port_kind, ports_within};
+ghost use Rattle.vs_parser.specs.Heads.{port_kind, behind_direction, first_port, told_ports, named_ports, ports_within};
 
-use crate::declaration::declared_form;
-use crate::head::{direction_at, kind_at};
+use crate::declaration::{BareName, declared_value};
+use crate::head::{begins_name, direction_at, kind_at};
 use crate::parameter;
 use std::alloc::Global;
 use vs_expressions::{Read, Stop, expect_mark, expect_name, expect_word, mark_at, word_at};
 use vs_lexer::{Mark, Token, Word};
-use vs_statements::{Element, others};
-use vs_syntax::{Direction, Form, HeaderParameter, ParameterForm, Port, PortForm, PortKind};
+use vs_statements::{Element, declared, declared_form, others};
+use vs_syntax::{Direction, HeaderParameter, ParameterForm, Port, PortForm, PortKind};
 
 /// A parameter in the header of a module behind the first one.
 struct OtherParameter;
 
 /// A port of a module behind the first one.
 struct OtherPort;
+
+/// A port of a module by its name alone.
+struct PortName;
 
 impl Element for OtherParameter {
     type Syntax = HeaderParameter;
@@ -59,6 +62,22 @@ impl Element for OtherPort {
         tokens: &'t [Token<'s>],
     ) -> Result<Read<'t, 's, Port>, Stop<'t, 's>> {
         other_port(alloc, room, tokens)
+    }
+}
+
+impl Element for PortName {
+    type Syntax = Port;
+
+    ghost grammar = { part a_port_name };
+
+    ghost tree_of = { port_tree };
+
+    fn read<'t, 's>(
+        alloc: Global,
+        _room: u32,
+        tokens: &'t [Token<'s>],
+    ) -> Result<Read<'t, 's, Port>, Stop<'t, 's>> {
+        port_name(alloc, tokens)
     }
 }
 
@@ -176,7 +195,7 @@ pub(crate) fn header_ports<'t, 's>(
     })
 }
 
-/// Reads the ports in the parentheses of a header, of which there may be none.
+/// Reads what stands in the parentheses of a header: ports with what is said of them, or names alone, or nothing.
 fn ports<'t, 's>(
     alloc: Global,
     room: u32,
@@ -184,16 +203,44 @@ fn ports<'t, 's>(
 ) -> Result<Read<'t, 's, Vec<Port>>, Stop<'t, 's>>
     ensures { Reads ports_within room tokens.now (λ ps. ports_tree (map port_tree ps.items)) result }
 {
-    let Some((direction, after)) = direction_at(tokens) else {
-        return Ok(Read {
-            tree: Vec::new(alloc),
-            rest: tokens,
-        });
-    };
+    match direction_at(tokens) {
+        Some((direction, after)) => told_ports(alloc, room, tokens, direction, after),
+        None => named_ports(alloc, room, tokens),
+    }
+}
+
+/// Reads ports, of which the first begins with its direction, behind which `after` stands.
+fn told_ports<'t, 's>(
+    alloc: Global,
+    room: u32,
+    tokens: &'t [Token<'s>],
+    direction: Direction,
+    after: &'t [Token<'s>],
+) -> Result<Read<'t, 's, Vec<Port>>, Stop<'t, 's>>
+    requires { seen tokens.now ≡ a_word (direction_word direction) ∷ seen after.now }
+    ensures { Reads told_ports room tokens.now (λ ps. ports_tree (map port_tree ps.items)) result }
+{
     let first = first_port(alloc, room, tokens, direction, after)?;
     let mut tree = Vec::new(alloc);
     tree.push(first.tree)?;
     others::<OtherPort>(alloc, room, first.rest, tree)
+}
+
+/// Reads the names of ports, of which there may be none.
+fn named_ports<'t, 's>(
+    alloc: Global,
+    room: u32,
+    tokens: &'t [Token<'s>],
+) -> Result<Read<'t, 's, Vec<Port>>, Stop<'t, 's>>
+    ensures { Reads named_ports room tokens.now (λ ps. ports_tree (map port_tree ps.items)) result }
+{
+    let mut tree = Vec::new(alloc);
+    if !begins_name(tokens) {
+        return Ok(Read { tree, rest: tokens });
+    }
+    let first = port_name(alloc, tokens)?;
+    tree.push(first.tree)?;
+    others::<PortName>(alloc, room, first.rest, tree)
 }
 
 /// Reads a port that begins with its direction, behind which `after` stands.
@@ -205,16 +252,18 @@ fn first_port<'t, 's>(
     after: &'t [Token<'s>],
 ) -> Result<Read<'t, 's, Port>, Stop<'t, 's>>
     requires { seen tokens.now ≡ a_word (direction_word direction) ∷ seen after.now }
-    ensures { Reads (g.port_form · name) room tokens.now port_tree result }
+    ensures { Reads first_port room tokens.now port_tree result }
 {
     let said = port_form(alloc, room, tokens, direction, after)?;
-    let (name, rest) = expect_name(alloc, said.rest)?;
+    let (name, after_name) = expect_name(alloc, said.rest)?;
+    let value = declared_value(alloc, room, after_name)?;
     Ok(Read {
         tree: Port {
             form: Some(said.tree),
             name,
+            value: value.tree,
         },
-        rest,
+        rest: value.rest,
     })
 }
 
@@ -227,11 +276,31 @@ fn other_port<'t, 's>(
     ensures { Reads (part a_port) room tokens.now port_tree result }
 {
     let said = told_form(alloc, room, tokens)?;
-    let (name, rest) = expect_name(alloc, said.rest)?;
+    let (name, after_name) = expect_name(alloc, said.rest)?;
+    let value = declared_value(alloc, room, after_name)?;
     Ok(Read {
         tree: Port {
             form: said.tree,
             name,
+            value: value.tree,
+        },
+        rest: value.rest,
+    })
+}
+
+/// Reads a port of which the header has the name alone.
+fn port_name<'t, 's>(
+    alloc: Global,
+    tokens: &'t [Token<'s>],
+) -> Result<Read<'t, 's, Port>, Stop<'t, 's>>
+    ensures { (room : ℕ) → Reads (part a_port_name) room tokens.now port_tree result }
+{
+    let (name, rest) = expect_name(alloc, tokens)?;
+    Ok(Read {
+        tree: Port {
+            form: None,
+            name,
+            value: None,
         },
         rest,
     })
@@ -290,4 +359,28 @@ fn told_kind<'t, 's>(tokens: &'t [Token<'s>]) -> (Option<PortKind>, &'t [Token<'
         Some((kind, rest)) => (Some(kind), rest),
         None => (None, tokens),
     }
+}
+
+/// Reads what stands behind the direction of an item: the kind, the sign and the range of ports, their names, and the semicolon.
+pub(crate) fn declared_ports<'t, 's>(
+    alloc: Global,
+    room: u32,
+    tokens: &'t [Token<'s>],
+    direction: Direction,
+) -> Result<Read<'t, 's, (PortForm, Vec<Vec<u8>>)>, Stop<'t, 's>>
+    ensures reads { Reads behind_direction room tokens.now
+        (λ x. both (kind_tree x.0.kind) (both (form_tree x.0.form) (listed_tree (map bare_name_tree x.1.items)))) result }
+    ensures direction { IfOk result (λ x. x.tree.0.direction ≡ direction) }
+{
+    let (kind, behind) = told_kind(tokens);
+    let names = declared::<BareName>(alloc, room, behind)?;
+    let form = PortForm {
+        direction,
+        kind,
+        form: names.tree.0,
+    };
+    Ok(Read {
+        tree: (form, names.tree.1),
+        rest: names.rest,
+    })
 }

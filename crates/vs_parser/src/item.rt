@@ -1,54 +1,54 @@
-//! Reading items, modules and sources.
-ghost use Rattle.std.specs.Prelude.{◌≡◌, ◌<◌, ◌≤◌, ◌∷◌, map, IfOk};
-ghost use Rattle.vs_tokens.specs.declared.token.Word.TheVariants as w;
+//! Reading items that are no generate constructs.
+ghost use Rattle.std.specs.Prelude.{◌≡◌, ◌≤◌, IfOk};
 ghost use Rattle.vs_syntax.specs.Symbols.{a_word};
-ghost use Rattle.vs_syntax.specs.Grammar.{part, many, a_source, a_module, an_item};
 ghost use Rattle.vs_syntax.specs.Tables.{low};
-ghost use Rattle.vs_syntax.specs.Views.{row_of, item_symbol, body_tree, item_tree, module_tree, source_tree};
-ghost use Rattle.vs_expressions.specs.Answers.{seen, Reads};
-ghost use Rattle.vs_parser.specs.Heads.{word_of, symbol_of, BeginsItem, declaration_of, body_of};
+ghost use Rattle.vs_syntax.specs.Views.{item_symbol, body_tree, module_item_tree};
+ghost use Rattle.vs_expressions.specs.Answers.{Reads};
+ghost use Rattle.vs_statements.specs.Parts.{ReadsWithin, headed};
+ghost use Rattle.vs_parser.specs.Heads.{word_of, plain_symbol, declaration_of, plain_body};
 
-use crate::declaration::{Assignment, Net, Variable, declared};
-use crate::head::{DeclarationWord, ItemHead, item_head, least_item};
-use crate::header::{header_parameters, header_ports};
+use crate::declaration::{Assignment, BareName, Net, Variable};
+use crate::head::{DeclarationWord, PlainHead};
+use crate::header::declared_ports;
 use crate::instance::instances;
 use crate::parameter::parameters;
 use std::alloc::Global;
-use vs_expressions::{Read, Stop, expect_mark, expect_name, expect_word, word_at};
-use vs_lexer::{Mark, Token, Word};
-use vs_statements::{listed, stmt};
-use vs_syntax::{Item, Module, Source};
+use vs_expressions::{Read, Stop};
+use vs_lexer::Token;
+use vs_statements::{declared, listed, stmt};
+use vs_syntax::{Item, ModuleItem};
 
-/// Reads an item, behind whose first token `after` stands, in at most `room` nodes below one another.
-fn item<'t, 's>(
+/// Reads what stands behind the first token of an item that is no generate construct, into an item of a module.
+#[inline(never)]
+pub(crate) fn plain_item<'t, 's>(
     alloc: Global,
     room: u32,
     tokens: &'t [Token<'s>],
-    head: ItemHead<'s>,
-    after: &'t [Token<'s>],
-) -> Result<Read<'t, 's, Item>, Stop<'t, 's>>
-    requires { BeginsItem (seen tokens.now) head (seen after.now) }
-    ensures { Reads (part an_item) room tokens.now item_tree result }
+    head: PlainHead<'s>,
+) -> Result<Read<'t, 's, ModuleItem>, Stop<'t, 's>>
+    requires { low (plain_body head) ≤ room }
+    ensures { ReadsWithin module_item_tree (headed (plain_symbol head.entry)) (plain_body head.entry) room tokens.now result }
 {
-    if room < least_item(head) {
-        return Err(Stop::TooDeep(tokens));
-    }
-    body(alloc, room - 1, after, head)
+    let inner = body(alloc, room, tokens, head)?;
+    Ok(Read {
+        tree: ModuleItem::Plain(inner.tree),
+        rest: inner.rest,
+    })
 }
 
-/// Reads what stands behind the first token of an item.
+/// Reads what stands behind the first token of an item that is no generate construct.
 fn body<'t, 's>(
     alloc: Global,
     room: u32,
     tokens: &'t [Token<'s>],
-    head: ItemHead<'s>,
+    head: PlainHead<'s>,
 ) -> Result<Read<'t, 's, Item>, Stop<'t, 's>>
-    requires { low (body_of head) ≤ room }
-    ensures reads { Reads (body_of head.entry) room tokens.now body_tree result }
-    ensures symbol { IfOk result (λ x. item_symbol x.tree ≡ symbol_of head.entry) }
+    requires { low (plain_body head) ≤ room }
+    ensures reads { Reads (plain_body head.entry) room tokens.now body_tree result }
+    ensures symbol { IfOk result (λ x. item_symbol x.tree ≡ plain_symbol head.entry) }
 {
     let (tree, rest) = match head {
-        ItemHead::Name(module) => {
+        PlainHead::Name(module) => {
             let name = Vec::from_slice(alloc, module)?;
             let placed = instances(alloc, room, tokens)?;
             (
@@ -56,19 +56,19 @@ fn body<'t, 's>(
                 placed.rest,
             )
         }
-        ItemHead::Declaration(word) => {
+        PlainHead::Declaration(word) => {
             let declaration = declared_item(alloc, room, tokens, word)?;
             (declaration.tree, declaration.rest)
         }
-        ItemHead::Assign => {
+        PlainHead::Assign => {
             let assignments = listed::<Assignment>(alloc, room, tokens)?;
             (Item::Assign(assignments.tree), assignments.rest)
         }
-        ItemHead::Initial => {
+        PlainHead::Initial => {
             let inner = stmt(alloc, room, tokens)?;
             (Item::Initial(inner.tree), inner.rest)
         }
-        ItemHead::Always => {
+        PlainHead::Always => {
             let repeated = stmt(alloc, room, tokens)?;
             (Item::Always(repeated.tree), repeated.rest)
         }
@@ -87,6 +87,14 @@ fn declared_item<'t, 's>(
     ensures symbol { IfOk result (λ x. item_symbol x.tree ≡ a_word (word_of word)) }
 {
     let (tree, rest) = match word {
+        DeclarationWord::Port(direction) => {
+            let ports = declared_ports(alloc, room, tokens, direction)?;
+            (Item::Port(ports.tree.0, ports.tree.1), ports.rest)
+        }
+        DeclarationWord::Genvar => {
+            let indices = listed::<BareName>(alloc, room, tokens)?;
+            (Item::Genvar(indices.tree), indices.rest)
+        }
         DeclarationWord::Wire => {
             let nets = declared::<Net>(alloc, room, tokens)?;
             (Item::Wire(nets.tree.0, nets.tree.1), nets.rest)
@@ -109,75 +117,4 @@ fn declared_item<'t, 's>(
         }
     };
     Ok(Read { tree, rest })
-}
-
-/// Reads the items that are next.
-fn items<'t, 's>(
-    alloc: Global,
-    room: u32,
-    tokens: &'t [Token<'s>],
-) -> Result<Read<'t, 's, Vec<Item>>, Stop<'t, 's>>
-    requires { 0 < room }
-    ensures { Reads (many (part an_item)) room tokens.now (λ xs. row_of (map item_tree xs.items)) result }
-{
-    let mut tree = Vec::new(alloc);
-    // All of them, but from a call: so the borrow checker can join it with what the loop sets.
-    let (_none, mut rest) = tokens.split_at(0);
-    while let Some((head, after)) = item_head(rest) {
-        let inner = item(alloc, room, rest, head, after)?;
-        rest = inner.rest;
-        tree.push(inner.tree)?;
-    }
-    Ok(Read { tree, rest })
-}
-
-/// Reads a module, behind whose first word `after` stands.
-fn module<'t, 's>(
-    alloc: Global,
-    room: u32,
-    tokens: &'t [Token<'s>],
-    after: &'t [Token<'s>],
-) -> Result<Read<'t, 's, Module>, Stop<'t, 's>>
-    requires room { 0 < room }
-    requires first { seen tokens.now ≡ a_word w.Module ∷ seen after.now }
-    ensures { Reads (part a_module) room tokens.now module_tree result }
-{
-    let (name, after_name) = expect_name(alloc, after)?;
-    let parameters = header_parameters(alloc, room, after_name)?;
-    let ports = header_ports(alloc, room, parameters.rest)?;
-    let after_header = expect_mark(ports.rest, Mark::Semicolon)?;
-    let inner = items(alloc, room, after_header)?;
-    let rest = expect_word(inner.rest, Word::Endmodule)?;
-    Ok(Read {
-        tree: Module {
-            name,
-            parameters: parameters.tree,
-            ports: ports.tree,
-            items: inner.tree,
-        },
-        rest,
-    })
-}
-
-/// Reads the modules that are next: the source, as far as it goes.
-pub(crate) fn source<'t, 's>(
-    alloc: Global,
-    room: u32,
-    tokens: &'t [Token<'s>],
-) -> Result<Read<'t, 's, Source>, Stop<'t, 's>>
-    requires { 0 < room }
-    ensures { Reads (part a_source) room tokens.now source_tree result }
-{
-    let mut modules = Vec::new(alloc);
-    // All of them, but from a call: so the borrow checker can join it with what the loop sets.
-    let (_none, mut rest) = tokens.split_at(0);
-    while let Some(after) = word_at(rest, Word::Module) {
-        let inner = module(alloc, room, rest, after)?;
-        rest = inner.rest;
-        modules.push(inner.tree)?;
-    }
-    Ok(Read {
-        tree: Source { modules },
-        rest,
-    })
 }

@@ -3,12 +3,14 @@
 
 mod declaration;
 mod fault;
+mod generate;
 mod head;
 mod header;
 mod instance;
 mod item;
 mod parameter;
 mod parser;
+mod source;
 
 pub use fault::ParseFault;
 pub use parser::parse;

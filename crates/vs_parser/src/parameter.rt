@@ -5,11 +5,10 @@ ghost use Rattle.vs_syntax.specs.Grammar as g;
 ghost use Rattle.vs_syntax.specs.Views.{constant_tree, constants_tree, parameter_form_tree};
 ghost use Rattle.vs_expressions.specs.Answers.{Reads};
 
-use crate::declaration::declared_form;
 use std::alloc::Global;
 use vs_expressions::{Read, Stop, expect_mark, expect_name, expr, word_at};
 use vs_lexer::{Mark, Token, Word};
-use vs_statements::{Element, listed};
+use vs_statements::{Element, declared_form, listed};
 use vs_syntax::{Constant, ParameterForm};
 
 /// A name of a declaration of parameters.

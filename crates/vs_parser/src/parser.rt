@@ -10,7 +10,7 @@ ghost use Rattle.vs_expressions.specs.Answers.{seen};
 ghost use Rattle.vs_parser.specs.Faults.{IsRefused, IsTreeOf, Halts, StopsAt};
 
 use crate::fault::{ParseFault, left_out};
-use crate::item::source;
+use crate::source::source;
 use std::alloc::Global;
 use vs_expressions::{Stop, next};
 use vs_lexer::Token;

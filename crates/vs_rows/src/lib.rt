@@ -20,6 +20,8 @@ mod large;
 #[cfg(test)]
 mod orders;
 #[cfg(test)]
+mod policies;
+#[cfg(test)]
 mod refusals;
 #[cfg(test)]
 mod refused_hierarchy;

@@ -165,7 +165,7 @@ pub const REFUSED_HIERARCHY: &[(&str, &str)] = &[
         "vsim: E6 at t.u.a\n",
     ),
     // Headers and instances that no rule has.
-    ("module t(a); endmodule", "vsim: P1 at 9\n"),
+    ("module t(a); endmodule", "vsim: E3 at t\n"),
     ("module t #(); endmodule", "vsim: P1 at 11\n"),
     ("module t #(A = 1); endmodule", "vsim: P1 at 11\n"),
     ("module t(input a,); endmodule", "vsim: P1 at 17\n"),

@@ -4,7 +4,7 @@ use crate::running::run;
 use std::test::Fail;
 
 const MISUSED: &[&str] = &[
-    "vsim run --top t --until 10 --policy lifo",
+    "vsim run --top t --until 10 --policy last",
     "vsim run --top t",
     "vsim run --top t --until 4611686018427387904",
     "vsim run --top t --top t --until 1",

@@ -1,6 +1,9 @@
 //! Sources with the parts of the designs that they define.
 use crate::elaborating::design_of;
 use crate::showing::{assigns_shown, outline_shown, processes_shown, signals_shown};
+use crate::{generate, item_ports};
+use std::alloc::Global;
+use std::process::Abort;
 use std::test::Fail;
 
 /// Sources and their signals, in the order of the text.
@@ -21,14 +24,34 @@ const SIGNALS: &[(&str, &str)] = &[
     ),
 ];
 
-#[test]
-fn signals(rt: HostRuntime) -> Result<(), Fail> {
-    for (source, text) in SIGNALS {
-        let design = design_of(rt.alloc(), source, "t")?;
-        let shown = signals_shown(rt.alloc(), &design)?;
+/// Each source has these signals with the top `t`.
+fn are_signals(rt: &impl Abort, alloc: Global, rows: &[(&str, &str)]) -> Result<(), Fail> {
+    for (source, text) in rows {
+        let design = design_of(alloc, source, "t")?;
+        let shown = signals_shown(alloc, &design)?;
         assert_eq!(rt; shown.as_slice(), text.as_bytes(), "{source}");
     }
     Ok(())
+}
+
+#[test]
+fn signals(rt: HostRuntime) -> Result<(), Fail> {
+    are_signals(&rt, rt.alloc(), SIGNALS)
+}
+
+#[test]
+fn signals_of_ports(rt: HostRuntime) -> Result<(), Fail> {
+    are_signals(&rt, rt.alloc(), item_ports::DECLARED)?;
+    are_signals(&rt, rt.alloc(), item_ports::HEADERS)?;
+    are_signals(&rt, rt.alloc(), item_ports::VALUES)
+}
+
+#[test]
+fn signals_of_blocks(rt: HostRuntime) -> Result<(), Fail> {
+    are_signals(&rt, rt.alloc(), generate::UNNAMED)?;
+    are_signals(&rt, rt.alloc(), generate::CHOICES)?;
+    are_signals(&rt, rt.alloc(), generate::LOOPS)?;
+    are_signals(&rt, rt.alloc(), generate::BLOCKS)
 }
 
 /// Sources and their continuous assignments. The right side has the size of the larger side (clause 5.4.1).
@@ -71,14 +94,21 @@ const ASSIGNS: &[(&str, &str)] = &[
     ),
 ];
 
-#[test]
-fn assigns(rt: HostRuntime) -> Result<(), Fail> {
-    for (source, text) in ASSIGNS {
-        let design = design_of(rt.alloc(), source, "t")?;
-        let shown = assigns_shown(rt.alloc(), &design)?;
+/// Each source has these continuous assignments with the top `t`.
+fn are_assigns(rt: &impl Abort, alloc: Global, rows: &[(&str, &str)]) -> Result<(), Fail> {
+    for (source, text) in rows {
+        let design = design_of(alloc, source, "t")?;
+        let shown = assigns_shown(alloc, &design)?;
         assert_eq!(rt; shown.as_slice(), text.as_bytes(), "{source}");
     }
     Ok(())
+}
+
+#[test]
+fn assigns(rt: HostRuntime) -> Result<(), Fail> {
+    are_assigns(&rt, rt.alloc(), ASSIGNS)?;
+    are_assigns(&rt, rt.alloc(), item_ports::CONNECTED)?;
+    are_assigns(&rt, rt.alloc(), generate::ASSIGNS)
 }
 
 /// Sources and their processes: a declaration assignment of a variable is one (clause 6.2.1), and an `always` is a `forever`.
@@ -93,16 +123,27 @@ const PROCESSES: &[(&str, &str)] = &[
         "module t; reg a; initial begin ; #3 begin a = a; a <= a; end begin end #0 ; end endmodule",
         "t#p0 initial {0: ;1: #3 {2: t.a = 1(t.a);3: t.a <= 1(t.a);}{}4: #0 5: ;}",
     ),
+    (
+        "module s(input clk, input en, output reg q); always @(posedge clk) begin q <= 0; if (en) q <= 1; end endmodule module t; reg clk = 0; reg en = 1; wire o; always #5 clk = ~clk; s u(.clk(clk), .en(en), .q(o)); endmodule",
+        "t#p0 initial 0: t.clk = 32();t#p1 initial 0: t.en = 32();t#p2 always 0: forever 1: #5 2: t.clk = 1(t.clk);\
+         t.u#p0 always 0: forever 1: @ {2: t.u.q <= 32();3: if 4: t.u.q <= 32(); else {}}",
+    ),
 ];
 
-#[test]
-fn processes(rt: HostRuntime) -> Result<(), Fail> {
-    for (source, text) in PROCESSES {
-        let design = design_of(rt.alloc(), source, "t")?;
-        let shown = processes_shown(rt.alloc(), &design)?;
+/// Each source has these processes with the top `t`.
+fn are_processes(rt: &impl Abort, alloc: Global, rows: &[(&str, &str)]) -> Result<(), Fail> {
+    for (source, text) in rows {
+        let design = design_of(alloc, source, "t")?;
+        let shown = processes_shown(alloc, &design)?;
         assert_eq!(rt; shown.as_slice(), text.as_bytes(), "{source}");
     }
     Ok(())
+}
+
+#[test]
+fn processes(rt: HostRuntime) -> Result<(), Fail> {
+    are_processes(&rt, rt.alloc(), PROCESSES)?;
+    are_processes(&rt, rt.alloc(), generate::PROCESSES)
 }
 
 /// Sources with their tops, and their outlines.
@@ -125,12 +166,22 @@ const OUTLINES: &[(&str, &str, &str)] = &[
     ),
 ];
 
+/// This is the outline of a source with this top.
+fn is_outline(rt: &impl Abort, alloc: Global, row: &(&str, &str, &str)) -> Result<(), Fail> {
+    let (source, top, text) = *row;
+    let design = design_of(alloc, source, top)?;
+    let shown = outline_shown(alloc, &design)?;
+    assert_eq!(rt; shown.as_slice(), text.as_bytes(), "{source}");
+    Ok(())
+}
+
 #[test]
 fn outlines(rt: HostRuntime) -> Result<(), Fail> {
-    for (source, top, text) in OUTLINES {
-        let design = design_of(rt.alloc(), source, top)?;
-        let shown = outline_shown(rt.alloc(), &design)?;
-        assert_eq!(rt; shown.as_slice(), text.as_bytes(), "{source}");
+    for row in OUTLINES {
+        is_outline(&rt, rt.alloc(), row)?;
+    }
+    for (source, text) in generate::OUTLINES {
+        is_outline(&rt, rt.alloc(), &(*source, "t", *text))?;
     }
     Ok(())
 }

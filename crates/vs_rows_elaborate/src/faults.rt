@@ -1,12 +1,13 @@
 //! Sources that define no design, with the text of the fault, and sources next to them that define one.
 use crate::elaborating::elaborated;
+use crate::{item_ports, refused_generate};
 use std::alloc::Global;
 use std::process::Abort;
 use std::test::Fail;
 use vs_elaborate::fault_text;
 
 /// What is told of a source that defines a design.
-const DESIGN: &str = "a design";
+pub const DESIGN: &str = "a design";
 
 /// Sources with the name of a top, and what is told of them.
 const ROWS: &[(&str, &str, &str)] = &[
@@ -115,6 +116,11 @@ const ROWS: &[(&str, &str, &str)] = &[
         "E8 X4 at t",
     ),
     (
+        "module t; reg [0:0] a; initial a[0] = 0; endmodule",
+        "t",
+        DESIGN,
+    ),
+    (
         "module t; reg [3:0] a; initial a[0][0] = 0; endmodule",
         "t",
         "E8 X4 at t",
@@ -212,6 +218,12 @@ const ROWS: &[(&str, &str, &str)] = &[
         "t",
         DESIGN,
     ),
+    // The values of two parameters may not name one another.
+    (
+        "module t; parameter A = B; parameter B = A; endmodule",
+        "t",
+        "E8 X3 at t",
+    ),
     // A size is at most 64 bits.
     (
         "module t; wire w = {65{a}}; reg a; endmodule",
@@ -255,7 +267,7 @@ fn told(alloc: Global, source: &str, top: &str) -> Result<Vec<u8>, Fail> {
 }
 
 /// This is told of the source.
-fn is_told(rt: &impl Abort, alloc: Global, row: &(&str, &str, &str)) -> Result<(), Fail> {
+pub fn is_told(rt: &impl Abort, alloc: Global, row: &(&str, &str, &str)) -> Result<(), Fail> {
     let (source, top, text) = *row;
     let answer = told(alloc, source, top)?;
     assert_eq!(rt; answer.as_slice(), text.as_bytes(), "{source}");
@@ -270,23 +282,24 @@ fn faults(rt: HostRuntime) -> Result<(), Fail> {
     Ok(())
 }
 
-/// A module that declares one variable and so many more.
-fn declaring(alloc: Global, count: usize) -> Result<String, Fail> {
-    let mut source = String::new(alloc);
-    source.push_str("module t; reg a")?;
-    for i in 0..count {
-        let name = format!(in alloc; ", a{i}")?;
-        source.push_str(&name)?;
+/// This is told of each source with the top `t`.
+fn are_told(rt: &impl Abort, alloc: Global, rows: &[(&str, &str)]) -> Result<(), Fail> {
+    for (source, text) in rows {
+        is_told(rt, alloc, &(*source, "t", *text))?;
     }
-    source.push_str("; endmodule")?;
-    Ok(source)
+    Ok(())
 }
 
-// A design has at most 65,536 signals.
 #[test]
-fn signal_limit(rt: HostRuntime) -> Result<(), Fail> {
-    let most = declaring(rt.alloc(), 65535)?;
-    is_told(&rt, rt.alloc(), &(most.as_str(), "t", DESIGN))?;
-    let over = declaring(rt.alloc(), 65536)?;
-    is_told(&rt, rt.alloc(), &(over.as_str(), "t", "E7 at t"))
+fn faults_of_ports(rt: HostRuntime) -> Result<(), Fail> {
+    are_told(&rt, rt.alloc(), item_ports::REFUSED)?;
+    are_told(&rt, rt.alloc(), item_ports::REPEATED)
+}
+
+#[test]
+fn faults_of_blocks(rt: HostRuntime) -> Result<(), Fail> {
+    are_told(&rt, rt.alloc(), refused_generate::REPEATED)?;
+    are_told(&rt, rt.alloc(), refused_generate::HEADERS)?;
+    are_told(&rt, rt.alloc(), refused_generate::FAULTS)?;
+    are_told(&rt, rt.alloc(), refused_generate::STATEMENTS)
 }

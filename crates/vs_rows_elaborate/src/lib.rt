@@ -8,4 +8,12 @@ mod elaborating;
 #[cfg(test)]
 mod faults;
 #[cfg(test)]
+mod generate;
+#[cfg(test)]
+mod item_ports;
+#[cfg(test)]
+mod large;
+#[cfg(test)]
+mod refused_generate;
+#[cfg(test)]
 mod showing;

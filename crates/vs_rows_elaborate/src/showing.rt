@@ -2,8 +2,8 @@
 use std::alloc::Global;
 use std::test::Fail;
 use vs_design::{
-    Design, Entry, Process, ProcessKind, ScopeKind, SignalKind, Statement, Store, Target, Typed,
-    reads, writes,
+    Bounds, Design, Entry, Process, ProcessKind, ScopeKind, SignalKind, Statement, Store, Target,
+    Typed, reads, writes,
 };
 use vs_eval::value;
 
@@ -23,7 +23,18 @@ fn kind_word(kind: SignalKind) -> &'static [u8] {
     }
 }
 
-/// The signals: the kind, the name, the path and the size in bits of each.
+/// Appends a range, with a space before it, where there is one.
+fn show_range(alloc: Global, range: Option<Bounds>, text: &mut Vec<u8>) -> Result<(), Fail> {
+    if let Some(bounds) = range {
+        let left = bounds.left;
+        let right = bounds.right;
+        let shown = format!(in alloc; " [{left}:{right}]")?;
+        text.extend_from_slice(shown.as_bytes())?;
+    }
+    Ok(())
+}
+
+/// The signals: the kind, the name, the path and the size in bits of each, whether it is signed, and its ranges of bits and of words.
 pub fn signals_shown(alloc: Global, design: &Design) -> Result<Vec<u8>, Fail> {
     let mut text = Vec::new(alloc);
     for signal in design.signals() {
@@ -31,8 +42,14 @@ pub fn signals_shown(alloc: Global, design: &Design) -> Result<Vec<u8>, Fail> {
         text.extend_from_slice(&signal.name)?;
         text.extend_from_slice(b" ")?;
         text.extend_from_slice(&signal.path)?;
-        let size = format!(in alloc; " {};", signal.width)?;
+        let size = format!(in alloc; " {}", signal.width)?;
         text.extend_from_slice(size.as_bytes())?;
+        if signal.signed {
+            text.extend_from_slice(b" signed")?;
+        }
+        show_range(alloc, signal.range, &mut text)?;
+        show_range(alloc, signal.words, &mut text)?;
+        text.push(b';')?;
     }
     Ok(text)
 }

@@ -1,6 +1,7 @@
 //! Syntax trees of headers and instances.
 use crate::trees::{form_shown, put, shown};
 use std::alloc::Global;
+use std::process::Abort;
 use std::test::Fail;
 use vs_lexer::lex;
 use vs_parser::parse;
@@ -97,8 +98,8 @@ fn header_parameter_shown(alloc: Global, parameter: &HeaderParameter) -> Result<
     Ok(text)
 }
 
-/// What stands before the name of a port.
-fn port_form_shown(alloc: Global, form: &PortForm) -> Result<Vec<u8>, Fail> {
+/// What stands before the names of ports.
+pub(crate) fn port_form_shown(alloc: Global, form: &PortForm) -> Result<Vec<u8>, Fail> {
     let direction: &[u8] = match form.direction {
         Direction::Input => b"input",
         Direction::Output => b"output",
@@ -112,7 +113,6 @@ fn port_form_shown(alloc: Global, form: &PortForm) -> Result<Vec<u8>, Fail> {
     let mut text = Vec::from_slice(alloc, direction)?;
     text.extend_from_slice(kind)?;
     text.extend_from_slice(&form_shown(alloc, &form.form)?)?;
-    text.push(b' ')?;
     Ok(text)
 }
 
@@ -121,8 +121,12 @@ fn port_shown(alloc: Global, port: &Port) -> Result<Vec<u8>, Fail> {
     let mut text = Vec::from_slice(alloc, b" ,")?;
     if let Some(form) = &port.form {
         text.extend_from_slice(&port_form_shown(alloc, form)?)?;
+        text.push(b' ')?;
     }
     text.extend_from_slice(&port.name)?;
+    if let Some(value) = &port.value {
+        put(&mut text, b" = ", &shown(alloc, value)?)?;
+    }
     Ok(text)
 }
 
@@ -167,6 +171,19 @@ const HEADERS: [(&str, &str); 10] = [
     ("\\t+ (input \\a. );", "t+ ports ,input a."),
 ];
 
+/// Headers with the names of ports alone, and ports with values (clauses 12.3.2 to 12.3.4), and what they are shown as.
+const PORTS: [(&str, &str); 6] = [
+    ("t(a);", "t ports ,a"),
+    ("t(a, \\b. , c);", "t ports ,a ,b. ,c"),
+    ("t #(parameter A = b) (c);", "t #parameter A = b ports ,c"),
+    ("t(output reg a = b);", "t ports ,output reg a = b"),
+    (
+        "t(output integer a = b + c, d, e = f, input g);",
+        "t ports ,output integer a = [b + c] ,d ,e = f ,input g",
+    ),
+    ("t(input [a:b] c = d);", "t ports ,input from a to b c = d"),
+];
+
 // The header of the only module of a source, in one line.
 fn only_header_shown(alloc: Global, source: &[u8]) -> Result<Vec<u8>, Fail> {
     let none = Vec::new(alloc);
@@ -182,14 +199,23 @@ fn only_header_shown(alloc: Global, source: &[u8]) -> Result<Vec<u8>, Fail> {
     }
 }
 
-#[test]
-fn headers(rt: HostRuntime) -> Result<(), Fail> {
-    let alloc = rt.alloc();
-    for (header, text) in &HEADERS {
+/// Each header of the rows is shown as the text beside it.
+fn are_headers(rt: &impl Abort, alloc: Global, rows: &[(&str, &str)]) -> Result<(), Fail> {
+    for (header, text) in rows {
         let mut source = Vec::from_slice(alloc, b"module ")?;
         put(&mut source, header.as_bytes(), b" endmodule")?;
         let answer = only_header_shown(alloc, &source)?;
         assert_eq!(rt; answer.as_slice(), text.as_bytes());
     }
     Ok(())
+}
+
+#[test]
+fn headers(rt: HostRuntime) -> Result<(), Fail> {
+    are_headers(&rt, rt.alloc(), &HEADERS)
+}
+
+#[test]
+fn ports(rt: HostRuntime) -> Result<(), Fail> {
+    are_headers(&rt, rt.alloc(), &PORTS)
 }

@@ -2,6 +2,8 @@
 #![tactic(auto)]
 
 #[cfg(test)]
+mod generated;
+#[cfg(test)]
 mod instances;
 #[cfg(test)]
 mod refused;

@@ -8,12 +8,12 @@ use vs_parser::parse;
 /// Sources, and the texts of their faults.
 const ROWS: [(&str, &str); 98] = [
     ("module t; initial fork join endmodule", "P2 at 18: fork"),
-    ("module t(a); endmodule", "P1 at 9"),
+    ("module t(a, input b); endmodule", "P1 at 12"),
     ("module t(, input a); endmodule", "P1 at 9"),
     ("module t(input a, ); endmodule", "P1 at 18"),
     ("module t(input signed reg a); endmodule", "P1 at 22"),
     ("module t(inout a); endmodule", "P2 at 9: inout"),
-    ("module t(output reg a = 0); endmodule", "P1 at 22"),
+    ("module t(a = 0); endmodule", "P1 at 11"),
     ("module t #(); endmodule", "P1 at 11"),
     ("module t #(A = 1); endmodule", "P1 at 11"),
     ("module t #(parameter A); endmodule", "P1 at 22"),

@@ -1,4 +1,5 @@
 //! Syntax trees of statements, statements that the parser refuses, and statements as deep as may be.
+use crate::generated::locals_shown;
 use crate::refused::is_answered;
 use crate::trees::{put, selects_shown, shown, sides_shown};
 use std::alloc::Global;
@@ -7,7 +8,9 @@ use std::test::Fail;
 use vs_lexer::lex;
 use vs_logic4::{CaseKind, Edge};
 use vs_parser::parse;
-use vs_syntax::{CaseLabel, DelayValue, EventControl, EventExpr, Item, Separator, Stmt};
+use vs_syntax::{
+    CaseLabel, DelayValue, EventControl, EventExpr, Item, ModuleItem, Separator, Stmt,
+};
 
 /// How deep statements are shown.
 const DEPTH: u32 = 256;
@@ -98,7 +101,7 @@ fn label_shown(alloc: Global, label: &CaseLabel) -> Result<Vec<u8>, Fail> {
 
 /// A statement in one line, a block in parentheses, each other one that holds statements in brackets; of at most
 /// so many statements within one another, nothing of those below.
-fn stmt_within(alloc: Global, depth: u32, s: &Stmt) -> Result<Vec<u8>, Fail> {
+pub(crate) fn stmt_within(alloc: Global, depth: u32, s: &Stmt) -> Result<Vec<u8>, Fail> {
     let mut text = Vec::new(alloc);
     if depth == 0 {
         return Ok(text);
@@ -114,6 +117,14 @@ fn stmt_within(alloc: Global, depth: u32, s: &Stmt) -> Result<Vec<u8>, Fail> {
         }
         Stmt::Block(inner) => {
             text.push(b'(')?;
+            for statement in inner {
+                put(&mut text, b" ", &stmt_within(alloc, room, statement)?)?;
+            }
+            text.push(b')')?;
+        }
+        Stmt::Named(name, locals, inner) => {
+            put(&mut text, b"(:", name)?;
+            text.extend_from_slice(&locals_shown(alloc, locals)?)?;
             for statement in inner {
                 put(&mut text, b" ", &stmt_within(alloc, room, statement)?)?;
             }
@@ -308,7 +319,7 @@ fn only_stmt_shown(alloc: Global, source: &[u8]) -> Result<Vec<u8>, Fail> {
         return Ok(none);
     };
     match module.items.as_slice() {
-        [Item::Initial(statement)] => stmt_within(alloc, DEPTH, statement),
+        [ModuleItem::Plain(Item::Initial(statement))] => stmt_within(alloc, DEPTH, statement),
         _ => Ok(none),
     }
 }
@@ -391,7 +402,7 @@ const REFUSED: [(&str, &str); 66] = [
     ("@(a[0) ; endmodule", "P1 at 23"),
     ("@* endmodule", "P1 at 21"),
     ("wait (a) ; endmodule", "P2 at 18: wait"),
-    ("repeat (a) genvar b; endmodule", "P2 at 29: genvar"),
+    ("repeat (a) genvar b; endmodule", "P1 at 29"),
     ("a = posedge b; endmodule", "P1 at 22"),
     ("if (a)", "P4 at 24"),
     ("case (a) b: ;", "P4 at 31"),
@@ -428,9 +439,64 @@ fn nested_stmt(
     Ok(source)
 }
 
+/// Named blocks (clause 9.8.3), and what they are shown as.
+const NAMED: [(&str, &str); 7] = [
+    ("begin : b end", "(:b)"),
+    ("begin : b ; c = d; end", "(:b ; c = d)"),
+    ("begin : b reg a; a = c; end", "(:b reg a; a = c)"),
+    (
+        "begin : b reg signed [x:y] a, c [0:1]; integer d; ; end",
+        "(:b reg signed from x to y a c from 0 to 0; integer d; ;)",
+    ),
+    (
+        "begin : b integer a [c:d], e; reg f; begin : \\g+ end end",
+        "(:b integer a from c to d e; reg f; (:g+))",
+    ),
+    (
+        "if (a) begin : b end else begin c = d; begin : e end end",
+        "[if a then (:b) else ( c = d (:e))]",
+    ),
+    ("forever begin : b #1 ; end", "[forever (:b [# 0 ;])]"),
+];
+
+#[test]
+fn named_blocks(rt: HostRuntime) -> Result<(), Fail> {
+    for (statement, text) in &NAMED {
+        let source = format!(in rt.alloc(); "module t; initial {statement} endmodule")?;
+        is_stmt(&rt, rt.alloc(), source.as_bytes(), text.as_bytes())?;
+    }
+    Ok(())
+}
+
+/// Named blocks behind `initial`, whose first byte is byte 18, and the texts of their faults.
+const REFUSED_BLOCKS: [(&str, &str); 12] = [
+    ("begin : end endmodule", "P1 at 26"),
+    ("begin a : end endmodule", "P1 at 26"),
+    ("begin reg a; end endmodule", "P1 at 24"),
+    ("begin : b reg a = c; end endmodule", "P1 at 34"),
+    ("begin : b integer signed a; end endmodule", "P1 at 36"),
+    ("begin : b wire a; end endmodule", "P1 at 28"),
+    ("begin : b a = c; reg d; end endmodule", "P1 at 35"),
+    ("begin : b reg [3:0] a [0:1], ; end endmodule", "P1 at 47"),
+    ("begin : b : c end endmodule", "P1 at 28"),
+    ("begin : b end : b endmodule", "P1 at 32"),
+    ("begin : b reg ; end endmodule", "P1 at 32"),
+    ("begin : b reg a", "P4 at 33"),
+];
+
+#[test]
+fn refused_blocks(rt: HostRuntime) -> Result<(), Fail> {
+    for (statement, text) in &REFUSED_BLOCKS {
+        let source = format!(in rt.alloc(); "module t; initial {statement}")?;
+        is_answered(&rt, rt.alloc(), source.as_bytes(), text.as_bytes())?;
+    }
+    Ok(())
+}
+
 /// What stands before and behind an inner statement or expression, the innermost one, how often it may be nested (the item is a node,
 /// and there are 256), and the place of the token that is too deep where it is nested once more.
-const NESTED: [(&str, &str, &str, usize, usize); 15] = [
+const NESTED: [(&str, &str, &str, usize, usize); 16] = [
+    ("begin : b ", "", " end", 255, 2568),
     ("begin ", "", " end", 255, 1548),
     ("if (a) ", ";", "", 254, 1796),
     ("if (a) ", "b = c;", "", 253, 1796),

@@ -1,12 +1,15 @@
 //! Syntax trees of sources.
-use crate::instances::{constants_shown, instances_shown};
+use crate::generated::bare_names_shown;
+use crate::instances::{constants_shown, instances_shown, port_form_shown};
 use std::alloc::Global;
 use std::process::Abort;
 use std::test::Fail;
 use vs_lexer::lex;
 use vs_logic4::{Binary, Unary};
 use vs_parser::parse;
-use vs_syntax::{Declarator, Expr, Form, Item, Left, NetAssignment, PartSelect, Range, Stmt};
+use vs_syntax::{
+    Declarator, Expr, Form, Item, Left, ModuleItem, NetAssignment, PartSelect, Range, Stmt,
+};
 
 /// Two texts behind a text.
 pub(crate) fn put(text: &mut Vec<u8>, before: &[u8], inner: &[u8]) -> Result<(), Fail> {
@@ -329,7 +332,7 @@ fn left_shown(alloc: Global, left: &Left) -> Result<Vec<u8>, Fail> {
 }
 
 /// A range, where there is one.
-fn range_shown(alloc: Global, range: &Option<Range>) -> Result<Vec<u8>, Fail> {
+pub(crate) fn range_shown(alloc: Global, range: &Option<Range>) -> Result<Vec<u8>, Fail> {
     let mut text = Vec::new(alloc);
     if let Some(range) = range {
         put(&mut text, b" from ", &shown(alloc, &range.left)?)?;
@@ -387,9 +390,16 @@ fn assignments_shown(alloc: Global, assignments: &[NetAssignment]) -> Result<Vec
 }
 
 /// A declaration, an assignment in `initial`, or the assignments of an `assign` item, in one line.
-fn item_shown(alloc: Global, item: &Item) -> Result<Vec<u8>, Fail> {
+pub(crate) fn item_shown(alloc: Global, item: &Item) -> Result<Vec<u8>, Fail> {
     let mut text = Vec::new(alloc);
     match item {
+        Item::Port(form, names) => {
+            text.extend_from_slice(&port_form_shown(alloc, form)?)?;
+            text.extend_from_slice(&bare_names_shown(alloc, names)?)?;
+        }
+        Item::Genvar(names) => {
+            put(&mut text, b"genvar", &bare_names_shown(alloc, names)?)?;
+        }
         Item::Wire(form, names) => {
             put(&mut text, b"wire", &form_shown(alloc, form)?)?;
             text.extend_from_slice(&names_shown(alloc, names)?)?;
@@ -489,6 +499,21 @@ const DECLARATIONS: [(&str, &str); 26] = [
     ),
 ];
 
+/// Ports that items declare, and genvars (clauses 12.3.3 and 12.4.1), and what they are shown as.
+const BARE_NAMES: [(&str, &str); 8] = [
+    ("input a;", "input a"),
+    ("output a, b;", "output a b"),
+    ("input wire signed a;", "input wire signed a"),
+    (
+        "output reg [a:b + c] d, \\e+ , f;",
+        "output reg from a to [b + c] d e+ f",
+    ),
+    ("output integer a;", "output integer a"),
+    ("input signed [3:0] a;", "input signed from 0 to 0 a"),
+    ("genvar i;", "genvar i"),
+    ("genvar i, j;", "genvar i j"),
+];
+
 /// The only item of a source, as it is shown.
 fn only_item_shown(alloc: Global, source: &[u8]) -> Result<Vec<u8>, Fail> {
     let none = Vec::new(alloc);
@@ -502,7 +527,7 @@ fn only_item_shown(alloc: Global, source: &[u8]) -> Result<Vec<u8>, Fail> {
         return Ok(none);
     };
     match module.items.as_slice() {
-        [item] => item_shown(alloc, item),
+        [ModuleItem::Plain(item)] => item_shown(alloc, item),
         _ => Ok(none),
     }
 }
@@ -554,6 +579,15 @@ fn lefts(rt: HostRuntime) -> Result<(), Fail> {
         let later = format!(in rt.alloc(); "module t; initial {left} <= x; endmodule")?;
         let wanted = format!(in rt.alloc(); "{text} <= x")?;
         is_shown(&rt, rt.alloc(), later.as_bytes(), wanted.as_bytes())?;
+    }
+    Ok(())
+}
+
+#[test]
+fn bare_names(rt: HostRuntime) -> Result<(), Fail> {
+    for (item, text) in &BARE_NAMES {
+        let source = format!(in rt.alloc(); "module t; {item} endmodule")?;
+        is_shown(&rt, rt.alloc(), source.as_bytes(), text.as_bytes())?;
     }
     Ok(())
 }

@@ -14,7 +14,7 @@ use Rattle.vs_scopes.specs.passes.Parts.{read_end, value_under, IsSet, Gathers, 
 use Rattle.vs_scopes.specs.passes.Answers.{borrowed}
 use Rattle.vs_scopes.proofs.Folds.{both_false, left_true, right_true}
 use Rattle.vs_scopes.proofs.PassLemmas.{drop_at}
-use Rattle.vs_scopes.proofs.EarlyLemmas.{bytes_eq-sym}
+use Rattle.vs_scopes.proofs.DeclaredLemmas.{bytes_eq-sym}
 
 -- ---- names among others
 

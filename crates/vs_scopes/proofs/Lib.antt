@@ -1,15 +1,7 @@
 pub mod AnswerLemmas
 pub mod Folds
-pub mod PathsDiffer
-pub mod PathsLists
-pub mod PathsNumbered
-pub mod PathsOpened
-pub mod PathsParts
-pub mod PathsPrinted
-pub mod PathsWithin
 pub mod PrintedLemmas
 pub mod SizeLemmas
 pub mod PassLemmas
-pub mod EarlyLemmas
 pub mod ConnectionLemmas
-pub mod ValueLemmas
+pub mod DeclaredLemmas

@@ -7,7 +7,7 @@ use Rattle.vs_syntax.specs.declared.tree.Expr.{Expr}
 use Rattle.vs_scopes.specs.passes.Parts.{read_end, read_ends}
 use Rattle.vs_syntax.specs.declared.tree.Port.{Port}
 use Rattle.vs_syntax.specs.declared.tree.PortForm.{PortForm}
-use Rattle.vs_scopes.specs.Scopes.{port_as, ports_from}
+use Rattle.vs_scopes.specs.Ports.{port_as, ports_from}
 use Rattle.vs_scopes.specs.Connections.{in_text, in_order}
 use Rattle.vs_scopes.specs.Parameters.{Parameter, said, first_end, other_ends, given_from}
 
@@ -90,5 +90,5 @@ first_placed None (y ∷ ys) i k x e h q = ap (λ z. first_end (drop z (None ∷
 first_placed (Some z) ys i k x e h q = ap (λ w. first_end (drop w (Some z ∷ ys))) e ∙ first_at ys k x h q
 
 -- ports and parameters of a header, at one
-pub port_at : (before : Option PortForm) (ps : List Port) (i : ℕ) (p : Port) (now : Option PortForm) → i < length ps → p ≡ get_or ps i p → now ≡ said before p.form → ports_from before (drop i ps) ≡ port_as now p.name.items ∷ ports_from now (drop (i + 1) ps)
-port_at before ps i p now h k e = ap (ports_from before) (drop_at ps i p h k) ∙ ap (λ z. port_as z p.name.items ∷ ports_from z (drop (i + 1) ps)) (sym e)
+pub port_at : (before : Option PortForm) (ps : List Port) (i : ℕ) (p : Port) (now : Option PortForm) → i < length ps → p ≡ get_or ps i p → now ≡ said before p.form → ports_from before (drop i ps) ≡ port_as now p.name.items p.value ∷ ports_from now (drop (i + 1) ps)
+port_at before ps i p now h k e = ap (ports_from before) (drop_at ps i p h k) ∙ ap (λ z. port_as z p.name.items p.value ∷ ports_from z (drop (i + 1) ps)) (sym e)

@@ -13,7 +13,7 @@ use Rattle.vs_selects.specs.declared.faults.WidthReason.TheVariants.{TooWide, Un
 use Rattle.vs_selects.specs.declared.faults.WidthReason.{WidthReason}
 use Rattle.vs_selects.specs.Environment.{Environment}
 use Rattle.vs_scopes.specs.declared.faults.Reason.{Reason}
-use Rattle.vs_scopes.specs.declared.faults.Reason.TheVariants.{NoModule, Inside, PortMismatch, ParameterMismatch, DeclaredTwice, DrivenTwice, Limit, Width}
+use Rattle.vs_scopes.specs.declared.faults.Reason.TheVariants.{NoModule, Inside, PortMismatch, ParameterMismatch, DeclaredTwice, DrivenTwice, Limit, Endless, Unnamed, Width}
 use Rattle.vs_scopes.specs.declared.faults.BodyFault.{BodyFault}
 use Rattle.vs_scopes.specs.declared.sizes.Size.{Size}
 use Rattle.vs_scopes.specs.declared.words.WordCount.{WordCount}
@@ -54,6 +54,8 @@ no_faults faults h PortMismatch = refl
 no_faults faults h ParameterMismatch = refl
 no_faults faults h DeclaredTwice = refl
 no_faults faults h DrivenTwice = refl
+no_faults faults h Endless = refl
+no_faults faults h Unnamed = refl
 no_faults faults h Limit = refl
 
 module _ (env : Environment) (signed : Bool) (n : ℕ) (o : Option Range) where
@@ -97,6 +99,8 @@ module _ (env : Environment) (kind : SignalKind) where
       by ParameterMismatch = refl
       by DeclaredTwice = refl
       by DrivenTwice = refl
+      by Endless = refl
+      by Unnamed = refl
 
   module _ (r : Range) (o : Option Range) (i : o ≡ Some r) where
     -- a fault of a bound
@@ -112,6 +116,8 @@ module _ (env : Environment) (kind : SignalKind) where
         by ParameterMismatch k = k
         by DeclaredTwice k = k
         by DrivenTwice k = k
+        by Endless k = k
+        by Unnamed k = k
 
     -- an array of nets
     pub words_of_net : kind ≡ k.Wire → words_fault (Width WrongKind) env kind o ≡ true
@@ -148,3 +154,5 @@ module _ (env : Environment) (kind : SignalKind) where
         by ParameterMismatch = refl
         by DeclaredTwice = refl
         by DrivenTwice = refl
+        by Endless = refl
+        by Unnamed = refl

@@ -2,7 +2,9 @@ pub mod Printed
 pub mod Ranges
 pub mod Connections
 pub mod Parameters
+pub mod Ports
+pub mod Declarations
+pub mod Generate
 pub mod Scopes
-pub mod Laws
 pub mod Texts
 pub mod passes

@@ -13,6 +13,7 @@ use Rattle.vs_syntax.specs.declared.tree.ParameterForm.TheVariants.{Integer, Vec
 use Rattle.vs_syntax.specs.declared.tree.Module.{Module}
 use Rattle.vs_syntax.specs.declared.tree.Item.{Item}
 use Rattle.vs_syntax.specs.declared.tree.Item.TheVariants as i
+use Rattle.vs_pieces.specs.Pieces.{Piece, plain, pieces_of}
 use Rattle.vs_selects.specs.declared.bindings.Binding.TheVariants as b
 use Rattle.vs_selects.specs.declared.constants.Const.{Const}
 use Rattle.vs_selects.specs.declared.faults.WidthReason.{WidthReason}
@@ -51,19 +52,22 @@ item_parameter fixed form c = record { fixed = fixed; form = Some form; name = c
 
 -- the parameters that an item declares; nothing overrides those of a `localparam` (clause 4.10)
 abbrev pub parameters_in : Item → List Parameter
-parameters_in (i.Wire f ds) = []
-parameters_in (i.Reg f ds) = []
-parameters_in (i.Integer ds) = []
 parameters_in (i.Parameter f xs) = map (item_parameter false f) xs.items
 parameters_in (i.Localparam f xs) = map (item_parameter true f) xs.items
-parameters_in (i.Instances n o xs) = []
-parameters_in (i.Assign xs) = []
-parameters_in (i.Initial x) = []
-parameters_in (i.Always x) = []
+parameters_in _ = []
+
+-- the parameters that a piece declares (clause 4.10)
+abbrev pub piece_parameters : Piece → List Parameter
+piece_parameters (plain x) = parameters_in x
+piece_parameters _ = []
+
+-- the parameters that pieces declare, in the order of the text
+abbrev pub parameters_among : List Piece → List Parameter
+parameters_among ps = flat_map piece_parameters ps
 
 -- the parameters of a module in the order of the text, those of its header first
 abbrev pub parameters_of : Module → List Parameter
-parameters_of m = header_parameters None m.parameters.items ++ flat_map parameters_in m.items.items
+parameters_of m = header_parameters None m.parameters.items ++ parameters_among (pieces_of m.items.items)
 
 -- the names of parameters that may be overridden, in the order of the text
 abbrev pub overridable : List Parameter → List (List ℕ)

@@ -1,7 +1,10 @@
 -- How names and paths are printed.
-use Rattle.std.specs.Prelude.{◌≡◌, ℕ, Bool, false, ◌&&◌, ◌||◌, ◌==◌, nat_le, List, [], ◌∷◌, ◌++◌, map, codes, if◌then◌else◌}
+use Rattle.std.specs.Prelude.{ℕ, ℤ, Bool, true, false, ◌&&◌, ◌||◌, ◌==◌, nat_le, List, [], ◌∷◌, ◌++◌, Option, None, Some, map, codes, if◌then◌else◌}
 use Rattle.std.specs.List.{flat_map, list_all, join_with_byte}
-use Rattle.std.specs.Fmt.{decimal}
+use Rattle.std.specs.Fmt.{decimal, signed_decimal}
+use Rattle.std.specs.Ordering.{int_eq}
+use Rattle.std.specs.Cmp.Lexicographic.{pointwise}
+use Rattle.std.specs.Str.{bytes_eq}
 
 -- a letter or `_` (clause 3.7)
 abbrev pub is_letter : ℕ → Bool
@@ -25,13 +28,44 @@ escaped_byte c = if c == 32 then 127 ∷ 49 ∷ [] else if c == 127 then 127 ∷
 abbrev pub printed_name : List ℕ → List ℕ
 printed_name n = if is_simple n then n else 92 ∷ flat_map escaped_byte n ++ 32 ∷ []
 
--- the names from the top to a scope or a signal (clause 12.4)
-abbrev pub Path : Type 0
-Path = List (List ℕ)
+-- a name of a path, with the value of the genvar where it is that of a turn of a generate loop (clauses 12.4.1 and 12.5)
+pub record PathName : Type 0 where
+  pub name : List ℕ
+  pub turn : Option ℤ
 
--- a path as it is printed: its names joined by `.` (clause 12.4)
+-- a name that is no turn of a loop
+abbrev pub plainly : List ℕ → PathName
+plainly n = record { name = n; turn = None }
+
+-- a value of a genvar as it is printed behind the name of a loop's block (clause 12.4.1)
+abbrev pub printed_turn : Option ℤ → List ℕ
+printed_turn None = []
+printed_turn (Some v) = 91 ∷ signed_decimal v ++ 93 ∷ []
+
+-- a name of a path as it is printed
+abbrev pub printed_part : PathName → List ℕ
+printed_part p = printed_name p.name ++ printed_turn p.turn
+
+-- the names from the top to a scope or a signal (clause 12.5)
+abbrev pub Path : Type 0
+Path = List PathName
+
+-- whether two turns are the same
+abbrev pub same_turn : Option ℤ → Option ℤ → Bool
+same_turn None None = true
+same_turn (Some a) (Some b) = int_eq a b
+same_turn _ _ = false
+
+-- whether two names of paths are the same, and whether two paths are
+abbrev pub same_part : PathName → PathName → Bool
+same_part p q = bytes_eq p.name q.name && same_turn p.turn q.turn
+
+abbrev pub same_path : Path → Path → Bool
+same_path = pointwise same_part
+
+-- a path as it is printed: its names joined by `.` (clause 12.5)
 abbrev pub printed : Path → List ℕ
-printed p = join_with_byte 46 (map printed_name p)
+printed p = join_with_byte 46 (map printed_part p)
 
 -- the name of a part in its scope: `#`, a letter and the number (profile)
 abbrev pub own_name : ℕ → ℕ → List ℕ
@@ -44,11 +78,3 @@ port_assign_name n = codes "#io:" ++ printed_name n
 -- a part by the path of its scope and its name there
 abbrev pub part_name : Path → List ℕ → List ℕ
 part_name p n = printed p ++ n
-
--- paths that are printed alike are equal (clause 12.4)
-abbrev pub PrintedPathsDiffer : Type 0
-PrintedPathsDiffer = (p q : Path) → printed p ≡ printed q → p ≡ q
-
--- parts that are printed alike have one path, and one name there: each name begins with `#` (profile)
-abbrev pub PrintedPartsDiffer : Type 0
-PrintedPartsDiffer = (p q : Path) (m n : List ℕ) → part_name p (35 ∷ m) ≡ part_name q (35 ∷ n) → (p ≡ q) × (m ≡ n)

@@ -2,7 +2,7 @@
 use Rattle.std.specs.Prelude.{ℕ, ◌+◌, ◌/◌, ◌%◌, ◌==◌, ◌||◌, Bool, nat_lt, List, [], ◌∷◌, ◌++◌, codes, if◌then◌else◌}
 use Rattle.std.specs.List.{flat_map}
 use Rattle.vs_scopes.specs.declared.faults.Reason.{Reason}
-use Rattle.vs_scopes.specs.declared.faults.Reason.TheVariants.{NoModule, Inside, PortMismatch, ParameterMismatch, DeclaredTwice, DrivenTwice, Limit, Width}
+use Rattle.vs_scopes.specs.declared.faults.Reason.TheVariants.{NoModule, Inside, PortMismatch, ParameterMismatch, DeclaredTwice, DrivenTwice, Limit, Width, Endless, Unnamed}
 use Rattle.vs_selects.specs.declared.faults.WidthReason.TheVariants.{TooWide, Unknown, NotConstant, WrongKind}
 use Rattle.vs_scopes.specs.declared.faults.ElabFault.{ElabFault}
 use Rattle.vs_scopes.specs.declared.faults.ElabFault.TheVariants.{Memory, At}
@@ -20,6 +20,8 @@ reason_text (Width TooWide) = codes "E8 X1"
 reason_text (Width Unknown) = codes "E8 X2"
 reason_text (Width NotConstant) = codes "E8 X3"
 reason_text (Width WrongKind) = codes "E8 X4"
+reason_text Endless = codes "E9"
+reason_text Unnamed = codes "E10"
 
 -- a byte that is no printed character of its own: below 32, and 127 (profile)
 abbrev pub is_control : ℕ → Bool

@@ -2,3 +2,5 @@
 pub mod Answers
 pub mod Sizes
 pub mod Parts
+pub mod Declared
+pub mod Names

@@ -36,6 +36,12 @@ pub enum Reason {
     /// An expression, an assignment or a delay has no meaning.
     #[error("E8 {0}")]
     Width(WidthReason),
+    /// A generate loop doesn't end within 65,536 turns.
+    #[error("E9")]
+    Endless,
+    /// An unnamed generate block has no free name of at most 1,024 bytes.
+    #[error("E10")]
+    Unnamed,
 }
 
 /// A refusal.

@@ -2,11 +2,9 @@
 #![tactic(auto)]
 
 mod connections;
-mod early;
-mod evaluating;
+mod declared;
 mod faults;
 mod forms;
-mod laws;
 mod parameters;
 mod ports;
 mod printed;
@@ -15,16 +13,16 @@ mod texts;
 mod words;
 
 pub use connections::ends;
-pub use early::early_names;
-pub use evaluating::values;
+pub use declared::{KindSaid, add_first, kinds_said};
 pub use faults::{BodyFault, ElabFault, ParameterRefusal, Reason};
-pub use laws::{
-    paths_differ, printed_parts_differ, printed_paths_differ, scopes_are_numbered,
-    scopes_stand_in_scopes,
+pub use parameters::{
+    Given, Parameter, block_parameters, given_alone, given_to, module_parameters,
 };
-pub use parameters::{Given, Parameter, ParameterValues, given_to, module_parameters};
-pub use ports::{ModulePort, module_ports};
-pub use printed::{print_member, print_name, print_part, print_path, print_port_part};
-pub use sizes::{INTEGER, Size, declared_size, declared_words, port_size};
+pub use ports::{ModulePort, PortSource, module_ports};
+pub use printed::{
+    PartName, PathName, numbered_name, print_member, print_name, print_part, print_path,
+    print_port_part, print_title,
+};
+pub use sizes::{INTEGER, Size, declared_bounds, declared_size, declared_words, port_size};
 pub use texts::fault_text;
 pub use words::WordCount;

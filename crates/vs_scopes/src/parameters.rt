@@ -1,15 +1,15 @@
 //! The parameters of a module, and what overrides them.
-ghost use Rattle.std.specs.Prelude.{◌≡◌, ◌++◌, None, drop, map, IfOk, OnOk};
-ghost use Rattle.vs_scopes.specs.Parameters.{header_parameters, item_parameter, parameters_in, parameters_of, overridable, overriding, do_not_fit, given_from, first_end};
+ghost use Rattle.std.specs.Prelude.{◌≡◌, ◌++◌, [], None, drop, map, IfOk, OnOk};
+ghost use Rattle.vs_pieces.specs.Reads.{read_piece};
+ghost use Rattle.vs_scopes.specs.Parameters.{header_parameters, item_parameter, parameters_in, piece_parameters, parameters_among, overridable, given_from, first_end};
 ghost use Rattle.vs_scopes.specs.passes.Answers.{borrowed};
 ghost use Rattle.vs_scopes.specs.passes.Parts.{read_end, read_ends, read_parameter, read_given, AreOverrides, AreGiven};
 
 use crate::connections::ends;
 use crate::forms::said;
 use std::alloc::{AllocError, Global};
-use vs_selects::{Binding, Const};
+use vs_pieces::Piece;
 use vs_syntax::{Connections, Constant, Expr, HeaderParameter, Item, Module, ParameterForm};
-use vs_widths::Names;
 
 /// A parameter as the text declares it (IEEE 1364-2005, clauses 4.10 and 12.2).
 #[derive(Clone, Copy)]
@@ -31,15 +31,6 @@ pub struct Given<'s> {
     pub parameter: Parameter<'s>,
     /// What overrides it.
     pub over: Option<&'s Expr>,
-}
-
-/// The values of a module's parameters.
-#[derive(Drop)]
-pub struct ParameterValues<'s> {
-    /// The constants that they are, each by its name.
-    pub constants: Vec<(&'s [u8], Const)>,
-    /// What names of the module are bound to in its constant expressions.
-    pub known: Names<'s, Binding>,
 }
 
 /// The parameters of a header (IEEE 1364-2005, clause 12.2).
@@ -96,17 +87,51 @@ fn push_parameters<'s>(item: &'s Item, list: &mut Vec<Parameter<'s>>) -> Result<
     }
 }
 
-/// The parameters of a module in the order of the text, those of its header first.
+/// Appends the parameters that a piece declares (IEEE 1364-2005, clause 4.10).
+fn push_declared<'s>(piece: Piece<'s>, list: &mut Vec<Parameter<'s>>) -> Result<(), AllocError>
+    ensures { OnOk result (map read_parameter list.new.items
+        ≡ map read_parameter list.old.items ++ piece_parameters (read_piece piece.entry)) }
+{
+    match piece {
+        Piece::Plain(item) => push_parameters(item, list),
+        _ => Ok(()),
+    }
+}
+
+/// Appends the parameters that pieces declare, in the order of the text.
+fn push_among<'s>(pieces: &[Piece<'s>], list: &mut Vec<Parameter<'s>>) -> Result<(), AllocError>
+    ensures { OnOk result (map read_parameter list.new.items
+        ≡ map read_parameter list.old.items ++ parameters_among (map read_piece pieces.now)) }
+{
+    for piece in pieces {
+        push_declared(*piece, list)?;
+    }
+    Ok(())
+}
+
+/// The parameters of a module of these pieces in the order of the text, those of its header first.
 pub fn module_parameters<'s>(
     alloc: Global,
     module: &'s Module,
+    pieces: &[Piece<'s>],
 ) -> Result<Vec<Parameter<'s>>, AllocError>
-    ensures { IfOk result (λ v. map read_parameter v.items ≡ parameters_of «module».entry.now) }
+    ensures { IfOk result (λ v. map read_parameter v.items
+        ≡ header_parameters None «module».entry.now.parameters.items ++ parameters_among (map read_piece pieces.now)) }
 {
     let mut list = header_parameters(alloc, &module.parameters)?;
-    for item in &module.items {
-        push_parameters(item, &mut list)?;
-    }
+    push_among(pieces, &mut list)?;
+    Ok(list)
+}
+
+/// The parameters of a generate block or a named block of these pieces (IEEE 1364-2005, clause 4.10.2).
+pub fn block_parameters<'s>(
+    alloc: Global,
+    pieces: &[Piece<'s>],
+) -> Result<Vec<Parameter<'s>>, AllocError>
+    ensures { IfOk result (λ v. map read_parameter v.items ≡ parameters_among (map read_piece pieces.now)) }
+{
+    let mut list = Vec::new(alloc);
+    push_among(pieces, &mut list)?;
     Ok(list)
 }
 
@@ -181,17 +206,26 @@ fn given_parameters<'s>(
     Ok(list)
 }
 
-/// The parameters of a module with what overrides them; nothing where that doesn't fit them (IEEE 1364-2005, clause 12.2.2).
+/// Parameters with what overrides them; nothing where that doesn't fit them (IEEE 1364-2005, clause 12.2.2).
 pub fn given_to<'s>(
     alloc: Global,
-    module: &'s Module,
+    parameters: &[Parameter<'s>],
     overrides: Option<&'s Connections>,
 ) -> Result<Option<Vec<Given<'s>>>, AllocError>
-    ensures { IfOk result (AreGiven (read_end overrides.entry) «module».entry.now) }
+    ensures { IfOk result (AreGiven (read_end overrides.entry) (map read_parameter parameters.now)) }
 {
-    let parameters = module_parameters(alloc, module)?;
-    match overrides_of(alloc, &parameters, overrides)? {
-        Some(ends) => Ok(Some(given_parameters(alloc, &parameters, &ends)?)),
+    match overrides_of(alloc, parameters, overrides)? {
+        Some(ends) => Ok(Some(given_parameters(alloc, parameters, &ends)?)),
         None => Ok(None),
     }
+}
+
+/// The parameters of a block, which nothing overrides (IEEE 1364-2005, clause 4.10.2).
+pub fn given_alone<'s>(
+    alloc: Global,
+    parameters: &[Parameter<'s>],
+) -> Result<Vec<Given<'s>>, AllocError>
+    ensures { IfOk result (λ v. map read_given v.items ≡ given_from (map read_parameter parameters.now) []) }
+{
+    given_parameters(alloc, parameters, &[])
 }

@@ -4,7 +4,7 @@ ghost use Rattle.vs_widths.specs.Names.{meaning_of};
 ghost use Rattle.vs_scopes.specs.declared.faults.BodyFault.TheVariants as fault;
 ghost use Rattle.vs_scopes.specs.declared.faults.Reason.TheVariants as reasons;
 ghost use Rattle.vs_scopes.specs.Ranges.{bound_of, bound_fault, range_bounds, bounds_fault, range_fault, sized_as, words_as};
-ghost use Rattle.vs_scopes.specs.Scopes.{size_of_kind};
+ghost use Rattle.vs_scopes.specs.Declarations.{size_of_kind};
 ghost use Rattle.vs_scopes.specs.passes.Answers.{Elaborates};
 ghost use Rattle.vs_scopes.specs.passes.Parts.{read_end, read_port};
 ghost use Rattle.vs_scopes.specs.passes.Sizes.{width_faults, IsRange, IsSize, AreWords};
@@ -15,9 +15,9 @@ use crate::words::WordCount;
 use std::alloc::Global;
 use vs_design::{Bounds, SignalKind};
 use vs_forms::Shape;
-use vs_selects::{Binding, WidthReason};
+use vs_selects::WidthReason;
 use vs_syntax::{Expr, Form, Range};
-use vs_widths::{Names, constant};
+use vs_widths::{Levels, constant};
 
 /// The size and sign of a signal, and its range.
 #[derive(Clone, Copy)]
@@ -45,7 +45,7 @@ fn refused(reason: WidthReason) -> BodyFault
 }
 
 /// The number of a bound of a range.
-fn bound(alloc: Global, names: &Names<Binding>, e: &Expr) -> Result<i64, BodyFault>
+fn bound(alloc: Global, names: &Levels, e: &Expr) -> Result<i64, BodyFault>
     ensures { let env = meaning_of names.now in
         Elaborates (width_faults (λ w. bound_fault w env e.now))
         (λ n. bound_of env e.now ≡ Some n) result }
@@ -58,7 +58,7 @@ fn bound(alloc: Global, names: &Names<Binding>, e: &Expr) -> Result<i64, BodyFau
 }
 
 /// The bounds of a range.
-fn bounds(alloc: Global, names: &Names<Binding>, range: &Range) -> Result<Bounds, BodyFault>
+pub fn declared_bounds(alloc: Global, names: &Levels, range: &Range) -> Result<Bounds, BodyFault>
     ensures { let env = meaning_of names.now in
         Elaborates (width_faults (λ w. bounds_fault w env range.now))
         (λ b. range_bounds env (Some range.now) ≡ Some b) result }
@@ -69,12 +69,12 @@ fn bounds(alloc: Global, names: &Names<Binding>, range: &Range) -> Result<Bounds
 }
 
 /// The bounds of a range of bits, and its size.
-fn bits(alloc: Global, names: &Names<Binding>, range: &Range) -> Result<(Bounds, u32), BodyFault>
+fn bits(alloc: Global, names: &Levels, range: &Range) -> Result<(Bounds, u32), BodyFault>
     ensures { let env = meaning_of names.now in
         Elaborates (width_faults (λ w. range_fault w env (Some range.now)))
         (IsRange env range.now) result }
 {
-    let bounds = bounds(alloc, names, range)?;
+    let bounds = declared_bounds(alloc, names, range)?;
     let apart = bounds.left.abs_diff(bounds.right);
     if apart > 63 {
         return Err(refused(WidthReason::TooWide));
@@ -86,7 +86,7 @@ fn bits(alloc: Global, names: &Names<Binding>, range: &Range) -> Result<(Bounds,
 /// (IEEE 1364-2005, clauses 4.3 and 4.8).
 fn sized(
     alloc: Global,
-    names: &Names<Binding>,
+    names: &Levels,
     signed: bool,
     apart: u32,
     range: Option<&Range>,
@@ -114,7 +114,7 @@ fn sized(
 }
 
 /// The size and sign that a declaration of nets or of variables of type `reg` says of its names (IEEE 1364-2005, clause 4.3).
-pub fn declared_size(alloc: Global, names: &Names<Binding>, form: &Form) -> Result<Size, BodyFault>
+pub fn declared_size(alloc: Global, names: &Levels, form: &Form) -> Result<Size, BodyFault>
     ensures { let z = sized_as (meaning_of names.now) form.now.signed 0 form.now.range in
         Elaborates (width_faults z.faults) (IsSize z) result }
 {
@@ -124,7 +124,7 @@ pub fn declared_size(alloc: Global, names: &Names<Binding>, form: &Form) -> Resu
 /// The size and sign that a port of this kind has by its sign and its range.
 fn kind_size(
     alloc: Global,
-    names: &Names<Binding>,
+    names: &Levels,
     kind: SignalKind,
     signed: bool,
     range: Option<&Range>,
@@ -140,24 +140,17 @@ fn kind_size(
 }
 
 /// The size and sign of a port (IEEE 1364-2005, clauses 4.2.1, 4.2.2, 4.3.1 and 4.8).
-pub fn port_size(
-    alloc: Global,
-    names: &Names<Binding>,
-    port: &ModulePort,
-) -> Result<Size, BodyFault>
+pub fn port_size(alloc: Global, names: &Levels, port: &ModulePort) -> Result<Size, BodyFault>
     ensures { let z = size_of_kind (meaning_of names.now) port.now.kind (read_port port.now).form in
         Elaborates (width_faults z.faults) (IsSize z) result }
 {
-    match port.form {
-        Some(form) => kind_size(alloc, names, port.kind, form.signed, form.range.as_ref()),
-        None => kind_size(alloc, names, port.kind, false, None),
-    }
+    kind_size(alloc, names, port.kind, port.signed, port.range)
 }
 
 /// What a declaration says of the words of a name of this kind (IEEE 1364-2005, clause 4.9). An array has at most 65,536 words.
 pub fn declared_words(
     alloc: Global,
-    names: &Names<Binding>,
+    names: &Levels,
     kind: SignalKind,
     range: &Option<Range>,
 ) -> Result<WordCount, BodyFault>
@@ -173,7 +166,7 @@ pub fn declared_words(
     if let SignalKind::Wire = kind {
         return Err(refused(WidthReason::WrongKind));
     }
-    let bounds = bounds(alloc, names, range)?;
+    let bounds = declared_bounds(alloc, names, range)?;
     let apart = bounds.left.abs_diff(bounds.right);
     if apart > 65535 {
         return Err(BodyFault::Refused(Reason::Limit));

@@ -23,6 +23,8 @@ fn reason_text(reason: Reason) -> &'static [u8]
         Reason::Width(WidthReason::Unknown) => b"E8 X2",
         Reason::Width(WidthReason::NotConstant) => b"E8 X3",
         Reason::Width(WidthReason::WrongKind) => b"E8 X4",
+        Reason::Endless => b"E9",
+        Reason::Unnamed => b"E10",
     }
 }
 

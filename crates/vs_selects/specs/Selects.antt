@@ -14,7 +14,7 @@ use Rattle.vs_eval.specs.Values.{bits_value}
 use Rattle.vs_forms.specs.declared.shape.Shape.{Shape}
 use Rattle.vs_selects.specs.declared.bindings.Meaning.{Meaning}
 use Rattle.vs_selects.specs.declared.bindings.Binding.{Binding}
-use Rattle.vs_selects.specs.declared.bindings.Binding.TheVariants.{Signal, Constant, Pending, Other}
+use Rattle.vs_selects.specs.declared.bindings.Binding.TheVariants.{Signal, Constant, Pending, Other, Genvar}
 use Rattle.vs_selects.specs.declared.faults.WidthReason.{WidthReason}
 use Rattle.vs_selects.specs.Findings.{Finding, Has, Lacks, stands, unknown, wrong_kind, not_constant, together, alone, second, unsigned, at_found}
 use Rattle.vs_selects.specs.Meants.{Meant, own}
@@ -193,6 +193,7 @@ named (Some (Signal x signal)) ss = of_words x.words x signal ss
 named (Some (Constant c)) ss = in_signal 0 (no_bits wrong_kind ss)
 named (Some Pending) ss = in_signal 0 (no_bits not_constant ss)
 named (Some Other) ss = in_signal 0 (no_bits wrong_kind ss)
+named (Some Genvar) ss = in_signal 0 (no_bits wrong_kind ss)
 
 -- ---- values
 

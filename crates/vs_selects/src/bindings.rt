@@ -31,6 +31,8 @@ pub enum Binding {
     Constant(Const),
     /// A constant whose value isn't known yet where it is asked for.
     Pending,
-    /// What has no value: an instance.
+    /// A genvar, which has a value in the turns of a generate loop alone (clause 12.4.1).
+    Genvar,
+    /// What has no value: an instance, a generate block or a named block.
     Other,
 }

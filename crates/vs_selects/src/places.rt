@@ -308,5 +308,6 @@ pub fn named(
         Binding::Constant(_) => Err(WRONG_KIND),
         Binding::Pending => Err(NOT_CONSTANT),
         Binding::Other => Err(WRONG_KIND),
+        Binding::Genvar => Err(WRONG_KIND),
     }
 }

@@ -3,10 +3,12 @@ use Rattle.std.proofs.Common.{◌≡◌, ℕ, ◌&&◌, Bool, true, Option, None
 use Rattle.std.specs.List.{list_all}
 use Rattle.vs_tokens.specs.declared.token.Kind.{Kind}
 use Rattle.vs_tokens.specs.declared.token.Kind.TheVariants as k
+use Rattle.vs_tokens.specs.declared.token.Directive.{Directive}
+use Rattle.vs_tokens.specs.declared.token.Directive.TheVariants as d
 use Rattle.vs_lexer.specs.NameLines.{is_one_line, has_one_line_name, is_one_line_token}
 use Rattle.vs_lexer.specs.Spelling.{IsSpelled}
 use Rattle.vs_lexer.specs.Tokens.{Lexeme}
-use Rattle.vs_syntax.specs.Symbols.{Symbol, a_name, cast_of, system_symbol, symbol_of, symbols}
+use Rattle.vs_syntax.specs.Symbols.{Symbol, a_name, cast_of, system_symbol, directive_symbol, symbol_of, symbols}
 use Rattle.vs_syntax.specs.SourceNames.{NamesAreTokens}
 use Rattle.vs_syntax.specs.declared.tree.Module.{Module}
 use Rattle.vs_design.specs.OneLine.{HasNamesOfOneLine}
@@ -24,12 +26,17 @@ of_system : (o : Option Bool) → is_one_line_symbol (system_symbol o) ≡ true
 of_system None = refl
 of_system (Some s) = refl
 
+of_directive : (x : Directive) → is_one_line_symbol (directive_symbol x) ≡ true
+of_directive (d.DefaultNettype x) = refl
+of_directive _ = refl
+
 of_kind : (kind : Kind) (bytes : List ℕ) → is_one_line_symbol (symbol_of kind bytes) ≡ has_one_line_name kind bytes
 of_kind (k.Mark m) bytes = refl
 of_kind (k.Word w) bytes = refl
 of_kind k.Name bytes = refl
 of_kind (k.Number l) bytes = refl
 of_kind k.System bytes = of_system (cast_of bytes)
+of_kind (k.Directive x) bytes = of_directive x
 of_kind _ bytes = refl
 
 of_tokens : (ts : List Lexeme) → list_all is_one_line_symbol (symbols ts) ≡ list_all is_one_line_token ts

@@ -9,6 +9,8 @@ use Rattle.clap.specs.declared.parser.matches.Found.{Found}
 use Rattle.vs_sim.specs.declared.words.Request.{Request}
 use Rattle.vs_sim.specs.declared.words.Call.{Call}
 use Rattle.vs_sim.specs.declared.words.Call.TheVariants.{Run, Elab}
+use Rattle.vs_sim.specs.declared.words.Order.{Order}
+use Rattle.vs_sim.specs.declared.words.Order.TheVariants.{Fifo, Lifo}
 use Rattle.vs_sim.specs.declared.words.Text.{Text}
 use Rattle.vs_sim.specs.declared.words.Text.TheVariants.{Lines, Dump}
 
@@ -22,11 +24,17 @@ abbrev pub text_named : Option (List ℕ) → Text
 text_named None = Lines
 text_named (Some word) = if bytes_eq word (codes "vcd") then Dump else Lines
 
+-- the order that a word names
+abbrev pub order_named : Option (List ℕ) → Order
+order_named None = Fifo
+order_named (Some word) = if bytes_eq word (codes "lifo") then Lifo else Fifo
+
 -- what was found among the words of `vsim run` asks for this
 pub record Asks (f : Found) (q : Request) : Type 0 where
   pub top : first_value f (codes "top") ≡ Some q.top.now
   pub until : IsNumber (one_text f (codes "until")) q.until.count
   pub steps : IsNumber (one_text f (codes "steps")) q.steps.count
+  pub order : q.order ≡ order_named (first_value f (codes "policy"))
   pub text : q.text ≡ text_named (first_value f (codes "out"))
 
 -- whether a subcommand is `elab`; the other one is `run`

@@ -11,7 +11,7 @@ use crate::input::{InputFault, read_source};
 use crate::listing::list_design;
 use crate::simulation::{Policy, simulate};
 use crate::texts::{fault_status, fault_text};
-use crate::words::{Call, Request, Text, is_help, is_memory, read_words};
+use crate::words::{Call, Order, Request, Text, is_help, is_memory, read_words};
 use clap::Error;
 use std::alloc::Global;
 use std::io::{self, BufWriter, ErrorKind, Read, Write};
@@ -111,6 +111,14 @@ fn answer<R: Read + Drop, O: Write + Drop, E: Write + Drop>(
     }
 }
 
+// The policy of an order.
+fn policy_of<'v>(order: Order) -> Policy<'v> {
+    match order {
+        Order::Fifo => Policy::Fifo,
+        Order::Lifo => Policy::Lifo,
+    }
+}
+
 // Runs a source; the text that was asked for goes to the writer, which comes back.
 fn run_source<'s, W: Write>(
     alloc: Global,
@@ -126,7 +134,7 @@ fn run_source<'s, W: Write>(
     let mut dropped = Dropped;
     let top = request.top.as_bytes();
     let (until, steps) = (request.until.count, request.steps.count);
-    let policy = Policy::Fifo;
+    let policy = policy_of(request.order);
     let result = match request.text {
         Text::Dump => simulate(
             alloc,

@@ -1,5 +1,8 @@
 //! One simulation.
-ghost use Rattle.std.specs.Prelude.{◌≡◌, ◌<◌, ◌^◌, true, false, IfOk, IfErr, MatchResult};
+ghost use Rattle.std.specs.Prelude.{◌≡◌, ◌<◌, ◌^◌, true, false, IfOk, IfErr, OnErr, MatchResult};
+ghost use Rattle.vs_kernel.specs.Faults.{FaultAt, is_write as is_run_write};
+ghost use Rattle.vs_kernel.specs.Runs.{RanTo, HasBegun};
+ghost use Rattle.vs_kernel.specs.declared.kernel.Status.TheVariants.{Ready};
 ghost use Rattle.vs_process.specs.Permitted.{NeverStuck};
 ghost use Rattle.vs_sim.specs.Honesty.{Defines, DefinesNone, IsRun, HasBegunRun, Fails, is_refusal, is_write};
 ghost use Rattle.vs_vcd.specs.Sinks.{failed_after};
@@ -9,7 +12,7 @@ use std::alloc::Global;
 use vs_design::Design;
 use vs_elaborate::elaborate;
 use vs_elaborate_laws::names_of_one_line as defined_of_one_line;
-use vs_kernel::{Fifo, Kernel, Outcome, dumps_show_slot_ends};
+use vs_kernel::{Fifo, Kernel, Lifo, Listed, Outcome, Pick, RunFault, dumps_show_slot_ends};
 use vs_lexer::{lex, names_of_one_line as spelled_of_one_line};
 use vs_parser::parse;
 use vs_process::never_stuck;
@@ -17,10 +20,14 @@ use vs_syntax::names_are_tokens;
 use vs_vcd::Sink;
 
 /// Which enabled item is next.
-#[derive(Clone, Copy, PartialEq, Eq, Debug)]
-pub enum Policy {
+#[derive(Clone, Copy)]
+pub enum Policy<'v> {
     /// The first of the list.
     Fifo,
+    /// The last of the list.
+    Lifo,
+    /// At each choice the item of the next of these numbers, modulo how many items there are; behind the last number the first item.
+    Listed(&'v [usize]),
 }
 
 // The design that a source and a top define.
@@ -36,6 +43,56 @@ pub(crate) fn design_of<'s>(
     let tree = parse(alloc, &tokens)?;
     let design = elaborate(alloc, &tree, top)?;
     Ok(design)
+}
+
+// Runs a design under a policy.
+fn run_under<P: Pick + Drop, V: Sink, L: Sink>(
+    alloc: Global,
+    design: &Design,
+    policy: P,
+    until: u64,
+    steps: u64,
+    vcd: &mut V,
+    lines: &mut L,
+) -> Result<Outcome, RunFault>
+    requires until { until < 2 ^ 62 }
+    requires steps { steps < 2 ^ 62 }
+    ensures ran { IfOk result (λ outcome. RanTo design.now until steps outcome (V.bytes vcd.old) (V.bytes vcd.new)) }
+    ensures begun { OnErr result (HasBegun design.now until steps (V.bytes vcd.old) (V.bytes vcd.new)) }
+    ensures fault { IfErr result (λ fault. FaultAt Ready fault) }
+    ensures failures { V.failed vcd.new ≡ failed_after (is_run_write result) (V.failed vcd.old) }
+    ensures lines { lines.new ≡ lines.old }
+{
+    let mut kernel = Kernel::new(alloc, design, policy)?;
+    kernel.run(until, steps, vcd, lines)
+}
+
+// Runs a design under one of the policies.
+fn run_design<V: Sink, L: Sink>(
+    alloc: Global,
+    design: &Design,
+    policy: &Policy,
+    until: u64,
+    steps: u64,
+    vcd: &mut V,
+    lines: &mut L,
+) -> Result<Outcome, RunFault>
+    requires until { until < 2 ^ 62 }
+    requires steps { steps < 2 ^ 62 }
+    ensures ran { IfOk result (λ outcome. RanTo design.now until steps outcome (V.bytes vcd.old) (V.bytes vcd.new)) }
+    ensures begun { OnErr result (HasBegun design.now until steps (V.bytes vcd.old) (V.bytes vcd.new)) }
+    ensures fault { IfErr result (λ fault. FaultAt Ready fault) }
+    ensures failures { V.failed vcd.new ≡ failed_after (is_run_write result) (V.failed vcd.old) }
+    ensures lines { lines.new ≡ lines.old }
+{
+    match policy {
+        Policy::Fifo => run_under(alloc, design, Fifo, until, steps, vcd, lines),
+        Policy::Lifo => run_under(alloc, design, Lifo, until, steps, vcd, lines),
+        Policy::Listed(choices) => {
+            let listed = Listed::new(choices);
+            run_under(alloc, design, listed, until, steps, vcd, lines)
+        }
+    }
 }
 
 /// Runs the design that a source and the name of a top module define, until its time is past `until`, in ticks, or no event is left, in at most `steps`
@@ -71,11 +128,6 @@ pub fn simulate<'s, V: Sink, L: Sink>(
     names_are_tokens();
     defined_of_one_line();
     let design = design_of(alloc, source, top)?;
-    match policy {
-        Policy::Fifo => {
-            let mut kernel = Kernel::new(alloc, &design, Fifo)?;
-            let outcome = kernel.run(until, steps, vcd, lines)?;
-            Ok(outcome)
-        }
-    }
+    let outcome = run_design(alloc, &design, policy, until, steps, vcd, lines)?;
+    Ok(outcome)
 }

@@ -17,6 +17,15 @@ pub enum Text {
     Dump,
 }
 
+/// The order of enabled items that the words of `vsim run` can ask for.
+#[derive(Clone, Copy, PartialEq, Eq, Debug)]
+pub enum Order {
+    /// The first of the list is next.
+    Fifo,
+    /// The last of the list is next.
+    Lifo,
+}
+
 /// What the words of `vsim run` ask for.
 #[derive(Clone, Copy)]
 pub struct Request<'a> {
@@ -26,6 +35,8 @@ pub struct Request<'a> {
     pub until: Ticks,
     /// The most steps that the run may take; there are fewer of them than of ticks.
     pub steps: Ticks,
+    /// Which enabled item is next.
+    pub order: Order,
     /// The text that is asked for.
     pub text: Text,
 }
@@ -78,7 +89,7 @@ fn run_command<'a>(alloc: Global) -> Result<Command<'a>, Error> {
         .long("policy")
         .help("Which enabled item is next")
         .action(ArgAction::Set)
-        .value_parser(["fifo"].as_slice())
+        .value_parser(["fifo", "lifo"].as_slice())
         .default_value("fifo");
     let out = Arg::new(alloc, "out")
         .long("out")
@@ -115,6 +126,10 @@ fn asked<'a>(matches: &ArgMatches<'a>) -> Option<Request<'a>>
     let top = matches.get_str("top")?;
     let until = below_limit(matches.get_one::<u64>("until")?)?;
     let steps = below_limit(matches.get_one::<u64>("steps")?)?;
+    let order = match matches.get_str("policy")? {
+        "lifo" => Order::Lifo,
+        _ => Order::Fifo,
+    };
     let text = match matches.get_str("out")? {
         "vcd" => Text::Dump,
         _ => Text::Lines,
@@ -123,6 +138,7 @@ fn asked<'a>(matches: &ArgMatches<'a>) -> Option<Request<'a>>
         top,
         until,
         steps,
+        order,
         text,
     })
 }

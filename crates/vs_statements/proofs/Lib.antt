@@ -1,5 +1,7 @@
 pub mod Parts
 pub mod Lists
+pub mod Forms
+pub mod Blocks
 pub mod Trees
 pub mod Heads
 pub mod Assignments

@@ -5,7 +5,7 @@ use Rattle.vs_tokens.specs.declared.token.Mark.TheVariants as m
 use Rattle.vs_tokens.specs.declared.token.Token.{Token}
 use Rattle.vs_tokens.specs.declared.token.Word.TheVariants as w
 use Rattle.vs_syntax.specs.Symbols.{Symbol, a_word, the_word}
-use Rattle.vs_syntax.specs.Grammar.{Grammar, ◌·◌, ◌or◌, many, one_or_more, optional, part, mark, case_items, statements, a_stmt, a_case_item, a_target, an_expr}
+use Rattle.vs_syntax.specs.Grammar.{Grammar, ◌·◌, ◌or◌, many, one_or_more, optional, part, mark, word, block_head, case_items, statements, a_stmt, a_case_item, a_target, an_expr}
 use Rattle.vs_syntax.specs.Tables.{low, need, fronts_of, goes}
 use Rattle.vs_syntax.specs.Derivation.{Tree, empty, leaf, both, down}
 use Rattle.vs_syntax.specs.Reading.{Gets, Stuck, stuck_here, stuck_deep, stuck_first, stuck_left, stuck_right, stuck_many, stuck_part, stuck_node, stuck_behind}
@@ -66,6 +66,10 @@ assign_stuck room deep ts at h g s = stuck_part (stuck_node (omega (arith, h)) (
 
 pub assign_read : (room : ℕ) (ts rest : List Symbol) (x : Tree) → 2 ≤ room → goes (part a_target) ts ≡ true → Gets assigned (room - 1) ts x rest → Gets (part a_stmt) room ts (down x) rest
 assign_read room ts rest x h g p = gets_part (gets_node (omega (arith, h)) (gets_left (assigned_goes ts g) p))
+
+-- what stands behind the `begin` of a block
+abbrev pub block_body : Grammar
+block_body = block_head · many (part a_stmt) · word w.End
 
 -- one more statement of a block
 pub row_stuck : (room : ℕ) (deep : Bool) (ts at : List Symbol) → goes (part a_stmt) ts ≡ true → Stuck (part a_stmt) room deep ts at → Stuck (many (part a_stmt)) room deep ts at

@@ -7,12 +7,12 @@ use Rattle.vs_tokens.specs.declared.token.Mark.TheVariants as m
 use Rattle.vs_tokens.specs.declared.token.Word.TheVariants as w
 use Rattle.vs_syntax.specs.Symbols.{a_mark, a_word}
 use Rattle.vs_syntax.specs.Derivation.{Tree, empty, leaf, both}
-use Rattle.vs_syntax.specs.Views.{row_of, some_tree, expr_tree, assigned_tree, guarded_tree, else_tree, case_word, case_item_tree, for_tree, delay_tree, event_tree, stmt_step, stmt_tree}
+use Rattle.vs_syntax.specs.Views.{row_of, block_head_tree, some_tree, expr_tree, assigned_tree, guarded_tree, else_tree, case_word, case_item_tree, for_tree, delay_tree, event_tree, stmt_step, stmt_tree}
 use Rattle.vs_syntax.specs.declared.tree.CaseLabel.{CaseLabel}
 use Rattle.vs_syntax.specs.declared.tree.Stmt.{Stmt, fold-roll-Stmt}
 use Rattle.vs_syntax.specs.declared.tree.Stmt.TheShapes.{former-Stmt-If-2-at-2}
 use Rattle.vs_syntax.specs.declared.tree.Stmt.TheVariants as v
-use Rattle.vs_syntax.specs.declared.tree.Stmt.TheVariants.{rolls-Null, rolls-Assign, rolls-Later, rolls-Block, rolls-If, rolls-Case, rolls-For, rolls-While, rolls-Repeat, rolls-Forever, rolls-Delay, rolls-Event}
+use Rattle.vs_syntax.specs.declared.tree.Stmt.TheVariants.{rolls-Null, rolls-Assign, rolls-Later, rolls-Block, rolls-Named, rolls-If, rolls-Case, rolls-For, rolls-While, rolls-Repeat, rolls-Forever, rolls-Delay, rolls-Event}
 use Rattle.vs_statements.specs.Parts.{headed, boxed_tree, other_tree, labelled_stmt_tree}
 
 pub tree_Null : stmt_tree v.Null ≡ headed (a_mark m.Semicolon) empty
@@ -24,8 +24,11 @@ tree_Assign l x = ap stmt_tree (sym (rolls-Assign l x)) ∙ fold-roll-Stmt Tree 
 pub tree_Later : (l x : _) → stmt_tree (v.Later l x) ≡ assigned_tree l m.LessEqual x
 tree_Later l x = ap stmt_tree (sym (rolls-Later l x)) ∙ fold-roll-Stmt Tree stmt_step _
 
-pub tree_Block : (xs : _) → stmt_tree (v.Block xs) ≡ headed (a_word w.Begin) (both (row_of (map stmt_tree xs.items)) (leaf (a_word w.End)))
+pub tree_Block : (xs : _) → stmt_tree (v.Block xs) ≡ headed (a_word w.Begin) (both empty (both (row_of (map stmt_tree xs.items)) (leaf (a_word w.End))))
 tree_Block xs = ap stmt_tree (sym (rolls-Block xs)) ∙ fold-roll-Stmt Tree stmt_step _
+
+pub tree_Named : (n ds xs : _) → stmt_tree (v.Named n ds xs) ≡ headed (a_word w.Begin) (both (block_head_tree n.items ds.items) (both (row_of (map stmt_tree xs.items)) (leaf (a_word w.End))))
+tree_Named n ds xs = ap stmt_tree (sym (rolls-Named n ds xs)) ∙ fold-roll-Stmt Tree stmt_step _
 
 -- the statement behind `else`
 other_is : (o : Option (Box Stmt Global)) → else_tree (former-Stmt-If-2-at-2.map Stmt Tree stmt_tree o) ≡ other_tree o

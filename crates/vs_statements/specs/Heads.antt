@@ -4,7 +4,7 @@ use Rattle.vs_tokens.specs.declared.token.Mark.{Mark}
 use Rattle.vs_tokens.specs.declared.token.Mark.TheVariants as m
 use Rattle.vs_tokens.specs.declared.token.Word.TheVariants as w
 use Rattle.vs_syntax.specs.Symbols.{Symbol, a_mark, a_word, Class, the_mark, any_name, any_number, class_of, first}
-use Rattle.vs_syntax.specs.Grammar.{Grammar, nothing, ◌·◌, ◌or◌, many, part, word, guarded, branches, case_items, for_parts, delay, event, a_stmt}
+use Rattle.vs_syntax.specs.Grammar.{Grammar, nothing, ◌·◌, ◌or◌, many, part, word, block_head, guarded, branches, case_items, for_parts, delay, event, a_stmt}
 use Rattle.vs_syntax.specs.declared.tree.Separator.{Separator}
 use Rattle.vs_syntax.specs.declared.tree.Separator.TheVariants as r
 use Rattle.vs_statements.specs.declared.head.StatementWord.{StatementWord}
@@ -36,7 +36,7 @@ symbol_of s.Event = a_mark m.At
 -- what stands behind it
 abbrev pub behind_of : StatementWord → Grammar
 behind_of s.Null = nothing
-behind_of s.Block = many (part a_stmt) · word w.End
+behind_of s.Block = block_head · many (part a_stmt) · word w.End
 behind_of s.If = guarded branches
 behind_of s.Case = guarded case_items
 behind_of s.Casez = guarded case_items

@@ -1,3 +1,4 @@
 pub mod Heads
 pub mod Lists
 pub mod Parts
+pub mod Blocks

@@ -56,8 +56,8 @@ fn assigned(timing: Timing, target: Left, value: Expr) -> Stmt
     }
 }
 
-/// Reads an expression and the mark behind it.
-fn expr_until<'t, 's>(
+/// Reads an expression and the mark behind it, in at most `room` nodes below one another.
+pub fn expr_until<'t, 's>(
     alloc: Global,
     room: u32,
     tokens: &'t [Token<'s>],
@@ -74,8 +74,8 @@ fn expr_until<'t, 's>(
     })
 }
 
-/// Reads an expression in parentheses that are no node.
-pub(crate) fn guard<'t, 's>(
+/// Reads an expression in parentheses that are no node, in at most `room` nodes below one another.
+pub fn guard<'t, 's>(
     alloc: Global,
     room: u32,
     tokens: &'t [Token<'s>],

@@ -3,10 +3,14 @@
 
 mod assignment;
 mod control;
+mod form;
 mod head;
 mod label;
 mod list;
+mod local;
 mod statement;
 
+pub use assignment::{expr_until, guard};
+pub use form::{declared, declared_form, declared_range};
 pub use list::{Element, listed, others};
 pub use statement::stmt;

@@ -3,11 +3,12 @@ ghost use Rattle.std.specs.Prelude.{◌≡◌, ◌≤◌, map};
 ghost use Rattle.vs_tokens.specs.declared.token.Mark.TheVariants as m;
 ghost use Rattle.vs_tokens.specs.declared.token.Word.TheVariants as w;
 ghost use Rattle.vs_syntax.specs.Symbols.{a_mark, a_word, the_word};
-ghost use Rattle.vs_syntax.specs.Grammar.{◌·◌, part, many, word, optional, guarded, branches, case_items, for_parts, delay, event, a_stmt, a_case_item};
+ghost use Rattle.vs_syntax.specs.Grammar.{◌·◌, part, many, word, optional, block_head, guarded, branches, case_items, for_parts, delay, event, a_stmt, a_case_item};
 ghost use Rattle.vs_syntax.specs.Tables.{low};
 ghost use Rattle.vs_syntax.specs.Derivation.{leaf, both};
-ghost use Rattle.vs_syntax.specs.Views.{some_tree, case_word, expr_tree, guarded_tree, stmt_tree};
+ghost use Rattle.vs_syntax.specs.Views.{row_of, some_tree, case_word, expr_tree, guarded_tree, stmt_tree};
 ghost use Rattle.vs_expressions.specs.Answers.{seen, Reads};
+ghost use Rattle.vs_statements.specs.Blocks.{naming_tree};
 ghost use Rattle.vs_statements.specs.Heads.{BeginsStatement, symbol_of, behind_of};
 ghost use Rattle.vs_statements.specs.Parts.{ReadsWithin, headed, boxed_tree, other_tree, labelled_stmt_tree};
 
@@ -17,6 +18,7 @@ use crate::head::{
     StatementHead, StatementWord, begins_case_item, least_statement, statement_head,
 };
 use crate::label::case_label;
+use crate::local::{BlockName, naming};
 use std::alloc::Global;
 use vs_expressions::{Read, Stop, expect_word, word_at};
 use vs_lexer::{Token, Word};
@@ -106,7 +108,7 @@ fn boxed<'t, 's>(
     Ok(Read { tree, rest })
 }
 
-/// Reads what stands behind the `begin` of a block: its statements, and `end`.
+/// Reads what stands behind the `begin` of a block: its name and declarations, where it has a name, its statements, and `end`.
 #[cycle(stmt)]
 #[inline(never)]
 fn block<'t, 's>(
@@ -114,11 +116,12 @@ fn block<'t, 's>(
     room: u32,
     tokens: &'t [Token<'s>],
 ) -> Result<Read<'t, 's, Stmt>, Stop<'t, 's>>
-    ensures { ReadsWithin stmt_tree (headed (a_word w.Begin)) (many (part a_stmt) · word w.End) room tokens.now result }
+    ensures { ReadsWithin stmt_tree (headed (a_word w.Begin)) (block_head · many (part a_stmt) · word w.End) room tokens.now result }
 {
+    let naming = naming(alloc, room, tokens)?;
     let mut tree = Vec::new(alloc);
     // All of them, but from a call: so the borrow checker can join it with what the loop sets.
-    let (_none, mut rest) = tokens.split_at(0);
+    let (_none, mut rest) = naming.rest.split_at(0);
     while let Some((head, after)) = statement_head(rest) {
         let inner = headed(alloc, room, rest, head, after)?;
         rest = inner.rest;
@@ -126,9 +129,21 @@ fn block<'t, 's>(
     }
     let behind = expect_word(rest, Word::End)?;
     Ok(Read {
-        tree: Stmt::Block(tree),
+        tree: named(naming.tree, tree),
         rest: behind,
     })
+}
+
+/// The block of the statements, with the name and the declarations where there are some.
+#[inline(never)]
+fn named(naming: Option<BlockName>, statements: Vec<Stmt>) -> Stmt
+    ensures { stmt_tree result ≡ headed (a_word w.Begin)
+        (both (naming_tree naming) (both (row_of (map stmt_tree statements.items)) (leaf (a_word w.End)))) }
+{
+    match naming {
+        None => Stmt::Block(statements),
+        Some(found) => Stmt::Named(found.name, found.locals, statements),
+    }
 }
 
 /// Reads what stands behind `if`: the condition, the statement, and the one behind `else`, where that is next.

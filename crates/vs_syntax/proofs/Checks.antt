@@ -1,7 +1,7 @@
 -- The tables are those of the rules.
 use Rattle.std.specs.Prelude.{◌≡◌, ℕ, zero, suc, List, [], ◌∷◌, refl}
 use Rattle.vs_tokens.specs.declared.token.Mark.{Mark}
-use Rattle.vs_syntax.specs.Grammar.{Part, a_source, a_module, a_header_parameter, a_port, an_item, a_constant, an_instance, a_connection, a_net, a_variable, an_assignment, a_stmt, a_case_item, an_event_expr, a_target, an_expr, a_level, operands, levels, level_at, rule}
+use Rattle.vs_syntax.specs.Grammar.{Part, a_source, a_module, a_header_parameter, a_port, a_port_name, a_bare_name, a_generate_block, a_local, an_item, a_constant, an_instance, a_connection, a_net, a_variable, an_assignment, a_stmt, a_case_item, an_event_expr, a_target, an_expr, a_level, operands, levels, level_at, rule}
 use Rattle.vs_syntax.specs.Tables.{null_of, low_of, operand_fronts, fronts_of, null, low, fronts}
 
 operands_null : (p : Part) (ops : List Mark) → null (operands p ops) ≡ null_of p
@@ -21,6 +21,10 @@ rule_null a_source = refl
 rule_null a_module = refl
 rule_null a_header_parameter = refl
 rule_null a_port = refl
+rule_null a_port_name = refl
+rule_null a_bare_name = refl
+rule_null a_generate_block = refl
+rule_null a_local = refl
 rule_null an_item = refl
 rule_null a_constant = refl
 rule_null an_instance = refl
@@ -41,6 +45,10 @@ rule_low a_source = refl
 rule_low a_module = refl
 rule_low a_header_parameter = refl
 rule_low a_port = refl
+rule_low a_port_name = refl
+rule_low a_bare_name = refl
+rule_low a_generate_block = refl
+rule_low a_local = refl
 rule_low an_item = refl
 rule_low a_constant = refl
 rule_low an_instance = refl
@@ -61,6 +69,10 @@ rule_fronts a_source = refl
 rule_fronts a_module = refl
 rule_fronts a_header_parameter = refl
 rule_fronts a_port = refl
+rule_fronts a_port_name = refl
+rule_fronts a_bare_name = refl
+rule_fronts a_generate_block = refl
+rule_fronts a_local = refl
 rule_fronts an_item = refl
 rule_fronts a_constant = refl
 rule_fronts an_instance = refl

@@ -3,7 +3,7 @@ use Rattle.std.specs.Prelude.{◌≡◌, ℕ, zero, suc, max, ◌-◌, ◌<◌, 
 use Rattle.std.proofs.Common.{sym, ◌∙◌, ap, subst, inl, inr, append_assoc, arith}
 use Rattle.vs_tokens.specs.declared.token.Mark.{Mark}
 use Rattle.vs_syntax.specs.Symbols.{Symbol, Class, class_of, first, same_class}
-use Rattle.vs_syntax.specs.Grammar.{Part, a_source, a_module, a_header_parameter, a_port, an_item, a_constant, an_instance, a_connection, a_net, a_variable, an_assignment, a_stmt, a_case_item, an_event_expr, a_target, an_expr, a_level, Grammar, nothing, token, seq, either, many, part, node, chain, optional, operands, levels, level_at, rule}
+use Rattle.vs_syntax.specs.Grammar.{Part, a_source, a_module, a_header_parameter, a_port, a_port_name, a_bare_name, a_generate_block, a_local, an_item, a_constant, an_instance, a_connection, a_net, a_variable, an_assignment, a_stmt, a_case_item, an_event_expr, a_target, an_expr, a_level, Grammar, nothing, token, seq, either, many, part, node, chain, optional, operands, levels, level_at, rule}
 use Rattle.vs_syntax.specs.Tables.{Front, null_of, operand_fronts, fronts_of, null, low, fronts, among, goes}
 use Rattle.vs_syntax.specs.Derivation.{Tree, empty, leaf, both, down, tokens, height, Is, is_nothing, is_token, is_seq, is_right, is_stop, is_part, is_node, is_one, is_present, is_absent}
 use Rattle.vs_syntax.specs.Reading.{Gets, Stuck, stuck_here, stuck_deep, stuck_first, stuck_second, stuck_left, stuck_right, stuck_many, stuck_more, stuck_part, stuck_node, stuck_one, stuck_link, stuck_high, stuck_behind}
@@ -87,6 +87,10 @@ part_nothing a_source n m h = record { tree = empty; is = is_part (is_stop h); n
 part_nothing a_module n m h = absurd (clash n refl)
 part_nothing a_header_parameter n m h = absurd (clash n refl)
 part_nothing a_port n m h = absurd (clash n refl)
+part_nothing a_port_name n m h = absurd (clash n refl)
+part_nothing a_bare_name n m h = absurd (clash n refl)
+part_nothing a_generate_block n m h = absurd (clash n refl)
+part_nothing a_local n m h = absurd (clash n refl)
 part_nothing an_item n m h = absurd (clash n refl)
 part_nothing a_constant n m h = absurd (clash n refl)
 part_nothing an_instance n m h = absurd (clash n refl)
@@ -251,6 +255,10 @@ rule_reach a_source = refl
 rule_reach a_module = refl
 rule_reach a_header_parameter = refl
 rule_reach a_port = refl
+rule_reach a_port_name = refl
+rule_reach a_bare_name = refl
+rule_reach a_generate_block = refl
+rule_reach a_local = refl
 rule_reach an_item = refl
 rule_reach a_constant = refl
 rule_reach an_instance = refl

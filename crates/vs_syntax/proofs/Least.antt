@@ -5,12 +5,13 @@ use Rattle.std.proofs.lemmas.Bool.Decides.{nat_tests}
 use Rattle.std.proofs.lemmas.Bool.{eqb-true}
 use Rattle.vs_syntax.proofs.Fronts.{or_false, among-append}
 use Rattle.vs_logic4.specs.declared.digit.Digit.TheVariants.{Zero}
+use Rattle.vs_tokens.specs.declared.token.ImplicitNet.TheVariants.{Wire}
 use Rattle.vs_tokens.specs.declared.token.Literal.{Literal}
 use Rattle.vs_tokens.specs.declared.token.Mark.{Mark}
 use Rattle.vs_tokens.specs.declared.token.Mark.TheVariants as m
 use Rattle.vs_tokens.specs.declared.token.Word.TheVariants as w
-use Rattle.vs_syntax.specs.Symbols.{Symbol, a_mark, a_word, a_name, a_number, a_cast, another, Class, no_token, the_mark, the_word, any_name, any_number, the_cast, any_other, class_of, same_class, first}
-use Rattle.vs_syntax.specs.Grammar.{Part, a_source, a_module, a_header_parameter, a_port, an_item, a_constant, an_instance, a_connection, a_net, a_variable, an_assignment, a_stmt, a_case_item, an_event_expr, a_target, an_expr, a_level, Grammar, nothing, token, seq, either, many, part, node, chain, optional, select, operands, levels, level_at, rule}
+use Rattle.vs_syntax.specs.Symbols.{Symbol, a_mark, a_word, a_name, a_number, a_cast, a_nettype, another, Class, no_token, the_mark, the_word, any_name, any_number, the_cast, the_nettype, any_other, class_of, same_class, first}
+use Rattle.vs_syntax.specs.Grammar.{Part, a_source, a_module, a_header_parameter, a_port, a_port_name, a_bare_name, a_generate_block, a_local, an_item, a_constant, an_instance, a_connection, a_net, a_variable, an_assignment, a_stmt, a_case_item, an_event_expr, a_target, an_expr, a_level, Grammar, nothing, token, seq, either, many, part, node, chain, optional, select, operands, levels, level_at, rule}
 use Rattle.vs_syntax.specs.Tables.{low_of, mark_fronts, null, low, fronts, among, goes}
 use Rattle.vs_syntax.specs.Derivation.{Tree, empty, leaf, both, down, tokens, height, Is, is_nothing, is_token, is_seq, is_left, is_right, is_stop, is_part, is_node, is_one, is_absent}
 use Rattle.vs_syntax.proofs.Ends.{goes_on, again, level_lasts, link_fronts}
@@ -27,6 +28,7 @@ sample (the_word x) = a_word x
 sample any_name = a_name (97 ∷ [])
 sample any_number = a_number zero_literal
 sample the_cast = a_cast true
+sample the_nettype = a_nettype Wire
 sample any_other = another
 
 -- whether a symbol has the class
@@ -41,6 +43,7 @@ sample-class (the_word x) h = refl
 sample-class any_name h = refl
 sample-class any_number h = refl
 sample-class the_cast h = refl
+sample-class the_nettype h = refl
 sample-class any_other h = refl
 
 -- a least name with its value
@@ -56,7 +59,11 @@ abbrev pub least_of : Part → Tree
 least_of a_source = empty
 least_of a_module = both (leaf (a_word w.Module)) (both (leaf (sample any_name)) (both empty (both empty (both (leaf (a_mark m.Semicolon)) (both empty (leaf (a_word w.Endmodule)))))))
 least_of a_header_parameter = both empty least_constant
-least_of a_port = both empty (leaf (sample any_name))
+least_of a_port = both empty (both (leaf (sample any_name)) empty)
+least_of a_port_name = both empty (both (leaf (sample any_name)) empty)
+least_of a_bare_name = leaf (sample any_name)
+least_of a_generate_block = leaf (a_mark m.Semicolon)
+least_of a_local = both (leaf (sample any_name)) empty
 least_of an_item = down (both (leaf (a_word w.Reg)) (both (both empty empty) (both (both (leaf (sample any_name)) empty) (both empty (leaf (a_mark m.Semicolon))))))
 least_of a_constant = least_constant
 least_of an_instance = both (leaf (sample any_name)) (both (leaf (a_mark m.Open)) (both (both empty empty) (leaf (a_mark m.Close))))
@@ -108,9 +115,13 @@ rule_least a_source = is_part (is_stop refl)
 rule_least a_module = is_part (is_seq (is_token refl) (is_seq (is_token refl) (is_seq (is_right refl is_nothing) (is_seq (is_right refl is_nothing)
     (is_seq (is_token refl) (is_seq (is_stop refl) (is_token refl)))))))
 rule_least a_header_parameter = is_part (is_seq (is_right refl is_nothing) constant_least)
-rule_least a_port = is_part (is_seq (is_right refl is_nothing) (is_token refl))
-rule_least an_item = is_part (is_node (is_right refl (is_right refl (is_left refl (is_seq (is_token refl) (is_seq (is_seq (is_right refl is_nothing) (is_right refl is_nothing))
-    (is_seq (is_part (is_seq (is_token refl) (is_right refl (is_right refl is_nothing)))) (is_seq (is_stop refl) (is_token refl)))))))))
+rule_least a_port = is_part (is_seq (is_right refl is_nothing) (is_seq (is_token refl) (is_right refl is_nothing)))
+rule_least a_port_name = is_part (is_seq is_nothing (is_seq (is_token refl) is_nothing))
+rule_least a_bare_name = is_part (is_token refl)
+rule_least a_generate_block = is_part (is_left refl (is_token refl))
+rule_least a_local = is_part (is_seq (is_token refl) (is_right refl is_nothing))
+rule_least an_item = is_part (is_node (is_right refl (is_right refl (is_right refl (is_right refl (is_right refl (is_right refl (is_right refl (is_right refl (is_left refl (is_seq (is_token refl) (is_seq (is_seq (is_right refl is_nothing) (is_right refl is_nothing))
+    (is_seq (is_part (is_seq (is_token refl) (is_right refl (is_right refl is_nothing)))) (is_seq (is_stop refl) (is_token refl)))))))))))))))
 rule_least a_constant = constant_least
 rule_least an_instance = is_part (is_seq (is_token refl) (is_seq (is_token refl) (is_seq (is_right refl (is_seq (is_right refl is_nothing) (is_stop refl))) (is_token refl))))
 rule_least a_connection = is_part (is_seq (is_token refl) (is_seq (is_token refl) (is_seq (is_token refl) (is_seq (is_right refl is_nothing) (is_token refl)))))
@@ -129,6 +140,10 @@ least_of-height a_source = refl
 least_of-height a_module = refl
 least_of-height a_header_parameter = refl
 least_of-height a_port = refl
+least_of-height a_port_name = refl
+least_of-height a_bare_name = refl
+least_of-height a_generate_block = refl
+least_of-height a_local = refl
 least_of-height an_item = refl
 least_of-height a_constant = refl
 least_of-height an_instance = refl
@@ -191,6 +206,10 @@ rule_sound a_source = refl
 rule_sound a_module = refl
 rule_sound a_header_parameter = refl
 rule_sound a_port = refl
+rule_sound a_port_name = refl
+rule_sound a_bare_name = refl
+rule_sound a_generate_block = refl
+rule_sound a_local = refl
 rule_sound an_item = refl
 rule_sound a_constant = refl
 rule_sound an_instance = refl
@@ -214,6 +233,7 @@ class_there (the_word w) h = refl
 class_there any_name h = refl
 class_there any_number h = refl
 class_there the_cast h = refl
+class_there the_nettype h = refl
 class_there any_other h = refl
 
 pub not_true : (a : Bool) → not a ≡ true → a ≡ false

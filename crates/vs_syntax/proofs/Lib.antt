@@ -13,6 +13,7 @@ pub mod Deeper
 pub mod Sameness
 pub mod SameLefts
 pub mod SameRows
+pub mod SameForms
 pub mod SameStmts
 pub mod SameSources
 pub mod SourceNamesLemmas

@@ -4,8 +4,8 @@ use Rattle.std.proofs.Common.{sym, ◌∙◌, ap, inl, inr, append_assoc}
 use denote.Enum.Bare.{same_true}
 use Rattle.vs_tokens.specs.contracts.token.Mark as marks
 use Rattle.vs_tokens.specs.contracts.token.Word as words
-use Rattle.vs_syntax.specs.Symbols.{Symbol, Class, no_token, the_mark, the_word, any_name, any_number, the_cast, any_other, class_of, first, same_class}
-use Rattle.vs_syntax.specs.Grammar.{Part, a_source, a_module, a_header_parameter, a_port, an_item, a_constant, an_instance, a_connection, a_net, a_variable, an_assignment, a_stmt, a_case_item, an_event_expr, a_target, an_expr, a_level, Grammar, nothing, token, seq, either, many, part, node, chain, optional, operands, levels, rule}
+use Rattle.vs_syntax.specs.Symbols.{Symbol, Class, no_token, the_mark, the_word, any_name, any_number, the_cast, the_nettype, any_other, class_of, first, same_class}
+use Rattle.vs_syntax.specs.Grammar.{Part, a_source, a_module, a_header_parameter, a_port, a_port_name, a_bare_name, a_generate_block, a_local, an_item, a_constant, an_instance, a_connection, a_net, a_variable, an_assignment, a_stmt, a_case_item, an_event_expr, a_target, an_expr, a_level, Grammar, nothing, token, seq, either, many, part, node, chain, optional, operands, levels, rule}
 use Rattle.vs_syntax.specs.Tables.{Front, null, fronts, among, goes}
 use Rattle.vs_syntax.specs.Derivation.{Tree, down, tokens, Is, is_nothing, is_token, is_seq, is_left, is_right, is_stop, is_more, is_part, is_node, is_one, is_chain, is_present, is_absent}
 use Rattle.vs_syntax.specs.Plain.{IsPlain, plain_nothing, plain_token, plain_seq, plain_left, plain_right, plain_stop, plain_more, plain_part, plain_node, plain_one, plain_chain, plain_present, plain_absent}
@@ -39,6 +39,7 @@ same_class-true (the_word v) (the_word w) h = ap the_word (same_true words.the_t
 same_class-true any_name any_name h = refl
 same_class-true any_number any_number h = refl
 same_class-true the_cast the_cast h = refl
+same_class-true the_nettype the_nettype h = refl
 same_class-true any_other any_other h = refl
 same_class-true _ _ h = cc
 
@@ -72,6 +73,10 @@ rule_decided a_source = refl
 rule_decided a_module = refl
 rule_decided a_header_parameter = refl
 rule_decided a_port = refl
+rule_decided a_port_name = refl
+rule_decided a_bare_name = refl
+rule_decided a_generate_block = refl
+rule_decided a_local = refl
 rule_decided an_item = refl
 rule_decided a_constant = refl
 rule_decided an_instance = refl

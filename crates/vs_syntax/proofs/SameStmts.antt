@@ -27,14 +27,15 @@ use Rattle.vs_syntax.specs.declared.tree.Stmt.{Stmt, Stmt-F, roll-Stmt, out-Stmt
 use Rattle.vs_syntax.specs.declared.tree.Stmt.TheOpen as f
 use Rattle.vs_syntax.specs.declared.tree.Stmt.TheShapes.{former-Stmt-If-2-at-2}
 use Rattle.vs_syntax.specs.declared.tree.Stmt.TheVariants as s
-use Rattle.vs_syntax.specs.declared.tree.Stmt.TheVariants.{rolls-Null, rolls-Assign, rolls-Later, rolls-Block, rolls-If, rolls-Case, rolls-For, rolls-While, rolls-Repeat, rolls-Forever, rolls-Delay, rolls-Event}
+use Rattle.vs_syntax.specs.declared.tree.Stmt.TheVariants.{rolls-Null, rolls-Assign, rolls-Later, rolls-Block, rolls-Named, rolls-If, rolls-Case, rolls-For, rolls-While, rolls-Repeat, rolls-Forever, rolls-Delay, rolls-Event}
 use Rattle.vs_syntax.specs.Symbols.{Symbol, a_mark, a_word}
-use Rattle.vs_syntax.specs.Derivation.{Tree, leaf, both, down}
-use Rattle.vs_syntax.specs.Views.{row_of, some_tree, commas_tree, expr_tree, left_tree, case_word, colon_tree, labelled_tree, case_item_tree, guarded_tree, delay_tree, edge_tree, event_expr_tree, separator_tree, other_event_tree, event_tree, else_tree, stmt_step, stmt_tree}
-use Rattle.vs_syntax.specs.Same.{SameExpr, SameExprs, same_no_expr, same_more_exprs, SameDelay, same_delay_number, same_delay_name, same_delay_group, SameEventExpr, SameOtherEvent, SameEvent, same_star, same_grouped_star, same_event_name, same_terms, SameLabel, same_expressions, same_default, SameStmt, same_null, same_assign, same_later, same_block, same_if, same_case, same_for, same_while, same_repeated, same_forever, same_delay, same_event, SameStmts, same_no_stmt, same_more_stmts, SameElse, same_no_else, same_else, SameCaseItems, same_no_item, same_more_items}
+use Rattle.vs_syntax.specs.Derivation.{Tree, empty, leaf, both, down}
+use Rattle.vs_syntax.specs.Views.{row_of, some_tree, commas_tree, expr_tree, left_tree, case_word, colon_tree, labelled_tree, case_item_tree, guarded_tree, delay_tree, edge_tree, event_expr_tree, separator_tree, other_event_tree, event_tree, else_tree, local_declaration_tree, stmt_step, stmt_tree}
+use Rattle.vs_syntax.specs.Same.{SameExpr, SameExprs, same_no_expr, same_more_exprs, SameDelay, same_delay_number, same_delay_name, same_delay_group, SameEventExpr, SameOtherEvent, SameEvent, same_star, same_grouped_star, same_event_name, same_terms, SameLabel, same_expressions, same_default, SameStmt, same_null, same_assign, same_later, same_block, SameLocals, same_named_block, same_if, same_case, same_for, same_while, same_repeated, same_forever, same_delay, same_event, SameStmts, same_no_stmt, same_more_stmts, SameElse, same_no_else, same_else, SameCaseItems, same_no_item, same_more_items}
 use Rattle.vs_syntax.proofs.Sameness.{same_expr, expr_no_word}
 use Rattle.vs_syntax.proofs.SameLefts.{same_left, same_selects, left_down}
 use Rattle.vs_syntax.proofs.SameRows.{pairs}
+use Rattle.vs_syntax.proofs.SameForms.{same_locals}
 
 same_numbers : (l l' : Literal) → l ≡ l' → SameDelay (d.Number l) (d.Number l')
 same_numbers l l' h = subst (λ (k : Literal). SameDelay (d.Number l) (d.Number k)) h (same_delay_number l)
@@ -172,6 +173,7 @@ form f.Null = 0
 form (f.Assign l x) = 1
 form (f.Later l x) = 2
 form (f.Block xs) = 3
+form (f.Named n ls xs) = 12
 form (f.If c x o) = 4
 form (f.Case k x is) = 5
 form (f.For l x c k y b) = 6
@@ -186,7 +188,6 @@ abbrev form_at : Symbol → ℕ
 form_at (a_mark m.Semicolon) = 0
 form_at (a_mark m.Hash) = 10
 form_at (a_mark m.At) = 11
-form_at (a_word w.Begin) = 3
 form_at (a_word w.If) = 4
 form_at (a_word w.For) = 6
 form_at (a_word w.While) = 7
@@ -198,23 +199,26 @@ abbrev form_behind : Tree → ℕ
 form_behind (both (leaf (a_mark m.Assign)) x) = 1
 form_behind _ = 2
 
+-- the form of a block, by what stands behind its word
+abbrev form_of_block : Tree → ℕ
+form_of_block (both empty y) = 3
+form_of_block _ = 12
+
 abbrev form_of_tree : Tree → ℕ
+form_of_tree (down (both (leaf (a_word w.Begin)) y)) = form_of_block y
 form_of_tree (down (both (leaf x) y)) = form_at x
 form_of_tree (down (both (down x) y)) = form_behind y
-form_of_tree _ = 12
+form_of_tree _ = 13
 
 behind_left : (l : Left) (y : Tree) → form_of_tree (down (both (left_tree l) y)) ≡ form_behind y
 behind_left l y = ap (λ u. form_of_tree (down (both u y))) (left_down l).1
 
-case_form : (k : CaseKind) → form_at (a_word (case_word k)) ≡ 5
-case_form h.Case = refl
-case_form h.Casez = refl
-case_form h.Casex = refl
-
 form_of : (x : Stmt-F Stmt) → form_of_tree (layer x) ≡ form x
 form_of (f.Assign l x) = behind_left l _
 form_of (f.Later l x) = behind_left l _
-form_of (f.Case k x is) = case_form k
+form_of (f.Case h.Case x is) = refl
+form_of (f.Case h.Casez x is) = refl
+form_of (f.Case h.Casex x is) = refl
 form_of f.Null = refl
 form_of _ = refl
 
@@ -237,7 +241,13 @@ same_layers : (y : Stmt-F Inner) (x' : Stmt-F Stmt) → layer (bare y) ≡ layer
 same_layers f.Null f.Null h = rw rolls-Null same_null
 same_layers (f.Assign n x) (f.Assign n' x') h = rw (rolls-Assign n x, rolls-Assign n' x') (same_assign n n' x x' (same_left n n' (cc)) (same_expr x x' (cc)))
 same_layers (f.Later n x) (f.Later n' x') h = rw (rolls-Later n x, rolls-Later n' x') (same_later n n' x x' (same_left n n' (cc)) (same_expr x x' (cc)))
-same_layers (f.Block xs) (f.Block xs') h = rw (rolls-Block _, rolls-Block xs') (same_block _ xs' (same_rows xs.items xs'.items (two _ _ _ _ (headed _ _ _ _ h).1).0))
+same_layers (f.Block xs) (f.Block xs') h = rw (rolls-Block _, rolls-Block xs') (same_block _ xs' (same_rows xs.items xs'.items (two _ _ _ _ (two _ _ _ _ (headed _ _ _ _ h).1).1).0))
+same_layers (f.Named n ls xs) (f.Named n' ls' xs') h =
+    let b = two _ _ _ _ (headed _ _ _ _ h).1 in
+    let p : row_of (map local_declaration_tree ls.items) ≡ row_of (map local_declaration_tree ls'.items) = let e = b.0 in cc in
+    let q : n.items ≡ n'.items = let e = b.0 in cc in
+    rw (rolls-Named n ls _, rolls-Named n' ls' xs')
+    (same_named_block n n' ls ls' _ xs' q (pairs SameLocals local_declaration_tree same_locals ls.items ls'.items p) (same_rows xs.items xs'.items (two _ _ _ _ b.1).0))
 same_layers (f.If c x o) (f.If c' x' o') h =
     let g = guarded _ _ _ _ _ _ h in
     let b = two _ _ _ _ g.2 in

@@ -1,5 +1,5 @@
 -- Lemmas on the names that a source declares.
-use Rattle.std.proofs.Common.{◌≡◌, ℕ, Bool, true, false, true≢false, ◌&&◌, List, [], ◌∷◌, ◌++◌, Option, None, Some, map, refl, sym, ◌∙◌, subst}
+use Rattle.std.proofs.Common.{◌≡◌, ℕ, Bool, true, false, true≢false, ◌&&◌, List, [], ◌∷◌, ◌++◌, Option, None, Some, map, refl, sym, ◌∙◌, ap, subst, append_assoc}
 use Rattle.std.specs.List.{flat_map, list_all}
 use Rattle.std.proofs.lemmas.List.Folds.{list_all-append}
 use Rattle.vs_tokens.specs.declared.token.Mark.TheVariants as m
@@ -14,14 +14,27 @@ use Rattle.vs_syntax.specs.declared.tree.Constant.{Constant}
 use Rattle.vs_syntax.specs.declared.tree.Port.{Port}
 use Rattle.vs_syntax.specs.declared.tree.Connections.{Connections}
 use Rattle.vs_syntax.specs.declared.tree.Instance.{Instance}
+use Rattle.std.specs.declared.boxed.Box.{Box}
+use Rattle.vs_tokens.specs.declared.token.ImplicitNet.{ImplicitNet}
+use Rattle.vs_syntax.specs.declared.tree.CaseLabel.{CaseLabel}
+use Rattle.vs_syntax.specs.declared.tree.CaseLabel.TheVariants as n
+use Rattle.vs_syntax.specs.declared.tree.Local.{Local}
+use Rattle.vs_syntax.specs.declared.tree.LocalDeclaration.{LocalDeclaration}
+use Rattle.vs_syntax.specs.declared.tree.LocalDeclaration.TheVariants as d
+use Rattle.vs_syntax.specs.declared.tree.Stmt.{Stmt, Stmt-F, roll-Stmt, ind-Stmt, map-Stmt, fold-roll-Stmt}
+use Rattle.vs_syntax.specs.declared.tree.Stmt.TheOpen as f
+use Rattle.vs_syntax.specs.declared.tree.Stmt.TheShapes.{former-Stmt-If-2-at-2}
+use Rattle.vs_syntax.specs.declared.tree.ModuleItem.{ModuleItem, ModuleItem-F, roll-ModuleItem, ind-ModuleItem, map-ModuleItem, fold-roll-ModuleItem}
+use Rattle.vs_syntax.specs.declared.tree.ModuleItem.TheOpen as y
+use Rattle.vs_syntax.specs.declared.tree.ModuleItem.TheShapes.{former-ModuleItem-If-2-at-2}
 use Rattle.vs_syntax.specs.declared.tree.Item.{Item}
 use Rattle.vs_syntax.specs.declared.tree.Item.TheVariants as i
 use Rattle.vs_syntax.specs.declared.tree.Module.{Module}
 use Rattle.vs_tokens.specs.declared.token.Word.TheVariants as w
 use Rattle.vs_syntax.specs.Symbols.{Symbol, a_mark, a_name, a_word}
-use Rattle.vs_syntax.specs.Derivation.{Tree, leaf, both, tokens}
-use Rattle.vs_syntax.specs.Views.{row_of, name_tree, commas_tree, listed_tree, expr_tree, connections_tree, told_tree, declarator_tree, form_tree, declared_tree, parameter_form_tree, valued_tree, constant_tree, parameter_word_tree, header_parameter_tree, header_parameters_tree, port_form_tree, port_tree, ports_tree, header_ports_tree, overrides_tree, instance_tree, constants_tree, item_tree, module_tree}
-use Rattle.vs_syntax.specs.SourceNames.{NamesAreTokens, declarator_names, constant_names, instance_names, header_parameter_names, port_names, item_names, module_names, declared_names}
+use Rattle.vs_syntax.specs.Derivation.{Tree, leaf, both, down, tokens}
+use Rattle.vs_syntax.specs.Views.{row_of, name_tree, commas_tree, listed_tree, expr_tree, connections_tree, told_tree, declarator_tree, form_tree, declared_tree, parameter_form_tree, valued_tree, constant_tree, parameter_word_tree, header_parameter_tree, header_parameters_tree, port_form_tree, port_tree, ports_tree, header_ports_tree, overrides_tree, instance_tree, constants_tree, item_tree, value_tree, bare_name_tree, range_tree, local_tree, local_declaration_tree, labelled_tree, case_item_tree, some_tree, else_tree, stmt_step, stmt_tree, block_name_tree, module_item_step, module_item_tree, module_tree, directive_tree, directed_trees}
+use Rattle.vs_syntax.specs.SourceNames.{NamesAreTokens, declarator_names, constant_names, instance_names, header_parameter_names, port_names, bare_names, local_names, else_names, stmt_names_step, stmt_names, item_names, block_names, module_item_names_step, module_item_names, module_names, declared_names}
 
 -- whether a test holds of each token of a tree
 abbrev holds : (Symbol → Bool) → Tree → Bool
@@ -98,7 +111,7 @@ header_parameters_hold p (x ∷ xs) h =
     (right p (leaf (a_mark m.Open)) inside (right p (leaf (a_mark m.Hash)) (both (leaf (a_mark m.Open)) inside) h))
 
 port_holds : (p : Symbol → Bool) (x : Port) → holds p (port_tree x) ≡ true → p (a_name x.name.items) ≡ true
-port_holds p x h = first_of (p (a_name x.name.items)) true (right p (port_form_tree x.form) (name_tree x.name.items) h)
+port_holds p x h = name_holds p x.name.items (value_tree x.value) (right p (port_form_tree x.form) (both (name_tree x.name.items) (value_tree x.value)) h)
 
 port_list_holds : (p : Symbol → Bool) (xs : List Port) → holds p (ports_tree (map port_tree xs)) ≡ true → named p (map (λ (x : Port). x.name.items) xs) ≡ true
 port_list_holds p [] h = refl
@@ -121,32 +134,207 @@ ports_hold p (Some xs) h =
 declared_holds : (p : Symbol → Bool) (f : Form) (ds : List Declarator) → holds p (declared_tree f ds) ≡ true → named p (declarator_names ds) ≡ true
 declared_holds p f ds h = declarators_hold p ds (right p (form_tree f) (listed_tree (map declarator_tree ds)) h)
 
-item_holds : (p : Symbol → Bool) (x : Item) → holds p (item_tree x) ≡ true → named p (item_names x) ≡ true
-item_holds p (i.Wire f ds) h = declared_holds p f ds.items (right p (leaf (a_word w.Wire)) (declared_tree f ds.items) h)
-item_holds p (i.Reg f ds) h = declared_holds p f ds.items (right p (leaf (a_word w.Reg)) (declared_tree f ds.items) h)
-item_holds p (i.Integer ds) h = declarators_hold p ds.items (right p (leaf (a_word w.Integer)) (listed_tree (map declarator_tree ds.items)) h)
-item_holds p (i.Parameter f xs) h = constants_hold p f xs.items (right p (leaf (a_word w.Parameter)) (constants_tree f xs.items) h)
-item_holds p (i.Localparam f xs) h = constants_hold p f xs.items (right p (leaf (a_word w.Localparam)) (constants_tree f xs.items) h)
-item_holds p (i.Instances n o xs) h =
-    instances_hold p o xs.items (right p (name_tree n.items) (both (overrides_tree o) (listed_tree (map instance_tree xs.items))) h)
-item_holds p (i.Assign xs) h = refl
-item_holds p (i.Initial x) h = refl
-item_holds p (i.Always x) h = refl
-
-items_hold : (p : Symbol → Bool) (xs : List Item) → holds p (row_of (map item_tree xs)) ≡ true → named p (flat_map item_names xs) ≡ true
-items_hold p [] h = refl
-items_hold p (x ∷ xs) h =
-    list_all-append (λ n. p (a_name n)) (item_names x) (flat_map item_names xs)
-    ∙ and_of (named p (item_names x)) (named p (flat_map item_names xs)) (item_holds p x (left p (item_tree x) (row_of (map item_tree xs)) h)) (items_hold p xs (right p (item_tree x) (row_of (map item_tree xs)) h))
-
 -- two lists of names, one behind the other
 both_named : (p : Symbol → Bool) (ms ns : List (List ℕ)) → named p ms ≡ true → named p ns ≡ true → named p (ms ++ ns) ≡ true
 both_named p ms ns h k = list_all-append (λ n. p (a_name n)) ms ns ∙ and_of (named p ms) (named p ns) h k
 
+-- a tree of which a test holds of each token
+record Fine (p : Symbol → Bool) (x : Tree) : Type 0 where
+  is : holds p x ≡ true
+
+-- a tree in another one
+data Within : Tree → Tree → Type 0 where
+  itself : {x : Tree} → Within x x
+  in_left : {x y z : Tree} → Within x z → Within (both x y) z
+  in_right : {x y z : Tree} → Within y z → Within (both x y) z
+  in_down : {x z : Tree} → Within x z → Within (down x) z
+
+within : {p : Symbol → Bool} {x z : Tree} → Within x z → Fine p x → Fine p z
+within itself h = h
+within {p = p} (in_left {x = x} {y = y} w) h = within w (record { is = left p x y h.is })
+within {p = p} (in_right {x = x} {y = y} w) h = within w (record { is = right p x y h.is })
+within (in_down w) h = within w (record { is = h.is })
+
+-- ---- statements
+
+locals_hold : (p : Symbol → Bool) (xs : List Local) → Fine p (listed_tree (map local_tree xs)) → named p (map (λ (x : Local). x.name.items) xs) ≡ true
+locals_hold p xs h = listed_holds p local_tree (λ (x : Local). x.name.items) (λ x i. name_holds p x.name.items (range_tree x.words) i) xs h.is
+
+declaration_holds : (p : Symbol → Bool) (x : LocalDeclaration) → Fine p (local_declaration_tree x) → named p (local_names x) ≡ true
+declaration_holds p (d.Reg f xs) h = locals_hold p xs.items (within (in_right (in_right itself)) h)
+declaration_holds p (d.Integer xs) h = locals_hold p xs.items (within (in_right itself) h)
+
+declarations_hold : (p : Symbol → Bool) (xs : List LocalDeclaration) → Fine p (row_of (map local_declaration_tree xs)) → named p (flat_map local_names xs) ≡ true
+declarations_hold p [] h = refl
+declarations_hold p (x ∷ xs) h =
+    both_named p (local_names x) (flat_map local_names xs) (declaration_holds p x (within (in_left itself) h))
+    (declarations_hold p xs (within (in_right itself) h))
+
+-- a statement of which the tree holds its names
+abbrev Held : (Symbol → Bool) → Stmt → Type 0
+Held p x = Fine p (stmt_tree x) → named p (stmt_names x) ≡ true
+
+abbrev Inner : (Symbol → Bool) → Type 0
+Inner p = (x : Stmt) × Held p x
+
+abbrev bare : (p : Symbol → Bool) → Stmt-F (Inner p) → Stmt-F Stmt
+bare p y = map-Stmt (Inner p) Stmt (λ q. q.0) y
+
+abbrev layer : Stmt-F Stmt → Tree
+layer x = stmt_step (map-Stmt Stmt Tree stmt_tree x)
+
+abbrev layer_names : Stmt-F Stmt → List (List ℕ)
+layer_names x = stmt_names_step (map-Stmt Stmt (List (List ℕ)) stmt_names x)
+
+stmts_hold : (p : Symbol → Bool) (xs : List (Inner p)) → Fine p (row_of (map stmt_tree (map (λ q. q.0) xs))) → named p (flat_map (λ ns. ns) (map stmt_names (map (λ q. q.0) xs))) ≡ true
+stmts_hold p [] h = refl
+stmts_hold p (x ∷ xs) h =
+    both_named p (stmt_names x.0) (flat_map (λ ns. ns) (map stmt_names (map (λ q. q.0) xs))) (x.1 (within (in_left itself) h))
+    (stmts_hold p xs (within (in_right itself) h))
+
+else_holds : (p : Symbol → Bool) (o : Option (Box (Inner p) Global)) → Fine p (else_tree (former-Stmt-If-2-at-2.map Stmt Tree stmt_tree (former-Stmt-If-2-at-2.map (Inner p) Stmt (λ q. q.0) o))) → named p (else_names (former-Stmt-If-2-at-2.map Stmt (List (List ℕ)) stmt_names (former-Stmt-If-2-at-2.map (Inner p) Stmt (λ q. q.0) o))) ≡ true
+else_holds p None h = refl
+else_holds p (Some x) h = x.value.1 (within (in_right itself) h)
+
+labelled_within : (l : CaseLabel) (x : Tree) → Within (labelled_tree l x) x
+labelled_within (n.Expressions x xs) y = in_right (in_right (in_right itself))
+labelled_within (n.Default colon) y = in_right (in_right itself)
+
+-- `case` items as trees, with the names of their statements, and without what is known of those
+abbrev item_trees : List (CaseLabel × Stmt) → List (CaseLabel × Tree)
+item_trees xs = map (λ x. (x.0, stmt_tree x.1)) xs
+
+abbrev item_name_lists : List (CaseLabel × Stmt) → List (CaseLabel × List (List ℕ))
+item_name_lists xs = map (λ x. (x.0, stmt_names x.1)) xs
+
+abbrev bare_items : (p : Symbol → Bool) → List (CaseLabel × Inner p) → List (CaseLabel × Stmt)
+bare_items p xs = map (λ x. (x.0, x.1.0)) xs
+
+case_row_holds : (p : Symbol → Bool) (xs : List (CaseLabel × Inner p)) → Fine p (row_of (map case_item_tree (item_trees (bare_items p xs)))) → named p (flat_map (λ (x : CaseLabel × List (List ℕ)). x.1) (item_name_lists (bare_items p xs))) ≡ true
+case_row_holds p [] h = refl
+case_row_holds p (x ∷ xs) h =
+    let one : Fine p (case_item_tree (x.0, stmt_tree x.1.0)) = within (in_left itself) h in
+    both_named p (stmt_names x.1.0) _ (x.1.1 (within (labelled_within x.0 (stmt_tree x.1.0)) one))
+    (case_row_holds p xs (within (in_right itself) h))
+
+case_items_hold : (p : Symbol → Bool) (xs : List (CaseLabel × Inner p)) → Fine p (some_tree (map case_item_tree (item_trees (bare_items p xs)))) → named p (flat_map (λ (x : CaseLabel × List (List ℕ)). x.1) (item_name_lists (bare_items p xs))) ≡ true
+case_items_hold p [] h = refl
+case_items_hold p (x ∷ xs) h = case_row_holds p (x ∷ xs) h
+
+layer_holds : (p : Symbol → Bool) (y : Stmt-F (Inner p)) → Fine p (layer (bare p y)) → named p (layer_names (bare p y)) ≡ true
+layer_holds p f.Null h = refl
+layer_holds p (f.Assign l x) h = refl
+layer_holds p (f.Later l x) h = refl
+layer_holds p (f.Block xs) h = stmts_hold p xs.items (within (in_down (in_right (in_right (in_left itself)))) h)
+layer_holds p (f.Named n ls xs) h =
+    and_of (p (a_name n.items)) _ (name_holds p n.items (row_of (map local_declaration_tree ls.items)) (within (in_down (in_right (in_left (in_right itself)))) h).is)
+    (both_named p (flat_map local_names ls.items) _
+    (declarations_hold p ls.items (within (in_down (in_right (in_left (in_right (in_right itself))))) h))
+    (stmts_hold p xs.items (within (in_down (in_right (in_right (in_left itself)))) h)))
+layer_holds p (f.If e x o) h =
+    both_named p (stmt_names x.value.0) _ (x.value.1 (within (in_down (in_right (in_right (in_right (in_right (in_left itself)))))) h))
+    (else_holds p o (within (in_down (in_right (in_right (in_right (in_right (in_right itself)))))) h))
+layer_holds p (f.Case k e xs) h =
+    case_items_hold p xs.items (within (in_down (in_right (in_right (in_right (in_right (in_left itself)))))) h)
+layer_holds p (f.For l a c m b x) h =
+    x.value.1 (within (in_down (in_right (in_right (in_right (in_right (in_right (in_right (in_right (in_right itself))))))))) h)
+layer_holds p (f.While e x) h = x.value.1 (within (in_down (in_right (in_right (in_right (in_right itself))))) h)
+layer_holds p (f.Repeat e x) h = x.value.1 (within (in_down (in_right (in_right (in_right (in_right itself))))) h)
+layer_holds p (f.Forever x) h = x.value.1 (within (in_down (in_right itself)) h)
+layer_holds p (f.Delay v x) h = x.value.1 (within (in_down (in_right (in_right itself))) h)
+layer_holds p (f.Event v x) h = x.value.1 (within (in_down (in_right (in_right itself))) h)
+
+held : (p : Symbol → Bool) (x : Stmt-F Stmt) (y : Stmt-F (Inner p)) → bare p y ≡ x → Held p (roll-Stmt x)
+held p x y is h =
+    ap (named p) (fold-roll-Stmt (List (List ℕ)) stmt_names_step x)
+    ∙ subst (λ (u : Stmt-F Stmt). Fine p (layer u) → named p (layer_names u) ≡ true) is (layer_holds p y)
+    (subst (Fine p) (fold-roll-Stmt Tree stmt_step x) h)
+
+stmt_holds : (p : Symbol → Bool) (x : Stmt) → Fine p (stmt_tree x) → named p (stmt_names x) ≡ true
+stmt_holds p = ind-Stmt (Held p) (held p)
+
+-- ---- items
+
+bare_names_hold : (p : Symbol → Bool) (ns : List (Vec ℕ Global)) → Fine p (listed_tree (map bare_name_tree ns)) → named p (bare_names ns) ≡ true
+bare_names_hold p ns h = listed_holds p bare_name_tree (λ (n : Vec ℕ Global). n.items) (λ n i. first_of (p (a_name n.items)) true i) ns h.is
+
+item_holds : (p : Symbol → Bool) (x : Item) → Fine p (item_tree x) → named p (item_names x) ≡ true
+item_holds p (i.Port f ns) h = bare_names_hold p ns.items (within (in_down (in_right (in_right (in_right itself)))) h)
+item_holds p (i.Genvar ns) h = bare_names_hold p ns.items (within (in_down (in_right itself)) h)
+item_holds p (i.Wire f ds) h = declared_holds p f ds.items (within (in_down (in_right itself)) h).is
+item_holds p (i.Reg f ds) h = declared_holds p f ds.items (within (in_down (in_right itself)) h).is
+item_holds p (i.Integer ds) h = declarators_hold p ds.items (within (in_down (in_right itself)) h).is
+item_holds p (i.Parameter f xs) h = constants_hold p f xs.items (within (in_down (in_right itself)) h).is
+item_holds p (i.Localparam f xs) h = constants_hold p f xs.items (within (in_down (in_right itself)) h).is
+item_holds p (i.Instances n o xs) h = instances_hold p o xs.items (within (in_down (in_right itself)) h).is
+item_holds p (i.Assign xs) h = refl
+item_holds p (i.Initial x) h = stmt_holds p x (within (in_down (in_right itself)) h)
+item_holds p (i.Always x) h = stmt_holds p x (within (in_down (in_right itself)) h)
+
+-- ---- module items
+
+-- a module item of which the tree holds its names
+abbrev ItemHeld : (Symbol → Bool) → ModuleItem → Type 0
+ItemHeld p x = Fine p (module_item_tree x) → named p (module_item_names x) ≡ true
+
+abbrev InnerItem : (Symbol → Bool) → Type 0
+InnerItem p = (x : ModuleItem) × ItemHeld p x
+
+abbrev bare_item : (p : Symbol → Bool) → ModuleItem-F (InnerItem p) → ModuleItem-F ModuleItem
+bare_item p y = map-ModuleItem (InnerItem p) ModuleItem (λ q. q.0) y
+
+abbrev item_layer : ModuleItem-F ModuleItem → Tree
+item_layer x = module_item_step (map-ModuleItem ModuleItem Tree module_item_tree x)
+
+abbrev item_layer_names : ModuleItem-F ModuleItem → List (List ℕ)
+item_layer_names x = module_item_names_step (map-ModuleItem ModuleItem (List (List ℕ)) module_item_names x)
+
+inner_items_hold : (p : Symbol → Bool) (xs : List (InnerItem p)) → Fine p (row_of (map module_item_tree (map (λ q. q.0) xs))) → named p (flat_map (λ ns. ns) (map module_item_names (map (λ q. q.0) xs))) ≡ true
+inner_items_hold p [] h = refl
+inner_items_hold p (x ∷ xs) h =
+    both_named p (module_item_names x.0) (flat_map (λ ns. ns) (map module_item_names (map (λ q. q.0) xs))) (x.1 (within (in_left itself) h))
+    (inner_items_hold p xs (within (in_right itself) h))
+
+other_holds : (p : Symbol → Bool) (o : Option (Box (InnerItem p) Global)) → Fine p (else_tree (former-ModuleItem-If-2-at-2.map ModuleItem Tree module_item_tree (former-ModuleItem-If-2-at-2.map (InnerItem p) ModuleItem (λ q. q.0) o))) → named p (else_names (former-ModuleItem-If-2-at-2.map ModuleItem (List (List ℕ)) module_item_names (former-ModuleItem-If-2-at-2.map (InnerItem p) ModuleItem (λ q. q.0) o))) ≡ true
+other_holds p None h = refl
+other_holds p (Some x) h = x.value.1 (within (in_right itself) h)
+
+block_name_holds : (p : Symbol → Bool) (n : Option (Vec ℕ Global)) → Fine p (block_name_tree n) → named p (block_names n) ≡ true
+block_name_holds p None h = refl
+block_name_holds p (Some n) h = (within (in_right itself) h).is
+
+item_layer_holds : (p : Symbol → Bool) (z : ModuleItem-F (InnerItem p)) → Fine p (item_layer (bare_item p z)) → named p (item_layer_names (bare_item p z)) ≡ true
+item_layer_holds p (y.Plain x) h = item_holds p x h
+item_layer_holds p (y.Region xs) h = inner_items_hold p xs.items (within (in_down (in_right (in_left itself))) h)
+item_layer_holds p (y.For k x) h =
+    x.value.1 (within (in_down (in_right (in_right (in_right (in_right (in_right (in_right (in_right (in_right itself))))))))) h)
+item_layer_holds p (y.If e x o) h =
+    both_named p (module_item_names x.value.0) _ (x.value.1 (within (in_down (in_right (in_right (in_right (in_right (in_left itself)))))) h))
+    (other_holds p o (within (in_down (in_right (in_right (in_right (in_right (in_right itself)))))) h))
+item_layer_holds p y.Null h = refl
+item_layer_holds p (y.Block n xs) h =
+    both_named p (block_names n) _ (block_name_holds p n (within (in_right (in_left itself)) h))
+    (inner_items_hold p xs.items (within (in_right (in_right (in_left itself))) h))
+
+item_held : (p : Symbol → Bool) (x : ModuleItem-F ModuleItem) (z : ModuleItem-F (InnerItem p)) → bare_item p z ≡ x → ItemHeld p (roll-ModuleItem x)
+item_held p x z is h =
+    ap (named p) (fold-roll-ModuleItem (List (List ℕ)) module_item_names_step x)
+    ∙ subst (λ (u : ModuleItem-F ModuleItem). Fine p (item_layer u) → named p (item_layer_names u) ≡ true) is (item_layer_holds p z)
+    (subst (Fine p) (fold-roll-ModuleItem Tree module_item_step x) h)
+
+module_item_holds : (p : Symbol → Bool) (x : ModuleItem) → Fine p (module_item_tree x) → named p (module_item_names x) ≡ true
+module_item_holds p = ind-ModuleItem (ItemHeld p) (item_held p)
+
+items_hold : (p : Symbol → Bool) (xs : List ModuleItem) → Fine p (row_of (map module_item_tree xs)) → named p (flat_map module_item_names xs) ≡ true
+items_hold p [] h = refl
+items_hold p (x ∷ xs) h =
+    both_named p (module_item_names x) (flat_map module_item_names xs) (module_item_holds p x (within (in_left itself) h))
+    (items_hold p xs (within (in_right itself) h))
+
 module_holds : (p : Symbol → Bool) (x : Module) → holds p (module_tree x) ≡ true → named p (module_names x) ≡ true
 module_holds p x h =
     let end = leaf (a_word w.Endmodule) in
-    let inside = row_of (map item_tree x.items.items) in
+    let inside = row_of (map module_item_tree x.items.items) in
     let body = both (leaf (a_mark m.Semicolon)) (both inside end) in
     let parameters = header_parameters_tree (map header_parameter_tree x.parameters.items) in
     let ports = listed_ports x.ports in
@@ -155,19 +343,26 @@ module_holds p x h =
     let behind = right p (leaf (a_word w.Module)) (both own header) h in
     let heads = right p own header behind in
     let rest = right p parameters (both ports body) heads in
-    and_of (p (a_name x.name.items)) (named p (header_parameter_names x.parameters.items ++ (port_names x.ports ++ flat_map item_names x.items.items)))
+    and_of (p (a_name x.name.items)) (named p (header_parameter_names x.parameters.items ++ (port_names x.ports ++ flat_map module_item_names x.items.items)))
     (name_holds p x.name.items header behind)
-    (both_named p (header_parameter_names x.parameters.items) (port_names x.ports ++ flat_map item_names x.items.items)
+    (both_named p (header_parameter_names x.parameters.items) (port_names x.ports ++ flat_map module_item_names x.items.items)
     (header_parameters_hold p x.parameters.items (left p parameters (both ports body) heads))
-    (both_named p (port_names x.ports) (flat_map item_names x.items.items)
+    (both_named p (port_names x.ports) (flat_map module_item_names x.items.items)
     (ports_hold p x.ports (left p ports body rest))
-    (items_hold p x.items.items (left p inside end (right p (leaf (a_mark m.Semicolon)) (both inside end) (right p ports body rest))))))
+    (items_hold p x.items.items (record { is = left p inside end (right p (leaf (a_mark m.Semicolon)) (both inside end) (right p ports body rest)) }))))
 
-modules_hold : (p : Symbol → Bool) (xs : List Module) → holds p (row_of (map module_tree xs)) ≡ true → named p (declared_names xs) ≡ true
-modules_hold p [] h = refl
-modules_hold p (x ∷ xs) h =
-    list_all-append (λ n. p (a_name n)) (module_names x) (declared_names xs)
-    ∙ and_of (named p (module_names x)) (named p (declared_names xs)) (module_holds p x (left p (module_tree x) (row_of (map module_tree xs)) h)) (modules_hold p xs (right p (module_tree x) (row_of (map module_tree xs)) h))
+row_holds_behind : (p : Symbol → Bool) (xs ys : List Tree) → Fine p (row_of (xs ++ ys)) → Fine p (row_of ys)
+row_holds_behind p [] ys h = h
+row_holds_behind p (x ∷ xs) ys h = row_holds_behind p xs ys (within (in_right itself) h)
+
+-- modules behind their directives, and directives behind them, as one row
+modules_hold : (p : Symbol → Bool) (xs : List Module) (ds : List ImplicitNet) → Fine p (row_of (flat_map directed_trees xs ++ map directive_tree ds)) → named p (declared_names xs) ≡ true
+modules_hold p [] ds h = refl
+modules_hold p (x ∷ xs) ds h =
+    let r = row_holds_behind p (map directive_tree x.directives.items) (module_tree x ∷ (flat_map directed_trees xs ++ map directive_tree ds))
+    (subst (λ us. Fine p (row_of us)) (append_assoc (directed_trees x) (flat_map directed_trees xs) (map directive_tree ds)
+    ∙ append_assoc (map directive_tree x.directives.items) (module_tree x ∷ []) (flat_map directed_trees xs ++ map directive_tree ds)) h) in
+    both_named p (module_names x) (declared_names xs) (module_holds p x (within (in_left itself) r).is) (modules_hold p xs ds (within (in_right itself) r))
 
 pub names_are_tokens : NamesAreTokens
-names_are_tokens p ts s derives h = modules_hold p s.modules.items (subst (λ us. list_all p us ≡ true) derives.text h)
+names_are_tokens p ts s derives h = modules_hold p s.modules.items s.directives.items (record { is = subst (λ us. list_all p us ≡ true) derives.text h })

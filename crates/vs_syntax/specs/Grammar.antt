@@ -4,7 +4,7 @@ use Rattle.vs_tokens.specs.declared.token.Mark.{Mark}
 use Rattle.vs_tokens.specs.declared.token.Mark.TheVariants as m
 use Rattle.vs_tokens.specs.declared.token.Word.{Word}
 use Rattle.vs_tokens.specs.declared.token.Word.TheVariants as w
-use Rattle.vs_syntax.specs.Symbols.{Class, the_mark, the_word, any_name, any_number, the_cast}
+use Rattle.vs_syntax.specs.Symbols.{Class, the_mark, the_word, any_name, any_number, the_cast, the_nettype}
 
 -- the parts of a source that have a rule
 pub data Part : Type 0 where
@@ -15,6 +15,14 @@ pub data Part : Type 0 where
   a_header_parameter : Part
   -- a port in the header of a module, with its direction or without (clause A.1.3)
   a_port : Part
+  -- a port in the header of a module, of which the header says nothing but the name (clause A.1.3)
+  a_port_name : Part
+  -- a name of a declaration that says nothing of it but that (clauses A.2.1.2 and A.2.1.3)
+  a_bare_name : Part
+  -- what stands behind a generate `for`, `if` or `else` (clause A.4.2)
+  a_generate_block : Part
+  -- a name of a declaration of a named block, with the range of its words or without (clause A.2.8)
+  a_local : Part
   -- an item of a module (clause A.1.4)
   an_item : Part
   -- a name of a declaration of parameters, with its value (clause A.2.4)
@@ -195,13 +203,21 @@ abbrev pub header_parameters : Grammar
 header_parameters = mark m.Hash · mark m.Open · ((word w.Parameter · parameter_form) · part a_constant)
     · many (mark m.Comma · part a_header_parameter) · mark m.Close
 
+-- the word of the kind of a port, or nothing (clause A.2.1.2)
+abbrev pub port_kind : Grammar
+port_kind = word w.Wire or word w.Reg or word w.Integer or nothing
+
 -- what stands before the name of a port: its direction, its kind, its sign and its range (clause A.2.1.2)
 abbrev pub port_form : Grammar
-port_form = (word w.Input or word w.Output) · (word w.Wire or word w.Reg or word w.Integer or nothing) · form
+port_form = (word w.Input or word w.Output) · port_kind · form
 
--- the ports in the header of a module, the first with its direction (clause A.1.3; profile)
+-- a declaration assignment, or nothing (clause A.2.4)
+abbrev pub may_value : Grammar
+may_value = mark m.Assign · part an_expr or nothing
+
+-- the ports in the header of a module: the first with its direction, or all by their names alone (clause A.1.3; profile)
 abbrev pub header_ports : Grammar
-header_ports = mark m.Open · ((port_form · name) · many (mark m.Comma · part a_port) or nothing) · mark m.Close
+header_ports = mark m.Open · ((port_form · name · may_value) · many (mark m.Comma · part a_port) or part a_port_name · many (mark m.Comma · part a_port_name) or nothing) · mark m.Close
 
 -- an expression, or nothing
 abbrev pub an_end : Grammar
@@ -215,9 +231,43 @@ connections = part a_connection · many (mark m.Comma · part a_connection) or a
 abbrev pub instances : Grammar
 instances = (mark m.Hash · mark m.Open · connections · mark m.Close or nothing) · listed an_instance
 
+-- an expression in parentheses that are no node, and what stands behind them
+abbrev pub guarded : Grammar → Grammar
+guarded a = mark m.Open · part an_expr · mark m.Close · a
+
+-- a name and the value that it is given
+abbrev pub named_value : Grammar
+named_value = name · mark m.Assign · part an_expr
+
+-- what stands behind a generate `for` (clause A.4.2)
+abbrev pub generate_loop : Grammar
+generate_loop = mark m.Open · named_value · mark m.Semicolon · part an_expr · mark m.Semicolon · named_value · mark m.Close · part a_generate_block
+
+-- what stands behind the condition of a generate `if`; an `else` belongs to the nearest `if` (clause A.4.2)
+abbrev pub generate_branches : Grammar
+generate_branches = part a_generate_block · optional (the_word w.Else) (part a_generate_block)
+
+-- the name of a generate block, or nothing (clause A.4.2)
+abbrev pub block_name : Grammar
+block_name = mark m.Colon · name or nothing
+
+-- a declaration of a named block (clause A.2.8)
+abbrev pub local_declaration : Grammar
+local_declaration = word w.Reg · form · listed a_local or word w.Integer · listed a_local
+
+-- the name of a block with its declarations, or nothing (clause A.6.3)
+abbrev pub block_head : Grammar
+block_head = mark m.Colon · name · many local_declaration or nothing
+
 -- the items of a module that begin with a word, each by it (clause A.1.4; profile)
 abbrev pub items : List (Class × Grammar)
-items = (the_word w.Wire, form · listed a_net)
+items = (the_word w.Input, port_kind · form · listed a_bare_name)
+    ∷ (the_word w.Output, port_kind · form · listed a_bare_name)
+    ∷ (the_word w.Genvar, listed a_bare_name)
+    ∷ (the_word w.Generate, many (part an_item) · word w.Endgenerate)
+    ∷ (the_word w.For, generate_loop)
+    ∷ (the_word w.If, guarded generate_branches)
+    ∷ (the_word w.Wire, form · listed a_net)
     ∷ (the_word w.Reg, form · listed a_variable)
     ∷ (the_word w.Integer, listed a_variable)
     ∷ (the_word w.Parameter, parameter_form · listed a_constant)
@@ -226,10 +276,6 @@ items = (the_word w.Wire, form · listed a_net)
     ∷ (the_word w.Initial, part a_stmt)
     ∷ (the_word w.Always, part a_stmt)
     ∷ []
-
--- an expression in parentheses that are no node, and what stands behind them
-abbrev pub guarded : Grammar → Grammar
-guarded a = mark m.Open · part an_expr · mark m.Close · a
 
 -- a statement and, where the next token is `else`, the statement behind that (clause A.6.6)
 abbrev pub branches : Grammar
@@ -262,7 +308,7 @@ event = mark m.Star or name or mark m.Open · (mark m.Star or event_exprs) · ma
 -- the statements that begin with a word or a mark of their own (clause A.6.4; profile)
 abbrev pub statements : List (Class × Grammar)
 statements = (the_mark m.Semicolon, nothing)
-    ∷ (the_word w.Begin, many (part a_stmt) · word w.End)
+    ∷ (the_word w.Begin, block_head · many (part a_stmt) · word w.End)
     ∷ (the_word w.If, guarded branches)
     ∷ (the_word w.Case, guarded case_items)
     ∷ (the_word w.Casez, guarded case_items)
@@ -278,11 +324,15 @@ statements = (the_mark m.Semicolon, nothing)
 -- The rules of the grammar. A target is a node, though it be a name alone; the number of an expression is none, and a name only with its
 -- selects.
 abbrev pub rule : Part → Grammar
-rule a_source = many (part a_module)
+rule a_source = many (part a_module or token the_nettype)
 rule a_module = word w.Module · name · (header_parameters or nothing) · (header_ports or nothing) · mark m.Semicolon
     · many (part an_item) · word w.Endmodule
 rule a_header_parameter = (word w.Parameter · parameter_form or nothing) · part a_constant
-rule a_port = (port_form or nothing) · name
+rule a_port = (port_form or nothing) · name · may_value
+rule a_port_name = nothing · name · nothing
+rule a_bare_name = name
+rule a_generate_block = mark m.Semicolon or word w.Begin · block_name · many (part an_item) · word w.End or part an_item
+rule a_local = name · (range or nothing)
 rule an_item = node (name · instances or one_of items)
 rule a_constant = name · mark m.Assign · part an_expr
 rule an_instance = name · mark m.Open · connections · mark m.Close

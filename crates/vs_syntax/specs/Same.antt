@@ -36,6 +36,12 @@ use Rattle.vs_syntax.specs.declared.tree.CaseLabel.{CaseLabel}
 use Rattle.vs_syntax.specs.declared.tree.CaseLabel.TheVariants as n
 use Rattle.vs_syntax.specs.declared.tree.Stmt.{Stmt}
 use Rattle.vs_syntax.specs.declared.tree.Stmt.TheVariants as s
+use Rattle.vs_syntax.specs.declared.tree.Local.{Local}
+use Rattle.vs_syntax.specs.declared.tree.LocalDeclaration.{LocalDeclaration}
+use Rattle.vs_syntax.specs.declared.tree.LocalDeclaration.TheVariants as g
+use Rattle.vs_syntax.specs.declared.tree.LoopHeader.{LoopHeader}
+use Rattle.vs_syntax.specs.declared.tree.ModuleItem.{ModuleItem}
+use Rattle.vs_syntax.specs.declared.tree.ModuleItem.TheVariants as t
 use Rattle.vs_syntax.specs.declared.tree.Item.{Item}
 use Rattle.vs_syntax.specs.declared.tree.Item.TheVariants as i
 use Rattle.vs_syntax.specs.declared.tree.Module.{Module}
@@ -137,6 +143,41 @@ pub data SameLabel : CaseLabel → CaseLabel → Type 0 where
       SameExpr x x' → SameExprs xs.items xs'.items → SameLabel (n.Expressions x xs) (n.Expressions x' xs')
   same_default : (colon : Bool) → SameLabel (n.Default colon) (n.Default colon)
 
+-- Both absent, or both there and related (profile).
+pub data SameOption {A : Type 0} (R : A → A → Type 0) : Option A → Option A → Type 0 where
+  both_absent : SameOption R None None
+  both_there : (x x' : A) → R x x' → SameOption R (Some x) (Some x')
+
+-- Expressions that are both absent, or say the same (profile).
+pub data SameValue : Option Expr → Option Expr → Type 0 where
+  same_no_value : SameValue None None
+  same_value : (x x' : Expr) → SameExpr x x' → SameValue (Some x) (Some x')
+
+-- Ranges that are both absent, or say the same (profile).
+pub data SameRange : Option Range → Option Range → Type 0 where
+  same_no_range : SameRange None None
+  same_range : (r r' : Range) → SameExpr r.left r'.left → SameExpr r.right r'.right → SameRange (Some r) (Some r')
+
+-- What declarations say of their names is the same (profile).
+pub record SameForm (f f' : Form) : Type 0 where
+  pub signed : f.signed ≡ f'.signed
+  pub range : SameRange f.range f'.range
+
+-- The names are the same (profile).
+abbrev pub SameName : Vec ℕ Global → Vec ℕ Global → Type 0
+SameName n n' = n.items ≡ n'.items
+
+-- The names of declarations of a named block say the same (profile).
+pub record SameLocal (x x' : Local) : Type 0 where
+  pub name : x.name.items ≡ x'.name.items
+  pub words : SameRange x.words x'.words
+
+-- The declarations of a named block say the same (profile).
+pub data SameLocals : LocalDeclaration → LocalDeclaration → Type 0 where
+  same_local_reg : (f f' : Form) (xs xs' : Vec Local Global) → SameForm f f' → Pairwise SameLocal xs.items xs'.items →
+      SameLocals (g.Reg f xs) (g.Reg f' xs')
+  same_local_integer : (xs xs' : Vec Local Global) → Pairwise SameLocal xs.items xs'.items → SameLocals (g.Integer xs) (g.Integer xs')
+
 mutual
   -- The statements say the same (profile).
   pub data SameStmt : Stmt → Stmt → Type 0 where
@@ -144,6 +185,8 @@ mutual
     same_assign : (l l' : Left) (x x' : Expr) → SameLeft l l' → SameExpr x x' → SameStmt (s.Assign l x) (s.Assign l' x')
     same_later : (l l' : Left) (x x' : Expr) → SameLeft l l' → SameExpr x x' → SameStmt (s.Later l x) (s.Later l' x')
     same_block : (xs xs' : Vec Stmt Global) → SameStmts xs.items xs'.items → SameStmt (s.Block xs) (s.Block xs')
+    same_named_block : (n n' : Vec ℕ Global) (ls ls' : Vec LocalDeclaration Global) (xs xs' : Vec Stmt Global) → n.items ≡ n'.items →
+        Pairwise SameLocals ls.items ls'.items → SameStmts xs.items xs'.items → SameStmt (s.Named n ls xs) (s.Named n' ls' xs')
     same_if : (c c' : Expr) (x x' : Box Stmt Global) (o o' : Option (Box Stmt Global)) →
         SameExpr c c' → SameStmt x.value x'.value → SameElse o o' → SameStmt (s.If c x o) (s.If c' x' o')
     same_case : (kind : CaseKind) (x x' : Expr) (is is' : Vec (CaseLabel × Stmt) Global) →
@@ -177,31 +220,11 @@ mutual
     same_more_items : (x x' : CaseLabel × Stmt) (xs xs' : List (CaseLabel × Stmt)) →
         SameLabel x.0 x'.0 → SameStmt x.1 x'.1 → SameCaseItems xs xs' → SameCaseItems (x ∷ xs) (x' ∷ xs')
 
--- Both absent, or both there and related (profile).
-pub data SameOption {A : Type 0} (R : A → A → Type 0) : Option A → Option A → Type 0 where
-  both_absent : SameOption R None None
-  both_there : (x x' : A) → R x x' → SameOption R (Some x) (Some x')
-
--- Expressions that are both absent, or say the same (profile).
-pub data SameValue : Option Expr → Option Expr → Type 0 where
-  same_no_value : SameValue None None
-  same_value : (x x' : Expr) → SameExpr x x' → SameValue (Some x) (Some x')
-
--- Ranges that are both absent, or say the same (profile).
-pub data SameRange : Option Range → Option Range → Type 0 where
-  same_no_range : SameRange None None
-  same_range : (r r' : Range) → SameExpr r.left r'.left → SameExpr r.right r'.right → SameRange (Some r) (Some r')
-
 -- The names of a declaration say the same (profile).
 pub record SameDeclarator (d d' : Declarator) : Type 0 where
   pub name : d.name.items ≡ d'.name.items
   pub words : SameRange d.words d'.words
   pub value : SameValue d.value d'.value
-
--- What declarations say of their names is the same (profile).
-pub record SameForm (f f' : Form) : Type 0 where
-  pub signed : f.signed ≡ f'.signed
-  pub range : SameRange f.range f'.range
 
 -- The types of parameters are the same (profile).
 pub data SameParameterForm : ParameterForm → ParameterForm → Type 0 where
@@ -229,6 +252,7 @@ pub record SamePortForm (f f' : PortForm) : Type 0 where
 pub record SamePort (x x' : Port) : Type 0 where
   pub form : SameOption SamePortForm x.form x'.form
   pub name : x.name.items ≡ x'.name.items
+  pub value : SameValue x.value x'.value
 
 -- The same of ports one after another (profile).
 abbrev pub SamePorts : Vec Port Global → Vec Port Global → Type 0
@@ -258,6 +282,9 @@ pub record SameAssignment (a a' : NetAssignment) : Type 0 where
 
 -- The items say the same (profile).
 pub data SameItem : Item → Item → Type 0 where
+  same_port_item : (f f' : PortForm) (ns ns' : Vec (Vec ℕ Global) Global) →
+      SamePortForm f f' → Pairwise SameName ns.items ns'.items → SameItem (i.Port f ns) (i.Port f' ns')
+  same_genvars : (ns ns' : Vec (Vec ℕ Global) Global) → Pairwise SameName ns.items ns'.items → SameItem (i.Genvar ns) (i.Genvar ns')
   same_wire : (f f' : Form) (ds ds' : Vec Declarator Global) →
       SameForm f f' → Pairwise SameDeclarator ds.items ds'.items → SameItem (i.Wire f ds) (i.Wire f' ds')
   same_reg : (f f' : Form) (ds ds' : Vec Declarator Global) →
@@ -276,13 +303,47 @@ pub data SameItem : Item → Item → Type 0 where
   same_initial : (x x' : Stmt) → SameStmt x x' → SameItem (i.Initial x) (i.Initial x')
   same_always : (x x' : Stmt) → SameStmt x x' → SameItem (i.Always x) (i.Always x')
 
+-- The headers of generate loops say the same (profile).
+pub record SameLoopHeader (h h' : LoopHeader) : Type 0 where
+  pub name : h.name.items ≡ h'.name.items
+  pub first : SameExpr h.first h'.first
+  pub condition : SameExpr h.condition h'.condition
+  pub next : h.next.items ≡ h'.next.items
+  pub step : SameExpr h.step h'.step
+
+mutual
+  -- The module items say the same (profile).
+  pub data SameModuleItem : ModuleItem → ModuleItem → Type 0 where
+    same_plain : (x x' : Item) → SameItem x x' → SameModuleItem (t.Plain x) (t.Plain x')
+    same_region : (xs xs' : Vec ModuleItem Global) → SameModuleItems xs.items xs'.items → SameModuleItem (t.Region xs) (t.Region xs')
+    same_generate_loop : (h h' : LoopHeader) (x x' : Box ModuleItem Global) → SameLoopHeader h h' → SameModuleItem x.value x'.value →
+        SameModuleItem (t.For h x) (t.For h' x')
+    same_generate_if : (e e' : Expr) (x x' : Box ModuleItem Global) (o o' : Option (Box ModuleItem Global)) → SameExpr e e' →
+        SameModuleItem x.value x'.value → SameOther o o' → SameModuleItem (t.If e x o) (t.If e' x' o')
+    same_no_content : SameModuleItem t.Null t.Null
+    same_generate_block : (n n' : Option (Vec ℕ Global)) (xs xs' : Vec ModuleItem Global) → SameOption SameName n n' →
+        SameModuleItems xs.items xs'.items → SameModuleItem (t.Block n xs) (t.Block n' xs')
+
+  -- The same of what stands behind `else` (profile).
+  pub data SameOther : Option (Box ModuleItem Global) → Option (Box ModuleItem Global) → Type 0 where
+    same_no_other : SameOther None None
+    same_other : (x x' : Box ModuleItem Global) → SameModuleItem x.value x'.value → SameOther (Some x) (Some x')
+
+  -- The same of module items one after another (profile).
+  pub data SameModuleItems : List ModuleItem → List ModuleItem → Type 0 where
+    same_no_module_item : SameModuleItems [] []
+    same_more_module_items : (x x' : ModuleItem) (xs xs' : List ModuleItem) → SameModuleItem x x' → SameModuleItems xs xs' →
+        SameModuleItems (x ∷ xs) (x' ∷ xs')
+
 -- The modules say the same (profile).
 pub record SameModule (m m' : Module) : Type 0 where
+  pub directives : m.directives.items ≡ m'.directives.items
   pub name : m.name.items ≡ m'.name.items
   pub parameters : Pairwise SameHeaderParameter m.parameters.items m'.parameters.items
   pub ports : SameOption SamePorts m.ports m'.ports
-  pub items : Pairwise SameItem m.items.items m'.items.items
+  pub items : SameModuleItems m.items.items m'.items.items
 
 -- The sources say the same (profile).
 pub record SameSource (s s' : Source) : Type 0 where
   pub modules : Pairwise SameModule s.modules.items s'.modules.items
+  pub directives : s.directives.items ≡ s'.directives.items

@@ -1,6 +1,9 @@
 -- Tokens as the grammar sees them.
 use Rattle.std.specs.Prelude.{ℕ, Bool, true, false, List, [], ◌∷◌, Option, None, Some, if◌then◌else◌, codes, map}
 use Rattle.std.specs.Str.{bytes_eq}
+use Rattle.vs_tokens.specs.declared.token.Directive.{Directive}
+use Rattle.vs_tokens.specs.declared.token.Directive.TheVariants as d
+use Rattle.vs_tokens.specs.declared.token.ImplicitNet.{ImplicitNet}
 use Rattle.vs_tokens.specs.declared.token.Kind.{Kind}
 use Rattle.vs_tokens.specs.declared.token.Kind.TheVariants as k
 use Rattle.vs_tokens.specs.declared.token.Literal.{Literal}
@@ -21,6 +24,8 @@ pub data Symbol : Type 0 where
   a_number : Literal → Symbol
   -- `$signed`, else `$unsigned` (clause 5.5)
   a_cast : Bool → Symbol
+  -- a directive that says what undeclared names are
+  a_nettype : ImplicitNet → Symbol
   -- a token that no rule of the grammar has
   another : Symbol
 
@@ -32,6 +37,7 @@ pub data Class : Type 0 where
   any_name : Class
   any_number : Class
   the_cast : Class
+  the_nettype : Class
   any_other : Class
 
 -- the class of a symbol
@@ -41,6 +47,7 @@ class_of (a_word w) = the_word w
 class_of (a_name bytes) = any_name
 class_of (a_number l) = any_number
 class_of (a_cast s) = the_cast
+class_of (a_nettype x) = the_nettype
 class_of another = any_other
 
 -- whether two classes are equal
@@ -51,6 +58,7 @@ same_class (the_word v) (the_word w) = sameb words.the_type v w
 same_class any_name any_name = true
 same_class any_number any_number = true
 same_class the_cast the_cast = true
+same_class the_nettype the_nettype = true
 same_class any_other any_other = true
 same_class _ _ = false
 
@@ -73,6 +81,11 @@ abbrev pub system_symbol : Option Bool → Symbol
 system_symbol None = another
 system_symbol (Some s) = a_cast s
 
+-- the symbol of a directive
+abbrev pub directive_symbol : Directive → Symbol
+directive_symbol (d.DefaultNettype x) = a_nettype x
+directive_symbol _ = another
+
 -- the symbol of a token of a kind that is these bytes of the source
 abbrev pub symbol_of : Kind → List ℕ → Symbol
 symbol_of (k.Mark x) bytes = a_mark (spelled x)
@@ -80,6 +93,7 @@ symbol_of (k.Word w) bytes = a_word w
 symbol_of k.Name bytes = a_name (name_of bytes)
 symbol_of (k.Number l) bytes = a_number l
 symbol_of k.System bytes = system_symbol (cast_of bytes)
+symbol_of (k.Directive x) bytes = directive_symbol x
 symbol_of _ bytes = another
 
 -- the symbol of a token

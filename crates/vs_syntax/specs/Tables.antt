@@ -3,8 +3,8 @@ use Rattle.std.specs.Prelude.{ℕ, suc, max, min, Bool, true, false, cond, ◌&&
 use Rattle.vs_tokens.specs.declared.token.Mark.{Mark}
 use Rattle.vs_tokens.specs.declared.token.Mark.TheVariants as m
 use Rattle.vs_tokens.specs.declared.token.Word.TheVariants as w
-use Rattle.vs_syntax.specs.Symbols.{Symbol, Class, the_mark, the_word, any_name, any_number, the_cast, same_class, first}
-use Rattle.vs_syntax.specs.Grammar.{Part, a_source, a_module, a_header_parameter, a_port, an_item, a_constant, an_instance, a_connection, a_net, a_variable, an_assignment, a_stmt, a_case_item, an_event_expr, a_target, an_expr, a_level, Grammar, nothing, token, seq, either, many, part, node, chain, optional, prefixes}
+use Rattle.vs_syntax.specs.Symbols.{Symbol, Class, the_mark, the_word, any_name, any_number, the_cast, the_nettype, same_class, first}
+use Rattle.vs_syntax.specs.Grammar.{Part, a_source, a_module, a_header_parameter, a_port, a_port_name, a_bare_name, a_generate_block, a_local, an_item, a_constant, an_instance, a_connection, a_net, a_variable, an_assignment, a_stmt, a_case_item, an_event_expr, a_target, an_expr, a_level, Grammar, nothing, token, seq, either, many, part, node, chain, optional, prefixes}
 
 -- a class that can begin a part, and the least nesting of a part that it begins
 pub record Front : Type 0 where
@@ -26,6 +26,10 @@ low_of a_source = 0
 low_of a_module = 0
 low_of a_header_parameter = 0
 low_of a_port = 0
+low_of a_port_name = 0
+low_of a_bare_name = 0
+low_of a_generate_block = 0
+low_of a_local = 0
 low_of an_item = 1
 low_of a_constant = 0
 low_of an_instance = 0
@@ -56,13 +60,15 @@ abbrev pub beside : ℕ → List Front → List Front
 beside n [] = []
 beside n (f ∷ fs) = at_least f.class (max n f.need) ∷ beside n fs
 
--- what can begin a part
-abbrev pub fronts_of : Part → List Front
-fronts_of a_source = at_least (the_word w.Module) 0 ∷ []
-fronts_of a_module = at_least (the_word w.Module) 0 ∷ []
-fronts_of a_header_parameter = at_least (the_word w.Parameter) 0 ∷ at_least any_name 0 ∷ []
-fronts_of a_port = at_least (the_word w.Input) 0 ∷ at_least (the_word w.Output) 0 ∷ at_least any_name 0 ∷ []
-fronts_of an_item = at_least any_name 1
+-- what can begin an item
+abbrev pub item_fronts : List Front
+item_fronts = at_least any_name 1
+    ∷ at_least (the_word w.Input) 1
+    ∷ at_least (the_word w.Output) 1
+    ∷ at_least (the_word w.Genvar) 1
+    ∷ at_least (the_word w.Generate) 1
+    ∷ at_least (the_word w.For) 1
+    ∷ at_least (the_word w.If) 1
     ∷ at_least (the_word w.Wire) 1
     ∷ at_least (the_word w.Reg) 1
     ∷ at_least (the_word w.Integer) 1
@@ -72,6 +78,18 @@ fronts_of an_item = at_least any_name 1
     ∷ at_least (the_word w.Initial) 2
     ∷ at_least (the_word w.Always) 2
     ∷ []
+
+-- what can begin a part
+abbrev pub fronts_of : Part → List Front
+fronts_of a_source = at_least (the_word w.Module) 0 ∷ at_least the_nettype 0 ∷ []
+fronts_of a_module = at_least (the_word w.Module) 0 ∷ []
+fronts_of a_header_parameter = at_least (the_word w.Parameter) 0 ∷ at_least any_name 0 ∷ []
+fronts_of a_port = at_least (the_word w.Input) 0 ∷ at_least (the_word w.Output) 0 ∷ at_least any_name 0 ∷ []
+fronts_of a_port_name = at_least any_name 0 ∷ []
+fronts_of a_bare_name = at_least any_name 0 ∷ []
+fronts_of a_generate_block = at_least (the_mark m.Semicolon) 0 ∷ at_least (the_word w.Begin) 0 ∷ item_fronts
+fronts_of a_local = at_least any_name 0 ∷ []
+fronts_of an_item = item_fronts
 fronts_of a_constant = at_least any_name 0 ∷ []
 fronts_of an_instance = at_least any_name 0 ∷ []
 fronts_of a_connection = at_least (the_mark m.Dot) 0 ∷ []

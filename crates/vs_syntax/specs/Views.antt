@@ -1,6 +1,7 @@
 -- The tree of the grammar that a syntax tree stands for.
-use Rattle.std.specs.Prelude.{ℕ, Bool, true, false, List, [], ◌∷◌, Option, None, Some, map}
+use Rattle.std.specs.Prelude.{ℕ, Bool, true, false, List, [], ◌∷◌, ◌++◌, Option, None, Some, map}
 use Rattle.std.specs.Option.{option_map}
+use Rattle.std.specs.List.{flat_map}
 use Rattle.vs_logic4.specs.declared.operators.Unary.{Unary}
 use Rattle.vs_logic4.specs.declared.operators.Unary.TheVariants as u
 use Rattle.vs_logic4.specs.declared.operators.Binary.{Binary}
@@ -13,7 +14,8 @@ use Rattle.vs_logic4.specs.declared.case.CaseKind.{CaseKind}
 use Rattle.vs_logic4.specs.declared.case.CaseKind.TheVariants as h
 use Rattle.vs_logic4.specs.declared.edge.Edge.{Edge}
 use Rattle.vs_logic4.specs.declared.edge.Edge.TheVariants as g
-use Rattle.vs_syntax.specs.Symbols.{Symbol, a_mark, a_word, a_name, a_number, a_cast}
+use Rattle.vs_tokens.specs.declared.token.ImplicitNet.{ImplicitNet}
+use Rattle.vs_syntax.specs.Symbols.{Symbol, a_mark, a_word, a_name, a_number, a_cast, a_nettype}
 use Rattle.vs_syntax.specs.Derivation.{Tree, empty, leaf, both, down}
 use Rattle.vs_syntax.specs.declared.tree.Expr.{Expr, Expr-F, fold-Expr}
 use Rattle.vs_syntax.specs.declared.tree.Expr.TheOpen as e
@@ -53,6 +55,12 @@ use Rattle.vs_syntax.specs.declared.tree.CaseLabel.{CaseLabel}
 use Rattle.vs_syntax.specs.declared.tree.CaseLabel.TheVariants as n
 use Rattle.vs_syntax.specs.declared.tree.Stmt.{Stmt, Stmt-F, fold-Stmt}
 use Rattle.vs_syntax.specs.declared.tree.Stmt.TheOpen as s
+use Rattle.vs_syntax.specs.declared.tree.Local.{Local}
+use Rattle.vs_syntax.specs.declared.tree.LocalDeclaration.{LocalDeclaration}
+use Rattle.vs_syntax.specs.declared.tree.LocalDeclaration.TheVariants as ld
+use Rattle.vs_syntax.specs.declared.tree.LoopHeader.{LoopHeader}
+use Rattle.vs_syntax.specs.declared.tree.ModuleItem.{ModuleItem, ModuleItem-F, fold-ModuleItem}
+use Rattle.vs_syntax.specs.declared.tree.ModuleItem.TheOpen as y
 use Rattle.vs_syntax.specs.declared.tree.Item.{Item}
 use Rattle.vs_syntax.specs.declared.tree.Item.TheVariants as i
 use Rattle.vs_syntax.specs.declared.tree.Module.{Module}
@@ -327,12 +335,30 @@ event_tree (v.Name n) = name_tree n.items
 event_tree (v.Terms x xs) =
     both (leaf (a_mark m.Open)) (closed_tree (both (event_expr_tree x) (row_of (map other_event_tree xs.items))))
 
+-- a name of a declaration of a named block
+abbrev pub local_tree : Local → Tree
+local_tree x = both (name_tree x.name.items) (range_tree x.words)
+
+-- a declaration of a named block
+abbrev pub local_declaration_tree : LocalDeclaration → Tree
+local_declaration_tree (ld.Reg f xs) = both (leaf (a_word w.Reg)) (both (form_tree f) (listed_tree (map local_tree xs.items)))
+local_declaration_tree (ld.Integer xs) = both (leaf (a_word w.Integer)) (listed_tree (map local_tree xs.items))
+
+-- the name of a block, and its declarations
+abbrev pub block_head_tree : List ℕ → List LocalDeclaration → Tree
+block_head_tree n xs = both (leaf (a_mark m.Colon)) (both (name_tree n) (row_of (map local_declaration_tree xs)))
+
+-- a block, by what stands before its statements, and these
+abbrev pub block_tree : Tree → List Tree → Tree
+block_tree x xs = down (both (leaf (a_word w.Begin)) (both x (both (row_of xs) (leaf (a_word w.End)))))
+
 -- a statement, where the trees of the inner ones stand in their place
 abbrev pub stmt_step : Stmt-F Tree → Tree
 stmt_step s.Null = down (both (leaf (a_mark m.Semicolon)) empty)
 stmt_step (s.Assign l x) = assigned_tree l m.Assign x
 stmt_step (s.Later l x) = assigned_tree l m.LessEqual x
-stmt_step (s.Block xs) = down (both (leaf (a_word w.Begin)) (both (row_of xs.items) (leaf (a_word w.End))))
+stmt_step (s.Block xs) = block_tree empty xs.items
+stmt_step (s.Named n ds xs) = block_tree (block_head_tree n.items ds.items) xs.items
 stmt_step (s.If c x o) = down (both (leaf (a_word w.If)) (guarded_tree (expr_tree c) (both x.value (else_tree o))))
 stmt_step (s.Case kind x items) =
     down (both (leaf (a_word (case_word kind))) (guarded_tree (expr_tree x) (case_items_tree items.items)))
@@ -394,7 +420,7 @@ port_form_tree (Some f) = both (leaf (a_word (direction_word f.direction))) (bot
 
 -- a port in the header of a module
 abbrev pub port_tree : Port → Tree
-port_tree p = both (port_form_tree p.form) (name_tree p.name.items)
+port_tree p = both (port_form_tree p.form) (both (name_tree p.name.items) (value_tree p.value))
 
 -- ports with commas between
 abbrev pub ports_tree : List Tree → Tree
@@ -432,6 +458,8 @@ instance_tree x = both (name_tree x.name.items) (both (leaf (a_mark m.Open)) (bo
 
 -- the symbol that an item begins with: its word, or the name of a module
 abbrev pub item_symbol : Item → Symbol
+item_symbol (i.Port f ns) = a_word (direction_word f.direction)
+item_symbol (i.Genvar ns) = a_word w.Genvar
 item_symbol (i.Wire f ds) = a_word w.Wire
 item_symbol (i.Reg f ds) = a_word w.Reg
 item_symbol (i.Integer ds) = a_word w.Integer
@@ -446,8 +474,14 @@ item_symbol (i.Always x) = a_word w.Always
 abbrev pub constants_tree : ParameterForm → List Constant → Tree
 constants_tree f xs = both (parameter_form_tree f) (listed_tree (map constant_tree xs))
 
+-- names alone
+abbrev pub bare_name_tree : Vec ℕ Global → Tree
+bare_name_tree n = name_tree n.items
+
 -- what stands behind the first symbol of an item
 abbrev pub body_tree : Item → Tree
+body_tree (i.Port f ns) = both (kind_tree f.kind) (both (form_tree f.form) (listed_tree (map bare_name_tree ns.items)))
+body_tree (i.Genvar ns) = listed_tree (map bare_name_tree ns.items)
 body_tree (i.Wire f ds) = declared_tree f ds.items
 body_tree (i.Reg f ds) = declared_tree f ds.items
 body_tree (i.Integer ds) = listed_tree (map declarator_tree ds.items)
@@ -462,6 +496,33 @@ body_tree (i.Always x) = stmt_tree x
 abbrev pub item_tree : Item → Tree
 item_tree x = down (both (leaf (item_symbol x)) (body_tree x))
 
+-- a name and its value, before a mark
+abbrev pub loop_tree : LoopHeader → Tree → Tree
+loop_tree h rest = both (leaf (a_mark m.Open)) (both (valued_tree h.name.items h.first) (semicolon_tree (both (expr_tree h.condition)
+    (semicolon_tree (both (valued_tree h.next.items h.step) (both (leaf (a_mark m.Close)) rest))))))
+
+-- the name of a generate block, where it has one
+abbrev pub block_name_tree : Option (Vec ℕ Global) → Tree
+block_name_tree None = empty
+block_name_tree (Some n) = both (leaf (a_mark m.Colon)) (name_tree n.items)
+
+-- a module item, where the trees of the inner ones stand in their place
+abbrev pub module_item_step : ModuleItem-F Tree → Tree
+module_item_step (y.Plain x) = item_tree x
+module_item_step (y.Region xs) = down (both (leaf (a_word w.Generate)) (both (row_of xs.items) (leaf (a_word w.Endgenerate))))
+module_item_step (y.For h x) = down (both (leaf (a_word w.For)) (loop_tree h x.value))
+module_item_step (y.If c x o) = down (both (leaf (a_word w.If)) (guarded_tree (expr_tree c) (both x.value (else_tree o))))
+module_item_step y.Null = leaf (a_mark m.Semicolon)
+module_item_step (y.Block n xs) = both (leaf (a_word w.Begin)) (both (block_name_tree n) (both (row_of xs.items) (leaf (a_word w.End))))
+
+-- an item of a module, or what a generate construct generates
+abbrev pub module_item_tree : ModuleItem → Tree
+module_item_tree = fold-ModuleItem Tree module_item_step
+
+-- a directive
+abbrev pub directive_tree : ImplicitNet → Tree
+directive_tree x = leaf (a_nettype x)
+
 -- the parts of a module's header behind its name
 abbrev pub header_tree : Module → Tree → Tree
 header_tree x rest = both (header_parameters_tree (map header_parameter_tree x.parameters.items))
@@ -470,8 +531,12 @@ header_tree x rest = both (header_parameters_tree (map header_parameter_tree x.p
 -- a module
 abbrev pub module_tree : Module → Tree
 module_tree x = both (leaf (a_word w.Module)) (both (name_tree x.name.items) (header_tree x
-    (both (leaf (a_mark m.Semicolon)) (both (row_of (map item_tree x.items.items)) (leaf (a_word w.Endmodule))))))
+    (both (leaf (a_mark m.Semicolon)) (both (row_of (map module_item_tree x.items.items)) (leaf (a_word w.Endmodule))))))
+
+-- a module behind its directives
+abbrev pub directed_trees : Module → List Tree
+directed_trees x = map directive_tree x.directives.items ++ module_tree x ∷ []
 
 -- a source
 abbrev pub source_tree : Source → Tree
-source_tree x = row_of (map module_tree x.modules.items)
+source_tree x = row_of (flat_map directed_trees x.modules.items ++ map directive_tree x.directives.items)

@@ -1,17 +1,21 @@
 //! The syntax tree.
-use vs_lexer::Literal;
+use vs_lexer::{ImplicitNet, Literal};
 use vs_logic4::{Binary, CaseKind, Edge, Unary};
 
-/// A source text: its modules, in the order of the text (IEEE 1364-2005, clause A.1.2).
+/// A source text: its modules and the directives between them, in the order of the text (IEEE 1364-2005, clauses A.1.2 and 19.2).
 #[derive(Drop)]
 pub struct Source {
     /// The modules.
     pub modules: Vec<Module>,
+    /// The directives behind the last module.
+    pub directives: Vec<ImplicitNet>,
 }
 
 /// A module (IEEE 1364-2005, clause 12.1).
 #[derive(Drop)]
 pub struct Module {
+    /// The directives between it and the module before it.
+    pub directives: Vec<ImplicitNet>,
     /// The bytes of its name; those of an escaped name without the backslash.
     pub name: Vec<u8>,
     /// The parameters in its header, in the order of the text; where there are none, it has no list of them (clause 12.2).
@@ -19,7 +23,7 @@ pub struct Module {
     /// Its ports, in the order of the text, where it has a list of them (clause 12.3.4).
     pub ports: Option<Vec<Port>>,
     /// Its items, in the order of the text.
-    pub items: Vec<Item>,
+    pub items: Vec<ModuleItem>,
 }
 
 /// What a declaration of parameters says of them (IEEE 1364-2005, clauses 4.10.1 and 12.2).
@@ -82,13 +86,16 @@ pub struct PortForm {
     pub form: Form,
 }
 
-/// A port of a module (IEEE 1364-2005, clause 12.3.4).
+/// A port in the header of a module (IEEE 1364-2005, clauses 12.3.2 to 12.3.4).
 #[derive(Drop)]
 pub struct Port {
-    /// What stands before its name; without that, what is said of the one before holds.
+    /// What stands before its name; without that, what is said of the one before holds. Where nothing is said of the first, the list is
+    /// one of names alone, and items of the module declare them.
     pub form: Option<PortForm>,
     /// The bytes of its name.
     pub name: Vec<u8>,
+    /// The right side of its declaration assignment, where it has one.
+    pub value: Option<Expr>,
 }
 
 /// A connection by name (IEEE 1364-2005, clauses 12.2.2.2 and 12.3.6).
@@ -156,9 +163,45 @@ pub struct NetAssignment {
     pub value: Expr,
 }
 
-/// An item of a module (IEEE 1364-2005, clause A.1.4).
+/// An item of a module, or what a generate construct generates (IEEE 1364-2005, clauses 12.4 and A.1.4).
+#[derive(Drop)]
+pub enum ModuleItem {
+    /// An item that is no generate construct.
+    Plain(Item),
+    /// `generate`, items and `endgenerate` (clause 12.4).
+    Region(Vec<ModuleItem>),
+    /// `for`: its header, and what each turn generates (clause 12.4.1).
+    For(LoopHeader, Box<ModuleItem>),
+    /// `if`: the condition, what is generated where it holds, and what stands behind `else`, where there is one (clause 12.4.2).
+    If(Expr, Box<ModuleItem>, Option<Box<ModuleItem>>),
+    /// `;` alone, behind a `for`, an `if` or an `else`.
+    Null,
+    /// `begin`, the bytes of a name, where it has one, items and `end`, behind a `for`, an `if` or an `else` (clause 12.4.3).
+    Block(Option<Vec<u8>>, Vec<ModuleItem>),
+}
+
+/// The header of a generate loop, `(name = first; condition; name = step)` (IEEE 1364-2005, clause 12.4.1).
+#[derive(Drop)]
+pub struct LoopHeader {
+    /// The bytes of the name that is given the first value.
+    pub name: Vec<u8>,
+    /// The first value.
+    pub first: Expr,
+    /// Whether there is a turn more.
+    pub condition: Expr,
+    /// The bytes of the name that is given the next value.
+    pub next: Vec<u8>,
+    /// The next value.
+    pub step: Expr,
+}
+
+/// An item of a module that is no generate construct (IEEE 1364-2005, clause A.1.4).
 #[derive(Drop)]
 pub enum Item {
+    /// `input` or `output`, what it says of the ports that it declares, and the bytes of their names, in the order of the text (clause 12.3.3).
+    Port(PortForm, Vec<Vec<u8>>),
+    /// `genvar` and the bytes of its names, in the order of the text (clause 12.4.1).
+    Genvar(Vec<Vec<u8>>),
     /// `wire`, what it says of its names, and they, in the order of the text (clause 4.2.1).
     Wire(Form, Vec<Declarator>),
     /// `reg`, what it says of its names, and they, in the order of the text (clause 4.2.2).
@@ -232,6 +275,24 @@ pub enum CaseLabel {
     Default(bool),
 }
 
+/// A declaration of variables of a named block (IEEE 1364-2005, clauses 9.8.3 and A.2.8).
+#[derive(Drop)]
+pub enum LocalDeclaration {
+    /// `reg`, what it says of its names, and they, in the order of the text.
+    Reg(Form, Vec<Local>),
+    /// `integer` and its names, in the order of the text.
+    Integer(Vec<Local>),
+}
+
+/// A name that a declaration of a named block declares (IEEE 1364-2005, clause A.2.8).
+#[derive(Drop)]
+pub struct Local {
+    /// The bytes of the name.
+    pub name: Vec<u8>,
+    /// The range of its words, where it is an array.
+    pub words: Option<Range>,
+}
+
 /// A statement (IEEE 1364-2005, clause A.6.4).
 #[derive(Drop)]
 pub enum Stmt {
@@ -243,6 +304,8 @@ pub enum Stmt {
     Later(Left, Expr),
     /// `begin`, statements and `end` (clause 9.8.1).
     Block(Vec<Stmt>),
+    /// `begin`, a colon and the bytes of a name, declarations, statements and `end` (clause 9.8.3).
+    Named(Vec<u8>, Vec<LocalDeclaration>, Vec<Stmt>),
     /// `if`: the condition, the statement behind it, and that behind `else`, where there is one (clause 9.4).
     If(Expr, Box<Stmt>, Option<Box<Stmt>>),
     /// `case`, `casez` or `casex`: the expression, and the items in the order of the text, of which there is at least one (clause 9.5).

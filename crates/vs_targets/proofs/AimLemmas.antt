@@ -21,7 +21,7 @@ use Rattle.vs_forms.specs.Each.{Each, each_none, each_more}
 use Rattle.vs_forms.specs.Senses.{sense, IsFitted}
 use Rattle.vs_selects.specs.declared.bindings.Meaning.{Meaning}
 use Rattle.vs_selects.specs.declared.bindings.Binding.{Binding}
-use Rattle.vs_selects.specs.declared.bindings.Binding.TheVariants.{Signal, Constant, Pending, Other}
+use Rattle.vs_selects.specs.declared.bindings.Binding.TheVariants.{Signal, Constant, Pending, Other, Genvar}
 use Rattle.vs_selects.specs.declared.faults.WidthReason.{WidthReason}
 use Rattle.vs_selects.specs.declared.faults.WidthReason.TheVariants.{Unknown, NotConstant, WrongKind}
 use Rattle.vs_selects.specs.declared.faults.WidthFault.{WidthFault}
@@ -119,6 +119,7 @@ module _ (r : WidthReason) where
   any_stands (Some (Constant c)) ss h = or_right (wrong_kind r) _ h
   any_stands (Some Pending) ss h = or_right (not_constant r) _ h
   any_stands (Some Other) ss h = or_right (wrong_kind r) _ h
+  any_stands (Some Genvar) ss h = or_right (wrong_kind r) _ h
 
 -- a fault of an expression of a select is one of the target
 pub selects_refused : (how : AssignmentKind) (b : Option Binding) (ss : List Select) (d : WidthFault) → Refuses (Lacks (λ r. list_any (stands_in r) ss)) d → Refuses (name_aimed how b ss).finding d
@@ -270,6 +271,7 @@ place_of_name how env name (Signal m k) ss x e w h = record {
 place_of_name how env name (Constant c) ss x e w h = let no : false ≡ true = h.taken in cc
 place_of_name how env name Pending ss x e w h = let no : false ≡ true = h.taken in cc
 place_of_name how env name Other ss x e w h = let no : false ≡ true = h.taken in cc
+place_of_name how env name Genvar ss x e w h = let no : false ≡ true = h.taken in cc
 
 sum_alone : (x : ℕ) → sum (x ∷ []) ≡ x
 sum_alone x = omega arith

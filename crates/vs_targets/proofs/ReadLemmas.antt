@@ -14,7 +14,7 @@ use Rattle.vs_design.specs.declared.signal.Bounds.{Bounds}
 use Rattle.vs_forms.specs.declared.shape.Shape.{Shape}
 use Rattle.vs_selects.specs.declared.bindings.Meaning.{Meaning}
 use Rattle.vs_selects.specs.declared.bindings.Binding.{Binding}
-use Rattle.vs_selects.specs.declared.bindings.Binding.TheVariants.{Signal, Constant, Pending, Other}
+use Rattle.vs_selects.specs.declared.bindings.Binding.TheVariants.{Signal, Constant, Pending, Other, Genvar}
 use Rattle.vs_selects.specs.Findings.{Finding, Has, Lacks}
 use Rattle.vs_selects.specs.Meants.{Meant}
 use Rattle.vs_selects.specs.Selects.{Select, select_span, span_of, Named, in_array, of_words, range_by, named_reads, select_meant}
@@ -98,6 +98,7 @@ module _ (test : ℕ → Bool) where
     name_within m (Some (Constant c)) h = refl
     name_within m (Some Pending) h = refl
     name_within m (Some Other) h = refl
+    name_within m (Some Genvar) h = refl
 
     chain_within : (first : Meant) (links : List ReadLink) → Within first.reads → Within (chain_meant first (map link_meant links)).reads
     chain_within first [] h = h
@@ -141,6 +142,7 @@ module _ (test : ℕ → Bool) where
     select_within m (Some (Constant c)) xs h k = refl
     select_within m (Some Pending) xs h k = refl
     select_within m (Some Other) xs h k = refl
+    select_within m (Some Genvar) xs h k = refl
 
     inner : (y : Expr-F ((e : Expr) × Reads e)) → Within (meant_step env (map-Expr Expr Meant (meant env) (map-Expr ((e : Expr) × Reads e) Expr bare y))).reads
     inner (f.Number l) = refl

@@ -14,7 +14,7 @@ use Rattle.vs_design.specs.Kinds.{is_variable}
 use Rattle.vs_design.specs.declared.range.BitRange.{BitRange}
 use Rattle.vs_design.specs.declared.signal.SignalKind.{SignalKind}
 use Rattle.vs_selects.specs.declared.bindings.Binding.{Binding}
-use Rattle.vs_selects.specs.declared.bindings.Binding.TheVariants.{Signal, Constant, Pending, Other}
+use Rattle.vs_selects.specs.declared.bindings.Binding.TheVariants.{Signal, Constant, Pending, Other, Genvar}
 use Rattle.vs_selects.specs.declared.faults.WidthReason.{WidthReason}
 use Rattle.vs_selects.specs.Environment.{Environment}
 use Rattle.vs_selects.specs.Findings.{Finding, Lacks, stands, wrong_kind, not_constant, together, beside}
@@ -47,6 +47,7 @@ takes_bound how (Some (Signal m signal)) = takes how m.kind
 takes_bound how (Some (Constant c)) = false
 takes_bound how (Some Pending) = false
 takes_bound how (Some Other) = false
+takes_bound how (Some Genvar) = false
 
 -- whether the target of an assignment of this kind may have indices that read this: of a continuous one, and of what an event control waits for,
 -- they are constant (clause 6.1; events: profile)

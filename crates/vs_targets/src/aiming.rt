@@ -14,7 +14,7 @@ use vs_design::{Aim, Target};
 use vs_forms::{Measured, fitted};
 use vs_selects::{Binding, Place, WidthFault, WidthReason, fixed, named, selection};
 use vs_syntax::PartSelect;
-use vs_widths::Names;
+use vs_widths::Levels;
 
 /// What a name with its selects names, as a place of a target.
 fn aim(alloc: Global, place: &Place) -> Result<Aim, AllocError>
@@ -52,6 +52,7 @@ fn takes_bound(how: AssignmentKind, binding: Binding) -> bool
         Binding::Constant(_) => false,
         Binding::Pending => false,
         Binding::Other => false,
+        Binding::Genvar => false,
     }
 }
 
@@ -91,7 +92,7 @@ fn alone(alloc: Global, aim: Aim) -> Result<Target, AllocFailed<Aim>>
 /// A name with selects as a target.
 pub fn named_target(
     alloc: Global,
-    names: &Names<Binding>,
+    names: &Levels,
     how: AssignmentKind,
     name: &[u8],
     selects: Vec<(Measured, Option<(PartSelect, Measured)>)>,

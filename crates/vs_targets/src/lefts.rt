@@ -11,14 +11,14 @@ use crate::aiming::named_target;
 use crate::kinds::AssignmentKind;
 use std::alloc::Global;
 use vs_design::Target;
-use vs_selects::{Binding, WidthFault, WidthReason};
+use vs_selects::{WidthFault, WidthReason};
 use vs_syntax::{Expr, Left};
-use vs_widths::{Names, measured_selects};
+use vs_widths::{Levels, measured_selects};
 
 /// What a left side means as a target of a design (IEEE 1364-2005, clauses 6.1 and 9.2).
 pub fn target(
     alloc: Global,
-    names: &Names<Binding>,
+    names: &Levels,
     how: AssignmentKind,
     left: &Left,
 ) -> Result<Target, WidthFault>
@@ -31,7 +31,7 @@ pub fn target(
 /// The target of a declaration assignment: a name alone (IEEE 1364-2005, clauses 6.1.1 and 6.2.1).
 pub fn name_target(
     alloc: Global,
-    names: &Names<Binding>,
+    names: &Levels,
     how: AssignmentKind,
     name: &[u8],
 ) -> Result<Target, WidthFault>
@@ -58,7 +58,7 @@ pub fn is_left(e: &Expr) -> bool
 /// What an expression with the form of a left side means as a target of a design (IEEE 1364-2005, clauses 6.1 and 12.3.9.2).
 pub fn expr_target(
     alloc: Global,
-    names: &Names<Binding>,
+    names: &Levels,
     how: AssignmentKind,
     e: &Expr,
 ) -> Result<Target, WidthFault>
@@ -86,7 +86,7 @@ fn are_left(es: &[Expr]) -> bool
 #[cycle(aim)]
 fn aim(
     alloc: Global,
-    names: &Names<Binding>,
+    names: &Levels,
     how: AssignmentKind,
     left: &Left,
 ) -> Result<Target, WidthFault>
@@ -108,7 +108,7 @@ fn aim(
 #[cycle(aim)]
 fn aim_parts(
     alloc: Global,
-    names: &Names<Binding>,
+    names: &Levels,
     how: AssignmentKind,
     first: Target,
     rest: &[Left],
@@ -128,7 +128,7 @@ fn aim_parts(
 #[cycle(aim_expr)]
 fn aim_expr(
     alloc: Global,
-    names: &Names<Binding>,
+    names: &Levels,
     how: AssignmentKind,
     e: &Expr,
 ) -> Result<Target, WidthFault>
@@ -153,7 +153,7 @@ fn aim_expr(
 #[cycle(aim_expr)]
 fn aim_exprs(
     alloc: Global,
-    names: &Names<Binding>,
+    names: &Levels,
     how: AssignmentKind,
     first: Target,
     rest: &[Expr],

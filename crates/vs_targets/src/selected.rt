@@ -10,14 +10,14 @@ use crate::aiming::named_target;
 use crate::kinds::AssignmentKind;
 use std::alloc::Global;
 use vs_design::Target;
-use vs_selects::{Binding, WidthFault};
+use vs_selects::WidthFault;
 use vs_syntax::{Expr, PartSelect};
-use vs_widths::{Names, measured_selects};
+use vs_widths::{Levels, measured_selects};
 
 /// A name with its selects as a target of a design (IEEE 1364-2005, clauses 6.1, 9.2 and 9.7.2).
 pub fn selected_target(
     alloc: Global,
-    names: &Names<Binding>,
+    names: &Levels,
     how: AssignmentKind,
     name: &[u8],
     selects: &[(Expr, Option<(PartSelect, Expr)>)],

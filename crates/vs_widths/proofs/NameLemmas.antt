@@ -1,5 +1,6 @@
 -- The map of names, seen by the names' bytes.
-use Rattle.std.proofs.Common.{◌≡◌, ℕ, true, false, cond, List, [], ◌∷◌, Option, Some, None, refl, ap, sym, subst, ◌∙◌, is_some, IsSome, true≢false}
+use Rattle.std.proofs.Common.{◌≡◌, ℕ, ◌+◌, ◌<◌, Bool, true, false, cond, List, [], ◌∷◌, ◌++◌, length, drop, get_or, Option, Some, None, refl, ap, sym, subst, ◌∙◌, is_some, IsSome, true≢false}
+use Rattle.std.proofs.lemmas.List.{at_drop_more}
 use Rattle.std.specs.Map.{lookup}
 use Rattle.std.specs.Str.{bytes_eq}
 use Rattle.std.specs.Borrow.{Bor}
@@ -7,7 +8,7 @@ use Rattle.std.specs.BTreeMap.{BTreeMap, get_by, UpdatesBy}
 use Rattle.std.specs.Ordering.{is_eq, nat_cmp}
 use Rattle.std.specs.Cmp.Lexicographic.{slice_cmp}
 use Rattle.std.proofs.lemmas.Map.Text.{is_eq-slice_cmp, btree_map_updates_str}
-use Rattle.vs_widths.specs.Names.{by_bytes, meaning_of, Binds, Declares}
+use Rattle.vs_widths.specs.Names.{by_bytes, meaning_of, nested_names, Binds, Declares}
 
 none_from_false : {A : Type 0} (o : Option A) → false ≡ is_some o → o ≡ None
 none_from_false None h = refl
@@ -45,3 +46,33 @@ module _ {V : Type 0} where
   pub finds : (m : BTreeMap (Bor (List ℕ)) V) (env : List (List ℕ × V)) (n : List ℕ) (o : Option V) → by_bytes m.entries ≡ env →
       o ≡ get_by (λ k. slice_cmp nat_cmp n k.now) m → o ≡ meaning_of env n
   finds m env n o e h = h ∙ found_by_bytes n m ∙ ap (λ s. meaning_of s n) e
+
+-- ---- names of scopes in scopes
+
+-- what is said here, or else there
+abbrev pub or_else : {V : Type 0} → Option V → Option V → Option V
+or_else None there = there
+or_else (Some v) there = Some v
+
+or_else_cond : {V : Type 0} (b : Bool) (v : V) (here there : Option V) → cond b (Some v) (or_else here there) ≡ or_else (cond b (Some v) here) there
+or_else_cond true v here there = refl
+or_else_cond false v here there = refl
+
+module _ {V : Type 0} where
+  -- a name is looked up in the first names, and then in the others
+  pub meaning_of_append : (own outer : List (List ℕ × V)) (n : List ℕ) → meaning_of (own ++ outer) n ≡ or_else (meaning_of own n) (meaning_of outer n)
+  meaning_of_append [] outer n = refl
+  meaning_of_append (e ∷ es) outer n =
+      ap (cond (bytes_eq n e.0) (Some e.1)) (meaning_of_append es outer n) ∙ or_else_cond (bytes_eq n e.0) e.1 (meaning_of es n) (meaning_of outer n)
+
+  pub found_own : (own outer : List (List ℕ × V)) (n : List ℕ) (o : Option V) (v : V) → o ≡ meaning_of own n → o ≡ Some v → Some v ≡ meaning_of (own ++ outer) n
+  found_own own outer n o v found is = sym (meaning_of_append own outer n ∙ ap (λ x. or_else x (meaning_of outer n)) (sym found ∙ is))
+
+  pub found_outward : (own outer : List (List ℕ × V)) (n : List ℕ) (o : Option V) → o ≡ meaning_of own n → o ≡ None → meaning_of (own ++ outer) n ≡ meaning_of outer n
+  found_outward own outer n o found is = meaning_of_append own outer n ∙ ap (λ x. or_else x (meaning_of outer n)) (sym found ∙ is)
+
+  -- the scopes from one on, where that is next
+  pub next_scope : (scopes : List (Bor (List (List ℕ × V)))) (i : ℕ) (scope : Bor (List (List ℕ × V))) (n : List ℕ) → i < length scopes →
+      scope ≡ get_or scopes i scope → meaning_of (nested_names (drop i scopes)) n ≡ meaning_of (scope.now ++ nested_names (drop (i + 1) scopes)) n
+  next_scope scopes i scope n below is =
+      at_drop_more (λ s. meaning_of (nested_names s) n) scopes i scope below ∙ ap (λ (s : Bor (List (List ℕ × V))). meaning_of (s.now ++ nested_names (drop (i + 1) scopes)) n) (sym is)

@@ -17,7 +17,7 @@ use Rattle.vs_forms.specs.declared.shape.Shape.{Shape}
 use Rattle.vs_forms.specs.declared.forms.Measured.{Measured}
 use Rattle.vs_selects.specs.declared.bindings.Meaning.{Meaning}
 use Rattle.vs_selects.specs.declared.bindings.Binding.{Binding}
-use Rattle.vs_selects.specs.declared.bindings.Binding.TheVariants.{Signal, Constant, Pending, Other}
+use Rattle.vs_selects.specs.declared.bindings.Binding.TheVariants.{Signal, Constant, Pending, Other, Genvar}
 use Rattle.vs_selects.specs.declared.faults.WidthReason.{WidthReason}
 use Rattle.vs_selects.specs.declared.faults.WidthFault.{WidthFault}
 use Rattle.vs_selects.specs.Environment.{Environment}
@@ -84,6 +84,7 @@ named_stands (Some (Signal y signal)) ss r h = words_stand y.words y signal ss r
 named_stands (Some (Constant c)) ss r h = or_right (wrong_kind r) (list_any (stands_in r) ss) h
 named_stands (Some Pending) ss r h = or_right (not_constant r) (list_any (stands_in r) ss) h
 named_stands (Some Other) ss r h = or_right (wrong_kind r) (list_any (stands_in r) ss) h
+named_stands (Some Genvar) ss r h = or_right (wrong_kind r) (list_any (stands_in r) ss) h
 
 any_in : {A B : Type 0} (f : A → B) (q : B → Bool) (xs : List A) (i : ℕ) (a : A) → i < length xs → a ≡ get_or xs i a → q (f a) ≡ true → list_any q (map f xs) ≡ true
 any_in f q [] i a h k l = absurd (omega arith)

@@ -22,7 +22,7 @@ use Rattle.vs_eval.specs.Values.{operand_value, chosen, concatenated}
 use Rattle.vs_forms.specs.Operations.{operated}
 use Rattle.vs_forms.specs.declared.shape.Shape.{Shape}
 use Rattle.vs_selects.specs.declared.bindings.Binding.{Binding}
-use Rattle.vs_selects.specs.declared.bindings.Binding.TheVariants.{Signal, Constant, Pending, Other}
+use Rattle.vs_selects.specs.declared.bindings.Binding.TheVariants.{Signal, Constant, Pending, Other, Genvar}
 use Rattle.vs_selects.specs.Environment.{Environment}
 use Rattle.vs_selects.specs.Findings.{Finding, Has, Lacks, unknown, wrong_kind, not_constant, together, alone, alike, linked_shape, second, beside, repeated, at_found}
 use Rattle.vs_selects.specs.Meants.{Meant, own}
@@ -43,6 +43,7 @@ name_finding (Some (Signal m signal)) = signal_finding m.words m.shape
 name_finding (Some (Constant c)) = Has (length c.value) c.signed
 name_finding (Some Pending) = Lacks not_constant
 name_finding (Some Other) = Lacks wrong_kind
+name_finding (Some Genvar) = Lacks wrong_kind
 
 -- what a name reads: the whole of its signal, and nothing where it has none
 abbrev pub name_reads : Option Binding → List BitRange

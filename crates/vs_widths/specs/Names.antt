@@ -1,5 +1,5 @@
 -- Names and what they mean.
-use Rattle.std.specs.Prelude.{◌≡◌, ℕ, Bool, true, false, List, Option, Some, None, IsSome, map}
+use Rattle.std.specs.Prelude.{◌≡◌, ℕ, Bool, true, false, List, [], ◌∷◌, ◌++◌, Option, Some, None, IsSome, map}
 use Rattle.std.specs.Map.{lookup, update}
 use Rattle.std.specs.Str.{bytes_eq}
 use Rattle.std.specs.Borrow.{Bor}
@@ -20,3 +20,8 @@ Binds old new n v = (k : List ℕ) → meaning_of new k ≡ update bytes_eq (mea
 abbrev pub Declares : {V : Type 0} → Bool → List (List ℕ × V) → List (List ℕ × V) → List ℕ → V → Type 0
 Declares true old new n v = (meaning_of old n ≡ None) × Binds old new n v
 Declares false old new n v = IsSome (meaning_of old n)
+
+-- the names of scopes, those of the first before the others'
+abbrev pub nested_names : {V : Type 0} → List (Bor (List (List ℕ × V))) → List (List ℕ × V)
+nested_names [] = []
+nested_names (names ∷ others) = names.now ++ nested_names others

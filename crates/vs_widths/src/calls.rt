@@ -7,17 +7,17 @@ ghost use Rattle.vs_selects.specs.Constants.{constant_finding};
 ghost use Rattle.vs_selects.specs.Findings.{Has, Refuses};
 ghost use Rattle.vs_widths.specs.Typing.{IsTyped, IsTypedAs, IsConstant, IsConstantAt};
 
+use crate::levels::Levels;
 use crate::measuring::{measured, of_name};
-use crate::names::Names;
 use std::alloc::Global;
 use vs_design::Typed;
 use vs_forms::{Shape, fitted};
 use vs_logic4::Vec4;
-use vs_selects::{Binding, Const, WidthFault, known};
+use vs_selects::{Const, WidthFault, known};
 use vs_syntax::Expr;
 
 /// The size and sign that an expression has by itself (IEEE 1364-2005, clauses 5.4.1 and 5.5.1).
-pub fn shape_of(alloc: Global, names: &Names<Binding>, e: &Expr) -> Result<Shape, WidthFault>
+pub fn shape_of(alloc: Global, names: &Levels, e: &Expr) -> Result<Shape, WidthFault>
     ensures shape { IfOk result (λ s. (meant (meaning_of names.now) e.now).finding ≡ Has s.width s.signed) }
     ensures fault { IfErr result (Refuses (meant (meaning_of names.now) e.now).finding) }
 {
@@ -25,12 +25,7 @@ pub fn shape_of(alloc: Global, names: &Names<Binding>, e: &Expr) -> Result<Shape
 }
 
 /// An expression at a size and a sign (IEEE 1364-2005, clauses 5.4 and 5.5).
-pub fn typed(
-    alloc: Global,
-    names: &Names<Binding>,
-    shape: Shape,
-    e: &Expr,
-) -> Result<Typed, WidthFault>
+pub fn typed(alloc: Global, names: &Levels, shape: Shape, e: &Expr) -> Result<Typed, WidthFault>
     ensures typed { IfOk result (IsTyped (meaning_of names.now) e.now shape.width shape.signed) }
     ensures fault { IfErr result (Refuses (meant (meaning_of names.now) e.now).finding) }
 {
@@ -39,7 +34,7 @@ pub fn typed(
 }
 
 /// The size and sign of what a name means (IEEE 1364-2005, clauses 12.2 and 12.7).
-pub fn shape_of_name(names: &Names<Binding>, name: &[u8]) -> Result<Shape, WidthFault>
+pub fn shape_of_name(names: &Levels, name: &[u8]) -> Result<Shape, WidthFault>
     ensures shape { IfOk result (λ s. (name_meant (meaning_of names.now name.now)).finding ≡ Has s.width s.signed) }
     ensures fault { IfErr result (Refuses (name_meant (meaning_of names.now name.now)).finding) }
     ensures memory { IfErr result (λ e. e ≡ Memory → ⊥) }
@@ -50,7 +45,7 @@ pub fn shape_of_name(names: &Names<Binding>, name: &[u8]) -> Result<Shape, Width
 /// What a name means, at a size and a sign (IEEE 1364-2005, clauses 12.2 and 12.7).
 pub fn typed_name(
     alloc: Global,
-    names: &Names<Binding>,
+    names: &Levels,
     shape: Shape,
     name: &[u8],
 ) -> Result<Typed, WidthFault>
@@ -62,7 +57,7 @@ pub fn typed_name(
 }
 
 /// The value that an expression has by itself, where it names no signal.
-pub fn constant(alloc: Global, names: &Names<Binding>, e: &Expr) -> Result<Const, WidthFault>
+pub fn constant(alloc: Global, names: &Levels, e: &Expr) -> Result<Const, WidthFault>
     ensures constant { IfOk result (IsConstant (meaning_of names.now) e.now) }
     ensures fault { IfErr result (Refuses (constant_finding (meant (meaning_of names.now) e.now))) }
 {
@@ -77,7 +72,7 @@ pub fn constant(alloc: Global, names: &Names<Binding>, e: &Expr) -> Result<Const
 /// The value that an expression has at a size and a sign, as on the right of an assignment, where it names no signal.
 pub fn constant_at(
     alloc: Global,
-    names: &Names<Binding>,
+    names: &Levels,
     shape: Shape,
     e: &Expr,
 ) -> Result<Vec4, WidthFault>

@@ -2,11 +2,13 @@
 #![tactic(auto)]
 
 mod calls;
+mod levels;
 mod linking;
 mod measuring;
 mod names;
 
 pub use calls::{constant, constant_at, shape_of, shape_of_name, typed, typed_name};
+pub use levels::Levels;
 pub use measuring::measured_selects;
 pub use names::Names;
 pub use vs_forms::Shape;

@@ -13,8 +13,8 @@ ghost use Rattle.vs_selects.specs.passes.Places.{selects_meaning, IsFlexibleSele
 ghost use Rattle.vs_widths.specs.passes.Forms.{links_meant, pairs_meant, AddsPair, AddsPart, AreJoined, Joins, Repeats};
 ghost use Rattle.vs_widths.specs.passes.Selects.{MeasuresSelects};
 
+use crate::levels::Levels;
 use crate::linking::{joined_shape, linked, own};
-use crate::names::Names;
 use std::alloc::{AllocError, Global};
 use vs_design::Count;
 use vs_forms::{BIT, Form, Measured, Shape};
@@ -28,7 +28,7 @@ const WRONG_KIND: WidthFault = WidthFault::Refused(WidthReason::WrongKind);
 
 /// An expression with its own size and sign, and those of its parts.
 #[cycle(measured)]
-pub fn measured(alloc: Global, names: &Names<Binding>, e: &Expr) -> Result<Measured, WidthFault>
+pub fn measured(alloc: Global, names: &Levels, e: &Expr) -> Result<Measured, WidthFault>
     ensures { Measures (meant (meaning_of names.now) e.now) result }
 {
     match e {
@@ -52,7 +52,7 @@ pub fn measured(alloc: Global, names: &Names<Binding>, e: &Expr) -> Result<Measu
 #[cycle(measured)]
 pub fn measured_selects(
     alloc: Global,
-    names: &Names<Binding>,
+    names: &Levels,
     selects: &[(Expr, Option<(PartSelect, Expr)>)],
 ) -> Result<Vec<(Measured, Option<(PartSelect, Measured)>)>, WidthFault>
     ensures { MeasuresSelects (meant_selects (meaning_of names.now) selects.now) result }
@@ -75,7 +75,7 @@ pub fn measured_selects(
 #[inline(never)]
 fn measured_unary(
     alloc: Global,
-    names: &Names<Binding>,
+    names: &Levels,
     operator: Unary,
     x: &Expr,
 ) -> Result<Measured, WidthFault>
@@ -90,7 +90,7 @@ fn measured_unary(
 #[inline(never)]
 fn measured_links(
     alloc: Global,
-    names: &Names<Binding>,
+    names: &Levels,
     first: &Expr,
     links: &[(Binary, Expr)],
 ) -> Result<Measured, WidthFault>
@@ -109,7 +109,7 @@ fn measured_links(
 #[inline(never)]
 fn measured_pairs(
     alloc: Global,
-    names: &Names<Binding>,
+    names: &Levels,
     pairs: &[(Expr, Expr)],
     last: &Expr,
 ) -> Result<Measured, WidthFault>
@@ -135,7 +135,7 @@ fn measured_pairs(
 #[inline(never)]
 fn measured_parts(
     alloc: Global,
-    names: &Names<Binding>,
+    names: &Levels,
     first: &Expr,
     rest: &[Expr],
 ) -> Result<Measured, WidthFault>
@@ -164,7 +164,7 @@ fn measured_parts(
 #[inline(never)]
 fn measured_concat(
     alloc: Global,
-    names: &Names<Binding>,
+    names: &Levels,
     first: &Expr,
     rest: &[Expr],
 ) -> Result<Measured, WidthFault>
@@ -179,7 +179,7 @@ fn measured_concat(
 #[inline(never)]
 fn measured_repeat(
     alloc: Global,
-    names: &Names<Binding>,
+    names: &Levels,
     count: &Expr,
     first: &Expr,
     rest: &[Expr],
@@ -196,7 +196,7 @@ fn measured_repeat(
 #[inline(never)]
 fn measured_times(
     alloc: Global,
-    names: &Names<Binding>,
+    names: &Levels,
     count: &Expr,
     parts: Measured,
 ) -> Result<Measured, WidthFault>
@@ -213,7 +213,7 @@ fn measured_times(
 #[inline(never)]
 fn measured_cast(
     alloc: Global,
-    names: &Names<Binding>,
+    names: &Levels,
     signed: bool,
     x: &Expr,
 ) -> Result<Measured, WidthFault>
@@ -304,6 +304,7 @@ pub fn of_name(binding: Option<Binding>) -> Result<Measured, WidthFault>
         Binding::Constant(constant) => Ok(of_digits(constant.value, constant.signed)),
         Binding::Pending => Err(WidthFault::Refused(WidthReason::NotConstant)),
         Binding::Other => Err(WRONG_KIND),
+        Binding::Genvar => Err(WRONG_KIND),
     }
 }
 

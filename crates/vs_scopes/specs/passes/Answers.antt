@@ -49,5 +49,5 @@ Grows {A} {B} {C} Old New Stands xs r =
     (start : C) (done : List A) → Old start done → MatchResult r (λ _. New start (done ++ xs)) (Told (Stands start (done ++ xs)))
 
 -- borrowed names, by their bytes
-abbrev pub borrowed : List (Bor (List ℕ)) → Path
+abbrev pub borrowed : List (Bor (List ℕ)) → List (List ℕ)
 borrowed names = map (λ n. n.now) names

@@ -1,11 +1,12 @@
-use Rattle.std.proofs.Common.{◌≡◌, List, ◌++◌, map, drop}
-use Rattle.vs_elaborate.specs.Members.{PortDriver, port_drivers, port_drivers_of}
-use Rattle.vs_elaborate.specs.passes.Plans.{scope_of, Connects}
+use Rattle.std.proofs.Common.{◌≡◌, List, map}
+use Rattle.vs_widths.specs.Names.{meaning_of}
+use Rattle.vs_scopes.specs.Scopes.{Scope}
 use Rattle.vs_scopes.specs.passes.Parts.{read_port, read_end}
-use Rattle.vs_scopes.proofs.AnswerLemmas.{Kept}
+use Rattle.vs_elaborate.specs.passes.Filling.{IsFrame, Connects}
+use Rattle.vs_bodies.specs.Members.{port_drivers}
+use Rattle.vs_elaborate.proofs.PortLemmas.{KeptTo}
 use Rattle.vs_elaborate.proofs.connecting.drive_ports.Given as goal
 
 abbrev pub invariant-loop-place : goal.invariant-loop-place
-invariant-loop-place l =
-    (done : List PortDriver) × (port_drivers_of (scope_of l.frame) ≡ done ++ port_drivers (map read_port (drop l.place l.frame.ports.items)) (map read_end (drop l.place l.frame.ends.items))) ×
-    Kept (Connects (scope_of l.frame) l.names l.fn.plan) (Connects (scope_of l.frame) l.names l.plan) done
+invariant-loop-place l = (ss : List Scope) (s : Scope) → IsFrame l.frame ss s → meaning_of l.outer ≡ s.outer →
+    KeptTo read_port read_end (port_drivers (map read_port l.ports) (map read_end l.ends)) l.ports l.ends (Connects s l.fn.contents) (Connects s l.contents) l.place

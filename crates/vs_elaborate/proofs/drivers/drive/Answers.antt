@@ -1,8 +1,13 @@
-use Rattle.std.proofs.Common.{refl, arith}
-use Rattle.vs_elaborate.specs.passes.Plans.{scope_of}
-use Rattle.vs_elaborate.proofs.PlanLemmas.{drives_push}
+use Rattle.std.proofs.Common.{[], ◌∷◌, ◌++◌, refl, arith}
+use Rattle.vs_scopes.proofs.AnswerLemmas.{told_part}
+use Rattle.vs_elaborate.specs.passes.Filling.{text_faults, DrivesNot}
+use Rattle.vs_elaborate.proofs.FillingLemmas.{drives_push, any_last}
 use Rattle.vs_elaborate.proofs.drivers.drive.Goals as goal
 
 pub returns-in_ok-push-in-Ok : goal.returns-in_ok-push-in-Ok
-returns-in_ok-push-in-Ok c names a e start done r =
-    drives_push (scope_of c.args.frame.now) names c.args.first c.saturating_sub-number.result c.args.plan.now _ start done _ _ c.in_ok-push-in-Ok.ensures.items refl (record { signals = refl; outline = refl; scopes = refl }) (omega (arith, c.saturating_sub-number.ensures, c.len.ensures, c.args.plan.now.assigns.ok.0)) (rw c.deref.ensures.value at c.in_ok-name-in-Ok.ensures) (rw c.in-Ok.is at e) r
+returns-in_ok-push-in-Ok c ss s a f e start done r =
+    drives_push s c.args.first c.saturating_sub-number.result c.args.contents.now _ start done a _ c.in_ok-push-in-Ok.ensures.items refl (omega (arith, c.saturating_sub-number.ensures, c.len.ensures, c.args.contents.now.assigns.ok.0)) (rw (c.deref.ensures.value, f.path) at c.in_ok-name-in-Ok.ensures) (rw c.in-Ok.is at e) r
+
+pub returns-in-Err : goal.returns-in-Err
+returns-in-Err c ss s a f e start done r =
+    told_part (DrivesNot s start (done ++ a ∷ [])) (λ r. text_faults s r a) s.path c.in-Err.fault c.part_fault.result (λ r u. (any_last (text_faults s r) done a u, refl)) (rw c.in-Err.is at e) (rw f.path at c.part_fault.ensures)

@@ -4,4 +4,4 @@ use Rattle.vs_elaborate.specs.passes.Marks.{Marks}
 use Rattle.vs_elaborate.proofs.source.check_drivers.Given as goal
 
 abbrev pub invariant-loop-assign : goal.invariant-loop-assign
-invariant-loop-assign l = Marks l.plan.signals.items (driven (take l.assign-index l.plan.assigns.items)) l.marks.items
+invariant-loop-assign l = Marks l.signals (driven (take l.assign-index l.assigns)) l.marks.items

@@ -7,7 +7,7 @@ use Rattle.vs_syntax.specs.Reading.{stuck_first, stuck_second}
 use Rattle.vs_expressions.specs.Answers.{seen}
 use Rattle.vs_expressions.proofs.Exits.{fails_by}
 use Rattle.vs_statements.specs.Lists.{behind_commas}
-use Rattle.vs_parser.proofs.Declarations.{present_stuck}
+use Rattle.vs_statements.proofs.Forms.{present_stuck}
 use Rattle.vs_parser.proofs.Headers as h
 use Rattle.vs_statements.proofs.Lists.{pushed_one}
 use Rattle.vs_parser.proofs.header.header_parameters.Goals as goal

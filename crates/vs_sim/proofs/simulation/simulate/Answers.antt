@@ -1,15 +1,11 @@
-use Rattle.std.proofs.Common.{◌≡◌, ap, subst, sym}
-use Rattle.vs_design.specs.Parts.{Parts}
 use Rattle.vs_process.specs.declared.moves.Grain.TheVariants.{Statement}
-use Rattle.vs_sim.specs.Honesty.{Defines}
 use Rattle.vs_sim.proofs.NameLemmas.{names_hold}
 use Rattle.vs_sim.proofs.simulation.simulate.Goals as goal
 
 pub returns-clause-honest : goal.returns-clause-honest
 returns-clause-honest g c =
-    let d = c.in_ok-kernel.kernel.design in
-    let same : d ≡ c.in_ok-design.design = ap (λ k. k.design) c.in_ok-kernel.ensures in
-    let defined = subst (λ (x : Parts). Defines c.args.source.now c.args.top.now x) (sym same) c.in_ok-design.ensures in
+    let d = c.in_ok-design.design in
+    let defined = c.in_ok-design.ensures in
     let ran = c.in_ok-outcome.ensures.ran in
     let names = names_hold c.names_of_one_line.ensures c.names_are_tokens.ensures c.names_of_one_line-2.ensures c.args.source.now c.args.top.now d defined in
     record {

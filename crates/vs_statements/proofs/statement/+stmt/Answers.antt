@@ -1,7 +1,7 @@
 use Rattle.std.proofs.Common.{sym, ◌∙◌, refl, arith}
 use Rattle.std.proofs.lemmas.Result.{err_from_is_err_and}
 use Rattle.vs_tokens.specs.declared.token.Word.TheVariants as w
-use Rattle.vs_syntax.specs.Grammar.{◌·◌, part, many, word, guarded, branches, case_items, for_parts, delay, event, a_stmt, a_case_item}
+use Rattle.vs_syntax.specs.Grammar.{◌·◌, part, many, word, block_head, guarded, branches, case_items, for_parts, delay, event, a_stmt, a_case_item}
 use Rattle.vs_syntax.specs.Views.{stmt_tree}
 use Rattle.vs_syntax.specs.Reading.{stuck_here, stuck_first, stuck_second}
 use Rattle.vs_syntax.proofs.Gets.{gets_seq, gets_stop, gets_absent}
@@ -10,8 +10,8 @@ use Rattle.vs_expressions.proofs.Exits.{fails_by}
 use Rattle.vs_expressions.proofs.Rows.{along_push, shorter, all_read}
 use Rattle.vs_statements.specs.Parts.{labelled_stmt_tree}
 use Rattle.vs_statements.proofs.Heads.{head_goes, head_deep}
-use Rattle.vs_statements.proofs.Statements.{null_read, word_stmt, word_is, word_room, begins_of, row_stuck, otherwise, else_stuck, else_read, items_none, item_stuck, items_read}
-use Rattle.vs_statements.proofs.Trees.{tree_Block, tree_If, tree_Case, tree_For, tree_While, tree_Repeat, tree_Forever, tree_Delay, tree_Event}
+use Rattle.vs_statements.proofs.Statements.{null_read, word_stmt, word_is, word_room, begins_of, block_body, row_stuck, otherwise, else_stuck, else_read, items_none, item_stuck, items_read}
+use Rattle.vs_statements.proofs.Trees.{tree_If, tree_Case, tree_For, tree_While, tree_Repeat, tree_Forever, tree_Delay, tree_Event}
 use Rattle.vs_statements.proofs.statement.+stmt.Goals as goal
 
 pub stmt-returns-in_default : goal.stmt-returns-in_default
@@ -67,11 +67,18 @@ boxed-returns-in_err-inner t c =
 pub boxed-returns : goal.boxed-returns
 boxed-returns t c = rw (c.in_ok-tree.ensures.ok) c.in_ok-inner.ensures
 
+pub block-returns-in_err-naming : goal.block-returns-in_err-naming
+block-returns-in_err-naming t c =
+    let p = err_from_is_err_and c.from_residual.result c.from_residual.ensures.1 in
+    rw (p.1, p.2) (fails_by block_head block_body c.args.room c.args.room (seen c.args.tokens.now) (seen c.args.tokens.now)
+    (λ deep at s. stuck_first s)
+    c.in_err-naming.field-0.0 c.in_err-naming.ensures)
+
 pub block-returns-in_err-inner : goal.block-returns-in_err-inner
 block-returns-in_err-inner t c =
-    let p = err_from_is_err_and c.from_residual.result c.from_residual.ensures.1 in
-    rw (p.1, p.2) (fails_by (part a_stmt) (many (part a_stmt) · word w.End) c.args.room c.args.room (seen c.loop-head.rest.now) (seen c.args.tokens.now)
-    (λ deep at s. stuck_first (c.loop-head.invariant.along.stops deep at (row_stuck c.args.room deep _ at (head_goes _ _ c.in-Some.head c.in-Some.ensures) s)))
+    let p = err_from_is_err_and c.from_residual-in_err-inner.result c.from_residual-in_err-inner.ensures.1 in
+    rw (p.1, p.2) (fails_by (part a_stmt) block_body c.args.room c.args.room (seen c.loop-head.rest.now) (seen c.args.tokens.now)
+    (λ deep at s. stuck_second c.in_ok-naming.ensures (stuck_first (c.loop-head.invariant.along.stops deep at (row_stuck c.args.room deep _ at (head_goes _ _ c.in-Some.head c.in-Some.ensures) s))))
     c.in_err-inner.field-0.0 c.in_err-inner.ensures)
 
 pub block-loop-head-smaller : goal.block-loop-head-smaller
@@ -85,12 +92,12 @@ block-loop-head-preserved t c = record {
 pub block-returns-in_err-behind : goal.block-returns-in_err-behind
 block-returns-in_err-behind t c =
     let p = err_from_is_err_and c.from_residual-in_err-behind.result c.from_residual-in_err-behind.ensures.1 in
-    rw (p.1, p.2) (fails_by (word w.End) (many (part a_stmt) · word w.End) c.args.room c.args.room (seen c.loop-head.rest.now) (seen c.args.tokens.now)
-    (λ deep at s. stuck_second (c.loop-head.invariant.along.reads _ _ (gets_stop c.in_default.ensures)) s)
+    rw (p.1, p.2) (fails_by (word w.End) block_body c.args.room c.args.room (seen c.loop-head.rest.now) (seen c.args.tokens.now)
+    (λ deep at s. stuck_second c.in_ok-naming.ensures (stuck_second (c.loop-head.invariant.along.reads _ _ (gets_stop c.in_default.ensures)) s))
     c.in_err-behind.field-0.0 (c.in_err-behind.ensures c.args.room))
 
 pub block-returns : goal.block-returns
-block-returns t c = record { inner = _; whole = tree_Block _; gets = gets_seq (all_read (part a_stmt) c.args.room _ _ _ _ c.loop-head.invariant.along (gets_stop c.in_default.ensures)) (c.in_ok-behind.ensures c.args.room) }
+block-returns t c = record { inner = _; whole = c.named.ensures; gets = gets_seq c.in_ok-naming.ensures (gets_seq (all_read (part a_stmt) c.args.room _ _ _ _ c.loop-head.invariant.along (gets_stop c.in_default.ensures)) (c.in_ok-behind.ensures c.args.room)) }
 
 pub conditional-returns-in_err-condition : goal.conditional-returns-in_err-condition
 conditional-returns-in_err-condition t c =

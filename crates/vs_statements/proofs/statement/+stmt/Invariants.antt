@@ -59,7 +59,7 @@ decreases-event_stmt l = 8 * l.room + 4
 
 abbrev pub invariant-block-loop-head : goal.invariant-block-loop-head
 invariant-block-loop-head l = record {
-  along : Along (part a_stmt) l.room (seen l.tokens) (seen l.rest) (map stmt_tree l.tree.items);
+  along : Along (part a_stmt) l.room (seen l.naming.rest.now) (seen l.rest) (map stmt_tree l.tree.items);
 }
 
 abbrev pub decreases-block-loop-head : goal.decreases-block-loop-head

@@ -1,0 +1,295 @@
+use Rattle.std.proofs.Common.{[], ◌∷◌, ◌++◌, ap, length, sym, arith, ◌≡◌, ◌<◌}
+use Rattle.std.proofs.lemmas.Result.{err_from_is_err_and}
+use Rattle.vs_pieces.specs.Pieces.{NamedBlock}
+use Rattle.vs_syntax.specs.declared.tree.Stmt.{size-Stmt}
+use Rattle.vs_syntax.specs.declared.tree.Stmt.TheVariants as s
+use Rattle.vs_scopes.specs.Printed.{plainly}
+use Rattle.vs_bodies.proofs.BlockLemmas.{got, placed_inside, site_inside, names_at, inside_free, inside_fails, below_deeper}
+use Rattle.vs_bodies.proofs.DepthLemmas.{items_depth, items_falls}
+use Rattle.vs_bodies.proofs.StatementLemmas.{assign_refused, begin_refused, behind_overfull, behind_refused, block_refused, case_overfull, case_refused_by, delay_inner, delay_refused, else_refused, event_inner, event_refused, forever_inner, if_refused, item_refused, items_refused, label_refused, later_refused, listed_all, listed_more, listed_none, named_refused, null_refused, otherwise_none, otherwise_some, repeat_inner, repeat_refused, stated_all, stated_more, stated_none, statement_refused, states_Assign, states_Block, states_Case, states_Delay, states_Event, states_For, states_Forever, states_If, states_Later, states_Named, states_Null, states_Repeat, states_While, states_behind, step_refused, test_refused, then_refused, turn_refused, while_inner, while_refused}
+use Rattle.vs_bodies.proofs.statements.+statement.Goals as goal
+
+pub statement-returns-in_ok-number-in-Null-clause-answer : goal.statement-returns-in_ok-number-in-Null-clause-answer
+statement-returns-in_ok-number-in-Null-clause-answer t c envs p v =
+    rw c.in-Null.is (states_Null c.args.view.now.list.now envs p c.args.next.now c.in_ok-number-in-Null.number _ c.in_ok-number-in-Null.ensures)
+
+pub statement-returns-in_err-number-in-Null-clause-answer : goal.statement-returns-in_err-number-in-Null-clause-answer
+statement-returns-in_err-number-in-Null-clause-answer t c envs p v =
+    let q = err_from_is_err_and c.from_residual.result c.from_residual.ensures.1 in
+    rw (q.1, q.2, c.in-Null.is) (null_refused c.args.view.now.list.now envs p c.args.next.now c.in_err-number-in-Null.field-0.0 c.in_err-number-in-Null.ensures)
+
+pub statement-returns-in_ok-number-in-Assign-clause-answer : goal.statement-returns-in_ok-number-in-Assign-clause-answer
+statement-returns-in_ok-number-in-Assign-clause-answer t c envs p v =
+    rw c.in-Assign.is (states_Assign c.args.view.now.list.now envs p c.args.next.now c.in_ok-number-in-Assign.number _ c.in-Assign.left c.in-Assign.e c.in_ok-number-in-Assign.target c.in_ok-number-in-Assign.source (c.in_ok-number-in-Assign.ensures.answer envs p v))
+
+pub statement-returns-in_err-number-in-Assign-clause-answer : goal.statement-returns-in_err-number-in-Assign-clause-answer
+statement-returns-in_err-number-in-Assign-clause-answer t c envs p v =
+    let q = err_from_is_err_and c.from_residual-in_err-number-in-Assign.result c.from_residual-in_err-number-in-Assign.ensures.1 in
+    rw (q.1, q.2, c.in-Assign.is) (assign_refused c.args.view.now.list.now envs p c.args.next.now c.in-Assign.left c.in-Assign.e c.in_err-number-in-Assign.field-0.0 (c.in_err-number-in-Assign.ensures.answer envs p v))
+
+pub statement-returns-in_ok-number-in-Later-clause-answer : goal.statement-returns-in_ok-number-in-Later-clause-answer
+statement-returns-in_ok-number-in-Later-clause-answer t c envs p v =
+    rw c.in-Later.is (states_Later c.args.view.now.list.now envs p c.args.next.now c.in_ok-number-in-Later.number _ c.in-Later.left c.in-Later.e c.in_ok-number-in-Later.target c.in_ok-number-in-Later.source (c.in_ok-number-in-Later.ensures.answer envs p v))
+
+pub statement-returns-in_err-number-in-Later-clause-answer : goal.statement-returns-in_err-number-in-Later-clause-answer
+statement-returns-in_err-number-in-Later-clause-answer t c envs p v =
+    let q = err_from_is_err_and c.from_residual-in_err-number-in-Later.result c.from_residual-in_err-number-in-Later.ensures.1 in
+    rw (q.1, q.2, c.in-Later.is) (later_refused c.args.view.now.list.now envs p c.args.next.now c.in-Later.left c.in-Later.e c.in_err-number-in-Later.field-0.0 (c.in_err-number-in-Later.ensures.answer envs p v))
+
+pub statement-returns-in_ok-inner-in-Block-clause-answer : goal.statement-returns-in_ok-inner-in-Block-clause-answer
+statement-returns-in_ok-inner-in-Block-clause-answer t c envs p v =
+    rw c.in-Block.is (states_Block c.args.view.now.list.now envs p c.args.next.now _ c.in-Block.inner _ c.in_ok-inner-in-Block.inner c.deref.ensures.value (c.in_ok-inner-in-Block.ensures.answer envs p v))
+
+pub statement-returns-in_err-inner-in-Block-clause-answer : goal.statement-returns-in_err-inner-in-Block-clause-answer
+statement-returns-in_err-inner-in-Block-clause-answer t c envs p v =
+    let q = err_from_is_err_and c.from_residual-in_err-inner-in-Block.result c.from_residual-in_err-inner-in-Block.ensures.1 in
+    rw (q.1, q.2, c.in-Block.is) (block_refused c.args.view.now.list.now envs p c.args.next.now c.in-Block.inner _ c.in_err-inner-in-Block.field-0.0 c.deref.ensures.value (c.in_err-inner-in-Block.ensures.answer envs p v))
+
+pub statement-returns-in_ok-inner-in-Named-clause-answer : goal.statement-returns-in_ok-inner-in-Named-clause-answer
+statement-returns-in_ok-inner-in-Named-clause-answer t c envs p v =
+    rw c.in-Named.is (states_Named c.args.view.now.list.now envs p c.args.next.now _ c.in-Named.name c.in-Named.field-1 c.in-Named.inner _ _ c.in_ok-inner-in-Named.inner c.deref-in-Named.ensures.value c.deref-in-Named-2.ensures.value (c.in_ok-inner-in-Named.ensures.answer envs p c.in-Named.field-1.items v))
+
+pub statement-returns-in_err-inner-in-Named-clause-answer : goal.statement-returns-in_err-inner-in-Named-clause-answer
+statement-returns-in_err-inner-in-Named-clause-answer t c envs p v =
+    let q = err_from_is_err_and c.from_residual-in_err-inner-in-Named.result c.from_residual-in_err-inner-in-Named.ensures.1 in
+    rw (q.1, q.2, c.in-Named.is) (named_refused c.args.view.now.list.now envs p c.args.next.now c.in-Named.name c.in-Named.field-1 c.in-Named.inner _ _ c.in_err-inner-in-Named.field-0.0 c.deref-in-Named.ensures.value c.deref-in-Named-2.ensures.value (c.in_err-inner-in-Named.ensures.answer envs p c.in-Named.field-1.items v))
+
+pub statement-returns-in_err-number-in-If-clause-answer : goal.statement-returns-in_err-number-in-If-clause-answer
+statement-returns-in_err-number-in-If-clause-answer t c envs p v =
+    let q = err_from_is_err_and c.from_residual-in_err-number-in-If.result c.from_residual-in_err-number-in-If.ensures.1 in
+    rw (q.1, q.2, c.in-If.is) (then_refused c.args.view.now.list.now envs p c.args.next.now c.in-If.e c.in-If.x c.in-If.other _ c.in_err-number-in-If.field-0.0 c.deref-in-If.ensures (c.in_err-number-in-If.ensures.answer envs p v))
+
+pub statement-returns-in_err-other-in-If-clause-answer : goal.statement-returns-in_err-other-in-If-clause-answer
+statement-returns-in_err-other-in-If-clause-answer t c envs p v =
+    let q = err_from_is_err_and c.from_residual-in_err-other-in-If.result c.from_residual-in_err-other-in-If.ensures.1 in
+    rw (q.1, q.2, c.in-If.is) (else_refused c.args.view.now.list.now envs p c.args.next.now _ c.in-If.e c.in-If.x c.in-If.other _ c.in_err-other-in-If.field-0.0 c.deref-in-If.ensures (c.in_ok-number-in-If.ensures.answer envs p v).1.1.next_is (c.in_err-other-in-If.ensures.answer envs p v))
+
+pub statement-returns-in_err-condition-in-If-clause-answer : goal.statement-returns-in_err-condition-in-If-clause-answer
+statement-returns-in_err-condition-in-If-clause-answer t c envs p v =
+    let q = err_from_is_err_and c.from_residual-in_err-condition-in-If.result c.from_residual-in_err-condition-in-If.ensures.1 in
+    rw (q.1, q.2, c.in-If.is) (if_refused c.args.view.now.list.now envs p c.args.next.now c.in-If.e c.in-If.x c.in-If.other c.in_err-condition-in-If.field-0.0 (rw v.names at c.in_err-condition-in-If.ensures))
+
+pub statement-returns-in_ok-second-in-If-clause-answer : goal.statement-returns-in_ok-second-in-If-clause-answer
+statement-returns-in_ok-second-in-If-clause-answer t c envs p v =
+    rw c.in-If.is (states_If c.args.view.now.list.now envs p c.args.next.now c.in_ok-number-in-If.number _ _ c.in-If.e _ c.in_ok-condition-in-If.condition c.in-If.x c.in-If.other c.in_ok-first-in-If.first c.in_ok-second-in-If.second _ c.in_ok-number-in-If.then c.in_ok-other-in-If.other (c.in_ok-number-in-If.ensures.answer envs p v) (c.in_ok-other-in-If.ensures.answer envs p v) (rw v.names at c.in_ok-condition-in-If.ensures) c.deref-in-If.ensures c.in_ok-first-in-If.ensures.ok c.in_ok-second-in-If.ensures.ok)
+
+pub statement-returns-in_err-number-in-While-clause-answer : goal.statement-returns-in_err-number-in-While-clause-answer
+statement-returns-in_err-number-in-While-clause-answer t c envs p v =
+    let q = err_from_is_err_and c.from_residual-in_err-number-in-While.result c.from_residual-in_err-number-in-While.ensures.1 in
+    rw (q.1, q.2, c.in-While.is) (while_inner c.args.view.now.list.now envs p c.args.next.now c.in-While.x _ c.deref-in-While.ensures c.in-While.e c.in_err-number-in-While.field-0.0 (c.in_err-number-in-While.ensures.answer envs p v))
+
+pub statement-returns-in_err-condition-in-While-clause-answer : goal.statement-returns-in_err-condition-in-While-clause-answer
+statement-returns-in_err-condition-in-While-clause-answer t c envs p v =
+    let q = err_from_is_err_and c.from_residual-in_err-condition-in-While.result c.from_residual-in_err-condition-in-While.ensures.1 in
+    rw (q.1, q.2, c.in-While.is) (while_refused c.args.view.now.list.now envs p c.args.next.now c.in-While.x c.in-While.e c.in_err-condition-in-While.field-0.0 (rw v.names at c.in_err-condition-in-While.ensures))
+
+pub statement-returns-in_ok-new-in-While-clause-answer : goal.statement-returns-in_ok-new-in-While-clause-answer
+statement-returns-in_ok-new-in-While-clause-answer t c envs p v =
+    rw c.in-While.is (states_While c.args.view.now.list.now envs p c.args.next.now c.in_ok-number-in-While.number _ c.in-While.x c.in_ok-new-in-While.field-0 _ c.in_ok-number-in-While.body (c.in_ok-number-in-While.ensures.answer envs p v) c.deref-in-While.ensures c.in_ok-new-in-While.ensures.ok c.in-While.e _ c.in_ok-condition-in-While.condition (rw v.names at c.in_ok-condition-in-While.ensures))
+
+pub statement-returns-in_err-number-in-Repeat-clause-answer : goal.statement-returns-in_err-number-in-Repeat-clause-answer
+statement-returns-in_err-number-in-Repeat-clause-answer t c envs p v =
+    let q = err_from_is_err_and c.from_residual-in_err-number-in-Repeat.result c.from_residual-in_err-number-in-Repeat.ensures.1 in
+    rw (q.1, q.2, c.in-Repeat.is) (repeat_inner c.args.view.now.list.now envs p c.args.next.now c.in-Repeat.x _ c.deref-in-Repeat.ensures c.in-Repeat.e c.in_err-number-in-Repeat.field-0.0 (c.in_err-number-in-Repeat.ensures.answer envs p v))
+
+pub statement-returns-in_err-signed-in-Repeat-clause-answer : goal.statement-returns-in_err-signed-in-Repeat-clause-answer
+statement-returns-in_err-signed-in-Repeat-clause-answer t c envs p v =
+    let q = err_from_is_err_and c.from_residual-in_err-signed-in-Repeat.result c.from_residual-in_err-signed-in-Repeat.ensures.1 in
+    rw (q.1, q.2, c.in-Repeat.is) (repeat_refused c.args.view.now.list.now envs p c.args.next.now c.in-Repeat.x c.in-Repeat.e c.in_err-signed-in-Repeat.field-0.0 (rw v.names at c.in_err-signed-in-Repeat.ensures))
+
+pub statement-returns-in_ok-new-in-Repeat-clause-answer : goal.statement-returns-in_ok-new-in-Repeat-clause-answer
+statement-returns-in_ok-new-in-Repeat-clause-answer t c envs p v =
+    rw c.in-Repeat.is (states_Repeat c.args.view.now.list.now envs p c.args.next.now c.in_ok-number-in-Repeat.number _ c.in-Repeat.x c.in_ok-new-in-Repeat.field-0 _ c.in_ok-number-in-Repeat.body (c.in_ok-number-in-Repeat.ensures.answer envs p v) c.deref-in-Repeat.ensures c.in_ok-new-in-Repeat.ensures.ok c.in-Repeat.e c.in_ok-signed-in-Repeat.signed c.in_ok-signed-in-Repeat.count (rw v.names at c.in_ok-signed-in-Repeat.ensures))
+
+pub statement-returns-in_err-number-in-Forever-clause-answer : goal.statement-returns-in_err-number-in-Forever-clause-answer
+statement-returns-in_err-number-in-Forever-clause-answer t c envs p v =
+    let q = err_from_is_err_and c.from_residual-in_err-number-in-Forever.result c.from_residual-in_err-number-in-Forever.ensures.1 in
+    rw (q.1, q.2, c.in-Forever.is) (forever_inner c.args.view.now.list.now envs p c.args.next.now c.in-Forever.x _ c.deref-in-Forever.ensures c.in_err-number-in-Forever.field-0.0 (c.in_err-number-in-Forever.ensures.answer envs p v))
+
+pub statement-returns-in_ok-new-in-Forever-clause-answer : goal.statement-returns-in_ok-new-in-Forever-clause-answer
+statement-returns-in_ok-new-in-Forever-clause-answer t c envs p v =
+    rw c.in-Forever.is (states_Forever c.args.view.now.list.now envs p c.args.next.now c.in_ok-number-in-Forever.number _ c.in-Forever.x c.in_ok-new-in-Forever.field-0 _ c.in_ok-number-in-Forever.body (c.in_ok-number-in-Forever.ensures.answer envs p v) c.deref-in-Forever.ensures c.in_ok-new-in-Forever.ensures.ok)
+
+pub statement-returns-in_err-number-in-Delay-clause-answer : goal.statement-returns-in_err-number-in-Delay-clause-answer
+statement-returns-in_err-number-in-Delay-clause-answer t c envs p v =
+    let q = err_from_is_err_and c.from_residual-in_err-number-in-Delay.result c.from_residual-in_err-number-in-Delay.ensures.1 in
+    rw (q.1, q.2, c.in-Delay.is) (delay_inner c.args.view.now.list.now envs p c.args.next.now c.in-Delay.x _ c.deref-in-Delay.ensures c.in-Delay.value c.in_err-number-in-Delay.field-0.0 (c.in_err-number-in-Delay.ensures.answer envs p v))
+
+pub statement-returns-in_err-ticks-in-Delay-clause-answer : goal.statement-returns-in_err-ticks-in-Delay-clause-answer
+statement-returns-in_err-ticks-in-Delay-clause-answer t c envs p v =
+    let q = err_from_is_err_and c.from_residual-in_err-ticks-in-Delay.result c.from_residual-in_err-ticks-in-Delay.ensures.1 in
+    rw (q.1, q.2, c.in-Delay.is) (delay_refused c.args.view.now.list.now envs p c.args.next.now c.in-Delay.x c.in-Delay.value c.in_err-ticks-in-Delay.field-0.0 (rw v.names at c.in_err-ticks-in-Delay.ensures))
+
+pub statement-returns-in_ok-new-in-Delay-clause-answer : goal.statement-returns-in_ok-new-in-Delay-clause-answer
+statement-returns-in_ok-new-in-Delay-clause-answer t c envs p v =
+    rw c.in-Delay.is (states_Delay c.args.view.now.list.now envs p c.args.next.now c.in_ok-number-in-Delay.number _ c.in-Delay.x c.in_ok-new-in-Delay.field-0 _ c.in_ok-number-in-Delay.body (c.in_ok-number-in-Delay.ensures.answer envs p v) c.deref-in-Delay.ensures c.in_ok-new-in-Delay.ensures.ok c.in-Delay.value c.in_ok-ticks-in-Delay.ticks (rw v.names at c.in_ok-ticks-in-Delay.ensures))
+
+pub statement-returns-in_err-number-in-Event-clause-answer : goal.statement-returns-in_err-number-in-Event-clause-answer
+statement-returns-in_err-number-in-Event-clause-answer t c envs p v =
+    let q = err_from_is_err_and c.from_residual-in_err-number-in-Event.result c.from_residual-in_err-number-in-Event.ensures.1 in
+    rw (q.1, q.2, c.in-Event.is) (event_inner c.args.view.now.list.now envs p c.args.next.now c.in-Event.x _ c.deref-in-Event.ensures c.in-Event.control c.in_err-number-in-Event.field-0.0 (c.in_err-number-in-Event.ensures.answer envs p v))
+
+pub statement-returns-in_err-terms-in-Event-clause-answer : goal.statement-returns-in_err-terms-in-Event-clause-answer
+statement-returns-in_err-terms-in-Event-clause-answer t c envs p v =
+    let q = err_from_is_err_and c.from_residual-in_err-terms-in-Event.result c.from_residual-in_err-terms-in-Event.ensures.1 in
+    rw (q.1, q.2, c.in-Event.is) (event_refused c.args.view.now.list.now envs p c.args.next.now c.in-Event.x c.in-Event.control c.in_err-terms-in-Event.field-0.0 (rw v.names at c.in_err-terms-in-Event.ensures))
+
+pub statement-returns-in_ok-new-in-Event-clause-answer : goal.statement-returns-in_ok-new-in-Event-clause-answer
+statement-returns-in_ok-new-in-Event-clause-answer t c envs p v =
+    rw c.in-Event.is (states_Event c.args.view.now.list.now envs p c.args.next.now c.in_ok-number-in-Event.number _ c.in-Event.x c.in_ok-new-in-Event.field-0 _ c.in_ok-number-in-Event.body (c.in_ok-number-in-Event.ensures.answer envs p v) c.deref-in-Event.ensures c.in_ok-new-in-Event.ensures.ok c.in-Event.control c.in_ok-terms-in-Event.terms (rw v.names at c.in_ok-terms-in-Event.ensures))
+
+pub statement-returns-in-Case-clause-answer : goal.statement-returns-in-Case-clause-answer
+statement-returns-in-Case-clause-answer t c envs p v =
+    rw c.in-Case.is (c.case_statement.ensures.answer envs p c.in-Case.all (sym c.deref-in-Case.ensures.value) v)
+
+pub statement-case_statement-requires : goal.statement-case_statement-requires
+statement-case_statement-requires t c =
+    let same : items_depth c.deref-in-Case.result.now ≡ items_depth c.in-Case.all.items = ap items_depth c.deref-in-Case.ensures.value in
+    let whole : size-Stmt c.args.s.now ≡ size-Stmt (s.Case c.in-Case.kind c.in-Case.e c.in-Case.all) = ap size-Stmt c.in-Case.is in
+    let below : items_depth c.in-Case.all.items < size-Stmt (s.Case c.in-Case.kind c.in-Case.e c.in-Case.all) = items_falls c.in-Case.kind c.in-Case.e c.in-Case.all in
+    (omega arith, c.requires)
+
+pub case_statement-returns-in_err-number-clause-answer : goal.case_statement-returns-in_err-number-clause-answer
+case_statement-returns-in_err-number-clause-answer t c envs p v same seen =
+    let q = err_from_is_err_and c.from_residual.result c.from_residual.ensures.1 in
+    rw (q.1, q.2) (case_overfull c.args.view.now.list.now envs p c.args.next.now c.args.kind c.args.e.now v c.in_err-number.field-0.0 c.in_err-number.ensures)
+
+pub case_statement-returns-in_err-shape-clause-answer : goal.case_statement-returns-in_err-shape-clause-answer
+case_statement-returns-in_err-shape-clause-answer t c envs p v same seen =
+    let q = err_from_is_err_and c.from_residual-in_err-shape.result c.from_residual-in_err-shape.ensures.1 in
+    rw (q.1, q.2) (case_refused_by c.args.view.now.list.now envs p c.args.next.now c.args.kind c.args.e.now v _ c.in_err-shape.field-0.0 (sym same) (rw seen.names at c.in_err-shape.ensures))
+
+pub case_statement-returns-in_err-done-clause-answer : goal.case_statement-returns-in_err-done-clause-answer
+case_statement-returns-in_err-done-clause-answer t c envs p v same seen =
+    let q = err_from_is_err_and c.from_residual-in_err-done.result c.from_residual-in_err-done.ensures.1 in
+    rw (q.1, q.2) (items_refused c.args.view.now.list.now envs p c.args.next.now _ c.args.kind c.args.e.now v _ c.in_err-done.field-0.0 c.in_ok-number.ensures.1.0 (sym same) (c.in_err-done.ensures.answer envs p seen))
+
+pub case_statement-returns-clause-answer : goal.case_statement-returns-clause-answer
+case_statement-returns-clause-answer t c envs p v same seen =
+    states_Case c.args.view.now.list.now envs p c.args.next.now c.in_ok-number.number _ _ c.args.kind c.args.e.now v c.in_ok-shape.shape c.in_ok-shape.selector c.in_ok-done.done _ _ c.in_ok-number.ensures (rw seen.names at c.in_ok-shape.ensures) (c.in_ok-done.ensures.answer envs p seen) (sym same) (sym same)
+
+pub statement-returns-in_err-number-in-For-clause-answer : goal.statement-returns-in_err-number-in-For-clause-answer
+statement-returns-in_err-number-in-For-clause-answer t c envs p v =
+    let q = err_from_is_err_and c.from_residual-in_err-number-in-For.result c.from_residual-in_err-number-in-For.ensures.1 in
+    rw (q.1, q.2, c.in-For.is) (begin_refused c.args.view.now.list.now envs p c.args.next.now c.in-For.left c.in-For.other c.in-For.first c.in-For.e c.in-For.step c.in-For.x c.in_err-number-in-For.field-0.0 (c.in_err-number-in-For.ensures.answer envs p v))
+
+pub statement-returns-in_err-number-in-For-2-clause-answer : goal.statement-returns-in_err-number-in-For-2-clause-answer
+statement-returns-in_err-number-in-For-2-clause-answer t c envs p v =
+    let q = err_from_is_err_and c.from_residual-in_err-number-in-For-2.result c.from_residual-in_err-number-in-For-2.ensures.1 in
+    rw (q.1, q.2, c.in-For.is) (turn_refused c.args.view.now.list.now envs p c.args.next.now c.in-For.left c.in-For.other c.in-For.first c.in-For.e c.in-For.step c.in-For.x _ _ c.in_err-number-in-For-2.field-0.0 (c.in_ok-number-in-For.ensures.answer envs p v).1.next_is c.deref-in-For.ensures (c.in_err-number-in-For-2.ensures.answer envs p v))
+
+pub statement-returns-in_err-condition-in-For-clause-answer : goal.statement-returns-in_err-condition-in-For-clause-answer
+statement-returns-in_err-condition-in-For-clause-answer t c envs p v =
+    let q = err_from_is_err_and c.from_residual-in_err-condition-in-For.result c.from_residual-in_err-condition-in-For.ensures.1 in
+    rw (q.1, q.2, c.in-For.is) (test_refused c.args.view.now.list.now envs p c.args.next.now c.in-For.left c.in-For.other c.in-For.first c.in-For.e c.in-For.step c.in-For.x c.in_err-condition-in-For.field-0.0 (rw v.names at c.in_err-condition-in-For.ensures))
+
+pub statement-returns-in_err-last-in-For-clause-answer : goal.statement-returns-in_err-last-in-For-clause-answer
+statement-returns-in_err-last-in-For-clause-answer t c envs p v =
+    let q = err_from_is_err_and c.from_residual-in_err-last-in-For.result c.from_residual-in_err-last-in-For.ensures.1 in
+    rw (q.1, q.2, c.in-For.is) (step_refused c.args.view.now.list.now envs p c.args.next.now c.in-For.left c.in-For.other c.in-For.first c.in-For.e c.in-For.step c.in-For.x _ _ _ c.in_err-last-in-For.field-0.0 (c.in_ok-number-in-For.ensures.answer envs p v).1.next_is (c.in_ok-number-in-For-2.ensures.answer envs p v).1.1.next_is c.deref-in-For.ensures (c.in_err-last-in-For.ensures.answer envs p v))
+
+pub statement-returns-in_ok-repeated-in-For-clause-answer : goal.statement-returns-in_ok-repeated-in-For-clause-answer
+statement-returns-in_ok-repeated-in-For-clause-answer t c envs p v =
+    rw c.in-For.is (states_For c.args.view.now.list.now envs p c.args.next.now _ _ _ _ _ _ c.in-For.left c.in-For.other c.in-For.first c.in-For.e c.in-For.step c.in-For.x _ _ _ _ _ _ _ _ c.in_ok-repeated-in-For.field-0 (c.in_ok-number-in-For.ensures.answer envs p v) (c.in_ok-number-in-For-2.ensures.answer envs p v) (rw v.names at c.in_ok-condition-in-For.ensures) (c.in_ok-last-in-For.ensures.answer envs p v) c.deref-in-For.ensures c.in_ok-repeated-in-For.ensures)
+
+pub behind-returns-clause-answer : goal.behind-returns-clause-answer
+behind-returns-clause-answer t c envs p v = states_behind c.args.view.now.list.now envs p c.args.next.now c.in_ok-number.number _ _ c.args.s.now c.in_ok-inner.inner c.in_ok-number.ensures (c.in_ok-inner.ensures.answer envs p v)
+
+pub behind-returns-in_err-number-clause-answer : goal.behind-returns-in_err-number-clause-answer
+behind-returns-in_err-number-clause-answer t c envs p v =
+    let q = err_from_is_err_and c.from_residual.result c.from_residual.ensures.1 in
+    rw (q.1, q.2) (behind_overfull c.args.view.now.list.now envs p c.args.next.now c.args.s.now c.in_err-number.field-0.0 c.in_err-number.ensures)
+
+pub behind-returns-in_err-inner-clause-answer : goal.behind-returns-in_err-inner-clause-answer
+behind-returns-in_err-inner-clause-answer t c envs p v =
+    let q = err_from_is_err_and c.from_residual-in_err-inner.result c.from_residual-in_err-inner.ensures.1 in
+    rw (q.1, q.2) (behind_refused c.args.view.now.list.now envs p c.args.next.now _ c.args.s.now c.in_err-inner.field-0.0 c.in_ok-number.ensures.1.0 (c.in_err-inner.ensures.answer envs p v))
+
+pub otherwise-returns-in-Some-clause-answer : goal.otherwise-returns-in-Some-clause-answer
+otherwise-returns-in-Some-clause-answer t c envs p v = rw c.in-Some.is (otherwise_some c.args.view.now.list.now envs p c.args.next.now _ c.in-Some.s _ c.statement.result c.deref.ensures (c.statement.ensures.answer envs p v))
+
+pub otherwise-returns-in-None-clause-answer : goal.otherwise-returns-in-None-clause-answer
+otherwise-returns-in-None-clause-answer t c envs p v = rw c.in-None.is (otherwise_none c.args.view.now.list.now envs p c.args.next.now c.new.result (omega arith) c.new.ensures.items)
+
+pub statements-loop-s-init : goal.statements-loop-s-init
+statements-loop-s-init t c = λ envs p v. stated_none c.args.view.now.list.now envs p c.args.next.now c.new-done.result.items c.new-done.ensures.items
+
+pub statements-returns-in_err-one-clause-answer : goal.statements-returns-in_err-one-clause-answer
+statements-returns-in_err-one-clause-answer t c envs p v =
+    let q = err_from_is_err_and c.from_residual.result c.from_residual.ensures.1 in
+    rw (q.1, q.2) (statement_refused c.args.view.now.list.now envs p c.args.next.now _ c.args.all.now c.loop-s.s-index c.s-item.result c.in_err-one.field-0.0 (omega arith) c.s-item.is (c.loop-s.invariant envs p v).means.next_is (c.in_err-one.ensures.answer envs p v))
+
+pub statements-loop-s-preserved : goal.statements-loop-s-preserved
+statements-loop-s-preserved t c = λ envs p v.
+    stated_more c.args.view.now.list.now envs p c.args.next.now _ _ c.args.all.now c.loop-s.s-index c.s-item.result _ _ _ (omega arith) c.s-item.is c.in_ok-push.ensures.items (c.loop-s.invariant envs p v) (c.in_ok-one.ensures.answer envs p v)
+
+pub statements-returns-clause-answer : goal.statements-returns-clause-answer
+statements-returns-clause-answer t c envs p v = stated_all c.args.view.now.list.now envs p c.args.next.now _ c.args.all.now c.loop-s.s-index _ (omega arith) (omega arith) (c.loop-s.invariant envs p v)
+
+pub items-loop-label-init : goal.items-loop-label-init
+items-loop-label-init t c = λ envs p v. listed_none c.args.view.now.list.now envs p c.args.shape c.args.next.now c.new-done.result.items c.new-done.ensures.items
+
+pub items-returns-in_err-values-clause-answer : goal.items-returns-in_err-values-clause-answer
+items-returns-in_err-values-clause-answer t c envs p v =
+    let q = err_from_is_err_and c.from_residual.result c.from_residual.ensures.1 in
+    rw (q.1, q.2) (label_refused c.args.view.now.list.now envs p c.args.next.now c.args.all.now c.loop-label.label-index c.loop-label-item.result c.in_err-values.field-0.0 (omega arith) c.loop-label-item.is (rw v.names at c.in_err-values.ensures))
+
+pub items-returns-in_err-one-clause-answer : goal.items-returns-in_err-one-clause-answer
+items-returns-in_err-one-clause-answer t c envs p v =
+    let q = err_from_is_err_and c.from_residual-in_err-one.result c.from_residual-in_err-one.ensures.1 in
+    rw (q.1, q.2) (item_refused c.args.view.now.list.now envs p c.args.next.now _ c.args.all.now c.loop-label.label-index c.loop-label-item.result c.in_err-one.field-0.0 (omega arith) c.loop-label-item.is (c.loop-label.invariant envs p v).means.next_is (c.in_err-one.ensures.answer envs p v))
+
+pub items-loop-label-preserved : goal.items-loop-label-preserved
+items-loop-label-preserved t c = λ envs p v.
+    listed_more c.args.view.now.list.now envs p c.args.shape c.args.next.now _ _ c.args.all.now c.loop-label.label-index c.loop-label-item.result _ _ c.in_ok-values.values c.in_ok-one.one (omega arith) c.loop-label-item.is c.in_ok-push.ensures.items (c.loop-label.invariant envs p v) (rw v.names at c.in_ok-values.ensures) (c.in_ok-one.ensures.answer envs p v)
+
+pub items-returns-clause-answer : goal.items-returns-clause-answer
+items-returns-clause-answer t c envs p v = listed_all c.args.view.now.list.now envs p c.args.shape c.args.next.now _ c.args.all.now c.loop-label.label-index _ (omega arith) (omega arith) (c.loop-label.invariant envs p v)
+
+pub block-returns-in-Ok-clause-answer : goal.block-returns-in-Ok-clause-answer
+block-returns-in-Ok-clause-answer t c envs p locals v =
+    let list = c.args.view.now.list.now in
+    let here = c.args.view.now.place in
+    let place = c.in-Some.place in
+    let outer = c.index-list-here.result in
+    let inner = c.index-list-place.result in
+    let at = got list here outer c.requires.within c.index-list-here.is in
+    let found = sym c.in-Some.ensures in
+    let placed = placed_inside list here outer c.args.name.now place c.requires at found in
+    let path = p ++ plainly c.args.name.now ∷ [] in
+    let site = site_inside list envs here p outer c.args.name.now place v.site at found in
+    let there = got list place inner placed.within c.index-list-place.is in
+    let names = names_at list envs place path inner _ _ site there (rw c.deref.ensures.value at c.new-names.ensures) c.in_ok-around.ensures in
+    let x : NamedBlock = record { name = c.args.name.now; locals = locals; statements = c.args.all.now } in
+    let q = c.in-Ok.ensures.answer envs path (record { site = site; names = names }) in
+    (inside_free envs p c.args.next.now x q.0, q.1)
+
+pub block-returns-clause-answer : goal.block-returns-clause-answer
+block-returns-clause-answer t c envs p locals v =
+    let list = c.args.view.now.list.now in
+    let here = c.args.view.now.place in
+    let place = c.in-Some.place in
+    let outer = c.index-list-here.result in
+    let inner = c.index-list-place.result in
+    let at = got list here outer c.requires.within c.index-list-here.is in
+    let found = sym c.in-Some.ensures in
+    let placed = placed_inside list here outer c.args.name.now place c.requires at found in
+    let path = p ++ plainly c.args.name.now ∷ [] in
+    let site = site_inside list envs here p outer c.args.name.now place v.site at found in
+    let there = got list place inner placed.within c.index-list-place.is in
+    let names = names_at list envs place path inner _ _ site there (rw c.deref.ensures.value at c.new-names.ensures) c.in_ok-around.ensures in
+    let x : NamedBlock = record { name = c.args.name.now; locals = locals; statements = c.args.all.now } in
+    let q = c.in-Err.ensures.answer envs path (record { site = site; names = names }) in
+    rw c.deeper.ensures (inside_fails list envs p c.args.next.now place x c.in-Err.fault site q)
+
+pub block-returns-clause-below : goal.block-returns-clause-below
+block-returns-clause-below t c =
+    let list = c.args.view.now.list.now in
+    let here = c.args.view.now.place in
+    let place = c.in-Some.place in
+    let outer = c.index-list-here.result in
+    let inner = c.index-list-place.result in
+    let at = got list here outer c.requires.within c.index-list-here.is in
+    let found = sym c.in-Some.ensures in
+    let placed = placed_inside list here outer c.args.name.now place c.requires at found in
+    rw c.deeper.ensures (below_deeper (length list) place c.in-Err.fault placed.within c.in-Err.ensures.below)

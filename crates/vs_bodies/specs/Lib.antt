@@ -1,0 +1,5 @@
+pub use Rattle.vs_scopes.specs.Scopes
+pub mod Members
+pub mod Statements
+pub mod Processes
+pub mod passes

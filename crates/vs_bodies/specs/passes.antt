@@ -1,0 +1,4 @@
+-- What the functions of this crate and of the one above tell one another: nothing that is promised rests on these.
+pub mod Faults
+pub mod Views
+pub mod Bodies

@@ -1,0 +1,315 @@
+//! Statements with names as numbers of signals, delays as ticks, and numbers of their own.
+ghost use Rattle.std.specs.Prelude.{◌≡◌, ◌+◌, ◌^◌, ◌<◌, ◌≤◌, ◌∷◌, ◌++◌, [], List, length, IfOk, IfErr, MatchResult};
+ghost use Rattle.std.specs.declared.vec.Vec.{Vec};
+ghost use Rattle.std.specs.declared.alloc.Global.{Global};
+ghost use Rattle.vs_syntax.specs.declared.tree.CaseLabel.{CaseLabel};
+ghost use Rattle.vs_syntax.specs.declared.tree.LocalDeclaration.{LocalDeclaration};
+ghost use Rattle.vs_syntax.specs.declared.tree.Stmt.{Stmt};
+ghost use Rattle.vs_syntax.specs.declared.tree.Stmt.TheVariants as form;
+ghost use Rattle.vs_selects.specs.Environment.{Environment};
+ghost use Rattle.vs_scopes.specs.Printed.{plainly, Path};
+ghost use Rattle.vs_bodies.specs.declared.faults.StatementFault.TheVariants.{Overfull};
+ghost use Rattle.vs_bodies.specs.passes.Faults.{IsBelow};
+ghost use Rattle.vs_bodies.specs.passes.Views.{IsView, IsPlaced};
+ghost use Rattle.vs_bodies.specs.passes.Bodies.{Answers, MeansStatement, MeansStatements, MeansElse, MeansItems, IsNumbered, IsRepeated, numbered_burden, statement_burden, statements_burden, items_burden, named_burden, else_list};
+
+use crate::assignments::assignment;
+use crate::cases::{case_operand, label_values};
+use crate::events::event_terms;
+use crate::faults::{StatementFault, deeper};
+use crate::operands::{delay, operand};
+use crate::views::View;
+use std::alloc::{AllocError, Global};
+use vs_design::{Statement, Target, Typed};
+use vs_forms::Shape;
+use vs_logic4::CaseKind;
+use vs_opened::names_around;
+use vs_syntax::{CaseLabel, Expr, Left, Stmt};
+use vs_targets::AssignmentKind;
+use vs_widths::Levels;
+
+/// The kind of an assignment that is a statement.
+pub const PROCEDURAL: AssignmentKind = AssignmentKind::Procedural;
+
+/// The number of a statement, which is the next one.
+pub fn take_number(next: &mut u32) -> Result<u32, StatementFault>
+    ensures { MatchResult result
+        (λ number. (number ≡ next.old) × ((next.new ≡ next.old + 1) × (next.old + 1 < 2 ^ 32)))
+        (λ e. (e ≡ Overfull) × (2 ^ 32 ≤ next.old + 1)) }
+{
+    let number = *next;
+    match number.checked_add(1) {
+        Some(more) => {
+            *next = more;
+            Ok(number)
+        }
+        None => Err(StatementFault::Overfull),
+    }
+}
+
+/// The number of an assignment, which is the next one, and its two sides.
+fn numbered(
+    alloc: Global,
+    view: &View,
+    next: &mut u32,
+    left: &Left,
+    e: &Expr,
+) -> Result<(u32, Target, Typed), StatementFault>
+    ensures answer { (envs : Path → Environment) (p : Path) → IsView view.now envs p →
+        Answers view.now.list.now envs p (numbered_burden (envs p) next.old left.now e.now)
+        (λ q. IsNumbered (envs p) next.old left.now e.now q.0 q.1 q.2 next.new) result }
+    ensures below { IfErr result (IsBelow (length view.now.list.now)) }
+{
+    let number = take_number(next)?;
+    let (target, source) = assignment(alloc, view.names, PROCEDURAL, left, e)?;
+    Ok((number, target, source))
+}
+
+/// A `for` of these parts: its first assignment, and then a `while`, whose body ends with its second assignment
+/// (IEEE 1364-2005, clause 9.6).
+fn repeated(
+    alloc: Global,
+    begin: Statement,
+    number: u32,
+    condition: Typed,
+    body: Statement,
+    step: Statement,
+) -> Result<Statement, AllocError>
+    ensures { IfOk result (IsRepeated begin number condition body step) }
+{
+    let mut inner = Vec::new(alloc);
+    inner.push(body)?;
+    inner.push(step)?;
+    let body = Box::new(alloc, Statement::Block(inner))?;
+    let mut all = Vec::new(alloc);
+    all.push(begin)?;
+    all.push(Statement::While(number, condition, body))?;
+    Ok(Statement::Block(all))
+}
+
+/// A statement, and those in it. Its number is `next`, which moves on behind those that are given away.
+#[cycle(statement)]
+pub fn statement(
+    alloc: Global,
+    view: &View,
+    next: &mut u32,
+    s: &Stmt,
+) -> Result<Statement, StatementFault>
+    requires { IsPlaced view.now.list.now view.now.place }
+    ensures answer { (envs : Path → Environment) (p : Path) → IsView view.now envs p →
+        Answers view.now.list.now envs p (statement_burden (envs p) next.old s.now)
+        (λ d. MeansStatement envs p next.old s.now d next.new) result }
+    ensures below { IfErr result (IsBelow (length view.now.list.now)) }
+{
+    match s {
+        Stmt::Null => {
+            let number = take_number(next)?;
+            Ok(Statement::Null(number))
+        }
+        Stmt::Assign(left, e) => {
+            let (number, target, source) = numbered(alloc, view, next, left, e)?;
+            Ok(Statement::Assign(number, target, source))
+        }
+        Stmt::Later(left, e) => {
+            let (number, target, source) = numbered(alloc, view, next, left, e)?;
+            Ok(Statement::Later(number, target, source))
+        }
+        Stmt::Block(inner) => {
+            let inner = statements(alloc, view, next, inner)?;
+            Ok(Statement::Block(inner))
+        }
+        Stmt::Named(name, _, inner) => {
+            let inner = block(alloc, view, next, name, inner)?;
+            Ok(Statement::Block(inner))
+        }
+        Stmt::If(e, x, other) => {
+            let (number, then) = behind(alloc, view, next, x)?;
+            let other = otherwise(alloc, view, next, other)?;
+            let (_, condition) = operand(alloc, view.names, e)?;
+            let first = Box::new(alloc, then)?;
+            let second = Box::new(alloc, other)?;
+            Ok(Statement::If(number, condition, first, second))
+        }
+        Stmt::Case(kind, e, all) => case_statement(alloc, view, next, all, *kind, e),
+        Stmt::For(left, first, e, other, step, x) => {
+            let (number, target, source) = numbered(alloc, view, next, left, first)?;
+            let begin = Statement::Assign(number, target, source);
+            let (number, body) = behind(alloc, view, next, x)?;
+            let (_, condition) = operand(alloc, view.names, e)?;
+            let (last, target, source) = numbered(alloc, view, next, other, step)?;
+            let step = Statement::Assign(last, target, source);
+            Ok(repeated(alloc, begin, number, condition, body, step)?)
+        }
+        Stmt::While(e, x) => {
+            let (number, body) = behind(alloc, view, next, x)?;
+            let (_, condition) = operand(alloc, view.names, e)?;
+            Ok(Statement::While(number, condition, Box::new(alloc, body)?))
+        }
+        Stmt::Repeat(e, x) => {
+            let (number, body) = behind(alloc, view, next, x)?;
+            let (signed, count) = operand(alloc, view.names, e)?;
+            Ok(Statement::Repeat(number, signed, count, Box::new(alloc, body)?))
+        }
+        Stmt::Forever(x) => {
+            let (number, body) = behind(alloc, view, next, x)?;
+            Ok(Statement::Forever(number, Box::new(alloc, body)?))
+        }
+        Stmt::Delay(value, x) => {
+            let (number, body) = behind(alloc, view, next, x)?;
+            let ticks = delay(alloc, view.names, value)?;
+            Ok(Statement::Delay(number, ticks, Box::new(alloc, body)?))
+        }
+        Stmt::Event(control, x) => {
+            let (number, body) = behind(alloc, view, next, x)?;
+            let terms = event_terms(alloc, view.names, control, &body)?;
+            Ok(Statement::Event(number, terms, Box::new(alloc, body)?))
+        }
+    }
+}
+
+/// Statements one after another.
+#[cycle(statement)]
+fn statements(
+    alloc: Global,
+    view: &View,
+    next: &mut u32,
+    all: &[Stmt],
+) -> Result<Vec<Statement>, StatementFault>
+    requires { IsPlaced view.now.list.now view.now.place }
+    ensures answer { (envs : Path → Environment) (p : Path) → IsView view.now envs p →
+        Answers view.now.list.now envs p (statements_burden (envs p) next.old all.now)
+        (λ d. MeansStatements envs p next.old all.now d.items next.new) result }
+    ensures below { IfErr result (IsBelow (length view.now.list.now)) }
+{
+    let mut done = Vec::new(alloc);
+    for s in all {
+        let one = statement(alloc, view, next, s)?;
+        done.push(one)?;
+    }
+    let _behind = *next;
+    Ok(done)
+}
+
+/// The statements of a named block, which stand in its scope (IEEE 1364-2005, clause 9.8.3).
+#[cycle(statement)]
+fn block(
+    alloc: Global,
+    view: &View,
+    next: &mut u32,
+    name: &[u8],
+    all: &[Stmt],
+) -> Result<Vec<Statement>, StatementFault>
+    requires { IsPlaced view.now.list.now view.now.place }
+    ensures answer { (envs : Path → Environment) (p : Path) (locals : List LocalDeclaration) → IsView view.now envs p →
+        Answers view.now.list.now envs p (named_burden next.old (record { name = name.now; locals = locals; statements = all.now }))
+        (λ d. MeansStatements envs (p ++ plainly name.now ∷ []) next.old all.now d.items next.new) result }
+    ensures below { IfErr result (IsBelow (length view.now.list.now)) }
+{
+    let list = view.list;
+    let here = view.place;
+    let outer = &list[here];
+    let Some(place) = outer.blocks.find(name) else {
+        return Err(StatementFault::Memory);
+    };
+    let scope = &list[place];
+    let around = names_around(alloc, list, scope.kind, scope.around)?;
+    let names = Levels::new(&scope.names, &around);
+    let inner = View {
+        list,
+        place,
+        names: &names,
+    };
+    match statements(alloc, &inner, next, all) {
+        Ok(done) => Ok(done),
+        Err(fault) => Err(deeper(place, fault)),
+    }
+}
+
+/// The number of a statement, which is the next one, and the statement in it.
+#[cycle(statement)]
+fn behind(
+    alloc: Global,
+    view: &View,
+    next: &mut u32,
+    s: &Stmt,
+) -> Result<(u32, Statement), StatementFault>
+    requires { IsPlaced view.now.list.now view.now.place }
+    ensures answer { (envs : Path → Environment) (p : Path) → IsView view.now envs p →
+        Answers view.now.list.now envs p (statement_burden (envs p) (next.old + 1) s.now)
+        (λ q. (q.0 ≡ next.old) × MeansStatement envs p (next.old + 1) s.now q.1 next.new) result }
+    ensures below { IfErr result (IsBelow (length view.now.list.now)) }
+{
+    let number = take_number(next)?;
+    let inner = statement(alloc, view, next, s)?;
+    Ok((number, inner))
+}
+
+/// What stands behind `else`: nothing is a block of no statements (IEEE 1364-2005, clause 9.4).
+#[cycle(statement)]
+fn otherwise(
+    alloc: Global,
+    view: &View,
+    next: &mut u32,
+    other: &Option<Box<Stmt>>,
+) -> Result<Statement, StatementFault>
+    requires { IsPlaced view.now.list.now view.now.place }
+    ensures answer { (envs : Path → Environment) (p : Path) → IsView view.now envs p →
+        Answers view.now.list.now envs p (statements_burden (envs p) next.old (else_list other.now))
+        (λ y. MeansElse envs p next.old other.now y next.new) result }
+    ensures below { IfErr result (IsBelow (length view.now.list.now)) }
+{
+    match other {
+        Some(s) => statement(alloc, view, next, s),
+        None => {
+            let _number = *next;
+            Ok(Statement::Block(Vec::new(alloc)))
+        }
+    }
+}
+
+/// A `case` of these items.
+#[cycle(statement)]
+fn case_statement(
+    alloc: Global,
+    view: &View,
+    next: &mut u32,
+    all: &[(CaseLabel, Stmt)],
+    kind: CaseKind,
+    e: &Expr,
+) -> Result<Statement, StatementFault>
+    requires { IsPlaced view.now.list.now view.now.place }
+    ensures answer { (envs : Path → Environment) (p : Path) (v : Vec (CaseLabel × Stmt) Global) → v.items ≡ all.now →
+        IsView view.now envs p → Answers view.now.list.now envs p (statement_burden (envs p) next.old (form.Case kind e.now v))
+        (λ d. MeansStatement envs p next.old (form.Case kind e.now v) d next.new) result }
+    ensures below { IfErr result (IsBelow (length view.now.list.now)) }
+{
+    let number = take_number(next)?;
+    let (shape, selector) = case_operand(alloc, view.names, e, all)?;
+    let done = items(alloc, view, next, shape, all)?;
+    Ok(Statement::Case(number, kind, selector, done))
+}
+
+/// The items of a `case`, with their expressions at a size and a sign.
+#[cycle(statement)]
+fn items(
+    alloc: Global,
+    view: &View,
+    next: &mut u32,
+    shape: Shape,
+    all: &[(CaseLabel, Stmt)],
+) -> Result<Vec<(Vec<Typed>, Statement)>, StatementFault>
+    requires { IsPlaced view.now.list.now view.now.place }
+    ensures answer { (envs : Path → Environment) (p : Path) → IsView view.now envs p →
+        Answers view.now.list.now envs p (items_burden (envs p) next.old all.now)
+        (λ v. MeansItems envs p shape next.old all.now v.items next.new) result }
+    ensures below { IfErr result (IsBelow (length view.now.list.now)) }
+{
+    let mut done = Vec::new(alloc);
+    for (label, s) in all {
+        let values = label_values(alloc, view.names, shape, label)?;
+        let one = statement(alloc, view, next, s)?;
+        done.push((values, one))?;
+    }
+    let _behind = *next;
+    Ok(done)
+}

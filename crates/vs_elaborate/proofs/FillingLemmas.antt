@@ -1,0 +1,362 @@
+-- Continuous assignments and processes that are added to a design, a part at a time.
+use Rattle.std.proofs.Common.{◌≡◌, ℕ, zero, suc, ◌+◌, ◌-◌, ◌<◌, ◌⊎◌, Bool, true, false, List, [], ◌∷◌, ◌++◌, Option, Some, Result, Ok, Err, IfOk, MatchResult, length, map, take, slice_get, refl, ap, ap₂, sym, subst, ◌∙◌, append_assoc, inl, inr, arith, true≢false, eq-eqb}
+use Rattle.std.proofs.Math.Path.{fun_ext}
+use Rattle.std.specs.List.{list_any, flat_map, AllZip}
+use Rattle.std.proofs.lemmas.List.{map-append, length-map, length-append, append-nil}
+use Rattle.std.proofs.lemmas.List.Concat.{flat_map-append}
+use Rattle.std.proofs.lemmas.Slice.Zip.{all_zipped_more, AllZip-long}
+use Rattle.std.proofs.lemmas.List.Folds.{list_any-append}
+use Rattle.std.proofs.lemmas.Option.{none-some, same_Some, slice_get_within, get_or_from_slice_get}
+use Rattle.vs_syntax.specs.declared.tree.Expr.{Expr}
+use Rattle.vs_syntax.specs.declared.tree.Declarator.{Declarator}
+use Rattle.vs_syntax.specs.declared.tree.Form.{Form}
+use Rattle.vs_syntax.specs.declared.tree.Item.{Item}
+use Rattle.vs_syntax.specs.declared.tree.Item.TheVariants as t
+use Rattle.vs_syntax.specs.declared.tree.Stmt.{Stmt}
+use Rattle.vs_syntax.specs.declared.tree.Direction.{Direction}
+use Rattle.vs_syntax.specs.declared.tree.Direction.TheVariants.{Input, Output}
+use Rattle.vs_design.specs.WellFormed.{counts_from}
+use Rattle.vs_design.specs.declared.design.Assign.{Assign}
+use Rattle.vs_design.specs.declared.design.Process.{Process}
+use Rattle.vs_scopes.specs.declared.faults.Reason.{Reason}
+use Rattle.vs_scopes.specs.declared.faults.ElabFault.{ElabFault}
+use Rattle.vs_targets.specs.declared.kinds.AssignmentKind.TheVariants.{Continuous}
+use Rattle.vs_scopes.specs.Printed.{Path, own_name, port_assign_name, part_name}
+use Rattle.std.specs.declared.vec.Vec.{Vec}
+use Rattle.std.specs.declared.alloc.Global.{Global}
+use Rattle.std.specs.Borrow.{Bor}
+use Rattle.vs_selects.specs.Environment.{Environment}
+use Rattle.vs_widths.specs.Names.{meaning_of, nested_names}
+use Rattle.vs_scopes.specs.Declarations.{Bindings}
+use Rattle.vs_pieces.specs.Reads.{read_piece}
+use Rattle.vs_pieces.specs.declared.scope.Piece.{Piece as FoundPiece}
+use Rattle.vs_pieces.specs.declared.scope.Piece.TheVariants as p
+use Rattle.vs_scopes.specs.declared.ports.ModulePort.{ModulePort as FoundPort}
+use Rattle.vs_scopes.specs.passes.Parts.{read_port, read_ends}
+use Rattle.vs_opened.specs.declared.opened.Opened.{Opened as FoundScope}
+use Rattle.vs_opened.specs.Opened.{IsWithin, IsOutermost}
+use Rattle.vs_scopes.specs.Scopes.{Scope, environment, environment_at}
+use Rattle.vs_scopes.specs.passes.Answers.{Told}
+use Rattle.vs_scopes.proofs.Folds.{any_push, left_true, right_true, take_push}
+use Rattle.vs_scopes.proofs.AnswerLemmas.{told_by}
+use Rattle.vs_bodies.specs.Statements.{IsAssignment}
+use Rattle.vs_bodies.specs.Members.{Assignment, named_signal, assignment_of, PortDriver, connected, port_of, of_text, Behavior, setting, port_drivers, drivers_in, behaviors_by_item, behaviors_in, port_setting, drivers_of, port_drivers_of, behaviors_of}
+use Rattle.vs_bodies.specs.Processes.{kind_of, statements_of, HasBehaviorFault}
+use Rattle.vs_bodies.specs.passes.Bodies.{counting, MeansBody}
+use Rattle.vs_elaborate.specs.declared.contents.Contents.{Contents}
+use Rattle.vs_elaborate.specs.Drivers.{IsPortAssign}
+use Rattle.vs_elaborate.specs.DesignOf.{PartOf, port_part, parts_from, assigns_of, processes_of, IsProcess, IsAssign}
+use Rattle.vs_elaborate.specs.passes.Filling.{Adds, AreSound, AddsNot, port_faults, text_faults, Connects, ConnectsNot, text_parts, Drives, DrivesNot, RunSoundly, Runs, RunsNot, HasMembers, FillsNot, FillsScope, Fills, FillsOneNot}
+
+-- ---- parts with their names
+
+pub length_parts : {A : Type 0} (letter : ℕ) (s : Scope) (k : ℕ) (xs : List A) → length (parts_from letter s k xs) ≡ length xs
+length_parts letter s k [] = refl
+length_parts letter s k (x ∷ xs) = ap suc (length_parts letter s (suc k) xs)
+
+parts_more : {A : Type 0} (letter : ℕ) (s : Scope) (k : ℕ) (xs : List A) (x : A) → parts_from letter s k (xs ++ x ∷ []) ≡ parts_from letter s k xs ++ record { scope = s; name = own_name letter (k + length xs); part = x } ∷ []
+parts_more {A} letter s k [] x =
+    let P : ℕ → List (PartOf A) = λ n. record { scope = s; name = own_name letter n; part = x } ∷ [] in
+    let e : k ≡ k + 0 = omega arith in ap P e
+parts_more {A} letter s k (y ∷ ys) x =
+    let Q : List (PartOf A) → List (PartOf A) = λ z. record { scope = s; name = own_name letter k; part = y } ∷ z in
+    let P : ℕ → List (PartOf A) = λ n. Q (parts_from letter s (suc k) ys ++ record { scope = s; name = own_name letter n; part = x } ∷ []) in
+    let e : suc k + length ys ≡ k + suc (length ys) = omega arith in
+    ap Q (parts_more letter s (suc k) ys x) ∙ ap P e
+
+parts_push : {A : Type 0} (letter : ℕ) (s : Scope) (xs : List A) (x : A) (number : ℕ) → number ≡ length xs → parts_from letter s 0 (xs ++ x ∷ []) ≡ parts_from letter s 0 xs ++ record { scope = s; name = own_name letter number; part = x } ∷ []
+parts_push {A} letter s xs x number n =
+    let P : ℕ → List (PartOf A) = λ k. parts_from letter s 0 xs ++ record { scope = s; name = own_name letter k; part = x } ∷ [] in
+    let e : 0 + length xs ≡ number = omega (arith, n) in
+    parts_more letter s 0 xs x ∙ ap P e
+
+text_push : (s : Scope) (xs : List Assignment) (x : Assignment) (number : ℕ) → number ≡ length xs → text_parts s (xs ++ x ∷ []) ≡ text_parts s xs ++ record { scope = s; name = own_name 97 number; part = of_text x } ∷ []
+text_push s xs x number n = ap (parts_from 97 s 0) (map-append of_text xs (x ∷ [])) ∙ parts_push 97 s (map of_text xs) (of_text x) number (n ∙ sym (length-map xs of_text))
+
+length_texts : (s : Scope) (xs : List Assignment) → length (text_parts s xs) ≡ length xs
+length_texts s xs = length_parts 97 s 0 (map of_text xs) ∙ length-map xs of_text
+
+-- ---- one more
+
+counts_counting : (a n : ℕ) → counts_from a (counting a n) ≡ true
+counts_counting a zero = refl
+counts_counting a (suc n) = rw (eq-eqb a a refl) (counts_counting (suc a) n)
+
+module _ {A B P : Type 0} (Sound : List A → Type 0) (R : P → PartOf B → Type 0) (parts : List A → List (PartOf B)) (first : ℕ) where
+  -- one more part
+  adds_push : (all new start : List P) (done : List A) (x : A) (p : P) (q : PartOf B) → new ≡ all ++ p ∷ [] → (Sound done → Sound (done ++ x ∷ [])) → parts (done ++ x ∷ []) ≡ parts done ++ q ∷ [] → R p q →
+      Adds Sound R parts first all start done → Adds Sound R parts first new start (done ++ x ∷ [])
+  adds_push all new start done x p q h sound e one r = record {
+    begun = r.begun;
+    sound = sound r.sound;
+    added = r.added ++ p ∷ [];
+    grown = h ∙ ap (λ z. z ++ p ∷ []) r.grown ∙ append_assoc start r.added (p ∷ []);
+    means = subst (AllZip R (r.added ++ p ∷ [])) (sym e) (all_zipped_more R r.added (parts done) p q r.means one);
+  }
+
+  -- how many parts there are
+  adds_count : (all start : List P) (done : List A) (number : ℕ) → length (parts done) ≡ length done → number ≡ length all - first → Adds Sound R parts first all start done → number ≡ length done
+  adds_count all start done number k n r =
+      let long : length all ≡ length start + length r.added = ap length r.grown ∙ length-append start r.added in
+      let zipped : length (parts done) ≡ length r.added = AllZip-long R r.added (parts done) r.means in
+      omega (arith, n, long, r.begun, zipped, k)
+
+  adds_none : (all : List P) → parts [] ≡ [] → Sound [] → length all ≡ first → Adds Sound R parts first all all []
+  adds_none all e s h = record { begun = h; sound = s; added = []; grown = sym (append-nil all); means = subst (AllZip R []) (sym e) tt }
+
+sound_push : {A : Type 0} (fault : Reason → A → Bool) (xs : List A) (x : A) → ((r : Reason) → fault r x ≡ false) → AreSound fault xs → AreSound fault (xs ++ x ∷ [])
+sound_push fault xs x one all r = any_push (fault r) xs x (all r) (one r)
+
+at_last : {A : Type 0} (xs : List A) (x y : A) (i : ℕ) → slice_get (xs ++ x ∷ []) i ≡ Some y → (slice_get xs i ≡ Some y) ⊎ (x ≡ y)
+at_last [] x y zero h = inr (same_Some x y h)
+at_last [] x y (suc i) h = absurd (none-some y h)
+at_last (z ∷ zs) x y zero h = inl h
+at_last (z ∷ zs) x y (suc i) h = at_last zs x y i h
+
+runs_sound : (ss : List Scope) (s : Scope) (xs : List Behavior) (x : Behavior) → ((r : Reason) (at : Path) → HasBehaviorFault (environment_at ss) r at s.path x → ⊥) → RunSoundly ss s xs → RunSoundly ss s (xs ++ x ∷ [])
+runs_sound ss s xs x one all r p h = by (at_last xs x h.behavior h.place h.stands)
+  where
+    by : (slice_get xs h.place ≡ Some h.behavior) ⊎ (x ≡ h.behavior) → ⊥
+    by (inl e) = all r p (record { place = h.place; behavior = h.behavior; stands = e; fault = h.fault })
+    by (inr e) = one r p (subst (λ z. HasBehaviorFault (environment_at ss) r p s.path z) (sym e) h.fault)
+
+pub runs_push : (ss : List Scope) (s : Scope) (first number : ℕ) (contents new start : Contents) (done : List Behavior) (x : Behavior) (p : Process) → new.processes.items ≡ contents.processes.items ++ p ∷ [] → new.assigns.items ≡ contents.assigns.items → number ≡ length contents.processes.items - first → p.name.items ≡ part_name s.path (own_name 112 number) → p.kind ≡ kind_of x →
+    ((r : Reason) (at : Path) → HasBehaviorFault (environment_at ss) r at s.path x → ⊥) × MeansBody (environment_at ss) s.path x p.body → Runs ss s first contents start done → Runs ss s first new start (done ++ x ∷ [])
+runs_push ss s first number contents new start done x p h a n text kind body r =
+    let parts : List Behavior → List (PartOf Behavior) = parts_from 112 s 0 in
+    let count = adds_count (RunSoundly ss s) (IsProcess ss) parts first contents.processes.items start.processes.items done number (length_parts 112 s 0 done) n r.adds in
+    let one : IsProcess ss p (record { scope = s; name = own_name 112 number; part = x }) = record { name = text; kind = kind; body = body.1.means; numbered = ap (counts_from 0) body.1.numbered ∙ counts_counting 0 (statements_of x) } in
+    record {
+      adds = adds_push (RunSoundly ss s) (IsProcess ss) parts first contents.processes.items new.processes.items start.processes.items done x p _ h (runs_sound ss s done x body.0) (parts_push 112 s done x number count) one r.adds;
+      assigns = a ∙ r.assigns;
+    }
+
+pub drives_push : (s : Scope) (first number : ℕ) (contents new start : Contents) (done : List Assignment) (x : Assignment) (p : Assign) → new.assigns.items ≡ contents.assigns.items ++ p ∷ [] → new.processes.items ≡ contents.processes.items → number ≡ length contents.assigns.items - first → p.name.items ≡ part_name s.path (own_name 97 number) →
+    ((r : Reason) → text_faults s r x ≡ false) × IsAssignment Continuous (environment s) x.target x.value p.target p.source → Drives s first contents start done → Drives s first new start (done ++ x ∷ [])
+drives_push s first number contents new start done x p h a n text body r =
+    let count = adds_count (AreSound (text_faults s)) IsAssign (text_parts s) first contents.assigns.items start.assigns.items done number (length_texts s done) n r.adds in
+    let one : IsAssign p (record { scope = s; name = own_name 97 number; part = of_text x }) = record { name = text; sides = body.1 } in
+    record {
+      adds = adds_push (AreSound (text_faults s)) IsAssign (text_parts s) first contents.assigns.items new.assigns.items start.assigns.items done x p _ h (sound_push (text_faults s) done x body.0) (text_push s done x number count) one r.adds;
+      processes = a ∙ r.processes;
+    }
+
+pub port_of_connected : (d : Direction) (n : List ℕ) (e : Expr) → port_of (connected d n e) ≡ n
+port_of_connected Input n e = refl
+port_of_connected Output n e = refl
+
+pub connects_push : (s : Scope) (contents new start : Contents) (done : List PortDriver) (x : PortDriver) (n : List ℕ) (p : Assign) → new.assigns.items ≡ contents.assigns.items ++ p ∷ [] → new.processes.items ≡ contents.processes.items → port_of x ≡ n → p.name.items ≡ part_name s.path (port_assign_name n) →
+    ((r : Reason) → port_faults s r x ≡ false) × IsPortAssign (environment s) s.outer x p.target p.source → Connects s contents start done → Connects s new start (done ++ x ∷ [])
+connects_push s contents new start done x n p h a k text body r =
+    let one : IsAssign p (port_part s x) = record { name = text ∙ ap (λ z. part_name s.path (port_assign_name z)) (sym k); sides = body.1 } in
+    record {
+      adds = adds_push (AreSound (port_faults s)) IsAssign (map (port_part s)) (length start.assigns.items) contents.assigns.items new.assigns.items start.assigns.items done x p _ h (sound_push (port_faults s) done x body.0) (map-append (port_part s) done (x ∷ [])) one r.adds;
+      processes = a ∙ r.processes;
+    }
+
+-- before a pass
+pub connects_none : (s : Scope) (contents : Contents) → Connects s contents contents []
+connects_none s contents = record {
+  adds = adds_none (AreSound (port_faults s)) IsAssign (map (port_part s)) (length contents.assigns.items) contents.assigns.items refl (λ r. refl) refl;
+  processes = refl;
+}
+
+pub drives_none : (s : Scope) (first : ℕ) (contents : Contents) → length contents.assigns.items ≡ first → Drives s first contents contents []
+drives_none s first contents h = record {
+  adds = adds_none (AreSound (text_faults s)) IsAssign (text_parts s) first contents.assigns.items refl (λ r. refl) h;
+  processes = refl;
+}
+
+pub runs_none : (ss : List Scope) (s : Scope) (first : ℕ) (contents : Contents) → length contents.processes.items ≡ first → Runs ss s first contents contents []
+runs_none ss s first contents h = record {
+  adds = adds_none (RunSoundly ss s) (IsProcess ss) (parts_from 112 s 0) first contents.processes.items refl (λ r p u. none-some u.behavior u.stands) h;
+  assigns = refl;
+}
+
+-- ---- a fault among more
+
+any_front : {A : Type 0} (p : A → Bool) (xs ys : List A) → list_any p xs ≡ true → list_any p (xs ++ ys) ≡ true
+any_front p xs ys h = list_any-append p xs ys ∙ left_true (list_any p xs) (list_any p ys) h
+
+adds_not_more : {A : Type 0} (fault : Reason → A → Bool) (at : Path) (xs ys : List A) (r : Reason) (p : Path) → AddsNot fault at xs r p → AddsNot fault at (xs ++ ys) r p
+adds_not_more fault at xs ys r p h = (any_front (fault r) xs ys h.0, h.1)
+
+pub at_first : {A : Type 0} (xs rest : List A) (i : ℕ) (x : A) → slice_get xs i ≡ Some x → slice_get (xs ++ rest) i ≡ Some x
+at_first [] rest i x h = absurd (none-some x h)
+at_first (y ∷ ys) rest zero x h = h
+at_first (y ∷ ys) rest (suc i) x h = at_first ys rest i x h
+
+pub runs_not_more : (ss : List Scope) (s : Scope) (start : Contents) (xs ys : List Behavior) (r : Reason) (p : Path) → RunsNot ss s start xs r p → RunsNot ss s start (xs ++ ys) r p
+runs_not_more ss s start xs ys r p h = record { place = h.place; behavior = h.behavior; stands = at_first xs ys h.place h.behavior h.stands; fault = h.fault }
+
+pub drives_not_more : (s : Scope) (start : Contents) (xs ys : List Assignment) (r : Reason) (p : Path) → DrivesNot s start xs r p → DrivesNot s start (xs ++ ys) r p
+drives_not_more s start = adds_not_more (text_faults s) s.path
+
+pub connects_not_more : (s : Scope) (start : Contents) (xs ys : List PortDriver) (r : Reason) (p : Path) → ConnectsNot s start xs r p → ConnectsNot s start (xs ++ ys) r p
+connects_not_more s start = adds_not_more (port_faults s) s.around
+
+-- a fault of the last one
+pub any_last : {A : Type 0} (p : A → Bool) (xs : List A) (x : A) → p x ≡ true → list_any p (xs ++ x ∷ []) ≡ true
+any_last p xs x h = list_any-append p xs (x ∷ []) ∙ right_true (list_any p xs) _ (left_true (p x) false h)
+
+at_end : {A : Type 0} (xs : List A) (x : A) → slice_get (xs ++ x ∷ []) (length xs) ≡ Some x
+at_end [] x = refl
+at_end (y ∷ ys) x = at_end ys x
+
+pub runs_last : (ss : List Scope) (s : Scope) (start : Contents) (done : List Behavior) (x : Behavior) (e : ElabFault) → Told (λ r at. HasBehaviorFault (environment_at ss) r at s.path x) e → Told (RunsNot ss s start (done ++ x ∷ [])) e
+runs_last ss s start done x e h =
+    told_by (λ r at. HasBehaviorFault (environment_at ss) r at s.path x) (RunsNot ss s start (done ++ x ∷ [])) e (λ r p u. record { place = length done; behavior = x; stands = at_end done x; fault = u }) h
+
+-- a declaration assignment, where there is one
+pub setting_some : (n m : List ℕ) (o : Option Expr) (e : Expr) → m ≡ n → o ≡ Some e → setting m (Some e) ≡ setting n o
+setting_some n m o e h k = ap (λ z. setting z (Some e)) h ∙ ap (setting n) (sym k)
+
+pub assignment_some : (n m : List ℕ) (o : Option Expr) (e : Expr) → m ≡ n → o ≡ Some e → record { target = named_signal m; value = e } ∷ [] ≡ assignment_of n o
+assignment_some n m o e h k = (let P : List ℕ → List Assignment = λ z. record { target = named_signal z; value = e } ∷ [] in ap P h) ∙ ap (assignment_of n) (sym k)
+
+-- ---- a scope
+
+pub zipped_append : {A B : Type 0} (R : A → B → Type 0) (xs : List A) (ys : List B) (us : List A) (vs : List B) → AllZip R xs ys → AllZip R us vs → AllZip R (xs ++ us) (ys ++ vs)
+zipped_append R [] [] us vs h k = k
+zipped_append R [] (y ∷ ys) us vs h k = absurd h
+zipped_append R (x ∷ xs) [] us vs h k = absurd h
+zipped_append R (x ∷ xs) (y ∷ ys) us vs h k = (h.0, zipped_append R xs ys us vs h.1 k)
+
+pub fills : (ss : List Scope) (s : Scope) (m n : ℕ) (a b c d : Contents) → Connects s b a (port_drivers_of s) → Drives s m c b (drivers_of s) → Runs ss s n d c (behaviors_of s) → FillsScope ss s a d
+fills ss s m n a b c d p q r = record {
+  sound = sound;
+  assigns_added = p.adds.added ++ q.adds.added;
+  assigns = r.assigns ∙ q.adds.grown ∙ ap (λ z. z ++ q.adds.added) p.adds.grown ∙ append_assoc a.assigns.items p.adds.added q.adds.added;
+  drivers_mean = zipped_append IsAssign p.adds.added (map (port_part s) (port_drivers_of s)) q.adds.added (text_parts s (drivers_of s)) p.adds.means q.adds.means;
+  processes_added = r.adds.added;
+  processes = r.adds.grown ∙ ap (λ z. z ++ r.adds.added) (q.processes ∙ p.processes);
+  behaviors_mean = r.adds.means;
+}
+  where
+    sound : (w : Reason) (at : Path) → FillsNot ss s w at → ⊥
+    sound w at (inl h) = true≢false (sym h.0 ∙ p.adds.sound w)
+    sound w at (inr (inl h)) = r.adds.sound w at (record { place = h.place; behavior = h.behavior; stands = h.stands; fault = h.fault })
+    sound w at (inr (inr h)) = true≢false (sym h.0 ∙ q.adds.sound w)
+
+module _ (ss : List Scope) (s : Scope) (start : Contents) (e : ElabFault) where
+  pub connects_told : Told (ConnectsNot s start (port_drivers_of s)) e → Told (FillsNot ss s) e
+  connects_told h = told_by (ConnectsNot s start (port_drivers_of s)) (FillsNot ss s) e (λ r p k. inl k) h
+
+  pub drives_told : Told (DrivesNot s start (drivers_of s)) e → Told (FillsNot ss s) e
+  drives_told h = told_by (DrivesNot s start (drivers_of s)) (FillsNot ss s) e (λ r p k. inr (inr k)) h
+
+  pub runs_told : Told (RunsNot ss s start (behaviors_of s)) e → Told (FillsNot ss s) e
+  runs_told h = told_by (RunsNot ss s start (behaviors_of s)) (FillsNot ss s) e (λ r p k. inr (inl (record { place = k.place; behavior = k.behavior; stands = k.stands; fault = k.fault }))) h
+
+-- ---- several scopes
+
+pub fills_none : (ss : List Scope) (contents : Contents) → contents.assigns.items ≡ [] → contents.processes.items ≡ [] → Fills ss [] contents
+fills_none ss contents a p = record {
+  sound = λ k s e. absurd (none-some s e);
+  drivers = subst (λ z. AllZip IsAssign z []) (sym a) tt;
+  behaviors = subst (λ z. AllZip (IsProcess ss) z []) (sym p) tt;
+}
+
+flat_push : {A B : Type 0} (f : A → List B) (xs : List A) (x : A) → flat_map f (xs ++ x ∷ []) ≡ flat_map f xs ++ f x
+flat_push f xs x = flat_map-append f xs (x ∷ []) ∙ ap (λ l. flat_map f xs ++ l) (append-nil (f x))
+
+pub fills_more : (ss more : List Scope) (s : Scope) (old new : Contents) → Fills ss more old → FillsScope ss s old new → Fills ss (more ++ s ∷ []) new
+fills_more ss more s old new h k = record {
+  sound = sound;
+  drivers = subst (λ z. AllZip IsAssign z (flat_map assigns_of (more ++ s ∷ []))) (sym k.assigns)
+      (subst (AllZip IsAssign (old.assigns.items ++ k.assigns_added)) (sym (flat_push assigns_of more s)) (zipped_append IsAssign old.assigns.items (flat_map assigns_of more) k.assigns_added (assigns_of s) h.drivers k.drivers_mean));
+  behaviors = subst (λ z. AllZip (IsProcess ss) z (flat_map processes_of (more ++ s ∷ []))) (sym k.processes)
+      (subst (AllZip (IsProcess ss) (old.processes.items ++ k.processes_added)) (sym (flat_push processes_of more s)) (zipped_append (IsProcess ss) old.processes.items (flat_map processes_of more) k.processes_added (processes_of s) h.behaviors k.behaviors_mean));
+}
+  where
+    by : (t : Scope) (i : ℕ) → (slice_get more i ≡ Some t) ⊎ (s ≡ t) → (r : Reason) (p : Path) → FillsNot ss t r p → ⊥
+    by t i (inl e) r p u = h.sound i t e r p u
+    by t i (inr e) r p u = k.sound r p (subst (λ z. FillsNot ss z r p) (sym e) u)
+
+    sound : (i : ℕ) (t : Scope) → slice_get (more ++ s ∷ []) i ≡ Some t → (r : Reason) (p : Path) → FillsNot ss t r p → ⊥
+    sound i t e r p u = by t i (at_last more s t i e) r p u
+
+-- ---- what is around a scope
+
+pub outside_some : {A : Type 0} (ss : List Scope) (s : Scope) (place : ℕ) (r : Result (Vec (Bor Bindings) Global) A) → IsWithin ss place s →
+    ((t : Scope) → slice_get ss place ≡ Some t → IfOk r (λ v. (n : List ℕ) → meaning_of (nested_names v.items) n ≡ environment t n)) → IfOk r (λ v. (n : List ℕ) → meaning_of (nested_names v.items) n ≡ s.outer n)
+outside_some ss s place (Ok v) h g = λ n. g h.outer_scope h.stands n ∙ ap (λ (z : Environment). z n) (sym h.outer)
+outside_some ss s place (Err e) h g = tt
+
+pub outside_none : (ss : List Scope) (s : Scope) (names : List (Bor Bindings)) → names ≡ [] → IsOutermost s → (n : List ℕ) → meaning_of (nested_names names) n ≡ s.outer n
+outside_none ss s names e h n = ap (λ z. meaning_of (nested_names z) n) e ∙ ap (λ (z : Environment). z n) (sym h.outer)
+
+-- ---- what a scope of a list has
+
+flat_each : {A B C : Type 0} (f : B → List C) (g : A → B) (xs : List A) → flat_map (λ x. f (g x)) xs ≡ flat_map f (map g xs)
+flat_each f g [] = refl
+flat_each f g (x ∷ xs) = ap (λ z. f (g x) ++ z) (flat_each f g xs)
+
+pub flat_read : {A B C : Type 0} (f : B → List C) (g : A → B) (xs : List A) (ys : List B) → map g xs ≡ ys → flat_map (λ x. f (g x)) xs ≡ flat_map f ys
+flat_read f g xs ys h = flat_each f g xs ∙ ap (flat_map f) h
+
+module _ (ss : List Scope) (s : Scope) (o : FoundScope) (m : HasMembers o s) where
+  pub ports_are : port_drivers (map read_port o.ports.items) (read_ends o.ends.items) ≡ port_drivers_of s
+  ports_are = ap₂ port_drivers m.ports m.ends
+
+  pub texts_are : flat_map (λ (x : FoundPiece). drivers_in (read_piece x)) o.pieces.items ≡ drivers_of s
+  texts_are = flat_read drivers_in read_piece o.pieces.items s.pieces m.pieces
+
+  pub runs_are : flat_map (λ (x : FoundPort). port_setting (read_port x)) o.ports.items ++ flat_map (λ (x : FoundPiece). behaviors_in (read_piece x)) o.pieces.items ≡ behaviors_of s
+  runs_are = ap₂ (λ x y. x ++ y) (flat_read port_setting read_port o.ports.items s.ports m.ports) (flat_read behaviors_in read_piece o.pieces.items s.pieces m.pieces)
+
+  pub fills_ports_not : (start : Contents) (e : ElabFault) → Told (ConnectsNot s start (port_drivers (map read_port o.ports.items) (read_ends o.ends.items))) e → Told (FillsNot ss s) e
+  fills_ports_not start e h = connects_told ss s start e (subst (λ z. Told (ConnectsNot s start z) e) ports_are h)
+
+  pub fills_texts_not : (start : Contents) (e : ElabFault) → Told (DrivesNot s start (flat_map (λ (x : FoundPiece). drivers_in (read_piece x)) o.pieces.items)) e → Told (FillsNot ss s) e
+  fills_texts_not start e h = drives_told ss s start e (subst (λ z. Told (DrivesNot s start z) e) texts_are h)
+
+  pub fills_settings_not : (start : Contents) (e : ElabFault) → Told (RunsNot ss s start (flat_map (λ (x : FoundPort). port_setting (read_port x)) o.ports.items)) e → Told (FillsNot ss s) e
+  fills_settings_not start e h =
+      let front = flat_map (λ (x : FoundPort). port_setting (read_port x)) o.ports.items in
+      let rest = flat_map (λ (x : FoundPiece). behaviors_in (read_piece x)) o.pieces.items in
+      let all : Told (RunsNot ss s start (front ++ rest)) e = told_by (RunsNot ss s start front) (RunsNot ss s start (front ++ rest)) e (λ r p k. runs_not_more ss s start front rest r p k) h in
+      runs_told ss s start e (subst (λ z. Told (RunsNot ss s start z) e) runs_are all)
+
+  pub fills_all : (n k : ℕ) (a b c d : Contents) (r : Result Unit ElabFault) → Connects s b a (port_drivers (map read_port o.ports.items) (read_ends o.ends.items)) → Drives s n c b (flat_map (λ (x : FoundPiece). drivers_in (read_piece x)) o.pieces.items) →
+      MatchResult r
+      (λ _. Runs ss s k d c (flat_map (λ (x : FoundPort). port_setting (read_port x)) o.ports.items ++ flat_map (λ (x : FoundPiece). behaviors_in (read_piece x)) o.pieces.items))
+      (Told (RunsNot ss s c (flat_map (λ (x : FoundPort). port_setting (read_port x)) o.ports.items ++ flat_map (λ (x : FoundPiece). behaviors_in (read_piece x)) o.pieces.items))) →
+      MatchResult r (λ _. FillsScope ss s a d) (Told (FillsNot ss s))
+  fills_all n k a b c d (Ok u) p q h = fills ss s n k a b c d (subst (Connects s b a) ports_are p) (subst (Drives s n c b) texts_are q) (subst (Runs ss s k d c) runs_are h)
+  fills_all n k a b c d (Err e) p q h = runs_told ss s c e (subst (λ z. Told (RunsNot ss s c z) e) runs_are h)
+
+-- one of several scopes has a fault
+pub fills_one_not : (ss : List Scope) (k : ℕ) (s : Scope) (e : ElabFault) → slice_get ss k ≡ Some s → Told (FillsNot ss s) e → Told (FillsOneNot ss ss) e
+fills_one_not ss k s e h g = told_by (FillsNot ss s) (FillsOneNot ss ss) e (λ r p f. record { place = k; scope = s; stands = h; fault = f }) g
+
+-- a scope at a place, and those before it
+pub take_next : {A : Type 0} (xs : List A) (k : ℕ) (x : A) → slice_get xs k ≡ Some x → take (k + 1) xs ≡ take k xs ++ x ∷ []
+take_next xs k x h = take_push xs k x (slice_get_within xs k x h) (sym (get_or_from_slice_get xs k x x h))
+
+-- an element that is there
+pub there : {A : Type 0} (xs : List A) (i : ℕ) → i < length xs → (x : A) × (slice_get xs i ≡ Some x)
+there [] i h = absurd (omega arith)
+there (x ∷ xs) zero h = (x, refl)
+there (x ∷ xs) (suc i) h = there xs i (omega arith)
+
+-- names that are bound around a scope alone
+pub outer_names_are : (names nothing outside : Bindings) (env : Environment) → names ≡ nothing ++ outside → nothing ≡ [] → ((n : List ℕ) → meaning_of outside n ≡ env n) → meaning_of names ≡ env
+outer_names_are names nothing outside env e k h = fun_ext (λ n. ap (λ z. meaning_of z n) (e ∙ ap (λ z. z ++ outside) k) ∙ h n)
+
+-- ---- what has no process
+
+pub quiet_item : (x : Item) → ((f : Form) (ds : Vec Declarator Global) → x ≡ t.Reg f ds → ⊥) → ((ds : Vec Declarator Global) → x ≡ t.Integer ds → ⊥) → ((y : Stmt) → x ≡ t.Initial y → ⊥) → ((y : Stmt) → x ≡ t.Always y → ⊥) → behaviors_by_item x ≡ []
+quiet_item (t.Reg f ds) a b c d = absurd (a f ds refl)
+quiet_item (t.Integer ds) a b c d = absurd (b ds refl)
+quiet_item (t.Initial y) a b c d = absurd (c y refl)
+quiet_item (t.Always y) a b c d = absurd (d y refl)
+quiet_item _ a b c d = refl
+
+pub quiet_piece : (x : FoundPiece) → ((i : Bor Item) → x ≡ p.Plain i → ⊥) → behaviors_in (read_piece x) ≡ []
+quiet_piece (p.Plain i) a = absurd (a i refl)
+quiet_piece _ a = refl
+
+-- nothing more
+pub runs_still : (ss : List Scope) (s : Scope) (first : ℕ) (contents start : Contents) (done xs : List Behavior) → xs ≡ [] → Runs ss s first contents start done → Runs ss s first contents start (done ++ xs)
+runs_still ss s first contents start done xs e h = subst (Runs ss s first contents start) (sym (ap (λ z. done ++ z) e ∙ append-nil done)) h

@@ -1,8 +1,0 @@
-use Rattle.std.proofs.Common.{◌≡◌, map, take}
-use Rattle.vs_scopes.specs.Scopes.{port_names}
-use Rattle.vs_scopes.specs.passes.Answers.{borrowed}
-use Rattle.vs_scopes.specs.passes.Parts.{read_port}
-use Rattle.vs_elaborate.proofs.entering.names_of_ports.Given as goal
-
-abbrev pub invariant-loop-port : goal.invariant-loop-port
-invariant-loop-port l = borrowed l.names.items ≡ port_names (map read_port (take l.port-index l.ports))

@@ -1,6 +1,0 @@
-use Rattle.std.proofs.Common.{take}
-use Rattle.vs_elaborate.specs.passes.Plans.{Lists}
-use Rattle.vs_elaborate.proofs.source.list_modules.Given as goal
-
-abbrev pub invariant-loop-module : goal.invariant-loop-module
-invariant-loop-module l = Lists (take l.module-index l.modules) l.names

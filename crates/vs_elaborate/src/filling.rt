@@ -1,0 +1,136 @@
+//! The continuous assignments and the processes of all scopes.
+ghost use Rattle.std.specs.Prelude.{◌≡◌, ◌<◌, ℕ, List, [], Some, length, slice_get, IfOk, MatchResult};
+ghost use Rattle.vs_widths.specs.Names.{meaning_of, nested_names};
+ghost use Rattle.vs_scopes.specs.Scopes.{Scope, environment_at, has_wrong_end};
+ghost use Rattle.std.specs.Prelude.{false, map};
+ghost use Rattle.vs_scopes.specs.passes.Answers.{Told};
+ghost use Rattle.vs_scopes.specs.passes.Parts.{read_port, read_ends};
+ghost use Rattle.vs_opened.specs.declared.opened.Opened.{Opened as FoundScope};
+ghost use Rattle.vs_opened.specs.Opened.{AreOpened, AreSeated, StandsAround};
+ghost use Rattle.vs_bodies.specs.passes.Views.{AreSites, IsPlaced};
+ghost use Rattle.vs_elaborate.specs.passes.Filling.{IsFrame, HasMembers, AreLefts, Fills, FillsNot, FillsOneNot, FillsScope};
+
+use crate::connecting::drive_ports;
+use crate::contents::Contents;
+use crate::drivers::drive_pieces;
+use crate::frames::Frame;
+use crate::processes::{run_pieces, run_ports};
+use std::alloc::{AllocError, Global};
+use vs_bodies::View;
+use vs_opened::{Opened, names_around, names_outward, path};
+use vs_scopes::ElabFault;
+use vs_selects::Binding;
+use vs_widths::{Levels, Names};
+
+/// The names of the scope around one and those seen there, the innermost first.
+fn names_outside<'s, 'o>(
+    alloc: Global,
+    list: &'o [Opened<'s>],
+    around: Option<usize>,
+) -> Result<Vec<&'o Names<'s, Binding>>, AllocError>
+    requires place { (place : ℕ) → around ≡ Some place → place < length list.now }
+    requires seated { AreSeated list.now }
+    ensures { (ss : List Scope) (s : Scope) → AreOpened list.entry.now ss → StandsAround ss around s →
+        IfOk result (λ v. (n : List ℕ) → meaning_of (nested_names v.items) n ≡ s.outer n) }
+{
+    match around {
+        Some(place) => names_outward(alloc, list, place),
+        None => Ok(Vec::new(alloc)),
+    }
+}
+
+/// Adds the continuous assignments and the processes of a scope in a frame.
+fn fill_frame(
+    alloc: Global,
+    frame: &Frame,
+    scope: &Opened,
+    outer: &Levels,
+    contents: &mut Contents,
+) -> Result<(), ElabFault>
+    requires placed { IsPlaced frame.now.view.list.now frame.now.view.place }
+    requires lefts { AreLefts scope.now }
+    ensures { (ss : List Scope) (s : Scope) → IsFrame frame.now ss s → HasMembers scope.now s → meaning_of outer.now ≡ s.outer →
+        MatchResult result (λ _. FillsScope ss s contents.old contents.new) (Told (FillsNot ss s)) }
+{
+    drive_ports(alloc, frame, outer, &scope.ports, &scope.ends, contents)?;
+    let first = contents.assigns.len();
+    drive_pieces(alloc, frame, first, &scope.pieces, contents)?;
+    let first = contents.processes.len();
+    run_ports(alloc, frame, first, &scope.ports, contents)?;
+    run_pieces(alloc, frame, first, &scope.pieces, contents)
+}
+
+/// Adds the continuous assignments and the processes of the scope of a place, around which names are bound so.
+fn fill_named(
+    alloc: Global,
+    list: &[Opened],
+    place: usize,
+    outer: &Levels,
+    contents: &mut Contents,
+) -> Result<(), ElabFault>
+    requires placed { IsPlaced list.now place }
+    requires lefts { (o : FoundScope) → slice_get list.now place ≡ Some o → AreLefts o }
+    ensures { (ss : List Scope) (s : Scope) → AreSites list.now ss (environment_at ss) → slice_get ss place ≡ Some s →
+        meaning_of outer.now ≡ s.outer → MatchResult result (λ _. FillsScope ss s contents.old contents.new) (Told (FillsNot ss s)) }
+{
+    let scope = &list[place];
+    let around = names_around(alloc, list, scope.kind, scope.around)?;
+    let names = Levels::new(&scope.names, &around);
+    let path = path(alloc, list, place)?;
+    let view = View {
+        list,
+        place,
+        names: &names,
+    };
+    let frame = Frame { path, view };
+    fill_frame(alloc, &frame, scope, outer, contents)
+}
+
+/// Adds the continuous assignments and the processes of the scope of a place; `nothing` has no names.
+fn fill_within<'s>(
+    alloc: Global,
+    list: &[Opened<'s>],
+    place: usize,
+    nothing: &Names<'s, Binding>,
+    contents: &mut Contents,
+) -> Result<(), ElabFault>
+    requires placed { IsPlaced list.now place }
+    requires lefts { (o : FoundScope) → slice_get list.now place ≡ Some o → AreLefts o }
+    requires nothing { nothing.now ≡ [] }
+    ensures { (ss : List Scope) (s : Scope) → AreSites list.now ss (environment_at ss) → slice_get ss place ≡ Some s →
+        MatchResult result (λ _. FillsScope ss s contents.old contents.new) (Told (FillsNot ss s)) }
+{
+    let outside = names_outside(alloc, list, list[place].around)?;
+    let outer = Levels::new(nothing, &outside);
+    fill_named(alloc, list, place, &outer, contents)
+}
+
+/// Adds the continuous assignments and the processes of the scope of a place.
+fn fill(
+    alloc: Global,
+    list: &[Opened],
+    place: usize,
+    contents: &mut Contents,
+) -> Result<(), ElabFault>
+    requires placed { IsPlaced list.now place }
+    requires lefts { (o : FoundScope) → slice_get list.now place ≡ Some o → AreLefts o }
+    ensures { (ss : List Scope) (s : Scope) → AreSites list.now ss (environment_at ss) → slice_get ss place ≡ Some s →
+        MatchResult result (λ _. FillsScope ss s contents.old contents.new) (Told (FillsNot ss s)) }
+{
+    let nothing = Names::new(alloc);
+    fill_within(alloc, list, place, &nothing, contents)
+}
+
+/// The continuous assignments and the processes of scopes, in design order.
+pub fn fill_all(alloc: Global, list: &[Opened]) -> Result<Contents, ElabFault>
+    requires placed { (place : ℕ) → place < length list.now → IsPlaced list.now place }
+    requires lefts { (place : ℕ) (o : FoundScope) → slice_get list.now place ≡ Some o → AreLefts o }
+    ensures { (ss : List Scope) → AreSites list.now ss (environment_at ss) →
+        MatchResult result (Fills ss ss) (Told (FillsOneNot ss ss)) }
+{
+    let mut contents = Contents::new(alloc);
+    for place in 0..list.len() {
+        fill(alloc, list, place, &mut contents)?;
+    }
+    Ok(contents)
+}

@@ -1,0 +1,5 @@
+pub mod FaultLemmas
+pub mod TurnsLemmas
+pub mod BranchesLemmas
+pub mod NumberingLemmas
+pub mod OpeningLemmas

@@ -1,0 +1,4 @@
+pub mod Turns
+pub mod Branches
+pub mod Numbering
+pub mod Opening

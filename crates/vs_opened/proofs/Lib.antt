@@ -1,0 +1,5 @@
+pub mod BindLemmas
+pub mod DeclareLemmas
+pub mod SiteLemmas
+pub mod ConnectLemmas
+pub mod InnerLemmas

@@ -1,0 +1,5 @@
+-- What the functions of this crate tell one another: nothing that is promised rests on these.
+pub mod Sites
+pub mod Naming
+pub mod Declaring
+pub mod Connecting

@@ -1,0 +1,92 @@
+//! Scopes of a source, as they are listed.
+ghost use Rattle.std.specs.Prelude.{◌≡◌, []};
+
+use std::alloc::Global;
+use vs_design::{Entry, ScopeKind, Signal};
+use vs_pieces::Piece;
+use vs_scopes::{ModulePort, PathName};
+use vs_selects::{Binding, Const};
+use vs_syntax::Expr;
+use vs_widths::Names;
+
+/// A scope of a source: the top, an instance, a generate block or a named block (IEEE 1364-2005, clause 12.1).
+///
+/// Other scopes are told by their places in the list, so that none holds what another has: the path and the names outward are found by `around`.
+#[derive(Drop)]
+pub struct Opened<'s> {
+    /// Its own name in its path.
+    pub title: PathName<'s>,
+    /// What opened it.
+    pub kind: ScopeKind,
+    /// How many scopes stand before it in design order: its place in the list.
+    pub number: usize,
+    /// How many signals stand before it in design order.
+    pub base: usize,
+    /// How many instances stand before it in design order, the top among them.
+    pub instances: usize,
+    /// How many turns of generate loops stand before it in design order.
+    pub turns: usize,
+    /// In how many instances it stands, the top and itself among them.
+    pub depth: usize,
+    /// Its ports, in their order.
+    pub ports: Vec<ModulePort<'s>>,
+    /// What stands in it.
+    pub pieces: Vec<Piece<'s>>,
+    /// Its parameters with their values, in the order of the text; before them the genvar of the turn that it is.
+    pub constants: Vec<(&'s [u8], Const)>,
+    /// What its own names are bound to in its constant expressions.
+    pub known: Names<'s, Binding>,
+    /// What its own names are bound to.
+    pub names: Names<'s, Binding>,
+    /// Of an instance, the names of the modules that it stands in, its own first.
+    pub within: Vec<&'s [u8]>,
+    /// The place of the instance that it stands in, which may be itself.
+    pub home: usize,
+    /// The place of the scope around it, where there is one.
+    pub around: Option<usize>,
+    /// What its ports are connected to there, in their order.
+    pub ends: Vec<Option<&'s Expr>>,
+    /// The places of the scopes in it that are no turns of loops, by their names.
+    pub blocks: Names<'s, usize>,
+}
+
+/// The scopes of a source in design order, with their signals and their outline.
+#[derive(Drop)]
+pub struct Opening<'s> {
+    /// The scopes.
+    pub scopes: Vec<Opened<'s>>,
+    /// The signals.
+    pub signals: Vec<Signal>,
+    /// The outline.
+    pub outline: Vec<Entry>,
+}
+
+/// What there is of a design beside its scopes so far.
+#[derive(Drop)]
+pub struct Plan {
+    /// How many instances there are, the top among them.
+    pub instances: usize,
+    /// How many turns of generate loops there are.
+    pub turns: usize,
+    /// The signals.
+    pub signals: Vec<Signal>,
+    /// The outline.
+    pub outline: Vec<Entry>,
+}
+
+impl Plan {
+    /// Nothing.
+    pub fn new(alloc: Global) -> Self
+        ensures instances { result.instances ≡ 0 }
+        ensures turns { result.turns ≡ 0 }
+        ensures signals { result.signals.items ≡ [] }
+        ensures outline { result.outline.items ≡ [] }
+    {
+        Plan {
+            instances: 0,
+            turns: 0,
+            signals: Vec::new(alloc),
+            outline: Vec::new(alloc),
+        }
+    }
+}

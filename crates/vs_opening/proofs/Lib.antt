@@ -1,0 +1,11 @@
+pub mod ListLemmas
+pub mod SeatLemmas
+pub mod EnterLemmas
+pub mod OwnLemmas
+pub mod OpenLemmas
+pub mod FaultLemmas
+pub mod InsideLemmas
+pub mod SourceLemmas
+pub mod BlockLemmas
+pub mod TopLemmas
+pub mod EnteringLemmas

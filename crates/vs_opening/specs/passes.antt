@@ -1,0 +1,4 @@
+-- What the functions of this crate tell one another: nothing that is promised rests on these.
+pub mod Entering
+pub mod Opens
+pub mod Blocks

@@ -1,0 +1,173 @@
+//! All scopes of a source.
+ghost use Rattle.std.specs.Prelude.{◌≡◌, ◌<◌, ◌∷◌, [], ℕ, length, IfOk, OnOk, MatchResult};
+ghost use Rattle.std.specs.List.{All};
+ghost use Rattle.vs_scopes.specs.Printed.{plainly};
+ghost use Rattle.vs_scopes.specs.passes.Answers.{IsFaultAt, Told};
+ghost use Rattle.vs_opened.specs.Opened.{AreSeated, OpensAll};
+ghost use Rattle.vs_opened.specs.ScopeFaults.{StandsOpening};
+ghost use Rattle.vs_opening.specs.passes.Entering.{Lists, ListsNot};
+ghost use Rattle.vs_pieces.specs.Reads.{referred};
+ghost use Rattle.vs_opening.specs.passes.Blocks.{text_name, HasIndex, HasNoBlocks, AddsBlock, AreIndexed};
+ghost use Rattle.vs_opening.specs.passes.Opens.{IsTop, TopNot, IsPlanned, Made};
+
+use crate::adding::list_scope;
+use crate::entering::plain_title;
+use crate::opening::open_inside;
+use std::alloc::{AllocError, Global};
+use vs_design::ScopeKind;
+use vs_opened::{DEEPEST, Opened, Opening, Plan, fault_at};
+use vs_pieces::pieces;
+use vs_scopes::{ElabFault, ParameterRefusal, PartName, PathName, Reason, module_ports};
+use vs_syntax::Module;
+use vs_values::values;
+use vs_widths::{Levels, Names};
+
+/// A fault at a module's name.
+fn module_fault(alloc: Global, name: &[u8], reason: Reason) -> ElabFault
+    ensures { IsFaultAt reason (plainly name.now ∷ []) result }
+{
+    fault_at(alloc, &[plain_title(name)], reason)
+}
+
+/// Modules by their names, which differ.
+fn list_modules<'s>(
+    alloc: Global,
+    modules: &'s [Module],
+) -> Result<Names<'s, &'s Module>, ElabFault>
+    ensures { MatchResult result (Lists modules.entry.now) (Told (ListsNot modules.entry.now)) }
+{
+    let mut names = Names::new(alloc);
+    for module in modules {
+        if !names.declare(&module.name, module)? {
+            return Err(module_fault(alloc, &module.name, Reason::DeclaredTwice));
+        }
+    }
+    Ok(names)
+}
+
+/// The scope of the top module (IEEE 1364-2005, clause 12.1.1).
+#[inline(never)]
+fn top_scope<'s>(alloc: Global, module: &'s Module) -> Result<Opened<'s>, ElabFault>
+    ensures { MatchResult result (IsTop «module».entry.now) (Told (TopNot «module».entry.now)) }
+{
+    let pieces = pieces(alloc, &module.items)?;
+    let ports = module_ports(alloc, module, &pieces)?;
+    let nothing = Names::new(alloc);
+    let nowhere = Levels::alone(&nothing);
+    let values = match values(alloc, &nowhere, module, &ports, &pieces, None) {
+        Ok(values) => values,
+        Err(ParameterRefusal::Own(reason)) => {
+            return Err(module_fault(alloc, &module.name, Reason::Width(reason)));
+        }
+        Err(_) => return Err(ElabFault::Memory),
+    };
+    let mut within = Vec::new(alloc);
+    within.push(module.name.as_slice())?;
+    Ok(Opened {
+        title: plain_title(&module.name),
+        kind: ScopeKind::Module,
+        number: 0,
+        base: 0,
+        instances: 0,
+        turns: 0,
+        depth: 1,
+        ports,
+        pieces,
+        constants: values.constants,
+        known: values.known,
+        names: Names::new(alloc),
+        within,
+        home: 0,
+        around: None,
+        ends: Vec::new(alloc),
+        blocks: Names::new(alloc),
+    })
+}
+
+/// Lists the scopes of a source with a top, in design order.
+fn open_top<'s>(
+    alloc: Global,
+    modules: &'s [Module],
+    top: &[u8],
+    list: &mut Vec<Opened<'s>>,
+    plan: &mut Plan,
+) -> Result<(), ElabFault>
+    requires empty { list.old.items ≡ [] }
+    requires planned { IsPlanned list.old.items plan.old [] }
+    requires outline { plan.old.outline.items ≡ [] }
+    ensures { MatchResult result (λ _. Made modules.entry.now top.now list.new.items plan.new)
+        (Told (StandsOpening modules.entry.now top.now)) }
+{
+    let names = list_modules(alloc, modules)?;
+    let Some(module) = names.find(top) else {
+        return Err(module_fault(alloc, top, Reason::NoModule));
+    };
+    let scope = top_scope(alloc, module)?;
+    list_scope(alloc, scope, list, plan)?;
+    open_inside(alloc, &names, DEEPEST as u32, 0, list, plan)
+}
+
+/// The name of the text that a scope of this title has in the one around it, where it is no turn of a loop.
+fn text_name<'s>(title: PathName<'s>) -> Option<&'s [u8]>
+    ensures { referred result ≡ text_name title.entry }
+{
+    if title.turn.is_some() {
+        return None;
+    }
+    match title.name {
+        PartName::Text(name) => Some(name),
+        PartName::Unnamed { .. } => None,
+    }
+}
+
+/// Tells the scope around the one at a place that it stands there.
+fn index_one<'s>(place: usize, list: &mut [Opened<'s>]) -> Result<(), AllocError>
+    requires { HasIndex list.old place }
+    ensures { OnOk result (AddsBlock place list.old list.new) }
+{
+    let Some(around) = list[place].around else {
+        return Ok(());
+    };
+    let Some(name) = text_name(list[place].title) else {
+        return Ok(());
+    };
+    match list[around].blocks.bind(name, place) {
+        Ok(()) => Ok(()),
+        Err(_) => Err(AllocError),
+    }
+}
+
+/// Tells each scope of a list the places of the scopes in it, by their names.
+fn index_all<'s>(list: &mut [Opened<'s>]) -> Result<(), AllocError>
+    requires places { (place : ℕ) → place < length list.old → HasIndex list.old place }
+    requires none { All HasNoBlocks list.old }
+    ensures { OnOk result (AreIndexed list.old list.new) }
+{
+    for place in 0..list.len() {
+        index_one(place, list)?;
+    }
+    Ok(())
+}
+
+/// The scopes of a source with a top module of this name, in design order, with their signals and their outline (IEEE 1364-2005, clause 12):
+/// the name's own bytes, without the backslash of an escaped one. A refusal has the printed path where its fault stands; where several stand,
+/// it names any one of them; those of continuous assignments and of processes aren't looked for. `Memory` is answered only where a growth was
+/// refused.
+pub fn open_all<'s>(
+    alloc: Global,
+    modules: &'s [Module],
+    top: &[u8],
+) -> Result<Opening<'s>, ElabFault>
+    ensures opens { MatchResult result (OpensAll modules.entry.now top.now) (Told (StandsOpening modules.entry.now top.now)) }
+    ensures seated { IfOk result (λ x. AreSeated x.scopes.items) }
+{
+    let mut scopes = Vec::new(alloc);
+    let mut plan = Plan::new(alloc);
+    open_top(alloc, modules, top, &mut scopes, &mut plan)?;
+    index_all(&mut scopes)?;
+    Ok(Opening {
+        scopes,
+        signals: plan.signals,
+        outline: plan.outline,
+    })
+}

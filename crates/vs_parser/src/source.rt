@@ -1,0 +1,80 @@
+//! Reading modules and sources.
+ghost use Rattle.std.specs.Prelude.{◌≡◌, ◌∷◌, IfOk};
+ghost use Rattle.vs_tokens.specs.declared.token.Word.TheVariants as w;
+ghost use Rattle.vs_syntax.specs.Symbols.{a_word};
+ghost use Rattle.vs_syntax.specs.Grammar.{part, a_source, a_module};
+ghost use Rattle.vs_syntax.specs.Views.{module_tree, source_tree};
+ghost use Rattle.vs_expressions.specs.Answers.{seen, Reads};
+
+use crate::generate::items;
+use crate::head::{SourceHead, source_head};
+use crate::header::{header_parameters, header_ports};
+use std::alloc::Global;
+use vs_expressions::{Read, Stop, expect_mark, expect_name, expect_word};
+use vs_lexer::{ImplicitNet, Mark, Token, Word};
+use vs_syntax::{Module, Source};
+
+/// Reads a module, behind whose first word `after` stands, with the directives before it.
+fn module<'t, 's>(
+    alloc: Global,
+    room: u32,
+    tokens: &'t [Token<'s>],
+    after: &'t [Token<'s>],
+    directives: Vec<ImplicitNet>,
+) -> Result<Read<'t, 's, Module>, Stop<'t, 's>>
+    requires { seen tokens.now ≡ a_word w.Module ∷ seen after.now }
+    ensures reads { Reads (part a_module) room tokens.now module_tree result }
+    ensures directives { IfOk result (λ x. x.tree.directives ≡ directives) }
+{
+    let (name, after_name) = expect_name(alloc, after)?;
+    let parameters = header_parameters(alloc, room, after_name)?;
+    let ports = header_ports(alloc, room, parameters.rest)?;
+    let after_header = expect_mark(ports.rest, Mark::Semicolon)?;
+    let inner = items(alloc, room, after_header)?;
+    let rest = expect_word(inner.rest, Word::Endmodule)?;
+    Ok(Read {
+        tree: Module {
+            directives,
+            name,
+            parameters: parameters.tree,
+            ports: ports.tree,
+            items: inner.tree,
+        },
+        rest,
+    })
+}
+
+/// Reads the modules and the directives that are next: the source, as far as it goes.
+pub(crate) fn source<'t, 's>(
+    alloc: Global,
+    room: u32,
+    tokens: &'t [Token<'s>],
+) -> Result<Read<'t, 's, Source>, Stop<'t, 's>>
+    ensures { Reads (part a_source) room tokens.now source_tree result }
+{
+    let mut modules = Vec::new(alloc);
+    let mut directives = Vec::new(alloc);
+    // All of them, but from a call: so the borrow checker can join it with what the loop sets.
+    let (_none, mut rest) = tokens.split_at(0);
+    while let Some((head, after)) = source_head(rest) {
+        match head {
+            SourceHead::Directive(implicit) => {
+                directives.push(implicit)?;
+                rest = after;
+            }
+            SourceHead::Module => {
+                let inner = module(alloc, room, rest, after, directives)?;
+                directives = Vec::new(alloc);
+                rest = inner.rest;
+                modules.push(inner.tree)?;
+            }
+        }
+    }
+    Ok(Read {
+        tree: Source {
+            modules,
+            directives,
+        },
+        rest,
+    })
+}

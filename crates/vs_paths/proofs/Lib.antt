@@ -1,0 +1,12 @@
+pub mod BranchLemmas
+pub mod PathsDiffer
+pub mod PathsFit
+pub mod PathsLists
+pub mod PathsNumbered
+pub mod PathsOpened
+pub mod PathsParts
+pub mod PathsPrinted
+pub mod PathsWithin
+pub mod TitleLemmas
+pub mod TurnLemmas
+pub mod ValueLemmas

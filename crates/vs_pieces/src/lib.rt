@@ -1,0 +1,10 @@
+//! What stands in a scope of a source: items, generate constructs and named blocks (IEEE 1364-2005, clauses 9.8.3 and 12.4).
+#![tactic(auto)]
+
+mod blocks;
+mod contents;
+mod scope;
+
+pub use blocks::{NamedBlock, item_blocks, statement_blocks};
+pub use contents::{Content, branch_names, content_of};
+pub use scope::{Piece, block_pieces, pieces};

@@ -1,0 +1,3 @@
+pub mod CountingLemmas
+pub mod StrayLemmas
+pub mod UnlikeLemmas

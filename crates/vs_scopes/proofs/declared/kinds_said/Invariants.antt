@@ -1,0 +1,7 @@
+use Rattle.std.proofs.Common.{map, take}
+use Rattle.vs_pieces.specs.Reads.{read_piece}
+use Rattle.vs_scopes.specs.passes.Declared.{AreKinds}
+use Rattle.vs_scopes.proofs.declared.kinds_said.Given as goal
+
+abbrev pub invariant-loop-piece : goal.invariant-loop-piece
+invariant-loop-piece l = AreKinds (map read_piece (take l.piece-index l.pieces)) l.kinds

@@ -1,0 +1,7 @@
+use Rattle.std.proofs.Common.{map, take}
+use Rattle.vs_pieces.specs.Reads.{read_piece}
+use Rattle.vs_scopes.specs.passes.Declared.{ArePortForms}
+use Rattle.vs_scopes.proofs.declared.port_forms.Given as goal
+
+abbrev pub invariant-loop-piece : goal.invariant-loop-piece
+invariant-loop-piece l = ArePortForms (map read_piece (take l.piece-index l.pieces)) l.forms

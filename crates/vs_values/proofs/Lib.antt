@@ -1,0 +1,2 @@
+pub mod EarlyLemmas
+pub mod ValueLemmas
