@@ -12,7 +12,7 @@ use Rattle.vs_widths.specs.Typing.{IsTypedAs}
 use Rattle.vs_targets.specs.declared.kinds.AssignmentKind.{AssignmentKind}
 use Rattle.vs_targets.specs.Aiming.{IsTarget}
 use Rattle.vs_scopes.specs.declared.faults.Reason.{Reason}
-use Rattle.vs_scopes.specs.declared.faults.Reason.TheVariants.{NoModule, Inside, PortMismatch, ParameterMismatch, DeclaredTwice, DrivenTwice, Limit, Width, Endless, Unnamed}
+use Rattle.vs_scopes.specs.declared.faults.Reason.TheVariants.{NoModule, Inside, PortMismatch, ParameterMismatch, DeclaredTwice, DrivenTwice, Limit, Width, Endless, Unnamed, Timescales, Format}
 use Rattle.vs_scopes.specs.declared.faults.BodyFault.{BodyFault}
 use Rattle.vs_bodies.specs.Members.{Assignee}
 use Rattle.vs_bodies.specs.Statements.{IsSource, IsAssignment, assigned_to, assign_fault}
@@ -48,6 +48,8 @@ module _ (env : Environment) (e : Expr) where
         by Limit = refl
         by Endless = refl
         by Unnamed = refl
+        by Timescales = refl
+        by (Format wrong) = refl
 
     -- a fault of the right side is one of the assignment
     pub source_refused : (f : BodyFault) → Refuses (width_faults (λ w. stands w (meant env e).finding)) f → Refuses (λ r. assign_fault r how env a e) f
@@ -64,3 +66,5 @@ module _ (env : Environment) (e : Expr) where
         by Limit k = k
         by Endless k = k
         by Unnamed k = k
+        by Timescales k = k
+        by (Format wrong) k = k

@@ -11,15 +11,19 @@ use Rattle.vs_syntax.specs.declared.tree.Left.{Left}
 use Rattle.vs_syntax.specs.declared.tree.LocalDeclaration.{LocalDeclaration}
 use Rattle.vs_syntax.specs.declared.tree.DelayValue.{DelayValue}
 use Rattle.vs_syntax.specs.declared.tree.EventControl.{EventControl}
+use Rattle.vs_tokens.specs.declared.token.Literal.{Literal}
+use Rattle.vs_syntax.specs.declared.tree.PrintTask.{PrintTask}
+use Rattle.vs_syntax.specs.declared.tree.PrintArguments.{PrintArguments}
+use Rattle.vs_syntax.specs.declared.tree.DumpTask.{DumpTask}
+use Rattle.vs_syntax.specs.declared.tree.DumpArgument.{DumpArgument}
 use Rattle.vs_syntax.specs.declared.tree.Stmt.{Stmt}
 use Rattle.vs_syntax.specs.declared.tree.Stmt.TheVariants as s
 use Rattle.vs_syntax.specs.declared.tree.Stmt.TheOpen.{Stmt-F}
 use Rattle.vs_syntax.specs.declared.tree.Stmt.TheOpen as f
-use Rattle.vs_syntax.specs.declared.tree.Stmt.TheVariants.{rolls-Null, rolls-Assign, rolls-Later, rolls-Named, rolls-For, rolls-While, rolls-Repeat, rolls-Forever, rolls-Delay, rolls-Event}
+use Rattle.vs_syntax.specs.declared.tree.Stmt.TheVariants.{rolls-Null, rolls-Assign, rolls-Later, rolls-Named, rolls-For, rolls-While, rolls-Repeat, rolls-Forever, rolls-Delay, rolls-Event, rolls-Print, rolls-Finish, rolls-Dump}
 use Rattle.vs_syntax.specs.declared.tree.Stmt.TheViews.{roll-Stmt, out-Stmt, out-roll-Stmt}
 use Rattle.vs_syntax.specs.declared.tree.Stmt.TheFolds.{fold-Stmt, fold-roll-Stmt, map-Stmt}
 use Rattle.vs_pieces.specs.Pieces.{NamedBlock, blocks_step, blocks_in, blocks_among}
-use Rattle.vs_selects.specs.Environment.{Environment}
 use Rattle.vs_widths.specs.Names.{meaning_of}
 use Rattle.vs_widths.proofs.NameLemmas.{or_else, meaning_of_append}
 use Rattle.vs_scopes.specs.declared.faults.Reason.{Reason}
@@ -38,6 +42,7 @@ use Rattle.vs_design.specs.declared.design.ScopeKind.{ScopeKind}
 use Rattle.vs_design.specs.declared.design.ScopeKind.TheVariants as opened_by
 use Rattle.vs_bodies.specs.declared.faults.StatementFault.{StatementFault}
 use Rattle.vs_bodies.specs.declared.faults.StatementFault.TheVariants.{Memory, Overfull, Refused, Inside}
+use Rattle.vs_bodies.specs.Surroundings.{Surroundings}
 use Rattle.vs_bodies.specs.Statements.{has_fault, HasFaultAt, in_statement, in_block}
 use Rattle.vs_bodies.specs.passes.Faults.{as_statement_fault, deeper, IsBelow}
 use Rattle.vs_bodies.specs.passes.Views.{IsSite, IsPlaced}
@@ -60,8 +65,8 @@ blocks_Null = blocks_layer f.Null _ rolls-Null
 pub blocks_Assign : (l : Left) (e : Expr) → blocks_in (s.Assign l e) ≡ []
 blocks_Assign l e = blocks_layer (f.Assign l e) _ (rolls-Assign l e)
 
-pub blocks_Later : (l : Left) (e : Expr) → blocks_in (s.Later l e) ≡ []
-blocks_Later l e = blocks_layer (f.Later l e) _ (rolls-Later l e)
+pub blocks_Later : (l : Left) (v : Option DelayValue) (e : Expr) → blocks_in (s.Later l v e) ≡ []
+blocks_Later l v e = blocks_layer (f.Later l v e) _ (rolls-Later l v e)
 
 pub blocks_Named : (n : Vec ℕ Global) (ls : Vec LocalDeclaration Global) (xs : Vec Stmt Global) →
     blocks_in (s.Named n ls xs) ≡ record { name = n.items; locals = ls.items; statements = xs.items } ∷ []
@@ -84,6 +89,15 @@ blocks_Delay l x = blocks_layer (f.Delay l x) _ (rolls-Delay l x)
 
 pub blocks_Event : (e : EventControl) (x : Box Stmt Global) → blocks_in (s.Event e x) ≡ blocks_in x.value
 blocks_Event e x = blocks_layer (f.Event e x) _ (rolls-Event e x)
+
+pub blocks_Print : (task : PrintTask) (xs : PrintArguments) → blocks_in (s.Print task xs) ≡ []
+blocks_Print task xs = blocks_layer (f.Print task xs) _ (rolls-Print task xs)
+
+pub blocks_Finish : (n : Option Literal) → blocks_in (s.Finish n) ≡ []
+blocks_Finish n = blocks_layer (f.Finish n) _ (rolls-Finish n)
+
+pub blocks_Dump : (task : DumpTask) (xs : Option (DumpArgument × Vec DumpArgument Global)) → blocks_in (s.Dump task xs) ≡ []
+blocks_Dump task xs = blocks_layer (f.Dump task xs) _ (rolls-Dump task xs)
 
 -- ---- places in lists
 
@@ -157,7 +171,7 @@ pub record IsPart (a whole : Burden) : Type 0 where
   pub behind : List NamedBlock
   pub blocks : whole.blocks ≡ before ++ (a.blocks ++ behind)
 
-module _ (list : List FoundScope) (envs : Path → Environment) (p : Path) where
+module _ (list : List FoundScope) (envs : Path → Surroundings) (p : Path) where
   inner_more : (us bs front rest : List NamedBlock) (r : Reason) (at : Path) → bs ≡ front ++ (us ++ rest) → HasInnerFault envs p us r at → HasInnerFault envs p bs r at
   inner_more us bs front rest r at e h =
       let q = at_behind front (us ++ rest) h.place h.block (at_first us rest h.place h.block h.stands) in record {
@@ -187,16 +201,16 @@ module _ (list : List FoundScope) (envs : Path → Environment) (p : Path) where
   fails_overfull whole n e m h = let k : 2 ^ 32 ≤ n = h.1 in let g : 2 ^ 32 ≤ whole.last = omega arith in subst (λ z. Fails list envs p whole z) (sym h.0) g
 
 -- no fault in any of these named blocks
-abbrev pub AreFree : (Path → Environment) → Path → List NamedBlock → Type 0
+abbrev pub AreFree : (Path → Surroundings) → Path → List NamedBlock → Type 0
 AreFree envs p bs = (r : Reason) (at : Path) → HasInnerFault envs p bs r at → ⊥
 
-pub free_none : (envs : Path → Environment) (p : Path) (bs : List NamedBlock) → bs ≡ [] → AreFree envs p bs
+pub free_none : (envs : Path → Surroundings) (p : Path) (bs : List NamedBlock) → bs ≡ [] → AreFree envs p bs
 free_none envs p bs e r at h = none-some h.block (sym (ap (λ z. slice_get z h.place) e) ∙ h.stands)
 
-pub free_same : (envs : Path → Environment) (p : Path) (us bs : List NamedBlock) → bs ≡ us → AreFree envs p us → AreFree envs p bs
+pub free_same : (envs : Path → Surroundings) (p : Path) (us bs : List NamedBlock) → bs ≡ us → AreFree envs p us → AreFree envs p bs
 free_same envs p us bs e g = subst (AreFree envs p) (sym e) g
 
-pub free_both : (envs : Path → Environment) (p : Path) (us cs : List NamedBlock) → AreFree envs p us → AreFree envs p cs → AreFree envs p (us ++ cs)
+pub free_both : (envs : Path → Surroundings) (p : Path) (us cs : List NamedBlock) → AreFree envs p us → AreFree envs p cs → AreFree envs p (us ++ cs)
 free_both envs p us cs g k r at h = by (at_split us cs h.place h.block h.stands)
   where
     by : ((j : ℕ) × (slice_get us j ≡ Some h.block)) ⊎ ((j : ℕ) × (slice_get cs j ≡ Some h.block)) → ⊥
@@ -209,7 +223,7 @@ free_both envs p us cs g k r at h = by (at_split us cs h.place h.block h.stands)
 abbrev pub inside_path : Path → NamedBlock → Path
 inside_path p x = p ++ plainly x.name ∷ []
 
-module _ (list : List FoundScope) (envs : Path → Environment) (p : Path) (first place : ℕ) (x : NamedBlock) where
+module _ (list : List FoundScope) (envs : Path → Surroundings) (p : Path) (first place : ℕ) (x : NamedBlock) where
   pub inside_fails : (e : StatementFault) → IsSite list envs place (inside_path p x) → Fails list envs (inside_path p x) (statements_burden (envs (inside_path p x)) first x.statements) e →
       Fails list envs p (named_burden first x) (deeper place e)
   inside_fails Memory site h = tt
@@ -240,7 +254,7 @@ module _ (list : List FoundScope) (envs : Path → Environment) (p : Path) (firs
         ),
       )
 
-no_fault_inside : (envs : Path → Environment) (q : Path) (xs : List Stmt) (first : ℕ) (j : ℕ) (y : Stmt) (r : Reason) (at : Path) → IsFree envs q (statements_burden (envs q) first xs) → slice_get xs j ≡ Some y → HasFaultAt envs r at q y → ⊥
+no_fault_inside : (envs : Path → Surroundings) (q : Path) (xs : List Stmt) (first : ℕ) (j : ℕ) (y : Stmt) (r : Reason) (at : Path) → IsFree envs q (statements_burden (envs q) first xs) → slice_get xs j ≡ Some y → HasFaultAt envs r at q y → ⊥
 no_fault_inside envs _ xs first j _ r at h e (in_statement q y g k) = true≢false (sym g ∙ any_false_at (has_fault r (envs q)) xs j y (h.own r) e)
 no_fault_inside envs _ xs first j _ r at h e (in_block q y z i l c g k u) =
     let w = flat_back xs j y i c e g in
@@ -250,7 +264,7 @@ one_block : (x y : NamedBlock) (i : ℕ) → slice_get (x ∷ []) i ≡ Some y �
 one_block x y zero h = same_Some x y h
 one_block x y (suc i) h = absurd (none-some y h)
 
-pub inside_free : (envs : Path → Environment) (p : Path) (first : ℕ) (x : NamedBlock) → IsFree envs (inside_path p x) (statements_burden (envs (inside_path p x)) first x.statements) → IsFree envs p (named_burden first x)
+pub inside_free : (envs : Path → Surroundings) (p : Path) (first : ℕ) (x : NamedBlock) → IsFree envs (inside_path p x) (statements_burden (envs (inside_path p x)) first x.statements) → IsFree envs p (named_burden first x)
 inside_free envs p first x h = record {
   own = λ r. refl;
   room = h.room;
@@ -263,26 +277,34 @@ inside_free envs p first x h = record {
 
 -- ---- the scope of a named block
 
-pub site_inside : (list : List FoundScope) (envs : Path → Environment) (place : ℕ) (p : Path) (o : FoundScope) (n : List ℕ) (inner : ℕ) → IsSite list envs place p → slice_get list place ≡ Some o → meaning_of o.blocks n ≡ Some inner →
+pub site_inside : (list : List FoundScope) (envs : Path → Surroundings) (place : ℕ) (p : Path) (o : FoundScope) (n : List ℕ) (inner : ℕ) → IsSite list envs place p → slice_get list place ≡ Some o → meaning_of o.blocks n ≡ Some inner →
     IsSite list envs inner (p ++ plainly n ∷ [])
 site_inside list envs place p o n inner h at found =
     let t = (zip_at (HasBlocks h.scopes) list h.scopes place o h.scope h.sites.blocks at h.stands).found n inner found in
     record { scopes = h.scopes; sites = h.sites; scope = t.inner; stands = t.stands; path = t.path ∙ ap (λ z. z ++ plainly n ∷ []) h.path }
+
+-- a unit of time is as many ticks in the scope of a named block as around it
+pub ratio_inside : (list : List FoundScope) (envs : Path → Surroundings) (place : ℕ) (p : Path) (o : FoundScope) (n : List ℕ) (inner ratio : ℕ) → IsSite list envs place p → slice_get list place ≡ Some o → meaning_of o.blocks n ≡ Some inner → ratio ≡ (envs p).ratio →
+    ratio ≡ (envs (p ++ plainly n ∷ [])).ratio
+ratio_inside list envs place p o n inner ratio h at found e =
+    let t = (zip_at (HasBlocks h.scopes) list h.scopes place o h.scope h.sites.blocks at h.stands).found n inner found in
+    let path : t.inner.path ≡ p ++ plainly n ∷ [] = t.path ∙ ap (λ z. z ++ plainly n ∷ []) h.path in
+    e ∙ sym (ap (λ (z : Path). (envs z).ratio) h.path) ∙ h.sites.ratios place h.scope h.stands ∙ sym (h.sites.ratios inner t.inner t.stands) ∙ ap (λ (z : Path). (envs z).ratio) path
 
 said_else : {A : Type 0} (a b : Option A) → or_else a b ≡ said b a
 said_else None b = refl
 said_else (Some x) b = refl
 
 -- what names are bound to in a scope, by its own names and those around it
-pub site_names : (list : List FoundScope) (envs : Path → Environment) (place : ℕ) (p : Path) (o : FoundScope) (outer names : Bindings) (site : IsSite list envs place p) → slice_get list place ≡ Some o → names ≡ o.names ++ outer →
-    ((n : List ℕ) → meaning_of outer n ≡ seen_from site.scope.kind site.scope.outer n) → meaning_of names ≡ envs p
+pub site_names : (list : List FoundScope) (envs : Path → Surroundings) (place : ℕ) (p : Path) (o : FoundScope) (outer names : Bindings) (site : IsSite list envs place p) → slice_get list place ≡ Some o → names ≡ o.names ++ outer →
+    ((n : List ℕ) → meaning_of outer n ≡ seen_from site.scope.kind site.scope.outer n) → meaning_of names ≡ (envs p).names
 site_names list envs place p o outer names site at e seen =
     let t = site.scope in
     let opened : IsOpened site.scopes o t = zip_at (IsOpened site.scopes) list site.scopes place o t site.sites.opened.each at site.stands in
     let one : (n : List ℕ) → meaning_of names n ≡ environment t n =
     λ n.
     ap (λ z. meaning_of z n) e ∙ meaning_of_append o.names outer n ∙ said_else (meaning_of o.names n) (meaning_of outer n) ∙ ap (said (meaning_of outer n)) (opened.names n) ∙ ap (λ z. said z (meaning_of (bindings_of t) n)) (seen n) in
-    fun_ext one ∙ sym (site.sites.names place t site.stands) ∙ ap envs site.path
+    fun_ext one ∙ sym (site.sites.names place t site.stands) ∙ ap (λ (z : Path). (envs z).names) site.path
 
 -- a place that an index has
 pub got : {A : Type 0} (xs : List A) (i : ℕ) (x : A) → i < length xs → x ≡ get_or xs i x → slice_get xs i ≡ Some x
@@ -308,12 +330,12 @@ pub placed_inside : (list : List FoundScope) (place : ℕ) (o : FoundScope) (n :
 placed_inside list place o n inner h at e = record { within = h.blocks place o n inner at e; seated = h.seated; blocks = h.blocks }
 
 -- what a site says of the scope that stands there
-pub site_opened : (list : List FoundScope) (envs : Path → Environment) (place : ℕ) (p : Path) (o : FoundScope) (site : IsSite list envs place p) → slice_get list place ≡ Some o → IsOpened site.scopes o site.scope
+pub site_opened : (list : List FoundScope) (envs : Path → Surroundings) (place : ℕ) (p : Path) (o : FoundScope) (site : IsSite list envs place p) → slice_get list place ≡ Some o → IsOpened site.scopes o site.scope
 site_opened list envs place p o site at = zip_at (IsOpened site.scopes) list site.scopes place o site.scope site.sites.opened.each at site.stands
 
 -- what names are bound to in the scope of a place, by its own names and those around it
-pub names_at : (list : List FoundScope) (envs : Path → Environment) (place : ℕ) (p : Path) (o : FoundScope) (names around : Bindings) (site : IsSite list envs place p) → slice_get list place ≡ Some o → names ≡ o.names ++ around →
-    ((ss : List Scope) (s : Scope) → AreOpened list ss → StandsAround ss o.around s → o.kind ≡ s.kind → (n : List ℕ) → meaning_of around n ≡ seen_from s.kind s.outer n) → meaning_of names ≡ envs p
+pub names_at : (list : List FoundScope) (envs : Path → Surroundings) (place : ℕ) (p : Path) (o : FoundScope) (names around : Bindings) (site : IsSite list envs place p) → slice_get list place ≡ Some o → names ≡ o.names ++ around →
+    ((ss : List Scope) (s : Scope) → AreOpened list ss → StandsAround ss o.around s → o.kind ≡ s.kind → (n : List ℕ) → meaning_of around n ≡ seen_from s.kind s.outer n) → meaning_of names ≡ (envs p).names
 names_at list envs place p o names around site at e seen =
     let opened = site_opened list envs place p o site at in
     site_names list envs place p o around names site at e (seen site.scopes site.scope site.sites.opened opened.entered.around opened.entered.kind)

@@ -16,7 +16,7 @@ use Rattle.vs_selects.specs.Findings.{Finding, Has, Lacks, stands, together, ali
 use Rattle.vs_widths.specs.Expressions.{meant}
 use Rattle.vs_widths.specs.Typing.{IsTypedAs}
 use Rattle.vs_scopes.specs.declared.faults.Reason.{Reason}
-use Rattle.vs_scopes.specs.declared.faults.Reason.TheVariants.{NoModule, Inside, PortMismatch, ParameterMismatch, DeclaredTwice, DrivenTwice, Limit, Width, Endless, Unnamed}
+use Rattle.vs_scopes.specs.declared.faults.Reason.TheVariants.{NoModule, Inside, PortMismatch, ParameterMismatch, DeclaredTwice, DrivenTwice, Limit, Width, Endless, Unnamed, Timescales, Format}
 use Rattle.vs_scopes.specs.passes.Answers.{Refuses, body_fault}
 use Rattle.vs_scopes.proofs.Folds.{any_at, any_push, take_push, flat_more, right_true, left_true}
 use Rattle.vs_scopes.proofs.AnswerLemmas.{flat_split}
@@ -144,6 +144,8 @@ case_is env e ls s x p q h = (by, record { found = p; typed = h; defaults = q })
     by Limit = refl
     by Endless = refl
     by Unnamed = refl
+    by Timescales = refl
+    by (Format wrong) = refl
 
 pub case_refused : (env : Environment) (e : Expr) (ls : List CaseLabel) (d : WidthFault) → Found (case_finding env e ls) d → Refuses (λ r. case_fault r env e ls) (body_fault d)
 case_refused env e ls fault.Memory h = tt
@@ -182,6 +184,8 @@ operand_sound env e width signed y h DrivenTwice = refl
 operand_sound env e width signed y h Limit = refl
 operand_sound env e width signed y h Endless = refl
 operand_sound env e width signed y h Unnamed = refl
+operand_sound env e width signed y h Timescales = refl
+operand_sound env e width signed y h (Format wrong) = refl
 
 values_one : (env : Environment) (width : ℕ) (signed : Bool) (es : List Expr) (ys : List Typed) (e : Expr) (y : Typed) → ValuesAre env width signed es ys → IsTypedAs (meant env e) width signed y → ValuesAre env width signed (es ++ e ∷ []) (ys ++ y ∷ [])
 values_one env width signed es ys e y h k = record {

@@ -31,7 +31,7 @@ use Rattle.vs_targets.specs.declared.kinds.AssignmentKind.TheVariants.{Event}
 use Rattle.vs_targets.specs.Lefts.{Aimed, name_aimed, takes_reads}
 use Rattle.vs_targets.specs.Aiming.{IsPlace, IsTarget, is_none_read}
 use Rattle.vs_scopes.specs.declared.faults.Reason.{Reason}
-use Rattle.vs_scopes.specs.declared.faults.Reason.TheVariants.{NoModule, Inside, PortMismatch, ParameterMismatch, DeclaredTwice, DrivenTwice, Limit, Width, Endless, Unnamed}
+use Rattle.vs_scopes.specs.declared.faults.Reason.TheVariants.{NoModule, Inside, PortMismatch, ParameterMismatch, DeclaredTwice, DrivenTwice, Limit, Width, Endless, Unnamed, Timescales, Format}
 use Rattle.vs_scopes.specs.declared.faults.BodyFault.{BodyFault}
 use Rattle.vs_scopes.specs.passes.Answers.{Refuses, Elaborates}
 use Rattle.vs_scopes.specs.passes.Sizes.{width_faults}
@@ -81,6 +81,8 @@ widths_by f g h DrivenTwice k = k
 widths_by f g h Limit k = k
 widths_by f g h Endless k = k
 widths_by f g h Unnamed k = k
+widths_by f g h Timescales k = k
+widths_by f g h (Format wrong) k = k
 
 -- a term that has no fault
 abbrev pub TermIs : Environment → EventExpr → EventTerm → Type 0
@@ -157,6 +159,8 @@ events_sound env e h DrivenTwice = refl
 events_sound env e h Limit = refl
 events_sound env e h Endless = refl
 events_sound env e h Unnamed = refl
+events_sound env e h Timescales = refl
+events_sound env e h (Format wrong) = refl
 
 -- an event control without faults, with its terms
 abbrev pub EventsAre : Environment → Statement → EventControl → List EventTerm → Type 0
@@ -196,3 +200,5 @@ events_terms env body t ts xs r i h =
     by Limit u = u
     by Endless u = u
     by Unnamed u = u
+    by Timescales u = u
+    by (Format wrong) u = u

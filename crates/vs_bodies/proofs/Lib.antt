@@ -1,8 +1,11 @@
 pub mod AssignmentLemmas
 pub mod CaseLemmas
+pub mod CallLemmas
 pub mod DepthLemmas
 pub mod EventLemmas
 pub mod BlockLemmas
+pub mod FormLemmas
+pub mod PartLemmas
 pub mod StatementLemmas
 pub mod ReadsLemmas
 pub mod WellFormedLemmas

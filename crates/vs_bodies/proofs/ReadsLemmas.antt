@@ -12,14 +12,16 @@ use Rattle.vs_design.specs.declared.signal.Signal.{Signal}
 use Rattle.vs_design.specs.declared.statement.Aim.{Aim}
 use Rattle.vs_design.specs.declared.statement.Aim.TheVariants.{Fixed, Chosen}
 use Rattle.vs_design.specs.declared.statement.Target.{Target}
+use Rattle.vs_design.specs.declared.statement.FormatArg.{FormatArg}
+use Rattle.vs_design.specs.declared.statement.FormatArg.TheVariants as arg
 use Rattle.vs_design.specs.declared.statement.Statement.{Statement}
 use Rattle.vs_design.specs.declared.statement.Statement.TheViews.{roll-Statement}
 use Rattle.vs_design.specs.declared.statement.Statement.TheOpen.{Statement-F}
 use Rattle.vs_design.specs.declared.statement.Statement.TheOpen as f
 use Rattle.vs_design.specs.declared.statement.Statement.TheFolds.{fold-roll-Statement, ind-Statement, map-Statement}
 use Rattle.vs_design.specs.Uses.{reads, joined, aim_reads, target_reads}
-use Rattle.vs_design.specs.Statements.{all_reads, assignment_reads, statement_reads, statement_reads_step}
-use Rattle.vs_design.specs.WellFormed.{are_within, is_within, size_of, is_at_least, aim_width, is_of_variable, is_variable_aim, is_sound_target, is_source, is_sound_assignment, is_sound_operand, is_alike, are_sound_labels, are_sound_terms, sound_step, is_sound_statement}
+use Rattle.vs_design.specs.Statements.{all_reads, assignment_reads, arg_reads, statement_reads, statement_reads_step}
+use Rattle.vs_design.specs.WellFormed.{are_within, is_within, size_of, is_at_least, aim_width, is_of_variable, is_variable_aim, is_sound_target, is_source, is_sound_assignment, is_sound_operand, is_sound_arg, is_alike, are_sound_labels, are_sound_terms, sound_step, is_sound_statement}
 use Rattle.std.specs.Prelude.{slice_get}
 
 module _ (ss : List Signal) where
@@ -48,6 +50,16 @@ module _ (ss : List Signal) where
 
   operand_within : (e : Typed) → is_sound_operand ss e ≡ true → are_within ss (reads e) ≡ true
   operand_within e h = (and_parts (is_within ss e) (is_some (size_of e)) h).0
+
+  arg_within : (a : FormatArg) → is_sound_arg ss a ≡ true → are_within ss (arg_reads a) ≡ true
+  arg_within (arg.Value signed e) h = operand_within e h
+  arg_within arg.Time h = refl
+
+  args_within : (xs : List FormatArg) → list_all (is_sound_arg ss) xs ≡ true → are_within ss (joined (map arg_reads xs)) ≡ true
+  args_within [] h = refl
+  args_within (a ∷ xs) h =
+      let parts = and_parts (is_sound_arg ss a) (list_all (is_sound_arg ss) xs) h in
+      both_within (arg_reads a) (joined (map arg_reads xs)) (arg_within a parts.0) (args_within xs parts.1)
 
   labels_within : (x : Typed) (es : List Typed) → are_sound_labels ss x es ≡ true → are_within ss (all_reads es) ≡ true
   labels_within x [] h = refl
@@ -88,7 +100,9 @@ module _ (ss : List Signal) where
   layer : (y : Statement-F Inner) → sound_step ss (map-Statement Statement Bool (is_sound_statement ss) (bare y)) ≡ true → are_within ss (statement_reads_step (map-Statement Statement (List BitRange) statement_reads (bare y))) ≡ true
   layer (f.Null n) h = refl
   layer (f.Assign n t e) h = assignment_within t e h
-  layer (f.Later n t e) h = assignment_within t e h
+  layer (f.Later n ticks t e) h = assignment_within t e h
+  layer (f.Call n c) h = args_within c.args.items h
+  layer (f.Finish n) h = refl
   layer (f.Block all) h = in_block all.items h
   layer (f.Delay n ticks body) h = body.value.1 h
   layer (f.Event n terms body) h = body.value.1 (and_parts (are_sound_terms ss terms.items) (is_sound_statement ss body.value.0) h).1

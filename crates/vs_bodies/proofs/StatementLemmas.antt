@@ -1,51 +1,47 @@
 -- Statements, by their form.
-use Rattle.std.proofs.Common.{◌≡◌, ℕ, zero, suc, ◌+◌, ◌<◌, ◌≤◌, ◌^◌, Bool, true, false, ◌||◌, List, [], ◌∷◌, ◌++◌, inl, inr, true≢false, Option, None, Some, Result, Ok, Err, length, map, take, get_or, refl, ap, sym, subst, ◌∙◌, arith, append_assoc, nat_le}
+use Rattle.std.proofs.Common.{◌≡◌, ℕ, suc, ◌+◌, ◌<◌, ◌≤◌, ◌^◌, Bool, true, false, List, [], ◌∷◌, ◌++◌, inl, inr, true≢false, Option, None, Some, Result, Ok, Err, length, map, take, get_or, refl, ap, sym, subst, ◌∙◌, arith}
 use Rattle.std.proofs.lemmas.List.Concat.{flat_map-append}
 use Rattle.std.specs.List.{list_any, flat_map}
 use Rattle.std.specs.declared.vec.Vec.{Vec}
 use Rattle.std.specs.declared.boxed.Box.{Box}
 use Rattle.std.specs.declared.alloc.Global.{Global}
-use Rattle.std.proofs.lemmas.Bool.{leb-true, le-leb}
+use Rattle.std.proofs.lemmas.Bool.{le-leb}
 use Rattle.std.proofs.lemmas.List.{map-append, append-nil, take_all}
 use Rattle.vs_syntax.specs.declared.tree.Expr.{Expr}
 use Rattle.vs_syntax.specs.declared.tree.Left.{Left}
 use Rattle.vs_syntax.specs.declared.tree.LocalDeclaration.{LocalDeclaration}
 use Rattle.vs_syntax.specs.declared.tree.Stmt.{Stmt}
 use Rattle.vs_syntax.specs.declared.tree.Stmt.TheVariants as s
-use Rattle.vs_syntax.specs.declared.tree.Stmt.TheOpen as f
 use Rattle.vs_syntax.specs.declared.tree.CaseLabel.{CaseLabel}
 use Rattle.vs_syntax.specs.declared.tree.DelayValue.{DelayValue}
 use Rattle.vs_syntax.specs.declared.tree.EventControl.{EventControl}
-use Rattle.vs_syntax.specs.declared.tree.Stmt.TheVariants.{rolls-Null, rolls-Assign, rolls-Later, rolls-Block, rolls-Named, rolls-If, rolls-Case, rolls-For, rolls-While, rolls-Repeat, rolls-Forever, rolls-Delay, rolls-Event}
-use Rattle.vs_syntax.specs.declared.tree.Stmt.TheFolds.{fold-roll-Stmt}
+use Rattle.vs_tokens.specs.declared.token.Literal.{Literal}
+use Rattle.vs_syntax.specs.declared.tree.PrintTask.{PrintTask}
+use Rattle.vs_syntax.specs.declared.tree.PrintArguments.{PrintArguments}
+use Rattle.vs_syntax.specs.declared.tree.DumpTask.{DumpTask}
+use Rattle.vs_syntax.specs.declared.tree.DumpArgument.{DumpArgument}
 use Rattle.vs_design.specs.Uses.{joined}
-use Rattle.vs_design.specs.WellFormed.{numbers, numbers_step}
+use Rattle.vs_design.specs.WellFormed.{numbers}
 use Rattle.vs_design.specs.declared.expression.Typed.{Typed}
 use Rattle.vs_design.specs.declared.statement.Target.{Target}
 use Rattle.vs_design.specs.declared.statement.EventTerm.{EventTerm}
 use Rattle.vs_design.specs.declared.statement.Ticks.{Ticks}
+use Rattle.vs_design.specs.declared.statement.Call.{Call}
 use Rattle.vs_logic4.specs.declared.case.CaseKind.{CaseKind}
 use Rattle.vs_forms.specs.declared.shape.Shape.{Shape}
 use Rattle.vs_design.specs.declared.statement.Statement.{Statement}
 use Rattle.vs_design.specs.declared.statement.Statement.TheVariants as d
-use Rattle.vs_design.specs.declared.statement.Statement.TheVariants.{rolls-Null as drolls-Null, rolls-Assign as drolls-Assign, rolls-Later as drolls-Later, rolls-Block as drolls-Block, rolls-If as drolls-If, rolls-Case as drolls-Case, rolls-While as drolls-While, rolls-Repeat as drolls-Repeat, rolls-Delay as drolls-Delay, rolls-Event as drolls-Event, rolls-Forever as drolls-Forever}
-use Rattle.vs_design.specs.declared.statement.Statement.TheOpen as g
-use Rattle.vs_design.specs.declared.statement.Statement.TheFolds.{fold-roll-Statement}
 use Rattle.vs_targets.specs.declared.kinds.AssignmentKind.TheVariants.{Procedural}
 use Rattle.vs_scopes.specs.declared.faults.Reason.{Reason}
-use Rattle.vs_scopes.specs.declared.faults.Reason.TheVariants.{NoModule, Inside, PortMismatch, ParameterMismatch, DeclaredTwice, DrivenTwice, Limit, Width, Endless, Unnamed}
+use Rattle.vs_scopes.specs.declared.faults.Reason.TheVariants.{Limit}
 use Rattle.vs_scopes.specs.declared.faults.BodyFault.{BodyFault}
 use Rattle.vs_scopes.specs.declared.faults.BodyFault.TheVariants as b
-use Rattle.vs_selects.specs.Environment.{Environment}
-use Rattle.vs_selects.specs.Findings.{stands}
-use Rattle.vs_widths.specs.Expressions.{meant}
-use Rattle.vs_bodies.proofs.CaseLemmas.{exprs_in, exprs_of, stands_common}
-use Rattle.std.proofs.lemmas.List.Folds.{list_any-append}
+use Rattle.vs_bodies.proofs.CaseLemmas.{exprs_in}
 use Rattle.vs_pieces.specs.Pieces.{NamedBlock, blocks_in, blocks_among}
-use Rattle.vs_pieces.specs.passes.Parts.{blocks_behind}
-use Rattle.vs_pieces.proofs.PiecesLemmas.{blocks_Block, blocks_If, blocks_Case}
-use Rattle.vs_bodies.specs.Statements.{IsAssignment, IsOperand, IsStatement, is_null, is_assign, is_later, is_block, is_named, is_if, is_case, is_for, is_while, is_repeat, is_forever, is_delay, is_event, IsElse, no_else, an_else, AreItems, no_items, more_items, AreTypedAt, AreEvents, AreStatements, are_none, are_more, assign_fault, operand_fault, delay_of, delay_fault, event_fault, case_fault, label_exprs, fault_step, has_fault, HasFaultAt, in_statement, in_block, count_step, count_of, total, is_overfull}
+use Rattle.vs_pieces.proofs.PiecesLemmas.{blocks_Block, blocks_Case}
+use Rattle.vs_bodies.specs.Statements.{IsAssignment, IsOperand, IsStatement, is_null, is_assign, is_later, is_block, is_named, is_if, is_case, is_for, is_while, is_repeat, is_forever, is_delay, is_event, is_print, is_finish, is_dump, IsElse, no_else, an_else, AreItems, no_items, more_items, AreTypedAt, AreEvents, AreStatements, are_none, are_more, assign_fault, operand_fault, delay_of, delay_fault, due_of, due_fault, IsCall, print_fault, event_fault, case_fault, label_exprs, has_fault, HasFaultAt, in_statement, in_block, count_of, total, is_overfull}
 use Rattle.vs_bodies.specs.Members.{Assignment, places, sets, runs, repeats}
+use Rattle.vs_bodies.specs.Surroundings.{Surroundings}
 use Rattle.vs_bodies.specs.Processes.{is_set, is_run, is_repeat, HasBehaviorFault}
 use Rattle.vs_scopes.specs.Printed.{plainly, Path}
 use Rattle.vs_scopes.specs.passes.Answers.{Refuses}
@@ -54,446 +50,14 @@ use Rattle.vs_bodies.specs.declared.faults.StatementFault.{StatementFault}
 use Rattle.vs_bodies.specs.declared.faults.StatementFault.TheVariants as t
 use Rattle.vs_bodies.specs.passes.Faults.{as_statement_fault}
 use Rattle.vs_bodies.specs.passes.Bodies.{counting, statement_burden, statements_burden, numbered_burden, named_burden, items_burden, IsFree, Fails, Answers, MeansStatement, MeansStatements, MeansBody, IsCase, IsNumbered, IsRepeated, else_list, MeansElse, MeansItems, item_fault, BodyFails, Embodies}
-use Rattle.vs_bodies.proofs.BlockLemmas.{blocks_Null, blocks_Assign, blocks_Later, blocks_Named, blocks_For, blocks_While, blocks_Repeat, blocks_Forever, blocks_Delay, blocks_Event, IsPart, fails_part, fails_by, fails_overfull, AreFree, free_none, free_same, free_both}
-use Rattle.vs_scopes.proofs.Folds.{any_of_map, both_false, left_true, right_true, any_push, any_at, take_push}
-
--- ---- faults, by form
-
-pub fault_Null : (r : Reason) (env : Environment) → has_fault r env s.Null ≡ false
-fault_Null r env = ap (has_fault r env) (sym rolls-Null) ∙ fold-roll-Stmt Bool (fault_step r env) f.Null
-
-pub fault_Assign : (r : Reason) (env : Environment) (l : Left) (e : Expr) → has_fault r env (s.Assign l e) ≡ assign_fault r Procedural env (places l) e
-fault_Assign r env l e = ap (has_fault r env) (sym (rolls-Assign l e)) ∙ fold-roll-Stmt Bool (fault_step r env) (f.Assign l e)
-
-pub fault_Later : (r : Reason) (env : Environment) (l : Left) (e : Expr) → has_fault r env (s.Later l e) ≡ assign_fault r Procedural env (places l) e
-fault_Later r env l e = ap (has_fault r env) (sym (rolls-Later l e)) ∙ fold-roll-Stmt Bool (fault_step r env) (f.Later l e)
-
-pub fault_Block : (r : Reason) (env : Environment) (xs : Vec Stmt Global) → has_fault r env (s.Block xs) ≡ list_any (has_fault r env) xs.items
-fault_Block r env xs = ap (has_fault r env) (sym (rolls-Block xs)) ∙ fold-roll-Stmt Bool (fault_step r env) (f.Block xs) ∙ any_of_map (has_fault r env) xs.items
-
-pub fault_Named : (r : Reason) (env : Environment) (n : Vec ℕ Global) (ls : Vec LocalDeclaration Global) (xs : Vec Stmt Global) → has_fault r env (s.Named n ls xs) ≡ false
-fault_Named r env n ls xs = ap (has_fault r env) (sym (rolls-Named n ls xs)) ∙ fold-roll-Stmt Bool (fault_step r env) (f.Named n ls xs)
-
-or_none : (a : Bool) → (a || false) ≡ a
-or_none true = refl
-or_none false = refl
-
-pub fault_If : (r : Reason) (env : Environment) (e : Expr) (x : Box Stmt Global) (o : Option (Box Stmt Global)) →
-    has_fault r env (s.If e x o) ≡ (operand_fault r env e || has_fault r env x.value || list_any (has_fault r env) (else_list o))
-fault_If r env e x None = ap (has_fault r env) (sym (rolls-If e x None)) ∙ fold-roll-Stmt Bool (fault_step r env) (f.If e x None)
-fault_If r env e x (Some z) =
-    ap (has_fault r env) (sym (rolls-If e x (Some z))) ∙ fold-roll-Stmt Bool (fault_step r env) (f.If e x (Some z))
-    ∙ ap (λ b. operand_fault r env e || has_fault r env x.value || b) (sym (or_none (has_fault r env z.value)))
-
-labels_each : {B C : Type 0} (g : B → C) (xs : List (CaseLabel × B)) → map (λ (x : CaseLabel × C). x.0) (map (λ (x : CaseLabel × B). (x.0, g x.1)) xs) ≡ map (λ (x : CaseLabel × B). x.0) xs
-labels_each g [] = refl
-labels_each g (x ∷ xs) = ap (λ ls. x.0 ∷ ls) (labels_each g xs)
-
-any_each : {B : Type 0} (g : B → Bool) (xs : List (CaseLabel × B)) → list_any (λ (x : CaseLabel × Bool). x.1) (map (λ (x : CaseLabel × B). (x.0, g x.1)) xs) ≡ list_any (λ (x : CaseLabel × B). g x.1) xs
-any_each g [] = refl
-any_each g (x ∷ xs) = ap (λ b. g x.1 || b) (any_each g xs)
-
--- the labels of the items of a `case`
-abbrev pub labels_of : List (CaseLabel × Stmt) → List CaseLabel
-labels_of xs = map (λ (x : CaseLabel × Stmt). x.0) xs
-
-pub fault_Case : (r : Reason) (env : Environment) (kind : CaseKind) (e : Expr) (xs : Vec (CaseLabel × Stmt) Global) →
-    has_fault r env (s.Case kind e xs) ≡ (case_fault r env e (labels_of xs.items) || list_any (λ (x : CaseLabel × Stmt). has_fault r env x.1) xs.items)
-fault_Case r env kind e xs =
-    ap (has_fault r env) (sym (rolls-Case kind e xs)) ∙ fold-roll-Stmt Bool (fault_step r env) (f.Case kind e xs)
-    ∙ ap (λ ls. case_fault r env e ls || list_any (λ (x : CaseLabel × Bool). x.1) (map (λ (x : CaseLabel × Stmt). (x.0, has_fault r env x.1)) xs.items)) (labels_each (has_fault r env) xs.items)
-    ∙ ap (λ b. case_fault r env e (labels_of xs.items) || b) (any_each (has_fault r env) xs.items)
-
-pub fault_For : (r : Reason) (env : Environment) (l : Left) (a c : Expr) (m : Left) (b : Expr) (x : Box Stmt Global) →
-    has_fault r env (s.For l a c m b x) ≡ (assign_fault r Procedural env (places l) a || operand_fault r env c || assign_fault r Procedural env (places m) b || has_fault r env x.value)
-fault_For r env l a c m b x = ap (has_fault r env) (sym (rolls-For l a c m b x)) ∙ fold-roll-Stmt Bool (fault_step r env) (f.For l a c m b x)
-
-pub fault_While : (r : Reason) (env : Environment) (e : Expr) (x : Box Stmt Global) → has_fault r env (s.While e x) ≡ (operand_fault r env e || has_fault r env x.value)
-fault_While r env e x = ap (has_fault r env) (sym (rolls-While e x)) ∙ fold-roll-Stmt Bool (fault_step r env) (f.While e x)
-
-pub fault_Repeat : (r : Reason) (env : Environment) (e : Expr) (x : Box Stmt Global) → has_fault r env (s.Repeat e x) ≡ (operand_fault r env e || has_fault r env x.value)
-fault_Repeat r env e x = ap (has_fault r env) (sym (rolls-Repeat e x)) ∙ fold-roll-Stmt Bool (fault_step r env) (f.Repeat e x)
-
-pub fault_Forever : (r : Reason) (env : Environment) (x : Box Stmt Global) → has_fault r env (s.Forever x) ≡ has_fault r env x.value
-fault_Forever r env x = ap (has_fault r env) (sym (rolls-Forever x)) ∙ fold-roll-Stmt Bool (fault_step r env) (f.Forever x)
-
-pub fault_Delay : (r : Reason) (env : Environment) (l : DelayValue) (x : Box Stmt Global) → has_fault r env (s.Delay l x) ≡ (delay_fault r env l || has_fault r env x.value)
-fault_Delay r env l x = ap (has_fault r env) (sym (rolls-Delay l x)) ∙ fold-roll-Stmt Bool (fault_step r env) (f.Delay l x)
-
-pub fault_Event : (r : Reason) (env : Environment) (e : EventControl) (x : Box Stmt Global) → has_fault r env (s.Event e x) ≡ (event_fault r env e || has_fault r env x.value)
-fault_Event r env e x = ap (has_fault r env) (sym (rolls-Event e x)) ∙ fold-roll-Stmt Bool (fault_step r env) (f.Event e x)
-
--- ---- counts, by form
-
-count_Null : count_of s.Null ≡ 1
-count_Null = ap count_of (sym rolls-Null) ∙ fold-roll-Stmt ℕ count_step f.Null
-
-count_Assign : (l : Left) (e : Expr) → count_of (s.Assign l e) ≡ 1
-count_Assign l e = ap count_of (sym (rolls-Assign l e)) ∙ fold-roll-Stmt ℕ count_step (f.Assign l e)
-
-count_Later : (l : Left) (e : Expr) → count_of (s.Later l e) ≡ 1
-count_Later l e = ap count_of (sym (rolls-Later l e)) ∙ fold-roll-Stmt ℕ count_step (f.Later l e)
-
-abbrev pub counts : List Stmt → ℕ
-counts xs = total (map count_of xs)
-
-count_Block : (xs : Vec Stmt Global) → count_of (s.Block xs) ≡ counts xs.items
-count_Block xs = ap count_of (sym (rolls-Block xs)) ∙ fold-roll-Stmt ℕ count_step (f.Block xs)
-
-count_Named : (n : Vec ℕ Global) (ls : Vec LocalDeclaration Global) (xs : Vec Stmt Global) → count_of (s.Named n ls xs) ≡ counts xs.items
-count_Named n ls xs = ap count_of (sym (rolls-Named n ls xs)) ∙ fold-roll-Stmt ℕ count_step (f.Named n ls xs)
-
-count_If : (e : Expr) (x : Box Stmt Global) (o : Option (Box Stmt Global)) → count_of (s.If e x o) ≡ 1 + count_of x.value + counts (else_list o)
-count_If e x None = ap count_of (sym (rolls-If e x None)) ∙ fold-roll-Stmt ℕ count_step (f.If e x None)
-count_If e x (Some z) =
-    ap count_of (sym (rolls-If e x (Some z))) ∙ fold-roll-Stmt ℕ count_step (f.If e x (Some z))
-    ∙ (let e : 1 + count_of x.value + count_of z.value ≡ 1 + count_of x.value + (count_of z.value + 0) = omega arith in e)
-
-total_each : {B : Type 0} (g : B → ℕ) (xs : List (CaseLabel × B)) → total (map (λ (x : CaseLabel × ℕ). x.1) (map (λ (x : CaseLabel × B). (x.0, g x.1)) xs)) ≡ total (map (λ (x : CaseLabel × B). g x.1) xs)
-total_each g [] = refl
-total_each g (x ∷ xs) = ap (λ n. g x.1 + n) (total_each g xs)
-
--- how many statements an item of a `case` is
-abbrev pub item_count : CaseLabel × Stmt → ℕ
-item_count x = count_of x.1
-
-count_Case : (kind : CaseKind) (e : Expr) (xs : Vec (CaseLabel × Stmt) Global) → count_of (s.Case kind e xs) ≡ 1 + total (map item_count xs.items)
-count_Case kind e xs =
-    ap count_of (sym (rolls-Case kind e xs)) ∙ fold-roll-Stmt ℕ count_step (f.Case kind e xs) ∙ ap (λ n. 1 + n) (total_each count_of xs.items)
-
-count_For : (l : Left) (a c : Expr) (m : Left) (b : Expr) (x : Box Stmt Global) → count_of (s.For l a c m b x) ≡ 3 + count_of x.value
-count_For l a c m b x = ap count_of (sym (rolls-For l a c m b x)) ∙ fold-roll-Stmt ℕ count_step (f.For l a c m b x)
-
-count_While : (e : Expr) (x : Box Stmt Global) → count_of (s.While e x) ≡ 1 + count_of x.value
-count_While e x = ap count_of (sym (rolls-While e x)) ∙ fold-roll-Stmt ℕ count_step (f.While e x)
-
-count_Repeat : (e : Expr) (x : Box Stmt Global) → count_of (s.Repeat e x) ≡ 1 + count_of x.value
-count_Repeat e x = ap count_of (sym (rolls-Repeat e x)) ∙ fold-roll-Stmt ℕ count_step (f.Repeat e x)
-
-count_Forever : (x : Box Stmt Global) → count_of (s.Forever x) ≡ 1 + count_of x.value
-count_Forever x = ap count_of (sym (rolls-Forever x)) ∙ fold-roll-Stmt ℕ count_step (f.Forever x)
-
-count_Delay : (l : DelayValue) (x : Box Stmt Global) → count_of (s.Delay l x) ≡ 1 + count_of x.value
-count_Delay l x = ap count_of (sym (rolls-Delay l x)) ∙ fold-roll-Stmt ℕ count_step (f.Delay l x)
-
-count_Event : (e : EventControl) (x : Box Stmt Global) → count_of (s.Event e x) ≡ 1 + count_of x.value
-count_Event e x = ap count_of (sym (rolls-Event e x)) ∙ fold-roll-Stmt ℕ count_step (f.Event e x)
-
-total_push : {A : Type 0} (g : A → ℕ) (xs : List A) (x : A) → total (map g (xs ++ x ∷ [])) ≡ total (map g xs) + g x
-total_push g [] x = omega arith
-total_push g (y ∷ ys) x = omega (arith, total_push g ys x)
-
-total_within : {A : Type 0} (g : A → ℕ) (xs : List A) (i : ℕ) (x : A) → i < length xs → x ≡ get_or xs i x → total (map g (take i xs)) + g x ≤ total (map g xs)
-total_within g [] i x h k = absurd (omega arith)
-total_within g (y ∷ ys) zero x h k = let e : g x ≡ g y = ap g k in omega (arith, e)
-total_within g (y ∷ ys) (suc i) x h k = omega (arith, total_within g ys i x (omega arith) k)
-
--- ---- numbers, by form
-
-pub numbers_Null : (k : ℕ) → numbers (d.Null k) ≡ k ∷ []
-numbers_Null k = ap numbers (sym (drolls-Null k)) ∙ fold-roll-Statement (List ℕ) numbers_step (g.Null k)
-
-pub numbers_Assign : (k : ℕ) (t : Target) (x : Typed) → numbers (d.Assign k t x) ≡ k ∷ []
-numbers_Assign k t x = ap numbers (sym (drolls-Assign k t x)) ∙ fold-roll-Statement (List ℕ) numbers_step (g.Assign k t x)
-
-pub numbers_Later : (k : ℕ) (t : Target) (x : Typed) → numbers (d.Later k t x) ≡ k ∷ []
-numbers_Later k t x = ap numbers (sym (drolls-Later k t x)) ∙ fold-roll-Statement (List ℕ) numbers_step (g.Later k t x)
-
-pub numbers_Block : (xs : Vec Statement Global) → numbers (d.Block xs) ≡ joined (map numbers xs.items)
-numbers_Block xs = ap numbers (sym (drolls-Block xs)) ∙ fold-roll-Statement (List ℕ) numbers_step (g.Block xs)
-
-pub numbers_Delay : (k : ℕ) (n : Ticks) (x : Box Statement Global) → numbers (d.Delay k n x) ≡ k ∷ numbers x.value
-numbers_Delay k n x = ap numbers (sym (drolls-Delay k n x)) ∙ fold-roll-Statement (List ℕ) numbers_step (g.Delay k n x)
-
-pub numbers_Forever : (k : ℕ) (x : Box Statement Global) → numbers (d.Forever k x) ≡ k ∷ numbers x.value
-numbers_Forever k x = ap numbers (sym (drolls-Forever k x)) ∙ fold-roll-Statement (List ℕ) numbers_step (g.Forever k x)
-
-pub numbers_If : (k : ℕ) (e : Typed) (a b : Box Statement Global) → numbers (d.If k e a b) ≡ k ∷ numbers a.value ++ numbers b.value
-numbers_If k e a b = ap numbers (sym (drolls-If k e a b)) ∙ fold-roll-Statement (List ℕ) numbers_step (g.If k e a b)
-
-joined_each : {B : Type 0} (h : B → List ℕ) (xs : List (Vec Typed Global × B)) → joined (map (λ (i : Vec Typed Global × List ℕ). i.1) (map (λ (i : Vec Typed Global × B). (i.0, h i.1)) xs)) ≡ joined (map (λ (i : Vec Typed Global × B). h i.1) xs)
-joined_each h [] = refl
-joined_each h (x ∷ xs) = ap (λ ns. h x.1 ++ ns) (joined_each h xs)
-
--- the numbers of the statement of an item of a `case`
-abbrev pub item_numbers : Vec Typed Global × Statement → List ℕ
-item_numbers y = numbers y.1
-
-pub numbers_Case : (k : ℕ) (kind : CaseKind) (e : Typed) (ys : Vec (Vec Typed Global × Statement) Global) → numbers (d.Case k kind e ys) ≡ k ∷ joined (map item_numbers ys.items)
-numbers_Case k kind e ys =
-    ap numbers (sym (drolls-Case k kind e ys)) ∙ fold-roll-Statement (List ℕ) numbers_step (g.Case k kind e ys) ∙ ap (λ ns. k ∷ ns) (joined_each numbers ys.items)
-
-pub numbers_While : (k : ℕ) (e : Typed) (x : Box Statement Global) → numbers (d.While k e x) ≡ k ∷ numbers x.value
-numbers_While k e x = ap numbers (sym (drolls-While k e x)) ∙ fold-roll-Statement (List ℕ) numbers_step (g.While k e x)
-
-pub numbers_Repeat : (k : ℕ) (signed : Bool) (e : Typed) (x : Box Statement Global) → numbers (d.Repeat k signed e x) ≡ k ∷ numbers x.value
-numbers_Repeat k signed e x = ap numbers (sym (drolls-Repeat k signed e x)) ∙ fold-roll-Statement (List ℕ) numbers_step (g.Repeat k signed e x)
-
-pub numbers_Event : (k : ℕ) (ts : Vec EventTerm Global) (x : Box Statement Global) → numbers (d.Event k ts x) ≡ k ∷ numbers x.value
-numbers_Event k ts x = ap numbers (sym (drolls-Event k ts x)) ∙ fold-roll-Statement (List ℕ) numbers_step (g.Event k ts x)
-
-joined_push : (xs : List (List ℕ)) (x : List ℕ) → joined (xs ++ x ∷ []) ≡ joined xs ++ x
-joined_push [] x = append-nil x
-joined_push (y ∷ ys) x = ap (λ z. y ++ z) (joined_push ys x) ∙ sym (append_assoc y (joined ys) x)
-
-pub counting_more : (a m n : ℕ) → counting a m ++ counting (a + m) n ≡ counting a (m + n)
-counting_more a zero n = let e : a + 0 ≡ a = omega arith in let l : n ≡ 0 + n = omega arith in ap (λ z. counting z n) e ∙ ap (counting a) l
-counting_more a (suc m) n =
-    let e : a + suc m ≡ suc a + m = omega arith in
-    let l : suc (m + n) ≡ suc m + n = omega arith in
-    ap (λ z. a ∷ counting (suc a) m ++ counting z n) e ∙ ap (λ z. a ∷ z) (counting_more (suc a) m n) ∙ ap (counting a) l
-
--- ---- too many statements
-
--- a number that is small
-small_false : (b : Bool) (m n : ℕ) → (b ≡ true → n ≤ m) → m < n → b ≡ false
-small_false false m n f h = refl
-small_false true m n f h = absurd (let e : n ≤ m = f refl in omega arith)
-
-not_overfull : (r : Reason) (n : ℕ) → n < 2 ^ 32 → is_overfull r n ≡ false
-not_overfull Limit n h = small_false (nat_le (2 ^ 32) n) n (2 ^ 32) (λ e. leb-true (2 ^ 32) n e) h
-not_overfull NoModule n h = refl
-not_overfull Inside n h = refl
-not_overfull PortMismatch n h = refl
-not_overfull ParameterMismatch n h = refl
-not_overfull DeclaredTwice n h = refl
-not_overfull DrivenTwice n h = refl
-not_overfull (Width w) n h = refl
-not_overfull Endless n h = refl
-not_overfull Unnamed n h = refl
-
--- ---- tests
-
-pub left_false : (a b : Bool) → (a || b) ≡ false → a ≡ false
-left_false true b h = h
-left_false false b h = refl
-
-pub right_false : (a b : Bool) → (a || b) ≡ false → b ≡ false
-right_false true b h = absurd (true≢false h)
-right_false false b h = h
-
-behind_count : (first n : ℕ) → first + 1 + n ≡ first + (1 + n)
-behind_count first n = omega arith
-
-counting_one : (first n : ℕ) → first ∷ counting (first + 1) n ≡ counting first (1 + n)
-counting_one first n =
-    let e : first + 1 ≡ suc first = omega arith in
-    let l : suc n ≡ 1 + n = omega arith in
-    ap (λ z. first ∷ counting z n) e ∙ ap (counting first) l
-
--- a number that was taken
-abbrev pub Takes : ℕ → ℕ → ℕ → Type 0
-Takes first k next = (k ≡ first) × ((next ≡ first + 1) × (first + 1 < 2 ^ 32))
-
--- a statement around another one, with this fault of its own
-pub record IsAround (env : Environment) (part : Reason → Bool) (x whole : Stmt) : Type 0 where
-  pub fault : (r : Reason) → has_fault r env whole ≡ (part r || has_fault r env x)
-  pub count : count_of whole ≡ 1 + count_of x
-  pub blocks : blocks_in whole ≡ blocks_in x
-
-around_While : (env : Environment) (e : Expr) (x : Box Stmt Global) → IsAround env (λ r. operand_fault r env e) x.value (s.While e x)
-around_While env e x = record { fault = λ r. fault_While r env e x; count = count_While e x; blocks = blocks_While e x }
-
-around_Repeat : (env : Environment) (e : Expr) (x : Box Stmt Global) → IsAround env (λ r. operand_fault r env e) x.value (s.Repeat e x)
-around_Repeat env e x = record { fault = λ r. fault_Repeat r env e x; count = count_Repeat e x; blocks = blocks_Repeat e x }
-
-around_Forever : (env : Environment) (x : Box Stmt Global) → IsAround env (λ r. false) x.value (s.Forever x)
-around_Forever env x = record { fault = λ r. fault_Forever r env x; count = count_Forever x; blocks = blocks_Forever x }
-
-around_Delay : (env : Environment) (l : DelayValue) (x : Box Stmt Global) → IsAround env (λ r. delay_fault r env l) x.value (s.Delay l x)
-around_Delay env l x = record { fault = λ r. fault_Delay r env l x; count = count_Delay l x; blocks = blocks_Delay l x }
-
-around_Event : (env : Environment) (e : EventControl) (x : Box Stmt Global) → IsAround env (λ r. event_fault r env e) x.value (s.Event e x)
-around_Event env e x = record { fault = λ r. fault_Event r env e x; count = count_Event e x; blocks = blocks_Event e x }
-
-whole_blocks : (us bs : List NamedBlock) → us ≡ bs → us ≡ [] ++ (bs ++ [])
-whole_blocks us bs e = e ∙ sym (append-nil bs)
-
--- the statement inside is part of the one around it
-around_part : (env : Environment) (part : Reason → Bool) (first : ℕ) (x whole : Stmt) → IsAround env part x whole → IsPart (statement_burden env (first + 1) x) (statement_burden env first whole)
-around_part env part first x whole a =
-    let n : count_of whole ≡ 1 + count_of x = a.count in
-    record {
-      own = λ r u. a.fault r ∙ right_true (part r) _ u;
-      last = omega (arith, n);
-      before = [];
-      behind = [];
-      blocks = whole_blocks (blocks_in whole) (blocks_in x) a.blocks;
-    }
-
--- what stands behind `else`
-else_blocks : (o : Option (Box Stmt Global)) → blocks_behind o ≡ blocks_among (else_list o)
-else_blocks None = refl
-else_blocks (Some x) = sym (append-nil (blocks_in x.value))
-
-if_blocks : (e : Expr) (x : Box Stmt Global) (o : Option (Box Stmt Global)) → blocks_in (s.If e x o) ≡ blocks_in x.value ++ blocks_among (else_list o)
-if_blocks e x o = blocks_If e x o ∙ ap (λ z. blocks_in x.value ++ z) (else_blocks o)
-
--- ---- `case`
-
-or_four : (a b c d : Bool) → ((a || b) || (c || d)) ≡ ((a || c) || (b || d))
-or_four true b c d = refl
-or_four false true true d = refl
-or_four false true false d = refl
-or_four false false c d = refl
-
-any_parts : {A : Type 0} (p q : A → Bool) (xs : List A) → list_any (λ x. p x || q x) xs ≡ (list_any p xs || list_any q xs)
-any_parts p q [] = refl
-any_parts p q (x ∷ xs) = ap (λ b. (p x || q x) || b) (any_parts p q xs) ∙ or_four (p x) (q x) (list_any p xs) (list_any q xs)
-
-any_exprs : (r : Reason) (env : Environment) (xs : List (CaseLabel × Stmt)) → list_any (λ (x : CaseLabel × Stmt). list_any (operand_fault r env) (label_exprs x.0)) xs ≡ list_any (operand_fault r env) (exprs_in xs)
-any_exprs r env [] = refl
-any_exprs r env (x ∷ xs) = ap (λ b. list_any (operand_fault r env) (label_exprs x.0) || b) (any_exprs r env xs) ∙ sym (list_any-append (operand_fault r env) (label_exprs x.0) (exprs_in xs))
-
-none_any : {A : Type 0} (xs : List A) → list_any (λ (x : A). false) xs ≡ false
-none_any [] = refl
-none_any (x ∷ xs) = none_any xs
-
--- a fault of the labels is one of the `case`
-labels_stand : (r : Reason) (env : Environment) (e : Expr) (xs : List (CaseLabel × Stmt)) → list_any (operand_fault r env) (exprs_in xs) ≡ true → case_fault r env e (labels_of xs) ≡ true
-labels_stand (Width w) env e xs h =
-    stands_common w env (meant env e).finding (flat_map label_exprs (labels_of xs)) ∙ right_true (stands w (meant env e).finding) _ (ap (list_any (operand_fault (Width w) env)) (exprs_of xs) ∙ h)
-labels_stand NoModule env e xs h = absurd (true≢false (sym h ∙ none_any (exprs_in xs)))
-labels_stand Inside env e xs h = absurd (true≢false (sym h ∙ none_any (exprs_in xs)))
-labels_stand PortMismatch env e xs h = absurd (true≢false (sym h ∙ none_any (exprs_in xs)))
-labels_stand ParameterMismatch env e xs h = absurd (true≢false (sym h ∙ none_any (exprs_in xs)))
-labels_stand DeclaredTwice env e xs h = absurd (true≢false (sym h ∙ none_any (exprs_in xs)))
-labels_stand DrivenTwice env e xs h = absurd (true≢false (sym h ∙ none_any (exprs_in xs)))
-labels_stand Limit env e xs h = absurd (true≢false (sym h ∙ none_any (exprs_in xs)))
-labels_stand Endless env e xs h = absurd (true≢false (sym h ∙ none_any (exprs_in xs)))
-labels_stand Unnamed env e xs h = absurd (true≢false (sym h ∙ none_any (exprs_in xs)))
-
--- whether an item's statement has a fault
-abbrev inner_fault : Reason → Environment → CaseLabel × Stmt → Bool
-inner_fault r env x = has_fault r env x.1
-
-items_parts : (r : Reason) (env : Environment) (xs : List (CaseLabel × Stmt)) → list_any (item_fault env r) xs ≡ (list_any (operand_fault r env) (exprs_in xs) || list_any (inner_fault r env) xs)
-items_parts r env xs =
-    any_parts (λ (x : CaseLabel × Stmt). list_any (operand_fault r env) (label_exprs x.0)) (inner_fault r env) xs ∙ ap (λ b. b || list_any (inner_fault r env) xs) (any_exprs r env xs)
-
-case_by : (p q t : Bool) → (p ≡ true → q ≡ true) → (p || t) ≡ true → (q || t) ≡ true
-case_by true q t k u = left_true q t (k refl)
-case_by false q t k u = right_true q t u
-
--- ---- parts of statements: what can be wrong with one can be wrong with the whole
-
-module _ (env : Environment) (first : ℕ) where
-  block_part : (xs : Vec Stmt Global) → IsPart (statements_burden env first xs.items) (statement_burden env first (s.Block xs))
-  block_part xs =
-      let n : count_of (s.Block xs) ≡ counts xs.items = count_Block xs in
-      record {
-        own = λ r u. fault_Block r env xs ∙ u;
-        last = omega (arith, n);
-        before = [];
-        behind = [];
-        blocks = whole_blocks (blocks_in (s.Block xs)) (blocks_among xs.items) (blocks_Block xs);
-      }
-
-  named_part : (n : Vec ℕ Global) (ls : Vec LocalDeclaration Global) (xs : Vec Stmt Global) → IsPart (named_burden first (record { name = n.items; locals = ls.items; statements = xs.items })) (statement_burden env first (s.Named n ls xs))
-  named_part n ls xs =
-      let c : count_of (s.Named n ls xs) ≡ counts xs.items = count_Named n ls xs in
-      record {
-        own = λ r u. absurd (true≢false (sym u));
-        last = omega (arith, c);
-        before = [];
-        behind = [];
-        blocks = blocks_Named n ls xs;
-      }
-
-  then_part : (e : Expr) (x : Box Stmt Global) (o : Option (Box Stmt Global)) → IsPart (statement_burden env (first + 1) x.value) (statement_burden env first (s.If e x o))
-  then_part e x o =
-      let n : count_of (s.If e x o) ≡ 1 + count_of x.value + counts (else_list o) = count_If e x o in
-      record {
-        own = λ r u. fault_If r env e x o ∙ left_true _ _ (right_true (operand_fault r env e) _ u);
-        last = omega (arith, n);
-        before = [];
-        behind = blocks_among (else_list o);
-        blocks = if_blocks e x o;
-      }
-
-  else_part : (mid : ℕ) (e : Expr) (x : Box Stmt Global) (o : Option (Box Stmt Global)) → mid ≡ first + 1 + count_of x.value → IsPart (statements_burden env mid (else_list o)) (statement_burden env first (s.If e x o))
-  else_part mid e x o m =
-      let n : count_of (s.If e x o) ≡ 1 + count_of x.value + counts (else_list o) = count_If e x o in
-      record {
-        own = λ r u. fault_If r env e x o ∙ right_true (operand_fault r env e || has_fault r env x.value) _ u;
-        last = omega (arith, n, m);
-        before = blocks_in x.value;
-        behind = [];
-        blocks = if_blocks e x o ∙ ap (λ z. blocks_in x.value ++ z) (sym (append-nil (blocks_among (else_list o))));
-      }
-
-  items_part : (mid : ℕ) (kind : CaseKind) (e : Expr) (v : Vec (CaseLabel × Stmt) Global) → mid ≡ first + 1 → IsPart (items_burden env mid v.items) (statement_burden env first (s.Case kind e v))
-  items_part mid kind e v m =
-      let n : count_of (s.Case kind e v) ≡ 1 + total (map item_count v.items) = count_Case kind e v in
-      record {
-        own = λ r u.
-            fault_Case r env kind e v
-            ∙ case_by (list_any (operand_fault r env) (exprs_in v.items)) (case_fault r env e (labels_of v.items)) (list_any (inner_fault r env) v.items) (labels_stand r env e v.items) (sym (items_parts r env v.items) ∙ u);
-        last = omega (arith, n, m);
-        before = [];
-        behind = [];
-        blocks = whole_blocks (blocks_in (s.Case kind e v)) (flat_map (λ (x : CaseLabel × Stmt). blocks_in x.1) v.items) (blocks_Case kind e v);
-      }
-
-  module _ (l : Left) (a c : Expr) (m : Left) (b : Expr) (x : Box Stmt Global) where
-    for_count : count_of (s.For l a c m b x) ≡ 3 + count_of x.value
-    for_count = count_For l a c m b x
-
-    begin_part : IsPart (numbered_burden env first l a) (statement_burden env first (s.For l a c m b x))
-    begin_part =
-        let n = for_count in
-        record {
-          own = λ r u. fault_For r env l a c m b x ∙ left_true _ _ (left_true _ _ (left_true _ (operand_fault r env c) u));
-          last = omega (arith, n);
-          before = [];
-          behind = blocks_in x.value;
-          blocks = blocks_For l a c m b x;
-        }
-
-    turn_part : (mid : ℕ) → mid ≡ first + 1 → IsPart (statement_burden env (mid + 1) x.value) (statement_burden env first (s.For l a c m b x))
-    turn_part mid h =
-        let n = for_count in
-        record {
-          own = λ r u. fault_For r env l a c m b x ∙ right_true ((assign_fault r Procedural env (places l) a || operand_fault r env c) || assign_fault r Procedural env (places m) b) _ u;
-          last = omega (arith, n, h);
-          before = [];
-          behind = [];
-          blocks = whole_blocks _ _ (blocks_For l a c m b x);
-        }
-
-    step_part : (mid : ℕ) → mid ≡ first + 2 + count_of x.value → IsPart (numbered_burden env mid m b) (statement_burden env first (s.For l a c m b x))
-    step_part mid h =
-        let n = for_count in
-        record {
-          own = λ r u. fault_For r env l a c m b x ∙ left_true _ _ (right_true (assign_fault r Procedural env (places l) a || operand_fault r env c) _ u);
-          last = omega (arith, n, h);
-          before = [];
-          behind = blocks_in x.value;
-          blocks = blocks_For l a c m b x;
-        }
-
--- the parts of a list of lists: those before an element's, its own, and those behind
-flat_parts : {A B : Type 0} (f : A → List B) (xs : List A) (i : ℕ) (x : A) → i < length xs → x ≡ get_or xs i x → (front : List B) × ((rest : List B) × (flat_map f xs ≡ front ++ (f x ++ rest)))
-flat_parts f [] i x h k = absurd (omega arith)
-flat_parts f (y ∷ ys) zero x h k = ([], (flat_map f ys, ap (λ z. f z ++ flat_map f ys) (sym k)))
-flat_parts f (y ∷ ys) (suc i) x h k =
-    let q = flat_parts f ys i x (omega arith) k in (f y ++ q.0, (q.1.0, ap (λ z. f y ++ z) q.1.1 ∙ sym (append_assoc (f y) q.0 (f x ++ q.1.0))))
-
--- what a pass over items keeps
-pub record Listed (envs : Path → Environment) (p : Path) (s : Shape) (first : ℕ) (xs : List (CaseLabel × Stmt)) (ys : List (Vec Typed Global × Statement)) (next : ℕ) : Type 0 where
-  pub sound : (r : Reason) → list_any (item_fault (envs p) r) xs ≡ false
-  pub free : AreFree envs p (flat_map (λ (x : CaseLabel × Stmt). blocks_in x.1) xs)
-  pub means : MeansItems envs p s first xs ys next
-
--- what a pass over statements keeps
-pub record Stated (envs : Path → Environment) (p : Path) (first : ℕ) (xs : List Stmt) (ys : List Statement) (next : ℕ) : Type 0 where
-  pub sound : (r : Reason) → list_any (has_fault r (envs p)) xs ≡ false
-  pub free : AreFree envs p (blocks_among xs)
-  pub means : MeansStatements envs p first xs ys next
+use Rattle.vs_bodies.proofs.BlockLemmas.{blocks_Null, blocks_Assign, blocks_Later, blocks_Named, blocks_For, blocks_Print, blocks_Finish, blocks_Dump, IsPart, fails_part, fails_by, fails_overfull, AreFree, free_none, free_same, free_both}
+use Rattle.vs_scopes.proofs.Folds.{both_false, left_true, right_true, any_push, any_at, take_push}
+use Rattle.vs_bodies.proofs.FormLemmas.{count_Assign, count_Block, count_Case, count_Dump, count_Finish, count_For, count_If, count_Later, count_Named, count_Null, count_Print, counting_more, counts, fault_Assign, fault_Block, fault_Case, fault_Dump, fault_Finish, fault_For, fault_If, fault_Later, fault_Named, fault_Null, fault_Print, item_count, item_numbers, joined_push, labels_of, numbers_Assign, numbers_Block, numbers_Call, numbers_Case, numbers_Delay, numbers_Event, numbers_Finish, numbers_Forever, numbers_If, numbers_Later, numbers_Null, numbers_Repeat, numbers_While, total_push, total_within}
+use Rattle.vs_bodies.proofs.PartLemmas.{IsAround, Listed, Stated, Takes, around_Delay, around_Event, around_Forever, around_Repeat, around_While, around_part, begin_part, behind_count, block_part, counting_one, else_part, flat_parts, if_blocks, items_part, items_parts, named_part, not_overfull, right_false, step_part, then_part, turn_part}
 
 -- ---- statements
 
-module _ (list : List FoundScope) (envs : Path → Environment) (p : Path) where
+module _ (list : List FoundScope) (envs : Path → Surroundings) (p : Path) where
   -- what is answered
   abbrev pub States : ℕ → Stmt → Statement → ℕ → Type 0
   States first x y next = IsFree envs p (statement_burden (envs p) first x) × MeansStatement envs p first x y next
@@ -526,14 +90,14 @@ module _ (list : List FoundScope) (envs : Path → Environment) (p : Path) where
   abbrev pub FailsNumbered : ℕ → Left → Expr → StatementFault → Type 0
   FailsNumbered first l e f = Fails list envs p (numbered_burden (envs p) first l e) f
 
-  pub states_numbered : (first k mid : ℕ) (l : Left) (e : Expr) (t : Target) (x : Typed) → Takes first k mid → ((r : Reason) → assign_fault r Procedural (envs p) (places l) e ≡ false) × IsAssignment Procedural (envs p) (places l) e t x → Numbers first l e k t x mid
+  pub states_numbered : (first k mid : ℕ) (l : Left) (e : Expr) (t : Target) (x : Typed) → Takes first k mid → ((r : Reason) → assign_fault r Procedural (envs p).names (places l) e ≡ false) × IsAssignment Procedural (envs p).names (places l) e t x → Numbers first l e k t x mid
   states_numbered first k mid l e t x h q = (record { own = q.0; room = h.1.1; blocks = free_none envs p [] refl }, record { number = h.0; next_is = h.1.0; sides = q.1 })
 
   pub numbered_refused : (first : ℕ) (l : Left) (e : Expr) (f : StatementFault) → (f ≡ t.Overfull) × (2 ^ 32 ≤ first + 1) → FailsNumbered first l e f
   numbered_refused first l e f h = fails_overfull list envs p (numbered_burden (envs p) first l e) (first + 1) f (omega arith) h
 
-  pub sides_refused : (first : ℕ) (l : Left) (e : Expr) (f : BodyFault) → Refuses (λ r. assign_fault r Procedural (envs p) (places l) e) f → FailsNumbered first l e (as_statement_fault f)
-  sides_refused first l e f h = fails_by list envs p (λ r. assign_fault r Procedural (envs p) (places l) e) (numbered_burden (envs p) first l e) f (λ r u. u) h
+  pub sides_refused : (first : ℕ) (l : Left) (e : Expr) (f : BodyFault) → Refuses (λ r. assign_fault r Procedural (envs p).names (places l) e) f → FailsNumbered first l e (as_statement_fault f)
+  sides_refused first l e f h = fails_by list envs p (λ r. assign_fault r Procedural (envs p).names (places l) e) (numbered_burden (envs p) first l e) f (λ r u. u) h
 
   takes_of : (first k next : ℕ) (l : Left) (e : Expr) (t : Target) (x : Typed) → Numbers first l e k t x next → Takes first k next
   takes_of first k next l e t x h = (h.1.number, (h.1.next_is, h.0.room))
@@ -542,9 +106,10 @@ module _ (list : List FoundScope) (envs : Path → Environment) (p : Path) where
   states_Assign first k next l e t x h =
       one_statement first k next (s.Assign l e) (d.Assign k t x) (takes_of first k next l e t x h) (count_Assign l e) (λ r. fault_Assign r (envs p) l e ∙ h.0.own r) (blocks_Assign l e) (is_assign p l e k t x h.1.sides) (numbers_Assign k t x)
 
-  pub states_Later : (first k next : ℕ) (l : Left) (e : Expr) (t : Target) (x : Typed) → Numbers first l e k t x next → States first (s.Later l e) (d.Later k t x) next
-  states_Later first k next l e t x h =
-      one_statement first k next (s.Later l e) (d.Later k t x) (takes_of first k next l e t x h) (count_Later l e) (λ r. fault_Later r (envs p) l e ∙ h.0.own r) (blocks_Later l e) (is_later p l e k t x h.1.sides) (numbers_Later k t x)
+  pub states_Later : (first k next : ℕ) (l : Left) (v : Option DelayValue) (e : Expr) (n : Ticks) (t : Target) (x : Typed) → Numbers first l e k t x next → ((r : Reason) → due_fault r (envs p).names (envs p).ratio v ≡ false) × (due_of (envs p).names (envs p).ratio v ≡ Some n.count) →
+      States first (s.Later l v e) (d.Later k n t x) next
+  states_Later first k next l v e n t x h u =
+      one_statement first k next (s.Later l v e) (d.Later k n t x) (takes_of first k next l e t x h) (count_Later l v e) (λ r. fault_Later r (envs p) l v e ∙ both_false _ _ (h.0.own r) (u.0 r)) (blocks_Later l v e) (is_later p l v e k n t x h.1.sides u.1) (numbers_Later k n t x)
 
   pub assign_refused : (first : ℕ) (l : Left) (e : Expr) (f : StatementFault) → FailsNumbered first l e f → FailsIn first (s.Assign l e) f
   assign_refused first l e f h =
@@ -552,11 +117,47 @@ module _ (list : List FoundScope) (envs : Path → Environment) (p : Path) where
       fails_part list envs p (numbered_burden (envs p) first l e) (statement_burden (envs p) first (s.Assign l e)) f
       (record { own = λ r u. fault_Assign r (envs p) l e ∙ u; last = omega (arith, c); before = []; behind = []; blocks = blocks_Assign l e }) h
 
-  pub later_refused : (first : ℕ) (l : Left) (e : Expr) (f : StatementFault) → FailsNumbered first l e f → FailsIn first (s.Later l e) f
-  later_refused first l e f h =
-      let c : count_of (s.Later l e) ≡ 1 = count_Later l e in
-      fails_part list envs p (numbered_burden (envs p) first l e) (statement_burden (envs p) first (s.Later l e)) f
-      (record { own = λ r u. fault_Later r (envs p) l e ∙ u; last = omega (arith, c); before = []; behind = []; blocks = blocks_Later l e }) h
+  pub later_refused : (first : ℕ) (l : Left) (v : Option DelayValue) (e : Expr) (f : StatementFault) → FailsNumbered first l e f → FailsIn first (s.Later l v e) f
+  later_refused first l v e f h =
+      let c : count_of (s.Later l v e) ≡ 1 = count_Later l v e in
+      fails_part list envs p (numbered_burden (envs p) first l e) (statement_burden (envs p) first (s.Later l v e)) f
+      (record { own = λ r u. fault_Later r (envs p) l v e ∙ left_true _ (due_fault r (envs p).names (envs p).ratio v) u; last = omega (arith, c); before = []; behind = []; blocks = blocks_Later l v e }) h
+
+  -- a fault of the delay of a nonblocking assignment
+  pub due_refused : (first : ℕ) (l : Left) (v : Option DelayValue) (e : Expr) (f : BodyFault) → Refuses (λ r. due_fault r (envs p).names (envs p).ratio v) f → FailsIn first (s.Later l v e) (as_statement_fault f)
+  due_refused first l v e f h =
+      fails_by list envs p (λ r. due_fault r (envs p).names (envs p).ratio v) (statement_burden (envs p) first (s.Later l v e)) f
+      (λ r u. fault_Later r (envs p) l v e ∙ right_true (assign_fault r Procedural (envs p).names (places l) e) _ u) h
+
+  -- ---- system tasks
+
+  -- a statement whose number there isn't
+  one_overfull : (first : ℕ) (x : Stmt) (f : StatementFault) → count_of x ≡ 1 → (f ≡ t.Overfull) × (2 ^ 32 ≤ first + 1) → FailsIn first x f
+  one_overfull first x f c h = fails_overfull list envs p (statement_burden (envs p) first x) (first + 1) f (omega (arith, c)) h
+
+  pub states_Print : (first k next : ℕ) (task : PrintTask) (xs : PrintArguments) (c : Call) → Takes first k next → ((r : Reason) → print_fault r (envs p).names xs ≡ false) × IsCall (envs p).names (envs p).ratio p task xs c →
+      States first (s.Print task xs) (d.Call k c) next
+  states_Print first k next task xs c h u =
+      one_statement first k next (s.Print task xs) (d.Call k c) h (count_Print task xs) (λ r. fault_Print r (envs p) task xs ∙ u.0 r) (blocks_Print task xs) (is_print p task xs k c u.1) (numbers_Call k c)
+
+  pub print_overfull : (first : ℕ) (task : PrintTask) (xs : PrintArguments) (f : StatementFault) → (f ≡ t.Overfull) × (2 ^ 32 ≤ first + 1) → FailsIn first (s.Print task xs) f
+  print_overfull first task xs f h = one_overfull first (s.Print task xs) f (count_Print task xs) h
+
+  pub print_refused : (first : ℕ) (task : PrintTask) (xs : PrintArguments) (f : BodyFault) → Refuses (λ r. print_fault r (envs p).names xs) f → FailsIn first (s.Print task xs) (as_statement_fault f)
+  print_refused first task xs f h = fails_by list envs p (λ r. print_fault r (envs p).names xs) (statement_burden (envs p) first (s.Print task xs)) f (λ r u. fault_Print r (envs p) task xs ∙ u) h
+
+  pub states_Finish : (first k next : ℕ) (n : Option Literal) → Takes first k next → States first (s.Finish n) (d.Finish k) next
+  states_Finish first k next n h = one_statement first k next (s.Finish n) (d.Finish k) h (count_Finish n) (λ r. fault_Finish r (envs p) n) (blocks_Finish n) (is_finish p n k) (numbers_Finish k)
+
+  pub finish_refused : (first : ℕ) (n : Option Literal) (f : StatementFault) → (f ≡ t.Overfull) × (2 ^ 32 ≤ first + 1) → FailsIn first (s.Finish n) f
+  finish_refused first n f h = one_overfull first (s.Finish n) f (count_Finish n) h
+
+  pub states_Dump : (first k next : ℕ) (task : DumpTask) (xs : Option (DumpArgument × Vec DumpArgument Global)) → Takes first k next → States first (s.Dump task xs) (d.Null k) next
+  states_Dump first k next task xs h =
+      one_statement first k next (s.Dump task xs) (d.Null k) h (count_Dump task xs) (λ r. fault_Dump r (envs p) task xs) (blocks_Dump task xs) (is_dump p task xs k) (numbers_Null k)
+
+  pub dump_refused : (first : ℕ) (task : DumpTask) (xs : Option (DumpArgument × Vec DumpArgument Global)) (f : StatementFault) → (f ≡ t.Overfull) × (2 ^ 32 ≤ first + 1) → FailsIn first (s.Dump task xs) f
+  dump_refused first task xs f h = one_overfull first (s.Dump task xs) f (count_Dump task xs) h
 
   abbrev pub StateAll : Path → ℕ → List Stmt → List Statement → ℕ → Type 0
   StateAll q first xs ys next = IsFree envs q (statements_burden (envs q) first xs) × MeansStatements envs q first xs ys next
@@ -646,39 +247,39 @@ module _ (list : List FoundScope) (envs : Path → Environment) (p : Path) where
 
   -- an expression that stands alone
   abbrev pub Operates : Expr → Bool → Typed → Type 0
-  Operates e signed z = ((r : Reason) → operand_fault r (envs p) e ≡ false) × IsOperand (envs p) e signed z
+  Operates e signed z = ((r : Reason) → operand_fault r (envs p).names e ≡ false) × IsOperand (envs p).names e signed z
 
   module _ (first : ℕ) (x : Box Stmt Global) (a : Stmt) (i : a ≡ x.value) where
     body_fails : (e : StatementFault) → FailsIn (first + 1) a e → FailsIn (first + 1) x.value e
     body_fails e h = subst (λ z. FailsIn (first + 1) z e) i h
 
     pub while_inner : (e : Expr) (f : StatementFault) → FailsIn (first + 1) a f → FailsIn first (s.While e x) f
-    while_inner e f h = inner_refused (λ r. operand_fault r (envs p) e) first x.value (s.While e x) f (around_While (envs p) e x) (body_fails f h)
+    while_inner e f h = inner_refused (λ r. operand_fault r (envs p).names e) first x.value (s.While e x) f (around_While (envs p) e x) (body_fails f h)
 
     pub repeat_inner : (e : Expr) (f : StatementFault) → FailsIn (first + 1) a f → FailsIn first (s.Repeat e x) f
-    repeat_inner e f h = inner_refused (λ r. operand_fault r (envs p) e) first x.value (s.Repeat e x) f (around_Repeat (envs p) e x) (body_fails f h)
+    repeat_inner e f h = inner_refused (λ r. operand_fault r (envs p).names e) first x.value (s.Repeat e x) f (around_Repeat (envs p) e x) (body_fails f h)
 
     pub forever_inner : (f : StatementFault) → FailsIn (first + 1) a f → FailsIn first (s.Forever x) f
     forever_inner f h = inner_refused (λ r. false) first x.value (s.Forever x) f (around_Forever (envs p) x) (body_fails f h)
 
     pub delay_inner : (l : DelayValue) (f : StatementFault) → FailsIn (first + 1) a f → FailsIn first (s.Delay l x) f
-    delay_inner l f h = inner_refused (λ r. delay_fault r (envs p) l) first x.value (s.Delay l x) f (around_Delay (envs p) l x) (body_fails f h)
+    delay_inner l f h = inner_refused (λ r. delay_fault r (envs p).names (envs p).ratio l) first x.value (s.Delay l x) f (around_Delay (envs p) l x) (body_fails f h)
 
     pub event_inner : (e : EventControl) (f : StatementFault) → FailsIn (first + 1) a f → FailsIn first (s.Event e x) f
-    event_inner e f h = inner_refused (λ r. event_fault r (envs p) e) first x.value (s.Event e x) f (around_Event (envs p) e x) (body_fails f h)
+    event_inner e f h = inner_refused (λ r. event_fault r (envs p).names e) first x.value (s.Event e x) f (around_Event (envs p) e x) (body_fails f h)
 
   module _ (first : ℕ) (x : Box Stmt Global) where
-    pub while_refused : (e : Expr) (f : BodyFault) → Refuses (λ r. operand_fault r (envs p) e) f → FailsIn first (s.While e x) (as_statement_fault f)
-    while_refused e f h = part_refused (λ r. operand_fault r (envs p) e) first x.value (s.While e x) f (around_While (envs p) e x) h
+    pub while_refused : (e : Expr) (f : BodyFault) → Refuses (λ r. operand_fault r (envs p).names e) f → FailsIn first (s.While e x) (as_statement_fault f)
+    while_refused e f h = part_refused (λ r. operand_fault r (envs p).names e) first x.value (s.While e x) f (around_While (envs p) e x) h
 
-    pub repeat_refused : (e : Expr) (f : BodyFault) → Refuses (λ r. operand_fault r (envs p) e) f → FailsIn first (s.Repeat e x) (as_statement_fault f)
-    repeat_refused e f h = part_refused (λ r. operand_fault r (envs p) e) first x.value (s.Repeat e x) f (around_Repeat (envs p) e x) h
+    pub repeat_refused : (e : Expr) (f : BodyFault) → Refuses (λ r. operand_fault r (envs p).names e) f → FailsIn first (s.Repeat e x) (as_statement_fault f)
+    repeat_refused e f h = part_refused (λ r. operand_fault r (envs p).names e) first x.value (s.Repeat e x) f (around_Repeat (envs p) e x) h
 
-    pub delay_refused : (l : DelayValue) (f : BodyFault) → Refuses (λ r. delay_fault r (envs p) l) f → FailsIn first (s.Delay l x) (as_statement_fault f)
-    delay_refused l f h = part_refused (λ r. delay_fault r (envs p) l) first x.value (s.Delay l x) f (around_Delay (envs p) l x) h
+    pub delay_refused : (l : DelayValue) (f : BodyFault) → Refuses (λ r. delay_fault r (envs p).names (envs p).ratio l) f → FailsIn first (s.Delay l x) (as_statement_fault f)
+    delay_refused l f h = part_refused (λ r. delay_fault r (envs p).names (envs p).ratio l) first x.value (s.Delay l x) f (around_Delay (envs p) l x) h
 
-    pub event_refused : (e : EventControl) (f : BodyFault) → Refuses (λ r. event_fault r (envs p) e) f → FailsIn first (s.Event e x) (as_statement_fault f)
-    event_refused e f h = part_refused (λ r. event_fault r (envs p) e) first x.value (s.Event e x) f (around_Event (envs p) e x) h
+    pub event_refused : (e : EventControl) (f : BodyFault) → Refuses (λ r. event_fault r (envs p).names e) f → FailsIn first (s.Event e x) (as_statement_fault f)
+    event_refused e f h = part_refused (λ r. event_fault r (envs p).names e) first x.value (s.Event e x) f (around_Event (envs p) e x) h
 
   -- what the statement inside is, by its two names
   inside : (x : Box Stmt Global) (y : Box Statement Global) (a : Stmt) (b : Statement) → a ≡ x.value → y.value ≡ b → IsStatement envs p a b → IsStatement envs p x.value y.value
@@ -693,12 +294,12 @@ module _ (list : List FoundScope) (envs : Path → Environment) (p : Path) where
 
     pub states_While : (e : Expr) (signed : Bool) (z : Typed) → Operates e signed z → States first (s.While e x) (d.While k z y) next
     states_While e signed z u =
-        states_around (λ r. operand_fault r (envs p) e) first k next x.value (s.While e x) b (d.While k z y) (around_While (envs p) e x) body u.0
+        states_around (λ r. operand_fault r (envs p).names e) first k next x.value (s.While e x) b (d.While k z y) (around_While (envs p) e x) body u.0
         (is_while p e k z signed x y u.1 made) (numbers_While k z y ∙ ap (λ w. k ∷ numbers w) j)
 
     pub states_Repeat : (e : Expr) (signed : Bool) (z : Typed) → Operates e signed z → States first (s.Repeat e x) (d.Repeat k signed z y) next
     states_Repeat e signed z u =
-        states_around (λ r. operand_fault r (envs p) e) first k next x.value (s.Repeat e x) b (d.Repeat k signed z y) (around_Repeat (envs p) e x) body u.0
+        states_around (λ r. operand_fault r (envs p).names e) first k next x.value (s.Repeat e x) b (d.Repeat k signed z y) (around_Repeat (envs p) e x) body u.0
         (is_repeat p e k z signed x y u.1 made) (numbers_Repeat k signed z y ∙ ap (λ w. k ∷ numbers w) j)
 
     pub states_Forever : States first (s.Forever x) (d.Forever k y) next
@@ -706,15 +307,15 @@ module _ (list : List FoundScope) (envs : Path → Environment) (p : Path) where
         states_around (λ r. false) first k next x.value (s.Forever x) b (d.Forever k y) (around_Forever (envs p) x) body (λ r. refl)
         (is_forever p k x y made) (numbers_Forever k y ∙ ap (λ w. k ∷ numbers w) j)
 
-    pub states_Delay : (l : DelayValue) (n : Ticks) → ((r : Reason) → delay_fault r (envs p) l ≡ false) × (delay_of (envs p) l ≡ Some n.count) → States first (s.Delay l x) (d.Delay k n y) next
+    pub states_Delay : (l : DelayValue) (n : Ticks) → ((r : Reason) → delay_fault r (envs p).names (envs p).ratio l ≡ false) × (delay_of (envs p).names (envs p).ratio l ≡ Some n.count) → States first (s.Delay l x) (d.Delay k n y) next
     states_Delay l n u =
-        states_around (λ r. delay_fault r (envs p) l) first k next x.value (s.Delay l x) b (d.Delay k n y) (around_Delay (envs p) l x) body u.0
+        states_around (λ r. delay_fault r (envs p).names (envs p).ratio l) first k next x.value (s.Delay l x) b (d.Delay k n y) (around_Delay (envs p) l x) body u.0
         (is_delay p l k n x y u.1 made) (numbers_Delay k n y ∙ ap (λ w. k ∷ numbers w) j)
 
-    pub states_Event : (e : EventControl) (ts : Vec EventTerm Global) → ((r : Reason) → event_fault r (envs p) e ≡ false) × AreEvents (envs p) b e ts.items → States first (s.Event e x) (d.Event k ts y) next
+    pub states_Event : (e : EventControl) (ts : Vec EventTerm Global) → ((r : Reason) → event_fault r (envs p).names e ≡ false) × AreEvents (envs p).names b e ts.items → States first (s.Event e x) (d.Event k ts y) next
     states_Event e ts u =
-        states_around (λ r. event_fault r (envs p) e) first k next x.value (s.Event e x) b (d.Event k ts y) (around_Event (envs p) e x) body u.0
-        (is_event p e k ts x y made (subst (λ w. AreEvents (envs p) w e ts.items) (sym j) u.1)) (numbers_Event k ts y ∙ ap (λ w. k ∷ numbers w) j)
+        states_around (λ r. event_fault r (envs p).names e) first k next x.value (s.Event e x) b (d.Event k ts y) (around_Event (envs p) e x) body u.0
+        (is_event p e k ts x y made (subst (λ w. AreEvents (envs p).names w e ts.items) (sym j) u.1)) (numbers_Event k ts y ∙ ap (λ w. k ∷ numbers w) j)
 
   -- ---- `if`
 
@@ -762,10 +363,10 @@ module _ (list : List FoundScope) (envs : Path → Environment) (p : Path) where
       )
 
   -- a fault of the condition of an `if`
-  pub if_refused : (first : ℕ) (e : Expr) (x : Box Stmt Global) (o : Option (Box Stmt Global)) (f : BodyFault) → Refuses (λ r. operand_fault r (envs p) e) f → FailsIn first (s.If e x o) (as_statement_fault f)
+  pub if_refused : (first : ℕ) (e : Expr) (x : Box Stmt Global) (o : Option (Box Stmt Global)) (f : BodyFault) → Refuses (λ r. operand_fault r (envs p).names e) f → FailsIn first (s.If e x o) (as_statement_fault f)
   if_refused first e x o f h =
-      fails_by list envs p (λ r. operand_fault r (envs p) e) (statement_burden (envs p) first (s.If e x o)) f
-      (λ r u. fault_If r (envs p) e x o ∙ left_true _ _ (left_true (operand_fault r (envs p) e) (has_fault r (envs p) x.value) u)) h
+      fails_by list envs p (λ r. operand_fault r (envs p).names e) (statement_burden (envs p) first (s.If e x o)) f
+      (λ r u. fault_If r (envs p) e x o ∙ left_true _ _ (left_true (operand_fault r (envs p).names e) (has_fault r (envs p) x.value) u)) h
 
   -- a fault of the statement behind the condition
   pub then_refused : (first : ℕ) (e : Expr) (x : Box Stmt Global) (o : Option (Box Stmt Global)) (a : Stmt) (f : StatementFault) → a ≡ x.value → FailsIn (first + 1) a f → FailsIn first (s.If e x o) f
@@ -812,10 +413,10 @@ module _ (list : List FoundScope) (envs : Path → Environment) (p : Path) where
     turn_refused mid q f e i h =
         fails_part list envs p (statement_burden (envs p) (mid + 1) x.value) (statement_burden (envs p) first (s.For l a c m b x)) f (turn_part (envs p) first l a c m b x mid e) (subst (λ z. FailsIn (mid + 1) z f) i h)
 
-    pub test_refused : (f : BodyFault) → Refuses (λ r. operand_fault r (envs p) c) f → FailsIn first (s.For l a c m b x) (as_statement_fault f)
+    pub test_refused : (f : BodyFault) → Refuses (λ r. operand_fault r (envs p).names c) f → FailsIn first (s.For l a c m b x) (as_statement_fault f)
     test_refused f h =
-        fails_by list envs p (λ r. operand_fault r (envs p) c) (statement_burden (envs p) first (s.For l a c m b x)) f
-        (λ r u. fault_For r (envs p) l a c m b x ∙ left_true _ _ (left_true _ _ (right_true (assign_fault r Procedural (envs p) (places l) a) _ u))) h
+        fails_by list envs p (λ r. operand_fault r (envs p).names c) (statement_burden (envs p) first (s.For l a c m b x)) f
+        (λ r u. fault_For r (envs p) l a c m b x ∙ left_true _ _ (left_true _ _ (right_true (assign_fault r Procedural (envs p).names (places l) a) _ u))) h
 
     pub step_refused : (m1 m2 : ℕ) (q : Stmt) (f : StatementFault) → m1 ≡ first + 1 → m2 ≡ m1 + 1 + count_of q → q ≡ x.value → FailsNumbered m2 m b f → FailsIn first (s.For l a c m b x) f
     step_refused m1 m2 q f e g i h =
@@ -864,10 +465,10 @@ module _ (list : List FoundScope) (envs : Path → Environment) (p : Path) where
   -- ---- `case`
 
   -- a fault of the expressions of a `case`
-  pub case_refused_by : (first : ℕ) (kind : CaseKind) (e : Expr) (v : Vec (CaseLabel × Stmt) Global) (xs : List (CaseLabel × Stmt)) (f : BodyFault) → xs ≡ v.items → Refuses (λ r. case_fault r (envs p) e (labels_of xs)) f → FailsIn first (s.Case kind e v) (as_statement_fault f)
+  pub case_refused_by : (first : ℕ) (kind : CaseKind) (e : Expr) (v : Vec (CaseLabel × Stmt) Global) (xs : List (CaseLabel × Stmt)) (f : BodyFault) → xs ≡ v.items → Refuses (λ r. case_fault r (envs p).names e (labels_of xs)) f → FailsIn first (s.Case kind e v) (as_statement_fault f)
   case_refused_by first kind e v xs f i h =
-      fails_by list envs p (λ r. case_fault r (envs p) e (labels_of v.items)) (statement_burden (envs p) first (s.Case kind e v)) f
-      (λ r u. fault_Case r (envs p) kind e v ∙ left_true (case_fault r (envs p) e (labels_of v.items)) _ u) (subst (λ z. Refuses (λ r. case_fault r (envs p) e (labels_of z)) f) i h)
+      fails_by list envs p (λ r. case_fault r (envs p).names e (labels_of v.items)) (statement_burden (envs p) first (s.Case kind e v)) f
+      (λ r u. fault_Case r (envs p) kind e v ∙ left_true (case_fault r (envs p).names e (labels_of v.items)) _ u) (subst (λ z. Refuses (λ r. case_fault r (envs p).names e (labels_of z)) f) i h)
 
   pub case_overfull : (first : ℕ) (kind : CaseKind) (e : Expr) (v : Vec (CaseLabel × Stmt) Global) (f : StatementFault) → (f ≡ t.Overfull) × (2 ^ 32 ≤ first + 1) → FailsIn first (s.Case kind e v) f
   case_overfull first kind e v f h = fails_overfull list envs p (statement_burden (envs p) first (s.Case kind e v)) (first + 1) f (let n = count_Case kind e v in omega (arith, n)) h
@@ -882,11 +483,11 @@ module _ (list : List FoundScope) (envs : Path → Environment) (p : Path) where
   Lists s first xs ys next = IsFree envs p (items_burden (envs p) first xs) × MeansItems envs p s first xs ys next
 
   pub states_Case : (first k mid next : ℕ) (kind : CaseKind) (e : Expr) (v : Vec (CaseLabel × Stmt) Global) (sh : Shape) (z : Typed) (ws : Vec (Vec Typed Global × Statement) Global) (xs ys : List (CaseLabel × Stmt)) → Takes first k mid →
-      ((r : Reason) → case_fault r (envs p) e (labels_of xs) ≡ false) × IsCase (envs p) e (labels_of xs) sh z → Lists sh mid ys ws.items next → xs ≡ v.items → ys ≡ v.items → States first (s.Case kind e v) (d.Case k kind z ws) next
+      ((r : Reason) → case_fault r (envs p).names e (labels_of xs) ≡ false) × IsCase (envs p).names e (labels_of xs) sh z → Lists sh mid ys ws.items next → xs ≡ v.items → ys ≡ v.items → States first (s.Case kind e v) (d.Case k kind z ws) next
   states_Case first k mid next kind e v sh z ws xs ys h g q i j =
       let env = envs p in
       let n = total (map item_count v.items) in
-      let one = subst (λ o. ((r : Reason) → case_fault r env e (labels_of o) ≡ false) × IsCase env e (labels_of o) sh z) i g in
+      let one = subst (λ o. ((r : Reason) → case_fault r env.names e (labels_of o) ≡ false) × IsCase env.names e (labels_of o) sh z) i g in
       let all : Lists sh mid v.items ws.items next = subst (λ o. Lists sh mid o ws.items next) j q in
       let count : count_of (s.Case kind e v) ≡ 1 + n = count_Case kind e v in
       let same : mid + n ≡ first + (1 + n) = ap (λ o. o + n) h.1.0 ∙ behind_count first n in
@@ -894,7 +495,7 @@ module _ (list : List FoundScope) (envs : Path → Environment) (p : Path) where
         record {
           own = λ r.
               fault_Case r env kind e v
-              ∙ both_false _ _ (one.0 r) (right_false (list_any (operand_fault r env) (exprs_in v.items)) _ (sym (items_parts r env v.items) ∙ all.0.own r));
+              ∙ both_false _ _ (one.0 r) (right_false (list_any (operand_fault r env.names) (exprs_in v.items)) _ (sym (items_parts r env v.items) ∙ all.0.own r));
           room = omega (arith, count, room, same);
           blocks = free_same envs p (flat_map (λ (x : CaseLabel × Stmt). blocks_in x.1) v.items) (blocks_in (s.Case kind e v)) (blocks_Case kind e v) all.0.blocks;
         },
@@ -905,7 +506,7 @@ module _ (list : List FoundScope) (envs : Path → Environment) (p : Path) where
         },
       )
 
-  items_push : (q : Path) (width : ℕ) (signed : Bool) (xs : List (CaseLabel × Stmt)) (ys : List (Vec Typed Global × Statement)) (x : CaseLabel × Stmt) (y : Vec Typed Global × Statement) → AreItems envs q width signed xs ys → AreTypedAt (envs q) width signed (label_exprs x.0) y.0.items → IsStatement envs q x.1 y.1 →
+  items_push : (q : Path) (width : ℕ) (signed : Bool) (xs : List (CaseLabel × Stmt)) (ys : List (Vec Typed Global × Statement)) (x : CaseLabel × Stmt) (y : Vec Typed Global × Statement) → AreItems envs q width signed xs ys → AreTypedAt (envs q).names width signed (label_exprs x.0) y.0.items → IsStatement envs q x.1 y.1 →
       AreItems envs q width signed (xs ++ x ∷ []) (ys ++ y ∷ [])
   items_push _ _ _ _ _ x y (no_items q w g) h k = more_items q w g x y [] [] h k (no_items q w g)
   items_push _ _ _ _ _ x y (more_items q w g a b us vs o r os) h k = more_items q w g a b _ _ o r (items_push q w g us vs x y os h k)
@@ -920,7 +521,7 @@ module _ (list : List FoundScope) (envs : Path → Environment) (p : Path) where
       }
 
   pub listed_more : (s : Shape) (first mid next : ℕ) (xs : List (CaseLabel × Stmt)) (i : ℕ) (x : CaseLabel × Stmt) (ys zs : List (Vec Typed Global × Statement)) (v : Vec Typed Global) (y : Statement) → i < length xs → x ≡ get_or xs i x → zs ≡ ys ++ (v, y) ∷ [] → Listed envs p s first (take i xs) ys mid →
-      ((r : Reason) → list_any (operand_fault r (envs p)) (label_exprs x.0) ≡ false) × AreTypedAt (envs p) s.width s.signed (label_exprs x.0) v.items → States mid x.1 y next → Listed envs p s first (take (i + 1) xs) zs next
+      ((r : Reason) → list_any (operand_fault r (envs p).names) (label_exprs x.0) ≡ false) × AreTypedAt (envs p).names s.width s.signed (label_exprs x.0) v.items → States mid x.1 y next → Listed envs p s first (take (i + 1) xs) zs next
   listed_more s first mid next xs i x ys zs v y h k e o t q =
       let front = take i xs in
       let more : total (map item_count (front ++ x ∷ [])) ≡ total (map item_count front) + count_of x.1 = total_push item_count front x in
@@ -942,9 +543,9 @@ module _ (list : List FoundScope) (envs : Path → Environment) (p : Path) where
       (record { own = q.sound; room = subst (λ z. z < 2 ^ 32) q.means.next_is small; blocks = q.free }, q.means)
 
   -- a fault of the labels of an item
-  pub label_refused : (first : ℕ) (xs : List (CaseLabel × Stmt)) (i : ℕ) (x : CaseLabel × Stmt) (f : BodyFault) → i < length xs → x ≡ get_or xs i x → Refuses (λ r. list_any (operand_fault r (envs p)) (label_exprs x.0)) f → Fails list envs p (items_burden (envs p) first xs) (as_statement_fault f)
+  pub label_refused : (first : ℕ) (xs : List (CaseLabel × Stmt)) (i : ℕ) (x : CaseLabel × Stmt) (f : BodyFault) → i < length xs → x ≡ get_or xs i x → Refuses (λ r. list_any (operand_fault r (envs p).names) (label_exprs x.0)) f → Fails list envs p (items_burden (envs p) first xs) (as_statement_fault f)
   label_refused first xs i x f h k g =
-      fails_by list envs p (λ r. list_any (operand_fault r (envs p)) (label_exprs x.0)) (items_burden (envs p) first xs) f
+      fails_by list envs p (λ r. list_any (operand_fault r (envs p).names) (label_exprs x.0)) (items_burden (envs p) first xs) f
       (λ r u. any_at (item_fault (envs p) r) xs i x h k (left_true _ (has_fault r (envs p) x.1) u)) g
 
   -- a fault of the statement of an item
@@ -954,7 +555,7 @@ module _ (list : List FoundScope) (envs : Path → Environment) (p : Path) where
       let within : total (map item_count (take i xs)) + item_count x ≤ total (map item_count xs) = total_within item_count xs i x h k in
       fails_part list envs p (statement_burden (envs p) mid x.1) (items_burden (envs p) first xs) f
       (record {
-        own = λ r u. any_at (item_fault (envs p) r) xs i x h k (right_true (list_any (operand_fault r (envs p)) (label_exprs x.0)) _ u);
+        own = λ r u. any_at (item_fault (envs p) r) xs i x h k (right_true (list_any (operand_fault r (envs p).names) (label_exprs x.0)) _ u);
         last = omega (arith, m, within);
         before = parts.0;
         behind = parts.1.0;
@@ -1006,7 +607,7 @@ module _ (list : List FoundScope) (envs : Path → Environment) (p : Path) where
 
   -- ---- bodies of processes
 
-  pub means_set : (a : Assignment) (t : Target) (x : Typed) → ((r : Reason) → assign_fault r Procedural (envs p) a.target a.value ≡ false) × IsAssignment Procedural (envs p) a.target a.value t x →
+  pub means_set : (a : Assignment) (t : Target) (x : Typed) → ((r : Reason) → assign_fault r Procedural (envs p).names a.target a.value ≡ false) × IsAssignment Procedural (envs p).names a.target a.value t x →
       ((r : Reason) (at : Path) → HasBehaviorFault envs r at p (sets a) → ⊥) × MeansBody envs p (sets a) (d.Assign 0 t x)
   means_set a t x h = (λ r at u. by r at u, record { means = is_set a 0 t x h.1; numbered = numbers_Assign 0 t x })
     where
@@ -1014,7 +615,7 @@ module _ (list : List FoundScope) (envs : Path → Environment) (p : Path) where
       by r at (inl u) = true≢false (sym u.0 ∙ h.0 r)
       by r at (inr u) = true≢false (sym u.0 ∙ not_overfull r 1 (omega arith))
 
-  pub set_refused : (a : Assignment) (f : BodyFault) → Refuses (λ r. assign_fault r Procedural (envs p) a.target a.value) f → BodyFails list envs p (sets a) (as_statement_fault f)
+  pub set_refused : (a : Assignment) (f : BodyFault) → Refuses (λ r. assign_fault r Procedural (envs p).names a.target a.value) f → BodyFails list envs p (sets a) (as_statement_fault f)
   set_refused a b.Memory h = tt
   set_refused a (b.Refused r) h = inl (h, refl)
 

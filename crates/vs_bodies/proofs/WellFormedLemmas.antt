@@ -1,6 +1,6 @@
 -- Statements of a design are sound, where names are bound to its signals.
 use Rattle.std.proofs.Common.{◌≡◌, ℕ, ◌≤◌, Bool, true, false, ◌&&◌, subst, not, nat_lt, List, [], ◌∷◌, ◌++◌, Option, Some, None, is_some, length, map, max, slice_get, refl, ap, ap₂, sym, ◌∙◌, arith, true≢false, eq-eqb}
-use Rattle.std.specs.List.{list_all}
+use Rattle.std.specs.List.{list_all, AllZip}
 use Rattle.std.specs.declared.vec.Vec.{Vec}
 use Rattle.std.specs.declared.boxed.Box.{Box}
 use Rattle.std.specs.declared.alloc.Global.{Global}
@@ -8,6 +8,8 @@ use Rattle.vs_syntax.specs.declared.tree.Expr.{Expr}
 use Rattle.vs_syntax.specs.declared.tree.CaseLabel.{CaseLabel}
 use Rattle.vs_syntax.specs.declared.tree.EventControl.{EventControl}
 use Rattle.vs_syntax.specs.declared.tree.EventExpr.{EventExpr}
+use Rattle.vs_syntax.specs.declared.tree.Argument.{Argument}
+use Rattle.vs_syntax.specs.declared.tree.Argument.TheVariants as given
 use Rattle.vs_syntax.specs.declared.tree.Stmt.{Stmt}
 use Rattle.vs_logic4.specs.declared.case.CaseKind.{CaseKind}
 use Rattle.vs_logic4.specs.declared.edge.Edge.{Edge}
@@ -22,14 +24,17 @@ use Rattle.vs_design.specs.Uses.{reads}
 use Rattle.vs_design.specs.declared.statement.Aim.{Aim}
 use Rattle.vs_design.specs.declared.statement.Aim.TheVariants.{Fixed, Chosen}
 use Rattle.vs_design.specs.declared.write.Part.{Part}
-use Rattle.vs_design.specs.WellFormed.{size_of, is_at_least, are_within, is_within, is_of_variable, is_of_net, is_variable_aim, is_net_aim, is_sound_target, is_source, is_sound_assignment, sound_step, is_sound_statement, is_sound_operand, are_sound_labels, are_sound_terms, same_size, is_forever, is_body_of}
+use Rattle.vs_design.specs.WellFormed.{size_of, is_at_least, are_within, is_within, is_of_variable, is_of_net, is_variable_aim, is_net_aim, is_sound_target, is_source, is_sound_assignment, sound_step, is_sound_statement, is_sound_operand, is_sound_arg, is_sound_call, are_sound_labels, are_sound_terms, same_size, is_forever, is_body_of}
 use Rattle.vs_design.specs.declared.signal.Signal.{Signal}
 use Rattle.vs_design.specs.declared.expression.Typed.{Typed}
 use Rattle.vs_design.specs.declared.statement.Target.{Target}
 use Rattle.vs_design.specs.declared.statement.Ticks.{Ticks}
+use Rattle.vs_design.specs.declared.statement.FormatArg.{FormatArg}
+use Rattle.vs_design.specs.declared.statement.FormatArg.TheVariants as made
+use Rattle.vs_design.specs.declared.statement.Call.{Call}
 use Rattle.vs_design.specs.declared.statement.Statement.{Statement}
 use Rattle.vs_design.specs.declared.statement.Statement.TheVariants as d
-use Rattle.vs_design.specs.declared.statement.Statement.TheVariants.{rolls-Null, rolls-Assign, rolls-Later, rolls-Block, rolls-If, rolls-Case, rolls-While, rolls-Repeat, rolls-Delay, rolls-Event, rolls-Forever}
+use Rattle.vs_design.specs.declared.statement.Statement.TheVariants.{rolls-Null, rolls-Assign, rolls-Later, rolls-Block, rolls-If, rolls-Case, rolls-While, rolls-Repeat, rolls-Delay, rolls-Event, rolls-Forever, rolls-Call, rolls-Finish}
 use Rattle.vs_design.specs.declared.statement.Statement.TheOpen as f
 use Rattle.vs_design.specs.declared.statement.Statement.TheFolds.{fold-roll-Statement}
 use Rattle.vs_design.specs.declared.statement.Statement.TheViews.{out-Statement}
@@ -50,8 +55,9 @@ use Rattle.vs_widths.specs.Typing.{HoldsOfSignals, IsTypedAs}
 use Rattle.vs_targets.specs.Lefts.{Aimed, name_aimed, takes_reads}
 use Rattle.vs_targets.specs.Aiming.{is_none_read, IsPlace, IsTarget}
 use Rattle.vs_targets.proofs.ReadLemmas.{reads_within}
-use Rattle.vs_bodies.specs.Statements.{assigned_to, IsSource, IsAssignment, IsStatement, is_null, is_assign, is_later, is_block, is_named, is_if, is_case, is_for, is_while, is_repeat, is_forever as repeats_forever, is_delay, is_event, IsElse, no_else, an_else, AreItems, no_items, more_items, AreTypedAt, no_typed, more_typed, label_exprs, IsTerm, AreTerms, no_terms, more_terms, AreEvents, are_star, are_grouped, are_name, are_terms, event_aimed, level_term, AreStatements, are_none, are_more}
+use Rattle.vs_bodies.specs.Statements.{assigned_to, IsSource, IsAssignment, IsStatement, is_null, is_assign, is_later, is_block, is_named, is_if, is_case, is_for, is_while, is_repeat, is_forever as repeats_forever, is_delay, is_event, is_print, is_finish, is_dump, print_values, IsArgument, IsElse, no_else, an_else, AreItems, no_items, more_items, AreTypedAt, no_typed, more_typed, label_exprs, IsTerm, AreTerms, no_terms, more_terms, AreEvents, are_star, are_grouped, are_name, are_terms, event_aimed, level_term, AreStatements, are_none, are_more}
 use Rattle.vs_scopes.specs.Printed.{Path}
+use Rattle.vs_bodies.specs.Surroundings.{Surroundings}
 use Rattle.vs_bodies.specs.Members.{Assignee, places, Behavior}
 use Rattle.vs_bodies.specs.Processes.{IsBody, is_set, is_run, is_repeat, kind_of}
 use Rattle.vs_scopes.proofs.Folds.{all_of_map, both_true}
@@ -64,8 +70,14 @@ sound_Null ss k = ap (is_sound_statement ss) (sym (rolls-Null k)) ∙ fold-roll-
 sound_Assign : (ss : List Signal) (k : ℕ) (u : Target) (x : Typed) → is_sound_statement ss (d.Assign k u x) ≡ is_sound_assignment ss u x
 sound_Assign ss k u x = ap (is_sound_statement ss) (sym (rolls-Assign k u x)) ∙ fold-roll-Statement Bool (sound_step ss) (f.Assign k u x)
 
-sound_Later : (ss : List Signal) (k : ℕ) (u : Target) (x : Typed) → is_sound_statement ss (d.Later k u x) ≡ is_sound_assignment ss u x
-sound_Later ss k u x = ap (is_sound_statement ss) (sym (rolls-Later k u x)) ∙ fold-roll-Statement Bool (sound_step ss) (f.Later k u x)
+sound_Later : (ss : List Signal) (k : ℕ) (n : Ticks) (u : Target) (x : Typed) → is_sound_statement ss (d.Later k n u x) ≡ is_sound_assignment ss u x
+sound_Later ss k n u x = ap (is_sound_statement ss) (sym (rolls-Later k n u x)) ∙ fold-roll-Statement Bool (sound_step ss) (f.Later k n u x)
+
+sound_Call : (ss : List Signal) (k : ℕ) (c : Call) → is_sound_statement ss (d.Call k c) ≡ is_sound_call ss c
+sound_Call ss k c = ap (is_sound_statement ss) (sym (rolls-Call k c)) ∙ fold-roll-Statement Bool (sound_step ss) (f.Call k c)
+
+sound_Finish : (ss : List Signal) (k : ℕ) → is_sound_statement ss (d.Finish k) ≡ true
+sound_Finish ss k = ap (is_sound_statement ss) (sym (rolls-Finish k)) ∙ fold-roll-Statement Bool (sound_step ss) (f.Finish k)
 
 sound_Block : (ss : List Signal) (xs : Vec Statement Global) → is_sound_statement ss (d.Block xs) ≡ list_all (is_sound_statement ss) xs.items
 sound_Block ss xs = ap (is_sound_statement ss) (sym (rolls-Block xs)) ∙ fold-roll-Statement Bool (sound_step ss) (f.Block xs) ∙ all_of_map (is_sound_statement ss) xs.items
@@ -202,6 +214,15 @@ module _ (ss : List Signal) (env : Environment) (good : IsGood ss env) where
   labels_sound width signed x _ _ h (more_typed e z es zs p ps) =
       both_true _ _ (both_true _ _ (typed_sound e width signed z p) (ap₂ same_size h p.size ∙ eq-eqb width width refl)) (labels_sound width signed x es zs h ps)
 
+  args_sound : (xs : List Argument) (ys : List FormatArg) → AllZip (IsArgument env) xs ys → list_all (is_sound_arg ss) ys ≡ true
+  args_sound [] [] h = refl
+  args_sound [] (y ∷ ys) h = absurd h
+  args_sound (x ∷ xs) [] h = absurd h
+  args_sound (given.Value e ∷ xs) (made.Value signed z ∷ ys) h = both_true _ _ (typed_sound e h.0.width signed z h.0.typed) (args_sound xs ys h.1)
+  args_sound (given.Time ∷ xs) (made.Time ∷ ys) h = args_sound xs ys h.1
+  args_sound (given.Value e ∷ xs) (made.Time ∷ ys) h = absurd h.0
+  args_sound (given.Time ∷ xs) (made.Value signed z ∷ ys) h = absurd h.0
+
   -- the place of a term is one of a signal of the design
   place_sound : (a : Aimed) (t : Target) (place : Slice) → IsTarget Event env a t → t.parts.items ≡ Fixed place ∷ [] → nat_lt place.signal (length ss) ≡ true
   place_sound a t place h e = by a.places (subst (λ aims. Each (IsPlace Event env) a.places aims) e h.places)
@@ -229,18 +250,18 @@ module _ (ss : List Signal) (env : Environment) (good : IsGood ss env) where
   events_sound z _ _ h (are_terms t ts ys k) = terms_sound _ ys k
 
 -- statements of the scopes of paths, where names are bound so in each
-module _ (ss : List Signal) (envs : Path → Environment) (good : (p : Path) → IsGood ss (envs p)) where
-  typed_at : (p : Path) (e : Expr) (width : ℕ) (signed : Bool) (z : Typed) → IsTypedAs (meant (envs p) e) width signed z → is_sound_operand ss z ≡ true
-  typed_at p = typed_sound ss (envs p) (good p)
+module _ (ss : List Signal) (envs : Path → Surroundings) (good : (p : Path) → IsGood ss (envs p).names) where
+  typed_at : (p : Path) (e : Expr) (width : ℕ) (signed : Bool) (z : Typed) → IsTypedAs (meant (envs p).names e) width signed z → is_sound_operand ss z ≡ true
+  typed_at p = typed_sound ss (envs p).names (good p)
 
-  assigned_at : (p : Path) (a : Assignee) (e : Expr) (u : Target) (x : Typed) → IsAssignment Procedural (envs p) a e u x → is_sound_assignment ss u x ≡ true
-  assigned_at p = assignment_sound ss (envs p) (good p)
+  assigned_at : (p : Path) (a : Assignee) (e : Expr) (u : Target) (x : Typed) → IsAssignment Procedural (envs p).names a e u x → is_sound_assignment ss u x ≡ true
+  assigned_at p = assignment_sound ss (envs p).names (good p)
 
   mutual
     statement_sound : (p : Path) (x : Stmt) (z : Statement) → IsStatement envs p x z → is_sound_statement ss z ≡ true
     statement_sound _ _ _ (is_null p j) = sound_Null ss j
     statement_sound _ _ _ (is_assign p l e j u x h) = sound_Assign ss j u x ∙ assigned_at p (places l) e u x h
-    statement_sound _ _ _ (is_later p l e j u x h) = sound_Later ss j u x ∙ assigned_at p (places l) e u x h
+    statement_sound _ _ _ (is_later p l v e j n u x h due) = sound_Later ss j n u x ∙ assigned_at p (places l) e u x h
     statement_sound _ _ _ (is_block p xs zs h) = sound_Block ss zs ∙ statements_sound p _ _ h
     statement_sound _ _ _ (is_named p n ls xs zs h) = sound_Block ss zs ∙ statements_sound _ _ _ h
     statement_sound _ _ _ (is_if p e j z signed x o y w h g k) =
@@ -259,7 +280,10 @@ module _ (ss : List Signal) (envs : Path → Environment) (good : (p : Path) →
     statement_sound _ _ _ (is_delay p l j n x z h g) = sound_Delay ss j n z ∙ statement_sound p _ _ g
     statement_sound _ _ _ (is_event p e j ts x y g h) =
         let inside = statement_sound p _ _ g in
-        sound_Event ss j ts y ∙ both_true _ _ (events_sound ss (envs p) (good p) y.value e ts.items inside h) inside
+        sound_Event ss j ts y ∙ both_true _ _ (events_sound ss (envs p).names (good p) y.value e ts.items inside h) inside
+    statement_sound _ _ _ (is_print p task xs j c h) = sound_Call ss j c ∙ args_sound ss (envs p).names (good p) (print_values xs) c.args.items h.args
+    statement_sound _ _ _ (is_finish p n j) = sound_Finish ss j
+    statement_sound _ _ _ (is_dump p task xs j) = sound_Null ss j
 
     else_sound : (p : Path) (o : Option (Box Stmt Global)) (z : Statement) → IsElse envs p o z → is_sound_statement ss z ≡ true
     else_sound _ _ _ (no_else p ys h) = sound_Block ss ys ∙ ap (list_all (is_sound_statement ss)) h
@@ -268,7 +292,7 @@ module _ (ss : List Signal) (envs : Path → Environment) (good : (p : Path) →
     items_sound : (p : Path) (width : ℕ) (signed : Bool) (z : Typed) (xs : List (CaseLabel × Stmt)) (ys : List (Vec Typed Global × Statement)) → size_of z ≡ Some width → AreItems envs p width signed xs ys → list_all (is_sound_item ss z) ys ≡ true
     items_sound _ _ _ z _ _ e (no_items p width signed) = refl
     items_sound _ _ _ z _ _ e (more_items p width signed x y xs ys h g k) =
-        both_true _ _ (both_true _ _ (labels_sound ss (envs p) (good p) width signed z (label_exprs x.0) y.0.items e h) (statement_sound p _ _ g)) (items_sound p width signed z xs ys e k)
+        both_true _ _ (both_true _ _ (labels_sound ss (envs p).names (good p) width signed z (label_exprs x.0) y.0.items e h) (statement_sound p _ _ g)) (items_sound p width signed z xs ys e k)
 
     statements_sound : (p : Path) (xs : List Stmt) (zs : List Statement) → AreStatements envs p xs zs → list_all (is_sound_statement ss) zs ≡ true
     statements_sound _ _ _ (are_none p) = refl

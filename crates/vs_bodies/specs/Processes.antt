@@ -12,7 +12,7 @@ use Rattle.vs_design.specs.declared.design.ProcessKind.TheVariants.{Initial, Alw
 use Rattle.vs_targets.specs.declared.kinds.AssignmentKind.TheVariants.{Procedural}
 use Rattle.vs_scopes.specs.declared.faults.Reason.{Reason}
 use Rattle.vs_scopes.specs.Printed.{Path}
-use Rattle.vs_selects.specs.Environment.{Environment}
+use Rattle.vs_bodies.specs.Surroundings.{Surroundings}
 use Rattle.vs_bodies.specs.Statements.{IsAssignment, IsStatement, assign_fault, HasFaultAt, count_of, is_overfull}
 use Rattle.vs_bodies.specs.Members.{Assignment, Behavior, sets, runs, repeats}
 
@@ -23,8 +23,8 @@ kind_of (runs x) = Initial
 kind_of (repeats x) = Always
 
 -- The body of a process of the scope of a path: a declaration assignment is a blocking assignment, and an `always` is a `forever` (clauses 6.2.1 and 9.9).
-pub data IsBody (envs : Path → Environment) (p : Path) : Behavior → Statement → Type 0 where
-  is_set : (a : Assignment) (k : ℕ) (t : Target) (x : Typed) → IsAssignment Procedural (envs p) a.target a.value t x →
+pub data IsBody (envs : Path → Surroundings) (p : Path) : Behavior → Statement → Type 0 where
+  is_set : (a : Assignment) (k : ℕ) (t : Target) (x : Typed) → IsAssignment Procedural (envs p).names a.target a.value t x →
       IsBody envs p (sets a) (d.Assign k t x)
   is_run : (x : Stmt) (y : Statement) → IsStatement envs p x y → IsBody envs p (runs x) y
   is_repeat : (x : Stmt) (k : ℕ) (y : Box Statement Global) → IsStatement envs p x y.value → IsBody envs p (repeats x) (d.Forever k y)
@@ -36,11 +36,11 @@ statements_of (runs x) = count_of x
 statements_of (repeats x) = 1 + count_of x
 
 -- a fault of a part of a process of the scope of a path, by the path of the innermost scope of that part
-abbrev pub HasPartFault : (Path → Environment) → Reason → Path → Path → Behavior → Type 0
-HasPartFault envs r at p (sets a) = (assign_fault r Procedural (envs p) a.target a.value ≡ true) × (at ≡ p)
+abbrev pub HasPartFault : (Path → Surroundings) → Reason → Path → Path → Behavior → Type 0
+HasPartFault envs r at p (sets a) = (assign_fault r Procedural (envs p).names a.target a.value ≡ true) × (at ≡ p)
 HasPartFault envs r at p (runs x) = HasFaultAt envs r at p x
 HasPartFault envs r at p (repeats x) = HasFaultAt envs r at p x
 
 -- a fault of a process of the scope of a path: of one of its parts, or it has more statements than have numbers (profile)
-abbrev pub HasBehaviorFault : (Path → Environment) → Reason → Path → Path → Behavior → Type 0
+abbrev pub HasBehaviorFault : (Path → Surroundings) → Reason → Path → Path → Behavior → Type 0
 HasBehaviorFault envs r at p b = HasPartFault envs r at p b ⊎ ((is_overfull r (statements_of b) ≡ true) × (at ≡ p))

@@ -1,6 +1,6 @@
 -- Statements of a design.
-use Rattle.std.specs.Prelude.{◌≡◌, ℕ, ◌+◌, ◌++◌, ◌^◌, Bool, true, false, ◌&&◌, ◌||◌, max, nat_le, List, [], ◌∷◌, Option, Some, None, is_none, map, slice_get}
-use Rattle.std.specs.List.{list_any, flat_map}
+use Rattle.std.specs.Prelude.{◌≡◌, ℕ, ◌+◌, ◌*◌, ◌++◌, ◌^◌, Bool, true, false, ◌&&◌, ◌||◌, max, nat_le, List, [], ◌∷◌, Option, Some, None, is_none, option_map, length, map, slice_get}
+use Rattle.std.specs.List.{list_any, flat_map, AllZip}
 use Rattle.std.specs.declared.vec.Vec.{Vec}
 use Rattle.std.specs.declared.boxed.Box.{Box}
 use Rattle.std.specs.declared.alloc.Global.{Global}
@@ -17,10 +17,19 @@ use Rattle.vs_syntax.specs.declared.tree.EventControl.{EventControl}
 use Rattle.vs_syntax.specs.declared.tree.EventControl.TheVariants as c
 use Rattle.vs_syntax.specs.declared.tree.EventExpr.{EventExpr}
 use Rattle.vs_syntax.specs.declared.tree.Separator.{Separator}
+use Rattle.vs_tokens.specs.declared.token.Literal.{Literal}
+use Rattle.vs_syntax.specs.declared.tree.PrintTask.{PrintTask}
+use Rattle.vs_syntax.specs.declared.tree.PrintTask.TheVariants.{Display, Strobe}
+use Rattle.vs_syntax.specs.declared.tree.Argument.{Argument}
+use Rattle.vs_syntax.specs.declared.tree.Argument.TheVariants as given
+use Rattle.vs_syntax.specs.declared.tree.PrintArguments.{PrintArguments}
+use Rattle.vs_syntax.specs.declared.tree.PrintArguments.TheVariants as print
+use Rattle.vs_syntax.specs.declared.tree.DumpTask.{DumpTask}
+use Rattle.vs_syntax.specs.declared.tree.DumpArgument.{DumpArgument}
 use Rattle.vs_syntax.specs.declared.tree.LocalDeclaration.{LocalDeclaration}
 use Rattle.vs_syntax.specs.declared.tree.Stmt.{Stmt}
 use Rattle.vs_pieces.specs.Pieces.{NamedBlock, blocks_in}
-use Rattle.vs_scopes.specs.Printed.{plainly, Path}
+use Rattle.vs_scopes.specs.Printed.{plainly, Path, printed}
 use Rattle.vs_syntax.specs.declared.tree.Stmt.TheVariants as h
 use Rattle.vs_syntax.specs.declared.tree.Stmt.TheOpen.{Stmt-F}
 use Rattle.vs_syntax.specs.declared.tree.Stmt.TheOpen as f
@@ -34,6 +43,14 @@ use Rattle.vs_design.specs.declared.statement.Target.{Target}
 use Rattle.vs_design.specs.Statements.{statement_reads}
 use Rattle.vs_design.specs.Uses.{bits_from}
 use Rattle.vs_design.specs.declared.statement.Ticks.{Ticks}
+use Rattle.vs_design.specs.declared.statement.FormatArg.{FormatArg}
+use Rattle.vs_design.specs.declared.statement.FormatArg.TheVariants as made
+use Rattle.vs_design.specs.declared.statement.CallKind.{CallKind}
+use Rattle.vs_design.specs.declared.statement.CallKind.TheVariants as call
+use Rattle.vs_design.specs.declared.statement.Call.{Call}
+use Rattle.vs_strobe.specs.declared.fault.FormatReason.{FormatReason}
+use Rattle.vs_strobe.specs.declared.fault.FormatReason.TheVariants.{BadDirective, TooFewArguments, TooManyArguments}
+use Rattle.vs_strobe.specs.Pieces.{format_fault}
 use Rattle.vs_design.specs.declared.statement.Statement.{Statement}
 use Rattle.vs_design.specs.declared.statement.Statement.TheVariants as d
 use Rattle.vs_selects.specs.declared.faults.WidthReason.{WidthReason}
@@ -48,8 +65,9 @@ use Rattle.vs_targets.specs.declared.kinds.AssignmentKind.TheVariants.{Procedura
 use Rattle.vs_targets.specs.Lefts.{Aimed, aimed, name_aimed}
 use Rattle.vs_targets.specs.Aiming.{IsTarget}
 use Rattle.vs_scopes.specs.declared.faults.Reason.{Reason}
-use Rattle.vs_scopes.specs.declared.faults.Reason.TheVariants.{Limit, Width, DeclaredTwice}
+use Rattle.vs_scopes.specs.declared.faults.Reason.TheVariants.{Limit, Width, DeclaredTwice, Format}
 use Rattle.vs_bodies.specs.Members.{Assignee, places, named_signal}
+use Rattle.vs_bodies.specs.Surroundings.{Surroundings}
 
 -- What the right side of an assignment means, as an expression of a design, where the target has this size: at the larger of that size and its own, and at its own
 -- sign (clauses 5.4.1 and 5.5.1).
@@ -90,9 +108,10 @@ delay_meant env (v.Number l) = number_meant l
 delay_meant env (v.Name n) = name_meant (env n.items)
 delay_meant env (v.Group e) = meant env e
 
--- the ticks of a delay, where it is a constant from 0 on (clause 9.7.1; a negative one is refused: profile)
-abbrev pub delay_of : Environment → DelayValue → Option ℕ
-delay_of env d = natural_at (constant_finding (delay_meant env d)) (own (delay_meant env d) [] 0)
+-- the ticks of a delay where a unit of time is so many, where it is a constant number of units from 0 on (clauses 9.7.1 and 19.8; a negative one is
+-- refused: profile)
+abbrev pub delay_of : Environment → ℕ → DelayValue → Option ℕ
+delay_of env ratio d = option_map (λ n. n * ratio) (natural_at (constant_finding (delay_meant env d)) (own (delay_meant env d) [] 0))
 
 -- whether a delay reaches 2^62 ticks (profile)
 abbrev pub is_too_long : Option ℕ → Bool
@@ -105,10 +124,20 @@ ticks_fault w (Has width signed) number = not_constant w && is_none number
 ticks_fault w (Lacks faults) number = faults w
 
 -- a fault of a delay: one of its expression, or it is no constant from 0 on, or it has 2^62 ticks or more (clause 9.7.1; profile)
-abbrev pub delay_fault : Reason → Environment → DelayValue → Bool
-delay_fault (Width w) env d = ticks_fault w (constant_finding (delay_meant env d)) (delay_of env d)
-delay_fault Limit env d = is_too_long (delay_of env d)
-delay_fault _ env d = false
+abbrev pub delay_fault : Reason → Environment → ℕ → DelayValue → Bool
+delay_fault (Width w) env ratio d = ticks_fault w (constant_finding (delay_meant env d)) (delay_of env ratio d)
+delay_fault Limit env ratio d = is_too_long (delay_of env ratio d)
+delay_fault _ env ratio d = false
+
+-- in how many ticks the update of a nonblocking assignment is due: in none where it has no delay (clause 9.2.2)
+abbrev pub due_of : Environment → ℕ → Option DelayValue → Option ℕ
+due_of env ratio None = Some 0
+due_of env ratio (Some d) = delay_of env ratio d
+
+-- a fault of the delay of a nonblocking assignment, where it has one
+abbrev pub due_fault : Reason → Environment → ℕ → Option DelayValue → Bool
+due_fault r env ratio None = false
+due_fault r env ratio (Some d) = delay_fault r env ratio d
 
 -- ---- event controls
 
@@ -165,6 +194,59 @@ abbrev pub event_fault : Reason → Environment → EventControl → Bool
 event_fault (Width w) env e = list_any (λ (a : Aimed). stands w a.finding) (events_aimed env e)
 event_fault _ env e = false
 
+-- ---- system tasks
+
+-- the text of a `$display` or a `$strobe`; of one without arguments nothing (clause 17.1.1)
+abbrev pub print_text : PrintArguments → List ℕ
+print_text print.Missing = []
+print_text print.Empty = []
+print_text (print.Text n xs) = n.items
+
+-- the arguments behind that text
+abbrev pub print_values : PrintArguments → List Argument
+print_values print.Missing = []
+print_values print.Empty = []
+print_values (print.Text n xs) = xs.items
+
+-- when the line of a call is made (clauses 17.1.1 and 17.1.2)
+abbrev pub call_kind : PrintTask → CallKind
+call_kind Display = call.Display
+call_kind Strobe = call.Strobe
+
+-- The argument of a design that one of a source is: an expression at its own size and sign, or `$time` (clauses 17.1.1 and 17.7.1).
+abbrev pub IsArgument : Environment → Argument → FormatArg → Type 0
+IsArgument env (given.Value e) (made.Value signed x) = IsOperand env e signed x
+IsArgument env given.Time made.Time = Unit {0}
+IsArgument env _ _ = ⊥
+
+-- The call of a design that a `$display` or a `$strobe` is in the scope of a path, where a unit of time is so many ticks: its text fits its
+-- arguments, and `%m` prints that path (clause 17.1).
+pub record IsCall (env : Environment) (ratio : ℕ) (at : Path) (task : PrintTask) (xs : PrintArguments) (c : Call) : Type 0 where
+  pub kind : c.kind ≡ call_kind task
+  pub text : c.text.items ≡ print_text xs
+  pub args : AllZip (IsArgument env) (print_values xs) c.args.items
+  pub fits : format_fault c.text.items (length c.args.items) ≡ None
+  pub path : c.path.items ≡ printed at
+  pub ratio_is : c.ratio ≡ ratio
+
+-- a fault of an argument
+abbrev pub argument_fault : Reason → Environment → Argument → Bool
+argument_fault r env (given.Value e) = operand_fault r env e
+argument_fault r env given.Time = false
+
+-- whether this is what is wrong with a format
+abbrev pub is_wrong : FormatReason → Option FormatReason → Bool
+is_wrong BadDirective (Some BadDirective) = true
+is_wrong TooFewArguments (Some TooFewArguments) = true
+is_wrong TooManyArguments (Some TooManyArguments) = true
+is_wrong _ _ = false
+
+-- a fault of a `$display` or a `$strobe`: one of an argument, or of its format (clause 17.1)
+abbrev pub print_fault : Reason → Environment → PrintArguments → Bool
+print_fault (Width w) env xs = list_any (argument_fault (Width w) env) (print_values xs)
+print_fault (Format f) env xs = is_wrong f (format_fault (print_text xs) (length (print_values xs)))
+print_fault _ env xs = false
+
 -- ---- `case`
 
 -- the expressions of a `case` item; a `default` has none (clause 9.5)
@@ -205,54 +287,60 @@ case_fault _ env e labels = false
 -- ---- statements
 
 mutual
-  -- The statement of a design that one of a source is, in the scope of a path, where names are bound so in the scope of each path; whatever its
-  -- number. A delay is its ticks, and a `for` an assignment before a `while` (clauses 9 and 12.7).
-  pub data IsStatement (envs : Path → Environment) : Path → Stmt → Statement → Type 0 where
+  -- The statement of a design that one of a source is, in the scope of a path, with these surroundings in the scope of each path; whatever its
+  -- number. A delay is its ticks, and a `for` an assignment before a `while`; `$dumpfile` and `$dumpvars` do nothing (clauses 9 and 12.7; the last:
+  -- profile).
+  pub data IsStatement (envs : Path → Surroundings) : Path → Stmt → Statement → Type 0 where
     is_null : (p : Path) (k : ℕ) → IsStatement envs p h.Null (d.Null k)
-    is_assign : (p : Path) (l : Left) (e : Expr) (k : ℕ) (t : Target) (x : Typed) → IsAssignment Procedural (envs p) (places l) e t x →
+    is_assign : (p : Path) (l : Left) (e : Expr) (k : ℕ) (t : Target) (x : Typed) → IsAssignment Procedural (envs p).names (places l) e t x →
         IsStatement envs p (h.Assign l e) (d.Assign k t x)
-    is_later : (p : Path) (l : Left) (e : Expr) (k : ℕ) (t : Target) (x : Typed) → IsAssignment Procedural (envs p) (places l) e t x →
-        IsStatement envs p (h.Later l e) (d.Later k t x)
+    is_later : (p : Path) (l : Left) (v : Option DelayValue) (e : Expr) (k : ℕ) (n : Ticks) (t : Target) (x : Typed) →
+        IsAssignment Procedural (envs p).names (places l) e t x → due_of (envs p).names (envs p).ratio v ≡ Some n.count →
+        IsStatement envs p (h.Later l v e) (d.Later k n t x)
     is_block : (p : Path) (xs : Vec Stmt Global) (ys : Vec Statement Global) → AreStatements envs p xs.items ys.items → IsStatement envs p (h.Block xs) (d.Block ys)
     is_named : (p : Path) (n : Vec ℕ Global) (ls : Vec LocalDeclaration Global) (xs : Vec Stmt Global) (ys : Vec Statement Global) →
         AreStatements envs (p ++ plainly n.items ∷ []) xs.items ys.items → IsStatement envs p (h.Named n ls xs) (d.Block ys)
     is_if : (p : Path) (e : Expr) (k : ℕ) (z : Typed) (signed : Bool) (x : Box Stmt Global) (o : Option (Box Stmt Global)) (y w : Box Statement Global) →
-        IsOperand (envs p) e signed z → IsStatement envs p x.value y.value → IsElse envs p o w.value → IsStatement envs p (h.If e x o) (d.If k z y w)
+        IsOperand (envs p).names e signed z → IsStatement envs p x.value y.value → IsElse envs p o w.value → IsStatement envs p (h.If e x o) (d.If k z y w)
     is_case : (p : Path) (kind : CaseKind) (e : Expr) (k : ℕ) (z : Typed) (width : ℕ) (signed : Bool) (xs : Vec (CaseLabel × Stmt) Global)
         (ys : Vec (Vec Typed Global × Statement) Global) →
-        case_finding (envs p) e (map (λ (x : CaseLabel × Stmt). x.0) xs.items) ≡ Has width signed → IsTypedAs (meant (envs p) e) width signed z →
+        case_finding (envs p).names e (map (λ (x : CaseLabel × Stmt). x.0) xs.items) ≡ Has width signed → IsTypedAs (meant (envs p).names e) width signed z →
         has_two_defaults (map (λ (x : CaseLabel × Stmt). x.0) xs.items) ≡ false → AreItems envs p width signed xs.items ys.items →
         IsStatement envs p (h.Case kind e xs) (d.Case k kind z ys)
     is_for : (p : Path) (l : Left) (a c : Expr) (m : Left) (b : Expr) (x : Box Stmt Global) (i j k : ℕ) (t u : Target) (y w z : Typed) (signed : Bool)
-        (all inner : Vec Statement Global) (body : Box Statement Global) (one : Statement) → IsAssignment Procedural (envs p) (places l) a t y →
-        IsOperand (envs p) c signed z → IsAssignment Procedural (envs p) (places m) b u w → IsStatement envs p x.value one →
+        (all inner : Vec Statement Global) (body : Box Statement Global) (one : Statement) → IsAssignment Procedural (envs p).names (places l) a t y →
+        IsOperand (envs p).names c signed z → IsAssignment Procedural (envs p).names (places m) b u w → IsStatement envs p x.value one →
         inner.items ≡ one ∷ d.Assign k u w ∷ [] → body.value ≡ d.Block inner → all.items ≡ d.Assign i t y ∷ d.While j z body ∷ [] →
         IsStatement envs p (h.For l a c m b x) (d.Block all)
-    is_while : (p : Path) (e : Expr) (k : ℕ) (z : Typed) (signed : Bool) (x : Box Stmt Global) (y : Box Statement Global) → IsOperand (envs p) e signed z →
+    is_while : (p : Path) (e : Expr) (k : ℕ) (z : Typed) (signed : Bool) (x : Box Stmt Global) (y : Box Statement Global) → IsOperand (envs p).names e signed z →
         IsStatement envs p x.value y.value → IsStatement envs p (h.While e x) (d.While k z y)
-    is_repeat : (p : Path) (e : Expr) (k : ℕ) (z : Typed) (signed : Bool) (x : Box Stmt Global) (y : Box Statement Global) → IsOperand (envs p) e signed z →
+    is_repeat : (p : Path) (e : Expr) (k : ℕ) (z : Typed) (signed : Bool) (x : Box Stmt Global) (y : Box Statement Global) → IsOperand (envs p).names e signed z →
         IsStatement envs p x.value y.value → IsStatement envs p (h.Repeat e x) (d.Repeat k signed z y)
     is_forever : (p : Path) (k : ℕ) (x : Box Stmt Global) (y : Box Statement Global) → IsStatement envs p x.value y.value →
         IsStatement envs p (h.Forever x) (d.Forever k y)
-    is_delay : (p : Path) (l : DelayValue) (k : ℕ) (n : Ticks) (x : Box Stmt Global) (y : Box Statement Global) → delay_of (envs p) l ≡ Some n.count →
+    is_delay : (p : Path) (l : DelayValue) (k : ℕ) (n : Ticks) (x : Box Stmt Global) (y : Box Statement Global) → delay_of (envs p).names (envs p).ratio l ≡ Some n.count →
         IsStatement envs p x.value y.value → IsStatement envs p (h.Delay l x) (d.Delay k n y)
     is_event : (p : Path) (e : EventControl) (k : ℕ) (ts : Vec EventTerm Global) (x : Box Stmt Global) (y : Box Statement Global) →
-        IsStatement envs p x.value y.value → AreEvents (envs p) y.value e ts.items → IsStatement envs p (h.Event e x) (d.Event k ts y)
+        IsStatement envs p x.value y.value → AreEvents (envs p).names y.value e ts.items → IsStatement envs p (h.Event e x) (d.Event k ts y)
+    is_print : (p : Path) (task : PrintTask) (xs : PrintArguments) (k : ℕ) (c : Call) → IsCall (envs p).names (envs p).ratio p task xs c →
+        IsStatement envs p (h.Print task xs) (d.Call k c)
+    is_finish : (p : Path) (number : Option Literal) (k : ℕ) → IsStatement envs p (h.Finish number) (d.Finish k)
+    is_dump : (p : Path) (task : DumpTask) (xs : Option (DumpArgument × Vec DumpArgument Global)) (k : ℕ) → IsStatement envs p (h.Dump task xs) (d.Null k)
 
   -- the same of what stands behind `else`; nothing is a block of no statements (clause 9.4)
-  pub data IsElse (envs : Path → Environment) : Path → Option (Box Stmt Global) → Statement → Type 0 where
+  pub data IsElse (envs : Path → Surroundings) : Path → Option (Box Stmt Global) → Statement → Type 0 where
     no_else : (p : Path) (ys : Vec Statement Global) → ys.items ≡ [] → IsElse envs p None (d.Block ys)
     an_else : (p : Path) (x : Box Stmt Global) (y : Statement) → IsStatement envs p x.value y → IsElse envs p (Some x) y
 
   -- the same of the items of a `case`, with their expressions at this size and sign (clause 9.5)
-  pub data AreItems (envs : Path → Environment) : Path → ℕ → Bool → List (CaseLabel × Stmt) → List (Vec Typed Global × Statement) → Type 0 where
+  pub data AreItems (envs : Path → Surroundings) : Path → ℕ → Bool → List (CaseLabel × Stmt) → List (Vec Typed Global × Statement) → Type 0 where
     no_items : (p : Path) (width : ℕ) (signed : Bool) → AreItems envs p width signed [] []
     more_items : (p : Path) (width : ℕ) (signed : Bool) (x : CaseLabel × Stmt) (y : Vec Typed Global × Statement) (xs : List (CaseLabel × Stmt))
-        (ys : List (Vec Typed Global × Statement)) → AreTypedAt (envs p) width signed (label_exprs x.0) y.0.items → IsStatement envs p x.1 y.1 →
+        (ys : List (Vec Typed Global × Statement)) → AreTypedAt (envs p).names width signed (label_exprs x.0) y.0.items → IsStatement envs p x.1 y.1 →
         AreItems envs p width signed xs ys → AreItems envs p width signed (x ∷ xs) (y ∷ ys)
 
   -- the same of statements one after another
-  pub data AreStatements (envs : Path → Environment) : Path → List Stmt → List Statement → Type 0 where
+  pub data AreStatements (envs : Path → Surroundings) : Path → List Stmt → List Statement → Type 0 where
     are_none : (p : Path) → AreStatements envs p [] []
     are_more : (p : Path) (x : Stmt) (y : Statement) (xs : List Stmt) (ys : List Statement) → IsStatement envs p x y → AreStatements envs p xs ys →
         AreStatements envs p (x ∷ xs) (y ∷ ys)
@@ -270,7 +358,7 @@ else_count (Some n) = n.value
 abbrev pub count_step : Stmt-F ℕ → ℕ
 count_step f.Null = 1
 count_step (f.Assign l e) = 1
-count_step (f.Later l e) = 1
+count_step (f.Later l v e) = 1
 count_step (f.Block xs) = total xs.items
 count_step (f.Named n ls xs) = total xs.items
 count_step (f.If e x o) = 1 + x.value + else_count o
@@ -281,6 +369,9 @@ count_step (f.Repeat e x) = 1 + x.value
 count_step (f.Forever x) = 1 + x.value
 count_step (f.Delay l x) = 1 + x.value
 count_step (f.Event e x) = 1 + x.value
+count_step (f.Print task xs) = 1
+count_step (f.Finish number) = 1
+count_step (f.Dump task xs) = 1
 
 -- how many statements a statement is, with those in it, blocks apart
 abbrev pub count_of : Stmt → ℕ
@@ -302,30 +393,33 @@ else_fault (Some b) = b.value
 
 -- one layer of a statement: whether it has a fault, with the answer for each inner statement in its place; the statements of a named block stand in
 -- another scope
-abbrev pub fault_step : Reason → Environment → Stmt-F Bool → Bool
+abbrev pub fault_step : Reason → Surroundings → Stmt-F Bool → Bool
 fault_step r env f.Null = false
-fault_step r env (f.Assign l e) = assign_fault r Procedural env (places l) e
-fault_step r env (f.Later l e) = assign_fault r Procedural env (places l) e
+fault_step r env (f.Assign l e) = assign_fault r Procedural env.names (places l) e
+fault_step r env (f.Later l v e) = assign_fault r Procedural env.names (places l) e || due_fault r env.names env.ratio v
 fault_step r env (f.Block xs) = list_any (λ b. b) xs.items
 fault_step r env (f.Named n ls xs) = false
-fault_step r env (f.If e x o) = operand_fault r env e || x.value || else_fault o
+fault_step r env (f.If e x o) = operand_fault r env.names e || x.value || else_fault o
 fault_step r env (f.Case kind e xs) =
-    case_fault r env e (map (λ (x : CaseLabel × Bool). x.0) xs.items) || list_any (λ (x : CaseLabel × Bool). x.1) xs.items
+    case_fault r env.names e (map (λ (x : CaseLabel × Bool). x.0) xs.items) || list_any (λ (x : CaseLabel × Bool). x.1) xs.items
 fault_step r env (f.For l a c m b x) =
-    assign_fault r Procedural env (places l) a || operand_fault r env c || assign_fault r Procedural env (places m) b || x.value
-fault_step r env (f.While e x) = operand_fault r env e || x.value
-fault_step r env (f.Repeat e x) = operand_fault r env e || x.value
+    assign_fault r Procedural env.names (places l) a || operand_fault r env.names c || assign_fault r Procedural env.names (places m) b || x.value
+fault_step r env (f.While e x) = operand_fault r env.names e || x.value
+fault_step r env (f.Repeat e x) = operand_fault r env.names e || x.value
 fault_step r env (f.Forever x) = x.value
-fault_step r env (f.Delay l x) = delay_fault r env l || x.value
-fault_step r env (f.Event e x) = event_fault r env e || x.value
+fault_step r env (f.Delay l x) = delay_fault r env.names env.ratio l || x.value
+fault_step r env (f.Event e x) = event_fault r env.names e || x.value
+fault_step r env (f.Print task xs) = print_fault r env.names xs
+fault_step r env (f.Finish number) = false
+fault_step r env (f.Dump task xs) = false
 
 -- whether a statement has a fault
-abbrev pub has_fault : Reason → Environment → Stmt → Bool
+abbrev pub has_fault : Reason → Surroundings → Stmt → Bool
 has_fault r env = fold-Stmt Bool (fault_step r env)
 
 -- a fault of a statement in the scope of a path, by the path of the innermost scope of the statement that has it: that one, or that of a named block
 -- inside (clause 9.8.3)
-pub data HasFaultAt (envs : Path → Environment) (r : Reason) (at : Path) : Path → Stmt → Type 0 where
+pub data HasFaultAt (envs : Path → Surroundings) (r : Reason) (at : Path) : Path → Stmt → Type 0 where
   in_statement : (p : Path) (x : Stmt) → has_fault r (envs p) x ≡ true → p ≡ at → HasFaultAt envs r at p x
   in_block : (p : Path) (x y : Stmt) (i j : ℕ) (b : NamedBlock) → slice_get (blocks_in x) i ≡ Some b → slice_get b.statements j ≡ Some y →
       HasFaultAt envs r at (p ++ plainly b.name ∷ []) y → HasFaultAt envs r at p x

@@ -1,8 +1,8 @@
 //! The bodies of processes (IEEE 1364-2005, clauses 6.2.1 and 9.9).
 ghost use Rattle.std.specs.Prelude.{length, IfErr};
-ghost use Rattle.vs_selects.specs.Environment.{Environment};
 ghost use Rattle.vs_scopes.specs.Printed.{Path};
 ghost use Rattle.vs_bodies.specs.Members.{named_signal, sets, runs, repeats};
+ghost use Rattle.vs_bodies.specs.Surroundings.{Surroundings};
 ghost use Rattle.vs_bodies.specs.passes.Faults.{IsBelow};
 ghost use Rattle.vs_bodies.specs.passes.Views.{IsView, IsPlaced};
 ghost use Rattle.vs_bodies.specs.passes.Bodies.{Embodies};
@@ -22,7 +22,7 @@ pub fn set_body(
     target: &[u8],
     value: &Expr,
 ) -> Result<Statement, StatementFault>
-    ensures answer { (envs : Path → Environment) (p : Path) → IsView view.now envs p →
+    ensures answer { (envs : Path → Surroundings) (p : Path) → IsView view.now envs p →
         Embodies view.now.list.now envs p (sets (record { target = named_signal target.now; value = value.now })) result }
     ensures below { IfErr result (IsBelow (length view.now.list.now)) }
 {
@@ -33,7 +33,7 @@ pub fn set_body(
 /// The body of a process that runs a statement once.
 pub fn run_body(alloc: Global, view: &View, s: &Stmt) -> Result<Statement, StatementFault>
     requires { IsPlaced view.now.list.now view.now.place }
-    ensures answer { (envs : Path → Environment) (p : Path) → IsView view.now envs p →
+    ensures answer { (envs : Path → Surroundings) (p : Path) → IsView view.now envs p →
         Embodies view.now.list.now envs p (runs s.now) result }
     ensures below { IfErr result (IsBelow (length view.now.list.now)) }
 {
@@ -44,7 +44,7 @@ pub fn run_body(alloc: Global, view: &View, s: &Stmt) -> Result<Statement, State
 /// The body of a process that runs a statement for ever.
 pub fn repeat_body(alloc: Global, view: &View, s: &Stmt) -> Result<Statement, StatementFault>
     requires { IsPlaced view.now.list.now view.now.place }
-    ensures answer { (envs : Path → Environment) (p : Path) → IsView view.now envs p →
+    ensures answer { (envs : Path → Surroundings) (p : Path) → IsView view.now envs p →
         Embodies view.now.list.now envs p (repeats s.now) result }
     ensures below { IfErr result (IsBelow (length view.now.list.now)) }
 {

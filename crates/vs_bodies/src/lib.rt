@@ -3,6 +3,7 @@
 
 mod assignments;
 mod bodies;
+mod calls;
 mod cases;
 mod events;
 mod faults;
@@ -13,4 +14,4 @@ mod views;
 pub use assignments::{assignment, declared_assignment, name_source, source};
 pub use bodies::{repeat_body, run_body, set_body};
 pub use faults::StatementFault;
-pub use views::View;
+pub use views::{Ratio, View};

@@ -1,11 +1,11 @@
 //! Expressions of statements that stand alone, and delays.
-ghost use Rattle.std.specs.Prelude.{◌≡◌, Some, IfOk, IfErr};
+ghost use Rattle.std.specs.Prelude.{◌≡◌, ◌*◌, ◌^◌, ◌<◌, ◌≤◌, Some, IfOk, IfErr, MatchOption};
 ghost use Rattle.vs_selects.specs.Constants.{constant_finding};
 ghost use Rattle.vs_selects.specs.Findings.{Refuses};
 ghost use Rattle.vs_widths.specs.Expressions.{name_meant};
 ghost use Rattle.vs_widths.specs.Names.{meaning_of};
 ghost use Rattle.vs_scopes.specs.passes.Answers.{Elaborates};
-ghost use Rattle.vs_bodies.specs.Statements.{IsOperand, operand_fault, delay_meant, delay_of, delay_fault};
+ghost use Rattle.vs_bodies.specs.Statements.{IsOperand, operand_fault, delay_meant, delay_of, delay_fault, due_of, due_fault};
 ghost use Rattle.vs_bodies.specs.passes.Bodies.{IsConstantAs};
 
 use std::alloc::Global;
@@ -52,26 +52,57 @@ fn delay_constant(alloc: Global, names: &Levels, value: &DelayValue) -> Result<C
     ensures fault { IfErr result (Refuses (constant_finding (delay_meant (meaning_of names.now) value.now))) }
 {
     match value {
-        DelayValue::Number(literal) => Ok(Const {
-            value: literal.value,
-            signed: literal.signed,
-        }),
+        DelayValue::Number(literal) => Ok(Const::new(literal.value, literal.signed, None)),
         DelayValue::Name(name) => named_constant(names, name),
         DelayValue::Group(e) => constant(alloc, names, e),
     }
 }
 
-/// The ticks of a delay (IEEE 1364-2005, clause 9.7.1).
-pub fn delay(alloc: Global, names: &Levels, value: &DelayValue) -> Result<Ticks, BodyFault>
-    ensures { Elaborates (λ r. delay_fault r (meaning_of names.now) value.now)
-        (λ n. delay_of (meaning_of names.now) value.now ≡ Some n.count) result }
+/// So many units of time in ticks, where a unit is so many and delays reach that far.
+fn in_ticks(units: u64, ratio: u64) -> Option<u64>
+    ensures { MatchOption result (2 ^ 62 ≤ units * ratio) (λ n. (n ≡ units * ratio) × (n < 2 ^ 62)) }
+{
+    let ticks = units.checked_mul(ratio)?;
+    if ticks < DELAY_LIMIT {
+        Some(ticks)
+    } else {
+        None
+    }
+}
+
+/// The ticks of a delay, where a unit of time is so many (IEEE 1364-2005, clauses 9.7.1 and 19.8).
+pub fn delay(
+    alloc: Global,
+    names: &Levels,
+    ratio: u64,
+    value: &DelayValue,
+) -> Result<Ticks, BodyFault>
+    ensures { Elaborates (λ r. delay_fault r (meaning_of names.now) ratio value.now)
+        (λ n. delay_of (meaning_of names.now) ratio value.now ≡ Some n.count) result }
 {
     let number = delay_constant(alloc, names, value)?;
-    let Some(ticks) = number.natural() else {
+    let Some(units) = number.natural() else {
         return Err(BodyFault::Refused(Reason::Width(WidthReason::NotConstant)));
     };
-    if ticks >= DELAY_LIMIT {
+    let Some(count) = in_ticks(units, ratio) else {
         return Err(BodyFault::Refused(Reason::Limit));
+    };
+    Ok(Ticks { count })
+}
+
+/// In how many ticks the update of a nonblocking assignment is due, where a unit of time is so many: in none where it has no delay
+/// (IEEE 1364-2005, clause 9.2.2).
+pub fn due(
+    alloc: Global,
+    names: &Levels,
+    ratio: u64,
+    value: &Option<DelayValue>,
+) -> Result<Ticks, BodyFault>
+    ensures { Elaborates (λ r. due_fault r (meaning_of names.now) ratio value.now)
+        (λ n. due_of (meaning_of names.now) ratio value.now ≡ Some n.count) result }
+{
+    match value {
+        Some(value) => delay(alloc, names, ratio, value),
+        None => Ok(Ticks { count: 0 }),
     }
-    Ok(Ticks { count: ticks })
 }

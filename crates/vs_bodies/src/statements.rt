@@ -6,25 +6,26 @@ ghost use Rattle.vs_syntax.specs.declared.tree.CaseLabel.{CaseLabel};
 ghost use Rattle.vs_syntax.specs.declared.tree.LocalDeclaration.{LocalDeclaration};
 ghost use Rattle.vs_syntax.specs.declared.tree.Stmt.{Stmt};
 ghost use Rattle.vs_syntax.specs.declared.tree.Stmt.TheVariants as form;
-ghost use Rattle.vs_selects.specs.Environment.{Environment};
 ghost use Rattle.vs_scopes.specs.Printed.{plainly, Path};
 ghost use Rattle.vs_bodies.specs.declared.faults.StatementFault.TheVariants.{Overfull};
+ghost use Rattle.vs_bodies.specs.Surroundings.{Surroundings};
 ghost use Rattle.vs_bodies.specs.passes.Faults.{IsBelow};
 ghost use Rattle.vs_bodies.specs.passes.Views.{IsView, IsPlaced};
 ghost use Rattle.vs_bodies.specs.passes.Bodies.{Answers, MeansStatement, MeansStatements, MeansElse, MeansItems, IsNumbered, IsRepeated, numbered_burden, statement_burden, statements_burden, items_burden, named_burden, else_list};
 
 use crate::assignments::assignment;
+use crate::calls::call;
 use crate::cases::{case_operand, label_values};
 use crate::events::event_terms;
 use crate::faults::{StatementFault, deeper};
-use crate::operands::{delay, operand};
+use crate::operands::{delay, due, operand};
 use crate::views::View;
 use std::alloc::{AllocError, Global};
 use vs_design::{Statement, Target, Typed};
 use vs_forms::Shape;
 use vs_logic4::CaseKind;
 use vs_opened::names_around;
-use vs_syntax::{CaseLabel, Expr, Left, Stmt};
+use vs_syntax::{CaseLabel, DelayValue, Expr, Left, PrintArguments, PrintTask, Stmt};
 use vs_targets::AssignmentKind;
 use vs_widths::Levels;
 
@@ -55,7 +56,7 @@ fn numbered(
     left: &Left,
     e: &Expr,
 ) -> Result<(u32, Target, Typed), StatementFault>
-    ensures answer { (envs : Path → Environment) (p : Path) → IsView view.now envs p →
+    ensures answer { (envs : Path → Surroundings) (p : Path) → IsView view.now envs p →
         Answers view.now.list.now envs p (numbered_burden (envs p) next.old left.now e.now)
         (λ q. IsNumbered (envs p) next.old left.now e.now q.0 q.1 q.2 next.new) result }
     ensures below { IfErr result (IsBelow (length view.now.list.now)) }
@@ -63,6 +64,46 @@ fn numbered(
     let number = take_number(next)?;
     let (target, source) = assignment(alloc, view.names, PROCEDURAL, left, e)?;
     Ok((number, target, source))
+}
+
+/// A nonblocking assignment, which has the next number (IEEE 1364-2005, clause 9.2.2).
+#[inline(never)]
+fn later(
+    alloc: Global,
+    view: &View,
+    next: &mut u32,
+    left: &Left,
+    value: &Option<DelayValue>,
+    e: &Expr,
+) -> Result<Statement, StatementFault>
+    ensures answer { (envs : Path → Surroundings) (p : Path) → IsView view.now envs p →
+        Answers view.now.list.now envs p (statement_burden (envs p) next.old (form.Later left.now value.now e.now))
+        (λ d. MeansStatement envs p next.old (form.Later left.now value.now e.now) d next.new) result }
+    ensures below { IfErr result (IsBelow (length view.now.list.now)) }
+{
+    let (number, target, source) = numbered(alloc, view, next, left, e)?;
+    let ticks = due(alloc, view.names, view.ratio.ticks, value)?;
+    Ok(Statement::Later(number, ticks, target, source))
+}
+
+/// A call of `$display` or `$strobe`, which has the next number (IEEE 1364-2005, clause 17.1).
+#[inline(never)]
+fn print(
+    alloc: Global,
+    view: &View,
+    next: &mut u32,
+    task: PrintTask,
+    all: &PrintArguments,
+) -> Result<Statement, StatementFault>
+    requires { IsPlaced view.now.list.now view.now.place }
+    ensures answer { (envs : Path → Surroundings) (p : Path) → IsView view.now envs p →
+        Answers view.now.list.now envs p (statement_burden (envs p) next.old (form.Print task all.now))
+        (λ d. MeansStatement envs p next.old (form.Print task all.now) d next.new) result }
+    ensures below { IfErr result (IsBelow (length view.now.list.now)) }
+{
+    let number = take_number(next)?;
+    let made = call(alloc, view, task, all)?;
+    Ok(Statement::Call(number, made))
 }
 
 /// A `for` of these parts: its first assignment, and then a `while`, whose body ends with its second assignment
@@ -96,7 +137,7 @@ pub fn statement(
     s: &Stmt,
 ) -> Result<Statement, StatementFault>
     requires { IsPlaced view.now.list.now view.now.place }
-    ensures answer { (envs : Path → Environment) (p : Path) → IsView view.now envs p →
+    ensures answer { (envs : Path → Surroundings) (p : Path) → IsView view.now envs p →
         Answers view.now.list.now envs p (statement_burden (envs p) next.old s.now)
         (λ d. MeansStatement envs p next.old s.now d next.new) result }
     ensures below { IfErr result (IsBelow (length view.now.list.now)) }
@@ -110,10 +151,7 @@ pub fn statement(
             let (number, target, source) = numbered(alloc, view, next, left, e)?;
             Ok(Statement::Assign(number, target, source))
         }
-        Stmt::Later(left, e) => {
-            let (number, target, source) = numbered(alloc, view, next, left, e)?;
-            Ok(Statement::Later(number, target, source))
-        }
+        Stmt::Later(left, value, e) => later(alloc, view, next, left, value, e),
         Stmt::Block(inner) => {
             let inner = statements(alloc, view, next, inner)?;
             Ok(Statement::Block(inner))
@@ -156,13 +194,22 @@ pub fn statement(
         }
         Stmt::Delay(value, x) => {
             let (number, body) = behind(alloc, view, next, x)?;
-            let ticks = delay(alloc, view.names, value)?;
+            let ticks = delay(alloc, view.names, view.ratio.ticks, value)?;
             Ok(Statement::Delay(number, ticks, Box::new(alloc, body)?))
         }
         Stmt::Event(control, x) => {
             let (number, body) = behind(alloc, view, next, x)?;
             let terms = event_terms(alloc, view.names, control, &body)?;
             Ok(Statement::Event(number, terms, Box::new(alloc, body)?))
+        }
+        Stmt::Print(task, all) => print(alloc, view, next, *task, all),
+        Stmt::Finish(_) => {
+            let number = take_number(next)?;
+            Ok(Statement::Finish(number))
+        }
+        Stmt::Dump(_, _) => {
+            let number = take_number(next)?;
+            Ok(Statement::Null(number))
         }
     }
 }
@@ -176,7 +223,7 @@ fn statements(
     all: &[Stmt],
 ) -> Result<Vec<Statement>, StatementFault>
     requires { IsPlaced view.now.list.now view.now.place }
-    ensures answer { (envs : Path → Environment) (p : Path) → IsView view.now envs p →
+    ensures answer { (envs : Path → Surroundings) (p : Path) → IsView view.now envs p →
         Answers view.now.list.now envs p (statements_burden (envs p) next.old all.now)
         (λ d. MeansStatements envs p next.old all.now d.items next.new) result }
     ensures below { IfErr result (IsBelow (length view.now.list.now)) }
@@ -200,7 +247,7 @@ fn block(
     all: &[Stmt],
 ) -> Result<Vec<Statement>, StatementFault>
     requires { IsPlaced view.now.list.now view.now.place }
-    ensures answer { (envs : Path → Environment) (p : Path) (locals : List LocalDeclaration) → IsView view.now envs p →
+    ensures answer { (envs : Path → Surroundings) (p : Path) (locals : List LocalDeclaration) → IsView view.now envs p →
         Answers view.now.list.now envs p (named_burden next.old (record { name = name.now; locals = locals; statements = all.now }))
         (λ d. MeansStatements envs (p ++ plainly name.now ∷ []) next.old all.now d.items next.new) result }
     ensures below { IfErr result (IsBelow (length view.now.list.now)) }
@@ -218,6 +265,7 @@ fn block(
         list,
         place,
         names: &names,
+        ratio: view.ratio,
     };
     match statements(alloc, &inner, next, all) {
         Ok(done) => Ok(done),
@@ -234,7 +282,7 @@ fn behind(
     s: &Stmt,
 ) -> Result<(u32, Statement), StatementFault>
     requires { IsPlaced view.now.list.now view.now.place }
-    ensures answer { (envs : Path → Environment) (p : Path) → IsView view.now envs p →
+    ensures answer { (envs : Path → Surroundings) (p : Path) → IsView view.now envs p →
         Answers view.now.list.now envs p (statement_burden (envs p) (next.old + 1) s.now)
         (λ q. (q.0 ≡ next.old) × MeansStatement envs p (next.old + 1) s.now q.1 next.new) result }
     ensures below { IfErr result (IsBelow (length view.now.list.now)) }
@@ -253,7 +301,7 @@ fn otherwise(
     other: &Option<Box<Stmt>>,
 ) -> Result<Statement, StatementFault>
     requires { IsPlaced view.now.list.now view.now.place }
-    ensures answer { (envs : Path → Environment) (p : Path) → IsView view.now envs p →
+    ensures answer { (envs : Path → Surroundings) (p : Path) → IsView view.now envs p →
         Answers view.now.list.now envs p (statements_burden (envs p) next.old (else_list other.now))
         (λ y. MeansElse envs p next.old other.now y next.new) result }
     ensures below { IfErr result (IsBelow (length view.now.list.now)) }
@@ -278,8 +326,8 @@ fn case_statement(
     e: &Expr,
 ) -> Result<Statement, StatementFault>
     requires { IsPlaced view.now.list.now view.now.place }
-    ensures answer { (envs : Path → Environment) (p : Path) (v : Vec (CaseLabel × Stmt) Global) → v.items ≡ all.now →
-        IsView view.now envs p → Answers view.now.list.now envs p (statement_burden (envs p) next.old (form.Case kind e.now v))
+    ensures answer { (envs : Path → Surroundings) (p : Path) (v : Vec (CaseLabel × Stmt) Global) → v.items ≡ all.now → IsView view.now envs p →
+        Answers view.now.list.now envs p (statement_burden (envs p) next.old (form.Case kind e.now v))
         (λ d. MeansStatement envs p next.old (form.Case kind e.now v) d next.new) result }
     ensures below { IfErr result (IsBelow (length view.now.list.now)) }
 {
@@ -299,7 +347,7 @@ fn items(
     all: &[(CaseLabel, Stmt)],
 ) -> Result<Vec<(Vec<Typed>, Statement)>, StatementFault>
     requires { IsPlaced view.now.list.now view.now.place }
-    ensures answer { (envs : Path → Environment) (p : Path) → IsView view.now envs p →
+    ensures answer { (envs : Path → Surroundings) (p : Path) → IsView view.now envs p →
         Answers view.now.list.now envs p (items_burden (envs p) next.old all.now)
         (λ v. MeansItems envs p shape next.old all.now v.items next.new) result }
     ensures below { IfErr result (IsBelow (length view.now.list.now)) }

@@ -110,7 +110,9 @@ in_items ss x (i ∷ is) h =
 layer : (ss : List Signal) (y : Statement-F (Inner ss)) → LayerSound ss y
 layer ss (f.Null n) h = refl
 layer ss (f.Assign n t e) h = refl
-layer ss (f.Later n t e) h = refl
+layer ss (f.Later n ticks t e) h = refl
+layer ss (f.Call n c) h = refl
+layer ss (f.Finish n) h = refl
 layer ss (f.Block all) h = in_block ss all.items h
 layer ss (f.Delay n ticks body) h = body.value.1 h
 layer ss (f.Event n terms body) h =

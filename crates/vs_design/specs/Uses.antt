@@ -39,6 +39,7 @@ reads_step (t.Number digits) = []
 reads_step (t.Signal o) = whole o.signal ∷ []
 reads_step (t.Slice s) = slice_range s ∷ []
 reads_step (t.Select s word low) = all_words s.signal ∷ word.value ++ low.value
+reads_step (t.Excerpt s low) = low.value
 reads_step (t.Unary op x) = x.value
 reads_step (t.Chain x links) = x.value ++ joined (map (λ (l : Link × List BitRange). l.1) links.items)
 reads_step (t.Choice pairs last) = joined (map (λ (p : List BitRange × List BitRange). p.0 ++ p.1) pairs.items) ++ last.value

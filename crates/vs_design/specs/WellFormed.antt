@@ -16,6 +16,9 @@ use Rattle.vs_design.specs.declared.statement.Aim.{Aim}
 use Rattle.vs_design.specs.declared.statement.Aim.TheVariants.{Fixed, Chosen}
 use Rattle.vs_design.specs.declared.statement.Target.{Target}
 use Rattle.vs_design.specs.declared.statement.EventTerm.{EventTerm}
+use Rattle.vs_design.specs.declared.statement.FormatArg.{FormatArg}
+use Rattle.vs_design.specs.declared.statement.FormatArg.TheVariants as arg
+use Rattle.vs_design.specs.declared.statement.Call.{Call}
 use Rattle.vs_design.specs.declared.statement.Statement.{Statement}
 use Rattle.vs_design.specs.declared.statement.Statement.TheOpen.{Statement-F}
 use Rattle.vs_design.specs.declared.statement.Statement.TheOpen as f
@@ -84,6 +87,7 @@ size_step (t.Number digits) = Some (length digits)
 size_step (t.Signal o) = Some o.width
 size_step (t.Slice s) = Some s.width
 size_step (t.Select s word low) = indexed_size s.width word.value low.value
+size_step (t.Excerpt s low) = option_map (λ n. s.width) low.value
 size_step (t.Unary op x) = option_map (λ n. if gives_bit op then 1 else n) x.value
 size_step (t.Chain x links) = chain_size x.value links.items
 size_step (t.Choice pairs last) = choice_size pairs.items last.value
@@ -193,6 +197,15 @@ driven assigns = flat_map (λ (a : Assign). writes a.target) assigns
 abbrev pub is_sound_operand : List Signal → Typed → Bool
 is_sound_operand ss e = is_within ss e && is_some (size_of e)
 
+-- whether an argument of a call reads signals of the design alone, and has a size (clauses 5.4.1 and 17.1)
+abbrev pub is_sound_arg : List Signal → FormatArg → Bool
+is_sound_arg ss (arg.Value signed e) = is_sound_operand ss e
+is_sound_arg ss arg.Time = true
+
+-- whether the arguments of a call are sound (clause 17.1)
+abbrev pub is_sound_call : List Signal → Call → Bool
+is_sound_call ss c = list_all (is_sound_arg ss) c.args.items
+
 -- whether the size of an expression of a `case` item is that of the `case` expression (clause 9.5)
 abbrev pub is_alike : Typed → Typed → Bool
 is_alike x e = same_size (size_of x) (size_of e)
@@ -209,7 +222,9 @@ are_sound_terms ss terms = are_within ss (map (λ (t : EventTerm). t.range) term
 abbrev pub sound_step : List Signal → Statement-F Bool → Bool
 sound_step ss (f.Null n) = true
 sound_step ss (f.Assign n t e) = is_sound_assignment ss t e
-sound_step ss (f.Later n t e) = is_sound_assignment ss t e
+sound_step ss (f.Later n ticks t e) = is_sound_assignment ss t e
+sound_step ss (f.Call n c) = is_sound_call ss c
+sound_step ss (f.Finish n) = true
 sound_step ss (f.Block all) = list_all (λ b. b) all.items
 sound_step ss (f.Delay n ticks body) = body.value
 sound_step ss (f.Event n terms body) = are_sound_terms ss terms.items && body.value
@@ -228,7 +243,9 @@ is_sound_statement ss = fold-Statement Bool (sound_step ss)
 abbrev pub numbers_step : Statement-F (List ℕ) → List ℕ
 numbers_step (f.Null n) = n ∷ []
 numbers_step (f.Assign n t e) = n ∷ []
-numbers_step (f.Later n t e) = n ∷ []
+numbers_step (f.Later n ticks t e) = n ∷ []
+numbers_step (f.Call n c) = n ∷ []
+numbers_step (f.Finish n) = n ∷ []
 numbers_step (f.Block all) = joined all.items
 numbers_step (f.Delay n ticks body) = n ∷ body.value
 numbers_step (f.Event n terms body) = n ∷ body.value

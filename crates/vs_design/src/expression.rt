@@ -83,6 +83,18 @@ pub struct Selection {
     pub ghost sized: { (0 < width) × (width ≤ 64) },
 }
 
+/// Bits of a constant where the index isn't one (IEEE 1364-2005, clauses 4.10 and 5.2.1).
+#[derive(Clone, Copy)]
+pub struct Excerpt {
+    /// The constant's digits.
+    pub digits: Vec4,
+    /// How the index chooses the lowest bit.
+    pub bits: Axis,
+    /// How many bits there are.
+    pub width: u32,
+    pub ghost sized: { (0 < width) × (width ≤ 64) },
+}
+
 /// How often a replication repeats its operand (IEEE 1364-2005, clause 5.1.14).
 #[derive(Clone, Copy)]
 pub struct Count {
@@ -102,6 +114,8 @@ pub enum Typed {
     Slice(Slice),
     /// Bits of a word by the values of two indices, the word's and the lowest bit's, at their own size and without a sign.
     Select(Selection, Box<Typed>, Box<Typed>),
+    /// Bits of a constant by the value of an index, at their own size and without a sign.
+    Excerpt(Excerpt, Box<Typed>),
     /// An operator and its operand.
     Unary(Unary, Box<Typed>),
     /// Operands with operators of one level between them, from left to right (IEEE 1364-2005, clause 5.1.2): the first operand, and each other

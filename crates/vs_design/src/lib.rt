@@ -21,12 +21,12 @@ mod uses;
 mod write;
 
 pub use design::{Assign, Design, Entry, Process, ProcessKind, ScopeKind};
-pub use expression::{Axis, Count, Extension, Link, Operand, Selection, Slice, Typed};
+pub use expression::{Axis, Count, Excerpt, Extension, Link, Operand, Selection, Slice, Typed};
 pub use laws::names_hold;
 pub use range::{BitRange, Bits};
 pub use readers::Reader;
 pub use signal::{Bounds, Signal, SignalKind};
-pub use statement::{Aim, EventTerm, Statement, Target, Ticks};
+pub use statement::{Aim, Call, CallKind, EventTerm, FormatArg, Statement, Target, Ticks};
 pub use statement_uses::{event_terms, has_control, statement_reads};
 pub use store::Store;
 pub use timescale::{DEFAULT_TIMESCALE, Magnitude, TimeSpan, TimeUnit, Timescale};

@@ -42,6 +42,40 @@ pub struct EventTerm {
     pub range: BitRange,
 }
 
+/// An argument of a `$display` or a `$strobe` behind the text (IEEE 1364-2005, clause 17.1).
+#[derive(Drop)]
+pub enum FormatArg {
+    /// Whether the value is a signed number, and an expression at its own size.
+    Value(bool, Typed),
+    /// `$time`: the time in units, 64 bits without a sign (clause 17.7.1).
+    Time,
+}
+
+/// When the line of a call is made (IEEE 1364-2005, clauses 17.1.1 and 17.1.2).
+#[derive(Clone, Copy, PartialEq, Eq, Debug)]
+pub enum CallKind {
+    /// `$display`: when the call runs.
+    Display,
+    /// `$strobe`: at the end of the time slot in which the call runs.
+    Strobe,
+}
+
+/// A call of `$display` or `$strobe` (IEEE 1364-2005, clause 17.1).
+#[derive(Drop)]
+pub struct Call {
+    /// When its line is made.
+    pub kind: CallKind,
+    /// The bytes of its text, escapes already read; none where it has no text.
+    pub text: Vec<u8>,
+    /// The arguments behind the text.
+    pub args: Vec<FormatArg>,
+    /// What `%m` prints: the path of the scope in which the call stands.
+    pub path: Vec<u8>,
+    /// How many ticks a unit of time is, at most 10^17: 100 s of 1 fs (clause 19.8).
+    pub ratio: u64,
+    pub ghost scaled: { (0 < ratio) × (ratio ≤ 10 ^ 17) },
+}
+
 /// A statement (IEEE 1364-2005, clause 9), whose names are numbers of signals and whose delays are ticks. Each but a block has its number among
 /// the statements of its process that are no blocks, from 0 on, each before those in it: so equal texts at two places are two statements.
 /// A `for` is its first assignment and then a `while`, whose body ends with its second assignment (clause 9.6).
@@ -51,8 +85,12 @@ pub enum Statement {
     Null(u32),
     /// A blocking assignment.
     Assign(u32, Target, Typed),
-    /// A nonblocking assignment without a delay.
-    Later(u32, Target, Typed),
+    /// A nonblocking assignment, and in how many ticks its update is due: in none where it has no delay (clause 9.2.2).
+    Later(u32, Ticks, Target, Typed),
+    /// A call of `$display` or `$strobe` (clause 17.1).
+    Call(u32, Call),
+    /// A call of `$finish` (clause 17.4.1).
+    Finish(u32),
     /// `begin .. end`
     Block(Vec<Statement>),
     /// A delay control, and the statement behind it.

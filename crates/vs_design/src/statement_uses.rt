@@ -2,11 +2,11 @@
 ghost use Rattle.std.specs.Prelude.{◌≡◌, ◌++◌, IfOk, OnOk, map};
 ghost use Rattle.std.specs.List.{list_any};
 ghost use Rattle.vs_design.specs.Uses.{joined};
-ghost use Rattle.vs_design.specs.Statements.{all_reads, assignment_reads, statement_reads, event_terms, has_control};
+ghost use Rattle.vs_design.specs.Statements.{all_reads, assignment_reads, arg_reads, call_reads, statement_reads, event_terms, has_control};
 
 use crate::expression::Typed;
 use crate::range::BitRange;
-use crate::statement::{EventTerm, Statement, Target};
+use crate::statement::{Call, EventTerm, FormatArg, Statement, Target};
 use crate::uses::{push_all_reads, push_reads, push_target_reads};
 use std::alloc::{AllocError, Global};
 
@@ -21,6 +21,24 @@ fn push_assignment_reads(
     push_target_reads(out, target)
 }
 
+fn push_arg_reads(out: &mut Vec<BitRange>, arg: &FormatArg) -> Result<(), AllocError>
+    ensures { OnOk result (out.new.items ≡ out.old.items ++ arg_reads arg.now) }
+{
+    match arg {
+        FormatArg::Value(_, e) => push_reads(out, e),
+        FormatArg::Time => Ok(()),
+    }
+}
+
+fn push_call_reads(out: &mut Vec<BitRange>, call: &Call) -> Result<(), AllocError>
+    ensures { OnOk result (out.new.items ≡ out.old.items ++ call_reads call.now) }
+{
+    for arg in &call.args {
+        push_arg_reads(out, arg)?;
+    }
+    Ok(())
+}
+
 #[cycle(statement_reads)]
 fn push_statement_reads(out: &mut Vec<BitRange>, s: &Statement) -> Result<(), AllocError>
     ensures { OnOk result (out.new.items ≡ out.old.items ++ statement_reads s.now) }
@@ -28,7 +46,9 @@ fn push_statement_reads(out: &mut Vec<BitRange>, s: &Statement) -> Result<(), Al
     match s {
         Statement::Null(_) => Ok(()),
         Statement::Assign(_, target, source) => push_assignment_reads(out, target, source),
-        Statement::Later(_, target, source) => push_assignment_reads(out, target, source),
+        Statement::Later(_, _, target, source) => push_assignment_reads(out, target, source),
+        Statement::Call(_, call) => push_call_reads(out, call),
+        Statement::Finish(_) => Ok(()),
         Statement::Block(all) => push_block_reads(out, all),
         Statement::Delay(_, _, body) => push_statement_reads(out, body),
         Statement::Event(_, _, body) => push_statement_reads(out, body),
@@ -93,7 +113,9 @@ fn push_terms(out: &mut Vec<EventTerm>, s: &Statement) -> Result<(), AllocError>
     match s {
         Statement::Null(_) => Ok(()),
         Statement::Assign(_, _, _) => Ok(()),
-        Statement::Later(_, _, _) => Ok(()),
+        Statement::Later(_, _, _, _) => Ok(()),
+        Statement::Call(_, _) => Ok(()),
+        Statement::Finish(_) => Ok(()),
         Statement::Block(all) => push_block_terms(out, all),
         Statement::Delay(_, _, body) => push_terms(out, body),
         Statement::Event(_, terms, body) => {
@@ -143,7 +165,8 @@ pub fn event_terms(alloc: Global, s: &Statement) -> Result<Vec<EventTerm>, Alloc
     Ok(out)
 }
 
-/// Whether a statement has a timing control: a delay or an event control (IEEE 1364-2005, clause 9.7).
+/// Whether a statement has a timing control: a delay or an event control (IEEE 1364-2005, clause 9.7). The delay of a
+/// nonblocking assignment is none.
 #[cycle(has_control)]
 pub fn has_control(s: &Statement) -> bool
     ensures { result ≡ has_control s.now }
@@ -151,7 +174,9 @@ pub fn has_control(s: &Statement) -> bool
     match s {
         Statement::Null(_) => false,
         Statement::Assign(_, _, _) => false,
-        Statement::Later(_, _, _) => false,
+        Statement::Later(_, _, _, _) => false,
+        Statement::Call(_, _) => false,
+        Statement::Finish(_) => false,
         Statement::Block(all) => has_control_in_block(all),
         Statement::Delay(_, _, _) => true,
         Statement::Event(_, _, _) => true,

@@ -70,6 +70,7 @@ pub(crate) fn push_reads(out: &mut Vec<BitRange>, e: &Typed) -> Result<(), Alloc
             push_reads(out, word)?;
             push_reads(out, low)
         }
+        Typed::Excerpt(_, low) => push_reads(out, low),
         Typed::Unary(_, x) => push_reads(out, x),
         Typed::Chain(first, links) => {
             push_reads(out, first)?;

@@ -35,13 +35,14 @@ use Rattle.vs_scopes.specs.declared.ports.ModulePort.{ModulePort as FoundPort}
 use Rattle.vs_scopes.specs.passes.Parts.{read_port, read_ends}
 use Rattle.vs_opened.specs.declared.opened.Opened.{Opened as FoundScope}
 use Rattle.vs_opened.specs.Opened.{IsWithin, IsOutermost}
-use Rattle.vs_scopes.specs.Scopes.{Scope, environment, environment_at}
+use Rattle.vs_scopes.specs.Scopes.{Scope, environment}
 use Rattle.vs_scopes.specs.passes.Answers.{Told}
 use Rattle.vs_scopes.proofs.Folds.{any_push, left_true, right_true, take_push}
 use Rattle.vs_scopes.proofs.AnswerLemmas.{told_by}
 use Rattle.vs_bodies.specs.Statements.{IsAssignment}
 use Rattle.vs_bodies.specs.Members.{Assignment, named_signal, assignment_of, PortDriver, connected, port_of, of_text, Behavior, setting, port_drivers, drivers_in, behaviors_by_item, behaviors_in, port_setting, drivers_of, port_drivers_of, behaviors_of}
 use Rattle.vs_bodies.specs.Processes.{kind_of, statements_of, HasBehaviorFault}
+use Rattle.vs_bodies.specs.Surroundings.{Surroundings}
 use Rattle.vs_bodies.specs.passes.Bodies.{counting, MeansBody}
 use Rattle.vs_elaborate.specs.declared.contents.Contents.{Contents}
 use Rattle.vs_elaborate.specs.Drivers.{IsPortAssign}
@@ -113,21 +114,21 @@ at_last [] x y (suc i) h = absurd (none-some y h)
 at_last (z ∷ zs) x y zero h = inl h
 at_last (z ∷ zs) x y (suc i) h = at_last zs x y i h
 
-runs_sound : (ss : List Scope) (s : Scope) (xs : List Behavior) (x : Behavior) → ((r : Reason) (at : Path) → HasBehaviorFault (environment_at ss) r at s.path x → ⊥) → RunSoundly ss s xs → RunSoundly ss s (xs ++ x ∷ [])
-runs_sound ss s xs x one all r p h = by (at_last xs x h.behavior h.place h.stands)
+runs_sound : (envs : Path → Surroundings) (s : Scope) (xs : List Behavior) (x : Behavior) → ((r : Reason) (at : Path) → HasBehaviorFault envs r at s.path x → ⊥) → RunSoundly envs s xs → RunSoundly envs s (xs ++ x ∷ [])
+runs_sound envs s xs x one all r p h = by (at_last xs x h.behavior h.place h.stands)
   where
     by : (slice_get xs h.place ≡ Some h.behavior) ⊎ (x ≡ h.behavior) → ⊥
     by (inl e) = all r p (record { place = h.place; behavior = h.behavior; stands = e; fault = h.fault })
-    by (inr e) = one r p (subst (λ z. HasBehaviorFault (environment_at ss) r p s.path z) (sym e) h.fault)
+    by (inr e) = one r p (subst (λ z. HasBehaviorFault envs r p s.path z) (sym e) h.fault)
 
-pub runs_push : (ss : List Scope) (s : Scope) (first number : ℕ) (contents new start : Contents) (done : List Behavior) (x : Behavior) (p : Process) → new.processes.items ≡ contents.processes.items ++ p ∷ [] → new.assigns.items ≡ contents.assigns.items → number ≡ length contents.processes.items - first → p.name.items ≡ part_name s.path (own_name 112 number) → p.kind ≡ kind_of x →
-    ((r : Reason) (at : Path) → HasBehaviorFault (environment_at ss) r at s.path x → ⊥) × MeansBody (environment_at ss) s.path x p.body → Runs ss s first contents start done → Runs ss s first new start (done ++ x ∷ [])
-runs_push ss s first number contents new start done x p h a n text kind body r =
+pub runs_push : (envs : Path → Surroundings) (s : Scope) (first number : ℕ) (contents new start : Contents) (done : List Behavior) (x : Behavior) (p : Process) → new.processes.items ≡ contents.processes.items ++ p ∷ [] → new.assigns.items ≡ contents.assigns.items → number ≡ length contents.processes.items - first → p.name.items ≡ part_name s.path (own_name 112 number) → p.kind ≡ kind_of x →
+    ((r : Reason) (at : Path) → HasBehaviorFault envs r at s.path x → ⊥) × MeansBody envs s.path x p.body → Runs envs s first contents start done → Runs envs s first new start (done ++ x ∷ [])
+runs_push envs s first number contents new start done x p h a n text kind body r =
     let parts : List Behavior → List (PartOf Behavior) = parts_from 112 s 0 in
-    let count = adds_count (RunSoundly ss s) (IsProcess ss) parts first contents.processes.items start.processes.items done number (length_parts 112 s 0 done) n r.adds in
-    let one : IsProcess ss p (record { scope = s; name = own_name 112 number; part = x }) = record { name = text; kind = kind; body = body.1.means; numbered = ap (counts_from 0) body.1.numbered ∙ counts_counting 0 (statements_of x) } in
+    let count = adds_count (RunSoundly envs s) (IsProcess envs) parts first contents.processes.items start.processes.items done number (length_parts 112 s 0 done) n r.adds in
+    let one : IsProcess envs p (record { scope = s; name = own_name 112 number; part = x }) = record { name = text; kind = kind; body = body.1.means; numbered = ap (counts_from 0) body.1.numbered ∙ counts_counting 0 (statements_of x) } in
     record {
-      adds = adds_push (RunSoundly ss s) (IsProcess ss) parts first contents.processes.items new.processes.items start.processes.items done x p _ h (runs_sound ss s done x body.0) (parts_push 112 s done x number count) one r.adds;
+      adds = adds_push (RunSoundly envs s) (IsProcess envs) parts first contents.processes.items new.processes.items start.processes.items done x p _ h (runs_sound envs s done x body.0) (parts_push 112 s done x number count) one r.adds;
       assigns = a ∙ r.assigns;
     }
 
@@ -167,9 +168,9 @@ drives_none s first contents h = record {
   processes = refl;
 }
 
-pub runs_none : (ss : List Scope) (s : Scope) (first : ℕ) (contents : Contents) → length contents.processes.items ≡ first → Runs ss s first contents contents []
-runs_none ss s first contents h = record {
-  adds = adds_none (RunSoundly ss s) (IsProcess ss) (parts_from 112 s 0) first contents.processes.items refl (λ r p u. none-some u.behavior u.stands) h;
+pub runs_none : (envs : Path → Surroundings) (s : Scope) (first : ℕ) (contents : Contents) → length contents.processes.items ≡ first → Runs envs s first contents contents []
+runs_none envs s first contents h = record {
+  adds = adds_none (RunSoundly envs s) (IsProcess envs) (parts_from 112 s 0) first contents.processes.items refl (λ r p u. none-some u.behavior u.stands) h;
   assigns = refl;
 }
 
@@ -186,8 +187,8 @@ at_first [] rest i x h = absurd (none-some x h)
 at_first (y ∷ ys) rest zero x h = h
 at_first (y ∷ ys) rest (suc i) x h = at_first ys rest i x h
 
-pub runs_not_more : (ss : List Scope) (s : Scope) (start : Contents) (xs ys : List Behavior) (r : Reason) (p : Path) → RunsNot ss s start xs r p → RunsNot ss s start (xs ++ ys) r p
-runs_not_more ss s start xs ys r p h = record { place = h.place; behavior = h.behavior; stands = at_first xs ys h.place h.behavior h.stands; fault = h.fault }
+pub runs_not_more : (envs : Path → Surroundings) (s : Scope) (start : Contents) (xs ys : List Behavior) (r : Reason) (p : Path) → RunsNot envs s start xs r p → RunsNot envs s start (xs ++ ys) r p
+runs_not_more envs s start xs ys r p h = record { place = h.place; behavior = h.behavior; stands = at_first xs ys h.place h.behavior h.stands; fault = h.fault }
 
 pub drives_not_more : (s : Scope) (start : Contents) (xs ys : List Assignment) (r : Reason) (p : Path) → DrivesNot s start xs r p → DrivesNot s start (xs ++ ys) r p
 drives_not_more s start = adds_not_more (text_faults s) s.path
@@ -203,9 +204,9 @@ at_end : {A : Type 0} (xs : List A) (x : A) → slice_get (xs ++ x ∷ []) (leng
 at_end [] x = refl
 at_end (y ∷ ys) x = at_end ys x
 
-pub runs_last : (ss : List Scope) (s : Scope) (start : Contents) (done : List Behavior) (x : Behavior) (e : ElabFault) → Told (λ r at. HasBehaviorFault (environment_at ss) r at s.path x) e → Told (RunsNot ss s start (done ++ x ∷ [])) e
-runs_last ss s start done x e h =
-    told_by (λ r at. HasBehaviorFault (environment_at ss) r at s.path x) (RunsNot ss s start (done ++ x ∷ [])) e (λ r p u. record { place = length done; behavior = x; stands = at_end done x; fault = u }) h
+pub runs_last : (envs : Path → Surroundings) (s : Scope) (start : Contents) (done : List Behavior) (x : Behavior) (e : ElabFault) → Told (λ r at. HasBehaviorFault envs r at s.path x) e → Told (RunsNot envs s start (done ++ x ∷ [])) e
+runs_last envs s start done x e h =
+    told_by (λ r at. HasBehaviorFault envs r at s.path x) (RunsNot envs s start (done ++ x ∷ [])) e (λ r p u. record { place = length done; behavior = x; stands = at_end done x; fault = u }) h
 
 -- a declaration assignment, where there is one
 pub setting_some : (n m : List ℕ) (o : Option Expr) (e : Expr) → m ≡ n → o ≡ Some e → setting m (Some e) ≡ setting n o
@@ -222,8 +223,8 @@ zipped_append R [] (y ∷ ys) us vs h k = absurd h
 zipped_append R (x ∷ xs) [] us vs h k = absurd h
 zipped_append R (x ∷ xs) (y ∷ ys) us vs h k = (h.0, zipped_append R xs ys us vs h.1 k)
 
-pub fills : (ss : List Scope) (s : Scope) (m n : ℕ) (a b c d : Contents) → Connects s b a (port_drivers_of s) → Drives s m c b (drivers_of s) → Runs ss s n d c (behaviors_of s) → FillsScope ss s a d
-fills ss s m n a b c d p q r = record {
+pub fills : (envs : Path → Surroundings) (s : Scope) (m n : ℕ) (a b c d : Contents) → Connects s b a (port_drivers_of s) → Drives s m c b (drivers_of s) → Runs envs s n d c (behaviors_of s) → FillsScope envs s a d
+fills envs s m n a b c d p q r = record {
   sound = sound;
   assigns_added = p.adds.added ++ q.adds.added;
   assigns = r.assigns ∙ q.adds.grown ∙ ap (λ z. z ++ q.adds.added) p.adds.grown ∙ append_assoc a.assigns.items p.adds.added q.adds.added;
@@ -233,47 +234,47 @@ fills ss s m n a b c d p q r = record {
   behaviors_mean = r.adds.means;
 }
   where
-    sound : (w : Reason) (at : Path) → FillsNot ss s w at → ⊥
+    sound : (w : Reason) (at : Path) → FillsNot envs s w at → ⊥
     sound w at (inl h) = true≢false (sym h.0 ∙ p.adds.sound w)
     sound w at (inr (inl h)) = r.adds.sound w at (record { place = h.place; behavior = h.behavior; stands = h.stands; fault = h.fault })
     sound w at (inr (inr h)) = true≢false (sym h.0 ∙ q.adds.sound w)
 
-module _ (ss : List Scope) (s : Scope) (start : Contents) (e : ElabFault) where
-  pub connects_told : Told (ConnectsNot s start (port_drivers_of s)) e → Told (FillsNot ss s) e
-  connects_told h = told_by (ConnectsNot s start (port_drivers_of s)) (FillsNot ss s) e (λ r p k. inl k) h
+module _ (envs : Path → Surroundings) (s : Scope) (start : Contents) (e : ElabFault) where
+  pub connects_told : Told (ConnectsNot s start (port_drivers_of s)) e → Told (FillsNot envs s) e
+  connects_told h = told_by (ConnectsNot s start (port_drivers_of s)) (FillsNot envs s) e (λ r p k. inl k) h
 
-  pub drives_told : Told (DrivesNot s start (drivers_of s)) e → Told (FillsNot ss s) e
-  drives_told h = told_by (DrivesNot s start (drivers_of s)) (FillsNot ss s) e (λ r p k. inr (inr k)) h
+  pub drives_told : Told (DrivesNot s start (drivers_of s)) e → Told (FillsNot envs s) e
+  drives_told h = told_by (DrivesNot s start (drivers_of s)) (FillsNot envs s) e (λ r p k. inr (inr k)) h
 
-  pub runs_told : Told (RunsNot ss s start (behaviors_of s)) e → Told (FillsNot ss s) e
-  runs_told h = told_by (RunsNot ss s start (behaviors_of s)) (FillsNot ss s) e (λ r p k. inr (inl (record { place = k.place; behavior = k.behavior; stands = k.stands; fault = k.fault }))) h
+  pub runs_told : Told (RunsNot envs s start (behaviors_of s)) e → Told (FillsNot envs s) e
+  runs_told h = told_by (RunsNot envs s start (behaviors_of s)) (FillsNot envs s) e (λ r p k. inr (inl (record { place = k.place; behavior = k.behavior; stands = k.stands; fault = k.fault }))) h
 
 -- ---- several scopes
 
-pub fills_none : (ss : List Scope) (contents : Contents) → contents.assigns.items ≡ [] → contents.processes.items ≡ [] → Fills ss [] contents
-fills_none ss contents a p = record {
+pub fills_none : (envs : Path → Surroundings) (contents : Contents) → contents.assigns.items ≡ [] → contents.processes.items ≡ [] → Fills envs [] contents
+fills_none envs contents a p = record {
   sound = λ k s e. absurd (none-some s e);
   drivers = subst (λ z. AllZip IsAssign z []) (sym a) tt;
-  behaviors = subst (λ z. AllZip (IsProcess ss) z []) (sym p) tt;
+  behaviors = subst (λ z. AllZip (IsProcess envs) z []) (sym p) tt;
 }
 
 flat_push : {A B : Type 0} (f : A → List B) (xs : List A) (x : A) → flat_map f (xs ++ x ∷ []) ≡ flat_map f xs ++ f x
 flat_push f xs x = flat_map-append f xs (x ∷ []) ∙ ap (λ l. flat_map f xs ++ l) (append-nil (f x))
 
-pub fills_more : (ss more : List Scope) (s : Scope) (old new : Contents) → Fills ss more old → FillsScope ss s old new → Fills ss (more ++ s ∷ []) new
-fills_more ss more s old new h k = record {
+pub fills_more : (envs : Path → Surroundings) (more : List Scope) (s : Scope) (old new : Contents) → Fills envs more old → FillsScope envs s old new → Fills envs (more ++ s ∷ []) new
+fills_more envs more s old new h k = record {
   sound = sound;
   drivers = subst (λ z. AllZip IsAssign z (flat_map assigns_of (more ++ s ∷ []))) (sym k.assigns)
       (subst (AllZip IsAssign (old.assigns.items ++ k.assigns_added)) (sym (flat_push assigns_of more s)) (zipped_append IsAssign old.assigns.items (flat_map assigns_of more) k.assigns_added (assigns_of s) h.drivers k.drivers_mean));
-  behaviors = subst (λ z. AllZip (IsProcess ss) z (flat_map processes_of (more ++ s ∷ []))) (sym k.processes)
-      (subst (AllZip (IsProcess ss) (old.processes.items ++ k.processes_added)) (sym (flat_push processes_of more s)) (zipped_append (IsProcess ss) old.processes.items (flat_map processes_of more) k.processes_added (processes_of s) h.behaviors k.behaviors_mean));
+  behaviors = subst (λ z. AllZip (IsProcess envs) z (flat_map processes_of (more ++ s ∷ []))) (sym k.processes)
+      (subst (AllZip (IsProcess envs) (old.processes.items ++ k.processes_added)) (sym (flat_push processes_of more s)) (zipped_append (IsProcess envs) old.processes.items (flat_map processes_of more) k.processes_added (processes_of s) h.behaviors k.behaviors_mean));
 }
   where
-    by : (t : Scope) (i : ℕ) → (slice_get more i ≡ Some t) ⊎ (s ≡ t) → (r : Reason) (p : Path) → FillsNot ss t r p → ⊥
+    by : (t : Scope) (i : ℕ) → (slice_get more i ≡ Some t) ⊎ (s ≡ t) → (r : Reason) (p : Path) → FillsNot envs t r p → ⊥
     by t i (inl e) r p u = h.sound i t e r p u
-    by t i (inr e) r p u = k.sound r p (subst (λ z. FillsNot ss z r p) (sym e) u)
+    by t i (inr e) r p u = k.sound r p (subst (λ z. FillsNot envs z r p) (sym e) u)
 
-    sound : (i : ℕ) (t : Scope) → slice_get (more ++ s ∷ []) i ≡ Some t → (r : Reason) (p : Path) → FillsNot ss t r p → ⊥
+    sound : (i : ℕ) (t : Scope) → slice_get (more ++ s ∷ []) i ≡ Some t → (r : Reason) (p : Path) → FillsNot envs t r p → ⊥
     sound i t e r p u = by t i (at_last more s t i e) r p u
 
 -- ---- what is around a scope
@@ -295,7 +296,7 @@ flat_each f g (x ∷ xs) = ap (λ z. f (g x) ++ z) (flat_each f g xs)
 pub flat_read : {A B C : Type 0} (f : B → List C) (g : A → B) (xs : List A) (ys : List B) → map g xs ≡ ys → flat_map (λ x. f (g x)) xs ≡ flat_map f ys
 flat_read f g xs ys h = flat_each f g xs ∙ ap (flat_map f) h
 
-module _ (ss : List Scope) (s : Scope) (o : FoundScope) (m : HasMembers o s) where
+module _ (envs : Path → Surroundings) (s : Scope) (o : FoundScope) (m : HasMembers o s) where
   pub ports_are : port_drivers (map read_port o.ports.items) (read_ends o.ends.items) ≡ port_drivers_of s
   ports_are = ap₂ port_drivers m.ports m.ends
 
@@ -305,30 +306,30 @@ module _ (ss : List Scope) (s : Scope) (o : FoundScope) (m : HasMembers o s) whe
   pub runs_are : flat_map (λ (x : FoundPort). port_setting (read_port x)) o.ports.items ++ flat_map (λ (x : FoundPiece). behaviors_in (read_piece x)) o.pieces.items ≡ behaviors_of s
   runs_are = ap₂ (λ x y. x ++ y) (flat_read port_setting read_port o.ports.items s.ports m.ports) (flat_read behaviors_in read_piece o.pieces.items s.pieces m.pieces)
 
-  pub fills_ports_not : (start : Contents) (e : ElabFault) → Told (ConnectsNot s start (port_drivers (map read_port o.ports.items) (read_ends o.ends.items))) e → Told (FillsNot ss s) e
-  fills_ports_not start e h = connects_told ss s start e (subst (λ z. Told (ConnectsNot s start z) e) ports_are h)
+  pub fills_ports_not : (start : Contents) (e : ElabFault) → Told (ConnectsNot s start (port_drivers (map read_port o.ports.items) (read_ends o.ends.items))) e → Told (FillsNot envs s) e
+  fills_ports_not start e h = connects_told envs s start e (subst (λ z. Told (ConnectsNot s start z) e) ports_are h)
 
-  pub fills_texts_not : (start : Contents) (e : ElabFault) → Told (DrivesNot s start (flat_map (λ (x : FoundPiece). drivers_in (read_piece x)) o.pieces.items)) e → Told (FillsNot ss s) e
-  fills_texts_not start e h = drives_told ss s start e (subst (λ z. Told (DrivesNot s start z) e) texts_are h)
+  pub fills_texts_not : (start : Contents) (e : ElabFault) → Told (DrivesNot s start (flat_map (λ (x : FoundPiece). drivers_in (read_piece x)) o.pieces.items)) e → Told (FillsNot envs s) e
+  fills_texts_not start e h = drives_told envs s start e (subst (λ z. Told (DrivesNot s start z) e) texts_are h)
 
-  pub fills_settings_not : (start : Contents) (e : ElabFault) → Told (RunsNot ss s start (flat_map (λ (x : FoundPort). port_setting (read_port x)) o.ports.items)) e → Told (FillsNot ss s) e
+  pub fills_settings_not : (start : Contents) (e : ElabFault) → Told (RunsNot envs s start (flat_map (λ (x : FoundPort). port_setting (read_port x)) o.ports.items)) e → Told (FillsNot envs s) e
   fills_settings_not start e h =
       let front = flat_map (λ (x : FoundPort). port_setting (read_port x)) o.ports.items in
       let rest = flat_map (λ (x : FoundPiece). behaviors_in (read_piece x)) o.pieces.items in
-      let all : Told (RunsNot ss s start (front ++ rest)) e = told_by (RunsNot ss s start front) (RunsNot ss s start (front ++ rest)) e (λ r p k. runs_not_more ss s start front rest r p k) h in
-      runs_told ss s start e (subst (λ z. Told (RunsNot ss s start z) e) runs_are all)
+      let all : Told (RunsNot envs s start (front ++ rest)) e = told_by (RunsNot envs s start front) (RunsNot envs s start (front ++ rest)) e (λ r p k. runs_not_more envs s start front rest r p k) h in
+      runs_told envs s start e (subst (λ z. Told (RunsNot envs s start z) e) runs_are all)
 
   pub fills_all : (n k : ℕ) (a b c d : Contents) (r : Result Unit ElabFault) → Connects s b a (port_drivers (map read_port o.ports.items) (read_ends o.ends.items)) → Drives s n c b (flat_map (λ (x : FoundPiece). drivers_in (read_piece x)) o.pieces.items) →
       MatchResult r
-      (λ _. Runs ss s k d c (flat_map (λ (x : FoundPort). port_setting (read_port x)) o.ports.items ++ flat_map (λ (x : FoundPiece). behaviors_in (read_piece x)) o.pieces.items))
-      (Told (RunsNot ss s c (flat_map (λ (x : FoundPort). port_setting (read_port x)) o.ports.items ++ flat_map (λ (x : FoundPiece). behaviors_in (read_piece x)) o.pieces.items))) →
-      MatchResult r (λ _. FillsScope ss s a d) (Told (FillsNot ss s))
-  fills_all n k a b c d (Ok u) p q h = fills ss s n k a b c d (subst (Connects s b a) ports_are p) (subst (Drives s n c b) texts_are q) (subst (Runs ss s k d c) runs_are h)
-  fills_all n k a b c d (Err e) p q h = runs_told ss s c e (subst (λ z. Told (RunsNot ss s c z) e) runs_are h)
+      (λ _. Runs envs s k d c (flat_map (λ (x : FoundPort). port_setting (read_port x)) o.ports.items ++ flat_map (λ (x : FoundPiece). behaviors_in (read_piece x)) o.pieces.items))
+      (Told (RunsNot envs s c (flat_map (λ (x : FoundPort). port_setting (read_port x)) o.ports.items ++ flat_map (λ (x : FoundPiece). behaviors_in (read_piece x)) o.pieces.items))) →
+      MatchResult r (λ _. FillsScope envs s a d) (Told (FillsNot envs s))
+  fills_all n k a b c d (Ok u) p q h = fills envs s n k a b c d (subst (Connects s b a) ports_are p) (subst (Drives s n c b) texts_are q) (subst (Runs envs s k d c) runs_are h)
+  fills_all n k a b c d (Err e) p q h = runs_told envs s c e (subst (λ z. Told (RunsNot envs s c z) e) runs_are h)
 
 -- one of several scopes has a fault
-pub fills_one_not : (ss : List Scope) (k : ℕ) (s : Scope) (e : ElabFault) → slice_get ss k ≡ Some s → Told (FillsNot ss s) e → Told (FillsOneNot ss ss) e
-fills_one_not ss k s e h g = told_by (FillsNot ss s) (FillsOneNot ss ss) e (λ r p f. record { place = k; scope = s; stands = h; fault = f }) g
+pub fills_one_not : (envs : Path → Surroundings) (ss : List Scope) (k : ℕ) (s : Scope) (e : ElabFault) → slice_get ss k ≡ Some s → Told (FillsNot envs s) e → Told (FillsOneNot envs ss) e
+fills_one_not envs ss k s e h g = told_by (FillsNot envs s) (FillsOneNot envs ss) e (λ r p f. record { place = k; scope = s; stands = h; fault = f }) g
 
 -- a scope at a place, and those before it
 pub take_next : {A : Type 0} (xs : List A) (k : ℕ) (x : A) → slice_get xs k ≡ Some x → take (k + 1) xs ≡ take k xs ++ x ∷ []
@@ -358,5 +359,5 @@ quiet_piece (p.Plain i) a = absurd (a i refl)
 quiet_piece _ a = refl
 
 -- nothing more
-pub runs_still : (ss : List Scope) (s : Scope) (first : ℕ) (contents start : Contents) (done xs : List Behavior) → xs ≡ [] → Runs ss s first contents start done → Runs ss s first contents start (done ++ xs)
-runs_still ss s first contents start done xs e h = subst (Runs ss s first contents start) (sym (ap (λ z. done ++ z) e ∙ append-nil done)) h
+pub runs_still : (envs : Path → Surroundings) (s : Scope) (first : ℕ) (contents start : Contents) (done xs : List Behavior) → xs ≡ [] → Runs envs s first contents start done → Runs envs s first contents start (done ++ xs)
+runs_still envs s first contents start done xs e h = subst (Runs envs s first contents start) (sym (ap (λ z. done ++ z) e ∙ append-nil done)) h

@@ -10,17 +10,16 @@ use Rattle.std.proofs.lemmas.List.Elements.{recursion_from_All}
 use Rattle.std.proofs.lemmas.Map.Keys.{IsDistinct-from_apart}
 use Rattle.std.proofs.lemmas.Slice.Eq.{bytes_eq-Decides}
 use Rattle.std.proofs.lemmas.Slice.Zip.{AllZip-long}
-use Rattle.vs_syntax.specs.declared.tree.Module.{Module}
+use Rattle.vs_syntax.specs.declared.tree.Source.{Source}
 use Rattle.vs_design.specs.Parts.{Parts}
 use Rattle.vs_design.specs.WellFormed.{WellFormed, is_sound_assign, share_a_bit, driven, declared_in as declared_by_outline}
-use Rattle.vs_design.specs.declared.timescale.TheConstants.{DEFAULT_TIMESCALE}
 use Rattle.vs_design.specs.declared.signal.Signal.{Signal}
 use Rattle.vs_design.specs.declared.design.Assign.{Assign}
 use Rattle.vs_selects.specs.declared.bindings.Binding.TheVariants as b
 use Rattle.vs_widths.specs.Names.{meaning_of}
 use Rattle.vs_pieces.specs.Reads.{read_piece}
 use Rattle.vs_scopes.specs.declared.faults.Reason.{Reason}
-use Rattle.vs_scopes.specs.declared.faults.Reason.TheVariants.{NoModule, Inside, PortMismatch, ParameterMismatch, DeclaredTwice, DrivenTwice, Limit, Width, Endless, Unnamed}
+use Rattle.vs_scopes.specs.declared.faults.Reason.TheVariants.{NoModule, Inside, PortMismatch, ParameterMismatch, DeclaredTwice, DrivenTwice, Limit, Width, Endless, Unnamed, Timescales, Format}
 use Rattle.vs_scopes.specs.declared.faults.ElabFault.{ElabFault}
 use Rattle.vs_scopes.specs.declared.faults.ElabFault.TheVariants.{Memory, At}
 use Rattle.vs_scopes.specs.Printed.{Path, same_path, printed}
@@ -38,12 +37,14 @@ use Rattle.vs_opened.specs.declared.opened.Opening.{Opening}
 use Rattle.vs_opened.specs.Opened.{IsWithin, IsOutermost, StandsAround, IsOpened, AreSeated, HasBlocks, OpensAll}
 use Rattle.vs_opened.specs.Outlines.{Declared, declared, signal_of, signals_of}
 use Rattle.vs_opened.specs.ScopeFaults.{Repeated, HoldsOpening}
+use Rattle.vs_bodies.specs.Surroundings.{surroundings_at}
 use Rattle.vs_bodies.specs.passes.Bodies.{counting}
 use Rattle.vs_bodies.specs.passes.Views.{AreSites, IsPlaced}
 use Rattle.vs_bodies.proofs.BlockLemmas.{zip_at, zip_other}
 use Rattle.vs_bodies.proofs.WellFormedLemmas.{IsGood}
 use Rattle.vs_elaborate.specs.declared.contents.Contents.{Contents}
-use Rattle.vs_elaborate.specs.Faults.{Faults, DrivesTwice}
+use Rattle.vs_elaborate.specs.Timescales.{timescale_of, has_other_timescale}
+use Rattle.vs_elaborate.specs.Faults.{Faults, DrivesTwice, surroundings_of}
 use Rattle.vs_elaborate.specs.DesignOf.{DesignOf}
 use Rattle.vs_elaborate.specs.passes.Filling.{AreLefts, Fills, DrivenTwiceOnly}
 use Rattle.vs_elaborate.specs.passes.Marks.{AreWithin}
@@ -148,59 +149,59 @@ paths_kept (x ∷ now) = ap (λ z. x.path.items ∷ z) (paths_kept now)
 
 -- ---- a source whose scopes are opened
 
-module _ (ms : List Module) (top : List ℕ) (x : Opening) (o : OpensAll ms top x) where
+module _ (source : Source) (top : List ℕ) (x : Opening) (o : OpensAll source.modules.items top x) where
   -- a scope of the list has what the one that it stands for has
-  opened_at : (i : ℕ) (s : Scope) → slice_get (scopes_of ms top) i ≡ Some s → (y : FoundScope) × ((slice_get x.scopes.items i ≡ Some y) × IsOpened (scopes_of ms top) y s)
-  opened_at i s h = zip_other (IsOpened (scopes_of ms top)) x.scopes.items (scopes_of ms top) i s o.scopes.each h
+  opened_at : (i : ℕ) (s : Scope) → slice_get (scopes_of source.modules.items top) i ≡ Some s → (y : FoundScope) × ((slice_get x.scopes.items i ≡ Some y) × IsOpened (scopes_of source.modules.items top) y s)
+  opened_at i s h = zip_other (IsOpened (scopes_of source.modules.items top)) x.scopes.items (scopes_of source.modules.items top) i s o.scopes.each h
 
-  none_at : (i : ℕ) (s : Scope) (r : Reason) (p : Path) → slice_get (scopes_of ms top) i ≡ Some s → HoldsOpening ms s r p → ⊥
-  none_at i s r p h u = o.none r p (inr (opening_at ms (scopes_of ms top) i s r p h u))
+  none_at : (i : ℕ) (s : Scope) (r : Reason) (p : Path) → slice_get (scopes_of source.modules.items top) i ≡ Some s → HoldsOpening source.modules.items s r p → ⊥
+  none_at i s r p h u = o.none r p (inr (opening_at source.modules.items (scopes_of source.modules.items top) i s r p h u))
 
-  named_once : (i : ℕ) (s : Scope) → slice_get (scopes_of ms top) i ≡ Some s → IsDistinct bytes_eq (all_names_of s)
+  named_once : (i : ℕ) (s : Scope) → slice_get (scopes_of source.modules.items top) i ≡ Some s → IsDistinct bytes_eq (all_names_of s)
   named_once i s h = distinct_from (all_names_of s) (λ n u. none_at i s DeclaredTwice (named s n) h (inl (record { name = n; repeated = u; path = refl })))
 
-  once : DeclareOnce (scopes_of ms top)
-  once = all_from (λ (s : Scope). IsDistinct bytes_eq (all_names_of s)) (scopes_of ms top) named_once
+  once : DeclareOnce (scopes_of source.modules.items top)
+  once = all_from (λ (s : Scope). IsDistinct bytes_eq (all_names_of s)) (scopes_of source.modules.items top) named_once
 
-  counted_at : (i : ℕ) (s : Scope) → slice_get (scopes_of ms top) i ≡ Some s → length s.pieces < 2 ^ 63
+  counted_at : (i : ℕ) (s : Scope) → slice_get (scopes_of source.modules.items top) i ≡ Some s → length s.pieces < 2 ^ 63
   counted_at i s h =
       let y = opened_at i s h in
       let ps = y.0.pieces in
       let same : length ps.items ≡ length s.pieces = sym (length-map ps.items read_piece) ∙ ap length y.1.1.entered.pieces in
       omega (arith, same, ps.ok.0, ps.ok.1, ps.small)
 
-  few : HaveCountedPieces (scopes_of ms top)
-  few = all_from (λ (s : Scope). length s.pieces < 2 ^ 63) (scopes_of ms top) counted_at
+  few : HaveCountedPieces (scopes_of source.modules.items top)
+  few = all_from (λ (s : Scope). length s.pieces < 2 ^ 63) (scopes_of source.modules.items top) counted_at
 
-  sized : AreSized (scopes_of ms top)
+  sized : AreSized (scopes_of source.modules.items top)
   sized i s h w = false_from_ne_true (list_any (declaration_fault (Width w)) (declarations_of s)) (λ u. none_at i s (Width w) s.path h (inr (inr (inr (inr (declared_any (declaration_fault (Width w)) s u, refl))))))
 
-  based : AreBased (scopes_of ms top)
-  based i s h = (scopes_are_numbered ms top i s h).1
+  based : AreBased (scopes_of source.modules.items top)
+  based i s h = (scopes_are_numbered source.modules.items top i s h).1
 
-  inside : AreInside (scopes_of ms top)
+  inside : AreInside (scopes_of source.modules.items top)
   inside i s h = (let y = opened_at i s h in by y.0.around y.1.1.entered.around)
     where
-      by : (a : Option ℕ) → StandsAround (scopes_of ms top) a s → IsOutermost s ⊎ ((j : ℕ) × ((j < i) × IsWithin (scopes_of ms top) j s))
+      by : (a : Option ℕ) → StandsAround (scopes_of source.modules.items top) a s → IsOutermost s ⊎ ((j : ℕ) × ((j < i) × IsWithin (scopes_of source.modules.items top) j s))
       by None u = inl u
       by (Some j) u = (let place = o.scopes.places i s h in let below : j < s.number = u.before in inr (j, (omega (arith, place, below), u)))
 
-  differ : IsDistinct same_path (scope_paths (scopes_of ms top)) × IsDistinct same_path (signal_paths (scopes_of ms top))
-  differ = paths_differ ms top once few
+  differ : IsDistinct same_path (scope_paths (scopes_of source.modules.items top)) × IsDistinct same_path (signal_paths (scopes_of source.modules.items top))
+  differ = paths_differ source.modules.items top once few
 
   -- ---- what the scopes of the list must be
 
-  pub sites : AreSites x.scopes.items (scopes_of ms top) (environment_at (scopes_of ms top))
-  sites = record { opened = o.scopes; blocks = o.blocks; names = names_found (scopes_of ms top) differ.0 }
+  pub sites : (ratio : ℕ) → AreSites x.scopes.items (scopes_of source.modules.items top) (surroundings_at ratio (scopes_of source.modules.items top))
+  sites ratio = record { opened = o.scopes; blocks = o.blocks; ratio = ratio; names = names_found (scopes_of source.modules.items top) differ.0; ratios = λ place s e. refl }
 
-  long : length (scopes_of ms top) ≡ length x.scopes.items
-  long = AllZip-long (IsOpened (scopes_of ms top)) x.scopes.items (scopes_of ms top) o.scopes.each
+  long : length (scopes_of source.modules.items top) ≡ length x.scopes.items
+  long = AllZip-long (IsOpened (scopes_of source.modules.items top)) x.scopes.items (scopes_of source.modules.items top) o.scopes.each
 
   blocks_within : (k : ℕ) (y : FoundScope) (n : List ℕ) (inner : ℕ) → slice_get x.scopes.items k ≡ Some y → meaning_of y.blocks n ≡ Some inner → inner < length x.scopes.items
   blocks_within k y n inner h e =
-      let s = there (scopes_of ms top) k (omega (arith, long, slice_get_within x.scopes.items k y h)) in
-      let found = (zip_at (HasBlocks (scopes_of ms top)) x.scopes.items (scopes_of ms top) k y s.0 o.blocks h s.1).found n inner e in
-      let below : inner < length (scopes_of ms top) = slice_get_within (scopes_of ms top) inner found.inner found.stands in
+      let s = there (scopes_of source.modules.items top) k (omega (arith, long, slice_get_within x.scopes.items k y h)) in
+      let found = (zip_at (HasBlocks (scopes_of source.modules.items top)) x.scopes.items (scopes_of source.modules.items top) k y s.0 o.blocks h s.1).found n inner e in
+      let below : inner < length (scopes_of source.modules.items top) = slice_get_within (scopes_of source.modules.items top) inner found.inner found.stands in
       omega (arith, long, below)
 
   pub placed : AreSeated x.scopes.items → (place : ℕ) → place < length x.scopes.items → IsPlaced x.scopes.items place
@@ -208,53 +209,53 @@ module _ (ms : List Module) (top : List ℕ) (x : Opening) (o : OpensAll ms top 
 
   pub lefts : (place : ℕ) (y : FoundScope) → slice_get x.scopes.items place ≡ Some y → AreLefts y
   lefts place y h =
-      let s = there (scopes_of ms top) place (omega (arith, long, slice_get_within x.scopes.items place y h)) in
-      let entered = (zip_at (IsOpened (scopes_of ms top)) x.scopes.items (scopes_of ms top) place y s.0 o.scopes.each h s.1).entered in
+      let s = there (scopes_of source.modules.items top) place (omega (arith, long, slice_get_within x.scopes.items place y h)) in
+      let entered = (zip_at (IsOpened (scopes_of source.modules.items top)) x.scopes.items (scopes_of source.modules.items top) place y s.0 o.scopes.each h s.1).entered in
       ap₂ has_wrong_end entered.ports entered.ends ∙ entered.lefts
 
   -- ---- the design
 
-  module _ (c : Contents) (f : Fills (scopes_of ms top) (scopes_of ms top) c) where
+  module _ (c : Contents) (f : Fills (surroundings_of source top) (scopes_of source.modules.items top) c) where
     -- the parts of the design
     abbrev pub parts_of : Parts
     parts_of = record {
-      timescale = DEFAULT_TIMESCALE;
+      timescale = timescale_of source;
       signals = x.signals.items;
       assigns = c.assigns.items;
       processes = c.processes.items;
       outline = x.outline.items;
     }
 
-    inner_good : (i : ℕ) (s : Scope) → slice_get (scopes_of ms top) i ≡ Some s → IsGood x.signals.items (environment s)
-    inner_good = good_inside (scopes_of ms top) x.signals.items o.signals sized based inside
+    inner_good : (i : ℕ) (s : Scope) → slice_get (scopes_of source.modules.items top) i ≡ Some s → IsGood x.signals.items (environment s)
+    inner_good = good_inside (scopes_of source.modules.items top) x.signals.items o.signals sized based inside
 
-    good : (p : Path) → IsGood x.signals.items (environment_at (scopes_of ms top) p)
-    good = good_among x.signals.items (scopes_of ms top) inner_good
+    good : (p : Path) → IsGood x.signals.items (environment_at (scopes_of source.modules.items top) p)
+    good = good_among x.signals.items (scopes_of source.modules.items top) inner_good
 
-    fine : AllByRecursion (IsFine x.signals.items) (scopes_of ms top)
-    fine = each_from (IsFine x.signals.items) (scopes_of ms top) (λ i s h. record { inside = inner_good i s h; around = good_around (scopes_of ms top) x.signals.items o.signals sized based inside i s h })
+    fine : AllByRecursion (IsFine x.signals.items) (scopes_of source.modules.items top)
+    fine = each_from (IsFine x.signals.items) (scopes_of source.modules.items top) (λ i s h. record { inside = inner_good i s h; around = good_around (scopes_of source.modules.items top) x.signals.items o.signals sized based inside i s h })
 
-    each_once : AllByRecursion (λ s. IsDistinct bytes_eq (all_names_of s)) (scopes_of ms top)
-    each_once = each_from (λ s. IsDistinct bytes_eq (all_names_of s)) (scopes_of ms top) named_once
+    each_once : AllByRecursion (λ s. IsDistinct bytes_eq (all_names_of s)) (scopes_of source.modules.items top)
+    each_once = each_from (λ s. IsDistinct bytes_eq (all_names_of s)) (scopes_of source.modules.items top) named_once
 
     assigns_are_sound : All (λ (a : Assign). is_sound_assign x.signals.items a ≡ true) c.assigns.items
-    assigns_are_sound = assigns_sound x.signals.items (scopes_of ms top) c.assigns.items fine f.drivers
+    assigns_are_sound = assigns_sound x.signals.items (scopes_of source.modules.items top) c.assigns.items fine f.drivers
 
     nets : All (OfNet x.signals.items) (driven c.assigns.items)
     nets = driven_nets x.signals.items c.assigns.items assigns_are_sound
 
-    counted : length x.signals.items ≡ signal_count (scopes_of ms top)
-    counted = sym (length-map x.signals.items declared) ∙ ap length o.signals ∙ signals_counted (scopes_of ms top)
+    counted : length x.signals.items ≡ signal_count (scopes_of source.modules.items top)
+    counted = sym (length-map x.signals.items declared) ∙ ap length o.signals ∙ signals_counted (scopes_of source.modules.items top)
 
     -- ranges that are driven are of signals of the design
     pub drivers_within : AreWithin x.signals.items (driven c.assigns.items)
     drivers_within i d l = of_net_within x.signals.items (get_or (driven c.assigns.items) i d).signal (nets i d l)
 
     -- a net that is driven twice stands
-    pub driving_stands : (e : ElabFault) → DrivenTwiceOnly x.signals.items c.assigns.items e → Faults ms top e
+    pub driving_stands : (e : ElabFault) → DrivenTwiceOnly x.signals.items c.assigns.items e → Faults source top e
     driving_stands Memory h = tt
     driving_stands (At DrivenTwice bytes) h =
-        let t = driven_twice (scopes_of ms top) x.signals.items c.assigns.items bytes.items o.signals f.drivers nets h in
+        let t = driven_twice (scopes_of source.modules.items top) x.signals.items c.assigns.items bytes.items o.signals f.drivers nets h in
         record { path = t.0; text = t.1; stands = inl t.2 }
     driving_stands (At NoModule bytes) h = absurd h
     driving_stands (At Inside bytes) h = absurd h
@@ -265,36 +266,38 @@ module _ (ms : List Module) (top : List ℕ) (x : Opening) (o : OpensAll ms top 
     driving_stands (At (Width w) bytes) h = absurd h
     driving_stands (At Endless bytes) h = absurd h
     driving_stands (At Unnamed bytes) h = absurd h
+    driving_stands (At Timescales bytes) h = absurd h
+    driving_stands (At (Format wrong) bytes) h = absurd h
 
     module _ (apart : IsDistinct (share_a_bit x.signals.items) (driven c.assigns.items)) where
-      driven_so : (p : Path) → DrivesTwice (scopes_of ms top) p → ⊥
-      driven_so = driven_once (scopes_of ms top) x.signals.items c.assigns.items o.signals f.drivers apart
+      driven_so : (p : Path) → DrivesTwice (scopes_of source.modules.items top) p → ⊥
+      driven_so = driven_once (scopes_of source.modules.items top) x.signals.items c.assigns.items o.signals f.drivers apart
 
       -- the design of a source and a top
-      pub designed : DesignOf ms top parts_of
-      designed = record {
-        none = none_stands ms top o.none f.sound driven_so;
+      pub designed : has_other_timescale source ≡ false → DesignOf source top parts_of
+      designed same = record {
+        none = none_stands source top o.none f.sound driven_so same;
         found = record { timescale = refl; signals = o.signals; assigns = f.drivers; processes = f.behaviors; outline = o.outline };
       }
 
       -- it is well formed
       pub well_formed : length c.assigns.items < 2 ^ 64 → length c.processes.items < 2 ^ 64 → WellFormed parts_of
       well_formed short small =
-          let all = scopes_of ms top in
+          let all = scopes_of source.modules.items top in
           let signals = x.signals.items in
-          let fit = turns_fit ms top in
+          let fit = turns_fit source.modules.items top in
           let scopes_fit = recursion_from_All HasTurnsThatFit (scope_paths all) fit.0 in
-          let declares : declared_by_outline x.outline.items ≡ counting 0 (length signals) = outline_declares ms top x.outline.items o.outline ∙ ap (counting 0) (sym counted) in
+          let declares : declared_by_outline x.outline.items ≡ counting 0 (length signals) = outline_declares source.modules.items top x.outline.items o.outline ∙ ap (counting 0) (sym counted) in
           let from_zero : 0 + length signals ≤ length signals = omega arith in
           let paths : map (λ (z : Signal). z.path.items) signals ≡ map printed (signal_paths all) = paths_kept signals ∙ ap (map (λ (z : Declared). z.path)) o.signals ∙ paths_shown all in
           record {
-            processes = processes_sound signals all good c.processes.items f.behaviors;
+            processes = processes_sound signals (surroundings_of source top) all good c.processes.items f.behaviors;
             assigns = assigns_are_sound;
             drivers = apart;
             declared = subst (λ z. All (λ k. nat_lt k (length signals) ≡ true) z) (sym declares) (counting_below 0 (length signals) (length signals) from_zero);
             declared_once = subst (IsDistinct nat_eq) (sym declares) (counting_distinct 0 (length signals));
             all_declared = λ n h. subst (λ z. Contains z n) (sym declares) (counting_contains (length signals) n h);
             paths = subst (IsDistinct bytes_eq) (sym paths) (printed_differ (signal_paths all) (recursion_from_All HasTurnsThatFit (signal_paths all) fit.1) differ.1);
-            names = processes_named all c.processes.items scopes_fit differ.0 f.behaviors (omega (arith, small));
+            names = processes_named (surroundings_of source top) all c.processes.items scopes_fit differ.0 f.behaviors (omega (arith, small));
             assign_names = assigns_named all c.assigns.items scopes_fit differ.0 each_once f.drivers (omega (arith, short));
           }

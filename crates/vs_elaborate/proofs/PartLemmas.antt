@@ -25,6 +25,7 @@ use Rattle.vs_paths.proofs.PathsParts.{IsPartAt, parts_differ}
 use Rattle.vs_paths.proofs.PathsPrinted.{name_same}
 use Rattle.vs_paths.proofs.TitleLemmas.{signals_differ}
 use Rattle.vs_bodies.specs.Members.{PortDriver, connected, port_drivers, port_drivers_of, port_of, Driver, of_text, drivers_of, behaviors_of}
+use Rattle.vs_bodies.specs.Surroundings.{Surroundings}
 use Rattle.vs_elaborate.specs.DesignOf.{PartOf, parts_from, port_part, processes_of, assigns_of, IsProcess, IsAssign}
 
 not_same : (xs ys : List ℕ) → (xs ≡ ys → ⊥) → bytes_eq xs ys ≡ false
@@ -175,10 +176,10 @@ zipped R name f [] (q ∷ qs) h = absurd h
 zipped R name f (p ∷ ps) [] h = absurd h
 zipped R name f (p ∷ ps) (q ∷ qs) h = ap₂ (λ x xs. x ∷ xs) (f p q h.0) (zipped R name f ps qs h.1)
 
-pub processes_named : (ss : List Scope) (ps : List Process) → AllByRecursion HasTurnsThatFit (scope_paths ss) → IsDistinct same_path (scope_paths ss) → AllZip (IsProcess ss) ps (flat_map processes_of ss) → length ps ≤ 2 ^ 64 → IsDistinct bytes_eq (map (λ (p : Process). p.name.items) ps)
-processes_named ss ps fit d h l =
-    let few : length (flat_map processes_of ss) ≤ 2 ^ 64 = omega (arith, l, AllZip-long (IsProcess ss) ps (flat_map processes_of ss) h) in
-    subst (IsDistinct bytes_eq) (sym (zipped (IsProcess ss) (λ (p : Process). p.name.items) (λ p q r. r.name) ps (flat_map processes_of ss) h))
+pub processes_named : (envs : Path → Surroundings) (ss : List Scope) (ps : List Process) → AllByRecursion HasTurnsThatFit (scope_paths ss) → IsDistinct same_path (scope_paths ss) → AllZip (IsProcess envs) ps (flat_map processes_of ss) → length ps ≤ 2 ^ 64 → IsDistinct bytes_eq (map (λ (p : Process). p.name.items) ps)
+processes_named envs ss ps fit d h l =
+    let few : length (flat_map processes_of ss) ≤ 2 ^ 64 = omega (arith, l, AllZip-long (IsProcess envs) ps (flat_map processes_of ss) h) in
+    subst (IsDistinct bytes_eq) (sym (zipped (IsProcess envs) (λ (p : Process). p.name.items) (λ p q r. r.name) ps (flat_map processes_of ss) h))
     (parts_differ path_of name_of processes_of (λ s. parts_at 112 s 0 (behaviors_of s)) ss fit d (all_processes ss few))
 
 pub assigns_named : (ss : List Scope) (ps : List Assign) → AllByRecursion HasTurnsThatFit (scope_paths ss) → IsDistinct same_path (scope_paths ss) → AllByRecursion (λ s. IsDistinct bytes_eq (all_names_of s)) ss → AllZip IsAssign ps (flat_map assigns_of ss) → length ps ≤ 2 ^ 64 → IsDistinct bytes_eq (map (λ (p : Assign). p.name.items) ps)

@@ -17,11 +17,12 @@ use Rattle.vs_selects.specs.Environment.{Environment}
 use Rattle.vs_widths.specs.Expressions.{meant, name_meant}
 use Rattle.vs_targets.proofs.ReadLemmas.{reads_within}
 use Rattle.vs_bodies.specs.Statements.{assigned_to}
-use Rattle.vs_bodies.specs.Members.{places, Behavior, drivers_of, port_drivers_of, PortDriver, into, out_of, Driver, of_port, of_text}
+use Rattle.vs_bodies.specs.Members.{Behavior, drivers_of, port_drivers_of, PortDriver, into, out_of, Driver, of_port, of_text}
+use Rattle.vs_bodies.specs.Surroundings.{Surroundings}
 use Rattle.vs_elaborate.specs.Drivers.{port_target, IsDriver}
 use Rattle.vs_elaborate.specs.DesignOf.{PartOf, parts_from, port_part, processes_of, assigns_of, IsProcess, IsAssign}
 use Rattle.vs_scopes.specs.Printed.{Path}
-use Rattle.vs_scopes.specs.Scopes.{Scope, environment, environment_at}
+use Rattle.vs_scopes.specs.Scopes.{Scope, environment}
 use Rattle.vs_scopes.proofs.Folds.{both_true}
 use Rattle.vs_paths.proofs.PathsLists.{each_append}
 use Rattle.vs_bodies.proofs.WellFormedLemmas.{IsGood, in_design, name_within, net_target, source_sound, body_sound}
@@ -44,9 +45,9 @@ pub record IsFine (ss : List Signal) (s : Scope) : Type 0 where
   pub inside : IsGood ss (environment s)
   pub around : IsGood ss s.outer
 
-process_sound : (ss : List Signal) (all : List Scope) → ((p : Path) → IsGood ss (environment_at all p)) → (p : Process) (q : PartOf Behavior) → IsProcess all p q → is_sound_process ss p ≡ true
-process_sound ss all good p q h =
-    let body = body_sound ss (environment_at all) good q.scope.path q.part p.body h.body in
+process_sound : (ss : List Signal) (envs : Path → Surroundings) → ((p : Path) → IsGood ss (envs p).names) → (p : Process) (q : PartOf Behavior) → IsProcess envs p q → is_sound_process ss p ≡ true
+process_sound ss envs good p q h =
+    let body = body_sound ss envs good q.scope.path q.part p.body h.body in
     both_true _ _ (both_true _ _ body.0 h.numbered) (ap (λ z. is_body_of z p.body) h.kind ∙ body.1)
 
 assign_sound : (ss : List Signal) (p : Assign) (q : PartOf Driver) → IsAssign p q → IsFine ss q.scope → is_sound_assign ss p ≡ true
@@ -75,13 +76,13 @@ flat_fine : {A : Type 0} (ss : List Signal) (g : Scope → List (PartOf A)) → 
 flat_fine ss g one [] h = tt
 flat_fine ss g one (s ∷ all) h = each_append (λ q. IsFine ss q.scope) (g s) (flat_map g all) (one s h.0) (flat_fine ss g one all h.1)
 
-processes_each : (ss : List Signal) (all : List Scope) → ((p : Path) → IsGood ss (environment_at all p)) → (ps : List Process) (qs : List (PartOf Behavior)) → AllZip (IsProcess all) ps qs → All (λ (p : Process). is_sound_process ss p ≡ true) ps
-processes_each ss all good [] qs h = All-nil (λ (p : Process). is_sound_process ss p ≡ true)
-processes_each ss all good (p ∷ ps) [] h = absurd h
-processes_each ss all good (p ∷ ps) (q ∷ qs) h = All-cons (λ (p : Process). is_sound_process ss p ≡ true) p ps (process_sound ss all good p q h.0) (processes_each ss all good ps qs h.1)
+processes_each : (ss : List Signal) (envs : Path → Surroundings) → ((p : Path) → IsGood ss (envs p).names) → (ps : List Process) (qs : List (PartOf Behavior)) → AllZip (IsProcess envs) ps qs → All (λ (p : Process). is_sound_process ss p ≡ true) ps
+processes_each ss envs good [] qs h = All-nil (λ (p : Process). is_sound_process ss p ≡ true)
+processes_each ss envs good (p ∷ ps) [] h = absurd h
+processes_each ss envs good (p ∷ ps) (q ∷ qs) h = All-cons (λ (p : Process). is_sound_process ss p ≡ true) p ps (process_sound ss envs good p q h.0) (processes_each ss envs good ps qs h.1)
 
-pub processes_sound : (ss : List Signal) (all : List Scope) → ((p : Path) → IsGood ss (environment_at all p)) → (ps : List Process) → AllZip (IsProcess all) ps (flat_map processes_of all) → All (λ (p : Process). is_sound_process ss p ≡ true) ps
-processes_sound ss all good ps h = processes_each ss all good ps (flat_map processes_of all) h
+pub processes_sound : (ss : List Signal) (envs : Path → Surroundings) (all : List Scope) → ((p : Path) → IsGood ss (envs p).names) → (ps : List Process) → AllZip (IsProcess envs) ps (flat_map processes_of all) → All (λ (p : Process). is_sound_process ss p ≡ true) ps
+processes_sound ss envs all good ps h = processes_each ss envs good ps (flat_map processes_of all) h
 
 pub assigns_sound : (ss : List Signal) (all : List Scope) (ps : List Assign) → AllByRecursion (IsFine ss) all → AllZip IsAssign ps (flat_map assigns_of all) → All (λ (p : Assign). is_sound_assign ss p ≡ true) ps
 assigns_sound ss all ps fine h = zipped_sound ss IsAssign (is_sound_assign ss) (assign_sound ss) ps (flat_map assigns_of all) h (flat_fine ss assigns_of (assigns_fine ss) all fine)

@@ -1,7 +1,8 @@
 -- The faults of a source with a top.
-use Rattle.std.specs.Prelude.{◌≡◌, ℕ, ◌+◌, ◌<◌, Bool, true, false, ◌&&◌, ◌==◌, List, [], ◌∷◌, ◌++◌, Some, None, ◌⊎◌, map, slice_get}
+use Rattle.std.specs.Prelude.{◌≡◌, ℕ, ◌<◌, Bool, true, false, ◌&&◌, ◌==◌, List, [], ◌∷◌, ◌++◌, Some, None, ◌⊎◌, map, slice_get}
 use Rattle.std.specs.List.{list_any, flat_map}
 use Rattle.vs_syntax.specs.declared.tree.Module.{Module}
+use Rattle.vs_syntax.specs.declared.tree.Source.{Source}
 use Rattle.vs_design.specs.Kinds.{is_variable}
 use Rattle.vs_design.specs.WellFormed.{have_common, bits_or_all}
 use Rattle.vs_design.specs.declared.range.BitRange.{BitRange}
@@ -9,57 +10,61 @@ use Rattle.vs_selects.specs.Selects.{named_range}
 use Rattle.vs_targets.specs.declared.kinds.AssignmentKind.TheVariants.{Continuous}
 use Rattle.vs_targets.specs.Lefts.{Aimed}
 use Rattle.vs_scopes.specs.declared.faults.Reason.{Reason}
-use Rattle.vs_scopes.specs.declared.faults.Reason.TheVariants.{NoModule, Inside, PortMismatch, ParameterMismatch, DeclaredTwice, DrivenTwice, Limit, Width, Endless, Unnamed}
+use Rattle.vs_scopes.specs.declared.faults.Reason.TheVariants.{NoModule, Inside, PortMismatch, ParameterMismatch, DeclaredTwice, DrivenTwice, Limit, Width, Endless, Unnamed, Timescales, Format}
 use Rattle.vs_scopes.specs.declared.faults.ElabFault.{ElabFault}
 use Rattle.vs_scopes.specs.declared.faults.ElabFault.TheVariants.{Memory, At}
 use Rattle.vs_scopes.specs.Printed.{plainly, Path, printed}
 use Rattle.vs_scopes.specs.Parameters.{is_override_mismatch}
 use Rattle.vs_scopes.specs.Declarations.{DeclaredName}
-use Rattle.vs_scopes.specs.Scopes.{Scope, module_named, scopes_of, declarations_of, environment, environment_at, signal_paths, is_inside, is_port_mismatch}
+use Rattle.vs_scopes.specs.Scopes.{Scope, module_named, scopes_of, declarations_of, environment, signal_paths, is_inside, is_port_mismatch}
 use Rattle.vs_opened.specs.ScopeFaults.{of_module, AtInstance, HasNoModule, parameter_fault, HasOverrideFault, DeclaresTwice, HasWrongPort, HasUnlikePort, HasStrayPort, HasBlockParameter, HasConstructFault, HasBlockFault, HasRangeFault, PassesLimit, PassesTurns, NamesTwice, top_fault}
 use Rattle.vs_bodies.specs.Statements.{assigned_to}
+use Rattle.vs_bodies.specs.Surroundings.{Surroundings, surroundings_at}
 use Rattle.vs_bodies.specs.Members.{Behavior, Driver, of_port, of_text, drivers_of, port_drivers_of, behaviors_of}
+use Rattle.vs_elaborate.specs.Timescales.{timescale_of, has_other_timescale, ratio_of}
 use Rattle.vs_elaborate.specs.Drivers.{port_target, driver_fault, port_driver_fault}
 use Rattle.vs_bodies.specs.Processes.{HasBehaviorFault}
 
--- a process of a scope among these that has the fault, by the path of the innermost scope where it stands
-pub record HasProcessFault (ss : List Scope) (s : Scope) (r : Reason) (p : Path) : Type 0 where
+-- a process of a scope that has the fault, with these surroundings in the scope of each path, by the path of the innermost scope where it stands
+pub record HasProcessFault (envs : Path → Surroundings) (s : Scope) (r : Reason) (p : Path) : Type 0 where
   pub place : ℕ
   pub behavior : Behavior
   pub stands : slice_get (behaviors_of s) place ≡ Some behavior
-  pub fault : HasBehaviorFault (environment_at ss) r p s.path behavior
+  pub fault : HasBehaviorFault envs r p s.path behavior
 
 -- a continuous assignment of the text of a scope that has the fault, by the scope's path
 abbrev pub HasDriverFault : Scope → Reason → Path → Type 0
 HasDriverFault s r p = (list_any (driver_fault r (environment s)) (drivers_of s) ≡ true) × (p ≡ s.path)
 
 -- a process or a continuous assignment of the text of a scope that has the fault
-abbrev pub HasFault : List Scope → Scope → Reason → Path → Type 0
-HasFault ss s r p = HasProcessFault ss s r p ⊎ HasDriverFault s r p
+abbrev pub HasFault : (Path → Surroundings) → Scope → Reason → Path → Type 0
+HasFault envs s r p = HasProcessFault envs s r p ⊎ HasDriverFault s r p
 
 -- a continuous assignment of a port of a scope that has the fault, by the path of the scope around (clause 12.3.10)
 abbrev pub HasPortFault : Scope → Reason → Path → Type 0
 HasPortFault s r p = (list_any (port_driver_fault r (environment s) s.outer) (port_drivers_of s) ≡ true) × (p ≡ s.around)
 
--- the condition of a fault in a scope among these, with its path
-abbrev pub Holds : List Module → List Scope → Scope → Reason → Path → Type 0
-Holds ms ss s NoModule p = HasNoModule ms s p
-Holds ms ss s Inside p = AtInstance ms s (λ u m. is_inside s m) p
-Holds ms ss s PortMismatch p = AtInstance ms s is_port_mismatch p ⊎ HasWrongPort s p ⊎ HasStrayPort s p
-Holds ms ss s ParameterMismatch p = AtInstance ms s (λ u m. is_override_mismatch u.overrides m) p ⊎ HasBlockParameter s p
-Holds ms ss s DeclaredTwice p = DeclaresTwice s p ⊎ HasUnlikePort s p ⊎ HasFault ss s DeclaredTwice p
-Holds ms ss s DrivenTwice p = ⊥
-Holds ms ss s Limit p = PassesLimit s p ⊎ PassesTurns s p ⊎ HasRangeFault s Limit p ⊎ HasFault ss s Limit p
-Holds ms ss s (Width w) p =
+-- the condition of a fault in a scope, with these surroundings in the scope of each path, with its path
+abbrev pub Holds : List Module → (Path → Surroundings) → Scope → Reason → Path → Type 0
+Holds ms envs s NoModule p = HasNoModule ms s p
+Holds ms envs s Inside p = AtInstance ms s (λ u m. is_inside s m) p
+Holds ms envs s PortMismatch p = AtInstance ms s is_port_mismatch p ⊎ HasWrongPort s p ⊎ HasStrayPort s p
+Holds ms envs s ParameterMismatch p = AtInstance ms s (λ u m. is_override_mismatch u.overrides m) p ⊎ HasBlockParameter s p
+Holds ms envs s DeclaredTwice p = DeclaresTwice s p ⊎ HasUnlikePort s p ⊎ HasFault envs s DeclaredTwice p
+Holds ms envs s DrivenTwice p = ⊥
+Holds ms envs s Limit p = PassesLimit s p ⊎ PassesTurns s p ⊎ HasRangeFault s Limit p ⊎ HasFault envs s Limit p
+Holds ms envs s (Width w) p =
     AtInstance ms s (parameter_fault w s) p ⊎ HasOverrideFault ms s w p ⊎ HasBlockFault s w p ⊎ HasConstructFault s (Width w) p ⊎
-    HasRangeFault s (Width w) p ⊎ HasPortFault s (Width w) p ⊎ HasFault ss s (Width w) p
-Holds ms ss s Endless p = HasConstructFault s Endless p
-Holds ms ss s Unnamed p = HasConstructFault s Unnamed p
+    HasRangeFault s (Width w) p ⊎ HasPortFault s (Width w) p ⊎ HasFault envs s (Width w) p
+Holds ms envs s Endless p = HasConstructFault s Endless p
+Holds ms envs s Unnamed p = HasConstructFault s Unnamed p
+Holds ms envs s Timescales p = ⊥
+Holds ms envs s (Format f) p = HasFault envs s (Format f) p
 
--- a fault in one of these scopes, which stand among those
-abbrev pub HoldsIn : List Module → List Scope → List Scope → Reason → Path → Type 0
-HoldsIn ms ss [] r p = ⊥
-HoldsIn ms ss (s ∷ more) r p = Holds ms ss s r p ⊎ HoldsIn ms ss more r p
+-- a fault in one of these scopes
+abbrev pub HoldsIn : List Module → (Path → Surroundings) → List Scope → Reason → Path → Type 0
+HoldsIn ms envs [] r p = ⊥
+HoldsIn ms envs (s ∷ more) r p = Holds ms envs s r p ⊎ HoldsIn ms envs more r p
 
 -- ---- faults above scopes
 
@@ -95,26 +100,32 @@ pub record DrivesTwice (ss : List Scope) (p : Path) : Type 0 where
   pub shared : share_bits net.size.shape.width one other ≡ true
   pub path : slice_get (signal_paths ss) one.signal ≡ Some p
 
--- the condition of a fault that is none of a listed scope: there is no such module, a parameter of the top has a fault, two modules have one name, or
--- a net is driven twice
-abbrev pub HoldsAbove : List Module → List ℕ → Reason → Path → Type 0
-HoldsAbove ms top NoModule p = (module_named ms top ≡ None) × (p ≡ plainly top ∷ [])
-HoldsAbove ms top DeclaredTwice p = NamesTwice ms p
-HoldsAbove ms top DrivenTwice p = DrivesTwice (scopes_of ms top) p
-HoldsAbove ms top (Width w) p = (of_module (top_fault w) (module_named ms top) ≡ true) × (p ≡ plainly top ∷ [])
-HoldsAbove ms top _ p = ⊥
+-- the condition of a fault that is none of a listed scope: there is no such module, a parameter of the top has a fault, two modules have one name,
+-- a net is driven twice, or two directives give different time scales
+abbrev pub HoldsAbove : Source → List ℕ → Reason → Path → Type 0
+HoldsAbove source top NoModule p = (module_named source.modules.items top ≡ None) × (p ≡ plainly top ∷ [])
+HoldsAbove source top DeclaredTwice p = NamesTwice source.modules.items p
+HoldsAbove source top DrivenTwice p = DrivesTwice (scopes_of source.modules.items top) p
+HoldsAbove source top (Width w) p = (of_module (top_fault w) (module_named source.modules.items top) ≡ true) × (p ≡ plainly top ∷ [])
+HoldsAbove source top Timescales p = (has_other_timescale source ≡ true) × (p ≡ plainly top ∷ [])
+HoldsAbove source top _ p = ⊥
+
+-- what surrounds statements in the scope of a path of a source with this top (clauses 12.7 and 19.8)
+abbrev pub surroundings_of : Source → List ℕ → Path → Surroundings
+surroundings_of source top = surroundings_at (ratio_of (timescale_of source)) (scopes_of source.modules.items top)
 
 -- the condition of a fault at a path, in a source with this top
-abbrev pub Stands : List Module → List ℕ → Reason → Path → Type 0
-Stands ms top r p = HoldsAbove ms top r p ⊎ HoldsIn ms (scopes_of ms top) (scopes_of ms top) r p
+abbrev pub Stands : Source → List ℕ → Reason → Path → Type 0
+Stands source top r p =
+    HoldsAbove source top r p ⊎ HoldsIn source.modules.items (surroundings_of source top) (scopes_of source.modules.items top) r p
 
 -- a fault that stands at some path, and has that path as it is printed
-pub record StandsAt (ms : List Module) (top : List ℕ) (r : Reason) (bytes : List ℕ) : Type 0 where
+pub record StandsAt (source : Source) (top : List ℕ) (r : Reason) (bytes : List ℕ) : Type 0 where
   pub path : Path
   pub text : bytes ≡ printed path
-  pub stands : Stands ms top r path
+  pub stands : Stands source top r path
 
 -- what a refusal says
-abbrev pub Faults : List Module → List ℕ → ElabFault → Type 0
-Faults ms top Memory = Unit {0}
-Faults ms top (At r p) = StandsAt ms top r p.items
+abbrev pub Faults : Source → List ℕ → ElabFault → Type 0
+Faults source top Memory = Unit {0}
+Faults source top (At r p) = StandsAt source top r p.items

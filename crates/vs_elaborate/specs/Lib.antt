@@ -8,8 +8,12 @@ pub use Rattle.vs_opened.specs.Outlines
 pub use Rattle.vs_opened.specs.ScopeFaults
 pub use Rattle.vs_bodies.specs.Members
 pub use Rattle.vs_bodies.specs.Statements
+pub use Rattle.vs_bodies.specs.Surroundings
+pub mod Timescales
 pub mod Drivers
 pub use Rattle.vs_bodies.specs.Processes
 pub mod Faults
 pub mod DesignOf
 pub mod passes
+pub mod OneLine
+pub mod Same

@@ -1,7 +1,9 @@
 //! The continuous assignments of the ports of a scope, as parts of a design.
-ghost use Rattle.std.specs.Prelude.{◌≡◌, ◌∷◌, [], List, map, true, false};
+ghost use Rattle.std.specs.Prelude.{◌≡◌, ◌∷◌, [], map, true, false};
 ghost use Rattle.vs_widths.specs.Names.{meaning_of};
 ghost use Rattle.vs_targets.specs.Lefts.{is_left};
+ghost use Rattle.vs_scopes.specs.Printed.{Path};
+ghost use Rattle.vs_bodies.specs.Surroundings.{Surroundings};
 ghost use Rattle.vs_scopes.specs.Scopes.{Scope, is_wrong_end, has_wrong_end};
 ghost use Rattle.vs_scopes.specs.passes.Answers.{Elaborates, Grows};
 ghost use Rattle.vs_scopes.specs.passes.Parts.{read_port, read_ends};
@@ -86,7 +88,7 @@ fn drive_port(
     contents: &mut Contents,
 ) -> Result<(), ElabFault>
     requires { IsLeftEnd (read_port port.now) e.now }
-    ensures { (ss : List Scope) (s : Scope) → IsFrame frame.now ss s → meaning_of outer.now ≡ s.outer →
+    ensures { (envs : Path → Surroundings) (s : Scope) → IsFrame frame.now envs s → meaning_of outer.now ≡ s.outer →
         Grows (Connects s contents.old) (Connects s contents.new) (ConnectsNot s)
         (connected port.now.direction port.now.name.now e.now ∷ []) result }
 {
@@ -114,7 +116,7 @@ pub fn drive_ports(
     contents: &mut Contents,
 ) -> Result<(), ElabFault>
     requires { has_wrong_end (map read_port ports.now) (read_ends ends.now) ≡ false }
-    ensures { (ss : List Scope) (s : Scope) → IsFrame frame.now ss s → meaning_of outer.now ≡ s.outer →
+    ensures { (envs : Path → Surroundings) (s : Scope) → IsFrame frame.now envs s → meaning_of outer.now ≡ s.outer →
         Grows (Connects s contents.old) (Connects s contents.new) (ConnectsNot s)
         (port_drivers (map read_port ports.now) (read_ends ends.now)) result }
 {

@@ -1,8 +1,10 @@
 //! The continuous assignments of the text of a scope, as parts of a design.
-ghost use Rattle.std.specs.Prelude.{◌≡◌, ◌∷◌, [], List, map};
+ghost use Rattle.std.specs.Prelude.{◌≡◌, ◌∷◌, [], map};
 ghost use Rattle.std.specs.List.{flat_map};
 ghost use Rattle.vs_targets.specs.declared.kinds.AssignmentKind.TheVariants.{Continuous};
 ghost use Rattle.vs_pieces.specs.Reads.{read_piece};
+ghost use Rattle.vs_scopes.specs.Printed.{Path};
+ghost use Rattle.vs_bodies.specs.Surroundings.{Surroundings};
 ghost use Rattle.vs_scopes.specs.Scopes.{Scope, environment};
 ghost use Rattle.vs_scopes.specs.passes.Answers.{Elaborates, Grows};
 ghost use Rattle.vs_bodies.specs.Statements.{IsAssignment};
@@ -30,7 +32,7 @@ fn drive(
     sides: Result<(Target, Typed), BodyFault>,
     contents: &mut Contents,
 ) -> Result<(), ElabFault>
-    ensures { (ss : List Scope) (s : Scope) (a : Assignment) → IsFrame frame.now ss s →
+    ensures { (envs : Path → Surroundings) (s : Scope) (a : Assignment) → IsFrame frame.now envs s →
         Elaborates (λ r. text_faults s r a)
         (λ p. IsAssignment Continuous (environment s) a.target a.value p.0 p.1) sides →
         Grows (Drives s first contents.old) (Drives s first contents.new) (DrivesNot s) (a ∷ []) result }
@@ -58,7 +60,7 @@ fn drive_declared(
     declarators: &[Declarator],
     contents: &mut Contents,
 ) -> Result<(), ElabFault>
-    ensures { (ss : List Scope) (s : Scope) → IsFrame frame.now ss s →
+    ensures { (envs : Path → Surroundings) (s : Scope) → IsFrame frame.now envs s →
         Grows (Drives s first contents.old) (Drives s first contents.new) (DrivesNot s) (values_of declarators.now) result }
 {
     for declarator in declarators {
@@ -84,7 +86,7 @@ fn drive_assigned(
     list: &[NetAssignment],
     contents: &mut Contents,
 ) -> Result<(), ElabFault>
-    ensures { (ss : List Scope) (s : Scope) → IsFrame frame.now ss s →
+    ensures { (envs : Path → Surroundings) (s : Scope) → IsFrame frame.now envs s →
         Grows (Drives s first contents.old) (Drives s first contents.new) (DrivesNot s) (map net_assignment list.now) result }
 {
     for one in list {
@@ -102,7 +104,7 @@ fn drive_item(
     item: &Item,
     contents: &mut Contents,
 ) -> Result<(), ElabFault>
-    ensures { (ss : List Scope) (s : Scope) → IsFrame frame.now ss s →
+    ensures { (envs : Path → Surroundings) (s : Scope) → IsFrame frame.now envs s →
         Grows (Drives s first contents.old) (Drives s first contents.new) (DrivesNot s) (drivers_by_item item.now) result }
 {
     match item {
@@ -120,7 +122,7 @@ fn drive_piece(
     piece: &Piece,
     contents: &mut Contents,
 ) -> Result<(), ElabFault>
-    ensures { (ss : List Scope) (s : Scope) → IsFrame frame.now ss s →
+    ensures { (envs : Path → Surroundings) (s : Scope) → IsFrame frame.now envs s →
         Grows (Drives s first contents.old) (Drives s first contents.new) (DrivesNot s) (drivers_in (read_piece piece.now)) result }
 {
     match piece {
@@ -137,7 +139,7 @@ pub fn drive_pieces(
     pieces: &[Piece],
     contents: &mut Contents,
 ) -> Result<(), ElabFault>
-    ensures { (ss : List Scope) (s : Scope) → IsFrame frame.now ss s →
+    ensures { (envs : Path → Surroundings) (s : Scope) → IsFrame frame.now envs s →
         Grows (Drives s first contents.old) (Drives s first contents.new) (DrivesNot s)
         (flat_map (λ x. drivers_in (read_piece x)) pieces.now) result }
 {

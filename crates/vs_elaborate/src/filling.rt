@@ -1,12 +1,14 @@
 //! The continuous assignments and the processes of all scopes.
 ghost use Rattle.std.specs.Prelude.{◌≡◌, ◌<◌, ℕ, List, [], Some, length, slice_get, IfOk, MatchResult};
 ghost use Rattle.vs_widths.specs.Names.{meaning_of, nested_names};
-ghost use Rattle.vs_scopes.specs.Scopes.{Scope, environment_at, has_wrong_end};
+ghost use Rattle.vs_scopes.specs.Printed.{Path};
+ghost use Rattle.vs_scopes.specs.Scopes.{Scope, has_wrong_end};
 ghost use Rattle.std.specs.Prelude.{false, map};
 ghost use Rattle.vs_scopes.specs.passes.Answers.{Told};
 ghost use Rattle.vs_scopes.specs.passes.Parts.{read_port, read_ends};
 ghost use Rattle.vs_opened.specs.declared.opened.Opened.{Opened as FoundScope};
 ghost use Rattle.vs_opened.specs.Opened.{AreOpened, AreSeated, StandsAround};
+ghost use Rattle.vs_bodies.specs.Surroundings.{Surroundings, surroundings_at};
 ghost use Rattle.vs_bodies.specs.passes.Views.{AreSites, IsPlaced};
 ghost use Rattle.vs_elaborate.specs.passes.Filling.{IsFrame, HasMembers, AreLefts, Fills, FillsNot, FillsOneNot, FillsScope};
 
@@ -16,7 +18,7 @@ use crate::drivers::drive_pieces;
 use crate::frames::Frame;
 use crate::processes::{run_pieces, run_ports};
 use std::alloc::{AllocError, Global};
-use vs_bodies::View;
+use vs_bodies::{Ratio, View};
 use vs_opened::{Opened, names_around, names_outward, path};
 use vs_scopes::ElabFault;
 use vs_selects::Binding;
@@ -49,8 +51,8 @@ fn fill_frame(
 ) -> Result<(), ElabFault>
     requires placed { IsPlaced frame.now.view.list.now frame.now.view.place }
     requires lefts { AreLefts scope.now }
-    ensures { (ss : List Scope) (s : Scope) → IsFrame frame.now ss s → HasMembers scope.now s → meaning_of outer.now ≡ s.outer →
-        MatchResult result (λ _. FillsScope ss s contents.old contents.new) (Told (FillsNot ss s)) }
+    ensures { (envs : Path → Surroundings) (s : Scope) → IsFrame frame.now envs s → HasMembers scope.now s → meaning_of outer.now ≡ s.outer →
+        MatchResult result (λ _. FillsScope envs s contents.old contents.new) (Told (FillsNot envs s)) }
 {
     drive_ports(alloc, frame, outer, &scope.ports, &scope.ends, contents)?;
     let first = contents.assigns.len();
@@ -63,6 +65,7 @@ fn fill_frame(
 /// Adds the continuous assignments and the processes of the scope of a place, around which names are bound so.
 fn fill_named(
     alloc: Global,
+    ratio: Ratio,
     list: &[Opened],
     place: usize,
     outer: &Levels,
@@ -70,8 +73,9 @@ fn fill_named(
 ) -> Result<(), ElabFault>
     requires placed { IsPlaced list.now place }
     requires lefts { (o : FoundScope) → slice_get list.now place ≡ Some o → AreLefts o }
-    ensures { (ss : List Scope) (s : Scope) → AreSites list.now ss (environment_at ss) → slice_get ss place ≡ Some s →
-        meaning_of outer.now ≡ s.outer → MatchResult result (λ _. FillsScope ss s contents.old contents.new) (Told (FillsNot ss s)) }
+    ensures { (ss : List Scope) (s : Scope) → let envs = surroundings_at ratio.ticks ss in AreSites list.now ss envs → slice_get ss place ≡ Some s →
+        meaning_of outer.now ≡ s.outer →
+        MatchResult result (λ _. FillsScope envs s contents.old contents.new) (Told (FillsNot envs s)) }
 {
     let scope = &list[place];
     let around = names_around(alloc, list, scope.kind, scope.around)?;
@@ -81,6 +85,7 @@ fn fill_named(
         list,
         place,
         names: &names,
+        ratio,
     };
     let frame = Frame { path, view };
     fill_frame(alloc, &frame, scope, outer, contents)
@@ -89,6 +94,7 @@ fn fill_named(
 /// Adds the continuous assignments and the processes of the scope of a place; `nothing` has no names.
 fn fill_within<'s>(
     alloc: Global,
+    ratio: Ratio,
     list: &[Opened<'s>],
     place: usize,
     nothing: &Names<'s, Binding>,
@@ -97,40 +103,41 @@ fn fill_within<'s>(
     requires placed { IsPlaced list.now place }
     requires lefts { (o : FoundScope) → slice_get list.now place ≡ Some o → AreLefts o }
     requires nothing { nothing.now ≡ [] }
-    ensures { (ss : List Scope) (s : Scope) → AreSites list.now ss (environment_at ss) → slice_get ss place ≡ Some s →
-        MatchResult result (λ _. FillsScope ss s contents.old contents.new) (Told (FillsNot ss s)) }
+    ensures { (ss : List Scope) (s : Scope) → let envs = surroundings_at ratio.ticks ss in AreSites list.now ss envs → slice_get ss place ≡ Some s →
+        MatchResult result (λ _. FillsScope envs s contents.old contents.new) (Told (FillsNot envs s)) }
 {
     let outside = names_outside(alloc, list, list[place].around)?;
     let outer = Levels::new(nothing, &outside);
-    fill_named(alloc, list, place, &outer, contents)
+    fill_named(alloc, ratio, list, place, &outer, contents)
 }
 
 /// Adds the continuous assignments and the processes of the scope of a place.
 fn fill(
     alloc: Global,
+    ratio: Ratio,
     list: &[Opened],
     place: usize,
     contents: &mut Contents,
 ) -> Result<(), ElabFault>
     requires placed { IsPlaced list.now place }
     requires lefts { (o : FoundScope) → slice_get list.now place ≡ Some o → AreLefts o }
-    ensures { (ss : List Scope) (s : Scope) → AreSites list.now ss (environment_at ss) → slice_get ss place ≡ Some s →
-        MatchResult result (λ _. FillsScope ss s contents.old contents.new) (Told (FillsNot ss s)) }
+    ensures { (ss : List Scope) (s : Scope) → let envs = surroundings_at ratio.ticks ss in AreSites list.now ss envs → slice_get ss place ≡ Some s →
+        MatchResult result (λ _. FillsScope envs s contents.old contents.new) (Told (FillsNot envs s)) }
 {
     let nothing = Names::new(alloc);
-    fill_within(alloc, list, place, &nothing, contents)
+    fill_within(alloc, ratio, list, place, &nothing, contents)
 }
 
 /// The continuous assignments and the processes of scopes, in design order.
-pub fn fill_all(alloc: Global, list: &[Opened]) -> Result<Contents, ElabFault>
+pub fn fill_all(alloc: Global, ratio: Ratio, list: &[Opened]) -> Result<Contents, ElabFault>
     requires placed { (place : ℕ) → place < length list.now → IsPlaced list.now place }
     requires lefts { (place : ℕ) (o : FoundScope) → slice_get list.now place ≡ Some o → AreLefts o }
-    ensures { (ss : List Scope) → AreSites list.now ss (environment_at ss) →
-        MatchResult result (Fills ss ss) (Told (FillsOneNot ss ss)) }
+    ensures { (ss : List Scope) → let envs = surroundings_at ratio.ticks ss in AreSites list.now ss envs →
+        MatchResult result (Fills envs ss) (Told (FillsOneNot envs ss)) }
 {
     let mut contents = Contents::new(alloc);
     for place in 0..list.len() {
-        fill(alloc, list, place, &mut contents)?;
+        fill(alloc, ratio, list, place, &mut contents)?;
     }
     Ok(contents)
 }

@@ -1,5 +1,7 @@
 //! Scopes while their members are added to a design, and the faults there.
-ghost use Rattle.std.specs.Prelude.{◌≡◌, ◌-◌, List, length, take};
+ghost use Rattle.std.specs.Prelude.{◌≡◌, ◌-◌, length, take};
+ghost use Rattle.vs_scopes.specs.Printed.{Path};
+ghost use Rattle.vs_bodies.specs.Surroundings.{Surroundings};
 ghost use Rattle.vs_scopes.specs.Scopes.{Scope};
 ghost use Rattle.vs_scopes.specs.passes.Answers.{IsFaultAt, IsRefusal, Told};
 ghost use Rattle.vs_scopes.specs.passes.Names.{read_path};
@@ -48,7 +50,7 @@ pub fn outer_fault(alloc: Global, frame: &Frame, fault: BodyFault) -> ElabFault
 /// A fault at the scope of a place.
 fn place_fault(alloc: Global, frame: &Frame, place: usize, reason: Reason) -> ElabFault
     requires { IsPlaced frame.now.view.list.now place }
-    ensures { (ss : List Scope) → IsFaultIn ss frame.now.view.list.now place reason result }
+    ensures { (envs : Path → Surroundings) → IsFaultIn envs frame.now.view.list.now place reason result }
 {
     match path(alloc, frame.view.list, place) {
         Ok(titles) => fault_at(alloc, &titles, reason),
@@ -60,7 +62,7 @@ fn place_fault(alloc: Global, frame: &Frame, place: usize, reason: Reason) -> El
 pub fn process_fault(alloc: Global, frame: &Frame, fault: StatementFault) -> ElabFault
     requires placed { IsPlaced frame.now.view.list.now frame.now.view.place }
     requires below { IsBelow (length frame.now.view.list.now) fault }
-    ensures { (ss : List Scope) (s : Scope) (b : Behavior) → IsFrame frame.now ss s → RunFails ss frame.now s b fault result }
+    ensures { (envs : Path → Surroundings) (s : Scope) (b : Behavior) → IsFrame frame.now envs s → RunFails envs frame.now s b fault result }
 {
     match fault {
         StatementFault::Memory => ElabFault::Memory,

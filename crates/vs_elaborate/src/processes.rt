@@ -1,12 +1,14 @@
 //! The processes of a scope, as parts of a design.
-ghost use Rattle.std.specs.Prelude.{◌≡◌, ◌∷◌, [], List, Some, length, IfErr};
+ghost use Rattle.std.specs.Prelude.{◌≡◌, ◌∷◌, [], Some, length, IfErr};
 ghost use Rattle.std.specs.List.{flat_map};
 ghost use Rattle.vs_pieces.specs.Reads.{read_piece};
-ghost use Rattle.vs_scopes.specs.Scopes.{Scope, environment_at};
+ghost use Rattle.vs_scopes.specs.Printed.{Path};
+ghost use Rattle.vs_scopes.specs.Scopes.{Scope};
 ghost use Rattle.vs_scopes.specs.passes.Answers.{Grows};
 ghost use Rattle.vs_scopes.specs.passes.Parts.{read_port};
 ghost use Rattle.vs_bodies.specs.Members.{Behavior, setting, behaviors_by_item, behaviors_in, port_setting};
 ghost use Rattle.vs_bodies.specs.Processes.{kind_of};
+ghost use Rattle.vs_bodies.specs.Surroundings.{Surroundings};
 ghost use Rattle.vs_bodies.specs.passes.Bodies.{Embodies};
 ghost use Rattle.vs_bodies.specs.passes.Faults.{IsBelow};
 ghost use Rattle.vs_bodies.specs.passes.Views.{IsPlaced};
@@ -32,9 +34,9 @@ fn run(
 ) -> Result<(), ElabFault>
     requires placed { IsPlaced frame.now.view.list.now frame.now.view.place }
     requires below { IfErr body (IsBelow (length frame.now.view.list.now)) }
-    ensures { (ss : List Scope) (s : Scope) (b : Behavior) → IsFrame frame.now ss s → kind ≡ kind_of b →
-        Embodies frame.now.view.list.now (environment_at ss) s.path b body →
-        Grows (Runs ss s first contents.old) (Runs ss s first contents.new) (RunsNot ss s) (b ∷ []) result }
+    ensures { (envs : Path → Surroundings) (s : Scope) (b : Behavior) → IsFrame frame.now envs s → kind ≡ kind_of b →
+        Embodies frame.now.view.list.now envs s.path b body →
+        Grows (Runs envs s first contents.old) (Runs envs s first contents.new) (RunsNot envs s) (b ∷ []) result }
 {
     match body {
         Ok(body) => {
@@ -57,8 +59,8 @@ fn run_value(
     contents: &mut Contents,
 ) -> Result<(), ElabFault>
     requires { IsPlaced frame.now.view.list.now frame.now.view.place }
-    ensures { (ss : List Scope) (s : Scope) → IsFrame frame.now ss s →
-        Grows (Runs ss s first contents.old) (Runs ss s first contents.new) (RunsNot ss s) (setting name.now (Some value.now)) result }
+    ensures { (envs : Path → Surroundings) (s : Scope) → IsFrame frame.now envs s →
+        Grows (Runs envs s first contents.old) (Runs envs s first contents.new) (RunsNot envs s) (setting name.now (Some value.now)) result }
 {
     let body = set_body(alloc, &frame.view, name, value);
     run(alloc, frame, first, ProcessKind::Initial, body, contents)
@@ -73,8 +75,8 @@ fn run_setting(
     contents: &mut Contents,
 ) -> Result<(), ElabFault>
     requires { IsPlaced frame.now.view.list.now frame.now.view.place }
-    ensures { (ss : List Scope) (s : Scope) → IsFrame frame.now ss s →
-        Grows (Runs ss s first contents.old) (Runs ss s first contents.new) (RunsNot ss s)
+    ensures { (envs : Path → Surroundings) (s : Scope) → IsFrame frame.now envs s →
+        Grows (Runs envs s first contents.old) (Runs envs s first contents.new) (RunsNot envs s)
         (setting declarator.now.name.items declarator.now.value) result }
 {
     match &declarator.value {
@@ -92,8 +94,8 @@ fn run_declared(
     contents: &mut Contents,
 ) -> Result<(), ElabFault>
     requires { IsPlaced frame.now.view.list.now frame.now.view.place }
-    ensures { (ss : List Scope) (s : Scope) → IsFrame frame.now ss s →
-        Grows (Runs ss s first contents.old) (Runs ss s first contents.new) (RunsNot ss s)
+    ensures { (envs : Path → Surroundings) (s : Scope) → IsFrame frame.now envs s →
+        Grows (Runs envs s first contents.old) (Runs envs s first contents.new) (RunsNot envs s)
         (flat_map (λ d. setting d.name.items d.value) declarators.now) result }
 {
     for declarator in declarators {
@@ -111,8 +113,8 @@ fn run_item(
     contents: &mut Contents,
 ) -> Result<(), ElabFault>
     requires { IsPlaced frame.now.view.list.now frame.now.view.place }
-    ensures { (ss : List Scope) (s : Scope) → IsFrame frame.now ss s →
-        Grows (Runs ss s first contents.old) (Runs ss s first contents.new) (RunsNot ss s) (behaviors_by_item item.now) result }
+    ensures { (envs : Path → Surroundings) (s : Scope) → IsFrame frame.now envs s →
+        Grows (Runs envs s first contents.old) (Runs envs s first contents.new) (RunsNot envs s) (behaviors_by_item item.now) result }
 {
     match item {
         Item::Reg(_, list) => run_declared(alloc, frame, first, list, contents),
@@ -138,8 +140,8 @@ fn run_piece(
     contents: &mut Contents,
 ) -> Result<(), ElabFault>
     requires { IsPlaced frame.now.view.list.now frame.now.view.place }
-    ensures { (ss : List Scope) (s : Scope) → IsFrame frame.now ss s →
-        Grows (Runs ss s first contents.old) (Runs ss s first contents.new) (RunsNot ss s) (behaviors_in (read_piece piece.now)) result }
+    ensures { (envs : Path → Surroundings) (s : Scope) → IsFrame frame.now envs s →
+        Grows (Runs envs s first contents.old) (Runs envs s first contents.new) (RunsNot envs s) (behaviors_in (read_piece piece.now)) result }
 {
     match piece {
         Piece::Plain(item) => run_item(alloc, frame, first, item, contents),
@@ -156,8 +158,8 @@ pub fn run_pieces(
     contents: &mut Contents,
 ) -> Result<(), ElabFault>
     requires { IsPlaced frame.now.view.list.now frame.now.view.place }
-    ensures { (ss : List Scope) (s : Scope) → IsFrame frame.now ss s →
-        Grows (Runs ss s first contents.old) (Runs ss s first contents.new) (RunsNot ss s)
+    ensures { (envs : Path → Surroundings) (s : Scope) → IsFrame frame.now envs s →
+        Grows (Runs envs s first contents.old) (Runs envs s first contents.new) (RunsNot envs s)
         (flat_map (λ x. behaviors_in (read_piece x)) pieces.now) result }
 {
     for piece in pieces {
@@ -175,8 +177,8 @@ fn run_port(
     contents: &mut Contents,
 ) -> Result<(), ElabFault>
     requires { IsPlaced frame.now.view.list.now frame.now.view.place }
-    ensures { (ss : List Scope) (s : Scope) → IsFrame frame.now ss s →
-        Grows (Runs ss s first contents.old) (Runs ss s first contents.new) (RunsNot ss s) (port_setting (read_port port.now)) result }
+    ensures { (envs : Path → Surroundings) (s : Scope) → IsFrame frame.now envs s →
+        Grows (Runs envs s first contents.old) (Runs envs s first contents.new) (RunsNot envs s) (port_setting (read_port port.now)) result }
 {
     match port.value {
         Some(value) => run_value(alloc, frame, first, port.name, value, contents),
@@ -193,8 +195,8 @@ pub fn run_ports(
     contents: &mut Contents,
 ) -> Result<(), ElabFault>
     requires { IsPlaced frame.now.view.list.now frame.now.view.place }
-    ensures { (ss : List Scope) (s : Scope) → IsFrame frame.now ss s →
-        Grows (Runs ss s first contents.old) (Runs ss s first contents.new) (RunsNot ss s)
+    ensures { (envs : Path → Surroundings) (s : Scope) → IsFrame frame.now envs s →
+        Grows (Runs envs s first contents.old) (Runs envs s first contents.new) (RunsNot envs s)
         (flat_map (λ x. port_setting (read_port x)) ports.now) result }
 {
     for port in ports {

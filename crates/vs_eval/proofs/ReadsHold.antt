@@ -15,7 +15,7 @@ use Rattle.vs_design.specs.Stores.{Store, word_of, word_in, words_in, one_word, 
 use Rattle.vs_design.specs.declared.expression.Slice.{Slice}
 use Rattle.vs_design.specs.Selects.{place_of, word_place}
 use Rattle.vs_design.specs.Uses.{reads, reads_step, joined, whole, all_words, slice_range, bits_from}
-use Rattle.vs_eval.specs.Values.{value_of, value_step, operand_value, bits_value, selection_value, chained, chosen, concatenated}
+use Rattle.vs_eval.specs.Values.{value_of, value_step, operand_value, bits_value, selection_value, excerpt_value, chained, chosen, concatenated}
 use Rattle.vs_eval.proofs.Digits.{selected_kept}
 
 not_false : (b : Bool) → not b ≡ false → b ≡ true
@@ -180,6 +180,7 @@ module _ (old new : Store) (time : ℕ) where
       (word.value.1 (first_kept (reads word.value.0) (reads low.value.0) indices)) (low.value.1 (rest_kept (reads word.value.0) (reads low.value.0) indices))
       ∙ ap (bits_value (place_of s.bits s.width (value_of low.value.0 new time)) s.width)
       (words_kept old new s.signal (word_place s.words w) (or_false_left (is_changed old new (all_words s.signal)) (list_any (is_changed old new) (reads word.value.0 ++ reads low.value.0)) h))
+  inner (t.Excerpt s low) h = ap (excerpt_value s) (low.value.1 h)
   inner (t.Unary op x) h = ap (unary op) (x.value.1 h)
   inner (t.Chain x links) h =
       let others = joined (map (λ (l : Link × List BitRange). l.1) (map read_of_link (map bare_link links.items))) in

@@ -182,6 +182,9 @@ module _ (store : Store) (time : ℕ) where
   inner (t.Select s word low) n h =
       bits_has (place_of s.bits s.width (value_of low.value.0 store time)) s.width (word_of store s.signal (word_place s.words (value_of word.value.0 store time)))
       ∙ indexed s.width (size_of word.value.0) (size_of low.value.0) n h
+  inner (t.Excerpt s low) n h =
+      let some = mapped (λ m. s.width) (size_of low.value.0) n h in
+      bits_has (place_of s.bits s.width (value_of low.value.0 store time)) s.width (Some s.digits) ∙ some.2
   inner (t.Unary op x) n h = unary_has op (size_of x.value.0) (value_of x.value.0 store time) x.value.1 n h
   inner (t.Chain x links) n h = chain_has (size_of x.value.0) (value_of x.value.0 store time) links.items x.value.1 n h
   inner (t.Choice pairs last) n h = choice_has pairs.items (size_of last.value.0) (value_of last.value.0 store time) last.value.1 n h

@@ -9,6 +9,7 @@ use Rattle.vs_logic4.specs.Comparisons.{truth}
 use Rattle.vs_logic4.specs.Operators.{unary, binary, sizing_of}
 use Rattle.vs_logic4.specs.Parts.{concatenation, replication, selected}
 use Rattle.vs_logic4.specs.Vectors.{all_unknown, resized}
+use Rattle.vs_design.specs.declared.expression.Excerpt.{Excerpt}
 use Rattle.vs_design.specs.declared.expression.Link.{Link}
 use Rattle.vs_design.specs.declared.expression.Selection.{Selection}
 use Rattle.vs_design.specs.declared.expression.Typed.{Typed, Typed-F, fold-Typed}
@@ -30,6 +31,10 @@ bits_value low width (Some word) = selected low width word
 -- the bits that two indices choose (clause 5.2.1)
 abbrev pub selection_value : Selection → Store → List Digit → List Digit → List Digit
 selection_value s store word low = bits_value (place_of s.bits s.width low) s.width (word_of store s.signal (word_place s.words word))
+
+-- the bits of a constant that an index chooses (clause 5.2.1)
+abbrev pub excerpt_value : Excerpt → List Digit → List Digit
+excerpt_value s low = bits_value (place_of s.bits s.width low) s.width (Some s.digits)
 
 -- what stands on the left of a link at the size at which the operator takes it: at that of the link, or as it is (clause 5.4.1)
 abbrev pub left_side : Sizing → ℕ → List Digit → List Digit
@@ -79,6 +84,7 @@ value_step store time (t.Number digits) = digits
 value_step store time (t.Signal o) = operand_value o.signed o.width (word_of store o.signal 0)
 value_step store time (t.Slice s) = bits_value s.low s.width (word_of store s.signal s.word)
 value_step store time (t.Select s word low) = selection_value s store word.value low.value
+value_step store time (t.Excerpt s low) = excerpt_value s low.value
 value_step store time (t.Unary op x) = unary op x.value
 value_step store time (t.Chain x links) = chained x.value links.items
 value_step store time (t.Choice pairs last) = chosen pairs.items last.value

@@ -5,7 +5,7 @@ ghost use Rattle.std.specs.Prelude.{◌≡◌, ◌<◌, ◌≤◌, map};
 ghost use Rattle.vs_logic4.specs.Comparisons.{truth};
 ghost use Rattle.vs_logic4.specs.Operators.{sizing_of};
 ghost use Rattle.vs_eval.specs.Laws.{ReadsHold, IndicesHold, WritesHold, SizesHold};
-ghost use Rattle.vs_eval.specs.Values.{value_of, operand_value, bits_value, selection_value, left_side, right_side, linked, chained, picked, chosen, concatenated};
+ghost use Rattle.vs_eval.specs.Values.{value_of, operand_value, bits_value, selection_value, excerpt_value, left_side, right_side, linked, chained, picked, chosen, concatenated};
 ghost use Rattle.vs_design.specs.Stores.{word_of};
 
 mod indices;
@@ -13,7 +13,7 @@ mod targets;
 
 pub use indices::{place_of, word_place};
 pub use targets::{cut_value, write_of};
-use vs_design::{Link, Operand, Selection, Slice, Store, Typed};
+use vs_design::{Excerpt, Link, Operand, Selection, Slice, Store, Typed};
 use vs_logic4::{Digit, Sizing, Vec4};
 
 /// The value of an expression in a store at a time in ticks, at the size and with the sign of its context.
@@ -28,6 +28,7 @@ pub fn value(e: &Typed, store: &Store, time: u64) -> Vec4
         Typed::Select(s, word, low) => {
             selection(*s, store, value(word, store, time), value(low, store, time))
         }
+        Typed::Excerpt(s, low) => excerpt(*s, value(low, store, time)),
         Typed::Unary(operator, x) => operator.of(value(x, store, time)),
         Typed::Chain(first, links) => chain(value(first, store, time), links, store, time),
         Typed::Choice(pairs, last) => choice(pairs, value(last, store, time), store, time),
@@ -152,6 +153,13 @@ fn selection(s: Selection, store: &Store, word: Vec4, low: Vec4) -> Vec4
 {
     let chosen = store.word(s.signal, word_place(s.words, word));
     bits(chosen, place_of(s.bits, s.width, low), s.width)
+}
+
+/// The bits of a constant that an index chooses.
+fn excerpt(s: Excerpt, low: Vec4) -> Vec4
+    ensures { result ≡ excerpt_value s low }
+{
+    bits(Some(s.digits), place_of(s.bits, s.width, low), s.width)
 }
 
 /// The ranges that `reads` answers of an expression hold all that its value depends on.

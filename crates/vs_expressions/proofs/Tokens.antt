@@ -1,20 +1,20 @@
 -- Single tokens as symbols.
-use Rattle.std.specs.Prelude.{◌≡◌, ℕ, Bool, false, List, [], ◌∷◌, Option, None, Some, refl}
+use Rattle.std.specs.Prelude.{◌≡◌, ℕ, Bool, true, false, not, ◌&&◌, ◌∷◌, if◌then◌else◌, List, [], refl}
 use Rattle.std.proofs.Common.{sym, ◌∙◌, ap}
-use Rattle.vs_tokens.specs.declared.token.Directive.{Directive}
-use Rattle.vs_tokens.specs.declared.token.Directive.TheVariants as d
+use Rattle.std.specs.Str.{bytes_eq}
 use Rattle.vs_tokens.specs.declared.token.Kind.{Kind}
 use Rattle.vs_tokens.specs.declared.token.Kind.TheVariants as k
 use Rattle.vs_tokens.specs.declared.token.Literal.{Literal}
 use Rattle.vs_tokens.specs.declared.token.Mark.{Mark}
 use Rattle.vs_tokens.specs.declared.token.Token.{Token}
 use Rattle.vs_lexer.specs.Tokens.{name_of}
-use Rattle.vs_syntax.specs.Symbols.{Symbol, a_name, a_number, Class, the_mark, any_name, any_number, the_cast, the_nettype, any_other, class_of, cast_of, system_symbol, directive_symbol, symbol_of, same_class}
+use Rattle.vs_syntax.specs.Symbols.{Symbol, a_name, a_number, Class, the_mark, any_name, any_number, any_other, class_of, system_names, symbol_named, system_symbol, symbol_of, same_class}
 use Rattle.vs_syntax.specs.Grammar.{token, name, number}
 use Rattle.vs_syntax.specs.Tables.{goes}
 use Rattle.vs_syntax.specs.Derivation.{leaf}
 use Rattle.vs_syntax.specs.Reading.{Gets}
 use Rattle.vs_syntax.proofs.Gets.{gets_token}
+use Rattle.vs_syntax.proofs.Least.{and_left, and_right, not_true}
 use Rattle.vs_expressions.specs.Answers.{seen}
 
 -- the first token's symbol is the first of the symbols
@@ -37,34 +37,38 @@ read_name room ts t rest bytes e f g = read_token any_name room (seen ts) (a_nam
 pub read_number : (room : ℕ) (ts : List Token) (t : Token) (rest : List Token) (l : Literal) → ts ≡ t ∷ rest → t.kind ≡ k.Number l → Gets number room (seen ts) (leaf (a_number l)) (seen rest)
 read_number room ts t rest l e f = read_token any_number room (seen ts) (a_number l) (seen rest) (seen_kind ts t rest (k.Number l) e f) refl
 
--- a system name is no name and no number
-system_class : (c : Class) (s : Option Bool) → same_class the_cast c ≡ false → same_class any_other c ≡ false → same_class (class_of (system_symbol s)) c ≡ false
-system_class c None h i = i
-system_class c (Some s) h i = h
+-- whether the class is none of a system name of these, and not that of other tokens
+abbrev pub is_apart : Class → List (List ℕ × Symbol) → Bool
+is_apart c [] = not (same_class any_other c)
+is_apart c (x ∷ xs) = not (same_class (class_of x.1) c) && is_apart c xs
 
--- the same of a directive
-directive_class : (c : Class) (x : Directive) → same_class the_nettype c ≡ false → same_class any_other c ≡ false → same_class (class_of (directive_symbol x)) c ≡ false
-directive_class c (d.DefaultNettype x) h i = h
-directive_class c (d.Timescale u p) h i = i
+named_apart : (c : Class) (xs : List (List ℕ × Symbol)) (bytes : List ℕ) → is_apart c xs ≡ true → same_class (class_of (symbol_named xs bytes)) c ≡ false
+named_apart c [] bytes h = not_true (same_class any_other c) h
+named_apart c (x ∷ xs) bytes h =
+    elim (bytes_eq x.0 bytes) as (λ b. same_class (class_of (if b then x.1 else symbol_named xs bytes)) c ≡ false) [
+      | true ↦ not_true (same_class (class_of x.1) c) (and_left (not (same_class (class_of x.1) c)) (is_apart c xs) h)
+      | false ↦ named_apart c xs bytes (and_right (not (same_class (class_of x.1) c)) (is_apart c xs) h)
+    ]
+
+-- a system name is no name, no number and no mark
+pub system_class : (c : Class) (bytes : List ℕ) → is_apart c system_names ≡ true → same_class (class_of (system_symbol bytes)) c ≡ false
+system_class c bytes h = named_apart c system_names bytes h
 
 -- no name and no number
 pub no_name : (kind : Kind) (bytes : List ℕ) → (kind ≡ k.Name → ⊥) → same_class (class_of (symbol_of kind bytes)) any_name ≡ false
 no_name k.Name bytes f = absurd (f refl)
-no_name k.System bytes f = system_class any_name (cast_of bytes) refl refl
-no_name (k.Directive x) bytes f = directive_class any_name x refl refl
+no_name k.System bytes f = system_class any_name bytes refl
 no_name _ bytes f = refl
 
 pub no_number : (kind : Kind) (bytes : List ℕ) → ((l : Literal) → kind ≡ k.Number l → ⊥) → same_class (class_of (symbol_of kind bytes)) any_number ≡ false
 no_number (k.Number l) bytes f = absurd (f l refl)
-no_number k.System bytes f = system_class any_number (cast_of bytes) refl refl
-no_number (k.Directive x) bytes f = directive_class any_number x refl refl
+no_number k.System bytes f = system_class any_number bytes refl
 no_number _ bytes f = refl
 
 -- no mark
 pub no_mark : (kind : Kind) (bytes : List ℕ) (x : Mark) → ((y : Mark) → kind ≡ k.Mark y → ⊥) → same_class (class_of (symbol_of kind bytes)) (the_mark x) ≡ false
 no_mark (k.Mark y) bytes x f = absurd (f y refl)
-no_mark k.System bytes x f = system_class (the_mark x) (cast_of bytes) refl refl
-no_mark (k.Directive y) bytes x f = directive_class (the_mark x) y refl refl
+no_mark k.System bytes x f = system_class (the_mark x) bytes refl
 no_mark _ bytes x f = refl
 
 -- no token

@@ -7,7 +7,7 @@ ghost use Rattle.vs_expressions.specs.Answers.{seen};
 ghost use Rattle.vs_expressions.specs.Heads.{BeginsOperand, BeginsTarget};
 
 use crate::operator::unary;
-use crate::token::{cast, next, spelled};
+use crate::token::{SystemName, next, spelled, system_name};
 use vs_lexer::{Kind, Mark, Token};
 use vs_logic4::Unary;
 
@@ -47,9 +47,9 @@ pub(crate) fn operand_head<'t, 's>(tokens: &'t [Token<'s>]) -> Option<OperandHea
         Kind::Name => Some(OperandHead::Name),
         Kind::Number(_) => Some(OperandHead::Number),
         Kind::Mark(found) => marked_operand(spelled(found), rest),
-        Kind::System => match cast(first.bytes) {
-            Some(signed) => Some(OperandHead::Cast(signed, rest)),
-            None => None,
+        Kind::System => match system_name(first.bytes) {
+            Some(SystemName::Cast(signed)) => Some(OperandHead::Cast(signed, rest)),
+            _ => None,
         },
         _ => None,
     }

@@ -12,4 +12,6 @@ pub use expression::expr;
 pub use head::begins_expr;
 pub use left_side::{left, name_selects};
 pub use reading::{Read, Stop};
-pub use token::{cast, expect_mark, expect_name, expect_word, literal, mark_at, next, word_at};
+pub use token::{
+    SystemName, expect_mark, expect_name, expect_word, literal, mark_at, next, system_name, word_at,
+};

@@ -2,24 +2,42 @@
 ghost use Rattle.std.specs.Prelude.{◌≡◌, ℕ, List, [], ◌∷◌, false, MatchOption};
 ghost use Rattle.vs_tokens.specs.declared.token.Kind.TheVariants as k;
 ghost use Rattle.vs_tokens.specs.declared.token.Mark.{Mark};
-ghost use Rattle.vs_syntax.specs.Symbols.{a_mark, a_word, spelled, cast_of};
+ghost use Rattle.vs_syntax.specs.Symbols.{a_mark, a_word, spelled, system_symbol};
 ghost use Rattle.vs_syntax.specs.Grammar.{mark, word, name, part_marks};
 ghost use Rattle.vs_syntax.specs.Tables.{goes};
 ghost use Rattle.vs_syntax.specs.Derivation.{leaf};
 ghost use Rattle.vs_syntax.specs.Views.{name_tree, part_mark};
 ghost use Rattle.vs_expressions.specs.Answers.{seen, Answers};
-ghost use Rattle.vs_expressions.specs.Heads.{NoNumber};
+ghost use Rattle.vs_expressions.specs.Heads.{NoNumber, system_spelled};
 
 use crate::reading::Stop;
 use std::alloc::Global;
 use vs_lexer::{Kind, Literal, Mark, Token, Word};
-use vs_syntax::PartSelect;
+use vs_syntax::{DumpTask, PartSelect, PrintTask};
 
 /// The name of the conversion to signed (IEEE 1364-2005, clause 5.5).
 const SIGNED: &[u8] = b"$signed";
 
 /// The name of the conversion to unsigned (IEEE 1364-2005, clause 5.5).
 const UNSIGNED: &[u8] = b"$unsigned";
+
+/// The name of the task that prints at once (IEEE 1364-2005, clause 17.1.1).
+const DISPLAY: &[u8] = b"$display";
+
+/// The name of the task that prints at the end of the time slot (IEEE 1364-2005, clause 17.1.2).
+const STROBE: &[u8] = b"$strobe";
+
+/// The name of the task that ends the run (IEEE 1364-2005, clause 17.4.1).
+const FINISH: &[u8] = b"$finish";
+
+/// The name of the task that names the dump (IEEE 1364-2005, clause 18.1.1).
+const DUMP_FILE: &[u8] = b"$dumpfile";
+
+/// The name of the task that begins the dump (IEEE 1364-2005, clause 18.1.2).
+const DUMP_VARS: &[u8] = b"$dumpvars";
+
+/// The name of the function of the time (IEEE 1364-2005, clause 17.7.1).
+const TIME: &[u8] = b"$time";
 
 /// The next token and those behind it.
 pub fn next<'t, 's>(tokens: &'t [Token<'s>]) -> Option<(&'t Token<'s>, &'t [Token<'s>])>
@@ -142,14 +160,41 @@ pub fn literal(kind: Kind) -> Option<Literal>
     }
 }
 
-/// Whether a system name is `$signed`, if it is this or `$unsigned`.
-pub fn cast(name: &[u8]) -> Option<bool>
-    ensures { result ≡ cast_of name.now }
+/// The system names of the grammar.
+#[derive(Clone, Copy)]
+pub enum SystemName {
+    /// `$signed`, else `$unsigned` (IEEE 1364-2005, clause 5.5).
+    Cast(bool),
+    /// A system task that prints (clause 17.1).
+    Print(PrintTask),
+    /// `$finish` (clause 17.4.1).
+    Finish,
+    /// A system task that says what is dumped (clause 18.1).
+    Dump(DumpTask),
+    /// `$time` (clause 17.7.1).
+    Time,
+}
+
+/// The system name of these bytes, if it is one of the grammar.
+pub fn system_name(name: &[u8]) -> Option<SystemName>
+    ensures { system_spelled result ≡ system_symbol name.now }
 {
     if SIGNED == name {
-        Some(true)
+        Some(SystemName::Cast(true))
     } else if UNSIGNED == name {
-        Some(false)
+        Some(SystemName::Cast(false))
+    } else if DISPLAY == name {
+        Some(SystemName::Print(PrintTask::Display))
+    } else if STROBE == name {
+        Some(SystemName::Print(PrintTask::Strobe))
+    } else if FINISH == name {
+        Some(SystemName::Finish)
+    } else if DUMP_FILE == name {
+        Some(SystemName::Dump(DumpTask::File))
+    } else if DUMP_VARS == name {
+        Some(SystemName::Dump(DumpTask::Vars))
+    } else if TIME == name {
+        Some(SystemName::Time)
     } else {
         None
     }

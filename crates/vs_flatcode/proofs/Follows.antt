@@ -17,7 +17,7 @@ use Rattle.vs_flatcode.specs.declared.made.Made.{Made}
 use Rattle.vs_flatcode.specs.Places.{Todo, flat, perform}
 use Rattle.vs_flatcode.specs.Steps.{step, statement_step, branch, first_of, flat_item, repeated, item_matches, is_default, turns_for}
 use Rattle.vs_flatcode.specs.Links.{Link, todo_at, item_of}
-use Rattle.vs_flatcode.specs.Codes.{Layout, IsCode, IsTurn, LeadAll, FitsStatement, FitsTask, links_of, link_of, layout_of, job_of}
+use Rattle.vs_flatcode.specs.Codes.{Layout, IsCode, IsTurn, LeadAll, FitsStatement, FitsTask, IsFormatOf, IsFormatFor, links_of, link_of, layout_of, job_of}
 use Rattle.vs_flatcode.specs.Landings.{Landing, landing, made_out, IsMade, turned, start_where, place_or, layer_lands, lands, todo_behind}
 use Rattle.vs_flatcode.proofs.Links.{todo_here}
 use Rattle.vs_flatcode.proofs.Drafts.{link_here}
@@ -74,7 +74,9 @@ follows_statement : (c : Layout) (x : Op) (here : ℕ) (cs : List ℕ) (s : Stat
     todo_behind (statement_step s f (todo_at c.links cs x.behind) store time).next ≡ todo_at c.links (layer_lands x f cs store time).counters (layer_lands x f cs store time).place
 follows_statement c x here cs s (Statement-F.Null n) store time e h at = refl
 follows_statement c x here cs s (Statement-F.Assign n t v) store time e h at = refl
-follows_statement c x here cs s (Statement-F.Later n t v) store time e h at = refl
+follows_statement c x here cs s (Statement-F.Later n ticks t v) store time e h at = refl
+follows_statement c x here cs s (Statement-F.Call n call) store time e h at = refl
+follows_statement c x here cs s (Statement-F.Finish n) store time e h at = refl
 follows_statement c x here cs s (Statement-F.Block all) store time e h at = sym (h cs)
 follows_statement c x here cs s (Statement-F.Delay n ticks body) store time e h at = sym (h cs)
 follows_statement c x here cs s (Statement-F.Event n terms body) store time e h at = sym (h cs)
@@ -115,3 +117,26 @@ stepped ops cs place i x store time made next counters h at e l m =
     ap (λ (p : ℕ). step (todo_at (links_of ops) cs p) store time) at
     ∙ subst (λ (t : Todo). step t store time ≡ made_out made (todo_behind (step t store time).next)) (sym f.0) (m (todo_at (links_of ops) cs x.behind))
     ∙ ap (made_out made) (f.1 ∙ ap (λ (k : Landing). todo_at (links_of ops) k.counters k.place) (sym l))
+
+format_of_statement : (c : Layout) (x : Op) (here : ℕ) (s : Statement) (f : Statement-F Statement) → FitsStatement c x here s f → IsFormatOf x.format f
+format_of_statement c x here s (Statement-F.Null n) h = tt
+format_of_statement c x here s (Statement-F.Assign n t v) h = tt
+format_of_statement c x here s (Statement-F.Later n ticks t v) h = tt
+format_of_statement c x here s (Statement-F.Call n call) h = h
+format_of_statement c x here s (Statement-F.Finish n) h = tt
+format_of_statement c x here s (Statement-F.Block all) h = tt
+format_of_statement c x here s (Statement-F.Delay n ticks body) h = tt
+format_of_statement c x here s (Statement-F.Event n terms body) h = tt
+format_of_statement c x here s (Statement-F.If n v a b) h = tt
+format_of_statement c x here s (Statement-F.Case n kind v items) h = tt
+format_of_statement c x here s (Statement-F.While n v body) h = tt
+format_of_statement c x here s (Statement-F.Repeat n signed v body) h = tt
+format_of_statement c x here s (Statement-F.Forever n body) h = tt
+
+format_of_task : (c : Layout) (x : Op) (here : ℕ) (task : Task) → FitsTask c x here task → IsFormatFor x.format task
+format_of_task c x here (Perform s) h = format_of_statement c x here s.now (out-Statement s.now) h
+format_of_task c x here (Turns s) h = tt
+
+-- an instruction of a code has the format of its call
+pub has_format : (ops : List Op) (n i : ℕ) (x : Op) → IsCode ops n → slice_get ops i ≡ Some x → IsFormatFor x.format x.task
+has_format ops n i x h e = format_of_task (layout_of ops n) x (suc i) x.task (h.fits i x e)

@@ -1,5 +1,5 @@
 -- Lemmas on the places of a code.
-use Rattle.std.proofs.Common.{◌≡◌, ℕ, zero, suc, ◌≤◌, Option, Some, None, List, [], ◌∷◌, length, ◌<◌, refl, ◌∙◌, ap, arith}
+use Rattle.std.proofs.Common.{◌≡◌, ℕ, zero, suc, ◌≤◌, Option, Some, None, List, ◌∷◌, refl, ◌∙◌, ap, arith}
 use Rattle.std.specs.Prelude.{slice_get}
 use Rattle.vs_flatcode.specs.Places.{Todo}
 use Rattle.vs_flatcode.specs.Links.{Link, item_of, todo_within, todo_from, todo_at, AreLinked}

@@ -1,11 +1,12 @@
 -- The flat code of a process: where each of its statements goes on.
-use Rattle.std.specs.Prelude.{ℕ, suc, ◌<◌, ◌≡◌, Some, List, [], ◌∷◌, ◌++◌, map, length, slice_get, slice_set}
+use Rattle.std.specs.Prelude.{ℕ, suc, ◌<◌, ◌≡◌, Option, Some, List, [], ◌∷◌, ◌++◌, map, length, slice_get, slice_set}
 use Rattle.std.specs.declared.vec.Vec.{Vec}
 use Rattle.std.specs.declared.alloc.Global.{Global}
 use Rattle.vs_design.specs.declared.expression.Typed.{Typed}
 use Rattle.vs_design.specs.declared.statement.Statement.{Statement}
 use Rattle.vs_design.specs.declared.statement.Statement.TheOpen.{Statement-F}
 use Rattle.vs_design.specs.declared.statement.Statement.TheViews.{out-Statement}
+use Rattle.vs_strobe.specs.Lines.{Format, format_of_call}
 use Rattle.vs_flatcode.specs.declared.draft.Op.{Op}
 use Rattle.vs_flatcode.specs.declared.draft.Task.{Task}
 use Rattle.vs_flatcode.specs.declared.draft.Task.TheVariants as t
@@ -42,11 +43,13 @@ LeadAll links [] [] behind = Unit {0}
 LeadAll links (i ∷ items) (p ∷ starts) behind = Leads links (flat i.1) p behind × LeadAll links items starts behind
 LeadAll links _ _ behind = ⊥
 
--- an instruction goes on where its statement does, standing at this place
+-- an instruction goes on where its statement does, standing at this place; that of a call has its format
 abbrev pub FitsStatement : Layout → Op → ℕ → Statement → Statement-F Statement → Type 0
 FitsStatement c x here s (Statement-F.Null n) = Unit {0}
 FitsStatement c x here s (Statement-F.Assign n t e) = Unit {0}
-FitsStatement c x here s (Statement-F.Later n t e) = Unit {0}
+FitsStatement c x here s (Statement-F.Later n ticks t e) = Unit {0}
+FitsStatement c x here s (Statement-F.Call n call) = x.format ≡ Some (format_of_call call)
+FitsStatement c x here s (Statement-F.Finish n) = Unit {0}
 FitsStatement c x here s (Statement-F.Block all) = Leads c.links (flat s) x.first x.behind
 FitsStatement c x here s (Statement-F.Delay n ticks body) = Leads c.links (flat body.value) x.first x.behind
 FitsStatement c x here s (Statement-F.Event n terms body) = Leads c.links (flat body.value) x.first x.behind
@@ -86,3 +89,13 @@ StandsAt ops place x = (i : ℕ) × (place ≡ suc i) × (slice_get ops i ≡ So
 -- at a place nothing is left to do
 abbrev pub IsEnd : List Op → ℕ → Type 0
 IsEnd ops place = (counters : List ℕ) → todo_at (links_of ops) counters place ≡ []
+
+-- a format is that of a statement, where this is a call
+abbrev pub IsFormatOf : Option Format → Statement-F Statement → Type 0
+IsFormatOf format (Statement-F.Call n call) = format ≡ Some (format_of_call call)
+IsFormatOf format _ = Unit {0}
+
+-- the same of what an instruction does
+abbrev pub IsFormatFor : Option Format → Task → Type 0
+IsFormatFor format (t.Perform s) = IsFormatOf format (out-Statement s.now)
+IsFormatFor format (t.Turns s) = Unit {0}

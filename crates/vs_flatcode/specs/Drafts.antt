@@ -1,5 +1,5 @@
 -- Code that is being written, from its end to its start.
-use Rattle.std.specs.Prelude.{ℕ, suc, ◌<◌, ◌≤◌, ◌≡◌, Bool, true, false, Some, List, [], ◌∷◌, ◌++◌, length, slice_get, slice_set}
+use Rattle.std.specs.Prelude.{ℕ, suc, ◌<◌, ◌≤◌, ◌≡◌, Bool, true, false, Option, Some, List, [], ◌∷◌, ◌++◌, length, slice_get, slice_set}
 use Rattle.std.specs.declared.vec.Vec.{Vec}
 use Rattle.std.specs.declared.alloc.Global.{Global}
 use Rattle.vs_design.specs.declared.expression.Typed.{Typed}
@@ -7,6 +7,7 @@ use Rattle.vs_design.specs.declared.statement.Statement.TheOpen.{Statement-F}
 use Rattle.vs_design.specs.declared.statement.Statement.{Statement}
 use Rattle.vs_design.specs.declared.statement.Statement.TheViews.{out-Statement}
 use denote.Ref.{Bor}
+use Rattle.vs_strobe.specs.Lines.{Format}
 use Rattle.vs_flatcode.specs.declared.draft.Op.{Op}
 use Rattle.vs_flatcode.specs.declared.draft.Task.{Task}
 use Rattle.vs_flatcode.specs.declared.draft.Task.TheVariants.{Perform}
@@ -84,9 +85,9 @@ is_block (Statement-F.Block all) = true
 is_block _ = false
 
 -- the instruction of a statement
-abbrev pub op_of : Bor Statement → ℕ → ℕ → ℕ → Vec ℕ Global → ℕ → Op
-op_of s behind first second starts counter =
-    record { task = Perform s; behind = behind; first = first; second = second; starts = starts; counter = counter }
+abbrev pub op_of : Bor Statement → ℕ → ℕ → ℕ → Vec ℕ Global → ℕ → Option Format → Op
+op_of s behind first second starts counter format =
+    record { task = Perform s; behind = behind; first = first; second = second; starts = starts; counter = counter; format = format }
 
 -- an instruction put next does this statement, and goes on where it must
 pub record IsNext (d : Draft) (x : Op) (s : Statement) : Type 0 where

@@ -1,23 +1,25 @@
 -- Where a step of the flat code leads.
-use Rattle.std.specs.Prelude.{ℕ, zero, suc, Bool, if◌then◌else◌, ◌≡◌, Option, Some, None, List, [], ◌∷◌, get_or, slice_get, slice_set, drop}
+use Rattle.std.specs.Prelude.{ℕ, zero, suc, Bool, true, if◌then◌else◌, ◌≡◌, Option, Some, None, List, [], ◌∷◌, get_or, slice_get, slice_set, drop}
 use Rattle.std.specs.declared.vec.Vec.{Vec}
 use Rattle.std.specs.declared.alloc.Global.{Global}
 use Rattle.vs_logic4.specs.declared.case.CaseKind.{CaseKind}
 use Rattle.vs_logic4.specs.declared.digit.Digit.{Digit}
 use Rattle.vs_logic4.specs.Comparisons.{truth}
 use Rattle.vs_design.specs.declared.expression.Typed.{Typed}
+use Rattle.vs_design.specs.declared.statement.CallKind.{CallKind}
 use Rattle.vs_design.specs.declared.statement.Statement.{Statement}
 use Rattle.vs_design.specs.declared.statement.Statement.TheOpen.{Statement-F}
 use Rattle.vs_design.specs.declared.statement.Statement.TheViews.{out-Statement}
 use Rattle.vs_design.specs.Stores.{Store}
 use Rattle.vs_eval.specs.Values.{value_of}
+use Rattle.vs_strobe.specs.Lines.{Format}
 use Rattle.vs_flatcode.specs.declared.draft.Op.{Op}
 use Rattle.vs_flatcode.specs.declared.draft.Task.{Task}
 use Rattle.vs_flatcode.specs.declared.draft.Task.TheVariants as t
 use Rattle.vs_flatcode.specs.declared.made.Made.{Made}
 use Rattle.vs_flatcode.specs.declared.made.Made.TheVariants as m
 use Rattle.vs_flatcode.specs.Places.{Todo, Item}
-use Rattle.vs_flatcode.specs.Steps.{Next, on, after, wait, Out, goes, step, branch, first_of, item_matches, is_default, turns_for}
+use Rattle.vs_flatcode.specs.Steps.{Next, on, after, wait, Out, goes, called, step, branch, first_of, item_matches, is_default, turns_for}
 
 -- a place, and the counters there
 pub record Landing : Type 0 where
@@ -50,7 +52,9 @@ start_taken kind digits store time items starts behind =
 abbrev pub layer_lands : Op → Statement-F Statement → List ℕ → Store → ℕ → Landing
 layer_lands x (Statement-F.Null n) counters store time = landing x.behind counters
 layer_lands x (Statement-F.Assign n t e) counters store time = landing x.behind counters
-layer_lands x (Statement-F.Later n t e) counters store time = landing x.behind counters
+layer_lands x (Statement-F.Later n ticks t e) counters store time = landing x.behind counters
+layer_lands x (Statement-F.Call n c) counters store time = landing x.behind counters
+layer_lands x (Statement-F.Finish n) counters store time = landing x.behind counters
 layer_lands x (Statement-F.Block all) counters store time = landing x.first counters
 layer_lands x (Statement-F.Delay n ticks body) counters store time = landing x.first counters
 layer_lands x (Statement-F.Event n terms body) counters store time = landing x.first counters
@@ -82,10 +86,18 @@ todo_behind (wait n terms todo) = todo
 abbrev pub made_out : Made → Todo → Out
 made_out m.Nothing todo = goes (on todo)
 made_out (m.Write w) todo = record (goes (on todo)) { write = Some w }
-made_out (m.Update w) todo = record (goes (on todo)) { update = Some (0, w) }
+made_out (m.Update ticks w) todo = record (goes (on todo)) { update = Some (ticks.count, w) }
+made_out (m.Strobe f) todo = record (goes (on todo)) { call = Some f.now }
+made_out (m.Line text) todo = record (goes (on todo)) { line = Some text.items }
+made_out m.Finish todo = record (goes (on todo)) { finish = true }
 made_out (m.Delay n ticks) todo = goes (after n ticks.count todo)
 made_out (m.Wait n terms) todo = goes (wait n terms.now todo)
 
 -- a process with this to do first took its step: it made this
 abbrev pub IsMade : Item → Store → ℕ → Made → Type 0
 IsMade i store time made = (rest : Todo) → let out = step (i ∷ rest) store time in out ≡ made_out made (todo_behind out.next)
+
+-- a call of this kind took its step, where it has a format: it made this
+abbrev pub IsCallMade : Option Format → CallKind → Store → ℕ → Made → Type 0
+IsCallMade None kind store time made = Unit {0}
+IsCallMade (Some f) kind store time made = (rest : Todo) → called kind f rest store time ≡ made_out made rest

@@ -8,6 +8,8 @@ use Rattle.vs_logic4.specs.declared.digit.Digit.TheVariants.{One}
 use Rattle.vs_logic4.specs.declared.case.CaseKind.{CaseKind}
 use Rattle.vs_logic4.specs.Cases.{matches}
 use Rattle.vs_logic4.specs.Comparisons.{truth}
+use Rattle.vs_design.specs.declared.statement.CallKind.{CallKind}
+use Rattle.vs_design.specs.declared.statement.CallKind.TheVariants.{Display, Strobe}
 use Rattle.vs_design.specs.declared.statement.EventTerm.{EventTerm}
 use Rattle.vs_design.specs.declared.statement.Statement.{Statement}
 use Rattle.vs_design.specs.declared.statement.Statement.TheOpen.{Statement-F}
@@ -19,10 +21,8 @@ use Rattle.vs_design.specs.Stores.{Store}
 use Rattle.vs_design.specs.Writes.{Write}
 use Rattle.vs_eval.specs.Targets.{assigned}
 use Rattle.vs_eval.specs.Values.{target_value, value_of}
+use Rattle.vs_strobe.specs.Lines.{Format, format_of_call, full_line}
 use Rattle.vs_flatcode.specs.Places.{perform, turns, Todo, flat}
-
--- a call of `$strobe` (clause 17.1.2): the language has none yet
-pub data Call : Type 0 where
 
 -- where a step leads
 pub data Next : Type 0 where
@@ -40,9 +40,11 @@ pub record Out : Type 0 where
   pub write : Option Write
   -- a nonblocking update, and in how many ticks it is due
   pub update : Option (ℕ × Write)
-  pub call : Option Call
-  -- the line of a `$display`
+  -- what a `$strobe` prints at the end of the slot (clause 17.1.2)
+  pub call : Option Format
+  -- the line of a `$display`, with the line feed that ends it (clause 17.1.1)
   pub line : Option (List ℕ)
+  -- whether it is a `$finish` (clause 17.4.1)
   pub finish : Bool
 
 -- a step that goes somewhere and does no more
@@ -52,6 +54,20 @@ goes next = record { next = next; write = None; update = None; call = None; line
 -- the write of an assignment, evaluated in a store at a time (clause 9.2)
 abbrev pub assignment : Target → Typed → Store → ℕ → Write
 assignment t e store time = assigned t (target_value t e store time) store time
+
+-- the line of a `$display` with this format, of the store and at the time of its step (clause 17.1.1)
+abbrev pub display_line : CallKind → Format → Store → ℕ → Option (List ℕ)
+display_line Display f store time = Some (full_line f store time)
+display_line Strobe f store time = None
+
+-- what a `$strobe` with this format prints at the end of the slot (clause 17.1.2)
+abbrev pub strobe_call : CallKind → Format → Option Format
+strobe_call Display f = None
+strobe_call Strobe f = Some f
+
+-- the step of a call with this format
+abbrev pub called : CallKind → Format → Todo → Store → ℕ → Out
+called kind f rest store time = record (goes (on rest)) { call = strobe_call kind f; line = display_line kind f store time }
 
 -- what is done where a condition is true, and else; x and z count as false (clauses 9.4 and 9.6)
 abbrev pub branch : {A : Type 0} → Digit → A → A → A
@@ -96,11 +112,14 @@ abbrev pub repeated : ℕ → Statement → Todo → Todo
 repeated zero s rest = rest
 repeated (suc n) s rest = flat s ++ turns n s ∷ rest
 
--- the step of a statement, in front of what else is to be done (clauses 9.2 and 9.4 to 9.7)
+-- the step of a statement, in front of what else is to be done (clauses 9.2, 9.4 to 9.7, 17.1 and 17.4.1)
 abbrev pub statement_step : Statement → Statement-F Statement → Todo → Store → ℕ → Out
 statement_step s (Statement-F.Null n) rest store time = goes (on rest)
 statement_step s (Statement-F.Assign n t e) rest store time = record (goes (on rest)) { write = Some (assignment t e store time) }
-statement_step s (Statement-F.Later n t e) rest store time = record (goes (on rest)) { update = Some (0, assignment t e store time) }
+statement_step s (Statement-F.Later n ticks t e) rest store time =
+    record (goes (on rest)) { update = Some (ticks.count, assignment t e store time) }
+statement_step s (Statement-F.Call n c) rest store time = called c.kind (format_of_call c) rest store time
+statement_step s (Statement-F.Finish n) rest store time = record (goes (on rest)) { finish = true }
 statement_step s (Statement-F.Block all) rest store time = goes (on (flat s ++ rest))
 statement_step s (Statement-F.Delay n ticks body) rest store time = goes (after n ticks.count (flat body.value ++ rest))
 statement_step s (Statement-F.Event n terms body) rest store time = goes (wait n terms.items (flat body.value ++ rest))

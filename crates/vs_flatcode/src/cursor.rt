@@ -1,10 +1,11 @@
 //! Where a process stands in its flat code.
 ghost use Rattle.std.specs.Prelude.{◌≡◌, slice_set, IfOk, OnErr, MatchOption};
+ghost use Rattle.vs_design.specs.declared.statement.Statement.TheViews.{out-Statement};
 ghost use Rattle.vs_flatcode.specs.Places.{perform, flat};
 ghost use Rattle.vs_flatcode.specs.Steps.{step, has_nothing};
 ghost use Rattle.vs_flatcode.specs.Links.{item_of};
-ghost use Rattle.vs_flatcode.specs.Codes.{job_of, StandsAt, IsEnd};
-ghost use Rattle.vs_flatcode.specs.Landings.{landing, turned, statement_lands, lands, made_out, IsMade};
+ghost use Rattle.vs_flatcode.specs.Codes.{job_of, StandsAt, IsEnd, IsFormatOf, IsFormatFor};
+ghost use Rattle.vs_flatcode.specs.Landings.{landing, turned, statement_lands, lands, made_out, IsMade, IsCallMade};
 
 use crate::choices::{assignment, branch, start_taken, turns_for};
 use crate::code::Code;
@@ -12,8 +13,9 @@ use crate::draft::{Op, Task};
 use crate::made::Made;
 use std::alloc::{AllocError, Global};
 use std::marker::Model;
-use vs_design::{Statement, Store};
+use vs_design::{CallKind, Statement, Store};
 use vs_eval::value;
+use vs_strobe::{Format, full_line};
 
 /// Where a process stands in its code, with the counters of its statements `repeat`. A contract sees it as what the process still
 /// has to do.
@@ -74,17 +76,37 @@ fn turn(op: &Op, counters: &mut Vec<u64>, left: u64) -> usize
     op.first
 }
 
+// What a call makes, by the format that its instruction has.
+fn call_made<'a>(
+    alloc: Global,
+    format: &'a Option<Format<'a>>,
+    kind: CallKind,
+    store: &Store,
+    time: u64,
+) -> Result<Made<'a>, AllocError>
+    ensures { IfOk result (λ made. IsCallMade format.entry.now kind store.now time made) }
+{
+    let Some(format) = format else {
+        return Ok(Made::Nothing);
+    };
+    match kind {
+        CallKind::Display => Ok(Made::Line(full_line(alloc, format, store, time)?)),
+        CallKind::Strobe => Ok(Made::Strobe(format)),
+    }
+}
+
 // The step of a statement: what it makes, and where it leads.
 fn perform<'a>(
     alloc: Global,
-    op: &Op<'a>,
+    op: &'a Op<'a>,
     s: &'a Statement,
     counters: &mut Vec<u64>,
     store: &Store,
     time: u64,
 ) -> Result<(Made<'a>, usize), AllocError>
+    requires format { IsFormatOf op.now.format (out-Statement s.now) }
     ensures lands { IfOk result (λ r. landing r.1 counters.new.items
-        ≡ statement_lands op.now s.entry.now counters.old.items store.now time) }
+        ≡ statement_lands op.entry.now s.entry.now counters.old.items store.now time) }
     ensures made { IfOk result (λ r. IsMade (perform s.entry.now) store.now time r.0) }
     ensures err { OnErr result (counters.new.items ≡ counters.old.items) }
 {
@@ -94,10 +116,15 @@ fn perform<'a>(
             let write = assignment(alloc, target, e, store, time)?;
             Ok((Made::Write(write), op.behind))
         }
-        Statement::Later(_, target, e) => {
+        Statement::Later(_, ticks, target, e) => {
             let write = assignment(alloc, target, e, store, time)?;
-            Ok((Made::Update(write), op.behind))
+            Ok((Made::Update(*ticks, write), op.behind))
         }
+        Statement::Call(_, call) => {
+            let made = call_made(alloc, &op.format, call.kind, store, time)?;
+            Ok((made, op.behind))
+        }
+        Statement::Finish(_) => Ok((Made::Finish, op.behind)),
         Statement::Block(_) => Ok((Made::Nothing, op.first)),
         Statement::Delay(n, ticks, _) => Ok((Made::Delay(*n, *ticks), op.first)),
         Statement::Event(n, terms, _) => Ok((Made::Wait(*n, terms), op.first)),
@@ -126,14 +153,15 @@ fn perform<'a>(
 // The step of an instruction: what it makes, and where it leads.
 fn run<'a>(
     alloc: Global,
-    op: &Op<'a>,
+    op: &'a Op<'a>,
     counters: &mut Vec<u64>,
     store: &Store,
     time: u64,
 ) -> Result<(Made<'a>, usize), AllocError>
+    requires format { IsFormatFor op.now.format op.now.task }
     ensures lands { IfOk result (λ r. landing r.1 counters.new.items
-        ≡ lands op.now op.now.task counters.old.items store.now time) }
-    ensures made { IfOk result (λ r. IsMade (item_of counters.old.items (job_of op.now.counter op.now.task)) store.now time r.0) }
+        ≡ lands op.entry.now op.entry.now.task counters.old.items store.now time) }
+    ensures made { IfOk result (λ r. IsMade (item_of counters.old.items (job_of op.entry.now.counter op.entry.now.task)) store.now time r.0) }
     ensures err { OnErr result (counters.new.items ≡ counters.old.items) }
 {
     match op.task {

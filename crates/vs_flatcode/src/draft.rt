@@ -6,6 +6,7 @@ ghost use Rattle.vs_flatcode.specs.Drafts.{flat_all, IsReady, IsEmitted, Written
 
 use std::alloc::{AllocError, Global};
 use vs_design::{Statement, Typed};
+use vs_strobe::Format;
 
 /// What is done at a place.
 #[derive(Drop)]
@@ -32,6 +33,8 @@ pub(crate) struct Op<'a> {
     pub(crate) starts: Vec<usize>,
     /// The counter of a `repeat`: how many others it stands in.
     pub(crate) counter: usize,
+    /// The format of a call of `$display` or `$strobe`, read once.
+    pub(crate) format: Option<Format<'a>>,
 }
 
 /// The code that has been written.
@@ -72,9 +75,10 @@ fn put_statement<'a>(
     second: usize,
     starts: Vec<usize>,
     depth: usize,
+    format: Option<Format<'a>>,
 ) -> Result<usize, AllocError>
     requires ready { IsReady draft.old next depth }
-    requires next { IsNext draft.old (op_of s next first second starts depth) s.now }
+    requires next { IsNext draft.old (op_of s next first second starts depth format) s.now }
     ensures { IfOk result (λ p. IsEmitted draft.old draft.new (flat s.entry.now) next p) }
 {
     let op = Op {
@@ -84,6 +88,7 @@ fn put_statement<'a>(
         second,
         starts,
         counter: depth,
+        format,
     };
     let place = put(draft, op)?;
     Ok(place)
@@ -107,6 +112,7 @@ fn put_head<'a>(
         second: next,
         starts: Vec::new(alloc),
         counter: depth,
+        format: None,
     };
     let place = put(draft, op)?;
     Ok(place)
@@ -207,35 +213,60 @@ pub(crate) fn emit<'a>(
     ensures { IfOk result (λ p. IsEmitted draft.old draft.new (flat s.entry.now) next p) }
 {
     match s {
-        Statement::Null(_) => put_statement(draft, s, next, next, next, Vec::new(alloc), depth),
+        Statement::Null(_) => put_statement(
+            draft,
+            s,
+            next,
+            next,
+            next,
+            Vec::new(alloc),
+            depth,
+            None,
+        ),
         Statement::Assign(_, _, _) => {
-            put_statement(draft, s, next, next, next, Vec::new(alloc), depth)
+            put_statement(draft, s, next, next, next, Vec::new(alloc), depth, None)
         }
-        Statement::Later(_, _, _) => {
-            put_statement(draft, s, next, next, next, Vec::new(alloc), depth)
+        Statement::Later(_, _, _, _) => {
+            put_statement(draft, s, next, next, next, Vec::new(alloc), depth, None)
+        }
+        Statement::Call(_, call) => {
+            let format = Format::of(alloc, call)?;
+            put_statement(
+                draft,
+                s,
+                next,
+                next,
+                next,
+                Vec::new(alloc),
+                depth,
+                Some(format),
+            )
+        }
+        Statement::Finish(_) => {
+            put_statement(draft, s, next, next, next, Vec::new(alloc), depth, None)
         }
         Statement::Block(all) => emit_all(alloc, draft, all, next, depth),
         Statement::Delay(_, _, body) => {
             let first = emit(alloc, draft, body, next, depth)?;
-            put_statement(draft, s, next, first, next, Vec::new(alloc), depth)
+            put_statement(draft, s, next, first, next, Vec::new(alloc), depth, None)
         }
         Statement::Event(_, _, body) => {
             let first = emit(alloc, draft, body, next, depth)?;
-            put_statement(draft, s, next, first, next, Vec::new(alloc), depth)
+            put_statement(draft, s, next, first, next, Vec::new(alloc), depth, None)
         }
         Statement::If(_, _, a, b) => {
             let second = emit(alloc, draft, b, next, depth)?;
             let first = emit(alloc, draft, a, next, depth)?;
-            put_statement(draft, s, next, first, second, Vec::new(alloc), depth)
+            put_statement(draft, s, next, first, second, Vec::new(alloc), depth, None)
         }
         Statement::Case(_, _, _, items) => {
             let starts = emit_items(alloc, draft, items, next, depth)?;
-            put_statement(draft, s, next, next, next, starts, depth)
+            put_statement(draft, s, next, next, next, starts, depth, None)
         }
         Statement::While(_, _, body) => emit_loop(alloc, draft, body, s, next, depth),
         Statement::Repeat(_, _, _, body) => {
             let first = emit_turns(alloc, draft, body, next, depth)?;
-            put_statement(draft, s, next, first, next, Vec::new(alloc), depth)
+            put_statement(draft, s, next, first, next, Vec::new(alloc), depth, None)
         }
         Statement::Forever(_, body) => emit_loop(alloc, draft, body, s, next, depth),
     }

@@ -11,7 +11,7 @@ use Rattle.vs_design.specs.declared.range.BitRange.{BitRange}
 use Rattle.vs_design.specs.Stores.{Store, word_of}
 use Rattle.vs_design.specs.Uses.{whole, all_words, slice_range, joined, reads}
 use Rattle.vs_design.specs.WellFormed.{sized_by, chain_size, choice_size, indexed_size, sum_size, at_most_64, size_of}
-use Rattle.vs_eval.specs.Values.{operand_value, bits_value, selection_value, chained, chosen, concatenated, value_of}
+use Rattle.vs_eval.specs.Values.{operand_value, bits_value, selection_value, excerpt_value, chained, chosen, concatenated, value_of}
 use Rattle.vs_forms.specs.declared.forms.Form.{Form}
 use Rattle.vs_forms.specs.declared.forms.Form.TheOpen.{Form-F}
 use Rattle.vs_forms.specs.declared.forms.Form.TheOpen as f
@@ -61,6 +61,11 @@ form_step (f.Select s word low) = record {
   size = λ width. indexed_size s.width (word.value.size width) (low.value.size width);
   reads = all_words s.signal ∷ word.value.reads ++ low.value.reads;
   at = λ store time width signed. selection_value s store (word.value.at store time width signed) (low.value.at store time width signed);
+}
+form_step (f.Excerpt s low) = record {
+  size = λ width. option_map (λ n. s.width) (low.value.size width);
+  reads = low.value.reads;
+  at = λ store time width signed. excerpt_value s (low.value.at store time width signed);
 }
 form_step (f.Unary op x) = record {
   size = λ width. option_map (λ n. if gives_bit op then 1 else n) (x.value.size width);

@@ -27,6 +27,10 @@ pub fn fitted(alloc: Global, form: &Form, shape: Shape) -> Result<Typed, AllocEr
             let low = boxed(alloc, low, shape)?;
             Ok(Typed::Select(*selection, word, low))
         }
+        Form::Excerpt(excerpt, low) => {
+            let low = boxed(alloc, low, shape)?;
+            Ok(Typed::Excerpt(*excerpt, low))
+        }
         Form::Unary(operator, x) => {
             let x = boxed(alloc, x, shape)?;
             Ok(Typed::Unary(*operator, x))

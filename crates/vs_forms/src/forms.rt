@@ -1,6 +1,6 @@
 //! Expressions whose parts have the sizes and signs that their context doesn't set.
 use crate::shape::Shape;
-use vs_design::{Count, Link, Selection, Slice};
+use vs_design::{Count, Excerpt, Link, Selection, Slice};
 use vs_logic4::{Binary, Unary, Vec4};
 
 /// An expression of a source whose names, counts and own sizes are known, and whose context isn't.
@@ -14,6 +14,8 @@ pub enum Form {
     Slice(Slice),
     /// Bits of a word by the values of two indices, the word's and the lowest bit's, at their own size whatever the context.
     Select(Selection, Box<Form>, Box<Form>),
+    /// Bits of a constant by the value of an index, at their own size whatever the context.
+    Excerpt(Excerpt, Box<Form>),
     /// An operator and its operand.
     Unary(Unary, Box<Form>),
     /// Operands at the size of the context, and shifts' amounts, with operators between them, from left to right.

@@ -16,7 +16,7 @@ use Rattle.vs_selects.specs.declared.faults.WidthReason.TheVariants.{NotConstant
 use Rattle.vs_selects.specs.Environment.{Environment}
 use Rattle.vs_selects.specs.Findings.{Finding, Has, Lacks, stands, alone, not_constant}
 use Rattle.vs_selects.specs.Meants.{Meant}
-use Rattle.vs_selects.specs.Constants.{where_none, constant_finding}
+use Rattle.vs_selects.specs.Constants.{where_none, constant_finding, constant_in}
 use Rattle.vs_selects.specs.Selects.{size_found}
 use Rattle.vs_widths.specs.Expressions.{meant}
 use Rattle.vs_widths.specs.Names.{meaning_of, Binds}
@@ -65,15 +65,15 @@ is_constant m size signed h k = found_none m.reads m.finding size signed h k
 
 -- a value at the larger size, cut to that of a genvar
 assigned_is : (m : Meant) (env : Environment) (size w : ℕ) (signed : Bool) (v r : List Digit) → m.finding ≡ Has size signed → w ≡ max 32 size →
-    m.at [] 0 w signed ≡ v → length v ≡ w → r ≡ resized false 32 v → record { value = r; signed = true } ≡ constant_by (neither (sized_as env true 31 None)) m
+    m.at [] 0 w signed ≡ v → length v ≡ w → r ≡ resized false 32 v → constant_in None true r ≡ constant_by (neither (sized_as env true 31 None)) m
 assigned_is m env size w signed v r has wide at long given =
     let fits : 32 ≤ length v = omega (arith, wide, long) in
-    let K : List Digit → Const = λ z. record { value = z; signed = true } in
+    let K : List Digit → Const = constant_in None true in
     let A : ℕ → Bool → Const = λ n g. K (take 32 (m.at [] 0 n g)) in
     ap K (given ∙ cut 32 v fits) ∙ ap (λ z. K (take 32 z)) (sym at) ∙ ap₂ A (wide ∙ ap (λ z. max 32 (size_found z)) (sym has)) (ap sign_found (sym has))
 
 pub is_assigned : (m : Meant) (env : Environment) (e : Expr) (size w : ℕ) (signed : Bool) (v r : List Digit) → m ≡ meant env e → ((q : WidthReason) → stands q (constant_finding m) ≡ false) → m.finding ≡ Has size signed →
-    w ≡ max 32 size → m.at [] 0 w signed ≡ v → length v ≡ w → r ≡ resized false 32 v → IsGenvarValue env e (record { value = r; signed = true })
+    w ≡ max 32 size → m.at [] 0 w signed ≡ v → length v ≡ w → r ≡ resized false 32 v → IsGenvarValue env e (constant_in None true r)
 is_assigned m env e size w signed v r is k has wide at long given = record {
   found = ap (λ z. is_found (constant_finding z)) (sym is) ∙ is_constant m size signed has k;
   value = assigned_is m env size w signed v r has wide at long given ∙ ap (constant_by (neither (sized_as env true 31 None))) is;

@@ -27,10 +27,7 @@ fn assigned(alloc: Global, names: &Levels, e: &Expr) -> Result<Const, WidthFault
     let width = found.width.max(GENVAR_WIDTH);
     let signed = found.signed;
     let value = constant_at(alloc, names, Shape { width, signed }, e)?;
-    Ok(Const {
-        value: value.resize(GENVAR_WIDTH, false),
-        signed: true,
-    })
+    Ok(Const::new(value.resize(GENVAR_WIDTH, false), true, None))
 }
 
 /// The value that an expression gives a genvar, which has no x and no z (IEEE 1364-2005, clause 12.4.1; x and z: profile).

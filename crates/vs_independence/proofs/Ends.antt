@@ -20,6 +20,7 @@ use Rattle.vs_independence.proofs.Stores.{names_some, by, left, put_active, put_
 use Rattle.vs_independence.proofs.Threads.{is_stopped, stopped_unique}
 use Rattle.vs_independence.proofs.Settle.{AllIdle, settled_unique, idle_unique}
 use Rattle.vs_independence.proofs.Moves.{Runs, step_runs, evaluate_runs, propagate_runs, rouse_runs}
+use Rattle.vs_independence.proofs.Calls.{of, SameCalls}
 use Rattle.vs_independence.proofs.Making.{Making, is_settled, activate_makes, none_makes, make_makes, evaluate_makes, propagate_makes, stopped_at}
 use Rattle.vs_independence.proofs.Times.{is_future, same_next}
 use Rattle.vs_independence.proofs.Running.{Apart, is_waiting}
@@ -196,7 +197,7 @@ future_from time (u ∷ us) h g =
 pub all_future : (d : Parts) (b s : State) → Ends d b s → list_all (is_future s.time) s.updates ≡ true
 all_future d b s e = future_from s.time s.updates (ap (λ t. list_all (is_settled t) s.updates) e.making.slot.time ∙ e.making.settled) e.none
 
--- two states in which a slot begins or ends: all is the same, but updates of different signals may stand in another order
+-- two states in which a slot begins or ends: all but the calls of `$strobe` is the same, and updates of different signals may stand in another order
 pub record Alike (a c : State) : Type 0 where
   pub store : a.store ≡ c.store
   pub places : a.places ≡ c.places
@@ -207,7 +208,7 @@ pub record Alike (a c : State) : Type 0 where
   pub updates : (v : ℕ) → by v a.updates ≡ by v c.updates
 
 abbrev opened : Store → List Place → ℕ → Thread
-opened store places i = record { place = get_or places i ended; view = store; log = []; made = []; fin = false }
+opened store places i = record { place = get_or places i ended; view = store; log = []; made = []; asked = []; fin = false }
 
 -- they have the same threads
 thread_alike : (b c : State) → Alike b c → (i : ℕ) (th : Thread) → IsThread c i th → IsThread b i th
@@ -235,6 +236,11 @@ same_written d b c s t al x y v undriven = by_cases (x.runs.sources.fresh v undr
     by_cases (inr (i, hx)) other = wrote i hx (subst (λ z. writes z v ≡ true) (same_threads d b c s t al x y i) hx)
     by_cases (inl same) (inr (i, hy)) = wrote i (subst (λ z. writes z v ≡ true) (sym (same_threads d b c s t al x y i)) hy) hy
     by_cases (inl same) (inl alike) = same ∙ ap (λ (a : Store). slice_get a v) al.store ∙ sym alike
+
+-- they made the same calls
+pub same_calls : (d : Parts) (b c s t : State) → Alike b c → (x : Making d b s) (y : Making d c t) → SameCalls s.calls t.calls
+same_calls d b c s t al x y i =
+    ap (of i) x.calls ∙ x.runs.asks i ∙ ap (λ (z : Thread). z.asked) (same_threads d b c s t al x y i) ∙ sym (ap (of i) y.calls ∙ y.runs.asks i)
 
 -- they made the same updates of each signal
 same_updates : (d : Parts) (b c s t : State) → Alike b c → (x : Making d b s) (y : Making d c t) → (v : ℕ) → by v x.before.updates ≡ by v y.before.updates

@@ -106,7 +106,9 @@ statement_silent : (s : Statement) (f : Statement-F Statement) (rest : Todo) (st
     event_terms s ≡ [] → event_terms_step (map-Statement Statement (List EventTerm) event_terms f) ≡ [] → todo_terms rest ≡ [] → next_terms (statement_step s f rest store time).next ≡ []
 statement_silent s (Statement-F.Null n) rest store time whole h r = r
 statement_silent s (Statement-F.Assign n t e) rest store time whole h r = r
-statement_silent s (Statement-F.Later n t e) rest store time whole h r = r
+statement_silent s (Statement-F.Later n ticks t e) rest store time whole h r = r
+statement_silent s (Statement-F.Call n c) rest store time whole h r = r
+statement_silent s (Statement-F.Finish n) rest store time whole h r = r
 statement_silent s (Statement-F.Block all) rest store time whole h r = before_silent (flat s) rest (flat_silent s whole) r
 statement_silent s (Statement-F.Delay n ticks body) rest store time whole h r = before_silent (flat body.value) rest (flat_silent body.value h) r
 statement_silent s (Statement-F.Event n terms body) rest store time whole h r =

@@ -38,6 +38,7 @@ pub record Making (d : Parts) (b s : State) : Type 0 where
   pub sound : AssignsSound d s.store s.assigns
   pub places : s.places ≡ before.places
   pub finishing : s.finishing ≡ before.finishing
+  pub calls : s.calls ≡ before.calls
   pub store : (v : ℕ) → is_driven d.assigns v ≡ false → slice_get (put_active s.store s.updates) v ≡ slice_get (put_active before.store (map (activated b.time) before.updates)) v
   pub rest : (v : ℕ) → by v (left s.updates) ≡ by v (left (map (activated b.time) before.updates))
   pub settled : list_all (is_settled b.time) s.updates ≡ true
@@ -86,10 +87,11 @@ activate_makes d b s (th, r) going inactive = record {
   th = th;
   runs = r;
   still = all_still d b s th r going inactive;
-  slot = record { time = r.slot.time; over = r.slot.over; calls = r.slot.calls; count = r.slot.count };
+  slot = record { time = r.slot.time; over = r.slot.over; count = r.slot.count };
   sound = r.sound;
   places = refl;
   finishing = refl;
+  calls = refl;
   store = λ v undriven. ap (λ t. slice_get (put_active s.store (map (activated t) s.updates)) v) r.slot.time;
   rest = λ v. ap (λ t. by v (left (map (activated t) s.updates))) r.slot.time;
   settled = ap (λ t. list_all (is_settled b.time) (map (activated t) s.updates)) r.slot.time ∙ all_settled b.time s.updates r.mades.waiting;
@@ -109,6 +111,7 @@ none_makes d b s (th, r) going inactive none =
       sound = r.sound;
       places = refl;
       finishing = refl;
+      calls = refl;
       store = λ v undriven. ap (λ us. slice_get (put_active s.store us) v) (sym same);
       rest = λ v. ap (λ us. by v (left us)) (sym same);
       settled = ap (list_all (is_settled b.time)) (sym same) ∙ all_settled b.time s.updates r.mades.waiting;
@@ -165,10 +168,11 @@ make_makes d b s silent m i u is first = subst (Making d b) (sym (written_silent
   th = m.th;
   runs = m.runs;
   still = m.still;
-  slot = record { time = m.slot.time; over = m.slot.over; calls = m.slot.calls; count = m.slot.count };
+  slot = record { time = m.slot.time; over = m.slot.over; count = m.slot.count };
   sound = sound_written d s.store s.assigns u.what (λ v h. m.undriven v (at_any (λ (x : Update). names x.what v) s.updates i u is h)) m.sound;
   places = m.places;
   finishing = m.finishing;
+  calls = m.calls;
   store = λ v undriven. make_first s.store s.updates i u v is active none ∙ m.store v undriven;
   rest = λ v. ap (by v) (left_without s.updates i u is active) ∙ m.rest v;
   settled = all_without (is_settled b.time) i s.updates m.settled;
@@ -188,10 +192,11 @@ evaluate_makes d well b s m j x is = record {
   th = m.th;
   runs = m.runs;
   still = m.still;
-  slot = record { time = m.slot.time; over = m.slot.over; calls = m.slot.calls; count = m.slot.count };
+  slot = record { time = m.slot.time; over = m.slot.over; count = m.slot.count };
   sound = sound_evaluated d well.places s.store s.time s.assigns j x is m.sound;
   places = m.places;
   finishing = m.finishing;
+  calls = m.calls;
   store = m.store;
   rest = m.rest;
   settled = m.settled;
@@ -204,10 +209,11 @@ propagate_makes d well b s silent m j x digits is waits = subst (Making d b) (sy
   th = m.th;
   runs = m.runs;
   still = m.still;
-  slot = record { time = m.slot.time; over = m.slot.over; calls = m.slot.calls; count = m.slot.count };
+  slot = record { time = m.slot.time; over = m.slot.over; count = m.slot.count };
   sound = sound_propagated d well.places s.store s.time s.assigns j x digits is waits m.sound;
   places = m.places;
   finishing = m.finishing;
+  calls = m.calls;
   store = λ v undriven. put_active_local (put s.store (assigned x.target digits s.store s.time)) s.store s.updates v (propagated_undriven d s.store s.time s.assigns m.sound j x digits is v undriven) ∙ m.store v undriven;
   rest = m.rest;
   settled = m.settled;

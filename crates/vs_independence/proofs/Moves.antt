@@ -1,5 +1,5 @@
 -- Each move of a slot, before its updates are activated, keeps what holds there.
-use Rattle.std.proofs.Common.{◌≡◌, ℕ, ◌<◌, true, false, ◌||◌, Option, Some, None, List, map, length, get_or, slice_get, slice_set, sym, ◌∙◌, ap, subst, inl, inr}
+use Rattle.std.proofs.Common.{◌≡◌, ℕ, ◌<◌, true, false, ◌||◌, Option, Some, None, List, map, length, get_or, slice_get, slice_set, refl, sym, ◌∙◌, ap, subst, inl, inr}
 use Rattle.std.specs.List.{list_any}
 use Rattle.std.proofs.Math.ListN.{get_or-map}
 use Rattle.std.proofs.lemmas.Bool.{false_from_ne_true, or_left, or_right, true≢false, false≢true}
@@ -20,12 +20,12 @@ use Rattle.vs_process.proofs.WellFormed.{is_sound_place, is_sound_todo}
 use Rattle.vs_process.proofs.Assigns.{AssignsSound, IsUndriven, assign_driven, assigned_other, sound_behind, sound_evaluated, sound_propagated}
 use Rattle.vs_independence.specs.Threads.{store_behind, Thread, IsThread, log_behind, moved, turn_at, writes, place_reads, todo_reads}
 use Rattle.vs_independence.proofs.Lists.{at, at_each}
-use Rattle.vs_independence.proofs.StepReads.{step_reads, IsPlain, step_plain}
+use Rattle.vs_independence.proofs.StepReads.{mute, step_reads, IsPlain, step_plain}
 use Rattle.vs_independence.proofs.Threads.{thread_turns, rouse_thread, thread_rouses}
 use Rattle.vs_independence.proofs.Assigns.{DrivesWell, assigns_behind}
 use Rattle.vs_independence.proofs.Events.{IsSilent, behind_silent, written_silent}
 use Rattle.vs_independence.proofs.Running.{Apart, AllThreads, Sources, Mades, Running, reads_agree}
-use Rattle.vs_independence.proofs.Steps.{at_this, all_at, sources_step, mades_step, finishes_step}
+use Rattle.vs_independence.proofs.Steps.{at_this, all_at, sources_step, mades_step, asks_step, finishes_step}
 use Rattle.vs_independence.proofs.Nets.{all_stirred_more, nets_behind, nets_evaluated, nets_propagated}
 
 -- threads with which a state of the slot runs
@@ -71,7 +71,6 @@ stepped_runs d b s th apart r i gait todo out is plain turned = record {
   slot = record {
     time = r.slot.time;
     over = r.slot.over;
-    calls = ap (λ c. calls_behind i c s.calls) plain.call ∙ r.slot.calls;
     count = length-set s.places i (place_behind (going gait todo) s.time out.next) ∙ r.slot.count;
   };
   sound = behind_sound d s out.write (sound_behind d s out.write undriven r.sound);
@@ -79,9 +78,10 @@ stepped_runs d b s th apart r i gait todo out is plain turned = record {
   places = at_each (λ k t. get_or (slice_set s.places i (place_behind (going gait todo) s.time out.next)) k ended ≡ t.place) th i tn
       (get_or-set_same s.places i (place_behind (going gait todo) s.time out.next) ended within ∙ ap (λ t. place_behind (going gait todo) t out.next) r.slot.time)
       (λ k ne. get_or-set_other s.places i k (place_behind (going gait todo) s.time out.next) ended ne ∙ r.places k);
-  sources = sources_step d b apart s.store th r.threads r.sources i tn.place out.write tn.made tn.fin turned;
-  mades = subst (λ t. Mades d b (updates_behind i t out.update s.updates) (at th i tn)) (sym r.slot.time) (mades_step d b apart s.updates th r.threads r.mades i tn.place out.write out.update tn.fin plain.update turned);
-  finishes = finishes_step b s.finishing th r.finishes i tn.place out.write tn.made out.finish;
+  sources = sources_step d b apart s.store th r.threads r.sources i tn.place out.write tn.made tn.asked tn.fin turned;
+  mades = subst (λ t. Mades d b (updates_behind i t out.update s.updates) (at th i tn)) (sym r.slot.time) (mades_step d b apart s.updates th r.threads r.mades i tn.place out.write out.update tn.asked tn.fin plain.update turned);
+  asks = asks_step s.calls th r.asks i out.call tn refl;
+  finishes = finishes_step b s.finishing th r.finishes i tn.place out.write tn.made tn.asked out.finish;
   nets = nets_behind d b s.store s.assigns th (at th i tn) r.sound out.write undriven
       (λ w e v h. at_this (λ t. writes t v ≡ true) th i tn (log_names (th i).log out.write w v e h))
       (λ k u. at_each (λ k t. writes (th k) u ≡ true → writes t u ≡ true) th i tn (log_grows (th i).log out.write u) (λ k ne h. h) k)
@@ -102,8 +102,8 @@ pub step_runs : (d : Parts) (b s : State) → Apart d b → IsSilent s → Runs 
 step_runs d b s apart silent (th, r) i (going gait todo) is h = (
   at th i (moved b.time i (going gait todo) (step todo (th i).view b.time) (th i)),
   subst (λ out. Running d b (performed s i (going gait todo) out) (at th i (moved b.time i (going gait todo) (step todo (th i).view b.time) (th i)))) (sym same_out)
-      (subst (λ t. Running d b t (at th i (moved b.time i (going gait todo) (step todo (th i).view b.time) (th i)))) (sym (performed_is s i (going gait todo) (step todo (th i).view b.time) silent))
-      (stepped_runs d b s th apart r i gait todo (step todo (th i).view b.time) is (step_plain d.signals todo (th i).view b.time sound) turned)),
+      (subst (λ t. Running d b t (at th i (moved b.time i (going gait todo) (step todo (th i).view b.time) (th i)))) (sym (performed_is s i (going gait todo) (mute (step todo (th i).view b.time)) silent))
+      (stepped_runs d b s th apart r i gait todo (mute (step todo (th i).view b.time)) is plain turned)),
 )
   where
     here_is : (th i).place ≡ going gait todo
@@ -118,8 +118,11 @@ step_runs d b s apart silent (th, r) i (going gait todo) is h = (
     agree : list_any (is_changed s.store (th i).view) (todo_reads todo) ≡ false
     agree = subst (λ p. list_any (is_changed s.store (th i).view) (place_reads p) ≡ false) here_is (reads_agree d b apart s.store s.assigns th r.threads r.sound r.sources r.nets i)
 
-    same_out : step todo s.store s.time ≡ step todo (th i).view b.time
-    same_out = step_reads s.store (th i).view todo s.time agree ∙ ap (step todo (th i).view) r.slot.time
+    plain : IsPlain (mute (step todo (th i).view b.time))
+    plain = record { update = (step_plain d.signals todo (th i).view b.time sound).update }
+
+    same_out : mute (step todo s.store s.time) ≡ mute (step todo (th i).view b.time)
+    same_out = step_reads s.store (th i).view todo s.time agree ∙ ap (λ t. mute (step todo (th i).view t)) r.slot.time
 step_runs d b s apart silent (th, r) i (sleeping due todo) is h = absurd (false≢true h)
 step_runs d b s apart silent (th, r) i (inactive todo) is h = absurd (false≢true h)
 step_runs d b s apart silent (th, r) i (waiting terms todo) is h = absurd (false≢true h)
@@ -130,12 +133,13 @@ pub evaluate_runs : (d : Parts) → DrivesWell d → (b s : State) → Runs d b 
 evaluate_runs d well b s (th, r) j x is needs = (
   th,
   record {
-    slot = record { time = r.slot.time; over = r.slot.over; calls = r.slot.calls; count = r.slot.count };
+    slot = record { time = r.slot.time; over = r.slot.over; count = r.slot.count };
     sound = sound_evaluated d well.places s.store s.time s.assigns j x is r.sound;
     threads = r.threads;
     places = r.places;
     sources = r.sources;
     mades = r.mades;
+    asks = r.asks;
     finishes = r.finishes;
     nets = nets_evaluated d b s.store s.time s.assigns th j x is needs r.nets;
   },
@@ -163,12 +167,13 @@ pub propagate_runs : (d : Parts) → DrivesWell d → (b s : State) → Apart d 
 propagate_runs d well b s apart silent (th, r) j x digits is waits = (
   th,
   subst (λ t. Running d b t th) (sym (written_silent (record s { assigns = slice_set s.assigns j (settled x) }) (assigned x.target digits s.store s.time) silent)) (record {
-    slot = record { time = r.slot.time; over = r.slot.over; calls = r.slot.calls; count = r.slot.count };
+    slot = record { time = r.slot.time; over = r.slot.over; count = r.slot.count };
     sound = sound_propagated d well.places s.store s.time s.assigns j x digits is waits r.sound;
     threads = r.threads;
     places = r.places;
     sources = sources_other d b apart s.store (put s.store (assigned x.target digits s.store s.time)) th r.threads (propagated_undriven d s.store s.time s.assigns r.sound j x digits is) r.sources;
     mades = r.mades;
+    asks = r.asks;
     finishes = r.finishes;
     nets = nets_propagated d well b s.store s.time s.assigns th r.sound j x digits is waits r.nets;
   }),
@@ -179,12 +184,13 @@ pub rouse_runs : (d : Parts) (b s : State) → Runs d b s → Runs d b (record s
 rouse_runs d b s (th, r) = (
   λ i. rouse_thread (th i),
   record {
-    slot = record { time = r.slot.time; over = r.slot.over; calls = r.slot.calls; count = length-map s.places roused ∙ r.slot.count };
+    slot = record { time = r.slot.time; over = r.slot.over; count = length-map s.places roused ∙ r.slot.count };
     sound = r.sound;
     threads = λ i. thread_rouses b i (th i) (r.threads i);
     places = λ i. get_or-map roused s.places i ended ∙ ap roused (r.places i);
     sources = record { own = r.sources.own; fresh = r.sources.fresh };
     mades = record { made = r.mades.made; unmade = r.mades.unmade; waiting = r.mades.waiting; undriven = r.mades.undriven };
+    asks = r.asks;
     finishes = record { kept = r.finishes.kept; by_thread = r.finishes.by_thread; some = r.finishes.some };
     nets = λ j x is. elim (r.nets j x is) [
       | inl calm ↦ inl calm

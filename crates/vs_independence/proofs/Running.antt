@@ -1,5 +1,5 @@
 -- What holds in a slot before its updates are activated: each process is where it is alone, and no step of another one is seen.
-use Rattle.std.proofs.Common.{Bool, not, ◌&&◌, ◌++◌, leb, append-nil, ◌≡◌, ℕ, ◌⊎◌, true, false, Some, None, List, [], length, map, refl, get_or, slice_get, sym, ◌∙◌, ap, subst, inl, inr}
+use Rattle.std.proofs.Common.{Bool, not, ◌&&◌, ◌++◌, leb, append-nil, ◌≡◌, ℕ, ◌⊎◌, true, false, Some, None, List, length, map, refl, get_or, slice_get, sym, ◌∙◌, ap, subst, inl, inr}
 use Rattle.std.specs.List.{list_any, list_all, Contains}
 use Rattle.std.proofs.lemmas.Bool.{cases_Bool, true≢false}
 use Rattle.vs_design.specs.declared.design.Assign.{Assign}
@@ -11,7 +11,7 @@ use Rattle.vs_design.specs.Uses.{covers, writes_signal}
 use Rattle.vs_design.specs.Uses as uses
 use Rattle.vs_eval.specs.Laws.{digit_of}
 use Rattle.vs_flatcode.specs.Places.{Place, ended}
-use Rattle.vs_process.specs.States.{State, AssignState, Update}
+use Rattle.vs_process.specs.States.{State, AssignState, Update, Called}
 use Rattle.vs_process.proofs.Lists.{any_at, none_from}
 use Rattle.vs_process.proofs.Values.{not_changed, same_unchanged}
 use Rattle.vs_process.proofs.Assigns.{AssignsSound, assign_of, drives}
@@ -21,6 +21,7 @@ use Rattle.vs_independence.specs.Feeds.{writes_into}
 use Rattle.vs_independence.proofs.Feeds.{into_covered}
 use Rattle.vs_independence.specs.Threads.{Thread, IsThread, writes, any_names, place_reads}
 use Rattle.vs_independence.specs.Discipline.{Reaches, here, KeepsApart}
+use Rattle.vs_independence.proofs.Calls.{of}
 use Rattle.vs_independence.proofs.Lists.{contains_at, filter_none}
 use Rattle.vs_independence.proofs.Stores.{by, names_some}
 use Rattle.vs_independence.proofs.Threads.{unwritten}
@@ -37,7 +38,6 @@ pub record Apart (d : Parts) (b : State) : Type 0 where
 pub record WithinSlot (b s : State) : Type 0 where
   pub time : s.time ≡ b.time
   pub over : s.over ≡ b.over
-  pub calls : s.calls ≡ []
   pub count : length s.places ≡ length b.places
 
 abbrev pub AllThreads : State → (ℕ → Thread) → Type 0
@@ -69,6 +69,10 @@ pub record Finishes (b : State) (finishing : Bool) (th : ℕ → Thread) : Type 
   pub by_thread : (i : ℕ) → (th i).fin ≡ true → finishing ≡ true
   pub some : finishing ≡ true → (b.finishing ≡ true) ⊎ ((i : ℕ) × ((th i).fin ≡ true))
 
+-- the calls of `$strobe` of each process are those that its thread made
+abbrev pub Asks : List Called → (ℕ → Thread) → Type 0
+Asks calls th = (i : ℕ) → of i calls ≡ (th i).asked
+
 -- what a write of a thread, or an assignment that the slot found unsettled, can have changed
 pub data Stirred (d : Parts) (b : State) (th : ℕ → Thread) (r : BitRange) : Type 0 where
   by_write : (i u : ℕ) → writes (th i) u ≡ true → Reaches d.assigns u r → Stirred d b th r
@@ -92,6 +96,7 @@ pub record Running (d : Parts) (b s : State) (th : ℕ → Thread) : Type 0 wher
   pub places : Follow s.places th
   pub sources : Sources d b s.store th
   pub mades : Mades d b s.updates th
+  pub asks : Asks s.calls th
   pub finishes : Finishes b s.finishing th
   pub nets : Nets d b s.store s.assigns th
 

@@ -62,10 +62,18 @@ taken_kept a b kind x items time h =
     ap (λ digits. taken kind digits a time items) (value_unchanged a b time time x parts.0)
     ∙ ap (λ o. first_of o (find is_default items)) (items_kept a b kind (value_of x b time) items time parts.1)
 
-statement_step_reads : (a b : Store) (s : Statement) (f : Statement-F Statement) (rest : Todo) (time : ℕ) → list_any (is_changed a b) (own_reads f) ≡ false → statement_step s f rest a time ≡ statement_step s f rest b time
+-- a step without its line
+abbrev pub mute : Out → Out
+mute out = record out { line = None }
+
+statement_step_reads : (a b : Store) (s : Statement) (f : Statement-F Statement) (rest : Todo) (time : ℕ) → list_any (is_changed a b) (own_reads f) ≡ false →
+    mute (statement_step s f rest a time) ≡ mute (statement_step s f rest b time)
 statement_step_reads a b s (Statement-F.Null n) rest time h = refl
 statement_step_reads a b s (Statement-F.Assign n t e) rest time h = ap (λ w. record (goes (on rest)) { write = Some w }) (assignment_kept a b t e time h)
-statement_step_reads a b s (Statement-F.Later n t e) rest time h = ap (λ w. record (goes (on rest)) { update = Some (0, w) }) (assignment_kept a b t e time h)
+statement_step_reads a b s (Statement-F.Later n ticks t e) rest time h =
+    ap (λ w. record (goes (on rest)) { update = Some (ticks.count, w) }) (assignment_kept a b t e time h)
+statement_step_reads a b s (Statement-F.Call n c) rest time h = refl
+statement_step_reads a b s (Statement-F.Finish n) rest time h = refl
 statement_step_reads a b s (Statement-F.Block all) rest time h = refl
 statement_step_reads a b s (Statement-F.Delay n ticks body) rest time h = refl
 statement_step_reads a b s (Statement-F.Event n terms body) rest time h = refl
@@ -75,15 +83,14 @@ statement_step_reads a b s (Statement-F.While n e body) rest time h = ap (λ v. 
 statement_step_reads a b s (Statement-F.Repeat n signed e body) rest time h = ap (λ v. goes (on (repeated (turns_for signed v) body.value rest))) (value_unchanged a b time time e h)
 statement_step_reads a b s (Statement-F.Forever n body) rest time h = refl
 
--- a step of a process is the same in two stores between which nothing that it reads is changed
-pub step_reads : (a b : Store) (todo : Todo) (time : ℕ) → list_any (is_changed a b) (todo_reads todo) ≡ false → step todo a time ≡ step todo b time
+-- a step of a process is the same in two stores between which nothing that it reads is changed, but for the line of a `$display`
+pub step_reads : (a b : Store) (todo : Todo) (time : ℕ) → list_any (is_changed a b) (todo_reads todo) ≡ false → mute (step todo a time) ≡ mute (step todo b time)
 step_reads a b [] time h = refl
 step_reads a b (perform s ∷ rest) time h = statement_step_reads a b s (out-Statement s) rest time h
 step_reads a b (turns n s ∷ rest) time h = refl
 
--- the language has no calls of `$strobe` yet; each update names a signal
+-- each update names a signal
 pub record IsPlain (out : Out) : Type 0 where
-  pub call : out.call ≡ None
   pub update : (w : ℕ × Write) → out.update ≡ Some w → names_some w.1 ≡ true
 
 -- the write of a sound assignment has a part
@@ -102,22 +109,23 @@ assigned_some ss t e digits store time h =
     omega (arith, width, up))
 
 statement_plain : (ss : List Signal) (s : Statement) (f : Statement-F Statement) (rest : Todo) (store : Store) (time : ℕ) → sound_out ss f ≡ true → IsPlain (statement_step s f rest store time)
-statement_plain ss s (Statement-F.Null n) rest store time h = record { call = refl; update = λ w h. cc }
-statement_plain ss s (Statement-F.Assign n t e) rest store time h = record { call = refl; update = λ w h. cc }
-statement_plain ss s (Statement-F.Later n t e) rest store time h = record {
-  call = refl;
-  update = λ w is. let p : (0, assignment t e store time) ≡ w = cc in ap (λ (x : ℕ × Write). names_some x.1) (sym p) ∙ assigned_some ss t e (target_value t e store time) store time h;
+statement_plain ss s (Statement-F.Null n) rest store time h = record { update = λ w h. cc }
+statement_plain ss s (Statement-F.Assign n t e) rest store time h = record { update = λ w h. cc }
+statement_plain ss s (Statement-F.Call n c) rest store time h = record { update = λ w h. cc }
+statement_plain ss s (Statement-F.Finish n) rest store time h = record { update = λ w h. cc }
+statement_plain ss s (Statement-F.Later n ticks t e) rest store time h = record {
+  update = λ w is. let p : (ticks.count, assignment t e store time) ≡ w = cc in ap (λ (x : ℕ × Write). names_some x.1) (sym p) ∙ assigned_some ss t e (target_value t e store time) store time h;
 }
-statement_plain ss s (Statement-F.Block all) rest store time h = record { call = refl; update = λ w h. cc }
-statement_plain ss s (Statement-F.Delay n ticks body) rest store time h = record { call = refl; update = λ w h. cc }
-statement_plain ss s (Statement-F.Event n terms body) rest store time h = record { call = refl; update = λ w h. cc }
-statement_plain ss s (Statement-F.If n e a b) rest store time h = record { call = refl; update = λ w h. cc }
-statement_plain ss s (Statement-F.Case n kind x items) rest store time h = record { call = refl; update = λ w h. cc }
-statement_plain ss s (Statement-F.While n e body) rest store time h = record { call = refl; update = λ w h. cc }
-statement_plain ss s (Statement-F.Repeat n signed e body) rest store time h = record { call = refl; update = λ w h. cc }
-statement_plain ss s (Statement-F.Forever n body) rest store time h = record { call = refl; update = λ w h. cc }
+statement_plain ss s (Statement-F.Block all) rest store time h = record { update = λ w h. cc }
+statement_plain ss s (Statement-F.Delay n ticks body) rest store time h = record { update = λ w h. cc }
+statement_plain ss s (Statement-F.Event n terms body) rest store time h = record { update = λ w h. cc }
+statement_plain ss s (Statement-F.If n e a b) rest store time h = record { update = λ w h. cc }
+statement_plain ss s (Statement-F.Case n kind x items) rest store time h = record { update = λ w h. cc }
+statement_plain ss s (Statement-F.While n e body) rest store time h = record { update = λ w h. cc }
+statement_plain ss s (Statement-F.Repeat n signed e body) rest store time h = record { update = λ w h. cc }
+statement_plain ss s (Statement-F.Forever n body) rest store time h = record { update = λ w h. cc }
 
 pub step_plain : (ss : List Signal) (todo : Todo) (store : Store) (time : ℕ) → is_sound_todo ss todo ≡ true → IsPlain (step todo store time)
-step_plain ss [] store time h = record { call = refl; update = λ w h. cc }
+step_plain ss [] store time h = record { update = λ w h. cc }
 step_plain ss (perform s ∷ rest) store time h = statement_plain ss s (out-Statement s) rest store time (opened ss s (and_parts (is_sound_statement ss s) (is_sound_todo ss rest) h).0)
-step_plain ss (turns n s ∷ rest) store time h = record { call = refl; update = λ w h. cc }
+step_plain ss (turns n s ∷ rest) store time h = record { update = λ w h. cc }

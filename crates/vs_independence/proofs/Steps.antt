@@ -1,19 +1,21 @@
 -- A step of a process keeps what the threads say of the store and the updates.
 use Rattle.std.proofs.Common.{Bool, append_assoc, leb, le-leb, arith, ◌≡◌, ℕ, ◌+◌, ◌⊎◌, true, false, ◌&&◌, ◌||◌, Option, Some, None, List, [], ◌∷◌, ◌++◌, cond, slice_get, refl, sym, ◌∙◌, ap, subst, inl, inr, append-nil}
 use Rattle.std.specs.List.{list_all}
-use Rattle.std.proofs.lemmas.Bool.{or_cases, cases_Bool, or_left, or_right, and_from}
+use Rattle.std.proofs.lemmas.Bool.{ne_eqb, or_cases, cases_Bool, or_left, or_right, and_from}
 use Rattle.std.proofs.lemmas.List.Elements.{filter-append}
 use Rattle.std.proofs.lemmas.List.Folds.{list_any-append, list_all-append}
 use Rattle.vs_design.specs.Parts.{Parts}
 use Rattle.vs_design.specs.Stores.{Store, put}
 use Rattle.vs_design.specs.Writes.{Write, names}
+use Rattle.vs_strobe.specs.Lines.{Format}
 use Rattle.vs_flatcode.specs.Places.{Place}
-use Rattle.vs_process.specs.States.{State, Update, updates_behind}
+use Rattle.vs_process.specs.States.{State, Update, Called, updates_behind, calls_behind}
 use Rattle.vs_process.proofs.Stores.{put_other, put_local}
 use Rattle.vs_independence.specs.Threads.{store_behind, Thread, IsThread, log_behind, writes, any_names}
+use Rattle.vs_independence.proofs.Calls.{of, of_own, of_other}
 use Rattle.vs_independence.proofs.Lists.{at, at_same, at_each, at_some}
 use Rattle.vs_independence.proofs.Stores.{names_some, by}
-use Rattle.vs_independence.proofs.Running.{Apart, Finishes, is_waiting, AllThreads, Sources, Mades, agrees, same_made}
+use Rattle.vs_independence.proofs.Running.{Apart, Asks, Finishes, is_waiting, AllThreads, Sources, Mades, agrees, same_made}
 
 -- what one of the functions has, where it is the changed one
 pub at_this : {A : Type 0} (P : A → Type 0) (f : ℕ → A) (i : ℕ) (x : A) → P x → (j : ℕ) × P (at f i x j)
@@ -23,21 +25,21 @@ at_this P f i x p = (i, subst P (sym (at_same f i x)) p)
 pub all_at : (b : State) (th : ℕ → Thread) (i : ℕ) (tn : Thread) → AllThreads b th → IsThread b i tn → AllThreads b (at th i tn)
 all_at b th i tn all is = at_each (IsThread b) th i tn is (λ k ne. all k)
 
--- a thread behind a step: where it is, its write and its updates
-abbrev pub stepped_thread : Thread → Place → Option Write → List Update → Bool → Thread
-stepped_thread th p o made fin = record { place = p; view = store_behind th.view o; log = log_behind th.log o; made = made; fin = fin }
+-- a thread behind a step: where it is, its write, its updates and its calls
+abbrev pub stepped_thread : Thread → Place → Option Write → List Update → List Called → Bool → Thread
+stepped_thread th p o made asked fin = record { place = p; view = store_behind th.view o; log = log_behind th.log o; made = made; asked = asked; fin = fin }
 
 -- the store behind a step of one process, against the threads behind it
-pub sources_step : (d : Parts) (b : State) → Apart d b → (store : Store) (th : ℕ → Thread) → AllThreads b th → Sources d b store th → (i : ℕ) (p : Place) (o : Option Write) (made : List Update) (fin : Bool) →
-    IsThread b i (stepped_thread (th i) p o made fin) → Sources d b (store_behind store o) (at th i (stepped_thread (th i) p o made fin))
-sources_step d b apart store th all so i p None made fin is = record {
-  own = at_each (λ k t. (v : ℕ) → writes t v ≡ true → slice_get store v ≡ slice_get t.view v) th i (stepped_thread (th i) p None made fin) (so.own i) (λ k ne. so.own k);
+pub sources_step : (d : Parts) (b : State) → Apart d b → (store : Store) (th : ℕ → Thread) → AllThreads b th → Sources d b store th → (i : ℕ) (p : Place) (o : Option Write) (made : List Update) (asked : List Called) (fin : Bool) →
+    IsThread b i (stepped_thread (th i) p o made asked fin) → Sources d b (store_behind store o) (at th i (stepped_thread (th i) p o made asked fin))
+sources_step d b apart store th all so i p None made asked fin is = record {
+  own = at_each (λ k t. (v : ℕ) → writes t v ≡ true → slice_get store v ≡ slice_get t.view v) th i (stepped_thread (th i) p None made asked fin) (so.own i) (λ k ne. so.own k);
   fresh = λ v undriven. elim (so.fresh v undriven) [
     | inl same ↦ inl same
-    | inr other ↦ inr (at_some (λ t. writes t v ≡ true) th i (stepped_thread (th i) p None made fin) (λ h. h) other)
+    | inr other ↦ inr (at_some (λ t. writes t v ≡ true) th i (stepped_thread (th i) p None made asked fin) (λ h. h) other)
   ];
 }
-sources_step d b apart store th all so i p (Some w) made fin is = record {
+sources_step d b apart store th all so i p (Some w) made asked fin is = record {
   own = at_each (λ k t. (v : ℕ) → writes t v ≡ true → slice_get (put store w) v ≡ slice_get t.view v) th i tn
       (λ v h. put_local store (th i).view w v (agrees d b store th all so i v (apart.variables i v tn is h) (λ k other. apart.keeps.only i k v tn (th k) is (all k) h other)))
       (λ k ne v h. put_other store w v (unnamed k ne v h) ∙ so.own k v h);
@@ -48,7 +50,7 @@ sources_step d b apart store th all so i p (Some w) made fin is = record {
 }
   where
     tn : Thread
-    tn = stepped_thread (th i) p (Some w) made fin
+    tn = stepped_thread (th i) p (Some w) made asked fin
 
     unnamed : (k : ℕ) → (k ≡ i → ⊥) → (v : ℕ) → writes (th k) v ≡ true → names w v ≡ false
     unnamed k ne v h =
@@ -76,19 +78,19 @@ by_other : (us : List Update) (u : Update) (v : ℕ) → names u.what v ≡ fals
 by_other us u v miss = by_more us u v ∙ ap (λ b. by v us ++ cond b (u ∷ []) []) miss ∙ append-nil (by v us)
 
 -- the updates behind a step of one process, against the threads behind it
-pub mades_step : (d : Parts) (b : State) → Apart d b → (updates : List Update) (th : ℕ → Thread) → AllThreads b th → Mades d b updates th → (i : ℕ) (p : Place) (o : Option Write) (u : Option (ℕ × Write)) (fin : Bool) →
+pub mades_step : (d : Parts) (b : State) → Apart d b → (updates : List Update) (th : ℕ → Thread) → AllThreads b th → Mades d b updates th → (i : ℕ) (p : Place) (o : Option Write) (u : Option (ℕ × Write)) (asked : List Called) (fin : Bool) →
     ((w : ℕ × Write) → u ≡ Some w → names_some w.1 ≡ true) →
-    IsThread b i (stepped_thread (th i) p o (updates_behind i b.time u (th i).made) fin) → Mades d b (updates_behind i b.time u updates) (at th i (stepped_thread (th i) p o (updates_behind i b.time u (th i).made) fin))
-mades_step d b apart updates th all ma i p o None fin some is = record {
-  made = at_each (λ k t. (v : ℕ) → any_names t.made v ≡ true → by v updates ≡ by v b.updates ++ by v t.made) th i (stepped_thread (th i) p o (th i).made fin) (ma.made i) (λ k ne. ma.made k);
+    IsThread b i (stepped_thread (th i) p o (updates_behind i b.time u (th i).made) asked fin) → Mades d b (updates_behind i b.time u updates) (at th i (stepped_thread (th i) p o (updates_behind i b.time u (th i).made) asked fin))
+mades_step d b apart updates th all ma i p o None asked fin some is = record {
+  made = at_each (λ k t. (v : ℕ) → any_names t.made v ≡ true → by v updates ≡ by v b.updates ++ by v t.made) th i (stepped_thread (th i) p o (th i).made asked fin) (ma.made i) (λ k ne. ma.made k);
   unmade = λ v. elim (ma.unmade v) [
     | inl nil ↦ inl nil
-    | inr other ↦ inr (at_some (λ t. any_names t.made v ≡ true) th i (stepped_thread (th i) p o (th i).made fin) (λ h. h) other)
+    | inr other ↦ inr (at_some (λ t. any_names t.made v ≡ true) th i (stepped_thread (th i) p o (th i).made asked fin) (λ h. h) other)
   ];
   waiting = ma.waiting;
   undriven = ma.undriven;
 }
-mades_step d b apart updates th all ma i p o (Some w) fin some is = record {
+mades_step d b apart updates th all ma i p o (Some w) asked fin some is = record {
   made = at_each (λ k t. (v : ℕ) → any_names t.made v ≡ true → by v (updates ++ u ∷ []) ≡ by v b.updates ++ by v t.made) th i tn
       (λ v h. by_more updates u v ∙ ap (λ l. l ++ by v (u ∷ [])) (same_made d b updates th ma i v (λ k other. apart.keeps.only_later i k v tn (th k) is (all k) h other))
       ∙ append_assoc (by v b.updates) (by v (th i).made) (by v (u ∷ [])) ∙ ap (λ l. by v b.updates ++ l) (sym (by_more (th i).made u v)))
@@ -109,7 +111,7 @@ mades_step d b apart updates th all ma i p o (Some w) fin some is = record {
     u = one_more i b.time w
 
     tn : Thread
-    tn = stepped_thread (th i) p o ((th i).made ++ u ∷ []) fin
+    tn = stepped_thread (th i) p o ((th i).made ++ u ∷ []) asked fin
 
     named : (v : ℕ) → names w.1 v ≡ true → any_names tn.made v ≡ true
     named v hit = any_more (th i).made u v ∙ or_right (any_names (th i).made v) (names w.1 v || false) (or_left (names w.1 v) false hit)
@@ -127,10 +129,17 @@ mades_step d b apart updates th all ma i p o (Some w) fin some is = record {
     unmade_at v miss (inr other) =
         inr (at_some (λ t. any_names t.made v ≡ true) th i tn (λ h. any_more (th i).made u v ∙ or_left (any_names (th i).made v) (names w.1 v || false) h) other)
 
+-- the calls behind a step of one process, against the threads behind it
+pub asks_step : (calls : List Called) (th : ℕ → Thread) → Asks calls th → (i : ℕ) (o : Option Format) (tn : Thread) → tn.asked ≡ calls_behind i o (th i).asked → Asks (calls_behind i o calls) (at th i tn)
+asks_step calls th asks i o tn is =
+    at_each (λ k t. of k (calls_behind i o calls) ≡ t.asked) th i tn
+    (of_own i o calls ∙ ap (calls_behind i o) (asks i) ∙ sym is)
+    (λ k ne. of_other i k o calls (ne_eqb i k (λ same. ne (sym same))) ∙ asks k)
+
 -- whether it is finishing behind a step of one process, against the threads behind it
-pub finishes_step : (b : State) (finishing : Bool) (th : ℕ → Thread) → Finishes b finishing th → (i : ℕ) (p : Place) (o : Option Write) (made : List Update) (fin : Bool) →
-    Finishes b (finishing || fin) (at th i (stepped_thread (th i) p o made ((th i).fin || fin)))
-finishes_step b finishing th f i p o made fin = record {
+pub finishes_step : (b : State) (finishing : Bool) (th : ℕ → Thread) → Finishes b finishing th → (i : ℕ) (p : Place) (o : Option Write) (made : List Update) (asked : List Called) (fin : Bool) →
+    Finishes b (finishing || fin) (at th i (stepped_thread (th i) p o made asked ((th i).fin || fin)))
+finishes_step b finishing th f i p o made asked fin = record {
   kept = λ h. or_left finishing fin (f.kept h);
   by_thread = at_each (λ k t. t.fin ≡ true → (finishing || fin) ≡ true) th i tn
       (λ h. elim (or_cases (th i).fin fin h) [
@@ -148,4 +157,4 @@ finishes_step b finishing th f i p o made fin = record {
 }
   where
     tn : Thread
-    tn = stepped_thread (th i) p o made ((th i).fin || fin)
+    tn = stepped_thread (th i) p o made asked ((th i).fin || fin)

@@ -60,7 +60,9 @@ flat_each R leaf block s = ind-Statement Each (λ x y is. subst (λ z. Each (rol
     layer : (y : Statement-F With) → Each (roll-Statement (map-Statement With Statement first y))
     layer (Statement-F.Null n) = of_leaf (Statement-F.Null n) refl
     layer (Statement-F.Assign n t e) = of_leaf (Statement-F.Assign n t e) refl
-    layer (Statement-F.Later n t e) = of_leaf (Statement-F.Later n t e) refl
+    layer (Statement-F.Later n ticks t e) = of_leaf (Statement-F.Later n ticks t e) refl
+    layer (Statement-F.Call n c) = of_leaf (Statement-F.Call n c) refl
+    layer (Statement-F.Finish n) = of_leaf (Statement-F.Finish n) refl
     layer (Statement-F.Block all) = rolled _ (λ i s is. let p = map_cases first all.items i s is in subst Each p.2 p.0.1)
     layer (Statement-F.Delay n ticks body) = of_leaf (map-Statement With Statement first (Statement-F.Delay n ticks body)) refl
     layer (Statement-F.Event n terms body) = of_leaf (map-Statement With Statement first (Statement-F.Event n terms body)) refl

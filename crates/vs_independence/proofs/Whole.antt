@@ -1,17 +1,16 @@
 -- Whole executions: slot by slot they are the same.
-use Rattle.std.proofs.Common.{◌≡◌, ℕ, zero, suc, ◌+◌, ◌-◌, ◌<◌, ◌≤◌, ◌⊎◌, true, false, ◌&&◌, cond, filter, Some, None, List, [], ◌∷◌, ◌++◌, map, get_or, leb, ltb, ltb-true, refl, sym, ◌∙◌, ap, ap₂, subst, inl, inr, arith, append-nil, if◌then◌else◌}
+use Rattle.std.proofs.Common.{Bool, ◌≡◌, ℕ, zero, suc, ◌+◌, ◌-◌, ◌<◌, ◌≤◌, ◌⊎◌, true, false, ◌&&◌, cond, filter, Some, None, List, [], ◌∷◌, ◌++◌, map, get_or, leb, ltb, ltb-true, refl, sym, ◌∙◌, ap, ap₂, subst, inl, inr, arith, append-nil, if◌then◌else◌}
 use Rattle.std.specs.List.{list_all}
 use Rattle.std.proofs.lemmas.Bool.{and_right, or_cases, cases_Bool, lt-leb, true≢false, false≢true, cases_lt}
 use Rattle.std.proofs.lemmas.List.Elements.{filter-append}
 use Rattle.vs_design.specs.Parts.{Parts}
-use Rattle.vs_design.specs.Stores.{Store}
-use Rattle.vs_design.specs.Traces.{Line, Slot, Trace, SameSlots, SameTrace}
+use Rattle.vs_design.specs.Traces.{Slot, Trace, SameSlot, SameSlots, SameTrace, times_in}
 use Rattle.vs_design.specs.WellFormed.{WellFormed}
 use Rattle.vs_process.specs.declared.moves.Grain.{Grain}
 use Rattle.vs_process.specs.declared.moves.Move.{Move}
 use Rattle.vs_process.specs.declared.moves.Move.TheVariants.{Step, Evaluate, Propagate, Make, Rouse, Activate, EndSlot}
 use Rattle.vs_flatcode.specs.Places.{ended}
-use Rattle.vs_process.specs.States.{State, AssignState, Called, start, start_assign}
+use Rattle.vs_process.specs.States.{State, AssignState, start, start_assign}
 use Rattle.vs_process.specs.Executions.{allowed, apply, after, Legal, slot_behind, strobe_line, ended_slot, slots, is_complete, is_by, finish_time, trace}
 use Rattle.vs_process.proofs.Times.{enabled_of}
 use Rattle.vs_process.proofs.Lists.{map_cases}
@@ -23,8 +22,9 @@ use Rattle.vs_independence.specs.Discipline.{Independent, HasNoEvents, here, IsA
 use Rattle.vs_independence.proofs.Threads.{thread_opens}
 use Rattle.vs_independence.proofs.Running.{WithinSlot, Apart, is_waiting, by_start}
 use Rattle.vs_independence.proofs.Moves.{Runs}
+use Rattle.vs_independence.proofs.Calls.{SameCalls, same_lines}
 use Rattle.vs_independence.proofs.Making.{Making}
-use Rattle.vs_independence.proofs.Ends.{InSlot, IsInner, inner_kept, Ends, slot_ends, all_future, Alike, ends_unique, behind_alike}
+use Rattle.vs_independence.proofs.Ends.{InSlot, IsInner, inner_kept, Ends, slot_ends, all_future, Alike, same_calls, ends_unique, behind_alike}
 use Rattle.vs_independence.proofs.Times.{is_later, all_from_get, later_thread, later_start, goes_on}
 use Rattle.vs_independence.proofs.Assigns.{DrivesWell}
 use Rattle.vs_independence.proofs.Events.{IsSilent, after_silent}
@@ -85,12 +85,13 @@ start_runs : (d : Parts) → Runs d (start d) (start d)
 start_runs d = (
   opening (start d),
   record {
-    slot = record { time = refl; over = refl; calls = refl; count = refl };
+    slot = record { time = refl; over = refl; count = refl };
     sound = sound_start d;
     threads = thread_opens (start d);
     places = λ i. refl;
     sources = record { own = λ i v h. absurd (false≢true h); fresh = λ v undriven. inl refl };
     mades = record { made = λ i v h. absurd (false≢true h); unmade = λ v. inl refl; waiting = refl; undriven = λ v h. absurd (false≢true h) };
+    asks = λ i. refl;
     finishes = record { kept = λ h. h; by_thread = λ i h. absurd (false≢true h); some = λ h. inl h };
     nets = λ j x is.
         let a = map_cases start_assign d.assigns j x is in
@@ -103,12 +104,13 @@ behind_runs : (d : Parts) (b s : State) → Ends d b s → list_all (is_waiting 
 behind_runs d b s e waiting = (
   opening (slot_behind s),
   record {
-    slot = record { time = refl; over = refl; calls = refl; count = refl };
+    slot = record { time = refl; over = refl; count = refl };
     sound = e.making.sound;
     threads = thread_opens (slot_behind s);
     places = λ i. refl;
     sources = record { own = λ i v h. absurd (false≢true h); fresh = λ v undriven. inl refl };
     mades = record { made = λ i v h. absurd (false≢true h); unmade = λ v. inl refl; waiting = waiting; undriven = e.making.undriven };
+    asks = λ i. refl;
     finishes = record { kept = λ h. h; by_thread = λ i h. absurd (false≢true h); some = λ h. inl h };
     nets = λ j x is. inl ((e.idle j x is).0, (e.idle j x is).1, λ v w k h. refl);
   },
@@ -228,29 +230,68 @@ last_ends grain d dis before l = slot_ends d (after d (cut before)) (after d bef
 alike_self : (a c : State) → a ≡ c → Alike a c
 alike_self a c e = subst (Alike a) e (record { store = refl; places = refl; assigns = refl; time = refl; finishing = refl; over = refl; updates = λ v. refl })
 
-abbrev slot_of : ℕ → Store → List Line → List Slot
-slot_of time store lines = record { time = time; store = store; lines = lines } ∷ []
+-- ---- slots that are the same, but for the order of their lines
 
--- the slots that two such states end
-same_ended : (s t : State) → Alike s t → s.calls ≡ [] → t.calls ≡ [] → ended_slot EndSlot s ≡ ended_slot EndSlot t
-same_ended s t al none nil =
-    ap (λ (l : List Called). slot_of s.time s.store (map (λ c. strobe_line c s.store s.time) l)) none
-    ∙ ap₂ (λ n a. slot_of n a []) al.time al.store
-    ∙ ap (λ (l : List Called). slot_of t.time t.store (map (λ c. strobe_line c t.store t.time) l)) (sym nil)
+same_slots_self : (ss : List Slot) → SameSlots ss ss
+same_slots_self [] = tt
+same_slots_self (s ∷ ss) = (record { time = refl; store = refl; lines = λ text. refl }, same_slots_self ss)
+
+same_slots_back : (ss ts : List Slot) → SameSlots ss ts → SameSlots ts ss
+same_slots_back [] [] h = tt
+same_slots_back (a ∷ ss) (b ∷ ts) h = (record { time = sym h.0.time; store = sym h.0.store; lines = λ text. sym (h.0.lines text) }, same_slots_back ss ts h.1)
+same_slots_back [] (b ∷ ts) h = absurd h
+same_slots_back (a ∷ ss) [] h = absurd h
+
+same_slots_then : (ss ts cs es : List Slot) → SameSlots ss ts → SameSlots cs es → SameSlots (ss ++ cs) (ts ++ es)
+same_slots_then [] [] cs es h k = k
+same_slots_then (a ∷ ss) (b ∷ ts) cs es h k = (h.0, same_slots_then ss ts cs es h.1 k)
+same_slots_then [] (b ∷ ts) cs es h k = absurd h
+same_slots_then (a ∷ ss) [] cs es h k = absurd h
+
+-- a slot in front of others, where it stands at a moment or before it
+abbrev kept_slot : Bool → Slot → List Slot → List Slot
+kept_slot t s ss = cond t (s ∷ ss) ss
+
+same_slots_kept : (t u : Bool) (a b : Slot) (ss ts : List Slot) → t ≡ u → SameSlot a b → SameSlots ss ts → SameSlots (kept_slot t a ss) (kept_slot u b ts)
+same_slots_kept true true a b ss ts e h k = (h, k)
+same_slots_kept false false a b ss ts e h k = k
+same_slots_kept true false a b ss ts e h k = cc
+same_slots_kept false true a b ss ts e h k = cc
+
+-- so are those to a moment
+same_slots_by : (until : ℕ) (ss ts : List Slot) → SameSlots ss ts → SameSlots (filter (is_by until) ss) (filter (is_by until) ts)
+same_slots_by until [] [] h = tt
+same_slots_by until (a ∷ ss) (b ∷ ts) h =
+    same_slots_kept (is_by until a) (is_by until b) a b (filter (is_by until) ss) (filter (is_by until) ts) (ap (λ n. leb n until) h.0.time) h.0 (same_slots_by until ss ts h.1)
+same_slots_by until [] (b ∷ ts) h = absurd h
+same_slots_by until (a ∷ ss) [] h = absurd h
+
+-- the slots that two such states end, where each process made the same calls
+same_ended : (s t : State) → Alike s t → SameCalls s.calls t.calls → SameSlots (ended_slot EndSlot s) (ended_slot EndSlot t)
+same_ended s t al calls = (
+  record {
+    time = al.time;
+    store = al.store;
+    lines = λ text.
+        same_lines s.store s.time text s.calls t.calls calls
+        ∙ ap₂ (λ a n. times_in text (map (λ c. strobe_line c a n) t.calls)) al.store al.time;
+  },
+  tt,
+)
 
 -- executions in which as many slots have ended: the last of them ended alike, and all gave the same
 same_so_far : (grain : Grain) (d : Parts) → Fits grain d → (n : ℕ) (xs ys : List Move) → Legal grain d xs → Legal grain d ys → count xs ≡ n → count ys ≡ n →
-    Alike (after d (cut xs)) (after d (cut ys)) × (slots d xs ≡ slots d ys)
+    Alike (after d (cut xs)) (after d (cut ys)) × SameSlots (slots d xs) (slots d ys)
 same_so_far grain d dis zero xs ys lx ly cx cy = start_cases (last_slot d xs) (last_slot d ys)
   where
-    start_cases : (NoSlot d xs ⊎ LastSlot d xs) → (NoSlot d ys ⊎ LastSlot d ys) → Alike (after d (cut xs)) (after d (cut ys)) × (slots d xs ≡ slots d ys)
+    start_cases : (NoSlot d xs ⊎ LastSlot d xs) → (NoSlot d ys ⊎ LastSlot d ys) → Alike (after d (cut xs)) (after d (cut ys)) × SameSlots (slots d xs) (slots d ys)
     start_cases (inr x) other = absurd (let e : suc (count x.before) ≡ 0 = sym x.counts ∙ cx in omega (arith, e))
     start_cases (inl x) (inr y) = absurd (let e : suc (count y.before) ≡ 0 = sym y.counts ∙ cy in omega (arith, e))
-    start_cases (inl x) (inl y) = (alike_self (after d (cut xs)) (after d (cut ys)) (ap (after d) (x.is ∙ sym y.is)), x.none ∙ sym y.none)
+    start_cases (inl x) (inl y) = (alike_self (after d (cut xs)) (after d (cut ys)) (ap (after d) (x.is ∙ sym y.is)), subst (λ l. SameSlots (slots d xs) l) (x.none ∙ sym y.none) (same_slots_self (slots d xs)))
 same_so_far grain d dis (suc n) xs ys lx ly cx cy = step_cases (same_so_far grain d dis n) (last_slot d xs) (last_slot d ys)
   where
-    step_cases : ((xs ys : List Move) → Legal grain d xs → Legal grain d ys → count xs ≡ n → count ys ≡ n → Alike (after d (cut xs)) (after d (cut ys)) × (slots d xs ≡ slots d ys)) →
-        (NoSlot d xs ⊎ LastSlot d xs) → (NoSlot d ys ⊎ LastSlot d ys) → Alike (after d (cut xs)) (after d (cut ys)) × (slots d xs ≡ slots d ys)
+    step_cases : ((xs ys : List Move) → Legal grain d xs → Legal grain d ys → count xs ≡ n → count ys ≡ n → Alike (after d (cut xs)) (after d (cut ys)) × SameSlots (slots d xs) (slots d ys)) →
+        (NoSlot d xs ⊎ LastSlot d xs) → (NoSlot d ys ⊎ LastSlot d ys) → Alike (after d (cut xs)) (after d (cut ys)) × SameSlots (slots d xs) (slots d ys)
     step_cases below (inl x) other = absurd (let e : 0 ≡ suc n = sym x.counts ∙ cx in omega (arith, e))
     step_cases below (inr x) (inl y) = absurd (let e : 0 ≡ suc n = sym y.counts ∙ cy in omega (arith, e))
     step_cases below (inr x) (inr y) =
@@ -264,7 +305,10 @@ same_so_far grain d dis (suc n) xs ys lx ly cx cy = step_cases (same_so_far grai
         let al = ends_unique d dis.drives (after d (cut x.before)) (after d (cut y.before)) (after d x.before) (after d y.before) r.0 ex ey in
         let next = behind_alike d (after d (cut x.before)) (after d (cut y.before)) (after d x.before) (after d y.before) ex ey al in (
           subst (λ l. Alike (after d l) (after d (cut ys))) (sym x.is) (subst (λ l. Alike (after d (EndSlot ∷ x.before)) (after d l)) (sym y.is) next),
-          x.more ∙ ap₂ (λ l e. l ++ e) r.1 (same_ended (after d x.before) (after d y.before) al ex.making.slot.calls ey.making.slot.calls) ∙ sym y.more,
+          subst (λ l. SameSlots l (slots d ys)) (sym x.more) (subst (λ l. SameSlots (slots d x.before ++ ended_slot EndSlot (after d x.before)) l) (sym y.more)
+              (same_slots_then (slots d x.before) (slots d y.before) (ended_slot EndSlot (after d x.before)) (ended_slot EndSlot (after d y.before)) r.1
+              (same_ended (after d x.before) (after d y.before) al
+              (same_calls d (after d (cut x.before)) (after d (cut y.before)) (after d x.before) (after d y.before) r.0 ex.making ey.making)))),
         )
 
 -- a slot past the moment is left out
@@ -319,7 +363,7 @@ complete_alike until s t al (inr lt) = inr (subst (λ n. until < n) al.time lt)
 pub record SameTo (d : Parts) (until : ℕ) (xs ys : List Move) : Type 0 where
   pub complete : IsComplete until (after d ys)
   pub finish : finish_time until (after d ys) ≡ finish_time until (after d xs)
-  pub slots : filter (is_by until) (slots d ys) ≡ filter (is_by until) (slots d xs)
+  pub slots : SameSlots (filter (is_by until) (slots d ys)) (filter (is_by until) (slots d xs))
 
 -- an execution in which more slots have ended than in one that is complete to a moment: it is complete too, and the further slots are past it
 further : (grain : Grain) (d : Parts) → Fits grain d → (until : ℕ) (xs : List Move) → Legal grain d xs → IsComplete until (after d xs) → (k : ℕ) (ys : List Move) → Legal grain d ys → count ys ≡ count xs + k →
@@ -332,7 +376,7 @@ further grain d dis until xs lx complete zero ys ly c =
     record {
       complete = complete_on until (after d (cut ys)) (after d ys) at_y (complete_alike until (after d (cut xs)) (after d (cut ys)) r.0 (complete_back until (after d (cut xs)) (after d xs) at_x complete));
       finish = finish_cut grain d dis until ys ly ∙ sym (finish_alike until (after d (cut xs)) (after d (cut ys)) r.0) ∙ sym (finish_cut grain d dis until xs lx);
-      slots = ap (filter (is_by until)) (sym r.1);
+      slots = same_slots_by until (slots d ys) (slots d xs) (same_slots_back (slots d xs) (slots d ys) r.1);
     }
 further grain d dis until xs lx complete (suc k) ys ly c = step_cases (further grain d dis until xs lx complete k) (last_slot d ys)
   where
@@ -350,8 +394,10 @@ further grain d dis until xs lx complete (suc k) ys ly c = step_cases (further g
         record {
           complete = inr past;
           finish = finish_past until (after d ys) past ∙ sym (finish_past until s lt) ∙ same.finish;
-          slots = ap (filter (is_by until)) y.more ∙ filter-append (is_by until) (slots d y.before) (ended_slot EndSlot s) ∙ ap₂ (λ a b. a ++ b) same.slots (past_left_out until s lt)
-              ∙ append-nil (filter (is_by until) (slots d xs));
+          slots = subst (λ l. SameSlots l (filter (is_by until) (slots d xs)))
+              (sym (ap (filter (is_by until)) y.more ∙ filter-append (is_by until) (slots d y.before) (ended_slot EndSlot s)
+              ∙ ap (λ l. filter (is_by until) (slots d y.before) ++ l) (past_left_out until s lt) ∙ append-nil (filter (is_by until) (slots d y.before))))
+              same.slots;
         }
 
     step_cases : ((ys : List Move) → Legal grain d ys → count ys ≡ count xs + k → SameTo d until xs ys) → (NoSlot d ys ⊎ LastSlot d ys) → SameTo d until xs ys
@@ -362,25 +408,20 @@ further grain d dis until xs lx complete (suc k) ys ly c = step_cases (further g
         let r = below y.before ky.0 ny in
         at_past y ky r.complete r
 
-same_trace : (d : Parts) (until : ℕ) (xs ys : List Move) → SameTo d until xs ys → trace d xs until ≡ trace d ys until
-same_trace d until xs ys same = ap₂ (λ a b. record { slots = a; finish = b }) (sym same.slots) (sym same.finish)
+same_trace : (d : Parts) (until : ℕ) (xs ys : List Move) → SameTo d until xs ys → SameTrace (trace d ys until) (trace d xs until)
+same_trace d until xs ys same = record { slots = same.slots; finish = same.finish }
 
-same_slots_self : (ss : List Slot) → SameSlots ss ss
-same_slots_self [] = tt
-same_slots_self (s ∷ ss) = (record { time = refl; store = refl; lines = λ text. refl }, same_slots_self ss)
+same_trace_back : (a c : Trace) → SameTrace a c → SameTrace c a
+same_trace_back a c h = record { slots = same_slots_back a.slots c.slots h.slots; finish = sym h.finish }
 
-same_trace_self : (a c : Trace) → a ≡ c → SameTrace a c
-same_trace_self a c e = subst (SameTrace a) e (record { slots = same_slots_self a.slots; finish = refl })
-
-equal : (grain : Grain) (d : Parts) → Fits grain d → (until : ℕ) (xs ys : List Move) → Legal grain d xs → Legal grain d ys → IsComplete until (after d xs) → IsComplete until (after d ys) → trace d xs until ≡ trace d ys until
-equal grain d dis until xs ys lx ly cx cy =
+same_traces : (grain : Grain) (d : Parts) → Fits grain d → (until : ℕ) (xs ys : List Move) → Legal grain d xs → Legal grain d ys → IsComplete until (after d xs) → IsComplete until (after d ys) → SameTrace (trace d xs until) (trace d ys until)
+same_traces grain d dis until xs ys lx ly cx cy =
     elim (cases_lt (count xs) (count ys)) [
-      | inl lt ↦ same_trace d until xs ys (further grain d dis until xs lx cx (count ys - count xs) ys ly (omega (arith, lt)))
-      | inr le ↦ sym (same_trace d until ys xs (further grain d dis until ys ly cy (count xs - count ys) xs lx (omega (arith, le))))
+      | inl lt ↦ same_trace_back (trace d ys until) (trace d xs until) (same_trace d until xs ys (further grain d dis until xs lx cx (count ys - count xs) ys ly (omega (arith, lt))))
+      | inr le ↦ same_trace d until ys xs (further grain d dis until ys ly cy (count xs - count ys) xs lx (omega (arith, le)))
     ]
 
 -- the theorem
 pub independent : (grain : Grain) (d : Parts) → WellFormed d → HasNoEvents d → Disciplined grain d → Independent grain d
 independent grain d formed none dis until xs ys lx ly cx cy =
-    same_trace_self (trace d xs until) (trace d ys until)
-    (equal grain d (record { formed = formed; drives = drives_well d formed dis.ordered; apart = dis.apart; no_events = none }) until xs ys lx ly (complete_from until (after d xs) cx) (complete_from until (after d ys) cy))
+    same_traces grain d (record { formed = formed; drives = drives_well d formed dis.ordered; apart = dis.apart; no_events = none }) until xs ys lx ly (complete_from until (after d xs) cx) (complete_from until (after d ys) cy)

@@ -14,15 +14,16 @@ use Rattle.vs_design.specs.Uses.{joined, reads}
 use Rattle.vs_design.specs.Writes.{Write, names}
 use Rattle.vs_flatcode.specs.Places.{perform, turns, Todo, Place, going, sleeping, inactive, waiting, ended}
 use Rattle.vs_flatcode.specs.Steps.{Out, step}
-use Rattle.vs_process.specs.States.{State, Update, place_behind, updates_behind, roused}
+use Rattle.vs_process.specs.States.{State, Update, Called, place_behind, updates_behind, calls_behind, roused}
 
--- a process on a store of its own: where it is, its store, what it has written by blocking assignments, the updates that it has made, and
--- whether it has called `$finish`
+-- a process on a store of its own: where it is, its store, what it has written by blocking assignments, the updates and the calls of `$strobe`
+-- that it has made, and whether it has called `$finish`
 pub record Thread : Type 0 where
   pub place : Place
   pub view : Store
   pub log : List Write
   pub made : List Update
+  pub asked : List Called
   pub fin : Bool
 
 -- a store behind a step that may write
@@ -41,6 +42,7 @@ moved time i place out th = record {
   view = store_behind th.view out.write;
   log = log_behind th.log out.write;
   made = updates_behind i time out.update th.made;
+  asked = calls_behind i out.call th.asked;
   fin = th.fin || out.finish;
 }
 
@@ -61,7 +63,7 @@ iterate (suc n) f x = f (iterate n f x)
 
 -- a process as the slot that begins with the state `b` finds it
 abbrev pub opening : State → ℕ → Thread
-opening b i = record { place = get_or b.places i ended; view = b.store; log = []; made = []; fin = false }
+opening b i = record { place = get_or b.places i ended; view = b.store; log = []; made = []; asked = []; fin = false }
 
 -- it is the process i, alone in the slot that begins with the state `b`, after some turns
 pub record IsThread (b : State) (i : ℕ) (th : Thread) : Type 0 where
@@ -80,11 +82,14 @@ any_names us v = list_any (λ (u : Update). names u.what v) us
 abbrev pub item_reads : Vec Typed Global × Statement → List BitRange
 item_reads i = all_reads i.0.items
 
--- the ranges that the step of a statement reads: an assignment, a condition, a count, or a `case` expression and those of its items
+-- the ranges that the step of a statement reads: an assignment, a condition, a count, or a `case` expression and those of its items. What a call
+-- prints is left out: a trace has no line of a `$display`, and that of a `$strobe` is made of the store at the end of the slot
 abbrev pub own_reads : Statement-F Statement → List BitRange
 own_reads (Statement-F.Null n) = []
 own_reads (Statement-F.Assign n t e) = assignment_reads t e
-own_reads (Statement-F.Later n t e) = assignment_reads t e
+own_reads (Statement-F.Later n ticks t e) = assignment_reads t e
+own_reads (Statement-F.Call n c) = []
+own_reads (Statement-F.Finish n) = []
 own_reads (Statement-F.Block all) = []
 own_reads (Statement-F.Delay n ticks body) = []
 own_reads (Statement-F.Event n terms body) = []

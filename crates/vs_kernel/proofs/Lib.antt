@@ -1,2 +1,3 @@
 mod MarkingLemmas
+pub mod PrintsLemmas
 pub mod RunsLemmas

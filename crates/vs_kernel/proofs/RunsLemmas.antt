@@ -1,6 +1,8 @@
 -- A run that goes on, and where it ends.
-use Rattle.std.proofs.Common.{◌≡◌, ℕ, ◌+◌, ◌<◌, ◌≤◌, ◌&&◌, not, cond, Bool, true, false, Option, Some, None, List, [], ◌∷◌, ◌++◌, Result, Ok, Err, take, slice_get, zero, zero-add, map, length, refl, sym, ◌∙◌, ap, subst, arith, leb, append_assoc, suc}
+use Rattle.std.proofs.Common.{◌≡◌, ℕ, ◌+◌, ◌<◌, ◌≤◌, ◌&&◌, not, cond, Bool, true, false, Option, Some, None, List, [], ◌∷◌, ◌++◌, Result, Ok, Err, take, slice_get, zero, zero-add, map, length, refl, sym, ◌∙◌, ap, subst, arith, leb, append_assoc, suc, inl, inr}
 use Rattle.std.specs.Prelude.{filter, unwrap_or, OnErr, ◌||◌, nat_lt, if◌then◌else◌}
+use Rattle.std.specs.declared.alloc.Global.{Global}
+use Rattle.std.specs.declared.vec.Vec.{Vec}
 use Rattle.std.specs.Io.KnownBytes.{Appends}
 use Rattle.std.proofs.lemmas.Bool.{le-leb, le-ltb, lt-ltb, ltb-false}
 use Rattle.std.proofs.lemmas.List.{append-nil}
@@ -14,24 +16,30 @@ use Rattle.vs_design.specs.Writes.{Write}
 use Rattle.vs_process.specs.declared.moves.Grain.TheVariants.{Statement, Block}
 use Rattle.vs_process.specs.declared.moves.Move.{Move}
 use Rattle.vs_process.specs.declared.moves.Move.TheVariants.{Step, Evaluate, Propagate, Make, Rouse, Activate, EndSlot}
-use Rattle.vs_process.specs.Executions.{after, Legal, slots, trace, is_by, is_combinational, is_enabled, is_free, allowed, apply, ended_slot, finish_time, strobe_line, is_complete, next_time, time_at}
+use Rattle.vs_process.specs.Executions.{after, Legal, slots, trace, is_by, is_combinational, is_enabled, is_free, allowed, apply, ended_slot, finish_time, lines_of, move_lines, strobe_line, is_complete, next_time, time_at}
 use Rattle.vs_flatcode.specs.Places.{Place}
 use Rattle.vs_process.specs.Blocks.{BlocksExclude, InsideFollows, inside_behind, inside_block, is_inside_at, is_inside_number, is_step_of_any}
 use Rattle.vs_kernel.specs.Insides.{inside_told, is_told}
 use Rattle.vs_process.specs.States.{State, AssignState, Update, start, stepped, evaluate, propagate, propagate_value, make, written_behind}
 use Rattle.vs_flatcode.specs.Places.{todo_of}
 use Rattle.vs_flatcode.specs.Steps.{step}
-use Rattle.vs_vcd.specs.Progress.{Progress, HasWritten, IsSlotAt, WritesPiece, vcd_slot}
-use Rattle.vs_vcd.specs.Sinks.{AppendsPart}
+use Rattle.vs_vcd.specs.Progress.{Progress, HasWritten, is_write_fault, IsSlotAt, WritesPiece, vcd_slot}
+use Rattle.vs_vcd.specs.Sinks.{AppendsPart, failed_after}
 use Rattle.vs_vcd.specs.declared.fault.VcdFault.{VcdFault}
 use Rattle.vs_vcd.specs.declared.fault.VcdFault.TheVariants as fault
 use Rattle.vs_vcd.specs.Text.{vcd_header, vcd_slots, vcd_end, vcd_text}
+use Rattle.vs_state.specs.Prints.{made_line}
 use Rattle.vs_kernel.specs.Turns.{TurnedPart}
-use Rattle.vs_kernel.specs.Runs.{RanTo, HasBegun, StopsAt, text_so_far, AppendsSlots, AppendsSlotsPart}
-use Rattle.vs_kernel.specs.declared.outcome.Outcome.TheVariants.{Reached, Quiet, StepLimit}
+use Rattle.vs_kernel.specs.Ends.{end_in, outcome_in}
+use Rattle.vs_kernel.specs.Faults.{OneFailed}
+use Rattle.vs_kernel.specs.Prints.{given_text, lines_text, slot_lines}
+use Rattle.vs_kernel.proofs.PrintsLemmas.{IsLine, lines_behind, made_text, move_prints, printed}
+use Rattle.vs_kernel.specs.Runs.{RanTo, HasBegun, EndsAs, StopsAt, text_so_far, AppendsSlots, AppendsSlotsPart}
+use Rattle.vs_kernel.specs.declared.outcome.Outcome.{Outcome}
+use Rattle.vs_kernel.specs.declared.outcome.Outcome.TheVariants.{Reached, Quiet, Finished, StepLimit}
 
--- a run of so many steps that isn't at its end: the execution so far, whose slots a writer has written and a sink has
-pub record HasRun (d : Parts) (until steps taken : ℕ) (now : State) (writer : Progress) (old new : Option (List ℕ)) : Type 0 where
+-- a run of so many steps that isn't at its end: the execution so far, whose slots a writer has written and a sink has, and whose lines another one has
+pub record HasRun (d : Parts) (until steps taken : ℕ) (now : State) (writer : Progress) (old new lold lnew : Option (List ℕ)) : Type 0 where
   pub moves : List Move
   pub statement : Legal Statement d moves
   pub block : Legal Block d moves
@@ -41,6 +49,7 @@ pub record HasRun (d : Parts) (until steps taken : ℕ) (now : State) (writer : 
   pub state : after d moves ≡ now
   pub written : HasWritten writer d (slots d moves)
   pub text : Appends old new (vcd_header d ++ vcd_slots d (slots d moves))
+  pub lines : Appends lold lnew (lines_text (lines_of d moves))
 
 three : (over enabled free : Bool) → over ≡ false → enabled ≡ true → free ≡ true → (not over && enabled && free) ≡ true
 three false true true p q r = refl
@@ -51,10 +60,10 @@ pub permitted : (d : Parts) (s : State) (m : Move) → s.over ≡ false → is_e
 permitted d s m over enabled = three s.over (is_enabled s m) true over enabled refl
 
 -- at grain block it is allowed where no combinational block has left its control, or where it is a step of the one that has
-pub permitted_block : {d : Parts} {until steps taken : ℕ} {now : State} {writer : Progress} {old new : Option (List ℕ)} →
-    (r : HasRun d until steps taken now writer old new) → BlocksExclude → (inside : Option ℕ) (m : Move) → inside ≡ inside_block d.processes now.places →
+pub permitted_block : {d : Parts} {until steps taken : ℕ} {now : State} {writer : Progress} {old new lold lnew : Option (List ℕ)} →
+    (r : HasRun d until steps taken now writer old new lold lnew) → BlocksExclude → (inside : Option ℕ) (m : Move) → inside ≡ inside_block d.processes now.places →
     now.over ≡ false → is_enabled now m ≡ true → is_step_of_any inside m ≡ true → allowed Block d now m ≡ true
-permitted_block {d} {until} {steps} {taken} {now} {writer} {old} {new} r exclude inside m here over enabled free =
+permitted_block {d} {until} {steps} {taken} {now} {writer} {old} {new} {lold} {lnew} r exclude inside m here over enabled free =
     let same : is_free Block d now m ≡ is_step_of_any (inside_block d.processes now.places) m =
     subst (λ (t : State). is_free Block d t m ≡ is_step_of_any (inside_block d.processes t.places) m) r.state ((exclude d r.moves r.block).1 m)
     in
@@ -92,7 +101,7 @@ pub append_none : (old : Option (List ℕ)) → Appends old old []
 append_none None = tt
 append_none (Some xs) = sym (append-nil xs)
 
-append_more : (old mid new : Option (List ℕ)) (xs ys : List ℕ) → Appends old mid xs → Appends mid new ys → Appends old new (xs ++ ys)
+pub append_more : (old mid new : Option (List ℕ)) (xs ys : List ℕ) → Appends old mid xs → Appends mid new ys → Appends old new (xs ++ ys)
 append_more None mid new xs ys h k = tt
 append_more (Some a) None new xs ys h k = absurd h
 append_more (Some a) (Some b) None xs ys h k = absurd k
@@ -107,6 +116,16 @@ not_ended (Propagate j) s h = refl
 not_ended (Make i) s h = refl
 not_ended Rouse s h = refl
 not_ended Activate s h = refl
+
+-- and only that prints the lines of one
+pub none_ended : (m : Move) (s : State) → (m ≡ EndSlot → ⊥) → slot_lines m s ≡ []
+none_ended EndSlot s h = absurd (h refl)
+none_ended (Step i) s h = refl
+none_ended (Evaluate j) s h = refl
+none_ended (Propagate j) s h = refl
+none_ended (Make i) s h = refl
+none_ended Rouse s h = refl
+none_ended Activate s h = refl
 
 -- the slot that a state ends
 abbrev pub ended_here : State → Slot
@@ -148,9 +167,9 @@ all_kept until d (m ∷ before) h =
     kept_more (is_by until) (slots d before) (ended_slot m (after d before)) (all_kept until d before h.0) (ended_kept until m (after d before) (by_then until (after d before) h.1))
 
 -- before the first move
-pub begins : {d : Parts} {until steps : ℕ} {now : State} {writer : Progress} {old new : Option (List ℕ)} → now ≡ start d → HasWritten writer d [] → Appends old new (vcd_header d) →
-    HasRun d until steps 0 now writer old new
-begins {d} {until} {steps} {now} {writer} {old} {new} here written text = record {
+pub begins : {d : Parts} {until steps : ℕ} {now : State} {writer : Progress} {old new lines : Option (List ℕ)} → now ≡ start d → HasWritten writer d [] → Appends old new (vcd_header d) →
+    HasRun d until steps 0 now writer old new lines lines
+begins {d} {until} {steps} {now} {writer} {old} {new} {lines} here written text = record {
   moves = [];
   statement = tt;
   block = tt;
@@ -160,6 +179,7 @@ begins {d} {until} {steps} {now} {writer} {old} {new} here written text = record
   state = sym here;
   written = written;
   text = subst (Appends old new) (sym (append-nil (vcd_header d))) text;
+  lines = append_none lines;
 }
 
 -- the text of one more slot
@@ -169,12 +189,13 @@ more_text d before more more' piece same is =
     append_assoc (vcd_header d) (vcd_slots d before) piece ∙ ap (λ (l : List ℕ). vcd_header d ++ l) (sym is) ∙ ap (λ (l : List Slot). vcd_header d ++ vcd_slots d (before ++ l)) same
 
 -- behind one more move
-pub goes_on : {d : Parts} {until steps taken : ℕ} {now now' : State} {writer writer' : Progress} {old new new' : Option (List ℕ)} →
-    (r : HasRun d until steps taken now writer old new) (m : Move) → allowed Statement d now m ≡ true → allowed Block d now m ≡ true → is_complete until now ≡ false → (taken ≡ steps → ⊥) → now' ≡ apply m now →
+pub goes_on : {d : Parts} {until steps taken : ℕ} {now now' : State} {writer writer' : Progress} {old new new' lold lnew lnew' : Option (List ℕ)} →
+    (r : HasRun d until steps taken now writer old new lold lnew) (m : Move) → allowed Statement d now m ≡ true → allowed Block d now m ≡ true → is_complete until now ≡ false → (taken ≡ steps → ⊥) → now' ≡ apply m now →
     ((before : List Slot) → HasWritten writer d before → HasWritten writer' d (before ++ ended_slot m now)) →
     ((before : List Slot) → HasWritten writer d before → AppendsSlots new new' d before (ended_slot m now)) →
-    HasRun d until steps (taken + 1) now' writer' old new'
-goes_on {d} {until} {steps} {taken} {now} {now'} {writer} {writer'} {old} {new} {new'} r m statement block going more next written appended =
+    Appends lnew lnew' (lines_text (move_lines m now)) →
+    HasRun d until steps (taken + 1) now' writer' old new' lold lnew'
+goes_on {d} {until} {steps} {taken} {now} {now'} {writer} {writer'} {old} {new} {new'} {lold} {lnew} {lnew'} r m statement block going more next written appended printed =
     let s = after d r.moves in
     let slot : ended_slot m now ≡ ended_slot m s = ap (ended_slot m) (sym r.state) in
     let piece = appended (slots d r.moves) r.written in
@@ -190,22 +211,27 @@ goes_on {d} {until} {steps} {taken} {now} {now'} {writer} {writer'} {old} {new} 
       text =
           subst (Appends old new') (more_text d (slots d r.moves) (ended_slot m now) (ended_slot m s) piece.0 slot piece.1)
           (append_more old new new' (vcd_header d ++ vcd_slots d (slots d r.moves)) piece.0 r.text piece.2);
+      lines =
+          subst (Appends lold lnew') (lines_behind d r.moves m now r.state)
+          (append_more lold lnew lnew' (lines_text (lines_of d r.moves)) (lines_text (move_lines m now)) r.lines printed);
     }
 
-unfinished : (over finishing early : Bool) → finishing ≡ false → (over && finishing && early) ≡ false
-unfinished true false early h = refl
-unfinished false false early h = refl
-unfinished _ _ early h = cc
+-- the text of the trace, where each slot that ended is one of it
+whole_text : (d : Parts) (moves : List Move) (until : ℕ) → filter (is_by until) (slots d moves) ≡ slots d moves →
+    (vcd_header d ++ vcd_slots d (slots d moves)) ++ vcd_end d (slots d moves) (unwrap_or (finish_time until (after d moves)) until) ≡ vcd_text d (trace d moves until) until
+whole_text d moves until kept =
+    sym (ap (λ (l : List Slot). (vcd_header d ++ vcd_slots d l) ++ vcd_end d l (unwrap_or (finish_time until (after d moves)) until)) kept)
 
-no_finish : (until : ℕ) (s : State) → s.finishing ≡ false → finish_time until s ≡ None
-no_finish until s h = ap (λ (b : Bool). cond b (Some s.time) None) (unfinished s.over s.finishing (leb s.time until) h)
+finish_by : (over finishing early : Bool) (time until : ℕ) → (over ≡ true → early ≡ true) →
+    (if over && finishing then time else until) ≡ unwrap_or (if over && finishing && early then Some time else None) until
+finish_by true true true time until h = refl
+finish_by true true false time until h = let e = h refl in cc
+finish_by true false early time until h = refl
+finish_by false finishing early time until h = refl
 
--- the text of the trace, where each slot that ended is one of it and `$finish` took no effect
-whole_text : (d : Parts) (moves : List Move) (until : ℕ) → filter (is_by until) (slots d moves) ≡ slots d moves → finish_time until (after d moves) ≡ None →
-    (vcd_header d ++ vcd_slots d (slots d moves)) ++ vcd_end d (slots d moves) until ≡ vcd_text d (trace d moves until) until
-whole_text d moves until kept finish =
-    sym (ap (λ (l : List Slot). (vcd_header d ++ vcd_slots d l) ++ vcd_end d l (unwrap_or (finish_time until (after d moves)) until)) kept
-    ∙ ap (λ (o : Option ℕ). (vcd_header d ++ vcd_slots d (slots d moves)) ++ vcd_end d (slots d moves) (unwrap_or o until)) finish)
+-- the moment at which a dump ends is that of its trace
+end_here : (until : ℕ) (s : State) → (s.over ≡ true → s.time ≤ until) → end_in until s ≡ unwrap_or (finish_time until s) until
+end_here until s h = finish_by s.over s.finishing (leb s.time until) s.time until (λ over. le-leb s.time until (h over))
 
 -- the text so far of an execution that isn't complete, and of one that is
 so_far : (d : Parts) (moves : List Move) (until : ℕ) (b : Bool) → is_complete until (after d moves) ≡ b →
@@ -213,9 +239,10 @@ so_far : (d : Parts) (moves : List Move) (until : ℕ) (b : Bool) → is_complet
 so_far d moves until b h = ap (λ (c : Bool). if c then vcd_text d (trace d moves until) until else vcd_header d ++ vcd_slots d (slots d moves)) h
 
 -- at the step limit
-pub limited : {d : Parts} {until steps taken : ℕ} {now : State} {writer : Progress} {old new : Option (List ℕ)} (time : ℕ) →
-    (r : HasRun d until steps taken now writer old new) → is_complete until now ≡ false → time ≡ now.time → taken ≡ steps → RanTo d until steps (StepLimit time) old new
-limited {d} {until} {steps} {taken} {now} {writer} {old} {new} time r going here all =
+pub limited : {d : Parts} {until steps taken : ℕ} {now : State} {writer : Progress} {old new lold lnew : Option (List ℕ)} (time : ℕ) →
+    (r : HasRun d until steps taken now writer old new lold lnew) → is_complete until now ≡ false → time ≡ now.time → taken ≡ steps →
+    RanTo d until steps (StepLimit time) old new lold lnew
+limited {d} {until} {steps} {taken} {now} {writer} {old} {new} {lold} {lnew} time r going here all =
     let open_end : is_complete until (after d r.moves) ≡ false = ap (is_complete until) r.state ∙ going in
     record {
       moves = r.moves;
@@ -224,17 +251,8 @@ limited {d} {until} {steps} {taken} {now} {writer} {old} {new} time r going here
       stops = r.stops;
       end = (open_end, ap (λ (t : State). t.time) r.state ∙ sym here, r.count ∙ all);
       text = subst (Appends old new) (sym (so_far d r.moves until false open_end)) r.text;
+      lines = r.lines;
     }
-
--- the whole text
-all_text : {d : Parts} {until steps taken : ℕ} {now : State} {writer : Progress} (old new new' : Option (List ℕ)) →
-    (r : HasRun d until steps taken now writer old new) → is_complete until now ≡ true → now.finishing ≡ false →
-    ((before : List Slot) → HasWritten writer d before → Appends new new' (vcd_end d before until)) → Appends old new' (text_so_far d r.moves until)
-all_text {d} {until} {steps} {taken} {now} {writer} old new new' r complete going ends =
-    subst (Appends old new')
-    (whole_text d r.moves until (all_kept until d r.moves r.stops) (no_finish until (after d r.moves) (ap (λ (t : State). t.finishing) r.state ∙ going))
-    ∙ sym (so_far d r.moves until true (ap (is_complete until) r.state ∙ complete)))
-    (append_more old new new' (vcd_header d ++ vcd_slots d (slots d r.moves)) (vcd_end d (slots d r.moves) until) r.text (ends (slots d r.moves) r.written))
 
 pub complete_past : (until : ℕ) (s : State) → s.over ≡ false → until < s.time → is_complete until s ≡ true
 complete_past until s over late = ap (λ b. b || nat_lt until s.time) over ∙ lt-ltb until s.time late
@@ -290,32 +308,47 @@ over_by until d [] stops over = cc
 over_by until d (m ∷ before) stops over =
     over_behind until m (after d before) (or_false_left (after d before).over (nat_lt until (after d before).time) stops.1) (by_then until (after d before) stops.1) over
 
--- past the moment
-pub reached : {d : Parts} {until steps taken : ℕ} {now : State} {writer : Progress} {old new new' : Option (List ℕ)} →
-    (r : HasRun d until steps taken now writer old new) → now.over ≡ false → until < now.time → now.finishing ≡ false →
-    ((before : List Slot) → HasWritten writer d before → Appends new new' (vcd_end d before until)) → RanTo d until steps Reached old new'
-reached {d} {until} {steps} {taken} {now} {writer} {old} {new} {new'} r over late going ends = record {
-  moves = r.moves;
-  statement = r.statement;
-  block = r.block;
-  stops = r.stops;
-  end = (ap (λ (t : State). t.over) r.state ∙ over, ap (is_complete until) r.state ∙ complete_past until now over late, omega (arith, r.count, r.within));
-  text = all_text old new new' r (complete_past until now over late) going ends;
-}
+-- the moment at which the dump of a run ends
+run_end : {d : Parts} {until steps taken : ℕ} {now : State} {writer : Progress} {old new lold lnew : Option (List ℕ)} →
+    (r : HasRun d until steps taken now writer old new lold lnew) → end_in until now ≡ unwrap_or (finish_time until (after d r.moves)) until
+run_end {d} {until} {steps} {taken} {now} {writer} {old} {new} {lold} {lnew} r =
+    ap (end_in until) (sym r.state) ∙ end_here until (after d r.moves) (over_by until d r.moves r.stops)
 
--- over
-pub quiet : {d : Parts} {until steps taken : ℕ} {now : State} {writer : Progress} {old new new' : Option (List ℕ)} →
-    (r : HasRun d until steps taken now writer old new) → now.over ≡ true → now.finishing ≡ false →
-    ((before : List Slot) → HasWritten writer d before → Appends new new' (vcd_end d before until)) → RanTo d until steps Quiet old new'
-quiet {d} {until} {steps} {taken} {now} {writer} {old} {new} {new'} r over going ends =
-    let done : (after d r.moves).over ≡ true = ap (λ (t : State). t.over) r.state ∙ over in
+-- the whole text of a run is that of its trace
+run_text : {d : Parts} {until steps taken : ℕ} {now : State} {writer : Progress} {old new lold lnew : Option (List ℕ)} (end : ℕ) →
+    (r : HasRun d until steps taken now writer old new lold lnew) → is_complete until now ≡ true → end ≡ end_in until now →
+    (vcd_header d ++ vcd_slots d (slots d r.moves)) ++ vcd_end d (slots d r.moves) end ≡ text_so_far d r.moves until
+run_text {d} {until} {steps} {taken} {now} {writer} {old} {new} {lold} {lnew} end r complete is =
+    ap (λ (t : ℕ). (vcd_header d ++ vcd_slots d (slots d r.moves)) ++ vcd_end d (slots d r.moves) t) (is ∙ run_end r)
+    ∙ whole_text d r.moves until (all_kept until d r.moves r.stops)
+    ∙ sym (so_far d r.moves until true (ap (is_complete until) r.state ∙ complete))
+
+ends_as : (over finishing : Bool) (until steps taken : ℕ) (s : State) → s.over ≡ over → s.finishing ≡ finishing → is_complete until s ≡ true → (s.over ≡ true → s.time ≤ until) → taken ≤ steps →
+    EndsAs (if over then (if finishing then Finished s.time else Quiet) else Reached) until steps taken s
+ends_as true true until steps taken s is finish complete by within = (is, finish, refl, by is, within)
+ends_as true false until steps taken s is finish complete by within = (is, finish, by is, within)
+ends_as false finishing until steps taken s is finish complete by within = (is, complete, within)
+
+-- a complete run
+pub ended_run : {d : Parts} {until steps taken : ℕ} {now : State} {writer : Progress} {old new new' lold lnew : Option (List ℕ)} (outcome : Outcome) (end : ℕ) →
+    (r : HasRun d until steps taken now writer old new lold lnew) → is_complete until now ≡ true → outcome ≡ outcome_in now → end ≡ end_in until now →
+    ((before : List Slot) → HasWritten writer d before → Appends new new' (vcd_end d before end)) → RanTo d until steps outcome old new' lold lnew
+ended_run {d} {until} {steps} {taken} {now} {writer} {old} {new} {new'} {lold} {lnew} outcome end r complete out is ends =
+    let s = after d r.moves in
+    let whole : is_complete until s ≡ true = ap (is_complete until) r.state ∙ complete in
+    let within : length r.moves ≤ steps = omega (arith, r.count, r.within) in
     record {
       moves = r.moves;
       statement = r.statement;
       block = r.block;
       stops = r.stops;
-      end = (done, ap (λ (t : State). t.finishing) r.state ∙ going, over_by until d r.moves r.stops done, omega (arith, r.count, r.within));
-      text = all_text old new new' r (complete_over until now over) going ends;
+      end =
+          subst (λ (o : Outcome). EndsAs o until steps (length r.moves) s) (ap outcome_in r.state ∙ sym out)
+          (ends_as s.over s.finishing until steps (length r.moves) s refl refl whole (over_by until d r.moves r.stops) within);
+      text =
+          subst (Appends old new') (run_text end r complete is)
+          (append_more old new new' (vcd_header d ++ vcd_slots d (slots d r.moves)) (vcd_end d (slots d r.moves) end) r.text (ends (slots d r.moves) r.written));
+      lines = r.lines;
     }
 
 take_whole : (xs ys : List ℕ) → take (length xs) (xs ++ ys) ≡ xs
@@ -335,15 +368,15 @@ take_past (x ∷ xs) ys n =
     ap (λ (k : ℕ). take k (x ∷ (xs ++ ys))) e ∙ ap (λ (l : List ℕ). x ∷ l) (take_past xs ys n)
 
 -- a beginning of a text is one of a longer text
-part_front : (old new : Option (List ℕ)) (xs ys : List ℕ) → AppendsPart old new xs → AppendsPart old new (xs ++ ys)
+pub part_front : (old new : Option (List ℕ)) (xs ys : List ℕ) → AppendsPart old new xs → AppendsPart old new (xs ++ ys)
 part_front old new xs ys h = (length (take h.0 xs), subst (Appends old new) (sym (take_front xs ys h.0)) h.1)
 
 -- a text, and then a beginning of another one
-part_more : (old mid new : Option (List ℕ)) (xs ys : List ℕ) → Appends old mid xs → AppendsPart mid new ys → AppendsPart old new (xs ++ ys)
+pub part_more : (old mid new : Option (List ℕ)) (xs ys : List ℕ) → Appends old mid xs → AppendsPart mid new ys → AppendsPart old new (xs ++ ys)
 part_more old mid new xs ys h k = (length xs + k.0, subst (Appends old new) (sym (take_past xs ys k.0)) (append_more old mid new xs (take k.0 ys) h k.1))
 
 -- a text is a beginning of itself
-part_all : (old new : Option (List ℕ)) (xs : List ℕ) → Appends old new xs → AppendsPart old new xs
+pub part_all : (old new : Option (List ℕ)) (xs : List ℕ) → Appends old new xs → AppendsPart old new xs
 part_all old new xs h = (length xs, subst (Appends old new) (sym (ap (take (length xs)) (sym (append-nil xs)) ∙ take_whole xs [])) h)
 
 -- a piece that wasn't written whole
@@ -351,46 +384,35 @@ pub part_failed : (cause : VcdFault) (old new : Option (List ℕ)) (piece : List
 part_failed fault.Memory old new piece h = (0, subst (λ (o : Option (List ℕ)). Appends old o []) (sym h) (append_none old))
 part_failed fault.Write old new piece h = h
 
-still_going : (until : ℕ) (s : State) → s.over ≡ false → finish_time until s ≡ None
-still_going until s h = ap (λ (b : Bool). cond (b && s.finishing && leb s.time until) (Some s.time) None) h
-
--- `$finish` takes no effect behind a move
-finish_behind : (until : ℕ) (m : Move) (s : State) → s.over ≡ false → s.finishing ≡ false → finish_time until (apply m s) ≡ None
-finish_behind until (Step i) s over going = still_going until (apply (Step i) s) (stepped_over s i (slice_get s.places i) ∙ over)
-finish_behind until (Evaluate j) s over going = still_going until (apply (Evaluate j) s) (evaluate_over s j (slice_get s.assigns j) ∙ over)
-finish_behind until (Propagate j) s over going = still_going until (apply (Propagate j) s) (propagate_over s j (slice_get s.assigns j) ∙ over)
-finish_behind until (Make i) s over going = still_going until (apply (Make i) s) (make_over s i (slice_get s.updates i) ∙ over)
-finish_behind until Rouse s over going = still_going until (apply Rouse s) over
-finish_behind until Activate s over going = still_going until (apply Activate s) over
-finish_behind until EndSlot s over going = no_finish until (apply EndSlot s) going
-
 part_by : (b : Bool) (old new : Option (List ℕ)) (whole front tail : List ℕ) → front ++ tail ≡ whole → AppendsPart old new front → AppendsPart old new (if b then whole else front)
 part_by true old new whole front tail is h = subst (AppendsPart old new) is (part_front old new front tail h)
 part_by false old new whole front tail is h = h
 
 -- a beginning of the header and the slots that ended is one of the text so far
-part_so_far : (old new : Option (List ℕ)) (d : Parts) (moves : List Move) (until : ℕ) → StopsAt until d moves → finish_time until (after d moves) ≡ None →
+part_so_far : (old new : Option (List ℕ)) (d : Parts) (moves : List Move) (until : ℕ) → StopsAt until d moves →
     AppendsPart old new (vcd_header d ++ vcd_slots d (slots d moves)) → AppendsPart old new (text_so_far d moves until)
-part_so_far old new d moves until stops finish h =
-    part_by (is_complete until (after d moves)) old new (vcd_text d (trace d moves until) until) (vcd_header d ++ vcd_slots d (slots d moves)) (vcd_end d (slots d moves) until)
-    (whole_text d moves until (all_kept until d moves stops) finish) h
+part_so_far old new d moves until stops h =
+    part_by (is_complete until (after d moves)) old new (vcd_text d (trace d moves until) until) (vcd_header d ++ vcd_slots d (slots d moves))
+    (vcd_end d (slots d moves) (unwrap_or (finish_time until (after d moves)) until)) (whole_text d moves until (all_kept until d moves stops)) h
 
 -- the header wasn't written whole
-pub header_failed : {d : Parts} {until steps : ℕ} {old new : Option (List ℕ)} → AppendsPart old new (vcd_header d) → HasBegun d until steps old new
-header_failed {d} {until} {steps} {old} {new} h = record {
+pub header_failed : {d : Parts} {until steps : ℕ} {old new lines : Option (List ℕ)} → AppendsPart old new (vcd_header d) → HasBegun d until steps old new lines lines
+header_failed {d} {until} {steps} {old} {new} {lines} h = record {
   moves = [];
   statement = tt;
   block = tt;
   stops = tt;
   within = omega arith;
-  text = part_so_far old new d [] until tt refl (part_front old new (vcd_header d) [] h);
+  text = part_so_far old new d [] until tt (part_front old new (vcd_header d) [] h);
+  lines = (0, append_none lines);
 }
 
--- a move wasn't made, or the slot that it ends not written whole
-pub move_failed : {d : Parts} {until steps taken : ℕ} {now : State} {writer : Progress} {old new new' : Option (List ℕ)} →
-    (r : HasRun d until steps taken now writer old new) (m : Move) → allowed Statement d now m ≡ true → allowed Block d now m ≡ true → now.over ≡ false → now.finishing ≡ false → is_complete until now ≡ false → (taken ≡ steps → ⊥) →
-    ((before : List Slot) → HasWritten writer d before → AppendsSlotsPart new new' d before (ended_slot m now)) → HasBegun d until steps old new'
-move_failed {d} {until} {steps} {taken} {now} {writer} {old} {new} {new'} r m statement block over finishing going more appended =
+-- a move wasn't made, or what it prints not written whole
+pub move_failed : {d : Parts} {until steps taken : ℕ} {now : State} {writer : Progress} {old new new' lold lnew lnew' : Option (List ℕ)} →
+    (r : HasRun d until steps taken now writer old new lold lnew) (m : Move) → allowed Statement d now m ≡ true → allowed Block d now m ≡ true → is_complete until now ≡ false → (taken ≡ steps → ⊥) →
+    ((before : List Slot) → HasWritten writer d before → AppendsSlotsPart new new' d before (ended_slot m now)) →
+    AppendsPart lnew lnew' (lines_text (move_lines m now)) → HasBegun d until steps old new' lold lnew'
+move_failed {d} {until} {steps} {taken} {now} {writer} {old} {new} {new'} {lold} {lnew} {lnew'} r m statement block going more appended printed =
     let s = after d r.moves in
     let slot : ended_slot m now ≡ ended_slot m s = ap (ended_slot m) (sym r.state) in
     let piece = appended (slots d r.moves) r.written in
@@ -405,9 +427,10 @@ move_failed {d} {until} {steps} {taken} {now} {writer} {old} {new} {new'} r m st
       block = (r.block, ap (λ (t : State). allowed Block d t m) r.state ∙ block);
       stops = stops;
       within = omega (arith, r.count, r.within, more);
-      text =
-          part_so_far old new' d (m ∷ r.moves) until stops
-          (finish_behind until m s (ap (λ (t : State). t.over) r.state ∙ over) (ap (λ (t : State). t.finishing) r.state ∙ finishing)) front;
+      text = part_so_far old new' d (m ∷ r.moves) until stops front;
+      lines =
+          subst (AppendsPart lold lnew') (lines_behind d r.moves m now r.state)
+          (part_more lold lnew lnew' (lines_text (lines_of d r.moves)) (lines_text (move_lines m now)) r.lines printed);
     }
 
 -- a slot that was written whole
@@ -415,9 +438,27 @@ pub slots_whole : (old new : Option (List ℕ)) (d : Parts) (before more : List 
 slots_whole old new d before more h = (h.0, h.1, part_all old new h.0 h.2)
 
 -- a step that failed
-pub turned_part : {inside : Option ℕ} {s : State} {writer : Progress} {old new : Option (List ℕ)} (m : Move) → is_enabled s m ≡ true → is_step_of_any inside m ≡ true →
-    ((d : Parts) (before : List Slot) → HasWritten writer d before → AppendsSlotsPart old new d before (ended_slot m s)) → TurnedPart inside s writer old new
-turned_part m enabled free text = record { choice = m; enabled = enabled; free = free; text = text }
+pub turned_part : {inside : Option ℕ} {s : State} {writer : Progress} {old new lold lnew : Option (List ℕ)} (m : Move) → is_enabled s m ≡ true → is_step_of_any inside m ≡ true →
+    ((d : Parts) (before : List Slot) → HasWritten writer d before → AppendsSlotsPart old new d before (ended_slot m s)) →
+    AppendsPart lold lnew (lines_text (move_lines m s)) → TurnedPart inside s writer old new lold lnew
+turned_part m enabled free text lines = record { choice = m; enabled = enabled; free = free; text = text; lines = lines }
+
+-- the lines of a step
+pub step_printed : (old mid new : Option (List ℕ)) (m : Move) (s : State) (line : Option (Vec ℕ Global)) → Appends old mid (lines_text (slot_lines m s)) → IsLine line (made_line m s) →
+    Appends mid new (given_text line) → Appends old new (lines_text (move_lines m s))
+step_printed old mid new m s line ended made given =
+    subst (Appends old new) (printed m s line made) (append_more old mid new (lines_text (slot_lines m s)) (given_text line) ended given)
+
+-- the lines of a slot weren't written whole, or the move wasn't made
+pub slot_printed : (old new : Option (List ℕ)) (m : Move) (s : State) → AppendsPart old new (lines_text (slot_lines m s)) → AppendsPart old new (lines_text (move_lines m s))
+slot_printed old new m s h =
+    subst (AppendsPart old new) (sym (move_prints m s)) (part_front old new (lines_text (slot_lines m s)) (made_text (made_line m s)) h)
+
+-- the line of a step wasn't written whole
+pub line_printed : (old mid new : Option (List ℕ)) (m : Move) (s : State) (line : Option (Vec ℕ Global)) → Appends old mid (lines_text (slot_lines m s)) → IsLine line (made_line m s) →
+    AppendsPart mid new (given_text line) → AppendsPart old new (lines_text (move_lines m s))
+line_printed old mid new m s line ended made h =
+    subst (AppendsPart old new) (printed m s line made) (part_more old mid new (lines_text (slot_lines m s)) (given_text line) ended h)
 
 -- a slot that wasn't written whole
 pub slot_failed : (fault : VcdFault) (writer : Progress) (old new : Option (List ℕ)) (now : State) (m : Move) (time : ℕ) (store : Store) → m ≡ EndSlot → time ≡ now.time → store ≡ now.store →
@@ -431,21 +472,42 @@ slot_failed fault writer old new now m time store ends here values bytes pieces 
 )
 
 -- the end wasn't written whole
-pub end_failed : {d : Parts} {until steps taken : ℕ} {now : State} {writer : Progress} {old new new' : Option (List ℕ)} →
-    (r : HasRun d until steps taken now writer old new) → is_complete until now ≡ true → now.finishing ≡ false →
-    ((before : List Slot) → HasWritten writer d before → AppendsPart new new' (vcd_end d before until)) → HasBegun d until steps old new'
-end_failed {d} {until} {steps} {taken} {now} {writer} {old} {new} {new'} r complete going ends = record {
+pub end_failed : {d : Parts} {until steps taken : ℕ} {now : State} {writer : Progress} {old new new' lold lnew : Option (List ℕ)} (end : ℕ) →
+    (r : HasRun d until steps taken now writer old new lold lnew) → is_complete until now ≡ true → end ≡ end_in until now →
+    ((before : List Slot) → HasWritten writer d before → AppendsPart new new' (vcd_end d before end)) → HasBegun d until steps old new' lold lnew
+end_failed {d} {until} {steps} {taken} {now} {writer} {old} {new} {new'} {lold} {lnew} end r complete is ends = record {
   moves = r.moves;
   statement = r.statement;
   block = r.block;
   stops = r.stops;
   within = omega (arith, r.count, r.within);
   text =
-      subst (AppendsPart old new')
-      (whole_text d r.moves until (all_kept until d r.moves r.stops) (no_finish until (after d r.moves) (ap (λ (t : State). t.finishing) r.state ∙ going))
-      ∙ sym (so_far d r.moves until true (ap (is_complete until) r.state ∙ complete)))
-      (part_more old new new' (vcd_header d ++ vcd_slots d (slots d r.moves)) (vcd_end d (slots d r.moves) until) r.text (ends (slots d r.moves) r.written));
+      subst (AppendsPart old new') (run_text end r complete is)
+      (part_more old new new' (vcd_header d ++ vcd_slots d (slots d r.moves)) (vcd_end d (slots d r.moves) end) r.text (ends (slots d r.moves) r.written));
+  lines = part_all lold lnew (lines_text (lines_of d r.moves)) r.lines;
 }
+
+-- ---- the counts of failed writes
+
+-- the first sink failed, or none
+pub first_failed : (b : Bool) (old new lold lnew : ℕ) → new ≡ failed_after b old → lnew ≡ lold → OneFailed b old new lold lnew
+first_failed true old new lold lnew h k = inl (h, k)
+first_failed false old new lold lnew h k = (h, k)
+
+-- the second sink failed, or none
+pub second_failed : (b : Bool) (old new lold lnew : ℕ) → new ≡ old → lnew ≡ failed_after b lold → OneFailed b old new lold lnew
+second_failed true old new lold lnew h k = inr (h, k)
+second_failed false old new lold lnew h k = (h, k)
+
+-- the fault is handed on
+pub failed_as : {A : Type 0} (r : Result A VcdFault) (e : VcdFault) (old new lold lnew : ℕ) → r ≡ Err e → OneFailed (is_write_fault {A = ℕ} (Err e)) old new lold lnew →
+    OneFailed (is_write_fault r) old new lold lnew
+failed_as {A} r fault.Memory old new lold lnew is h = subst (λ (q : Result A VcdFault). OneFailed (is_write_fault q) old new lold lnew) (sym is) h
+failed_as {A} r fault.Write old new lold lnew is h = subst (λ (q : Result A VcdFault). OneFailed (is_write_fault q) old new lold lnew) (sym is) h
+
+-- none failed before
+pub failed_from : (b : Bool) (old mid new lold lmid lnew : ℕ) → mid ≡ old → lmid ≡ lold → OneFailed b mid new lmid lnew → OneFailed b old new lold lnew
+failed_from b old mid new lold lmid lnew e f h = subst (λ (k : ℕ). OneFailed b k new lold lnew) e (subst (λ (k : ℕ). OneFailed b mid new k lnew) f h)
 
 pub on_err : {T E P : Type 0} (r : Result T E) → P → OnErr r P
 on_err (Ok x) p = tt

@@ -1,7 +1,9 @@
+pub mod Ends
 pub mod Faults
 pub mod Insides
 pub mod Marking
 pub mod Policies
+pub mod Prints
 pub mod Runs
 pub mod Shows
 pub mod Stages

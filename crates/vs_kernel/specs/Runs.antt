@@ -5,10 +5,11 @@ use Rattle.vs_design.specs.Parts.{Parts}
 use Rattle.vs_design.specs.Traces.{Slot}
 use Rattle.vs_process.specs.declared.moves.Grain.TheVariants.{Statement, Block}
 use Rattle.vs_process.specs.declared.moves.Move.{Move}
-use Rattle.vs_process.specs.Executions.{after, Legal, slots, trace, is_complete}
+use Rattle.vs_process.specs.Executions.{after, Legal, lines_of, slots, trace, is_complete}
 use Rattle.vs_process.specs.States.{State}
 use Rattle.vs_vcd.specs.Sinks.{AppendsPart}
 use Rattle.vs_vcd.specs.Text.{vcd_header, vcd_slots, vcd_text}
+use Rattle.vs_kernel.specs.Prints.{lines_text}
 use Rattle.vs_kernel.specs.declared.outcome.Outcome.{Outcome}
 use Rattle.vs_kernel.specs.declared.outcome.Outcome.TheVariants.{Reached, Quiet, Finished, StepLimit}
 
@@ -30,8 +31,8 @@ text_so_far d moves until =
     if is_complete until (after d moves) then vcd_text d (trace d moves until) until else vcd_header d ++ vcd_slots d (slots d moves)
 
 -- a run of a design to a moment in at most so many steps: an execution, legal at both grains, that goes on until it ends as its outcome says,
--- and whose value change dump was appended to the known bytes of a sink (clause 11)
-pub record RanTo (d : Parts) (until steps : ℕ) (outcome : Outcome) (old new : Option (List ℕ)) : Type 0 where
+-- and whose value change dump was appended to the known bytes of a sink, and whose lines to those of another one (clauses 11 and 17.1)
+pub record RanTo (d : Parts) (until steps : ℕ) (outcome : Outcome) (old new lines_old lines_new : Option (List ℕ)) : Type 0 where
   -- the moves, the newest first
   pub moves : List Move
   pub statement : Legal Statement d moves
@@ -39,15 +40,18 @@ pub record RanTo (d : Parts) (until steps : ℕ) (outcome : Outcome) (old new : 
   pub stops : StopsAt until d moves
   pub end : EndsAs outcome until steps (length moves) (after d moves)
   pub text : Appends old new (text_so_far d moves until)
+  pub lines : Appends lines_old lines_new (lines_text (lines_of d moves))
 
--- what a failed run leaves: a beginning of the value change dump of an execution, the move in hand included, was appended to the known bytes (profile)
-pub record HasBegun (d : Parts) (until steps : ℕ) (old new : Option (List ℕ)) : Type 0 where
+-- what a failed run leaves: a beginning of the value change dump of an execution, the move in hand included, was appended to the known bytes of a
+-- sink, and a beginning of its lines to those of another one (profile)
+pub record HasBegun (d : Parts) (until steps : ℕ) (old new lines_old lines_new : Option (List ℕ)) : Type 0 where
   pub moves : List Move
   pub statement : Legal Statement d moves
   pub block : Legal Block d moves
   pub stops : StopsAt until d moves
   pub within : length moves ≤ steps
   pub text : AppendsPart old new (text_so_far d moves until)
+  pub lines : AppendsPart lines_old lines_new (lines_text (lines_of d moves))
 
 -- what slots add to a value change dump was appended to the known bytes
 abbrev pub AppendsSlots : Option (List ℕ) → Option (List ℕ) → Parts → List Slot → List Slot → Type 0

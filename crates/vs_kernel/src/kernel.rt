@@ -1,10 +1,9 @@
 //! The kernel: one run of a design.
 ghost use Rattle.std.specs.Prelude.{◌≡◌, ◌<◌, ◌^◌, IfOk, IfErr, OnOk, OnErr};
-ghost use Rattle.vs_kernel.specs.Faults.{is_write, FaultAt, behind_fault};
+ghost use Rattle.vs_kernel.specs.Faults.{is_write, FaultAt, OneFailed, behind_fault};
 ghost use Rattle.vs_kernel.specs.Runs.{RanTo, HasBegun};
 ghost use Rattle.vs_kernel.specs.declared.kernel.Status.TheVariants as statuses;
 ghost use Rattle.vs_process.specs.Permitted.{NeverStuck};
-ghost use Rattle.vs_vcd.specs.Sinks.{failed_after};
 
 use crate::outcome::{Outcome, RunFault};
 use crate::policy::Pick;
@@ -68,9 +67,10 @@ impl<'a, P: Pick + Drop> Kernel<'a, P> {
         self.status
     }
 
-    /// Runs the design until its time is past `until`, in ticks, or no event is left, in at most `steps` permitted steps
-    /// (IEEE 1364-2005, clause 11). The value change dump is written to `vcd` while it runs. `lines` takes no byte, since the
-    /// language has no system task that prints.
+    /// Runs the design until its time is past `until`, in ticks, no event is left or `$finish` took effect, in at most `steps` permitted steps
+    /// (IEEE 1364-2005, clauses 11 and 17.4.1). The value change dump is written to `vcd` while it runs, and the lines to `lines`: that of a
+    /// `$display` when its step is taken, those of the calls of `$strobe` of a slot at its end, in the order of the calls (clause 17.1). At the end
+    /// of a slot the dump is written first.
     ///
     /// After an outcome every further call answers `Done`, after a fault `Failed`, and writes nothing.
     pub fn run<V: Sink, L: Sink>(
@@ -82,26 +82,28 @@ impl<'a, P: Pick + Drop> Kernel<'a, P> {
     ) -> Result<Outcome, RunFault>
         requires until { until < 2 ^ 62 }
         requires steps { steps < 2 ^ 62 }
-        ensures ran { IfOk result (λ outcome. RanTo self.old.design until steps outcome (V.bytes vcd.old) (V.bytes vcd.new)) }
+        ensures ran { IfOk result (λ outcome. RanTo self.old.design until steps outcome
+            (V.bytes vcd.old) (V.bytes vcd.new) (L.bytes lines.old) (L.bytes lines.new)) }
         ensures ok { OnOk result ((self.old.status ≡ statuses.Ready) × (self.new.status ≡ statuses.Done)) }
         ensures begun { OnErr result (self.old.status ≡ statuses.Ready
-            → HasBegun self.old.design until steps (V.bytes vcd.old) (V.bytes vcd.new)) }
+            → HasBegun self.old.design until steps (V.bytes vcd.old) (V.bytes vcd.new) (L.bytes lines.old) (L.bytes lines.new)) }
         ensures fault { IfErr result (λ fault. FaultAt self.old.status fault) }
         ensures err { OnErr result (self.new.status ≡ behind_fault self.old.status) }
         ensures design { self.new.design ≡ self.old.design }
         ensures again { (self.old.status ≡ statuses.Ready → ⊥) → vcd.new ≡ vcd.old }
-        ensures failures { V.failed vcd.new ≡ failed_after (is_write result) (V.failed vcd.old) }
-        ensures lines { lines.new ≡ lines.old }
+        ensures lines_again { (self.old.status ≡ statuses.Ready → ⊥) → lines.new ≡ lines.old }
+        // A failed write is told only where the count of a sink rose.
+        ensures failures { OneFailed (is_write result) (V.failed vcd.old) (V.failed vcd.new) (L.failed lines.old) (L.failed lines.new) }
         // In every state that an execution reaches and that isn't the end there is a permitted step.
         ensures never_stuck { NeverStuck }
     {
-        let _ = lines;
         never_stuck();
         match self.status {
             Status::Ready => {
                 self.status = Status::Failed;
                 let design = self.design;
-                let outcome = launch(self.alloc, design, &mut self.policy, until, steps, vcd)?;
+                let policy = &mut self.policy;
+                let outcome = launch(self.alloc, design, policy, until, steps, vcd, lines)?;
                 self.status = Status::Done;
                 Ok(outcome)
             }

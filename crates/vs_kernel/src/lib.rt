@@ -1,7 +1,7 @@
 //! The run of a design: one permitted execution, chosen step by step by a policy (IEEE 1364-2005, clause 11).
 //!
 //! `Kernel::run` makes moves of the definitions of `vs_process` until the execution is complete to a moment or the
-//! steps are used up, and writes the value change dump of its trace while it runs.
+//! steps are used up, and writes the value change dump of its trace, and the lines that its steps make, while it runs.
 #![tactic(auto)]
 
 mod agenda;

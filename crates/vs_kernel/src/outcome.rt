@@ -26,7 +26,7 @@ pub enum RunFault {
     /// A growth of memory was refused.
     #[error("S1: out of memory")]
     Memory,
-    /// The sink of the value change dump did not take a piece whole.
+    /// A sink did not take a piece whole.
     #[error("S2: a write failed")]
     Write,
     /// An earlier call failed.

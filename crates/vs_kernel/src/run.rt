@@ -1,18 +1,23 @@
 //! The loop of a run.
-ghost use Rattle.std.specs.Prelude.{◌≡◌, ◌<◌, ◌≤◌, ◌*◌, ◌^◌, ◌++◌, ℕ, false, true, Some, List, length, map, IfOk, OnOk, OnErr};
+ghost use Rattle.std.specs.Prelude.{◌≡◌, ◌<◌, ◌≤◌, ◌*◌, ◌^◌, ◌++◌, ℕ, false, true, Some, None, List, length, map, IfOk, OnOk, OnErr, MatchOption};
+ghost use Rattle.std.specs.Io.KnownBytes.{Appends};
 ghost use Rattle.vs_design.specs.Parts.{Parts};
 ghost use Rattle.vs_design.specs.Traces.{Slot};
+ghost use Rattle.vs_kernel.specs.Ends.{end_in, outcome_in};
+ghost use Rattle.vs_kernel.specs.Faults.{OneFailed};
+ghost use Rattle.vs_kernel.specs.Prints.{given_text, lines_text, slot_lines};
 ghost use Rattle.vs_kernel.specs.Runs.{RanTo, HasBegun, AppendsSlots, AppendsSlotsPart};
 ghost use Rattle.vs_kernel.specs.Insides.{inside_told};
 ghost use Rattle.vs_kernel.specs.Marking.{MarkChanges};
 ghost use Rattle.vs_kernel.specs.Turns.{Turned, TurnedPart};
+ghost use Rattle.vs_state.specs.Prints.{made_line};
 ghost use Rattle.vs_state.specs.Touches.{HasSources};
 ghost use Rattle.vs_state.specs.Waits.{HasTerms};
 ghost use Rattle.vs_process.specs.Blocks.{is_step_of_any};
 ghost use Rattle.vs_process.specs.Executions as executions;
 ghost use Rattle.vs_process.specs.States as states;
 ghost use Rattle.vs_vcd.specs.Progress.{Covers, HasWritten, is_write_fault};
-ghost use Rattle.vs_vcd.specs.Sinks.{failed_after};
+ghost use Rattle.vs_vcd.specs.Sinks.{AppendsPart, failed_after};
 
 use crate::agenda::{Agenda, Choice};
 use crate::marks::{clear, mark_all, no_marks};
@@ -25,7 +30,8 @@ use vs_process::{
     none_inside_first,
 };
 use vs_state::State;
-use vs_vcd::{Sink, VcdFault, Writer};
+use vs_strobe::full_line;
+use vs_vcd::{Sink, VcdFault, Writer, write_all};
 
 /// For each process whether it is a combinational block.
 fn blocks_of(alloc: Global, processes: &[Process]) -> Result<Vec<bool>, AllocError>
@@ -106,10 +112,38 @@ pub(crate) fn choose<P: Pick>(
     }
 }
 
-/// Writes the slot that a move ends, if it ends one; behind it nothing is marked.
-fn note<V: Sink>(
+/// Writes the lines of the calls of `$strobe` of a slot at its end, in the order of the calls (IEEE 1364-2005, clause 17.1.2).
+fn print_calls<L: Sink>(alloc: Global, lines: &mut L, state: &State) -> Result<(), VcdFault>
+    ensures ok { OnOk result (Appends (L.bytes lines.old) (L.bytes lines.new) (lines_text (executions.strobe_lines state.now))) }
+    ensures err { OnErr result (AppendsPart (L.bytes lines.old) (L.bytes lines.new) (lines_text (executions.strobe_lines state.now))) }
+    ensures failures { L.failed lines.new ≡ failed_after (is_write_fault result) (L.failed lines.old) }
+{
+    let calls = state.calls();
+    for call in calls {
+        let text = full_line(alloc, call.format(), state.store(), state.time())?;
+        write_all(lines, &text)?;
+    }
+    Ok(())
+}
+
+/// Writes a line, where there is one.
+fn print<L: Sink>(lines: &mut L, line: Option<Vec<u8>>) -> Result<(), VcdFault>
+    ensures ok { OnOk result (Appends (L.bytes lines.old) (L.bytes lines.new) (given_text line)) }
+    ensures err { OnErr result (AppendsPart (L.bytes lines.old) (L.bytes lines.new) (given_text line)) }
+    ensures failures { L.failed lines.new ≡ failed_after (is_write_fault result) (L.failed lines.old) }
+{
+    if let Some(text) = line {
+        write_all(lines, &text)?;
+    }
+    Ok(())
+}
+
+/// Writes the slot that a move ends, if it ends one: the slot of the dump, behind which nothing is marked, then its lines.
+fn note<V: Sink, L: Sink>(
+    alloc: Global,
     writer: &mut Writer,
     vcd: &mut V,
+    lines: &mut L,
     marks: &mut Vec<u64>,
     state: &State,
     choice: Move,
@@ -124,17 +158,21 @@ fn note<V: Sink>(
         → AppendsSlots (V.bytes vcd.old) (V.bytes vcd.new) d before (executions.ended_slot choice state.now)) }
     ensures part { OnErr result ((d : Parts) (before : List Slot) → HasWritten writer.old d before
         → AppendsSlotsPart (V.bytes vcd.old) (V.bytes vcd.new) d before (executions.ended_slot choice state.now)) }
-    ensures failures { V.failed vcd.new ≡ failed_after (is_write_fault result) (V.failed vcd.old) }
+    ensures lines { OnOk result (Appends (L.bytes lines.old) (L.bytes lines.new) (lines_text (slot_lines choice state.now))) }
+    ensures lines_part { OnErr result (AppendsPart (L.bytes lines.old) (L.bytes lines.new) (lines_text (slot_lines choice state.now))) }
+    ensures failures { OneFailed (is_write_fault result) (V.failed vcd.old) (V.failed vcd.new) (L.failed lines.old) (L.failed lines.new) }
 {
     let Move::EndSlot = choice else {
         return Ok(());
     };
     writer.slot_marked(vcd, state.time(), state.store(), marks)?;
     clear(marks);
+    print_calls(alloc, lines, state)?;
     Ok(())
 }
 
-/// Makes a move, marks the signals that it may change, and brings the list up to date. `changed` is room to work in.
+/// Makes a move, marks the signals that it may change, and brings the list up to date; the answer is the line that the move makes at once. `changed`
+/// is room to work in.
 pub(crate) fn advance(
     state: &mut State,
     design: &Design,
@@ -142,26 +180,54 @@ pub(crate) fn advance(
     marks: &mut Vec<u64>,
     changed: &mut Vec<usize>,
     next: Choice,
-) -> Result<(), AllocError>
+) -> Result<Option<Vec<u8>>, AllocError>
     requires going { state.old.over ≡ false }
     requires enabled { executions.is_enabled state.old next.choice ≡ true }
     requires early { state.old.time < 2 ^ 62 }
     requires sources { HasSources design.now state.old }
     requires terms { HasTerms design.now state.old }
-    ensures made { OnOk result (state.new ≡ executions.apply next.choice state.old) }
+    ensures state { OnOk result (state.new ≡ executions.apply next.choice state.old) }
+    ensures line { IfOk result (λ line. MatchOption line (made_line next.choice state.old ≡ None)
+        (λ text. made_line next.choice state.old ≡ Some text.items)) }
     ensures marked { OnOk result (MarkChanges marks.old.items marks.new.items state.old.store state.new.store) }
     ensures len { length marks.new.items ≡ length marks.old.items }
 {
     changed.clear();
-    state.make(design, next.choice, changed)?;
+    let line = state.make(design, next.choice, changed)?;
     mark_all(marks, changed);
     agenda.follow(next, state)?;
-    Ok(())
+    Ok(line)
 }
 
-/// Takes the next step: chooses a move, writes the slot that it ends, if it ends one, and makes it. The answer is the combinational block that
-/// has taken a step since its control, behind the move.
-fn turn<P: Pick, V: Sink>(
+/// How a run ends in a state in which its execution is complete.
+fn outcome_of(state: &State) -> Outcome
+    ensures { result ≡ outcome_in state.now }
+{
+    if !state.is_over() {
+        return Outcome::Reached;
+    }
+    if state.is_finishing() {
+        Outcome::Finished(state.time())
+    } else {
+        Outcome::Quiet
+    }
+}
+
+/// The time at which the value change dump of a complete execution ends, in ticks.
+fn end_of(state: &State, until: u64) -> u64
+    ensures { result ≡ end_in until state.now }
+{
+    if state.is_over() && state.is_finishing() {
+        state.time()
+    } else {
+        until
+    }
+}
+
+/// Takes the next step: chooses a move, writes the slot that it ends, if it ends one, makes it, and writes the line that it makes. The answer is the
+/// combinational block that has taken a step since its control, behind the move.
+fn turn<P: Pick, V: Sink, L: Sink>(
+    alloc: Global,
     design: &Design,
     blocks: &[bool],
     state: &mut State,
@@ -172,6 +238,7 @@ fn turn<P: Pick, V: Sink>(
     changed: &mut Vec<usize>,
     policy: &mut P,
     vcd: &mut V,
+    lines: &mut L,
 ) -> Result<Option<usize>, VcdFault>
     requires goes_on { (process : ℕ) → inside ≡ Some process → executions.is_enabled state.old (Move.Step process) ≡ true }
     requires going { state.old.over ≡ false }
@@ -184,18 +251,21 @@ fn turn<P: Pick, V: Sink>(
         → length d.signals < 512 * length marks.old.items → Covers marks.new.items writer.new state.new.store) }
     ensures len { length marks.new.items ≡ length marks.old.items }
     ensures ok { IfOk result (λ next.
-        Turned inside blocks.now state.old state.new writer.old writer.new (V.bytes vcd.old) (V.bytes vcd.new) next) }
-    ensures err { OnErr result (TurnedPart inside state.old writer.old (V.bytes vcd.old) (V.bytes vcd.new)) }
-    ensures failures { V.failed vcd.new ≡ failed_after (is_write_fault result) (V.failed vcd.old) }
+        Turned inside blocks.now state.old state.new writer.old writer.new
+        (V.bytes vcd.old) (V.bytes vcd.new) (L.bytes lines.old) (L.bytes lines.new) next) }
+    ensures err { OnErr result (TurnedPart inside state.old writer.old
+        (V.bytes vcd.old) (V.bytes vcd.new) (L.bytes lines.old) (L.bytes lines.new)) }
+    ensures failures { OneFailed (is_write_fault result) (V.failed vcd.old) (V.failed vcd.new) (L.failed lines.old) (L.failed lines.new) }
 {
     let next = choose(state, inside, agenda, policy);
-    note(writer, vcd, marks, state, next.choice)?;
-    advance(state, design, agenda, marks, changed, next)?;
+    note(alloc, writer, vcd, lines, marks, state, next.choice)?;
+    let line = advance(state, design, agenda, marks, changed, next)?;
+    print(lines, line)?;
     Ok(inside_behind(blocks, state, next.choice))
 }
 
 /// Runs a design from its start.
-fn execute<P: Pick, V: Sink>(
+fn execute<P: Pick, V: Sink, L: Sink>(
     alloc: Global,
     design: &Design,
     state: &mut State,
@@ -204,12 +274,15 @@ fn execute<P: Pick, V: Sink>(
     until: u64,
     steps: u64,
     vcd: &mut V,
+    lines: &mut L,
 ) -> Result<Outcome, VcdFault>
     requires start { state.old ≡ states.start design.now }
     requires early { until < 2 ^ 62 }
-    ensures ran { IfOk result (λ outcome. RanTo design.now until steps outcome (V.bytes vcd.old) (V.bytes vcd.new)) }
-    ensures begun { OnErr result (HasBegun design.now until steps (V.bytes vcd.old) (V.bytes vcd.new)) }
-    ensures failures { V.failed vcd.new ≡ failed_after (is_write_fault result) (V.failed vcd.old) }
+    ensures ran { IfOk result (λ outcome. RanTo design.now until steps outcome
+        (V.bytes vcd.old) (V.bytes vcd.new) (L.bytes lines.old) (L.bytes lines.new)) }
+    ensures begun { OnErr result (HasBegun design.now until steps
+        (V.bytes vcd.old) (V.bytes vcd.new) (L.bytes lines.old) (L.bytes lines.new)) }
+    ensures failures { OneFailed (is_write_fault result) (V.failed vcd.old) (V.failed vcd.new) (L.failed lines.old) (L.failed lines.new) }
 {
     blocks_exclude();
     inside_follows();
@@ -226,6 +299,7 @@ fn execute<P: Pick, V: Sink>(
             return Ok(Outcome::StepLimit(state.time()));
         }
         let next = turn(
+            alloc,
             design,
             &blocks,
             state,
@@ -236,20 +310,17 @@ fn execute<P: Pick, V: Sink>(
             &mut changed,
             policy,
             vcd,
+            lines,
         )?;
         inside = next;
         count += 1;
     }
-    writer.finish(vcd, until)?;
-    if state.is_over() {
-        Ok(Outcome::Quiet)
-    } else {
-        Ok(Outcome::Reached)
-    }
+    writer.finish(vcd, end_of(state, until))?;
+    Ok(outcome_of(state))
 }
 
 /// Runs a design from its start; these are the codes of its processes, one each in order.
-fn execute_codes<P: Pick, V: Sink>(
+fn execute_codes<P: Pick, V: Sink, L: Sink>(
     alloc: Global,
     design: &Design,
     codes: &[Code],
@@ -257,12 +328,15 @@ fn execute_codes<P: Pick, V: Sink>(
     until: u64,
     steps: u64,
     vcd: &mut V,
+    lines: &mut L,
 ) -> Result<Outcome, VcdFault>
     requires codes { codes.now ≡ map (λ p. p.body) design.now.processes }
     requires early { until < 2 ^ 62 }
-    ensures ran { IfOk result (λ outcome. RanTo design.now until steps outcome (V.bytes vcd.old) (V.bytes vcd.new)) }
-    ensures begun { OnErr result (HasBegun design.now until steps (V.bytes vcd.old) (V.bytes vcd.new)) }
-    ensures failures { V.failed vcd.new ≡ failed_after (is_write_fault result) (V.failed vcd.old) }
+    ensures ran { IfOk result (λ outcome. RanTo design.now until steps outcome
+        (V.bytes vcd.old) (V.bytes vcd.new) (L.bytes lines.old) (L.bytes lines.new)) }
+    ensures begun { OnErr result (HasBegun design.now until steps
+        (V.bytes vcd.old) (V.bytes vcd.new) (L.bytes lines.old) (L.bytes lines.new)) }
+    ensures failures { OneFailed (is_write_fault result) (V.failed vcd.old) (V.failed vcd.new) (L.failed lines.old) (L.failed lines.new) }
 {
     let mut state = State::start(alloc, design, codes)?;
     let mut agenda = Agenda::start(alloc, P::FIRST, design.signals().len(), &state)?;
@@ -275,23 +349,27 @@ fn execute_codes<P: Pick, V: Sink>(
         until,
         steps,
         vcd,
+        lines,
     )
 }
 
 /// Compiles the processes of a design, and runs it from its start.
-pub(crate) fn launch<P: Pick, V: Sink>(
+pub(crate) fn launch<P: Pick, V: Sink, L: Sink>(
     alloc: Global,
     design: &Design,
     policy: &mut P,
     until: u64,
     steps: u64,
     vcd: &mut V,
+    lines: &mut L,
 ) -> Result<Outcome, VcdFault>
     requires early { until < 2 ^ 62 }
-    ensures ran { IfOk result (λ outcome. RanTo design.now until steps outcome (V.bytes vcd.old) (V.bytes vcd.new)) }
-    ensures begun { OnErr result (HasBegun design.now until steps (V.bytes vcd.old) (V.bytes vcd.new)) }
-    ensures failures { V.failed vcd.new ≡ failed_after (is_write_fault result) (V.failed vcd.old) }
+    ensures ran { IfOk result (λ outcome. RanTo design.now until steps outcome
+        (V.bytes vcd.old) (V.bytes vcd.new) (L.bytes lines.old) (L.bytes lines.new)) }
+    ensures begun { OnErr result (HasBegun design.now until steps
+        (V.bytes vcd.old) (V.bytes vcd.new) (L.bytes lines.old) (L.bytes lines.new)) }
+    ensures failures { OneFailed (is_write_fault result) (V.failed vcd.old) (V.failed vcd.new) (L.failed lines.old) (L.failed lines.new) }
 {
     let codes = codes_of(alloc, design.processes())?;
-    execute_codes(alloc, design, &codes, policy, until, steps, vcd)
+    execute_codes(alloc, design, &codes, policy, until, steps, vcd, lines)
 }

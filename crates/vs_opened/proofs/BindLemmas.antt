@@ -11,7 +11,7 @@ use Rattle.vs_selects.specs.declared.bindings.Binding.{Binding}
 use Rattle.vs_selects.specs.declared.bindings.Binding.TheVariants as b
 use Rattle.vs_widths.specs.Names.{meaning_of, by_bytes, Declares as NamesDeclare}
 use Rattle.vs_scopes.specs.declared.faults.Reason.{Reason}
-use Rattle.vs_scopes.specs.declared.faults.Reason.TheVariants.{NoModule, Inside, PortMismatch, ParameterMismatch, DeclaredTwice, DrivenTwice, Limit, Width, Endless, Unnamed}
+use Rattle.vs_scopes.specs.declared.faults.Reason.TheVariants.{NoModule, Inside, PortMismatch, ParameterMismatch, DeclaredTwice, DrivenTwice, Limit, Width, Endless, Unnamed, Timescales, Format}
 use Rattle.vs_scopes.specs.declared.faults.ElabFault.{ElabFault}
 use Rattle.vs_scopes.specs.Printed.{plainly, Path}
 use Rattle.vs_scopes.specs.Declarations.{Bindings, DeclaredName, names_in, meaning_as, bound_to}
@@ -134,6 +134,8 @@ bound_not_more at start xs ys Limit p h = h
 bound_not_more at start xs ys (Width w) p h = h
 bound_not_more at start xs ys Endless p h = h
 bound_not_more at start xs ys Unnamed p h = h
+bound_not_more at start xs ys Timescales p h = h
+bound_not_more at start xs ys (Format wrong) p h = h
 
 -- ---- signals with their numbers
 

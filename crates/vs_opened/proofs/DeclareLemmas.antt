@@ -18,7 +18,7 @@ use Rattle.vs_selects.specs.declared.bindings.Meaning.{Meaning}
 use Rattle.vs_selects.specs.declared.bindings.Binding.{Binding}
 use Rattle.vs_selects.specs.declared.bindings.Binding.TheVariants as b
 use Rattle.vs_scopes.specs.declared.faults.Reason.{Reason}
-use Rattle.vs_scopes.specs.declared.faults.Reason.TheVariants.{NoModule, Inside, PortMismatch, ParameterMismatch, DeclaredTwice, DrivenTwice, Limit, Width, Endless, Unnamed}
+use Rattle.vs_scopes.specs.declared.faults.Reason.TheVariants.{NoModule, Inside, PortMismatch, ParameterMismatch, DeclaredTwice, DrivenTwice, Limit, Width, Endless, Unnamed, Timescales, Format}
 use Rattle.vs_scopes.specs.declared.faults.BodyFault.{BodyFault}
 use Rattle.vs_scopes.specs.declared.faults.ElabFault.{ElabFault}
 use Rattle.vs_widths.specs.Names.{meaning_of, Declares as NamesDeclare}
@@ -92,6 +92,8 @@ module _ (env : Environment) (kind : SignalKind) (z : Sized) (range : Option Ran
       by DrivenTwice k = k
       by Endless k = k
       by Unnamed k = k
+      by Timescales k = k
+      by (Format wrong) k = k
 
   -- a fault of the range of words
   pub words_wrong : (f : BodyFault) → Refuses (words_as env kind range).faults f → Refuses (λ r. declaration_fault r (declared_so env kind z range name)) f
@@ -108,6 +110,8 @@ module _ (env : Environment) (kind : SignalKind) (z : Sized) (range : Option Ran
       by DrivenTwice k = k
       by Endless k = k
       by Unnamed k = k
+      by Timescales k = k
+      by (Format wrong) k = k
 
   -- ranges that have no fault
   pub declared_right : ((r : Reason) → width_faults z.faults r ≡ false) → ((r : Reason) → (words_as env kind range).faults r ≡ false) → (r : Reason) → declaration_fault r (declared_so env kind z range name) ≡ false
@@ -121,6 +125,8 @@ module _ (env : Environment) (kind : SignalKind) (z : Sized) (range : Option Ran
   declared_right h k DrivenTwice = k DrivenTwice
   declared_right h k Endless = k Endless
   declared_right h k Unnamed = k Unnamed
+  declared_right h k Timescales = k Timescales
+  declared_right h k (Format wrong) = k (Format wrong)
 
 -- a fresh name
 pub keeps_push : (s : Scope) (names new : Bindings) (plan after start : Plan) (done : List DeclaredName) (d : DeclaredName) (m : Meaning) (number : ℕ) (x : Signal) → NamesDeclare true names new d.name (b.Signal m number) → m ≡ meaning_as d → number ≡ length plan.signals.items → number < 65536 → after.signals.items ≡ plan.signals.items ++ x ∷ [] → declared x ≡ signal_of s d → after.outline.items ≡ plan.outline.items ++ Declare number ∷ [] → SameCounts plan after → Keeps s names plan start done → Keeps s new after start (done ++ d ∷ [])
@@ -159,6 +165,8 @@ keeps_not_more s start xs ys DrivenTwice p h = h
 keeps_not_more s start xs ys (Width w) p h = h
 keeps_not_more s start xs ys Endless p h = h
 keeps_not_more s start xs ys Unnamed p h = h
+keeps_not_more s start xs ys Timescales p h = h
+keeps_not_more s start xs ys (Format wrong) p h = h
 
 -- before a pass over declarations
 pub keeps_none : (s : Scope) (names : Bindings) (plan : Plan) → Bound names (constant_names s.constants) → length plan.signals.items ≤ 65536 → Keeps s names plan plan []
@@ -310,6 +318,8 @@ port_words env kind DeclaredTwice = refl
 port_words env kind DrivenTwice = refl
 port_words env kind Endless = refl
 port_words env kind Unnamed = refl
+port_words env kind Timescales = refl
+port_words env kind (Format wrong) = refl
 
 -- the size of an `integer`
 pub size_integer : (env : Environment) (s : Size) → s.shape.width ≡ 32 → s.shape.signed ≡ true → s.bounds ≡ None → ((q : Reason) → width_faults (sized_as env true 31 None).faults q ≡ false) × IsSize (sized_as env true 31 None) s

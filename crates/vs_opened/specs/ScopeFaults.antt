@@ -7,7 +7,7 @@ use Rattle.vs_selects.specs.declared.constants.Const.{Const}
 use Rattle.vs_selects.specs.declared.faults.WidthReason.{WidthReason}
 use Rattle.vs_pieces.specs.Pieces.{pieces_of}
 use Rattle.vs_scopes.specs.declared.faults.Reason.{Reason}
-use Rattle.vs_scopes.specs.declared.faults.Reason.TheVariants.{NoModule, Inside, PortMismatch, ParameterMismatch, DeclaredTwice, DrivenTwice, Limit, Width, Endless, Unnamed}
+use Rattle.vs_scopes.specs.declared.faults.Reason.TheVariants.{NoModule, Inside, PortMismatch, ParameterMismatch, DeclaredTwice, DrivenTwice, Limit, Width, Endless, Unnamed, Timescales, Format}
 use Rattle.vs_scopes.specs.Printed.{PathName, plainly, Path}
 use Rattle.vs_scopes.specs.Parameters.{given_to, is_override_mismatch, own_faults, outer_faults}
 use Rattle.vs_scopes.specs.Ports.{ModulePort, has_stray_port, is_wrong_port}
@@ -148,6 +148,8 @@ HoldsOpening ms s (Width w) p =
     HasRangeFault s (Width w) p
 HoldsOpening ms s Endless p = HasConstructFault s Endless p
 HoldsOpening ms s Unnamed p = HasConstructFault s Unnamed p
+HoldsOpening ms s Timescales p = ⊥
+HoldsOpening ms s (Format f) p = ⊥
 
 -- such a fault in one of these scopes
 abbrev pub HoldsOpeningIn : List Module → List Scope → Reason → Path → Type 0

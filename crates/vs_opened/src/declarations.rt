@@ -318,8 +318,7 @@ fn declare_port<'s>(
     plan: &mut Plan,
 ) -> Result<(), ElabFault>
     requires { 0 < length site.path.now }
-    ensures { (s : Scope) → IsAt s site.entry →
-        Grows (DeclaresPorts s names.old plan.old) (DeclaresPorts s names.new plan.new) (DeclaresPortsNot s)
+    ensures { (s : Scope) → IsAt s site.entry → Grows (DeclaresPorts s names.old plan.old) (DeclaresPorts s names.new plan.new) (DeclaresPortsNot s)
         (declared_by_port s.known (read_port port.now) ∷ []) result }
 {
     let size = match port_size(alloc, site.known, port) {
@@ -344,8 +343,7 @@ pub fn declare_ports<'s>(
     plan: &mut Plan,
 ) -> Result<(), ElabFault>
     requires { 0 < length site.path.now }
-    ensures { (s : Scope) → IsAt s site.entry →
-        Grows (DeclaresPorts s names.old plan.old) (DeclaresPorts s names.new plan.new) (DeclaresPortsNot s)
+    ensures { (s : Scope) → IsAt s site.entry → Grows (DeclaresPorts s names.old plan.old) (DeclaresPorts s names.new plan.new) (DeclaresPortsNot s)
         (map (declared_by_port s.known) (map read_port ports.now)) result }
 {
     for port in ports {

@@ -24,7 +24,7 @@ use Rattle.vs_widths.specs.Names.{meaning_of, by_bytes}
 use Rattle.vs_pieces.specs.Pieces.{NamedBlock, Piece, local, inside, pieces_of, block_pieces, blocks_among}
 use Rattle.vs_pieces.specs.Reads.{read_piece}
 use Rattle.vs_scopes.specs.declared.faults.Reason.{Reason}
-use Rattle.vs_scopes.specs.declared.faults.Reason.TheVariants.{NoModule, Inside, PortMismatch, ParameterMismatch, DeclaredTwice, DrivenTwice, Limit, Width, Endless, Unnamed}
+use Rattle.vs_scopes.specs.declared.faults.Reason.TheVariants.{NoModule, Inside, PortMismatch, ParameterMismatch, DeclaredTwice, DrivenTwice, Limit, Width, Endless, Unnamed, Timescales, Format}
 use Rattle.vs_scopes.specs.declared.faults.ElabFault.{ElabFault}
 use Rattle.vs_scopes.specs.declared.faults.ParameterRefusal.{ParameterRefusal}
 use Rattle.vs_scopes.specs.declared.faults.ParameterRefusal.TheVariants as refusal
@@ -262,6 +262,8 @@ use_told ms s u m e found h = told_by (EntersInstanceNot s u m) (EntersNot ms s 
     by Limit p k = absurd k
     by Endless p k = absurd k
     by Unnamed p k = absurd k
+    by Timescales p k = absurd k
+    by (Format wrong) p k = absurd k
 
 pub found_some : (ms : List Module) (n : List ℕ) (names : List (List ℕ × Bor Module)) (m : Bor Module) → Lists ms names → Some m ≡ meaning_of names n → module_named ms n ≡ Some m.now
 found_some ms n names m l h = sym (l.found n) ∙ ap (option_map (λ (z : Bor Module). z.now)) (sym h)
@@ -304,3 +306,5 @@ named_told ms s n x ps e q h = told_by (EntersBlockNot s n [] ps) (EntersNot ms 
     by Limit p k = k
     by Endless p k = k
     by Unnamed p k = k
+    by Timescales p k = k
+    by (Format wrong) p k = k

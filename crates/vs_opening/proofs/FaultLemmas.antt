@@ -12,7 +12,7 @@ use Rattle.vs_selects.specs.declared.constants.Const.{Const}
 use Rattle.vs_selects.specs.Environment.{Environment}
 use Rattle.vs_pieces.specs.Pieces.{NamedBlock, blocks_of, Piece, plain, loop, choice, local, inside, Content, nothing, block, content_of}
 use Rattle.vs_scopes.specs.declared.faults.Reason.{Reason}
-use Rattle.vs_scopes.specs.declared.faults.Reason.TheVariants.{NoModule, Inside, PortMismatch, ParameterMismatch, DeclaredTwice, DrivenTwice, Limit, Width, Endless, Unnamed}
+use Rattle.vs_scopes.specs.declared.faults.Reason.TheVariants.{NoModule, Inside, PortMismatch, ParameterMismatch, DeclaredTwice, DrivenTwice, Limit, Width, Endless, Unnamed, Timescales, Format}
 use Rattle.vs_scopes.specs.declared.faults.BodyFault.{BodyFault}
 use Rattle.vs_scopes.specs.declared.faults.ElabFault.{ElabFault}
 use Rattle.vs_scopes.specs.Printed.{PathName, Path}
@@ -132,6 +132,8 @@ own_holds ms s Inside p h = absurd h
 own_holds ms s DrivenTwice p h = absurd h
 own_holds ms s Endless p h = absurd h
 own_holds ms s Unnamed p h = absurd h
+own_holds ms s Timescales p h = absurd h
+own_holds ms s (Format wrong) p h = absurd h
 
 use_holds : (ms : List Module) (s : Scope) (j : ℕ) (u : Use) (r : Reason) (p : Path) → slice_get (uses_of s) j ≡ Some u → EntersNot ms s (instance u) r p → HoldsOpening ms s r p
 use_holds ms s j u NoModule p k h = record { place = j; instance = u; stands = k; none = h.0; path = h.1 }
@@ -145,6 +147,8 @@ use_holds ms s j u DrivenTwice p k h = absurd h
 use_holds ms s j u Limit p k h = absurd h
 use_holds ms s j u Endless p k h = absurd h
 use_holds ms s j u Unnamed p k h = absurd h
+use_holds ms s j u Timescales p k h = absurd h
+use_holds ms s j u (Format wrong) p k h = absurd h
 
 block_holds : (ms : List Module) (s : Scope) (i : ℕ) (n : PathName) (cs : List (List ℕ × Const)) (xs : List ModuleItem) (r : Reason) (p : Path) → slice_get (inner_of s) i ≡ Some (generated n cs xs) → EntersNot ms s (generated n cs xs) r p → HoldsOpening ms s r p
 block_holds ms s i n cs xs (Width w) p k h = inr (inr (inl (record { place = i; title = n; constants = cs; items = xs; stands = k; holds = h.0; path = h.1 })))
@@ -157,6 +161,8 @@ block_holds ms s i n cs xs DrivenTwice p k h = absurd h
 block_holds ms s i n cs xs Limit p k h = absurd h
 block_holds ms s i n cs xs Endless p k h = absurd h
 block_holds ms s i n cs xs Unnamed p k h = absurd h
+block_holds ms s i n cs xs Timescales p k h = absurd h
+block_holds ms s i n cs xs (Format wrong) p k h = absurd h
 
 enters_holds : (ms : List Module) (s : Scope) (i : ℕ) (x : Inner) (r : Reason) (p : Path) → slice_get (inner_of s) i ≡ Some x → EntersNot ms s x r p → HoldsOpening ms s r p
 enters_holds ms s i (instance u) r p k h = let one = inner_use (environment s) (all_names_of s) 1 s.pieces i u k in use_holds ms s one.0 u r p one.1 h
@@ -181,6 +187,8 @@ turns_quiet Limit q names k x t = refl
 turns_quiet (Width w) q names k x t = absurd q
 turns_quiet Endless q names k x t = absurd q
 turns_quiet Unnamed q names k x t = absurd q
+turns_quiet Timescales q names k x t = refl
+turns_quiet (Format wrong) q names k x t = refl
 
 taken_quiet : (r : Reason) → Quiet r → (names : List (List ℕ)) (k : ℕ) (t : Taken) → taken_fault r names k t ≡ false
 taken_quiet NoModule q names k t = refl
@@ -193,6 +201,8 @@ taken_quiet Limit q names k t = refl
 taken_quiet (Width w) q names k t = absurd q
 taken_quiet Endless q names k t = absurd q
 taken_quiet Unnamed q names k t = absurd q
+taken_quiet Timescales q names k t = refl
+taken_quiet (Format wrong) q names k t = refl
 
 construct_quiet : (r : Reason) → Quiet r → (env : Environment) (names : List (List ℕ)) (k : ℕ) (p : Piece) → construct_fault r env names k p ≡ false
 construct_quiet r q env names k (loop h x) = turns_quiet r q names k (content_of x) (turns_of env h)
@@ -210,6 +220,8 @@ construct_holds : (ms : List Module) (s : Scope) (r : Reason) (p : Path) → Has
 construct_holds ms s (Width w) p h = inr (inr (inr (inl h)))
 construct_holds ms s Endless p h = h
 construct_holds ms s Unnamed p h = h
+construct_holds ms s Timescales p h = absurd (true≢false (sym h.0 ∙ constructs_quiet Timescales tt (environment s) (all_names_of s) 1 s.pieces))
+construct_holds ms s (Format wrong) p h = absurd (true≢false (sym h.0 ∙ constructs_quiet (Format wrong) tt (environment s) (all_names_of s) 1 s.pieces))
 construct_holds ms s NoModule p h = absurd (true≢false (sym h.0 ∙ constructs_quiet NoModule tt (environment s) (all_names_of s) 1 s.pieces))
 construct_holds ms s Inside p h = absurd (true≢false (sym h.0 ∙ constructs_quiet Inside tt (environment s) (all_names_of s) 1 s.pieces))
 construct_holds ms s PortMismatch p h = absurd (true≢false (sym h.0 ∙ constructs_quiet PortMismatch tt (environment s) (all_names_of s) 1 s.pieces))
@@ -329,6 +341,8 @@ module _ (ms : List Module) (s : Scope) (own : IsSoundOwn s) (within : IsSoundIn
   none_holds (Width w) p (inr (inr (inr (inr h)))) = true≢false (sym h.0 ∙ own.sized (Width w))
   none_holds Endless p h = true≢false (sym h.0 ∙ within.constructs Endless)
   none_holds Unnamed p h = true≢false (sym h.0 ∙ within.constructs Unnamed)
+  none_holds Timescales p h = h
+  none_holds (Format wrong) p h = h
 
 pub none_in : (ms : List Module) (ss : List Scope) → All IsSoundOwn ss → All (IsSoundInside ms) ss → (r : Reason) (p : Path) → HoldsOpeningIn ms ss r p → ⊥
 none_in ms [] own within r p h = h

@@ -23,7 +23,7 @@ use Rattle.vs_selects.specs.declared.bindings.Binding.TheVariants as b
 use Rattle.vs_selects.specs.Environment.{Environment}
 use Rattle.vs_pieces.specs.Pieces.{Piece, plain, loop, choice, local, inside}
 use Rattle.vs_scopes.specs.declared.faults.Reason.{Reason}
-use Rattle.vs_scopes.specs.declared.faults.Reason.TheVariants.{NoModule, Inside, PortMismatch, ParameterMismatch, DeclaredTwice, DrivenTwice, Limit, Width, Endless, Unnamed}
+use Rattle.vs_scopes.specs.declared.faults.Reason.TheVariants.{NoModule, Inside, PortMismatch, ParameterMismatch, DeclaredTwice, DrivenTwice, Limit, Width, Endless, Unnamed, Timescales, Format}
 use Rattle.vs_scopes.specs.declared.faults.ElabFault.{ElabFault}
 use Rattle.vs_scopes.specs.Printed.{PathName, plainly, Path, printed_part}
 use Rattle.vs_scopes.specs.Ranges.{Sized, sized_as, words_as}
@@ -174,6 +174,8 @@ fault_apart Limit a env kind z range n = absurd a
 fault_apart (Width w) a env kind z range n = absurd a
 fault_apart Endless a env kind z range n = refl
 fault_apart Unnamed a env kind z range n = refl
+fault_apart Timescales a env kind z range n = refl
+fault_apart (Format wrong) a env kind z range n = refl
 
 module _ (r : Reason) (a : Apart r) (env : Environment) where
   none_of : (kind : SignalKind) (z : Sized) (ds : List Declarator) → list_any (declaration_fault r) (map (declared_by env kind z) ds) ≡ false
@@ -255,6 +257,8 @@ module _ (s : Scope) (start : Plan) (e : ElabFault) where
       by (Width w) p h = absurd h
       by Endless p h = absurd h
       by Unnamed p h = absurd h
+      by Timescales p h = absurd h
+      by (Format wrong) p h = absurd h
 
   -- a port's name that can't be declared
   pub ports_told : Told (DeclaresPortsNot s start (map (declared_by_port s.known) s.ports)) e → Told (DeclaresAllNot s start) e
@@ -290,6 +294,10 @@ module _ (s : Scope) (start : Plan) (e : ElabFault) where
       by Endless p (inr h) = none Endless tt h.0
       by Unnamed p (inl h) = absurd h
       by Unnamed p (inr h) = none Unnamed tt h.0
+      by Timescales p (inl h) = absurd h
+      by Timescales p (inr h) = none Timescales tt h.0
+      by (Format wrong) p (inl h) = absurd h
+      by (Format wrong) p (inr h) = none (Format wrong) tt h.0
 
   -- a name of a piece that can't be declared
   pub pieces_told : Told (DeclaresNot s start (declared_among s.known s.pieces)) e → Told (DeclaresAllNot s start) e
@@ -325,6 +333,10 @@ module _ (s : Scope) (start : Plan) (e : ElabFault) where
       by Endless p (inr h) = none Endless tt h.0
       by Unnamed p (inl h) = absurd h
       by Unnamed p (inr h) = none Unnamed tt h.0
+      by Timescales p (inl h) = absurd h
+      by Timescales p (inr h) = none Timescales tt h.0
+      by (Format wrong) p (inl h) = absurd h
+      by (Format wrong) p (inr h) = none (Format wrong) tt h.0
 
 -- ---- the names of a scope, all of them
 
@@ -353,6 +365,8 @@ module _ (s : Scope) (base : ℕ) (same : base ≡ s.base) (gs os : Bindings) (g
         by (Width w) p h = absurd h
         by Endless p h = absurd h
         by Unnamed p h = absurd h
+        by Timescales p h = absurd h
+        by (Format wrong) p h = absurd h
 
     pub others_told : Told (BoundNot at [] ((front_names s base ++ gs) ++ os)) e → Told (BindsNot s) e
     others_told h = told_by (BoundNot at [] ((front_names s base ++ gs) ++ os)) (BindsNot s) e by h
@@ -368,6 +382,8 @@ module _ (s : Scope) (base : ℕ) (same : base ≡ s.base) (gs os : Bindings) (g
         by (Width w) p h = absurd h
         by Endless p h = absurd h
         by Unnamed p h = absurd h
+        by Timescales p h = absurd h
+        by (Format wrong) p h = absurd h
 
 pub declares_told : (s : Scope) (start : Plan) (e : ElabFault) → s.base ≡ length start.signals.items → Told (DeclaresAllNot s start) e → Told (BindsNot s) e
 declares_told s start e base h = told_by (DeclaresAllNot s start) (BindsNot s) e by h
@@ -384,6 +400,8 @@ declares_told s start e base h = told_by (DeclaresAllNot s start) (BindsNot s) e
     by DrivenTwice p h = absurd h
     by Endless p h = absurd h
     by Unnamed p h = absurd h
+    by Timescales p h = absurd h
+    by (Format wrong) p h = absurd h
 
 -- a scope whose names are bound
 pub binds : (s : Scope) (names two : Bindings) (old start new : Plan) (title : Vec ℕ Global) (gs os : Bindings) → s.base ≡ length old.signals.items → title.items ≡ printed_part s.title →
@@ -476,6 +494,8 @@ again_told s at e a stray h = told_by (IsAgainNot at s.ports s.pieces) (HoldsOwn
     by (Width w) p h = absurd h
     by Endless p h = absurd h
     by Unnamed p h = absurd h
+    by Timescales p h = absurd h
+    by (Format wrong) p h = absurd h
 
 -- a name that can't be bound
 pub binds_told : (s : Scope) (e : ElabFault) → Told (BindsNot s) e → Told (HoldsOwn s) e
@@ -493,6 +513,8 @@ binds_told s e h = told_by (BindsNot s) (HoldsOwn s) e by h
     by DrivenTwice p h = absurd h
     by Endless p h = absurd h
     by Unnamed p h = absurd h
+    by Timescales p h = absurd h
+    by (Format wrong) p h = absurd h
 
 -- how many signals there are behind a scope's own
 pub binds_count : (s : Scope) (names : Bindings) (old new : Plan) → Binds s names old new → length new.signals.items ≡ length old.signals.items + length (declarations_of s)

@@ -20,7 +20,7 @@ use Rattle.vs_widths.specs.Names.{meaning_of, by_bytes, Declares as NamesDeclare
 use Rattle.vs_pieces.specs.Pieces.{pieces_of}
 use Rattle.vs_pieces.specs.Reads.{read_piece}
 use Rattle.vs_scopes.specs.declared.faults.Reason.{Reason}
-use Rattle.vs_scopes.specs.declared.faults.Reason.TheVariants.{NoModule, Inside, PortMismatch, ParameterMismatch, DeclaredTwice, DrivenTwice, Limit, Width, Endless, Unnamed}
+use Rattle.vs_scopes.specs.declared.faults.Reason.TheVariants.{NoModule, Inside, PortMismatch, ParameterMismatch, DeclaredTwice, DrivenTwice, Limit, Width, Endless, Unnamed, Timescales, Format}
 use Rattle.vs_scopes.specs.declared.faults.ElabFault.{ElabFault}
 use Rattle.vs_scopes.specs.Printed.{plainly, Path}
 use Rattle.vs_scopes.specs.Parameters.{Parameter, given_from, given_to, own_faults, outer_faults, parameters_of}
@@ -265,6 +265,8 @@ modules_told ms top e h = told_by (ListsNot ms) (StandsOpening ms top) e by h
     by (Width w) p h = absurd h
     by Endless p h = absurd h
     by Unnamed p h = absurd h
+    by Timescales p h = absurd h
+    by (Format wrong) p h = absurd h
 
 pub nothing_told : (ms : List Module) (top : List ℕ) (e : ElabFault) → module_named ms top ≡ None → IsFaultAt NoModule (plainly top ∷ []) e → Told (StandsOpening ms top) e
 nothing_told ms top e h f = told_at (StandsOpening ms top) NoModule (plainly top ∷ []) e (inl (h, refl)) f
@@ -292,6 +294,8 @@ top_told ms top m e f h = told_by (TopNot m) (StandsOpening ms top) e by h
     by Limit p h = absurd h
     by Endless p h = absurd h
     by Unnamed p h = absurd h
+    by Timescales p h = absurd h
+    by (Format wrong) p h = absurd h
 
 -- no fault stands in a source whose scopes were listed
 pub none_stands : (ms : List Module) (top : List ℕ) (list : List FoundScope) (plan : Plan) → Made ms top list plan → (r : Reason) (p : Path) → StandsOpening ms top r p → ⊥
@@ -306,3 +310,5 @@ none_stands ms top list plan h DrivenTwice p (inl k) = k
 none_stands ms top list plan h Limit p (inl k) = k
 none_stands ms top list plan h Endless p (inl k) = k
 none_stands ms top list plan h Unnamed p (inl k) = k
+none_stands ms top list plan h Timescales p (inl k) = k
+none_stands ms top list plan h (Format wrong) p (inl k) = k

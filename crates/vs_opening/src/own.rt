@@ -238,8 +238,8 @@ fn open_names<'a, 's, 'o>(
 ) -> Result<Names<'s, Binding>, ElabFault>
     requires rooted { 0 < length path.now }
     requires room { length plan.old.signals.items ≤ 65536 }
-    ensures { (ss : List Scope) (s : Scope) → IsEntered ss scope.now s → IsSite s (read_path path.entry.now) (meaning_of known.entry.now) →
-        HasFittingPieces s → s.base ≡ length plan.old.signals.items →
+    ensures { (ss : List Scope) (s : Scope) → IsEntered ss scope.now s → IsSite s (read_path path.entry.now) (meaning_of known.entry.now) → HasFittingPieces s →
+        s.base ≡ length plan.old.signals.items →
         MatchResult result (λ names. OpensNames s names plan.old plan.new) (Told (HoldsOwn s)) }
 {
     let site = Site { path, known };

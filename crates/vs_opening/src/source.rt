@@ -95,8 +95,7 @@ fn open_top<'s>(
     requires empty { list.old.items ≡ [] }
     requires planned { IsPlanned list.old.items plan.old [] }
     requires outline { plan.old.outline.items ≡ [] }
-    ensures { MatchResult result (λ _. Made modules.entry.now top.now list.new.items plan.new)
-        (Told (StandsOpening modules.entry.now top.now)) }
+    ensures { MatchResult result (λ _. Made modules.entry.now top.now list.new.items plan.new) (Told (StandsOpening modules.entry.now top.now)) }
 {
     let names = list_modules(alloc, modules)?;
     let Some(module) = names.find(top) else {

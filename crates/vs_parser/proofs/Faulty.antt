@@ -4,7 +4,7 @@ use Rattle.std.proofs.Common.{sym, ◌∙◌, ap, subst, inr, append_assoc, arit
 use Rattle.std.proofs.lemmas.List.{append-nil, length-append, length-map, map-append, take-append-drop}
 use Rattle.vs_tokens.specs.declared.token.Token.{Token}
 use Rattle.vs_lexer.specs.Tokens.{Lexeme, lexeme, lexemes}
-use Rattle.vs_syntax.specs.Symbols.{Symbol, a_mark, a_word, a_name, a_number, a_cast, a_nettype, another, no_token, class_of, first, symbol, symbols}
+use Rattle.vs_syntax.specs.Symbols.{Symbol, a_mark, a_word, a_name, a_number, a_cast, a_text, a_print, a_finish, a_dump, a_time, a_directive, another, no_token, class_of, first, symbol, symbols}
 use Rattle.vs_syntax.specs.Grammar.{part, a_source}
 use Rattle.vs_syntax.specs.Derivation.{Tree, empty, tokens, Is, is_part, is_stop}
 use Rattle.vs_syntax.specs.Reading.{Gets, Stuck}
@@ -32,7 +32,12 @@ some_class (a_word w) e = cc
 some_class (a_name n) e = cc
 some_class (a_number l) e = cc
 some_class (a_cast s) e = cc
-some_class (a_nettype x) e = cc
+some_class (a_text n) e = cc
+some_class (a_print x) e = cc
+some_class a_finish e = cc
+some_class (a_dump x) e = cc
+some_class a_time e = cc
+some_class (a_directive x) e = cc
 some_class another e = cc
 
 -- where reading a source stopped

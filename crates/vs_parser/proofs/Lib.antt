@@ -6,3 +6,4 @@ pub mod Items
 pub mod Generated
 pub mod Sources
 pub mod Faulty
+pub mod SystemNames

@@ -6,10 +6,10 @@ use Rattle.std.proofs.lemmas.Grind.{flat_map-append}
 use Rattle.std.proofs.lemmas.List.{append-nil, map-append}
 use Rattle.std.specs.declared.vec.Vec.{Vec}
 use Rattle.std.specs.declared.alloc.Global.{Global}
-use Rattle.vs_tokens.specs.declared.token.ImplicitNet.{ImplicitNet}
+use Rattle.vs_tokens.specs.declared.token.Directive.{Directive}
 use Rattle.vs_tokens.specs.declared.token.Token.{Token}
 use Rattle.vs_tokens.specs.declared.token.Word.TheVariants as w
-use Rattle.vs_syntax.specs.Symbols.{Symbol, a_word, a_nettype, the_word, first}
+use Rattle.vs_syntax.specs.Symbols.{Symbol, a_word, a_directive, the_word, first}
 use Rattle.vs_syntax.specs.Grammar.{many, part, a_module}
 use Rattle.vs_syntax.specs.Tables.{goes}
 use Rattle.vs_syntax.specs.Derivation.{Tree, leaf}
@@ -24,25 +24,25 @@ use Rattle.vs_parser.specs.declared.head.SourceHead.{SourceHead}
 use Rattle.vs_parser.specs.Heads.{source_symbol, module_or_directive}
 
 -- the trees of modules, and of the directives behind them
-abbrev pub source_trees : List Module → List ImplicitNet → List Tree
+abbrev pub source_trees : List Module → List Directive → List Tree
 source_trees ms ds = flat_map directed_trees ms ++ map directive_tree ds
 
-pub source_start : (room : ℕ) (ts us : List Token) (ms : List Module) (ds : List ImplicitNet) → us ≡ drop 0 ts → ms ≡ [] → ds ≡ [] → Along module_or_directive room (seen ts) (seen us) (source_trees ms ds)
+pub source_start : (room : ℕ) (ts us : List Token) (ms : List Module) (ds : List Directive) → us ≡ drop 0 ts → ms ≡ [] → ds ≡ [] → Along module_or_directive room (seen ts) (seen us) (source_trees ms ds)
 source_start room ts us ms ds e f g = rw (e, f, g) (along_none module_or_directive room (seen ts))
 
 -- one more directive
-one_more : (ms : List Module) (ds ds' : List ImplicitNet) (x : ImplicitNet) → ds' ≡ ds ++ x ∷ [] → source_trees ms ds' ≡ source_trees ms ds ++ directive_tree x ∷ []
+one_more : (ms : List Module) (ds ds' : List Directive) (x : Directive) → ds' ≡ ds ++ x ∷ [] → source_trees ms ds' ≡ source_trees ms ds ++ directive_tree x ∷ []
 one_more ms ds ds' x e =
     ap (λ u. flat_map directed_trees ms ++ u) (ap (map directive_tree) e ∙ map-append directive_tree ds (x ∷ []))
     ∙ sym (append_assoc (flat_map directed_trees ms) (map directive_tree ds) (directive_tree x ∷ []))
 
-directive_goes : (ts after : List Symbol) (x : ImplicitNet) → ts ≡ a_nettype x ∷ after → goes module_or_directive ts ≡ true
+directive_goes : (ts after : List Symbol) (x : Directive) → ts ≡ a_directive x ∷ after → goes module_or_directive ts ≡ true
 directive_goes ts after x e = ap (goes module_or_directive) e
 
-directive_read : (room : ℕ) (ts after : List Symbol) (x : ImplicitNet) → ts ≡ a_nettype x ∷ after → Gets module_or_directive room ts (directive_tree x) after
+directive_read : (room : ℕ) (ts after : List Symbol) (x : Directive) → ts ≡ a_directive x ∷ after → Gets module_or_directive room ts (directive_tree x) after
 directive_read room ts after x e = rw e (gets_right refl (gets_token refl))
 
-pub directive_push : (room : ℕ) (start rest after : List Symbol) (ms : List Module) (ds ds' : List ImplicitNet) (x : ImplicitNet) → ds' ≡ ds ++ x ∷ [] → rest ≡ a_nettype x ∷ after → Along module_or_directive room start rest (source_trees ms ds) → Along module_or_directive room start after (source_trees ms ds')
+pub directive_push : (room : ℕ) (start rest after : List Symbol) (ms : List Module) (ds ds' : List Directive) (x : Directive) → ds' ≡ ds ++ x ∷ [] → rest ≡ a_directive x ∷ after → Along module_or_directive room start rest (source_trees ms ds) → Along module_or_directive room start after (source_trees ms ds')
 directive_push room start rest after ms ds ds' x e f l =
     subst (λ (u : List Tree). Along module_or_directive room start after u) (sym (one_more ms ds ds' x e))
     (along_one module_or_directive room start rest after (source_trees ms ds) (directive_tree x) l (directive_goes rest after x f) (directive_read room rest after x f))
@@ -54,10 +54,10 @@ module_goes ts after e = goes_at (part a_module) ts (the_word w.Module) true (ap
 begins_module : (ts after : List Symbol) → ts ≡ a_word w.Module ∷ after → goes module_or_directive ts ≡ true
 begins_module ts after e = ap (goes module_or_directive) e
 
-last_module : (m : Module) (ds : Vec ImplicitNet Global) → m.directives ≡ ds → directed_trees m ≡ map directive_tree ds.items ++ module_tree m ∷ []
-last_module m ds e = ap (λ (u : Vec ImplicitNet Global). map directive_tree u.items ++ module_tree m ∷ []) e
+last_module : (m : Module) (ds : Vec Directive Global) → m.directives ≡ ds → directed_trees m ≡ map directive_tree ds.items ++ module_tree m ∷ []
+last_module m ds e = ap (λ (u : Vec Directive Global). map directive_tree u.items ++ module_tree m ∷ []) e
 
-another_module : (ms ms' : List Module) (ds : Vec ImplicitNet Global) (ds' : List ImplicitNet) (m : Module) → ms' ≡ ms ++ m ∷ [] → m.directives ≡ ds → ds' ≡ [] → source_trees ms' ds' ≡ source_trees ms ds.items ++ module_tree m ∷ []
+another_module : (ms ms' : List Module) (ds : Vec Directive Global) (ds' : List Directive) (m : Module) → ms' ≡ ms ++ m ∷ [] → m.directives ≡ ds → ds' ≡ [] → source_trees ms' ds' ≡ source_trees ms ds.items ++ module_tree m ∷ []
 another_module ms ms' ds ds' m e f g =
     ap (λ u. source_trees ms' u) g
     ∙ append-nil (flat_map directed_trees ms')
@@ -66,7 +66,7 @@ another_module ms ms' ds ds' m e f g =
     ∙ ap (λ u. flat_map directed_trees ms ++ u) (append-nil (directed_trees m) ∙ last_module m ds f)
     ∙ sym (append_assoc (flat_map directed_trees ms) (map directive_tree ds.items) (module_tree m ∷ []))
 
-pub module_push : (room : ℕ) (start rest after behind : List Symbol) (ms ms' : List Module) (ds : Vec ImplicitNet Global) (ds' : List ImplicitNet) (m : Module) → ms' ≡ ms ++ m ∷ [] → m.directives ≡ ds → ds' ≡ [] → rest ≡ a_word w.Module ∷ after → Gets (part a_module) room rest (module_tree m) behind → Along module_or_directive room start rest (source_trees ms ds.items) → Along module_or_directive room start behind (source_trees ms' ds')
+pub module_push : (room : ℕ) (start rest after behind : List Symbol) (ms ms' : List Module) (ds : Vec Directive Global) (ds' : List Directive) (m : Module) → ms' ≡ ms ++ m ∷ [] → m.directives ≡ ds → ds' ≡ [] → rest ≡ a_word w.Module ∷ after → Gets (part a_module) room rest (module_tree m) behind → Along module_or_directive room start rest (source_trees ms ds.items) → Along module_or_directive room start behind (source_trees ms' ds')
 module_push room start rest after behind ms ms' ds ds' m e f g h p l =
     subst (λ (u : List Tree). Along module_or_directive room start behind u) (sym (another_module ms ms' ds ds' m e f g))
     (along_one module_or_directive room start rest behind (source_trees ms ds.items) (module_tree m) l (begins_module rest after h) (gets_left (module_goes rest after h) p))

@@ -3,7 +3,7 @@ use Rattle.std.specs.Prelude.{◌≡◌, List, ◌∷◌}
 use Rattle.vs_tokens.specs.declared.token.Mark.TheVariants as m
 use Rattle.vs_tokens.specs.declared.token.Word.{Word}
 use Rattle.vs_tokens.specs.declared.token.Word.TheVariants as w
-use Rattle.vs_syntax.specs.Symbols.{Symbol, a_word, a_name, a_nettype, the_nettype}
+use Rattle.vs_syntax.specs.Symbols.{Symbol, a_word, a_name, a_directive, the_directive}
 use Rattle.vs_syntax.specs.Grammar.{Grammar, nothing, token, ◌·◌, ◌or◌, part, many, mark, word, name, form, listed, instances, parameter_form, port_form, may_value, generate_loop, generate_branches, guarded, a_module, a_constant, a_net, a_port, a_port_name, a_bare_name, a_variable, an_assignment, an_item, a_stmt}
 use Rattle.vs_syntax.specs.Views.{direction_word}
 use Rattle.vs_syntax.specs.declared.tree.PortKind.{PortKind}
@@ -21,12 +21,12 @@ use Rattle.vs_parser.specs.declared.head.DeclarationWord.TheVariants as d
 
 -- a module, or a directive (clauses A.1.2 and 19.2)
 abbrev pub module_or_directive : Grammar
-module_or_directive = part a_module or token the_nettype
+module_or_directive = part a_module or token the_directive
 
 -- the first symbol of it
 abbrev pub source_symbol : SourceHead → Symbol
 source_symbol s.Module = a_word w.Module
-source_symbol (s.Directive x) = a_nettype x
+source_symbol (s.Directive x) = a_directive x
 
 -- the word of the kind of a port, or nothing (clause A.2.1.2)
 abbrev pub port_kind : Grammar

@@ -5,7 +5,7 @@ ghost use Rattle.vs_parser.specs.LeftOut.{is_left_out};
 
 use std::alloc::{AllocError, Global};
 use thiserror::Error;
-use vs_expressions::cast;
+use vs_expressions::system_name;
 use vs_lexer::{Kind, Token};
 
 /// What is wrong with the tokens. The place of a token is that of its first byte in the source.
@@ -57,7 +57,7 @@ pub(crate) fn left_out(token: &Token) -> bool
     match token.kind {
         Kind::Mark(mark) => mark.is_left_out(),
         Kind::LeftOut => true,
-        Kind::System => cast(token.bytes).is_none(),
+        Kind::System => system_name(token.bytes).is_none(),
         _ => false,
     }
 }

@@ -9,7 +9,7 @@ ghost use Rattle.vs_syntax.specs.Views.{direction_word};
 ghost use Rattle.vs_parser.specs.Heads.{BeginsItem, symbol_of, plain_symbol, source_symbol, module_or_directive, port_kind, kind_word};
 
 use vs_expressions::next;
-use vs_lexer::{Directive, ImplicitNet, Kind, Token, Word};
+use vs_lexer::{Directive, Kind, Token, Word};
 use vs_syntax::{Direction, PortKind};
 
 /// What stands between modules.
@@ -17,8 +17,8 @@ use vs_syntax::{Direction, PortKind};
 pub(crate) enum SourceHead {
     /// `module`, with which a module begins.
     Module,
-    /// A directive, by what it says of undeclared names.
-    Directive(ImplicitNet),
+    /// A directive.
+    Directive(Directive),
 }
 
 /// What an item begins with.
@@ -86,10 +86,7 @@ pub(crate) fn source_head<'t, 's>(tokens: &'t [Token<'s>]) -> Option<(SourceHead
             Word::Module => Some((SourceHead::Module, rest)),
             _ => None,
         },
-        Kind::Directive(directive) => match directive {
-            Directive::DefaultNettype(implicit) => Some((SourceHead::Directive(implicit), rest)),
-            _ => None,
-        },
+        Kind::Directive(directive) => Some((SourceHead::Directive(directive), rest)),
         _ => None,
     }
 }

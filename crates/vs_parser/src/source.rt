@@ -11,7 +11,7 @@ use crate::head::{SourceHead, source_head};
 use crate::header::{header_parameters, header_ports};
 use std::alloc::Global;
 use vs_expressions::{Read, Stop, expect_mark, expect_name, expect_word};
-use vs_lexer::{ImplicitNet, Mark, Token, Word};
+use vs_lexer::{Directive, Mark, Token, Word};
 use vs_syntax::{Module, Source};
 
 /// Reads a module, behind whose first word `after` stands, with the directives before it.
@@ -20,7 +20,7 @@ fn module<'t, 's>(
     room: u32,
     tokens: &'t [Token<'s>],
     after: &'t [Token<'s>],
-    directives: Vec<ImplicitNet>,
+    directives: Vec<Directive>,
 ) -> Result<Read<'t, 's, Module>, Stop<'t, 's>>
     requires { seen tokens.now ≡ a_word w.Module ∷ seen after.now }
     ensures reads { Reads (part a_module) room tokens.now module_tree result }
@@ -58,8 +58,8 @@ pub(crate) fn source<'t, 's>(
     let (_none, mut rest) = tokens.split_at(0);
     while let Some((head, after)) = source_head(rest) {
         match head {
-            SourceHead::Directive(implicit) => {
-                directives.push(implicit)?;
+            SourceHead::Directive(directive) => {
+                directives.push(directive)?;
                 rest = after;
             }
             SourceHead::Module => {

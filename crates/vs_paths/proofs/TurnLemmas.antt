@@ -25,7 +25,7 @@ use Rattle.vs_selects.specs.Environment.{Environment}
 use Rattle.vs_selects.specs.Findings.{Finding, Has, Lacks}
 use Rattle.vs_selects.specs.Meants.{Meant}
 use Rattle.vs_selects.specs.Selects.{size_found}
-use Rattle.vs_selects.specs.Constants.{where_none, constant_finding}
+use Rattle.vs_selects.specs.Constants.{where_none, constant_finding, plain_range, constant_in}
 use Rattle.vs_widths.specs.Expressions.{meant}
 use Rattle.vs_scopes.specs.Ranges.{number_fault}
 use Rattle.vs_scopes.specs.Parameters.{sign_found, with_constant, any_fault}
@@ -46,6 +46,7 @@ no_fault g h WrongKind = (or_parts (g TooWide || g Unknown || g NotConstant) (g 
 pub record IsNumber (c : Const) : Type 0 where
   pub is : ℤ
   pub signed : c.signed ≡ true
+  pub bits : c.bits ≡ plain_range (length c.value)
   pub long : length c.value ≡ 32
   pub number : genvar_number c ≡ Some is
 
@@ -75,6 +76,7 @@ value_is env e h = by (constant_finding m) refl (sound_constant m (meant_full en
         record {
           is = some.0;
           signed = refl;
+          bits = refl;
           long = cut_long (digits_at (meant env e)) (size_found (meant env e).finding) ((meant_full env e).long found [] 0 (max 32 (size_found (meant env e).finding)) (sign_found (meant env e).finding));
           number = some.1;
         }
@@ -89,13 +91,13 @@ known_digits ds v h = by (is_known ds) refl h
 
 -- the value of 32 digits of a number
 abbrev value_of_number : ℤ → Const
-value_of_number v = record { value = of_integer 32 v; signed = true }
+value_of_number v = constant_in None true (of_integer 32 v)
 
 value_of_turn : (c : Const) (n : IsNumber c) → c ≡ value_of_number n.is
 value_of_turn c n =
     let known = known_digits c.value n.is n.number in
     let digits : c.value ≡ of_integer 32 n.is = sym (of_integer-integer true c.value known.0) ∙ ap₂ of_integer n.long known.1 in
-    ap₂ (λ v s. record { value = v; signed = s }) digits n.signed
+    ap (λ b. record { value = c.value; signed = c.signed; bits = b }) n.bits ∙ ap₂ (λ v s. constant_in None s v) digits n.signed
 
 -- values of one number are the same
 same_values : (c d : Const) → IsNumber c → IsNumber d → genvar_number c ≡ genvar_number d → c ≡ d

@@ -25,6 +25,7 @@ use Rattle.vs_design.specs.Stores.{Store, word_of}
 use Rattle.vs_eval.specs.Values.{left_side, right_side, operand_value, picked, chosen}
 use Rattle.vs_forms.specs.declared.shape.Shape.{Shape}
 use Rattle.vs_forms.specs.Operations.{operated}
+use Rattle.vs_selects.specs.declared.constants.Const.{Const}
 use Rattle.vs_selects.specs.declared.faults.WidthReason.{WidthReason}
 use Rattle.vs_selects.specs.declared.faults.WidthReason.TheVariants.{TooWide, Unknown, NotConstant, WrongKind}
 use Rattle.vs_selects.specs.declared.bindings.Meaning.{Meaning}
@@ -34,7 +35,7 @@ use Rattle.vs_selects.specs.Environment.{Environment}
 use Rattle.vs_selects.specs.Findings.{Finding, Has, Lacks, unknown, wrong_kind, not_constant, too_wide, together, alone, alike, linked_shape, second, unsigned, beside, repeated}
 use Rattle.vs_selects.specs.Meants.{Meant, own}
 use Rattle.vs_selects.specs.Constants.{where_none, constant_finding, whole_of, natural_of, positive, where_some, count_finding}
-use Rattle.vs_selects.specs.Selects.{Select, stands_in, refused, is_reversed, between, counted, base_finding, select_span, span_of, in_array, of_words, named, select_meant}
+use Rattle.vs_selects.specs.Selects.{Select, stands_in, refused, is_reversed, between, counted, base_finding, select_span, span_of, in_array, of_words, named, constant_span, operand_meant, select_meant}
 use Rattle.vs_widths.specs.Expressions.{meant, meant_step, signal_finding, name_meant, unary_meant, linked_meant, chain_meant, linked_value, choice_finding, choice_meant, sum_finding, concat_meant}
 
 -- ---- findings
@@ -183,8 +184,21 @@ name_full (Some Pending) = record { sound = (NotConstant, refl); long = λ found
 name_full (Some Other) = record { sound = (WrongKind, refl); long = λ found. absurd found }
 name_full (Some Genvar) = record { sound = (WrongKind, refl); long = λ found. absurd found }
 
+place_full : (o : Option Binding) (ss : List Select) → SoundSelects ss → IsFull (operand_meant (named o ss))
+place_full o ss h = record { sound = sound_named o ss h; long = λ found store time width signed. length-resized signed width _ }
+
+sound_constant_span : (c : Const) (ss : List Select) → SoundSelects ss → IsSound (constant_span c ss).finding
+sound_constant_span c [] h = tt
+sound_constant_span c (x ∷ []) h = sound_span c.bits (length c.value) x h.0
+sound_constant_span c (x ∷ y ∷ ss) h = sound_refused wrong_kind WrongKind (x ∷ y ∷ ss) refl
+
 select_full : (o : Option Binding) (ss : List Select) → SoundSelects ss → IsFull (select_meant o ss)
-select_full o ss h = record { sound = sound_named o ss h; long = λ found store time width signed. length-resized signed width _ }
+select_full None ss h = place_full None ss h
+select_full (Some (Constant c)) ss h = record { sound = sound_constant_span c ss h; long = λ found store time width signed. length-resized signed width _ }
+select_full (Some (Signal m signal)) ss h = place_full (Some (Signal m signal)) ss h
+select_full (Some Pending) ss h = place_full (Some Pending) ss h
+select_full (Some Other) ss h = place_full (Some Other) ss h
+select_full (Some Genvar) ss h = place_full (Some Genvar) ss h
 
 unary_by : (a : Bool) (op : Unary) (x : Meant) → gives_bit op ≡ a → IsFull x → IsFull (unary_meant op x)
 unary_by true op x e h = rw e (record {

@@ -47,7 +47,7 @@ fn add_blocks<'s>(blocks: &mut Vec<NamedBlock<'s>>, s: &'s Stmt) -> Result<(), A
     match s {
         Stmt::Null => Ok(()),
         Stmt::Assign(_, _) => Ok(()),
-        Stmt::Later(_, _) => Ok(()),
+        Stmt::Later(_, _, _) => Ok(()),
         Stmt::Block(inner) => add_blocks_among(blocks, inner),
         Stmt::Named(name, locals, inner) => add_block(blocks, name, locals, inner),
         Stmt::If(_, x, other) => {
@@ -61,6 +61,9 @@ fn add_blocks<'s>(blocks: &mut Vec<NamedBlock<'s>>, s: &'s Stmt) -> Result<(), A
         Stmt::Forever(x) => add_blocks(blocks, x),
         Stmt::Delay(_, x) => add_blocks(blocks, x),
         Stmt::Event(_, x) => add_blocks(blocks, x),
+        Stmt::Print(_, _) => Ok(()),
+        Stmt::Finish(_) => Ok(()),
+        Stmt::Dump(_, _) => Ok(()),
     }
 }
 

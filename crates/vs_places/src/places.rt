@@ -120,7 +120,7 @@ impl<'a> Places<'a> {
         alloc: Global,
         store: &Store,
         time: u64,
-    ) -> Result<Effect, AllocError>
+    ) -> Result<Effect<'a>, AllocError>
         requires active { executions.if_some is_going (slice_get self.old process) ≡ true }
         requires early { time < 2 ^ 62 }
         ensures ok { IfOk result (λ e. StepsAt self.old process store.now time self.new e) }

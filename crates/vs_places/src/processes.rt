@@ -211,7 +211,7 @@ impl<'a> Processes<'a> {
         process: usize,
         alloc: Global,
         store: &Store,
-    ) -> Result<Effect, AllocError>
+    ) -> Result<Effect<'a>, AllocError>
         requires active { executions.if_some is_going (slice_get self.old.places process) ≡ true }
         requires early { self.old.time < 2 ^ 62 }
         ensures ok { IfOk result (λ e. StepsAt self.old.places process store.now self.old.time self.new.places e) }

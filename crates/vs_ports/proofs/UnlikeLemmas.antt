@@ -11,7 +11,7 @@ use Rattle.vs_selects.specs.Meants.{own}
 use Rattle.vs_selects.specs.Constants.{constant_finding, whole_at}
 use Rattle.vs_widths.specs.Expressions.{meant}
 use Rattle.vs_scopes.specs.declared.faults.Reason.{Reason}
-use Rattle.vs_scopes.specs.declared.faults.Reason.TheVariants.{NoModule, Inside, PortMismatch, ParameterMismatch, DeclaredTwice, DrivenTwice, Limit, Endless, Unnamed, Width}
+use Rattle.vs_scopes.specs.declared.faults.Reason.TheVariants.{NoModule, Inside, PortMismatch, ParameterMismatch, DeclaredTwice, DrivenTwice, Limit, Endless, Unnamed, Timescales, Format, Width}
 use Rattle.vs_scopes.specs.Ranges.{number_fault, bound_of, bound_fault, both_bounds, bounds_fault, range_bounds}
 use Rattle.vs_scopes.specs.passes.Sizes.{width_faults}
 
@@ -56,3 +56,5 @@ none_refused env r DrivenTwice h = absurd (true≢false (sym h))
 none_refused env r Limit h = absurd (true≢false (sym h))
 none_refused env r Endless h = absurd (true≢false (sym h))
 none_refused env r Unnamed h = absurd (true≢false (sym h))
+none_refused env r Timescales h = absurd (true≢false (sym h))
+none_refused env r (Format wrong) h = absurd (true≢false (sym h))

@@ -132,7 +132,9 @@ flat-leaf _ h = refl
 flat-rolled_block : (x : Statement-F Statement) (xs : List Statement) → block_items x ≡ Some xs → flat (roll-Statement x) ≡ flat_all xs
 flat-rolled_block (Statement-F.Null n) xs h = cc
 flat-rolled_block (Statement-F.Assign n t e) xs h = cc
-flat-rolled_block (Statement-F.Later n t e) xs h = cc
+flat-rolled_block (Statement-F.Later n ticks t e) xs h = cc
+flat-rolled_block (Statement-F.Call n c) xs h = cc
+flat-rolled_block (Statement-F.Finish n) xs h = cc
 flat-rolled_block (Statement-F.Block v) xs h = let e : v.items ≡ xs = cc in ap flat (rolls-Block v) ∙ flat-Block v ∙ ap flat_all e
 flat-rolled_block (Statement-F.Delay n ticks body) xs h = cc
 flat-rolled_block (Statement-F.Event n terms body) xs h = cc
@@ -162,7 +164,9 @@ sound_rows ss (p ∷ ps) h =
 sound_layer : (ss : List Signal) (y : Statement-F (WithSound ss)) → FlatSound ss (roll-Statement (map-Statement (WithSound ss) Statement (λ p. p.0) y))
 sound_layer ss (Statement-F.Null n) = sound_leaf ss (Statement-F.Null n) refl
 sound_layer ss (Statement-F.Assign n t e) = sound_leaf ss (Statement-F.Assign n t e) refl
-sound_layer ss (Statement-F.Later n t e) = sound_leaf ss (Statement-F.Later n t e) refl
+sound_layer ss (Statement-F.Later n ticks t e) = sound_leaf ss (Statement-F.Later n ticks t e) refl
+sound_layer ss (Statement-F.Call n c) = sound_leaf ss (Statement-F.Call n c) refl
+sound_layer ss (Statement-F.Finish n) = sound_leaf ss (Statement-F.Finish n) refl
 sound_layer ss (Statement-F.Delay n ticks body) = sound_leaf ss (map-Statement (WithSound ss) Statement (λ p. p.0) (Statement-F.Delay n ticks body)) refl
 sound_layer ss (Statement-F.Event n terms body) = sound_leaf ss (map-Statement (WithSound ss) Statement (λ p. p.0) (Statement-F.Event n terms body)) refl
 sound_layer ss (Statement-F.If n e a b) = sound_leaf ss (map-Statement (WithSound ss) Statement (λ p. p.0) (Statement-F.If n e a b)) refl
@@ -229,7 +233,9 @@ sound_statement_next : (ss : List Signal) (s : Statement) (f : Statement-F State
 unfolding next_todo
 sound_statement_next ss s (Statement-F.Null n) rest store time whole h r = r
 sound_statement_next ss s (Statement-F.Assign n t e) rest store time whole h r = r
-sound_statement_next ss s (Statement-F.Later n t e) rest store time whole h r = r
+sound_statement_next ss s (Statement-F.Later n ticks t e) rest store time whole h r = r
+sound_statement_next ss s (Statement-F.Call n c) rest store time whole h r = r
+sound_statement_next ss s (Statement-F.Finish n) rest store time whole h r = r
 sound_statement_next ss s (Statement-F.Block all) rest store time whole h r = sound_before ss (flat s) rest (sound_flat ss s whole) r
 sound_statement_next ss s (Statement-F.Delay n ticks body) rest store time whole h r = sound_before ss (flat body.value) rest (sound_flat ss body.value h) r
 sound_statement_next ss s (Statement-F.Event n terms body) rest store time whole h r =
@@ -288,10 +294,12 @@ statement_names ss s (Statement-F.Assign n t e) rest store time h = record {
   write = λ w is v named. let p : assignment t e store time ≡ w = cc in assigned_variable ss t e store time v h (ap (λ x. names x v) p ∙ named);
   update = λ u is. cc;
 }
-statement_names ss s (Statement-F.Later n t e) rest store time h = record {
+statement_names ss s (Statement-F.Later n ticks t e) rest store time h = record {
   write = λ w is. cc;
-  update = λ u is v named. let p : (0, assignment t e store time) ≡ u = cc in assigned_variable ss t e store time v h (ap (λ x. names x.1 v) p ∙ named);
+  update = λ u is v named. let p : (ticks.count, assignment t e store time) ≡ u = cc in assigned_variable ss t e store time v h (ap (λ x. names x.1 v) p ∙ named);
 }
+statement_names ss s (Statement-F.Call n c) rest store time h = names_none ss (statement_step s (Statement-F.Call n c) rest store time) refl refl
+statement_names ss s (Statement-F.Finish n) rest store time h = names_none ss (statement_step s (Statement-F.Finish n) rest store time) refl refl
 statement_names ss s (Statement-F.Block all) rest store time h = names_none ss (statement_step s (Statement-F.Block all) rest store time) refl refl
 statement_names ss s (Statement-F.Delay n ticks body) rest store time h = names_none ss (statement_step s (Statement-F.Delay n ticks body) rest store time) refl refl
 statement_names ss s (Statement-F.Event n terms body) rest store time h = names_none ss (statement_step s (Statement-F.Event n terms body) rest store time) refl refl

@@ -1,5 +1,5 @@
 -- What the code answers of a step, as the definition's.
-use Rattle.std.specs.Prelude.{ℕ, Some, ◌≡◌}
+use Rattle.std.specs.Prelude.{ℕ, Some, true, ◌≡◌}
 use Rattle.vs_design.specs.Stores.{Store}
 use Rattle.vs_process.specs.declared.effect.Effect.{Effect}
 use Rattle.vs_process.specs.declared.effect.Effect.TheVariants as e
@@ -12,7 +12,10 @@ use Rattle.vs_flatcode.specs.Steps.{Next, Out, goes, step}
 abbrev pub out_of : Next → Effect → Out
 out_of next e.Nothing = goes next
 out_of next (e.Write w) = record (goes next) { write = Some w }
-out_of next (e.Update w) = record (goes next) { update = Some (0, w) }
+out_of next (e.Update ticks w) = record (goes next) { update = Some (ticks.count, w) }
+out_of next (e.Strobe f) = record (goes next) { call = Some f.now }
+out_of next (e.Line text) = record (goes next) { line = Some text.items }
+out_of next e.Finish = record (goes next) { finish = true }
 
 -- an active process at `old`, of whose step this comes at a time, is at `new` behind it, with this effect
 abbrev pub Leads : Out → Place → ℕ → Place → Effect → Type 0

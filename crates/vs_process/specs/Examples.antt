@@ -16,6 +16,7 @@ use Rattle.vs_design.specs.declared.statement.Aim.TheVariants.{Fixed}
 use Rattle.vs_design.specs.declared.statement.EventTerm.{EventTerm}
 use Rattle.vs_design.specs.declared.statement.Statement.TheVariants as y
 use Rattle.vs_design.specs.declared.statement.Target.{Target}
+use Rattle.vs_design.specs.declared.statement.Ticks.{Ticks}
 use Rattle.vs_design.specs.Uses.{whole}
 use Rattle.vs_process.specs.Executions.{is_combinational}
 
@@ -56,6 +57,10 @@ target g signal = record {
 abbrev pub term : Edge → ℕ → EventTerm
 term edge signal = record { edge = edge; range = whole signal }
 
+-- no delay
+abbrev pub no_ticks : Ticks
+no_ticks = record { count = 0; short = lit< tt }
+
 -- `t#p0`
 abbrev pub name : Global → Vec ℕ Global
 name g = four_of g 116 35 112 48
@@ -74,7 +79,7 @@ abbrev pub register : Global → Process
 register g = record {
   name = name g;
   kind = Always;
-  body = y.Forever 0 (boxed g (y.Event 1 (one_of g (term Posedge 2)) (boxed g (y.Later 2 (target g 0) (operand 1)))));
+  body = y.Forever 0 (boxed g (y.Event 1 (one_of g (term Posedge 2)) (boxed g (y.Later 2 no_ticks (target g 0) (operand 1)))));
 }
 
 -- the first is a combinational block, and the second isn't

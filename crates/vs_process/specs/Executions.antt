@@ -20,7 +20,9 @@ use Rattle.vs_process.specs.declared.moves.Grain.{Grain}
 use Rattle.vs_process.specs.declared.moves.Grain.TheVariants as g
 use Rattle.vs_process.specs.declared.moves.Move.{Move}
 use Rattle.vs_process.specs.declared.moves.Move.TheVariants.{Step, Evaluate, Propagate, Make, Rouse, Activate, EndSlot}
-use Rattle.vs_flatcode.specs.Places.{Place, sleeping, is_going, is_inactive, is_inside}
+use Rattle.vs_strobe.specs.Lines.{full_line}
+use Rattle.vs_flatcode.specs.Places.{Place, todo_of, sleeping, is_going, is_inactive, is_inside}
+use Rattle.vs_flatcode.specs.Steps.{step}
 use Rattle.vs_process.specs.States.{AssignState, Update, Called, State, start, stepped, evaluate, propagate, make, roused, is_due, activated, woken_at}
 
 -- whether an update is activated and no older activated one names a signal that it names (clause 11.4.1; the free order between signals: profile)
@@ -160,19 +162,44 @@ abbrev pub Legal : Grain → Parts → List Move → Type 0
 Legal grain d [] = Unit {0}
 Legal grain d (m ∷ before) = Legal grain d before × (allowed grain d (after d before) m ≡ true)
 
--- the line of a strobe call at the end of its slot, of this store and this time: there are no such calls yet
+-- the line of a `$strobe` call at the end of its slot, of this store and this time (clause 17.1.2)
 abbrev pub strobe_line : Called → Store → ℕ → Line
-strobe_line c store time = elim c.call [ ]
+strobe_line c store time = record { by = c.by; text = full_line c.call store time }
+
+-- the lines of the `$strobe` calls of a slot, in the order of the calls
+abbrev pub strobe_lines : State → List Line
+strobe_lines s = map (λ c. strobe_line c s.store s.time) s.calls
 
 -- the slot that a move ends
 abbrev pub ended_slot : Move → State → List Slot
-ended_slot EndSlot s = record { time = s.time; store = s.store; lines = map (λ c. strobe_line c s.store s.time) s.calls } ∷ []
+ended_slot EndSlot s = record { time = s.time; store = s.store; lines = strobe_lines s } ∷ []
 ended_slot _ s = []
 
 -- the slots that ended, the earliest first
 abbrev pub slots : Parts → List Move → List Slot
 slots d [] = []
 slots d (m ∷ before) = slots d before ++ ended_slot m (after d before)
+
+-- a line of a process, where there is one
+abbrev pub line_by : ℕ → Option (List ℕ) → List Line
+line_by by None = []
+line_by by (Some text) = record { by = by; text = text } ∷ []
+
+-- the line of a `$display` that the step of a process makes (clause 17.1.1)
+abbrev pub step_lines : State → ℕ → Option Place → List Line
+step_lines s i None = []
+step_lines s i (Some place) = line_by i (step (todo_of place) s.store s.time).line
+
+-- the lines that a move makes: a `$display` makes its line when it runs, a `$strobe` at the end of its slot (clauses 17.1.1 and 17.1.2)
+abbrev pub move_lines : Move → State → List Line
+move_lines (Step i) s = step_lines s i (slice_get s.places i)
+move_lines EndSlot s = strobe_lines s
+move_lines _ s = []
+
+-- the lines that an execution makes, the earliest first
+abbrev pub lines_of : Parts → List Move → List Line
+lines_of d [] = []
+lines_of d (m ∷ before) = lines_of d before ++ move_lines m (after d before)
 
 -- whether an execution is complete to a moment: it is over, or its time is past it
 abbrev pub is_complete : ℕ → State → Bool

@@ -13,10 +13,11 @@ use Rattle.vs_design.specs.Uses.{reads}
 use Rattle.vs_design.specs.Writes.{Write}
 use Rattle.vs_eval.specs.Targets.{assigned}
 use Rattle.vs_eval.specs.Values.{target_value}
+use Rattle.vs_strobe.specs.Lines.{Format}
 use Rattle.vs_flatcode.specs.declared.gait.Gait.TheVariants.{Woken}
 use Rattle.vs_edges.specs.Waking.{wake_any}
 use Rattle.vs_flatcode.specs.Places.{Todo, Place, going, sleeping, inactive, waiting, ended, active_at, stepped_gait, start_place, todo_of}
-use Rattle.vs_flatcode.specs.Steps.{Call, Next, on, after, wait, Out, step}
+use Rattle.vs_flatcode.specs.Steps.{Next, on, after, wait, Out, step}
 
 -- a continuous assignment in a state: what it is, whether it has to be evaluated, and the value that waits to be written (clause 6.1; one pending value: profile)
 pub record AssignState : Type 0 where
@@ -32,12 +33,13 @@ pub record Update : Type 0 where
   pub active : Bool
   pub what : Write
 
--- a call of `$strobe` in this slot, and the process that made it
+-- a call of `$strobe` in this slot, and the process that made it (clause 17.1.2)
 pub record Called : Type 0 where
   pub by : ℕ
-  pub call : Call
+  pub call : Format
 
--- the state of an execution (clause 11): the nonblocking updates stand in the order in which they were made, the oldest first
+-- the state of an execution (clause 11): the nonblocking updates, and the calls of `$strobe`, stand in the order in which they were made, the
+-- oldest first
 pub record State : Type 0 where
   pub store : Store
   pub places : List Place
@@ -108,7 +110,8 @@ abbrev pub updates_behind : ℕ → ℕ → Option (ℕ × Write) → List Updat
 updates_behind by time None updates = updates
 updates_behind by time (Some u) updates = updates ++ record { by = by; due = time + u.0; active = false; what = u.1 } ∷ []
 
-abbrev pub calls_behind : ℕ → Option Call → List Called → List Called
+-- the calls of `$strobe` behind a step of a process
+abbrev pub calls_behind : ℕ → Option Format → List Called → List Called
 calls_behind by None calls = calls
 calls_behind by (Some c) calls = calls ++ record { by = by; call = c } ∷ []
 

@@ -70,14 +70,22 @@ fn pause<'a>(time: u64, ticks: u64) -> Wait<'a>
 }
 
 // What a process of this gait waits for behind a step that makes this, and what the step does to the rest of the state.
-fn behind<'a>(gait: Gait, time: u64, made: Made<'a>) -> (Wait<'a>, Effect)
+fn behind<'a>(gait: Gait, time: u64, made: Made<'a>) -> (Wait<'a>, Effect<'a>)
     requires early { time < 2 ^ 62 }
     ensures { (old todo : Todo) → Leads (made_out made.entry todo) (going gait old) time (place_of result.0 todo) result.1 }
 {
     match made {
         Made::Nothing => (Wait::Nothing(gait_behind(gait)), Effect::Nothing),
         Made::Write(write) => (Wait::Nothing(gait_behind(gait)), Effect::Write(write)),
-        Made::Update(write) => (Wait::Nothing(gait_behind(gait)), Effect::Update(write)),
+        Made::Update(ticks, write) => {
+            (
+                Wait::Nothing(gait_behind(gait)),
+                Effect::Update(ticks, write),
+            )
+        }
+        Made::Strobe(format) => (Wait::Nothing(gait_behind(gait)), Effect::Strobe(format)),
+        Made::Line(text) => (Wait::Nothing(gait_behind(gait)), Effect::Line(text)),
+        Made::Finish => (Wait::Nothing(gait_behind(gait)), Effect::Finish),
         Made::Delay(_, ticks) => (pause(time, ticks.count), Effect::Nothing),
         Made::Wait(_, terms) => (Wait::Terms(terms), Effect::Nothing),
     }
@@ -180,7 +188,12 @@ impl<'a> Place<'a> {
 
     /// One step of an active process (IEEE 1364-2005, clauses 9.2 and 9.7) at `time`, in ticks: where it goes from there, and
     /// what the step does to the rest of the state. Without memory the place is as it was.
-    pub fn step(&mut self, alloc: Global, store: &Store, time: u64) -> Result<Effect, AllocError>
+    pub fn step(
+        &mut self,
+        alloc: Global,
+        store: &Store,
+        time: u64,
+    ) -> Result<Effect<'a>, AllocError>
         requires active { is_going self.old ≡ true }
         requires early { time < 2 ^ 62 }
         ensures ok { IfOk result (λ e. Stepped self.old store.now time self.new e) }

@@ -92,6 +92,17 @@ pub const HIERARCHY: &[Row] = &[
         ],
         err: "",
     },
+    // A carry chain through the bits of one net, and a sum, by a generate loop: 200 + 100 + 1 is 256 + 45.
+    Row {
+        words: "vsim run --top t --until 0 --out vcd",
+        source: "module t; reg [7:0] a, b; reg ci; wire [8:0] c; wire [7:0] s; genvar i; assign c[0] = ci; generate for (i = 0; i < 8; i = i + 1) begin : g assign s[i] = a[i] ^ b[i] ^ c[i]; assign c[i+1] = a[i] & b[i] | c[i] & (a[i] ^ b[i]); end endgenerate initial begin a <= 8'd200; b <= 8'd100; ci <= 1; end endmodule",
+        status: 0,
+        out: &[
+            "$timescale 1 ns $end\n$scope module t $end\n$var reg 8 ! a [7:0] $end\n$var reg 8 \" b [7:0] $end\n$var reg 1 # ci $end\n$var wire 9 $ c [8:0] $end\n$var wire 8 % s [7:0] $end\n$scope begin g[0] $end\n$upscope $end\n$scope begin g[1] $end\n$upscope $end\n$scope begin g[2] $end\n$upscope $end\n$scope begin g[3] $end\n$upscope $end\n$scope begin g[4] $end\n$upscope $end\n$scope begin g[5] $end\n$upscope $end\n$scope begin g[6] $end\n$upscope $end\n$scope begin g[7] $end\n$upscope $end\n$upscope $end\n$enddefinitions $end\n",
+            "#0\n$dumpvars\nb11001000 !\nb1100100 \"\n1#\nb110000001 $\nb101101 %\n$end\n",
+        ],
+        err: "",
+    },
     // Signals, then continuous assignments, those of ports first, then processes.
     Row {
         words: "vsim elab --top t",

@@ -33,8 +33,8 @@ const REFUSALS: &[(&str, &str)] = &[
         "vsim: P2 at 24: **\n",
     ),
     (
-        "module t; initial $finish; endmodule",
-        "vsim: P2 at 18: $finish\n",
+        "module t; initial $stop; endmodule",
+        "vsim: P2 at 18: $stop\n",
     ),
     ("module t;", "vsim: P4 at 9\n"),
     // A net has one driver; a continuous assignment drives a net, and a procedural one writes a variable.
@@ -110,6 +110,7 @@ const CUT: &[&str] = &[
     "module t; reg a = 0; always begin #5 a <= ~a; end endmodule",
     "module t; reg a, b; always @(posedge a or b) if (a) case (b) 1, 0: ; default b = 1; endcase else repeat (2) #(1) while (b) forever @* ; endmodule",
     "module t; reg [3:0] a, m [0:1]; wire y = a[1 +: 2]; initial {a[0], {m[a[1]][2:1]}} = m[1][0]; endmodule",
+    "`timescale 10ns/1ns module t; reg a; initial begin a <= #1 ~a; $strobe(\"%b %0t\", a, $time); $display; $dumpfile(\"a\"); $finish(1); end endmodule",
 ];
 
 /// Runs each source of a table, and compares.

@@ -100,7 +100,7 @@ pub const REFUSED_HIERARCHY: &[(&str, &str)] = &[
         "vsim: E8 X3 at t\n",
     ),
     (
-        "module t; parameter A = B; parameter B = 1; endmodule",
+        "module t; parameter A = B; parameter B = A; endmodule",
         "vsim: E8 X3 at t\n",
     ),
     (
@@ -111,7 +111,7 @@ pub const REFUSED_HIERARCHY: &[(&str, &str)] = &[
         "module s #(parameter W = 65) (input [W-1:0] a); endmodule module t; s u(0); endmodule",
         "vsim: E8 X1 at t.u\n",
     ),
-    // A parameter is no variable, and has no bits to select from today.
+    // A parameter is no variable, and neither are bits of one; bits of bits aren't selected.
     (
         "module t; parameter A = 1; initial A = 2; endmodule",
         "vsim: E8 X4 at t\n",
@@ -121,7 +121,11 @@ pub const REFUSED_HIERARCHY: &[(&str, &str)] = &[
         "vsim: E8 X4 at t\n",
     ),
     (
-        "module t; parameter A = 1; wire b = A[0]; endmodule",
+        "module t; parameter A = 1; initial A[0] = 0; endmodule",
+        "vsim: E8 X4 at t\n",
+    ),
+    (
+        "module t; parameter A = 1; wire b = A[3:0][0]; endmodule",
         "vsim: E8 X4 at t\n",
     ),
     (

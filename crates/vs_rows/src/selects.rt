@@ -302,4 +302,59 @@ pub const STEPS: &[Row] = &[
         out: &[FOLLOWED, "#0\n$dumpvars\n0!\n0\"\n$end\n"],
         err: "",
     },
+    // Bits of a parameter by an index that changes: what is out of range reads x, and all of it where the index has an x; z stays z. The range is that of
+    // the declaration, and of a parameter without one from the size minus 1 down to 0.
+    Row {
+        words: "vsim run --top t --until 3 --out vcd",
+        source: "module t; parameter [7:0] P = 8'b1x0z0101; reg [3:0] i; wire a = P[i]; wire [2:0] b = P[i +: 3]; initial begin i = 4; #1 i = 7; #1 i = 8; #1 i = 4'bx; end endmodule",
+        status: 0,
+        out: &[
+            "$timescale 1 ns $end\n$scope module t $end\n$var reg 4 ! i [3:0] $end\n$var wire 1 \" a $end\n$var wire 3 # b [2:0] $end\n$upscope $end\n$enddefinitions $end\n",
+            "#0\n$dumpvars\nb100 !\nz\"\nbx0z #\n$end\n#1\nb111 !\n1\"\nbx1 #\n#2\nb1000 !\nx\"\nbx #\n#3\nbx !\n",
+        ],
+        err: "",
+    },
+    Row {
+        words: "vsim run --top t --until 1 --out vcd",
+        source: "module t; parameter [0:3] P = 4'b1000; parameter Q = 4'd9; reg [1:0] i; wire a = P[i]; wire b = Q[i]; wire [1:0] c = P[i -: 2]; initial begin i = 0; #1 i = 3; end endmodule",
+        status: 0,
+        out: &[
+            "$timescale 1 ns $end\n$scope module t $end\n$var reg 2 ! i [1:0] $end\n$var wire 1 \" a $end\n$var wire 1 # b $end\n$var wire 2 $ c [1:0] $end\n$upscope $end\n$enddefinitions $end\n",
+            "#0\n$dumpvars\nb0 !\n1\"\n1#\nbx1 $\n$end\n#1\nb11 !\n0\"\nb0 $\n",
+        ],
+        err: "",
+    },
+    // A select of a constant has no sign and is extended by 0, the whole by its sign; an index may be one too.
+    Row {
+        words: "vsim run --top t --until 0 --out vcd",
+        source: "module t; parameter signed [3:0] P = -2; reg [3:0] i = 1; wire [7:0] a = P, b = P[3:0], c = P[i +: 2], d = P[P[i]]; endmodule",
+        status: 0,
+        out: &[
+            "$timescale 1 ns $end\n$scope module t $end\n$var reg 4 ! i [3:0] $end\n$var wire 8 \" a [7:0] $end\n$var wire 8 # b [7:0] $end\n$var wire 8 $ c [7:0] $end\n$var wire 8 % d [7:0] $end\n$upscope $end\n$enddefinitions $end\n",
+            "#0\n$dumpvars\nb1 !\nb11111110 \"\nb1110 #\nb11 $\nb1 %\n$end\n",
+        ],
+        err: "",
+    },
+    // An index of 64 bits chooses by its whole number: 2^64 - 1 and 2^63 are no bits of 64.
+    Row {
+        words: "vsim run --top t --until 2 --out vcd",
+        source: "module t; parameter [62:-1] P = -1; reg [63:0] i; reg signed [63:0] j; wire a = P[i]; wire b = P[j]; initial begin i = -1; j = -1; #1 i = 62; j = 62; #1 i = 63; j = -2; end endmodule",
+        status: 0,
+        out: &[
+            "$timescale 1 ns $end\n$scope module t $end\n$var reg 64 ! i [63:0] $end\n$var reg 64 \" j [63:0] $end\n$var wire 1 # a $end\n$var wire 1 $ b $end\n$upscope $end\n$enddefinitions $end\n",
+            "#0\n$dumpvars\nb1111111111111111111111111111111111111111111111111111111111111111 !\nb1111111111111111111111111111111111111111111111111111111111111111 \"\nx#\n1$\n$end\n#1\nb111110 !\nb111110 \"\n1#\n#2\nb111111 !\nb1111111111111111111111111111111111111111111111111111111111111110 \"\nx#\nx$\n",
+        ],
+        err: "",
+    },
+    // What waits for an expression with bits of a parameter waits for its index.
+    Row {
+        words: "vsim run --top t --until 1 --out vcd",
+        source: "module t; parameter [3:0] P = 4'b0110; reg [1:0] i; reg y; always @* y = P[i]; initial begin i = 1; #1 i = 3; end endmodule",
+        status: 0,
+        out: &[
+            "$timescale 1 ns $end\n$scope module t $end\n$var reg 2 ! i [1:0] $end\n$var reg 1 \" y $end\n$upscope $end\n$enddefinitions $end\n",
+            "#0\n$dumpvars\nb1 !\n1\"\n$end\n#1\nb11 !\n0\"\n",
+        ],
+        err: "",
+    },
 ];

@@ -8,6 +8,7 @@ const MISUSED: &[&str] = &[
     "vsim run --top t",
     "vsim run --top t --until 4611686018427387904",
     "vsim run --top t --top t --until 1",
+    "vsim run --top t --until 1 --out dump",
 ];
 
 #[test]

@@ -1,7 +1,7 @@
 //! Sources with the parts of the designs that they define.
 use crate::elaborating::design_of;
 use crate::showing::{assigns_shown, outline_shown, processes_shown, signals_shown};
-use crate::{generate, item_ports};
+use crate::{generate, item_ports, parameters};
 use std::alloc::Global;
 use std::process::Abort;
 use std::test::Fail;
@@ -44,6 +44,12 @@ fn signals_of_ports(rt: HostRuntime) -> Result<(), Fail> {
     are_signals(&rt, rt.alloc(), item_ports::DECLARED)?;
     are_signals(&rt, rt.alloc(), item_ports::HEADERS)?;
     are_signals(&rt, rt.alloc(), item_ports::VALUES)
+}
+
+#[test]
+fn signals_of_parameters(rt: HostRuntime) -> Result<(), Fail> {
+    are_signals(&rt, rt.alloc(), parameters::SELECTED)?;
+    are_signals(&rt, rt.alloc(), parameters::FORWARD)
 }
 
 #[test]
@@ -127,6 +133,15 @@ const PROCESSES: &[(&str, &str)] = &[
         "module s(input clk, input en, output reg q); always @(posedge clk) begin q <= 0; if (en) q <= 1; end endmodule module t; reg clk = 0; reg en = 1; wire o; always #5 clk = ~clk; s u(.clk(clk), .en(en), .q(o)); endmodule",
         "t#p0 initial 0: t.clk = 32();t#p1 initial 0: t.en = 32();t#p2 always 0: forever 1: #5 2: t.clk = 1(t.clk);\
          t.u#p0 always 0: forever 1: @ {2: t.u.q <= 32();3: if 4: t.u.q <= 32(); else {}}",
+    ),
+    // Delays are ticks; a call knows its scope and its unit; `$dumpfile` and `$dumpvars` are statements that do nothing.
+    (
+        "`timescale 10ns/1ns module t; parameter D = 2; reg a; initial begin a <= #5 ~a; a <= #(D - 2) a; #D $display(\"%b %0t\", a, $time); $finish(1); end endmodule",
+        "t#p0 initial {0: t.a <= #50 1(t.a);1: t.a <= 1(t.a);2: #20 3: $display \"%b %0t\" 1(t.a) $time in t of 10;4: $finish;}",
+    ),
+    (
+        "module s; reg signed [3:0] a; initial begin : b reg c; $strobe(\"\\45d%m\", a + 4'sd1); $strobe; $dumpvars(0, n); $display(); $dumpfile(\"c\"); end endmodule module t; s \\u! (); endmodule",
+        "t.\\u! #p0 initial {0: $strobe \"%d%m\" signed 4(t.\\u! .a) in t.\\u! .b of 1;1: $strobe \"\" in t.\\u! .b of 1;2: ;3: $display \"\" in t.\\u! .b of 1;4: ;}",
     ),
 ];
 

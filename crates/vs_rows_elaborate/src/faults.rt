@@ -1,6 +1,6 @@
 //! Sources that define no design, with the text of the fault, and sources next to them that define one.
 use crate::elaborating::elaborated;
-use crate::{item_ports, refused_generate};
+use crate::{item_ports, parameters, refused_generate};
 use std::alloc::Global;
 use std::process::Abort;
 use std::test::Fail;
@@ -197,6 +197,74 @@ const ROWS: &[(&str, &str, &str)] = &[
         "t",
         DESIGN,
     ),
+    // All directives `timescale` give one time scale; the path of the fault is the top's name.
+    (
+        "`timescale 1ns/1ps module t; endmodule `timescale 1 ns / 1 ps",
+        "t",
+        DESIGN,
+    ),
+    (
+        "`timescale 1ns/1ps module \\a+b ; endmodule `timescale 1ns/1fs",
+        "a+b",
+        "E11 at \\a+b ",
+    ),
+    (
+        "`timescale 1ns/1ns `timescale 10ns/1ns module t; endmodule",
+        "t",
+        "E11 at t",
+    ),
+    // The text of a call takes as many arguments as there are, and has directives alone behind each `%`. The path is that of the call's scope.
+    (
+        "module t; initial $display(\"%b %m %%\", 1); endmodule",
+        "t",
+        DESIGN,
+    ),
+    (
+        "module t; initial $display(\"%q\", 1); endmodule",
+        "t",
+        "E12 F1 at t",
+    ),
+    (
+        "module t; initial $display(\"%b %b\", 1'b1); endmodule",
+        "t",
+        "E12 F2 at t",
+    ),
+    (
+        "module t; initial $strobe(\"%b\", 1, $time); endmodule",
+        "t",
+        "E12 F3 at t",
+    ),
+    (
+        "module t; always #1 begin : b begin begin : \\c+ $display(\"%5d\", 1); end end end endmodule",
+        "t",
+        "E12 F1 at t.b.\\c+ ",
+    ),
+    (
+        "module s; if (1) initial $display(\"%\"); endmodule module t; s u(); endmodule",
+        "t",
+        "E12 F1 at t.u.genblk1",
+    ),
+    // Delays behind `<=` are counted in ticks.
+    (
+        "`timescale 1s/1fs module t; reg q; initial q <= #4611 1; endmodule",
+        "t",
+        DESIGN,
+    ),
+    (
+        "`timescale 1s/1fs module t; reg q; initial q <= #4612 1; endmodule",
+        "t",
+        "E7 at t",
+    ),
+    (
+        "module t; reg q; initial q <= #q 1; endmodule",
+        "t",
+        "E8 X3 at t",
+    ),
+    (
+        "module t; initial $display(\"%b\", q); endmodule",
+        "t",
+        "E8 X2 at t",
+    ),
     // A count is a known number from 1 on, without signals.
     (
         "module t; reg a; initial a = {0{a}}; endmodule",
@@ -302,4 +370,10 @@ fn faults_of_blocks(rt: HostRuntime) -> Result<(), Fail> {
     are_told(&rt, rt.alloc(), refused_generate::HEADERS)?;
     are_told(&rt, rt.alloc(), refused_generate::FAULTS)?;
     are_told(&rt, rt.alloc(), refused_generate::STATEMENTS)
+}
+
+#[test]
+fn faults_of_parameters(rt: HostRuntime) -> Result<(), Fail> {
+    are_told(&rt, rt.alloc(), parameters::REFUSED)?;
+    are_told(&rt, rt.alloc(), parameters::CYCLES)
 }

@@ -133,3 +133,24 @@ fn turn_limit(rt: HostRuntime) -> Result<(), Fail> {
     }
     Ok(())
 }
+
+/// A module with so many parameters, of which each but the last one uses the one behind it.
+fn forward(alloc: Global, count: usize) -> Result<String, Fail> {
+    let mut text = String::new(alloc);
+    text.push_str("module t; parameter ")?;
+    for i in 0..count {
+        let next = i.saturating_add(1);
+        let one = format!(in alloc; "a{i} = a{next}, ")?;
+        text.push_str(&one)?;
+    }
+    let end = format!(in alloc; "a{count} = 2; wire [a0:0] w; endmodule")?;
+    text.push_str(&end)?;
+    Ok(text)
+}
+
+// Parameters may stand in any order, however many there are.
+#[test]
+fn forward_parameters(rt: HostRuntime) -> Result<(), Fail> {
+    let source = forward(rt.alloc(), 2000)?;
+    is_told(&rt, rt.alloc(), &(source.as_str(), "t", DESIGN))
+}

@@ -2,8 +2,8 @@
 use std::alloc::Global;
 use std::test::Fail;
 use vs_design::{
-    Bounds, Design, Entry, Process, ProcessKind, ScopeKind, SignalKind, Statement, Store, Target,
-    Typed, reads, writes,
+    Bounds, Call, CallKind, Design, Entry, FormatArg, Process, ProcessKind, ScopeKind, SignalKind,
+    Statement, Store, Target, Ticks, Typed, reads, writes,
 };
 use vs_eval::value;
 
@@ -138,6 +138,57 @@ fn show_number(alloc: Global, number: u32, text: &mut Vec<u8>) -> Result<(), Fai
     Ok(())
 }
 
+/// Appends in how many ticks a nonblocking assignment is due, where that isn't at once.
+fn show_due(alloc: Global, ticks: Ticks, text: &mut Vec<u8>) -> Result<(), Fail> {
+    if ticks.count > 0 {
+        let shown = format!(in alloc; " #{}", ticks.count)?;
+        text.extend_from_slice(shown.as_bytes())?;
+    }
+    Ok(())
+}
+
+/// Appends an argument of a call.
+fn show_argument(
+    alloc: Global,
+    design: &Design,
+    arg: &FormatArg,
+    text: &mut Vec<u8>,
+) -> Result<(), Fail> {
+    match arg {
+        FormatArg::Value(signed, e) => {
+            let sign: &[u8] = if *signed { b" signed " } else { b" " };
+            text.extend_from_slice(sign)?;
+            show_expression(alloc, design, e, text)
+        }
+        FormatArg::Time => {
+            text.extend_from_slice(b" $time")?;
+            Ok(())
+        }
+    }
+}
+
+fn call_word(kind: CallKind) -> &'static [u8] {
+    match kind {
+        CallKind::Display => b"$display \"",
+        CallKind::Strobe => b"$strobe \"",
+    }
+}
+
+/// Appends a call: its text, its arguments, the path of its scope, and how many ticks a unit is.
+fn show_call(alloc: Global, design: &Design, call: &Call, text: &mut Vec<u8>) -> Result<(), Fail> {
+    text.extend_from_slice(call_word(call.kind))?;
+    text.extend_from_slice(&call.text)?;
+    text.push(b'"')?;
+    for arg in &call.args {
+        show_argument(alloc, design, arg, text)?;
+    }
+    text.extend_from_slice(b" in ")?;
+    text.extend_from_slice(&call.path)?;
+    let ratio = format!(in alloc; " of {};", call.ratio)?;
+    text.extend_from_slice(ratio.as_bytes())?;
+    Ok(())
+}
+
 /// Appends a statement, and those in it, each with its number.
 fn show_statement(
     alloc: Global,
@@ -154,9 +205,22 @@ fn show_statement(
             show_number(alloc, *number, text)?;
             show_assignment(alloc, design, (target, b" = ", source), text)?;
         }
-        Statement::Later(number, target, source) => {
+        Statement::Later(number, ticks, target, source) => {
             show_number(alloc, *number, text)?;
-            show_assignment(alloc, design, (target, b" <= ", source), text)?;
+            show_target(alloc, design, target, text)?;
+            text.extend_from_slice(b" <=")?;
+            show_due(alloc, *ticks, text)?;
+            text.push(b' ')?;
+            show_expression(alloc, design, source, text)?;
+            text.push(b';')?;
+        }
+        Statement::Call(number, call) => {
+            show_number(alloc, *number, text)?;
+            show_call(alloc, design, call, text)?;
+        }
+        Statement::Finish(number) => {
+            show_number(alloc, *number, text)?;
+            text.extend_from_slice(b"$finish;")?;
         }
         Statement::Block(all) => {
             text.push(b'{')?;

@@ -4,7 +4,7 @@ use crate::trees::{form_shown, item_shown, put, range_shown, shown};
 use std::alloc::Global;
 use std::process::Abort;
 use std::test::Fail;
-use vs_lexer::{ImplicitNet, lex};
+use vs_lexer::{Directive, ImplicitNet, lex};
 use vs_parser::parse;
 use vs_syntax::{Local, LocalDeclaration, LoopHeader, ModuleItem, Source};
 
@@ -111,15 +111,18 @@ fn module_item_within(alloc: Global, depth: u32, item: &ModuleItem) -> Result<Ve
     Ok(text)
 }
 
-/// Directives, each behind a space.
-fn directives_shown(alloc: Global, directives: &[ImplicitNet]) -> Result<Vec<u8>, Fail> {
+/// Directives, each behind a space; a unit and a precision as powers of ten in femtoseconds.
+fn directives_shown(alloc: Global, directives: &[Directive]) -> Result<Vec<u8>, Fail> {
     let mut text = Vec::new(alloc);
     for directive in directives {
-        let word: &[u8] = match directive {
-            ImplicitNet::Wire => b" wire",
-            ImplicitNet::Forbidden => b" none",
-        };
-        text.extend_from_slice(word)?;
+        match directive {
+            Directive::DefaultNettype(ImplicitNet::Wire) => text.extend_from_slice(b" wire")?,
+            Directive::DefaultNettype(ImplicitNet::Forbidden) => text.extend_from_slice(b" none")?,
+            Directive::Timescale { unit, precision } => {
+                let powers = format!(in alloc; " {}/{}", unit.exponent(), precision.exponent())?;
+                text.extend_from_slice(powers.as_bytes())?;
+            }
+        }
     }
     Ok(text)
 }
@@ -232,16 +235,12 @@ fn are_items(rt: &impl Abort, alloc: Global, rows: &[(&str, &str)]) -> Result<()
 
 #[test]
 fn constructs(rt: HostRuntime) -> Result<(), Fail> {
-    are_items(&rt, rt.alloc(), &CONSTRUCTS)
-}
-
-#[test]
-fn loops(rt: HostRuntime) -> Result<(), Fail> {
+    are_items(&rt, rt.alloc(), &CONSTRUCTS)?;
     are_items(&rt, rt.alloc(), &LOOPS)
 }
 
-/// Sources with directives (clause 19.2), and what they are shown as.
-const DIRECTIVES: [(&str, &str); 7] = [
+/// Sources with directives (clauses 19.2 and 19.8), and what they are shown as.
+const DIRECTIVES: [(&str, &str); 13] = [
     ("", ""),
     ("`default_nettype none\n", " none"),
     (
@@ -263,6 +262,27 @@ const DIRECTIVES: [(&str, &str); 7] = [
     (
         "module t; endmodule `default_nettype none `default_nettype wire module u; endmodule `default_nettype none",
         " module t; none wire module u; none",
+    ),
+    ("`timescale 1ns/1ps", " 6/3"),
+    (
+        "`timescale 10 us / 10us module t; endmodule",
+        " 10/10 module t;",
+    ),
+    (
+        "`timescale\t100 s/1fs\nmodule t; endmodule",
+        " 17/0 module t;",
+    ),
+    (
+        "`timescale 1ns/1ns module t; endmodule `timescale 1ns/1ps module s; endmodule",
+        " 6/6 module t; 6/3 module s;",
+    ),
+    (
+        "module t; endmodule `timescale 100ms/1us `default_nettype none `timescale 1ps/1ps",
+        " module t; 14/9 none 3/3",
+    ),
+    (
+        "`timescale 1ns/1ps module t; initial a <= #1 b; endmodule",
+        " 6/3 module t a <= # 0 b;",
     ),
 ];
 
@@ -304,7 +324,7 @@ const REFUSED_LOOPS: [(&str, &str); 9] = [
 ];
 
 /// Declarations of ports and genvars, and directives, that are refused, and the texts of their faults.
-const REFUSED_NAMES: [(&str, &str); 12] = [
+const REFUSED_NAMES: [(&str, &str); 22] = [
     ("input a = b; endmodule", "P1 at 18"),
     ("input ; endmodule", "P1 at 16"),
     ("input reg signed reg a; endmodule", "P1 at 27"),
@@ -316,7 +336,17 @@ const REFUSED_NAMES: [(&str, &str); 12] = [
     ("genvar i j; endmodule", "P1 at 19"),
     ("`default_nettype none endmodule", "P1 at 10"),
     ("endmodule `default_nettype none ;", "P1 at 42"),
-    ("endmodule `timescale 1ns/1ns", "P1 at 20"),
+    ("`timescale 1ns/1ns endmodule", "P1 at 10"),
+    ("initial `timescale 1ns/1ns ; endmodule", "P1 at 18"),
+    ("endmodule `timescale 1ns/1ns ;", "P1 at 39"),
+    ("endmodule `timescale 1ns/1psx", "P1 at 38"),
+    ("endmodule `default_nettype wirex", "P1 at 41"),
+    ("endmodule `timescale 1ps/1ns", "L5 at 20"),
+    ("endmodule `timescale 5ns/1ns", "L5 at 20"),
+    ("endmodule `timescale 1ns", "L5 at 20"),
+    ("endmodule `default_nettype tri", "L5 at 20"),
+    ("endmodule `default_nettype", "L5 at 20"),
+    ("endmodule `define a", "L5 at 20"),
 ];
 
 /// Each item of the rows is refused with the text beside it.
@@ -330,16 +360,8 @@ fn are_refused(rt: &impl Abort, alloc: Global, rows: &[(&str, &str)]) -> Result<
 
 #[test]
 fn refused_constructs(rt: HostRuntime) -> Result<(), Fail> {
-    are_refused(&rt, rt.alloc(), &REFUSED)
-}
-
-#[test]
-fn refused_loops(rt: HostRuntime) -> Result<(), Fail> {
-    are_refused(&rt, rt.alloc(), &REFUSED_LOOPS)
-}
-
-#[test]
-fn refused_names(rt: HostRuntime) -> Result<(), Fail> {
+    are_refused(&rt, rt.alloc(), &REFUSED)?;
+    are_refused(&rt, rt.alloc(), &REFUSED_LOOPS)?;
     are_refused(&rt, rt.alloc(), &REFUSED_NAMES)
 }
 

@@ -212,10 +212,6 @@ fn are_headers(rt: &impl Abort, alloc: Global, rows: &[(&str, &str)]) -> Result<
 
 #[test]
 fn headers(rt: HostRuntime) -> Result<(), Fail> {
-    are_headers(&rt, rt.alloc(), &HEADERS)
-}
-
-#[test]
-fn ports(rt: HostRuntime) -> Result<(), Fail> {
+    are_headers(&rt, rt.alloc(), &HEADERS)?;
     are_headers(&rt, rt.alloc(), &PORTS)
 }

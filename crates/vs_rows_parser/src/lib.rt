@@ -10,4 +10,6 @@ mod refused;
 #[cfg(test)]
 mod statements;
 #[cfg(test)]
+mod tasks;
+#[cfg(test)]
 mod trees;

@@ -6,7 +6,7 @@ use vs_lexer::lex;
 use vs_parser::parse;
 
 /// Sources, and the texts of their faults.
-const ROWS: [(&str, &str); 98] = [
+const ROWS: [(&str, &str); 99] = [
     ("module t; initial fork join endmodule", "P2 at 18: fork"),
     ("module t(a, input b); endmodule", "P1 at 12"),
     ("module t(, input a); endmodule", "P1 at 9"),
@@ -40,7 +40,11 @@ const ROWS: [(&str, &str); 98] = [
     ("module t; initial a <= b ** 2; endmodule", "P2 at 25: **"),
     ("module t; initial a = b -> c; endmodule", "P2 at 24: ->"),
     ("module t; wire w = a &&& b; endmodule", "P2 at 21: &&&"),
-    ("module t; wire w = $time; endmodule", "P2 at 19: $time"),
+    ("module t; wire w = $time; endmodule", "P1 at 19"),
+    (
+        "module t; wire w = $clog2(a); endmodule",
+        "P2 at 19: $clog2",
+    ),
     ("module t; wire w = a $signed(b); endmodule", "P1 at 21"),
     ("module t; wire w = $signed a; endmodule", "P1 at 27"),
     ("module t; wire w = $unsigned(); endmodule", "P1 at 29"),
@@ -115,8 +119,9 @@ const ROWS: [(&str, &str); 98] = [
 
 /// The text of what is answered of a source: of its fault, or `read`.
 fn answered(alloc: Global, source: &[u8]) -> Result<Vec<u8>, Fail> {
-    let Ok(tokens) = lex(alloc, source) else {
-        return Ok(Vec::from_slice(alloc, b"no tokens")?);
+    let tokens = match lex(alloc, source) {
+        Ok(tokens) => tokens,
+        Err(fault) => return Ok(fault.text(alloc)?),
     };
     match parse(alloc, &tokens) {
         Ok(_source) => Ok(Vec::from_slice(alloc, b"read")?),

@@ -1,6 +1,7 @@
 //! Syntax trees of statements, statements that the parser refuses, and statements as deep as may be.
 use crate::generated::locals_shown;
 use crate::refused::is_answered;
+use crate::tasks::{later_sign, task_shown};
 use crate::trees::{put, selects_shown, shown, sides_shown};
 use std::alloc::Global;
 use std::process::Abort;
@@ -16,7 +17,7 @@ use vs_syntax::{
 const DEPTH: u32 = 256;
 
 /// A delay, an expression in parentheses in them.
-fn delay_shown(alloc: Global, delay: &DelayValue) -> Result<Vec<u8>, Fail> {
+pub(crate) fn delay_shown(alloc: Global, delay: &DelayValue) -> Result<Vec<u8>, Fail> {
     let mut text = Vec::new(alloc);
     match delay {
         DelayValue::Number(_) => text.push(b'0')?,
@@ -99,6 +100,23 @@ fn label_shown(alloc: Global, label: &CaseLabel) -> Result<Vec<u8>, Fail> {
     Ok(text)
 }
 
+/// A statement that holds no other one.
+fn simple_shown(alloc: Global, s: &Stmt) -> Result<Vec<u8>, Fail> {
+    match s {
+        Stmt::Assign(left, value) => sides_shown(alloc, left, b" = ", value),
+        Stmt::Later(left, delay, value) => {
+            let sign = later_sign(alloc, delay)?;
+            sides_shown(alloc, left, &sign, value)
+        }
+        Stmt::Null => {
+            let mut text = Vec::new(alloc);
+            text.push(b';')?;
+            Ok(text)
+        }
+        _ => task_shown(alloc, s),
+    }
+}
+
 /// A statement in one line, a block in parentheses, each other one that holds statements in brackets; of at most
 /// so many statements within one another, nothing of those below.
 pub(crate) fn stmt_within(alloc: Global, depth: u32, s: &Stmt) -> Result<Vec<u8>, Fail> {
@@ -108,13 +126,6 @@ pub(crate) fn stmt_within(alloc: Global, depth: u32, s: &Stmt) -> Result<Vec<u8>
     }
     let room = depth - 1;
     match s {
-        Stmt::Null => text.push(b';')?,
-        Stmt::Assign(left, value) => {
-            text.extend_from_slice(&sides_shown(alloc, left, b" = ", value)?)?;
-        }
-        Stmt::Later(left, value) => {
-            text.extend_from_slice(&sides_shown(alloc, left, b" <= ", value)?)?;
-        }
         Stmt::Block(inner) => {
             text.push(b'(')?;
             for statement in inner {
@@ -182,6 +193,7 @@ pub(crate) fn stmt_within(alloc: Global, depth: u32, s: &Stmt) -> Result<Vec<u8>
             put(&mut text, b" ", &stmt_within(alloc, room, inner)?)?;
             text.push(b']')?;
         }
+        _ => text.extend_from_slice(&simple_shown(alloc, s)?)?,
     }
     Ok(text)
 }
@@ -325,7 +337,12 @@ fn only_stmt_shown(alloc: Global, source: &[u8]) -> Result<Vec<u8>, Fail> {
 }
 
 /// The only statement of the source is shown as the text.
-fn is_stmt(rt: &impl Abort, alloc: Global, source: &[u8], text: &[u8]) -> Result<(), Fail> {
+pub(crate) fn is_stmt(
+    rt: &impl Abort,
+    alloc: Global,
+    source: &[u8],
+    text: &[u8],
+) -> Result<(), Fail> {
     let answer = only_stmt_shown(alloc, source)?;
     assert_eq!(rt; answer.as_slice(), text);
     Ok(())
@@ -495,7 +512,7 @@ fn refused_blocks(rt: HostRuntime) -> Result<(), Fail> {
 
 /// What stands before and behind an inner statement or expression, the innermost one, how often it may be nested (the item is a node,
 /// and there are 256), and the place of the token that is too deep where it is nested once more.
-const NESTED: [(&str, &str, &str, usize, usize); 16] = [
+const NESTED: [(&str, &str, &str, usize, usize); 20] = [
     ("begin : b ", "", " end", 255, 2568),
     ("begin ", "", " end", 255, 1548),
     ("if (a) ", ";", "", 254, 1796),
@@ -512,6 +529,10 @@ const NESTED: [(&str, &str, &str, usize, usize); 16] = [
     ("@a ", ";", "", 254, 780),
     ("@(a or b) ", "begin end", "", 254, 2558),
     ("@* if (a) ", ";", "", 127, 1288),
+    ("forever ", "$display(\"a\", b, $time);", "", 254, 2050),
+    ("forever ", "$finish(1);", "", 254, 2050),
+    ("forever ", "$dumpvars(0, a);", "", 254, 2050),
+    ("forever ", "a <= #1 b;", "", 253, 2050),
 ];
 
 #[test]
@@ -528,13 +549,16 @@ fn deepest_statements(rt: HostRuntime) -> Result<(), Fail> {
 
 /// What stands before and behind an expression in parentheses of a statement that has 254 nodes below it, and the place of the
 /// parenthesis that is too deep where there is one more.
-const CONDITIONS: [(&str, &str, usize); 6] = [
+const CONDITIONS: [(&str, &str, usize); 9] = [
     ("if (", ") ;", 276),
     ("case (a) ", ": ; endcase", 281),
     ("for (a = ", "; b; c = d) ;", 281),
     ("#(", ") ;", 274),
     ("@(a[", "]) ;", 276),
     ("@(posedge a[b][c:", "]) ;", 289),
+    ("$display(\"\", ", ");", 285),
+    ("$dumpvars(", ");", 282),
+    ("a <= #(", ") b;", 279),
 ];
 
 /// A statement with an expression in so many parentheses.
@@ -571,7 +595,8 @@ fn deepest_conditions(rt: HostRuntime) -> Result<(), Fail> {
     Ok(())
 }
 
-/// A block of many statements, a `case` of many items and an event control of many terms are one node each.
+/// A block of many statements, a `case` of many items, an event control of many terms and a system task of many arguments are one node
+/// each.
 #[test]
 fn longest_statements(rt: HostRuntime) -> Result<(), Fail> {
     let block = nested_stmt(rt.alloc(), "begin end", ("", ""), 1)?;
@@ -589,6 +614,10 @@ fn longest_statements(rt: HostRuntime) -> Result<(), Fail> {
     for _ in 0..1_000 {
         source.extend_from_slice(b" or a, a")?;
     }
-    source.extend_from_slice(b") ; end endmodule")?;
+    source.extend_from_slice(b") ; $display(\"\"")?;
+    for _ in 0..1_000 {
+        source.extend_from_slice(b", a, $time")?;
+    }
+    source.extend_from_slice(b"); end endmodule")?;
     is_answered(&rt, rt.alloc(), source.as_slice(), b"read")
 }

@@ -1,6 +1,7 @@
 //! Syntax trees of sources.
 use crate::generated::bare_names_shown;
 use crate::instances::{constants_shown, instances_shown, port_form_shown};
+use crate::tasks::later_sign;
 use std::alloc::Global;
 use std::process::Abort;
 use std::test::Fail;
@@ -433,8 +434,9 @@ pub(crate) fn item_shown(alloc: Global, item: &Item) -> Result<Vec<u8>, Fail> {
         Item::Initial(Stmt::Assign(left, value)) => {
             text.extend_from_slice(&sides_shown(alloc, left, b" = ", value)?)?;
         }
-        Item::Initial(Stmt::Later(left, value)) => {
-            text.extend_from_slice(&sides_shown(alloc, left, b" <= ", value)?)?;
+        Item::Initial(Stmt::Later(left, delay, value)) => {
+            let sign = later_sign(alloc, delay)?;
+            text.extend_from_slice(&sides_shown(alloc, left, &sign, value)?)?;
         }
         Item::Assign(assignments) => {
             put(
@@ -550,22 +552,10 @@ fn are_shown(rt: &impl Abort, alloc: Global, rows: &[(&str, &str)]) -> Result<()
 }
 
 #[test]
-fn operators(rt: HostRuntime) -> Result<(), Fail> {
-    are_shown(&rt, rt.alloc(), &OPERATORS)
-}
-
-#[test]
-fn levels(rt: HostRuntime) -> Result<(), Fail> {
-    are_shown(&rt, rt.alloc(), &LEVELS)
-}
-
-#[test]
-fn others(rt: HostRuntime) -> Result<(), Fail> {
-    are_shown(&rt, rt.alloc(), &OTHERS)
-}
-
-#[test]
-fn selects(rt: HostRuntime) -> Result<(), Fail> {
+fn expressions(rt: HostRuntime) -> Result<(), Fail> {
+    are_shown(&rt, rt.alloc(), &OPERATORS)?;
+    are_shown(&rt, rt.alloc(), &LEVELS)?;
+    are_shown(&rt, rt.alloc(), &OTHERS)?;
     are_shown(&rt, rt.alloc(), &SELECTS)
 }
 

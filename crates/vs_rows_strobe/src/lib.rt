@@ -1,6 +1,8 @@
-//! Rows of formats and lines.
+//! Rows of formats, of lines and of calls.
 #![tactic(auto)]
 
+#[cfg(test)]
+mod calls;
 #[cfg(test)]
 mod designs;
 #[cfg(test)]

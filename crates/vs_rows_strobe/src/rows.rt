@@ -3,9 +3,9 @@ use crate::designs::{assign, first_store};
 use crate::showing::{line_of, line_of_value, values, vector};
 use std::alloc::Global;
 use std::test::Fail;
-use vs_design::{Operand, Store, Typed};
+use vs_design::{FormatArg, Operand, Store, Typed};
 use vs_logic4::Vec4;
-use vs_strobe::{Format, FormatArg, FormatFault, line};
+use vs_strobe::{Format, FormatFault, line};
 
 /// A text, how many arguments it takes, the digits of each, and the line.
 type Row = (&'static str, usize, &'static str, &'static [u8]);

@@ -1,9 +1,9 @@
 //! Lines of given values.
 use crate::designs::first_store;
 use std::alloc::{AllocError, Global};
-use vs_design::Typed;
+use vs_design::{FormatArg, Typed};
 use vs_logic4::{Digit, Vec4};
-use vs_strobe::{Format, FormatArg, FormatFault, line};
+use vs_strobe::{Format, FormatFault, line};
 
 // The vector of these 1 to 64 digits, the highest first; anything else is x.
 pub fn vector(alloc: Global, digits: &str) -> Result<Vec4, AllocError> {

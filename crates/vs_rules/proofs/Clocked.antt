@@ -42,7 +42,7 @@ use Rattle.vs_independence.proofs.Whole.{independent}
 use Rattle.vs_rules.specs.Points.{Among, Goes, first_todo, WritesNow, WritesLater, ReadsNow, Point, Late, Slot0, RunsAt}
 use Rattle.vs_rules.specs.Claims.{Name, SignalClaim, controls_step, controls_in, controls_of, slots_of, list_of, ends_at, claim_of, writer_in, second_in, is_writer, is_second}
 use Rattle.vs_rules.specs.Rules.{Writes, now, later, IsBlocking, by, IsListed, IsKnown, process_names, signal_names, K1_Signal, K1_Assign, K1_Process, K1_Names, K2, HasMode, K3, K4, K8, IsOwn, AreApart, K9, K10, Ruled}
-use Rattle.vs_rules.specs.Clocked.{turned, inverse, half, clock, taken, late, nothing, pause, period, two, five, seven, three, reader, cleared, clocked, clocked_claims, AClockedDesignIsRuled}
+use Rattle.vs_rules.specs.Clocked.{no_ticks, turned, inverse, half, clock, taken, late, nothing, pause, period, two, five, seven, three, reader, cleared, clocked, clocked_claims, AClockedDesignIsRuled}
 use Rattle.vs_rules.proofs.Rules.{ruled_is_disciplined}
 
 -- ---- where there is one way on
@@ -78,8 +78,8 @@ residues i number r = list_any (λ q. q == r) (list_of (numbers_at i) (lists_at 
 controls_assign : (n : ℕ) (x : Target) (v : Typed) → controls_in (y.Assign n x v) ≡ []
 controls_assign n x v = ap controls_in (sym (y.rolls-Assign n x v)) ∙ fold-roll-Statement (List ℕ) controls_step (f.Assign n x v)
 
-controls_later : (n : ℕ) (x : Target) (v : Typed) → controls_in (y.Later n x v) ≡ []
-controls_later n x v = ap controls_in (sym (y.rolls-Later n x v)) ∙ fold-roll-Statement (List ℕ) controls_step (f.Later n x v)
+controls_later : (n : ℕ) (ticks : Ticks) (x : Target) (v : Typed) → controls_in (y.Later n ticks x v) ≡ []
+controls_later n ticks x v = ap controls_in (sym (y.rolls-Later n ticks x v)) ∙ fold-roll-Statement (List ℕ) controls_step (f.Later n ticks x v)
 
 controls_null : (n : ℕ) → controls_in (y.Null n) ≡ []
 controls_null n = ap controls_in (sym (y.rolls-Null n)) ∙ fold-roll-Statement (List ℕ) controls_step (f.Null n)
@@ -97,7 +97,7 @@ controls_clock : (g : Global) → controls_in (clock g) ≡ 1 ∷ []
 controls_clock g = controls_forever g 0 (half g) ∙ controls_delay g 1 five (turned g) ∙ ap (λ l. 1 ∷ l) (controls_assign 2 (target g 0) (inverse g 0))
 
 controls_reader : (g : Global) → controls_in (reader g) ≡ 1 ∷ 3 ∷ []
-controls_reader g = rw (controls_forever g 0 (period g), controls_block g (late g) (pause g), controls_delay g 1 seven (taken g), controls_later 2 (target g 1) (operand 2), controls_delay g 3 three nothing, controls_null 4) refl
+controls_reader g = rw (controls_forever g 0 (period g), controls_block g (late g) (pause g), controls_delay g 1 seven (taken g), controls_later 2 no_ticks (target g 1) (operand 2), controls_delay g 3 three nothing, controls_null 4) refl
 
 controls_are : (g : Global) (i : ℕ) → controls_of (clocked g) i ≡ numbers_at i
 controls_are g zero = controls_clock g
@@ -607,8 +607,8 @@ size_inverse g s =
     ap size_of (sym (e.rolls-Unary u.Not (boxed g (operand s)))) ∙ fold-roll-Typed (Option ℕ) size_step (t.Unary u.Not (boxed g (operand s)))
     ∙ ap (option_map (λ n. n)) (size_operand s)
 
-sound_later : (ss : List Signal) (n : ℕ) (x : Target) (v : Typed) → is_sound_statement ss (y.Later n x v) ≡ is_sound_assignment ss x v
-sound_later ss n x v = ap (is_sound_statement ss) (sym (y.rolls-Later n x v)) ∙ fold-roll-Statement Bool (sound_step ss) (f.Later n x v)
+sound_later : (ss : List Signal) (n : ℕ) (ticks : Ticks) (x : Target) (v : Typed) → is_sound_statement ss (y.Later n ticks x v) ≡ is_sound_assignment ss x v
+sound_later ss n ticks x v = ap (is_sound_statement ss) (sym (y.rolls-Later n ticks x v)) ∙ fold-roll-Statement Bool (sound_step ss) (f.Later n ticks x v)
 
 sound_null : (ss : List Signal) (n : ℕ) → is_sound_statement ss (y.Null n) ≡ true
 sound_null ss n = ap (is_sound_statement ss) (sym (y.rolls-Null n)) ∙ fold-roll-Statement Bool (sound_step ss) (f.Null n)
@@ -622,8 +622,8 @@ sound_forever ss g n s = ap (is_sound_statement ss) (sym (y.rolls-Forever n (box
 sound_block : (ss : List Signal) (g : Global) (s z : Statement) → is_sound_statement ss s ≡ true → is_sound_statement ss z ≡ true → is_sound_statement ss (y.Block (two g s z)) ≡ true
 sound_block ss g s z h k = ap (is_sound_statement ss) (sym (y.rolls-Block (two g s z))) ∙ fold-roll-Statement Bool (sound_step ss) (f.Block (two g s z)) ∙ rw (h, k) refl
 
-numbers_later : (n : ℕ) (x : Target) (v : Typed) → numbers (y.Later n x v) ≡ n ∷ []
-numbers_later n x v = ap numbers (sym (y.rolls-Later n x v)) ∙ fold-roll-Statement (List ℕ) numbers_step (f.Later n x v)
+numbers_later : (n : ℕ) (ticks : Ticks) (x : Target) (v : Typed) → numbers (y.Later n ticks x v) ≡ n ∷ []
+numbers_later n ticks x v = ap numbers (sym (y.rolls-Later n ticks x v)) ∙ fold-roll-Statement (List ℕ) numbers_step (f.Later n ticks x v)
 
 numbers_null : (n : ℕ) → numbers (y.Null n) ≡ n ∷ []
 numbers_null n = ap numbers (sym (y.rolls-Null n)) ∙ fold-roll-Statement (List ℕ) numbers_step (f.Null n)
@@ -645,7 +645,7 @@ sound_turned g = sound_assign (signals_of g) 2 (target g 0) (inverse g 0)
     ∙ rw (reads_unary g u.Not (operand 0), reads_operand 0, size_inverse g 0) refl
 
 sound_taken : (g : Global) → is_sound_statement (signals_of g) (taken g) ≡ true
-sound_taken g = sound_later (signals_of g) 2 (target g 1) (operand 2) ∙ rw (reads_operand 2, size_operand 2) refl
+sound_taken g = sound_later (signals_of g) 2 no_ticks (target g 1) (operand 2) ∙ rw (reads_operand 2, size_operand 2) refl
 
 sound_cleared : (g : Global) → is_sound_statement (signals_of g) (cleared g) ≡ true
 sound_cleared g = sound_assign (signals_of g) 0 (target g 0) (e.Number (Zero ∷ [])) ∙ rw (reads_number (Zero ∷ []), size_number (Zero ∷ [])) refl
@@ -662,7 +662,7 @@ numbers_clock : (g : Global) → numbers (clock g) ≡ 0 ∷ 1 ∷ 2 ∷ []
 numbers_clock g = rw (numbers_forever g 0 (half g), numbers_delay g 1 five (turned g), numbers_assign 2 (target g 0) (inverse g 0)) refl
 
 numbers_reader : (g : Global) → numbers (reader g) ≡ 0 ∷ 1 ∷ 2 ∷ 3 ∷ 4 ∷ []
-numbers_reader g = rw (numbers_forever g 0 (period g), numbers_block g (late g) (pause g), numbers_delay g 1 seven (taken g), numbers_later 2 (target g 1) (operand 2), numbers_delay g 3 three nothing, numbers_null 4) refl
+numbers_reader g = rw (numbers_forever g 0 (period g), numbers_block g (late g) (pause g), numbers_delay g 1 seven (taken g), numbers_later 2 no_ticks (target g 1) (operand 2), numbers_delay g 3 three nothing, numbers_null 4) refl
 
 abbrev SoundProcess : Global → Process → Type 0
 SoundProcess g p = is_sound_process (signals_of g) p ≡ true
@@ -705,8 +705,8 @@ formed g = record {
 
 -- ---- it has no event controls
 
-terms_later : (n : ℕ) (x : Target) (v : Typed) → event_terms (y.Later n x v) ≡ []
-terms_later n x v = ap event_terms (sym (y.rolls-Later n x v)) ∙ fold-roll-Statement (List EventTerm) event_terms_step (f.Later n x v)
+terms_later : (n : ℕ) (ticks : Ticks) (x : Target) (v : Typed) → event_terms (y.Later n ticks x v) ≡ []
+terms_later n ticks x v = ap event_terms (sym (y.rolls-Later n ticks x v)) ∙ fold-roll-Statement (List EventTerm) event_terms_step (f.Later n ticks x v)
 
 terms_null : (n : ℕ) → event_terms (y.Null n) ≡ []
 terms_null n = ap event_terms (sym (y.rolls-Null n)) ∙ fold-roll-Statement (List EventTerm) event_terms_step (f.Null n)
@@ -724,7 +724,7 @@ terms_clock : (g : Global) → event_terms (clock g) ≡ []
 terms_clock g = terms_forever g 0 (half g) ∙ terms_delay g 1 five (turned g) ∙ terms_assign 2 (target g 0) (inverse g 0)
 
 terms_reader : (g : Global) → event_terms (reader g) ≡ []
-terms_reader g = rw (terms_forever g 0 (period g), terms_block g (late g) (pause g), terms_delay g 1 seven (taken g), terms_later 2 (target g 1) (operand 2), terms_delay g 3 three nothing, terms_null 4) refl
+terms_reader g = rw (terms_forever g 0 (period g), terms_block g (late g) (pause g), terms_delay g 1 seven (taken g), terms_later 2 no_ticks (target g 1) (operand 2), terms_delay g 3 three nothing, terms_null 4) refl
 
 abbrev SilentProcess : Process → Type 0
 SilentProcess p = event_terms p.body ≡ []

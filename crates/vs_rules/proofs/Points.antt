@@ -93,7 +93,9 @@ statement_follows : (s : Statement) (f : Statement-F Statement) (rest : Todo) (s
     Among (erased_next (statement_step s f rest store time).next) (statement_nexts s f (erased rest))
 statement_follows s (Statement-F.Null m) rest store time = Among.first []
 statement_follows s (Statement-F.Assign m t e) rest store time = Among.first []
-statement_follows s (Statement-F.Later m t e) rest store time = Among.first []
+statement_follows s (Statement-F.Later m ticks t e) rest store time = Among.first []
+statement_follows s (Statement-F.Call m c) rest store time = Among.first []
+statement_follows s (Statement-F.Finish m) rest store time = Among.first []
 statement_follows s (Statement-F.Block all) rest store time = among_on (erased (flat s ++ rest)) (flat s ++ erased rest) _ (erased_first s rest) (Among.first [])
 statement_follows s (Statement-F.Delay m ticks body) rest store time =
     subst (λ l. Among (after m ticks.count l) (after m ticks.count (flat body.value ++ erased rest) ∷ [])) (sym (erased_first body.value rest)) (Among.first [])
@@ -123,7 +125,9 @@ statement_write_follows : (s : Statement) (f : Statement-F Statement) (rest : To
 statement_write_follows s (Statement-F.Null m) rest store time w v h n = absurd (none-some _ h)
 statement_write_follows s (Statement-F.Assign m t e) rest store time w v h n =
     sym (assigned_names t (target_value t e store time) store time v) ∙ ap (λ x. names x v) (same_Some (assignment t e store time) w h) ∙ n
-statement_write_follows s (Statement-F.Later m t e) rest store time w v h n = absurd (none-some _ h)
+statement_write_follows s (Statement-F.Later m ticks t e) rest store time w v h n = absurd (none-some _ h)
+statement_write_follows s (Statement-F.Call m c) rest store time w v h n = absurd (none-some _ h)
+statement_write_follows s (Statement-F.Finish m) rest store time w v h n = absurd (none-some _ h)
 statement_write_follows s (Statement-F.Block all) rest store time w v h n = absurd (none-some _ h)
 statement_write_follows s (Statement-F.Delay m ticks body) rest store time w v h n = absurd (none-some _ h)
 statement_write_follows s (Statement-F.Event m terms body) rest store time w v h n = absurd (none-some _ h)
@@ -142,8 +146,10 @@ statement_update_follows : (s : Statement) (f : Statement-F Statement) (rest : T
     (statement_step s f rest store time).update ≡ Some u → names u.1 v ≡ true → statement_updates f v ≡ true
 statement_update_follows s (Statement-F.Null m) rest store time u v h n = absurd (none-some _ h)
 statement_update_follows s (Statement-F.Assign m t e) rest store time u v h n = absurd (none-some _ h)
-statement_update_follows s (Statement-F.Later m t e) rest store time u v h n =
-    sym (assigned_names t (target_value t e store time) store time v) ∙ ap (λ (x : ℕ × Write). names x.1 v) (same_Some (0, assignment t e store time) u h) ∙ n
+statement_update_follows s (Statement-F.Call m c) rest store time u v h n = absurd (none-some _ h)
+statement_update_follows s (Statement-F.Finish m) rest store time u v h n = absurd (none-some _ h)
+statement_update_follows s (Statement-F.Later m ticks t e) rest store time u v h n =
+    sym (assigned_names t (target_value t e store time) store time v) ∙ ap (λ (x : ℕ × Write). names x.1 v) (same_Some (ticks.count, assignment t e store time) u h) ∙ n
 statement_update_follows s (Statement-F.Block all) rest store time u v h n = absurd (none-some _ h)
 statement_update_follows s (Statement-F.Delay m ticks body) rest store time u v h n = absurd (none-some _ h)
 statement_update_follows s (Statement-F.Event m terms body) rest store time u v h n = absurd (none-some _ h)

@@ -53,7 +53,9 @@ case_nexts items rest = map (λ (i : Vec Typed Global × Statement). on (flat i.
 abbrev pub statement_nexts : Statement → Statement-F Statement → Todo → List Next
 statement_nexts s (Statement-F.Null n) rest = on rest ∷ []
 statement_nexts s (Statement-F.Assign n t e) rest = on rest ∷ []
-statement_nexts s (Statement-F.Later n t e) rest = on rest ∷ []
+statement_nexts s (Statement-F.Later n ticks t e) rest = on rest ∷ []
+statement_nexts s (Statement-F.Call n c) rest = on rest ∷ []
+statement_nexts s (Statement-F.Finish n) rest = on rest ∷ []
 statement_nexts s (Statement-F.Block all) rest = on (flat s ++ rest) ∷ []
 statement_nexts s (Statement-F.Delay n ticks body) rest = after n ticks.count (flat body.value ++ rest) ∷ []
 statement_nexts s (Statement-F.Event n terms body) rest = wait n terms.items (flat body.value ++ rest) ∷ []
@@ -85,7 +87,7 @@ statement_writes _ v = false
 
 -- whether it can name the signal by `<=`
 abbrev pub statement_updates : Statement-F Statement → ℕ → Bool
-statement_updates (Statement-F.Later n t e) v = writes_signal t v
+statement_updates (Statement-F.Later n ticks t e) v = writes_signal t v
 statement_updates _ v = false
 
 abbrev pub todo_writes : Todo → ℕ → Bool

@@ -13,7 +13,7 @@ use Rattle.vs_selects.specs.declared.faults.WidthReason.TheVariants.{TooWide, Un
 use Rattle.vs_selects.specs.declared.faults.WidthReason.{WidthReason}
 use Rattle.vs_selects.specs.Environment.{Environment}
 use Rattle.vs_scopes.specs.declared.faults.Reason.{Reason}
-use Rattle.vs_scopes.specs.declared.faults.Reason.TheVariants.{NoModule, Inside, PortMismatch, ParameterMismatch, DeclaredTwice, DrivenTwice, Limit, Endless, Unnamed, Width}
+use Rattle.vs_scopes.specs.declared.faults.Reason.TheVariants.{NoModule, Inside, PortMismatch, ParameterMismatch, DeclaredTwice, DrivenTwice, Limit, Endless, Unnamed, Timescales, Format, Width}
 use Rattle.vs_scopes.specs.declared.faults.BodyFault.{BodyFault}
 use Rattle.vs_scopes.specs.declared.sizes.Size.{Size}
 use Rattle.vs_scopes.specs.declared.words.WordCount.{WordCount}
@@ -56,6 +56,8 @@ no_faults faults h DeclaredTwice = refl
 no_faults faults h DrivenTwice = refl
 no_faults faults h Endless = refl
 no_faults faults h Unnamed = refl
+no_faults faults h Timescales = refl
+no_faults faults h (Format wrong) = refl
 no_faults faults h Limit = refl
 
 module _ (env : Environment) (signed : Bool) (n : ℕ) (o : Option Range) where
@@ -101,6 +103,8 @@ module _ (env : Environment) (kind : SignalKind) where
       by DrivenTwice = refl
       by Endless = refl
       by Unnamed = refl
+      by Timescales = refl
+      by (Format wrong) = refl
 
   module _ (r : Range) (o : Option Range) (i : o ≡ Some r) where
     -- a fault of a bound
@@ -118,6 +122,8 @@ module _ (env : Environment) (kind : SignalKind) where
         by DrivenTwice k = k
         by Endless k = k
         by Unnamed k = k
+        by Timescales k = k
+        by (Format wrong) k = k
 
     -- an array of nets
     pub words_of_net : kind ≡ k.Wire → words_fault (Width WrongKind) env kind o ≡ true
@@ -156,3 +162,5 @@ module _ (env : Environment) (kind : SignalKind) where
         by DrivenTwice = refl
         by Endless = refl
         by Unnamed = refl
+        by Timescales = refl
+        by (Format wrong) = refl

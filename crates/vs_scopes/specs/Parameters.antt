@@ -1,5 +1,5 @@
 -- The parameters of a module, and their values.
-use Rattle.std.specs.Prelude.{ℕ, Bool, true, false, ◌||◌, max, take, List, [], ◌∷◌, ◌++◌, Option, None, Some, map, if◌then◌else◌}
+use Rattle.std.specs.Prelude.{ℕ, zero, suc, Bool, true, false, ◌||◌, max, take, length, List, [], ◌∷◌, ◌++◌, Option, None, Some, map, if◌then◌else◌}
 use Rattle.std.specs.List.{flat_map, list_any}
 use Rattle.std.specs.Map.{update}
 use Rattle.std.specs.Str.{bytes_eq}
@@ -14,6 +14,7 @@ use Rattle.vs_syntax.specs.declared.tree.Module.{Module}
 use Rattle.vs_syntax.specs.declared.tree.Item.{Item}
 use Rattle.vs_syntax.specs.declared.tree.Item.TheVariants as i
 use Rattle.vs_pieces.specs.Pieces.{Piece, plain, pieces_of}
+use Rattle.vs_selects.specs.declared.bindings.Binding.{Binding}
 use Rattle.vs_selects.specs.declared.bindings.Binding.TheVariants as b
 use Rattle.vs_selects.specs.declared.constants.Const.{Const}
 use Rattle.vs_selects.specs.declared.faults.WidthReason.{WidthReason}
@@ -22,7 +23,7 @@ use Rattle.vs_selects.specs.Environment.{Environment}
 use Rattle.vs_selects.specs.Findings.{Finding, Has, Lacks, stands}
 use Rattle.vs_selects.specs.Meants.{Meant, own}
 use Rattle.vs_selects.specs.Selects.{size_found}
-use Rattle.vs_selects.specs.Constants.{constant_finding}
+use Rattle.vs_selects.specs.Constants.{constant_finding, constant_in}
 use Rattle.vs_widths.specs.Expressions.{meant}
 use Rattle.vs_scopes.specs.Ranges.{Sized, sized_as}
 use Rattle.vs_scopes.specs.Connections.{ends_of, is_mismatch}
@@ -133,13 +134,12 @@ abbrev pub sign_found : Finding → Bool
 sign_found (Has width signed) = signed
 sign_found (Lacks faults) = false
 
--- The constant that an expression gives a parameter: with a size of its own it is given the value as in an assignment (clauses 5.4.1 and 12.2).
+-- The constant that an expression gives a parameter: with a size of its own it is given the value as in an assignment; bits of it are selected by
+-- its range, where it has one (clauses 4.10, 5.4.1 and 12.2).
 abbrev pub constant_by : Takes → Meant → Const
-constant_by (the_size signed) m = record { value = own m [] 0; signed = signed || sign_found m.finding }
-constant_by (neither z) m = record {
-  value = take z.shape.width (m.at [] 0 (max z.shape.width (size_found m.finding)) (sign_found m.finding));
-  signed = z.shape.signed;
-}
+constant_by (the_size signed) m = constant_in None (signed || sign_found m.finding) (own m [] 0)
+constant_by (neither z) m =
+    constant_in z.bounds z.shape.signed (take z.shape.width (m.at [] 0 (max z.shape.width (size_found m.finding)) (sign_found m.finding)))
 
 -- a fault of what is said of a parameter
 abbrev pub takes_fault : WidthReason → Takes → Bool
@@ -165,32 +165,44 @@ abbrev pub outer_fault : WidthReason → Environment → Given → Bool
 outer_fault w around (p, None) = false
 outer_fault w around (p, Some e) = stands w (constant_finding (meant around e))
 
--- ---- one after another
+-- whether any fault stands
+abbrev pub any_fault : (WidthReason → Bool) → Bool
+any_fault faults = faults TooWide || faults Unknown || faults NotConstant || faults WrongKind
+
+-- ---- what names are bound to
 
 -- what names are bound to with this one to this constant
 abbrev pub with_constant : Environment → List ℕ → Const → Environment
 with_constant env n c = update bytes_eq env n (Some (b.Constant c))
 
--- What names are bound to in a module behind these parameters: the value of one may name those before it (clause 12.2; profile).
+-- what names are bound to with those of parameters bound by f, of equal ones the first
+abbrev pub with_given : (Given → Binding) → List Given → Environment → Environment
+with_given f [] env n = env n
+with_given f (g ∷ gs) env n = if bytes_eq n g.0.name then Some (f g) else with_given f gs env n
+
+-- what a parameter's name is bound to where names are bound so: the constant that it is, or nothing yet where it has a fault
+abbrev pub bound_given : Environment → Environment → Given → Binding
+bound_given around env g =
+    if any_fault (λ w. own_fault w env g || outer_fault w around g) then b.Pending else b.Constant (constant_given around env g)
+
+-- What names are bound to after so many rounds: first no parameter has a value, and in each round those get theirs whose values and ranges name
+-- such parameters alone as have one (clause 12.2; in which order they stand doesn't matter: profile).
+abbrev pub known_after : ℕ → Environment → Environment → List Given → Environment
+known_after zero around env gs = with_given (λ g. b.Pending) gs env
+known_after (suc n) around env gs = with_given (bound_given around (known_after n around env gs)) gs env
+
+-- What names are bound to in a module behind its parameters: in as many rounds as there are parameters each has its value that doesn't need itself.
 abbrev pub known_behind : Environment → Environment → List Given → Environment
-known_behind around env [] = env
-known_behind around env (g ∷ gs) = known_behind around (with_constant env g.0.name (constant_given around env g)) gs
+known_behind around env gs = known_after (length gs) around env gs
 
 -- the constants that parameters are, each by its name
 abbrev pub constants_of : Environment → Environment → List Given → List (List ℕ × Const)
-constants_of around env [] = []
-constants_of around env (g ∷ gs) =
-    (g.0.name, constant_given around env g) ∷ constants_of around (with_constant env g.0.name (constant_given around env g)) gs
+constants_of around env gs = map (λ (g : Given). (g.0.name, constant_given around (known_behind around env gs) g)) gs
 
 -- a fault of one of these parameters in their module
 abbrev pub own_faults : WidthReason → Environment → Environment → List Given → Bool
-own_faults w around env [] = false
-own_faults w around env (g ∷ gs) = own_fault w env g || own_faults w around (with_constant env g.0.name (constant_given around env g)) gs
+own_faults w around env gs = list_any (own_fault w (known_behind around env gs)) gs
 
 -- a fault of one of the expressions that override these
 abbrev pub outer_faults : WidthReason → Environment → List Given → Bool
 outer_faults w around gs = list_any (outer_fault w around) gs
-
--- whether any fault stands
-abbrev pub any_fault : (WidthReason → Bool) → Bool
-any_fault faults = faults TooWide || faults Unknown || faults NotConstant || faults WrongKind

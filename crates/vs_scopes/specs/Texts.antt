@@ -2,8 +2,9 @@
 use Rattle.std.specs.Prelude.{ℕ, ◌+◌, ◌/◌, ◌%◌, ◌==◌, ◌||◌, Bool, nat_lt, List, [], ◌∷◌, ◌++◌, codes, if◌then◌else◌}
 use Rattle.std.specs.List.{flat_map}
 use Rattle.vs_scopes.specs.declared.faults.Reason.{Reason}
-use Rattle.vs_scopes.specs.declared.faults.Reason.TheVariants.{NoModule, Inside, PortMismatch, ParameterMismatch, DeclaredTwice, DrivenTwice, Limit, Width, Endless, Unnamed}
+use Rattle.vs_scopes.specs.declared.faults.Reason.TheVariants.{NoModule, Inside, PortMismatch, ParameterMismatch, DeclaredTwice, DrivenTwice, Limit, Width, Endless, Unnamed, Timescales, Format}
 use Rattle.vs_selects.specs.declared.faults.WidthReason.TheVariants.{TooWide, Unknown, NotConstant, WrongKind}
+use Rattle.vs_strobe.specs.declared.fault.FormatReason.TheVariants.{BadDirective, TooFewArguments, TooManyArguments}
 use Rattle.vs_scopes.specs.declared.faults.ElabFault.{ElabFault}
 use Rattle.vs_scopes.specs.declared.faults.ElabFault.TheVariants.{Memory, At}
 
@@ -22,6 +23,10 @@ reason_text (Width NotConstant) = codes "E8 X3"
 reason_text (Width WrongKind) = codes "E8 X4"
 reason_text Endless = codes "E9"
 reason_text Unnamed = codes "E10"
+reason_text Timescales = codes "E11"
+reason_text (Format BadDirective) = codes "E12 F1"
+reason_text (Format TooFewArguments) = codes "E12 F2"
+reason_text (Format TooManyArguments) = codes "E12 F3"
 
 -- a byte that is no printed character of its own: below 32, and 127 (profile)
 abbrev pub is_control : ℕ → Bool

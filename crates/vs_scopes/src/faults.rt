@@ -8,6 +8,7 @@ ghost use Rattle.vs_scopes.specs.passes.Answers.{body_fault};
 use std::alloc::{AllocError, AllocFailed};
 use thiserror::Error;
 use vs_selects::{WidthFault, WidthReason};
+use vs_strobe::FormatReason;
 
 /// Why there is no design, as it is printed.
 #[derive(Clone, Copy, PartialEq, Eq, Debug, Error)]
@@ -42,6 +43,12 @@ pub enum Reason {
     /// An unnamed generate block has no free name of at most 1,024 bytes.
     #[error("E10")]
     Unnamed,
+    /// Two directives give different time scales.
+    #[error("E11")]
+    Timescales,
+    /// The text of a `$display` or a `$strobe` has a bad directive, or its directives don't fit its arguments.
+    #[error("E12 {0}")]
+    Format(FormatReason),
 }
 
 /// A refusal.

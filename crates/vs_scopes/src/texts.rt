@@ -6,6 +6,7 @@ ghost use Rattle.vs_scopes.specs.Texts.{reason_text, is_control, hexadecimal, sh
 use crate::faults::{ElabFault, Reason};
 use std::alloc::{AllocError, Global};
 use vs_selects::WidthReason;
+use vs_strobe::FormatReason;
 
 /// The number of a fault.
 fn reason_text(reason: Reason) -> &'static [u8]
@@ -25,6 +26,10 @@ fn reason_text(reason: Reason) -> &'static [u8]
         Reason::Width(WidthReason::WrongKind) => b"E8 X4",
         Reason::Endless => b"E9",
         Reason::Unnamed => b"E10",
+        Reason::Timescales => b"E11",
+        Reason::Format(FormatReason::BadDirective) => b"E12 F1",
+        Reason::Format(FormatReason::TooFewArguments) => b"E12 F2",
+        Reason::Format(FormatReason::TooManyArguments) => b"E12 F3",
     }
 }
 

@@ -44,6 +44,7 @@ step_time store time (t.Number digits) = refl
 step_time store time (t.Signal o) = refl
 step_time store time (t.Slice s) = refl
 step_time store time (t.Select s word low) = refl
+step_time store time (t.Excerpt s low) = refl
 step_time store time (t.Unary op x) = refl
 step_time store time (t.Chain x links) = refl
 step_time store time (t.Choice pairs last) = refl

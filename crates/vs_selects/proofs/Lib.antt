@@ -1,3 +1,4 @@
 pub mod ConstantLemmas
 pub mod PlaceLemmas
 pub mod FixingLemmas
+pub mod ExcerptLemmas

@@ -1,10 +1,12 @@
 -- Constants and their numbers.
-use Rattle.std.specs.Prelude.{ℕ, zero, suc, ◌^◌, ℤ, pos, nat_lt, Bool, true, false, ◌&&◌, if◌then◌else◌, List, [], ◌∷◌, Option, Some, None}
+use Rattle.std.specs.Prelude.{ℕ, zero, suc, ◌^◌, ℤ, pos, ◌-ℤ◌, nat_lt, Bool, true, false, ◌&&◌, if◌then◌else◌, List, [], ◌∷◌, Option, Some, None, length}
 use Rattle.vs_logic4.specs.declared.digit.Digit.{Digit}
 use Rattle.vs_logic4.specs.declared.digit.Digit.TheVariants.{One}
 use Rattle.vs_logic4.specs.Vectors.{same_digit, top_digit}
 use Rattle.vs_logic4.specs.Arithmetic.{known_number, known_signed_number}
 use Rattle.vs_design.specs.declared.range.BitRange.{BitRange}
+use Rattle.vs_design.specs.declared.signal.Bounds.{Bounds}
+use Rattle.vs_selects.specs.declared.constants.Const.{Const}
 use Rattle.vs_selects.specs.Findings.{Finding, Has, Lacks, not_constant, alone}
 use Rattle.vs_selects.specs.Meants.{Meant, own}
 
@@ -67,3 +69,18 @@ count_finding m = alone (where_some (positive (natural_of m))) (constant_finding
 -- the size and sign of a constant that has a whole number (clauses 4.3.1 and 5.2.1)
 abbrev pub whole_finding : Meant → Finding
 whole_finding m = alone (where_some (whole_of m)) (constant_finding m)
+
+-- ---- bits of a constant
+
+-- the range of so many bits that have no other: from one less than their number down to 0 (profile)
+abbrev pub plain_range : ℕ → Bounds
+plain_range size = record { left = pos size -ℤ pos 1; right = pos 0 }
+
+-- the range by which so many bits of a constant are selected: that of its declaration, where it has one (clauses 4.10 and 5.2.1)
+abbrev pub selected_by : Option Bounds → ℕ → Bounds
+selected_by None size = plain_range size
+selected_by (Some b) size = b
+
+-- digits that are a signed number or an unsigned one, with the range of a declaration where there is one
+abbrev pub constant_in : Option Bounds → Bool → List Digit → Const
+constant_in range signed digits = record { value = digits; signed = signed; bits = selected_by range (length digits) }

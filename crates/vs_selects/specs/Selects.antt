@@ -1,5 +1,5 @@
 -- What a name with selects names.
-use Rattle.std.specs.Prelude.{ℕ, suc, ◌-◌, ℤ, pos, ◌-ℤ◌, int_lt, unsigned_abs, Bool, false, ◌||◌, if◌then◌else◌, List, [], ◌∷◌, ◌++◌, Option, Some, None}
+use Rattle.std.specs.Prelude.{ℕ, suc, ◌-◌, ℤ, pos, ◌-ℤ◌, int_lt, unsigned_abs, Bool, false, ◌||◌, if◌then◌else◌, List, [], ◌∷◌, ◌++◌, Option, Some, None, length}
 use Rattle.std.specs.List.{list_any}
 use Rattle.vs_logic4.specs.declared.digit.Digit.{Digit}
 use Rattle.vs_logic4.specs.Vectors.{resized}
@@ -15,6 +15,7 @@ use Rattle.vs_forms.specs.declared.shape.Shape.{Shape}
 use Rattle.vs_selects.specs.declared.bindings.Meaning.{Meaning}
 use Rattle.vs_selects.specs.declared.bindings.Binding.{Binding}
 use Rattle.vs_selects.specs.declared.bindings.Binding.TheVariants.{Signal, Constant, Pending, Other, Genvar}
+use Rattle.vs_selects.specs.declared.constants.Const.{Const}
 use Rattle.vs_selects.specs.declared.faults.WidthReason.{WidthReason}
 use Rattle.vs_selects.specs.Findings.{Finding, Has, Lacks, stands, unknown, wrong_kind, not_constant, together, alone, second, unsigned, at_found}
 use Rattle.vs_selects.specs.Meants.{Meant, own}
@@ -186,7 +187,7 @@ abbrev pub of_words : Option Bounds → Meaning → ℕ → List Select → Name
 of_words None x signal ss = in_signal signal (span_of x.bits x.shape ss)
 of_words (Some b) x signal ss = in_array b x signal ss
 
--- what a name with selects names, by what it is bound to (clauses 5.2 and 12.7); bits of a constant can't be selected (profile)
+-- what a name with selects names, by what it is bound to (clauses 5.2 and 12.7); a constant is no signal
 abbrev pub named : Option Binding → List Select → Named
 named None ss = in_signal 0 (no_bits unknown ss)
 named (Some (Signal x signal)) ss = of_words x.words x signal ss
@@ -223,6 +224,31 @@ operand_meant n = record {
   at = λ store time width signed. resized signed width (named_value n store time);
 }
 
--- what a name with selects means as an operand (clauses 5.2.1 and 5.2.2)
+-- ---- bits of a constant
+
+-- what selects choose of a constant: all bits without one, and with one those that it chooses (clauses 4.10 and 5.2.1)
+abbrev pub constant_span : Const → List Select → Span
+constant_span c [] = record { finding = Has (length c.value) c.signed; reads = []; low = λ store time. pos 0 }
+constant_span c (x ∷ []) = select_span c.bits (length c.value) x
+constant_span c (x ∷ y ∷ xs) = no_bits wrong_kind (x ∷ y ∷ xs)
+
+-- the bits that are chosen of digits, in a store at a time; x where there are none (clause 5.2.1)
+abbrev pub span_value : List Digit → Span → Store → ℕ → List Digit
+span_value digits s store time = at_found s.finding (λ width signed. bits_value (s.low store time) width (Some digits))
+
+-- what the bits that are chosen of digits mean as an operand: they read what their index reads, and are brought to the size and sign of the context
+-- (clauses 5.2.1 and 5.5)
+abbrev pub excerpt_meant : List Digit → Span → Meant
+excerpt_meant digits s = record {
+  finding = s.finding;
+  reads = s.reads;
+  at = λ store time width signed. resized signed width (span_value digits s store time);
+}
+
+-- ---- operands
+
+-- what a name with selects means as an operand, by what it is bound to (clauses 4.10, 5.2.1 and 5.2.2)
 abbrev pub select_meant : Option Binding → List Select → Meant
-select_meant b ss = operand_meant (named b ss)
+select_meant None ss = operand_meant (named None ss)
+select_meant (Some (Constant c)) ss = excerpt_meant c.value (constant_span c ss)
+select_meant (Some b) ss = operand_meant (named (Some b) ss)

@@ -3,12 +3,12 @@ ghost use Rattle.std.specs.Prelude.{◌≡◌, ◌==◌, Some, [], IfOk, length}
 ghost use Rattle.vs_design.specs.Uses.{reads};
 ghost use Rattle.vs_eval.specs.Values.{value_of};
 ghost use Rattle.vs_forms.specs.Senses.{sense};
-ghost use Rattle.vs_selects.specs.Constants.{natural_number, whole_number};
+ghost use Rattle.vs_selects.specs.Constants.{natural_number, whole_number, constant_in};
 ghost use Rattle.vs_selects.specs.passes.Measures.{meaning, IsFlexible, Knows, Counts, Wholes};
 
 use crate::faults::{WidthFault, WidthReason};
 use std::alloc::{AllocError, Global};
-use vs_design::{DEFAULT_TIMESCALE, Design, Store, Typed, reads};
+use vs_design::{Bounds, DEFAULT_TIMESCALE, Design, Store, Typed, reads};
 use vs_eval::{reads_hold, sizes_hold, value};
 use vs_forms::{Form, Measured, Shape, fitted};
 use vs_logic4::{Digit, Vec4};
@@ -16,16 +16,48 @@ use vs_logic4::{Digit, Vec4};
 /// The fault that no constant stands where one is wanted, or one out of its range.
 pub const NOT_CONSTANT: WidthFault = WidthFault::Refused(WidthReason::NotConstant);
 
-/// The value of a constant expression.
+/// The value of a constant expression, or a parameter.
 #[derive(Clone, Copy)]
 pub struct Const {
     /// Its digits.
     pub value: Vec4,
     /// Whether they are a signed number.
     pub signed: bool,
+    /// The range by which bits of it are selected (IEEE 1364-2005, clause 4.10).
+    pub bits: Bounds,
 }
 
 impl Const {
+    /// Digits that are a signed number or an unsigned one, with the range of a declaration; without one their bits are those from one less
+    /// than their number down to 0 (profile).
+    pub fn new(value: Vec4, signed: bool, range: Option<Bounds>) -> Const
+        ensures { result ≡ constant_in range signed value }
+    {
+        let bits = match range {
+            Some(bounds) => bounds,
+            None => Bounds {
+                left: value.width() as i64 - 1,
+                right: 0,
+            },
+        };
+        Const {
+            value,
+            signed,
+            bits,
+        }
+    }
+
+    /// Its size and sign.
+    pub fn shape(self) -> Shape
+        ensures width { result.width ≡ length self.value }
+        ensures sign { result.signed ≡ self.signed }
+    {
+        Shape {
+            width: self.value.width(),
+            signed: self.signed,
+        }
+    }
+
     /// The number, where no digit is x or z and it isn't negative.
     pub fn natural(self) -> Option<u64>
         ensures { result ≡ natural_number self.signed self.value }
@@ -96,10 +128,7 @@ pub fn count_of(alloc: Global, count: &Measured) -> Result<u64, WidthFault>
     ensures { Counts (meaning count.now) result }
 {
     let value = known(alloc, &count.form, count.shape)?;
-    let constant = Const {
-        value,
-        signed: count.shape.signed,
-    };
+    let constant = Const::new(value, count.shape.signed, None);
     match constant.natural() {
         Some(number) => {
             if number == 0 {
@@ -117,10 +146,7 @@ pub fn whole_of(alloc: Global, x: &Measured) -> Result<i64, WidthFault>
     ensures { Wholes (meaning x.now) result }
 {
     let value = known(alloc, &x.form, x.shape)?;
-    let constant = Const {
-        value,
-        signed: x.shape.signed,
-    };
+    let constant = Const::new(value, x.shape.signed, None);
     match constant.integer() {
         Some(number) => Ok(number),
         None => Err(NOT_CONSTANT),

@@ -1,13 +1,13 @@
 //! Places that no store changes.
 ghost use Rattle.std.specs.Prelude.{◌≡◌, IfOk};
-ghost use Rattle.vs_selects.specs.Selects.{Named, operand_meant};
+ghost use Rattle.vs_selects.specs.Selects.{Named, Span, operand_meant, excerpt_meant};
 ghost use Rattle.vs_selects.specs.passes.Measures.{IsMeasured, IsOwnPart};
-ghost use Rattle.vs_selects.specs.passes.Places.{Fixes, IsPlaced, IsChosen, StandsAlone};
+ghost use Rattle.vs_selects.specs.passes.Places.{Fixes, IsExtent, IsPlaced, IsChosen, IsExcerpt, StandsAlone};
 
 use crate::constants::{reads_nothing, value_alone};
-use crate::places::Place;
+use crate::places::{Extent, Place};
 use std::alloc::{AllocError, Global};
-use vs_design::{Selection, Slice};
+use vs_design::{Excerpt, Selection, Slice};
 use vs_eval::{place_of, reads_hold, word_place};
 use vs_forms::{Form, Measured, fitted};
 use vs_logic4::Vec4;
@@ -90,6 +90,40 @@ pub fn operand(alloc: Global, place: Place) -> Result<Measured, AllocError>
 {
     let shape = place.extent.shape;
     let form = chosen(alloc, place)?;
+    Ok(Measured {
+        shape,
+        form: Form::Closed(shape, Box::new(alloc, form)?),
+    })
+}
+
+/// Chosen bits of digits, before they are brought to a context.
+fn cut(alloc: Global, digits: Vec4, extent: Extent) -> Result<Form, AllocError>
+    ensures { IfOk result (λ y. (s : Span) → IsExtent s extent → IsExcerpt digits s extent.shape y) }
+{
+    let width = extent.shape.width;
+    match alone(alloc, &extent.index)? {
+        Some(low) => {
+            let place = place_of(extent.axis, width, low);
+            Ok(Form::Number(digits.select(place, width)))
+        }
+        None => {
+            let excerpt = Excerpt {
+                digits,
+                bits: extent.axis,
+                width,
+            };
+            let low = own(alloc, extent.index)?;
+            Ok(Form::Excerpt(excerpt, low))
+        }
+    }
+}
+
+/// Chosen bits of digits as an operand.
+pub fn excerpt(alloc: Global, digits: Vec4, extent: Extent) -> Result<Measured, AllocError>
+    ensures { IfOk result (λ y. (s : Span) → IsExtent s extent → IsMeasured (excerpt_meant digits s) y) }
+{
+    let shape = extent.shape;
+    let form = cut(alloc, digits, extent)?;
     Ok(Measured {
         shape,
         form: Form::Closed(shape, Box::new(alloc, form)?),

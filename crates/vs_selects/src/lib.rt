@@ -10,5 +10,5 @@ mod places;
 pub use bindings::{Binding, Meaning};
 pub use constants::{Const, count_of, known};
 pub use faults::{WidthFault, WidthReason};
-pub use fixing::{fixed, operand, selection};
-pub use places::{Extent, Place, named};
+pub use fixing::{excerpt, fixed, operand, selection};
+pub use places::{Extent, Place, bits_of_constant, named};

@@ -1,12 +1,12 @@
 //! What a name with its selects names (IEEE 1364-2005, clauses 5.2.1 and 5.2.2).
 ghost use Rattle.std.specs.Prelude.{◌≡◌, ◌<◌, ◌≤◌, ◌^◌};
 ghost use Rattle.std.specs.List.{All};
-ghost use Rattle.vs_selects.specs.Selects.{Span, all_bits, bit_span, bounds_span, base_span, below_base, select_span, span_of, is_reversed, named, of_words, in_array, in_signal};
+ghost use Rattle.vs_selects.specs.Selects.{Span, all_bits, bit_span, bounds_span, base_span, below_base, select_span, span_of, is_reversed, named, of_words, in_array, in_signal, constant_span};
 ghost use Rattle.vs_selects.specs.passes.Measures.{meaning, IsFlexible};
 ghost use Rattle.vs_selects.specs.passes.Places.{select_meaning, selects_meaning, IsFlexibleSelect, IsZero, IsAxis, IsExtent, Extends, IsPlaced, Places};
 
 use crate::bindings::{Binding, Meaning};
-use crate::constants::{NOT_CONSTANT, count_of, whole_of};
+use crate::constants::{Const, NOT_CONSTANT, count_of, whole_of};
 use crate::faults::{WidthFault, WidthReason};
 use std::alloc::Global;
 use vs_design::{Axis, Bounds};
@@ -310,4 +310,16 @@ pub fn named(
         Binding::Other => Err(WRONG_KIND),
         Binding::Genvar => Err(WRONG_KIND),
     }
+}
+
+/// What selects choose of a constant.
+pub fn bits_of_constant(
+    alloc: Global,
+    constant: Const,
+    selects: Vec<(Measured, Option<(PartSelect, Measured)>)>,
+) -> Result<Extent, WidthFault>
+    requires flexible { All IsFlexibleSelect selects.items }
+    ensures { Extends (constant_span constant (selects_meaning selects.items)) result }
+{
+    bits_of(alloc, Some(constant.bits), constant.shape(), selects)
 }

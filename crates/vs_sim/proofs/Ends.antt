@@ -14,8 +14,8 @@ use Rattle.vs_sim.specs.Inputs.{IsKept}
 use Rattle.vs_sim.specs.Statuses.{fault_status}
 
 ran : (t : Text) (bytes : List ℕ) (q : Request) (o : Outcome) (old new : Option (List ℕ)) → Wrote t bytes q o old new → HasRun bytes q o
-ran Dump bytes q o old new h = record { old = old; new = new; run = h }
-ran Lines bytes q o old new h = h.0
+ran Dump bytes q o old new h = record { old = old; new = new; lines_old = None; lines_new = None; run = h }
+ran Lines bytes q o old new h = record { old = None; new = None; lines_old = old; lines_new = new; run = h }
 
 did : (bytes : List ℕ) (call : Call) (o : Option Outcome) (old new : Option (List ℕ)) → HasWritten bytes call o old new → HasDone bytes call o
 did bytes (Run q) (Some o) old new h = ran q.text bytes q o old new h

@@ -1,6 +1,5 @@
 -- How the program ends: its exit status (profile).
 use Rattle.std.specs.Prelude.{ℕ, ◌≡◌, ◌⊎◌, Option, None, Some, List}
-use Rattle.std.specs.Io.KnownBytes.{Keeps}
 use Rattle.vs_kernel.specs.declared.outcome.Outcome.{Outcome}
 use Rattle.vs_sim.specs.declared.fault.SimFault.{SimFault}
 use Rattle.vs_sim.specs.declared.words.Request.{Request}
@@ -18,12 +17,14 @@ use Rattle.vs_sim.specs.Statuses.{outcome_status, fault_status}
 pub record HasRun (bytes : List ℕ) (q : Request) (outcome : Outcome) : Type 0 where
   pub old : Option (List ℕ)
   pub new : Option (List ℕ)
-  pub run : IsRun bytes q.top.now q.until.count q.steps.count outcome old new
+  pub lines_old : Option (List ℕ)
+  pub lines_new : Option (List ℕ)
+  pub run : IsRun bytes q.top.now q.until.count q.steps.count outcome old new lines_old lines_new
 
--- what a run wrote to the writer of the text that was asked for: the value change dump; or no line, since no system task of the language prints
+-- what a run wrote to the writer of the text that was asked for: the value change dump, or the lines; nothing keeps the bytes of the other one
 abbrev pub Wrote : Text → List ℕ → Request → Outcome → Option (List ℕ) → Option (List ℕ) → Type 0
-Wrote Dump bytes q outcome old new = IsRun bytes q.top.now q.until.count q.steps.count outcome old new
-Wrote Lines bytes q outcome old new = HasRun bytes q outcome × Keeps old new
+Wrote Dump bytes q outcome old new = IsRun bytes q.top.now q.until.count q.steps.count outcome old new None None
+Wrote Lines bytes q outcome old new = IsRun bytes q.top.now q.until.count q.steps.count outcome None None old new
 
 -- the listing of the design that these bytes and a top define was written
 pub record HasListed (bytes top : List ℕ) : Type 0 where

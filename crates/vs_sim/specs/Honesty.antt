@@ -28,7 +28,7 @@ pub record Reads (bytes : List ℕ) (source : Source) : Type 0 where
 pub record Defines (bytes top : List ℕ) (d : Parts) : Type 0 where
   pub source : Source
   pub read : Reads bytes source
-  pub defined : DesignOf source.modules.items top d
+  pub defined : DesignOf source top d
 
 -- the bytes spell tokens that derive no source, as the fault says
 pub record DerivesNone (bytes : List ℕ) (fault : ParseFault) : Type 0 where
@@ -40,7 +40,7 @@ pub record DerivesNone (bytes : List ℕ) (fault : ParseFault) : Type 0 where
 pub record ElaboratesToNone (bytes top : List ℕ) (fault : ElabFault) : Type 0 where
   pub source : Source
   pub read : Reads bytes source
-  pub refused : Faults source.modules.items top fault
+  pub refused : Faults source top fault
 
 -- what a fault before the run says of the bytes and the top
 abbrev pub DefinesNone : List ℕ → List ℕ → SimFault → Type 0
@@ -64,23 +64,23 @@ is_refusal (Run fault) = false
 is_refusal _ = true
 
 -- a simulation that answered an outcome: the design that the bytes and the top define ran to the moment in at most so many steps, and the value
--- change dump of this run was appended to the known bytes of a sink; it shows, of each signal that is no array, at each time, the value at the end
--- of the last slot at or before that time
-pub record IsRun (bytes top : List ℕ) (until steps : ℕ) (outcome : Outcome) (old new : Option (List ℕ)) : Type 0 where
+-- change dump of this run was appended to the known bytes of a sink, and its lines to those of another one; the dump shows, of each signal that is no
+-- array, at each time, the value at the end of the last slot at or before that time
+pub record IsRun (bytes top : List ℕ) (until steps : ℕ) (outcome : Outcome) (old new lines_old lines_new : Option (List ℕ)) : Type 0 where
   pub design : Parts
   pub defined : Defines bytes top design
-  pub ran : RanTo design until steps outcome old new
+  pub ran : RanTo design until steps outcome old new lines_old lines_new
   pub shows : ShowsSlotEnds design ran.moves until
 
--- whether a simulation failed because the sink of the value change dump did
+-- whether a simulation failed because a sink did
 abbrev pub is_write : {A : Type 0} → Result A SimFault → Bool
 is_write (Ok x) = false
 is_write (Err (Run run.Write)) = true
 is_write (Err _) = false
 
 -- what a simulation leaves whose run failed: a beginning of the value change dump of an execution of the design that the bytes and the top define
--- was appended to the known bytes of a sink
-pub record HasBegunRun (bytes top : List ℕ) (until steps : ℕ) (old new : Option (List ℕ)) : Type 0 where
+-- was appended to the known bytes of a sink, and a beginning of its lines to those of another one
+pub record HasBegunRun (bytes top : List ℕ) (until steps : ℕ) (old new lines_old lines_new : Option (List ℕ)) : Type 0 where
   pub design : Parts
   pub defined : Defines bytes top design
-  pub begun : HasBegun design until steps old new
+  pub begun : HasBegun design until steps old new lines_old lines_new

@@ -1,4 +1,4 @@
-//! The simulator: from the bytes of a source to the text of a value change dump.
+//! The simulator: from the bytes of a source to the text of a value change dump, and to the lines that its steps make.
 #![tactic(auto)]
 
 mod command;

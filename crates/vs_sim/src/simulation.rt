@@ -1,17 +1,15 @@
 //! One simulation.
 ghost use Rattle.std.specs.Prelude.{◌≡◌, ◌<◌, ◌^◌, true, false, IfOk, IfErr, OnErr, MatchResult};
-ghost use Rattle.vs_kernel.specs.Faults.{FaultAt, is_write as is_run_write};
+ghost use Rattle.vs_kernel.specs.Faults.{FaultAt, OneFailed, is_write as is_run_write};
 ghost use Rattle.vs_kernel.specs.Runs.{RanTo, HasBegun};
 ghost use Rattle.vs_kernel.specs.declared.kernel.Status.TheVariants.{Ready};
 ghost use Rattle.vs_process.specs.Permitted.{NeverStuck};
 ghost use Rattle.vs_sim.specs.Honesty.{Defines, DefinesNone, IsRun, HasBegunRun, Fails, is_refusal, is_write};
-ghost use Rattle.vs_vcd.specs.Sinks.{failed_after};
 
 use crate::fault::SimFault;
 use std::alloc::Global;
 use vs_design::Design;
-use vs_elaborate::elaborate;
-use vs_elaborate_laws::names_of_one_line as defined_of_one_line;
+use vs_elaborate::{elaborate, names_of_one_line as defined_of_one_line};
 use vs_kernel::{Fifo, Kernel, Lifo, Listed, Outcome, Pick, RunFault, dumps_show_slot_ends};
 use vs_lexer::{lex, names_of_one_line as spelled_of_one_line};
 use vs_parser::parse;
@@ -57,11 +55,12 @@ fn run_under<P: Pick + Drop, V: Sink, L: Sink>(
 ) -> Result<Outcome, RunFault>
     requires until { until < 2 ^ 62 }
     requires steps { steps < 2 ^ 62 }
-    ensures ran { IfOk result (λ outcome. RanTo design.now until steps outcome (V.bytes vcd.old) (V.bytes vcd.new)) }
-    ensures begun { OnErr result (HasBegun design.now until steps (V.bytes vcd.old) (V.bytes vcd.new)) }
+    ensures ran { IfOk result (λ outcome. RanTo design.now until steps outcome
+        (V.bytes vcd.old) (V.bytes vcd.new) (L.bytes lines.old) (L.bytes lines.new)) }
+    ensures begun { OnErr result (HasBegun design.now until steps
+        (V.bytes vcd.old) (V.bytes vcd.new) (L.bytes lines.old) (L.bytes lines.new)) }
     ensures fault { IfErr result (λ fault. FaultAt Ready fault) }
-    ensures failures { V.failed vcd.new ≡ failed_after (is_run_write result) (V.failed vcd.old) }
-    ensures lines { lines.new ≡ lines.old }
+    ensures failures { OneFailed (is_run_write result) (V.failed vcd.old) (V.failed vcd.new) (L.failed lines.old) (L.failed lines.new) }
 {
     let mut kernel = Kernel::new(alloc, design, policy)?;
     kernel.run(until, steps, vcd, lines)
@@ -79,11 +78,12 @@ fn run_design<V: Sink, L: Sink>(
 ) -> Result<Outcome, RunFault>
     requires until { until < 2 ^ 62 }
     requires steps { steps < 2 ^ 62 }
-    ensures ran { IfOk result (λ outcome. RanTo design.now until steps outcome (V.bytes vcd.old) (V.bytes vcd.new)) }
-    ensures begun { OnErr result (HasBegun design.now until steps (V.bytes vcd.old) (V.bytes vcd.new)) }
+    ensures ran { IfOk result (λ outcome. RanTo design.now until steps outcome
+        (V.bytes vcd.old) (V.bytes vcd.new) (L.bytes lines.old) (L.bytes lines.new)) }
+    ensures begun { OnErr result (HasBegun design.now until steps
+        (V.bytes vcd.old) (V.bytes vcd.new) (L.bytes lines.old) (L.bytes lines.new)) }
     ensures fault { IfErr result (λ fault. FaultAt Ready fault) }
-    ensures failures { V.failed vcd.new ≡ failed_after (is_run_write result) (V.failed vcd.old) }
-    ensures lines { lines.new ≡ lines.old }
+    ensures failures { OneFailed (is_run_write result) (V.failed vcd.old) (V.failed vcd.new) (L.failed lines.old) (L.failed lines.new) }
 {
     match policy {
         Policy::Fifo => run_under(alloc, design, Fifo, until, steps, vcd, lines),
@@ -95,11 +95,13 @@ fn run_design<V: Sink, L: Sink>(
     }
 }
 
-/// Runs the design that a source and the name of a top module define, until its time is past `until`, in ticks, or no event is left, in at most `steps`
-/// steps. The value change dump is written to `vcd`; `lines` takes no byte, since the language has no system task that prints.
+/// Runs the design that a source and the name of a top module define, until its time is past `until`, in ticks, no event is left or `$finish` took
+/// effect, in at most `steps` steps. The value change dump is written to `vcd`, and the lines of `$display` and `$strobe` to `lines` (IEEE 1364-2005,
+/// clauses 17.1 and 18).
 ///
 /// Where it answers an outcome, the run is an execution of the design that the source defines, and the dump is that execution's: it shows, of each
-/// signal at each time, the value at the end of the last slot at or before that time. Where the source is refused, nothing is written.
+/// signal at each time, the value at the end of the last slot at or before that time; and the lines are those that its steps make, in their order, those
+/// of `$strobe` at the end of their slot. Where the source is refused, nothing is written.
 pub fn simulate<'s, V: Sink, L: Sink>(
     alloc: Global,
     source: &'s [u8],
@@ -113,13 +115,13 @@ pub fn simulate<'s, V: Sink, L: Sink>(
     requires until { until < 2 ^ 62 }
     requires steps { steps < 2 ^ 62 }
     ensures honest { IfOk result (λ outcome.
-        IsRun source.entry.now top.now until steps outcome (V.bytes vcd.old) (V.bytes vcd.new)) }
+        IsRun source.entry.now top.now until steps outcome (V.bytes vcd.old) (V.bytes vcd.new) (L.bytes lines.old) (L.bytes lines.new)) }
     ensures fault { IfErr result (λ fault. Fails source.entry.now top.now fault) }
-    ensures refused { IfErr result (λ fault. is_refusal fault ≡ true → vcd.new ≡ vcd.old) }
+    ensures refused { IfErr result (λ fault. is_refusal fault ≡ true → (vcd.new ≡ vcd.old) × (lines.new ≡ lines.old)) }
     ensures begun { IfErr result (λ fault. is_refusal fault ≡ false →
-        HasBegunRun source.entry.now top.now until steps (V.bytes vcd.old) (V.bytes vcd.new)) }
-    ensures failures { V.failed vcd.new ≡ failed_after (is_write result) (V.failed vcd.old) }
-    ensures lines { lines.new ≡ lines.old }
+        HasBegunRun source.entry.now top.now until steps (V.bytes vcd.old) (V.bytes vcd.new) (L.bytes lines.old) (L.bytes lines.new)) }
+    // A failed write is told only where the count of a sink rose.
+    ensures failures { OneFailed (is_write result) (V.failed vcd.old) (V.failed vcd.new) (L.failed lines.old) (L.failed lines.new) }
     ensures never_stuck { NeverStuck }
 {
     never_stuck();

@@ -1,6 +1,7 @@
 mod ChangesLemmas
 mod DuesLemmas
 pub mod ExecutionsLemmas
+pub mod PrintsLemmas
 pub mod TouchesLemmas
 pub mod WaitsLemmas
 pub mod TermsLemmas

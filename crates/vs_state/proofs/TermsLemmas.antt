@@ -82,7 +82,9 @@ quiet_rows v (p ∷ ps) h =
 quiet_layer : (v : ℕ) (y : Statement-F (WithQuiet v)) → FlatQuiet v (roll-Statement (map-Statement (WithQuiet v) Statement (λ p. p.0) y))
 quiet_layer v (Statement-F.Null n) = quiet_leaf v (Statement-F.Null n) refl
 quiet_layer v (Statement-F.Assign n t e) = quiet_leaf v (Statement-F.Assign n t e) refl
-quiet_layer v (Statement-F.Later n t e) = quiet_leaf v (Statement-F.Later n t e) refl
+quiet_layer v (Statement-F.Later n ticks t e) = quiet_leaf v (Statement-F.Later n ticks t e) refl
+quiet_layer v (Statement-F.Call n c) = quiet_leaf v (Statement-F.Call n c) refl
+quiet_layer v (Statement-F.Finish n) = quiet_leaf v (Statement-F.Finish n) refl
 quiet_layer v (Statement-F.Delay n ticks body) = quiet_leaf v (map-Statement (WithQuiet v) Statement (λ p. p.0) (Statement-F.Delay n ticks body)) refl
 quiet_layer v (Statement-F.Event n terms body) = quiet_leaf v (map-Statement (WithQuiet v) Statement (λ p. p.0) (Statement-F.Event n terms body)) refl
 quiet_layer v (Statement-F.If n e a b) = quiet_leaf v (map-Statement (WithQuiet v) Statement (λ p. p.0) (Statement-F.If n e a b)) refl
@@ -165,7 +167,9 @@ quiet_statement : (v : ℕ) (s : Statement) (f : Statement-F Statement) (rest : 
     listens s v ≡ false → name_signal v (terms_out f) ≡ false → hears_todo v rest ≡ false → QuietNext v (statement_step s f rest store time).next
 quiet_statement v s (Statement-F.Null n) rest store time whole h r = (r, refl)
 quiet_statement v s (Statement-F.Assign n t e) rest store time whole h r = (r, refl)
-quiet_statement v s (Statement-F.Later n t e) rest store time whole h r = (r, refl)
+quiet_statement v s (Statement-F.Later n ticks t e) rest store time whole h r = (r, refl)
+quiet_statement v s (Statement-F.Call n c) rest store time whole h r = (r, refl)
+quiet_statement v s (Statement-F.Finish n) rest store time whole h r = (r, refl)
 quiet_statement v s (Statement-F.Block all) rest store time whole h r = (quiet_before v (flat s) rest (quiet_flat v s whole) r, refl)
 quiet_statement v s (Statement-F.Delay n ticks body) rest store time whole h r = (quiet_before v (flat body.value) rest (quiet_flat v body.value h) r, refl)
 quiet_statement v s (Statement-F.Event n terms body) rest store time whole h r =

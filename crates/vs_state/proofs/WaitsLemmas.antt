@@ -188,7 +188,9 @@ step_written (perform s ∷ rest) store time w h = by_statement s (out-Statement
         (more : Todo) × ((statement_step s f rest store time).next ≡ on more)
     by_statement s (Statement-F.Assign n t e) rest store time w h = (rest, refl)
     by_statement s (Statement-F.Null n) rest store time w h = cc
-    by_statement s (Statement-F.Later n t e) rest store time w h = cc
+    by_statement s (Statement-F.Later n ticks t e) rest store time w h = cc
+    by_statement s (Statement-F.Call n c) rest store time w h = cc
+    by_statement s (Statement-F.Finish n) rest store time w h = cc
     by_statement s (Statement-F.Block all) rest store time w h = cc
     by_statement s (Statement-F.Delay n ticks body) rest store time w h = cc
     by_statement s (Statement-F.Event n terms body) rest store time w h = cc
@@ -227,6 +229,10 @@ wakened_set old new [] i y none = refl
 wakened_set old new (x ∷ xs) zero y none = ap (λ (z : Place). z ∷ map (wakened old new) xs) (unwakened old new y none)
 wakened_set old new (x ∷ xs) (suc i) y none = ap (λ (l : List Place). wakened old new x ∷ l) (wakened_set old new xs i y none)
 
+or-true : (b : Bool) → (b || true) ≡ true
+or-true true = refl
+or-true false = refl
+
 -- a step with an effect, where its place is set first
 effect_at : (s : State) (i : ℕ) (x y : Place) (effect : Effect) → Stepped x s.store s.time y effect →
     behind_effect (record s { places = slice_set s.places i y }) i effect ≡ performed s i x (out_of (step (todo_of x) s.store s.time).next effect)
@@ -236,14 +242,22 @@ effect_at s i x y (e.Write w) h =
     let t = written s w in
     ap₂ (λ (l : List Place) (f : Bool). record t { places = l; finishing = f })
     (wakened_set s.store (put s.store w) s.places i y (written_terms x y s.store s.time w h) ∙ ap (slice_set t.places i) h.1) (sym (or-false s.finishing))
-effect_at s i x y (e.Update w) h =
-    let due : s.time ≡ s.time + 0 = omega arith in
-    ap₂ (λ (z : Place) (f : Bool). record s { places = slice_set s.places i z; updates = s.updates ++ record { by = i; due = s.time; active = false; what = w } ∷ []; finishing = f }) h.1 (sym (or-false s.finishing))
-    ∙ ap (λ (n : ℕ). record s {
-      places = slice_set s.places i (place_behind x s.time (step (todo_of x) s.store s.time).next);
-      updates = s.updates ++ record { by = i; due = n; active = false; what = w } ∷ [];
-      finishing = s.finishing || false;
-    }) due
+effect_at s i x y (e.Update ticks w) h =
+    ap₂ (λ (z : Place) (f : Bool). record s {
+      places = slice_set s.places i z;
+      updates = s.updates ++ record { by = i; due = s.time + ticks.count; active = false; what = w } ∷ [];
+      finishing = f;
+    }) h.1 (sym (or-false s.finishing))
+effect_at s i x y (e.Strobe format) h =
+    ap₂ (λ (z : Place) (f : Bool). record s {
+      places = slice_set s.places i z;
+      calls = s.calls ++ record { by = i; call = format.now } ∷ [];
+      finishing = f;
+    }) h.1 (sym (or-false s.finishing))
+effect_at s i x y (e.Line text) h =
+    ap₂ (λ (z : Place) (f : Bool). record s { places = slice_set s.places i z; finishing = f }) h.1 (sym (or-false s.finishing))
+effect_at s i x y e.Finish h =
+    ap₂ (λ (z : Place) (f : Bool). record s { places = slice_set s.places i z; finishing = f }) h.1 (sym (or-true s.finishing))
 
 -- a step of a process, and what it does beyond its place
 pub stepped_at : {s now : State} (same : s ≡ now) (i : ℕ) (x y : Place) (effect : Effect) → slice_get s.places i ≡ Some x → Stepped x s.store s.time y effect →

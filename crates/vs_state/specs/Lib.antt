@@ -1,5 +1,6 @@
 pub mod Changes
 pub mod Dues
+pub mod Prints
 pub mod Sources
 pub mod Touches
 pub mod Waits

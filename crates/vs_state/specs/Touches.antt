@@ -1,5 +1,5 @@
 -- Which continuous assignments a write wakes, and what a step of a process does beyond its place.
-use Rattle.std.specs.Prelude.{ℕ, ◌≡◌, ◌||◌, Bool, true, false, is_some, List, [], ◌∷◌, ◌++◌, map, if◌then◌else◌}
+use Rattle.std.specs.Prelude.{ℕ, ◌≡◌, ◌+◌, ◌||◌, Bool, true, false, is_some, List, [], ◌∷◌, ◌++◌, map, if◌then◌else◌}
 use Rattle.std.specs.List.{list_any}
 use Rattle.vs_design.specs.declared.design.Assign.{Assign}
 use Rattle.vs_design.specs.declared.range.BitRange.{BitRange}
@@ -55,4 +55,8 @@ HasSources d s = AreOf d s.assigns
 abbrev pub behind_effect : State → ℕ → Effect → State
 behind_effect s process e.Nothing = s
 behind_effect s process (e.Write w) = written s w
-behind_effect s process (e.Update w) = record s { updates = s.updates ++ record { by = process; due = s.time; active = false; what = w } ∷ [] }
+behind_effect s process (e.Update ticks w) =
+    record s { updates = s.updates ++ record { by = process; due = s.time + ticks.count; active = false; what = w } ∷ [] }
+behind_effect s process (e.Strobe f) = record s { calls = s.calls ++ record { by = process; call = f.now } ∷ [] }
+behind_effect s process (e.Line text) = s
+behind_effect s process e.Finish = record s { finishing = true }

@@ -5,6 +5,7 @@
 
 mod assign;
 mod assigns;
+mod called;
 mod changes;
 mod moves;
 mod search;
@@ -13,5 +14,6 @@ mod update;
 mod updates;
 mod woken;
 
+pub use called::Called;
 pub use state::State;
 pub use update::Update;

@@ -1,17 +1,19 @@
 //! The moves of a run: each makes of the state what the definition's move makes of it.
-ghost use Rattle.std.specs.Prelude.{◌≡◌, ◌<◌, ◌^◌, ◌∷◌, [], true, false, is_some, slice_get, OnOk};
+ghost use Rattle.std.specs.Prelude.{◌≡◌, ◌<◌, ◌^◌, ◌∷◌, [], true, false, Some, None, is_some, slice_get, IfOk, OnOk, MatchOption};
 ghost use Rattle.vs_process.specs.Executions as executions;
 ghost use Rattle.vs_flatcode.specs.Places.{is_going};
 ghost use Rattle.vs_process.specs.States as states;
 ghost use Rattle.vs_state.specs.Changes.{CoverChanges, CoverWrite};
 ghost use Rattle.vs_state.specs.Touches.{HasSources, behind_effect};
+ghost use Rattle.vs_state.specs.Prints.{line_of, made_line};
 ghost use Rattle.vs_state.specs.Waits.{HasTerms};
 
+use crate::called::Called;
 use crate::changes::{wake_change, wake_for};
 use crate::state::State;
 use crate::update::Update;
 use std::alloc::AllocError;
-use vs_design::{Design, Part, Write};
+use vs_design::{Design, Part, Ticks, Write};
 use vs_eval::write_of;
 use vs_process::{Effect, Move};
 
@@ -88,54 +90,78 @@ impl<'a> State<'a> {
         Ok(())
     }
 
-    /// Appends a nonblocking update that is due in this slot.
-    fn queue(&mut self, process: usize, write: Write) -> Result<(), AllocError>
-        ensures queued { OnOk result (self.new ≡ behind_effect self.old process (Effect.Update write)) }
+    /// Appends a nonblocking update that is due in so many ticks.
+    fn queue(&mut self, process: usize, ticks: Ticks, write: Write) -> Result<(), AllocError>
+        requires early { self.old.time < 2 ^ 62 }
+        ensures queued { OnOk result (self.new ≡ behind_effect self.old process (Effect.Update ticks write)) }
         ensures store { self.new.store ≡ self.old.store }
     {
-        let update = Update::new(self.serial, process, self.processes.time(), write);
+        let due = self.processes.time() + ticks.count;
+        let update = Update::new(self.serial, process, due, write);
         self.updates.push(update)?;
         self.serial = self.serial.wrapping_add(1);
         Ok(())
     }
 
-    /// Does what a step of a process does beyond its place.
+    /// Does what a step of a process does beyond its place; the answer is the line that it makes.
     fn perform(
         &mut self,
         design: &Design,
         process: usize,
-        effect: Effect,
+        effect: Effect<'a>,
         changed: &mut Vec<usize>,
-    ) -> Result<(), AllocError>
+    ) -> Result<Option<Vec<u8>>, AllocError>
+        requires early { self.old.time < 2 ^ 62 }
         requires sources { HasSources design.now self.old }
         requires terms { (w : Write) → effect ≡ Effect.Write w → HasTerms design.now self.old }
-        ensures made { OnOk result (self.new ≡ behind_effect self.old process effect) }
+        ensures state { OnOk result (self.new ≡ behind_effect self.old process effect.entry) }
+        ensures line { IfOk result (λ line. MatchOption line (line_of effect.entry ≡ None) (λ text. line_of effect.entry ≡ Some text.items)) }
         ensures covers { OnOk result (CoverChanges changed.new.items self.old.store self.new.store) }
     {
         match effect {
-            Effect::Nothing => Ok(()),
-            Effect::Write(write) => self.write(design, &write, changed),
-            Effect::Update(write) => self.queue(process, write),
+            Effect::Nothing => Ok(None),
+            Effect::Write(write) => {
+                self.write(design, &write, changed)?;
+                Ok(None)
+            }
+            Effect::Update(ticks, write) => {
+                self.queue(process, ticks, write)?;
+                Ok(None)
+            }
+            Effect::Strobe(format) => {
+                self.calls.push(Called {
+                    by: process,
+                    format,
+                })?;
+                Ok(None)
+            }
+            Effect::Line(text) => Ok(Some(text)),
+            Effect::Finish => {
+                self.finishing = true;
+                Ok(None)
+            }
         }
     }
 
-    /// A step of an active process.
+    /// A step of an active process; the answer is the line that it makes.
     fn step(
         &mut self,
         design: &Design,
         process: usize,
         changed: &mut Vec<usize>,
-    ) -> Result<(), AllocError>
+    ) -> Result<Option<Vec<u8>>, AllocError>
         requires active { executions.if_some is_going (slice_get self.old.places process) ≡ true }
         requires early { self.old.time < 2 ^ 62 }
         requires sources { HasSources design.now self.old }
         requires terms { HasTerms design.now self.old }
-        ensures made { OnOk result (self.new ≡ states.stepped self.old process (slice_get self.old.places process)) }
+        ensures state { OnOk result (self.new ≡ states.stepped self.old process (slice_get self.old.places process)) }
+        ensures line { IfOk result (λ line. MatchOption line (made_line (Move.Step process) self.old ≡ None)
+            (λ text. made_line (Move.Step process) self.old ≡ Some text.items)) }
         ensures covers { OnOk result (CoverChanges changed.new.items self.old.store self.new.store) }
     {
         let effect = self.processes.step(process, self.alloc, &self.store)?;
-        self.perform(design, process, effect, changed)?;
-        Ok(())
+        let line = self.perform(design, process, effect, changed)?;
+        Ok(line)
     }
 
     /// The evaluation of a continuous assignment.
@@ -201,6 +227,11 @@ impl<'a> State<'a> {
         ensures made { OnOk result (self.new ≡ executions.apply Move.EndSlot self.old) }
         ensures store { self.new.store ≡ self.old.store }
     {
+        self.calls.clear();
+        if self.finishing {
+            self.over = true;
+            return Ok(());
+        }
         match self.next_time() {
             None => self.over = true,
             Some(time) => self.processes.advance(time, &mut self.woken.processes)?,
@@ -208,24 +239,28 @@ impl<'a> State<'a> {
         Ok(())
     }
 
-    /// Makes an enabled move, and notes in `changed` the signals that it may change.
+    /// Makes an enabled move, and notes in `changed` the signals that it may change; the answer is the line that it makes at once, with the line
+    /// feed that ends it (IEEE 1364-2005, clause 17.1.1). The lines of the calls of `$strobe` are the caller's to make before the end of the slot,
+    /// of `calls`.
     pub fn make(
         &mut self,
         design: &Design,
         choice: Move,
         changed: &mut Vec<usize>,
-    ) -> Result<(), AllocError>
+    ) -> Result<Option<Vec<u8>>, AllocError>
         requires going { self.old.over ≡ false }
         requires enabled { executions.is_enabled self.old choice ≡ true }
         requires early { self.old.time < 2 ^ 62 }
         requires sources { HasSources design.now self.old }
         requires terms { HasTerms design.now self.old }
-        ensures made { OnOk result (self.new ≡ executions.apply choice self.old) }
+        ensures state { OnOk result (self.new ≡ executions.apply choice self.old) }
+        ensures line { IfOk result (λ line. MatchOption line (made_line choice self.old ≡ None)
+            (λ text. made_line choice self.old ≡ Some text.items)) }
         ensures covers { OnOk result (CoverChanges changed.new.items self.old.store self.new.store) }
     {
         self.woken.clear();
         match choice {
-            Move::Step(process) => self.step(design, process, changed)?,
+            Move::Step(process) => return self.step(design, process, changed),
             Move::Evaluate(assign) => self.evaluate(assign)?,
             Move::Propagate(assign) => self.propagate(design, assign, changed)?,
             Move::Make(index) => self.update(design, index, changed)?,
@@ -233,6 +268,6 @@ impl<'a> State<'a> {
             Move::Activate => self.updates.activate(self.processes.time()),
             Move::EndSlot => self.end_slot()?,
         }
-        Ok(())
+        Ok(None)
     }
 }

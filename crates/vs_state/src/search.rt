@@ -2,7 +2,6 @@
 ghost use Rattle.std.specs.Prelude.{◌≡◌, ◌≤◌, true, false, None, slice_get, IfSome, MatchOption};
 ghost use Rattle.std.specs.List.{list_any};
 ghost use Rattle.vs_process.specs.Executions as executions;
-ghost use Rattle.vs_process.specs.States as states;
 ghost use Rattle.vs_state.specs.Touches.{is_left};
 
 use crate::assign::AssignState;
@@ -53,13 +52,6 @@ pub(crate) fn is_first(updates: &VecDeque<Update>, index: usize) -> bool
         }
     }
     true
-}
-
-/// Whether an update is due at this time and not activated.
-pub(crate) fn has_due(updates: &VecDeque<Update>, time: u64) -> bool
-    ensures { result ≡ list_any (states.is_due time) updates.now.items }
-{
-    updates.iter().any(|update| update.is_due(time))
 }
 
 /// The lesser of a time and another, where there is one.

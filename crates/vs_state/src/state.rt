@@ -1,10 +1,11 @@
 //! The state of a run.
-ghost use Rattle.std.specs.Prelude.{◌≡◌, false, map, slice_get, is_some, IfOk};
+ghost use Rattle.std.specs.Prelude.{◌≡◌, map, slice_get, is_some, IfOk};
 ghost use Rattle.vs_process.specs.Executions.{if_some};
 ghost use Rattle.vs_flatcode.specs.Places.{is_going, is_inside};
 ghost use Rattle.vs_process.specs.States as states;
 
 use crate::assigns::Assigns;
+use crate::called::Called;
 use crate::update::Update;
 use crate::updates::Updates;
 use crate::woken::Woken;
@@ -25,6 +26,9 @@ pub struct State<'a> {
     pub(crate) assigns: Assigns<'a>,
     /// The nonblocking updates that wait, in the order of execution.
     pub(crate) updates: Updates,
+    /// The calls of `$strobe` in this slot, in their order.
+    pub(crate) calls: Vec<Called<'a>>,
+    pub(crate) finishing: bool,
     pub(crate) over: bool,
     /// How many nonblocking updates were made so far; no part of the definition's state.
     pub(crate) serial: u64,
@@ -33,7 +37,6 @@ pub struct State<'a> {
 }
 
 impl<'a> Model for State<'a> {
-    ghost use Rattle.std.specs.Prelude.{[], false};
     ghost use Rattle.std.specs.Coded.{codes};
     ghost use Rattle.vs_design.specs.contracts.expression.Typed as expression;
     ghost use Rattle.vs_design.specs.contracts.statement.Statement as statement;
@@ -49,9 +52,9 @@ impl<'a> Model for State<'a> {
       places = m.processes.places;
       assigns = m.assigns;
       updates = m.updates;
-      calls = [];
+      calls = m.calls.items;
       time = m.processes.time;
-      finishing = false;
+      finishing = m.finishing;
       over = m.over;
     } };
 
@@ -78,6 +81,8 @@ impl<'a> State<'a> {
             processes,
             assigns,
             updates: Updates::none(alloc),
+            calls: Vec::new(alloc),
+            finishing: false,
             over: false,
             serial: 0,
             woken: Woken::none(alloc),
@@ -93,10 +98,23 @@ impl<'a> State<'a> {
 
     /// Whether the execution is over.
     pub fn is_over(&self) -> bool
-        ensures over { result ≡ self.now.over }
-        ensures finishing { self.now.finishing ≡ false }
+        ensures { result ≡ self.now.over }
     {
         self.over
+    }
+
+    /// Whether a `$finish` was executed: the execution is over at the end of the slot (IEEE 1364-2005, clause 17.4.1, and profile).
+    pub fn is_finishing(&self) -> bool
+        ensures { result ≡ self.now.finishing }
+    {
+        self.finishing
+    }
+
+    /// The calls of `$strobe` in this slot, in their order.
+    pub fn calls(&self) -> &[Called<'a>]
+        ensures { result.now ≡ self.now.calls }
+    {
+        &self.calls
     }
 
     /// The store.

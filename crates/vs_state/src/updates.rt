@@ -6,7 +6,7 @@ ghost use Rattle.vs_process.specs.States as states;
 ghost use Rattle.vs_places.specs.Listed.{count};
 
 use crate::changes::activate_all;
-use crate::search::{has_due, is_first, next_update, oldest_active};
+use crate::search::{is_first, next_update, oldest_active};
 use crate::update::Update;
 use std::alloc::{AllocError, Global};
 use std::collections::VecDeque;
@@ -76,7 +76,7 @@ impl Updates {
     pub(crate) fn has_due(&self, time: u64) -> bool
         ensures { result ≡ list_any (states.is_due time) self.now }
     {
-        has_due(&self.items, time)
+        self.items.iter().any(|update| update.is_due(time))
     }
 
     /// The least of a time, where there is one, and those at which one is due.

@@ -8,3 +8,4 @@ pub mod Assignments
 pub mod Controls
 pub mod Labels
 pub mod Statements
+pub mod Tasks

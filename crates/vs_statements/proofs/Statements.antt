@@ -19,6 +19,7 @@ use Rattle.vs_statements.specs.declared.head.StatementWord.TheVariants as s
 use Rattle.vs_statements.specs.declared.head.StatementHead.{StatementHead}
 use Rattle.vs_statements.specs.declared.head.StatementHead.TheVariants as h
 use Rattle.vs_statements.specs.Heads.{symbol_of, behind_of, BeginsStatement, class_of_statement}
+use Rattle.vs_statements.specs.Tasks.{timing}
 use Rattle.vs_statements.specs.Parts.{Within, ReadsWithin, headed}
 use Rattle.vs_statements.proofs.Heads.{word_branch, word_need}
 use Rattle.vs_statements.proofs.Trees.{tree_Null}
@@ -31,7 +32,7 @@ use Rattle.vs_expressions.proofs.Rows.{Along, all_read, more_read, more_stuck, s
 
 -- what stands behind the left side of an assignment, and the whole
 abbrev pub assigned_value : Grammar
-assigned_value = (mark m.Assign or mark m.LessEqual) · part an_expr · mark m.Semicolon
+assigned_value = timing · part an_expr · mark m.Semicolon
 
 abbrev pub assigned : Grammar
 assigned = part a_target · assigned_value

@@ -5,24 +5,24 @@ use Rattle.std.specs.declared.boxed.Box.{Box}
 use Rattle.std.specs.declared.alloc.Global.{Global}
 use Rattle.vs_tokens.specs.declared.token.Mark.TheVariants as m
 use Rattle.vs_tokens.specs.declared.token.Word.TheVariants as w
-use Rattle.vs_syntax.specs.Symbols.{a_mark, a_word}
+use Rattle.vs_syntax.specs.Symbols.{a_mark, a_word, a_print, a_finish, a_dump}
 use Rattle.vs_syntax.specs.Derivation.{Tree, empty, leaf, both}
-use Rattle.vs_syntax.specs.Views.{row_of, block_head_tree, some_tree, expr_tree, assigned_tree, guarded_tree, else_tree, case_word, case_item_tree, for_tree, delay_tree, event_tree, stmt_step, stmt_tree}
+use Rattle.vs_syntax.specs.Views.{row_of, block_head_tree, some_tree, expr_tree, assigned_tree, guarded_tree, else_tree, case_word, case_item_tree, for_tree, delay_tree, event_tree, later_tree, print_tree, finish_tree, dump_tree, stmt_step, stmt_tree}
 use Rattle.vs_syntax.specs.declared.tree.CaseLabel.{CaseLabel}
 use Rattle.vs_syntax.specs.declared.tree.Stmt.{Stmt, fold-roll-Stmt}
 use Rattle.vs_syntax.specs.declared.tree.Stmt.TheShapes.{former-Stmt-If-2-at-2}
 use Rattle.vs_syntax.specs.declared.tree.Stmt.TheVariants as v
-use Rattle.vs_syntax.specs.declared.tree.Stmt.TheVariants.{rolls-Null, rolls-Assign, rolls-Later, rolls-Block, rolls-Named, rolls-If, rolls-Case, rolls-For, rolls-While, rolls-Repeat, rolls-Forever, rolls-Delay, rolls-Event}
+use Rattle.vs_syntax.specs.declared.tree.Stmt.TheVariants.{rolls-Null, rolls-Assign, rolls-Later, rolls-Block, rolls-Named, rolls-If, rolls-Case, rolls-For, rolls-While, rolls-Repeat, rolls-Forever, rolls-Delay, rolls-Event, rolls-Print, rolls-Finish, rolls-Dump}
 use Rattle.vs_statements.specs.Parts.{headed, boxed_tree, other_tree, labelled_stmt_tree}
 
 pub tree_Null : stmt_tree v.Null ≡ headed (a_mark m.Semicolon) empty
 tree_Null = ap stmt_tree (sym rolls-Null) ∙ fold-roll-Stmt Tree stmt_step _
 
-pub tree_Assign : (l x : _) → stmt_tree (v.Assign l x) ≡ assigned_tree l m.Assign x
+pub tree_Assign : (l x : _) → stmt_tree (v.Assign l x) ≡ assigned_tree l (leaf (a_mark m.Assign)) x
 tree_Assign l x = ap stmt_tree (sym (rolls-Assign l x)) ∙ fold-roll-Stmt Tree stmt_step _
 
-pub tree_Later : (l x : _) → stmt_tree (v.Later l x) ≡ assigned_tree l m.LessEqual x
-tree_Later l x = ap stmt_tree (sym (rolls-Later l x)) ∙ fold-roll-Stmt Tree stmt_step _
+pub tree_Later : (l o x : _) → stmt_tree (v.Later l o x) ≡ assigned_tree l (later_tree o) x
+tree_Later l o x = ap stmt_tree (sym (rolls-Later l o x)) ∙ fold-roll-Stmt Tree stmt_step _
 
 pub tree_Block : (xs : _) → stmt_tree (v.Block xs) ≡ headed (a_word w.Begin) (both empty (both (row_of (map stmt_tree xs.items)) (leaf (a_word w.End))))
 tree_Block xs = ap stmt_tree (sym (rolls-Block xs)) ∙ fold-roll-Stmt Tree stmt_step _
@@ -67,3 +67,12 @@ tree_Delay t x = ap stmt_tree (sym (rolls-Delay t x)) ∙ fold-roll-Stmt Tree st
 
 pub tree_Event : (e x : _) → stmt_tree (v.Event e x) ≡ headed (a_mark m.At) (both (event_tree e) (boxed_tree x))
 tree_Event e x = ap stmt_tree (sym (rolls-Event e x)) ∙ fold-roll-Stmt Tree stmt_step _
+
+pub tree_Print : (t xs : _) → stmt_tree (v.Print t xs) ≡ headed (a_print t) (both (print_tree xs) (leaf (a_mark m.Semicolon)))
+tree_Print t xs = ap stmt_tree (sym (rolls-Print t xs)) ∙ fold-roll-Stmt Tree stmt_step _
+
+pub tree_Finish : (n : _) → stmt_tree (v.Finish n) ≡ headed a_finish (both (finish_tree n) (leaf (a_mark m.Semicolon)))
+tree_Finish n = ap stmt_tree (sym (rolls-Finish n)) ∙ fold-roll-Stmt Tree stmt_step _
+
+pub tree_Dump : (t xs : _) → stmt_tree (v.Dump t xs) ≡ headed (a_dump t) (both (dump_tree xs) (leaf (a_mark m.Semicolon)))
+tree_Dump t xs = ap stmt_tree (sym (rolls-Dump t xs)) ∙ fold-roll-Stmt Tree stmt_step _

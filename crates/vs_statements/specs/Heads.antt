@@ -1,10 +1,9 @@
 -- How statements and their parts begin.
 use Rattle.std.specs.Prelude.{◌≡◌, List, ◌∷◌}
-use Rattle.vs_tokens.specs.declared.token.Mark.{Mark}
 use Rattle.vs_tokens.specs.declared.token.Mark.TheVariants as m
 use Rattle.vs_tokens.specs.declared.token.Word.TheVariants as w
-use Rattle.vs_syntax.specs.Symbols.{Symbol, a_mark, a_word, Class, the_mark, any_name, any_number, class_of, first}
-use Rattle.vs_syntax.specs.Grammar.{Grammar, nothing, ◌·◌, ◌or◌, many, part, word, block_head, guarded, branches, case_items, for_parts, delay, event, a_stmt}
+use Rattle.vs_syntax.specs.Symbols.{Symbol, a_mark, a_word, a_print, a_finish, a_dump, Class, the_mark, any_name, any_number, class_of, first}
+use Rattle.vs_syntax.specs.Grammar.{Grammar, nothing, ◌·◌, ◌or◌, many, part, mark, word, block_head, guarded, branches, case_items, for_parts, delay, event, print_arguments, finish_argument, dump_arguments, a_stmt}
 use Rattle.vs_syntax.specs.declared.tree.Separator.{Separator}
 use Rattle.vs_syntax.specs.declared.tree.Separator.TheVariants as r
 use Rattle.vs_statements.specs.declared.head.StatementWord.{StatementWord}
@@ -15,10 +14,8 @@ use Rattle.vs_statements.specs.declared.head.DelayHead.{DelayHead}
 use Rattle.vs_statements.specs.declared.head.DelayHead.TheVariants as d
 use Rattle.vs_statements.specs.declared.head.EventHead.{EventHead}
 use Rattle.vs_statements.specs.declared.head.EventHead.TheVariants as v
-use Rattle.vs_statements.specs.declared.head.Timing.{Timing}
-use Rattle.vs_statements.specs.declared.head.Timing.TheVariants as t
 
--- the first symbol of a statement that begins with the word or the mark
+-- the first symbol of a statement that begins with the word, the mark or the system name
 abbrev pub symbol_of : StatementWord → Symbol
 symbol_of s.Null = a_mark m.Semicolon
 symbol_of s.Block = a_word w.Begin
@@ -32,6 +29,9 @@ symbol_of s.Repeat = a_word w.Repeat
 symbol_of s.Forever = a_word w.Forever
 symbol_of s.Delay = a_mark m.Hash
 symbol_of s.Event = a_mark m.At
+symbol_of (s.Print task) = a_print task
+symbol_of s.Finish = a_finish
+symbol_of (s.Dump task) = a_dump task
 
 -- what stands behind it
 abbrev pub behind_of : StatementWord → Grammar
@@ -47,6 +47,9 @@ behind_of s.Repeat = guarded (part a_stmt)
 behind_of s.Forever = part a_stmt
 behind_of s.Delay = delay · part a_stmt
 behind_of s.Event = event · part a_stmt
+behind_of (s.Print task) = print_arguments · mark m.Semicolon
+behind_of s.Finish = finish_argument · mark m.Semicolon
+behind_of (s.Dump task) = dump_arguments · mark m.Semicolon
 
 -- the symbols begin a statement so, and these stand behind the first one
 abbrev pub BeginsStatement : List Symbol → StatementHead → List Symbol → Type 0
@@ -80,8 +83,3 @@ separator_symbol r.Comma = a_mark m.Comma
 -- the word of an edge, or nothing (clause A.6.5)
 abbrev pub edge_word : Grammar
 edge_word = word w.Posedge or word w.Negedge or nothing
-
--- the sign of an assignment as a statement (clauses 9.2.1 and 9.2.2)
-abbrev pub sign_of : Timing → Mark
-sign_of t.Blocking = m.Assign
-sign_of t.Nonblocking = m.LessEqual

@@ -2,3 +2,4 @@ pub mod Heads
 pub mod Lists
 pub mod Parts
 pub mod Blocks
+pub mod Tasks

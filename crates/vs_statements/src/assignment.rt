@@ -1,19 +1,28 @@
 //! Reading assignments, and expressions before a mark.
 ghost use Rattle.std.specs.Prelude.{◌≡◌, ◌≤◌, true};
 ghost use Rattle.vs_tokens.specs.declared.token.Mark.TheVariants as m;
-ghost use Rattle.vs_syntax.specs.Grammar.{Grammar, ◌·◌, part, mark, assignment, guarded, for_parts, a_stmt, a_target, an_expr};
+ghost use Rattle.vs_syntax.specs.Grammar.{Grammar, ◌·◌, part, mark, assignment, guarded, for_parts, late, a_stmt, a_target, an_expr};
 ghost use Rattle.vs_syntax.specs.Tables.{goes};
 ghost use Rattle.vs_syntax.specs.Derivation.{both};
-ghost use Rattle.vs_syntax.specs.Views.{expr_tree, left_tree, assigned_tree, guarded_tree, for_tree, stmt_tree};
+ghost use Rattle.vs_syntax.specs.Views.{expr_tree, left_tree, late_tree, assigned_tree, guarded_tree, for_tree, stmt_tree};
 ghost use Rattle.vs_expressions.specs.Answers.{seen, Reads};
-ghost use Rattle.vs_statements.specs.Heads.{sign_of};
 ghost use Rattle.vs_statements.specs.Parts.{Leads, marked, sides_tree};
+ghost use Rattle.vs_statements.specs.Tasks.{timing, timing_tree};
 
-use crate::head::{Timing, expect_timing};
+use crate::control::delay_value;
 use std::alloc::Global;
-use vs_expressions::{Read, Stop, expect_mark, expr, left};
+use vs_expressions::{Read, Stop, expect_mark, expr, left, mark_at};
 use vs_lexer::{Mark, Token};
-use vs_syntax::{Expr, Left, Stmt};
+use vs_syntax::{DelayValue, Expr, Left, Stmt};
+
+/// When an assignment as a statement assigns.
+#[derive(Drop)]
+pub(crate) enum Timing {
+    /// `=`: at once (IEEE 1364-2005, clause 9.2.1).
+    Blocking,
+    /// `<=`: later, by its delay, where it has one (IEEE 1364-2005, clause 9.2.2).
+    Nonblocking(Option<DelayValue>),
+}
 
 /// What stands in the parentheses of a `for` statement.
 #[derive(Drop)]
@@ -37,23 +46,68 @@ pub(crate) fn assigned_stmt<'t, 's>(
     ensures { Reads (part a_stmt) room tokens.now stmt_tree result }
 {
     let target = left(alloc, room - 1, tokens)?;
-    let (timing, after_sign) = expect_timing(target.rest)?;
-    let value = expr(alloc, room - 1, after_sign)?;
+    let timing = sign(alloc, room - 1, target.rest)?;
+    let value = expr(alloc, room - 1, timing.rest)?;
     let rest = expect_mark(value.rest, Mark::Semicolon)?;
     Ok(Read {
-        tree: assigned(timing, target.tree, value.tree),
+        tree: assigned(timing.tree, target.tree, value.tree),
         rest,
     })
 }
 
 /// The assignment of a value to a target.
 fn assigned(timing: Timing, target: Left, value: Expr) -> Stmt
-    ensures { stmt_tree result ≡ assigned_tree target (sign_of timing) value }
+    ensures { stmt_tree result ≡ assigned_tree target (timing_tree timing) value }
 {
     match timing {
         Timing::Blocking => Stmt::Assign(target, value),
-        Timing::Nonblocking => Stmt::Later(target, value),
+        Timing::Nonblocking(delay) => Stmt::Later(target, delay, value),
     }
+}
+
+/// Reads the sign of an assignment as a statement, and the delay behind it, where there is one.
+fn sign<'t, 's>(
+    alloc: Global,
+    room: u32,
+    tokens: &'t [Token<'s>],
+) -> Result<Read<'t, 's, Timing>, Stop<'t, 's>>
+    ensures { Reads timing room tokens.now timing_tree result }
+{
+    match mark_at(tokens, Mark::Assign) {
+        Some(rest) => Ok(Read {
+            tree: Timing::Blocking,
+            rest,
+        }),
+        None => {
+            let after = expect_mark(tokens, Mark::LessEqual)?;
+            let delay = late(alloc, room, after)?;
+            Ok(Read {
+                tree: Timing::Nonblocking(delay.tree),
+                rest: delay.rest,
+            })
+        }
+    }
+}
+
+/// Reads the delay of a nonblocking assignment, where it has one.
+fn late<'t, 's>(
+    alloc: Global,
+    room: u32,
+    tokens: &'t [Token<'s>],
+) -> Result<Read<'t, 's, Option<DelayValue>>, Stop<'t, 's>>
+    ensures { Reads late room tokens.now late_tree result }
+{
+    let Some(after) = mark_at(tokens, Mark::Hash) else {
+        return Ok(Read {
+            tree: None,
+            rest: tokens,
+        });
+    };
+    let delay = delay_value(alloc, room, after)?;
+    Ok(Read {
+        tree: Some(delay.tree),
+        rest: delay.rest,
+    })
 }
 
 /// Reads an expression and the mark behind it, in at most `room` nodes below one another.

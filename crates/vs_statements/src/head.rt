@@ -5,18 +5,17 @@ ghost use Rattle.vs_tokens.specs.declared.token.Word.TheVariants as w;
 ghost use Rattle.vs_syntax.specs.Symbols.{a_mark, class_of};
 ghost use Rattle.vs_syntax.specs.Grammar.{◌or◌, mark, word, part, delay, event, a_stmt, a_case_item};
 ghost use Rattle.vs_syntax.specs.Tables.{need, fronts_of, goes};
-ghost use Rattle.vs_syntax.specs.Derivation.{leaf};
 ghost use Rattle.vs_syntax.specs.Reading.{Gets};
 ghost use Rattle.vs_syntax.specs.Views.{edge_tree};
-ghost use Rattle.vs_expressions.specs.Answers.{seen, Answers};
-ghost use Rattle.vs_statements.specs.Heads.{symbol_of, BeginsStatement, class_of_statement, BeginsDelay, BeginsEvent, separator_symbol, edge_word, sign_of};
+ghost use Rattle.vs_expressions.specs.Answers.{seen};
+ghost use Rattle.vs_statements.specs.Heads.{symbol_of, BeginsStatement, class_of_statement, BeginsDelay, BeginsEvent, separator_symbol, edge_word};
 
-use vs_expressions::{Stop, begins_expr, expect_mark, mark_at, next, word_at};
+use vs_expressions::{SystemName, begins_expr, next, system_name, word_at};
 use vs_lexer::{Kind, Mark, Token, Word};
 use vs_logic4::Edge;
-use vs_syntax::Separator;
+use vs_syntax::{DumpTask, PrintTask, Separator};
 
-/// The word or the mark that a statement of its own form begins with.
+/// The word, the mark or the system name that a statement of its own form begins with.
 #[derive(Clone, Copy)]
 pub(crate) enum StatementWord {
     /// `;`
@@ -43,6 +42,12 @@ pub(crate) enum StatementWord {
     Delay,
     /// `@`
     Event,
+    /// `$display` or `$strobe`
+    Print(PrintTask),
+    /// `$finish`
+    Finish,
+    /// `$dumpfile` or `$dumpvars`
+    Dump(DumpTask),
 }
 
 /// What a statement begins with.
@@ -78,15 +83,6 @@ pub(crate) enum EventHead {
     Open,
 }
 
-/// When an assignment as a statement assigns.
-#[derive(Clone, Copy, Debug)]
-pub(crate) enum Timing {
-    /// `=`: at once (IEEE 1364-2005, clause 9.2.1).
-    Blocking,
-    /// `<=`: later in the same time step (IEEE 1364-2005, clause 9.2.2).
-    Nonblocking,
-}
-
 /// How the statement begins that is next, if one is, and the tokens behind its first one.
 pub(crate) fn statement_head<'t, 's>(
     tokens: &'t [Token<'s>],
@@ -116,6 +112,16 @@ pub(crate) fn statement_head<'t, 's>(
             Word::Forever => Some((StatementHead::Word(StatementWord::Forever), rest)),
             _ => None,
         },
+        Kind::System => match system_name(first.bytes) {
+            Some(SystemName::Print(task)) => {
+                Some((StatementHead::Word(StatementWord::Print(task)), rest))
+            }
+            Some(SystemName::Finish) => Some((StatementHead::Word(StatementWord::Finish), rest)),
+            Some(SystemName::Dump(task)) => {
+                Some((StatementHead::Word(StatementWord::Dump(task)), rest))
+            }
+            _ => None,
+        },
         _ => None,
     }
 }
@@ -140,6 +146,9 @@ pub(crate) fn least_behind(word: StatementWord) -> u32
     match word {
         StatementWord::Null => 1,
         StatementWord::Block => 1,
+        StatementWord::Print(_) => 1,
+        StatementWord::Finish => 1,
+        StatementWord::Dump(_) => 1,
         _ => 2,
     }
 }
@@ -217,21 +226,5 @@ pub(crate) fn edge_at<'t, 's>(tokens: &'t [Token<'s>]) -> (Edge, &'t [Token<'s>]
             Some(rest) => (Edge::Negedge, rest),
             None => (Edge::Any, tokens),
         },
-    }
-}
-
-/// Reads the sign of an assignment as a statement: when it assigns, and the tokens behind it.
-pub(crate) fn expect_timing<'t, 's>(
-    tokens: &'t [Token<'s>],
-) -> Result<(Timing, &'t [Token<'s>]), Stop<'t, 's>>
-    ensures { (room : ℕ) → Answers (mark m.Assign or mark m.LessEqual) room (seen tokens.now)
-        (λ x. leaf (a_mark (sign_of x.0))) (λ x. seen x.1.now) result }
-{
-    match mark_at(tokens, Mark::Assign) {
-        Some(rest) => Ok((Timing::Blocking, rest)),
-        None => {
-            let rest = expect_mark(tokens, Mark::LessEqual)?;
-            Ok((Timing::Nonblocking, rest))
-        }
     }
 }

@@ -9,6 +9,7 @@ mod label;
 mod list;
 mod local;
 mod statement;
+mod task;
 
 pub use assignment::{expr_until, guard};
 pub use form::{declared, declared_form, declared_range};

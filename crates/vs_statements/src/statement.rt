@@ -19,6 +19,7 @@ use crate::head::{
 };
 use crate::label::case_label;
 use crate::local::{BlockName, naming};
+use crate::task::{dump_stmt, finish_stmt, print_stmt};
 use std::alloc::Global;
 use vs_expressions::{Read, Stop, expect_word, word_at};
 use vs_lexer::{Token, Word};
@@ -62,7 +63,7 @@ fn headed<'t, 's>(
     }
 }
 
-/// Reads a statement behind the word or the mark that it begins with.
+/// Reads a statement behind the word, the mark or the system name that it begins with.
 #[cycle(stmt)]
 fn behind<'t, 's>(
     alloc: Global,
@@ -89,6 +90,9 @@ fn behind<'t, 's>(
         StatementWord::Forever => forever_stmt(alloc, room, tokens),
         StatementWord::Delay => delayed_stmt(alloc, room, tokens),
         StatementWord::Event => event_stmt(alloc, room, tokens),
+        StatementWord::Print(task) => print_stmt(alloc, room, tokens, task),
+        StatementWord::Finish => finish_stmt(tokens),
+        StatementWord::Dump(task) => dump_stmt(alloc, room, tokens, task),
     }
 }
 

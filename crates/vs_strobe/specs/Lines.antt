@@ -4,8 +4,9 @@ use Rattle.vs_logic4.specs.declared.digit.Digit.{Digit}
 use Rattle.vs_logic4.specs.Vectors.{of_number}
 use Rattle.vs_design.specs.Stores.{Store}
 use Rattle.vs_eval.specs.Values.{value_of}
-use Rattle.vs_strobe.specs.declared.argument.FormatArg.{FormatArg}
-use Rattle.vs_strobe.specs.declared.argument.FormatArg.TheVariants.{Value, Time}
+use Rattle.vs_design.specs.declared.statement.FormatArg.{FormatArg}
+use Rattle.vs_design.specs.declared.statement.FormatArg.TheVariants.{Value, Time}
+use Rattle.vs_design.specs.declared.statement.Call.{Call}
 use Rattle.vs_strobe.specs.declared.piece.Piece.{Piece}
 use Rattle.vs_strobe.specs.declared.piece.Piece.TheVariants.{Byte, Path, Shown}
 use Rattle.vs_strobe.specs.Pieces.{pieces_of}
@@ -21,6 +22,10 @@ pub record Format : Type 0 where
 -- the format of a text
 abbrev pub format_of : List ℕ → List FormatArg → List ℕ → ℕ → Format
 format_of text args path ratio = record { pieces = unwrap_or (pieces_of text) []; args = args; path = path; ratio = ratio }
+
+-- the format of a call (clause 17.1)
+abbrev pub format_of_call : Call → Format
+format_of_call c = format_of c.text.items c.args.items c.path.items c.ratio
 
 -- whether an argument is a signed number; `$time` isn't (clause 17.7.1)
 abbrev pub is_signed : FormatArg → Bool
@@ -44,3 +49,7 @@ pieces_text f store time (Shown show bare ∷ ps) (a ∷ args) =
 -- the line of a format in a store at a time in ticks, without the line feed that ends it (clause 17.1)
 abbrev pub line_text : Format → Store → ℕ → List ℕ
 line_text f store time = pieces_text f store time f.pieces f.args
+
+-- the same with the line feed that ends it (clause 17.1)
+abbrev pub full_line : Format → Store → ℕ → List ℕ
+full_line f store time = line_text f store time ++ 10 ∷ []

@@ -2,18 +2,9 @@
 ghost use Rattle.std.specs.Prelude.{◌≡◌, ◌<◌};
 ghost use Rattle.vs_strobe.specs.Lines.{is_signed, arg_value};
 
-use vs_design::{Store, Typed};
+use vs_design::{FormatArg, Store};
 use vs_eval::value;
 use vs_logic4::Vec4;
-
-/// An argument of `$display` or `$strobe` behind the text.
-#[derive(Drop)]
-pub enum FormatArg {
-    /// Whether the value is a signed number, and an expression at its own size.
-    Value(bool, Typed),
-    /// `$time`: the time in units, 64 bits without a sign (IEEE 1364-2005, clause 17.7.1).
-    Time,
-}
 
 /// Whether an argument is a signed number.
 pub(crate) fn is_signed(arg: &FormatArg) -> bool

@@ -1,13 +1,13 @@
 //! Formats.
 ghost use Rattle.std.specs.Prelude.{◌≡◌, ◌<◌, ◌≤◌, ◌^◌, None, length, IfOk, MatchResult};
 ghost use Rattle.vs_strobe.specs.Pieces.{format_fault, Refuses};
-ghost use Rattle.vs_strobe.specs.Lines.{format_of};
+ghost use Rattle.vs_strobe.specs.Lines.{format_of, format_of_call};
 
-use crate::argument::FormatArg;
 use crate::fault::FormatFault;
-use crate::piece::{Piece, checked_pieces};
-use std::alloc::Global;
+use crate::piece::{Piece, any_pieces, checked_pieces};
+use std::alloc::{AllocError, Global};
 use std::marker::Model;
+use vs_design::{Call, FormatArg};
 
 /// What a `$display` or `$strobe` prints: its text, read once, and its arguments.
 #[derive(Drop)]
@@ -54,6 +54,20 @@ impl<'a> Format<'a> {
             args,
             path,
             ratio,
+        })
+    }
+
+    /// The format of a call, whose text need not be one that `read` takes: of a text with a bad directive nothing is printed, a directive without an
+    /// argument prints nothing, and surplus arguments aren't shown.
+    pub fn of(alloc: Global, call: &'a Call) -> Result<Self, AllocError>
+        ensures { IfOk result (λ f. f ≡ format_of_call call.entry.now) }
+    {
+        let pieces = any_pieces(alloc, &call.text)?;
+        Ok(Format {
+            pieces,
+            args: &call.args,
+            path: &call.path,
+            ratio: call.ratio,
         })
     }
 }

@@ -9,7 +9,6 @@ mod format;
 mod lines;
 mod piece;
 
-pub use argument::FormatArg;
 pub use fault::{FormatFault, FormatReason};
 pub use format::Format;
-pub use lines::line;
+pub use lines::{full_line, line};

@@ -1,15 +1,15 @@
 //! Lines.
 ghost use Rattle.std.specs.Prelude.{◌≡◌, ◌<◌, ◌≤◌, ◌^◌, ◌++◌, OnOk, IfOk, [], ◌∷◌};
 ghost use Rattle.vs_strobe.specs.Values.{shown_text};
-ghost use Rattle.vs_strobe.specs.Lines.{line_text, is_signed, arg_value};
+ghost use Rattle.vs_strobe.specs.Lines.{line_text, full_line, is_signed, arg_value};
 
-use crate::argument::{FormatArg, arg_value, is_signed};
+use crate::argument::{arg_value, is_signed};
 use crate::decimals::{decimal_places, push_number, room};
 use crate::digits::{push_base, push_bytes, push_character};
 use crate::format::Format;
 use crate::piece::{Piece, Show};
 use std::alloc::{AllocError, Global};
-use vs_design::Store;
+use vs_design::{FormatArg, Store};
 use vs_logic4::Vec4;
 
 /// Appends what a directive shows of a value.
@@ -81,5 +81,19 @@ pub fn line(
             }
         }
     }
+    Ok(text)
+}
+
+/// The same with the line feed that ends it.
+pub fn full_line(
+    alloc: Global,
+    format: &Format<'_>,
+    store: &Store,
+    time: u64,
+) -> Result<Vec<u8>, AllocError>
+    ensures { IfOk result (λ text. text.items ≡ full_line format.now store.now time) }
+{
+    let mut text = line(alloc, format, store, time)?;
+    text.push(b'\n')?;
     Ok(text)
 }

@@ -1,9 +1,9 @@
 //! The pieces of a format's text (IEEE 1364-2005, clause 17.1.1).
-ghost use Rattle.std.specs.Prelude.{◌≡◌, ℕ, ◌<◌, ◌≤◌, None, Some, length, MatchOption, MatchResult};
+ghost use Rattle.std.specs.Prelude.{◌≡◌, ◌<◌, ◌≤◌, None, Some, [], length, unwrap_or, IfOk, MatchOption, MatchResult};
 ghost use Rattle.vs_strobe.specs.Pieces.{show_of, directive_of, joined, pieces_of, pieces_from, behind_percent, wanted, Refuses, format_fault};
 
 use crate::fault::{FormatFault, FormatReason};
-use std::alloc::Global;
+use std::alloc::{AllocError, Global};
 
 /// How a directive shows its argument.
 #[derive(Clone, Copy)]
@@ -88,21 +88,30 @@ fn read_piece(bytes: &[u8]) -> Option<(Piece, &[u8])>
     }
 }
 
-/// The pieces of a text.
-fn read_pieces(alloc: Global, text: &[u8]) -> Result<Vec<Piece>, FormatFault>
-    ensures { MatchResult result (λ pieces. pieces_of text.now ≡ Some pieces.items)
-        (λ e. (given : ℕ) → Refuses (format_fault text.now given) e) }
+/// The pieces of a text; nothing where it has a bad directive.
+fn read_pieces(alloc: Global, text: &[u8]) -> Result<Option<Vec<Piece>>, AllocError>
+    ensures { IfOk result (λ o. MatchOption o (pieces_of text.now ≡ None) (λ pieces. pieces_of text.now ≡ Some pieces.items)) }
 {
     let mut pieces = Vec::new(alloc);
     let mut rest = text;
     while !rest.is_empty() {
         let Some((piece, after)) = read_piece(rest) else {
-            return Err(FormatFault::Refused(FormatReason::BadDirective));
+            return Ok(None);
         };
         pieces.push(piece)?;
         rest = after;
     }
-    Ok(pieces)
+    Ok(Some(pieces))
+}
+
+/// The pieces of a text; none of a text with a bad directive.
+pub(crate) fn any_pieces(alloc: Global, text: &[u8]) -> Result<Vec<Piece>, AllocError>
+    ensures { IfOk result (λ pieces. pieces.items ≡ unwrap_or (pieces_of text.now) []) }
+{
+    match read_pieces(alloc, text)? {
+        Some(pieces) => Ok(pieces),
+        None => Ok(Vec::new(alloc)),
+    }
 }
 
 /// How many arguments pieces take.
@@ -127,7 +136,9 @@ pub(crate) fn checked_pieces(
 ) -> Result<Vec<Piece>, FormatFault>
     ensures read { MatchResult result (λ pieces. (pieces_of text.now ≡ Some pieces.items) × (format_fault text.now given ≡ None)) (Refuses (format_fault text.now given)) }
 {
-    let pieces = read_pieces(alloc, text)?;
+    let Some(pieces) = read_pieces(alloc, text)? else {
+        return Err(FormatFault::Refused(FormatReason::BadDirective));
+    };
     let wanted = wanted(&pieces);
     if given < wanted {
         return Err(FormatFault::Refused(FormatReason::TooFewArguments));

@@ -2,7 +2,7 @@
 use Rattle.std.specs.Prelude.{◌≡◌, ℕ, Bool, true, false, List, [], refl}
 use Rattle.std.proofs.Common.{◌∙◌, ap}
 use Rattle.vs_syntax.specs.Symbols.{Symbol, no_token, first}
-use Rattle.vs_syntax.specs.Grammar.{Part, a_source, a_module, a_header_parameter, a_port, a_port_name, a_bare_name, a_generate_block, a_local, an_item, a_constant, an_instance, a_connection, a_net, a_variable, an_assignment, a_stmt, a_case_item, an_event_expr, a_target, an_expr, a_level, Grammar, nothing, token, seq, either, many, part, node, chain, optional}
+use Rattle.vs_syntax.specs.Grammar.{Part, a_source, a_module, a_header_parameter, a_port, a_port_name, a_bare_name, a_generate_block, a_local, an_item, a_constant, an_instance, a_connection, a_net, a_variable, an_assignment, a_stmt, an_argument, a_dump_argument, a_case_item, an_event_expr, a_target, an_expr, a_level, Grammar, nothing, token, seq, either, many, part, node, chain, optional}
 use Rattle.vs_syntax.specs.Tables.{fronts_of, fronts, among, null, goes}
 use Rattle.vs_syntax.specs.Reading.{Stuck, stuck_here, stuck_deep, stuck_first, stuck_second, stuck_left, stuck_right, stuck_many, stuck_more, stuck_part, stuck_node, stuck_one, stuck_link, stuck_high, stuck_behind}
 use Rattle.vs_syntax.proofs.Fronts.{clash, and_false, goes-seq, goes-either, goes-node, goes-chain}
@@ -25,6 +25,8 @@ part_there a_net = refl
 part_there a_variable = refl
 part_there an_assignment = refl
 part_there a_stmt = refl
+part_there an_argument = refl
+part_there a_dump_argument = refl
 part_there a_case_item = refl
 part_there an_event_expr = refl
 part_there a_target = refl

@@ -1,7 +1,7 @@
 -- The tables are those of the rules.
 use Rattle.std.specs.Prelude.{◌≡◌, ℕ, zero, suc, List, [], ◌∷◌, refl}
 use Rattle.vs_tokens.specs.declared.token.Mark.{Mark}
-use Rattle.vs_syntax.specs.Grammar.{Part, a_source, a_module, a_header_parameter, a_port, a_port_name, a_bare_name, a_generate_block, a_local, an_item, a_constant, an_instance, a_connection, a_net, a_variable, an_assignment, a_stmt, a_case_item, an_event_expr, a_target, an_expr, a_level, operands, levels, level_at, rule}
+use Rattle.vs_syntax.specs.Grammar.{Part, a_source, a_module, a_header_parameter, a_port, a_port_name, a_bare_name, a_generate_block, a_local, an_item, a_constant, an_instance, a_connection, a_net, a_variable, an_assignment, a_stmt, an_argument, a_dump_argument, a_case_item, an_event_expr, a_target, an_expr, a_level, operands, levels, level_at, rule}
 use Rattle.vs_syntax.specs.Tables.{null_of, low_of, operand_fronts, fronts_of, null, low, fronts}
 
 operands_null : (p : Part) (ops : List Mark) → null (operands p ops) ≡ null_of p
@@ -33,6 +33,8 @@ rule_null a_net = refl
 rule_null a_variable = refl
 rule_null an_assignment = refl
 rule_null a_stmt = refl
+rule_null an_argument = refl
+rule_null a_dump_argument = refl
 rule_null a_case_item = refl
 rule_null an_event_expr = refl
 rule_null a_target = refl
@@ -57,6 +59,8 @@ rule_low a_net = refl
 rule_low a_variable = refl
 rule_low an_assignment = refl
 rule_low a_stmt = refl
+rule_low an_argument = refl
+rule_low a_dump_argument = refl
 rule_low a_case_item = refl
 rule_low an_event_expr = refl
 rule_low a_target = refl
@@ -81,6 +85,8 @@ rule_fronts a_net = refl
 rule_fronts a_variable = refl
 rule_fronts an_assignment = refl
 rule_fronts a_stmt = refl
+rule_fronts an_argument = refl
+rule_fronts a_dump_argument = refl
 rule_fronts a_case_item = refl
 rule_fronts an_event_expr = refl
 rule_fronts a_target = refl

@@ -3,7 +3,7 @@ use Rattle.std.specs.Prelude.{◌≡◌, ℕ, zero, suc, max, ◌-◌, ◌<◌, 
 use Rattle.std.proofs.Common.{sym, ◌∙◌, ap, subst, inl, inr, append_assoc, arith}
 use Rattle.vs_tokens.specs.declared.token.Mark.{Mark}
 use Rattle.vs_syntax.specs.Symbols.{Symbol, Class, class_of, first, same_class}
-use Rattle.vs_syntax.specs.Grammar.{Part, a_source, a_module, a_header_parameter, a_port, a_port_name, a_bare_name, a_generate_block, a_local, an_item, a_constant, an_instance, a_connection, a_net, a_variable, an_assignment, a_stmt, a_case_item, an_event_expr, a_target, an_expr, a_level, Grammar, nothing, token, seq, either, many, part, node, chain, optional, operands, levels, level_at, rule}
+use Rattle.vs_syntax.specs.Grammar.{Part, a_source, a_module, a_header_parameter, a_port, a_port_name, a_bare_name, a_generate_block, a_local, an_item, a_constant, an_instance, a_connection, a_net, a_variable, an_assignment, a_stmt, an_argument, a_dump_argument, a_case_item, an_event_expr, a_target, an_expr, a_level, Grammar, nothing, token, seq, either, many, part, node, chain, optional, operands, levels, level_at, rule}
 use Rattle.vs_syntax.specs.Tables.{Front, null_of, operand_fronts, fronts_of, null, low, fronts, among, goes}
 use Rattle.vs_syntax.specs.Derivation.{Tree, empty, leaf, both, down, tokens, height, Is, is_nothing, is_token, is_seq, is_right, is_stop, is_part, is_node, is_one, is_present, is_absent}
 use Rattle.vs_syntax.specs.Reading.{Gets, Stuck, stuck_here, stuck_deep, stuck_first, stuck_second, stuck_left, stuck_right, stuck_many, stuck_more, stuck_part, stuck_node, stuck_one, stuck_link, stuck_high, stuck_behind}
@@ -96,6 +96,8 @@ part_nothing a_constant n m h = absurd (clash n refl)
 part_nothing an_instance n m h = absurd (clash n refl)
 part_nothing a_connection n m h = absurd (clash n refl)
 part_nothing a_stmt n m h = absurd (clash n refl)
+part_nothing an_argument n m h = absurd (clash n refl)
+part_nothing a_dump_argument n m h = absurd (clash n refl)
 part_nothing a_case_item n m h = absurd (clash n refl)
 part_nothing an_event_expr n m h = absurd (clash n refl)
 part_nothing a_target n m h = absurd (clash n refl)
@@ -267,6 +269,8 @@ rule_reach a_net = refl
 rule_reach a_variable = refl
 rule_reach an_assignment = refl
 rule_reach a_stmt = refl
+rule_reach an_argument = refl
+rule_reach a_dump_argument = refl
 rule_reach a_case_item = refl
 rule_reach an_event_expr = refl
 rule_reach a_target = refl

@@ -4,8 +4,8 @@ use Rattle.std.proofs.Common.{sym, ◌∙◌, ap, inl, inr}
 use Rattle.vs_tokens.specs.declared.token.Mark.{Mark}
 use Rattle.vs_tokens.specs.declared.token.Mark.TheVariants as m
 use Rattle.vs_tokens.specs.declared.token.Word.TheVariants as w
-use Rattle.vs_syntax.specs.Symbols.{Symbol, Class, the_mark, the_word, the_nettype, same_class, first}
-use Rattle.vs_syntax.specs.Grammar.{Part, a_source, a_module, a_header_parameter, a_port, a_port_name, a_bare_name, a_generate_block, a_local, an_item, a_constant, an_instance, a_connection, a_net, a_variable, an_assignment, a_stmt, a_case_item, an_event_expr, a_target, an_expr, a_level, Grammar, nothing, token, seq, either, many, part, node, chain, optional, ◌·◌, one_or_more, one_mark, operands, a_condition, arm, levels, level_at, rule}
+use Rattle.vs_syntax.specs.Symbols.{Symbol, Class, the_mark, the_word, the_directive, same_class, first}
+use Rattle.vs_syntax.specs.Grammar.{Part, a_source, a_module, a_header_parameter, a_port, a_port_name, a_bare_name, a_generate_block, a_local, an_item, a_constant, an_instance, a_connection, a_net, a_variable, an_assignment, a_stmt, an_argument, a_dump_argument, a_case_item, an_event_expr, a_target, an_expr, a_level, Grammar, nothing, token, seq, either, many, part, node, chain, optional, ◌·◌, one_or_more, one_mark, operands, a_condition, arm, levels, level_at, rule}
 use Rattle.vs_syntax.specs.Tables.{Front, at_least, mark_fronts, null, fronts, among, goes}
 use Rattle.vs_syntax.specs.Derivation.{Tree, tokens, Is, is_nothing, is_token, is_seq, is_left, is_right, is_stop, is_more, is_part, is_node, is_one, is_chain, is_present, is_absent}
 use Rattle.vs_syntax.proofs.Fronts.{clash, or_false, goes_same, among-append, among-seq}
@@ -28,7 +28,7 @@ stmt_lasts false = at_least (the_word w.Else) 0 ∷ []
 -- With what a part can go on behind its last token; in the plain reading without the classes of optional parts at its end,
 -- since that reading says itself that no such token stands behind.
 abbrev pub lasts_of : Bool → Part → List Front
-lasts_of plain a_source = at_least (the_word w.Module) 0 ∷ at_least the_nettype 0 ∷ []
+lasts_of plain a_source = at_least (the_word w.Module) 0 ∷ at_least the_directive 0 ∷ []
 lasts_of plain a_header_parameter = expr_lasts
 lasts_of plain a_constant = expr_lasts
 lasts_of plain a_port = at_least (the_mark m.Assign) 0 ∷ expr_lasts
@@ -41,6 +41,8 @@ lasts_of plain a_target = at_least (the_mark m.OpenBracket) 0 ∷ []
 lasts_of plain an_event_expr = at_least (the_mark m.OpenBracket) 0 ∷ []
 lasts_of plain an_item = stmt_lasts plain
 lasts_of plain a_stmt = stmt_lasts plain
+lasts_of plain an_argument = expr_lasts
+lasts_of plain a_dump_argument = expr_lasts
 lasts_of plain a_case_item = stmt_lasts plain
 lasts_of plain an_expr = expr_lasts
 lasts_of plain (a_level n) = level_lasts n
@@ -146,6 +148,8 @@ rule_goes_on plain an_instance c h = refl
 rule_goes_on plain a_connection c h = refl
 rule_goes_on true a_stmt c h = refl
 rule_goes_on false a_stmt c h = rw (or_false (same_class c (the_word w.Else)) false h).0 refl
+rule_goes_on plain an_argument c h = kept_one (among c expr_lasts) h
+rule_goes_on plain a_dump_argument c h = kept_one (among c expr_lasts) h
 rule_goes_on true a_case_item c h = refl
 rule_goes_on false a_case_item c h = rw (or_false (same_class c (the_word w.Else)) false h).0 refl
 rule_goes_on plain an_event_expr c h = rw (or_false (same_class c (the_mark m.OpenBracket)) false h).0 refl

@@ -4,7 +4,7 @@ use Rattle.std.proofs.Common.{sym, ◌∙◌, ap, arith}
 use denote.Enum.Bare.{true_same}
 use Rattle.vs_tokens.specs.contracts.token.Mark as marks
 use Rattle.vs_tokens.specs.contracts.token.Word as words
-use Rattle.vs_syntax.specs.Symbols.{Symbol, Class, class_of, no_token, the_mark, the_word, any_name, any_number, the_cast, the_nettype, any_other, same_class, first}
+use Rattle.vs_syntax.specs.Symbols.{Symbol, Class, class_of, no_token, the_mark, the_word, any_name, any_number, the_cast, any_text, the_print, the_finish, the_dump, the_time, the_directive, any_other, same_class, first}
 use Rattle.vs_syntax.specs.Grammar.{Grammar, seq, either, node, chain, optional}
 use Rattle.vs_syntax.specs.Tables.{Front, null, low, beside, above, fronts, among, need, goes}
 
@@ -34,7 +34,12 @@ same_class-refl (the_word w) = true_same words.the_type w w refl
 same_class-refl any_name = refl
 same_class-refl any_number = refl
 same_class-refl the_cast = refl
-same_class-refl the_nettype = refl
+same_class-refl any_text = refl
+same_class-refl the_print = refl
+same_class-refl the_finish = refl
+same_class-refl the_dump = refl
+same_class-refl the_time = refl
+same_class-refl the_directive = refl
 same_class-refl any_other = refl
 
 pub first-append : (ts r m : List Symbol) → first r ≡ first m → first (ts ++ r) ≡ first (ts ++ m)

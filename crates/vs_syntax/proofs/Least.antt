@@ -6,12 +6,15 @@ use Rattle.std.proofs.lemmas.Bool.{eqb-true}
 use Rattle.vs_syntax.proofs.Fronts.{or_false, among-append}
 use Rattle.vs_logic4.specs.declared.digit.Digit.TheVariants.{Zero}
 use Rattle.vs_tokens.specs.declared.token.ImplicitNet.TheVariants.{Wire}
+use Rattle.vs_tokens.specs.declared.token.Directive.TheVariants.{DefaultNettype}
+use Rattle.vs_syntax.specs.declared.tree.PrintTask.TheVariants.{Display}
+use Rattle.vs_syntax.specs.declared.tree.DumpTask.TheVariants.{File}
 use Rattle.vs_tokens.specs.declared.token.Literal.{Literal}
 use Rattle.vs_tokens.specs.declared.token.Mark.{Mark}
 use Rattle.vs_tokens.specs.declared.token.Mark.TheVariants as m
 use Rattle.vs_tokens.specs.declared.token.Word.TheVariants as w
-use Rattle.vs_syntax.specs.Symbols.{Symbol, a_mark, a_word, a_name, a_number, a_cast, a_nettype, another, Class, no_token, the_mark, the_word, any_name, any_number, the_cast, the_nettype, any_other, class_of, same_class, first}
-use Rattle.vs_syntax.specs.Grammar.{Part, a_source, a_module, a_header_parameter, a_port, a_port_name, a_bare_name, a_generate_block, a_local, an_item, a_constant, an_instance, a_connection, a_net, a_variable, an_assignment, a_stmt, a_case_item, an_event_expr, a_target, an_expr, a_level, Grammar, nothing, token, seq, either, many, part, node, chain, optional, select, operands, levels, level_at, rule}
+use Rattle.vs_syntax.specs.Symbols.{Symbol, a_mark, a_word, a_name, a_number, a_cast, a_text, a_print, a_finish, a_dump, a_time, a_directive, another, Class, no_token, the_mark, the_word, any_name, any_number, the_cast, any_text, the_print, the_finish, the_dump, the_time, the_directive, any_other, class_of, same_class, first}
+use Rattle.vs_syntax.specs.Grammar.{Part, a_source, a_module, a_header_parameter, a_port, a_port_name, a_bare_name, a_generate_block, a_local, an_item, a_constant, an_instance, a_connection, a_net, a_variable, an_assignment, a_stmt, an_argument, a_dump_argument, a_case_item, an_event_expr, a_target, an_expr, a_level, Grammar, nothing, token, seq, either, many, part, node, chain, optional, select, operands, levels, level_at, rule}
 use Rattle.vs_syntax.specs.Tables.{low_of, mark_fronts, null, low, fronts, among, goes}
 use Rattle.vs_syntax.specs.Derivation.{Tree, empty, leaf, both, down, tokens, height, Is, is_nothing, is_token, is_seq, is_left, is_right, is_stop, is_part, is_node, is_one, is_absent}
 use Rattle.vs_syntax.proofs.Ends.{goes_on, again, level_lasts, link_fronts}
@@ -28,7 +31,12 @@ sample (the_word x) = a_word x
 sample any_name = a_name (97 ∷ [])
 sample any_number = a_number zero_literal
 sample the_cast = a_cast true
-sample the_nettype = a_nettype Wire
+sample any_text = a_text []
+sample the_print = a_print Display
+sample the_finish = a_finish
+sample the_dump = a_dump File
+sample the_time = a_time
+sample the_directive = a_directive (DefaultNettype Wire)
 sample any_other = another
 
 -- whether a symbol has the class
@@ -43,7 +51,12 @@ sample-class (the_word x) h = refl
 sample-class any_name h = refl
 sample-class any_number h = refl
 sample-class the_cast h = refl
-sample-class the_nettype h = refl
+sample-class any_text h = refl
+sample-class the_print h = refl
+sample-class the_finish h = refl
+sample-class the_dump h = refl
+sample-class the_time h = refl
+sample-class the_directive h = refl
 sample-class any_other h = refl
 
 -- a least name with its value
@@ -72,6 +85,8 @@ least_of a_net = both (leaf (sample any_name)) empty
 least_of a_variable = both (leaf (sample any_name)) empty
 least_of an_assignment = both (down (both (leaf (sample any_name)) empty)) (both (leaf (a_mark m.Assign)) (leaf (sample any_number)))
 least_of a_stmt = least_stmt
+least_of an_argument = leaf a_time
+least_of a_dump_argument = leaf (a_text [])
 least_of a_case_item = both (leaf (a_word w.Default)) (both empty least_stmt)
 least_of an_event_expr = both empty (both (leaf (sample any_name)) empty)
 least_of a_target = down (both (leaf (sample any_name)) empty)
@@ -129,6 +144,8 @@ rule_least a_net = is_part (is_seq (is_token refl) (is_right refl is_nothing))
 rule_least a_variable = is_part (is_seq (is_token refl) (is_right refl (is_right refl is_nothing)))
 rule_least an_assignment = is_part (is_seq (target_least refl) (is_seq (is_token refl) expr_least))
 rule_least a_stmt = stmt_least
+rule_least an_argument = is_part (is_left refl (is_token refl))
+rule_least a_dump_argument = is_part (is_left refl (is_token refl))
 rule_least a_case_item = is_part (is_left refl (is_seq (is_token refl) (is_seq (is_right refl is_nothing) stmt_least)))
 rule_least an_event_expr = is_part (is_seq (is_right refl (is_right refl is_nothing)) (is_seq (is_token refl) (is_stop refl)))
 rule_least a_target = target_least refl
@@ -152,6 +169,8 @@ least_of-height a_net = refl
 least_of-height a_variable = refl
 least_of-height an_assignment = refl
 least_of-height a_stmt = refl
+least_of-height an_argument = refl
+least_of-height a_dump_argument = refl
 least_of-height a_case_item = refl
 least_of-height an_event_expr = refl
 least_of-height a_target = refl
@@ -218,6 +237,8 @@ rule_sound a_net = refl
 rule_sound a_variable = refl
 rule_sound an_assignment = refl
 rule_sound a_stmt = refl
+rule_sound an_argument = refl
+rule_sound a_dump_argument = refl
 rule_sound a_case_item = refl
 rule_sound an_event_expr = refl
 rule_sound a_target = refl
@@ -233,7 +254,12 @@ class_there (the_word w) h = refl
 class_there any_name h = refl
 class_there any_number h = refl
 class_there the_cast h = refl
-class_there the_nettype h = refl
+class_there any_text h = refl
+class_there the_print h = refl
+class_there the_finish h = refl
+class_there the_dump h = refl
+class_there the_time h = refl
+class_there the_directive h = refl
 class_there any_other h = refl
 
 pub not_true : (a : Bool) → not a ≡ true → a ≡ false

@@ -14,6 +14,7 @@ pub mod Sameness
 pub mod SameLefts
 pub mod SameRows
 pub mod SameForms
+pub mod SameTasks
 pub mod SameStmts
 pub mod SameSources
 pub mod SourceNamesLemmas

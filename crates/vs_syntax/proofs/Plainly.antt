@@ -4,8 +4,8 @@ use Rattle.std.proofs.Common.{sym, ◌∙◌, ap, inl, inr, append_assoc}
 use denote.Enum.Bare.{same_true}
 use Rattle.vs_tokens.specs.contracts.token.Mark as marks
 use Rattle.vs_tokens.specs.contracts.token.Word as words
-use Rattle.vs_syntax.specs.Symbols.{Symbol, Class, no_token, the_mark, the_word, any_name, any_number, the_cast, the_nettype, any_other, class_of, first, same_class}
-use Rattle.vs_syntax.specs.Grammar.{Part, a_source, a_module, a_header_parameter, a_port, a_port_name, a_bare_name, a_generate_block, a_local, an_item, a_constant, an_instance, a_connection, a_net, a_variable, an_assignment, a_stmt, a_case_item, an_event_expr, a_target, an_expr, a_level, Grammar, nothing, token, seq, either, many, part, node, chain, optional, operands, levels, rule}
+use Rattle.vs_syntax.specs.Symbols.{Symbol, Class, no_token, the_mark, the_word, any_name, any_number, the_cast, any_text, the_print, the_finish, the_dump, the_time, the_directive, any_other, class_of, first, same_class}
+use Rattle.vs_syntax.specs.Grammar.{Part, a_source, a_module, a_header_parameter, a_port, a_port_name, a_bare_name, a_generate_block, a_local, an_item, a_constant, an_instance, a_connection, a_net, a_variable, an_assignment, a_stmt, an_argument, a_dump_argument, a_case_item, an_event_expr, a_target, an_expr, a_level, Grammar, nothing, token, seq, either, many, part, node, chain, optional, operands, levels, rule}
 use Rattle.vs_syntax.specs.Tables.{Front, null, fronts, among, goes}
 use Rattle.vs_syntax.specs.Derivation.{Tree, down, tokens, Is, is_nothing, is_token, is_seq, is_left, is_right, is_stop, is_more, is_part, is_node, is_one, is_chain, is_present, is_absent}
 use Rattle.vs_syntax.specs.Plain.{IsPlain, plain_nothing, plain_token, plain_seq, plain_left, plain_right, plain_stop, plain_more, plain_part, plain_node, plain_one, plain_chain, plain_present, plain_absent}
@@ -39,7 +39,12 @@ same_class-true (the_word v) (the_word w) h = ap the_word (same_true words.the_t
 same_class-true any_name any_name h = refl
 same_class-true any_number any_number h = refl
 same_class-true the_cast the_cast h = refl
-same_class-true the_nettype the_nettype h = refl
+same_class-true any_text any_text h = refl
+same_class-true the_print the_print h = refl
+same_class-true the_finish the_finish h = refl
+same_class-true the_dump the_dump h = refl
+same_class-true the_time the_time h = refl
+same_class-true the_directive the_directive h = refl
 same_class-true any_other any_other h = refl
 same_class-true _ _ h = cc
 
@@ -85,6 +90,8 @@ rule_decided a_net = refl
 rule_decided a_variable = refl
 rule_decided an_assignment = refl
 rule_decided a_stmt = refl
+rule_decided an_argument = refl
+rule_decided a_dump_argument = refl
 rule_decided a_case_item = refl
 rule_decided an_event_expr = refl
 rule_decided a_target = refl

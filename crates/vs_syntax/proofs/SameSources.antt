@@ -3,7 +3,7 @@ use Rattle.std.specs.Prelude.{◌≡◌, ℕ, ◌<◌, ◌≤◌, List, [], ◌�
 use Rattle.std.proofs.Common.{sym, ◌∙◌, ap, subst, append_assoc, arith}
 use Rattle.std.specs.List.{flat_map}
 use Rattle.std.specs.declared.boxed.Box.{Box}
-use Rattle.vs_tokens.specs.declared.token.ImplicitNet.{ImplicitNet}
+use Rattle.vs_tokens.specs.declared.token.Directive.{Directive}
 use Rattle.std.specs.Option.{option_map}
 use Rattle.std.specs.declared.vec.Vec.{Vec}
 use Rattle.std.specs.declared.alloc.Global.{Global}
@@ -412,7 +412,7 @@ same_module x x' d h = record {
 }
 
 -- modules behind their directives, and directives behind them, as one row
-abbrev parts_of : List Module → List ImplicitNet → List Tree
+abbrev parts_of : List Module → List Directive → List Tree
 parts_of xs ds = flat_map directed_trees xs ++ map directive_tree ds
 
 -- rows of one tree have the same parts
@@ -422,31 +422,31 @@ same_trees [] (x' ∷ xs') h = cc
 same_trees (x ∷ xs) [] h = cc
 same_trees (x ∷ xs) (x' ∷ xs') h = let e : xs ≡ xs' = same_trees xs xs' (cc) in let p : x ≡ x' = cc in cc
 
-same_head : (bs bs' : List ImplicitNet) (x x' : Module) (rest rest' : List Tree) → map directive_tree bs ++ module_tree x ∷ rest ≡ map directive_tree bs' ++ module_tree x' ∷ rest' → (bs ≡ bs') × (module_tree x ≡ module_tree x') × (rest ≡ rest')
+same_head : (bs bs' : List Directive) (x x' : Module) (rest rest' : List Tree) → map directive_tree bs ++ module_tree x ∷ rest ≡ map directive_tree bs' ++ module_tree x' ∷ rest' → (bs ≡ bs') × (module_tree x ≡ module_tree x') × (rest ≡ rest')
 same_head [] [] x x' rest rest' h = (refl, cc, cc)
 same_head [] (b' ∷ bs') x x' rest rest' h = cc
 same_head (b ∷ bs) [] x x' rest rest' h = cc
 same_head (b ∷ bs) (b' ∷ bs') x x' rest rest' h = let e = same_head bs bs' x x' rest rest' (cc) in let p : b ≡ b' = cc in let q : bs ≡ bs' = e.0 in (cc, e.1, e.2)
 
-no_head : {A : Type 0} (ds bs : List ImplicitNet) (x : Module) (rest : List Tree) → map directive_tree ds ≡ map directive_tree bs ++ module_tree x ∷ rest → A
+no_head : {A : Type 0} (ds bs : List Directive) (x : Module) (rest : List Tree) → map directive_tree ds ≡ map directive_tree bs ++ module_tree x ∷ rest → A
 no_head [] [] x rest h = cc
 no_head [] (b ∷ bs) x rest h = cc
 no_head (d ∷ ds) [] x rest h = cc
 no_head (d ∷ ds) (b ∷ bs) x rest h = no_head ds bs x rest (cc)
 
-same_directives : (ds ds' : List ImplicitNet) → map directive_tree ds ≡ map directive_tree ds' → ds ≡ ds'
+same_directives : (ds ds' : List Directive) → map directive_tree ds ≡ map directive_tree ds' → ds ≡ ds'
 same_directives [] [] h = refl
 same_directives [] (d' ∷ ds') h = cc
 same_directives (d ∷ ds) [] h = cc
 same_directives (d ∷ ds) (d' ∷ ds') h = let e : ds ≡ ds' = same_directives ds ds' (cc) in let p : d ≡ d' = cc in cc
 
 -- one module before others, as a row
-parts_more : (x : Module) (xs : List Module) (ds : List ImplicitNet) → parts_of (x ∷ xs) ds ≡ map directive_tree x.directives.items ++ module_tree x ∷ parts_of xs ds
+parts_more : (x : Module) (xs : List Module) (ds : List Directive) → parts_of (x ∷ xs) ds ≡ map directive_tree x.directives.items ++ module_tree x ∷ parts_of xs ds
 parts_more x xs ds =
     append_assoc (directed_trees x) (flat_map directed_trees xs) (map directive_tree ds)
     ∙ append_assoc (map directive_tree x.directives.items) (module_tree x ∷ []) (parts_of xs ds)
 
-same_parts : (xs xs' : List Module) (ds ds' : List ImplicitNet) → parts_of xs ds ≡ parts_of xs' ds' → Pairwise SameModule xs xs' × (ds ≡ ds')
+same_parts : (xs xs' : List Module) (ds ds' : List Directive) → parts_of xs ds ≡ parts_of xs' ds' → Pairwise SameModule xs xs' × (ds ≡ ds')
 same_parts [] [] ds ds' h = (no_pair, same_directives ds ds' h)
 same_parts [] (x' ∷ xs') ds ds' h = no_head ds x'.directives.items x' (parts_of xs' ds') (h ∙ parts_more x' xs' ds')
 same_parts (x ∷ xs) [] ds ds' h = no_head ds' x.directives.items x (parts_of xs ds) (sym h ∙ parts_more x xs ds)

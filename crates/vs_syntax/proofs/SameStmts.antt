@@ -13,8 +13,10 @@ use Rattle.vs_tokens.specs.declared.token.Mark.TheVariants as m
 use Rattle.vs_tokens.specs.declared.token.Word.{Word}
 use Rattle.vs_tokens.specs.declared.token.Word.TheVariants as w
 use Rattle.vs_syntax.specs.declared.tree.Expr.{Expr}
-use Rattle.vs_syntax.specs.declared.tree.DelayValue.{DelayValue}
-use Rattle.vs_syntax.specs.declared.tree.DelayValue.TheVariants as d
+use Rattle.vs_syntax.specs.declared.tree.PrintTask.{PrintTask}
+use Rattle.vs_syntax.specs.declared.tree.PrintArguments.{PrintArguments}
+use Rattle.vs_syntax.specs.declared.tree.DumpTask.{DumpTask}
+use Rattle.vs_syntax.specs.declared.tree.DumpArgument.{DumpArgument}
 use Rattle.vs_syntax.specs.declared.tree.Separator.{Separator}
 use Rattle.vs_syntax.specs.declared.tree.Separator.TheVariants as r
 use Rattle.vs_syntax.specs.declared.tree.EventExpr.{EventExpr}
@@ -27,24 +29,16 @@ use Rattle.vs_syntax.specs.declared.tree.Stmt.{Stmt, Stmt-F, roll-Stmt, out-Stmt
 use Rattle.vs_syntax.specs.declared.tree.Stmt.TheOpen as f
 use Rattle.vs_syntax.specs.declared.tree.Stmt.TheShapes.{former-Stmt-If-2-at-2}
 use Rattle.vs_syntax.specs.declared.tree.Stmt.TheVariants as s
-use Rattle.vs_syntax.specs.declared.tree.Stmt.TheVariants.{rolls-Null, rolls-Assign, rolls-Later, rolls-Block, rolls-Named, rolls-If, rolls-Case, rolls-For, rolls-While, rolls-Repeat, rolls-Forever, rolls-Delay, rolls-Event}
-use Rattle.vs_syntax.specs.Symbols.{Symbol, a_mark, a_word}
+use Rattle.vs_syntax.specs.declared.tree.Stmt.TheVariants.{rolls-Null, rolls-Assign, rolls-Later, rolls-Block, rolls-Named, rolls-If, rolls-Case, rolls-For, rolls-While, rolls-Repeat, rolls-Forever, rolls-Delay, rolls-Event, rolls-Print, rolls-Finish, rolls-Dump}
+use Rattle.vs_syntax.specs.Symbols.{Symbol, a_mark, a_word, a_print, a_finish, a_dump}
 use Rattle.vs_syntax.specs.Derivation.{Tree, empty, leaf, both, down}
-use Rattle.vs_syntax.specs.Views.{row_of, some_tree, commas_tree, expr_tree, left_tree, case_word, colon_tree, labelled_tree, case_item_tree, guarded_tree, delay_tree, edge_tree, event_expr_tree, separator_tree, other_event_tree, event_tree, else_tree, local_declaration_tree, stmt_step, stmt_tree}
-use Rattle.vs_syntax.specs.Same.{SameExpr, SameExprs, same_no_expr, same_more_exprs, SameDelay, same_delay_number, same_delay_name, same_delay_group, SameEventExpr, SameOtherEvent, SameEvent, same_star, same_grouped_star, same_event_name, same_terms, SameLabel, same_expressions, same_default, SameStmt, same_null, same_assign, same_later, same_block, SameLocals, same_named_block, same_if, same_case, same_for, same_while, same_repeated, same_forever, same_delay, same_event, SameStmts, same_no_stmt, same_more_stmts, SameElse, same_no_else, same_else, SameCaseItems, same_no_item, same_more_items}
+use Rattle.vs_syntax.specs.Views.{row_of, some_tree, commas_tree, expr_tree, left_tree, case_word, colon_tree, labelled_tree, case_item_tree, guarded_tree, edge_tree, event_expr_tree, separator_tree, other_event_tree, event_tree, else_tree, local_declaration_tree, stmt_step, stmt_tree}
+use Rattle.vs_syntax.specs.Same.{SameExpr, SameExprs, same_no_expr, same_more_exprs, SameEventExpr, SameOtherEvent, SameEvent, same_star, same_grouped_star, same_event_name, same_terms, SameLabel, same_expressions, same_default, SameStmt, same_null, same_assign, same_later, same_block, SameLocals, same_named_block, same_if, same_case, same_for, same_while, same_repeated, same_forever, same_delay, same_event, SamePrint, same_print, same_finish, SameOption, SameDump, same_dump, SameStmts, same_no_stmt, same_more_stmts, SameElse, same_no_else, same_else, SameCaseItems, same_no_item, same_more_items}
 use Rattle.vs_syntax.proofs.Sameness.{same_expr, expr_no_word}
 use Rattle.vs_syntax.proofs.SameLefts.{same_left, same_selects, left_down}
 use Rattle.vs_syntax.proofs.SameRows.{pairs}
 use Rattle.vs_syntax.proofs.SameForms.{same_locals}
-
-same_numbers : (l l' : Literal) → l ≡ l' → SameDelay (d.Number l) (d.Number l')
-same_numbers l l' h = subst (λ (k : Literal). SameDelay (d.Number l) (d.Number k)) h (same_delay_number l)
-
-same_value : (x x' : DelayValue) → delay_tree x ≡ delay_tree x' → SameDelay x x'
-same_value (d.Number l) (d.Number l') h = same_numbers l l' (cc)
-same_value (d.Name n) (d.Name n') h = same_delay_name n n' (cc)
-same_value (d.Group x) (d.Group x') h = same_delay_group x x' (same_expr x x' (cc))
-same_value _ _ h = cc
+use Rattle.vs_syntax.proofs.SameTasks.{same_value, same_late, same_prints, same_number, same_dumps}
 
 same_edge : (e e' : Edge) → edge_tree e ≡ edge_tree e' → e ≡ e'
 same_edge g.Any g.Any h = refl
@@ -171,7 +165,7 @@ same_kinds k k' x x' is is' h p q = subst (λ (u : CaseKind). SameStmt (s.Case k
 abbrev form : Stmt-F Stmt → ℕ
 form f.Null = 0
 form (f.Assign l x) = 1
-form (f.Later l x) = 2
+form (f.Later l v x) = 2
 form (f.Block xs) = 3
 form (f.Named n ls xs) = 12
 form (f.If c x o) = 4
@@ -182,12 +176,18 @@ form (f.Repeat c x) = 8
 form (f.Forever x) = 9
 form (f.Delay v x) = 10
 form (f.Event v x) = 11
+form (f.Print task xs) = 14
+form (f.Finish n) = 15
+form (f.Dump task xs) = 16
 
 -- the same of a tree: by its first symbol, or by the mark behind a left side
 abbrev form_at : Symbol → ℕ
 form_at (a_mark m.Semicolon) = 0
 form_at (a_mark m.Hash) = 10
 form_at (a_mark m.At) = 11
+form_at (a_print task) = 14
+form_at a_finish = 15
+form_at (a_dump task) = 16
 form_at (a_word w.If) = 4
 form_at (a_word w.For) = 6
 form_at (a_word w.While) = 7
@@ -215,7 +215,7 @@ behind_left l y = ap (λ u. form_of_tree (down (both u y))) (left_down l).1
 
 form_of : (x : Stmt-F Stmt) → form_of_tree (layer x) ≡ form x
 form_of (f.Assign l x) = behind_left l _
-form_of (f.Later l x) = behind_left l _
+form_of (f.Later l v x) = behind_left l _
 form_of (f.Case h.Case x is) = refl
 form_of (f.Case h.Casez x is) = refl
 form_of (f.Case h.Casex x is) = refl
@@ -236,11 +236,20 @@ headed s s' x x' h = (cc, cc)
 guarded : (s s' : Symbol) (x x' y y' : Tree) → down (both (leaf s) (guarded_tree x y)) ≡ down (both (leaf s') (guarded_tree x' y')) → (s ≡ s') × (x ≡ x') × (y ≡ y')
 guarded s s' x x' y y' h = (cc, cc, cc)
 
+same_tasks : (t t' : PrintTask) (xs xs' : PrintArguments) → t ≡ t' → SamePrint xs xs' → SameStmt (s.Print t xs) (s.Print t' xs')
+same_tasks t t' xs xs' h p = subst (λ (u : PrintTask). SameStmt (s.Print t xs) (s.Print u xs')) h (same_print t xs xs' p)
+
+same_finishes : (n n' : Option Literal) → n ≡ n' → SameStmt (s.Finish n) (s.Finish n')
+same_finishes n n' h = subst (λ (u : Option Literal). SameStmt (s.Finish n) (s.Finish u)) h (same_finish n)
+
+same_dump_tasks : (t t' : DumpTask) (xs xs' : Option (DumpArgument × Vec DumpArgument Global)) → t ≡ t' → SameOption SameDump xs xs' → SameStmt (s.Dump t xs) (s.Dump t' xs')
+same_dump_tasks t t' xs xs' h p = subst (λ (u : DumpTask). SameStmt (s.Dump t xs) (s.Dump u xs')) h (same_dump t xs xs' p)
+
 -- one layer each
 same_layers : (y : Stmt-F Inner) (x' : Stmt-F Stmt) → layer (bare y) ≡ layer x' → SameStmt (roll-Stmt (bare y)) (roll-Stmt x')
 same_layers f.Null f.Null h = rw rolls-Null same_null
 same_layers (f.Assign n x) (f.Assign n' x') h = rw (rolls-Assign n x, rolls-Assign n' x') (same_assign n n' x x' (same_left n n' (cc)) (same_expr x x' (cc)))
-same_layers (f.Later n x) (f.Later n' x') h = rw (rolls-Later n x, rolls-Later n' x') (same_later n n' x x' (same_left n n' (cc)) (same_expr x x' (cc)))
+same_layers (f.Later n v x) (f.Later n' v' x') h = rw (rolls-Later n v x, rolls-Later n' v' x') (same_later n n' v v' x x' (same_left n n' (cc)) (same_late v v' (cc)) (same_expr x x' (cc)))
 same_layers (f.Block xs) (f.Block xs') h = rw (rolls-Block _, rolls-Block xs') (same_block _ xs' (same_rows xs.items xs'.items (two _ _ _ _ (two _ _ _ _ (headed _ _ _ _ h).1).1).0))
 same_layers (f.Named n ls xs) (f.Named n' ls' xs') h =
     let b = two _ _ _ _ (headed _ _ _ _ h).1 in
@@ -265,6 +274,9 @@ same_layers (f.Repeat c x) (f.Repeat c' x') h = let g = guarded _ _ _ _ _ _ h in
 same_layers (f.Forever x) (f.Forever x') h = rw (rolls-Forever _, rolls-Forever x') (same_forever _ x' (x.value.1 x'.value (cc)))
 same_layers (f.Delay v x) (f.Delay v' x') h = rw (rolls-Delay v _, rolls-Delay v' x') (same_delay v v' _ x' (same_value v v' (cc)) (x.value.1 x'.value (cc)))
 same_layers (f.Event v x) (f.Event v' x') h = rw (rolls-Event v _, rolls-Event v' x') (same_event v v' _ x' (same_control v v' (cc)) (x.value.1 x'.value (cc)))
+same_layers (f.Print task xs) (f.Print task' xs') h = rw (rolls-Print task xs, rolls-Print task' xs') (same_tasks task task' xs xs' (cc) (same_prints xs xs' (cc)))
+same_layers (f.Finish n) (f.Finish n') h = rw (rolls-Finish n, rolls-Finish n') (same_finishes n n' (same_number n n' (cc)))
+same_layers (f.Dump task xs) (f.Dump task' xs') h = rw (rolls-Dump task xs, rolls-Dump task' xs') (same_dump_tasks task task' xs xs' (cc) (same_dumps xs xs' (cc)))
 same_layers y x' h = let different : form (bare y) ≡ form x' = one_form (bare y) x' h in cc
 
 settled : (x : Stmt-F Stmt) (y : Stmt-F Inner) → bare y ≡ x → Settled (roll-Stmt x)

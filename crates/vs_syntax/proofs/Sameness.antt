@@ -1,5 +1,5 @@
 -- Syntax trees of one tree of the grammar say the same.
-use Rattle.std.specs.Prelude.{◌≡◌, ℕ, Bool, List, [], ◌∷◌, Option, None, Some, map, refl}
+use Rattle.std.specs.Prelude.{true, false, ◌≡◌, ℕ, Bool, List, [], ◌∷◌, Option, None, Some, map, refl}
 use Rattle.std.proofs.Common.{sym, ◌∙◌, ap, subst}
 use Rattle.std.specs.declared.boxed.Box.{Box}
 use Rattle.std.specs.declared.alloc.Global.{Global}
@@ -18,7 +18,8 @@ use Rattle.vs_syntax.specs.declared.tree.Expr.TheShapes.{former-Expr-Select-1-at
 use Rattle.vs_syntax.specs.declared.tree.Expr.TheVariants as e
 use Rattle.vs_syntax.specs.declared.tree.Expr.TheVariants.{rolls-Number, rolls-Name, rolls-Select, rolls-Group, rolls-Unary, rolls-Chain, rolls-Choice, rolls-Concat, rolls-Repeat, rolls-Cast}
 use Rattle.vs_tokens.specs.declared.token.Word.{Word}
-use Rattle.vs_syntax.specs.Symbols.{a_mark, a_word, a_number, a_cast}
+use Rattle.vs_syntax.specs.Symbols.{Symbol, a_mark, a_word, a_name, a_number, a_cast}
+use Rattle.vs_syntax.proofs.Fronts.{clash}
 use Rattle.vs_syntax.specs.Derivation.{Tree, empty, leaf, both, down}
 use Rattle.vs_syntax.specs.Views.{row_of, unary_mark, binary_mark, part_mark, commas_tree, link_tree, head_of, arms_of, choice_tree, second_tree, select_tree, some_tree, expr_step, expr_tree}
 use Rattle.vs_syntax.specs.Same.{SameExpr, same_number, same_name, same_select, same_group, same_unary, same_chain, same_choice, same_concat, same_repeat, same_cast, SameSelects, same_no_select, same_more_selects, SameSecond, same_no_second, same_second, SameLinks, same_no_link, same_link, SamePairs, same_no_pair, same_pair, SameExprs, same_no_expr, same_more_exprs}
@@ -321,17 +322,32 @@ layer_there _ h = cc
 pub expr_there : (x : Expr) → expr_tree x ≡ empty → ⊥
 expr_there x h = layer_there (out-Expr x) (sym (opened x) ∙ h)
 
-choice_no_word : (ps : List (Tree × Tree)) (x : Tree) (v : Word) → choice_tree ps x ≡ leaf (a_word v) → ⊥
-choice_no_word [] x v h = cc
-choice_no_word (p ∷ ps) x v h = cc
+-- whether a symbol is a number or a name
+abbrev pub is_alone : Symbol → Bool
+is_alone (a_number l) = true
+is_alone (a_name n) = true
+is_alone _ = false
 
-layer_no_word : (x : Expr-F Expr) (v : Word) → layer x ≡ leaf (a_word v) → ⊥
-layer_no_word (f.Choice ps x) v h = choice_no_word (paired ps.items) (expr_tree x.value) v h
-layer_no_word _ v h = cc
+leaf_is : (s s' : Symbol) → leaf s ≡ leaf s' → is_alone s ≡ true → is_alone s' ≡ false → ⊥
+leaf_is s s' h p q = let e : s ≡ s' = cc in clash p (ap is_alone e ∙ q)
+
+choice_no_leaf : (ps : List (Tree × Tree)) (x : Tree) (s : Symbol) → choice_tree ps x ≡ leaf s → ⊥
+choice_no_leaf [] x s h = cc
+choice_no_leaf (p ∷ ps) x s h = cc
+
+layer_no_leaf : (x : Expr-F Expr) (s : Symbol) → is_alone s ≡ false → layer x ≡ leaf s → ⊥
+layer_no_leaf (f.Number l) s n h = leaf_is (a_number l) s h refl n
+layer_no_leaf (f.Name y) s n h = leaf_is (a_name y.items) s h refl n
+layer_no_leaf (f.Choice ps x) s n h = choice_no_leaf (paired ps.items) (expr_tree x.value) s h
+layer_no_leaf _ s n h = cc
+
+-- The tree of an expression is no token alone but a number or a name.
+pub expr_no_leaf : (x : Expr) (s : Symbol) → is_alone s ≡ false → expr_tree x ≡ leaf s → ⊥
+expr_no_leaf x s n h = layer_no_leaf (out-Expr x) s n (sym (opened x) ∙ h)
 
 -- The tree of an expression is no reserved word.
 pub expr_no_word : (x : Expr) (v : Word) → expr_tree x ≡ leaf (a_word v) → ⊥
-expr_no_word x v h = layer_no_word (out-Expr x) v (sym (opened x) ∙ h)
+expr_no_word x v h = expr_no_leaf x (a_word v) refl h
 
 choice_alone : (ps : List (Tree × Tree)) (x y z u : Tree) → choice_tree ps x ≡ both y (both z u) → ⊥
 choice_alone [] x y z u h = cc

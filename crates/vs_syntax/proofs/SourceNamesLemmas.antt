@@ -15,7 +15,7 @@ use Rattle.vs_syntax.specs.declared.tree.Port.{Port}
 use Rattle.vs_syntax.specs.declared.tree.Connections.{Connections}
 use Rattle.vs_syntax.specs.declared.tree.Instance.{Instance}
 use Rattle.std.specs.declared.boxed.Box.{Box}
-use Rattle.vs_tokens.specs.declared.token.ImplicitNet.{ImplicitNet}
+use Rattle.vs_tokens.specs.declared.token.Directive.{Directive}
 use Rattle.vs_syntax.specs.declared.tree.CaseLabel.{CaseLabel}
 use Rattle.vs_syntax.specs.declared.tree.CaseLabel.TheVariants as n
 use Rattle.vs_syntax.specs.declared.tree.Local.{Local}
@@ -224,7 +224,7 @@ case_items_hold p (x ∷ xs) h = case_row_holds p (x ∷ xs) h
 layer_holds : (p : Symbol → Bool) (y : Stmt-F (Inner p)) → Fine p (layer (bare p y)) → named p (layer_names (bare p y)) ≡ true
 layer_holds p f.Null h = refl
 layer_holds p (f.Assign l x) h = refl
-layer_holds p (f.Later l x) h = refl
+layer_holds p (f.Later l v x) h = refl
 layer_holds p (f.Block xs) h = stmts_hold p xs.items (within (in_down (in_right (in_right (in_left itself)))) h)
 layer_holds p (f.Named n ls xs) h =
     and_of (p (a_name n.items)) _ (name_holds p n.items (row_of (map local_declaration_tree ls.items)) (within (in_down (in_right (in_left (in_right itself)))) h).is)
@@ -243,6 +243,9 @@ layer_holds p (f.Repeat e x) h = x.value.1 (within (in_down (in_right (in_right 
 layer_holds p (f.Forever x) h = x.value.1 (within (in_down (in_right itself)) h)
 layer_holds p (f.Delay v x) h = x.value.1 (within (in_down (in_right (in_right itself))) h)
 layer_holds p (f.Event v x) h = x.value.1 (within (in_down (in_right (in_right itself))) h)
+layer_holds p (f.Print task xs) h = refl
+layer_holds p (f.Finish n) h = refl
+layer_holds p (f.Dump task xs) h = refl
 
 held : (p : Symbol → Bool) (x : Stmt-F Stmt) (y : Stmt-F (Inner p)) → bare p y ≡ x → Held p (roll-Stmt x)
 held p x y is h =
@@ -356,7 +359,7 @@ row_holds_behind p [] ys h = h
 row_holds_behind p (x ∷ xs) ys h = row_holds_behind p xs ys (within (in_right itself) h)
 
 -- modules behind their directives, and directives behind them, as one row
-modules_hold : (p : Symbol → Bool) (xs : List Module) (ds : List ImplicitNet) → Fine p (row_of (flat_map directed_trees xs ++ map directive_tree ds)) → named p (declared_names xs) ≡ true
+modules_hold : (p : Symbol → Bool) (xs : List Module) (ds : List Directive) → Fine p (row_of (flat_map directed_trees xs ++ map directive_tree ds)) → named p (declared_names xs) ≡ true
 modules_hold p [] ds h = refl
 modules_hold p (x ∷ xs) ds h =
     let r = row_holds_behind p (map directive_tree x.directives.items) (module_tree x ∷ (flat_map directed_trees xs ++ map directive_tree ds))

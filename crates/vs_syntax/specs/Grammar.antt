@@ -4,7 +4,7 @@ use Rattle.vs_tokens.specs.declared.token.Mark.{Mark}
 use Rattle.vs_tokens.specs.declared.token.Mark.TheVariants as m
 use Rattle.vs_tokens.specs.declared.token.Word.{Word}
 use Rattle.vs_tokens.specs.declared.token.Word.TheVariants as w
-use Rattle.vs_syntax.specs.Symbols.{Class, the_mark, the_word, any_name, any_number, the_cast, the_nettype}
+use Rattle.vs_syntax.specs.Symbols.{Class, the_mark, the_word, any_name, any_number, the_cast, any_text, the_print, the_finish, the_dump, the_time, the_directive}
 
 -- the parts of a source that have a rule
 pub data Part : Type 0 where
@@ -39,6 +39,10 @@ pub data Part : Type 0 where
   an_assignment : Part
   -- a statement (clause A.6.4)
   a_stmt : Part
+  -- an argument of `$display` or `$strobe` behind the text (clause A.6.9)
+  an_argument : Part
+  -- an argument of `$dumpfile` or `$dumpvars` (clause A.6.9)
+  a_dump_argument : Part
   -- an item of a `case` statement (clause A.6.7)
   a_case_item : Part
   -- a term of an event control (clause A.6.5)
@@ -305,7 +309,23 @@ event_exprs = part an_event_expr · many ((word w.Or or mark m.Comma) · part an
 abbrev pub event : Grammar
 event = mark m.Star or name or mark m.Open · (mark m.Star or event_exprs) · mark m.Close
 
--- the statements that begin with a word or a mark of their own (clause A.6.4; profile)
+-- the arguments of `$display` or `$strobe`, where it has parentheses: a text and what it prints, or nothing (clause 17.1.1; the text first: profile)
+abbrev pub print_arguments : Grammar
+print_arguments = mark m.Open · (token any_text · many (mark m.Comma · part an_argument) or nothing) · mark m.Close or nothing
+
+-- the number in the parentheses of a `$finish`, where it has them (clause 17.4.1)
+abbrev pub finish_argument : Grammar
+finish_argument = mark m.Open · number · mark m.Close or nothing
+
+-- the arguments of `$dumpfile` or `$dumpvars`, where it has parentheses (clauses 18.1.1 and 18.1.2)
+abbrev pub dump_arguments : Grammar
+dump_arguments = mark m.Open · part a_dump_argument · many (mark m.Comma · part a_dump_argument) · mark m.Close or nothing
+
+-- the delay of a nonblocking assignment, or nothing (clause A.6.2)
+abbrev pub late : Grammar
+late = mark m.Hash · delay or nothing
+
+-- the statements that begin with a word, a mark or a system name of their own (clause A.6.4; profile)
 abbrev pub statements : List (Class × Grammar)
 statements = (the_mark m.Semicolon, nothing)
     ∷ (the_word w.Begin, block_head · many (part a_stmt) · word w.End)
@@ -319,12 +339,15 @@ statements = (the_mark m.Semicolon, nothing)
     ∷ (the_word w.Forever, part a_stmt)
     ∷ (the_mark m.Hash, delay · part a_stmt)
     ∷ (the_mark m.At, event · part a_stmt)
+    ∷ (the_print, print_arguments · mark m.Semicolon)
+    ∷ (the_finish, finish_argument · mark m.Semicolon)
+    ∷ (the_dump, dump_arguments · mark m.Semicolon)
     ∷ []
 
 -- The rules of the grammar. A target is a node, though it be a name alone; the number of an expression is none, and a name only with its
 -- selects.
 abbrev pub rule : Part → Grammar
-rule a_source = many (part a_module or token the_nettype)
+rule a_source = many (part a_module or token the_directive)
 rule a_module = word w.Module · name · (header_parameters or nothing) · (header_ports or nothing) · mark m.Semicolon
     · many (part an_item) · word w.Endmodule
 rule a_header_parameter = (word w.Parameter · parameter_form or nothing) · part a_constant
@@ -340,7 +363,9 @@ rule a_connection = mark m.Dot · name · mark m.Open · an_end · mark m.Close
 rule a_net = name · (mark m.Assign · part an_expr or nothing)
 rule a_variable = name · (mark m.Assign · part an_expr or range or nothing)
 rule an_assignment = part a_target · mark m.Assign · part an_expr
-rule a_stmt = node (part a_target · (mark m.Assign or mark m.LessEqual) · part an_expr · mark m.Semicolon or one_of statements)
+rule a_stmt = node (part a_target · (mark m.Assign or mark m.LessEqual · late) · part an_expr · mark m.Semicolon or one_of statements)
+rule an_argument = token the_time or part an_expr
+rule a_dump_argument = token any_text or part an_expr
 rule a_case_item = word w.Default · (mark m.Colon or nothing) · part a_stmt
     or part an_expr · many (mark m.Comma · part an_expr) · mark m.Colon · part a_stmt
 rule an_event_expr = (word w.Posedge or word w.Negedge or nothing) · name · many select

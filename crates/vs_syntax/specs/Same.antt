@@ -28,6 +28,14 @@ use Rattle.vs_syntax.specs.declared.tree.Instance.{Instance}
 use Rattle.vs_logic4.specs.declared.case.CaseKind.{CaseKind}
 use Rattle.vs_syntax.specs.declared.tree.DelayValue.{DelayValue}
 use Rattle.vs_syntax.specs.declared.tree.DelayValue.TheVariants as d
+use Rattle.vs_syntax.specs.declared.tree.Argument.{Argument}
+use Rattle.vs_syntax.specs.declared.tree.Argument.TheVariants as a
+use Rattle.vs_syntax.specs.declared.tree.PrintTask.{PrintTask}
+use Rattle.vs_syntax.specs.declared.tree.PrintArguments.{PrintArguments}
+use Rattle.vs_syntax.specs.declared.tree.PrintArguments.TheVariants as p
+use Rattle.vs_syntax.specs.declared.tree.DumpTask.{DumpTask}
+use Rattle.vs_syntax.specs.declared.tree.DumpArgument.{DumpArgument}
+use Rattle.vs_syntax.specs.declared.tree.DumpArgument.TheVariants as u
 use Rattle.vs_syntax.specs.declared.tree.Separator.{Separator}
 use Rattle.vs_syntax.specs.declared.tree.EventExpr.{EventExpr}
 use Rattle.vs_syntax.specs.declared.tree.EventControl.{EventControl}
@@ -148,6 +156,28 @@ pub data SameOption {A : Type 0} (R : A → A → Type 0) : Option A → Option 
   both_absent : SameOption R None None
   both_there : (x x' : A) → R x x' → SameOption R (Some x) (Some x')
 
+-- The arguments of `$display` or `$strobe` say the same (profile).
+pub data SameArgument : Argument → Argument → Type 0 where
+  same_value_argument : (x x' : Expr) → SameExpr x x' → SameArgument (a.Value x) (a.Value x')
+  same_time_argument : SameArgument a.Time a.Time
+
+-- What stands behind `$display` or `$strobe` is the same (profile).
+pub data SamePrint : PrintArguments → PrintArguments → Type 0 where
+  same_missing : SamePrint p.Missing p.Missing
+  same_empty : SamePrint p.Empty p.Empty
+  same_printed : (n n' : Vec ℕ Global) (xs xs' : Vec Argument Global) → n.items ≡ n'.items → Pairwise SameArgument xs.items xs'.items →
+      SamePrint (p.Text n xs) (p.Text n' xs')
+
+-- The arguments of `$dumpfile` or `$dumpvars` say the same (profile).
+pub data SameDumpArgument : DumpArgument → DumpArgument → Type 0 where
+  same_dump_text : (n n' : Vec ℕ Global) → n.items ≡ n'.items → SameDumpArgument (u.Text n) (u.Text n')
+  same_dump_value : (x x' : Expr) → SameExpr x x' → SameDumpArgument (u.Value x) (u.Value x')
+
+-- The same of the first argument and the others (profile).
+pub record SameDump (xs xs' : DumpArgument × Vec DumpArgument Global) : Type 0 where
+  pub first : SameDumpArgument xs.0 xs'.0
+  pub others : Pairwise SameDumpArgument xs.1.items xs'.1.items
+
 -- Expressions that are both absent, or say the same (profile).
 pub data SameValue : Option Expr → Option Expr → Type 0 where
   same_no_value : SameValue None None
@@ -183,7 +213,8 @@ mutual
   pub data SameStmt : Stmt → Stmt → Type 0 where
     same_null : SameStmt s.Null s.Null
     same_assign : (l l' : Left) (x x' : Expr) → SameLeft l l' → SameExpr x x' → SameStmt (s.Assign l x) (s.Assign l' x')
-    same_later : (l l' : Left) (x x' : Expr) → SameLeft l l' → SameExpr x x' → SameStmt (s.Later l x) (s.Later l' x')
+    same_later : (l l' : Left) (v v' : Option DelayValue) (x x' : Expr) → SameLeft l l' → SameOption SameDelay v v' → SameExpr x x' →
+        SameStmt (s.Later l v x) (s.Later l' v' x')
     same_block : (xs xs' : Vec Stmt Global) → SameStmts xs.items xs'.items → SameStmt (s.Block xs) (s.Block xs')
     same_named_block : (n n' : Vec ℕ Global) (ls ls' : Vec LocalDeclaration Global) (xs xs' : Vec Stmt Global) → n.items ≡ n'.items →
         Pairwise SameLocals ls.items ls'.items → SameStmts xs.items xs'.items → SameStmt (s.Named n ls xs) (s.Named n' ls' xs')
@@ -203,6 +234,10 @@ mutual
         SameDelay v v' → SameStmt x.value x'.value → SameStmt (s.Delay v x) (s.Delay v' x')
     same_event : (v v' : EventControl) (x x' : Box Stmt Global) →
         SameEvent v v' → SameStmt x.value x'.value → SameStmt (s.Event v x) (s.Event v' x')
+    same_print : (task : PrintTask) (xs xs' : PrintArguments) → SamePrint xs xs' → SameStmt (s.Print task xs) (s.Print task xs')
+    same_finish : (n : Option Literal) → SameStmt (s.Finish n) (s.Finish n)
+    same_dump : (task : DumpTask) (xs xs' : Option (DumpArgument × Vec DumpArgument Global)) → SameOption SameDump xs xs' →
+        SameStmt (s.Dump task xs) (s.Dump task xs')
 
   -- The same of statements one after another (profile).
   pub data SameStmts : List Stmt → List Stmt → Type 0 where

@@ -3,8 +3,8 @@ use Rattle.std.specs.Prelude.{ℕ, suc, max, min, Bool, true, false, cond, ◌&&
 use Rattle.vs_tokens.specs.declared.token.Mark.{Mark}
 use Rattle.vs_tokens.specs.declared.token.Mark.TheVariants as m
 use Rattle.vs_tokens.specs.declared.token.Word.TheVariants as w
-use Rattle.vs_syntax.specs.Symbols.{Symbol, Class, the_mark, the_word, any_name, any_number, the_cast, the_nettype, same_class, first}
-use Rattle.vs_syntax.specs.Grammar.{Part, a_source, a_module, a_header_parameter, a_port, a_port_name, a_bare_name, a_generate_block, a_local, an_item, a_constant, an_instance, a_connection, a_net, a_variable, an_assignment, a_stmt, a_case_item, an_event_expr, a_target, an_expr, a_level, Grammar, nothing, token, seq, either, many, part, node, chain, optional, prefixes}
+use Rattle.vs_syntax.specs.Symbols.{Symbol, Class, the_mark, the_word, any_name, any_number, the_cast, any_text, the_print, the_finish, the_dump, the_time, the_directive, same_class, first}
+use Rattle.vs_syntax.specs.Grammar.{Part, a_source, a_module, a_header_parameter, a_port, a_port_name, a_bare_name, a_generate_block, a_local, an_item, a_constant, an_instance, a_connection, a_net, a_variable, an_assignment, a_stmt, an_argument, a_dump_argument, a_case_item, an_event_expr, a_target, an_expr, a_level, Grammar, nothing, token, seq, either, many, part, node, chain, optional, prefixes}
 
 -- a class that can begin a part, and the least nesting of a part that it begins
 pub record Front : Type 0 where
@@ -38,6 +38,8 @@ low_of a_net = 0
 low_of a_variable = 0
 low_of an_assignment = 1
 low_of a_stmt = 1
+low_of an_argument = 0
+low_of a_dump_argument = 0
 low_of a_case_item = 1
 low_of an_event_expr = 0
 low_of a_target = 1
@@ -81,7 +83,7 @@ item_fronts = at_least any_name 1
 
 -- what can begin a part
 abbrev pub fronts_of : Part → List Front
-fronts_of a_source = at_least (the_word w.Module) 0 ∷ at_least the_nettype 0 ∷ []
+fronts_of a_source = at_least (the_word w.Module) 0 ∷ at_least the_directive 0 ∷ []
 fronts_of a_module = at_least (the_word w.Module) 0 ∷ []
 fronts_of a_header_parameter = at_least (the_word w.Parameter) 0 ∷ at_least any_name 0 ∷ []
 fronts_of a_port = at_least (the_word w.Input) 0 ∷ at_least (the_word w.Output) 0 ∷ at_least any_name 0 ∷ []
@@ -110,7 +112,12 @@ fronts_of a_stmt = at_least any_name 2
     ∷ at_least (the_word w.Forever) 2
     ∷ at_least (the_mark m.Hash) 2
     ∷ at_least (the_mark m.At) 2
+    ∷ at_least the_print 1
+    ∷ at_least the_finish 1
+    ∷ at_least the_dump 1
     ∷ []
+fronts_of an_argument = at_least the_time 0 ∷ operand_fronts
+fronts_of a_dump_argument = at_least any_text 0 ∷ operand_fronts
 fronts_of a_case_item = at_least (the_word w.Default) 1 ∷ beside 1 operand_fronts
 fronts_of an_event_expr = at_least (the_word w.Posedge) 0 ∷ at_least (the_word w.Negedge) 0 ∷ at_least any_name 0 ∷ []
 fronts_of a_target = at_least any_name 1 ∷ at_least (the_mark m.OpenBrace) 2 ∷ []

@@ -14,8 +14,9 @@ use Rattle.vs_logic4.specs.declared.case.CaseKind.{CaseKind}
 use Rattle.vs_logic4.specs.declared.case.CaseKind.TheVariants as h
 use Rattle.vs_logic4.specs.declared.edge.Edge.{Edge}
 use Rattle.vs_logic4.specs.declared.edge.Edge.TheVariants as g
-use Rattle.vs_tokens.specs.declared.token.ImplicitNet.{ImplicitNet}
-use Rattle.vs_syntax.specs.Symbols.{Symbol, a_mark, a_word, a_name, a_number, a_cast, a_nettype}
+use Rattle.vs_tokens.specs.declared.token.Directive.{Directive}
+use Rattle.vs_tokens.specs.declared.token.Literal.{Literal}
+use Rattle.vs_syntax.specs.Symbols.{Symbol, a_mark, a_word, a_name, a_number, a_cast, a_text, a_print, a_finish, a_dump, a_time, a_directive}
 use Rattle.vs_syntax.specs.Derivation.{Tree, empty, leaf, both, down}
 use Rattle.vs_syntax.specs.declared.tree.Expr.{Expr, Expr-F, fold-Expr}
 use Rattle.vs_syntax.specs.declared.tree.Expr.TheOpen as e
@@ -46,6 +47,12 @@ use Rattle.vs_syntax.specs.declared.tree.Instance.{Instance}
 use Rattle.std.specs.declared.boxed.Box.{Box}
 use Rattle.vs_syntax.specs.declared.tree.DelayValue.{DelayValue}
 use Rattle.vs_syntax.specs.declared.tree.DelayValue.TheVariants as d
+use Rattle.vs_syntax.specs.declared.tree.Argument.{Argument}
+use Rattle.vs_syntax.specs.declared.tree.Argument.TheVariants as a
+use Rattle.vs_syntax.specs.declared.tree.PrintArguments.{PrintArguments}
+use Rattle.vs_syntax.specs.declared.tree.PrintArguments.TheVariants as t
+use Rattle.vs_syntax.specs.declared.tree.DumpArgument.{DumpArgument}
+use Rattle.vs_syntax.specs.declared.tree.DumpArgument.TheVariants as x
 use Rattle.vs_syntax.specs.declared.tree.Separator.{Separator}
 use Rattle.vs_syntax.specs.declared.tree.Separator.TheVariants as r
 use Rattle.vs_syntax.specs.declared.tree.EventExpr.{EventExpr}
@@ -252,8 +259,8 @@ abbrev pub net_assignment_tree : NetAssignment → Tree
 net_assignment_tree a = both (left_tree a.target) (both (leaf (a_mark m.Assign)) (expr_tree a.value))
 
 -- an assignment as a statement
-abbrev pub assigned_tree : Left → Mark → Expr → Tree
-assigned_tree l sign x = down (both (left_tree l) (both (leaf (a_mark sign)) (both (expr_tree x) (leaf (a_mark m.Semicolon)))))
+abbrev pub assigned_tree : Left → Tree → Expr → Tree
+assigned_tree l sign x = down (both (left_tree l) (both sign (both (expr_tree x) (leaf (a_mark m.Semicolon)))))
 
 -- an expression in parentheses that are no node, and what stands behind them
 abbrev pub guarded_tree : Tree → Tree → Tree
@@ -308,6 +315,45 @@ delay_tree (d.Number l) = leaf (a_number l)
 delay_tree (d.Name n) = name_tree n.items
 delay_tree (d.Group x) = both (leaf (a_mark m.Open)) (closed_tree (expr_tree x))
 
+-- the delay of a nonblocking assignment, where it has one
+abbrev pub late_tree : Option DelayValue → Tree
+late_tree None = empty
+late_tree (Some v) = both (leaf (a_mark m.Hash)) (delay_tree v)
+
+-- the sign of a nonblocking assignment, and its delay
+abbrev pub later_tree : Option DelayValue → Tree
+later_tree v = both (leaf (a_mark m.LessEqual)) (late_tree v)
+
+-- an argument of `$display` or `$strobe`
+abbrev pub argument_tree : Argument → Tree
+argument_tree (a.Value x) = expr_tree x
+argument_tree a.Time = leaf a_time
+
+-- what stands behind `$display` or `$strobe`
+abbrev pub print_tree : PrintArguments → Tree
+print_tree t.Missing = empty
+print_tree t.Empty = both (leaf (a_mark m.Open)) (both empty (leaf (a_mark m.Close)))
+print_tree (t.Text n xs) = both (leaf (a_mark m.Open)) (both (both (leaf (a_text n.items)) (commas_tree (map argument_tree xs.items))) (leaf (a_mark m.Close)))
+
+-- the number of a `$finish`, where it has one
+abbrev pub finish_tree : Option Literal → Tree
+finish_tree None = empty
+finish_tree (Some l) = both (leaf (a_mark m.Open)) (both (leaf (a_number l)) (leaf (a_mark m.Close)))
+
+-- an argument of `$dumpfile` or `$dumpvars`
+abbrev pub dump_argument_tree : DumpArgument → Tree
+dump_argument_tree (x.Text n) = leaf (a_text n.items)
+dump_argument_tree (x.Value e) = expr_tree e
+
+-- what stands behind `$dumpfile` or `$dumpvars`
+abbrev pub dump_tree : Option (DumpArgument × Vec DumpArgument Global) → Tree
+dump_tree None = empty
+dump_tree (Some xs) = both (leaf (a_mark m.Open)) (both (dump_argument_tree xs.0) (both (commas_tree (map dump_argument_tree xs.1.items)) (leaf (a_mark m.Close))))
+
+-- a statement that is a system name with what stands behind it
+abbrev pub task_tree : Symbol → Tree → Tree
+task_tree s x = down (both (leaf s) (both x (leaf (a_mark m.Semicolon))))
+
 -- the word of an edge, where it has one
 abbrev pub edge_tree : Edge → Tree
 edge_tree g.Any = empty
@@ -355,8 +401,8 @@ block_tree x xs = down (both (leaf (a_word w.Begin)) (both x (both (row_of xs) (
 -- a statement, where the trees of the inner ones stand in their place
 abbrev pub stmt_step : Stmt-F Tree → Tree
 stmt_step s.Null = down (both (leaf (a_mark m.Semicolon)) empty)
-stmt_step (s.Assign l x) = assigned_tree l m.Assign x
-stmt_step (s.Later l x) = assigned_tree l m.LessEqual x
+stmt_step (s.Assign l x) = assigned_tree l (leaf (a_mark m.Assign)) x
+stmt_step (s.Later l v x) = assigned_tree l (later_tree v) x
 stmt_step (s.Block xs) = block_tree empty xs.items
 stmt_step (s.Named n ds xs) = block_tree (block_head_tree n.items ds.items) xs.items
 stmt_step (s.If c x o) = down (both (leaf (a_word w.If)) (guarded_tree (expr_tree c) (both x.value (else_tree o))))
@@ -368,6 +414,9 @@ stmt_step (s.Repeat c x) = down (both (leaf (a_word w.Repeat)) (guarded_tree (ex
 stmt_step (s.Forever x) = down (both (leaf (a_word w.Forever)) x.value)
 stmt_step (s.Delay v x) = down (both (leaf (a_mark m.Hash)) (both (delay_tree v) x.value))
 stmt_step (s.Event v x) = down (both (leaf (a_mark m.At)) (both (event_tree v) x.value))
+stmt_step (s.Print task xs) = task_tree (a_print task) (print_tree xs)
+stmt_step (s.Finish n) = task_tree a_finish (finish_tree n)
+stmt_step (s.Dump task xs) = task_tree (a_dump task) (dump_tree xs)
 
 -- a statement
 abbrev pub stmt_tree : Stmt → Tree
@@ -520,8 +569,8 @@ abbrev pub module_item_tree : ModuleItem → Tree
 module_item_tree = fold-ModuleItem Tree module_item_step
 
 -- a directive
-abbrev pub directive_tree : ImplicitNet → Tree
-directive_tree x = leaf (a_nettype x)
+abbrev pub directive_tree : Directive → Tree
+directive_tree x = leaf (a_directive x)
 
 -- the parts of a module's header behind its name
 abbrev pub header_tree : Module → Tree → Tree

@@ -1,5 +1,5 @@
 //! The syntax tree.
-use vs_lexer::{ImplicitNet, Literal};
+use vs_lexer::{Directive, Literal};
 use vs_logic4::{Binary, CaseKind, Edge, Unary};
 
 /// A source text: its modules and the directives between them, in the order of the text (IEEE 1364-2005, clauses A.1.2 and 19.2).
@@ -8,14 +8,14 @@ pub struct Source {
     /// The modules.
     pub modules: Vec<Module>,
     /// The directives behind the last module.
-    pub directives: Vec<ImplicitNet>,
+    pub directives: Vec<Directive>,
 }
 
 /// A module (IEEE 1364-2005, clause 12.1).
 #[derive(Drop)]
 pub struct Module {
     /// The directives between it and the module before it.
-    pub directives: Vec<ImplicitNet>,
+    pub directives: Vec<Directive>,
     /// The bytes of its name; those of an escaped name without the backslash.
     pub name: Vec<u8>,
     /// The parameters in its header, in the order of the text; where there are none, it has no list of them (clause 12.2).
@@ -293,6 +293,53 @@ pub struct Local {
     pub words: Option<Range>,
 }
 
+/// A system task that prints (IEEE 1364-2005, clause 17.1).
+#[derive(Clone, Copy, PartialEq, Eq, Debug)]
+pub enum PrintTask {
+    /// `$display`
+    Display,
+    /// `$strobe`
+    Strobe,
+}
+
+/// An argument of `$display` or `$strobe` behind the text (IEEE 1364-2005, clause 17.1.1).
+#[derive(Drop)]
+pub enum Argument {
+    /// An expression.
+    Value(Expr),
+    /// `$time` (clause 17.7.1).
+    Time,
+}
+
+/// What stands behind `$display` or `$strobe` (IEEE 1364-2005, clause 17.1.1).
+#[derive(Drop)]
+pub enum PrintArguments {
+    /// Nothing.
+    Missing,
+    /// `()`
+    Empty,
+    /// In parentheses a text, by its own bytes, and what it prints.
+    Text(Vec<u8>, Vec<Argument>),
+}
+
+/// A system task that says what is dumped (IEEE 1364-2005, clause 18.1).
+#[derive(Clone, Copy, PartialEq, Eq, Debug)]
+pub enum DumpTask {
+    /// `$dumpfile`
+    File,
+    /// `$dumpvars`
+    Vars,
+}
+
+/// An argument of `$dumpfile` or `$dumpvars` (IEEE 1364-2005, clauses 18.1.1 and 18.1.2).
+#[derive(Drop)]
+pub enum DumpArgument {
+    /// A text, by its own bytes.
+    Text(Vec<u8>),
+    /// An expression; its names aren't looked up.
+    Value(Expr),
+}
+
 /// A statement (IEEE 1364-2005, clause A.6.4).
 #[derive(Drop)]
 pub enum Stmt {
@@ -300,8 +347,8 @@ pub enum Stmt {
     Null,
     /// A blocking assignment: its two sides (clause 9.2.1).
     Assign(Left, Expr),
-    /// A nonblocking assignment: its two sides (clause 9.2.2).
-    Later(Left, Expr),
+    /// A nonblocking assignment: its left side, its delay, where it has one, and its right side (clause 9.2.2).
+    Later(Left, Option<DelayValue>, Expr),
     /// `begin`, statements and `end` (clause 9.8.1).
     Block(Vec<Stmt>),
     /// `begin`, a colon and the bytes of a name, declarations, statements and `end` (clause 9.8.3).
@@ -322,6 +369,12 @@ pub enum Stmt {
     Delay(DelayValue, Box<Stmt>),
     /// `@`, what it waits for, and the statement behind it (clause 9.7.2).
     Event(EventControl, Box<Stmt>),
+    /// `$display` or `$strobe`, and its arguments (clause 17.1).
+    Print(PrintTask, PrintArguments),
+    /// `$finish`, and its number, where it has one (clause 17.4.1).
+    Finish(Option<Literal>),
+    /// `$dumpfile` or `$dumpvars`, and its arguments, where it has parentheses: the first, and the others (clause 18.1).
+    Dump(DumpTask, Option<(DumpArgument, Vec<DumpArgument>)>),
 }
 
 /// The left side of an assignment (IEEE 1364-2005, clauses 6.1.2 and 9.2).

@@ -1,5 +1,5 @@
 -- An expression of a source reads signals of its names alone.
-use Rattle.std.proofs.Common.{◌≡◌, ℕ, Bool, true, ◌&&◌, List, [], ◌∷◌, ◌++◌, Option, Some, None, map, refl, ap, ap₂, sym, subst, ◌∙◌}
+use Rattle.std.proofs.Common.{◌≡◌, ℕ, Bool, true, ◌&&◌, List, [], ◌∷◌, ◌++◌, Option, Some, None, length, map, refl, ap, ap₂, sym, subst, ◌∙◌}
 use Rattle.std.specs.List.{list_all}
 use Rattle.std.proofs.lemmas.List.Folds.{list_all-append}
 use Rattle.vs_logic4.specs.declared.operators.Binary.{Binary}
@@ -15,9 +15,10 @@ use Rattle.vs_forms.specs.declared.shape.Shape.{Shape}
 use Rattle.vs_selects.specs.declared.bindings.Meaning.{Meaning}
 use Rattle.vs_selects.specs.declared.bindings.Binding.{Binding}
 use Rattle.vs_selects.specs.declared.bindings.Binding.TheVariants.{Signal, Constant, Pending, Other, Genvar}
+use Rattle.vs_selects.specs.declared.constants.Const.{Const}
 use Rattle.vs_selects.specs.Findings.{Finding, Has, Lacks}
 use Rattle.vs_selects.specs.Meants.{Meant}
-use Rattle.vs_selects.specs.Selects.{Select, select_span, span_of, Named, in_array, of_words, range_by, named_reads, select_meant}
+use Rattle.vs_selects.specs.Selects.{Select, select_span, span_of, constant_span, Named, in_array, of_words, range_by, named_reads, select_meant}
 use Rattle.vs_widths.specs.Typing.{HoldsOfSignals, ReadsNamed}
 use Rattle.vs_selects.specs.Environment.{Environment}
 use Rattle.vs_widths.specs.Expressions.{meant, meant_step, name_meant, linked_meant, chain_meant}
@@ -70,6 +71,11 @@ module _ (test : ℕ → Bool) where
   words_within : (o : Option Bounds) (m : Meaning) (n : ℕ) (xs : List Select) → test n ≡ true → AllWithin xs → Names (of_words o m n xs)
   words_within None m n xs k h = (k, span_within m.bits m.shape xs h)
   words_within (Some b) m n xs k h = array_within b m n xs k h
+
+  constant_within : (c : Const) (xs : List Select) → AllWithin xs → Within (constant_span c xs).reads
+  constant_within c [] h = refl
+  constant_within c (x ∷ []) h = one_span c.bits (length c.value) x h.0
+  constant_within c (x ∷ y ∷ xs) h = refl
 
   operand_within : (n : Named) (found : Finding) → Names n → Within (named_reads found n)
   operand_within n (Has width signed) h = both_true _ _ (range_signal n.reads) h.1
@@ -139,7 +145,7 @@ module _ (test : ℕ → Bool) where
     select_within : (m : List ℕ) (o : Option Binding) (xs : List Select) → env m ≡ o → AllWithin xs → Within (select_meant o xs).reads
     select_within m None xs h k = refl
     select_within m (Some (Signal x n)) xs h k = operand_within (of_words x.words x n xs) (of_words x.words x n xs).finding (words_within x.words x n xs (good m x n h) k)
-    select_within m (Some (Constant c)) xs h k = refl
+    select_within m (Some (Constant c)) xs h k = constant_within c xs k
     select_within m (Some Pending) xs h k = refl
     select_within m (Some Other) xs h k = refl
     select_within m (Some Genvar) xs h k = refl

@@ -1,2 +1,5 @@
 pub mod EarlyLemmas
 pub mod ValueLemmas
+pub mod FindingLemmas
+pub mod FoundLemmas
+pub mod SearchLemmas

@@ -10,6 +10,7 @@ use Rattle.vs_syntax.specs.declared.tree.Connections.{Connections}
 use Rattle.vs_syntax.specs.declared.tree.Module.{Module}
 use Rattle.vs_syntax.specs.declared.tree.Range.{Range}
 use Rattle.vs_design.specs.declared.range.BitRange.{BitRange}
+use Rattle.vs_design.specs.declared.signal.Bounds.{Bounds}
 use Rattle.vs_forms.specs.declared.shape.Shape.{Shape}
 use Rattle.vs_selects.specs.declared.bindings.Binding.TheVariants.{Constant}
 use Rattle.vs_selects.specs.declared.constants.Const.{Const}
@@ -20,7 +21,7 @@ use Rattle.vs_selects.specs.Environment.{Environment}
 use Rattle.vs_selects.specs.Findings.{Finding, Has, Lacks, Refuses, stands, alone}
 use Rattle.vs_selects.specs.Meants.{Meant, own}
 use Rattle.vs_selects.specs.Selects.{size_found}
-use Rattle.vs_selects.specs.Constants.{where_none, constant_finding}
+use Rattle.vs_selects.specs.Constants.{where_none, constant_finding, constant_in}
 use Rattle.vs_widths.specs.Expressions.{meant}
 use Rattle.vs_widths.specs.Names.{meaning_of, by_bytes, Binds}
 use Rattle.vs_scopes.specs.declared.sizes.Size.{Size}
@@ -51,9 +52,9 @@ use Rattle.vs_scopes.proofs.Folds.{both_false, left_true, right_true}
 
 -- ---- what a parameter takes
 
-pub vector_taken : (env : Environment) (signed : Bool) (o : Option Range) (s : Size) → is_some o ≡ true → ((q : Reason) → width_faults (sized_as env signed 0 o).faults q ≡ false) × IsSize (sized_as env signed 0 o) s → IsTaking (vector_takes env signed o) (Shaped s.shape)
+pub vector_taken : (env : Environment) (signed : Bool) (o : Option Range) (s : Size) → is_some o ≡ true → ((q : Reason) → width_faults (sized_as env signed 0 o).faults q ≡ false) × IsSize (sized_as env signed 0 o) s → IsTaking (vector_takes env signed o) (Shaped s)
 vector_taken env signed None s h k = absurd (true≢false (sym h))
-vector_taken env signed (Some r) s h k = record { sound = λ w. k.0 (Width w); same = λ m. ap (λ (z : Shape). constant_as (Shaped z) m) k.1.shape }
+vector_taken env signed (Some r) s h k = record { sound = λ w. k.0 (Width w); same = λ m. ap₂ (λ (z : Shape) (b : Option Bounds). constant_as (Shaped (record { shape = z; bounds = b })) m) k.1.shape k.1.bounds }
 
 pub vector_refused : (env : Environment) (signed : Bool) (o : Option Range) (e : BodyFault) → is_some o ≡ true → RefusesBody (width_faults (sized_as env signed 0 o).faults) e → RefusesBody (width_faults (λ w. takes_fault w (vector_takes env signed o))) e
 vector_refused env signed None e h k = absurd (true≢false (sym h))
@@ -76,15 +77,16 @@ cut w v h =
     ap (λ n. take w v ++ replicate n (extension_digit false v)) none ∙ append-nil (take w v)
 
 -- a value at the larger size, cut to that of the parameter
-pub shaped_is : (m : Meant) (s : Shape) (size w : ℕ) (signed : Bool) (v r : List Digit) → ((q : WidthReason) → stands q (constant_finding m) ≡ false) → m.finding ≡ Has size signed → w ≡ max s.width size →
-    m.at [] 0 w signed ≡ v → length v ≡ w → r ≡ resized false s.width v → IsGivenBy (Shaped s) m (record { value = r; signed = s.signed })
+pub shaped_is : (m : Meant) (s : Size) (size w : ℕ) (signed : Bool) (v r : List Digit) → ((q : WidthReason) → stands q (constant_finding m) ≡ false) → m.finding ≡ Has size signed → w ≡ max s.shape.width size →
+    m.at [] 0 w signed ≡ v → length v ≡ w → r ≡ resized false s.shape.width v → IsGivenBy (Shaped s) m (constant_in s.bounds s.shape.signed r)
 shaped_is m s size w signed v r sound has wide at long given =
-    let fits : s.width ≤ length v = omega (arith, wide, long) in
-    let K : List Digit → Const = λ z. record { value = z; signed = s.signed } in
-    let A : ℕ → Bool → Const = λ n g. K (take s.width (m.at [] 0 n g)) in
+    let n = s.shape.width in
+    let fits : s.shape.width ≤ length v = omega (arith, wide, long) in
+    let K : List Digit → Const = constant_in s.bounds s.shape.signed in
+    let A : ℕ → Bool → Const = λ k g. K (take n (m.at [] 0 k g)) in
     record {
       sound = sound;
-      value = ap K (given ∙ cut s.width v fits) ∙ ap (λ z. K (take s.width z)) (sym at) ∙ ap₂ A (wide ∙ ap (λ z. max s.width (size_found z)) (sym has)) (ap sign_found (sym has));
+      value = ap K (given ∙ cut n v fits) ∙ ap (λ z. K (take n z)) (sym at) ∙ ap₂ A (wide ∙ ap (λ z. max n (size_found z)) (sym has)) (ap sign_found (sym has));
     }
 
 none_read : (reads : List BitRange) (found : Finding) (size : ℕ) (signed : Bool) → alone (where_none reads) found ≡ Has size signed → sign_found found ≡ signed
@@ -93,10 +95,10 @@ none_read (r ∷ rs) (Has width sign) size signed h = cc
 none_read rs (Lacks faults) size signed h = cc
 
 -- a value with its own size
-pub sized_is : (m : Meant) (g : Bool) (c : Const) → constant_finding m ≡ Has (length c.value) c.signed → own m [] 0 ≡ c.value → IsGivenBy (TheSize g) m (record { value = c.value; signed = g || c.signed })
+pub sized_is : (m : Meant) (g : Bool) (c : Const) → constant_finding m ≡ Has (length c.value) c.signed → own m [] 0 ≡ c.value → IsGivenBy (TheSize g) m (constant_in None (g || c.signed) c.value)
 sized_is m g c has at =
     let sign : sign_found m.finding ≡ c.signed = none_read m.reads m.finding (length c.value) c.signed has in
-    let K : List Digit → Bool → Const = λ z t. record { value = z; signed = g || t } in
+    let K : List Digit → Bool → Const = λ z t. constant_in None (g || t) z in
     record { sound = λ w. ap (stands w) has; value = ap₂ K (sym at) (sym sign) }
 
 -- ---- one parameter after another
@@ -110,38 +112,6 @@ pub bound_under : (old known outer : Bindings) (n : List ℕ) (c : Const) → Bi
 bound_under old known outer n c h =
     fun_ext (λ k. meaning_of-append known outer k ∙ ap (λ o. first_of o (meaning_of outer k)) (h k) ∙ first_cond (bytes_eq n k) (Constant c) (meaning_of old k) (meaning_of outer k)
     ∙ ap (cond (bytes_eq n k) (Some (Constant c))) (sym (meaning_of-append old outer k)))
-
-module _ (around : Environment) (xs : List FoundGiven) (i : ℕ) (x : FoundGiven) (h : i < length xs) (k : x ≡ get_or xs i x) (old known : Bindings) (c : Const) (given : IsGiven around (meaning_of old) (read_given x) c) (bound : meaning_of known ≡ with_constant (meaning_of old) x.parameter.name.now c) where
-  at : map read_given (drop i xs) ≡ read_given x ∷ map read_given (drop (i + 1) xs)
-  at = map_at read_given xs i x h k
-
-  same : meaning_of known ≡ with_constant (meaning_of old) (read_given x).0.name (constant_given around (meaning_of old) (read_given x))
-  same = bound ∙ ap (λ (z : Const). with_constant (meaning_of old) x.parameter.name.now z) given.value
-
-  pub outer_on : (w : WidthReason) (whole : Bool) → whole ≡ outer_faults w around (map read_given (drop i xs)) → whole ≡ outer_faults w around (map read_given (drop (i + 1) xs))
-  outer_on w whole e = e ∙ ap (outer_faults w around) at ∙ ap (λ t. t || outer_faults w around (map read_given (drop (i + 1) xs))) (given.outer w)
-
-  pub own_on : (w : WidthReason) (whole : Bool) → whole ≡ own_faults w around (meaning_of old) (map read_given (drop i xs)) → whole ≡ own_faults w around (meaning_of known) (map read_given (drop (i + 1) xs))
-  own_on w whole e =
-      e ∙ ap (own_faults w around (meaning_of old)) at ∙ ap (λ t. t || own_faults w around (with_constant (meaning_of old) (read_given x).0.name (constant_given around (meaning_of old) (read_given x))) (map read_given (drop (i + 1) xs))) (given.own w)
-      ∙ ap (λ z. own_faults w around z (map read_given (drop (i + 1) xs))) (sym same)
-
-  pub constants_on : (before after whole : List (List ℕ × Const)) → after ≡ before ++ (x.parameter.name.now, c) ∷ [] → before ++ constants_of around (meaning_of old) (map read_given (drop i xs)) ≡ whole → after ++ constants_of around (meaning_of known) (map read_given (drop (i + 1) xs)) ≡ whole
-  constants_on before after whole e f =
-      moved_by before after ((x.parameter.name.now, c) ∷ []) (constants_of around (meaning_of old) (map read_given (drop i xs))) (constants_of around (meaning_of known) (map read_given (drop (i + 1) xs))) whole e
-      (ap (constants_of around (meaning_of old)) at ∙ ap (λ (z : Const). (x.parameter.name.now, z) ∷ constants_of around (with_constant (meaning_of old) (read_given x).0.name (constant_given around (meaning_of old) (read_given x))) (map read_given (drop (i + 1) xs))) (sym given.value)
-      ∙ ap (λ z. (x.parameter.name.now, c) ∷ constants_of around z (map read_given (drop (i + 1) xs))) (sym same)) f
-
-  pub known_on : (whole : Environment) → known_behind around (meaning_of old) (map read_given (drop i xs)) ≡ whole → known_behind around (meaning_of known) (map read_given (drop (i + 1) xs)) ≡ whole
-  known_on whole e = ap (λ z. known_behind around z (map read_given (drop (i + 1) xs))) same ∙ sym (ap (known_behind around (meaning_of old)) at) ∙ e
-
-  -- a fault of a parameter is one among all
-  pub refused_on : (first : Environment) (whole : List Given) (e : ParameterRefusal) → ((w : WidthReason) → outer_faults w around whole ≡ outer_faults w around (map read_given (drop i xs))) → ((w : WidthReason) → own_faults w around first whole ≡ own_faults w around (meaning_of old) (map read_given (drop i xs))) →
-      RefusesValues false (λ w. outer_fault w around (read_given x)) (λ w. own_fault w (meaning_of old) (read_given x)) e → RefusesValues false (λ w. outer_faults w around whole) (λ w. own_faults w around first whole) e
-  refused_on first whole r.Memory f g q = tt
-  refused_on first whole r.Mismatch f g q = q
-  refused_on first whole (r.Outer w) f g q = f w ∙ ap (outer_faults w around) at ∙ left_true _ _ q
-  refused_on first whole (r.Own w) f g q = g w ∙ ap (own_faults w around (meaning_of old)) at ∙ left_true _ _ q
 
 -- ---- the parameters of a module
 

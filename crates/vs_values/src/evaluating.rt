@@ -4,24 +4,24 @@ ghost use Rattle.vs_pieces.specs.Pieces.{pieces_of};
 ghost use Rattle.vs_pieces.specs.Reads.{read_piece};
 ghost use Rattle.vs_selects.specs.Constants.{constant_finding};
 ghost use Rattle.vs_selects.specs.Findings.{Finding, Lacks, Refuses, stands};
-ghost use Rattle.vs_selects.specs.declared.bindings.Binding.TheVariants.{Constant};
 ghost use Rattle.vs_selects.specs.declared.faults.WidthReason.{WidthReason};
 ghost use Rattle.vs_widths.specs.Names.{meaning_of, nested_names, by_bytes, Binds};
 ghost use Rattle.vs_widths.specs.Expressions.{meant};
-ghost use Rattle.vs_scopes.specs.Parameters.{vector_takes, takes_by, takes_fault, outer_fault, own_fault, outer_faults, own_faults};
+ghost use Rattle.vs_scopes.specs.Parameters.{vector_takes, takes_by, takes_fault, outer_fault, own_fault};
 ghost use Rattle.vs_scopes.specs.Ports.{ports_of};
 ghost use Rattle.vs_scopes.specs.passes.Answers.{Refuses as RefusesBody};
 ghost use Rattle.vs_scopes.specs.passes.Parts.{read_end, read_given, read_port};
 ghost use Rattle.vs_scopes.specs.passes.Sizes.{width_faults};
 ghost use Rattle.vs_values.specs.declared.evaluating.Taking.TheVariants.{Shaped};
-ghost use Rattle.vs_values.specs.passes.Values.{IsTaking, IsGivenBy, RefusesValues, IsGiven, AddsConstants, BindsConstants, AreValues, AreNoValues, AreBlockValues, block_faults};
+ghost use Rattle.vs_values.specs.passes.Values.{IsTaking, IsGivenBy, RefusesValues, IsGiven, BindsConstants, AreValues, AreNoValues, AreBlockValues, block_faults};
 
 use crate::early::early_names;
+use crate::finding::add_constants;
 use std::alloc::{AllocError, Global};
 use vs_forms::Shape;
 use vs_pieces::Piece;
 use vs_scopes::{
-    BodyFault, Given, INTEGER, ModulePort, ParameterRefusal, Reason, block_parameters,
+    BodyFault, Given, INTEGER, ModulePort, ParameterRefusal, Reason, Size, block_parameters,
     declared_size, given_alone, given_to, module_parameters,
 };
 use vs_selects::{Binding, Const, WidthFault};
@@ -42,8 +42,8 @@ pub struct ParameterValues<'s> {
 pub enum Taking {
     /// Its size, and its sign, or whether it is signed whatever it is.
     TheSize(bool),
-    /// Neither: the parameter has a size and sign of its own.
-    Shaped(Shape),
+    /// Neither: the parameter has a size and sign of its own, and bits of it may be selected by its range.
+    Shaped(Size),
 }
 
 /// A fault of an expression of the module.
@@ -90,7 +90,7 @@ fn vector_taking(alloc: Global, known: &Levels, form: &Form) -> Result<Taking, P
         return Ok(Taking::TheSize(form.signed));
     }
     match declared_size(alloc, known, form) {
-        Ok(size) => Ok(Taking::Shaped(size.shape)),
+        Ok(size) => Ok(Taking::Shaped(size)),
         Err(fault) => Err(own_size(fault)),
     }
 }
@@ -107,24 +107,23 @@ fn taking_by(
 {
     match form {
         None => Ok(Taking::TheSize(false)),
-        Some(ParameterForm::Integer) => Ok(Taking::Shaped(INTEGER.shape)),
+        Some(ParameterForm::Integer) => Ok(Taking::Shaped(INTEGER)),
         Some(ParameterForm::Vector(form)) => vector_taking(alloc, known, form),
     }
 }
 
 /// The constant that an expression gives a parameter of this size and sign, as an assignment does (IEEE 1364-2005, clause 5.4.1).
-fn shaped(alloc: Global, names: &Levels, shape: Shape, e: &Expr) -> Result<Const, WidthFault>
-    ensures ok { IfOk result (IsGivenBy (Shaped shape) (meant (meaning_of names.now) e.now)) }
+fn shaped(alloc: Global, names: &Levels, size: Size, e: &Expr) -> Result<Const, WidthFault>
+    ensures ok { IfOk result (IsGivenBy (Shaped size) (meant (meaning_of names.now) e.now)) }
     ensures fault { IfErr result (Refuses (constant_finding (meant (meaning_of names.now) e.now))) }
 {
     let found = shape_of(alloc, names, e)?;
+    let shape = size.shape;
     let width = shape.width.max(found.width);
     let signed = found.signed;
     let value = constant_at(alloc, names, Shape { width, signed }, e)?;
-    Ok(Const {
-        value: value.resize(shape.width, false),
-        signed: shape.signed,
-    })
+    let value = value.resize(shape.width, false);
+    Ok(Const::new(value, shape.signed, size.bounds))
 }
 
 /// The constant that an expression gives a parameter (IEEE 1364-2005, clauses 5.4.1 and 12.2).
@@ -135,17 +134,14 @@ fn valued(alloc: Global, names: &Levels, taking: Taking, e: &Expr) -> Result<Con
     match taking {
         Taking::TheSize(signed) => {
             let found = constant(alloc, names, e)?;
-            Ok(Const {
-                value: found.value,
-                signed: signed || found.signed,
-            })
+            Ok(Const::new(found.value, signed || found.signed, None))
         }
-        Taking::Shaped(shape) => shaped(alloc, names, shape, e),
+        Taking::Shaped(size) => shaped(alloc, names, size, e),
     }
 }
 
 /// The constant that a parameter is: its value is an expression of the module, or of the scope around (IEEE 1364-2005, clause 12.2).
-fn constant_given(
+pub(crate) fn constant_given(
     alloc: Global,
     around: &Levels,
     known: &Levels,
@@ -169,22 +165,22 @@ fn constant_given(
     }
 }
 
-/// Binds a name to a constant.
-fn bind_constant<'s>(
+/// Binds a name, whatever it was bound to.
+pub(crate) fn bind<'s>(
     name: &'s [u8],
-    constant: &Const,
+    binding: Binding,
     names: &mut Names<'s, Binding>,
 ) -> Result<(), AllocError>
-    ensures { OnOk result (Binds names.old names.new name.entry.now (Constant constant.now)) }
+    ensures { OnOk result (Binds names.old names.new name.entry.now binding) }
 {
-    match names.bind(name, Binding::Constant(*constant)) {
+    match names.bind(name, binding) {
         Ok(()) => Ok(()),
         Err(_) => Err(AllocError),
     }
 }
 
 /// Appends a constant under a name.
-fn push_constant<'s>(
+pub(crate) fn push_constant<'s>(
     name: &'s [u8],
     constant: &Const,
     list: &mut Vec<(&'s [u8], Const)>,
@@ -197,45 +193,6 @@ fn push_constant<'s>(
     }
 }
 
-/// The constant that a parameter is, where names of its scope are known, and those of the scopes around.
-fn next_constant<'s, 'o>(
-    alloc: Global,
-    around: &Levels,
-    outer: &'o [&'o Names<'s, Binding>],
-    known: &'o Names<'s, Binding>,
-    given: &Given,
-) -> Result<Const, ParameterRefusal>
-    ensures ok { IfOk result (IsGiven (meaning_of around.now) (meaning_of (known.now ++ nested_names outer.now)) (read_given given.now)) }
-    ensures fault { IfErr result (RefusesValues false
-        (λ w. outer_fault w (meaning_of around.now) (read_given given.now))
-        (λ w. own_fault w (meaning_of (known.now ++ nested_names outer.now)) (read_given given.now))) }
-{
-    let levels = Levels::new(known, outer);
-    constant_given(alloc, around, &levels, given)
-}
-
-/// Adds the constants that parameters are, one after another; `outer` are the names of the scopes around theirs that are seen there.
-fn add_constants<'s>(
-    alloc: Global,
-    around: &Levels,
-    outer: &[&Names<'s, Binding>],
-    list: &[Given<'s>],
-    values: &mut ParameterValues<'s>,
-) -> Result<(), ParameterRefusal>
-    ensures ok { OnOk result
-        (AddsConstants (meaning_of around.now) (nested_names outer.now) (map read_given list.now) values.old values.new) }
-    ensures fault { IfErr result (RefusesValues false
-        (λ w. outer_faults w (meaning_of around.now) (map read_given list.now))
-        (λ w. own_faults w (meaning_of around.now) (meaning_of (values.old.known ++ nested_names outer.now)) (map read_given list.now))) }
-{
-    for given in list {
-        let constant = next_constant(alloc, around, &*outer, &values.known, given)?;
-        bind_constant(given.parameter.name, &constant, &mut values.known)?;
-        push_constant(given.parameter.name, &constant, &mut values.constants)?;
-    }
-    Ok(())
-}
-
 /// Adds constants that are known.
 fn bind_constants<'s>(
     constants: &[(&'s [u8], Const)],
@@ -244,7 +201,7 @@ fn bind_constants<'s>(
     ensures { OnOk result (BindsConstants (by_bytes constants.now) values.old values.new) }
 {
     for (name, constant) in constants {
-        bind_constant(*name, constant, &mut values.known)?;
+        bind(*name, Binding::Constant(*constant), &mut values.known)?;
         push_constant(*name, constant, &mut values.constants)?;
     }
     Ok(())

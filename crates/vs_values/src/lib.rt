@@ -3,6 +3,8 @@
 
 mod early;
 mod evaluating;
+mod finding;
+mod order;
 
 pub use early::early_names;
 pub use evaluating::{ParameterValues, block_values, values};

@@ -4,3 +4,4 @@ pub mod MeasuringLemmas
 pub mod NameLemmas
 pub mod SelectLemmas
 pub mod TypingLemmas
+pub mod SettledLemmas

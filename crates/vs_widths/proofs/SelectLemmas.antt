@@ -18,13 +18,14 @@ use Rattle.vs_forms.specs.declared.forms.Measured.{Measured}
 use Rattle.vs_selects.specs.declared.bindings.Meaning.{Meaning}
 use Rattle.vs_selects.specs.declared.bindings.Binding.{Binding}
 use Rattle.vs_selects.specs.declared.bindings.Binding.TheVariants.{Signal, Constant, Pending, Other, Genvar}
+use Rattle.vs_selects.specs.declared.constants.Const.{Const}
 use Rattle.vs_selects.specs.declared.faults.WidthReason.{WidthReason}
 use Rattle.vs_selects.specs.declared.faults.WidthFault.{WidthFault}
 use Rattle.vs_selects.specs.Environment.{Environment}
 use Rattle.vs_selects.specs.Findings.{Has, Lacks, stands, second, wrong_kind, unknown, not_constant, Refuses}
 use Rattle.vs_selects.specs.Meants.{Meant}
 use Rattle.vs_selects.specs.Constants.{where_none, constant_finding, natural_of, whole_of, positive}
-use Rattle.vs_selects.specs.Selects.{Select, stands_in, between, counted, select_span, span_of, Named, in_array, of_words, named, select_meant, operand_meant}
+use Rattle.vs_selects.specs.Selects.{Select, stands_in, between, counted, select_span, span_of, constant_span, in_array, of_words, named, select_meant}
 use Rattle.vs_selects.specs.passes.Measures.{IsMeasured, Measures}
 use Rattle.vs_selects.specs.passes.Places.{select_meaning, selects_meaning, IsFlexibleSelect}
 use Rattle.vs_widths.specs.Expressions.{meant, meant_select, meant_selects}
@@ -86,6 +87,20 @@ named_stands (Some Pending) ss r h = or_right (not_constant r) (list_any (stands
 named_stands (Some Other) ss r h = or_right (wrong_kind r) (list_any (stands_in r) ss) h
 named_stands (Some Genvar) ss r h = or_right (wrong_kind r) (list_any (stands_in r) ss) h
 
+excerpt_stands : (c : Const) (ss : List Select) (r : WidthReason) → list_any (stands_in r) ss ≡ true → stands r (constant_span c ss).finding ≡ true
+excerpt_stands c [] r h = cc
+excerpt_stands c (a ∷ []) r h = select_stands c.bits (length c.value) a r (or_none (stands_in r a) h)
+excerpt_stands c (a ∷ b ∷ ss) r h = or_right (wrong_kind r) (list_any (stands_in r) (a ∷ b ∷ ss)) h
+
+-- a fault of an expression of a select is one of the operand
+pub operand_stands : (o : Option Binding) (ss : List Select) (r : WidthReason) → list_any (stands_in r) ss ≡ true → stands r (select_meant o ss).finding ≡ true
+operand_stands None ss r h = named_stands None ss r h
+operand_stands (Some (Constant c)) ss r h = excerpt_stands c ss r h
+operand_stands (Some (Signal y signal)) ss r h = named_stands (Some (Signal y signal)) ss r h
+operand_stands (Some Pending) ss r h = named_stands (Some Pending) ss r h
+operand_stands (Some Other) ss r h = named_stands (Some Other) ss r h
+operand_stands (Some Genvar) ss r h = named_stands (Some Genvar) ss r h
+
 any_in : {A B : Type 0} (f : A → B) (q : B → Bool) (xs : List A) (i : ℕ) (a : A) → i < length xs → a ≡ get_or xs i a → q (f a) ≡ true → list_any q (map f xs) ≡ true
 any_in f q [] i a h k l = absurd (omega arith)
 any_in f q (y ∷ ys) zero a h k l =
@@ -114,18 +129,14 @@ module _ (env : Environment) where
   pub select_refused : (n : Vec ℕ Global) (ss : Vec (Expr × Option (PartSelect × Expr)) Global) (xs : List (Expr × Option (PartSelect × Expr))) (d : WidthFault) → xs ≡ ss.items →
       Refuses (Lacks (λ r. list_any (stands_in r) (meant_selects env xs))) d → Refuses (meant env (e.Select n ss)).finding d
   select_refused n ss xs d h k =
-      rw meant_Select (refused_by (Lacks (λ r. list_any (stands_in r) (meant_selects env ss.items))) (named (env n.items) (meant_selects env ss.items)).finding d
-      (named_stands (env n.items) (meant_selects env ss.items)) (subst (λ z. Refuses (Lacks (λ r. list_any (stands_in r) (meant_selects env z))) d) h k))
-
-  named_same : (n : Vec ℕ Global) (ss : Vec (Expr × Option (PartSelect × Expr)) Global) (o : Option Binding) (name : List ℕ) (xs : List (Expr × Option (PartSelect × Expr))) (ms : List (Measured × Option (PartSelect × Measured))) →
-      o ≡ env name → name ≡ n.items → xs ≡ ss.items → AreMeasured (meant_selects env xs) ms → named o (selects_meaning ms) ≡ named (env n.items) (meant_selects env ss.items)
-  named_same n ss o name xs ms h k l p = ap₂ named (h ∙ ap env k) (p.means ∙ ap (meant_selects env) l)
+      rw meant_Select (refused_by (Lacks (λ r. list_any (stands_in r) (meant_selects env ss.items))) (select_meant (env n.items) (meant_selects env ss.items)).finding d
+      (operand_stands (env n.items) (meant_selects env ss.items)) (subst (λ z. Refuses (Lacks (λ r. list_any (stands_in r) (meant_selects env z))) d) h k))
 
   -- the whole
   pub place_measures : (n : Vec ℕ Global) (ss : Vec (Expr × Option (PartSelect × Expr)) Global) (o : Option Binding) (name : List ℕ) (xs : List (Expr × Option (PartSelect × Expr))) (ms : List (Measured × Option (PartSelect × Measured))) (r : Result Measured WidthFault) →
       o ≡ env name → name ≡ n.items → xs ≡ ss.items → AreMeasured (meant_selects env xs) ms → Measures (select_meant o (selects_meaning ms)) r → Measures (meant env (e.Select n ss)) r
   place_measures n ss o name xs ms r h k l p q =
-      subst (λ z. Measures z r) (sym (meant_Select n ss)) (subst (λ (z : Named). Measures (operand_meant z) r) (named_same n ss o name xs ms h k l p) q)
+      subst (λ z. Measures z r) (ap₂ select_meant (h ∙ ap env k) (p.means ∙ ap (meant_selects env) l) ∙ sym (meant_Select n ss)) q
 
   -- ---- a loop over selects
 

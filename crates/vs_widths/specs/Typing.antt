@@ -16,7 +16,7 @@ use Rattle.vs_selects.specs.declared.constants.Const.{Const}
 use Rattle.vs_selects.specs.Environment.{Environment}
 use Rattle.vs_selects.specs.Findings.{Has, stands}
 use Rattle.vs_selects.specs.Meants.{Meant, own}
-use Rattle.vs_selects.specs.Constants.{constant_finding}
+use Rattle.vs_selects.specs.Constants.{constant_finding, plain_range}
 use Rattle.vs_widths.specs.Expressions.{meant}
 
 -- The expression of a design that means this at a size and a sign: no fault stands, and it has this size, this value in each store, and reads
@@ -35,6 +35,7 @@ IsTyped env e = IsTypedAs (meant env e)
 pub record IsConstant (env : Environment) (e : Expr) (c : Const) : Type 0 where
   pub found : constant_finding (meant env e) ≡ Has (length c.value) c.signed
   pub value : (store : Store) → own (meant env e) store 0 ≡ c.value
+  pub bits : c.bits ≡ plain_range (length c.value)
 
 -- The value that an expression of a source has in each store at a size and a sign, where it names no signal (clauses 5.4.1 and 5.5.2).
 pub record IsConstantAt (env : Environment) (e : Expr) (width : ℕ) (signed : Bool) (v : List Digit) : Type 0 where

@@ -63,10 +63,7 @@ pub fn constant(alloc: Global, names: &Levels, e: &Expr) -> Result<Const, WidthF
 {
     let x = measured(alloc, names, e)?;
     let value = known(alloc, &x.form, x.shape)?;
-    Ok(Const {
-        value,
-        signed: x.shape.signed,
-    })
+    Ok(Const::new(value, x.shape.signed, None))
 }
 
 /// The value that an expression has at a size and a sign, as on the right of an assignment, where it names no signal.

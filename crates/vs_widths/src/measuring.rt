@@ -7,7 +7,7 @@ ghost use Rattle.vs_selects.specs.declared.bindings.Binding.TheVariants.{Signal}
 ghost use Rattle.vs_selects.specs.declared.faults.WidthFault.TheVariants.{Memory};
 ghost use Rattle.std.specs.List.{All};
 ghost use Rattle.vs_selects.specs.Meants.{Meant};
-ghost use Rattle.vs_selects.specs.Selects.{select_meant};
+ghost use Rattle.vs_selects.specs.Selects.{named, operand_meant, constant_span, excerpt_meant, select_meant};
 ghost use Rattle.vs_selects.specs.passes.Measures.{meaning, IsFlexible, IsMeasured, Measures, IsClosedPart};
 ghost use Rattle.vs_selects.specs.passes.Places.{selects_meaning, IsFlexibleSelect};
 ghost use Rattle.vs_widths.specs.passes.Forms.{links_meant, pairs_meant, AddsPair, AddsPart, AreJoined, Joins, Repeats};
@@ -19,7 +19,10 @@ use std::alloc::{AllocError, Global};
 use vs_design::Count;
 use vs_forms::{BIT, Form, Measured, Shape};
 use vs_logic4::{Binary, Unary, Vec4};
-use vs_selects::{Binding, Meaning, WidthFault, WidthReason, count_of, named, operand};
+use vs_selects::{
+    Binding, Const, Meaning, WidthFault, WidthReason, bits_of_constant, count_of, excerpt, named,
+    operand,
+};
 use vs_syntax::{Expr, PartSelect};
 
 const TOO_WIDE: WidthFault = WidthFault::Refused(WidthReason::TooWide);
@@ -308,6 +311,32 @@ pub fn of_name(binding: Option<Binding>) -> Result<Measured, WidthFault>
     }
 }
 
+/// Bits of a signal.
+fn of_place(
+    alloc: Global,
+    binding: Option<Binding>,
+    selects: Vec<(Measured, Option<(PartSelect, Measured)>)>,
+) -> Result<Measured, WidthFault>
+    requires flexible { All IsFlexibleSelect selects.items }
+    ensures { Measures (operand_meant (named binding (selects_meaning selects.items))) result }
+{
+    let place = named(alloc, binding, selects)?;
+    Ok(operand(alloc, place)?)
+}
+
+/// Bits of a constant.
+fn of_constant(
+    alloc: Global,
+    constant: Const,
+    selects: Vec<(Measured, Option<(PartSelect, Measured)>)>,
+) -> Result<Measured, WidthFault>
+    requires flexible { All IsFlexibleSelect selects.items }
+    ensures { Measures (excerpt_meant constant.value (constant_span constant (selects_meaning selects.items))) result }
+{
+    let extent = bits_of_constant(alloc, constant, selects)?;
+    Ok(excerpt(alloc, constant.value, extent)?)
+}
+
 /// A name with selects, by what it is bound to.
 #[inline(never)]
 fn of_select(
@@ -318,8 +347,14 @@ fn of_select(
     requires flexible { All IsFlexibleSelect selects.items }
     ensures { Measures (select_meant binding (selects_meaning selects.items)) result }
 {
-    let place = named(alloc, binding, selects)?;
-    Ok(operand(alloc, place)?)
+    match binding {
+        None => of_place(alloc, binding, selects),
+        Some(Binding::Constant(constant)) => of_constant(alloc, constant, selects),
+        Some(Binding::Signal(_, _)) => of_place(alloc, binding, selects),
+        Some(Binding::Pending) => of_place(alloc, binding, selects),
+        Some(Binding::Genvar) => of_place(alloc, binding, selects),
+        Some(Binding::Other) => of_place(alloc, binding, selects),
+    }
 }
 
 /// An operator and its operand.

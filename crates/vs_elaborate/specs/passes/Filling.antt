@@ -1,6 +1,6 @@
 -- What is added to a design, a scope at a time.
 use Rattle.std.specs.Prelude.{◌≡◌, ℕ, ◌-◌, ◌++◌, ◌⊎◌, Bool, true, false, List, Some, length, map, take, slice_get}
-use Rattle.std.specs.List.{list_any, flat_map, AllZip, IsDistinct}
+use Rattle.std.specs.List.{list_any, flat_map, AllZip}
 use Rattle.vs_design.specs.declared.signal.Signal.{Signal}
 use Rattle.vs_design.specs.declared.design.Assign.{Assign}
 use Rattle.vs_design.specs.declared.design.Process.{Process}
@@ -13,14 +13,15 @@ use Rattle.vs_syntax.specs.declared.tree.Expr.{Expr}
 use Rattle.vs_pieces.specs.Reads.{read_piece}
 use Rattle.vs_scopes.specs.Ports.{ModulePort}
 use Rattle.vs_scopes.specs.Printed.{Path}
-use Rattle.vs_scopes.specs.Scopes.{Scope, environment, environment_at, is_wrong_end, has_wrong_end}
+use Rattle.vs_scopes.specs.Scopes.{Scope, environment, is_wrong_end, has_wrong_end}
 use Rattle.vs_scopes.specs.passes.Answers.{IsFaultAt, Told}
 use Rattle.vs_scopes.specs.passes.Names.{read_path}
 use Rattle.vs_scopes.specs.passes.Parts.{read_port, read_ends}
 use Rattle.vs_opened.specs.declared.opened.Opened.{Opened as FoundScope}
 use Rattle.vs_bodies.specs.declared.faults.StatementFault.{StatementFault}
-use Rattle.vs_bodies.specs.Members.{Assignment, PortDriver, Driver, of_text, Behavior, drivers_of, port_drivers_of, behaviors_of}
+use Rattle.vs_bodies.specs.Members.{Assignment, PortDriver, Driver, of_text, Behavior}
 use Rattle.vs_bodies.specs.Processes.{HasBehaviorFault}
+use Rattle.vs_bodies.specs.Surroundings.{Surroundings}
 use Rattle.vs_bodies.specs.passes.Views.{IsView, IsSite}
 use Rattle.vs_bodies.specs.passes.Bodies.{BodyFails}
 use Rattle.vs_elaborate.specs.declared.contents.Contents.{Contents}
@@ -32,20 +33,20 @@ use Rattle.vs_elaborate.specs.passes.Marks.{SharesBit}
 
 -- ---- frames
 
--- a frame of a scope among these
-pub record IsFrame (f : Frame) (ss : List Scope) (s : Scope) : Type 0 where
+-- a frame of a scope, with these surroundings in the scope of each path
+pub record IsFrame (f : Frame) (envs : Path → Surroundings) (s : Scope) : Type 0 where
   pub path : read_path f.path.items ≡ s.path
-  pub view : IsView f.view (environment_at ss) s.path
-  pub names : environment_at ss s.path ≡ environment s
+  pub view : IsView f.view envs s.path
+  pub names : (envs s.path).names ≡ environment s
   pub around : take (length s.path - 1) s.path ≡ s.around
 
 -- a fault of this reason under the path of the scope that has this place in a list
-abbrev pub IsFaultIn : List Scope → List FoundScope → ℕ → Reason → ElabFault → Type 0
-IsFaultIn ss list place r e = (at : Path) → IsSite list (environment_at ss) place at → IsFaultAt r at e
+abbrev pub IsFaultIn : (Path → Surroundings) → List FoundScope → ℕ → Reason → ElabFault → Type 0
+IsFaultIn envs list place r e = (at : Path) → IsSite list envs place at → IsFaultAt r at e
 
 -- a fault of a process of a scope stands where it is told
-abbrev pub RunFails : List Scope → Frame → Scope → Behavior → StatementFault → ElabFault → Type 0
-RunFails ss f s b fault e = BodyFails f.view.list.now (environment_at ss) s.path b fault → Told (λ r at. HasBehaviorFault (environment_at ss) r at s.path b) e
+abbrev pub RunFails : (Path → Surroundings) → Frame → Scope → Behavior → StatementFault → ElabFault → Type 0
+RunFails envs f s b fault e = BodyFails f.view.list.now envs s.path b fault → Told (λ r at. HasBehaviorFault envs r at s.path b) e
 
 -- ---- parts of a scope
 
@@ -94,24 +95,24 @@ abbrev pub DrivesNot : Scope → Contents → List Assignment → Reason → Pat
 DrivesNot s start = AddsNot (text_faults s) s.path
 
 -- one of these processes of a scope has the fault, by the path of the innermost scope where it stands
-pub record HasRunFault (ss : List Scope) (s : Scope) (xs : List Behavior) (r : Reason) (p : Path) : Type 0 where
+pub record HasRunFault (envs : Path → Surroundings) (s : Scope) (xs : List Behavior) (r : Reason) (p : Path) : Type 0 where
   pub place : ℕ
   pub behavior : Behavior
   pub stands : slice_get xs place ≡ Some behavior
-  pub fault : HasBehaviorFault (environment_at ss) r p s.path behavior
+  pub fault : HasBehaviorFault envs r p s.path behavior
 
 -- none of them has one
-abbrev pub RunSoundly : List Scope → Scope → List Behavior → Type 0
-RunSoundly ss s xs = (r : Reason) (p : Path) → HasRunFault ss s xs r p → ⊥
+abbrev pub RunSoundly : (Path → Surroundings) → Scope → List Behavior → Type 0
+RunSoundly envs s xs = (r : Reason) (p : Path) → HasRunFault envs s xs r p → ⊥
 
 -- processes of a scope that were added, from a start on
-pub record Runs (ss : List Scope) (s : Scope) (first : ℕ) (contents start : Contents) (done : List Behavior) : Type 0 where
-  pub adds : Adds (RunSoundly ss s) (IsProcess ss) (parts_from 112 s 0) first contents.processes.items start.processes.items done
+pub record Runs (envs : Path → Surroundings) (s : Scope) (first : ℕ) (contents start : Contents) (done : List Behavior) : Type 0 where
+  pub adds : Adds (RunSoundly envs s) (IsProcess envs) (parts_from 112 s 0) first contents.processes.items start.processes.items done
   pub assigns : contents.assigns.items ≡ start.assigns.items
 
 -- why they weren't: one has a fault
-abbrev pub RunsNot : List Scope → Scope → Contents → List Behavior → Reason → Path → Type 0
-RunsNot ss s start = HasRunFault ss s
+abbrev pub RunsNot : (Path → Surroundings) → Scope → Contents → List Behavior → Reason → Path → Type 0
+RunsNot envs s start = HasRunFault envs s
 
 -- ---- scopes
 
@@ -122,31 +123,31 @@ pub record HasMembers (o : FoundScope) (s : Scope) : Type 0 where
   pub pieces : map read_piece o.pieces.items ≡ s.pieces
 
 -- a fault of the continuous assignments and the processes of a scope
-abbrev pub FillsNot : List Scope → Scope → Reason → Path → Type 0
-FillsNot ss s r p = HasPortFault s r p ⊎ HasFault ss s r p
+abbrev pub FillsNot : (Path → Surroundings) → Scope → Reason → Path → Type 0
+FillsNot envs s r p = HasPortFault s r p ⊎ HasFault envs s r p
 
 -- the continuous assignments and processes of a scope that were added: they have no faults
-pub record FillsScope (ss : List Scope) (s : Scope) (old new : Contents) : Type 0 where
-  pub sound : (r : Reason) (p : Path) → FillsNot ss s r p → ⊥
+pub record FillsScope (envs : Path → Surroundings) (s : Scope) (old new : Contents) : Type 0 where
+  pub sound : (r : Reason) (p : Path) → FillsNot envs s r p → ⊥
   pub assigns_added : List Assign
   pub assigns : new.assigns.items ≡ old.assigns.items ++ assigns_added
   pub drivers_mean : AllZip IsAssign assigns_added (assigns_of s)
   pub processes_added : List Process
   pub processes : new.processes.items ≡ old.processes.items ++ processes_added
-  pub behaviors_mean : AllZip (IsProcess ss) processes_added (processes_of s)
+  pub behaviors_mean : AllZip (IsProcess envs) processes_added (processes_of s)
 
 -- the continuous assignments and processes of scopes: they have no faults
-pub record Fills (ss more : List Scope) (contents : Contents) : Type 0 where
-  pub sound : (k : ℕ) (s : Scope) → slice_get more k ≡ Some s → (r : Reason) (p : Path) → FillsNot ss s r p → ⊥
+pub record Fills (envs : Path → Surroundings) (more : List Scope) (contents : Contents) : Type 0 where
+  pub sound : (k : ℕ) (s : Scope) → slice_get more k ≡ Some s → (r : Reason) (p : Path) → FillsNot envs s r p → ⊥
   pub drivers : AllZip IsAssign contents.assigns.items (flat_map assigns_of more)
-  pub behaviors : AllZip (IsProcess ss) contents.processes.items (flat_map processes_of more)
+  pub behaviors : AllZip (IsProcess envs) contents.processes.items (flat_map processes_of more)
 
 -- a fault of one of these scopes
-pub record FillsOneNot (ss more : List Scope) (r : Reason) (p : Path) : Type 0 where
+pub record FillsOneNot (envs : Path → Surroundings) (more : List Scope) (r : Reason) (p : Path) : Type 0 where
   pub place : ℕ
   pub scope : Scope
   pub stands : slice_get more place ≡ Some scope
-  pub fault : FillsNot ss scope r p
+  pub fault : FillsNot envs scope r p
 
 -- an output is connected to a left side
 abbrev pub IsLeftEnd : ModulePort → Expr → Type 0

@@ -8,6 +8,7 @@ use Rattle.vs_design.specs.declared.expression.Slice.{Slice}
 use Rattle.vs_design.specs.declared.signal.Bounds.{Bounds}
 use Rattle.vs_design.specs.Selects.{place_of, word_place}
 use Rattle.vs_design.specs.Stores.{Store}
+use Rattle.vs_forms.specs.declared.shape.Shape.{Shape}
 use Rattle.vs_forms.specs.declared.forms.Form.{Form}
 use Rattle.vs_forms.specs.declared.forms.Measured.{Measured}
 use Rattle.vs_forms.specs.Senses.{sense}
@@ -16,7 +17,7 @@ use Rattle.vs_selects.specs.declared.places.Extent.{Extent}
 use Rattle.vs_selects.specs.declared.places.Place.{Place}
 use Rattle.vs_selects.specs.Findings.{Has, Refuses}
 use Rattle.vs_selects.specs.Meants.{own}
-use Rattle.vs_selects.specs.Selects.{Select, Span, Named, ascends, size_found, named_range, named_value}
+use Rattle.vs_selects.specs.Selects.{Select, Span, Named, ascends, size_found, named_range, named_value, span_value}
 use Rattle.vs_selects.specs.passes.Measures.{meaning, IsFlexible}
 
 -- what a measured select means
@@ -103,3 +104,9 @@ pub record IsChosen (n : Named) (y : Form) : Type 0 where
   pub size : (width : ℕ) → (sense y).size width ≡ Some (size_found n.finding)
   pub ranges : (sense y).reads ≡ named_range n ∷ n.reads
   pub value : (store : Store) (time width : ℕ) (signed : Bool) → (sense y).at store time width signed ≡ named_value n store time
+
+-- chosen bits of digits, before they are brought to a context
+pub record IsExcerpt (digits : List Digit) (s : Span) (shape : Shape) (y : Form) : Type 0 where
+  pub size : (sense y).size shape.width ≡ Some shape.width
+  pub ranges : (sense y).reads ≡ s.reads
+  pub value : (store : Store) (time : ℕ) → (sense y).at store time shape.width shape.signed ≡ span_value digits s store time

@@ -9,7 +9,7 @@ use Rattle.vs_selects.specs.Environment.{Environment}
 use Rattle.vs_selects.specs.Findings.{stands}
 use Rattle.vs_selects.specs.Meants.{Meant}
 use Rattle.vs_selects.specs.Selects.{size_found}
-use Rattle.vs_selects.specs.Constants.{constant_finding}
+use Rattle.vs_selects.specs.Constants.{constant_finding, constant_in}
 use Rattle.vs_widths.specs.Names.{meaning_of, by_bytes}
 use Rattle.vs_scopes.specs.Parameters.{parameters_among, Given, the_size, Takes, takes_fault, constant_by, sign_found, is_override_mismatch, given_to, constant_given, own_fault, outer_fault, own_faults, outer_faults, constants_of, known_behind}
 use Rattle.vs_scopes.specs.Declarations.{Bindings, early_names}
@@ -23,10 +23,8 @@ use Rattle.vs_values.specs.declared.evaluating.Taking.TheVariants.{TheSize, Shap
 -- the constant that an expression gives a parameter, by what the parameter takes of it
 abbrev pub constant_as : Taking → Meant → Const
 constant_as (TheSize signed) m = constant_by (the_size signed) m
-constant_as (Shaped s) m = record {
-  value = take s.width (m.at [] 0 (max s.width (size_found m.finding)) (sign_found m.finding));
-  signed = s.signed;
-}
+constant_as (Shaped s) m =
+    constant_in s.bounds s.shape.signed (take s.shape.width (m.at [] 0 (max s.shape.width (size_found m.finding)) (sign_found m.finding)))
 
 -- what a parameter takes, which has no fault
 pub record IsTaking (t : Takes) (x : Taking) : Type 0 where

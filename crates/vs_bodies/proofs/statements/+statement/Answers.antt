@@ -4,9 +4,9 @@ use Rattle.vs_pieces.specs.Pieces.{NamedBlock}
 use Rattle.vs_syntax.specs.declared.tree.Stmt.{size-Stmt}
 use Rattle.vs_syntax.specs.declared.tree.Stmt.TheVariants as s
 use Rattle.vs_scopes.specs.Printed.{plainly}
-use Rattle.vs_bodies.proofs.BlockLemmas.{got, placed_inside, site_inside, names_at, inside_free, inside_fails, below_deeper}
+use Rattle.vs_bodies.proofs.BlockLemmas.{got, placed_inside, site_inside, ratio_inside, names_at, inside_free, inside_fails, below_deeper}
 use Rattle.vs_bodies.proofs.DepthLemmas.{items_depth, items_falls}
-use Rattle.vs_bodies.proofs.StatementLemmas.{assign_refused, begin_refused, behind_overfull, behind_refused, block_refused, case_overfull, case_refused_by, delay_inner, delay_refused, else_refused, event_inner, event_refused, forever_inner, if_refused, item_refused, items_refused, label_refused, later_refused, listed_all, listed_more, listed_none, named_refused, null_refused, otherwise_none, otherwise_some, repeat_inner, repeat_refused, stated_all, stated_more, stated_none, statement_refused, states_Assign, states_Block, states_Case, states_Delay, states_Event, states_For, states_Forever, states_If, states_Later, states_Named, states_Null, states_Repeat, states_While, states_behind, step_refused, test_refused, then_refused, turn_refused, while_inner, while_refused}
+use Rattle.vs_bodies.proofs.StatementLemmas.{assign_refused, begin_refused, behind_overfull, behind_refused, block_refused, case_overfull, case_refused_by, delay_inner, delay_refused, dump_refused, else_refused, event_inner, event_refused, finish_refused, forever_inner, if_refused, item_refused, items_refused, label_refused, listed_all, listed_more, listed_none, named_refused, null_refused, otherwise_none, otherwise_some, repeat_inner, repeat_refused, stated_all, stated_more, stated_none, statement_refused, states_Assign, states_Block, states_Case, states_Delay, states_Dump, states_Event, states_Finish, states_For, states_Forever, states_If, states_Named, states_Null, states_Repeat, states_While, states_behind, step_refused, test_refused, then_refused, turn_refused, while_inner, while_refused}
 use Rattle.vs_bodies.proofs.statements.+statement.Goals as goal
 
 pub statement-returns-in_ok-number-in-Null-clause-answer : goal.statement-returns-in_ok-number-in-Null-clause-answer
@@ -27,14 +27,29 @@ statement-returns-in_err-number-in-Assign-clause-answer t c envs p v =
     let q = err_from_is_err_and c.from_residual-in_err-number-in-Assign.result c.from_residual-in_err-number-in-Assign.ensures.1 in
     rw (q.1, q.2, c.in-Assign.is) (assign_refused c.args.view.now.list.now envs p c.args.next.now c.in-Assign.left c.in-Assign.e c.in_err-number-in-Assign.field-0.0 (c.in_err-number-in-Assign.ensures.answer envs p v))
 
-pub statement-returns-in_ok-number-in-Later-clause-answer : goal.statement-returns-in_ok-number-in-Later-clause-answer
-statement-returns-in_ok-number-in-Later-clause-answer t c envs p v =
-    rw c.in-Later.is (states_Later c.args.view.now.list.now envs p c.args.next.now c.in_ok-number-in-Later.number _ c.in-Later.left c.in-Later.e c.in_ok-number-in-Later.target c.in_ok-number-in-Later.source (c.in_ok-number-in-Later.ensures.answer envs p v))
+pub statement-returns-in-Later-clause-answer : goal.statement-returns-in-Later-clause-answer
+statement-returns-in-Later-clause-answer t c envs p v = rw c.in-Later.is (c.later.ensures.answer envs p v)
 
-pub statement-returns-in_err-number-in-Later-clause-answer : goal.statement-returns-in_err-number-in-Later-clause-answer
-statement-returns-in_err-number-in-Later-clause-answer t c envs p v =
-    let q = err_from_is_err_and c.from_residual-in_err-number-in-Later.result c.from_residual-in_err-number-in-Later.ensures.1 in
-    rw (q.1, q.2, c.in-Later.is) (later_refused c.args.view.now.list.now envs p c.args.next.now c.in-Later.left c.in-Later.e c.in_err-number-in-Later.field-0.0 (c.in_err-number-in-Later.ensures.answer envs p v))
+pub statement-returns-in-Print-clause-answer : goal.statement-returns-in-Print-clause-answer
+statement-returns-in-Print-clause-answer t c envs p v = rw c.in-Print.is (c.print.ensures.answer envs p v)
+
+pub statement-returns-in_ok-number-in-Finish-clause-answer : goal.statement-returns-in_ok-number-in-Finish-clause-answer
+statement-returns-in_ok-number-in-Finish-clause-answer t c envs p v =
+    rw c.in-Finish.is (states_Finish c.args.view.now.list.now envs p c.args.next.now c.in_ok-number-in-Finish.number _ c.in-Finish.field-0 c.in_ok-number-in-Finish.ensures)
+
+pub statement-returns-in_err-number-in-Finish-clause-answer : goal.statement-returns-in_err-number-in-Finish-clause-answer
+statement-returns-in_err-number-in-Finish-clause-answer t c envs p v =
+    let q = err_from_is_err_and c.from_residual-in_err-number-in-Finish.result c.from_residual-in_err-number-in-Finish.ensures.1 in
+    rw (q.1, q.2, c.in-Finish.is) (finish_refused c.args.view.now.list.now envs p c.args.next.now c.in-Finish.field-0 c.in_err-number-in-Finish.field-0.0 c.in_err-number-in-Finish.ensures)
+
+pub statement-returns-in_ok-number-in-Dump-clause-answer : goal.statement-returns-in_ok-number-in-Dump-clause-answer
+statement-returns-in_ok-number-in-Dump-clause-answer t c envs p v =
+    rw c.in-Dump.is (states_Dump c.args.view.now.list.now envs p c.args.next.now c.in_ok-number-in-Dump.number _ c.in-Dump.field-0 c.in-Dump.field-1 c.in_ok-number-in-Dump.ensures)
+
+pub statement-returns-in_err-number-in-Dump-clause-answer : goal.statement-returns-in_err-number-in-Dump-clause-answer
+statement-returns-in_err-number-in-Dump-clause-answer t c envs p v =
+    let q = err_from_is_err_and c.from_residual-in_err-number-in-Dump.result c.from_residual-in_err-number-in-Dump.ensures.1 in
+    rw (q.1, q.2, c.in-Dump.is) (dump_refused c.args.view.now.list.now envs p c.args.next.now c.in-Dump.field-0 c.in-Dump.field-1 c.in_err-number-in-Dump.field-0.0 c.in_err-number-in-Dump.ensures)
 
 pub statement-returns-in_ok-inner-in-Block-clause-answer : goal.statement-returns-in_ok-inner-in-Block-clause-answer
 statement-returns-in_ok-inner-in-Block-clause-answer t c envs p v =
@@ -118,11 +133,11 @@ statement-returns-in_err-number-in-Delay-clause-answer t c envs p v =
 pub statement-returns-in_err-ticks-in-Delay-clause-answer : goal.statement-returns-in_err-ticks-in-Delay-clause-answer
 statement-returns-in_err-ticks-in-Delay-clause-answer t c envs p v =
     let q = err_from_is_err_and c.from_residual-in_err-ticks-in-Delay.result c.from_residual-in_err-ticks-in-Delay.ensures.1 in
-    rw (q.1, q.2, c.in-Delay.is) (delay_refused c.args.view.now.list.now envs p c.args.next.now c.in-Delay.x c.in-Delay.value c.in_err-ticks-in-Delay.field-0.0 (rw v.names at c.in_err-ticks-in-Delay.ensures))
+    rw (q.1, q.2, c.in-Delay.is) (delay_refused c.args.view.now.list.now envs p c.args.next.now c.in-Delay.x c.in-Delay.value c.in_err-ticks-in-Delay.field-0.0 (rw (v.names, v.ratio) at c.in_err-ticks-in-Delay.ensures))
 
 pub statement-returns-in_ok-new-in-Delay-clause-answer : goal.statement-returns-in_ok-new-in-Delay-clause-answer
 statement-returns-in_ok-new-in-Delay-clause-answer t c envs p v =
-    rw c.in-Delay.is (states_Delay c.args.view.now.list.now envs p c.args.next.now c.in_ok-number-in-Delay.number _ c.in-Delay.x c.in_ok-new-in-Delay.field-0 _ c.in_ok-number-in-Delay.body (c.in_ok-number-in-Delay.ensures.answer envs p v) c.deref-in-Delay.ensures c.in_ok-new-in-Delay.ensures.ok c.in-Delay.value c.in_ok-ticks-in-Delay.ticks (rw v.names at c.in_ok-ticks-in-Delay.ensures))
+    rw c.in-Delay.is (states_Delay c.args.view.now.list.now envs p c.args.next.now c.in_ok-number-in-Delay.number _ c.in-Delay.x c.in_ok-new-in-Delay.field-0 _ c.in_ok-number-in-Delay.body (c.in_ok-number-in-Delay.ensures.answer envs p v) c.deref-in-Delay.ensures c.in_ok-new-in-Delay.ensures.ok c.in-Delay.value c.in_ok-ticks-in-Delay.ticks (rw (v.names, v.ratio) at c.in_ok-ticks-in-Delay.ensures))
 
 pub statement-returns-in_err-number-in-Event-clause-answer : goal.statement-returns-in_err-number-in-Event-clause-answer
 statement-returns-in_err-number-in-Event-clause-answer t c envs p v =
@@ -260,8 +275,9 @@ block-returns-in-Ok-clause-answer t c envs p locals v =
     let site = site_inside list envs here p outer c.args.name.now place v.site at found in
     let there = got list place inner placed.within c.index-list-place.is in
     let names = names_at list envs place path inner _ _ site there (rw c.deref.ensures.value at c.new-names.ensures) c.in_ok-around.ensures in
+    let ratio = ratio_inside list envs here p outer c.args.name.now place c.args.view.now.ratio.ticks v.site at found v.ratio in
     let x : NamedBlock = record { name = c.args.name.now; locals = locals; statements = c.args.all.now } in
-    let q = c.in-Ok.ensures.answer envs path (record { site = site; names = names }) in
+    let q = c.in-Ok.ensures.answer envs path (record { site = site; names = names; ratio = ratio }) in
     (inside_free envs p c.args.next.now x q.0, q.1)
 
 pub block-returns-clause-answer : goal.block-returns-clause-answer
@@ -278,8 +294,9 @@ block-returns-clause-answer t c envs p locals v =
     let site = site_inside list envs here p outer c.args.name.now place v.site at found in
     let there = got list place inner placed.within c.index-list-place.is in
     let names = names_at list envs place path inner _ _ site there (rw c.deref.ensures.value at c.new-names.ensures) c.in_ok-around.ensures in
+    let ratio = ratio_inside list envs here p outer c.args.name.now place c.args.view.now.ratio.ticks v.site at found v.ratio in
     let x : NamedBlock = record { name = c.args.name.now; locals = locals; statements = c.args.all.now } in
-    let q = c.in-Err.ensures.answer envs path (record { site = site; names = names }) in
+    let q = c.in-Err.ensures.answer envs path (record { site = site; names = names; ratio = ratio }) in
     rw c.deeper.ensures (inside_fails list envs p c.args.next.now place x c.in-Err.fault site q)
 
 pub block-returns-clause-below : goal.block-returns-clause-below

@@ -1,6 +1,8 @@
-use Rattle.std.proofs.Common.{◌≡◌, List, map}
+use Rattle.std.proofs.Common.{◌≡◌, map}
 use Rattle.vs_widths.specs.Names.{meaning_of}
+use Rattle.vs_scopes.specs.Printed.{Path}
 use Rattle.vs_scopes.specs.Scopes.{Scope}
+use Rattle.vs_bodies.specs.Surroundings.{Surroundings}
 use Rattle.vs_scopes.specs.passes.Parts.{read_port, read_end}
 use Rattle.vs_elaborate.specs.passes.Filling.{IsFrame, Connects}
 use Rattle.vs_bodies.specs.Members.{port_drivers}
@@ -8,5 +10,5 @@ use Rattle.vs_elaborate.proofs.PortLemmas.{KeptTo}
 use Rattle.vs_elaborate.proofs.connecting.drive_ports.Given as goal
 
 abbrev pub invariant-loop-place : goal.invariant-loop-place
-invariant-loop-place l = (ss : List Scope) (s : Scope) → IsFrame l.frame ss s → meaning_of l.outer ≡ s.outer →
+invariant-loop-place l = (envs : Path → Surroundings) (s : Scope) → IsFrame l.frame envs s → meaning_of l.outer ≡ s.outer →
     KeptTo read_port read_end (port_drivers (map read_port l.ports) (map read_end l.ends)) l.ports l.ends (Connects s l.fn.contents) (Connects s l.contents) l.place

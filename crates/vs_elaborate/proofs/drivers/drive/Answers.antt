@@ -5,9 +5,9 @@ use Rattle.vs_elaborate.proofs.FillingLemmas.{drives_push, any_last}
 use Rattle.vs_elaborate.proofs.drivers.drive.Goals as goal
 
 pub returns-in_ok-push-in-Ok : goal.returns-in_ok-push-in-Ok
-returns-in_ok-push-in-Ok c ss s a f e start done r =
+returns-in_ok-push-in-Ok c envs s a f e start done r =
     drives_push s c.args.first c.saturating_sub-number.result c.args.contents.now _ start done a _ c.in_ok-push-in-Ok.ensures.items refl (omega (arith, c.saturating_sub-number.ensures, c.len.ensures, c.args.contents.now.assigns.ok.0)) (rw (c.deref.ensures.value, f.path) at c.in_ok-name-in-Ok.ensures) (rw c.in-Ok.is at e) r
 
 pub returns-in-Err : goal.returns-in-Err
-returns-in-Err c ss s a f e start done r =
+returns-in-Err c envs s a f e start done r =
     told_part (DrivesNot s start (done ++ a ∷ [])) (λ r. text_faults s r a) s.path c.in-Err.fault c.part_fault.result (λ r u. (any_last (text_faults s r) done a u, refl)) (rw c.in-Err.is at e) (rw f.path at c.part_fault.ensures)

@@ -1,9 +1,11 @@
-use Rattle.std.proofs.Common.{List, map, take}
+use Rattle.std.proofs.Common.{map, take}
 use Rattle.vs_bodies.specs.Members.{net_assignment}
+use Rattle.vs_scopes.specs.Printed.{Path}
 use Rattle.vs_scopes.specs.Scopes.{Scope}
+use Rattle.vs_bodies.specs.Surroundings.{Surroundings}
 use Rattle.vs_scopes.proofs.AnswerLemmas.{Kept}
 use Rattle.vs_elaborate.specs.passes.Filling.{IsFrame, Drives}
 use Rattle.vs_elaborate.proofs.drivers.drive_assigned.Given as goal
 
 abbrev pub invariant-loop-one : goal.invariant-loop-one
-invariant-loop-one l = (ss : List Scope) (s : Scope) → IsFrame l.frame ss s → Kept (Drives s l.first l.fn.contents) (Drives s l.first l.contents) (map net_assignment (take l.one-index l.list))
+invariant-loop-one l = (envs : Path → Surroundings) (s : Scope) → IsFrame l.frame envs s → Kept (Drives s l.first l.fn.contents) (Drives s l.first l.contents) (map net_assignment (take l.one-index l.list))

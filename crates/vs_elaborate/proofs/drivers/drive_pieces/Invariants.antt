@@ -1,11 +1,13 @@
-use Rattle.std.proofs.Common.{List, take}
+use Rattle.std.proofs.Common.{take}
 use Rattle.std.specs.List.{flat_map}
 use Rattle.vs_pieces.specs.Reads.{read_piece}
 use Rattle.vs_bodies.specs.Members.{drivers_in}
+use Rattle.vs_scopes.specs.Printed.{Path}
 use Rattle.vs_scopes.specs.Scopes.{Scope}
+use Rattle.vs_bodies.specs.Surroundings.{Surroundings}
 use Rattle.vs_scopes.proofs.AnswerLemmas.{Kept}
 use Rattle.vs_elaborate.specs.passes.Filling.{IsFrame, Drives}
 use Rattle.vs_elaborate.proofs.drivers.drive_pieces.Given as goal
 
 abbrev pub invariant-loop-piece : goal.invariant-loop-piece
-invariant-loop-piece l = (ss : List Scope) (s : Scope) → IsFrame l.frame ss s → Kept (Drives s l.first l.fn.contents) (Drives s l.first l.contents) (flat_map (λ x. drivers_in (read_piece x)) (take l.piece-index l.pieces))
+invariant-loop-piece l = (envs : Path → Surroundings) (s : Scope) → IsFrame l.frame envs s → Kept (Drives s l.first l.fn.contents) (Drives s l.first l.contents) (flat_map (λ x. drivers_in (read_piece x)) (take l.piece-index l.pieces))

@@ -1,6 +1,7 @@
 use Rattle.std.proofs.Common.{◌≡◌, ℕ, List, sym, subst, refl}
 use Rattle.vs_widths.specs.Names.{meaning_of, nested_names}
-use Rattle.vs_scopes.specs.Scopes.{environment_at, seen_from}
+use Rattle.vs_scopes.specs.Scopes.{seen_from}
+use Rattle.vs_bodies.specs.Surroundings.{surroundings_at}
 use Rattle.vs_bodies.specs.passes.Views.{IsSite}
 use Rattle.vs_bodies.proofs.BlockLemmas.{got, outward_within, zip_at, site_names}
 use Rattle.vs_opened.specs.Opened.{IsOpened}
@@ -21,13 +22,14 @@ returns c ss s h e outer =
     let o = c.index-list-place.result in
     let at = got list c.args.place o c.requires.placed.within c.index-list-place.is in
     let opened : IsOpened ss o s = zip_at (IsOpened ss) list ss c.args.place o s h.opened.each at e in
-    let site : IsSite list (environment_at ss) c.args.place s.path = record { scopes = ss; sites = h; scope = s; stands = e; path = refl } in
+    let envs = surroundings_at c.args.ratio.ticks ss in
+    let site : IsSite list envs c.args.place s.path = record { scopes = ss; sites = h; scope = s; stands = e; path = refl } in
     let seen = c.in_ok-around.ensures ss s h.opened opened.entered.around opened.entered.kind in
     let around = subst (λ z. (n : List ℕ) → meaning_of (nested_names z) n ≡ seen_from s.kind s.outer n) (sym c.deref.ensures.value) seen in
-    c.fill_frame.ensures ss s
+    c.fill_frame.ensures envs s
     (record {
       path = c.in_ok-path.ensures.path ss s h.opened e;
-      view = record { site = site; names = site_names list (environment_at ss) c.args.place s.path o _ _ site at c.new-names.ensures around };
+      view = record { site = site; names = site_names list envs c.args.place s.path o _ _ site at c.new-names.ensures around; ratio = refl };
       names = h.names c.args.place s e;
       around = path_around ss o.around s opened.entered.around;
     })

@@ -5,4 +5,4 @@ use Rattle.vs_elaborate.proofs.FillingLemmas.{runs_still}
 use Rattle.vs_elaborate.proofs.processes.run_port.Goals as goal
 
 pub returns-in-None : goal.returns-in-None
-returns-in-None c ss s f start done h = runs_still ss s c.args.first c.args.contents.now start done _ (ap (λ z. setting c.args.port.now.name.now (read_end z)) c.in-None.is) h
+returns-in-None c envs s f start done h = runs_still envs s c.args.first c.args.contents.now start done _ (ap (λ z. setting c.args.port.now.name.now (read_end z)) c.in-None.is) h

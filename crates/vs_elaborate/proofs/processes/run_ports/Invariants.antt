@@ -1,11 +1,13 @@
-use Rattle.std.proofs.Common.{List, take}
+use Rattle.std.proofs.Common.{take}
 use Rattle.std.specs.List.{flat_map}
 use Rattle.vs_scopes.specs.passes.Parts.{read_port}
 use Rattle.vs_bodies.specs.Members.{port_setting}
+use Rattle.vs_scopes.specs.Printed.{Path}
 use Rattle.vs_scopes.specs.Scopes.{Scope}
+use Rattle.vs_bodies.specs.Surroundings.{Surroundings}
 use Rattle.vs_scopes.proofs.AnswerLemmas.{Kept}
 use Rattle.vs_elaborate.specs.passes.Filling.{IsFrame, Runs}
 use Rattle.vs_elaborate.proofs.processes.run_ports.Given as goal
 
 abbrev pub invariant-loop-port : goal.invariant-loop-port
-invariant-loop-port l = (ss : List Scope) (s : Scope) → IsFrame l.frame ss s → Kept (Runs ss s l.first l.fn.contents) (Runs ss s l.first l.contents) (flat_map (λ x. port_setting (read_port x)) (take l.port-index l.ports))
+invariant-loop-port l = (envs : Path → Surroundings) (s : Scope) → IsFrame l.frame envs s → Kept (Runs envs s l.first l.fn.contents) (Runs envs s l.first l.contents) (flat_map (λ x. port_setting (read_port x)) (take l.port-index l.ports))

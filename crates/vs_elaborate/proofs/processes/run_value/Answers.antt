@@ -1,8 +1,7 @@
 use Rattle.std.proofs.Common.{refl}
-use Rattle.vs_scopes.specs.Scopes.{environment_at}
 use Rattle.vs_bodies.specs.Members.{named_signal, sets}
 use Rattle.vs_elaborate.proofs.processes.run_value.Goals as goal
 
 pub returns : goal.returns
-returns c ss s f =
-    c.run.ensures ss s (sets (record { target = named_signal c.args.name.now; value = c.args.value.now })) f refl (c.set_body-body.ensures.answer (environment_at ss) s.path f.view)
+returns c envs s f =
+    c.run.ensures envs s (sets (record { target = named_signal c.args.name.now; value = c.args.value.now })) f refl (c.set_body-body.ensures.answer envs s.path f.view)

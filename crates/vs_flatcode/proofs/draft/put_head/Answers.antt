@@ -1,4 +1,4 @@
-use Rattle.std.proofs.Common.{ap, ◌∙◌, ◌∷◌, [], length, arith, refl, slice_get, List}
+use Rattle.std.proofs.Common.{ap, ◌∙◌, ◌∷◌, [], length, arith, refl, slice_get, List, None}
 use Rattle.std.proofs.lemmas.List.{length-append}
 use Rattle.vs_flatcode.specs.declared.draft.Op.{Op}
 use Rattle.vs_flatcode.proofs.Lists.{at_seam}
@@ -7,7 +7,7 @@ use Rattle.vs_flatcode.proofs.draft.put_head.Goals as goal
 
 pub returns : goal.returns
 returns c =
-    let op : Op = record { task = c.args.task; behind = c.args.next; first = c.args.next; second = c.args.next; starts = c.new.result; counter = c.args.depth } in
+    let op : Op = record { task = c.args.task; behind = c.args.next; first = c.args.next; second = c.args.next; starts = c.new.result; counter = c.args.depth; format = None } in
     record {
       more = longer_put c.args.draft.now c.put.new.draft op c.requires.ready.linked c.in_ok-place.ensures.ops (omega (arith, c.in_ok-place.ensures.counters)) c.requires.ready.within;
       counters = c.in_ok-place.ensures.counters;

@@ -6,5 +6,5 @@ use Rattle.vs_generate.proofs.genvars.assigned.Goals as goal
 
 pub returns-clause-ok : goal.returns-clause-ok
 returns-clause-ok c =
-    is_assigned (meant (meaning_of c.args.names.now) c.args.e.now) (meaning_of c.args.names.now) c.args.e.now c.in_ok-found.found.width c.max-width.result c.in_ok-found.found.signed c.in_ok-value.value c.resize.result refl
-    c.in_ok-value.ensures.constant.sound c.in_ok-found.ensures.shape (omega (arith, c.max-width.ensures)) (c.in_ok-value.ensures.constant.value []) c.in_ok-value.ensures.constant.length_is c.resize.ensures
+    rw c.new.ensures (is_assigned (meant (meaning_of c.args.names.now) c.args.e.now) (meaning_of c.args.names.now) c.args.e.now c.in_ok-found.found.width c.max-width.result c.in_ok-found.found.signed c.in_ok-value.value c.resize.result refl
+    c.in_ok-value.ensures.constant.sound c.in_ok-found.ensures.shape (omega (arith, c.max-width.ensures)) (c.in_ok-value.ensures.constant.value []) c.in_ok-value.ensures.constant.length_is c.resize.ensures)

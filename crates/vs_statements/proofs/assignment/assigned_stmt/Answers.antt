@@ -1,11 +1,12 @@
 use Rattle.std.proofs.Common.{◌≤◌, ◌-◌}
 use Rattle.std.proofs.lemmas.Result.{err_from_is_err_and}
 use Rattle.vs_tokens.specs.declared.token.Mark.TheVariants as m
-use Rattle.vs_syntax.specs.Grammar.{part, mark, ◌or◌, a_stmt, a_target, an_expr}
+use Rattle.vs_syntax.specs.Grammar.{part, mark, a_stmt, a_target, an_expr}
 use Rattle.vs_syntax.specs.Reading.{stuck_first, stuck_second}
 use Rattle.vs_syntax.proofs.Gets.{gets_seq}
 use Rattle.vs_expressions.specs.Answers.{seen}
 use Rattle.vs_expressions.proofs.Exits.{fails_by}
+use Rattle.vs_statements.specs.Tasks.{timing}
 use Rattle.vs_statements.proofs.Statements.{assign_stuck, assign_read}
 use Rattle.vs_statements.proofs.assignment.assigned_stmt.Goals as goal
 
@@ -21,16 +22,16 @@ pub returns-in_err-timing : goal.returns-in_err-timing
 returns-in_err-timing c =
     let p = err_from_is_err_and c.from_residual-in_err-timing.result c.from_residual-in_err-timing.ensures.1 in
     let h : 2 ≤ c.args.room = c.requires.room in
-    rw (p.1, p.2) (fails_by (mark m.Assign or mark m.LessEqual) (part a_stmt) (c.args.room - 1) c.args.room (seen c.in_ok-target.target.rest.now) (seen c.args.tokens.now)
+    rw (p.1, p.2) (fails_by timing (part a_stmt) (c.args.room - 1) c.args.room (seen c.in_ok-target.target.rest.now) (seen c.args.tokens.now)
     (λ deep at s. assign_stuck c.args.room deep _ at h c.requires.first (stuck_second c.in_ok-target.ensures (stuck_first s)))
-    c.in_err-timing.field-0.0 (c.in_err-timing.ensures (c.args.room - 1)))
+    c.in_err-timing.field-0.0 c.in_err-timing.ensures)
 
 pub returns-in_err-value : goal.returns-in_err-value
 returns-in_err-value c =
     let p = err_from_is_err_and c.from_residual-in_err-value.result c.from_residual-in_err-value.ensures.1 in
     let h : 2 ≤ c.args.room = c.requires.room in
-    rw (p.1, p.2) (fails_by (part an_expr) (part a_stmt) (c.args.room - 1) c.args.room (seen c.in_ok-timing.after_sign.now) (seen c.args.tokens.now)
-    (λ deep at s. assign_stuck c.args.room deep _ at h c.requires.first (stuck_second c.in_ok-target.ensures (stuck_second (c.in_ok-timing.ensures (c.args.room - 1)) (stuck_first s))))
+    rw (p.1, p.2) (fails_by (part an_expr) (part a_stmt) (c.args.room - 1) c.args.room (seen c.in_ok-timing.timing.rest.now) (seen c.args.tokens.now)
+    (λ deep at s. assign_stuck c.args.room deep _ at h c.requires.first (stuck_second c.in_ok-target.ensures (stuck_second c.in_ok-timing.ensures (stuck_first s))))
     c.in_err-value.field-0.0 c.in_err-value.ensures)
 
 pub returns-in_err-rest : goal.returns-in_err-rest
@@ -38,10 +39,10 @@ returns-in_err-rest c =
     let p = err_from_is_err_and c.from_residual-in_err-rest.result c.from_residual-in_err-rest.ensures.1 in
     let h : 2 ≤ c.args.room = c.requires.room in
     rw (p.1, p.2) (fails_by (mark m.Semicolon) (part a_stmt) (c.args.room - 1) c.args.room (seen c.in_ok-value.value.rest.now) (seen c.args.tokens.now)
-    (λ deep at s. assign_stuck c.args.room deep _ at h c.requires.first (stuck_second c.in_ok-target.ensures (stuck_second (c.in_ok-timing.ensures (c.args.room - 1)) (stuck_second c.in_ok-value.ensures s))))
+    (λ deep at s. assign_stuck c.args.room deep _ at h c.requires.first (stuck_second c.in_ok-target.ensures (stuck_second c.in_ok-timing.ensures (stuck_second c.in_ok-value.ensures s))))
     c.in_err-rest.field-0.0 (c.in_err-rest.ensures (c.args.room - 1)))
 
 pub returns : goal.returns
 returns c =
     let h : 2 ≤ c.args.room = c.requires.room in
-    rw c.assigned.ensures (assign_read c.args.room _ _ _ h c.requires.first (gets_seq c.in_ok-target.ensures (gets_seq (c.in_ok-timing.ensures (c.args.room - 1)) (gets_seq c.in_ok-value.ensures (c.in_ok-rest.ensures (c.args.room - 1))))))
+    rw c.assigned.ensures (assign_read c.args.room _ _ _ h c.requires.first (gets_seq c.in_ok-target.ensures (gets_seq c.in_ok-timing.ensures (gets_seq c.in_ok-value.ensures (c.in_ok-rest.ensures (c.args.room - 1))))))

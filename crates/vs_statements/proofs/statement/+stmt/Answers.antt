@@ -59,6 +59,9 @@ behind-returns-in-Delay t c = word_is _ _ c.args.room _ _ c.in-Delay.is c.delaye
 pub behind-returns-in-Event : goal.behind-returns-in-Event
 behind-returns-in-Event t c = word_is _ _ c.args.room _ _ c.in-Event.is c.event_stmt.ensures
 
+pub behind-returns-in-Finish : goal.behind-returns-in-Finish
+behind-returns-in-Finish t c = word_is _ _ c.args.room _ _ c.in-Finish.is (c.finish_stmt.ensures c.args.room)
+
 pub boxed-returns-in_err-inner : goal.boxed-returns-in_err-inner
 boxed-returns-in_err-inner t c =
     let p = err_from_is_err_and c.from_residual.result c.from_residual.ensures.1 in

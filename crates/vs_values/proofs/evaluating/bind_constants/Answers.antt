@@ -9,5 +9,5 @@ loop-name-preserved c =
     let x = c.loop-name-item.result in
     record {
       constants = listed_on cs i x (omega arith) c.loop-name-item.is _ _ _ c.in_ok-push_constant.ensures c.loop-name.invariant.constants;
-      known = λ outer. bound_on cs i x (omega arith) c.loop-name-item.is c.loop-name.values.known c.bind_constant.new.names outer _ c.in_ok-bind_constant.ensures (c.loop-name.invariant.known outer);
+      known = λ outer. bound_on cs i x (omega arith) c.loop-name-item.is c.loop-name.values.known c.bind.new.names outer _ c.in_ok-bind.ensures (c.loop-name.invariant.known outer);
     }

@@ -1,2 +1,0 @@
-pub mod OneLine
-pub mod Same

@@ -1,0 +1,173 @@
+//! Calls, whose text need not be a good one, and the steps of a process that makes calls.
+use crate::designs::first_store;
+use crate::showing::values;
+use std::alloc::{AllocError, Global};
+use std::test::Fail;
+use vs_design::{
+    Aim, Call, CallKind, FormatArg, Operand, Slice, Statement, Store, Target, Ticks, Typed,
+};
+use vs_logic4::Vec4;
+use vs_process::{Code, Effect, Place, compile};
+use vs_strobe::{Format, full_line};
+
+/// A text, how many arguments it has, each of them 1, and the line.
+type Row = (&'static str, usize, &'static [u8]);
+
+const CALLS: [Row; 6] = [
+    ("", 0, b"\n"),
+    ("%b %m", 1, b"1 t\n"),
+    ("%b|%b", 1, b"1|\n"),
+    ("%b", 2, b"1\n"),
+    ("a%q", 1, b"\n"),
+    ("a%", 0, b"\n"),
+];
+
+fn call(
+    alloc: Global,
+    kind: CallKind,
+    text: &str,
+    args: Vec<FormatArg>,
+) -> Result<Call, AllocError> {
+    Ok(Call {
+        kind,
+        text: Vec::from_slice(alloc, text.as_bytes())?,
+        args,
+        path: Vec::from_slice(alloc, b"t")?,
+        ratio: 1,
+    })
+}
+
+fn printed(alloc: Global, text: &str, count: usize) -> Result<Vec<u8>, AllocError> {
+    let args = values(alloc, false, "1", count)?;
+    let call = call(alloc, CallKind::Display, text, args)?;
+    let format = Format::of(alloc, &call)?;
+    full_line(alloc, &format, &first_store(alloc)?, 0)
+}
+
+#[test]
+fn calls(rt: HostRuntime) -> Result<(), Fail> {
+    for (text, count, wanted) in CALLS {
+        let told = printed(rt.alloc(), text, count)?;
+        assert_eq!(rt; told.as_slice(), wanted, "of {text}");
+    }
+    Ok(())
+}
+
+// `$display("%b", a)`.
+fn display(alloc: Global) -> Result<Statement, AllocError> {
+    let a = Operand {
+        signal: 0,
+        width: 1,
+        signed: false,
+    };
+    let mut args = Vec::new(alloc);
+    args.push(FormatArg::Value(false, Typed::Signal(a)))?;
+    Ok(Statement::Call(0, call(alloc, CallKind::Display, "%b", args)?))
+}
+
+// `a <= #5 1'b1`.
+fn later(alloc: Global) -> Result<Statement, AllocError> {
+    let bit = Slice {
+        signal: 0,
+        word: 0,
+        low: 0,
+        width: 1,
+    };
+    let mut parts = Vec::new(alloc);
+    parts.push(Aim::Fixed(bit))?;
+    let target = Target { parts, width: 1 };
+    let one = Typed::Number(Vec4::from_number(1, 1));
+    Ok(Statement::Later(2, Ticks { count: 5 }, target, one))
+}
+
+// `begin $display("%b", a); $strobe("p"); a <= #5 1'b1; $finish; end`.
+fn body(alloc: Global) -> Result<Statement, AllocError> {
+    let mut all = Vec::new(alloc);
+    all.push(display(alloc)?)?;
+    all.push(Statement::Call(1, call(alloc, CallKind::Strobe, "p", Vec::new(alloc))?))?;
+    all.push(later(alloc)?)?;
+    all.push(Statement::Finish(3))?;
+    Ok(Statement::Block(all))
+}
+
+// A letter for what a step does, and the text or the ticks behind it.
+fn tell(
+    alloc: Global,
+    out: &mut Vec<u8>,
+    effect: Effect<'_>,
+    store: &Store,
+) -> Result<(), AllocError> {
+    match effect {
+        Effect::Nothing => out.push(b'n')?,
+        Effect::Write(_) => out.push(b'w')?,
+        Effect::Update(ticks, _) => {
+            out.push(b'u')?;
+            out.push(b'0' + (ticks.count % 10) as u8)?;
+        }
+        Effect::Strobe(format) => {
+            out.push(b's')?;
+            out.extend_from_slice(&full_line(alloc, format, store, 0)?)?;
+        }
+        Effect::Line(text) => {
+            out.push(b'l')?;
+            out.extend_from_slice(&text)?;
+        }
+        Effect::Finish => out.push(b'f')?,
+    }
+    Ok(())
+}
+
+// A step of an active process.
+fn step_told<'a>(
+    alloc: Global,
+    out: &mut Vec<u8>,
+    place: &mut Place<'a>,
+    store: &Store,
+) -> Result<(), AllocError> {
+    if place.is_going() {
+        let effect = place.step(alloc, store, 0)?;
+        tell(alloc, out, effect, store)?;
+    }
+    Ok(())
+}
+
+// So many steps of each process with one of these codes, one after another.
+fn told(alloc: Global, codes: &[Code], count: usize, store: &Store) -> Result<Vec<u8>, AllocError> {
+    let mut out = Vec::new(alloc);
+    for code in codes {
+        let mut place = Place::start(alloc, code)?;
+        for _ in 0..count {
+            step_told(alloc, &mut out, &mut place, store)?;
+        }
+    }
+    Ok(out)
+}
+
+// The codes of these bodies.
+fn codes_of<'a>(alloc: Global, bodies: &'a [Statement]) -> Result<Vec<Code<'a>>, AllocError> {
+    let mut codes = Vec::new(alloc);
+    for body in bodies {
+        codes.push(compile(alloc, body)?)?;
+    }
+    Ok(codes)
+}
+
+// So many steps of each process with one of these bodies, one after another.
+fn told_of(
+    alloc: Global,
+    bodies: &[Statement],
+    count: usize,
+    store: &Store,
+) -> Result<Vec<u8>, AllocError> {
+    let codes = codes_of(alloc, bodies)?;
+    told(alloc, &codes, count, store)
+}
+
+#[test]
+fn steps(rt: HostRuntime) -> Result<(), Fail> {
+    let store = first_store(rt.alloc())?;
+    let bodies = vec![in rt.alloc(); body(rt.alloc())?]?;
+    let told = told_of(rt.alloc(), &bodies, 5, &store)?;
+    assert_eq!(rt; told.as_slice(), b"lx\nsp\nu5f".as_slice());
+    Ok(())
+}

@@ -1,0 +1,175 @@
+-- Parameters one after another, whose values are looked for.
+use Rattle.std.proofs.Common.{◌≡◌, ℕ, zero, suc, ◌+◌, ◌-◌, ◌<◌, ◌≤◌, ◌⊎◌, inl, inr, Bool, true, false, true≢false, not, ◌||◌, cond, is_some, List, [], ◌∷◌, ◌++◌, Option, Some, None, option_map, length, map, drop, get_or, set, slice_get, refl, ap, ap₂, sym, subst, ◌∙◌, ⊎_elim, arith}
+use Rattle.std.specs.List.{list_any}
+use Rattle.std.specs.Str.{bytes_eq}
+use Rattle.std.proofs.lemmas.Bool.{cases_lt}
+use Rattle.std.proofs.lemmas.List.{length-map}
+use Rattle.std.proofs.lemmas.Option.{none-some, same_Some, slice_get_read, slice_get-get_or, get_or_from_slice_get}
+use Rattle.vs_selects.specs.declared.bindings.Binding.{Binding}
+use Rattle.vs_selects.specs.declared.bindings.Binding.TheVariants.{Pending}
+use Rattle.vs_selects.specs.declared.constants.Const.{Const}
+use Rattle.vs_selects.specs.declared.faults.WidthReason.{WidthReason}
+use Rattle.vs_selects.specs.Environment.{Environment}
+use Rattle.vs_widths.specs.Names.{meaning_of, Binds}
+use Rattle.vs_scopes.specs.Parameters.{Given, own_fault, outer_fault, outer_faults, with_given}
+use Rattle.vs_scopes.specs.Declarations.{Bindings}
+use Rattle.vs_scopes.specs.declared.parameters.Given.{Given as FoundGiven}
+use Rattle.vs_scopes.specs.declared.faults.ParameterRefusal.{ParameterRefusal}
+use Rattle.vs_scopes.specs.declared.faults.ParameterRefusal.TheVariants as r
+use Rattle.vs_scopes.specs.passes.Declared.{first_of, AddsNames}
+use Rattle.vs_scopes.specs.passes.Parts.{read_given}
+use Rattle.vs_scopes.proofs.DeclaredLemmas.{bytes_eq-sym, first_none, first_assoc}
+use Rattle.vs_scopes.proofs.PassLemmas.{drop_at, map_at}
+use Rattle.vs_values.specs.passes.Values.{RefusesValues, IsGiven}
+use Rattle.vs_values.specs.passes.Finding.{number_of, AreNumbers, found_constants, AreAll, IsFaulty, AreFaulty, IsNext, IsStuck}
+
+-- an element of a list that a function made
+pub get_map : {A B : Type 0} (f : A → B) (xs : List A) (k : ℕ) (x : A) → k < length xs → x ≡ get_or xs k x → slice_get (map f xs) k ≡ Some (f x)
+get_map f [] k x h e = absurd (omega (arith, h))
+get_map f (y ∷ ys) zero x h e = ap (λ z. Some (f z)) (sym e)
+get_map f (y ∷ ys) (suc k) x h e = get_map f ys k x (omega (arith, h)) e
+
+-- a value that isn't found
+pub unfound_at : (vs : List (Option Const)) (k : ℕ) (v : Option Const) (t : Bool) → k < length vs → v ≡ get_or vs k v → is_some v ≡ not t → t ≡ true → slice_get vs k ≡ Some None
+unfound_at vs k None t h e s b = slice_get_read vs (length vs) k None refl h e
+unfound_at vs k (Some c) t h e s b = absurd (true≢false (s ∙ ap not b))
+
+-- a value that is found
+pub record IsAt (vs : List (Option Const)) (k : ℕ) : Type 0 where
+  pub constant : Const
+  pub there : slice_get vs k ≡ Some (Some constant)
+
+pub found_at : (vs : List (Option Const)) (k : ℕ) (v : Option Const) (t : Bool) → k < length vs → v ≡ get_or vs k v → is_some v ≡ not t → t ≡ false → IsAt vs k
+found_at vs k None t h e s b = absurd (true≢false (sym (s ∙ ap not b)))
+found_at vs k (Some c) t h e s b = record { constant = c; there = slice_get_read vs (length vs) k (Some c) refl h e }
+
+-- ---- numbers of names
+
+-- names of the first parameters with their numbers
+abbrev pub Numbers : List FoundGiven → ℕ → List (List ℕ × ℕ) → Type 0
+Numbers xs i ns = (n : List ℕ) → first_of (meaning_of ns n) (option_map (λ k. i + k) (number_of (map read_given (drop i xs)) n)) ≡ number_of (map read_given xs) n
+
+none_before : (o : Option ℕ) → option_map (λ k. 0 + k) o ≡ o
+none_before None = refl
+none_before (Some k) = ap Some (omega arith)
+
+pub numbers_start : (xs : List FoundGiven) (ns : List (List ℕ × ℕ)) → ns ≡ [] → Numbers xs 0 ns
+numbers_start xs ns h n = ap (λ z. first_of (meaning_of z n) (option_map (λ k. 0 + k) (number_of (map read_given xs) n))) h ∙ none_before (number_of (map read_given xs) n)
+
+one_before : (i : ℕ) (o : Option ℕ) → option_map (λ k. i + 1 + k) o ≡ option_map (λ k. i + k) (option_map (λ k. suc k) o)
+one_before i None = refl
+one_before i (Some k) = ap Some (omega arith)
+
+pub numbers_step : (xs : List FoundGiven) (i : ℕ) (x : FoundGiven) (old new : List (List ℕ × ℕ)) → i < length xs → x ≡ get_or xs i x → AddsNames old new ((x.parameter.name.now, i) ∷ []) → Numbers xs i old → Numbers xs (i + 1) new
+numbers_step xs i x old new h k adds all n =
+    let name = x.parameter.name.now in
+    let rest = number_of (map read_given (drop (i + 1) xs)) n in
+    ap (λ o. first_of o (option_map (λ k. i + 1 + k) rest)) (adds n)
+    ∙ first_assoc (meaning_of old n) (cond (bytes_eq n name) (Some i) None) (option_map (λ k. i + 1 + k) rest)
+    ∙ ap (first_of (meaning_of old n)) (by (bytes_eq n name) ∙ ap (λ gs. option_map (λ k. i + k) (number_of gs n)) (sym (map_at read_given xs i x h k)))
+    ∙ all n
+  where
+    by : (t : Bool) → first_of (cond t (Some i) None) (option_map (λ k. i + 1 + k) (number_of (map read_given (drop (i + 1) xs)) n))
+        ≡ option_map (λ k. i + k) (cond t (Some 0) (option_map (λ k. suc k) (number_of (map read_given (drop (i + 1) xs)) n)))
+    by true = ap Some (omega arith)
+    by false = one_before i (number_of (map read_given (drop (i + 1) xs)) n)
+
+pub numbers_end : (xs : List FoundGiven) (i : ℕ) (ns : List (List ℕ × ℕ)) → drop i xs ≡ [] → Numbers xs i ns → AreNumbers (map read_given xs) ns
+numbers_end xs i ns h all n =
+    sym (first_none (meaning_of ns n)) ∙ sym (ap (λ z. first_of (meaning_of ns n) (option_map (λ k. i + k) (number_of (map read_given z) n))) h) ∙ all n
+
+-- ---- names without values
+
+pub pending_step : (xs : List FoundGiven) (i : ℕ) (x : FoundGiven) (first : Environment) (old new : Bindings) → i < length xs → x ≡ get_or xs i x → Binds old new x.parameter.name.now Pending →
+    ((n : List ℕ) → meaning_of old n ≡ with_given (λ g. Pending) (map read_given (drop (i + 1) xs)) first n) → (n : List ℕ) → meaning_of new n ≡ with_given (λ g. Pending) (map read_given (drop i xs)) first n
+pending_step xs i x first old new h k binds all n =
+    binds n ∙ ap (λ t. cond t (Some Pending) (meaning_of old n)) (bytes_eq-sym x.parameter.name.now n) ∙ ap (cond (bytes_eq n x.parameter.name.now) (Some Pending)) (all n)
+    ∙ ap (λ gs. with_given (λ g. Pending) gs first n) (sym (map_at read_given xs i x h k))
+
+-- ---- faults
+
+any_true_at : {A : Type 0} (p : A → Bool) (xs : List A) (k : ℕ) (x : A) → slice_get xs k ≡ Some x → p x ≡ true → list_any p xs ≡ true
+any_true_at p [] k x h e = absurd (none-some x h)
+any_true_at p (y ∷ ys) zero x h e =
+    let here : p y ≡ true = ap p (same_Some y x h) ∙ e in
+    rw here refl
+any_true_at p (y ∷ ys) (suc k) x h e = by (p y) (any_true_at p ys k x h e)
+  where
+    by : (t : Bool) → list_any p ys ≡ true → (t || list_any p ys) ≡ true
+    by true i = refl
+    by false i = i
+
+-- a fault of what overrides one parameter is one among all
+pub refused_among : (around : Environment) (gs : List Given) (k : ℕ) (g : Given) (e : ParameterRefusal) → slice_get gs k ≡ Some g → RefusesValues false (λ w. outer_fault w around g) (λ w. false) e → RefusesValues false (λ w. outer_faults w around gs) (λ w. false) e
+refused_among around gs k g r.Memory h f = tt
+refused_among around gs k g r.Mismatch h f = f
+refused_among around gs k g (r.Outer w) h f = any_true_at (outer_fault w around) gs k g h f
+refused_among around gs k g (r.Own w) h f = f
+
+-- a refusal that is none of the module is one, whatever stands in the module
+pub refused_outside : (outer own : WidthReason → Bool) (e : ParameterRefusal) → RefusesValues false outer (λ w. false) e → RefusesValues false outer own e
+refused_outside outer own r.Memory h = tt
+refused_outside outer own r.Mismatch h = h
+refused_outside outer own (r.Outer w) h = h
+refused_outside outer own (r.Own w) h = absurd (true≢false (sym h))
+
+-- ---- the next value
+
+-- parameters up to a number, of which none is found next, with a fault of one that isn't found
+pub record IsSearched (env : Environment) (gs : List Given) (vs : List (Option Const)) (fault : Option WidthReason) (n : ℕ) : Type 0 where
+  pub none : fault ≡ None → (k : ℕ) → k < n → slice_get vs k ≡ Some None → ⊥
+  pub stands : (w : WidthReason) → fault ≡ Some w → list_any (own_fault w env) gs ≡ true
+  pub faulty : AreFaulty env gs vs n
+
+pub searched_none : (env : Environment) (gs : List Given) (vs : List (Option Const)) → IsSearched env gs vs None 0
+searched_none env gs vs = record { none = λ h k l. absurd (omega (arith, l)); stands = λ w h. absurd (none-some w h); faulty = λ k g l. absurd (omega (arith, l)) }
+
+last_or : (k n : ℕ) → k < n + 1 → (k < n) ⊎ (k ≡ n)
+last_or k n h = ⊎_elim (λ l. inl l) (λ l. inr (omega (arith, h, l))) (cases_lt k n)
+
+-- one more that is found
+pub searched_found : (env : Environment) (gs : List Given) (vs : List (Option Const)) (fault : Option WidthReason) (n : ℕ) (c : Const) → slice_get vs n ≡ Some (Some c) → IsSearched env gs vs fault n → IsSearched env gs vs fault (n + 1)
+searched_found env gs vs fault n c at h = record {
+  none = λ e k l i. ⊎_elim (λ m. h.none e k m i) (λ m. none-some c (same_Some None (Some c) (sym i ∙ ap (slice_get vs) m ∙ at))) (last_or k n l);
+  stands = h.stands;
+  faulty = λ k g l i j. ⊎_elim (λ m. h.faulty k g m i j) (λ m. absurd (none-some c (same_Some None (Some c) (sym j ∙ ap (slice_get vs) m ∙ at)))) (last_or k n l);
+}
+
+-- one more that has a fault
+pub searched_faulty : (env : Environment) (gs : List Given) (vs : List (Option Const)) (fault : Option WidthReason) (n : ℕ) (g : Given) (w : WidthReason) → slice_get gs n ≡ Some g → own_fault w env g ≡ true → IsSearched env gs vs fault n → IsSearched env gs vs (Some w) (n + 1)
+searched_faulty env gs vs fault n g w at bad h = record {
+  none = λ e. absurd (none-some w (sym e));
+  stands = λ u e. any_true_at (own_fault u env) gs n g at (ap (λ z. own_fault z env g) (sym (same_Some w u e)) ∙ bad);
+  faulty = λ k x l i j. ⊎_elim (λ m. h.faulty k x m i j) (λ m. record { reason = w; stands = ap (own_fault w env) (same_Some x g (sym i ∙ ap (slice_get gs) m ∙ at)) ∙ bad }) (last_or k n l);
+}
+
+pub searched_all : (env : Environment) (gs : List Given) (vs : List (Option Const)) (fault : Option WidthReason) (n : ℕ) → length vs ≤ n → fault ≡ None → IsSearched env gs vs fault n → AreAll vs
+searched_all env gs vs fault n h e s k i = s.none e k (omega (arith, h, there vs k None i)) i
+  where
+    there : (vs : List (Option Const)) (k : ℕ) (v : Option Const) → slice_get vs k ≡ Some v → k < length vs
+    there [] k v i = absurd (none-some v i)
+    there (x ∷ xs) zero v i = omega arith
+    there (x ∷ xs) (suc k) v i = omega (arith, there xs k v i)
+
+pub searched_stuck : (env : Environment) (gs : List Given) (vs : List (Option Const)) (fault : Option WidthReason) (n : ℕ) (w : WidthReason) → length gs ≤ n → fault ≡ Some w → IsSearched env gs vs fault n → IsStuck env gs vs w
+searched_stuck env gs vs fault n w h e s = record { fault = s.stands w e; faulty = λ k g l i j. s.faulty k g (omega (arith, h, l)) i j }
+
+pub next_is : (around env : Environment) (xs : List FoundGiven) (vs : List (Option Const)) (k : ℕ) (x : FoundGiven) (c : Const) → k < length xs → x ≡ get_or xs k x → slice_get vs k ≡ Some None → IsGiven around env (read_given x) c → IsNext around env (map read_given xs) vs k c
+next_is around env xs vs k x c h e n given = record {
+  within = omega (arith, h, length-map xs read_given);
+  new = n;
+  given = λ g at. subst (λ z. IsGiven around env z c) (same_Some (read_given x) g (sym (get_map read_given xs k x h e) ∙ at)) given;
+}
+
+-- ---- constants one after another
+
+pub found_next : (xs : List FoundGiven) (vs : List (Option Const)) (i : ℕ) (x : FoundGiven) (c : Const) → i < length xs → length vs ≡ length xs → x ≡ get_or xs i x → slice_get vs i ≡ Some (Some c) →
+    found_constants (map read_given (drop i xs)) (drop i vs) ≡ (x.parameter.name.now, c) ∷ found_constants (map read_given (drop (i + 1) xs)) (drop (i + 1) vs)
+found_next xs vs i x c h all e s = ap₂ found_constants (map_at read_given xs i x h e) (drop_at vs i (Some c) (omega (arith, h, all)) (sym (get_or_from_slice_get vs i (Some c) (Some c) s)))
+
+pub found_skipped : (xs : List FoundGiven) (vs : List (Option Const)) (i : ℕ) → i < length xs → length vs ≡ length xs → slice_get vs i ≡ Some None →
+    found_constants (map read_given (drop i xs)) (drop i vs) ≡ found_constants (map read_given (drop (i + 1) xs)) (drop (i + 1) vs)
+found_skipped [] vs i h all s = absurd (omega (arith, h))
+found_skipped (y ∷ ys) vs i h all s =
+    let x = get_or (y ∷ ys) i y in
+    ap₂ found_constants (map_at read_given (y ∷ ys) i x h (sym (get_or_from_slice_get (y ∷ ys) i x x (slice_get-get_or (y ∷ ys) i y h)))) (drop_at vs i None (omega (arith, h, all)) (sym (get_or_from_slice_get vs i None None s)))

@@ -1,0 +1,6 @@
+use Rattle.vs_scopes.specs.passes.Parts.{read_given}
+use Rattle.vs_values.proofs.SearchLemmas.{Numbers}
+use Rattle.vs_values.proofs.finding.numbered.Given as goal
+
+abbrev pub invariant-loop-number : goal.invariant-loop-number
+invariant-loop-number l = Numbers l.list l.number l.numbers
