@@ -3,14 +3,14 @@ use Rattle.std.proofs.Common.{◌≡◌, ℕ, true, false, max, refl, ap, subst}
 use Rattle.vs_syntax.specs.declared.tree.Expr.{Expr}
 use Rattle.vs_design.specs.declared.expression.Typed.{Typed}
 use Rattle.vs_design.specs.declared.statement.Target.{Target}
-use Rattle.vs_forms.specs.declared.shape.Shape.{Shape}
+use Rattle.vs_selects.specs.declared.shape.Shape.{Shape}
 use Rattle.vs_selects.specs.Environment.{Environment}
 use Rattle.vs_selects.specs.Findings.{Has, stands}
 use Rattle.vs_widths.specs.Expressions.{meant}
 use Rattle.vs_selects.specs.Meants.{Meant}
 use Rattle.vs_widths.specs.Typing.{IsTypedAs}
-use Rattle.vs_targets.specs.declared.kinds.AssignmentKind.{AssignmentKind}
-use Rattle.vs_targets.specs.Aiming.{IsTarget}
+use Rattle.vs_widths.specs.declared.kinds.AssignmentKind.{AssignmentKind}
+use Rattle.vs_widths.specs.Aiming.{IsTarget}
 use Rattle.vs_scopes.specs.declared.faults.Reason.{Reason}
 use Rattle.vs_scopes.specs.declared.faults.Reason.TheVariants.{NoModule, Inside, PortMismatch, ParameterMismatch, DeclaredTwice, DrivenTwice, Limit, Width, Endless, Unnamed, Timescales, Format}
 use Rattle.vs_scopes.specs.declared.faults.BodyFault.{BodyFault}

@@ -34,7 +34,7 @@ use Rattle.vs_design.specs.declared.statement.Statement.TheVariants as d
 use Rattle.vs_design.specs.declared.statement.Statement.TheVariants.{rolls-Null as drolls-Null, rolls-Assign as drolls-Assign, rolls-Later as drolls-Later, rolls-Block as drolls-Block, rolls-If as drolls-If, rolls-Case as drolls-Case, rolls-While as drolls-While, rolls-Repeat as drolls-Repeat, rolls-Delay as drolls-Delay, rolls-Event as drolls-Event, rolls-Forever as drolls-Forever, rolls-Call as drolls-Call, rolls-Finish as drolls-Finish}
 use Rattle.vs_design.specs.declared.statement.Statement.TheOpen as g
 use Rattle.vs_design.specs.declared.statement.Statement.TheFolds.{fold-roll-Statement}
-use Rattle.vs_targets.specs.declared.kinds.AssignmentKind.TheVariants.{Procedural}
+use Rattle.vs_widths.specs.declared.kinds.AssignmentKind.TheVariants.{Procedural}
 use Rattle.vs_scopes.specs.declared.faults.Reason.{Reason}
 use Rattle.vs_bodies.specs.Statements.{assign_fault, operand_fault, delay_fault, due_fault, print_fault, event_fault, case_fault, fault_step, has_fault, count_step, count_of, total}
 use Rattle.vs_bodies.specs.Members.{places}

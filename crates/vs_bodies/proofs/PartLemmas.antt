@@ -16,9 +16,9 @@ use Rattle.vs_syntax.specs.declared.tree.DelayValue.{DelayValue}
 use Rattle.vs_syntax.specs.declared.tree.EventControl.{EventControl}
 use Rattle.vs_design.specs.declared.expression.Typed.{Typed}
 use Rattle.vs_logic4.specs.declared.case.CaseKind.{CaseKind}
-use Rattle.vs_forms.specs.declared.shape.Shape.{Shape}
+use Rattle.vs_selects.specs.declared.shape.Shape.{Shape}
 use Rattle.vs_design.specs.declared.statement.Statement.{Statement}
-use Rattle.vs_targets.specs.declared.kinds.AssignmentKind.TheVariants.{Procedural}
+use Rattle.vs_widths.specs.declared.kinds.AssignmentKind.TheVariants.{Procedural}
 use Rattle.vs_scopes.specs.declared.faults.Reason.{Reason}
 use Rattle.vs_scopes.specs.declared.faults.Reason.TheVariants.{NoModule, Inside, PortMismatch, ParameterMismatch, DeclaredTwice, DrivenTwice, Limit, Width, Endless, Unnamed, Timescales, Format}
 use Rattle.vs_selects.specs.Environment.{Environment}

@@ -60,10 +60,10 @@ use Rattle.vs_selects.specs.Meants.{Meant, own}
 use Rattle.vs_selects.specs.Constants.{constant_finding, natural_at}
 use Rattle.vs_widths.specs.Expressions.{meant, meant_selects, number_meant, name_meant}
 use Rattle.vs_widths.specs.Typing.{IsTypedAs}
-use Rattle.vs_targets.specs.declared.kinds.AssignmentKind.{AssignmentKind}
-use Rattle.vs_targets.specs.declared.kinds.AssignmentKind.TheVariants.{Procedural, Event}
-use Rattle.vs_targets.specs.Lefts.{Aimed, aimed, name_aimed}
-use Rattle.vs_targets.specs.Aiming.{IsTarget}
+use Rattle.vs_widths.specs.declared.kinds.AssignmentKind.{AssignmentKind}
+use Rattle.vs_widths.specs.declared.kinds.AssignmentKind.TheVariants.{Procedural, Event}
+use Rattle.vs_widths.specs.Lefts.{Aimed, aimed, name_aimed}
+use Rattle.vs_widths.specs.Aiming.{IsTarget}
 use Rattle.vs_scopes.specs.declared.faults.Reason.{Reason}
 use Rattle.vs_scopes.specs.declared.faults.Reason.TheVariants.{Limit, Width, DeclaredTwice, Format}
 use Rattle.vs_bodies.specs.Members.{Assignee, places, named_signal}

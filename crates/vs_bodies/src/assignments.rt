@@ -10,11 +10,12 @@ ghost use Rattle.vs_scopes.specs.passes.Sizes.{width_faults};
 
 use std::alloc::Global;
 use vs_design::{Target, Typed};
-use vs_forms::Shape;
 use vs_scopes::BodyFault;
+use vs_selects::Shape;
 use vs_syntax::{Expr, Left};
-use vs_targets::{AssignmentKind, name_target, target};
-use vs_widths::{Levels, shape_of, shape_of_name, typed, typed_name};
+use vs_widths::{
+    AssignmentKind, Levels, name_target, shape_of, shape_of_name, target, typed, typed_name,
+};
 
 /// The right side of an assignment to a target of this size.
 pub fn source(alloc: Global, names: &Levels, width: u32, e: &Expr) -> Result<Typed, BodyFault>

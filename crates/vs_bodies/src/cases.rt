@@ -10,9 +10,8 @@ ghost use Rattle.vs_bodies.specs.passes.Bodies.{Shapes, IsCase};
 
 use std::alloc::Global;
 use vs_design::Typed;
-use vs_forms::Shape;
 use vs_scopes::{BodyFault, Reason};
-use vs_selects::WidthFault;
+use vs_selects::{Shape, WidthFault};
 use vs_syntax::{CaseLabel, Expr, Stmt};
 use vs_widths::{Levels, shape_of, typed};
 

@@ -5,8 +5,8 @@ ghost use Rattle.vs_design.specs.Statements.{statement_reads};
 ghost use Rattle.vs_design.specs.declared.expression.Slice.{Slice};
 ghost use Rattle.vs_logic4.specs.declared.edge.Edge.TheVariants.{Any};
 ghost use Rattle.vs_selects.specs.Findings.{stands};
-ghost use Rattle.vs_targets.specs.declared.kinds.AssignmentKind.TheVariants.{Event};
-ghost use Rattle.vs_targets.specs.Lefts.{name_aimed};
+ghost use Rattle.vs_widths.specs.declared.kinds.AssignmentKind.TheVariants.{Event};
+ghost use Rattle.vs_widths.specs.Lefts.{name_aimed};
 ghost use Rattle.vs_widths.specs.Names.{meaning_of};
 ghost use Rattle.vs_scopes.specs.passes.Answers.{Elaborates};
 ghost use Rattle.vs_scopes.specs.passes.Sizes.{width_faults};
@@ -18,8 +18,7 @@ use vs_design::{Aim, BitRange, EventTerm, Slice, Statement, Target, bits_from, s
 use vs_logic4::Edge;
 use vs_scopes::BodyFault;
 use vs_syntax::{EventControl, EventExpr, Separator};
-use vs_targets::{AssignmentKind, name_target, selected_target};
-use vs_widths::Levels;
+use vs_widths::{AssignmentKind, Levels, name_target, selected_target};
 
 /// What an event control names: its terms are no assignments.
 const WAITED: AssignmentKind = AssignmentKind::Event;

@@ -22,12 +22,11 @@ use crate::operands::{delay, due, operand};
 use crate::views::View;
 use std::alloc::{AllocError, Global};
 use vs_design::{Statement, Target, Typed};
-use vs_forms::Shape;
 use vs_logic4::CaseKind;
 use vs_opened::names_around;
+use vs_selects::Shape;
 use vs_syntax::{CaseLabel, DelayValue, Expr, Left, PrintArguments, PrintTask, Stmt};
-use vs_targets::AssignmentKind;
-use vs_widths::Levels;
+use vs_widths::{AssignmentKind, Levels};
 
 /// The kind of an assignment that is a statement.
 pub const PROCEDURAL: AssignmentKind = AssignmentKind::Procedural;
@@ -326,8 +325,8 @@ fn case_statement(
     e: &Expr,
 ) -> Result<Statement, StatementFault>
     requires { IsPlaced view.now.list.now view.now.place }
-    ensures answer { (envs : Path → Surroundings) (p : Path) (v : Vec (CaseLabel × Stmt) Global) → v.items ≡ all.now → IsView view.now envs p →
-        Answers view.now.list.now envs p (statement_burden (envs p) next.old (form.Case kind e.now v))
+    ensures answer { (envs : Path → Surroundings) (p : Path) (v : Vec (CaseLabel × Stmt) Global) → v.items ≡ all.now
+        → IsView view.now envs p → Answers view.now.list.now envs p (statement_burden (envs p) next.old (form.Case kind e.now v))
         (λ d. MeansStatement envs p next.old (form.Case kind e.now v) d next.new) result }
     ensures below { IfErr result (IsBelow (length view.now.list.now)) }
 {

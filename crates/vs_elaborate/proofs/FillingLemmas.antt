@@ -20,7 +20,7 @@ use Rattle.vs_design.specs.declared.design.Assign.{Assign}
 use Rattle.vs_design.specs.declared.design.Process.{Process}
 use Rattle.vs_scopes.specs.declared.faults.Reason.{Reason}
 use Rattle.vs_scopes.specs.declared.faults.ElabFault.{ElabFault}
-use Rattle.vs_targets.specs.declared.kinds.AssignmentKind.TheVariants.{Continuous}
+use Rattle.vs_widths.specs.declared.kinds.AssignmentKind.TheVariants.{Continuous}
 use Rattle.vs_scopes.specs.Printed.{Path, own_name, port_assign_name, part_name}
 use Rattle.std.specs.declared.vec.Vec.{Vec}
 use Rattle.std.specs.declared.alloc.Global.{Global}

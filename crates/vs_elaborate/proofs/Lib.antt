@@ -13,12 +13,14 @@ pub mod ScaleLemmas
 pub mod ItselfLemmas
 pub mod LayerLemmas
 pub mod OneLineLemmas
+pub mod OneLineNameLemmas
 pub mod OneLinePieceLemmas
 pub mod OneLineTextLemmas
 pub mod PairLemmas
 pub mod SameDesignLemmas
 pub mod SameEventLemmas
 pub mod SameInnerLemmas
+pub mod SameNetLemmas
 pub mod SameParameterLemmas
 pub mod SamePieceLemmas
 pub mod SamePortLemmas

@@ -20,7 +20,8 @@ use Rattle.vs_syntax.specs.declared.tree.Module.{Module}
 use Rattle.vs_syntax.specs.declared.tree.Port.{Port}
 use Rattle.vs_syntax.specs.declared.tree.PortForm.{PortForm}
 use Rattle.vs_syntax.specs.SourceNames.{declarator_names, header_parameter_names, port_names as names_of_ports, local_names, item_names, module_item_names, module_names, declared_names as all_declared_names}
-use Rattle.vs_pieces.specs.Pieces.{Piece, plain, loop, choice, local, inside, pieces_of, block_pieces}
+use Rattle.vs_pieces.specs.Pieces.{Piece, plain, loop, choice, local, inside, net, pieces_of, block_pieces}
+use Rattle.vs_pieces.specs.Uses.{names_used_by, names_used_in, names_used_among}
 use Rattle.vs_design.specs.declared.signal.SignalKind.{SignalKind}
 use Rattle.vs_design.specs.declared.design.Entry.{Entry}
 use Rattle.vs_design.specs.declared.design.Entry.TheVariants.{Enter, Declare, Leave}
@@ -33,14 +34,16 @@ use Rattle.vs_scopes.specs.Parameters.{said, any_fault}
 use Rattle.vs_scopes.specs.Ports.{ModulePort, KindSaid, port_as, ports_from, port_said, kind_said, joined_port, port_of_items, port_by_items, is_name_list, listed_ports, ports_of, port_names, names_where, is_joined, without_name}
 use Rattle.vs_scopes.specs.Ranges.{Sized}
 use Rattle.vs_scopes.specs.Declarations.{Use, DeclaredName, declared_by_port, declared_as, declared_by_item, declared_local, declared_locally, declared_in, not_joined, declared_among, names_in}
+use Rattle.vs_scopes.specs.Nets.{permits_nets, nothing_seen}
 use Rattle.vs_scopes.specs.Generate.{Inner, instance, generated, named}
-use Rattle.vs_scopes.specs.Scopes.{Scope, nowhere, declarations_of, names_of, environment, all_names_of, inner_of, module_named, Before, behind, top_scope, instance_scope, block_scope, is_inside, has_no_values, block_fault, opened_instance, opened_block, opened, listed, below, within_first, scopes_within, deepest, opened_top, scopes_of}
+use Rattle.vs_scopes.specs.Scopes.{Scope, nowhere, declarations_of, names_of, environment, text_names, inner_of, sight_in, module_named, Before, behind, text_of, module_pieces, block_text, top_scope, instance_scope, block_scope, is_inside, has_no_values, block_fault, opened_instance, opened_block, opened, listed, below, within_first, scopes_within, deepest, opened_top, scopes_of}
 use Rattle.vs_opened.specs.Outlines.{Declared, declared, signal_of, signals_of, Line, enter, declare, leave, declare_from, outline_around, outline_below, outline_within, outline_of, IsEntry}
 use Rattle.vs_design.specs.declared.timescale.Timescale.{Timescale}
 use Rattle.vs_elaborate.specs.DesignOf.{Represents}
 use Rattle.vs_elaborate.specs.OneLine.{HasModulesOfOneLine}
 use Rattle.vs_elaborate.proofs.OneLineTextLemmas.{both, halves, each_append, AreOneLine, printed_one_line, part_one_line}
-use Rattle.vs_elaborate.proofs.OneLinePieceLemmas.{AreOneLinePieces, IsOneLinePiece, pieces_one_line, block_pieces_one_line, IsOneLineInner, AreOneLineInner, inner_one_line}
+use Rattle.vs_elaborate.proofs.OneLineNameLemmas.{all_module_item_names, all_join}
+use Rattle.vs_elaborate.proofs.OneLinePieceLemmas.{AreOneLinePieces, IsOneLinePiece, pieces_one_line, block_pieces_one_line, nets_one_line, IsOneLineInner, AreOneLineInner, inner_one_line}
 
 -- ---- names that pieces declare
 
@@ -74,11 +77,12 @@ local_one_line env (l.Reg f xs) h = ap (list_all is_one_line) (names_of_locals e
 local_one_line env (l.Integer xs) h = ap (list_all is_one_line) (names_of_locals env _ _ xs.items) ∙ h
 
 piece_one_line : (env : Environment) (p : Piece) → IsOneLinePiece p → AreOneLine (names_in (declared_in env p))
-piece_one_line env (plain x) h = item_one_line env x h
+piece_one_line env (plain x) h = item_one_line env x (halves is_one_line (item_names x) (names_used_by x) h).0
 piece_one_line env (loop g x) h = refl
 piece_one_line env (choice e x o) h = refl
 piece_one_line env (local x) h = local_one_line env x h
 piece_one_line env (inside b) h = refl
+piece_one_line env (net n) h = and_from (is_one_line n) true h refl
 
 among_one_line : (env : Environment) (ps : List Piece) → AreOneLinePieces ps → AreOneLine (names_in (declared_among env ps))
 among_one_line env [] h = refl
@@ -134,28 +138,29 @@ names_of_declared env (p ∷ ps) = ap (λ ns. p.name ∷ ns) (names_of_declared 
 record IsOneLineModule (m : Module) : Type 0 where
   own : is_one_line m.name.items ≡ true
   ports : AreOneLine (names_of_ports m.ports)
-  items : AreOneLine (flat_map module_item_names m.items.items)
+  items : AreOneLine (flat_map all_module_item_names m.items.items)
 
 -- such a module, where there is one
 abbrev HasOneLineModule : Option Module → Type 0
 HasOneLineModule None = Unit {0}
 HasOneLineModule (Some m) = IsOneLineModule m
 
-module_one_line : (m : Module) → AreOneLine (module_names m) → IsOneLineModule m
-module_one_line m h =
+module_one_line : (m : Module) → AreOneLine (module_names m) → AreOneLine (flat_map names_used_in m.items.items) → IsOneLineModule m
+module_one_line m h k =
     let header = header_parameter_names m.parameters.items in
     let ports = names_of_ports m.ports in
     let items = flat_map module_item_names m.items.items in
     let first = and_parts (is_one_line m.name.items) (list_all is_one_line (header ++ (ports ++ items))) h in
     let second = halves is_one_line header (ports ++ items) first.1 in
     let third = halves is_one_line ports items second.1 in
-    record { own = first.0; ports = third.0; items = third.1 }
+    record { own = first.0; ports = third.0; items = all_join m.items.items third.1 k }
 
-found_one_line : (ms : List Module) (n : List ℕ) → AreOneLine (all_declared_names ms) → HasOneLineModule (module_named ms n)
-found_one_line [] n h = tt
-found_one_line (x ∷ xs) n h =
+found_one_line : (ms : List Module) (n : List ℕ) → AreOneLine (all_declared_names ms) → AreOneLine (names_used_among ms) → HasOneLineModule (module_named ms n)
+found_one_line [] n h k = tt
+found_one_line (x ∷ xs) n h k =
     let parts = halves is_one_line (module_names x) (all_declared_names xs) h in
-    cond_both (bytes_eq n x.name.items) (Some x) (module_named xs n) HasOneLineModule (λ e. module_one_line x parts.0) (λ e. found_one_line xs n parts.1)
+    let used = halves is_one_line (flat_map names_used_in x.items.items) (names_used_among xs) k in
+    cond_both (bytes_eq n x.name.items) (Some x) (module_named xs n) HasOneLineModule (λ e. module_one_line x parts.0 used.0) (λ e. found_one_line xs n parts.1 used.1)
 
 -- ---- a scope
 
@@ -177,6 +182,10 @@ either_one_line false s h = h
 ports_one_line : (m : Module) → IsOneLineModule m → AreOneLine (port_names (ports_of m))
 ports_one_line m h = ap (list_all is_one_line) (names_listed (pieces_of m.items.items) m.ports) ∙ h.ports
 
+-- what stands in such a module, with its implicit nets
+with_nets_of : (nets : Bool) (m : Module) → IsOneLineModule m → AreOneLinePieces (module_pieces nets m)
+with_nets_of nets m h = nets_one_line nets (text_of m) nothing_seen (pieces_of m.items.items) (pieces_one_line m.items.items h.items)
+
 -- the names of the signals of a scope
 names_one_line : (s : Scope) → IsOneLineScope s → AreOneLine (names_of s)
 names_one_line s h =
@@ -187,7 +196,7 @@ names_one_line s h =
     (left_one_line (names_where is_joined s.ports) (declared_among s.known s.pieces) (among_one_line s.known s.pieces h.pieces))
 
 inside_one_line : (s : Scope) → IsOneLineScope s → AreOneLineInner (inner_of s)
-inside_one_line s h = inner_one_line (environment s) (all_names_of s) 1 s.pieces h.pieces
+inside_one_line s h = inner_one_line 0 (environment s) (text_names s) 1 s.pieces h.pieces
 
 -- the signals of declared names
 signals_one_line : (s : Scope) (ds : List DeclaredName) → AreOneLine (names_in ds) → list_all (λ (x : Declared). is_one_line x.name) (map (signal_of s) ds) ≡ true
@@ -214,19 +223,20 @@ around_one_line s ls h k =
 
 -- ---- the scopes that instances and blocks open
 
-module _ (ms : List Module) (names : AreOneLine (all_declared_names ms)) where
-  opened_instance_one_line : (s : Scope) (at : Before) (u : Use) (o : Option Module) → is_one_line u.name ≡ true → HasOneLineModule o → HasOneLineScope (opened_instance s at u o)
-  opened_instance_one_line s at u None own h = tt
-  opened_instance_one_line s at u (Some m) own h =
-      either_one_line (is_inside s m || has_no_values s.known u.overrides m) (instance_scope s at u m) (record { own = own; ports = ports_one_line m h; pieces = pieces_one_line m.items.items h.items })
+module _ (ms : List Module) (names : AreOneLine (all_declared_names ms)) (used : AreOneLine (names_used_among ms)) where
+  opened_instance_one_line : (nets : Bool) (s : Scope) (at : Before) (u : Use) (o : Option Module) → is_one_line u.name ≡ true → HasOneLineModule o → HasOneLineScope (opened_instance nets s at u o)
+  opened_instance_one_line nets s at u None own h = tt
+  opened_instance_one_line nets s at u (Some m) own h =
+      either_one_line (is_inside s m || has_no_values s.known u.overrides m) (instance_scope nets s at u m) (record { own = own; ports = ports_one_line m h; pieces = with_nets_of nets m h })
 
-  opened_block_one_line : (s : Scope) (at : Before) (n : PathName) (cs : List (List ℕ × Const)) (ps : List Piece) → is_one_line n.name ≡ true → AreOneLinePieces ps → HasOneLineScope (opened_block s at n cs ps)
-  opened_block_one_line s at n cs ps own h = either_one_line (any_fault (block_fault s cs ps)) (block_scope s at n cs ps) (record { own = own; ports = refl; pieces = h })
+  opened_block_one_line : (place : ℕ) (s : Scope) (at : Before) (n : PathName) (cs : List (List ℕ × Const)) (ps : List Piece) → is_one_line n.name ≡ true → AreOneLinePieces ps → HasOneLineScope (opened_block place s at n cs ps)
+  opened_block_one_line place s at n cs ps own h =
+      either_one_line (any_fault (block_fault s cs ps)) (block_scope place s at n cs ps) (record { own = own; ports = refl; pieces = nets_one_line s.nets (block_text cs ps) (sight_in s place) ps h })
 
   opened_one_line : (s : Scope) (at : Before) (x : Inner) → IsOneLineInner x → HasOneLineScope (opened ms s at x)
-  opened_one_line s at (instance u) h = opened_instance_one_line s at u (module_named ms u.of) h (found_one_line ms u.of names)
-  opened_one_line s at (generated n cs xs) h = opened_block_one_line s at n cs (pieces_of xs) h.0 (pieces_one_line xs h.1)
-  opened_one_line s at (named x) h = opened_block_one_line s at (plainly x.name) [] (block_pieces x) h.name (block_pieces_one_line x h)
+  opened_one_line s at (instance u) h = opened_instance_one_line (permits_nets ms u.of) s at u (module_named ms u.of) h (found_one_line ms u.of names used)
+  opened_one_line s at (generated place n cs xs) h = opened_block_one_line place s at n cs (pieces_of xs) h.0 (pieces_one_line xs h.1)
+  opened_one_line s at (named x) h = opened_block_one_line 0 s at (plainly x.name) [] (block_pieces x) h.name (block_pieces_one_line x h)
 
   module _ (f : Scope → List Scope) (inside : (t : Scope) → IsOneLineScope t → AllByRecursion IsOneLineScope (f t)) (s : Scope) where
     listed_scopes : (o : Option Scope) → HasOneLineScope o → AllByRecursion IsOneLineScope (listed f o)
@@ -265,9 +275,9 @@ module _ (ms : List Module) (names : AreOneLine (all_declared_names ms)) where
 
   -- ---- from the top on
 
-  top_one_line : (o : Option Module) → HasOneLineModule o → HasOneLineScope (opened_top o)
-  top_one_line None h = tt
-  top_one_line (Some m) h = either_one_line (has_no_values nowhere None m) (top_scope m) (record { own = h.own; ports = ports_one_line m h; pieces = pieces_one_line m.items.items h.items })
+  top_one_line : (nets : Bool) (o : Option Module) → HasOneLineModule o → HasOneLineScope (opened_top nets o)
+  top_one_line nets None h = tt
+  top_one_line nets (Some m) h = either_one_line (has_no_values nowhere None m) (top_scope nets m) (record { own = h.own; ports = ports_one_line m h; pieces = with_nets_of nets m h })
 
   top_scopes : (n : ℕ) (o : Option Scope) → HasOneLineScope o → AllByRecursion IsOneLineScope (listed (scopes_within n ms) o)
   top_scopes n None h = tt
@@ -300,9 +310,11 @@ entries_one_line (Leave ∷ es) (leave ∷ ls) h k = entries_one_line es ls h.1 
 
 pub design_one_line : (ms : List Module) (top : List ℕ) (scale : Timescale) (d : Parts) → HasModulesOfOneLine ms → Represents d scale (scopes_of ms top) (outline_of ms top) → HasNamesOfOneLine d
 design_one_line ms top scale d h r =
-    let first = top_one_line ms h (module_named ms top) (found_one_line ms top h) in
+    let parts = halves is_one_line (all_declared_names ms) (names_used_among ms) h in
+    let opens = opened_top (permits_nets ms top) (module_named ms top) in
+    let first : HasOneLineScope opens = top_one_line ms parts.0 parts.1 (permits_nets ms top) (module_named ms top) (found_one_line ms top parts.0 parts.1) in
     record {
       signals = sym (list_all-map (λ (x : Declared). is_one_line x.name) declared d.signals) ∙ ap (list_all (λ (x : Declared). is_one_line x.name)) r.signals
-          ∙ signals_of_scopes (scopes_of ms top) (top_scopes ms h deepest (opened_top (module_named ms top)) first);
-      scopes = entries_one_line d.outline (outline_of ms top) r.outline (top_lines ms h deepest (opened_top (module_named ms top)) first);
+          ∙ signals_of_scopes (scopes_of ms top) (top_scopes ms parts.0 parts.1 deepest opens first);
+      scopes = entries_one_line d.outline (outline_of ms top) r.outline (top_lines ms parts.0 parts.1 deepest opens first);
     }

@@ -1,5 +1,5 @@
 -- An outline declares the signals of its scopes in their order.
-use Rattle.std.proofs.Common.{◌≡◌, ℕ, zero, suc, ◌+◌, ◌<◌, ◌≤◌, List, [], ◌∷◌, ◌++◌, Option, Some, None, length, get_or, All, refl, ap, ap₂, sym, subst, ◌∙◌, add-zero, zero-add, arith}
+use Rattle.std.proofs.Common.{◌≡◌, ℕ, zero, suc, ◌+◌, ◌<◌, ◌≤◌, Bool, List, [], ◌∷◌, ◌++◌, Option, Some, None, length, get_or, All, refl, ap, ap₂, sym, subst, ◌∙◌, add-zero, zero-add, arith}
 use Rattle.std.specs.Prelude.{nat_lt, nat_eq, true}
 use Rattle.std.specs.List.{flat_map, AllZip, IsDistinct, Contains}
 use Rattle.std.proofs.lemmas.Bool.{lt-ltb, ne_eqb}
@@ -12,6 +12,7 @@ use Rattle.vs_design.specs.declared.design.Entry.{Entry}
 use Rattle.vs_design.specs.declared.design.Entry.TheVariants.{Enter, Declare, Leave}
 use Rattle.vs_design.specs.WellFormed.{declared_in as declared_by_outline}
 use Rattle.vs_scopes.specs.Generate.{Inner}
+use Rattle.vs_scopes.specs.Nets.{permits_nets}
 use Rattle.vs_scopes.specs.Scopes.{Scope, Before, behind, within_first, inner_of, module_named, declarations_of, opened, opened_top, listed, below, scopes_within, scopes_of, signal_count, deepest}
 use Rattle.vs_paths.proofs.PathsOpened.{what_is_opened, what_is_opened_top}
 use Rattle.vs_opened.specs.Outlines.{Line, enter, declare, leave, declare_from, outline_around, outline_below, outline_within, outline_of, IsEntry}
@@ -122,10 +123,10 @@ within_numbers (suc n) ms s =
     ∙ sym (counting_append s.base (length own) (signal_count inner))
     ∙ ap (counting s.base) (sym (length-append own (flat_map declarations_of inner)))
 
-top_numbers : (n : ℕ) (ms : List Module) (o : Option Module) (t : Option Scope) → opened_top o ≡ t → numbers_in (listed (outline_within n ms) t) ≡ counting 0 (signal_count (listed (scopes_within n ms) t))
-top_numbers n ms o None e = refl
-top_numbers n ms o (Some s) e = within_numbers n ms s ∙ ap (λ (z : Before). counting z.signals (signal_count (scopes_within n ms s))) (what_is_opened_top o s e).1.before
+top_numbers : (n : ℕ) (ms : List Module) (nets : Bool) (o : Option Module) (t : Option Scope) → opened_top nets o ≡ t → numbers_in (listed (outline_within n ms) t) ≡ counting 0 (signal_count (listed (scopes_within n ms) t))
+top_numbers n ms nets o None e = refl
+top_numbers n ms nets o (Some s) e = within_numbers n ms s ∙ ap (λ (z : Before). counting z.signals (signal_count (scopes_within n ms s))) (what_is_opened_top nets o s e).1.before
 
 -- a design's outline declares the signals from 0 on
 pub outline_declares : (ms : List Module) (top : List ℕ) (es : List Entry) → AllZip IsEntry es (outline_of ms top) → declared_by_outline es ≡ counting 0 (signal_count (scopes_of ms top))
-outline_declares ms top es h = entries_declare es (outline_of ms top) h ∙ top_numbers deepest ms (module_named ms top) (opened_top (module_named ms top)) refl
+outline_declares ms top es h = entries_declare es (outline_of ms top) h ∙ top_numbers deepest ms (permits_nets ms top) (module_named ms top) (opened_top (permits_nets ms top) (module_named ms top)) refl

@@ -21,8 +21,8 @@ use Rattle.vs_design.specs.Parts.{Parts}
 use Rattle.vs_design.specs.WellFormed.{numbers}
 use Rattle.vs_selects.specs.Environment.{Environment}
 use Rattle.vs_widths.specs.Expressions.{meant, name_meant}
-use Rattle.vs_targets.specs.Lefts.{name_aimed, expr_aimed}
-use Rattle.vs_targets.specs.declared.kinds.AssignmentKind.TheVariants.{Procedural, Continuous}
+use Rattle.vs_widths.specs.Lefts.{name_aimed, expr_aimed}
+use Rattle.vs_widths.specs.declared.kinds.AssignmentKind.TheVariants.{Procedural, Continuous}
 use Rattle.vs_pieces.specs.Pieces.{Piece}
 use Rattle.vs_scopes.specs.Printed.{Path, port_assign_name, part_name}
 use Rattle.vs_scopes.specs.Ports.{ModulePort}
@@ -39,7 +39,7 @@ use Rattle.vs_elaborate.proofs.SameTypedLemmas.{same_meant, same_expr_aimed}
 use Rattle.vs_elaborate.proofs.SameStatementLemmas.{one_statement, same_count, one_count}
 use Rattle.vs_elaborate.proofs.SameTargetLemmas.{SameAssignee, one_pair, one_sides}
 use Rattle.vs_elaborate.proofs.PairLemmas.{pair_append, pair_map, pair_flat, flat_one}
-use Rattle.vs_elaborate.proofs.SamePieceLemmas.{SamePiece, plain_same, loop_same, choice_same, local_same, inside_same}
+use Rattle.vs_elaborate.proofs.SamePieceLemmas.{SamePiece, plain_same, loop_same, choice_same, local_same, inside_same, net_same}
 use Rattle.vs_elaborate.proofs.SamePortLemmas.{SameModulePort}
 use Rattle.vs_elaborate.proofs.SameScopeLemmas.{SameScope, environment_same, environments_same, signals_same, scopes_same, outlines_same}
 
@@ -99,6 +99,7 @@ piece_drives _ _ (loop_same h h' x x' i m) = no_pair
 piece_drives _ _ (choice_same e e' x x' o o' i m r) = no_pair
 piece_drives _ _ (local_same x x' m) = no_pair
 piece_drives _ _ (inside_same b b' m) = no_pair
+piece_drives _ _ (net_same x) = no_pair
 
 item_behaves : (x x' : Item) → SameItem x x' → Pairwise SameBehavior (behaviors_by_item x) (behaviors_by_item x')
 item_behaves _ _ (same_port_item f f' ns ns' g p) = no_pair
@@ -119,6 +120,7 @@ piece_behaves _ _ (loop_same h h' x x' i m) = no_pair
 piece_behaves _ _ (choice_same e e' x x' o o' i m r) = no_pair
 piece_behaves _ _ (local_same x x' m) = no_pair
 piece_behaves _ _ (inside_same b b' m) = no_pair
+piece_behaves _ _ (net_same x) = no_pair
 
 behaviors_same : (s s' : Scope) → SameScope s s' → Pairwise SameBehavior (behaviors_of s) (behaviors_of s')
 behaviors_same s s' h =

@@ -31,7 +31,7 @@ use Rattle.vs_scopes.specs.Generate.{genvar_number, Turns, turns, faulty, endles
 use Rattle.vs_elaborate.proofs.LayerLemmas.{content_layer, taken_layered, taken_layer}
 use Rattle.vs_elaborate.proofs.PairLemmas.{pair_append, pair_map}
 use Rattle.vs_elaborate.proofs.SameTypedLemmas.{by_both, same_meant}
-use Rattle.vs_elaborate.proofs.SamePieceLemmas.{one_pair, SameBlock, item_blocks_of, SamePiece, plain_same, loop_same, choice_same, local_same, inside_same, SameContent, nothing_same, content_same, contents_same}
+use Rattle.vs_elaborate.proofs.SamePieceLemmas.{one_pair, SameBlock, item_blocks_of, SamePiece, plain_same, loop_same, choice_same, local_same, inside_same, net_same, SameContent, nothing_same, content_same, contents_same}
 use Rattle.vs_elaborate.proofs.SamePortLemmas.{SameUse, item_uses}
 
 -- ---- turns of loops
@@ -149,47 +149,48 @@ module _ (env : Environment) where
 
 pub data SameInner : Inner → Inner → Type 0 where
   instance_same : (u u' : Use) → SameUse u u' → SameInner (instance u) (instance u')
-  generated_same : (n : PathName) (cs : List (List ℕ × Const)) (xs xs' : List ModuleItem) → SameModuleItems xs xs' → SameInner (generated n cs xs) (generated n cs xs')
+  generated_same : (i : ℕ) (n : PathName) (cs : List (List ℕ × Const)) (xs xs' : List ModuleItem) → SameModuleItems xs xs' → SameInner (generated i n cs xs) (generated i n cs xs')
   named_same : (b b' : NamedBlock) → SameBlock b b' → SameInner (named b) (named b')
 
 abbrev AreSameInner : List Inner → List Inner → Type 0
 AreSameInner = Pairwise SameInner
 
-generates_same : (n : Option (List ℕ)) (turn : Option ℤ) (cs : List (List ℕ × Const)) (xs xs' : List ModuleItem) → SameModuleItems xs xs' → AreSameInner (generates n turn cs xs) (generates n turn cs xs')
-generates_same None turn cs xs xs' r = no_pair
-generates_same (Some n) turn cs xs xs' r = one_pair SameInner _ _ (generated_same (record { name = n; turn = turn }) cs xs xs' r)
+generates_same : (place : ℕ) (n : Option (List ℕ)) (turn : Option ℤ) (cs : List (List ℕ × Const)) (xs xs' : List ModuleItem) → SameModuleItems xs xs' → AreSameInner (generates place n turn cs xs) (generates place n turn cs xs')
+generates_same place None turn cs xs xs' r = no_pair
+generates_same place (Some n) turn cs xs xs' r = one_pair SameInner _ _ (generated_same place (record { name = n; turn = turn }) cs xs xs' r)
 
-content_inner_same : (names : List (List ℕ)) (k : ℕ) (turn : Option ℤ) (cs : List (List ℕ × Const)) (x x' : Content) → SameContent x x' → AreSameInner (content_inner names k turn cs x) (content_inner names k turn cs x')
-content_inner_same names k turn cs _ _ nothing_same = no_pair
-content_inner_same names k turn cs _ _ (content_same n xs xs' r) = generates_same (name_of_block names k n) turn cs xs xs' r
+content_inner_same : (place : ℕ) (names : List (List ℕ)) (k : ℕ) (turn : Option ℤ) (cs : List (List ℕ × Const)) (x x' : Content) → SameContent x x' → AreSameInner (content_inner place names k turn cs x) (content_inner place names k turn cs x')
+content_inner_same place names k turn cs _ _ nothing_same = no_pair
+content_inner_same place names k turn cs _ _ (content_same n xs xs' r) = generates_same place (name_of_block names k n) turn cs xs xs' r
 
-turns_inner_same : (names : List (List ℕ)) (k : ℕ) (n : List ℕ) (x x' : Content) → SameContent x x' → (cs : List Const) → AreSameInner (turns_inner names k n x cs) (turns_inner names k n x' cs)
-turns_inner_same names k n x x' m [] = no_pair
-turns_inner_same names k n x x' m (c ∷ cs) =
-    pair_append SameInner (content_inner names k (genvar_number c) ((n, c) ∷ []) x) (content_inner names k (genvar_number c) ((n, c) ∷ []) x') (turns_inner names k n x cs) (turns_inner names k n x' cs)
-    (content_inner_same names k (genvar_number c) ((n, c) ∷ []) x x' m) (turns_inner_same names k n x x' m cs)
+turns_inner_same : (place : ℕ) (names : List (List ℕ)) (k : ℕ) (n : List ℕ) (x x' : Content) → SameContent x x' → (cs : List Const) → AreSameInner (turns_inner place names k n x cs) (turns_inner place names k n x' cs)
+turns_inner_same place names k n x x' m [] = no_pair
+turns_inner_same place names k n x x' m (c ∷ cs) =
+    pair_append SameInner (content_inner place names k (genvar_number c) ((n, c) ∷ []) x) (content_inner place names k (genvar_number c) ((n, c) ∷ []) x') (turns_inner place names k n x cs) (turns_inner place names k n x' cs)
+    (content_inner_same place names k (genvar_number c) ((n, c) ∷ []) x x' m) (turns_inner_same place names k n x x' m cs)
 
-loop_inner_same : (names : List (List ℕ)) (k : ℕ) (n : List ℕ) (x x' : Content) → SameContent x x' → (t : Turns) → AreSameInner (loop_inner names k n x t) (loop_inner names k n x' t)
-loop_inner_same names k n x x' m (turns cs) = turns_inner_same names k n x x' m cs
-loop_inner_same names k n x x' m (faulty w) = no_pair
-loop_inner_same names k n x x' m endless = no_pair
+loop_inner_same : (place : ℕ) (names : List (List ℕ)) (k : ℕ) (n : List ℕ) (x x' : Content) → SameContent x x' → (t : Turns) → AreSameInner (loop_inner place names k n x t) (loop_inner place names k n x' t)
+loop_inner_same place names k n x x' m (turns cs) = turns_inner_same place names k n x x' m cs
+loop_inner_same place names k n x x' m (faulty w) = no_pair
+loop_inner_same place names k n x x' m endless = no_pair
 
-choice_inner_same : (names : List (List ℕ)) (k : ℕ) (x x' : Taken) → SameTaken x x' → AreSameInner (choice_inner names k x) (choice_inner names k x')
-choice_inner_same names k _ _ (takes_same x x' m) = content_inner_same names k None [] x x' m
-choice_inner_same names k _ _ (refused_same w) = no_pair
+choice_inner_same : (place : ℕ) (names : List (List ℕ)) (k : ℕ) (x x' : Taken) → SameTaken x x' → AreSameInner (choice_inner place names k x) (choice_inner place names k x')
+choice_inner_same place names k _ _ (takes_same x x' m) = content_inner_same place names k None [] x x' m
+choice_inner_same place names k _ _ (refused_same w) = no_pair
 
-piece_inner : (env : Environment) (names : List (List ℕ)) (k : ℕ) (p p' : Piece) → SamePiece p p' → AreSameInner (inner_in env names k p) (inner_in env names k p')
-piece_inner env names k _ _ (plain_same x x' m) =
+piece_inner : (place : ℕ) (env : Environment) (names : List (List ℕ)) (k : ℕ) (p p' : Piece) → SamePiece p p' → AreSameInner (inner_in place env names k p) (inner_in place env names k p')
+piece_inner place env names k _ _ (plain_same x x' m) =
     pair_append SameInner (map instance (uses_by_item x)) (map instance (uses_by_item x')) (map named (blocks_of x)) (map named (blocks_of x'))
     (pair_map SameUse SameInner instance instance instance_same (uses_by_item x) (uses_by_item x') (item_uses x x' m))
     (pair_map SameBlock SameInner named named named_same (blocks_of x) (blocks_of x') (item_blocks_of x x' m))
-piece_inner env names k _ _ (loop_same h h' x x' i m) =
-    subst (λ t. AreSameInner (loop_inner names k h.name.items (content_of x) (turns_of env h)) (loop_inner names k h'.name.items (content_of x') t)) (turns_same env h h' i)
-    (subst (λ n. AreSameInner (loop_inner names k h.name.items (content_of x) (turns_of env h)) (loop_inner names k n (content_of x') (turns_of env h))) i.name
-    (loop_inner_same names k h.name.items (content_of x) (content_of x') (contents_same x x' m) (turns_of env h)))
-piece_inner env names k _ _ (choice_same e e' x x' o o' i m r) = choice_inner_same names k (chosen env e x o) (chosen env e' x' o') (chosen_same env e e' x x' o o' i m r)
-piece_inner env names k _ _ (local_same x x' m) = no_pair
-piece_inner env names k _ _ (inside_same b b' m) = one_pair SameInner (named b) (named b') (named_same b b' m)
+piece_inner place env names k _ _ (loop_same h h' x x' i m) =
+    subst (λ t. AreSameInner (loop_inner place names k h.name.items (content_of x) (turns_of env h)) (loop_inner place names k h'.name.items (content_of x') t)) (turns_same env h h' i)
+    (subst (λ n. AreSameInner (loop_inner place names k h.name.items (content_of x) (turns_of env h)) (loop_inner place names k n (content_of x') (turns_of env h))) i.name
+    (loop_inner_same place names k h.name.items (content_of x) (content_of x') (contents_same x x' m) (turns_of env h)))
+piece_inner place env names k _ _ (choice_same e e' x x' o o' i m r) = choice_inner_same place names k (chosen env e x o) (chosen env e' x' o') (chosen_same env e e' x x' o o' i m r)
+piece_inner place env names k _ _ (local_same x x' m) = no_pair
+piece_inner place env names k _ _ (inside_same b b' m) = one_pair SameInner (named b) (named b') (named_same b b' m)
+piece_inner place env names k _ _ (net_same x) = no_pair
 
 behind_same : (k : ℕ) (p p' : Piece) → SamePiece p p' → behind_piece k p ≡ behind_piece k p'
 behind_same k _ _ (plain_same x x' m) = refl
@@ -197,10 +198,11 @@ behind_same k _ _ (loop_same h h' x x' i m) = refl
 behind_same k _ _ (choice_same e e' x x' o o' i m r) = refl
 behind_same k _ _ (local_same x x' m) = refl
 behind_same k _ _ (inside_same b b' m) = refl
+behind_same k _ _ (net_same x) = refl
 
 -- what pieces that say the same open, where names are bound so
-pub inner_same : (env : Environment) (names : List (List ℕ)) (k : ℕ) (ps ps' : List Piece) → Pairwise SamePiece ps ps' → Pairwise SameInner (inner_from env names k ps) (inner_from env names k ps')
-inner_same env names k _ _ no_pair = no_pair
-inner_same env names k _ _ (pair_more p p' ps ps' h r) =
-    pair_append SameInner (inner_in env names k p) (inner_in env names k p') (inner_from env names (behind_piece k p) ps) (inner_from env names (behind_piece k p') ps') (piece_inner env names k p p' h)
-    (subst (λ j. AreSameInner (inner_from env names (behind_piece k p) ps) (inner_from env names j ps')) (behind_same k p p' h) (inner_same env names (behind_piece k p) ps ps' r))
+pub inner_same : (place : ℕ) (env : Environment) (names : List (List ℕ)) (k : ℕ) (ps ps' : List Piece) → Pairwise SamePiece ps ps' → Pairwise SameInner (inner_from place env names k ps) (inner_from place env names k ps')
+inner_same place env names k _ _ no_pair = no_pair
+inner_same place env names k _ _ (pair_more p p' ps ps' h r) =
+    pair_append SameInner (inner_in place env names k p) (inner_in place env names k p') (inner_from (suc place) env names (behind_piece k p) ps) (inner_from (suc place) env names (behind_piece k p') ps') (piece_inner place env names k p p' h)
+    (subst (λ j. AreSameInner (inner_from (suc place) env names (behind_piece k p) ps) (inner_from (suc place) env names j ps')) (behind_same k p p' h) (inner_same (suc place) env names (behind_piece k p) ps ps' r))

@@ -27,10 +27,10 @@ use Rattle.vs_scopes.specs.Connections.{in_text, in_order, by_name, ends_of, has
 use Rattle.vs_scopes.specs.Parameters.{Parameter, said, header_parameters, item_parameter, parameters_in, piece_parameters, parameters_among, parameters_of, overridable, Given, first_end, other_ends, given_from, overriding, given_to, is_override_mismatch, the_size, neither, vector_takes, takes_by, constant_by, takes_fault, given_meant, constant_given, own_fault, outer_fault, with_given, bound_given, known_after, known_behind, constants_of, own_faults, outer_faults, any_fault}
 use Rattle.vs_scopes.specs.Ports.{ModulePort, ports_of}
 use Rattle.vs_scopes.specs.Declarations.{Bindings, DeclaredName, bound_to, unsized_names, pending_names, early_names}
-use Rattle.vs_scopes.specs.Scopes.{Scope, nowhere, outward, early, environment, has_no_values, block_given, with_constants, early_block, block_fault}
+use Rattle.vs_scopes.specs.Scopes.{Scope, nowhere, outward, text_of, early, environment, constant_names, has_no_values, block_given, with_constants, early_block, block_text, block_fault}
 use Rattle.vs_pieces.specs.Pieces.{Piece, pieces_of}
 use Rattle.vs_elaborate.proofs.PairLemmas.{pair_append, pair_map, pair_flat, pair_length, pair_same}
-use Rattle.vs_elaborate.proofs.SamePieceLemmas.{SamePiece, plain_same, loop_same, choice_same, local_same, inside_same}
+use Rattle.vs_elaborate.proofs.SamePieceLemmas.{SamePiece, plain_same, loop_same, choice_same, local_same, inside_same, net_same}
 use Rattle.vs_elaborate.proofs.SameTypedLemmas.{same_meant}
 use Rattle.vs_elaborate.proofs.SamePortLemmas.{range_sizes, SameModulePort, same_said, same_pieces, same_ports, ports_declare, among_declares, same_genvar_names, same_inner_names}
 
@@ -107,6 +107,7 @@ piece_parameters_same _ _ (loop_same h h' x x' i m) = no_pair
 piece_parameters_same _ _ (choice_same e e' x x' o o' i m r) = no_pair
 piece_parameters_same _ _ (local_same x x' m) = no_pair
 piece_parameters_same _ _ (inside_same b b' m) = no_pair
+piece_parameters_same _ _ (net_same x) = no_pair
 
 among_parameters : (xs xs' : List Piece) → Pairwise SamePiece xs xs' → Pairwise SameParameter (parameters_among xs) (parameters_among xs')
 among_parameters xs xs' r = pair_flat SamePiece SameParameter piece_parameters piece_parameters_same xs xs' r
@@ -237,10 +238,12 @@ early_names_same ps ps' qs qs' xs xs' h k r =
     let others = ap (bound_to b.Other) (same_inner_names xs xs' r) in
     ap₂ (λ (a c : Bindings). a ++ c) (ap₂ (λ (a c : Bindings). a ++ c) (ap₂ (λ (a c : Bindings). a ++ c) parameters (ap unsized_names declared)) genvars) others
 
+pub same_text : (m m' : Module) → SameModule m m' → text_of m ≡ text_of m'
+same_text m m' h =
+    early_names_same (parameters_of m) (parameters_of m') (ports_of m) (ports_of m') (pieces_of m.items.items) (pieces_of m'.items.items) (all_parameters m m' h) (same_ports m m' h) (same_pieces m m' h)
+
 same_early : (m m' : Module) → SameModule m m' → early m ≡ early m'
-same_early m m' h =
-    ap (λ names. outward names nowhere)
-    (early_names_same (parameters_of m) (parameters_of m') (ports_of m) (ports_of m') (pieces_of m.items.items) (pieces_of m'.items.items) (all_parameters m m' h) (same_ports m m' h) (same_pieces m m' h))
+same_early m m' h = ap (λ names. outward names nowhere) (same_text m m' h)
 
 -- ---- modules that are instantiated
 
@@ -266,10 +269,14 @@ module _ (s s' : Scope) (environments : environment s ≡ environment s') (cs : 
   same_block_given : Pairwise SameGiven (block_given ps) (block_given ps')
   same_block_given = same_given_from (parameters_among ps) (parameters_among ps') [] [] (among_parameters ps ps' h) no_pair
 
+  same_early_names : early_names (parameters_among ps) [] ps ≡ early_names (parameters_among ps') [] ps'
+  same_early_names = early_names_same (parameters_among ps) (parameters_among ps') [] [] ps ps' (among_parameters ps ps' h) no_pair h
+
+  pub same_block_text : block_text cs ps ≡ block_text cs ps'
+  same_block_text = ap (λ (z : Bindings). z ++ constant_names cs) same_early_names
+
   same_early_block : early_block s cs ps ≡ early_block s' cs ps'
-  same_early_block =
-      ap₂ (λ names env. with_constants (outward names env) cs)
-      (early_names_same (parameters_among ps) (parameters_among ps') [] [] ps ps' (among_parameters ps ps' h) no_pair h) environments
+  same_early_block = ap₂ (λ names env. with_constants (outward names env) cs) same_early_names environments
 
   pub same_block_known : known_behind nowhere (early_block s cs ps) (block_given ps) ≡ known_behind nowhere (early_block s' cs ps') (block_given ps')
   same_block_known =

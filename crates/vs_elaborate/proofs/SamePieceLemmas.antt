@@ -20,7 +20,7 @@ use Rattle.vs_syntax.specs.declared.tree.ModuleItem.TheVariants.{rolls-Plain, ro
 use Rattle.vs_syntax.specs.declared.tree.ModuleItem.TheViews.{roll-ModuleItem}
 use Rattle.vs_syntax.specs.declared.tree.ModuleItem.TheFolds.{fold-roll-ModuleItem, map-ModuleItem}
 use Rattle.vs_syntax.specs.Same.{SameExpr, Pairwise, no_pair, pair_more, SameOption, both_absent, both_there, SameName, SameLocals, SameStmt, same_null, same_assign, same_later, same_block, same_named_block, same_if, same_case, same_for, same_while, same_repeated, same_forever, same_delay, same_event, same_print, same_finish, same_dump, SameStmts, same_no_stmt, same_more_stmts, SameElse, same_no_else, same_else, SameCaseItems, same_no_item, same_more_items, SameItem, same_port_item, same_genvars, same_wire, same_reg, same_integer, same_parameters, same_localparams, same_instances, same_assigns, same_initial, same_always, SameLoopHeader, SameModuleItem, same_plain, same_region, same_generate_loop, same_generate_if, same_no_content, same_generate_block, SameOther, same_no_other, same_other, SameModuleItems, same_no_module_item, same_more_module_items}
-use Rattle.vs_pieces.specs.Pieces.{each_of, NamedBlock, blocks_in, blocks_among, blocks_of, Piece, plain, loop, choice, local, inside, unboxed, pieces_in, pieces_of, block_pieces, Content, nothing, block, name_given, content_step, content_of, block_name, names_step, branch_names, other_names}
+use Rattle.vs_pieces.specs.Pieces.{each_of, NamedBlock, blocks_in, blocks_among, blocks_of, Piece, plain, loop, choice, local, inside, net, unboxed, pieces_in, pieces_of, block_pieces, Content, nothing, block, name_given, content_step, content_of, block_name, names_step, branch_names, other_names}
 use Rattle.vs_elaborate.proofs.LayerLemmas.{blocks_by, blocks_layered, blocks_layer, pieces_by, pieces_layered, pieces_layer, content_layer}
 use Rattle.vs_elaborate.proofs.PairLemmas.{pair_append, pair_map}
 use Rattle.vs_elaborate.proofs.SameTypedLemmas.{by_both}
@@ -109,6 +109,7 @@ pub data SamePiece : Piece → Piece → Type 0 where
       SamePiece (choice e x o) (choice e' x' o')
   local_same : (x x' : LocalDeclaration) → SameLocals x x' → SamePiece (local x) (local x')
   inside_same : (b b' : NamedBlock) → SameBlock b b' → SamePiece (inside b) (inside b')
+  net_same : (n : List ℕ) → SamePiece (net n) (net n)
 
 abbrev pub AreSamePieces : List Piece → List Piece → Type 0
 AreSamePieces = Pairwise SamePiece

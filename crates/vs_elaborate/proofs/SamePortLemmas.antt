@@ -32,7 +32,7 @@ use Rattle.vs_scopes.specs.Ports.{PortSource, ModulePort, kind_of_port, scalar_f
 use Rattle.vs_scopes.specs.Declarations.{DeclaredName, size_of_kind, declared_by_port, declared_as, declared_by_item, declared_local, declared_locally, declared_in, not_joined, declared_among, declared_names, Use, use_of, uses_by_item, genvars_in, each_once, inner_names_in, inner_names_among}
 use Rattle.vs_pieces.specs.Pieces.{NamedBlock, blocks_of, Piece, plain, pieces_of, content_of}
 use Rattle.vs_elaborate.proofs.PairLemmas.{pair_map, pair_same, flat_one}
-use Rattle.vs_elaborate.proofs.SamePieceLemmas.{SameBlock, item_blocks_of, SamePiece, plain_same, loop_same, choice_same, local_same, inside_same, pieces_same, block_name_same, contents_same, branches_same, others_same}
+use Rattle.vs_elaborate.proofs.SamePieceLemmas.{SameBlock, item_blocks_of, SamePiece, plain_same, loop_same, choice_same, local_same, inside_same, net_same, pieces_same, block_name_same, contents_same, branches_same, others_same}
 use Rattle.vs_elaborate.proofs.SameTypedLemmas.{same_meant}
 
 -- ---- sizes
@@ -121,7 +121,7 @@ same_ports_from a a' _ _ h (pair_more p p' ps ps' i r) =
 
 -- ---- ports that items declare
 
-bare_same : (ns ns' : List (Vec ℕ Global)) → Pairwise SameName ns ns' → map (λ (n : Vec ℕ Global). n.items) ns ≡ map (λ (n : Vec ℕ Global). n.items) ns'
+pub bare_same : (ns ns' : List (Vec ℕ Global)) → Pairwise SameName ns ns' → map (λ (n : Vec ℕ Global). n.items) ns ≡ map (λ (n : Vec ℕ Global). n.items) ns'
 bare_same ns ns' h = pair_same SameName (λ (n : Vec ℕ Global). n.items) (λ n n' i. i) ns ns' h
 
 among_same : (n : List ℕ) (ns ns' : List (Vec ℕ Global)) → Pairwise SameName ns ns' → is_among n ns ≡ is_among n ns'
@@ -155,6 +155,7 @@ piece_said n _ _ (loop_same h h' x x' i m) = both_absent
 piece_said n _ _ (choice_same e e' x x' o o' i m r) = both_absent
 piece_said n _ _ (local_same x x' m) = both_absent
 piece_said n _ _ (inside_same b b' m) = both_absent
+piece_said n _ _ (net_same x) = both_absent
 
 port_said_same : (n : List ℕ) (ps ps' : List Piece) → Pairwise SamePiece ps ps' → SameOption SamePortForm (port_said ps n) (port_said ps' n)
 port_said_same n _ _ no_pair = both_absent
@@ -192,6 +193,7 @@ piece_kind n _ _ (loop_same h h' x x' i m) = both_absent
 piece_kind n _ _ (choice_same e e' x x' o o' i m r) = both_absent
 piece_kind n _ _ (local_same x x' m) = both_absent
 piece_kind n _ _ (inside_same b b' m) = both_absent
+piece_kind n _ _ (net_same x) = both_absent
 
 kind_said_same : (n : List ℕ) (ps ps' : List Piece) → Pairwise SamePiece ps ps' → SameOption SameKindSaid (kind_said ps n) (kind_said ps' n)
 kind_said_same n _ _ no_pair = both_absent
@@ -285,6 +287,7 @@ piece_port_names _ _ (loop_same h h' x x' i m) = refl
 piece_port_names _ _ (choice_same e e' x x' o o' i m r) = refl
 piece_port_names _ _ (local_same x x' m) = refl
 piece_port_names _ _ (inside_same b b' m) = refl
+piece_port_names _ _ (net_same x) = refl
 
 pub same_ports_again : (ps ps' : List ModulePort) (xs xs' : List Piece) → Pairwise SameModulePort ps ps' → Pairwise SamePiece xs xs' → ports_again ps xs ≡ ports_again ps' xs'
 same_ports_again ps ps' xs xs' h r = ap₂ left_over (names_where_same is_of_items ps ps' h) (flat_one SamePiece port_names_in piece_port_names xs xs' r)
@@ -330,6 +333,7 @@ piece_declares env _ _ (loop_same h h' x x' i m) = refl
 piece_declares env _ _ (choice_same e e' x x' o o' i m r) = refl
 piece_declares env _ _ (local_same x x' m) = local_declares env x x' m
 piece_declares env _ _ (inside_same b b' m) = refl
+piece_declares env _ _ (net_same x) = refl
 
 pub among_declares : (env : Environment) (xs xs' : List Piece) → Pairwise SamePiece xs xs' → declared_among env xs ≡ declared_among env xs'
 among_declares env xs xs' r = flat_one SamePiece (declared_in env) (piece_declares env) xs xs' r
@@ -384,6 +388,7 @@ piece_genvars _ _ (loop_same h h' x x' i m) = refl
 piece_genvars _ _ (choice_same e e' x x' o o' i m r) = refl
 piece_genvars _ _ (local_same x x' m) = refl
 piece_genvars _ _ (inside_same b b' m) = refl
+piece_genvars _ _ (net_same x) = refl
 
 pub same_genvar_names : (xs xs' : List Piece) → Pairwise SamePiece xs xs' → flat_map genvars_in xs ≡ flat_map genvars_in xs'
 same_genvar_names xs xs' r = flat_one SamePiece genvars_in piece_genvars xs xs' r
@@ -396,6 +401,7 @@ piece_inner_names _ _ (loop_same h h' x x' i m) = block_name_same (content_of x)
 piece_inner_names _ _ (choice_same e e' x x' o o' i m r) = ap₂ (λ a c. each_once (a ++ c)) (branches_same x x' m) (others_same o o' r)
 piece_inner_names _ _ (local_same x x' m) = refl
 piece_inner_names _ _ (inside_same b b' m) = ap (λ (n : List ℕ). n ∷ []) m.name
+piece_inner_names _ _ (net_same x) = refl
 
 pub same_inner_names : (xs xs' : List Piece) → Pairwise SamePiece xs xs' → inner_names_among xs ≡ inner_names_among xs'
 same_inner_names xs xs' r = flat_one SamePiece inner_names_in piece_inner_names xs xs' r

@@ -1,5 +1,5 @@
 -- Scopes of sources that say the same.
-use Rattle.std.proofs.Common.{◌≡◌, ℕ, zero, suc, Bool, true, false, ◌||◌, true≢false, cond, List, [], ◌∷◌, ◌++◌, ◌+◌, Option, Some, None, length, map, filter, refl, ap, ap₂, sym, subst, ◌∙◌}
+use Rattle.std.proofs.Common.{◌≡◌, ℕ, zero, suc, Bool, true, false, ◌&&◌, ◌||◌, true≢false, cond, List, [], ◌∷◌, ◌++◌, ◌+◌, Option, Some, None, length, map, filter, refl, ap, ap₂, sym, subst, ◌∙◌}
 use Rattle.std.specs.Prelude.{is_some}
 use Rattle.std.proofs.Math.Path.{fun_ext}
 use Rattle.std.specs.List.{list_any}
@@ -7,9 +7,11 @@ use Rattle.std.specs.Str.{bytes_eq}
 use Rattle.vs_syntax.specs.declared.tree.Module.{Module}
 use Rattle.vs_syntax.specs.Same.{Pairwise, no_pair, pair_more, SameOption, both_absent, both_there, SameValue, SameModule}
 use Rattle.vs_design.specs.declared.design.ScopeKind.{ScopeKind}
+use Rattle.vs_selects.specs.declared.bindings.Binding.{Binding}
 use Rattle.vs_selects.specs.declared.bindings.Binding.TheVariants as b
 use Rattle.vs_selects.specs.declared.constants.Const.{Const}
 use Rattle.vs_selects.specs.Environment.{Environment}
+use Rattle.vs_widths.specs.Names.{meaning_of}
 use Rattle.vs_pieces.specs.Pieces.{Piece, pieces_of, block_pieces}
 use Rattle.vs_scopes.specs.Printed.{PathName, plainly, Path, same_path, printed, printed_name, printed_part}
 use Rattle.vs_scopes.specs.Ranges.{word_count}
@@ -17,13 +19,15 @@ use Rattle.vs_scopes.specs.Connections.{ends_of}
 use Rattle.vs_scopes.specs.Parameters.{given_to, constants_of, known_behind, any_fault}
 use Rattle.vs_scopes.specs.Ports.{ports_of, port_names}
 use Rattle.vs_scopes.specs.Declarations.{Bindings, DeclaredName, declared_names, Use, bound_to}
+use Rattle.vs_scopes.specs.Nets.{permits_nets, Sight, seen, coming, nothing_seen, pieces_with_nets, first_told, is_before, is_net}
 use Rattle.vs_scopes.specs.Generate.{Inner, inner_from}
-use Rattle.vs_scopes.specs.Scopes.{Scope, nowhere, outward, seen_from, early, is_instance, declarations_of, numbered_names, constant_names, bindings_of, keys, all_names_of, environment, named, inner_of, module_named, Before, signal_count, instance_count, turn_count, behind, before, top_scope, instance_scope, block_scope, is_inside, has_no_values, block_fault, opened_instance, opened_block, opened, listed, below, within_first, scopes_within, deepest, opened_top, scopes_of, environment_at}
+use Rattle.vs_scopes.specs.Scopes.{Scope, nowhere, outward, seen_from, early, is_instance, declarations_of, numbered_names, constant_names, bindings_of, keys, environment, named, text_names, inner_of, sight_by, sight_in, module_named, Before, signal_count, instance_count, turn_count, behind, before, module_pieces, text_of, block_text, top_scope, instance_scope, block_scope, is_inside, has_no_values, block_fault, opened_instance, opened_block, opened, listed, below, within_first, scopes_within, deepest, opened_top, scopes_of, environment_at}
 use Rattle.vs_opened.specs.Outlines.{Declared, signal_of, signals_of, Line, enter, leave, declare_from, outline_around, outline_below, outline_within, outline_of}
 use Rattle.vs_elaborate.proofs.PairLemmas.{pair_append, pair_length, flat_one}
 use Rattle.vs_elaborate.proofs.SamePieceLemmas.{one_pair, SamePiece, pieces_same, block_pieces_same}
-use Rattle.vs_elaborate.proofs.SameParameterLemmas.{same_ends, same_known, same_values, same_no_values, same_block_known, same_block_values, same_block_fault}
-use Rattle.vs_elaborate.proofs.SamePortLemmas.{SameModulePort, same_pieces, same_ports, same_port_names, same_ports_again, same_declared, SameUse, same_genvar_names, same_inner_names}
+use Rattle.vs_elaborate.proofs.SameParameterLemmas.{same_ends, same_text, same_block_text, same_known, same_values, same_no_values, same_block_known, same_block_values, same_block_fault}
+use Rattle.vs_elaborate.proofs.SameNetLemmas.{same_with_nets, same_first_told, same_permits}
+use Rattle.vs_elaborate.proofs.SamePortLemmas.{SameModulePort, same_pieces, same_ports, same_port_names, same_declared, SameUse, same_genvar_names, same_inner_names}
 use Rattle.vs_elaborate.proofs.SameInnerLemmas.{SameInner, instance_same, generated_same, named_same, inner_same}
 
 -- scopes that say the same
@@ -36,6 +40,8 @@ pub record SameScope (s s' : Scope) : Type 0 where
   pub instances : s.instances ≡ s'.instances
   pub turns : s.turns ≡ s'.turns
   pub depth : s.depth ≡ s'.depth
+  pub nets : s.nets ≡ s'.nets
+  pub text : s.text ≡ s'.text
   pub ports : Pairwise SameModulePort s.ports s'.ports
   pub pieces : Pairwise SamePiece s.pieces s'.pieces
   pub constants : s.constants ≡ s'.constants
@@ -44,6 +50,7 @@ pub record SameScope (s s' : Scope) : Type 0 where
   pub home : s.home ≡ s'.home
   pub around : s.around ≡ s'.around
   pub outer : s.outer ≡ s'.outer
+  pub sight : s.sight ≡ s'.sight
   pub ends : Pairwise SameValue s.ends s'.ends
 
 module _ (s s' : Scope) (same : SameScope s s') where
@@ -58,17 +65,25 @@ module _ (s s' : Scope) (same : SameScope s s') where
       let others = ap (bound_to b.Other) (same_inner_names s.pieces s'.pieces same.pieces) in
       ap₂ (λ (a c : Bindings). a ++ c) (ap₂ (λ (a c : Bindings). a ++ c) (ap₂ (λ (a c : Bindings). a ++ c) constants signals) genvars) others
 
-  all_names_same : all_names_of s ≡ all_names_of s'
-  all_names_same = ap₂ (λ (a c : List (List ℕ)). a ++ c) (ap keys bindings_same) (same_ports_again s.ports s'.ports s.pieces s'.pieces same.ports same.pieces)
-
   -- names are bound to the same
   pub environment_same : environment s ≡ environment s'
   environment_same = ap₂ outward bindings_same (ap₂ seen_from same.kind same.outer)
 
   pub inside_same : Pairwise SameInner (inner_of s) (inner_of s')
   inside_same =
-      subst (λ names. Pairwise SameInner (inner_of s) (inner_from (environment s') names 1 s'.pieces)) all_names_same
-      (subst (λ env. Pairwise SameInner (inner_of s) (inner_from env (all_names_of s) 1 s'.pieces)) environment_same (inner_same (environment s) (all_names_of s) 1 s.pieces s'.pieces same.pieces))
+      subst (λ names. Pairwise SameInner (inner_of s) (inner_from 0 (environment s') names 1 s'.pieces)) (ap keys same.text)
+      (subst (λ env. Pairwise SameInner (inner_of s) (inner_from 0 env (text_names s) 1 s'.pieces)) environment_same (inner_same 0 (environment s) (text_names s) 1 s.pieces s'.pieces same.pieces))
+
+  -- names stand in the same way before a piece
+  sight_by_same : (n : List ℕ) (told : Bool) (o : Option Binding) → sight_by s n told o ≡ sight_by s' n told o
+  sight_by_same n told None = ap (λ (z : List ℕ → Sight). z n) same.sight
+  sight_by_same n told (Some x) = ap (λ (p : Path). cond (told && is_net x) (coming (p ++ plainly n ∷ [])) seen) same.path
+
+  sight_same : (place : ℕ) → sight_in s place ≡ sight_in s' place
+  sight_same place = fun_ext (λ n.
+      ap (λ (t : Option ℕ). cond (is_before t place) seen (sight_by s n (is_some t) (meaning_of s.text n))) (same_first_told s.pieces s'.pieces same.pieces n)
+      ∙ ap (λ (t : Bindings). cond (is_before (first_told s'.pieces n) place) seen (sight_by s n (is_some (first_told s'.pieces n)) (meaning_of t n))) same.text
+      ∙ ap (cond (is_before (first_told s'.pieces n) place) seen) (sight_by_same n (is_some (first_told s'.pieces n)) (meaning_of s'.text n)))
 
   pub signals_same : signals_of s ≡ signals_of s'
   signals_same =
@@ -82,6 +97,14 @@ module _ (s s' : Scope) (same : SameScope s s') where
       let Q : List Line → List Line → List Line = λ xs ys. enter s'.kind (printed_part s'.title) ∷ xs ++ ys ++ leave ∷ [] in
       let R : List Line = declare_from s.base (declarations_of s) ++ ls ++ leave ∷ [] in
       ap (λ kind. P kind s.title R) same.kind ∙ ap (λ n. P s'.kind n R) same.title ∙ ap₂ Q own h
+
+-- the pieces of modules that say the same, with their implicit nets
+same_module_pieces : (nets nets' : Bool) (m m' : Module) → nets ≡ nets' → SameModule m m' → Pairwise SamePiece (module_pieces nets m) (module_pieces nets' m')
+same_module_pieces nets nets' m m' i k =
+    let ps = pieces_of m.items.items in
+    let ps' = pieces_of m'.items.items in
+    subst (λ z. Pairwise SamePiece (module_pieces nets m) (module_pieces z m')) i
+    (subst (λ (t : Bindings). Pairwise SamePiece (module_pieces nets m) (pieces_with_nets nets t nothing_seen ps')) (same_text m m' k) (same_with_nets nets (text_of m) nothing_seen ps ps' (same_pieces m m' k)))
 
 -- modules of one name are both found, and say the same, or neither
 pub same_found : (ms ms' : List Module) (n : List ℕ) → Pairwise SameModule ms ms' → SameOption SameModule (module_named ms n) (module_named ms' n)
@@ -103,8 +126,8 @@ either_same false false t t' i h = both_there t t' h
 -- ---- the scopes that instances and blocks open
 
 module _ (s s' : Scope) (same : SameScope s s') (at at' : Before) (i : at ≡ at') where
-  module _ (u u' : Use) (h : SameUse u u') where
-    instance_scope_same : (m m' : Module) → SameModule m m' → SameScope (instance_scope s at u m) (instance_scope s' at' u' m')
+  module _ (nets nets' : Bool) (j : nets ≡ nets') (u u' : Use) (h : SameUse u u') where
+    instance_scope_same : (m m' : Module) → SameModule m m' → SameScope (instance_scope nets s at u m) (instance_scope nets' s' at' u' m')
     instance_scope_same m m' k =
         let ports = same_ports m m' k in
         let names = same_port_names (ports_of m) (ports_of m') ports in
@@ -118,30 +141,39 @@ module _ (s s' : Scope) (same : SameScope s s') (at at' : Before) (i : at ≡ at
           instances = ap (λ (z : Before). z.instances) i;
           turns = ap (λ (z : Before). z.turns) i;
           depth = ap suc same.depth;
+          nets = j;
+          text = same_text m m' k;
           ports = ports;
-          pieces = same_pieces m m' k;
+          pieces = same_module_pieces nets nets' m m' j k;
           constants = ap (λ env. constants_of env (early m) (given_to u.overrides m)) same.known ∙ same_values s'.known u.overrides u'.overrides m m' h.overrides k;
           known = ap (λ env. known_behind env (early m) (given_to u.overrides m)) same.known ∙ same_known s'.known u.overrides u'.overrides m m' h.overrides k;
           within = ap₂ (λ (z : List ℕ) (zs : List (List ℕ)). z ∷ zs) k.name same.within;
           home = path;
           around = same.path;
           outer = environment_same s s' same;
+          sight = refl;
           ends = subst (λ ns. Pairwise SameValue (ends_of u.ports (port_names (ports_of m))) (ends_of u'.ports ns)) names (same_ends u.ports u'.ports (port_names (ports_of m)) h.ports);
         }
 
     is_inside_same : (m m' : Module) → SameModule m m' → is_inside s m ≡ is_inside s' m'
     is_inside_same m m' k = ap₂ (λ z zs. list_any (bytes_eq z) zs) k.name same.within
 
-    opened_instance_same : (o o' : Option Module) → SameOption SameModule o o' → SameOption SameScope (opened_instance s at u o) (opened_instance s' at' u' o')
+    opened_instance_same : (o o' : Option Module) → SameOption SameModule o o' → SameOption SameScope (opened_instance nets s at u o) (opened_instance nets' s' at' u' o')
     opened_instance_same _ _ both_absent = both_absent
     opened_instance_same _ _ (both_there m m' k) =
         let values : has_no_values s.known u.overrides m ≡ has_no_values s'.known u'.overrides m' = ap (λ env. has_no_values env u.overrides m) same.known ∙ same_no_values s'.known u.overrides u'.overrides m m' h.overrides k in
-        either_same (is_inside s m || has_no_values s.known u.overrides m) (is_inside s' m' || has_no_values s'.known u'.overrides m') (instance_scope s at u m) (instance_scope s' at' u' m')
+        either_same (is_inside s m || has_no_values s.known u.overrides m) (is_inside s' m' || has_no_values s'.known u'.overrides m') (instance_scope nets s at u m) (instance_scope nets' s' at' u' m')
         (ap₂ (λ a c. a || c) (is_inside_same m m' k) values) (instance_scope_same m m' k)
 
-  block_scope_same : (n n' : PathName) (cs : List (List ℕ × Const)) (ps ps' : List Piece) → n ≡ n' → Pairwise SamePiece ps ps' → SameScope (block_scope s at n cs ps) (block_scope s' at' n' cs ps')
-  block_scope_same n n' cs ps ps' j h =
+  block_scope_same : (place : ℕ) (n n' : PathName) (cs : List (List ℕ × Const)) (ps ps' : List Piece) → n ≡ n' → Pairwise SamePiece ps ps' → SameScope (block_scope place s at n cs ps) (block_scope place s' at' n' cs ps')
+  block_scope_same place n n' cs ps ps' j h =
       let environments = environment_same s s' same in
+      let text = same_block_text s s' environments cs ps ps' h in
+      let own = pieces_with_nets s.nets (block_text cs ps) (sight_in s place) ps in
+      let pieces : Pairwise SamePiece own (pieces_with_nets s'.nets (block_text cs ps') (sight_in s' place) ps') =
+      subst (λ z. Pairwise SamePiece own (pieces_with_nets z (block_text cs ps') (sight_in s' place) ps')) same.nets
+      (subst (λ (t : Bindings). Pairwise SamePiece own (pieces_with_nets s.nets t (sight_in s' place) ps')) text
+      (subst (λ (a : List ℕ → Sight). Pairwise SamePiece own (pieces_with_nets s.nets (block_text cs ps) a ps')) (sight_same s s' same place) (same_with_nets s.nets (block_text cs ps) (sight_in s place) ps ps' h))) in
       record {
         path = ap₂ (λ (p : Path) (z : PathName). p ++ z ∷ []) same.path j;
         title = j;
@@ -151,28 +183,33 @@ module _ (s s' : Scope) (same : SameScope s s') (at at' : Before) (i : at ≡ at
         instances = ap (λ (z : Before). z.instances) i;
         turns = ap (λ (z : Before). z.turns) i;
         depth = same.depth;
+        nets = same.nets;
+        text = text;
         ports = no_pair;
-        pieces = h;
+        pieces = pieces;
         constants = ap (λ (z : List (List ℕ × Const)). cs ++ z) (same_block_values s s' environments cs ps ps' h);
         known = same_block_known s s' environments cs ps ps' h;
         within = same.within;
         home = same.home;
         around = same.path;
         outer = environments;
+        sight = sight_same s s' same place;
         ends = no_pair;
       }
 
-  opened_block_same : (n n' : PathName) (cs : List (List ℕ × Const)) (ps ps' : List Piece) → n ≡ n' → Pairwise SamePiece ps ps' → SameOption SameScope (opened_block s at n cs ps) (opened_block s' at' n' cs ps')
-  opened_block_same n n' cs ps ps' j h =
-      either_same (any_fault (block_fault s cs ps)) (any_fault (block_fault s' cs ps')) (block_scope s at n cs ps) (block_scope s' at' n' cs ps')
-      (same_block_fault s s' (environment_same s s' same) cs ps ps' h) (block_scope_same n n' cs ps ps' j h)
+  opened_block_same : (place : ℕ) (n n' : PathName) (cs : List (List ℕ × Const)) (ps ps' : List Piece) → n ≡ n' → Pairwise SamePiece ps ps' → SameOption SameScope (opened_block place s at n cs ps) (opened_block place s' at' n' cs ps')
+  opened_block_same place n n' cs ps ps' j h =
+      either_same (any_fault (block_fault s cs ps)) (any_fault (block_fault s' cs ps')) (block_scope place s at n cs ps) (block_scope place s' at' n' cs ps')
+      (same_block_fault s s' (environment_same s s' same) cs ps ps' h) (block_scope_same place n n' cs ps ps' j h)
 
   pub opened_same : (ms ms' : List Module) → Pairwise SameModule ms ms' → (x x' : Inner) → SameInner x x' → SameOption SameScope (opened ms s at x) (opened ms' s' at' x')
   opened_same ms ms' modules _ _ (instance_same u u' h) =
-      opened_instance_same u u' h (module_named ms u.of) (module_named ms' u'.of) (subst (λ z. SameOption SameModule (module_named ms u.of) (module_named ms' z)) h.of (same_found ms ms' u.of modules))
-  opened_same ms ms' modules _ _ (generated_same n cs xs xs' h) = opened_block_same n n cs (pieces_of xs) (pieces_of xs') refl (pieces_same xs xs' h)
+      let nets : permits_nets ms u.of ≡ permits_nets ms' u'.of = same_permits ms ms' u.of modules ∙ ap (permits_nets ms') h.of in
+      opened_instance_same (permits_nets ms u.of) (permits_nets ms' u'.of) nets u u' h (module_named ms u.of) (module_named ms' u'.of)
+      (subst (λ z. SameOption SameModule (module_named ms u.of) (module_named ms' z)) h.of (same_found ms ms' u.of modules))
+  opened_same ms ms' modules _ _ (generated_same place n cs xs xs' h) = opened_block_same place n n cs (pieces_of xs) (pieces_of xs') refl (pieces_same xs xs' h)
   opened_same ms ms' modules _ _ (named_same x x' h) =
-      opened_block_same (plainly x.name) (plainly x'.name) [] (block_pieces x) (block_pieces x') (ap plainly h.name) (block_pieces_same x x' h)
+      opened_block_same 0 (plainly x.name) (plainly x'.name) [] (block_pieces x) (block_pieces x') (ap plainly h.name) (block_pieces_same x x' h)
 
 -- ---- what stands before scopes
 
@@ -251,6 +288,10 @@ module _ (ms ms' : List Module) (modules : Pairwise SameModule ms ms') (f f' : S
 
 -- ---- whole sources
 
+-- the top scope of a source, where there is one
+abbrev top_of : List Module → List ℕ → Option Scope
+top_of ms top = opened_top (permits_nets ms top) (module_named ms top)
+
 module _ (ms ms' : List Module) (modules : Pairwise SameModule ms ms') where
   within_same : (n : ℕ) (s s' : Scope) → SameScope s s' → Pairwise SameScope (scopes_within n ms s) (scopes_within n ms' s')
   unfolding scopes_within
@@ -266,8 +307,8 @@ module _ (ms ms' : List Module) (modules : Pairwise SameModule ms ms') where
       (lines_same ms ms' modules (scopes_within n ms) (scopes_within n ms') (within_same n) s s' h (outline_within n ms) (outline_within n ms') (outline_same n)
       (within_first s) (within_first s') (first_same s s' h) (inner_of s) (inner_of s') (inside_same s s' h))
 
-  top_same : (m m' : Module) → SameModule m m' → SameScope (top_scope m) (top_scope m')
-  top_same m m' k = record {
+  top_same : (nets nets' : Bool) (m m' : Module) → nets ≡ nets' → SameModule m m' → SameScope (top_scope nets m) (top_scope nets' m')
+  top_same nets nets' m m' j k = record {
     path = ap (λ (n : List ℕ). plainly n ∷ []) k.name;
     title = ap plainly k.name;
     kind = refl;
@@ -276,32 +317,35 @@ module _ (ms ms' : List Module) (modules : Pairwise SameModule ms ms') where
     instances = refl;
     turns = refl;
     depth = refl;
+    nets = j;
+    text = same_text m m' k;
     ports = same_ports m m' k;
-    pieces = same_pieces m m' k;
+    pieces = same_module_pieces nets nets' m m' j k;
     constants = same_values nowhere None None m m' both_absent k;
     known = same_known nowhere None None m m' both_absent k;
     within = ap (λ (n : List ℕ). n ∷ []) k.name;
     home = ap (λ (n : List ℕ). plainly n ∷ []) k.name;
     around = refl;
     outer = refl;
+    sight = refl;
     ends = no_pair;
   }
 
-  opened_top_same : (o o' : Option Module) → SameOption SameModule o o' → SameOption SameScope (opened_top o) (opened_top o')
-  opened_top_same _ _ both_absent = both_absent
-  opened_top_same _ _ (both_there m m' k) =
-      either_same (has_no_values nowhere None m) (has_no_values nowhere None m') (top_scope m) (top_scope m') (same_no_values nowhere None None m m' both_absent k) (top_same m m' k)
+  opened_top_same : (nets nets' : Bool) (o o' : Option Module) → nets ≡ nets' → SameOption SameModule o o' → SameOption SameScope (opened_top nets o) (opened_top nets' o')
+  opened_top_same nets nets' _ _ j both_absent = both_absent
+  opened_top_same nets nets' _ _ j (both_there m m' k) =
+      either_same (has_no_values nowhere None m) (has_no_values nowhere None m') (top_scope nets m) (top_scope nets' m') (same_no_values nowhere None None m m' both_absent k) (top_same nets nets' m m' j k)
 
   -- the top scopes of two sources that say the same
-  tops_same : (top : List ℕ) → SameOption SameScope (opened_top (module_named ms top)) (opened_top (module_named ms' top))
-  tops_same top = opened_top_same (module_named ms top) (module_named ms' top) (same_found ms ms' top modules)
+  tops_same : (top : List ℕ) → SameOption SameScope (top_of ms top) (top_of ms' top)
+  tops_same top = opened_top_same (permits_nets ms top) (permits_nets ms' top) (module_named ms top) (module_named ms' top) (same_permits ms ms' top modules) (same_found ms ms' top modules)
 
   -- so many levels of their scopes, and of their outlines
-  levels_same : (n : ℕ) (top : List ℕ) → Pairwise SameScope (listed (scopes_within n ms) (opened_top (module_named ms top))) (listed (scopes_within n ms') (opened_top (module_named ms' top)))
-  levels_same n top = listed_same (scopes_within n ms) (scopes_within n ms') (within_same n) (opened_top (module_named ms top)) (opened_top (module_named ms' top)) (tops_same top)
+  levels_same : (n : ℕ) (top : List ℕ) → Pairwise SameScope (listed (scopes_within n ms) (top_of ms top)) (listed (scopes_within n ms') (top_of ms' top))
+  levels_same n top = listed_same (scopes_within n ms) (scopes_within n ms') (within_same n) (top_of ms top) (top_of ms' top) (tops_same top)
 
-  lines_within : (n : ℕ) (top : List ℕ) → listed (outline_within n ms) (opened_top (module_named ms top)) ≡ listed (outline_within n ms') (opened_top (module_named ms' top))
-  lines_within n top = listed_one (outline_within n ms) (outline_within n ms') (outline_same n) (opened_top (module_named ms top)) (opened_top (module_named ms' top)) (tops_same top)
+  lines_within : (n : ℕ) (top : List ℕ) → listed (outline_within n ms) (top_of ms top) ≡ listed (outline_within n ms') (top_of ms' top)
+  lines_within n top = listed_one (outline_within n ms) (outline_within n ms') (outline_same n) (top_of ms top) (top_of ms' top) (tops_same top)
 
   -- the scopes of two sources that say the same
   pub scopes_same : (top : List ℕ) → Pairwise SameScope (scopes_of ms top) (scopes_of ms' top)

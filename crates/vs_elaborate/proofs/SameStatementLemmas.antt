@@ -39,7 +39,7 @@ use Rattle.vs_selects.specs.Findings.{Finding, Has, together, alike}
 use Rattle.vs_selects.specs.Meants.{own}
 use Rattle.vs_widths.specs.Expressions.{meant, name_meant}
 use Rattle.vs_widths.specs.Typing.{IsTypedAs}
-use Rattle.vs_targets.specs.declared.kinds.AssignmentKind.TheVariants.{Procedural}
+use Rattle.vs_widths.specs.declared.kinds.AssignmentKind.TheVariants.{Procedural}
 use Rattle.vs_scopes.specs.Printed.{plainly, Path}
 use Rattle.vs_bodies.specs.Members.{places}
 use Rattle.vs_bodies.specs.Surroundings.{Surroundings}

@@ -24,7 +24,7 @@ use Rattle.vs_selects.specs.declared.faults.WidthReason.{WidthReason}
 use Rattle.vs_selects.specs.declared.faults.WidthReason.TheVariants.{WrongKind}
 use Rattle.vs_selects.specs.Environment.{Environment}
 use Rattle.vs_widths.specs.Names.{meaning_of}
-use Rattle.vs_pieces.specs.Pieces.{Piece, plain, loop, choice, local, inside}
+use Rattle.vs_pieces.specs.Pieces.{Piece, plain, loop, choice, local, inside, net}
 use Rattle.vs_scopes.specs.declared.faults.Reason.TheVariants.{Width}
 use Rattle.vs_scopes.specs.Ranges.{Sized, bounds_fault, Words, words_fault, words_as, word_count}
 use Rattle.vs_scopes.specs.Parameters.{said}
@@ -233,6 +233,7 @@ piece_worded env (choice e x o) = tt
 piece_worded env (local (l.Reg f xs)) = locals_worded env _ _ xs.items
 piece_worded env (local (l.Integer xs)) = locals_worded env _ _ xs.items
 piece_worded env (inside x) = tt
+piece_worded env (net n) = ((None, refl), tt)
 
 pieces_worded : (env : Environment) (xs : List Piece) → AllByRecursion (IsWorded env) (declared_among env xs)
 pieces_worded env [] = tt

@@ -13,8 +13,8 @@ use Rattle.vs_syntax.specs.declared.tree.Stmt.{Stmt, Stmt-F, roll-Stmt, ind-Stmt
 use Rattle.vs_syntax.specs.declared.tree.Stmt.TheFolds.{fold-roll-Stmt}
 use Rattle.vs_syntax.specs.declared.tree.Stmt.TheOpen as f
 use Rattle.vs_selects.specs.Environment.{Environment}
-use Rattle.vs_targets.specs.declared.kinds.AssignmentKind.{AssignmentKind}
-use Rattle.vs_targets.specs.declared.kinds.AssignmentKind.TheVariants.{Procedural, Continuous}
+use Rattle.vs_widths.specs.declared.kinds.AssignmentKind.{AssignmentKind}
+use Rattle.vs_widths.specs.declared.kinds.AssignmentKind.TheVariants.{Procedural, Continuous}
 use Rattle.vs_scopes.specs.declared.faults.Reason.{Reason}
 use Rattle.vs_scopes.specs.declared.faults.Reason.TheVariants.{NoModule, Inside, PortMismatch, ParameterMismatch, DeclaredTwice, DrivenTwice, Limit, Width, Endless, Unnamed, Timescales, Format}
 use Rattle.vs_scopes.specs.declared.faults.ElabFault.{ElabFault}
@@ -133,7 +133,9 @@ module _ (ms : List Module) (envs : Path → Surroundings) (s : Scope) where
   opening_holds PortMismatch p h = h
   opening_holds ParameterMismatch p h = h
   opening_holds DeclaredTwice p (inl h) = inl h
-  opening_holds DeclaredTwice p (inr h) = inr (inl h)
+  opening_holds DeclaredTwice p (inr (inl h)) = inr (inl h)
+  opening_holds DeclaredTwice p (inr (inr (inl h))) = inr (inr (inl h))
+  opening_holds DeclaredTwice p (inr (inr (inr h))) = inr (inr (inr (inl h)))
   opening_holds DrivenTwice p h = h
   opening_holds Limit p (inl h) = inl h
   opening_holds Limit p (inr (inl h)) = inr (inl h)
@@ -158,7 +160,7 @@ module _ (ms : List Module) (envs : Path → Surroundings) (s : Scope) where
   fills_holds Limit p (inl h) = absurd (no_port Limit p (λ d. refl) h.0)
   fills_holds Limit p (inr h) = inr (inr (inr h))
   fills_holds DeclaredTwice p (inl h) = absurd (no_port DeclaredTwice p (λ d. refl) h.0)
-  fills_holds DeclaredTwice p (inr h) = inr (inr h)
+  fills_holds DeclaredTwice p (inr h) = inr (inr (inr (inr h)))
   fills_holds NoModule p h = absurd (nothing_fills envs s NoModule p (record { apart = λ env. record { assign = λ how a e. refl; operand = λ e. refl; cases = λ e ls. refl; delay = λ n d. refl; print = λ xs. refl; event = λ e. refl }; port = λ own outer d. refl; full = λ n. refl }) h)
   fills_holds Inside p h = absurd (nothing_fills envs s Inside p (record { apart = λ env. record { assign = λ how a e. refl; operand = λ e. refl; cases = λ e ls. refl; delay = λ n d. refl; print = λ xs. refl; event = λ e. refl }; port = λ own outer d. refl; full = λ n. refl }) h)
   fills_holds PortMismatch p h = absurd (nothing_fills envs s PortMismatch p (record { apart = λ env. record { assign = λ how a e. refl; operand = λ e. refl; cases = λ e ls. refl; delay = λ n d. refl; print = λ xs. refl; event = λ e. refl }; port = λ own outer d. refl; full = λ n. refl }) h)
@@ -177,8 +179,10 @@ module _ (ms : List Module) (envs : Path → Surroundings) (s : Scope) where
   holds_split PortMismatch p h = inl h
   holds_split ParameterMismatch p h = inl h
   holds_split DeclaredTwice p (inl h) = inl (inl h)
-  holds_split DeclaredTwice p (inr (inl h)) = inl (inr h)
-  holds_split DeclaredTwice p (inr (inr h)) = inr (inr h)
+  holds_split DeclaredTwice p (inr (inl h)) = inl (inr (inl h))
+  holds_split DeclaredTwice p (inr (inr (inl h))) = inl (inr (inr (inl h)))
+  holds_split DeclaredTwice p (inr (inr (inr (inl h)))) = inl (inr (inr (inr h)))
+  holds_split DeclaredTwice p (inr (inr (inr (inr h)))) = inr (inr h)
   holds_split DrivenTwice p h = absurd h
   holds_split Limit p (inl h) = inl (inl h)
   holds_split Limit p (inr (inl h)) = inl (inr (inl h))

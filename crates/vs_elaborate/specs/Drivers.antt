@@ -6,9 +6,9 @@ use Rattle.vs_selects.specs.Environment.{Environment}
 use Rattle.vs_selects.specs.Findings.{stands}
 use Rattle.vs_selects.specs.Meants.{Meant}
 use Rattle.vs_widths.specs.Expressions.{meant, name_meant}
-use Rattle.vs_targets.specs.declared.kinds.AssignmentKind.TheVariants.{Continuous}
-use Rattle.vs_targets.specs.Lefts.{Aimed, name_aimed, expr_aimed}
-use Rattle.vs_targets.specs.Aiming.{IsTarget}
+use Rattle.vs_widths.specs.declared.kinds.AssignmentKind.TheVariants.{Continuous}
+use Rattle.vs_widths.specs.Lefts.{Aimed, name_aimed, expr_aimed}
+use Rattle.vs_widths.specs.Aiming.{IsTarget}
 use Rattle.vs_scopes.specs.declared.faults.Reason.{Reason}
 use Rattle.vs_scopes.specs.declared.faults.Reason.TheVariants.{Width}
 use Rattle.vs_bodies.specs.Members.{Assignment, PortDriver, into, out_of, Driver, of_port, of_text}

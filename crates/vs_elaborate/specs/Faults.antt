@@ -7,8 +7,8 @@ use Rattle.vs_design.specs.Kinds.{is_variable}
 use Rattle.vs_design.specs.WellFormed.{have_common, bits_or_all}
 use Rattle.vs_design.specs.declared.range.BitRange.{BitRange}
 use Rattle.vs_selects.specs.Selects.{named_range}
-use Rattle.vs_targets.specs.declared.kinds.AssignmentKind.TheVariants.{Continuous}
-use Rattle.vs_targets.specs.Lefts.{Aimed}
+use Rattle.vs_widths.specs.declared.kinds.AssignmentKind.TheVariants.{Continuous}
+use Rattle.vs_widths.specs.Lefts.{Aimed}
 use Rattle.vs_scopes.specs.declared.faults.Reason.{Reason}
 use Rattle.vs_scopes.specs.declared.faults.Reason.TheVariants.{NoModule, Inside, PortMismatch, ParameterMismatch, DeclaredTwice, DrivenTwice, Limit, Width, Endless, Unnamed, Timescales, Format}
 use Rattle.vs_scopes.specs.declared.faults.ElabFault.{ElabFault}
@@ -17,7 +17,7 @@ use Rattle.vs_scopes.specs.Printed.{plainly, Path, printed}
 use Rattle.vs_scopes.specs.Parameters.{is_override_mismatch}
 use Rattle.vs_scopes.specs.Declarations.{DeclaredName}
 use Rattle.vs_scopes.specs.Scopes.{Scope, module_named, scopes_of, declarations_of, environment, signal_paths, is_inside, is_port_mismatch}
-use Rattle.vs_opened.specs.ScopeFaults.{of_module, AtInstance, HasNoModule, parameter_fault, HasOverrideFault, DeclaresTwice, HasWrongPort, HasUnlikePort, HasStrayPort, HasBlockParameter, HasConstructFault, HasBlockFault, HasRangeFault, PassesLimit, PassesTurns, NamesTwice, top_fault}
+use Rattle.vs_opened.specs.ScopeFaults.{of_module, AtInstance, HasNoModule, parameter_fault, HasOverrideFault, DeclaresTwice, HasWrongPort, HasUnlikePort, HasStrayPort, HasBlockParameter, HasConstructFault, HasBlockFault, HasLateNet, HasBlockOfNet, HasRangeFault, PassesLimit, PassesTurns, NamesTwice, top_fault}
 use Rattle.vs_bodies.specs.Statements.{assigned_to}
 use Rattle.vs_bodies.specs.Surroundings.{Surroundings, surroundings_at}
 use Rattle.vs_bodies.specs.Members.{Behavior, Driver, of_port, of_text, drivers_of, port_drivers_of, behaviors_of}
@@ -50,7 +50,7 @@ Holds ms envs s NoModule p = HasNoModule ms s p
 Holds ms envs s Inside p = AtInstance ms s (λ u m. is_inside s m) p
 Holds ms envs s PortMismatch p = AtInstance ms s is_port_mismatch p ⊎ HasWrongPort s p ⊎ HasStrayPort s p
 Holds ms envs s ParameterMismatch p = AtInstance ms s (λ u m. is_override_mismatch u.overrides m) p ⊎ HasBlockParameter s p
-Holds ms envs s DeclaredTwice p = DeclaresTwice s p ⊎ HasUnlikePort s p ⊎ HasFault envs s DeclaredTwice p
+Holds ms envs s DeclaredTwice p = DeclaresTwice s p ⊎ HasUnlikePort s p ⊎ HasLateNet s p ⊎ HasBlockOfNet s p ⊎ HasFault envs s DeclaredTwice p
 Holds ms envs s DrivenTwice p = ⊥
 Holds ms envs s Limit p = PassesLimit s p ⊎ PassesTurns s p ⊎ HasRangeFault s Limit p ⊎ HasFault envs s Limit p
 Holds ms envs s (Width w) p =

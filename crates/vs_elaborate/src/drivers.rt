@@ -1,7 +1,7 @@
 //! The continuous assignments of the text of a scope, as parts of a design.
 ghost use Rattle.std.specs.Prelude.{◌≡◌, ◌∷◌, [], map};
 ghost use Rattle.std.specs.List.{flat_map};
-ghost use Rattle.vs_targets.specs.declared.kinds.AssignmentKind.TheVariants.{Continuous};
+ghost use Rattle.vs_widths.specs.declared.kinds.AssignmentKind.TheVariants.{Continuous};
 ghost use Rattle.vs_pieces.specs.Reads.{read_piece};
 ghost use Rattle.vs_scopes.specs.Printed.{Path};
 ghost use Rattle.vs_bodies.specs.Surroundings.{Surroundings};
@@ -19,7 +19,7 @@ use vs_design::{Assign, Target, Typed};
 use vs_pieces::Piece;
 use vs_scopes::{BodyFault, ElabFault, print_part};
 use vs_syntax::{Declarator, Item, NetAssignment};
-use vs_targets::AssignmentKind;
+use vs_widths::AssignmentKind;
 
 /// The kind of an assignment that drives a net.
 const CONTINUOUS: AssignmentKind = AssignmentKind::Continuous;

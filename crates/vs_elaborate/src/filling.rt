@@ -51,8 +51,8 @@ fn fill_frame(
 ) -> Result<(), ElabFault>
     requires placed { IsPlaced frame.now.view.list.now frame.now.view.place }
     requires lefts { AreLefts scope.now }
-    ensures { (envs : Path → Surroundings) (s : Scope) → IsFrame frame.now envs s → HasMembers scope.now s → meaning_of outer.now ≡ s.outer →
-        MatchResult result (λ _. FillsScope envs s contents.old contents.new) (Told (FillsNot envs s)) }
+    ensures { (envs : Path → Surroundings) (s : Scope) → IsFrame frame.now envs s → HasMembers scope.now s
+        → meaning_of outer.now ≡ s.outer → MatchResult result (λ _. FillsScope envs s contents.old contents.new) (Told (FillsNot envs s)) }
 {
     drive_ports(alloc, frame, outer, &scope.ports, &scope.ends, contents)?;
     let first = contents.assigns.len();
@@ -73,7 +73,8 @@ fn fill_named(
 ) -> Result<(), ElabFault>
     requires placed { IsPlaced list.now place }
     requires lefts { (o : FoundScope) → slice_get list.now place ≡ Some o → AreLefts o }
-    ensures { (ss : List Scope) (s : Scope) → let envs = surroundings_at ratio.ticks ss in AreSites list.now ss envs → slice_get ss place ≡ Some s →
+    ensures { (ss : List Scope) (s : Scope) → let envs = surroundings_at ratio.ticks ss in AreSites list.now ss envs
+        → slice_get ss place ≡ Some s →
         meaning_of outer.now ≡ s.outer →
         MatchResult result (λ _. FillsScope envs s contents.old contents.new) (Told (FillsNot envs s)) }
 {
@@ -103,7 +104,8 @@ fn fill_within<'s>(
     requires placed { IsPlaced list.now place }
     requires lefts { (o : FoundScope) → slice_get list.now place ≡ Some o → AreLefts o }
     requires nothing { nothing.now ≡ [] }
-    ensures { (ss : List Scope) (s : Scope) → let envs = surroundings_at ratio.ticks ss in AreSites list.now ss envs → slice_get ss place ≡ Some s →
+    ensures { (ss : List Scope) (s : Scope) → let envs = surroundings_at ratio.ticks ss in AreSites list.now ss envs
+        → slice_get ss place ≡ Some s →
         MatchResult result (λ _. FillsScope envs s contents.old contents.new) (Told (FillsNot envs s)) }
 {
     let outside = names_outside(alloc, list, list[place].around)?;
@@ -121,7 +123,8 @@ fn fill(
 ) -> Result<(), ElabFault>
     requires placed { IsPlaced list.now place }
     requires lefts { (o : FoundScope) → slice_get list.now place ≡ Some o → AreLefts o }
-    ensures { (ss : List Scope) (s : Scope) → let envs = surroundings_at ratio.ticks ss in AreSites list.now ss envs → slice_get ss place ≡ Some s →
+    ensures { (ss : List Scope) (s : Scope) → let envs = surroundings_at ratio.ticks ss in AreSites list.now ss envs
+        → slice_get ss place ≡ Some s →
         MatchResult result (λ _. FillsScope envs s contents.old contents.new) (Told (FillsNot envs s)) }
 {
     let nothing = Names::new(alloc);

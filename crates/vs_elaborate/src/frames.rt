@@ -62,7 +62,8 @@ fn place_fault(alloc: Global, frame: &Frame, place: usize, reason: Reason) -> El
 pub fn process_fault(alloc: Global, frame: &Frame, fault: StatementFault) -> ElabFault
     requires placed { IsPlaced frame.now.view.list.now frame.now.view.place }
     requires below { IsBelow (length frame.now.view.list.now) fault }
-    ensures { (envs : Path → Surroundings) (s : Scope) (b : Behavior) → IsFrame frame.now envs s → RunFails envs frame.now s b fault result }
+    ensures { (envs : Path → Surroundings) (s : Scope) (b : Behavior) → IsFrame frame.now envs s
+        → RunFails envs frame.now s b fault result }
 {
     match fault {
         StatementFault::Memory => ElabFault::Memory,

@@ -161,7 +161,8 @@ fn run<'a>(
     requires format { IsFormatFor op.now.format op.now.task }
     ensures lands { IfOk result (λ r. landing r.1 counters.new.items
         ≡ lands op.entry.now op.entry.now.task counters.old.items store.now time) }
-    ensures made { IfOk result (λ r. IsMade (item_of counters.old.items (job_of op.entry.now.counter op.entry.now.task)) store.now time r.0) }
+    ensures made { IfOk result (λ r.
+        IsMade (item_of counters.old.items (job_of op.entry.now.counter op.entry.now.task)) store.now time r.0) }
     ensures err { OnErr result (counters.new.items ≡ counters.old.items) }
 {
     match op.task {

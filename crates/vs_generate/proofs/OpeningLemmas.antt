@@ -1,5 +1,5 @@
 -- What generate constructs open, from what is found of them.
-use Rattle.std.proofs.Common.{◌≡◌, ℕ, suc, ◌+◌, ◌<◌, Bool, true, false, true≢false, ◌||◌, is_none, List, [], ◌∷◌, ◌++◌, Option, Some, None, length, map, drop, get_or, cond, Bor, refl, ap, sym, ◌∙◌, arith}
+use Rattle.std.proofs.Common.{◌≡◌, ℕ, suc, ◌+◌, ◌<◌, Bool, true, false, true≢false, ◌||◌, is_none, List, [], ◌∷◌, ◌++◌, Option, Some, None, length, map, drop, get_or, cond, Bor, refl, ap, ap₂, sym, ◌∙◌, arith}
 use Rattle.std.proofs.lemmas.List.{append-nil}
 use Rattle.vs_syntax.specs.declared.tree.ModuleItem.{ModuleItem}
 use Rattle.vs_selects.specs.declared.constants.Const.{Const}
@@ -38,16 +38,16 @@ content_nothing (f.Block n xs) h = absurd (h n xs refl)
 -- ---- loops
 
 -- the blocks of turns, which have a name
-turns_opened : (names : List (List ℕ)) (k : ℕ) (g : List ℕ) (o : Option (List ℕ)) (xs : List ModuleItem) (n : List ℕ) (cs : List Const) → name_of_block names k o ≡ Some n → turns_inner names k g (block o xs) cs ≡ turn_blocks n g xs cs
-turns_opened names k g o xs n [] h = refl
-turns_opened names k g o xs n (c ∷ cs) h =
-    ap (λ z. generates z (genvar_number c) ((g, c) ∷ []) xs ++ turns_inner names k g (block o xs) cs) h
-    ∙ ap (λ l. turn_block n g xs c ∷ l) (turns_opened names k g o xs n cs h)
+turns_opened : (p : ℕ) (names : List (List ℕ)) (k : ℕ) (g : List ℕ) (o : Option (List ℕ)) (xs : List ModuleItem) (n : List ℕ) (cs : List Const) → name_of_block names k o ≡ Some n → turns_inner p names k g (block o xs) cs ≡ turn_blocks p n g xs cs
+turns_opened p names k g o xs n [] h = refl
+turns_opened p names k g o xs n (c ∷ cs) h =
+    ap (λ z. generates p z (genvar_number c) ((g, c) ∷ []) xs ++ turns_inner p names k g (block o xs) cs) h
+    ∙ ap (λ l. turn_block p n g xs c ∷ l) (turns_opened p names k g o xs n cs h)
 
 -- turns that generate nothing
-turns_nothing : (names : List (List ℕ)) (k : ℕ) (g : List ℕ) (cs : List Const) → turns_inner names k g nothing cs ≡ []
-turns_nothing names k g [] = refl
-turns_nothing names k g (c ∷ cs) = turns_nothing names k g cs
+turns_nothing : (p : ℕ) (names : List (List ℕ)) (k : ℕ) (g : List ℕ) (cs : List Const) → turns_inner p names k g nothing cs ≡ []
+turns_nothing p names k g [] = refl
+turns_nothing p names k g (c ∷ cs) = turns_nothing p names k g cs
 
 -- turns without a fault, where no block without a name is generated
 turns_fine : (names : List (List ℕ)) (k : ℕ) (x : Content) (cs : List Const) → is_nameless names k x ≡ false → (r : Reason) → turns_fault r names k x (turns cs) ≡ false
@@ -69,10 +69,10 @@ turns_nameless names k o xs [] r some h = absurd (omega arith)
 turns_nameless names k o xs (c ∷ cs) Unnamed some h = nameless_is names k o xs ∙ h
 turns_nameless names k o xs (c ∷ cs) _ some h = absurd (true≢false (sym h))
 
-module _ (names : List (List ℕ)) (k : ℕ) (g : List ℕ) (t : Turns) (x : Content) where
+module _ (p : ℕ) (names : List (List ℕ)) (k : ℕ) (g : List ℕ) (t : Turns) (x : Content) where
   -- what a loop opens, behind what was opened before it
   abbrev pub Opens : List Inner → List Inner → Type 0
-  Opens old new = ((r : Reason) → turns_fault r names k x t ≡ false) × (new ≡ old ++ loop_inner names k g x t)
+  Opens old new = ((r : Reason) → turns_fault r names k x t ≡ false) × (new ≡ old ++ loop_inner p names k g x t)
 
   -- a fault of its turns
   pub loop_refused : (e : BodyFault) → Refuses (turn_fault t) e → Refuses (λ r. turns_fault r names k x t) e
@@ -82,7 +82,7 @@ module _ (names : List (List ℕ)) (k : ℕ) (g : List ℕ) (t : Turns) (x : Con
   pub loop_nothing : (cs : List Const) (old : List Inner) → t ≡ turns cs → x ≡ nothing → Opens old old
   loop_nothing cs old h e = (
     λ r. ap (λ z. turns_fault r names k z t) e ∙ ap (turns_fault r names k nothing) h ∙ turns_fine names k nothing cs refl r,
-    sym (append-nil old) ∙ ap (λ z. old ++ z) (sym (ap (λ z. loop_inner names k g z t) e ∙ ap (loop_inner names k g nothing) h ∙ turns_nothing names k g cs)),
+    sym (append-nil old) ∙ ap (λ z. old ++ z) (sym (ap (λ z. loop_inner p names k g z t) e ∙ ap (loop_inner p names k g nothing) h ∙ turns_nothing p names k g cs)),
   )
 
   -- a block without a name
@@ -92,10 +92,10 @@ module _ (names : List (List ℕ)) (k : ℕ) (g : List ℕ) (t : Turns) (x : Con
       (λ r s. ap (λ z. turns_fault r names k z t) is ∙ ap (turns_fault r names k (block o xs)) h ∙ turns_nameless names k o xs cs r some s) q
 
   -- the blocks of its turns
-  pub loop_opened : (cs : List Const) (o : Option (List ℕ)) (xs : List ModuleItem) (n : List ℕ) (old new : List Inner) → t ≡ turns cs → x ≡ block o xs → name_of_block names k o ≡ Some n → new ≡ old ++ turn_blocks n g xs cs → Opens old new
+  pub loop_opened : (cs : List Const) (o : Option (List ℕ)) (xs : List ModuleItem) (n : List ℕ) (old new : List Inner) → t ≡ turns cs → x ≡ block o xs → name_of_block names k o ≡ Some n → new ≡ old ++ turn_blocks p n g xs cs → Opens old new
   loop_opened cs o xs n old new h is named e = (
     λ r. ap (λ z. turns_fault r names k z t) is ∙ ap (turns_fault r names k (block o xs)) h ∙ turns_fine names k (block o xs) cs (named_block names k o xs n named) r,
-    e ∙ ap (λ z. old ++ z) (sym (ap (λ z. loop_inner names k g z t) is ∙ ap (loop_inner names k g (block o xs)) h ∙ turns_opened names k g o xs n cs named)),
+    e ∙ ap (λ z. old ++ z) (sym (ap (λ z. loop_inner p names k g z t) is ∙ ap (loop_inner p names k g (block o xs)) h ∙ turns_opened p names k g o xs n cs named)),
   )
 
 -- ---- pieces
@@ -122,11 +122,12 @@ module _ (env : Environment) (names : List (List ℕ)) (k next : ℕ) (xs : List
       ∙ sym (ap (constructs_fault r env names k) at) ∙ e
 
   -- what it opens
-  pub inner_on : (old new whole : List Inner) → next ≡ behind_piece k (read_piece x) → new ≡ old ++ inner_in env names k (read_piece x) → old ++ inner_from env names k (map read_piece (drop i xs)) ≡ whole →
-      new ++ inner_from env names next (map read_piece (drop (i + 1) xs)) ≡ whole
+  pub inner_on : (old new whole : List Inner) → next ≡ behind_piece k (read_piece x) → new ≡ old ++ inner_in i env names k (read_piece x) → old ++ inner_from i env names k (map read_piece (drop i xs)) ≡ whole →
+      new ++ inner_from (i + 1) env names next (map read_piece (drop (i + 1) xs)) ≡ whole
   inner_on old new whole n h e =
-      ap (λ z. new ++ inner_from env names z (map read_piece (drop (i + 1) xs))) n
-      ∙ moved_by old new (inner_in env names k (read_piece x)) (inner_from env names k (map read_piece (drop i xs))) (inner_from env names (behind_piece k (read_piece x)) (map read_piece (drop (i + 1) xs))) whole h (ap (inner_from env names k) at) e
+      let more : i + 1 ≡ suc i = omega arith in
+      ap₂ (λ (z j : ℕ). new ++ inner_from j env names z (map read_piece (drop (i + 1) xs))) n more
+      ∙ moved_by old new (inner_in i env names k (read_piece x)) (inner_from i env names k (map read_piece (drop i xs))) (inner_from (suc i) env names (behind_piece k (read_piece x)) (map read_piece (drop (i + 1) xs))) whole h (ap (inner_from i env names k) at) e
 
   -- a fault of a piece is one of all
   pub fault_at : (whole : Reason → Bool) (e : BodyFault) → ((r : Reason) → constructs_fault r env names k (map read_piece (drop i xs)) ≡ whole r) → Refuses (λ r. construct_fault r env names k (read_piece x)) e → Refuses whole e

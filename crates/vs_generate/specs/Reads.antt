@@ -22,7 +22,7 @@ read_constant (Some p) = (p.0.now, p.1) ∷ []
 -- what opens a scope, by what it refers to
 abbrev pub read_inner : FoundInner → Inner
 read_inner (f.Instance u) = instance (read_use u)
-read_inner (f.Generated n c xs) = generated (read_title n) (read_constant c) xs.now
+read_inner (f.Generated place n c xs) = generated place (read_title n) (read_constant c) xs.now
 read_inner (f.Named b) = named (read_block b)
 
 abbrev pub read_inners : List FoundInner → List Inner

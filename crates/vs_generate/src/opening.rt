@@ -40,8 +40,9 @@ pub struct Use<'s> {
 pub enum Inner<'s> {
     /// An instance.
     Instance(Use<'s>),
-    /// A generate block: its name in the path, the genvar of a loop with its value, and its items.
-    Generated(PathName<'s>, Option<(&'s [u8], Const)>, &'s [ModuleItem]),
+    /// A generate block: the place of its construct among the pieces of the scope, its name in the path, the genvar of a loop with its value, and
+    /// its items.
+    Generated(usize, PathName<'s>, Option<(&'s [u8], Const)>, &'s [ModuleItem]),
     /// A named block.
     Named(NamedBlock<'s>),
 }
@@ -134,17 +135,23 @@ fn block_name<'s>(
 /// Adds the blocks of the turns of a loop.
 fn add_turns<'s>(
     inners: &mut Vec<Inner<'s>>,
+    place: usize,
     name: PartName<'s>,
     genvar: &'s [u8],
     items: &'s [ModuleItem],
     values: &[Const],
 ) -> Result<(), AllocError>
     ensures { OnOk result (read_inners inners.new.items ≡ read_inners inners.old.items
-        ++ turn_blocks (read_part name.entry) genvar.entry.now items.entry.now values.now) }
+        ++ turn_blocks place (read_part name.entry) genvar.entry.now items.entry.now values.now) }
 {
     for value in values {
         let turn = value.value.to_signed();
-        let inner = Inner::Generated(PathName { name, turn }, Some((genvar, *value)), items);
+        let inner = Inner::Generated(
+            place,
+            PathName { name, turn },
+            Some((genvar, *value)),
+            items,
+        );
         append(inners, &inner)?;
     }
     Ok(())
@@ -155,6 +162,7 @@ fn add_loop<'s, 'o>(
     alloc: Global,
     names: &Levels<'s, 'o>,
     own: &Names<Binding>,
+    place: usize,
     number: usize,
     inners: &mut Vec<Inner<'s>>,
     header: &'s LoopHeader,
@@ -162,7 +170,7 @@ fn add_loop<'s, 'o>(
 ) -> Result<(), BodyFault>
     ensures { let env = meaning_of names.now in let p = loop header.entry.now item.entry.now in
         (ns : List (List ℕ)) → AreNames ns own.now → Elaborates (λ r. construct_fault r env ns number p)
-        (λ u. read_inners inners.new.items ≡ read_inners inners.old.items ++ inner_in env ns number p) result }
+        (λ u. read_inners inners.new.items ≡ read_inners inners.old.items ++ inner_in place env ns number p) result }
 {
     let values = turns(alloc, names, header)?;
     let Content::Block(name, items) = content_of(item) else {
@@ -172,7 +180,7 @@ fn add_loop<'s, 'o>(
         return Ok(());
     }
     let name = block_name(alloc, own, number, name)?;
-    add_turns(inners, name, &header.name, items, &values)?;
+    add_turns(inners, place, name, &header.name, items, &values)?;
     Ok(())
 }
 
@@ -181,6 +189,7 @@ fn add_choice<'s, 'o>(
     alloc: Global,
     names: &Levels<'s, 'o>,
     own: &Names<Binding>,
+    place: usize,
     number: usize,
     inners: &mut Vec<Inner<'s>>,
     condition: &'s Expr,
@@ -190,41 +199,47 @@ fn add_choice<'s, 'o>(
     ensures { let env = meaning_of names.now in
         let p = choice condition.entry.now first.entry.now (unboxed other.entry.now) in
         (ns : List (List ℕ)) → AreNames ns own.now → Elaborates (λ r. construct_fault r env ns number p)
-        (λ u. read_inners inners.new.items ≡ read_inners inners.old.items ++ inner_in env ns number p) result }
+        (λ u. read_inners inners.new.items ≡ read_inners inners.old.items ++ inner_in place env ns number p) result }
 {
     let Content::Block(name, items) = chosen(alloc, names, condition, first, other)? else {
         return Ok(());
     };
     let name = block_name(alloc, own, number, name)?;
-    let inner = Inner::Generated(PathName { name, turn: None }, None, items);
+    let inner = Inner::Generated(place, PathName { name, turn: None }, None, items);
     append(inners, &inner)?;
     Ok(())
 }
 
-/// Adds what a piece opens, where it is the construct of this number if it is one.
+/// Adds what the piece at a place opens, where it is the construct of this number if it is one.
 fn add_piece<'s, 'o>(
     alloc: Global,
     names: &Levels<'s, 'o>,
     own: &Names<Binding>,
+    place: usize,
     number: usize,
     inners: &mut Vec<Inner<'s>>,
     piece: Piece<'s>,
 ) -> Result<(), BodyFault>
     ensures { let env = meaning_of names.now in let p = read_piece piece.entry in
         (ns : List (List ℕ)) → AreNames ns own.now → Elaborates (λ r. construct_fault r env ns number p)
-        (λ u. read_inners inners.new.items ≡ read_inners inners.old.items ++ inner_in env ns number p) result }
+        (λ u. read_inners inners.new.items ≡ read_inners inners.old.items ++ inner_in place env ns number p) result }
 {
     match piece {
         Piece::Plain(item) => Ok(add_plain(alloc, inners, item)?),
-        Piece::Loop(header, item) => add_loop(alloc, names, own, number, inners, header, item),
+        Piece::Loop(header, item) => add_loop(
+            alloc, names, own, place, number, inners, header, item,
+        ),
         Piece::Choice(condition, first, other) => {
-            add_choice(alloc, names, own, number, inners, condition, first, other)
+            add_choice(
+                alloc, names, own, place, number, inners, condition, first, other,
+            )
         }
         Piece::Local(_) => Ok(()),
         Piece::Inside(block) => {
             append(inners, &Inner::Named(block))?;
             Ok(())
         }
+        Piece::Net(_) => Ok(()),
     }
 }
 
@@ -249,12 +264,12 @@ pub fn inners<'s, 'o>(
 ) -> Result<Vec<Inner<'s>>, BodyFault>
     ensures { let env = meaning_of names.now in let ps = map read_piece pieces.now in
         (ns : List (List ℕ)) → AreNames ns own.now → Elaborates (λ r. constructs_fault r env ns 1 ps)
-        (λ v. read_inners v.items ≡ inner_from env ns 1 ps) result }
+        (λ v. read_inners v.items ≡ inner_from 0 env ns 1 ps) result }
 {
     let mut all = Vec::new(alloc);
     let mut number = 1;
-    for piece in pieces {
-        add_piece(alloc, names, own, number, &mut all, *piece)?;
+    for (place, piece) in pieces.iter().enumerate() {
+        add_piece(alloc, names, own, place, number, &mut all, *piece)?;
         if is_construct(*piece) {
             number += 1;
         }

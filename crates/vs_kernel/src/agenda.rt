@@ -9,6 +9,7 @@ use std::collections::VecDeque;
 use vs_design::Write;
 use vs_process::Move;
 use vs_state::State;
+use vs_time_wheel::EventQueue;
 
 /// An event of the list.
 #[derive(Clone, Copy, PartialEq, Eq)]
@@ -76,11 +77,11 @@ pub(crate) struct Agenda {
 
 impl Agenda {
     /// The list at the start of a run: every continuous assignment, then every active process, in design order.
-    pub(crate) fn start(
+    pub(crate) fn start<Q: EventQueue<usize>>(
         alloc: Global,
         first: bool,
         signals: usize,
-        state: &State,
+        state: &State<Q>,
     ) -> Result<Self, AllocError> {
         let mut agenda = Agenda {
             entries: VecDeque::new(alloc),
@@ -113,7 +114,11 @@ impl Agenda {
     }
 
     /// Puts a process at the end if it is active.
-    fn add_step(&mut self, process: usize, state: &State) -> Result<(), AllocError> {
+    fn add_step<Q: EventQueue<usize>>(
+        &mut self,
+        process: usize,
+        state: &State<Q>,
+    ) -> Result<(), AllocError> {
         if state.is_going(process) {
             self.add(Item::Step(process))?;
         }
@@ -212,7 +217,11 @@ impl Agenda {
     }
 
     /// The move of the event at an index of the list.
-    pub(crate) fn move_at(&self, index: usize, state: &State) -> Option<Move> {
+    pub(crate) fn move_at<Q: EventQueue<usize>>(
+        &self,
+        index: usize,
+        state: &State<Q>,
+    ) -> Option<Move> {
         match self.entries.get(index)?.item {
             Item::Evaluate(assign) => Some(Move::Evaluate(assign)),
             Item::Propagate(assign) => Some(Move::Propagate(assign)),
@@ -336,7 +345,11 @@ impl Agenda {
 
     /// Brings the list up to date behind a move: an event that is no longer enabled leaves it, and what has become
     /// enabled enters at its end.
-    pub(crate) fn follow(&mut self, made: Choice, state: &State) -> Result<(), AllocError> {
+    pub(crate) fn follow<Q: EventQueue<usize>>(
+        &mut self,
+        made: Choice,
+        state: &State<Q>,
+    ) -> Result<(), AllocError> {
         self.last = made.index;
         self.add_woken(state)?;
         match made.choice {
@@ -362,7 +375,7 @@ impl Agenda {
     }
 
     /// Puts what the last move has woken at the end: the continuous assignments, then the processes.
-    fn add_woken(&mut self, state: &State) -> Result<(), AllocError> {
+    fn add_woken<Q: EventQueue<usize>>(&mut self, state: &State<Q>) -> Result<(), AllocError> {
         for assign in state.woken() {
             self.add(Item::Evaluate(*assign))?;
         }
@@ -372,11 +385,11 @@ impl Agenda {
         Ok(())
     }
 
-    fn follow_evaluation(
+    fn follow_evaluation<Q: EventQueue<usize>>(
         &mut self,
         assign: usize,
         index: Option<usize>,
-        state: &State,
+        state: &State<Q>,
     ) -> Result<(), AllocError> {
         self.remove(index);
         let listed = self.proposed.get(assign).copied().unwrap_or(None);
@@ -403,7 +416,10 @@ impl Agenda {
     }
 
     /// Lists the updates that were activated, unless the first event is always chosen.
-    fn follow_activation(&mut self, state: &State) -> Result<(), AllocError> {
+    fn follow_activation<Q: EventQueue<usize>>(
+        &mut self,
+        state: &State<Q>,
+    ) -> Result<(), AllocError> {
         if self.first {
             return Ok(());
         }

@@ -1,5 +1,5 @@
 //! The kernel: one run of a design.
-ghost use Rattle.std.specs.Prelude.{◌≡◌, ◌<◌, ◌^◌, IfOk, IfErr, OnOk, OnErr};
+ghost use Rattle.std.specs.Prelude.{◌≡◌, [], ◌<◌, ◌^◌, IfOk, IfErr, OnOk, OnErr};
 ghost use Rattle.vs_kernel.specs.Faults.{is_write, FaultAt, OneFailed, behind_fault};
 ghost use Rattle.vs_kernel.specs.Runs.{RanTo, HasBegun};
 ghost use Rattle.vs_kernel.specs.declared.kernel.Status.TheVariants as statuses;
@@ -12,6 +12,7 @@ use std::alloc::{AllocError, Global};
 use std::marker::Model;
 use vs_design::Design;
 use vs_process::never_stuck;
+use vs_time_wheel::EventQueue;
 use vs_vcd::Sink;
 
 /// Whether a kernel may run.
@@ -25,36 +26,43 @@ pub enum Status {
     Failed,
 }
 
-/// The run of a design under a policy. A contract sees the design, and whether it may run.
+/// The run of a design under a policy, which keeps the ends of delays in an event queue. A contract sees the design, and whether it may run.
 #[derive(Drop)]
-pub struct Kernel<'a, P> {
+pub struct Kernel<'a, Q: EventQueue<usize>, P> {
     alloc: Global,
     design: &'a Design,
+    /// The queue until the run takes it.
+    queue: Option<Q>,
     policy: P,
     status: Status,
 }
 
-impl<'a, P> Model for Kernel<'a, P> {
+impl<'a, Q: EventQueue<usize>, P> Model for Kernel<'a, Q, P> {
     ghost use Rattle.std.specs.Coded.{codes};
     ghost use Rattle.vs_design.specs.contracts.expression.Typed as expression;
     ghost use Rattle.vs_design.specs.contracts.statement.Statement as statement;
-    ghost use Rattle.vs_kernel.specs.Stages.{Course};
+    ghost use Rattle.vs_kernel.specs.Stages.{Course, KeepsQueue};
 
     ghost Value = { Course };
 
     ghost coded = { Prim.hlevel (codes, statement.the_row.coded, expression.the_row.coded) };
 
     ghost view = { λ k. record { design = k.design.now; status = k.status } };
+
+    ghost invariant = { λ k. KeepsQueue Q.bag Q.clock k.status k.queue };
 }
 
-impl<'a, P: Pick + Drop> Kernel<'a, P> {
-    /// A kernel that hasn't run.
-    pub fn new(alloc: Global, design: &'a Design, policy: P) -> Result<Self, AllocError>
+impl<'a, Q: EventQueue<usize> + Drop, P: Pick + Drop> Kernel<'a, Q, P> {
+    /// A kernel that hasn't run. The queue holds no events, and its time is 0.
+    pub fn new(alloc: Global, design: &'a Design, queue: Q, policy: P) -> Result<Self, AllocError>
+        requires empty { Q.bag queue ≡ [] }
+        requires at_zero { Q.clock queue ≡ 0 }
         ensures { IfOk result (λ kernel. kernel ≡ record { design = design.entry.now; status = statuses.Ready }) }
     {
         Ok(Kernel {
             alloc,
             design,
+            queue: Some(queue),
             policy,
             status: Status::Ready,
         })
@@ -101,9 +109,12 @@ impl<'a, P: Pick + Drop> Kernel<'a, P> {
         match self.status {
             Status::Ready => {
                 self.status = Status::Failed;
+                let Some(queue) = self.queue.take() else {
+                    unreachable!()
+                };
                 let design = self.design;
                 let policy = &mut self.policy;
-                let outcome = launch(self.alloc, design, policy, until, steps, vcd, lines)?;
+                let outcome = launch(self.alloc, design, queue, policy, until, steps, vcd, lines)?;
                 self.status = Status::Done;
                 Ok(outcome)
             }

@@ -1,5 +1,5 @@
 //! The loop of a run.
-ghost use Rattle.std.specs.Prelude.{◌≡◌, ◌<◌, ◌≤◌, ◌*◌, ◌^◌, ◌++◌, ℕ, false, true, Some, None, List, length, map, IfOk, OnOk, OnErr, MatchOption};
+ghost use Rattle.std.specs.Prelude.{◌≡◌, [], ◌<◌, ◌≤◌, ◌*◌, ◌^◌, ◌++◌, ℕ, false, true, Some, None, List, length, map, IfOk, OnOk, OnErr, MatchOption};
 ghost use Rattle.std.specs.Io.KnownBytes.{Appends};
 ghost use Rattle.vs_design.specs.Parts.{Parts};
 ghost use Rattle.vs_design.specs.Traces.{Slot};
@@ -31,6 +31,7 @@ use vs_process::{
 };
 use vs_state::State;
 use vs_strobe::full_line;
+use vs_time_wheel::EventQueue;
 use vs_vcd::{Sink, VcdFault, Writer, write_all};
 
 /// For each process whether it is a combinational block.
@@ -56,7 +57,11 @@ fn codes_of<'a>(alloc: Global, processes: &'a [Process]) -> Result<Vec<Code<'a>>
 }
 
 /// The combinational block that has taken a step since its control, behind a move: that of the move's step, if it is one.
-fn inside_behind(blocks: &[bool], state: &State, made: Move) -> Option<usize>
+fn inside_behind<Q: EventQueue<usize>>(
+    blocks: &[bool],
+    state: &State<Q>,
+    made: Move,
+) -> Option<usize>
     ensures { result ≡ inside_told blocks.now state.now.places made }
 {
     let Move::Step(process) = made else {
@@ -74,8 +79,8 @@ fn inside_behind(blocks: &[bool], state: &State, made: Move) -> Option<usize>
 
 /// The next move. A combinational block that has left its control goes on, which is no choice. Else it is what the policy chooses of the list,
 /// where that is enabled, and else a move that the state has; where the first is always chosen, the activated updates come first.
-pub(crate) fn choose<P: Pick>(
-    state: &State,
+pub(crate) fn choose<Q: EventQueue<usize>, P: Pick>(
+    state: &State<Q>,
     inside: Option<usize>,
     agenda: &mut Agenda,
     policy: &mut P,
@@ -113,7 +118,11 @@ pub(crate) fn choose<P: Pick>(
 }
 
 /// Writes the lines of the calls of `$strobe` of a slot at its end, in the order of the calls (IEEE 1364-2005, clause 17.1.2).
-fn print_calls<L: Sink>(alloc: Global, lines: &mut L, state: &State) -> Result<(), VcdFault>
+fn print_calls<Q: EventQueue<usize>, L: Sink>(
+    alloc: Global,
+    lines: &mut L,
+    state: &State<Q>,
+) -> Result<(), VcdFault>
     ensures ok { OnOk result (Appends (L.bytes lines.old) (L.bytes lines.new) (lines_text (executions.strobe_lines state.now))) }
     ensures err { OnErr result (AppendsPart (L.bytes lines.old) (L.bytes lines.new) (lines_text (executions.strobe_lines state.now))) }
     ensures failures { L.failed lines.new ≡ failed_after (is_write_fault result) (L.failed lines.old) }
@@ -139,13 +148,13 @@ fn print<L: Sink>(lines: &mut L, line: Option<Vec<u8>>) -> Result<(), VcdFault>
 }
 
 /// Writes the slot that a move ends, if it ends one: the slot of the dump, behind which nothing is marked, then its lines.
-fn note<V: Sink, L: Sink>(
+fn note<Q: EventQueue<usize>, V: Sink, L: Sink>(
     alloc: Global,
     writer: &mut Writer,
     vcd: &mut V,
     lines: &mut L,
     marks: &mut Vec<u64>,
-    state: &State,
+    state: &State<Q>,
     choice: Move,
 ) -> Result<(), VcdFault>
     requires few { length marks.old.items ≤ 2 ^ 57 }
@@ -173,8 +182,8 @@ fn note<V: Sink, L: Sink>(
 
 /// Makes a move, marks the signals that it may change, and brings the list up to date; the answer is the line that the move makes at once. `changed`
 /// is room to work in.
-pub(crate) fn advance(
-    state: &mut State,
+pub(crate) fn advance<Q: EventQueue<usize>>(
+    state: &mut State<Q>,
     design: &Design,
     agenda: &mut Agenda,
     marks: &mut Vec<u64>,
@@ -200,7 +209,7 @@ pub(crate) fn advance(
 }
 
 /// How a run ends in a state in which its execution is complete.
-fn outcome_of(state: &State) -> Outcome
+fn outcome_of<Q: EventQueue<usize>>(state: &State<Q>) -> Outcome
     ensures { result ≡ outcome_in state.now }
 {
     if !state.is_over() {
@@ -214,7 +223,7 @@ fn outcome_of(state: &State) -> Outcome
 }
 
 /// The time at which the value change dump of a complete execution ends, in ticks.
-fn end_of(state: &State, until: u64) -> u64
+fn end_of<Q: EventQueue<usize>>(state: &State<Q>, until: u64) -> u64
     ensures { result ≡ end_in until state.now }
 {
     if state.is_over() && state.is_finishing() {
@@ -226,11 +235,11 @@ fn end_of(state: &State, until: u64) -> u64
 
 /// Takes the next step: chooses a move, writes the slot that it ends, if it ends one, makes it, and writes the line that it makes. The answer is the
 /// combinational block that has taken a step since its control, behind the move.
-fn turn<P: Pick, V: Sink, L: Sink>(
+fn turn<Q: EventQueue<usize>, P: Pick, V: Sink, L: Sink>(
     alloc: Global,
     design: &Design,
     blocks: &[bool],
-    state: &mut State,
+    state: &mut State<Q>,
     agenda: &mut Agenda,
     inside: Option<usize>,
     writer: &mut Writer,
@@ -265,10 +274,10 @@ fn turn<P: Pick, V: Sink, L: Sink>(
 }
 
 /// Runs a design from its start.
-fn execute<P: Pick, V: Sink, L: Sink>(
+fn execute<Q: EventQueue<usize>, P: Pick, V: Sink, L: Sink>(
     alloc: Global,
     design: &Design,
-    state: &mut State,
+    state: &mut State<Q>,
     agenda: &mut Agenda,
     policy: &mut P,
     until: u64,
@@ -320,16 +329,19 @@ fn execute<P: Pick, V: Sink, L: Sink>(
 }
 
 /// Runs a design from its start; these are the codes of its processes, one each in order.
-fn execute_codes<P: Pick, V: Sink, L: Sink>(
+fn execute_codes<Q: EventQueue<usize> + Drop, P: Pick, V: Sink, L: Sink>(
     alloc: Global,
     design: &Design,
     codes: &[Code],
+    queue: Q,
     policy: &mut P,
     until: u64,
     steps: u64,
     vcd: &mut V,
     lines: &mut L,
 ) -> Result<Outcome, VcdFault>
+    requires empty { Q.bag queue ≡ [] }
+    requires at_zero { Q.clock queue ≡ 0 }
     requires codes { codes.now ≡ map (λ p. p.body) design.now.processes }
     requires early { until < 2 ^ 62 }
     ensures ran { IfOk result (λ outcome. RanTo design.now until steps outcome
@@ -338,7 +350,7 @@ fn execute_codes<P: Pick, V: Sink, L: Sink>(
         (V.bytes vcd.old) (V.bytes vcd.new) (L.bytes lines.old) (L.bytes lines.new)) }
     ensures failures { OneFailed (is_write_fault result) (V.failed vcd.old) (V.failed vcd.new) (L.failed lines.old) (L.failed lines.new) }
 {
-    let mut state = State::start(alloc, design, codes)?;
+    let mut state = State::start(alloc, design, codes, queue)?;
     let mut agenda = Agenda::start(alloc, P::FIRST, design.signals().len(), &state)?;
     execute(
         alloc,
@@ -354,15 +366,18 @@ fn execute_codes<P: Pick, V: Sink, L: Sink>(
 }
 
 /// Compiles the processes of a design, and runs it from its start.
-pub(crate) fn launch<P: Pick, V: Sink, L: Sink>(
+pub(crate) fn launch<Q: EventQueue<usize> + Drop, P: Pick, V: Sink, L: Sink>(
     alloc: Global,
     design: &Design,
+    queue: Q,
     policy: &mut P,
     until: u64,
     steps: u64,
     vcd: &mut V,
     lines: &mut L,
 ) -> Result<Outcome, VcdFault>
+    requires empty { Q.bag queue ≡ [] }
+    requires at_zero { Q.clock queue ≡ 0 }
     requires early { until < 2 ^ 62 }
     ensures ran { IfOk result (λ outcome. RanTo design.now until steps outcome
         (V.bytes vcd.old) (V.bytes vcd.new) (L.bytes lines.old) (L.bytes lines.new)) }
@@ -371,5 +386,7 @@ pub(crate) fn launch<P: Pick, V: Sink, L: Sink>(
     ensures failures { OneFailed (is_write_fault result) (V.failed vcd.old) (V.failed vcd.new) (L.failed lines.old) (L.failed lines.new) }
 {
     let codes = codes_of(alloc, design.processes())?;
-    execute_codes(alloc, design, &codes, policy, until, steps, vcd, lines)
+    execute_codes(
+        alloc, design, &codes, queue, policy, until, steps, vcd, lines,
+    )
 }

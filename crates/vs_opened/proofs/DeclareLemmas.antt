@@ -327,3 +327,13 @@ size_integer env s k m n = (
   no_faults (sized_as env true 31 None).faults (λ w. refl),
   record { shape = shape_is s.shape.width 32 s.shape.signed s.shape.sized (shape_with 31 true).sized k ∙ ap (shape_with 31) m; bounds = n },
 )
+
+-- the size of an implicit net, and that it has no words
+pub size_scalar : (env : Environment) (s : Size) → s.shape.width ≡ 1 → s.shape.signed ≡ false → s.bounds ≡ None → ((q : Reason) → width_faults (sized_as env false 0 None).faults q ≡ false) × IsSize (sized_as env false 0 None) s
+size_scalar env s k m n = (
+  no_faults (sized_as env false 0 None).faults (λ w. refl),
+  record { shape = shape_is s.shape.width 1 s.shape.signed s.shape.sized (shape_with 0 false).sized k ∙ ap (shape_with 0) m; bounds = n },
+)
+
+pub words_none : (env : Environment) (kind : SignalKind) (w : WordCount) → w.bounds ≡ None → w.count ≡ 1 → ((q : Reason) → (words_as env kind None).faults q ≡ false) × AreWords (words_as env kind None) w
+words_none env kind w h k = (port_words env kind, record { bounds = h; count = k })

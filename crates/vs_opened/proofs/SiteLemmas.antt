@@ -14,7 +14,7 @@ use Rattle.vs_scopes.specs.Scopes.{Scope, bindings_of, seen_from, environment}
 use Rattle.vs_scopes.specs.declared.printed.PathName.{PathName as FoundName}
 use Rattle.vs_scopes.specs.passes.Names.{read_path}
 use Rattle.vs_opened.specs.declared.opened.Opened.{Opened as FoundScope}
-use Rattle.vs_opened.specs.Opened.{IsWithin, IsOutermost, StandsAround, IsHome, IsEntered, IsOpened, AreOpened, AreSeated}
+use Rattle.vs_opened.specs.Opened.{IsWithin, IsOutermost, StandsAround, HasSight, IsHome, IsEntered, IsOpened, AreOpened, AreSeated}
 use Rattle.vs_opened.specs.passes.Sites.{outward_place}
 use Rattle.vs_opened.proofs.BindLemmas.{at_front}
 
@@ -34,6 +34,10 @@ pub around_more : (ss more : List Scope) (o : Option ℕ) (s : Scope) → Stands
 around_more ss more None s h = h
 around_more ss more (Some k) s h = within_more ss more k s h
 
+pub sight_more : (ss more : List Scope) (o : Option ℕ) (piece : ℕ) (s : Scope) → HasSight ss o piece s → HasSight (ss ++ more) o piece s
+sight_more ss more None piece s h = h
+sight_more ss more (Some k) piece s h = record { outer_scope = h.outer_scope; stands = (at_front ss more k h.outer_scope h.stands).1; sight = h.sight }
+
 pub home_more : (ss more : List Scope) (k : ℕ) (s : Scope) → IsHome ss k s → IsHome (ss ++ more) k s
 home_more ss more k s h = record {
   home_scope = h.home_scope;
@@ -52,6 +56,9 @@ entered_more ss more o s h = record {
   instances = h.instances;
   turns = h.turns;
   depth = h.depth;
+  nets = h.nets;
+  text = h.text;
+  told = h.told;
   ports = h.ports;
   pieces = h.pieces;
   constants = h.constants;
@@ -59,6 +66,7 @@ entered_more ss more o s h = record {
   within = h.within;
   home = home_more ss more o.home s h.home;
   around = around_more ss more o.around s h.around;
+  sight = sight_more ss more o.around o.piece s h.sight;
   ends = h.ends;
   lefts = h.lefts;
 }

@@ -4,6 +4,7 @@ pub use Rattle.vs_scopes.specs.Connections
 pub use Rattle.vs_scopes.specs.Parameters
 pub use Rattle.vs_scopes.specs.Ports
 pub use Rattle.vs_scopes.specs.Declarations
+pub use Rattle.vs_scopes.specs.Nets
 pub use Rattle.vs_scopes.specs.Generate
 pub use Rattle.vs_scopes.specs.Scopes
 pub mod Outlines

@@ -9,7 +9,8 @@ use Rattle.vs_pieces.specs.Pieces.{NamedBlock}
 use Rattle.vs_pieces.specs.Reads.{read_piece}
 use Rattle.vs_scopes.specs.declared.faults.Reason.{Reason}
 use Rattle.vs_scopes.specs.Printed.{Path}
-use Rattle.vs_scopes.specs.Scopes.{Scope, nowhere, outward, seen_from, bindings_of, environment, named, named_at, inner_of, has_wrong_end, scopes_of}
+use Rattle.vs_scopes.specs.Nets.{Sight, nothing_seen, first_told}
+use Rattle.vs_scopes.specs.Scopes.{Scope, nowhere, outward, seen_from, bindings_of, environment, named, named_at, inner_of, sight_in, has_wrong_end, scopes_of}
 use Rattle.vs_scopes.specs.Generate as g
 use Rattle.vs_scopes.specs.passes.Answers.{borrowed}
 use Rattle.vs_scopes.specs.passes.Names.{read_title}
@@ -40,6 +41,23 @@ abbrev pub StandsAround : List Scope → Option ℕ → Scope → Type 0
 StandsAround ss None s = IsOutermost s
 StandsAround ss (Some place) s = IsWithin ss place s
 
+-- how names stand outward of a scope of this kind that the piece at a place of another one opens: those of a module aren't seen in its instances
+-- (clause 12.7)
+abbrev pub sight_from : ScopeKind → Scope → ℕ → List ℕ → Sight
+sight_from opened_by.Module outer piece = nothing_seen
+sight_from opened_by.Begin outer piece = sight_in outer piece
+
+-- how names stand around a scope that the piece at a place of the scope at another place among these opens
+pub record IsSeenFrom (ss : List Scope) (place piece : ℕ) (s : Scope) : Type 0 where
+  pub outer_scope : Scope
+  pub stands : slice_get ss place ≡ Some outer_scope
+  pub sight : s.sight ≡ sight_from s.kind outer_scope piece
+
+-- how names stand around a scope: around it is the one at this place among these, or none
+abbrev pub HasSight : List Scope → Option ℕ → ℕ → Scope → Type 0
+HasSight ss None piece s = s.sight ≡ nothing_seen
+HasSight ss (Some place) piece s = IsSeenFrom ss place piece s
+
 -- the scope at a place among these is the instance that a scope stands in
 pub record IsHome (ss : List Scope) (place : ℕ) (s : Scope) : Type 0 where
   pub home_scope : Scope
@@ -62,6 +80,9 @@ pub record IsEntered (ss : List Scope) (o : FoundScope) (s : Scope) : Type 0 whe
   pub instances : o.instances ≡ s.instances
   pub turns : o.turns ≡ s.turns
   pub depth : o.depth ≡ s.depth
+  pub nets : o.nets ≡ s.nets
+  pub text : (n : List ℕ) → meaning_of o.text n ≡ meaning_of s.text n
+  pub told : (n : List ℕ) → meaning_of o.told n ≡ first_told s.pieces n
   pub ports : map read_port o.ports.items ≡ s.ports
   pub pieces : map read_piece o.pieces.items ≡ s.pieces
   pub constants : by_bytes o.constants.items ≡ s.constants
@@ -69,6 +90,7 @@ pub record IsEntered (ss : List Scope) (o : FoundScope) (s : Scope) : Type 0 whe
   pub within : SaysModules s.kind (borrowed o.within.items) s
   pub home : IsHome ss o.home s
   pub around : StandsAround ss o.around s
+  pub sight : HasSight ss o.around o.piece s
   pub ends : read_ends o.ends.items ≡ s.ends
   pub lefts : has_wrong_end s.ports s.ends ≡ false
 

@@ -11,6 +11,7 @@ use Rattle.vs_scopes.specs.Printed.{printed, printed_name, printed_part}
 use Rattle.vs_scopes.specs.Ranges.{word_count}
 use Rattle.vs_scopes.specs.Declarations.{DeclaredName}
 use Rattle.vs_scopes.specs.Generate.{Inner}
+use Rattle.vs_scopes.specs.Nets.{permits_nets}
 use Rattle.vs_scopes.specs.Scopes.{Scope, Before, behind, within_first, inner_of, module_named, declarations_of, named, opened, opened_top, listed, scopes_within, deepest}
 
 -- what a signal of a design shows
@@ -84,7 +85,7 @@ outline_within (suc n) ms s =
 
 -- the outline of a source with a top
 abbrev pub outline_of : List Module → List ℕ → List Line
-outline_of ms top = listed (outline_within deepest ms) (opened_top (module_named ms top))
+outline_of ms top = listed (outline_within deepest ms) (opened_top (permits_nets ms top) (module_named ms top))
 
 -- a line of a design's outline
 abbrev pub IsEntry : Entry → Line → Type 0

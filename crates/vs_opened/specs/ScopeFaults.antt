@@ -13,7 +13,7 @@ use Rattle.vs_scopes.specs.Parameters.{given_to, is_override_mismatch, own_fault
 use Rattle.vs_scopes.specs.Ports.{ModulePort, has_stray_port, is_wrong_port}
 use Rattle.vs_scopes.specs.Declarations.{declaration_fault, declared_by_port, declared_among, is_unlike, Use}
 use Rattle.vs_scopes.specs.Generate.{generated, constructs_fault}
-use Rattle.vs_scopes.specs.Scopes.{Scope, nowhere, is_instance, module_named, scopes_of, declarations_of, all_names_of, uses_of, inner_of, environment, early, block_fault, named, named_at, is_inside, is_port_mismatch, has_block_parameter, levels, deepest}
+use Rattle.vs_scopes.specs.Scopes.{Scope, nowhere, is_instance, module_named, scopes_of, declarations_of, all_names_of, text_names, uses_of, inner_of, late_nets, is_implicit, environment, early, block_fault, named, named_at, is_inside, is_port_mismatch, has_block_parameter, levels, deepest}
 
 -- an element that stands twice among others
 pub record Repeated {A : Type 0} (xs : List A) (x : A) : Type 0 where
@@ -92,17 +92,34 @@ HasBlockParameter s p = (has_block_parameter s ≡ true) × (p ≡ s.home)
 
 -- a generate construct of a scope that has the fault, by the scope's path (clause 12.4)
 abbrev pub HasConstructFault : Scope → Reason → Path → Type 0
-HasConstructFault s r p = (constructs_fault r (environment s) (all_names_of s) 1 s.pieces ≡ true) × (p ≡ s.path)
+HasConstructFault s r p = (constructs_fault r (environment s) (text_names s) 1 s.pieces ≡ true) × (p ≡ s.path)
 
 -- a fault of a value of a parameter of a generate block in a scope, by the block's path (clause 4.10.2)
 pub record HasBlockFault (s : Scope) (w : WidthReason) (p : Path) : Type 0 where
   pub place : ℕ
+  pub piece : ℕ
   pub title : PathName
   pub constants : List (List ℕ × Const)
   pub items : List ModuleItem
-  pub stands : slice_get (inner_of s) place ≡ Some (generated title constants items)
+  pub stands : slice_get (inner_of s) place ≡ Some (generated piece title constants items)
   pub holds : block_fault s constants (pieces_of items) w ≡ true
   pub path : p ≡ named_at s title
+
+-- a net that is declared behind its use in a scope, by the net's path (clause 4.5)
+pub record HasLateNet (s : Scope) (p : Path) : Type 0 where
+  pub place : ℕ
+  pub stands : slice_get (late_nets s) place ≡ Some p
+
+-- a generate block in a scope that has the name of an implicit net there, by the net's path (clauses 4.5 and 12.4.3)
+pub record HasBlockOfNet (s : Scope) (p : Path) : Type 0 where
+  pub place : ℕ
+  pub piece : ℕ
+  pub title : PathName
+  pub constants : List (List ℕ × Const)
+  pub items : List ModuleItem
+  pub stands : slice_get (inner_of s) place ≡ Some (generated piece title constants items)
+  pub holds : is_implicit s title.name ≡ true
+  pub path : p ≡ named s title.name
 
 -- a range of a declaration of a scope that has the fault, by the scope's path
 abbrev pub HasRangeFault : Scope → Reason → Path → Type 0
@@ -140,7 +157,7 @@ HoldsOpening ms s NoModule p = HasNoModule ms s p
 HoldsOpening ms s Inside p = AtInstance ms s (λ u m. is_inside s m) p
 HoldsOpening ms s PortMismatch p = AtInstance ms s is_port_mismatch p ⊎ HasWrongPort s p ⊎ HasStrayPort s p
 HoldsOpening ms s ParameterMismatch p = AtInstance ms s (λ u m. is_override_mismatch u.overrides m) p ⊎ HasBlockParameter s p
-HoldsOpening ms s DeclaredTwice p = DeclaresTwice s p ⊎ HasUnlikePort s p
+HoldsOpening ms s DeclaredTwice p = DeclaresTwice s p ⊎ HasUnlikePort s p ⊎ HasLateNet s p ⊎ HasBlockOfNet s p
 HoldsOpening ms s DrivenTwice p = ⊥
 HoldsOpening ms s Limit p = PassesLimit s p ⊎ PassesTurns s p ⊎ HasRangeFault s Limit p
 HoldsOpening ms s (Width w) p =

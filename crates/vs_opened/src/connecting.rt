@@ -11,7 +11,7 @@ use std::alloc::{AllocError, Global};
 use vs_generate::Use;
 use vs_scopes::{ModulePort, ends};
 use vs_syntax::{Direction, Expr};
-use vs_targets::is_left;
+use vs_widths::is_left;
 
 /// The names of ports.
 fn names_of_ports<'s>(alloc: Global, ports: &[ModulePort<'s>]) -> Result<Vec<&'s [u8]>, AllocError>

@@ -1,7 +1,7 @@
 //! What a scope declares, as signals of a design.
 ghost use Rattle.std.specs.Prelude.{◌≡◌, ◌<◌, ◌∷◌, [], Option, length, map, IfOk};
 ghost use Rattle.vs_syntax.specs.declared.tree.Range.{Range};
-ghost use Rattle.vs_pieces.specs.Pieces.{plain, local};
+ghost use Rattle.vs_pieces.specs.Pieces.{plain, local, net};
 ghost use Rattle.vs_pieces.specs.Reads.{read_piece};
 ghost use Rattle.vs_scopes.specs.Ranges.{Sized, Words, words_as};
 ghost use Rattle.vs_scopes.specs.Declarations.{declared_as, declared_local, declared_by_port, declared_in, declared_among, selectable};
@@ -24,12 +24,21 @@ use vs_scopes::{
     BodyFault, ElabFault, INTEGER, ModulePort, PathName, Reason, Size, WordCount, declared_size,
     declared_words, port_size, print_member, print_name,
 };
-use vs_selects::{Binding, Meaning};
+use vs_selects::{Binding, Meaning, Shape};
 use vs_syntax::{Declarator, Item, Local, LocalDeclaration};
 use vs_widths::{Levels, Names};
 
 /// A design has at most this many signals.
 const SIGNAL_LIMIT: usize = 65536;
+
+/// The size and sign of an implicit net (IEEE 1364-2005, clause 4.5).
+const SCALAR: Size = Size {
+    shape: Shape {
+        width: 1,
+        signed: false,
+    },
+    bounds: None,
+};
 
 /// The path of a scope, and what names are bound to in its constant expressions.
 #[derive(Clone, Copy)]
@@ -270,6 +279,26 @@ fn declare_locally<'s>(
     }
 }
 
+/// Gives an implicit net its signal, which is a scalar (IEEE 1364-2005, clause 4.5).
+fn declare_net<'s>(
+    alloc: Global,
+    site: Site,
+    name: &'s [u8],
+    to: &mut Declared<'s>,
+    plan: &mut Plan,
+) -> Result<(), ElabFault>
+    requires { 0 < length site.path.now }
+    ensures { (s : Scope) → IsAt s site.entry → Grows (Declares s to.old plan.old) (Declares s to.new plan.new) (DeclaresNot s)
+        (declared_in s.known (net name.entry.now)) result }
+{
+    let size = Ok(SCALAR);
+    let words = Ok(WordCount {
+        bounds: None,
+        count: 1,
+    });
+    declare_name(alloc, site, SignalKind::Wire, &size, &words, name, to, plan)
+}
+
 /// Gives the names of a piece their signals.
 fn declare_piece<'s>(
     alloc: Global,
@@ -288,6 +317,7 @@ fn declare_piece<'s>(
         Piece::Loop(_, _) => Ok(()),
         Piece::Choice(_, _, _) => Ok(()),
         Piece::Inside(_) => Ok(()),
+        Piece::Net(name) => declare_net(alloc, site, name, to, plan),
     }
 }
 
@@ -318,8 +348,8 @@ fn declare_port<'s>(
     plan: &mut Plan,
 ) -> Result<(), ElabFault>
     requires { 0 < length site.path.now }
-    ensures { (s : Scope) → IsAt s site.entry → Grows (DeclaresPorts s names.old plan.old) (DeclaresPorts s names.new plan.new) (DeclaresPortsNot s)
-        (declared_by_port s.known (read_port port.now) ∷ []) result }
+    ensures { (s : Scope) → IsAt s site.entry → Grows (DeclaresPorts s names.old plan.old) (DeclaresPorts s names.new plan.new)
+        (DeclaresPortsNot s) (declared_by_port s.known (read_port port.now) ∷ []) result }
 {
     let size = match port_size(alloc, site.known, port) {
         Ok(size) => size,
@@ -343,8 +373,8 @@ pub fn declare_ports<'s>(
     plan: &mut Plan,
 ) -> Result<(), ElabFault>
     requires { 0 < length site.path.now }
-    ensures { (s : Scope) → IsAt s site.entry → Grows (DeclaresPorts s names.old plan.old) (DeclaresPorts s names.new plan.new) (DeclaresPortsNot s)
-        (map (declared_by_port s.known) (map read_port ports.now)) result }
+    ensures { (s : Scope) → IsAt s site.entry → Grows (DeclaresPorts s names.old plan.old) (DeclaresPorts s names.new plan.new)
+        (DeclaresPortsNot s) (map (declared_by_port s.known) (map read_port ports.now)) result }
 {
     for port in ports {
         declare_port(alloc, site, port, names, plan)?;

@@ -171,6 +171,7 @@ fn add_inner<'s>(
         }
         Piece::Local(_) => Ok(()),
         Piece::Inside(block) => Ok(names.push(block.name)?),
+        Piece::Net(_) => Ok(()),
     }
 }
 

@@ -1,4 +1,4 @@
-//! The scopes of a source as they are listed: what they are, their paths, and the names, signals and connections of one
+//! The scopes of a source as they are listed: what they are, their paths, how names stand in them, and the names, signals and connections of one
 //! (IEEE 1364-2005, clause 12).
 #![tactic(auto)]
 
@@ -8,6 +8,7 @@ mod inner;
 mod limits;
 mod naming;
 mod opened;
+mod sights;
 mod sites;
 mod telling;
 
@@ -17,5 +18,6 @@ pub use inner::{genvars, inner_names};
 pub use limits::{DEEPEST, TURN_LIMIT, has_parameter, has_wrong_port, passes_limit};
 pub use naming::{bind_all, bind_constants};
 pub use opened::{Opened, Opening, Plan};
+pub use sights::{Level, Sight, own_sight, sight_around, told};
 pub use sites::{names_around, names_outward, path, path_inside};
-pub use telling::{fault_at, member_fault};
+pub use telling::{fault_at, member_fault, named_fault, scope_fault};

@@ -28,9 +28,15 @@ pub struct Opened<'s> {
     pub turns: usize,
     /// In how many instances it stands, the top and itself among them.
     pub depth: usize,
+    /// Whether undeclared names may be nets in it.
+    pub nets: bool,
+    /// The names that its text declares, with what they are bound to before its constants are known.
+    pub text: Names<'s, Binding>,
+    /// The ports and nets that its pieces declare, each with the place of the first piece that does.
+    pub told: Names<'s, usize>,
     /// Its ports, in their order.
     pub ports: Vec<ModulePort<'s>>,
-    /// What stands in it.
+    /// What stands in it, with its implicit nets.
     pub pieces: Vec<Piece<'s>>,
     /// Its parameters with their values, in the order of the text; before them the genvar of the turn that it is.
     pub constants: Vec<(&'s [u8], Const)>,
@@ -44,6 +50,8 @@ pub struct Opened<'s> {
     pub home: usize,
     /// The place of the scope around it, where there is one.
     pub around: Option<usize>,
+    /// The place of the piece that opens it among those of the scope around it.
+    pub piece: usize,
     /// What its ports are connected to there, in their order.
     pub ends: Vec<Option<&'s Expr>>,
     /// The places of the scopes in it that are no turns of loops, by their names.

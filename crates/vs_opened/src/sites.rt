@@ -14,7 +14,7 @@ use vs_selects::Binding;
 use vs_widths::Names;
 
 /// The place of the scope whose names are seen in one of this kind (IEEE 1364-2005, clause 12.7).
-fn outward_place(kind: ScopeKind, around: Option<usize>) -> Option<usize>
+pub fn outward_place(kind: ScopeKind, around: Option<usize>) -> Option<usize>
     ensures { result ≡ outward_place kind around }
 {
     match kind {

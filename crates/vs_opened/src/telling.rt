@@ -1,9 +1,13 @@
 //! Faults of scopes, at their paths.
-ghost use Rattle.std.specs.Prelude.{◌<◌, ◌∷◌, ◌++◌, [], length};
+ghost use Rattle.std.specs.Prelude.{◌≡◌, ◌<◌, ◌∷◌, ◌++◌, [], List, Some, length, slice_get};
 ghost use Rattle.vs_scopes.specs.Printed.{plainly};
+ghost use Rattle.vs_scopes.specs.Scopes.{Scope, named};
 ghost use Rattle.vs_scopes.specs.passes.Answers.{IsFaultAt, IsRefusal};
 ghost use Rattle.vs_scopes.specs.passes.Names.{read_path};
+ghost use Rattle.vs_opened.specs.Opened.{AreOpened, AreSeated};
 
+use crate::opened::Opened;
+use crate::sites::path;
 use std::alloc::Global;
 use vs_scopes::{BodyFault, ElabFault, PathName, Reason, print_member, print_path};
 
@@ -38,5 +42,38 @@ pub fn part_fault(alloc: Global, path: &[PathName], fault: BodyFault) -> ElabFau
     match fault {
         BodyFault::Memory => ElabFault::Memory,
         BodyFault::Refused(reason) => fault_at(alloc, path, reason),
+    }
+}
+
+/// A fault at the scope at a place.
+#[inline(never)]
+pub fn scope_fault(alloc: Global, list: &[Opened], place: usize, reason: Reason) -> ElabFault
+    requires place { place < length list.now }
+    requires seated { AreSeated list.now }
+    ensures { (ss : List Scope) (s : Scope) → AreOpened list.now ss → slice_get ss place ≡ Some s → IsFaultAt reason s.path result }
+{
+    match path(alloc, list, place) {
+        Ok(path) => fault_at(alloc, &path, reason),
+        Err(_) => ElabFault::Memory,
+    }
+}
+
+/// A fault at a name of the scope at a place.
+#[inline(never)]
+pub fn named_fault(
+    alloc: Global,
+    list: &[Opened],
+    place: usize,
+    name: &[u8],
+    reason: Reason,
+) -> ElabFault
+    requires place { place < length list.now }
+    requires seated { AreSeated list.now }
+    ensures { (ss : List Scope) (s : Scope) → AreOpened list.now ss → slice_get ss place ≡ Some s →
+        IsFaultAt reason (named s name.now) result }
+{
+    match path(alloc, list, place) {
+        Ok(path) => member_fault(alloc, &path, name, reason),
+        Err(_) => ElabFault::Memory,
     }
 }

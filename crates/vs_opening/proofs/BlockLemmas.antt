@@ -175,6 +175,9 @@ with_blocks_entered ss o s bs h = record {
   instances = h.instances;
   turns = h.turns;
   depth = h.depth;
+  nets = h.nets;
+  text = h.text;
+  told = h.told;
   ports = h.ports;
   pieces = h.pieces;
   constants = h.constants;
@@ -182,6 +185,7 @@ with_blocks_entered ss o s bs h = record {
   within = h.within;
   home = h.home;
   around = h.around;
+  sight = h.sight;
   ends = h.ends;
   lefts = h.lefts;
 }

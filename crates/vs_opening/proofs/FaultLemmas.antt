@@ -10,7 +10,7 @@ use Rattle.vs_syntax.specs.declared.tree.Module.{Module}
 use Rattle.vs_syntax.specs.declared.tree.ModuleItem.{ModuleItem}
 use Rattle.vs_selects.specs.declared.constants.Const.{Const}
 use Rattle.vs_selects.specs.Environment.{Environment}
-use Rattle.vs_pieces.specs.Pieces.{NamedBlock, blocks_of, Piece, plain, loop, choice, local, inside, Content, nothing, block, content_of}
+use Rattle.vs_pieces.specs.Pieces.{NamedBlock, blocks_of, Piece, plain, loop, choice, local, inside, net, Content, nothing, block, content_of}
 use Rattle.vs_scopes.specs.declared.faults.Reason.{Reason}
 use Rattle.vs_scopes.specs.declared.faults.Reason.TheVariants.{NoModule, Inside, PortMismatch, ParameterMismatch, DeclaredTwice, DrivenTwice, Limit, Width, Endless, Unnamed, Timescales, Format}
 use Rattle.vs_scopes.specs.declared.faults.BodyFault.{BodyFault}
@@ -20,13 +20,14 @@ use Rattle.vs_scopes.specs.Parameters.{is_override_mismatch}
 use Rattle.vs_scopes.specs.Declarations.{Use, uses_in, uses_by_item, uses_among, is_unlike}
 use Rattle.vs_scopes.specs.Generate.{Inner, instance, generated, Turns, turns, faulty, endless, Taken, takes, refused, turns_of, chosen, name_of_block, generates, content_inner, turns_inner, loop_inner, choice_inner, genvar_number, inner_in, inner_from, behind_piece, turns_fault, taken_fault, construct_fault, constructs_fault}
 use Rattle.vs_scopes.specs.Generate as g
-use Rattle.vs_scopes.specs.Scopes.{Scope, Before, behind, within_first, all_names_of, environment, uses_of, inner_of, opened, listed, below, scopes_within, is_inside, is_port_mismatch}
+use Rattle.vs_scopes.specs.Scopes.{Scope, Before, behind, within_first, all_names_of, text_names, environment, uses_of, inner_of, is_named_as_net, opened, listed, below, scopes_within, is_inside, is_port_mismatch}
 use Rattle.vs_scopes.specs.passes.Answers.{Told, Refuses, IsRefusal}
 use Rattle.vs_scopes.proofs.Folds.{any_false_at}
 use Rattle.vs_scopes.proofs.AnswerLemmas.{told_by, told_part}
 use Rattle.vs_opened.specs.ScopeFaults.{Repeated, of_module, AtInstance, parameter_fault, override_fault, HasConstructFault, PassesLimit, PassesTurns, HoldsOpening, HoldsOpeningIn}
+use Rattle.vs_nets.specs.passes.Nets.{IsNamedAsNet}
 use Rattle.vs_opening.specs.passes.Entering.{IsSoundUse, IsSoundInner, EntersNot}
-use Rattle.vs_opening.specs.passes.Opens.{IsSoundOwn, HoldsOwn, AddsInnerNot, IsSoundInside}
+use Rattle.vs_opening.specs.passes.Opens.{IsSoundOwn, HoldsOwn, HasInnerNot, AddsInnerNot, IsSoundInside}
 use Rattle.vs_opening.proofs.ListLemmas.{slice_front, slice_back, slice_either, all_at}
 use Rattle.vs_opening.proofs.OwnLemmas.{is_shallow, is_deep, is_few}
 use Rattle.vs_opening.proofs.OpenLemmas.{below_append, within_inside}
@@ -43,30 +44,30 @@ no_use_none i u h = none-some (instance u) h
 no_use_append : (xs ys : List Inner) → NoUse xs → NoUse ys → NoUse (xs ++ ys)
 no_use_append xs ys h k i u e = ⊎_elim (λ p. h i u p.1) (λ p. k p.0 u p.2) (slice_either xs ys i (instance u) e)
 
-no_use_generates : (n : Option (List ℕ)) (turn : Option ℤ) (cs : List (List ℕ × Const)) (xs : List ModuleItem) → NoUse (generates n turn cs xs)
-no_use_generates None turn cs xs i u h = none-some (instance u) h
-no_use_generates (Some n) turn cs xs zero u h = wrong (same_Some (generated (record { name = n; turn = turn }) cs xs) (instance u) h)
+no_use_generates : (i : ℕ) (n : Option (List ℕ)) (turn : Option ℤ) (cs : List (List ℕ × Const)) (xs : List ModuleItem) → NoUse (generates i n turn cs xs)
+no_use_generates i None turn cs xs j u h = none-some (instance u) h
+no_use_generates i (Some n) turn cs xs zero u h = wrong (same_Some (generated i (record { name = n; turn = turn }) cs xs) (instance u) h)
   where
-    wrong : generated (record { name = n; turn = turn }) cs xs ≡ instance u → ⊥
+    wrong : generated i (record { name = n; turn = turn }) cs xs ≡ instance u → ⊥
     wrong e = cc
-no_use_generates (Some n) turn cs xs (suc i) u h = none-some (instance u) h
+no_use_generates i (Some n) turn cs xs (suc j) u h = none-some (instance u) h
 
-no_use_content : (names : List (List ℕ)) (k : ℕ) (turn : Option ℤ) (cs : List (List ℕ × Const)) (x : Content) → NoUse (content_inner names k turn cs x)
-no_use_content names k turn cs nothing = no_use_none
-no_use_content names k turn cs (block n xs) = no_use_generates (name_of_block names k n) turn cs xs
+no_use_content : (i : ℕ) (names : List (List ℕ)) (k : ℕ) (turn : Option ℤ) (cs : List (List ℕ × Const)) (x : Content) → NoUse (content_inner i names k turn cs x)
+no_use_content i names k turn cs nothing = no_use_none
+no_use_content i names k turn cs (block n xs) = no_use_generates i (name_of_block names k n) turn cs xs
 
-no_use_turns : (names : List (List ℕ)) (k : ℕ) (n : List ℕ) (x : Content) (cs : List Const) → NoUse (turns_inner names k n x cs)
-no_use_turns names k n x [] = no_use_none
-no_use_turns names k n x (c ∷ cs) = no_use_append (content_inner names k (genvar_number c) ((n, c) ∷ []) x) (turns_inner names k n x cs) (no_use_content names k (genvar_number c) ((n, c) ∷ []) x) (no_use_turns names k n x cs)
+no_use_turns : (i : ℕ) (names : List (List ℕ)) (k : ℕ) (n : List ℕ) (x : Content) (cs : List Const) → NoUse (turns_inner i names k n x cs)
+no_use_turns i names k n x [] = no_use_none
+no_use_turns i names k n x (c ∷ cs) = no_use_append (content_inner i names k (genvar_number c) ((n, c) ∷ []) x) (turns_inner i names k n x cs) (no_use_content i names k (genvar_number c) ((n, c) ∷ []) x) (no_use_turns i names k n x cs)
 
-no_use_loop : (names : List (List ℕ)) (k : ℕ) (n : List ℕ) (x : Content) (t : Turns) → NoUse (loop_inner names k n x t)
-no_use_loop names k n x (turns cs) = no_use_turns names k n x cs
-no_use_loop names k n x (faulty w) = no_use_none
-no_use_loop names k n x endless = no_use_none
+no_use_loop : (i : ℕ) (names : List (List ℕ)) (k : ℕ) (n : List ℕ) (x : Content) (t : Turns) → NoUse (loop_inner i names k n x t)
+no_use_loop i names k n x (turns cs) = no_use_turns i names k n x cs
+no_use_loop i names k n x (faulty w) = no_use_none
+no_use_loop i names k n x endless = no_use_none
 
-no_use_choice : (names : List (List ℕ)) (k : ℕ) (t : Taken) → NoUse (choice_inner names k t)
-no_use_choice names k (takes x) = no_use_content names k None [] x
-no_use_choice names k (refused w) = no_use_none
+no_use_choice : (i : ℕ) (names : List (List ℕ)) (k : ℕ) (t : Taken) → NoUse (choice_inner i names k t)
+no_use_choice i names k (takes x) = no_use_content i names k None [] x
+no_use_choice i names k (refused w) = no_use_none
 
 no_use_named : (bs : List NamedBlock) → NoUse (map g.named bs)
 no_use_named [] i u h = none-some (instance u) h
@@ -85,37 +86,39 @@ mapped_use (v ∷ us) zero u h = ap Some (same (same_Some (instance v) (instance
 mapped_use (v ∷ us) (suc i) u h = mapped_use us i u h
 
 module _ (env : Environment) (names : List (List ℕ)) where
-  piece_use : (k : ℕ) (p : Piece) (i : ℕ) (u : Use) → slice_get (inner_in env names k p) i ≡ Some (instance u) → (j : ℕ) × (slice_get (uses_in p) j ≡ Some u)
-  piece_use k (plain x) i u h =
+  piece_use : (at k : ℕ) (p : Piece) (i : ℕ) (u : Use) → slice_get (inner_in at env names k p) i ≡ Some (instance u) → (j : ℕ) × (slice_get (uses_in p) j ≡ Some u)
+  piece_use at k (plain x) i u h =
       ⊎_elim (λ p. (i, mapped_use (uses_by_item x) i u p.1)) (λ p. absurd (no_use_named (blocks_of x) p.0 u p.2)) (slice_either (map instance (uses_by_item x)) (map g.named (blocks_of x)) i (instance u) h)
-  piece_use k (loop h x) i u e = absurd (no_use_loop names k h.name.items (content_of x) (turns_of env h) i u e)
-  piece_use k (choice c x o) i u e = absurd (no_use_choice names k (chosen env c x o) i u e)
-  piece_use k (local x) i u e = absurd (none-some (instance u) e)
-  piece_use k (inside b) i u e = absurd (no_use_named (b ∷ []) i u e)
+  piece_use at k (loop h x) i u e = absurd (no_use_loop at names k h.name.items (content_of x) (turns_of env h) i u e)
+  piece_use at k (choice c x o) i u e = absurd (no_use_choice at names k (chosen env c x o) i u e)
+  piece_use at k (local x) i u e = absurd (none-some (instance u) e)
+  piece_use at k (inside b) i u e = absurd (no_use_named (b ∷ []) i u e)
+  piece_use at k (net n) i u e = absurd (none-some (instance u) e)
 
   -- an instance that pieces open is one of theirs
-  pub inner_use : (k : ℕ) (ps : List Piece) (i : ℕ) (u : Use) → slice_get (inner_from env names k ps) i ≡ Some (instance u) → (j : ℕ) × (slice_get (uses_among ps) j ≡ Some u)
-  inner_use k [] i u h = absurd (none-some (instance u) h)
-  inner_use k (p ∷ ps) i u h =
-      ⊎_elim (λ q. (let one = piece_use k p i u q.1 in (one.0, slice_front (uses_in p) (uses_among ps) one.0 u one.1)))
-      (λ q. (let rest = inner_use (behind_piece k p) ps q.0 u q.2 in (length (uses_in p) + rest.0, slice_back (uses_in p) (uses_among ps) rest.0 ∙ rest.1)))
-      (slice_either (inner_in env names k p) (inner_from env names (behind_piece k p) ps) i (instance u) h)
+  pub inner_use : (at k : ℕ) (ps : List Piece) (i : ℕ) (u : Use) → slice_get (inner_from at env names k ps) i ≡ Some (instance u) → (j : ℕ) × (slice_get (uses_among ps) j ≡ Some u)
+  inner_use at k [] i u h = absurd (none-some (instance u) h)
+  inner_use at k (p ∷ ps) i u h =
+      ⊎_elim (λ q. (let one = piece_use at k p i u q.1 in (one.0, slice_front (uses_in p) (uses_among ps) one.0 u one.1)))
+      (λ q. (let rest = inner_use (suc at) (behind_piece k p) ps q.0 u q.2 in (length (uses_in p) + rest.0, slice_back (uses_in p) (uses_among ps) rest.0 ∙ rest.1)))
+      (slice_either (inner_in at env names k p) (inner_from (suc at) env names (behind_piece k p) ps) i (instance u) h)
 
-  use_piece : (k : ℕ) (p : Piece) (j : ℕ) (u : Use) → slice_get (uses_in p) j ≡ Some u → (i : ℕ) × (slice_get (inner_in env names k p) i ≡ Some (instance u))
-  use_piece k (plain x) j u h = (j, slice_front (map instance (uses_by_item x)) (map g.named (blocks_of x)) j (instance u) (slice_get-map instance (uses_by_item x) j ∙ ap (option_map instance) h))
-  use_piece k (loop h x) j u e = absurd (none-some u e)
-  use_piece k (choice c x o) j u e = absurd (none-some u e)
-  use_piece k (local x) j u e = absurd (none-some u e)
-  use_piece k (inside b) j u e = absurd (none-some u e)
+  use_piece : (at k : ℕ) (p : Piece) (j : ℕ) (u : Use) → slice_get (uses_in p) j ≡ Some u → (i : ℕ) × (slice_get (inner_in at env names k p) i ≡ Some (instance u))
+  use_piece at k (plain x) j u h = (j, slice_front (map instance (uses_by_item x)) (map g.named (blocks_of x)) j (instance u) (slice_get-map instance (uses_by_item x) j ∙ ap (option_map instance) h))
+  use_piece at k (loop h x) j u e = absurd (none-some u e)
+  use_piece at k (choice c x o) j u e = absurd (none-some u e)
+  use_piece at k (local x) j u e = absurd (none-some u e)
+  use_piece at k (inside b) j u e = absurd (none-some u e)
+  use_piece at k (net n) j u e = absurd (none-some u e)
 
   -- each instance of pieces is opened by them
-  pub use_inner : (k : ℕ) (ps : List Piece) (j : ℕ) (u : Use) → slice_get (uses_among ps) j ≡ Some u → (i : ℕ) × (slice_get (inner_from env names k ps) i ≡ Some (instance u))
-  use_inner k [] j u h = absurd (none-some u h)
-  use_inner k (p ∷ ps) j u h =
-      let own = inner_in env names k p in
-      let others = inner_from env names (behind_piece k p) ps in
-      ⊎_elim (λ q. (let one = use_piece k p j u q.1 in (one.0, slice_front own others one.0 (instance u) one.1)))
-      (λ q. (let rest = use_inner (behind_piece k p) ps q.0 u q.2 in (length own + rest.0, slice_back own others rest.0 ∙ rest.1)))
+  pub use_inner : (at k : ℕ) (ps : List Piece) (j : ℕ) (u : Use) → slice_get (uses_among ps) j ≡ Some u → (i : ℕ) × (slice_get (inner_from at env names k ps) i ≡ Some (instance u))
+  use_inner at k [] j u h = absurd (none-some u h)
+  use_inner at k (p ∷ ps) j u h =
+      let own = inner_in at env names k p in
+      let others = inner_from (suc at) env names (behind_piece k p) ps in
+      ⊎_elim (λ q. (let one = use_piece at k p j u q.1 in (one.0, slice_front own others one.0 (instance u) one.1)))
+      (λ q. (let rest = use_inner (suc at) (behind_piece k p) ps q.0 u q.2 in (length own + rest.0, slice_back own others rest.0 ∙ rest.1)))
       (slice_either (uses_in p) (uses_among ps) j u h)
 
 -- ---- where faults stand
@@ -124,7 +127,9 @@ own_holds : (ms : List Module) (s : Scope) (r : Reason) (p : Path) → HoldsOwn 
 own_holds ms s PortMismatch p (inl h) = inr (inl h)
 own_holds ms s PortMismatch p (inr h) = inr (inr h)
 own_holds ms s ParameterMismatch p h = inr h
-own_holds ms s DeclaredTwice p h = h
+own_holds ms s DeclaredTwice p (inl h) = inl h
+own_holds ms s DeclaredTwice p (inr (inl h)) = inr (inl h)
+own_holds ms s DeclaredTwice p (inr (inr h)) = inr (inr (inl h))
 own_holds ms s Limit p h = h
 own_holds ms s (Width w) p h = inr (inr (inr (inr h)))
 own_holds ms s NoModule p h = absurd h
@@ -150,23 +155,23 @@ use_holds ms s j u Unnamed p k h = absurd h
 use_holds ms s j u Timescales p k h = absurd h
 use_holds ms s j u (Format wrong) p k h = absurd h
 
-block_holds : (ms : List Module) (s : Scope) (i : ℕ) (n : PathName) (cs : List (List ℕ × Const)) (xs : List ModuleItem) (r : Reason) (p : Path) → slice_get (inner_of s) i ≡ Some (generated n cs xs) → EntersNot ms s (generated n cs xs) r p → HoldsOpening ms s r p
-block_holds ms s i n cs xs (Width w) p k h = inr (inr (inl (record { place = i; title = n; constants = cs; items = xs; stands = k; holds = h.0; path = h.1 })))
-block_holds ms s i n cs xs NoModule p k h = absurd h
-block_holds ms s i n cs xs Inside p k h = absurd h
-block_holds ms s i n cs xs PortMismatch p k h = absurd h
-block_holds ms s i n cs xs ParameterMismatch p k h = absurd h
-block_holds ms s i n cs xs DeclaredTwice p k h = absurd h
-block_holds ms s i n cs xs DrivenTwice p k h = absurd h
-block_holds ms s i n cs xs Limit p k h = absurd h
-block_holds ms s i n cs xs Endless p k h = absurd h
-block_holds ms s i n cs xs Unnamed p k h = absurd h
-block_holds ms s i n cs xs Timescales p k h = absurd h
-block_holds ms s i n cs xs (Format wrong) p k h = absurd h
+block_holds : (ms : List Module) (s : Scope) (i at : ℕ) (n : PathName) (cs : List (List ℕ × Const)) (xs : List ModuleItem) (r : Reason) (p : Path) → slice_get (inner_of s) i ≡ Some (generated at n cs xs) → EntersNot ms s (generated at n cs xs) r p → HoldsOpening ms s r p
+block_holds ms s i at n cs xs (Width w) p k h = inr (inr (inl (record { place = i; piece = at; title = n; constants = cs; items = xs; stands = k; holds = h.0; path = h.1 })))
+block_holds ms s i at n cs xs NoModule p k h = absurd h
+block_holds ms s i at n cs xs Inside p k h = absurd h
+block_holds ms s i at n cs xs PortMismatch p k h = absurd h
+block_holds ms s i at n cs xs ParameterMismatch p k h = absurd h
+block_holds ms s i at n cs xs DeclaredTwice p k h = absurd h
+block_holds ms s i at n cs xs DrivenTwice p k h = absurd h
+block_holds ms s i at n cs xs Limit p k h = absurd h
+block_holds ms s i at n cs xs Endless p k h = absurd h
+block_holds ms s i at n cs xs Unnamed p k h = absurd h
+block_holds ms s i at n cs xs Timescales p k h = absurd h
+block_holds ms s i at n cs xs (Format wrong) p k h = absurd h
 
 enters_holds : (ms : List Module) (s : Scope) (i : ℕ) (x : Inner) (r : Reason) (p : Path) → slice_get (inner_of s) i ≡ Some x → EntersNot ms s x r p → HoldsOpening ms s r p
-enters_holds ms s i (instance u) r p k h = let one = inner_use (environment s) (all_names_of s) 1 s.pieces i u k in use_holds ms s one.0 u r p one.1 h
-enters_holds ms s i (generated n cs xs) r p k h = block_holds ms s i n cs xs r p k h
+enters_holds ms s i (instance u) r p k h = let one = inner_use (environment s) (text_names s) 0 1 s.pieces i u k in use_holds ms s one.0 u r p one.1 h
+enters_holds ms s i (generated at n cs xs) r p k h = block_holds ms s i at n cs xs r p k h
 enters_holds ms s i (g.named x) r p k h = absurd h
 
 -- a reason that is none of a generate construct
@@ -210,6 +215,7 @@ construct_quiet r q env names k (choice e x o) = taken_quiet r q names k (chosen
 construct_quiet r q env names k (plain x) = refl
 construct_quiet r q env names k (local x) = refl
 construct_quiet r q env names k (inside b) = refl
+construct_quiet r q env names k (net n) = refl
 
 constructs_quiet : (r : Reason) → Quiet r → (env : Environment) (names : List (List ℕ)) (k : ℕ) (ps : List Piece) → constructs_fault r env names k ps ≡ false
 constructs_quiet r q env names k [] = refl
@@ -220,19 +226,19 @@ construct_holds : (ms : List Module) (s : Scope) (r : Reason) (p : Path) → Has
 construct_holds ms s (Width w) p h = inr (inr (inr (inl h)))
 construct_holds ms s Endless p h = h
 construct_holds ms s Unnamed p h = h
-construct_holds ms s Timescales p h = absurd (true≢false (sym h.0 ∙ constructs_quiet Timescales tt (environment s) (all_names_of s) 1 s.pieces))
-construct_holds ms s (Format wrong) p h = absurd (true≢false (sym h.0 ∙ constructs_quiet (Format wrong) tt (environment s) (all_names_of s) 1 s.pieces))
-construct_holds ms s NoModule p h = absurd (true≢false (sym h.0 ∙ constructs_quiet NoModule tt (environment s) (all_names_of s) 1 s.pieces))
-construct_holds ms s Inside p h = absurd (true≢false (sym h.0 ∙ constructs_quiet Inside tt (environment s) (all_names_of s) 1 s.pieces))
-construct_holds ms s PortMismatch p h = absurd (true≢false (sym h.0 ∙ constructs_quiet PortMismatch tt (environment s) (all_names_of s) 1 s.pieces))
-construct_holds ms s ParameterMismatch p h = absurd (true≢false (sym h.0 ∙ constructs_quiet ParameterMismatch tt (environment s) (all_names_of s) 1 s.pieces))
-construct_holds ms s DeclaredTwice p h = absurd (true≢false (sym h.0 ∙ constructs_quiet DeclaredTwice tt (environment s) (all_names_of s) 1 s.pieces))
-construct_holds ms s DrivenTwice p h = absurd (true≢false (sym h.0 ∙ constructs_quiet DrivenTwice tt (environment s) (all_names_of s) 1 s.pieces))
-construct_holds ms s Limit p h = absurd (true≢false (sym h.0 ∙ constructs_quiet Limit tt (environment s) (all_names_of s) 1 s.pieces))
+construct_holds ms s Timescales p h = absurd (true≢false (sym h.0 ∙ constructs_quiet Timescales tt (environment s) (text_names s) 1 s.pieces))
+construct_holds ms s (Format wrong) p h = absurd (true≢false (sym h.0 ∙ constructs_quiet (Format wrong) tt (environment s) (text_names s) 1 s.pieces))
+construct_holds ms s NoModule p h = absurd (true≢false (sym h.0 ∙ constructs_quiet NoModule tt (environment s) (text_names s) 1 s.pieces))
+construct_holds ms s Inside p h = absurd (true≢false (sym h.0 ∙ constructs_quiet Inside tt (environment s) (text_names s) 1 s.pieces))
+construct_holds ms s PortMismatch p h = absurd (true≢false (sym h.0 ∙ constructs_quiet PortMismatch tt (environment s) (text_names s) 1 s.pieces))
+construct_holds ms s ParameterMismatch p h = absurd (true≢false (sym h.0 ∙ constructs_quiet ParameterMismatch tt (environment s) (text_names s) 1 s.pieces))
+construct_holds ms s DeclaredTwice p h = absurd (true≢false (sym h.0 ∙ constructs_quiet DeclaredTwice tt (environment s) (text_names s) 1 s.pieces))
+construct_holds ms s DrivenTwice p h = absurd (true≢false (sym h.0 ∙ constructs_quiet DrivenTwice tt (environment s) (text_names s) 1 s.pieces))
+construct_holds ms s Limit p h = absurd (true≢false (sym h.0 ∙ constructs_quiet Limit tt (environment s) (text_names s) 1 s.pieces))
 
 -- a construct's fault, as it is told
-pub construct_told : (s : Scope) (f : BodyFault) (e : ElabFault) → Refuses (λ r. constructs_fault r (environment s) (all_names_of s) 1 s.pieces) f → IsRefusal s.path f e → Told (HasConstructFault s) e
-construct_told s f e h k = told_part (HasConstructFault s) (λ r. constructs_fault r (environment s) (all_names_of s) 1 s.pieces) s.path f e (λ r q. (q, refl)) h k
+pub construct_told : (s : Scope) (f : BodyFault) (e : ElabFault) → Refuses (λ r. constructs_fault r (environment s) (text_names s) 1 s.pieces) f → IsRefusal s.path f e → Told (HasConstructFault s) e
+construct_told s f e h k = told_part (HasConstructFault s) (λ r. constructs_fault r (environment s) (text_names s) 1 s.pieces) s.path f e (λ r q. (q, refl)) h k
 
 -- ---- among scopes
 
@@ -252,8 +258,24 @@ scope_holds room ms s r p h = subst (λ z. HoldsOpeningIn ms z r p) (sym (within
 pub own_told : (room : ℕ) (ms : List Module) (s : Scope) (e : ElabFault) → Told (HoldsOwn s) e → Told (HoldsOpeningIn ms (scopes_within room ms s)) e
 own_told room ms s e h = told_by (HoldsOwn s) (HoldsOpeningIn ms (scopes_within room ms s)) e (λ r p k. scope_holds room ms s r p (own_holds ms s r p k)) h
 
-pub constructs_told : (room : ℕ) (ms : List Module) (s : Scope) (e : ElabFault) → Told (HasConstructFault s) e → Told (HoldsOpeningIn ms (scopes_within room ms s)) e
-constructs_told room ms s e h = told_by (HasConstructFault s) (HoldsOpeningIn ms (scopes_within room ms s)) e (λ r p k. scope_holds room ms s r p (construct_holds ms s r p k)) h
+blocks_hold : (ms : List Module) (s : Scope) (r : Reason) (p : Path) → IsNamedAsNet s (inner_of s) r p → HoldsOpening ms s r p
+blocks_hold ms s DeclaredTwice p h =
+    inr (inr (inr (record { place = h.place; piece = h.piece; title = h.title; constants = h.constants; items = h.items; stands = h.stands; holds = h.holds; path = h.path })))
+blocks_hold ms s NoModule p h = absurd h
+blocks_hold ms s Inside p h = absurd h
+blocks_hold ms s PortMismatch p h = absurd h
+blocks_hold ms s ParameterMismatch p h = absurd h
+blocks_hold ms s DrivenTwice p h = absurd h
+blocks_hold ms s Limit p h = absurd h
+blocks_hold ms s (Width w) p h = absurd h
+blocks_hold ms s Endless p h = absurd h
+blocks_hold ms s Unnamed p h = absurd h
+blocks_hold ms s Timescales p h = absurd h
+blocks_hold ms s (Format wrong) p h = absurd h
+
+-- why nothing is opened in it
+pub inner_not_told : (room : ℕ) (ms : List Module) (s : Scope) (e : ElabFault) → Told (HasInnerNot s) e → Told (HoldsOpeningIn ms (scopes_within room ms s)) e
+inner_not_told room ms s e h = told_by (HasInnerNot s) (HoldsOpeningIn ms (scopes_within room ms s)) e (λ r p k. scope_holds room ms s r p (⊎_elim (construct_holds ms s r p) (blocks_hold ms s r p) k)) h
 
 module _ (n : ℕ) (ms : List Module) (s : Scope) (done : List Inner) (x : Inner) (rest : List Inner) (whole : (done ++ x ∷ []) ++ rest ≡ inner_of s) (at : Before) (here : at ≡ behind (within_first s) (below ms (scopes_within n ms) s (within_first s) done)) where
   -- a fault in a scope that one of them opens
@@ -303,7 +325,7 @@ not_repeated ns n u r =
 
 module _ (ms : List Module) (s : Scope) (own : IsSoundOwn s) (within : IsSoundInside ms s) where
   use_at : (j : ℕ) (u : Use) → slice_get (uses_of s) j ≡ Some u → IsSoundUse ms s u
-  use_at j u h = let i = use_inner (environment s) (all_names_of s) 1 s.pieces j u h in all_at (IsSoundInner ms s) (inner_of s) i.0 (instance u) within.inner i.1
+  use_at j u h = let i = use_inner (environment s) (text_names s) 0 1 s.pieces j u h in all_at (IsSoundInner ms s) (inner_of s) i.0 (instance u) within.inner i.1
 
   -- a test that the module of no sound instance passes
   no_instance : (test : Use → Module → Bool) → ((u : Use) (h : IsSoundUse ms s u) → test u h.body ≡ false) → (p : Path) → AtInstance ms s test p → ⊥
@@ -329,14 +351,17 @@ module _ (ms : List Module) (s : Scope) (own : IsSoundOwn s) (within : IsSoundIn
   none_holds ParameterMismatch p (inl h) = no_instance (λ u m. is_override_mismatch u.overrides m) (λ u k. k.fits) p h
   none_holds ParameterMismatch p (inr h) = true≢false (sym h.0 ∙ own.parameters)
   none_holds DeclaredTwice p (inl h) = not_repeated (all_names_of s) h.name own.distinct h.repeated
-  none_holds DeclaredTwice p (inr h) = true≢false (sym h.unlike ∙ any_false_at (is_unlike s.known s.pieces) s.ports h.place h.port own.alike h.stands)
+  none_holds DeclaredTwice p (inr (inl h)) = true≢false (sym h.unlike ∙ any_false_at (is_unlike s.known s.pieces) s.ports h.place h.port own.alike h.stands)
+  none_holds DeclaredTwice p (inr (inr (inl h))) = none-some p (sym (ap (λ z. slice_get z h.place) own.nets) ∙ h.stands)
+  none_holds DeclaredTwice p (inr (inr (inr h))) =
+      true≢false (sym h.holds ∙ any_false_at (is_named_as_net s) (inner_of s) h.place (generated h.piece h.title h.constants h.items) within.nets h.stands)
   none_holds DrivenTwice p h = h
   none_holds Limit p (inl h) = within_limits p h
   none_holds Limit p (inr (inl h)) = in_time p h
   none_holds Limit p (inr (inr h)) = true≢false (sym h.0 ∙ own.sized Limit)
   none_holds (Width w) p (inl h) = no_instance (parameter_fault w s) (λ u k. k.parameters w) p h
   none_holds (Width w) p (inr (inl h)) = let u = use_at h.place h.instance h.stands in true≢false (sym h.holds ∙ ap (of_module (override_fault w s h.instance)) u.found ∙ u.overrides w)
-  none_holds (Width w) p (inr (inr (inl h))) = true≢false (sym h.holds ∙ all_at (IsSoundInner ms s) (inner_of s) h.place (generated h.title h.constants h.items) within.inner h.stands w)
+  none_holds (Width w) p (inr (inr (inl h))) = true≢false (sym h.holds ∙ all_at (IsSoundInner ms s) (inner_of s) h.place (generated h.piece h.title h.constants h.items) within.inner h.stands w)
   none_holds (Width w) p (inr (inr (inr (inl h)))) = true≢false (sym h.0 ∙ within.constructs (Width w))
   none_holds (Width w) p (inr (inr (inr (inr h)))) = true≢false (sym h.0 ∙ own.sized (Width w))
   none_holds Endless p h = true≢false (sym h.0 ∙ within.constructs Endless)

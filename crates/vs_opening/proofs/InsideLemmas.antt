@@ -1,9 +1,7 @@
 -- The scopes inside a scope, one after another.
 use Rattle.std.proofs.Common.{◌≡◌, ℕ, zero, suc, ◌+◌, ◌-◌, ◌<◌, ◌≤◌, false, List, [], ◌∷◌, ◌++◌, Some, inl, inr, is_some, length, map, take, drop, get_or, refl, ap, sym, subst, ◌∙◌, arith}
-use Rattle.std.specs.List.{slice_get, list_any}
-use Rattle.std.specs.Str.{bytes_eq}
-use Rattle.std.specs.Borrow.{Bor}
-use Rattle.std.proofs.lemmas.List.{append-nil, map-append, length-append, take_all}
+use Rattle.std.specs.List.{slice_get}
+use Rattle.std.proofs.lemmas.List.{map-append, length-append, take_all}
 use Rattle.vs_syntax.specs.declared.tree.Module.{Module}
 use Rattle.vs_design.specs.declared.design.Entry.TheVariants.{Leave}
 use Rattle.vs_selects.specs.Environment.{Environment}
@@ -18,7 +16,7 @@ use Rattle.vs_scopes.specs.declared.faults.ElabFault.{ElabFault}
 use Rattle.vs_scopes.specs.Parameters.{said}
 use Rattle.vs_scopes.specs.Declarations.{Bindings}
 use Rattle.vs_scopes.specs.Generate.{Inner, inner_from, constructs_fault}
-use Rattle.vs_scopes.specs.Scopes.{Scope, Before, behind, within_first, bindings_of, keys, all_names_of, environment, seen_from, inner_of, opened, below, scopes_within}
+use Rattle.vs_scopes.specs.Scopes.{Scope, Before, behind, within_first, text_names, environment, seen_from, inner_of, opened, below, scopes_within}
 use Rattle.vs_scopes.specs.passes.Answers.{Told, Refuses, IsRefusal}
 use Rattle.vs_scopes.proofs.Folds.{take_push}
 use Rattle.vs_scopes.proofs.AnswerLemmas.{told_by, refused_by}
@@ -27,8 +25,9 @@ use Rattle.vs_opened.specs.declared.opened.Plan.{Plan}
 use Rattle.vs_opened.specs.Opened.{IsOpened}
 use Rattle.vs_opened.specs.ScopeFaults.{HasConstructFault, HoldsOpeningIn}
 use Rattle.vs_opened.proofs.BindLemmas.{is_key}
+use Rattle.vs_opening.specs.declared.entering.Listed.{Listed}
 use Rattle.vs_opening.specs.passes.Entering.{before_next, IsShallow, EntersNot}
-use Rattle.vs_opening.specs.passes.Opens.{IsSoundOwn, HoldsOwn, IsPlanned, AddsInnerAt, AddsInnerNot, HasInner, IsReady, IsHolding, OpensInside, HoldsInner, OpensInsideNot}
+use Rattle.vs_opening.specs.passes.Opens.{IsSoundOwn, HoldsOwn, IsPlanned, AddsInnerAt, AddsInnerNot, FindsInner, HasInner, IsReady, IsHolding, OpensInside, HoldsInner, OpensInsideNot}
 use Rattle.vs_opening.proofs.ListLemmas.{slice_front, slice_end, all_at}
 use Rattle.vs_opening.proofs.SeatLemmas.{opened_here}
 use Rattle.vs_opening.proofs.EnterLemmas.{known_levels}
@@ -45,28 +44,26 @@ shallow list plan ss place s h e o f =
     let small = is_shallow s (all_at IsSoundOwn ss place s h.sound e).few in
     omega (arith, depth, small)
 
--- its names, and no others, are bound
-pub names_are : (ss : List Scope) (o : FoundScope) (s : Scope) → IsOpened ss o s → IsSoundOwn s → AreNames (all_names_of s) o.names
-names_are ss o s h own n =
-    let all : keys (bindings_of s) ≡ all_names_of s = sym (append-nil (keys (bindings_of s))) ∙ ap (λ z. keys (bindings_of s) ++ z) (sym own.again) in
-    ap is_some (h.names n) ∙ is_key (bindings_of s) n ∙ ap (list_any (bytes_eq n)) all
+-- the names that its text declares, and no others, are bound so
+pub names_are : (ss : List Scope) (o : FoundScope) (s : Scope) → IsOpened ss o s → AreNames (text_names s) o.text
+names_are ss o s h n = ap is_some (h.entered.text n) ∙ is_key s.text n
 
 -- what its names and those outward are bound to
 pub names_mean : (ss : List Scope) (o : FoundScope) (s : Scope) (outer : Bindings) → IsOpened ss o s → ((n : List ℕ) → meaning_of outer n ≡ seen_from s.kind s.outer n) → meaning_of (o.names ++ outer) ≡ environment s
 names_mean ss o s outer h e = known_levels o.names outer (seen_from s.kind s.outer) (environment s) e (λ n. ap (said (seen_from s.kind s.outer n)) (h.names n))
 
 module _ (s : Scope) (env : Environment) (ps : List Piece) (e : env ≡ environment s) (p : ps ≡ s.pieces) where
-  pub faults_same : (r : Reason) → constructs_fault r env (all_names_of s) 1 ps ≡ constructs_fault r (environment s) (all_names_of s) 1 s.pieces
-  faults_same r = ap (λ z. constructs_fault r z (all_names_of s) 1 ps) e ∙ ap (constructs_fault r (environment s) (all_names_of s) 1) p
+  pub faults_same : (r : Reason) → constructs_fault r env (text_names s) 1 ps ≡ constructs_fault r (environment s) (text_names s) 1 s.pieces
+  faults_same r = ap (λ z. constructs_fault r z (text_names s) 1 ps) e ∙ ap (constructs_fault r (environment s) (text_names s) 1) p
 
-  pub inner_found : (xs : List Inner) → ((r : Reason) → constructs_fault r env (all_names_of s) 1 ps ≡ false) → xs ≡ inner_from env (all_names_of s) 1 ps → HasInner s xs
+  pub inner_found : (xs : List Inner) → ((r : Reason) → constructs_fault r env (text_names s) 1 ps ≡ false) → xs ≡ inner_from 0 env (text_names s) 1 ps → FindsInner s xs
   inner_found xs h k = record {
     sound = λ r. sym (faults_same r) ∙ h r;
-    same = k ∙ ap (λ z. inner_from z (all_names_of s) 1 ps) e ∙ ap (inner_from (environment s) (all_names_of s) 1) p;
+    same = k ∙ ap (λ z. inner_from 0 z (text_names s) 1 ps) e ∙ ap (inner_from 0 (environment s) (text_names s) 1) p;
   }
 
-  pub fault_found : (f : BodyFault) (b : ElabFault) → Refuses (λ r. constructs_fault r env (all_names_of s) 1 ps) f → IsRefusal s.path f b → Told (HasConstructFault s) b
-  fault_found f b h k = construct_told s f b (refused_by (λ r. constructs_fault r env (all_names_of s) 1 ps) (λ r. constructs_fault r (environment s) (all_names_of s) 1 s.pieces) f (λ q g. sym (faults_same q) ∙ g) h) k
+  pub fault_found : (f : BodyFault) (b : ElabFault) → Refuses (λ r. constructs_fault r env (text_names s) 1 ps) f → IsRefusal s.path f b → Told (HasConstructFault s) b
+  fault_found f b h k = construct_told s f b (refused_by (λ r. constructs_fault r env (text_names s) 1 ps) (λ r. constructs_fault r (environment s) (text_names s) 1 s.pieces) f (λ q g. sym (faults_same q) ∙ g) h) k
 
 -- ---- a scope that is added
 
@@ -89,7 +86,7 @@ inner_more xs i x h e = ap (map read_inner) (take_push xs i x h e) ∙ map-appen
 inner_split : (xs : List FoundInner) (i : ℕ) (x : FoundInner) → i < length xs → x ≡ get_or xs i x → (map read_inner (take i xs) ++ read_inner x ∷ []) ++ map read_inner (drop (i + 1) xs) ≡ map read_inner xs
 inner_split xs i x h e = ap (λ z. z ++ map read_inner (drop (i + 1) xs)) (sym (inner_more xs i x h e)) ∙ sym (map-append read_inner (take (i + 1) xs) (drop (i + 1) xs)) ∙ ap (map read_inner) (front_back xs (i + 1))
 
-module _ (room : ℕ) (some : 0 < room) (ms : List Module) (ss : List Scope) (s : Scope) (place : ℕ) (modules : List (List ℕ × Bor Module)) (list0 : List FoundScope) (p0 : Plan) (ready : IsReady ms ss s modules list0 p0 place room) where
+module _ (room : ℕ) (some : 0 < room) (ms : List Module) (ss : List Scope) (s : Scope) (place : ℕ) (modules : List (List ℕ × Listed)) (list0 : List FoundScope) (p0 : Plan) (ready : IsReady ms ss s modules list0 p0 place room) where
   one_level : suc (room - 1) ≡ room
   one_level = omega (arith, some)
 
@@ -117,7 +114,7 @@ module _ (room : ℕ) (some : 0 < room) (ms : List Module) (ss : List Scope) (s 
       }
 
       whole : (map read_inner (take i items) ++ read_inner x ∷ []) ++ map read_inner (drop (i + 1) items) ≡ inner_of s
-      whole = inner_split items i x l e ∙ inner.same
+      whole = inner_split items i x l e ∙ inner.found.same
 
       here : before_next list1 p1 ≡ behind (within_first s) (below ms (scopes_within (room - 1) ms) s (within_first s) (map read_inner (take i items)))
       here = planned_behind list0 list1 p0 p1 ss (below ms (scopes_within (room - 1) ms) s (within_first s) (map read_inner (take i items))) (within_first s) ready.planned ready.next holds.planned

@@ -1,6 +1,6 @@
 -- Scopes one after another, with those inside them.
 use Rattle.std.proofs.Common.{◌≡◌, ℕ, zero, suc, ◌+◌, ◌≤◌, Bool, true, false, ◌||◌, ◌&&◌, is_some, nat_le, cond, List, [], ◌∷◌, ◌++◌, Option, Some, None, ⊎_elim, length, map, filter, refl, ap, ap₂, sym, subst, ◌∙◌, append_assoc, arith, true≢false, zero-add}
-use Rattle.std.specs.List.{slice_get, flat_map, All}
+use Rattle.std.specs.List.{slice_get, flat_map, list_any, All}
 use Rattle.std.proofs.lemmas.Bool.{leb-false}
 use Rattle.std.proofs.lemmas.List.{append-nil, length-map, length-append}
 use Rattle.std.proofs.lemmas.List.Concat.{flat_map-append}
@@ -15,7 +15,8 @@ use Rattle.vs_scopes.specs.Parameters.{any_fault}
 use Rattle.vs_scopes.specs.Declarations.{Use, Bindings}
 use Rattle.vs_scopes.specs.Generate.{Inner, instance, generated}
 use Rattle.vs_scopes.specs.Generate as g
-use Rattle.vs_scopes.specs.Scopes.{Scope, Before, before, behind, within_first, is_instance, declarations_of, signal_count, instance_count, turn_count, inner_of, module_named, opened, opened_instance, instance_scope, block_scope, is_inside, has_no_values, block_fault, listed, below, scopes_within}
+use Rattle.vs_scopes.specs.Nets.{permits_nets}
+use Rattle.vs_scopes.specs.Scopes.{Scope, Before, before, behind, within_first, is_instance, declarations_of, signal_count, instance_count, turn_count, inner_of, is_named_as_net, module_named, opened, opened_instance, instance_scope, block_scope, is_inside, has_no_values, block_fault, listed, below, scopes_within}
 use Rattle.vs_opened.specs.declared.opened.Opened.{Opened as FoundScope}
 use Rattle.vs_opened.specs.declared.opened.Plan.{Plan}
 use Rattle.vs_opened.specs.Opened.{IsEntered}
@@ -83,6 +84,9 @@ with_names_entered ss o s ns h = record {
   instances = h.instances;
   turns = h.turns;
   depth = h.depth;
+  nets = h.nets;
+  text = h.text;
+  told = h.told;
   ports = h.ports;
   pieces = h.pieces;
   constants = h.constants;
@@ -90,6 +94,7 @@ with_names_entered ss o s ns h = record {
   within = h.within;
   home = h.home;
   around = h.around;
+  sight = h.sight;
   ends = h.ends;
   lefts = h.lefts;
 }
@@ -158,25 +163,25 @@ adds_scope list old middle new ss o s names h k own c =
 
 -- ---- what is opened
 
-instance_before : (a : Bool) (s : Scope) (at : Before) (u : Use) (m : Module) (t : Scope) → cond a None (Some (instance_scope s at u m)) ≡ Some t → (before t ≡ at) × (length t.path ≡ suc (length s.path))
-instance_before true s at u m t e = absurd (none-some t e)
-instance_before false s at u m t e = subst (λ z. (before z ≡ at) × (length z.path ≡ suc (length s.path))) (same_Some (instance_scope s at u m) t e) (refl, one_longer s.path (plainly u.name))
+instance_before : (a nets : Bool) (s : Scope) (at : Before) (u : Use) (m : Module) (t : Scope) → cond a None (Some (instance_scope nets s at u m)) ≡ Some t → (before t ≡ at) × (length t.path ≡ suc (length s.path))
+instance_before true nets s at u m t e = absurd (none-some t e)
+instance_before false nets s at u m t e = subst (λ z. (before z ≡ at) × (length z.path ≡ suc (length s.path))) (same_Some (instance_scope nets s at u m) t e) (refl, one_longer s.path (plainly u.name))
   where
     one_longer : (p : Path) (n : PathName) → length (p ++ n ∷ []) ≡ suc (length p)
     one_longer p n = omega (arith, length-append p (n ∷ []))
 
-use_before : (s : Scope) (at : Before) (u : Use) (o : Option Module) (t : Scope) → opened_instance s at u o ≡ Some t → (before t ≡ at) × (length t.path ≡ suc (length s.path))
-use_before s at u None t e = absurd (none-some t e)
-use_before s at u (Some m) t e = instance_before (is_inside s m || has_no_values s.known u.overrides m) s at u m t e
+use_before : (nets : Bool) (s : Scope) (at : Before) (u : Use) (o : Option Module) (t : Scope) → opened_instance nets s at u o ≡ Some t → (before t ≡ at) × (length t.path ≡ suc (length s.path))
+use_before nets s at u None t e = absurd (none-some t e)
+use_before nets s at u (Some m) t e = instance_before (is_inside s m || has_no_values s.known u.overrides m) nets s at u m t e
 
-block_before : (a : Bool) (s : Scope) (at : Before) (n : PathName) (cs : List (List ℕ × Const)) (ps : List Piece) (t : Scope) → cond a None (Some (block_scope s at n cs ps)) ≡ Some t → (before t ≡ at) × (length t.path ≡ suc (length s.path))
-block_before true s at n cs ps t e = absurd (none-some t e)
-block_before false s at n cs ps t e = subst (λ z. (before z ≡ at) × (length z.path ≡ suc (length s.path))) (same_Some (block_scope s at n cs ps) t e) (refl, omega (arith, length-append s.path (n ∷ [])))
+block_before : (a : Bool) (i : ℕ) (s : Scope) (at : Before) (n : PathName) (cs : List (List ℕ × Const)) (ps : List Piece) (t : Scope) → cond a None (Some (block_scope i s at n cs ps)) ≡ Some t → (before t ≡ at) × (length t.path ≡ suc (length s.path))
+block_before true i s at n cs ps t e = absurd (none-some t e)
+block_before false i s at n cs ps t e = subst (λ z. (before z ≡ at) × (length z.path ≡ suc (length s.path))) (same_Some (block_scope i s at n cs ps) t e) (refl, omega (arith, length-append s.path (n ∷ [])))
 
 pub opened_before : (ms : List Module) (s : Scope) (at : Before) (x : Inner) (t : Scope) → opened ms s at x ≡ Some t → (before t ≡ at) × (length t.path ≡ suc (length s.path))
-opened_before ms s at (instance u) t e = use_before s at u (module_named ms u.of) t e
-opened_before ms s at (generated n cs xs) t e = block_before (any_fault (block_fault s cs (pieces_of xs))) s at n cs (pieces_of xs) t e
-opened_before ms s at (g.named x) t e = block_before (any_fault (block_fault s [] (block_pieces x))) s at (plainly x.name) [] (block_pieces x) t e
+opened_before ms s at (instance u) t e = use_before (permits_nets ms u.of) s at u (module_named ms u.of) t e
+opened_before ms s at (generated i n cs xs) t e = block_before (any_fault (block_fault s cs (pieces_of xs))) i s at n cs (pieces_of xs) t e
+opened_before ms s at (g.named x) t e = block_before (any_fault (block_fault s [] (block_pieces x))) 0 s at (plainly x.name) [] (block_pieces x) t e
 
 -- a scope that was entered is the next
 pub enters_next : (ms : List Module) (list : List FoundScope) (plan : Plan) (ss : List Scope) (s : Scope) (place : ℕ) (x : Inner) (o : FoundScope) → IsPlanned list plan ss → (h : Enters ms ss s place (before_next list plan) x o) → IsNext ss plan o h.inner
@@ -376,11 +381,11 @@ module _ (n : ℕ) (ms : List Module) (ss : List Scope) (s : Scope) (place : ℕ
   pub holding_all : (xs : List Inner) (list0 list : List FoundScope) (p0 p1 p2 : Plan) → HasInner s xs → HoldsInner n ms ss s place xs list0 list p0 p1 → p2.instances ≡ p1.instances → p2.turns ≡ p1.turns → p2.signals ≡ p1.signals → p2.outline.items ≡ p1.outline.items ++ Leave ∷ [] →
       OpensInside (suc n) ms ss s place list0 list p0 p2
   holding_all xs list0 list p0 p1 p2 inner h i t g l =
-      let k : HoldsInner n ms ss s place (inner_of s) list0 list p0 p1 = subst (λ z. HoldsInner n ms ss s place z list0 list p0 p1) inner.same h in
+      let k : HoldsInner n ms ss s place (inner_of s) list0 list p0 p1 = subst (λ z. HoldsInner n ms ss s place z list0 list p0 p1) inner.found.same h in
       let all = below_these (inner_of s) in
       record {
         planned = planned_same list p1 p2 (ss ++ all) i t g k.planned;
-        sound = All-cons (IsSoundInside ms) s all (record { constructs = inner.sound; inner = k.sound_inner }) k.sound;
+        sound = All-cons (IsSoundInside ms) s all (record { constructs = inner.found.sound; inner = k.sound_inner; nets = ap (list_any (is_named_as_net s)) (sym inner.found.same) ∙ inner.nets }) k.sound;
         named = named_all list all k.named_here k.named;
         extends = k.extends;
         lines = lines_join (lines_below (inner_of s)) (leave ∷ []) p0 p1 p2 k.lines (record { added = Leave ∷ []; outline = l; mean = (tt, tt) });

@@ -21,7 +21,7 @@ use Rattle.vs_design.specs.declared.signal.SignalKind.TheVariants as k
 use Rattle.vs_selects.specs.declared.bindings.Binding.{Binding}
 use Rattle.vs_selects.specs.declared.bindings.Binding.TheVariants as b
 use Rattle.vs_selects.specs.Environment.{Environment}
-use Rattle.vs_pieces.specs.Pieces.{Piece, plain, loop, choice, local, inside}
+use Rattle.vs_pieces.specs.Pieces.{Piece, plain, loop, choice, local, inside, net}
 use Rattle.vs_scopes.specs.declared.faults.Reason.{Reason}
 use Rattle.vs_scopes.specs.declared.faults.Reason.TheVariants.{NoModule, Inside, PortMismatch, ParameterMismatch, DeclaredTwice, DrivenTwice, Limit, Width, Endless, Unnamed, Timescales, Format}
 use Rattle.vs_scopes.specs.declared.faults.ElabFault.{ElabFault}
@@ -29,13 +29,14 @@ use Rattle.vs_scopes.specs.Printed.{PathName, plainly, Path, printed_part}
 use Rattle.vs_scopes.specs.Ranges.{Sized, sized_as, words_as}
 use Rattle.vs_scopes.specs.Ports.{ModulePort, PortSource, port_names, names_where, is_joined, without_name, left_over, ports_again, port_names_among, has_stray_port}
 use Rattle.vs_scopes.specs.Declarations.{Bindings, DeclaredName, declaration_fault, declared_by_port, declared_by, declared_by_item, declared_local, declared_locally, declared_in, declared_among, names_in, not_joined, bound_to, genvars_in, inner_names_among, is_unlike}
-use Rattle.vs_scopes.specs.Scopes.{Scope, is_instance, levels, deepest, bindings_of, keys, all_names_of, constant_names, numbered_names, declarations_of, named}
+use Rattle.vs_scopes.specs.Scopes.{Scope, is_instance, levels, deepest, bindings_of, keys, all_names_of, constant_names, numbered_names, declarations_of, late_nets, named}
 use Rattle.vs_scopes.specs.passes.Answers.{Told, IsFaultAt}
 use Rattle.vs_scopes.specs.passes.Names.{read_title, read_path}
 use Rattle.vs_scopes.specs.passes.Parts.{read_port}
 use Rattle.vs_scopes.specs.declared.ports.ModulePort.{ModulePort as FoundPort}
 use Rattle.vs_scopes.specs.declared.printed.PathName.{PathName as FoundName}
-use Rattle.vs_scopes.proofs.Folds.{any_false_at, take_push}
+use Rattle.vs_scopes.proofs.Folds.{any_false_at, both_false, take_push}
+use Rattle.vs_nets.specs.passes.Nets.{IsLate}
 use Rattle.vs_scopes.proofs.AnswerLemmas.{told_at, told_by}
 use Rattle.vs_ports.specs.passes.Counting.{Counts}
 use Rattle.vs_opened.specs.declared.opened.Opened.{Opened as FoundScope}
@@ -204,6 +205,7 @@ module _ (r : Reason) (a : Apart r) (env : Environment) where
   none_in (loop h x) = refl
   none_in (choice e x o) = refl
   none_in (inside x) = refl
+  none_in (net n) = both_false _ _ (fault_apart r a env k.Wire (sized_as env false 0 None) None n) refl
 
   none_among : (ps : List Piece) → list_any (declaration_fault r) (declared_among env ps) ≡ false
   none_among [] = refl
@@ -523,8 +525,8 @@ binds_count s names old new h =
     ∙ ap (λ n. n + length (signals_of s)) (length-map old.signals.items declared) ∙ ap (λ n. length old.signals.items + n) (length-map (declarations_of s) (signal_of s))
 
 -- a scope's own members, which have no fault
-pub opens_own : (s : Scope) (names : Bindings) (old new : Plan) → s.base ≡ length old.signals.items → IsFitting s → HasFittingPieces s → is_late_turn s ≡ false → list_any (is_unlike s.known s.pieces) s.ports ≡ false → Binds s names old new → ports_again s.ports s.pieces ≡ [] → OpensOwn s names old new
-opens_own s names old new base fits pieces turn alike h again =
+pub opens_own : (s : Scope) (names : Bindings) (old new : Plan) → s.base ≡ length old.signals.items → IsFitting s → HasFittingPieces s → is_late_turn s ≡ false → late_nets s ≡ [] → list_any (is_unlike s.known s.pieces) s.ports ≡ false → Binds s names old new → ports_again s.ports s.pieces ≡ [] → OpensOwn s names old new
+opens_own s names old new base fits pieces turn nets alike h again =
     let all : keys (bindings_of s) ≡ all_names_of s = sym (append-nil (keys (bindings_of s))) ∙ ap (λ z. keys (bindings_of s) ++ z) (sym again) in
     record {
       sound = record {
@@ -537,13 +539,14 @@ opens_own s names old new base fits pieces turn alike h again =
         alike = alike;
         few = fits.few;
         turn = turn;
+        nets = nets;
         room = omega (arith, binds_count s names old new h, h.room, base);
       };
       binds = h;
     }
 
-pub opens_names : (s : Scope) (names : Bindings) (old new : Plan) → s.base ≡ length old.signals.items → IsFitting s → HasFittingPieces s → is_late_turn s ≡ false → OpensNames s names old new → OpensOwn s names old new
-opens_names s names old new base fits pieces turn h = opens_own s names old new base fits pieces turn h.alike h.binds h.again
+pub opens_names : (s : Scope) (names : Bindings) (old new : Plan) → s.base ≡ length old.signals.items → IsFitting s → HasFittingPieces s → is_late_turn s ≡ false → late_nets s ≡ [] → OpensNames s names old new → OpensOwn s names old new
+opens_names s names old new base fits pieces turn nets h = opens_own s names old new base fits pieces turn nets h.alike h.binds h.again
 
 -- ---- turns
 
@@ -556,6 +559,26 @@ late_told ss o s place e h a turn late f =
     let w = around_last ss o s place h a in
     let some : is_some s.title.turn ≡ true = ap (λ (z : PathName). is_some z.turn) (sym h.entered.title) ∙ turn in
     told_at (HoldsOwn s) Limit s.around e (inr (inl (some, subst (λ n. 65536 ≤ n) h.entered.turns late, refl))) (subst (λ z. IsFaultAt Limit z e) (sym w.around) (f w.outer_scope w.stands))
+
+-- ---- nets
+
+-- a net that is declared behind its use
+pub nets_told : (s : Scope) (e : ElabFault) → Told (IsLate (late_nets s)) e → Told (HoldsOwn s) e
+nets_told s e h = told_by (IsLate (late_nets s)) (HoldsOwn s) e by h
+  where
+    by : (r : Reason) (p : Path) → IsLate (late_nets s) r p → HoldsOwn s r p
+    by DeclaredTwice p h = inr (inr (record { place = h.0; stands = h.1 }))
+    by NoModule p h = absurd h
+    by Inside p h = absurd h
+    by PortMismatch p h = absurd h
+    by ParameterMismatch p h = absurd h
+    by DrivenTwice p h = absurd h
+    by Limit p h = absurd h
+    by (Width w) p h = absurd h
+    by Endless p h = absurd h
+    by Unnamed p h = absurd h
+    by Timescales p h = absurd h
+    by (Format wrong) p h = absurd h
 
 -- ---- ports, one after another
 
@@ -597,7 +620,7 @@ module _ (env : Environment) (ps : List Piece) (ports : List FoundPort) where
     pub unlike_told : (at : Path) (i : ℕ) (x : FoundPort) (e : ElabFault) → at ≡ s.path → i < length ports → x ≡ get_or ports i x → is_unlike env ps (read_port x) ≡ true → IsFaultAt DeclaredTwice (at ++ plainly x.name.now ∷ []) e → Told (HoldsOwn s) e
     unlike_told at i x e path h g u f =
         let stands : slice_get s.ports i ≡ Some (read_port x) = ap (λ z. slice_get z i) (sym same) ∙ slice_get-map read_port ports i ∙ ap (option_map read_port) (slice_get-get_or ports i x h ∙ ap Some (sym g)) in
-        told_at (HoldsOwn s) DeclaredTwice (named s x.name.now) e (inr (record { place = i; port = read_port x; stands = stands; unlike = sym (unlike_same (read_port x)) ∙ u; path = refl })) (subst (λ z. IsFaultAt DeclaredTwice (z ++ plainly x.name.now ∷ []) e) path f)
+        told_at (HoldsOwn s) DeclaredTwice (named s x.name.now) e (inr (inl (record { place = i; port = read_port x; stands = stands; unlike = sym (unlike_same (read_port x)) ∙ u; path = refl }))) (subst (λ z. IsFaultAt DeclaredTwice (z ++ plainly x.name.now ∷ []) e) path f)
 
 pub any_map : {A B : Type 0} (p : B → Bool) (f : A → B) (xs : List A) → list_any p (map f xs) ≡ list_any (λ x. p (f x)) xs
 any_map p f [] = refl

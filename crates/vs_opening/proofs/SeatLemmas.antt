@@ -4,7 +4,8 @@ use Rattle.std.specs.List.{slice_get}
 use Rattle.std.proofs.lemmas.Option.{none-some, slice_get_within, same_Some}
 use Rattle.vs_scopes.specs.Scopes.{Scope}
 use Rattle.vs_opened.specs.declared.opened.Opened.{Opened as FoundScope}
-use Rattle.vs_opened.specs.Opened.{IsWithin, StandsAround, IsHome, IsEntered, IsOpened, AreOpened, AreSeated}
+use Rattle.vs_opened.specs.Opened.{IsWithin, StandsAround, HasSight, IsHome, IsEntered, IsOpened, AreOpened, AreSeated}
+use Rattle.vs_opened.proofs.SiteLemmas.{sight_more}
 use Rattle.vs_opening.proofs.ListLemmas.{slice_front, slice_push, same_at, zip_length, zip_right, zip_left, zip_append, zip_map}
 
 -- ---- more scopes behind those
@@ -41,6 +42,9 @@ entered_more ss more o s h = record {
   instances = h.instances;
   turns = h.turns;
   depth = h.depth;
+  nets = h.nets;
+  text = h.text;
+  told = h.told;
   ports = h.ports;
   pieces = h.pieces;
   constants = h.constants;
@@ -48,6 +52,7 @@ entered_more ss more o s h = record {
   within = h.within;
   home = home_more ss more o.home s h.home;
   around = around_more ss more o.around s h.around;
+  sight = sight_more ss more o.around o.piece s h.sight;
   ends = h.ends;
   lefts = h.lefts;
 }
@@ -112,6 +117,14 @@ within_front ss s k n h = record {
 pub around_front : (ss : List Scope) (s : Scope) (o : Option ℕ) → s.number ≡ length ss → StandsAround (ss ++ s ∷ []) o s → StandsAround ss o s
 around_front ss s None n h = h
 around_front ss s (Some k) n h = within_front ss s k n h
+
+pub sight_front : (ss : List Scope) (s : Scope) (o : Option ℕ) (piece : ℕ) → s.number ≡ length ss → StandsAround (ss ++ s ∷ []) o s → HasSight (ss ++ s ∷ []) o piece s → HasSight ss o piece s
+sight_front ss s None piece n h k = k
+sight_front ss s (Some p) piece n h k = record {
+  outer_scope = k.outer_scope;
+  stands = ⊎_elim (λ q. q.1) (λ q. absurd (omega (arith, q.0, h.before, n))) (slice_push ss s k.outer_scope p k.stands);
+  sight = k.sight;
+}
 
 around_below : (ss : List Scope) (s : Scope) (o : Option ℕ) (k : ℕ) → StandsAround ss o s → o ≡ Some k → k < s.number
 around_below ss s None k h e = absurd (none-some k e)

@@ -19,6 +19,7 @@ use Rattle.vs_selects.specs.Environment.{Environment}
 use Rattle.vs_widths.specs.Names.{meaning_of, by_bytes, Declares as NamesDeclare}
 use Rattle.vs_pieces.specs.Pieces.{pieces_of}
 use Rattle.vs_pieces.specs.Reads.{read_piece}
+use Rattle.vs_pieces.specs.declared.scope.Piece.{Piece as FoundPiece}
 use Rattle.vs_scopes.specs.declared.faults.Reason.{Reason}
 use Rattle.vs_scopes.specs.declared.faults.Reason.TheVariants.{NoModule, Inside, PortMismatch, ParameterMismatch, DeclaredTwice, DrivenTwice, Limit, Width, Endless, Unnamed, Timescales, Format}
 use Rattle.vs_scopes.specs.declared.faults.ElabFault.{ElabFault}
@@ -26,7 +27,8 @@ use Rattle.vs_scopes.specs.Printed.{plainly, Path}
 use Rattle.vs_scopes.specs.Parameters.{Parameter, given_from, given_to, own_faults, outer_faults, parameters_of}
 use Rattle.vs_scopes.specs.Ports.{ModulePort, ports_of}
 use Rattle.vs_scopes.specs.Declarations.{Bindings}
-use Rattle.vs_scopes.specs.Scopes.{nowhere, early, has_no_values, has_wrong_end, module_named, top_scope, opened_top, listed, scopes_within, scopes_of, deepest}
+use Rattle.vs_scopes.specs.Nets.{nothing_seen, permits_behind, permits_from, permits_nets}
+use Rattle.vs_scopes.specs.Scopes.{nowhere, text_of, early, has_no_values, has_wrong_end, module_named, top_scope, opened_top, listed, scopes_within, scopes_of, deepest}
 use Rattle.vs_scopes.specs.passes.Answers.{borrowed, Told, IsFaultAt}
 use Rattle.vs_scopes.specs.passes.Names.{read_title}
 use Rattle.vs_scopes.specs.passes.Parts.{read_port, read_ends}
@@ -36,10 +38,13 @@ use Rattle.vs_values.specs.declared.evaluating.ParameterValues.{ParameterValues}
 use Rattle.vs_values.specs.passes.Values.{AreValues}
 use Rattle.vs_opened.specs.declared.opened.Opened.{Opened as FoundScope}
 use Rattle.vs_opened.specs.declared.opened.Plan.{Plan}
-use Rattle.vs_opened.specs.Opened.{IsHome, StandsAround}
+use Rattle.vs_opened.specs.Opened.{IsHome, StandsAround, HasSight, AreOpened}
 use Rattle.vs_opened.specs.Outlines.{declared, outline_within, outline_of, IsEntry}
 use Rattle.vs_opened.specs.ScopeFaults.{Repeated, of_module, top_fault, HoldsOpeningIn, StandsOpening}
 use Rattle.vs_opened.proofs.BindLemmas.{bytes_eq_equiv, place_of_any, left_false, right_false}
+use Rattle.vs_nets.specs.declared.members.Members.{Members}
+use Rattle.vs_nets.specs.passes.Nets.{AreMembers}
+use Rattle.vs_opening.specs.declared.entering.Listed.{Listed}
 use Rattle.vs_opening.specs.passes.Blocks.{AreNamed}
 use Rattle.vs_opening.specs.passes.Entering.{module_names, Lists, ListsNot}
 use Rattle.vs_opening.specs.passes.Opens.{IsSoundOwn, HoldsOwn, own_lines, IsPlanned, IsNext, AddsScope, IsReady, IsSoundInside, scopes_inside, lines_inside, OpensInside, IsTop, TopNot, Made}
@@ -72,10 +77,14 @@ names_none : IsDistinct bytes_eq []
 unfolding IsDistinct
 names_none = tt
 
-pub lists_none : (names : List (List ℕ × Bor Module)) → names ≡ [] → Lists [] names
-lists_none names h = record { found = λ n. ap (λ (z : List (List ℕ × Bor Module)). option_map (λ (m : Bor Module). m.now) (meaning_of z n)) h; distinct = names_none }
+pub lists_none : (names : List (List ℕ × Listed)) → names ≡ [] → Lists [] names
+lists_none names h = record {
+  found = λ n. ap (λ (z : List (List ℕ × Listed)). option_map (λ (m : Listed). m.«module».now) (meaning_of z n)) h;
+  nets = λ n x e. absurd (none-some x (sym (ap (λ (z : List (List ℕ × Listed)). meaning_of z n) h) ∙ e));
+  distinct = names_none;
+}
 
-some_now : (o : Option (Bor Module)) → is_some (option_map (λ (m : Bor Module). m.now) o) ≡ is_some o
+some_now : (o : Option Listed) → is_some (option_map (λ (m : Listed). m.«module».now) o) ≡ is_some o
 some_now None = refl
 some_now (Some m) = refl
 
@@ -99,28 +108,73 @@ named_push (x ∷ ms) m k h = ap (cond (bytes_eq k x.name.items) (Some x)) (name
     swap false true p q = refl
     swap false false p q = refl
 
-known_is_named : (ms : List Module) (names : List (List ℕ × Bor Module)) (n : List ℕ) → Lists ms names → is_some (meaning_of names n) ≡ list_any (bytes_eq n) (module_names ms)
+known_is_named : (ms : List Module) (names : List (List ℕ × Listed)) (n : List ℕ) → Lists ms names → is_some (meaning_of names n) ≡ list_any (bytes_eq n) (module_names ms)
 known_is_named ms names n l = sym (some_now (meaning_of names n)) ∙ ap is_some (l.found n) ∙ is_named ms n
 
-pub lists_more : (ms : List Module) (i : ℕ) (m : Module) (n : List ℕ) (b : Bor Module) (names new : List (List ℕ × Bor Module)) → i < length ms → m ≡ get_or ms i m → n ≡ m.name.items → b.now ≡ m → Lists (take i ms) names → NamesDeclare true names new n b →
-    Lists (take (i + 1) ms) new
-lists_more ms i m n b names new h k e w l d =
+-- whether undeclared names are nets behind these modules
+abbrev pub permits_all : Bool → List Module → Bool
+permits_all before [] = before
+permits_all before (m ∷ ms) = permits_all (permits_behind before m.directives.items) ms
+
+pub permits_push : (before : Bool) (ms : List Module) (m : Module) → permits_all before (ms ++ m ∷ []) ≡ permits_behind (permits_all before ms) m.directives.items
+permits_push before [] m = refl
+permits_push before (x ∷ ms) m = permits_push (permits_behind before x.directives.items) ms m
+
+pub permits_more : (ms : List Module) (i : ℕ) (m : Module) (b : Bool) → i < length ms → m ≡ get_or ms i m → b ≡ permits_behind (permits_all true (take i ms)) m.directives.items → b ≡ permits_all true (take (i + 1) ms)
+permits_more ms i m b h k e = e ∙ sym (permits_push true (take i ms) m) ∙ ap (permits_all true) (sym (take_push ms i m h k))
+
+-- in a module that is the last, and in one before it
+permits_last : (before : Bool) (ms : List Module) (m : Module) (n : List ℕ) → list_any (bytes_eq n) (module_names ms) ≡ false → permits_from before (ms ++ m ∷ []) n ≡ permits_all before (ms ++ m ∷ [])
+permits_last before [] m n h = by (bytes_eq n m.name.items)
+  where
+    by : (t : Bool) → cond t (permits_behind before m.directives.items) (permits_behind before m.directives.items) ≡ permits_behind before m.directives.items
+    by true = refl
+    by false = refl
+permits_last before (x ∷ ms) m n h =
+    ap (λ t. cond t (permits_behind before x.directives.items) (permits_from (permits_behind before x.directives.items) (ms ++ m ∷ []) n)) (left_false (bytes_eq n x.name.items) _ h)
+    ∙ permits_last (permits_behind before x.directives.items) ms m n (right_false (bytes_eq n x.name.items) _ h)
+
+permits_known : (before : Bool) (ms : List Module) (m : Module) (n : List ℕ) → list_any (bytes_eq n) (module_names ms) ≡ true → permits_from before (ms ++ m ∷ []) n ≡ permits_from before ms n
+permits_known before [] m n h = absurd (true≢false (sym h))
+permits_known before (x ∷ ms) m n h = by (bytes_eq n x.name.items) h (permits_known (permits_behind before x.directives.items) ms m n)
+  where
+    now : Bool
+    now = permits_behind before x.directives.items
+
+    by : (t : Bool) → (t || list_any (bytes_eq n) (module_names ms)) ≡ true → (list_any (bytes_eq n) (module_names ms) ≡ true → permits_from now (ms ++ m ∷ []) n ≡ permits_from now ms n) →
+        cond t now (permits_from now (ms ++ m ∷ []) n) ≡ cond t now (permits_from now ms n)
+    by true k rest = refl
+    by false k rest = rest k
+
+pub lists_more : (ms : List Module) (i : ℕ) (m : Module) (n : List ℕ) (b : Listed) (names new : List (List ℕ × Listed)) → i < length ms → m ≡ get_or ms i m → n ≡ m.name.items → b.«module».now ≡ m → b.nets ≡ permits_all true (take (i + 1) ms) → Lists (take i ms) names →
+    NamesDeclare true names new n b → Lists (take (i + 1) ms) new
+lists_more ms i m n b names new h k e w v l d =
     let front = take i ms in
     let apart : list_any (bytes_eq n) (module_names front) ≡ false = sym (known_is_named front names n l) ∙ ap is_some d.0 in
     let apart' : list_any (bytes_eq m.name.items) (module_names front) ≡ false = ap (λ z. list_any (bytes_eq z) (module_names front)) (sym e) ∙ apart in
-    let push : (c : Bool) (o : Option (Bor Module)) → option_map (λ (z : Bor Module). z.now) (cond c (Some b) o) ≡ cond c (Some m) (option_map (λ (z : Bor Module). z.now) o) = mapped b m w in
+    let push : (c : Bool) (o : Option Listed) → option_map (λ (z : Listed). z.«module».now) (cond c (Some b) o) ≡ cond c (Some m) (option_map (λ (z : Listed). z.«module».now) o) = mapped b m w in
+    let all = take_push ms i m h k in
     let done : Lists (front ++ m ∷ []) new = record {
-      found = λ q. ap (option_map (λ (z : Bor Module). z.now)) (d.1 q) ∙ push (bytes_eq n q) (meaning_of names q) ∙ ap (cond (bytes_eq n q) (Some m)) (l.found q) ∙ ap (λ z. cond (bytes_eq z q) (Some m) (module_named front q)) e ∙ sym (named_push front m q apart');
+      found = λ q. ap (option_map (λ (z : Listed). z.«module».now)) (d.1 q) ∙ push (bytes_eq n q) (meaning_of names q) ∙ ap (cond (bytes_eq n q) (Some m)) (l.found q) ∙ ap (λ z. cond (bytes_eq z q) (Some m) (module_named front q)) e ∙ sym (named_push front m q apart');
+      nets = λ q x g. by front q x apart (bytes_eq n q) refl (sym (d.1 q) ∙ g) (ap (permits_all true) all);
       distinct = subst (IsDistinct bytes_eq) (sym (map-append (λ (z : Module). z.name.items) front (m ∷ []))) (IsDistinct-push bytes_eq_equiv (module_names front) m.name.items l.distinct apart');
     } in
-    subst (λ z. Lists z new) (sym (take_push ms i m h k)) done
+    subst (λ z. Lists z new) (sym all) done
   where
-    mapped : (b : Bor Module) (m : Module) → b.now ≡ m → (c : Bool) (o : Option (Bor Module)) → option_map (λ (z : Bor Module). z.now) (cond c (Some b) o) ≡ cond c (Some m) (option_map (λ (z : Bor Module). z.now) o)
+    mapped : (b : Listed) (m : Module) → b.«module».now ≡ m → (c : Bool) (o : Option Listed) → option_map (λ (z : Listed). z.«module».now) (cond c (Some b) o) ≡ cond c (Some m) (option_map (λ (z : Listed). z.«module».now) o)
     mapped b m w true o = ap Some w
     mapped b m w false o = refl
 
+    by : (front : List Module) (q : List ℕ) (x : Listed) → list_any (bytes_eq n) (module_names (take i ms)) ≡ false → (c : Bool) → bytes_eq n q ≡ c → cond c (Some b) (meaning_of names q) ≡ Some x → permits_all true (take (i + 1) ms) ≡ permits_all true (take i ms ++ m ∷ []) →
+        x.nets ≡ permits_nets (take i ms ++ m ∷ []) q
+    by front q x a true g f u =
+        let same : q ≡ n = sym ((bytes_eq-Decides n q).0 g) in
+        ap (λ (z : Listed). z.nets) (sym (same_Some b x f)) ∙ v ∙ u ∙ sym (permits_last true (take i ms) m q (ap (λ z. list_any (bytes_eq z) (module_names (take i ms))) same ∙ a))
+    by front q x a false g f u =
+        l.nets q x f ∙ sym (permits_known true (take i ms) m q (sym (known_is_named (take i ms) names q l) ∙ ap is_some f))
+
 -- a module whose name another has
-pub listed_twice : (ms : List Module) (i : ℕ) (m : Module) (n : List ℕ) (names : List (List ℕ × Bor Module)) (e : ElabFault) → i < length ms → m ≡ get_or ms i m → n ≡ m.name.items → Lists (take i ms) names → IsSome (meaning_of names n) →
+pub listed_twice : (ms : List Module) (i : ℕ) (m : Module) (n : List ℕ) (names : List (List ℕ × Listed)) (e : ElabFault) → i < length ms → m ≡ get_or ms i m → n ≡ m.name.items → Lists (take i ms) names → IsSome (meaning_of names n) →
     IsFaultAt DeclaredTwice (plainly m.name.items ∷ []) e → Told (ListsNot ms) e
 listed_twice ms i m n names e h k q l s f =
     let found = place_of_any (module_names (take i ms)) n (sym (known_is_named (take i ms) names n l) ∙ s) in
@@ -129,11 +183,14 @@ listed_twice ms i m n names e h k q l s f =
 
 -- ---- the top
 
-pub entered_top : (m : Module) (o : FoundScope) (v : ParameterValues) → read_title o.title ≡ plainly m.name.items → o.kind ≡ opened_by.Module → o.number ≡ 0 → o.base ≡ 0 → o.instances ≡ 0 → o.turns ≡ 0 → o.depth ≡ 1 →
-    map read_port o.ports.items ≡ ports_of m → map read_piece o.pieces.items ≡ pieces_of m.items.items → o.constants ≡ v.constants → o.known ≡ v.known → AreValues nowhere None m v →
-    borrowed o.within.items ≡ m.name.items ∷ [] → o.home ≡ 0 → o.around ≡ None → o.ends.items ≡ [] → o.blocks ≡ [] → IsTop m o
-entered_top m o v title kind number base instances turns depth ports pieces constants known values within home around ends blocks =
-    let s = top_scope m in
+pub opened_none : AreOpened [] []
+opened_none = record { each = tt; places = λ place t e. absurd (none-some t e) }
+
+pub entered_top : (nets : Bool) (m : Module) (o : FoundScope) (v : ParameterValues) (x : Members) → read_title o.title ≡ plainly m.name.items → o.kind ≡ opened_by.Module → o.number ≡ 0 → o.base ≡ 0 → o.instances ≡ 0 → o.turns ≡ 0 → o.depth ≡ 1 → o.nets ≡ nets →
+    map read_port o.ports.items ≡ ports_of m → o.text ≡ x.text → o.pieces ≡ x.pieces → o.told ≡ x.told → AreMembers nets (text_of m) nothing_seen (pieces_of m.items.items) x → o.constants ≡ v.constants → o.known ≡ v.known → AreValues nowhere None m v →
+    borrowed o.within.items ≡ m.name.items ∷ [] → o.home ≡ 0 → o.around ≡ None → o.ends.items ≡ [] → o.blocks ≡ [] → IsTop nets m o
+entered_top nets m o v x title kind number base instances turns depth net ports text pieces told members constants known values within home around ends blocks =
+    let s = top_scope nets m in
     record {
       entered = record {
         title = title;
@@ -143,13 +200,17 @@ entered_top m o v title kind number base instances turns depth ports pieces cons
         instances = instances;
         turns = turns;
         depth = depth;
+        nets = net;
+        text = λ n. ap (λ (z : Bindings). meaning_of z n) text ∙ members.text n;
+        told = λ n. ap (λ (z : List (List ℕ × ℕ)). meaning_of z n) told ∙ members.told n;
         ports = ports;
-        pieces = pieces;
+        pieces = ap (λ (z : Vec FoundPiece Global). map read_piece z.items) pieces ∙ members.pieces;
         constants = ap (λ (z : Vec (Bor (List ℕ) × Const) Global). by_bytes z.items) constants ∙ values.constants;
         known = λ n. said_none (meaning_of o.known n) ∙ ap (λ (z : Bindings). meaning_of z n) known ∙ values.known n;
         within = within;
         home = subst (λ k. IsHome (s ∷ []) k s) (sym home) (record { home_scope = s; stands = refl; kind = refl; path = refl; within = refl });
         around = subst (λ k. StandsAround (s ∷ []) k s) (sym around) (record { kind = refl; path = refl; around = refl; outer = refl });
+        sight = subst (λ k. HasSight (s ∷ []) k o.piece s) (sym around) refl;
         ends = ap read_ends ends;
         lefts = none (ports_of m);
       };
@@ -171,18 +232,18 @@ no_given w around (p ∷ ps) = by p.fixed (no_given w around ps)
     by false h = h
 
 -- the top scope is opened where its parameters have values
-top_opens : (m : Module) → ((w : WidthReason) → top_fault w m ≡ false) → opened_top (Some m) ≡ Some (top_scope m)
-top_opens m h =
+top_opens : (nets : Bool) (m : Module) → ((w : WidthReason) → top_fault w m ≡ false) → opened_top nets (Some m) ≡ Some (top_scope nets m)
+top_opens nets m h =
     let own = λ (w : WidthReason). own_faults w nowhere (early m) (given_to None m) in
     let outer = λ (w : WidthReason). outer_faults w nowhere (given_to None m) in
     let each : (w : WidthReason) → (own w || outer w) ≡ false = λ w. both_false _ _ (h w) (no_given w nowhere (parameters_of m)) in
     let none : has_no_values nowhere None m ≡ false = both_false _ _ refl (both_false _ _ (both_false _ _ (both_false _ _ (each TooWide) (each Unknown)) (each NotConstant)) (each WrongKind)) in
-    ap (λ (z : Bool). cond z None (Some (top_scope m))) none
+    ap (λ (z : Bool). cond z None (Some (top_scope nets m))) none
 
 -- before anything is listed
 pub planned_none : (list : List FoundScope) (plan : Plan) → list ≡ [] → plan.signals.items ≡ [] → plan.instances ≡ 0 → plan.turns ≡ 0 → IsPlanned list plan []
 planned_none list plan e s i t = subst (λ z. IsPlanned z plan []) (sym e) (record {
-  opened = record { each = tt; places = λ place t e. absurd (none-some t e) };
+  opened = opened_none;
   seated = seated_none;
   blocks = All-nil (λ (o : FoundScope). o.blocks ≡ []);
   sound = All-nil IsSoundOwn;
@@ -195,25 +256,25 @@ planned_none list plan e s i t = subst (λ z. IsPlanned z plan []) (sym e) (reco
 })
 
 -- the top is the first scope
-pub top_next : (m : Module) (list : List FoundScope) (plan : Plan) (o : FoundScope) → list ≡ [] → IsPlanned list plan [] → IsTop m o → IsNext [] plan o (top_scope m)
-top_next m list plan o e p h = record {
+pub top_next : (nets : Bool) (m : Module) (list : List FoundScope) (plan : Plan) (o : FoundScope) → list ≡ [] → IsPlanned list plan [] → IsTop nets m o → IsNext [] plan o (top_scope nets m)
+top_next nets m list plan o e p h = record {
   last = record { entered = h.entered; number = refl; instances = refl; turns = refl };
   base = (let none : length plan.signals.items ≡ 0 = sym (length-map plan.signals.items declared) ∙ ap length p.shown in sym none);
   blocks = h.blocks;
 }
 
-module _ (ms : List Module) (top : List ℕ) (m : Module) (found : module_named ms top ≡ Some m) (fine : (w : WidthReason) → top_fault w m ≡ false) where
-  is_opened : opened_top (module_named ms top) ≡ Some (top_scope m)
-  is_opened = ap opened_top found ∙ top_opens m fine
+module _ (ms : List Module) (top : List ℕ) (m : Module) (found : module_named ms top ≡ Some m) (nets : Bool) (permits : nets ≡ permits_nets ms top) (fine : (w : WidthReason) → top_fault w m ≡ false) where
+  is_opened : opened_top (permits_nets ms top) (module_named ms top) ≡ Some (top_scope nets m)
+  is_opened = ap (λ z. opened_top z (module_named ms top)) (sym permits) ∙ ap (opened_top nets) found ∙ top_opens nets m fine
 
-  pub all_scopes : scopes_of ms top ≡ scopes_within deepest ms (top_scope m)
+  pub all_scopes : scopes_of ms top ≡ scopes_within deepest ms (top_scope nets m)
   all_scopes = ap (listed (scopes_within deepest ms)) is_opened
 
-  all_lines : outline_of ms top ≡ outline_within deepest ms (top_scope m)
+  all_lines : outline_of ms top ≡ outline_within deepest ms (top_scope nets m)
   all_lines = ap (listed (outline_within deepest ms)) is_opened
 
   -- the top is about to be opened
-  pub top_ready : (names : List (List ℕ × Bor Module)) (list0 list : List FoundScope) (p0 p1 : Plan) (o : FoundScope) → Lists ms names → AddsScope [] (top_scope m) o list0 list p0 p1 → IsReady ms (top_scope m ∷ []) (top_scope m) names list p1 0 16448
+  pub top_ready : (names : List (List ℕ × Listed)) (list0 list : List FoundScope) (p0 p1 : Plan) (o : FoundScope) → Lists ms names → AddsScope [] (top_scope nets m) o list0 list p0 p1 → IsReady ms (top_scope nets m ∷ []) (top_scope nets m) names list p1 0 16448
   top_ready names list0 list p0 p1 o l h = record {
     lists = l;
     planned = h.planned;
@@ -223,10 +284,10 @@ module _ (ms : List Module) (top : List ℕ) (m : Module) (found : module_named 
     levels = refl;
   }
 
-  pub top_made : (names : List (List ℕ × Bor Module)) (list0 list1 list : List FoundScope) (p0 p1 plan : Plan) (o : FoundScope) → Lists ms names → p0.outline.items ≡ [] → AddsScope [] (top_scope m) o list0 list1 p0 p1 →
-      OpensInside deepest ms (top_scope m ∷ []) (top_scope m) 0 list1 list p1 plan → Made ms top list plan
+  pub top_made : (names : List (List ℕ × Listed)) (list0 list1 list : List FoundScope) (p0 p1 plan : Plan) (o : FoundScope) → Lists ms names → p0.outline.items ≡ [] → AddsScope [] (top_scope nets m) o list0 list1 p0 p1 →
+      OpensInside deepest ms (top_scope nets m ∷ []) (top_scope nets m) 0 list1 list p1 plan → Made ms top list plan
   top_made names list0 list1 list p0 p1 plan o l empty a h =
-      let s = top_scope m in
+      let s = top_scope nets m in
       let whole : s ∷ scopes_inside deepest ms s ≡ scopes_of ms top = sym (within_inside deepest ms s) ∙ sym all_scopes in
       let text : own_lines s ++ lines_inside deepest ms s ≡ outline_of ms top = sym (outline_inside deepest ms s) ∙ sym all_lines in
       let lines = lines_join (own_lines s) (lines_inside deepest ms s) p0 p1 plan a.lines h.lines in
@@ -243,11 +304,11 @@ module _ (ms : List Module) (top : List ℕ) (m : Module) (found : module_named 
       }
 
   -- a fault of the top's scope, or of one inside it, is one of the source
-  pub opening_told : (e : ElabFault) → Told (HoldsOpeningIn ms (scopes_within deepest ms (top_scope m))) e → Told (StandsOpening ms top) e
-  opening_told e h = told_by (HoldsOpeningIn ms (scopes_within deepest ms (top_scope m))) (StandsOpening ms top) e (λ r p k. inr (subst (λ z. HoldsOpeningIn ms z r p) (sym all_scopes) k)) h
+  pub opening_told : (e : ElabFault) → Told (HoldsOpeningIn ms (scopes_within deepest ms (top_scope nets m))) e → Told (StandsOpening ms top) e
+  opening_told e h = told_by (HoldsOpeningIn ms (scopes_within deepest ms (top_scope nets m))) (StandsOpening ms top) e (λ r p k. inr (subst (λ z. HoldsOpeningIn ms z r p) (sym all_scopes) k)) h
 
-  pub top_own_told : (e : ElabFault) → Told (HoldsOwn (top_scope m)) e → Told (StandsOpening ms top) e
-  top_own_told e h = opening_told e (own_told deepest ms (top_scope m) e h)
+  pub top_own_told : (e : ElabFault) → Told (HoldsOwn (top_scope nets m)) e → Told (StandsOpening ms top) e
+  top_own_told e h = opening_told e (own_told deepest ms (top_scope nets m) e h)
 
 -- ---- faults above scopes
 

@@ -1,8 +1,7 @@
 -- The top of a source, and the scopes that its scopes are told of.
-use Rattle.std.proofs.Common.{◌≡◌, ℕ, suc, ◌+◌, ◌<◌, false, List, [], ◌∷◌, Some, None, length, get_or, refl, ap, sym, subst, ◌∙◌, arith}
+use Rattle.std.proofs.Common.{◌≡◌, ℕ, suc, ◌+◌, ◌<◌, Bool, false, List, [], ◌∷◌, Some, None, length, get_or, refl, ap, sym, subst, ◌∙◌, arith}
 use Rattle.std.proofs.Math.ListN.{set}
 use Rattle.std.specs.Option.{option_map}
-use Rattle.std.specs.Borrow.{Bor}
 use Rattle.std.proofs.lemmas.Option.{none-some, same_Some, slice_get-get_or}
 use Rattle.vs_syntax.specs.declared.tree.Module.{Module}
 use Rattle.vs_selects.specs.declared.faults.WidthReason.{WidthReason}
@@ -12,6 +11,7 @@ use Rattle.vs_scopes.specs.declared.faults.ElabFault.{ElabFault}
 use Rattle.vs_scopes.specs.declared.faults.ParameterRefusal.TheVariants as refusal
 use Rattle.vs_scopes.specs.Printed.{plainly}
 use Rattle.vs_scopes.specs.Declarations.{Bindings}
+use Rattle.vs_scopes.specs.Nets.{permits_nets}
 use Rattle.vs_scopes.specs.Scopes.{nowhere, module_named, top_scope, deepest}
 use Rattle.vs_scopes.specs.passes.Answers.{Told, IsFaultAt}
 use Rattle.vs_scopes.proofs.AnswerLemmas.{told_at}
@@ -21,6 +21,7 @@ use Rattle.vs_opened.specs.declared.opened.Opened.{Opened as FoundScope}
 use Rattle.vs_opened.specs.declared.opened.Plan.{Plan}
 use Rattle.vs_opened.specs.Opened.{AreSeated}
 use Rattle.vs_opened.specs.ScopeFaults.{top_fault, StandsOpening}
+use Rattle.vs_opening.specs.declared.entering.Listed.{Listed}
 use Rattle.vs_opening.specs.passes.Blocks.{text_name, HasIndex, with_blocks, AddsBlock, AreIndexedUpTo, AreIndexed}
 use Rattle.vs_opening.specs.passes.Entering.{Lists}
 use Rattle.vs_opening.specs.passes.Opens.{IsReady, AddsScope, OpensInside, OpensInsideNot, HoldsOwn, TopNot, Made}
@@ -30,11 +31,14 @@ use Rattle.vs_opening.proofs.BlockLemmas.{adds_none, adds_one}
 
 -- ---- a module by its name
 
-pub nothing_found : (ms : List Module) (top : List ℕ) (names : List (List ℕ × Bor Module)) → Lists ms names → None ≡ meaning_of names top → module_named ms top ≡ None
-nothing_found ms top names l h = sym (l.found top) ∙ ap (option_map (λ (z : Bor Module). z.now)) (sym h)
+pub nothing_found : (ms : List Module) (top : List ℕ) (names : List (List ℕ × Listed)) → Lists ms names → None ≡ meaning_of names top → module_named ms top ≡ None
+nothing_found ms top names l h = sym (l.found top) ∙ ap (option_map (λ (z : Listed). z.«module».now)) (sym h)
 
-pub module_found : (ms : List Module) (top : List ℕ) (names : List (List ℕ × Bor Module)) (m : Bor Module) → Lists ms names → Some m ≡ meaning_of names top → module_named ms top ≡ Some m.now
-module_found ms top names m l h = sym (l.found top) ∙ ap (option_map (λ (z : Bor Module). z.now)) (sym h)
+pub module_found : (ms : List Module) (top : List ℕ) (names : List (List ℕ × Listed)) (m : Listed) → Lists ms names → Some m ≡ meaning_of names top → module_named ms top ≡ Some m.«module».now
+module_found ms top names m l h = sym (l.found top) ∙ ap (option_map (λ (z : Listed). z.«module».now)) (sym h)
+
+pub module_permits : (ms : List Module) (top : List ℕ) (names : List (List ℕ × Listed)) (m : Listed) → Lists ms names → Some m ≡ meaning_of names top → m.nets ≡ permits_nets ms top
+module_permits ms top names m l h = l.nets top m (sym h)
 
 -- ---- parameters of the top, around which nothing has a name
 
@@ -46,22 +50,22 @@ top_refused m bs w e eo h f = told_at (TopNot m) (Width w) (plainly m.name.items
 
 -- ---- the top
 
-module _ (ms : List Module) (top : List ℕ) (m : Module) (found : module_named ms top ≡ Some m) (fine : (w : WidthReason) → top_fault w m ≡ false) where
+module _ (ms : List Module) (top : List ℕ) (m : Module) (found : module_named ms top ≡ Some m) (nets : Bool) (permits : nets ≡ permits_nets ms top) (fine : (w : WidthReason) → top_fault w m ≡ false) where
   -- a fault of the top's own members is one of the source
-  pub top_own : (e : ElabFault) → Told (HoldsOwn (top_scope m)) e → Told (StandsOpening ms top) e
-  top_own e h = opening_told ms top m found fine e (own_told deepest ms (top_scope m) e h)
+  pub top_own : (e : ElabFault) → Told (HoldsOwn (top_scope nets m)) e → Told (StandsOpening ms top) e
+  top_own e h = opening_told ms top m found nets permits fine e (own_told deepest ms (top_scope nets m) e h)
 
   -- so many levels may be inside the top
-  pub ready_with : (room : ℕ) (names : List (List ℕ × Bor Module)) (list0 list : List FoundScope) (p0 p1 : Plan) (o : FoundScope) → room ≡ deepest → Lists ms names → AddsScope [] (top_scope m) o list0 list p0 p1 → IsReady ms (top_scope m ∷ []) (top_scope m) names list p1 0 room
-  ready_with room names list0 list p0 p1 o e l h = subst (IsReady ms (top_scope m ∷ []) (top_scope m) names list p1 0) (sym e) (top_ready ms top m found fine names list0 list p0 p1 o l h)
+  pub ready_with : (room : ℕ) (names : List (List ℕ × Listed)) (list0 list : List FoundScope) (p0 p1 : Plan) (o : FoundScope) → room ≡ deepest → Lists ms names → AddsScope [] (top_scope nets m) o list0 list p0 p1 → IsReady ms (top_scope nets m ∷ []) (top_scope nets m) names list p1 0 room
+  ready_with room names list0 list p0 p1 o e l h = subst (IsReady ms (top_scope nets m ∷ []) (top_scope nets m) names list p1 0) (sym e) (top_ready ms top m found nets permits fine names list0 list p0 p1 o l h)
 
-  pub made_with : (room : ℕ) (names : List (List ℕ × Bor Module)) (list0 list1 list : List FoundScope) (p0 p1 plan : Plan) (o : FoundScope) → room ≡ deepest → Lists ms names → p0.outline.items ≡ [] → AddsScope [] (top_scope m) o list0 list1 p0 p1 →
-      OpensInside room ms (top_scope m ∷ []) (top_scope m) 0 list1 list p1 plan → Made ms top list plan
+  pub made_with : (room : ℕ) (names : List (List ℕ × Listed)) (list0 list1 list : List FoundScope) (p0 p1 plan : Plan) (o : FoundScope) → room ≡ deepest → Lists ms names → p0.outline.items ≡ [] → AddsScope [] (top_scope nets m) o list0 list1 p0 p1 →
+      OpensInside room ms (top_scope nets m ∷ []) (top_scope nets m) 0 list1 list p1 plan → Made ms top list plan
   made_with room names list0 list1 list p0 p1 plan o e l empty a h =
-      top_made ms top m found fine names list0 list1 list p0 p1 plan o l empty a (subst (λ k. OpensInside k ms (top_scope m ∷ []) (top_scope m) 0 list1 list p1 plan) e h)
+      top_made ms top m found nets permits fine names list0 list1 list p0 p1 plan o l empty a (subst (λ k. OpensInside k ms (top_scope nets m ∷ []) (top_scope nets m) 0 list1 list p1 plan) e h)
 
-  pub opening_with : (room : ℕ) (e : ElabFault) → room ≡ deepest → Told (OpensInsideNot room ms (top_scope m)) e → Told (StandsOpening ms top) e
-  opening_with room e k h = opening_told ms top m found fine e (subst (λ n. Told (OpensInsideNot n ms (top_scope m)) e) k h)
+  pub opening_with : (room : ℕ) (e : ElabFault) → room ≡ deepest → Told (OpensInsideNot room ms (top_scope nets m)) e → Told (StandsOpening ms top) e
+  opening_with room e k h = opening_told ms top m found nets permits fine e (subst (λ n. Told (OpensInsideNot n ms (top_scope nets m)) e) k h)
 
 -- ---- the index
 

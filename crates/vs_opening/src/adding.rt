@@ -7,7 +7,7 @@ ghost use Rattle.vs_scopes.specs.passes.Answers.{Told};
 ghost use Rattle.vs_opening.specs.passes.Entering.{before_next};
 ghost use Rattle.vs_opening.specs.passes.Opens.{with_names, IsPlanned, IsNext, IsHolding, HoldsOwn, AddsScope, AddsInnerAt, AddsInnerNot, HasRoomToCount, CountsOne};
 
-use crate::entering::enter;
+use crate::entering::{Listed, enter};
 use crate::own::open_own;
 use std::alloc::Global;
 use vs_design::ScopeKind;
@@ -15,7 +15,6 @@ use vs_generate::Inner;
 use vs_opened::{Opened, Plan, path_inside};
 use vs_scopes::ElabFault;
 use vs_selects::Binding;
-use vs_syntax::Module;
 use vs_widths::Names;
 
 /// Counts a scope as an instance and as a turn of a generate loop, where it is one.
@@ -43,6 +42,9 @@ fn with_names<'s>(scope: Opened<'s>, names: Names<'s, Binding>) -> Opened<'s>
         instances,
         turns,
         depth,
+        nets,
+        text,
+        told,
         ports,
         pieces,
         constants,
@@ -51,6 +53,7 @@ fn with_names<'s>(scope: Opened<'s>, names: Names<'s, Binding>) -> Opened<'s>
         within,
         home,
         around,
+        piece,
         ends,
         blocks,
     } = scope;
@@ -62,6 +65,9 @@ fn with_names<'s>(scope: Opened<'s>, names: Names<'s, Binding>) -> Opened<'s>
         instances,
         turns,
         depth,
+        nets,
+        text,
+        told,
         ports,
         pieces,
         constants,
@@ -70,6 +76,7 @@ fn with_names<'s>(scope: Opened<'s>, names: Names<'s, Binding>) -> Opened<'s>
         within,
         home,
         around,
+        piece,
         ends,
         blocks,
     }
@@ -98,7 +105,7 @@ pub fn list_scope<'s>(
 #[inline(never)]
 pub fn add<'s>(
     alloc: Global,
-    modules: &Names<'s, &'s Module>,
+    modules: &Names<'s, Listed<'s>>,
     place: usize,
     one: &Inner<'s>,
     list: &mut Vec<Opened<'s>>,
@@ -106,7 +113,9 @@ pub fn add<'s>(
 ) -> Result<usize, ElabFault>
     requires { (ms : List Tree) × (ss : List Scope) × (s : Scope) × IsHolding ms ss s modules.now list.old.items plan.old place }
     ensures { (ms : List Tree) (ss : List Scope) (s : Scope) → IsHolding ms ss s modules.now list.old.items plan.old place →
-        MatchResult result (AddsInnerAt ms ss s place (before_next list.old.items plan.old) (read_inner one.now) list.old.items list.new.items plan.old plan.new)
+        MatchResult result
+        (AddsInnerAt ms ss s place (before_next list.old.items plan.old) (read_inner one.now) list.old.items list.new.items plan.old
+        plan.new)
         (Told (AddsInnerNot ms s (before_next list.old.items plan.old) (read_inner one.now))) }
 {
     let next = list.len();

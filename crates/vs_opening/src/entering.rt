@@ -23,9 +23,10 @@ use std::alloc::{AllocError, Global};
 use std::slice;
 use vs_design::ScopeKind;
 use vs_generate::{Inner, Use};
+use vs_nets::{Around, block_members, module_members};
 use vs_opened::{
-    Opened, Plan, connections, fault_at, member_fault, names_around, names_outward, path,
-    path_inside,
+    Opened, Plan, connections, fault_at, named_fault, names_around, names_outward, path_inside,
+    scope_fault,
 };
 use vs_pieces::{Piece, block_pieces, pieces};
 use vs_scopes::{
@@ -36,37 +37,13 @@ use vs_syntax::{Module, ModuleItem};
 use vs_values::{ParameterValues, block_values, values};
 use vs_widths::{Levels, Names};
 
-/// A fault at the scope at a place.
-#[inline(never)]
-pub fn scope_fault(alloc: Global, list: &[Opened], place: usize, reason: Reason) -> ElabFault
-    requires place { place < length list.now }
-    requires seated { AreSeated list.now }
-    ensures { (ss : List Scope) (s : Scope) → AreOpened list.now ss → slice_get ss place ≡ Some s → IsFaultAt reason s.path result }
-{
-    match path(alloc, list, place) {
-        Ok(path) => fault_at(alloc, &path, reason),
-        Err(_) => ElabFault::Memory,
-    }
-}
-
-/// A fault at a name of the scope at a place.
-#[inline(never)]
-fn named_fault(
-    alloc: Global,
-    list: &[Opened],
-    place: usize,
-    name: &[u8],
-    reason: Reason,
-) -> ElabFault
-    requires place { place < length list.now }
-    requires seated { AreSeated list.now }
-    ensures { (ss : List Scope) (s : Scope) → AreOpened list.now ss → slice_get ss place ≡ Some s →
-        IsFaultAt reason (named s name.now) result }
-{
-    match path(alloc, list, place) {
-        Ok(path) => member_fault(alloc, &path, name, reason),
-        Err(_) => ElabFault::Memory,
-    }
+/// A module, as it is listed.
+#[derive(Clone, Copy)]
+pub struct Listed<'s> {
+    /// The module.
+    pub module: &'s Module,
+    /// Whether undeclared names may be nets in it.
+    pub nets: bool,
 }
 
 /// Whether a name is among others.
@@ -173,7 +150,7 @@ fn instance_values<'s>(
 /// The scope of an instance of this module in the scope at a place.
 fn module_scope<'s>(
     alloc: Global,
-    module: &'s Module,
+    listed: Listed<'s>,
     list: &[Opened<'s>],
     plan: &Plan,
     place: usize,
@@ -183,9 +160,11 @@ fn module_scope<'s>(
     requires seated { AreSeated list.now }
     requires depth { IsShallow list.now place }
     ensures { (ss : List Scope) (s : Scope) → AreOpened list.now ss → slice_get ss place ≡ Some s →
-        MatchResult result (EntersInstance ss s place (before_next list.now plan.now) (read_use one.now) «module».entry.now)
-        (Told (EntersInstanceNot s (read_use one.now) «module».entry.now)) }
+        MatchResult result
+        (EntersInstance listed.entry.nets ss s place (before_next list.now plan.now) (read_use one.now) listed.entry.«module».now)
+        (Told (EntersInstanceNot s (read_use one.now) listed.entry.«module».now)) }
 {
+    let module = listed.module;
     let pieces = pieces(alloc, &module.items)?;
     let ports = module_ports(alloc, module, &pieces)?;
     let values = match instance_values(alloc, list, place, module, &ports, &pieces, one) {
@@ -195,6 +174,13 @@ fn module_scope<'s>(
     let Some(ends) = connections(alloc, one, &ports)? else {
         return Err(named_fault(alloc, list, place, one.name, Reason::PortMismatch));
     };
+    let around = Around {
+        list,
+        kind: ScopeKind::Module,
+        around: Some(place),
+        piece: 0,
+    };
+    let members = module_members(alloc, listed.nets, around, module, &ports, pieces)?;
     let home = list[place].home;
     let within = with_first(alloc, &module.name, &list[home].within)?;
     Ok(Opened {
@@ -205,14 +191,18 @@ fn module_scope<'s>(
         instances: plan.instances,
         turns: plan.turns,
         depth: list[place].depth + 1,
+        nets: listed.nets,
+        text: members.text,
+        told: members.told,
         ports,
-        pieces,
+        pieces: members.pieces,
         constants: values.constants,
         known: values.known,
         names: Names::new(alloc),
         within,
         home: list.len(),
         around: Some(place),
+        piece: 0,
         ends,
         blocks: Names::new(alloc),
     })
@@ -233,7 +223,7 @@ pub fn plain_title<'s>(name: &'s [u8]) -> PathName<'s>
 #[inline(never)]
 fn enter_instance<'s>(
     alloc: Global,
-    modules: &Names<'s, &'s Module>,
+    modules: &Names<'s, Listed<'s>>,
     list: &[Opened<'s>],
     plan: &Plan,
     place: usize,
@@ -246,23 +236,24 @@ fn enter_instance<'s>(
         MatchResult result (Enters ms ss s place (before_next list.now plan.now) (instance (read_use one.now)))
         (Told (EntersNot ms s (instance (read_use one.now)))) }
 {
-    let Some(module) = modules.find(one.of) else {
+    let Some(listed) = modules.find(one.of) else {
         return Err(named_fault(alloc, list, place, one.name, Reason::NoModule));
     };
     let home = list[place].home;
-    if is_among(&list[home].within, &module.name) {
+    if is_among(&list[home].within, &listed.module.name) {
         return Err(named_fault(alloc, list, place, one.name, Reason::Inside));
     }
-    module_scope(alloc, module, list, plan, place, one)
+    module_scope(alloc, listed, list, plan, place, one)
 }
 
-/// The scope of a block in the scope at a place, of these constants and pieces (IEEE 1364-2005, clauses 9.8.3 and 12.4).
+/// The scope of a block before a piece of the scope at a place, of these constants and pieces (IEEE 1364-2005, clauses 9.8.3 and 12.4).
 #[inline(never)]
 fn block_scope<'s>(
     alloc: Global,
     list: &[Opened<'s>],
     plan: &Plan,
     place: usize,
+    piece: usize,
     title: PathName<'s>,
     constants: &[(&'s [u8], Const)],
     pieces: Vec<Piece<'s>>,
@@ -271,7 +262,8 @@ fn block_scope<'s>(
     requires seated { AreSeated list.now }
     ensures { (ss : List Scope) (s : Scope) → AreOpened list.now ss → slice_get ss place ≡ Some s →
         MatchResult result
-        (EntersBlock ss s place (before_next list.now plan.now) title.entry (by_bytes constants.now) (map read_piece pieces.entry.items))
+        (EntersBlock piece ss s place (before_next list.now plan.now) title.entry (by_bytes constants.now)
+        (map read_piece pieces.entry.items))
         (Told (EntersBlockNot s (read_title title.entry) (by_bytes constants.now) (map read_piece pieces.entry.items))) }
 {
     let outer = names_outward(alloc, list, place)?;
@@ -279,6 +271,14 @@ fn block_scope<'s>(
         Ok(values) => values,
         Err(fault) => return Err(block_refusal(alloc, list, place, title, fault)),
     };
+    let around = Around {
+        list,
+        kind: ScopeKind::Begin,
+        around: Some(place),
+        piece,
+    };
+    let nets = list[place].nets;
+    let members = block_members(alloc, nets, around, constants, pieces)?;
     Ok(Opened {
         title,
         kind: ScopeKind::Begin,
@@ -287,27 +287,32 @@ fn block_scope<'s>(
         instances: plan.instances,
         turns: plan.turns,
         depth: list[place].depth,
+        nets,
+        text: members.text,
+        told: members.told,
         ports: Vec::new(alloc),
-        pieces,
+        pieces: members.pieces,
         constants: values.constants,
         known: values.known,
         names: Names::new(alloc),
         within: Vec::new(alloc),
         home: list[place].home,
         around: Some(place),
+        piece,
         ends: Vec::new(alloc),
         blocks: Names::new(alloc),
     })
 }
 
-/// The scope of a generate block in the scope at a place; `turn` is the genvar of the turn that it is, with its value
-/// (IEEE 1364-2005, clause 12.4).
+/// The scope of a generate block, of the construct that is a piece of the scope at a place; `turn` is the genvar of the turn that it is, with its
+/// value (IEEE 1364-2005, clause 12.4).
 #[inline(never)]
 fn enter_generated<'s>(
     alloc: Global,
     list: &[Opened<'s>],
     plan: &Plan,
     place: usize,
+    piece: usize,
     title: PathName<'s>,
     turn: &Option<(&'s [u8], Const)>,
     items: &'s [ModuleItem],
@@ -316,8 +321,9 @@ fn enter_generated<'s>(
     requires seated { AreSeated list.now }
     ensures { (ms : List Tree) (ss : List Scope) (s : Scope) → AreOpened list.now ss → slice_get ss place ≡ Some s →
         MatchResult result
-        (Enters ms ss s place (before_next list.now plan.now) (generated (read_title title.entry) (read_constant turn.now) items.entry.now))
-        (Told (EntersNot ms s (generated (read_title title.entry) (read_constant turn.now) items.entry.now))) }
+        (Enters ms ss s place (before_next list.now plan.now)
+        (generated piece (read_title title.entry) (read_constant turn.now) items.entry.now))
+        (Told (EntersNot ms s (generated piece (read_title title.entry) (read_constant turn.now) items.entry.now))) }
 {
     let pieces = pieces(alloc, items)?;
     match turn {
@@ -327,12 +333,13 @@ fn enter_generated<'s>(
                 list,
                 plan,
                 place,
+                piece,
                 title,
                 slice::from_ref(genvar),
                 pieces,
             )
         }
-        None => block_scope(alloc, list, plan, place, title, &[], pieces),
+        None => block_scope(alloc, list, plan, place, piece, title, &[], pieces),
     }
 }
 
@@ -340,7 +347,7 @@ fn enter_generated<'s>(
 #[inline(never)]
 pub fn enter<'s>(
     alloc: Global,
-    modules: &Names<'s, &'s Module>,
+    modules: &Names<'s, Listed<'s>>,
     list: &[Opened<'s>],
     plan: &Plan,
     place: usize,
@@ -355,13 +362,13 @@ pub fn enter<'s>(
 {
     match one {
         Inner::Instance(one) => enter_instance(alloc, modules, list, plan, place, one),
-        Inner::Generated(title, turn, items) => {
-            enter_generated(alloc, list, plan, place, *title, turn, *items)
+        Inner::Generated(piece, title, turn, items) => {
+            enter_generated(alloc, list, plan, place, *piece, *title, turn, *items)
         }
         Inner::Named(block) => {
             let pieces = block_pieces(alloc, *block)?;
             let title = plain_title(block.name);
-            block_scope(alloc, list, plan, place, title, &[], pieces)
+            block_scope(alloc, list, plan, place, 0, title, &[], pieces)
         }
     }
 }

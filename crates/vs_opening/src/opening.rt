@@ -6,16 +6,16 @@ ghost use Rattle.vs_scopes.specs.Scopes.{Scope};
 ghost use Rattle.vs_scopes.specs.passes.Answers.{IsRefusal, Told};
 ghost use Rattle.vs_opened.specs.Opened.{AreOpened, AreSeated};
 ghost use Rattle.vs_opened.specs.ScopeFaults.{HasConstructFault};
-ghost use Rattle.vs_opening.specs.passes.Opens.{IsSoundOwn, HasInner, IsReady, OpensInside, OpensInsideNot};
+ghost use Rattle.vs_opening.specs.passes.Opens.{FindsInner, HasInner, HasInnerNot, IsReady, OpensInside, OpensInsideNot};
 
 use crate::adding::add;
-use crate::entering::scope_fault;
+use crate::entering::Listed;
 use std::alloc::Global;
 use vs_design::Entry;
 use vs_generate::{Inner, inners};
-use vs_opened::{Opened, Plan, names_around};
+use vs_nets::check_blocks;
+use vs_opened::{Opened, Plan, names_around, scope_fault};
 use vs_scopes::{BodyFault, ElabFault};
-use vs_syntax::Module;
 use vs_widths::{Levels, Names};
 
 /// A fault of a generate construct of the scope at a place.
@@ -32,6 +32,26 @@ fn construct_fault(alloc: Global, list: &[Opened], place: usize, fault: BodyFaul
 
 /// What opens scopes in the one at a place, in the order of the text (IEEE 1364-2005, clauses 9.8.3, 12.1.2 and 12.4).
 #[inline(never)]
+fn found_at<'s>(
+    alloc: Global,
+    list: &[Opened<'s>],
+    place: usize,
+) -> Result<Vec<Inner<'s>>, ElabFault>
+    requires place { place < length list.now }
+    requires seated { AreSeated list.now }
+    ensures { (ss : List Scope) (s : Scope) → AreOpened list.now ss → slice_get ss place ≡ Some s →
+        MatchResult result (λ v. FindsInner s (map read_inner v.items)) (Told (HasConstructFault s)) }
+{
+    let scope = &list[place];
+    let outer = names_around(alloc, list, scope.kind, scope.around)?;
+    let levels = Levels::new(&scope.names, &outer);
+    match inners(alloc, &levels, &scope.text, &scope.pieces) {
+        Ok(inner) => Ok(inner),
+        Err(fault) => Err(construct_fault(alloc, list, place, fault)),
+    }
+}
+
+/// The same, where no generate block has the name of an implicit net (IEEE 1364-2005, clauses 4.5 and 12.4.3).
 fn inner_at<'s>(
     alloc: Global,
     list: &[Opened<'s>],
@@ -39,22 +59,18 @@ fn inner_at<'s>(
 ) -> Result<Vec<Inner<'s>>, ElabFault>
     requires place { place < length list.now }
     requires seated { AreSeated list.now }
-    ensures { (ss : List Scope) (s : Scope) → AreOpened list.now ss → slice_get ss place ≡ Some s → IsSoundOwn s →
-        MatchResult result (λ v. HasInner s (map read_inner v.items)) (Told (HasConstructFault s)) }
+    ensures { (ss : List Scope) (s : Scope) → AreOpened list.now ss → slice_get ss place ≡ Some s →
+        MatchResult result (λ v. HasInner s (map read_inner v.items)) (Told (HasInnerNot s)) }
 {
-    let scope = &list[place];
-    let outer = names_around(alloc, list, scope.kind, scope.around)?;
-    let levels = Levels::new(&scope.names, &outer);
-    match inners(alloc, &levels, &scope.names, &scope.pieces) {
-        Ok(inner) => Ok(inner),
-        Err(fault) => Err(construct_fault(alloc, list, place, fault)),
-    }
+    let inner = found_at(alloc, list, place)?;
+    check_blocks(alloc, list, place, &inner)?;
+    Ok(inner)
 }
 
 /// Lists the scopes inside the scope at a place, which is the last one, down to so many levels, and closes it in the outline.
 pub fn open_inside<'s>(
     alloc: Global,
-    modules: &Names<'s, &'s Module>,
+    modules: &Names<'s, Listed<'s>>,
     room: u32,
     place: usize,
     list: &mut Vec<Opened<'s>>,

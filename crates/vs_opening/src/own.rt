@@ -10,15 +10,15 @@ ghost use Rattle.vs_scopes.specs.passes.Parts.{read_port, read_source};
 ghost use Rattle.vs_opened.specs.Opened.{AreOpened, AreSeated, IsEntered};
 ghost use Rattle.vs_opened.specs.passes.Sites.{IsSite};
 ghost use Rattle.vs_opened.specs.passes.Declaring.{IsAt};
-ghost use Rattle.vs_opening.specs.passes.Opens.{HoldsOwn, IsFitting, HasFittingPieces, HasTimelyTurn, block_has_parameter, AreAlike, IsAgainNot, DeclaresAll, DeclaresAllNot, Binds, BindsNot, OpensNames, OpensOwn, EntersLast, HasOuter};
+ghost use Rattle.vs_opening.specs.passes.Opens.{HoldsOwn, IsFitting, HasFittingPieces, HasTimelyTurn, HasTimelyNets, block_has_parameter, AreAlike, IsAgainNot, DeclaresAll, DeclaresAllNot, Binds, BindsNot, OpensNames, OpensOwn, EntersLast, HasOuter};
 
-use crate::entering::scope_fault;
 use std::alloc::{AllocError, Global};
 use vs_design::{Entry, ScopeKind};
+use vs_nets::{Around, check_late};
 use vs_opened::{
     Declared, Opened, Plan, Site, TURN_LIMIT, bind_all, bind_constants, declare_pieces,
     declare_ports, fault_at, genvars, has_parameter, has_wrong_port, inner_names, member_fault,
-    names_around, passes_limit,
+    names_around, passes_limit, scope_fault,
 };
 use vs_pieces::Piece;
 use vs_ports::{counted, has_stray_port, is_unlike, ports_again};
@@ -227,6 +227,29 @@ fn begin<'s>(
     Ok(names)
 }
 
+/// Sees that a scope uses no net that is declared behind (IEEE 1364-2005, clause 4.5).
+#[inline(never)]
+fn check_nets(
+    alloc: Global,
+    list: &[Opened],
+    path: &[PathName],
+    scope: &Opened,
+) -> Result<(), ElabFault>
+    requires rooted { 0 < length path.now }
+    requires around { HasOuter list.now scope.now }
+    requires seated { AreSeated list.now }
+    ensures { (ss : List Scope) (s : Scope) → AreOpened list.now ss → EntersLast ss scope.now s → read_path path.now ≡ s.path →
+        MatchResult result (λ _. HasTimelyNets s) (Told (HoldsOwn s)) }
+{
+    let around = Around {
+        list,
+        kind: scope.kind,
+        around: scope.around,
+        piece: scope.piece,
+    };
+    check_late(alloc, around, path, &scope.text, &scope.told, &scope.pieces)
+}
+
 /// Binds the names of a scope, whose ports are declared alike and once.
 #[inline(never)]
 fn open_names<'a, 's, 'o>(
@@ -238,7 +261,8 @@ fn open_names<'a, 's, 'o>(
 ) -> Result<Names<'s, Binding>, ElabFault>
     requires rooted { 0 < length path.now }
     requires room { length plan.old.signals.items ≤ 65536 }
-    ensures { (ss : List Scope) (s : Scope) → IsEntered ss scope.now s → IsSite s (read_path path.entry.now) (meaning_of known.entry.now) → HasFittingPieces s →
+    ensures { (ss : List Scope) (s : Scope) → IsEntered ss scope.now s → IsSite s (read_path path.entry.now) (meaning_of known.entry.now)
+        → HasFittingPieces s →
         s.base ≡ length plan.old.signals.items →
         MatchResult result (λ names. OpensNames s names plan.old plan.new) (Told (HoldsOwn s)) }
 {
@@ -270,6 +294,7 @@ pub fn open_own<'s>(
     check_scope(alloc, path, scope)?;
     check_turn(alloc, list, scope)?;
     check_pieces(alloc, list, path, scope)?;
+    check_nets(alloc, list, path, scope)?;
     let outer = names_around(alloc, list, scope.kind, scope.around)?;
     let known = Levels::new(&scope.known, &outer);
     open_names(alloc, path, &known, scope, plan)

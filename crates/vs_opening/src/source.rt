@@ -11,10 +11,11 @@ ghost use Rattle.vs_opening.specs.passes.Blocks.{text_name, HasIndex, HasNoBlock
 ghost use Rattle.vs_opening.specs.passes.Opens.{IsTop, TopNot, IsPlanned, Made};
 
 use crate::adding::list_scope;
-use crate::entering::plain_title;
+use crate::entering::{Listed, plain_title};
 use crate::opening::open_inside;
 use std::alloc::{AllocError, Global};
 use vs_design::ScopeKind;
+use vs_nets::{Around, module_members, permits_behind};
 use vs_opened::{DEEPEST, Opened, Opening, Plan, fault_at};
 use vs_pieces::pieces;
 use vs_scopes::{ElabFault, ParameterRefusal, PartName, PathName, Reason, module_ports};
@@ -29,16 +30,18 @@ fn module_fault(alloc: Global, name: &[u8], reason: Reason) -> ElabFault
     fault_at(alloc, &[plain_title(name)], reason)
 }
 
-/// Modules by their names, which differ.
+/// Modules by their names, which differ, each with whether undeclared names may be nets in it (IEEE 1364-2005, clause 19.2).
 fn list_modules<'s>(
     alloc: Global,
     modules: &'s [Module],
-) -> Result<Names<'s, &'s Module>, ElabFault>
+) -> Result<Names<'s, Listed<'s>>, ElabFault>
     ensures { MatchResult result (Lists modules.entry.now) (Told (ListsNot modules.entry.now)) }
 {
     let mut names = Names::new(alloc);
+    let mut nets = true;
     for module in modules {
-        if !names.declare(&module.name, module)? {
+        nets = permits_behind(nets, &module.directives);
+        if !names.declare(&module.name, Listed { module, nets })? {
             return Err(module_fault(alloc, &module.name, Reason::DeclaredTwice));
         }
     }
@@ -47,9 +50,10 @@ fn list_modules<'s>(
 
 /// The scope of the top module (IEEE 1364-2005, clause 12.1.1).
 #[inline(never)]
-fn top_scope<'s>(alloc: Global, module: &'s Module) -> Result<Opened<'s>, ElabFault>
-    ensures { MatchResult result (IsTop «module».entry.now) (Told (TopNot «module».entry.now)) }
+fn top_scope<'s>(alloc: Global, listed: Listed<'s>) -> Result<Opened<'s>, ElabFault>
+    ensures { MatchResult result (IsTop listed.entry.nets listed.entry.«module».now) (Told (TopNot listed.entry.«module».now)) }
 {
+    let module = listed.module;
     let pieces = pieces(alloc, &module.items)?;
     let ports = module_ports(alloc, module, &pieces)?;
     let nothing = Names::new(alloc);
@@ -63,6 +67,13 @@ fn top_scope<'s>(alloc: Global, module: &'s Module) -> Result<Opened<'s>, ElabFa
     };
     let mut within = Vec::new(alloc);
     within.push(module.name.as_slice())?;
+    let around = Around {
+        list: &[],
+        kind: ScopeKind::Module,
+        around: None,
+        piece: 0,
+    };
+    let members = module_members(alloc, listed.nets, around, module, &ports, pieces)?;
     Ok(Opened {
         title: plain_title(&module.name),
         kind: ScopeKind::Module,
@@ -71,14 +82,18 @@ fn top_scope<'s>(alloc: Global, module: &'s Module) -> Result<Opened<'s>, ElabFa
         instances: 0,
         turns: 0,
         depth: 1,
+        nets: listed.nets,
+        text: members.text,
+        told: members.told,
         ports,
-        pieces,
+        pieces: members.pieces,
         constants: values.constants,
         known: values.known,
         names: Names::new(alloc),
         within,
         home: 0,
         around: None,
+        piece: 0,
         ends: Vec::new(alloc),
         blocks: Names::new(alloc),
     })
@@ -95,13 +110,14 @@ fn open_top<'s>(
     requires empty { list.old.items ≡ [] }
     requires planned { IsPlanned list.old.items plan.old [] }
     requires outline { plan.old.outline.items ≡ [] }
-    ensures { MatchResult result (λ _. Made modules.entry.now top.now list.new.items plan.new) (Told (StandsOpening modules.entry.now top.now)) }
+    ensures { MatchResult result (λ _. Made modules.entry.now top.now list.new.items plan.new)
+        (Told (StandsOpening modules.entry.now top.now)) }
 {
     let names = list_modules(alloc, modules)?;
-    let Some(module) = names.find(top) else {
+    let Some(listed) = names.find(top) else {
         return Err(module_fault(alloc, top, Reason::NoModule));
     };
-    let scope = top_scope(alloc, module)?;
+    let scope = top_scope(alloc, listed)?;
     list_scope(alloc, scope, list, plan)?;
     open_inside(alloc, &names, DEEPEST as u32, 0, list, plan)
 }

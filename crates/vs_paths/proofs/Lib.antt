@@ -6,6 +6,7 @@ pub mod PathsNumbered
 pub mod PathsOpened
 pub mod PathsParts
 pub mod PathsPrinted
+pub mod PathsText
 pub mod PathsWithin
 pub mod TitleLemmas
 pub mod TurnLemmas

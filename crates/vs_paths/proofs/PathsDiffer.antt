@@ -1,5 +1,5 @@
 -- Paths of scopes and of signals differ.
-use Rattle.std.proofs.Common.{◌≡◌, ℕ, zero, suc, ◌+◌, ◌^◌, ◌<◌, ◌≤◌, ℤ, false, ◌&&◌, List, [], ◌∷◌, ◌++◌, Option, Some, None, length, map, refl, ap, ap₂, sym, subst, ◌∙◌, append_assoc, append-nil, arith, true≢false}
+use Rattle.std.proofs.Common.{◌≡◌, ℕ, zero, suc, ◌+◌, ◌^◌, ◌<◌, ◌≤◌, ℤ, Bool, false, ◌&&◌, List, [], ◌∷◌, ◌++◌, Option, Some, None, length, map, refl, ap, ap₂, sym, subst, ◌∙◌, append_assoc, append-nil, arith, true≢false}
 use Rattle.std.specs.Bool.{Decides}
 use Rattle.std.specs.List.{flat_map, IsDistinct, AllByRecursion}
 use Rattle.std.specs.Cmp.Lexicographic.{pointwise_decides}
@@ -14,10 +14,12 @@ use Rattle.std.proofs.lemmas.Slice.Eq.{bytes_eq-Decides}
 use Rattle.vs_syntax.specs.declared.tree.Module.{Module}
 use Rattle.vs_scopes.specs.Printed.{PathName, plainly, Path, same_turn, same_part, same_path}
 use Rattle.vs_scopes.specs.Generate.{Inner}
+use Rattle.vs_scopes.specs.Nets.{permits_nets}
 use Rattle.vs_scopes.specs.Scopes.{Scope, named, named_at, names_of, all_names_of, module_named, Before, behind, within_first, inner_of, opened, listed, below, scopes_within, deepest, opened_top, scopes_of}
 use Rattle.vs_paths.specs.Laws.{PathsDiffer}
 use Rattle.vs_paths.proofs.PathsLists.{each_more, each_append, each_left, each_right, distinct_append}
-use Rattle.vs_paths.proofs.PathsOpened.{title_of, what_is_opened}
+use Rattle.vs_paths.proofs.PathsOpened.{title_of, what_is_opened, what_is_opened_top}
+use Rattle.vs_paths.proofs.PathsText.{HasText}
 use Rattle.vs_paths.proofs.TitleLemmas.{names_make_apart, signals_differ, titles_differ}
 
 -- ---- names of paths
@@ -72,6 +74,7 @@ longer_apart more p n x y h b = paths_apart x y (λ e. omega (arith, ap length e
 record IsGood (s : Scope) : Type 0 where
   once : IsDistinct bytes_eq (all_names_of s)
   few : length s.pieces < 2 ^ 63
+  text : HasText s
 
 -- a path that goes so many names on from another one
 record IsAt (more : ℕ) (p q : Path) : Type 0 where
@@ -152,7 +155,7 @@ module _ (more : ℕ) (g : Scope → List Path) (own : (s : Scope) → AllByRecu
       let scopes = below ms (scopes_within n ms) s (within_first s) (inner_of s) in
       distinct_append same_path (IsAt more s.path) (IsUnder s (λ n. Unit {0})) (own_under s) (g s) (flat_map g scopes)
       (differ s h.0)
-      (below_differ ms (scopes_within n ms) (within_inside n ms) s (within_differ n ms) (within_first s) (inner_of s) (titles_differ s h.0.once h.0.few) h.1)
+      (below_differ ms (scopes_within n ms) (within_inside n ms) s (within_differ n ms) (within_first s) (inner_of s) (titles_differ s h.0.once h.0.few h.0.text) h.1)
       (own s)
       (below_under ms (scopes_within n ms) (within_inside n ms) s (λ n. Unit {0}) (within_first s) (inner_of s) (any_name (map title_of (inner_of s))))
 
@@ -185,15 +188,38 @@ unfolding IsDistinct
 named_once s [] d = tt
 named_once s (n ∷ ns) d = (named_apart s n ns d.0, named_once s ns d.1)
 
-all_good : (ss : List Scope) → AllByRecursion (λ s. IsDistinct bytes_eq (all_names_of s)) ss → AllByRecursion (λ s. length s.pieces < 2 ^ 63) ss → AllByRecursion IsGood ss
-all_good [] h k = tt
-all_good (s ∷ ss) h k = (record { once = h.0; few = k.0 }, all_good ss h.1 k.1)
+all_good : (ss : List Scope) → AllByRecursion (λ s. IsDistinct bytes_eq (all_names_of s)) ss → AllByRecursion (λ s. length s.pieces < 2 ^ 63) ss → AllByRecursion HasText ss → AllByRecursion IsGood ss
+all_good [] h k t = tt
+all_good (s ∷ ss) h k t = (record { once = h.0; few = k.0; text = t.0 }, all_good ss h.1 k.1 t.1)
+
+-- ---- the names of what opens scopes
+
+module _ (ms : List Module) (f : Scope → List Scope) (inside : (t : Scope) → HasText t → AllByRecursion HasText (f t)) (s : Scope) where
+  opened_text : (at : Before) (x : Inner) (o : Option Scope) → opened ms s at x ≡ o → AllByRecursion HasText (listed f o)
+  opened_text at x None e = tt
+  opened_text at x (Some t) e = inside t (what_is_opened ms s at x t e).text
+
+  below_text : (at : Before) (xs : List Inner) → AllByRecursion HasText (below ms f s at xs)
+  below_text at [] = tt
+  below_text at (x ∷ xs) =
+      let inner = listed f (opened ms s at x) in
+      each_append HasText inner (below ms f s (behind at inner) xs) (opened_text at x (opened ms s at x) refl) (below_text (behind at inner) xs)
+
+within_text : (n : ℕ) (ms : List Module) (s : Scope) → HasText s → AllByRecursion HasText (scopes_within n ms s)
+unfolding scopes_within
+within_text zero ms s h = (h, tt)
+within_text (suc n) ms s h = (h, below_text ms (scopes_within n ms) (within_text n ms) s (within_first s) (inner_of s))
+
+top_text : (n : ℕ) (ms : List Module) (nets : Bool) (o : Option Module) (t : Option Scope) → opened_top nets o ≡ t → AllByRecursion HasText (listed (scopes_within n ms) t)
+top_text n ms nets o None e = tt
+top_text n ms nets o (Some s) e = within_text n ms s (what_is_opened_top nets o s e).1.text
 
 pub paths_differ : PathsDiffer
 paths_differ ms top h k =
     let ss = scopes_of ms top in
-    let good = all_good ss (recursion_from_All (λ s. IsDistinct bytes_eq (all_names_of s)) ss h) (recursion_from_All (λ s. length s.pieces < 2 ^ 63) ss k) in
-    let o = opened_top (module_named ms top) in (
+    let good = all_good ss (recursion_from_All (λ s. IsDistinct bytes_eq (all_names_of s)) ss h) (recursion_from_All (λ s. length s.pieces < 2 ^ 63) ss k)
+    (top_text deepest ms (permits_nets ms top) (module_named ms top) (opened_top (permits_nets ms top) (module_named ms top)) refl) in
+    let o = opened_top (permits_nets ms top) (module_named ms top) in (
       subst (IsDistinct same_path) (flat_map_single (λ (s : Scope). s.path) ss) (opened_paths_differ 0 (λ s. s.path ∷ []) scopes_own scopes_once deepest ms o good),
       opened_paths_differ 1 (λ s. map (named s) (names_of s)) (λ s. names_own s (names_of s)) (λ s d. named_once s (names_of s) (signals_differ s d.once)) deepest ms o good,
     )

@@ -1,10 +1,11 @@
 -- The turns in paths of scopes and of signals have numbers that fit.
-use Rattle.std.proofs.Common.{◌≡◌, ℕ, zero, suc, List, [], ◌∷◌, ◌++◌, Option, Some, None, map, refl, sym, subst}
+use Rattle.std.proofs.Common.{◌≡◌, ℕ, zero, suc, Bool, List, [], ◌∷◌, ◌++◌, Option, Some, None, map, refl, sym, subst}
 use Rattle.std.specs.List.{AllByRecursion}
 use Rattle.std.proofs.lemmas.List.Elements.{All-from_recursion}
 use Rattle.vs_syntax.specs.declared.tree.Module.{Module}
 use Rattle.vs_scopes.specs.Printed.{PathName, plainly, Path}
 use Rattle.vs_scopes.specs.Generate.{Inner}
+use Rattle.vs_scopes.specs.Nets.{permits_nets}
 use Rattle.vs_scopes.specs.Scopes.{Scope, named, names_of, module_named, Before, behind, within_first, inner_of, opened, listed, below, scopes_within, deepest, opened_top, signal_paths, scopes_of}
 use Rattle.vs_paths.specs.Laws.{FitsTurn, HasTurnsThatFit, scope_paths, TurnsFit}
 use Rattle.vs_paths.proofs.PathsLists.{each_more, each_append}
@@ -38,9 +39,9 @@ unfolding scopes_within
 within_fit zero ms s h = (h, tt)
 within_fit (suc n) ms s h = (h, below_fit ms (scopes_within n ms) (within_fit n ms) s h (within_first s) (inner_of s) (titles_fit s))
 
-top_fit : (n : ℕ) (ms : List Module) (o : Option Module) (t : Option Scope) → opened_top o ≡ t → AllByRecursion Fitting (listed (scopes_within n ms) t)
-top_fit n ms o None e = tt
-top_fit n ms o (Some s) e = within_fit n ms s (subst Fits (sym (what_is_opened_top o s e).1.path) (tt, tt))
+top_fit : (n : ℕ) (ms : List Module) (nets : Bool) (o : Option Module) (t : Option Scope) → opened_top nets o ≡ t → AllByRecursion Fitting (listed (scopes_within n ms) t)
+top_fit n ms nets o None e = tt
+top_fit n ms nets o (Some s) e = within_fit n ms s (subst Fits (sym (what_is_opened_top nets o s e).1.path) (tt, tt))
 
 scopes_fit : (ss : List Scope) → AllByRecursion Fitting ss → AllByRecursion Fits (scope_paths ss)
 scopes_fit [] h = tt
@@ -60,7 +61,7 @@ path_fits p h = All-from_recursion (λ (n : PathName). FitsTurn n.turn) p h
 pub turns_fit : TurnsFit
 turns_fit ms top =
     let ss = scopes_of ms top in
-    let all = top_fit deepest ms (module_named ms top) (opened_top (module_named ms top)) refl in (
+    let all = top_fit deepest ms (permits_nets ms top) (module_named ms top) (opened_top (permits_nets ms top) (module_named ms top)) refl in (
       All-from_recursion HasTurnsThatFit (scope_paths ss) (each_more Fits HasTurnsThatFit path_fits (scope_paths ss) (scopes_fit ss all)),
       All-from_recursion HasTurnsThatFit (signal_paths ss) (each_more Fits HasTurnsThatFit path_fits (signal_paths ss) (signals_fit ss all)),
     )

@@ -6,6 +6,7 @@ use Rattle.std.proofs.lemmas.List.{length-append}
 use Rattle.std.proofs.lemmas.List.Concat.{flat_map-append}
 use Rattle.vs_syntax.specs.declared.tree.Module.{Module}
 use Rattle.vs_scopes.specs.Generate.{Inner}
+use Rattle.vs_scopes.specs.Nets.{permits_nets}
 use Rattle.vs_scopes.specs.Scopes.{Scope, is_instance, Before, before, behind, within_first, inner_of, declarations_of, module_named, opened, listed, below, scopes_within, signal_count, instance_count, turn_count, deepest, opened_top, scopes_of}
 use Rattle.vs_paths.specs.Laws.{ScopesAreNumbered}
 use Rattle.vs_paths.proofs.PathsOpened.{what_is_opened, nothing_before, what_is_opened_top}
@@ -67,9 +68,9 @@ unfolding scopes_within
 within_numbered zero ms s = (refl, tt)
 within_numbered (suc n) ms s = (refl, below_numbered ms (scopes_within n ms) (within_numbered n ms) s (within_first s) (inner_of s))
 
-top_numbered : (n : ℕ) (ms : List Module) (o : Option Module) (t : Option Scope) → opened_top o ≡ t → AreNumbered nothing_before (listed (scopes_within n ms) t)
-top_numbered n ms o None e = tt
-top_numbered n ms o (Some s) e = subst (λ b. AreNumbered b (scopes_within n ms s)) (what_is_opened_top o s e).1.before (within_numbered n ms s)
+top_numbered : (n : ℕ) (ms : List Module) (nets : Bool) (o : Option Module) (t : Option Scope) → opened_top nets o ≡ t → AreNumbered nothing_before (listed (scopes_within n ms) t)
+top_numbered n ms nets o None e = tt
+top_numbered n ms nets o (Some s) e = subst (λ b. AreNumbered b (scopes_within n ms s)) (what_is_opened_top nets o s e).1.before (within_numbered n ms s)
 
 -- what stands before the scope at a place
 numbers_at : (at : Before) (ss : List Scope) (i : ℕ) (s : Scope) → AreNumbered at ss → slice_get ss i ≡ Some s → before s ≡ behind at (take i ss)
@@ -86,7 +87,7 @@ place_of (y ∷ ys) (suc i) x e = ap suc (place_of ys i x e)
 pub scopes_are_numbered : ScopesAreNumbered
 scopes_are_numbered ms top i s e =
     let ss = scopes_of ms top in
-    let at = numbers_at nothing_before ss i s (top_numbered deepest ms (module_named ms top) (opened_top (module_named ms top)) refl) e in (
+    let at = numbers_at nothing_before ss i s (top_numbered deepest ms (permits_nets ms top) (module_named ms top) (opened_top (permits_nets ms top) (module_named ms top)) refl) e in (
       ap (λ (b : Before). b.scopes) at ∙ zero-add (length (take i ss)) ∙ place_of ss i s e,
       ap (λ (b : Before). b.signals) at ∙ zero-add (signal_count (take i ss)),
       ap (λ (b : Before). b.instances) at ∙ zero-add (instance_count (take i ss)),

@@ -1,9 +1,10 @@
 -- Each scope of a source is its top, or stands in another scope.
-use Rattle.std.proofs.Common.{◌≡◌, ℕ, zero, suc, ◌⊎◌, inl, inr, ⊎_elim, List, [], ◌∷◌, ◌++◌, Option, Some, None, refl, subst}
+use Rattle.std.proofs.Common.{◌≡◌, ℕ, zero, suc, ◌⊎◌, inl, inr, ⊎_elim, Bool, List, [], ◌∷◌, ◌++◌, Option, Some, None, refl, subst}
 use Rattle.std.specs.List.{slice_get}
 use Rattle.std.proofs.lemmas.Option.{none-some, same_Some}
 use Rattle.vs_syntax.specs.declared.tree.Module.{Module}
 use Rattle.vs_scopes.specs.Generate.{Inner}
+use Rattle.vs_scopes.specs.Nets.{permits_nets}
 use Rattle.vs_scopes.specs.Scopes.{Scope, Before, behind, within_first, inner_of, module_named, opened, listed, below, scopes_within, deepest, opened_top, scopes_of}
 use Rattle.vs_paths.specs.Laws.{IsWithin, IsTop, ScopesStandInScopes}
 use Rattle.vs_paths.proofs.PathsOpened.{what_is_opened, what_is_opened_top}
@@ -76,11 +77,11 @@ within_placed (suc n) ms all s among p t h =
     let known : IsListed all s = among s (record { place = zero; is = refl }) in
     first_placed all scopes s t p (below_placed ms all (scopes_within n ms) (within_placed n ms all) s known (within_first s) (inner_of s) (λ x k. among x (listed_later s scopes x k)) t) h.place h.is
 
-top_placed : (n : ℕ) (ms : List Module) (o : Option Module) (t : Option Scope) → opened_top o ≡ t → (s : Scope) → IsListed (listed (scopes_within n ms) t) s → IsPlaced (listed (scopes_within n ms) t) s
-top_placed n ms o None e s h = absurd (none-some s h.is)
-top_placed n ms o (Some t) e s h = within_placed n ms (scopes_within n ms t) t (λ x k. k) (inl (what_is_opened_top o t e).1.top) s h
+top_placed : (n : ℕ) (ms : List Module) (nets : Bool) (o : Option Module) (t : Option Scope) → opened_top nets o ≡ t → (s : Scope) → IsListed (listed (scopes_within n ms) t) s → IsPlaced (listed (scopes_within n ms) t) s
+top_placed n ms nets o None e s h = absurd (none-some s h.is)
+top_placed n ms nets o (Some t) e s h = within_placed n ms (scopes_within n ms t) t (λ x k. k) (inl (what_is_opened_top nets o t e).1.top) s h
 
 pub scopes_stand_in_scopes : ScopesStandInScopes
 scopes_stand_in_scopes ms top i s e =
     ⊎_elim (λ t. inl t) (λ (t : StandsIn (scopes_of ms top) s). inr (t.around.place, t.outer, t.around.is, t.is))
-    (top_placed deepest ms (module_named ms top) (opened_top (module_named ms top)) refl s (record { place = i; is = e }))
+    (top_placed deepest ms (permits_nets ms top) (module_named ms top) (opened_top (permits_nets ms top) (module_named ms top)) refl s (record { place = i; is = e }))

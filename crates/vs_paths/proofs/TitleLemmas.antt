@@ -14,18 +14,19 @@ use Rattle.vs_syntax.specs.declared.tree.LoopHeader.{LoopHeader}
 use Rattle.vs_syntax.specs.declared.tree.ModuleItem.{ModuleItem}
 use Rattle.vs_selects.specs.declared.constants.Const.{Const}
 use Rattle.vs_selects.specs.Environment.{Environment}
-use Rattle.vs_pieces.specs.Pieces.{NamedBlock, blocks_of, Piece, plain, loop, choice, local, inside, Content, nothing, block, content_of, block_name, branch_names, other_names}
+use Rattle.vs_pieces.specs.Pieces.{NamedBlock, blocks_of, Piece, plain, loop, choice, local, inside, net, Content, nothing, block, content_of, block_name, branch_names, other_names}
 use Rattle.vs_scopes.specs.Printed.{PathName, plainly, same_turn, same_part}
 use Rattle.vs_selects.specs.declared.bindings.Binding.{Binding}
 use Rattle.vs_selects.specs.declared.bindings.Binding.TheVariants.{Genvar, Other}
 use Rattle.vs_scopes.specs.Ports.{ports_again}
 use Rattle.vs_scopes.specs.Declarations.{Bindings, DeclaredName, names_in, Use, uses_by_item, genvars_in, inner_names_in, inner_names_among, each_once, bound_to}
-use Rattle.vs_scopes.specs.Scopes.{Scope, declarations_of, names_of, numbered_names, constant_names, bindings_of, keys, all_names_of, environment, inner_of}
+use Rattle.vs_scopes.specs.Scopes.{Scope, declarations_of, names_of, numbered_names, constant_names, bindings_of, keys, all_names_of, text_names, environment, inner_of}
 use Rattle.vs_scopes.specs.Generate.{genvar_number, Turns, turns, faulty, endless, turns_of, Taken, takes, refused, chosen, numbered_name, free_name, unnamed_name, name_of_block, Inner, instance, generates, content_inner, turns_inner, loop_inner, choice_inner, inner_in, behind_piece, inner_from}
 use Rattle.vs_scopes.specs.Generate as g
 use Rattle.vs_paths.specs.Laws.{FitsTurn, IsTurn}
 use Rattle.vs_paths.proofs.PathsLists.{each_more, each_append, each_right, distinct_append, distinct_left, distinct_right}
 use Rattle.vs_paths.proofs.PathsOpened.{title_of}
+use Rattle.vs_paths.proofs.PathsText.{keys_append, keys_bound}
 use Rattle.vs_paths.proofs.TurnLemmas.{turns_differ}
 use Rattle.vs_paths.proofs.BranchLemmas.{Among, among_first, among_left, among_right, IsNamedIn, chosen_named}
 
@@ -160,13 +161,13 @@ module _ (env : Environment) (names : List (List ℕ)) where
   one_title None turn = []
   one_title (Some m) turn = record { name = m; turn = turn } ∷ []
 
-  generated_titles : (o : Option (List ℕ)) (turn : Option ℤ) (cs : List (List ℕ × Const)) (xs : List ModuleItem) → map title_of (generates o turn cs xs) ≡ one_title o turn
-  generated_titles None turn cs xs = refl
-  generated_titles (Some n) turn cs xs = refl
+  generated_titles : (i : ℕ) (o : Option (List ℕ)) (turn : Option ℤ) (cs : List (List ℕ × Const)) (xs : List ModuleItem) → map title_of (generates i o turn cs xs) ≡ one_title o turn
+  generated_titles i None turn cs xs = refl
+  generated_titles i (Some n) turn cs xs = refl
 
-  content_titles : (k : ℕ) (turn : Option ℤ) (cs : List (List ℕ × Const)) (x : Content) → map title_of (content_inner names k turn cs x) ≡ one_title (title_name k x) turn
-  content_titles k turn cs nothing = refl
-  content_titles k turn cs (block o xs) = generated_titles (name_of_block names k o) turn cs xs
+  content_titles : (i k : ℕ) (turn : Option ℤ) (cs : List (List ℕ × Const)) (x : Content) → map title_of (content_inner i names k turn cs x) ≡ one_title (title_name k x) turn
+  content_titles i k turn cs nothing = refl
+  content_titles i k turn cs (block o xs) = generated_titles i (name_of_block names k o) turn cs xs
 
   one_more_title : (o : Option (List ℕ)) (c : Const) (cs : List Const) → one_title o (genvar_number c) ++ turn_titles o cs ≡ turn_titles o (c ∷ cs)
   one_more_title None c cs = refl
@@ -176,11 +177,11 @@ module _ (env : Environment) (names : List (List ℕ)) where
   no_titles None = refl
   no_titles (Some m) = refl
 
-  turns_titles : (k : ℕ) (n : List ℕ) (x : Content) (cs : List Const) → map title_of (turns_inner names k n x cs) ≡ turn_titles (title_name k x) cs
-  turns_titles k n x [] = no_titles (title_name k x)
-  turns_titles k n x (c ∷ cs) =
-      map-append title_of (content_inner names k (genvar_number c) ((n, c) ∷ []) x) (turns_inner names k n x cs)
-      ∙ ap₂ (λ ys zs. ys ++ zs) (content_titles k (genvar_number c) ((n, c) ∷ []) x) (turns_titles k n x cs)
+  turns_titles : (i k : ℕ) (n : List ℕ) (x : Content) (cs : List Const) → map title_of (turns_inner i names k n x cs) ≡ turn_titles (title_name k x) cs
+  turns_titles i k n x [] = no_titles (title_name k x)
+  turns_titles i k n x (c ∷ cs) =
+      map-append title_of (content_inner i names k (genvar_number c) ((n, c) ∷ []) x) (turns_inner i names k n x cs)
+      ∙ ap₂ (λ ys zs. ys ++ zs) (content_titles i k (genvar_number c) ((n, c) ∷ []) x) (turns_titles i k n x cs)
       ∙ one_more_title (title_name k x) c cs
 
   -- names that the text gives or that are free
@@ -237,8 +238,8 @@ module _ (env : Environment) (names : List (List ℕ)) where
   unfolding IsDistinct
   none_titled ds i j = record { titles = tt; differ = λ d. tt }
 
-  plain_titled : (k : ℕ) (x : Item) → HaveTitles (inner_names_in (plain x)) k k (inner_in env names k (plain x))
-  plain_titled k x =
+  plain_titled : (i k : ℕ) (x : Item) → HaveTitles (inner_names_in (plain x)) k k (inner_in i env names k (plain x))
+  plain_titled i k x =
       let ns = inner_names_in (plain x) in
       let same = item_titles (uses_by_item x) (blocks_of x) in
       record {
@@ -254,37 +255,38 @@ module _ (env : Environment) (names : List (List ℕ)) where
   content_name k (block None xs) = free_is 1024 k 0 []
   content_name k (block (Some n) xs) = inl (among_first n [])
 
-  loop_titled : (k : ℕ) (h : LoopHeader) (x : Content) (t : Turns) → turns_of env h ≡ t → HaveTitles (block_name x) k (suc k) (loop_inner names k h.name.items x t)
-  loop_titled k h x (turns cs) e =
+  loop_titled : (i k : ℕ) (h : LoopHeader) (x : Content) (t : Turns) → turns_of env h ≡ t → HaveTitles (block_name x) k (suc k) (loop_inner i names k h.name.items x t)
+  loop_titled i k h x (turns cs) e =
       let is = turns_differ env h cs e in
-      let same = turns_titles k h.name.items x cs in
+      let same = turns_titles i k h.name.items x cs in
       record {
         titles = subst (AllByRecursion (IsTitle (block_name x) k (suc k))) (sym same) (turns_are_titles (block_name x) k (title_name k x) cs (content_name k x) (recursion_from_All IsTurn cs is.0));
         differ = λ d. subst (IsDistinct same_part) (sym same) (turns_part (title_name k x) cs is.1);
       }
-  loop_titled k h x (faulty w) e = none_titled (block_name x) k (suc k)
-  loop_titled k h x endless e = none_titled (block_name x) k (suc k)
+  loop_titled i k h x (faulty w) e = none_titled (block_name x) k (suc k)
+  loop_titled i k h x endless e = none_titled (block_name x) k (suc k)
 
   taken_name : (k : ℕ) (ns : List (List ℕ)) (x : Content) → IsNamedIn ns (takes x) → IsNameOf ns k (title_name k x)
   taken_name k ns nothing h = tt
   taken_name k ns (block None xs) h = free_is 1024 k 0 ns
   taken_name k ns (block (Some n) xs) h = inl h
 
-  choice_titled : (k : ℕ) (ns : List (List ℕ)) (t : Taken) → IsNamedIn ns t → HaveTitles ns k (suc k) (choice_inner names k t)
-  choice_titled k ns (takes x) h =
-      let same = content_titles k None [] x in
+  choice_titled : (i k : ℕ) (ns : List (List ℕ)) (t : Taken) → IsNamedIn ns t → HaveTitles ns k (suc k) (choice_inner i names k t)
+  choice_titled i k ns (takes x) h =
+      let same = content_titles i k None [] x in
       record {
         titles = subst (AllByRecursion (IsTitle ns k (suc k))) (sym same) (one_is_title ns k (title_name k x) None (taken_name k ns x h) tt);
         differ = λ d. subst (IsDistinct same_part) (sym same) (one_differs (title_name k x) None);
       }
-  choice_titled k ns (refused w) h = none_titled ns k (suc k)
+  choice_titled i k ns (refused w) h = none_titled ns k (suc k)
 
-  piece_titled : (k : ℕ) (p : Piece) → HaveTitles (inner_names_in p) k (behind_piece k p) (inner_in env names k p)
-  piece_titled k (plain x) = plain_titled k x
-  piece_titled k (loop h x) = loop_titled k h (content_of x) (turns_of env h) refl
-  piece_titled k (choice e x o) = choice_titled k (each_once (branch_names x ++ other_names o)) (chosen env e x o) (chosen_named env e x o)
-  piece_titled k (local x) = none_titled [] k k
-  piece_titled k (inside b) = inside_titled k b
+  piece_titled : (i k : ℕ) (p : Piece) → HaveTitles (inner_names_in p) k (behind_piece k p) (inner_in i env names k p)
+  piece_titled i k (plain x) = plain_titled i k x
+  piece_titled i k (loop h x) = loop_titled i k h (content_of x) (turns_of env h) refl
+  piece_titled i k (choice e x o) = choice_titled i k (each_once (branch_names x ++ other_names o)) (chosen env e x o) (chosen_named env e x o)
+  piece_titled i k (local x) = none_titled [] k k
+  piece_titled i k (inside b) = inside_titled k b
+  piece_titled i k (net n) = none_titled [] k k
 
   record IsBehind (k j : ℕ) : Type 0 where
     low : k ≤ j
@@ -296,50 +298,43 @@ module _ (env : Environment) (names : List (List ℕ)) where
   behind_is k (choice e x o) = record { low = omega arith; high = omega arith }
   behind_is k (local x) = record { low = omega arith; high = omega arith }
   behind_is k (inside b) = record { low = omega arith; high = omega arith }
+  behind_is k (net n) = record { low = omega arith; high = omega arith }
 
-  titles_from : (k : ℕ) (ps : List Piece) → AllByRecursion (IsTitle (inner_names_among ps) k (k + length ps)) (map title_of (inner_from env names k ps))
-  titles_from k [] = tt
-  titles_from k (p ∷ ps) =
+  titles_from : (i k : ℕ) (ps : List Piece) → AllByRecursion (IsTitle (inner_names_among ps) k (k + length ps)) (map title_of (inner_from i env names k ps))
+  titles_from i k [] = tt
+  titles_from i k (p ∷ ps) =
       let j = behind_piece k p in
       let is = behind_is k p in
-      let here = inner_in env names k p in
-      let others = inner_from env names j ps in
+      let here = inner_in i env names k p in
+      let others = inner_from (suc i) env names j ps in
       let ds = inner_names_in p in
       let es = inner_names_among ps in
       let whole = k + length (p ∷ ps) in
       subst (AllByRecursion (IsTitle (ds ++ es) k whole)) (sym (map-append title_of here others))
       (each_append (IsTitle (ds ++ es) k whole) (map title_of here) (map title_of others)
-      (each_more (IsTitle ds k j) (IsTitle (ds ++ es) k whole) (λ t h. title_more ds (ds ++ es) k j k whole t (λ n i. among_left n ds es i) (omega arith) (omega (arith, is.high)) h) (map title_of here) (piece_titled k p).titles)
-      (each_more (IsTitle es j (j + length ps)) (IsTitle (ds ++ es) k whole) (λ t h. title_more es (ds ++ es) j (j + length ps) k whole t (λ n i. among_right n ds es i) is.low (omega (arith, is.high)) h) (map title_of others) (titles_from j ps)))
+      (each_more (IsTitle ds k j) (IsTitle (ds ++ es) k whole) (λ t h. title_more ds (ds ++ es) k j k whole t (λ n a. among_left n ds es a) (omega arith) (omega (arith, is.high)) h) (map title_of here) (piece_titled i k p).titles)
+      (each_more (IsTitle es j (j + length ps)) (IsTitle (ds ++ es) k whole) (λ t h. title_more es (ds ++ es) j (j + length ps) k whole t (λ n a. among_right n ds es a) is.low (omega (arith, is.high)) h) (map title_of others) (titles_from (suc i) j ps)))
 
-  titles_differ_from : (k : ℕ) (ps : List Piece) → k + length ps < 2 ^ 64 → IsDistinct bytes_eq (inner_names_among ps) → ((n : List ℕ) → Among n (inner_names_among ps) → Among n names) → IsDistinct same_part (map title_of (inner_from env names k ps))
+  titles_differ_from : (i k : ℕ) (ps : List Piece) → k + length ps < 2 ^ 64 → IsDistinct bytes_eq (inner_names_among ps) → ((n : List ℕ) → Among n (inner_names_among ps) → Among n names) → IsDistinct same_part (map title_of (inner_from i env names k ps))
   unfolding IsDistinct
-  titles_differ_from k [] small d known = tt
-  titles_differ_from k (p ∷ ps) small d known =
+  titles_differ_from i k [] small d known = tt
+  titles_differ_from i k (p ∷ ps) small d known =
       let j = behind_piece k p in
       let is = behind_is k p in
-      let here = inner_in env names k p in
-      let others = inner_from env names j ps in
+      let here = inner_in i env names k p in
+      let others = inner_from (suc i) env names j ps in
       let ds = inner_names_in p in
       let es = inner_names_among ps in
       let few : j + length ps < 2 ^ 64 = omega (arith, small, is.high) in
       subst (IsDistinct same_part) (sym (map-append title_of here others))
       (distinct_append same_part (IsTitle ds k j) (IsTitle es j (j + length ps)) (titles_apart ds es k j j (j + length ps) d known (omega arith) few)
       (map title_of here) (map title_of others)
-      ((piece_titled k p).differ (distinct_left bytes_eq ds es d))
-      (titles_differ_from j ps few (distinct_right bytes_eq ds es d) (λ n h. known n (among_right n ds es h)))
-      (piece_titled k p).titles
-      (titles_from j ps))
+      ((piece_titled i k p).differ (distinct_left bytes_eq ds es d))
+      (titles_differ_from (suc i) j ps few (distinct_right bytes_eq ds es d) (λ n h. known n (among_right n ds es h)))
+      (piece_titled i k p).titles
+      (titles_from (suc i) j ps))
 
 -- ---- scopes
-
--- the names of bindings that are joined
-keys_append : (xs ys : Bindings) → keys (xs ++ ys) ≡ keys xs ++ keys ys
-keys_append xs ys = map-append (λ (b : List ℕ × Binding). b.0) xs ys
-
-keys_bound : (x : Binding) (ns : List (List ℕ)) → keys (bound_to x ns) ≡ ns
-keys_bound x [] = refl
-keys_bound x (n ∷ ns) = ap (λ ms. n ∷ ms) (keys_bound x ns)
 
 keys_numbered : (base : ℕ) (ds : List DeclaredName) → keys (numbered_names base ds) ≡ names_in ds
 keys_numbered base [] = refl
@@ -373,14 +368,9 @@ module _ (s : Scope) where
         let first = distinct_left bytes_eq (keys (constants ++ signals)) (keys genvars) (subst (IsDistinct bytes_eq) (keys_append (constants ++ signals) genvars) others) in
         subst (IsDistinct bytes_eq) (keys_numbered s.base (declarations_of s)) (distinct_right bytes_eq (keys constants) (keys signals) (subst (IsDistinct bytes_eq) (keys_append constants signals) first))
 
-    inner_known : (n : List ℕ) → Among n (inner_names_among s.pieces) → Among n (all_names_of s)
-    inner_known n h =
-        among_left n (keys (bindings_of s)) (ports_again s.ports s.pieces)
-        (subst (Among n) (sym (keys_append (constants ++ signals ++ genvars) inners)) (among_right n (keys (constants ++ signals ++ genvars)) (keys inners) (subst (Among n) (sym (keys_bound Other (inner_names_among s.pieces))) h)))
-
-    pub titles_differ : length s.pieces < 2 ^ 63 → IsDistinct same_part (map title_of (inner_of s))
-    titles_differ few = titles_differ_from (environment s) (all_names_of s) 1 s.pieces (omega (arith, few)) inners_differ inner_known
+    pub titles_differ : length s.pieces < 2 ^ 63 → ((n : List ℕ) → Among n (inner_names_among s.pieces) → Among n (text_names s)) → IsDistinct same_part (map title_of (inner_of s))
+    titles_differ few known = titles_differ_from (environment s) (text_names s) 0 1 s.pieces (omega (arith, few)) inners_differ known
 
   pub titles_fit : AllByRecursion (λ (n : PathName). FitsTurn n.turn) (map title_of (inner_of s))
   titles_fit =
-      each_more (IsTitle (environment s) (all_names_of s) (inner_names_among s.pieces) 1 (1 + length s.pieces)) (λ n. FitsTurn n.turn) (λ n t. t.fits) (map title_of (inner_of s)) (titles_from (environment s) (all_names_of s) 1 s.pieces)
+      each_more (IsTitle (environment s) (text_names s) (inner_names_among s.pieces) 1 (1 + length s.pieces)) (λ n. FitsTurn n.turn) (λ n t. t.fits) (map title_of (inner_of s)) (titles_from (environment s) (text_names s) 0 1 s.pieces)

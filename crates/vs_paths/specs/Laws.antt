@@ -37,7 +37,8 @@ PrintedPartsDiffer = (p q : Path) (m n : List ℕ) → HasTurnsThatFit p → Has
 abbrev pub IsTurn : Const → Type 0
 IsTurn c = IsSome (genvar_number c) × FitsTurn (genvar_number c)
 
--- The turns of a generate loop that ends have different numbers, and there are at most as many as there may be (clause 12.4.1; the bound: profile).
+-- The turns of a generate loop that ends have different numbers, and there are at most as many as there may be (clause 12.4.1; the bound:
+-- profile).
 abbrev pub TurnsDiffer : Type 0
 TurnsDiffer = (env : Environment) (h : LoopHeader) (cs : List Const) → turns_of env h ≡ turns cs →
     All IsTurn cs × IsDistinct same_turn (map genvar_number cs) × (length cs ≤ turn_limit)
@@ -56,7 +57,8 @@ HaveCountedPieces ss = All (λ s. length s.pieces < 2 ^ 63) ss
 abbrev pub scope_paths : List Scope → List Path
 scope_paths ss = map (λ (s : Scope). s.path) ss
 
--- Where each scope of a source declares a name once, the paths of the scopes differ, and so do those of the signals (clauses 12.4.3 and 12.5).
+-- Where each scope of a source declares a name once, the paths of the scopes differ, and so do those of the signals (clauses 12.4.3 and
+-- 12.5).
 abbrev pub PathsDiffer : Type 0
 PathsDiffer = (ms : List Module) (top : List ℕ) → DeclareOnce (scopes_of ms top) → HaveCountedPieces (scopes_of ms top) →
     IsDistinct same_path (scope_paths (scopes_of ms top)) × IsDistinct same_path (signal_paths (scopes_of ms top))
@@ -68,14 +70,15 @@ TurnsFit = (ms : List Module) (top : List ℕ) →
 
 -- ---- scopes
 
--- The number of each scope of a source is its place in design order; its base is how many signals the scopes before it declare; and it is counted how
--- many instances and turns stand before it.
+-- The number of each scope of a source is its place in design order; its base is how many signals the scopes before it declare; and it is
+-- counted how many instances and turns stand before it.
 abbrev pub ScopesAreNumbered : Type 0
 ScopesAreNumbered = (ms : List Module) (top : List ℕ) (i : ℕ) (s : Scope) → slice_get (scopes_of ms top) i ≡ Some s →
     (s.number ≡ i) × (s.base ≡ signal_count (take i (scopes_of ms top))) ×
     (s.instances ≡ instance_count (take i (scopes_of ms top))) × (s.turns ≡ turn_count (take i (scopes_of ms top)))
 
--- a scope is inside another one: an instance is its own home, and one instance deeper; a block has the home and the depth of the scope around it
+-- a scope is inside another one: an instance is its own home, and one instance deeper; a block has the home and the depth of the scope
+-- around it
 pub record IsWithin (outer inner : Scope) : Type 0 where
   pub path : inner.path ≡ named_at outer inner.title
   pub around : inner.around ≡ outer.path

@@ -1,1 +1,4 @@
+pub mod DepthLemmas
 pub mod PiecesLemmas
+pub mod UsedLemmas
+pub mod UsesLemmas

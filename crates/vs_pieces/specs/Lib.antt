@@ -1,3 +1,4 @@
 pub mod Pieces
 pub mod Reads
+pub mod Uses
 pub mod passes

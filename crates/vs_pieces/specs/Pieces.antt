@@ -73,13 +73,14 @@ blocks_of _ = []
 -- ---- generate constructs
 
 -- a part of a scope: an item, or a generate construct with what it generates (clause 12.4); in a named block, a declaration, or a named block inside
--- (clause 9.8.3)
+-- (clause 9.8.3); or an implicit net of a name, which stands before the item that uses it first (clause 4.5)
 pub data Piece : Type 0 where
   plain : Item → Piece
   loop : LoopHeader → ModuleItem → Piece
   choice : Expr → ModuleItem → Option ModuleItem → Piece
   local : LocalDeclaration → Piece
   inside : NamedBlock → Piece
+  net : List ℕ → Piece
 
 -- a value in a box, where there is one
 abbrev pub unboxed : {A : Type 0} → Option (Box A Global) → Option A

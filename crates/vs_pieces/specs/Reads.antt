@@ -2,7 +2,7 @@
 use Rattle.std.specs.Prelude.{ℕ, List, Option, map}
 use Rattle.std.specs.Option.{option_map}
 use Rattle.std.specs.Borrow.{Bor}
-use Rattle.vs_pieces.specs.Pieces.{NamedBlock, Piece, plain, loop, choice, local, inside, Content, nothing, block, unboxed}
+use Rattle.vs_pieces.specs.Pieces.{NamedBlock, Piece, plain, loop, choice, local, inside, net, Content, nothing, block, unboxed}
 use Rattle.vs_pieces.specs.declared.blocks.NamedBlock.{NamedBlock as FoundBlock}
 use Rattle.vs_pieces.specs.declared.contents.Content.{Content as FoundContent}
 use Rattle.vs_pieces.specs.declared.contents.Content.TheVariants as c
@@ -28,6 +28,7 @@ read_piece (p.Loop h x) = loop h.now x.now.value
 read_piece (p.Choice e x o) = choice e.now x.now.value (unboxed o.now)
 read_piece (p.Local x) = local x.now
 read_piece (p.Inside b) = inside (read_block b)
+read_piece (p.Net n) = net n.now
 
 -- what a construct generates, by what it refers to
 abbrev pub read_content : FoundContent → Content

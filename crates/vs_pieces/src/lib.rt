@@ -3,8 +3,12 @@
 
 mod blocks;
 mod contents;
+mod law;
 mod scope;
+mod uses;
 
 pub use blocks::{NamedBlock, item_blocks, statement_blocks};
 pub use contents::{Content, branch_names, content_of};
+pub use law::used_are_tokens;
 pub use scope::{Piece, block_pieces, pieces};
+pub use uses::names_used;

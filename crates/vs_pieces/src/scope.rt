@@ -20,6 +20,8 @@ pub enum Piece<'s> {
     Local(&'s LocalDeclaration),
     /// In a named block, a named block inside.
     Inside(NamedBlock<'s>),
+    /// An implicit net, by the bytes of its name; it stands before the item that uses it first (IEEE 1364-2005, clause 4.5).
+    Net(&'s [u8]),
 }
 
 /// Adds a piece.

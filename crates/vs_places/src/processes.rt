@@ -17,18 +17,18 @@ use std::mem;
 use vs_design::Store;
 use vs_logic4::Vec4;
 use vs_process::{Code, Effect, Place};
-use vs_time_wheel::{EventQueue, Wheel};
+use vs_time_wheel::EventQueue;
 
 /// The processes: their places, the list of the inactive ones in the order of their arrival, and the sleeping ones by the time at which their
 /// delay ends. A contract sees the places and the time of the slot, which is the last one at which sleepers were woken.
 #[derive(Drop)]
-pub struct Processes<'a> {
+pub struct Processes<'a, Q: EventQueue<usize>> {
     places: Places<'a>,
     inactive: Vec<usize>,
-    sleepers: Wheel<usize>,
+    sleepers: Q,
 }
 
-impl<'a> Model for Processes<'a> {
+impl<'a, Q: EventQueue<usize>> Model for Processes<'a, Q> {
     ghost use Rattle.std.specs.Coded.{codes};
     ghost use Rattle.vs_design.specs.contracts.statement.Statement as statement;
     ghost use Rattle.vs_places.specs.Timelines.{Timeline, AreKept};
@@ -37,9 +37,9 @@ impl<'a> Model for Processes<'a> {
 
     ghost coded = { Prim.hlevel (codes, statement.the_row.coded) };
 
-    ghost view = { λ p. record { places = p.places; time = p.sleepers.clock } };
+    ghost view = { λ p. record { places = p.places; time = Q.clock p.sleepers } };
 
-    ghost invariant = { λ p. AreKept p.places p.inactive.items p.sleepers.bag };
+    ghost invariant = { λ p. AreKept p.places p.inactive.items (Q.bag p.sleepers) };
 }
 
 /// An inactive process enters the list of those; where it finds no room it becomes active.
@@ -57,18 +57,18 @@ fn enlist(places: &mut Places, inactive: &mut Vec<usize>, process: usize) -> Res
 }
 
 /// A process whose delay ends at a time enters the queue; where it finds no room it becomes active.
-fn postpone(
+fn postpone<Q: EventQueue<usize>>(
     places: &mut Places,
-    sleepers: &mut Wheel<usize>,
+    sleepers: &mut Q,
     process: usize,
     due: u64,
 ) -> Result<(), AllocError>
-    requires { sleepers.old.clock ≤ due }
+    requires { Q.clock sleepers.old ≤ due }
     ensures places { OnOk result (places.new ≡ places.old) }
-    ensures queued { OnOk result (SameBag sleepers.new.bag (sleepers.old.bag ++ record { time = due; event = process } ∷ [])) }
+    ensures queued { OnOk result (SameBag (Q.bag sleepers.new) (Q.bag sleepers.old ++ record { time = due; event = process } ∷ [])) }
     ensures active { OnErr result (places.new ≡ changed_at (states.woken_at due) process places.old) }
-    ensures unqueued { OnErr result (SameBag sleepers.new.bag sleepers.old.bag) }
-    ensures clock { sleepers.new.clock ≡ sleepers.old.clock }
+    ensures unqueued { OnErr result (SameBag (Q.bag sleepers.new) (Q.bag sleepers.old)) }
+    ensures clock { Q.clock sleepers.new ≡ Q.clock sleepers.old }
 {
     if let Err(_) = sleepers.schedule(due, process) {
         places.wake(process, due);
@@ -79,17 +79,18 @@ fn postpone(
 
 /// A process that was active before its step enters the list or the queue where it is inactive or sleeps behind it; where it finds no room it
 /// becomes active again.
-fn keep(
+fn keep<Q: EventQueue<usize>>(
     places: &mut Places,
     inactive: &mut Vec<usize>,
-    sleepers: &mut Wheel<usize>,
+    sleepers: &mut Q,
     process: usize,
 ) -> Result<(), AllocError>
-    requires kept { AreKeptBut places.old inactive.old.items sleepers.old.bag process }
-    requires not_over { ForSome (slice_get places.old process) (λ place. ForSome (states.due_of place) (λ due. sleepers.old.clock ≤ due)) }
-    ensures kept { AreKept places.new inactive.new.items sleepers.new.bag }
+    requires kept { AreKeptBut places.old inactive.old.items (Q.bag sleepers.old) process }
+    requires not_over { ForSome (slice_get places.old process)
+        (λ place. ForSome (states.due_of place) (λ due. Q.clock sleepers.old ≤ due)) }
+    ensures kept { AreKept places.new inactive.new.items (Q.bag sleepers.new) }
     ensures places { OnOk result (places.new ≡ places.old) }
-    ensures clock { sleepers.new.clock ≡ sleepers.old.clock }
+    ensures clock { Q.clock sleepers.new ≡ Q.clock sleepers.old }
 {
     let Some(place) = places.get(process) else {
         return Ok(());
@@ -115,18 +116,18 @@ fn rouse_each(places: &mut Places, processes: &Vec<usize>)
 }
 
 /// The processes become active whose delay ends at a time; they are noted in `woken`. The answer is whether all found room there.
-fn wake_due(
+fn wake_due<Q: EventQueue<usize>>(
     places: &mut Places,
-    sleepers: &mut Wheel<usize>,
+    sleepers: &mut Q,
     time: u64,
     woken: &mut Vec<usize>,
 ) -> bool
-    requires not_over { sleepers.old.clock ≤ time }
-    requires none_before { IsFrom time sleepers.old.bag }
-    ensures places { places.new ≡ changed_all (states.woken_at time) (events_at time sleepers.old.bag) places.old }
-    ensures taken { events_at time sleepers.new.bag ≡ [] }
-    ensures others { (t : ℕ) → time ≢ t → events_at t sleepers.new.bag ≡ events_at t sleepers.old.bag }
-    ensures clock { sleepers.new.clock ≡ time }
+    requires not_over { Q.clock sleepers.old ≤ time }
+    requires none_before { IsFrom time (Q.bag sleepers.old) }
+    ensures places { places.new ≡ changed_all (states.woken_at time) (events_at time (Q.bag sleepers.old)) places.old }
+    ensures taken { events_at time (Q.bag sleepers.new) ≡ [] }
+    ensures others { (t : ℕ) → time ≢ t → events_at t (Q.bag sleepers.new) ≡ events_at t (Q.bag sleepers.old) }
+    ensures clock { Q.clock sleepers.new ≡ time }
 {
     let mut room = true;
     while let Some(process) = sleepers.take_due(time) {
@@ -138,16 +139,17 @@ fn wake_due(
     room
 }
 
-impl<'a> Processes<'a> {
-    /// Processes with these codes at the start of a run.
-    pub fn start(alloc: Global, codes: &'a [Code<'a>]) -> Result<Self, AllocError>
+impl<'a, Q: EventQueue<usize>> Processes<'a, Q> {
+    /// Processes with these codes at the start of a run, whose delays the queue keeps.
+    pub fn start(alloc: Global, codes: &'a [Code<'a>], sleepers: Q) -> Result<Self, AllocError>
+    where
+        Q: Drop,
+        requires empty { Q.bag sleepers ≡ [] }
+        requires at_zero { Q.clock sleepers ≡ 0 }
         ensures places { IfOk result (λ all. all.places ≡ map start_place codes.entry.now) }
         ensures time { IfOk result (λ all. all.time ≡ 0) }
     {
         let places = Places::start(alloc, codes)?;
-        let Ok(sleepers) = Wheel::new(alloc) else {
-            return Err(AllocError);
-        };
         Ok(Processes {
             places,
             inactive: Vec::new(alloc),

@@ -103,6 +103,7 @@ fn add_piece_left<'s>(
         Piece::Choice(_, _, _) => Ok(()),
         Piece::Local(_) => Ok(()),
         Piece::Inside(_) => Ok(()),
+        Piece::Net(_) => Ok(()),
     }
 }
 

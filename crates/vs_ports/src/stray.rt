@@ -67,6 +67,7 @@ fn is_stray(set: &Names<bool>, piece: Piece) -> bool
         Piece::Choice(_, _, _) => false,
         Piece::Local(_) => false,
         Piece::Inside(_) => false,
+        Piece::Net(_) => false,
     }
 }
 

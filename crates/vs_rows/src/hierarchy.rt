@@ -103,6 +103,39 @@ pub const HIERARCHY: &[Row] = &[
         ],
         err: "",
     },
+    // An output is extended by its own sign.
+    Row {
+        words: "vsim run --top t --until 0 --out vcd",
+        source: "module s(output signed [1:0] y); assign y = 2'b10; endmodule module t; wire [3:0] n; s u(n); endmodule",
+        status: 0,
+        out: &[
+            "$timescale 1 ns $end\n$scope module t $end\n$var wire 4 ! n [3:0] $end\n$scope module u $end\n$var wire 2 \" y [1:0] $end\n$upscope $end\n$upscope $end\n$enddefinitions $end\n",
+            "#0\n$dumpvars\nb1110 !\nb10 \"\n$end\n",
+        ],
+        err: "",
+    },
+    // A port that two items declare has one line, with its range.
+    Row {
+        words: "vsim run --top t --until 0 --out vcd",
+        source: "module t(a, q); input a; output [1:0] q; reg [1:0] q; endmodule",
+        status: 0,
+        out: &[
+            "$timescale 1 ns $end\n$scope module t $end\n$var wire 1 ! a $end\n$var reg 2 \" q [1:0] $end\n$upscope $end\n$enddefinitions $end\n",
+            "#0\n$dumpvars\nz!\nbx \"\n$end\n",
+        ],
+        err: "",
+    },
+    // Nets that nothing declares.
+    Row {
+        words: "vsim run --top t --until 0 --out vcd",
+        source: "module inv(input a, output y); assign y = ~a; endmodule module t; reg d; inv u(d, m), v(m, q); initial d = 0; endmodule",
+        status: 0,
+        out: &[
+            "$timescale 1 ns $end\n$scope module t $end\n$var reg 1 ! d $end\n$var wire 1 \" m $end\n$var wire 1 # q $end\n$scope module u $end\n$var wire 1 $ a $end\n$var wire 1 % y $end\n$upscope $end\n$scope module v $end\n$var wire 1 & a $end\n$var wire 1 ' y $end\n$upscope $end\n$upscope $end\n$enddefinitions $end\n",
+            "#0\n$dumpvars\n0!\n1\"\n0#\n0$\n1%\n1&\n0'\n$end\n",
+        ],
+        err: "",
+    },
     // Signals, then continuous assignments, those of ports first, then processes.
     Row {
         words: "vsim elab --top t",

@@ -131,3 +131,27 @@ fn deep_hierarchy(rt: HostRuntime) -> Result<(), Fail> {
     assert_eq!(rt; fits.status, 0);
     Ok(())
 }
+
+/// A module with an unnamed block, that declares the block's name with fewer zeros than so many.
+fn named_before(alloc: Global, count: usize) -> Result<Vec<u8>, AllocError> {
+    let mut source = Vec::from_slice(alloc, b"module t; wire genblk1")?;
+    for zeros in 1..count {
+        source.extend_from_slice(b", genblk")?;
+        for _ in 0..zeros {
+            source.push(b'0')?;
+        }
+        source.push(b'1')?;
+    }
+    source.extend_from_slice(b"; if (1) begin wire a; end endmodule")?;
+    Ok(source)
+}
+
+// The last of these names has 1,024 bytes: seven and 1,017 zeros.
+#[test]
+fn taken_names(rt: HostRuntime) -> Result<(), Fail> {
+    let source = named_before(rt.alloc(), 1018)?;
+    let answer = run(rt.alloc(), "vsim elab --top t", &source)?;
+    assert_eq!(rt; answer.err.as_slice(), b"vsim: E10 at t\n".as_slice());
+    assert_eq!(rt; answer.status, 1);
+    Ok(())
+}

@@ -18,11 +18,17 @@ mod hierarchy;
 #[cfg(test)]
 mod large;
 #[cfg(test)]
+mod listings;
+#[cfg(test)]
 mod orders;
 #[cfg(test)]
 mod policies;
 #[cfg(test)]
+mod queues;
+#[cfg(test)]
 mod refusals;
+#[cfg(test)]
+mod refused_generate;
 #[cfg(test)]
 mod refused_hierarchy;
 #[cfg(test)]

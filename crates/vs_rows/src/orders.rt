@@ -7,6 +7,7 @@ use std::alloc::Global;
 use std::test::Fail;
 use vs_kernel::{Kernel, Outcome, Pick};
 use vs_sim::Dropped;
+use vs_time_wheel::Wheel;
 use vs_vcd::Counted;
 
 /// A policy that makes the choices of a list, the last item where there are fewer, and the first item behind its end.
@@ -126,7 +127,8 @@ fn ordered(alloc: Global, order: &Order) -> Result<(Outcome, Vec<u8>), Fail> {
         choices: order.choices,
         next: 0,
     };
-    let mut kernel = Kernel::new(alloc, &design, policy)?;
+    let queue = Wheel::<usize>::new(alloc).ok().ok_or("memory")?;
+    let mut kernel = Kernel::new(alloc, &design, queue, policy)?;
     let mut out = Counted::new(Vec::new(alloc));
     let outcome = kernel
         .run(u64::from(order.until), 100, &mut out, &mut Dropped)

@@ -1,5 +1,6 @@
 //! Rows that are refused, and sources that are cut.
 
+use crate::refused_generate::{REFUSED_BLOCKS, REFUSED_NETS};
 use crate::refused_hierarchy::REFUSED_HIERARCHY;
 use crate::refused_selects::REFUSED_SELECTS;
 use crate::refused_statements::REFUSED_STATEMENTS;
@@ -50,7 +51,10 @@ const REFUSALS: &[(&str, &str)] = &[
         "module t; reg a; assign a = 1; endmodule",
         "vsim: E8 X4 at t\n",
     ),
-    ("module t; assign n = 1; endmodule", "vsim: E8 X2 at t\n"),
+    (
+        "`default_nettype none\nmodule t; assign n = 1; endmodule",
+        "vsim: E8 X2 at t\n",
+    ),
     ("module t; wire a; reg a; endmodule", "vsim: E5 at t.a\n"),
     // Designs.
     ("", "vsim: E1 at t\n"),
@@ -113,14 +117,14 @@ const CUT: &[&str] = &[
     "`timescale 10ns/1ns module t; reg a; initial begin a <= #1 ~a; $strobe(\"%b %0t\", a, $time); $display; $dumpfile(\"a\"); $finish(1); end endmodule",
 ];
 
-/// Runs each source of a table, and compares.
-fn compare_refusals(
+/// Calls the program on each source of a table with these words, and compares.
+fn compare_with(
     rt: &impl Abort,
     alloc: Global,
+    words: &'static str,
     rows: &[(&'static str, &'static str)],
 ) -> Result<(), AllocError> {
     for (source, err) in rows {
-        let words = "vsim run --top t --until 10 --out vcd";
         let answer = run(alloc, words, source.as_bytes())?;
         let row = Row {
             words,
@@ -134,6 +138,16 @@ fn compare_refusals(
     Ok(())
 }
 
+/// Runs and lists each source of a table, and compares.
+fn compare_refusals(
+    rt: &impl Abort,
+    alloc: Global,
+    rows: &[(&'static str, &'static str)],
+) -> Result<(), AllocError> {
+    compare_with(rt, alloc, "vsim run --top t --until 10 --out vcd", rows)?;
+    compare_with(rt, alloc, "vsim elab --top t", rows)
+}
+
 #[test]
 fn refusals(rt: HostRuntime) -> Result<(), Fail> {
     compare_refusals(&rt, rt.alloc(), REFUSALS)?;
@@ -143,6 +157,13 @@ fn refusals(rt: HostRuntime) -> Result<(), Fail> {
 #[test]
 fn refused_hierarchy(rt: HostRuntime) -> Result<(), Fail> {
     compare_refusals(&rt, rt.alloc(), REFUSED_HIERARCHY)?;
+    Ok(())
+}
+
+#[test]
+fn refused_generate(rt: HostRuntime) -> Result<(), Fail> {
+    compare_refusals(&rt, rt.alloc(), REFUSED_BLOCKS)?;
+    compare_refusals(&rt, rt.alloc(), REFUSED_NETS)?;
     Ok(())
 }
 

@@ -44,11 +44,16 @@ pub const REFUSED_HIERARCHY: &[(&str, &str)] = &[
         "vsim: E8 X3 at t\n",
     ),
     (
-        "module s(output y); assign y = 0; endmodule module t; s u(q); endmodule",
+        "`default_nettype none\nmodule s(output y); assign y = 0; endmodule module t; s u(q); endmodule",
         "vsim: E8 X2 at t\n",
     ),
-    // An input is no variable.
+    // An input is no variable, connected or not.
     ("module t(input reg a); endmodule", "vsim: E3 at t\n"),
+    (
+        "module s(input reg a); endmodule module t; s u(); endmodule",
+        "vsim: E3 at t.u\n",
+    ),
+    ("module t(a); input a; reg a; endmodule", "vsim: E3 at t\n"),
     (
         "module s(input integer a); endmodule module t; s u(0); endmodule",
         "vsim: E3 at t.u\n",

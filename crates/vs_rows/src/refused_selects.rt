@@ -228,8 +228,12 @@ pub const REFUSED_SELECTS: &[(&str, &str)] = &[
         "vsim: E8 X2 at t\n",
     ),
     (
-        "module t; wire a; assign {a, b[0]} = 1; endmodule",
+        "`default_nettype none\nmodule t; wire a; assign {a, b[0]} = 1; endmodule",
         "vsim: E8 X2 at t\n",
+    ),
+    (
+        "module t; wire a; assign {a, b[0]} = 1; endmodule",
+        "vsim: E8 X4 at t\n",
     ),
     ("module t; reg m [0:65536]; endmodule", "vsim: E7 at t\n"),
     (

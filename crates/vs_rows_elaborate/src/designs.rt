@@ -1,7 +1,7 @@
 //! Sources with the parts of the designs that they define.
 use crate::elaborating::design_of;
 use crate::showing::{assigns_shown, outline_shown, processes_shown, signals_shown};
-use crate::{generate, item_ports, parameters};
+use crate::{generate, item_ports, nets, parameters};
 use std::alloc::Global;
 use std::process::Abort;
 use std::test::Fail;
@@ -60,6 +60,13 @@ fn signals_of_blocks(rt: HostRuntime) -> Result<(), Fail> {
     are_signals(&rt, rt.alloc(), generate::BLOCKS)
 }
 
+#[test]
+fn signals_of_nets(rt: HostRuntime) -> Result<(), Fail> {
+    are_signals(&rt, rt.alloc(), nets::SIGNALS)?;
+    are_signals(&rt, rt.alloc(), nets::BLOCKS)?;
+    are_signals(&rt, rt.alloc(), nets::DIRECTIVES)
+}
+
 /// Sources and their continuous assignments. The right side has the size of the larger side (clause 5.4.1).
 const ASSIGNS: &[(&str, &str)] = &[
     ("module t; wire w; reg a = 1; endmodule", ""),
@@ -114,7 +121,8 @@ fn are_assigns(rt: &impl Abort, alloc: Global, rows: &[(&str, &str)]) -> Result<
 fn assigns(rt: HostRuntime) -> Result<(), Fail> {
     are_assigns(&rt, rt.alloc(), ASSIGNS)?;
     are_assigns(&rt, rt.alloc(), item_ports::CONNECTED)?;
-    are_assigns(&rt, rt.alloc(), generate::ASSIGNS)
+    are_assigns(&rt, rt.alloc(), generate::ASSIGNS)?;
+    are_assigns(&rt, rt.alloc(), nets::ASSIGNS)
 }
 
 /// Sources and their processes: a declaration assignment of a variable is one (clause 6.2.1), and an `always` is a `forever`.

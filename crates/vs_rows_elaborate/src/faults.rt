@@ -1,6 +1,6 @@
 //! Sources that define no design, with the text of the fault, and sources next to them that define one.
 use crate::elaborating::elaborated;
-use crate::{item_ports, parameters, refused_generate};
+use crate::{item_ports, nets, parameters, refused_generate};
 use std::alloc::Global;
 use std::process::Abort;
 use std::test::Fail;
@@ -168,7 +168,7 @@ const ROWS: &[(&str, &str, &str)] = &[
         "t",
         "E8 X2 at t",
     ),
-    ("module t; assign w = 1; endmodule", "t", "E8 X2 at t"),
+    ("module t; assign w = 1; endmodule", "t", DESIGN),
     ("module t; reg a = b; endmodule", "t", "E8 X2 at t"),
     ("module t; initial a = 1; reg a; endmodule", "t", DESIGN),
     // A delay is a number from 0 on; a decimal one without a size has 32 bits and a sign.
@@ -376,4 +376,57 @@ fn faults_of_blocks(rt: HostRuntime) -> Result<(), Fail> {
 fn faults_of_parameters(rt: HostRuntime) -> Result<(), Fail> {
     are_told(&rt, rt.alloc(), parameters::REFUSED)?;
     are_told(&rt, rt.alloc(), parameters::CYCLES)
+}
+
+#[test]
+fn faults_of_nets(rt: HostRuntime) -> Result<(), Fail> {
+    are_told(&rt, rt.alloc(), nets::REFUSED)?;
+    are_told(&rt, rt.alloc(), nets::LATE)
+}
+
+/// Sources with several faults, any of which may be told.
+const SEVERAL: &[(&str, &[&str])] = &[
+    (
+        "module t; wire a, a; assign b = c; endmodule",
+        &["E5 at t.a", "E8 X2 at t"],
+    ),
+    (
+        "`timescale 1ns/1ns `timescale 1ns/1ps module s; endmodule module s; endmodule module t; n u(); endmodule",
+        &["E11 at t", "E5 at s", "E1 at t.u"],
+    ),
+    (
+        "module s; reg a, a; endmodule module t; s u(1); wire w; reg w; endmodule",
+        &["E3 at t.u", "E5 at t.w", "E5 at t.u.a"],
+    ),
+    (
+        "module t; reg a; initial a = n; assign a = 1; endmodule",
+        &["E8 X2 at t", "E8 X4 at t"],
+    ),
+    (
+        "module t; wire w; assign w = 0, w = 1; initial $display(\"%q\"); endmodule",
+        &["E6 at t.w", "E12 F1 at t"],
+    ),
+    (
+        "module t; wire [3:0] w; assign w[n] = 0; wire n; endmodule",
+        &["E5 at t.n", "E8 X3 at t"],
+    ),
+];
+
+/// Whether a text is one of some others.
+fn is_one_of(text: &[u8], others: &[&str]) -> bool {
+    for other in others {
+        if text == other.as_bytes() {
+            return true;
+        }
+    }
+    false
+}
+
+#[test]
+fn several_faults(rt: HostRuntime) -> Result<(), Fail> {
+    for (source, texts) in SEVERAL {
+        let answer = told(rt.alloc(), source, "t")?;
+        assert!(rt; is_one_of(&answer, texts), "{source}");
+    }
+    Ok(())
 }

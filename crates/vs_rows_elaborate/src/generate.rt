@@ -73,6 +73,10 @@ pub const CHOICES: &[(&str, &str)] = &[
         "wire b t.h.b 1;",
     ),
     (
+        "module t; if (1'bz) begin : g wire a; end else begin : h wire b; end endmodule",
+        "wire b t.h.b 1;",
+    ),
+    (
         "module t; if (2'b1x) begin : g wire a; end else begin : h wire b; end endmodule",
         "wire a t.g.a 1;",
     ),
@@ -114,6 +118,10 @@ pub const LOOPS: &[(&str, &str)] = &[
     (
         "module t; genvar i; for (i = -1; i < 1; i = i + 1) begin : g wire a; end endmodule",
         "wire a t.g[-1].a 1;wire a t.g[0].a 1;",
+    ),
+    (
+        "module t; genvar i; for (i = -1; i < 0; i = i + 1) begin : g wire [i[31:30]:0] a; if (i < 0) wire b; end endmodule",
+        "wire a t.g[-1].a 4 [3:0];wire b t.g[-1].genblk1.b 1;",
     ),
     (
         "module t; genvar i; for (i = 4'd15 + 4'd1; i < 17; i = i + 1) begin : g wire a; end endmodule",

@@ -176,6 +176,10 @@ pub const REFUSED: &[(&str, &str)] = &[
     ("module t(a); input reg a; endmodule", "E3 at t"),
     ("module t(a); input a; reg a; endmodule", "E3 at t"),
     (
+        "module s(input reg a); endmodule module t; s u(); endmodule",
+        "E3 at t.u",
+    ),
+    (
         "module s(a); input a; integer a; endmodule module t; s u(1); endmodule",
         "E3 at t.u",
     ),

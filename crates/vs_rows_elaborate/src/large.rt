@@ -43,6 +43,21 @@ fn chain(alloc: Global, count: usize) -> Result<String, Fail> {
     Ok(text)
 }
 
+/// The same with each instance in a generate block, which is no level.
+fn chain_of_blocks(alloc: Global, count: usize) -> Result<String, Fail> {
+    let mut text = String::new(alloc);
+    text.push_str("module t; if (1) begin : g m0 u(); end endmodule ")?;
+    for i in 1..count {
+        let before = i - 1;
+        let one = format!(in alloc; "module m{before}; if (1) begin : g m{i} u(); end endmodule ")?;
+        text.push_str(&one)?;
+    }
+    let last = count.saturating_sub(1);
+    let end = format!(in alloc; "module m{last}; endmodule")?;
+    text.push_str(&end)?;
+    Ok(text)
+}
+
 /// What is told of more than 64 levels of instances, the top among them.
 const TOO_DEEP: &str =
     "E7 at t.u.u.u.u.u.u.u.u.u.u.u.u.u.u.u.u.u.u.u.u.u.u.u.u.u.u.u.u.u.u.u.u.u.u.u.u.u.u.u.u.u.u.u.u.u.u.u.u.u.u.u.u.u.u.u.u.u.u.u.u.u.u.u.u";
@@ -51,6 +66,8 @@ const TOO_DEEP: &str =
 fn depth_limit(rt: HostRuntime) -> Result<(), Fail> {
     let most = chain(rt.alloc(), 63)?;
     is_told(&rt, rt.alloc(), &(most.as_str(), "t", DESIGN))?;
+    let blocks = chain_of_blocks(rt.alloc(), 63)?;
+    is_told(&rt, rt.alloc(), &(blocks.as_str(), "t", DESIGN))?;
     let over = chain(rt.alloc(), 64)?;
     is_told(&rt, rt.alloc(), &(over.as_str(), "t", TOO_DEEP))?;
     let far = chain(rt.alloc(), 70)?;

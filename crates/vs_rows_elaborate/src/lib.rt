@@ -14,6 +14,8 @@ mod item_ports;
 #[cfg(test)]
 mod large;
 #[cfg(test)]
+mod nets;
+#[cfg(test)]
 mod parameters;
 #[cfg(test)]
 mod refused_generate;

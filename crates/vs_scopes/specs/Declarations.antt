@@ -19,12 +19,12 @@ use Rattle.vs_syntax.specs.declared.tree.Item.TheVariants as i
 use Rattle.vs_design.specs.declared.signal.Bounds.{Bounds}
 use Rattle.vs_design.specs.declared.signal.SignalKind.{SignalKind}
 use Rattle.vs_design.specs.declared.signal.SignalKind.TheVariants as k
-use Rattle.vs_forms.specs.declared.shape.Shape.{Shape}
+use Rattle.vs_selects.specs.declared.shape.Shape.{Shape}
 use Rattle.vs_selects.specs.declared.bindings.Meaning.{Meaning}
 use Rattle.vs_selects.specs.declared.bindings.Binding.{Binding}
 use Rattle.vs_selects.specs.declared.bindings.Binding.TheVariants as b
 use Rattle.vs_selects.specs.Environment.{Environment}
-use Rattle.vs_pieces.specs.Pieces.{NamedBlock, blocks_of, Piece, plain, loop, choice, local, inside, content_of, block_name, branch_names, other_names}
+use Rattle.vs_pieces.specs.Pieces.{NamedBlock, blocks_of, Piece, plain, loop, choice, local, inside, net, content_of, block_name, branch_names, other_names}
 use Rattle.vs_scopes.specs.declared.faults.Reason.{Reason}
 use Rattle.vs_scopes.specs.declared.faults.Reason.TheVariants.{Width}
 use Rattle.vs_scopes.specs.Ranges.{Sized, sized_as, range_bounds, distance_or, Words, words_as, word_count}
@@ -77,10 +77,15 @@ abbrev pub declared_locally : Environment → LocalDeclaration → List Declared
 declared_locally env (l.Reg f xs) = map (declared_local env k.Reg (sized_as env f.signed 0 f.range)) xs.items
 declared_locally env (l.Integer xs) = map (declared_local env k.Integer (sized_as env true 31 None)) xs.items
 
+-- the name that an implicit net declares: a scalar (clause 4.5)
+abbrev pub declared_net : Environment → List ℕ → DeclaredName
+declared_net env n = record { kind = k.Wire; size = sized_as env false 0 None; words = words_as env k.Wire None; name = n }
+
 -- the names of signals that a piece declares
 abbrev pub declared_in : Environment → Piece → List DeclaredName
 declared_in env (plain x) = declared_by_item env x
 declared_in env (local x) = declared_locally env x
+declared_in env (net n) = declared_net env n ∷ []
 declared_in env _ = []
 
 -- declared names without the first of each of these, which declare ports that other items declare too
@@ -184,6 +189,7 @@ inner_names_in (loop h x) = block_name (content_of x)
 inner_names_in (choice e x o) = each_once (branch_names x ++ other_names o)
 inner_names_in (local x) = []
 inner_names_in (inside b) = b.name ∷ []
+inner_names_in (net n) = []
 
 abbrev pub inner_names_among : List Piece → List (List ℕ)
 inner_names_among ps = flat_map inner_names_in ps

@@ -23,7 +23,7 @@ use Rattle.vs_selects.specs.Findings.{stands}
 use Rattle.vs_selects.specs.Meants.{own}
 use Rattle.vs_selects.specs.Constants.{constant_finding, whole_number}
 use Rattle.vs_widths.specs.Expressions.{meant}
-use Rattle.vs_pieces.specs.Pieces.{NamedBlock, blocks_of, Piece, plain, loop, choice, local, inside, Content, nothing, block, content_step, content_of}
+use Rattle.vs_pieces.specs.Pieces.{NamedBlock, blocks_of, Piece, plain, loop, choice, local, inside, net, Content, nothing, block, content_step, content_of}
 use Rattle.vs_scopes.specs.declared.faults.Reason.{Reason}
 use Rattle.vs_scopes.specs.declared.faults.Reason.TheVariants.{Endless, Unnamed, Width}
 use Rattle.vs_scopes.specs.Printed.{PathName}
@@ -168,44 +168,45 @@ name_of_block names k (Some n) = Some n
 
 -- ---- inner scopes
 
--- what opens a scope in another one: an instance; a generate block, by its name in the path, the genvar of a loop with its value, and its items; or a
--- named block
+-- what opens a scope in another one: an instance; a generate block, by the place of its construct among the pieces of the scope, its name in the path,
+-- the genvar of a loop with its value, and its items; or a named block
 pub data Inner : Type 0 where
   instance : Use → Inner
-  generated : PathName → List (List ℕ × Const) → List ModuleItem → Inner
+  generated : ℕ → PathName → List (List ℕ × Const) → List ModuleItem → Inner
   named : NamedBlock → Inner
 
 -- a generate block, where it has a name
-abbrev pub generates : Option (List ℕ) → Option ℤ → List (List ℕ × Const) → List ModuleItem → List Inner
-generates None turn cs xs = []
-generates (Some n) turn cs xs = generated (record { name = n; turn = turn }) cs xs ∷ []
+abbrev pub generates : ℕ → Option (List ℕ) → Option ℤ → List (List ℕ × Const) → List ModuleItem → List Inner
+generates i None turn cs xs = []
+generates i (Some n) turn cs xs = generated i (record { name = n; turn = turn }) cs xs ∷ []
 
--- what a turn or a branch of the construct of this number generates, where the text declares these names
-abbrev pub content_inner : List (List ℕ) → ℕ → Option ℤ → List (List ℕ × Const) → Content → List Inner
-content_inner names k turn cs nothing = []
-content_inner names k turn cs (block n xs) = generates (name_of_block names k n) turn cs xs
+-- what a turn or a branch of the construct of this place and number generates, where the text declares these names
+abbrev pub content_inner : ℕ → List (List ℕ) → ℕ → Option ℤ → List (List ℕ × Const) → Content → List Inner
+content_inner i names k turn cs nothing = []
+content_inner i names k turn cs (block n xs) = generates i (name_of_block names k n) turn cs xs
 
 -- what the turns of a loop generate, each with its genvar as a constant (clause 12.4.1)
-abbrev pub turns_inner : List (List ℕ) → ℕ → List ℕ → Content → List Const → List Inner
-turns_inner names k n x [] = []
-turns_inner names k n x (c ∷ cs) = content_inner names k (genvar_number c) ((n, c) ∷ []) x ++ turns_inner names k n x cs
+abbrev pub turns_inner : ℕ → List (List ℕ) → ℕ → List ℕ → Content → List Const → List Inner
+turns_inner i names k n x [] = []
+turns_inner i names k n x (c ∷ cs) = content_inner i names k (genvar_number c) ((n, c) ∷ []) x ++ turns_inner i names k n x cs
 
-abbrev pub loop_inner : List (List ℕ) → ℕ → List ℕ → Content → Turns → List Inner
-loop_inner names k n x (turns cs) = turns_inner names k n x cs
-loop_inner names k n x (faulty w) = []
-loop_inner names k n x endless = []
+abbrev pub loop_inner : ℕ → List (List ℕ) → ℕ → List ℕ → Content → Turns → List Inner
+loop_inner i names k n x (turns cs) = turns_inner i names k n x cs
+loop_inner i names k n x (faulty w) = []
+loop_inner i names k n x endless = []
 
-abbrev pub choice_inner : List (List ℕ) → ℕ → Taken → List Inner
-choice_inner names k (takes x) = content_inner names k None [] x
-choice_inner names k (refused w) = []
+abbrev pub choice_inner : ℕ → List (List ℕ) → ℕ → Taken → List Inner
+choice_inner i names k (takes x) = content_inner i names k None [] x
+choice_inner i names k (refused w) = []
 
--- what a piece opens, where it is the construct of this number if it is one, and names are bound so
-abbrev pub inner_in : Environment → List (List ℕ) → ℕ → Piece → List Inner
-inner_in env names k (plain x) = map instance (uses_by_item x) ++ map named (blocks_of x)
-inner_in env names k (loop h x) = loop_inner names k h.name.items (content_of x) (turns_of env h)
-inner_in env names k (choice e x o) = choice_inner names k (chosen env e x o)
-inner_in env names k (local x) = []
-inner_in env names k (inside b) = named b ∷ []
+-- what a piece opens, where names are bound so, the text declares these names, and it is the construct of this number if it is one
+abbrev pub inner_in : ℕ → Environment → List (List ℕ) → ℕ → Piece → List Inner
+inner_in i env names k (plain x) = map instance (uses_by_item x) ++ map named (blocks_of x)
+inner_in i env names k (loop h x) = loop_inner i names k h.name.items (content_of x) (turns_of env h)
+inner_in i env names k (choice e x o) = choice_inner i names k (chosen env e x o)
+inner_in i env names k (local x) = []
+inner_in i env names k (inside b) = named b ∷ []
+inner_in i env names k (net n) = []
 
 -- the number of the next generate construct, behind a piece (clause 12.4.3)
 abbrev pub behind_piece : ℕ → Piece → ℕ
@@ -213,10 +214,10 @@ behind_piece k (loop h x) = suc k
 behind_piece k (choice e x o) = suc k
 behind_piece k _ = k
 
--- what pieces open, in the order of the text, where the first generate construct has this number
-abbrev pub inner_from : Environment → List (List ℕ) → ℕ → List Piece → List Inner
-inner_from env names k [] = []
-inner_from env names k (p ∷ ps) = inner_in env names k p ++ inner_from env names (behind_piece k p) ps
+-- what pieces open, in the order of the text, where the first has this place and the first generate construct this number
+abbrev pub inner_from : ℕ → Environment → List (List ℕ) → ℕ → List Piece → List Inner
+inner_from i env names k [] = []
+inner_from i env names k (p ∷ ps) = inner_in i env names k p ++ inner_from (suc i) env names (behind_piece k p) ps
 
 -- ---- faults of generate constructs
 

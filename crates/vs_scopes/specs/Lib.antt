@@ -4,6 +4,7 @@ pub mod Connections
 pub mod Parameters
 pub mod Ports
 pub mod Declarations
+pub mod Nets
 pub mod Generate
 pub mod Scopes
 pub mod Texts

@@ -1,5 +1,5 @@
 -- Scopes of a source.
-use Rattle.std.specs.Prelude.{ℕ, zero, suc, ◌+◌, ◌*◌, Bool, true, false, ◌&&◌, ◌||◌, not, List, [], ◌∷◌, ◌++◌, Option, Some, None, is_some, length, map, filter, find, if◌then◌else◌}
+use Rattle.std.specs.Prelude.{ℕ, zero, suc, ◌+◌, ◌*◌, Bool, true, false, ◌&&◌, ◌||◌, not, List, [], ◌∷◌, ◌++◌, Option, Some, None, is_some, is_none, length, map, filter, find, if◌then◌else◌}
 use Rattle.std.specs.List.{flat_map, list_any}
 use Rattle.std.specs.Str.{bytes_eq}
 use Rattle.vs_syntax.specs.declared.tree.Expr.{Expr}
@@ -16,13 +16,15 @@ use Rattle.vs_selects.specs.declared.constants.Const.{Const}
 use Rattle.vs_selects.specs.declared.faults.WidthReason.{WidthReason}
 use Rattle.vs_selects.specs.Environment.{Environment}
 use Rattle.vs_widths.specs.Names.{meaning_of}
-use Rattle.vs_targets.specs.Lefts.{is_left}
+use Rattle.vs_widths.specs.Lefts.{is_left}
 use Rattle.vs_pieces.specs.Pieces.{block_pieces, Piece, plain, pieces_of}
+use Rattle.vs_pieces.specs.Uses.{names_used}
 use Rattle.vs_scopes.specs.Printed.{PathName, plainly, Path, same_path}
 use Rattle.vs_scopes.specs.Connections.{ends_of, is_mismatch}
 use Rattle.vs_scopes.specs.Parameters.{said, parameters_of, parameters_among, Given, given_from, given_to, is_override_mismatch, with_constant, known_behind, constants_of, own_faults, outer_faults, any_fault}
 use Rattle.vs_scopes.specs.Ports.{ModulePort, ports_of, port_names, ports_again}
 use Rattle.vs_scopes.specs.Declarations.{Bindings, DeclaredName, declared_names, names_in, meaning_as, Use, uses_among, genvars_in, inner_names_among, bound_to, early_names}
+use Rattle.vs_scopes.specs.Nets.{permits_nets, Sight, unseen, seen, coming, nothing_seen, coming_paths, pieces_with_nets, first_told, is_before, is_net}
 use Rattle.vs_scopes.specs.Generate.{Inner, instance, generated, inner_from}
 use Rattle.vs_scopes.specs.Generate as g
 
@@ -34,9 +36,13 @@ nowhere n = None
 abbrev pub outward : Bindings → Environment → Environment
 outward bs env n = said (env n) (meaning_of bs n)
 
+-- the names that the text of a module declares, with what they are bound to before the values of its parameters are known
+abbrev pub text_of : Module → Bindings
+text_of m = early_names (parameters_of m) (ports_of m) (pieces_of m.items.items)
+
 -- what names of a module are bound to before the values of its parameters are known
 abbrev pub early : Module → Environment
-early m = outward (early_names (parameters_of m) (ports_of m) (pieces_of m.items.items)) nowhere
+early m = outward (text_of m) nowhere
 
 -- ---- scopes
 
@@ -53,7 +59,10 @@ pub record Scope : Type 0 where
   pub turns : ℕ
   -- in how many instances it stands, the top and itself among them
   pub depth : ℕ
-  -- its ports, and what stands in it
+  -- whether undeclared names may be nets in it, and the names that its text declares, with what they are bound to before its constants are known
+  pub nets : Bool
+  pub text : Bindings
+  -- its ports, and what stands in it, its implicit nets among that
   pub ports : List ModulePort
   pub pieces : List Piece
   -- its constants, and what names are bound to in the constant expressions of its declarations
@@ -63,9 +72,11 @@ pub record Scope : Type 0 where
   pub within : List (List ℕ)
   -- the path of the instance that it stands in, which may be itself
   pub home : Path
-  -- the path of the scope around it, what names are bound to there, and what its ports are connected to there, in their order
+  -- the path of the scope around it, what names are bound to there, how they stand there where it stands in the text, and what its ports are
+  -- connected to there, in their order
   pub around : Path
   pub outer : Environment
+  pub sight : List ℕ → Sight
   pub ends : List (Option Expr)
 
 -- whether a scope is an instance
@@ -107,7 +118,7 @@ bindings_of s =
 abbrev pub keys : Bindings → List (List ℕ)
 keys bs = map (λ (b : List ℕ × Binding). b.0) bs
 
--- the names that the text declares in a scope, as often as it does (clause 12.7)
+-- the names that a scope declares, as often as it does (clause 12.7)
 abbrev pub all_names_of : Scope → List (List ℕ)
 all_names_of s = keys (bindings_of s) ++ ports_again s.ports s.pieces
 
@@ -122,9 +133,43 @@ named_at s n = s.path ++ n ∷ []
 abbrev pub named : Scope → List ℕ → Path
 named s n = named_at s (plainly n)
 
+-- the names that the text declares in a scope: implicit nets are none of them (clauses 4.5 and 12.7)
+abbrev pub text_names : Scope → List (List ℕ)
+text_names s = keys s.text
+
 -- what the instances and blocks in a scope are, in the order of the text (clauses 12.1.2, 12.4 and 9.8.3)
 abbrev pub inner_of : Scope → List Inner
-inner_of s = inner_from (environment s) (all_names_of s) 1 s.pieces
+inner_of s = inner_from 0 (environment s) (text_names s) 1 s.pieces
+
+-- ---- implicit nets
+
+-- how a name stands in a scope, where it isn't declared before: by whether the text declares it as a port or a net, and by what the text binds it to
+abbrev pub sight_by : Scope → List ℕ → Bool → Option Binding → Sight
+sight_by s n told None = s.sight n
+sight_by s n told (Some x) = if told && is_net x then coming (named s n) else seen
+
+-- how a name stands in a scope before the piece at a place: only a net has to be declared before it is used so (clauses 4.5 and 12.7; profile)
+abbrev pub sight_in : Scope → ℕ → List ℕ → Sight
+sight_in s place n =
+    if is_before (first_told s.pieces n) place then seen else sight_by s n (is_some (first_told s.pieces n)) (meaning_of s.text n)
+
+-- the nets that are declared behind their use in pieces of a scope, of which the first has this place, by their paths
+abbrev pub late_from : Scope → ℕ → List Piece → List Path
+late_from s place [] = []
+late_from s place (p ∷ ps) = flat_map (λ n. coming_paths (sight_in s place n)) (names_used p) ++ late_from s (suc place) ps
+
+-- the nets that are declared behind their use in a scope
+abbrev pub late_nets : Scope → List Path
+late_nets s = late_from s 0 s.pieces
+
+-- whether a name is that of an implicit net of a scope
+abbrev pub is_implicit : Scope → List ℕ → Bool
+is_implicit s n = is_some (first_told s.pieces n) && is_none (meaning_of s.text n)
+
+-- whether what opens a scope in a scope is a generate block that has the name of an implicit net there (clauses 4.5 and 12.4.3)
+abbrev pub is_named_as_net : Scope → Inner → Bool
+is_named_as_net s (generated i n cs xs) = is_implicit s n.name
+is_named_as_net s _ = false
 
 -- ---- the scopes of a source
 
@@ -163,9 +208,13 @@ behind at ss = record {
 abbrev pub before : Scope → Before
 before s = record { scopes = s.number; signals = s.base; instances = s.instances; turns = s.turns }
 
+-- what stands in a module, with its implicit nets, where it may have them
+abbrev pub module_pieces : Bool → Module → List Piece
+module_pieces nets m = pieces_with_nets nets (text_of m) nothing_seen (pieces_of m.items.items)
+
 -- the scope of the top module, under the module's name; nothing overrides its parameters, and its ports have no connection (clause 12.1.1)
-abbrev pub top_scope : Module → Scope
-top_scope m = record {
+abbrev pub top_scope : Bool → Module → Scope
+top_scope nets m = record {
   path = plainly m.name.items ∷ [];
   title = plainly m.name.items;
   kind = opened_by.Module;
@@ -174,20 +223,23 @@ top_scope m = record {
   instances = 0;
   turns = 0;
   depth = 1;
+  nets = nets;
+  text = text_of m;
   ports = ports_of m;
-  pieces = pieces_of m.items.items;
+  pieces = module_pieces nets m;
   constants = constants_of nowhere (early m) (given_to None m);
   known = known_behind nowhere (early m) (given_to None m);
   within = m.name.items ∷ [];
   home = plainly m.name.items ∷ [];
   around = [];
   outer = nowhere;
+  sight = nothing_seen;
   ends = [];
 }
 
 -- the scope that an instance in a scope is, of this module, with so much before it (clauses 12.1.2, 12.2.2 and 12.3)
-abbrev pub instance_scope : Scope → Before → Use → Module → Scope
-instance_scope s at u m = record {
+abbrev pub instance_scope : Bool → Scope → Before → Use → Module → Scope
+instance_scope nets s at u m = record {
   path = named s u.name;
   title = plainly u.name;
   kind = opened_by.Module;
@@ -196,14 +248,17 @@ instance_scope s at u m = record {
   instances = at.instances;
   turns = at.turns;
   depth = suc s.depth;
+  nets = nets;
+  text = text_of m;
   ports = ports_of m;
-  pieces = pieces_of m.items.items;
+  pieces = module_pieces nets m;
   constants = constants_of s.known (early m) (given_to u.overrides m);
   known = known_behind s.known (early m) (given_to u.overrides m);
   within = m.name.items ∷ s.within;
   home = named s u.name;
   around = s.path;
   outer = environment s;
+  sight = nothing_seen;
   ends = ends_of u.ports (port_names (ports_of m));
 }
 
@@ -220,9 +275,14 @@ with_constants env (c ∷ cs) = with_constants (with_constant env c.0 c.1) cs
 abbrev pub early_block : Scope → List (List ℕ × Const) → List Piece → Environment
 early_block s cs ps = with_constants (outward (early_names (parameters_among ps) [] ps) (environment s)) cs
 
--- the scope that a generate block or a named block in a scope is, of these constants and pieces, with so much before it (clauses 12.4 and 9.8.3)
-abbrev pub block_scope : Scope → Before → PathName → List (List ℕ × Const) → List Piece → Scope
-block_scope s at n cs ps = record {
+-- the names that the text of a block of these constants and pieces declares, with what they are bound to before its constants are known
+abbrev pub block_text : List (List ℕ × Const) → List Piece → Bindings
+block_text cs ps = early_names (parameters_among ps) [] ps ++ constant_names cs
+
+-- the scope that a generate block or a named block in a scope is, of these constants and pieces, before the piece at a place there, with so much before
+-- it (clauses 12.4 and 9.8.3)
+abbrev pub block_scope : ℕ → Scope → Before → PathName → List (List ℕ × Const) → List Piece → Scope
+block_scope place s at n cs ps = record {
   path = named_at s n;
   title = n;
   kind = opened_by.Begin;
@@ -231,14 +291,17 @@ block_scope s at n cs ps = record {
   instances = at.instances;
   turns = at.turns;
   depth = s.depth;
+  nets = s.nets;
+  text = block_text cs ps;
   ports = [];
-  pieces = ps;
+  pieces = pieces_with_nets s.nets (block_text cs ps) (sight_in s place) ps;
   constants = cs ++ constants_of nowhere (early_block s cs ps) (block_given ps);
   known = known_behind nowhere (early_block s cs ps) (block_given ps);
   within = s.within;
   home = s.home;
   around = s.path;
   outer = environment s;
+  sight = sight_in s place;
   ends = [];
 }
 
@@ -257,19 +320,19 @@ abbrev pub block_fault : Scope → List (List ℕ × Const) → List Piece → W
 block_fault s cs ps w = own_faults w nowhere (early_block s cs ps) (block_given ps)
 
 -- the scope that an instance opens: none where there is no such module, the scope stands in it, or its parameters have no values
-abbrev pub opened_instance : Scope → Before → Use → Option Module → Option Scope
-opened_instance s at u None = None
-opened_instance s at u (Some m) = if is_inside s m || has_no_values s.known u.overrides m then None else Some (instance_scope s at u m)
+abbrev pub opened_instance : Bool → Scope → Before → Use → Option Module → Option Scope
+opened_instance nets s at u None = None
+opened_instance nets s at u (Some m) = if is_inside s m || has_no_values s.known u.overrides m then None else Some (instance_scope nets s at u m)
 
 -- the scope that a block opens: none where its parameters have no values
-abbrev pub opened_block : Scope → Before → PathName → List (List ℕ × Const) → List Piece → Option Scope
-opened_block s at n cs ps = if any_fault (block_fault s cs ps) then None else Some (block_scope s at n cs ps)
+abbrev pub opened_block : ℕ → Scope → Before → PathName → List (List ℕ × Const) → List Piece → Option Scope
+opened_block place s at n cs ps = if any_fault (block_fault s cs ps) then None else Some (block_scope place s at n cs ps)
 
--- the scope that an instance or a block in a scope opens, with so much before it
+-- the scope that an instance or a block in a scope opens, with so much before it; a named block has no items, so that its place there doesn't matter
 abbrev pub opened : List Module → Scope → Before → Inner → Option Scope
-opened ms s at (instance u) = opened_instance s at u (module_named ms u.of)
-opened ms s at (generated n cs xs) = opened_block s at n cs (pieces_of xs)
-opened ms s at (g.named x) = opened_block s at (plainly x.name) [] (block_pieces x)
+opened ms s at (instance u) = opened_instance (permits_nets ms u.of) s at u (module_named ms u.of)
+opened ms s at (generated place n cs xs) = opened_block place s at n cs (pieces_of xs)
+opened ms s at (g.named x) = opened_block 0 s at (plainly x.name) [] (block_pieces x)
 
 -- what f lists of a scope that was opened
 abbrev pub listed : {A : Type 0} → (Scope → List A) → Option Scope → List A
@@ -302,13 +365,13 @@ abbrev pub deepest : ℕ
 deepest = 64 * 257
 
 -- the top scope, where its parameters have values
-abbrev pub opened_top : Option Module → Option Scope
-opened_top None = None
-opened_top (Some m) = if has_no_values nowhere None m then None else Some (top_scope m)
+abbrev pub opened_top : Bool → Option Module → Option Scope
+opened_top nets None = None
+opened_top nets (Some m) = if has_no_values nowhere None m then None else Some (top_scope nets m)
 
 -- The scopes of a source with a top in design order, down to one level more than a design may have (clause 12).
 abbrev pub scopes_of : List Module → List ℕ → List Scope
-scopes_of ms top = listed (scopes_within deepest ms) (opened_top (module_named ms top))
+scopes_of ms top = listed (scopes_within deepest ms) (opened_top (permits_nets ms top) (module_named ms top))
 
 -- what names are bound to in the scope of a path, among scopes (clause 12.7)
 abbrev pub environment_at : List Scope → Path → Environment

@@ -14,8 +14,7 @@ use crate::ports::ModulePort;
 use crate::words::WordCount;
 use std::alloc::Global;
 use vs_design::{Bounds, SignalKind};
-use vs_forms::Shape;
-use vs_selects::WidthReason;
+use vs_selects::{Shape, WidthReason};
 use vs_syntax::{Expr, Form, Range};
 use vs_widths::{Levels, constant};
 

@@ -17,10 +17,10 @@ use Rattle.vs_design.specs.declared.design.Entry.{Entry}
 use Rattle.vs_design.specs.WellFormed.{WellFormed, share_a_bit, driven}
 use Rattle.vs_eval.specs.Values.{value_of, value_step}
 use Rattle.vs_eval.specs.Laws.{ReadsHold, SizesHold}
-use Rattle.vs_forms.specs.declared.shape.Shape.{Shape}
-use Rattle.vs_forms.specs.declared.forms.Form.{Form}
-use Rattle.vs_forms.specs.declared.forms.Measured.{Measured}
-use Rattle.vs_forms.specs.Senses.{sense, IsFitted}
+use Rattle.vs_selects.specs.declared.shape.Shape.{Shape}
+use Rattle.vs_selects.specs.declared.forms.Form.{Form}
+use Rattle.vs_selects.specs.declared.forms.Measured.{Measured}
+use Rattle.vs_selects.specs.Senses.{sense, IsFitted}
 use Rattle.vs_selects.specs.passes.Measures.{IsKnown}
 use Rattle.vs_selects.specs.passes.Places.{IsAlone}
 

@@ -1,5 +1,5 @@
 -- Bits of constants.
-use Rattle.std.proofs.Common.{◌≡◌, ℕ, ℤ, Bool, List, [], ◌∷◌, Option, Some, option_map, length, refl, ap, ap₂, sym, subst, ◌∙◌}
+use Rattle.std.proofs.Common.{◌≡◌, ℕ, ℤ, Bool, List, [], ◌∷◌, Some, option_map, length, refl, ap, sym, subst, ◌∙◌}
 use Rattle.std.specs.declared.boxed.Box.{Box}
 use Rattle.std.specs.declared.alloc.Global.{Global}
 use Rattle.vs_logic4.specs.declared.digit.Digit.{Digit}
@@ -11,15 +11,14 @@ use Rattle.vs_design.specs.declared.expression.Excerpt.{Excerpt}
 use Rattle.vs_design.specs.Selects.{place_of}
 use Rattle.vs_design.specs.Stores.{Store}
 use Rattle.vs_eval.specs.Values.{bits_value, excerpt_value}
-use Rattle.vs_forms.specs.declared.shape.Shape.{Shape}
-use Rattle.vs_forms.specs.declared.forms.Form.{Form}
-use Rattle.vs_forms.specs.declared.forms.Form.TheVariants as v
-use Rattle.vs_forms.specs.declared.forms.Form.TheOpen as f
-use Rattle.vs_forms.specs.Senses.{sense}
-use Rattle.vs_forms.proofs.FittingLemmas.{layer}
+use Rattle.vs_selects.specs.declared.shape.Shape.{Shape}
+use Rattle.vs_selects.specs.declared.forms.Form.{Form}
+use Rattle.vs_selects.specs.declared.forms.Form.TheVariants as v
+use Rattle.vs_selects.specs.declared.forms.Form.TheOpen as f
+use Rattle.vs_selects.proofs.FittingLemmas.{layer}
 use Rattle.vs_selects.specs.declared.constants.Const.{Const}
 use Rattle.vs_selects.specs.declared.places.Extent.{Extent}
-use Rattle.vs_selects.specs.Findings.{Has, at_found}
+use Rattle.vs_selects.specs.Findings.{at_found}
 use Rattle.vs_selects.specs.Selects.{Select, Span, span_of, select_span, constant_span, span_value, excerpt_meant}
 use Rattle.vs_selects.specs.passes.Measures.{meaning, IsMeasured, IsOwnPart}
 use Rattle.vs_selects.specs.passes.Places.{IsExtent, IsAlone, IsExcerpt}

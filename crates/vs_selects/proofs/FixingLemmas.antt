@@ -17,12 +17,12 @@ use Rattle.vs_design.specs.WellFormed.{indexed_size}
 use Rattle.vs_eval.specs.Values.{bits_value, selection_value}
 use mir.Syntax.{w32}
 use mir.Val.{SFits}
-use Rattle.vs_forms.specs.declared.shape.Shape.{Shape}
-use Rattle.vs_forms.specs.declared.forms.Form.{Form}
-use Rattle.vs_forms.specs.declared.forms.Form.TheVariants as v
-use Rattle.vs_forms.specs.declared.forms.Form.TheOpen as f
-use Rattle.vs_forms.specs.Senses.{sense}
-use Rattle.vs_forms.proofs.FittingLemmas.{layer}
+use Rattle.vs_selects.specs.declared.shape.Shape.{Shape}
+use Rattle.vs_selects.specs.declared.forms.Form.{Form}
+use Rattle.vs_selects.specs.declared.forms.Form.TheVariants as v
+use Rattle.vs_selects.specs.declared.forms.Form.TheOpen as f
+use Rattle.vs_selects.specs.Senses.{sense}
+use Rattle.vs_selects.proofs.FittingLemmas.{layer}
 use Rattle.vs_selects.specs.declared.places.Place.{Place}
 use Rattle.vs_selects.specs.Findings.{Has, at_found}
 use Rattle.vs_selects.specs.Meants.{Meant}

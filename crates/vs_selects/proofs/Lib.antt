@@ -1,3 +1,4 @@
+pub mod FittingLemmas
 pub mod ConstantLemmas
 pub mod PlaceLemmas
 pub mod FixingLemmas

@@ -10,12 +10,12 @@ use Rattle.vs_design.specs.declared.range.BitRange.{BitRange}
 use Rattle.vs_design.specs.declared.signal.Bounds.{Bounds}
 use Rattle.vs_design.specs.Selects.{index_number, reached, place_of, from_zero}
 use Rattle.vs_design.specs.Stores.{Store}
-use Rattle.vs_forms.specs.declared.shape.Shape.{Shape}
-use Rattle.vs_forms.specs.declared.forms.Form.TheVariants as v
-use Rattle.vs_forms.specs.declared.forms.Form.TheOpen as f
-use Rattle.vs_forms.specs.declared.forms.Measured.{Measured}
-use Rattle.vs_forms.specs.Senses.{sense}
-use Rattle.vs_forms.proofs.FittingLemmas.{layer}
+use Rattle.vs_selects.specs.declared.shape.Shape.{Shape}
+use Rattle.vs_selects.specs.declared.forms.Form.TheVariants as v
+use Rattle.vs_selects.specs.declared.forms.Form.TheOpen as f
+use Rattle.vs_selects.specs.declared.forms.Measured.{Measured}
+use Rattle.vs_selects.specs.Senses.{sense}
+use Rattle.vs_selects.proofs.FittingLemmas.{layer}
 use Rattle.vs_selects.specs.declared.faults.WidthReason.{WidthReason}
 use Rattle.vs_selects.specs.declared.faults.WidthReason.TheVariants.{WrongKind}
 use Rattle.vs_selects.specs.declared.faults.WidthFault.{WidthFault}

@@ -33,8 +33,8 @@ abbrev pub not_constant : WidthReason → Bool
 not_constant NotConstant = true
 not_constant _ = false
 
--- the fault that a name has no value or is no signal of the kind that is wanted, or has other selects than its declaration allows (clauses 5.2, 6.1
--- and 9.2)
+-- the fault that a name has no value or is no signal of the kind that is wanted, or has other selects than its declaration allows (clauses
+-- 5.2, 6.1 and 9.2)
 abbrev pub wrong_kind : WidthReason → Bool
 wrong_kind WrongKind = true
 wrong_kind _ = false

@@ -1,5 +1,6 @@
-pub use Rattle.vs_forms.specs.Each
-pub use Rattle.vs_forms.specs.Senses
+pub mod Each
+pub mod Operations
+pub mod Senses
 pub mod Findings
 pub mod Environment
 pub mod Meants

@@ -5,8 +5,8 @@ use Rattle.vs_design.specs.declared.range.BitRange.{BitRange}
 use Rattle.vs_design.specs.Stores.{Store}
 use Rattle.vs_selects.specs.Findings.{Finding, at_found}
 
--- What an expression means: its size and sign, the ranges that it reads, in the order of the text, and its value in a store at a time in ticks at
--- the size and with the sign of its context (clauses 5.4 and 5.5).
+-- What an expression means: its size and sign, the ranges that it reads, in the order of the text, and its value in a store at a time in
+-- ticks at the size and with the sign of its context (clauses 5.4 and 5.5).
 pub record Meant : Type 0 where
   pub finding : Finding
   pub reads : List BitRange

@@ -11,7 +11,7 @@ use Rattle.vs_design.specs.Selects.{index_number, in_reach, from_zero}
 use Rattle.vs_design.specs.Stores.{Store, word_of}
 use Rattle.vs_design.specs.Uses.{all_words, bits_from}
 use Rattle.vs_eval.specs.Values.{bits_value}
-use Rattle.vs_forms.specs.declared.shape.Shape.{Shape}
+use Rattle.vs_selects.specs.declared.shape.Shape.{Shape}
 use Rattle.vs_selects.specs.declared.bindings.Meaning.{Meaning}
 use Rattle.vs_selects.specs.declared.bindings.Binding.{Binding}
 use Rattle.vs_selects.specs.declared.bindings.Binding.TheVariants.{Signal, Constant, Pending, Other, Genvar}
@@ -44,8 +44,8 @@ index_at (Lacks faults) digits = None
 abbrev pub index_of : Meant → Store → ℕ → Option ℤ
 index_of i store time = index_at i.finding (own i store time)
 
--- the number of the lowest of so many elements of a range of this length, of which the lowest is so far below that of an index; the number past the
--- end where none is in range, or the index has no number (clause 5.2.1)
+-- the number of the lowest of so many elements of a range of this length, of which the lowest is so far below that of an index; the number
+-- past the end where none is in range, or the index has no number (clause 5.2.1)
 abbrev pub lowest_of : Bounds → ℕ → ℕ → ℕ → Option ℤ → ℤ
 lowest_of b length width below None = pos length
 lowest_of b length width below (Some n) = in_reach length width (element_of b n -ℤ pos below)
@@ -105,7 +105,8 @@ between b _ _ = Lacks not_constant
 
 -- the size of `[left:right]`, whose bounds are constants (clause 5.2.1)
 abbrev pub bounds_finding : Bounds → Meant → Meant → Finding
-bounds_finding b left right = together (λ width signed size sign. between b (whole_of left) (whole_of right)) (constant_finding left) (constant_finding right)
+bounds_finding b left right =
+    together (λ width signed size sign. between b (whole_of left) (whole_of right)) (constant_finding left) (constant_finding right)
 
 -- `[left:right]`; its bounds read nothing (clause 5.2.1)
 abbrev pub bounds_span : Bounds → ℕ → Meant → Meant → Span
@@ -124,7 +125,8 @@ counted (Some n) = unsigned n
 abbrev pub base_finding : Meant → Meant → Finding
 base_finding base width = together (λ n signed size sign. counted (positive (natural_of width))) base.finding (constant_finding width)
 
--- how far below the element of the base the lowest of so many elements is: `+:` counts the indices up from the base on, `-:` down (clause 5.2.1)
+-- how far below the element of the base the lowest of so many elements is: `+:` counts the indices up from the base on, `-:` down (clause
+-- 5.2.1)
 abbrev pub below_base : PartSelect → Bounds → ℕ → ℕ
 below_base p.Bounds b width = 0
 below_base p.Upward b width = if ascends b then width - 1 else 0
@@ -143,8 +145,8 @@ select_span b size (i, Some (p.Bounds, m)) = bounds_span b size i m
 select_span b size (i, Some (p.Upward, m)) = base_span p.Upward b size i m
 select_span b size (i, Some (p.Downward, m)) = base_span p.Downward b size i m
 
--- what selects choose of a word of this size and sign: all bits without one, and with one, where the word has a range, those that it chooses
--- (clause 5.2.1)
+-- what selects choose of a word of this size and sign: all bits without one, and with one, where the word has a range, those that it
+-- chooses (clause 5.2.1)
 abbrev pub span_of : Option Bounds → Shape → List Select → Span
 span_of b s [] = all_bits s
 span_of None s (x ∷ xs) = no_bits wrong_kind (x ∷ xs)
@@ -153,8 +155,8 @@ span_of (Some b) s (x ∷ y ∷ xs) = no_bits wrong_kind (x ∷ y ∷ xs)
 
 -- ---- bits of a signal
 
--- What a name with its selects names: the size and sign, the number of the signal, what the indices read, the word's first, and the numbers of the
--- word and of the lowest bit in a store at a time (clauses 5.2.1 and 5.2.2).
+-- What a name with its selects names: the size and sign, the number of the signal, what the indices read, the word's first, and the numbers
+-- of the word and of the lowest bit in a store at a time (clauses 5.2.1 and 5.2.2).
 pub record Named : Type 0 where
   pub finding : Finding
   pub signal : ℕ
@@ -214,7 +216,8 @@ named_reads (Lacks faults) n = []
 
 -- the bits that are named, in a store at a time; x where there are none (clause 5.2.1)
 abbrev pub named_value : Named → Store → ℕ → List Digit
-named_value n store time = at_found n.finding (λ width signed. bits_value (n.low store time) width (word_of store n.signal (n.word store time)))
+named_value n store time =
+    at_found n.finding (λ width signed. bits_value (n.low store time) width (word_of store n.signal (n.word store time)))
 
 -- what the bits that are named mean as an operand: they are brought to the size and sign of the context (clauses 5.2.1 and 5.5)
 abbrev pub operand_meant : Named → Meant
@@ -236,8 +239,8 @@ constant_span c (x ∷ y ∷ xs) = no_bits wrong_kind (x ∷ y ∷ xs)
 abbrev pub span_value : List Digit → Span → Store → ℕ → List Digit
 span_value digits s store time = at_found s.finding (λ width signed. bits_value (s.low store time) width (Some digits))
 
--- what the bits that are chosen of digits mean as an operand: they read what their index reads, and are brought to the size and sign of the context
--- (clauses 5.2.1 and 5.5)
+-- what the bits that are chosen of digits mean as an operand: they read what their index reads, and are brought to the size and sign of the
+-- context (clauses 5.2.1 and 5.5)
 abbrev pub excerpt_meant : List Digit → Span → Meant
 excerpt_meant digits s = record {
   finding = s.finding;

@@ -2,8 +2,8 @@
 ghost use Rattle.std.specs.Prelude.{◌<◌, ◌≤◌, ◌^◌};
 
 use crate::constants::Const;
+use crate::shape::Shape;
 use vs_design::{Bounds, SignalKind};
-use vs_forms::Shape;
 
 /// What the name of a signal means.
 #[derive(Clone, Copy)]

@@ -2,15 +2,17 @@
 ghost use Rattle.std.specs.Prelude.{◌≡◌, ◌==◌, Some, [], IfOk, length};
 ghost use Rattle.vs_design.specs.Uses.{reads};
 ghost use Rattle.vs_eval.specs.Values.{value_of};
-ghost use Rattle.vs_forms.specs.Senses.{sense};
+ghost use Rattle.vs_selects.specs.Senses.{sense};
 ghost use Rattle.vs_selects.specs.Constants.{natural_number, whole_number, constant_in};
 ghost use Rattle.vs_selects.specs.passes.Measures.{meaning, IsFlexible, Knows, Counts, Wholes};
 
 use crate::faults::{WidthFault, WidthReason};
+use crate::fitting::fitted;
+use crate::forms::{Form, Measured};
+use crate::shape::Shape;
 use std::alloc::{AllocError, Global};
 use vs_design::{Bounds, DEFAULT_TIMESCALE, Design, Store, Typed, reads};
 use vs_eval::{reads_hold, sizes_hold, value};
-use vs_forms::{Form, Measured, Shape, fitted};
 use vs_logic4::{Digit, Vec4};
 
 /// The fault that no constant stands where one is wanted, or one out of its range.

@@ -14,8 +14,8 @@ pub enum WidthReason {
     /// A name that isn't declared. There are no implicit nets (IEEE 1364-2005, clause 4.5): each net has a declaration.
     #[error("X2")]
     Unknown,
-    /// No constant where one is wanted, or one out of its range: a delay that is negative or has an x or z digit, a count of a replication or
-    /// the size of a part-select below 1, bounds of a part-select that run against those of the range.
+    /// No constant where one is wanted, or one out of its range: a delay that is negative or has an x or z digit, a count of a replication
+    /// or the size of a part-select below 1, bounds of a part-select that run against those of the range.
     #[error("X3")]
     NotConstant,
     /// A net that a procedural assignment assigns to, or a variable that a continuous one does; selects that the declaration of the name

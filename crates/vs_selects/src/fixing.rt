@@ -5,11 +5,12 @@ ghost use Rattle.vs_selects.specs.passes.Measures.{IsMeasured, IsOwnPart};
 ghost use Rattle.vs_selects.specs.passes.Places.{Fixes, IsExtent, IsPlaced, IsChosen, IsExcerpt, StandsAlone};
 
 use crate::constants::{reads_nothing, value_alone};
+use crate::fitting::fitted;
+use crate::forms::{Form, Measured};
 use crate::places::{Extent, Place};
 use std::alloc::{AllocError, Global};
 use vs_design::{Excerpt, Selection, Slice};
 use vs_eval::{place_of, reads_hold, word_place};
-use vs_forms::{Form, Measured, fitted};
 use vs_logic4::Vec4;
 
 /// The value of an index, where it reads nothing.

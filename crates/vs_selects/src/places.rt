@@ -8,9 +8,10 @@ ghost use Rattle.vs_selects.specs.passes.Places.{select_meaning, selects_meaning
 use crate::bindings::{Binding, Meaning};
 use crate::constants::{Const, NOT_CONSTANT, count_of, whole_of};
 use crate::faults::{WidthFault, WidthReason};
+use crate::forms::{Form, Measured};
+use crate::shape::{BIT, Shape};
 use std::alloc::Global;
 use vs_design::{Axis, Bounds};
-use vs_forms::{BIT, Form, Measured, Shape};
 use vs_logic4::{Digit, Vec4};
 use vs_syntax::PartSelect;
 

@@ -13,8 +13,10 @@ use vs_elaborate::{elaborate, names_of_one_line as defined_of_one_line};
 use vs_kernel::{Fifo, Kernel, Lifo, Listed, Outcome, Pick, RunFault, dumps_show_slot_ends};
 use vs_lexer::{lex, names_of_one_line as spelled_of_one_line};
 use vs_parser::parse;
+use vs_pieces::used_are_tokens;
 use vs_process::never_stuck;
 use vs_syntax::names_are_tokens;
+use vs_time_wheel::Wheel;
 use vs_vcd::Sink;
 
 /// Which enabled item is next.
@@ -62,7 +64,10 @@ fn run_under<P: Pick + Drop, V: Sink, L: Sink>(
     ensures fault { IfErr result (λ fault. FaultAt Ready fault) }
     ensures failures { OneFailed (is_run_write result) (V.failed vcd.old) (V.failed vcd.new) (L.failed lines.old) (L.failed lines.new) }
 {
-    let mut kernel = Kernel::new(alloc, design, policy)?;
+    let Ok(queue) = Wheel::<usize>::new(alloc) else {
+        return Err(RunFault::Memory);
+    };
+    let mut kernel = Kernel::new(alloc, design, queue, policy)?;
     kernel.run(until, steps, vcd, lines)
 }
 
@@ -128,6 +133,7 @@ pub fn simulate<'s, V: Sink, L: Sink>(
     dumps_show_slot_ends();
     spelled_of_one_line();
     names_are_tokens();
+    used_are_tokens();
     defined_of_one_line();
     let design = design_of(alloc, source, top)?;
     let outcome = run_design(alloc, &design, policy, until, steps, vcd, lines)?;

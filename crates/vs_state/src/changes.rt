@@ -17,6 +17,7 @@ use vs_design::{Design, Reader, Store, Write};
 use vs_edges::{difference, sees};
 use vs_logic4::Vec4;
 use vs_places::{Processes, recount};
+use vs_time_wheel::EventQueue;
 
 /// The continuous assignments that read one of these bits of a word have to be evaluated; those of which that is new are noted in `woken`.
 pub(crate) fn wake_readers(
@@ -37,8 +38,8 @@ pub(crate) fn wake_readers(
 }
 
 /// Of the listeners of a signal those become active that the change of one word of it wakes; they are noted in `woken`.
-fn trigger_listeners(
-    processes: &mut Processes,
+fn trigger_listeners<Q: EventQueue<usize>>(
+    processes: &mut Processes<Q>,
     woken: &mut Vec<usize>,
     listeners: &[usize],
     signal: usize,
@@ -61,9 +62,9 @@ fn trigger_listeners(
 
 /// What the change of one word of a signal wakes: the continuous assignments that read a bit of it which differs have to be evaluated, and the
 /// processes that wait for it become active. It looks at the readers and the listeners of the signal alone.
-fn wake_word(
+fn wake_word<Q: EventQueue<usize>>(
     assigns: &mut Assigns,
-    processes: &mut Processes,
+    processes: &mut Processes<Q>,
     woken: &mut Woken,
     design: &Design,
     signal: usize,
@@ -91,9 +92,9 @@ fn wake_word(
 }
 
 /// What the change of one word of a signal wakes, where there is such a word.
-pub(crate) fn wake_change(
+pub(crate) fn wake_change<Q: EventQueue<usize>>(
     assigns: &mut Assigns,
-    processes: &mut Processes,
+    processes: &mut Processes<Q>,
     woken: &mut Woken,
     design: &Design,
     signal: usize,
@@ -117,9 +118,9 @@ pub(crate) fn wake_change(
 }
 
 /// What a write will wake: of each of its parts the word before the whole write and the word behind it are compared.
-pub(crate) fn wake_for(
+pub(crate) fn wake_for<Q: EventQueue<usize>>(
     assigns: &mut Assigns,
-    processes: &mut Processes,
+    processes: &mut Processes<Q>,
     woken: &mut Woken,
     design: &Design,
     store: &Store,
@@ -128,7 +129,8 @@ pub(crate) fn wake_for(
     requires sources { AreOf design.now assigns.old }
     requires terms { WaitWithin design.now.processes processes.old.places }
     ensures assigns { OnOk result (assigns.new ≡ woken_parts store.now (put store.now write.now) write.now assigns.old) }
-    ensures places { OnOk result (processes.new.places ≡ triggered_parts store.now (put store.now write.now) write.now processes.old.places) }
+    ensures places { OnOk result (processes.new.places
+        ≡ triggered_parts store.now (put store.now write.now) write.now processes.old.places) }
     ensures time { processes.new.time ≡ processes.old.time }
 {
     for part in write.parts() {

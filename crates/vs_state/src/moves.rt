@@ -16,6 +16,7 @@ use std::alloc::AllocError;
 use vs_design::{Design, Part, Ticks, Write};
 use vs_eval::write_of;
 use vs_process::{Effect, Move};
+use vs_time_wheel::EventQueue;
 
 /// Notes the signals that a write names.
 fn note_signals(changed: &mut Vec<usize>, write: &Write) -> Result<(), AllocError>
@@ -27,7 +28,7 @@ fn note_signals(changed: &mut Vec<usize>, write: &Write) -> Result<(), AllocErro
     Ok(())
 }
 
-impl<'a> State<'a> {
+impl<'a, Q: EventQueue<usize>> State<'a, Q> {
     /// Makes a write of one part, and wakes what waits for a change that it makes.
     fn write_part(
         &mut self,
@@ -115,7 +116,8 @@ impl<'a> State<'a> {
         requires sources { HasSources design.now self.old }
         requires terms { (w : Write) → effect ≡ Effect.Write w → HasTerms design.now self.old }
         ensures state { OnOk result (self.new ≡ behind_effect self.old process effect.entry) }
-        ensures line { IfOk result (λ line. MatchOption line (line_of effect.entry ≡ None) (λ text. line_of effect.entry ≡ Some text.items)) }
+        ensures line { IfOk result (λ line. MatchOption line (line_of effect.entry ≡ None)
+            (λ text. line_of effect.entry ≡ Some text.items)) }
         ensures covers { OnOk result (CoverChanges changed.new.items self.old.store self.new.store) }
     {
         match effect {

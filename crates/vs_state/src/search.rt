@@ -9,6 +9,7 @@ use crate::state::State;
 use crate::update::Update;
 use std::collections::VecDeque;
 use vs_process::Move;
+use vs_time_wheel::EventQueue;
 
 /// The first continuous assignment that has to be evaluated or has a value that waits to be written.
 pub(crate) fn busy_assign(assigns: &Vec<AssignState>) -> Option<usize>
@@ -75,7 +76,7 @@ pub(crate) fn next_update(first: Option<u64>, updates: &VecDeque<Update>) -> Opt
     best
 }
 
-impl<'a> State<'a> {
+impl<'a, Q: EventQueue<usize>> State<'a, Q> {
     /// The least due time, in ticks.
     pub(crate) fn next_time(&self) -> Option<u64>
         ensures least { result ≡ executions.next_time self.now }

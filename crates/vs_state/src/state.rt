@@ -1,5 +1,5 @@
 //! The state of a run.
-ghost use Rattle.std.specs.Prelude.{◌≡◌, map, slice_get, is_some, IfOk};
+ghost use Rattle.std.specs.Prelude.{◌≡◌, [], map, slice_get, is_some, IfOk};
 ghost use Rattle.vs_process.specs.Executions.{if_some};
 ghost use Rattle.vs_flatcode.specs.Places.{is_going, is_inside};
 ghost use Rattle.vs_process.specs.States as states;
@@ -15,14 +15,15 @@ use std::marker::Model;
 use vs_design::{Design, Store};
 use vs_places::Processes;
 use vs_process::Code;
+use vs_time_wheel::EventQueue;
 
 /// The state of a run. A contract sees it as a state of the definition.
 #[derive(Drop)]
-pub struct State<'a> {
+pub struct State<'a, Q: EventQueue<usize>> {
     pub(crate) alloc: Global,
     pub(crate) store: Store,
     /// The processes, and the time of the slot.
-    pub(crate) processes: Processes<'a>,
+    pub(crate) processes: Processes<'a, Q>,
     pub(crate) assigns: Assigns<'a>,
     /// The nonblocking updates that wait, in the order of execution.
     pub(crate) updates: Updates,
@@ -36,7 +37,7 @@ pub struct State<'a> {
     pub(crate) woken: Woken,
 }
 
-impl<'a> Model for State<'a> {
+impl<'a, Q: EventQueue<usize>> Model for State<'a, Q> {
     ghost use Rattle.std.specs.Coded.{codes};
     ghost use Rattle.vs_design.specs.contracts.expression.Typed as expression;
     ghost use Rattle.vs_design.specs.contracts.statement.Statement as statement;
@@ -62,18 +63,24 @@ impl<'a> Model for State<'a> {
     ghost invariant = { λ m. AreFrom m.processes.time m.updates };
 }
 
-impl<'a> State<'a> {
-    /// The state in which every execution of a design begins; these are the codes of its processes, one each in order.
+impl<'a, Q: EventQueue<usize>> State<'a, Q> {
+    /// The state in which every execution of a design begins; these are the codes of its processes, one each in order, and the queue keeps the
+    /// ends of their delays.
     pub fn start(
         alloc: Global,
         design: &'a Design,
         codes: &'a [Code<'a>],
+        queue: Q,
     ) -> Result<Self, AllocError>
+    where
+        Q: Drop,
+        requires empty { Q.bag queue ≡ [] }
+        requires at_zero { Q.clock queue ≡ 0 }
         requires codes { codes.now ≡ map (λ p. p.body) design.now.processes }
         ensures { IfOk result (λ state. state ≡ states.start design.entry.now) }
     {
         let store = Store::start(alloc, design)?;
-        let processes = Processes::start(alloc, codes)?;
+        let processes = Processes::start(alloc, codes, queue)?;
         let assigns = Assigns::start(alloc, design.assigns())?;
         Ok(State {
             alloc,

@@ -134,7 +134,8 @@ pub(crate) fn checked_pieces(
     text: &[u8],
     given: usize,
 ) -> Result<Vec<Piece>, FormatFault>
-    ensures read { MatchResult result (λ pieces. (pieces_of text.now ≡ Some pieces.items) × (format_fault text.now given ≡ None)) (Refuses (format_fault text.now given)) }
+    ensures read { MatchResult result (λ pieces. (pieces_of text.now ≡ Some pieces.items) × (format_fault text.now given ≡ None))
+        (Refuses (format_fault text.now given)) }
 {
     let Some(pieces) = read_pieces(alloc, text)? else {
         return Err(FormatFault::Refused(FormatReason::BadDirective));

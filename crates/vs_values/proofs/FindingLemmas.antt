@@ -1,13 +1,12 @@
 -- Values of parameters that may name one another, found one after another.
-use Rattle.std.proofs.Common.{◌≡◌, ◌≢◌, ℕ, zero, suc, ℤ, ◌+◌, ◌-◌, ◌<◌, ◌≤◌, ◌==◌, ◌⊎◌, inl, inr, Bool, true, false, true≢false, ◌||◌, ◌&&◌, cond, List, [], ◌∷◌, ◌++◌, Option, Some, None, option_map, length, map, slice_get, get_or, set, replicate, refl, ap, ap₂, sym, subst, ◌∙◌, ⊎_elim, arith}
-use Rattle.std.specs.List.{list_any}
+use Rattle.std.proofs.Common.{◌≡◌, ℕ, zero, suc, ℤ, ◌+◌, ◌-◌, ◌<◌, ◌≤◌, ◌==◌, ◌⊎◌, inl, inr, Bool, true, false, true≢false, ◌||◌, ◌&&◌, cond, List, [], ◌∷◌, ◌++◌, Option, Some, None, option_map, length, slice_get, set, replicate, refl, ap, ap₂, sym, subst, ◌∙◌, ⊎_elim, arith}
 use Rattle.std.specs.Str.{bytes_eq}
 use Rattle.std.proofs.Math.Path.{fun_ext}
 use Rattle.std.proofs.Math.Dec.{eqb-suc-zero, eqb-zero-suc}
 use Rattle.std.proofs.lemmas.Bool.{or_parts, eqb-true, eq-eqb}
 use Rattle.std.proofs.lemmas.Bool.Decides.{same_from_decides, Decides-eqb}
 use Rattle.std.proofs.lemmas.List.{length-set}
-use Rattle.std.proofs.lemmas.Option.{none-some, same_Some, slice_get_within, slice_get-get_or}
+use Rattle.std.proofs.lemmas.Option.{none-some, same_Some}
 use Rattle.std.proofs.lemmas.Slice.Eq.{bytes_eq-Decides}
 use Rattle.vs_syntax.specs.declared.tree.Expr.{Expr}
 use Rattle.vs_syntax.specs.declared.tree.Range.{Range}
@@ -27,12 +26,12 @@ use Rattle.vs_widths.specs.Names.{meaning_of, Binds}
 use Rattle.vs_widths.proofs.MeasuringLemmas.{stands_alone}
 use Rattle.vs_widths.proofs.SettledLemmas.{settled}
 use Rattle.vs_scopes.specs.Ranges.{number_fault, bound_of, bound_fault, both_bounds, shape_with, distance_or, is_over}
-use Rattle.vs_scopes.specs.Parameters.{Parameter, Given, Takes, neither, takes_by, vector_takes, takes_fault, constant_by, constant_given, own_fault, outer_fault, own_faults, outer_faults, any_fault, with_given, bound_given, known_after, known_behind, constants_of}
+use Rattle.vs_scopes.specs.Parameters.{Parameter, Given, Takes, neither, takes_by, vector_takes, takes_fault, constant_by, constant_given, own_fault, outer_fault, any_fault, with_given, bound_given, known_after}
 use Rattle.vs_scopes.specs.Declarations.{Bindings}
 use Rattle.vs_scopes.specs.passes.Declared.{first_of}
 use Rattle.vs_scopes.proofs.DeclaredLemmas.{bytes_eq-sym, meaning_of-append}
 use Rattle.vs_values.specs.passes.Values.{IsGiven}
-use Rattle.vs_values.specs.passes.Finding.{number_of, is_number, as_found, found_names, AreNamed, count_found, found_constants, Below, AreGiven, AreFound, AreAll, IsFaulty, AreFaulty, IsNext, IsStuck}
+use Rattle.vs_values.specs.passes.Finding.{number_of, is_number, as_found, found_names, AreNamed, count_found, Below, AreGiven, AreFound, IsNext}
 use Rattle.vs_values.proofs.ValueLemmas.{bound_under}
 
 -- ---- a parameter where more names have values

@@ -1,16 +1,16 @@
 -- Where the values of all parameters are found, or no other is.
-use Rattle.std.proofs.Common.{◌≡◌, ℕ, zero, suc, ◌+◌, ◌-◌, ◌<◌, ◌≤◌, ◌⊎◌, inl, inr, Bool, true, false, true≢false, ◌||◌, cond, List, [], ◌∷◌, ◌++◌, Option, Some, None, length, map, slice_get, get_or, refl, ap, ap₂, sym, subst, ◌∙◌, ⊎_elim, arith}
+use Rattle.std.proofs.Common.{◌≡◌, ℕ, zero, suc, ◌-◌, ◌≤◌, ◌⊎◌, inl, inr, Bool, true, false, true≢false, cond, List, [], ◌∷◌, ◌++◌, Option, Some, None, length, map, slice_get, refl, ap, ap₂, sym, subst, ◌∙◌, ⊎_elim, arith}
 use Rattle.std.specs.List.{list_any}
 use Rattle.std.specs.Str.{bytes_eq}
 use Rattle.std.proofs.Math.Path.{fun_ext}
-use Rattle.std.proofs.lemmas.Option.{none-some, same_Some, slice_get_within, slice_get-get_or}
+use Rattle.std.proofs.lemmas.Option.{slice_get_within}
 use Rattle.vs_selects.specs.declared.bindings.Binding.{Binding}
 use Rattle.vs_selects.specs.declared.bindings.Binding.TheVariants.{Constant, Pending}
 use Rattle.vs_selects.specs.declared.constants.Const.{Const}
 use Rattle.vs_selects.specs.declared.faults.WidthReason.{WidthReason}
 use Rattle.vs_selects.specs.Environment.{Environment}
 use Rattle.vs_widths.specs.Names.{meaning_of, by_bytes}
-use Rattle.vs_scopes.specs.Parameters.{Given, constant_given, own_fault, outer_fault, own_faults, outer_faults, with_given, bound_given, known_after, known_behind, constants_of}
+use Rattle.vs_scopes.specs.Parameters.{Given, constant_given, own_fault, own_faults, outer_faults, with_given, bound_given, known_after, known_behind}
 use Rattle.vs_scopes.specs.Declarations.{Bindings}
 use Rattle.vs_values.specs.declared.evaluating.ParameterValues.{ParameterValues}
 use Rattle.vs_values.specs.passes.Values.{IsGiven, AddsConstants}

@@ -1,11 +1,10 @@
 -- Parameters one after another, whose values are looked for.
-use Rattle.std.proofs.Common.{◌≡◌, ℕ, zero, suc, ◌+◌, ◌-◌, ◌<◌, ◌≤◌, ◌⊎◌, inl, inr, Bool, true, false, true≢false, not, ◌||◌, cond, is_some, List, [], ◌∷◌, ◌++◌, Option, Some, None, option_map, length, map, drop, get_or, set, slice_get, refl, ap, ap₂, sym, subst, ◌∙◌, ⊎_elim, arith}
+use Rattle.std.proofs.Common.{◌≡◌, ℕ, zero, suc, ◌+◌, ◌<◌, ◌≤◌, ◌⊎◌, inl, inr, Bool, true, false, true≢false, not, ◌||◌, cond, is_some, List, [], ◌∷◌, Option, Some, None, option_map, length, map, drop, get_or, slice_get, refl, ap, ap₂, sym, subst, ◌∙◌, ⊎_elim, arith}
 use Rattle.std.specs.List.{list_any}
 use Rattle.std.specs.Str.{bytes_eq}
 use Rattle.std.proofs.lemmas.Bool.{cases_lt}
 use Rattle.std.proofs.lemmas.List.{length-map}
 use Rattle.std.proofs.lemmas.Option.{none-some, same_Some, slice_get_read, slice_get-get_or, get_or_from_slice_get}
-use Rattle.vs_selects.specs.declared.bindings.Binding.{Binding}
 use Rattle.vs_selects.specs.declared.bindings.Binding.TheVariants.{Pending}
 use Rattle.vs_selects.specs.declared.constants.Const.{Const}
 use Rattle.vs_selects.specs.declared.faults.WidthReason.{WidthReason}
@@ -16,12 +15,12 @@ use Rattle.vs_scopes.specs.Declarations.{Bindings}
 use Rattle.vs_scopes.specs.declared.parameters.Given.{Given as FoundGiven}
 use Rattle.vs_scopes.specs.declared.faults.ParameterRefusal.{ParameterRefusal}
 use Rattle.vs_scopes.specs.declared.faults.ParameterRefusal.TheVariants as r
-use Rattle.vs_scopes.specs.passes.Declared.{first_of, AddsNames}
+use Rattle.vs_scopes.specs.passes.Declared.{first_of}
 use Rattle.vs_scopes.specs.passes.Parts.{read_given}
-use Rattle.vs_scopes.proofs.DeclaredLemmas.{bytes_eq-sym, first_none, first_assoc}
+use Rattle.vs_scopes.proofs.DeclaredLemmas.{bytes_eq-sym}
 use Rattle.vs_scopes.proofs.PassLemmas.{drop_at, map_at}
 use Rattle.vs_values.specs.passes.Values.{RefusesValues, IsGiven}
-use Rattle.vs_values.specs.passes.Finding.{number_of, AreNumbers, found_constants, AreAll, IsFaulty, AreFaulty, IsNext, IsStuck}
+use Rattle.vs_values.specs.passes.Finding.{number_of, found_constants, AreAll, AreFaulty, IsNext, IsStuck}
 
 -- an element of a list that a function made
 pub get_map : {A B : Type 0} (f : A → B) (xs : List A) (k : ℕ) (x : A) → k < length xs → x ≡ get_or xs k x → slice_get (map f xs) k ≡ Some (f x)
@@ -48,35 +47,6 @@ found_at vs k (Some c) t h e s b = record { constant = c; there = slice_get_read
 -- names of the first parameters with their numbers
 abbrev pub Numbers : List FoundGiven → ℕ → List (List ℕ × ℕ) → Type 0
 Numbers xs i ns = (n : List ℕ) → first_of (meaning_of ns n) (option_map (λ k. i + k) (number_of (map read_given (drop i xs)) n)) ≡ number_of (map read_given xs) n
-
-none_before : (o : Option ℕ) → option_map (λ k. 0 + k) o ≡ o
-none_before None = refl
-none_before (Some k) = ap Some (omega arith)
-
-pub numbers_start : (xs : List FoundGiven) (ns : List (List ℕ × ℕ)) → ns ≡ [] → Numbers xs 0 ns
-numbers_start xs ns h n = ap (λ z. first_of (meaning_of z n) (option_map (λ k. 0 + k) (number_of (map read_given xs) n))) h ∙ none_before (number_of (map read_given xs) n)
-
-one_before : (i : ℕ) (o : Option ℕ) → option_map (λ k. i + 1 + k) o ≡ option_map (λ k. i + k) (option_map (λ k. suc k) o)
-one_before i None = refl
-one_before i (Some k) = ap Some (omega arith)
-
-pub numbers_step : (xs : List FoundGiven) (i : ℕ) (x : FoundGiven) (old new : List (List ℕ × ℕ)) → i < length xs → x ≡ get_or xs i x → AddsNames old new ((x.parameter.name.now, i) ∷ []) → Numbers xs i old → Numbers xs (i + 1) new
-numbers_step xs i x old new h k adds all n =
-    let name = x.parameter.name.now in
-    let rest = number_of (map read_given (drop (i + 1) xs)) n in
-    ap (λ o. first_of o (option_map (λ k. i + 1 + k) rest)) (adds n)
-    ∙ first_assoc (meaning_of old n) (cond (bytes_eq n name) (Some i) None) (option_map (λ k. i + 1 + k) rest)
-    ∙ ap (first_of (meaning_of old n)) (by (bytes_eq n name) ∙ ap (λ gs. option_map (λ k. i + k) (number_of gs n)) (sym (map_at read_given xs i x h k)))
-    ∙ all n
-  where
-    by : (t : Bool) → first_of (cond t (Some i) None) (option_map (λ k. i + 1 + k) (number_of (map read_given (drop (i + 1) xs)) n))
-        ≡ option_map (λ k. i + k) (cond t (Some 0) (option_map (λ k. suc k) (number_of (map read_given (drop (i + 1) xs)) n)))
-    by true = ap Some (omega arith)
-    by false = one_before i (number_of (map read_given (drop (i + 1) xs)) n)
-
-pub numbers_end : (xs : List FoundGiven) (i : ℕ) (ns : List (List ℕ × ℕ)) → drop i xs ≡ [] → Numbers xs i ns → AreNumbers (map read_given xs) ns
-numbers_end xs i ns h all n =
-    sym (first_none (meaning_of ns n)) ∙ sym (ap (λ z. first_of (meaning_of ns n) (option_map (λ k. i + k) (number_of (map read_given z) n))) h) ∙ all n
 
 -- ---- names without values
 

@@ -1,5 +1,5 @@
 -- Values of parameters, from what is computed of them.
-use Rattle.std.proofs.Common.{◌≡◌, ℕ, ◌+◌, ◌-◌, ◌<◌, ◌≤◌, Bool, true, false, true≢false, ◌||◌, cond, max, is_some, List, [], ◌∷◌, ◌++◌, Option, Some, None, length, map, take, drop, replicate, get_or, refl, ap, ap₂, sym, subst, ◌∙◌, arith, Bor}
+use Rattle.std.proofs.Common.{◌≡◌, ℕ, ◌+◌, ◌-◌, ◌<◌, ◌≤◌, Bool, true, false, true≢false, ◌||◌, cond, max, is_some, List, [], ◌∷◌, ◌++◌, Option, Some, None, length, take, drop, replicate, get_or, refl, ap, ap₂, sym, subst, ◌∙◌, arith, Bor}
 use Rattle.std.specs.Str.{bytes_eq}
 use Rattle.std.proofs.Math.Path.{fun_ext}
 use Rattle.std.proofs.lemmas.List.{append-nil}
@@ -11,7 +11,7 @@ use Rattle.vs_syntax.specs.declared.tree.Module.{Module}
 use Rattle.vs_syntax.specs.declared.tree.Range.{Range}
 use Rattle.vs_design.specs.declared.range.BitRange.{BitRange}
 use Rattle.vs_design.specs.declared.signal.Bounds.{Bounds}
-use Rattle.vs_forms.specs.declared.shape.Shape.{Shape}
+use Rattle.vs_selects.specs.declared.shape.Shape.{Shape}
 use Rattle.vs_selects.specs.declared.bindings.Binding.TheVariants.{Constant}
 use Rattle.vs_selects.specs.declared.constants.Const.{Const}
 use Rattle.vs_selects.specs.declared.faults.WidthReason.{WidthReason}
@@ -33,15 +33,13 @@ use Rattle.vs_scopes.specs.declared.faults.ParameterRefusal.TheVariants as r
 use Rattle.vs_values.specs.declared.evaluating.Taking.{Taking}
 use Rattle.vs_values.specs.declared.evaluating.Taking.TheVariants.{TheSize, Shaped}
 use Rattle.vs_scopes.specs.Ranges.{sized_as}
-use Rattle.vs_scopes.specs.Parameters.{Parameter, parameters_of, parameters_among, Given, given_from, given_to, overriding, is_override_mismatch, takes_by, vector_takes, takes_fault, sign_found, constant_given, own_fault, outer_fault, own_faults, outer_faults, constants_of, known_behind, with_constant}
+use Rattle.vs_scopes.specs.Parameters.{Parameter, parameters_of, parameters_among, Given, given_from, given_to, overriding, is_override_mismatch, takes_by, vector_takes, takes_fault, sign_found, own_fault, outer_fault, own_faults, outer_faults, constants_of, known_behind, with_constant}
 use Rattle.vs_scopes.specs.Ports.{ModulePort, ports_of}
 use Rattle.vs_scopes.specs.passes.Answers.{Refuses as RefusesBody}
 use Rattle.vs_scopes.specs.passes.Sizes.{width_faults, IsSize}
 use Rattle.vs_scopes.specs.passes.Declared.{first_of}
 use Rattle.vs_values.specs.passes.Early.{AreEarly}
-use Rattle.vs_scopes.specs.passes.Parts.{read_given}
 use Rattle.vs_values.specs.passes.Values.{constant_as, IsTaking, IsGivenBy, IsGiven, RefusesValues, AddsConstants, BindsConstants, AreValues, AreNoValues, early_inside, block_faults, AreBlockValues}
-use Rattle.vs_scopes.specs.declared.parameters.Given.{Given as FoundGiven}
 use Rattle.vs_values.specs.declared.evaluating.ParameterValues.{ParameterValues}
 use Rattle.vs_pieces.specs.Pieces.{Piece, pieces_of}
 use Rattle.vs_scopes.specs.Declarations.{Bindings, early_names}

@@ -17,10 +17,9 @@ ghost use Rattle.vs_values.specs.passes.Early.{AreEarly};
 
 use std::alloc::{AllocError, Global};
 use vs_design::SignalKind;
-use vs_forms::Shape;
 use vs_pieces::{Content, NamedBlock, Piece, branch_names, content_of, item_blocks};
 use vs_scopes::{ModulePort, Parameter, add_first};
-use vs_selects::{Binding, Meaning};
+use vs_selects::{Binding, Meaning, Shape};
 use vs_syntax::{Declarator, Instance, Item, Local, LocalDeclaration};
 use vs_widths::Names;
 
@@ -154,6 +153,7 @@ fn add_signals<'s>(piece: Piece<'s>, names: &mut Names<'s, Binding>) -> Result<(
         Piece::Choice(_, _, _) => Ok(()),
         Piece::Local(declaration) => add_local_signals(declaration, names),
         Piece::Inside(_) => Ok(()),
+        Piece::Net(name) => add_first(name, unsized_signal(SignalKind::Wire), names),
     }
 }
 
@@ -207,6 +207,7 @@ fn add_genvars<'s>(piece: Piece<'s>, names: &mut Names<'s, Binding>) -> Result<(
         Piece::Choice(_, _, _) => Ok(()),
         Piece::Local(_) => Ok(()),
         Piece::Inside(_) => Ok(()),
+        Piece::Net(_) => Ok(()),
     }
 }
 
@@ -309,6 +310,7 @@ fn add_inner<'s>(
         }
         Piece::Local(_) => Ok(()),
         Piece::Inside(block) => add_first(block.name, Binding::Other, names),
+        Piece::Net(_) => Ok(()),
     }
 }
 

@@ -18,13 +18,12 @@ ghost use Rattle.vs_values.specs.passes.Values.{IsTaking, IsGivenBy, RefusesValu
 use crate::early::early_names;
 use crate::finding::add_constants;
 use std::alloc::{AllocError, Global};
-use vs_forms::Shape;
 use vs_pieces::Piece;
 use vs_scopes::{
     BodyFault, Given, INTEGER, ModulePort, ParameterRefusal, Reason, Size, block_parameters,
     declared_size, given_alone, given_to, module_parameters,
 };
-use vs_selects::{Binding, Const, WidthFault};
+use vs_selects::{Binding, Const, Shape, WidthFault};
 use vs_syntax::{Connections, Expr, Form, Module, ParameterForm};
 use vs_widths::{Levels, Names, constant, constant_at, shape_of};
 

@@ -3,7 +3,8 @@ ghost use Rattle.std.specs.Prelude.{◌≡◌, ◌++◌, ◌∷◌, [], OnOk, So
 ghost use Rattle.std.specs.Fmt.{signed_decimal};
 ghost use Rattle.std.specs.Option.{option_flatten};
 ghost use Rattle.vs_vcd.specs.CodeTables.{code_table};
-ghost use Rattle.vs_vcd.specs.Text.{text_of, magnitude_word, unit_word, precision, scope_word, kind_word, scope_line, range_text, shape_text};
+ghost use Rattle.vs_vcd.specs.Text.{text_of, magnitude_word, unit_word, precision, scope_word, kind_word};
+ghost use Rattle.vs_vcd.specs.Text.{scope_line, range_text, shape_text};
 ghost use Rattle.vs_vcd.specs.Text.{declaration, declared, entry_lines, header_lines, outline_lines};
 
 use crate::value::push_code;

@@ -46,7 +46,8 @@ fn keep_range(kept: &mut Vec<Kept>, store: &Store, from: usize, to: usize)
     requires within { to ≤ length kept.old.items }
     ensures codes { codes_of kept.new.items ≡ codes_of kept.old.items }
     ensures len { length kept.new.items ≡ length kept.old.items }
-    ensures inside { (i : ℕ) → from ≤ i → i < to → slice_get kept.new.items i ≡ renewed store.now i (slice_get kept.old.items i) }
+    ensures inside { (i : ℕ) → from ≤ i → i < to
+        → slice_get kept.new.items i ≡ renewed store.now i (slice_get kept.old.items i) }
     ensures before { (i : ℕ) → i < from → slice_get kept.new.items i ≡ slice_get kept.old.items i }
     ensures behind { (i : ℕ) → to ≤ i → slice_get kept.new.items i ≡ slice_get kept.old.items i }
 {
@@ -61,7 +62,8 @@ fn keep_marked(kept: &mut Vec<Kept>, store: &Store, marks: &[u64])
     requires few { length marks.now ≤ 2 ^ 57 }
     ensures codes { codes_of kept.new.items ≡ codes_of kept.old.items }
     ensures len { length kept.new.items ≡ length kept.old.items }
-    ensures marked { (i : ℕ) → is_marked marks.now i ≡ true → slice_get kept.new.items i ≡ renewed store.now i (slice_get kept.old.items i) }
+    ensures marked { (i : ℕ) → is_marked marks.now i ≡ true
+        → slice_get kept.new.items i ≡ renewed store.now i (slice_get kept.old.items i) }
     ensures others { (i : ℕ) → is_marked marks.now i ≡ false → slice_get kept.new.items i ≡ slice_get kept.old.items i }
 {
     let mut from = 0;
@@ -82,7 +84,8 @@ pub(crate) fn keep(kept: &mut Vec<Kept>, store: &Store, all: bool, marks: &[u64]
     requires few { length marks.now ≤ 2 ^ 57 }
     ensures codes { codes_of kept.new.items ≡ codes_of kept.old.items }
     ensures len { length kept.new.items ≡ length kept.old.items }
-    ensures chosen { (i : ℕ) → is_chosen all marks.now i ≡ true → slice_get kept.new.items i ≡ renewed store.now i (slice_get kept.old.items i) }
+    ensures chosen { (i : ℕ) → is_chosen all marks.now i ≡ true
+        → slice_get kept.new.items i ≡ renewed store.now i (slice_get kept.old.items i) }
     ensures others { (i : ℕ) → is_chosen all marks.now i ≡ false → slice_get kept.new.items i ≡ slice_get kept.old.items i }
 {
     if all {

@@ -71,7 +71,8 @@ fn write_slot<S: Sink>(
 ) -> Result<u64, VcdFault>
     requires few { length marks.now ≤ 2 ^ 57 }
     ensures time { IfOk result (λ written. written ≡ time_kept kept.now last all marks.now time store.now) }
-    ensures bytes { WritesPiece result (S.bytes sink.old) (S.bytes sink.new) (text_of (next_kept kept.now last all marks.now time store.now)) }
+    ensures bytes { WritesPiece result (S.bytes sink.old) (S.bytes sink.new)
+        (text_of (next_kept kept.now last all marks.now time store.now)) }
     ensures failures { S.failed sink.new ≡ failed_after (is_write_fault result) (S.failed sink.old) }
 {
     text.clear();

@@ -1,3 +1,7 @@
+pub mod AimLemmas
+pub mod ReadLemmas
+pub mod LeftLemmas
+pub mod ExprLemmas
 pub mod DepthLemmas
 pub mod LinkingLemmas
 pub mod MeasuringLemmas

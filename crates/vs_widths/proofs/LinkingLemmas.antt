@@ -18,17 +18,17 @@ use Rattle.vs_design.specs.Stores.{Store}
 use Rattle.vs_design.specs.Uses.{joined}
 use Rattle.vs_design.specs.WellFormed.{sized_by, linked_size, chain_size}
 use Rattle.vs_eval.specs.Values.{left_side, right_side, linked, chained}
-use Rattle.vs_forms.specs.declared.shape.Shape.{Shape}
-use Rattle.vs_forms.specs.declared.forms.Form.{Form}
-use Rattle.vs_forms.specs.declared.forms.Form.TheVariants as v
-use Rattle.vs_forms.specs.declared.forms.Form.TheOpen as f
-use Rattle.vs_forms.specs.declared.forms.Measured.{Measured}
+use Rattle.vs_selects.specs.declared.shape.Shape.{Shape}
+use Rattle.vs_selects.specs.declared.forms.Form.{Form}
+use Rattle.vs_selects.specs.declared.forms.Form.TheVariants as v
+use Rattle.vs_selects.specs.declared.forms.Form.TheOpen as f
+use Rattle.vs_selects.specs.declared.forms.Measured.{Measured}
 use Rattle.vs_selects.specs.Meants.{Meant}
-use Rattle.vs_forms.specs.Operations.{operated}
-use Rattle.vs_forms.specs.Senses.{Sense, sense, open_size, open_link, open_value}
+use Rattle.vs_selects.specs.Operations.{operated}
+use Rattle.vs_selects.specs.Senses.{Sense, sense, open_size, open_link, open_value}
 use Rattle.vs_widths.specs.passes.Forms.{ends_in_test, IsOperated, IsTestLink, IsTested}
 use Rattle.vs_selects.specs.passes.Measures.{IsFlexible, IsOwnPart}
-use Rattle.vs_forms.proofs.FittingLemmas.{layer, links_sensed, tests_sensed}
+use Rattle.vs_selects.proofs.FittingLemmas.{layer, links_sensed, tests_sensed}
 
 -- ---- meanings
 

@@ -21,25 +21,25 @@ use Rattle.vs_design.specs.Stores.{Store}
 use Rattle.vs_design.specs.Uses.{joined}
 use Rattle.vs_design.specs.WellFormed.{choice_size, picked_size, sum_size, at_most_64}
 use Rattle.vs_eval.specs.Values.{chosen, concatenated}
-use Rattle.vs_forms.specs.declared.shape.Shape.{Shape}
+use Rattle.vs_selects.specs.declared.shape.Shape.{Shape}
 use Rattle.vs_selects.specs.declared.faults.WidthReason.{WidthReason}
 use Rattle.vs_selects.specs.declared.faults.WidthReason.TheVariants.{TooWide}
 use Rattle.vs_selects.specs.declared.faults.WidthFault.{WidthFault}
 use Rattle.vs_selects.specs.declared.faults.WidthFault.TheVariants.{Memory, Refused}
-use Rattle.vs_forms.specs.declared.forms.Form.{Form}
-use Rattle.vs_forms.specs.declared.forms.Form.TheVariants as v
-use Rattle.vs_forms.specs.declared.forms.Form.TheOpen as f
-use Rattle.vs_forms.specs.declared.forms.Measured.{Measured}
+use Rattle.vs_selects.specs.declared.forms.Form.{Form}
+use Rattle.vs_selects.specs.declared.forms.Form.TheVariants as v
+use Rattle.vs_selects.specs.declared.forms.Form.TheOpen as f
+use Rattle.vs_selects.specs.declared.forms.Measured.{Measured}
 use Rattle.vs_selects.specs.Environment.{Environment}
 use Rattle.vs_selects.specs.Findings.{Finding, Has, Lacks, stands, together, alone, alike, linked_shape, second, unsigned, beside, repeated, too_wide, Refuses}
 use Rattle.vs_selects.specs.Meants.{Meant, own}
 use Rattle.vs_widths.specs.Expressions.{meant, meant_step, number_meant, name_meant, unary_finding, unary_meant, cast_meant, linked_meant, chain_meant, choice_finding, choice_meant, sum_finding, joined_value, concat_meant, repeated_value, repeat_meant}
 use Rattle.vs_selects.specs.Constants.{where_none, where_some, constant_finding, count_finding, natural_of, positive}
-use Rattle.vs_forms.specs.Senses.{Sense, sense}
+use Rattle.vs_selects.specs.Senses.{Sense, sense}
 use Rattle.vs_selects.specs.passes.Measures.{meaning, IsFlexible, IsMeasured, Measures, IsOwnPart, IsCount}
 use Rattle.vs_widths.specs.passes.Forms.{links_meant, pairs_meant, IsChoicePair, IsPartOf, AreJoined, IsRepetition, Repeats}
-use Rattle.vs_forms.specs.Each.{Each, each_none, each_more}
-use Rattle.vs_forms.proofs.FittingLemmas.{layer, pairs_sensed}
+use Rattle.vs_selects.specs.Each.{Each, each_none, each_more}
+use Rattle.vs_selects.proofs.FittingLemmas.{layer, pairs_sensed}
 use Rattle.vs_widths.proofs.LinkingLemmas.{meant_same}
 
 -- ---- faults

@@ -13,8 +13,8 @@ use Rattle.vs_syntax.specs.declared.tree.Expr.TheShapes.{former-Expr-Select-1, f
 use Rattle.vs_syntax.specs.declared.tree.PartSelect.{PartSelect}
 use Rattle.vs_syntax.specs.declared.tree.PartSelect.TheVariants as p
 use Rattle.vs_design.specs.declared.signal.Bounds.{Bounds}
-use Rattle.vs_forms.specs.declared.shape.Shape.{Shape}
-use Rattle.vs_forms.specs.declared.forms.Measured.{Measured}
+use Rattle.vs_selects.specs.declared.shape.Shape.{Shape}
+use Rattle.vs_selects.specs.declared.forms.Measured.{Measured}
 use Rattle.vs_selects.specs.declared.bindings.Meaning.{Meaning}
 use Rattle.vs_selects.specs.declared.bindings.Binding.{Binding}
 use Rattle.vs_selects.specs.declared.bindings.Binding.TheVariants.{Signal, Constant, Pending, Other, Genvar}

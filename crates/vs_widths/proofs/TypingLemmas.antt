@@ -1,8 +1,8 @@
 -- Expressions of a design that are what measured ones mean.
 use Rattle.std.proofs.Common.{ℕ, Bool, ap, sym, ◌∙◌}
 use Rattle.vs_design.specs.declared.expression.Typed.{Typed}
-use Rattle.vs_forms.specs.declared.forms.Measured.{Measured}
-use Rattle.vs_forms.specs.Senses.{sense, IsFitted}
+use Rattle.vs_selects.specs.declared.forms.Measured.{Measured}
+use Rattle.vs_selects.specs.Senses.{sense, IsFitted}
 use Rattle.vs_selects.specs.Findings.{stands}
 use Rattle.vs_selects.specs.Meants.{Meant}
 use Rattle.vs_selects.specs.passes.Measures.{IsMeasured}

@@ -19,8 +19,8 @@ use Rattle.vs_design.specs.declared.signal.Bounds.{Bounds}
 use Rattle.vs_design.specs.Stores.{Store, word_of}
 use Rattle.vs_design.specs.Uses.{whole, joined}
 use Rattle.vs_eval.specs.Values.{operand_value, chosen, concatenated}
-use Rattle.vs_forms.specs.Operations.{operated}
-use Rattle.vs_forms.specs.declared.shape.Shape.{Shape}
+use Rattle.vs_selects.specs.Operations.{operated}
+use Rattle.vs_selects.specs.declared.shape.Shape.{Shape}
 use Rattle.vs_selects.specs.declared.bindings.Binding.{Binding}
 use Rattle.vs_selects.specs.declared.bindings.Binding.TheVariants.{Signal, Constant, Pending, Other, Genvar}
 use Rattle.vs_selects.specs.Environment.{Environment}
@@ -70,14 +70,15 @@ unary_value false op m store time width signed = unary op (m.at store time width
 
 -- ---- operators of two operands
 
--- the value of the result: operands of one context have its size and sign, those of a comparison their own larger size and common sign, a shift's
--- amount and the sides of `&&` and `||` their own (clauses 5.4.1 and 5.5.1)
+-- the value of the result: operands of one context have its size and sign, those of a comparison their own larger size and common sign, a
+-- shift's amount and the sides of `&&` and `||` their own (clauses 5.4.1 and 5.5.1)
 abbrev pub linked_value : Sizing → Binary → Meant → Meant → Store → ℕ → ℕ → Bool → List Digit
 linked_value Alike op a b store time width signed = operated op width signed (a.at store time width signed) (b.at store time width signed)
 linked_value Shift op a b store time width signed = operated op width signed (a.at store time width signed) (own b store time)
 linked_value Comparison op a b store time width signed =
     resized signed width (
-    at_found (together alike a.finding b.finding) (λ size sign. operated op size sign (a.at store time size sign) (b.at store time size sign))
+    at_found (together alike a.finding b.finding)
+    (λ size sign. operated op size sign (a.at store time size sign) (b.at store time size sign))
     )
 linked_value Logical op a b store time width signed = resized signed width (operated op 1 false (own a store time) (own b store time))
 
@@ -140,7 +141,8 @@ repeated_value (Some count) digits = take 64 (replication count digits)
 abbrev pub repeat_meant : Meant → Meant → List Meant → Meant
 repeat_meant count first rest = record {
   finding =
-      together (λ size sign width signed. repeated (positive (natural_of count)) width) (count_finding count) (concat_meant first rest).finding;
+      together (λ size sign width signed. repeated (positive (natural_of count)) width) (count_finding count)
+      (concat_meant first rest).finding;
   reads = (concat_meant first rest).reads;
   at = λ store time width signed.
       resized signed width (repeated_value (positive (natural_of count)) (joined_value first rest store time));

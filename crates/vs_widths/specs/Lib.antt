@@ -1,3 +1,6 @@
+pub use Rattle.vs_selects.specs.Each
+pub mod Lefts
+pub mod Aiming
 pub use Rattle.vs_selects.specs.Constants
 pub use Rattle.vs_selects.specs.Environment
 pub use Rattle.vs_selects.specs.Findings

@@ -19,8 +19,8 @@ use Rattle.vs_selects.specs.Meants.{Meant, own}
 use Rattle.vs_selects.specs.Constants.{constant_finding, plain_range}
 use Rattle.vs_widths.specs.Expressions.{meant}
 
--- The expression of a design that means this at a size and a sign: no fault stands, and it has this size, this value in each store, and reads
--- this (clauses 5.4 and 5.5).
+-- The expression of a design that means this at a size and a sign: no fault stands, and it has this size, this value in each store, and
+-- reads this (clauses 5.4 and 5.5).
 pub record IsTypedAs (m : Meant) (width : ℕ) (signed : Bool) (y : Typed) : Type 0 where
   pub sound : (r : WidthReason) → stands r m.finding ≡ false
   pub size : size_of y ≡ Some width
@@ -31,7 +31,8 @@ pub record IsTypedAs (m : Meant) (width : ℕ) (signed : Bool) (y : Typed) : Typ
 abbrev pub IsTyped : Environment → Expr → ℕ → Bool → Typed → Type 0
 IsTyped env e = IsTypedAs (meant env e)
 
--- The value that an expression of a source has by itself in each store: it names no signal, and has the size and sign of the value (clause 5.4.1).
+-- The value that an expression of a source has by itself in each store: it names no signal, and has the size and sign of the value (clause
+-- 5.4.1).
 pub record IsConstant (env : Environment) (e : Expr) (c : Const) : Type 0 where
   pub found : constant_finding (meant env e) ≡ Has (length c.value) c.signed
   pub value : (store : Store) → own (meant env e) store 0 ≡ c.value

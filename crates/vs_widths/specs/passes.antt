@@ -1,3 +1,4 @@
 -- What the functions of this crate tell one another: nothing that is promised rests on these.
+pub mod Aims
 pub mod Forms
 pub mod Selects

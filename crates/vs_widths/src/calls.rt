@@ -11,9 +11,8 @@ use crate::levels::Levels;
 use crate::measuring::{measured, of_name};
 use std::alloc::Global;
 use vs_design::Typed;
-use vs_forms::{Shape, fitted};
 use vs_logic4::Vec4;
-use vs_selects::{Const, WidthFault, known};
+use vs_selects::{Const, Shape, WidthFault, fitted, known};
 use vs_syntax::Expr;
 
 /// The size and sign that an expression has by itself (IEEE 1364-2005, clauses 5.4.1 and 5.5.1).

@@ -4,14 +4,14 @@ ghost use Rattle.vs_logic4.specs.Operators.{sizing_of};
 ghost use Rattle.vs_logic4.specs.declared.operators.Sizing.TheVariants as sizing;
 ghost use Rattle.vs_widths.specs.Expressions.{linked_meant};
 ghost use Rattle.vs_selects.specs.Findings.{Has, alike};
-ghost use Rattle.vs_forms.specs.Senses.{sense};
+ghost use Rattle.vs_selects.specs.Senses.{sense};
 ghost use Rattle.vs_selects.specs.passes.Measures.{meaning, IsFlexible, IsMeasured, IsOwnPart};
 ghost use Rattle.vs_widths.specs.passes.Forms.{ends_in_test, IsOperated, IsTestLink, IsTested};
 
 use std::alloc::{AllocError, Global};
 use vs_design::Link;
-use vs_forms::{BIT, Form, Measured, Shape};
 use vs_logic4::{Binary, Sizing};
+use vs_selects::{BIT, Form, Measured, Shape};
 
 /// The size and sign of two operands of one context (IEEE 1364-2005, clauses 5.4.1 and 5.5.1).
 pub fn joined_shape(left: Shape, right: Shape) -> Shape

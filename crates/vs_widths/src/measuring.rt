@@ -17,11 +17,10 @@ use crate::levels::Levels;
 use crate::linking::{joined_shape, linked, own};
 use std::alloc::{AllocError, Global};
 use vs_design::Count;
-use vs_forms::{BIT, Form, Measured, Shape};
 use vs_logic4::{Binary, Unary, Vec4};
 use vs_selects::{
-    Binding, Const, Meaning, WidthFault, WidthReason, bits_of_constant, count_of, excerpt, named,
-    operand,
+    BIT, Binding, Const, Form, Meaning, Measured, Shape, WidthFault, WidthReason, bits_of_constant,
+    count_of, excerpt, named, operand,
 };
 use vs_syntax::{Expr, PartSelect};
 

@@ -18,20 +18,20 @@ use Rattle.vs_design.specs.declared.statement.Call.{Call}
 use Rattle.vs_design.specs.declared.statement.CallKind.{CallKind}
 use Rattle.vs_strobe.specs.declared.fault.FormatReason.{FormatReason}
 use Rattle.vs_strobe.specs.Pieces.{format_fault}
-use Rattle.vs_forms.specs.declared.shape.Shape.{Shape}
+use Rattle.vs_selects.specs.declared.shape.Shape.{Shape}
 use Rattle.vs_selects.specs.declared.constants.Const.{Const}
 use Rattle.vs_selects.specs.declared.faults.WidthFault.{WidthFault}
 use Rattle.vs_selects.specs.Findings.{Finding, Has, Refuses, stands}
 use Rattle.vs_selects.specs.Meants.{Meant, own}
 use Rattle.vs_selects.specs.Constants.{constant_finding}
-use Rattle.vs_targets.specs.Lefts.{Aimed}
+use Rattle.vs_widths.specs.Lefts.{Aimed}
 use Rattle.vs_widths.specs.Expressions.{meant}
 use Rattle.vs_widths.specs.Typing.{IsTypedAs}
 use Rattle.vs_scopes.specs.passes.Sizes.{width_faults}
 use Rattle.vs_design.specs.Uses.{joined}
 use Rattle.vs_design.specs.declared.statement.Statement.{Statement}
 use Rattle.vs_design.specs.declared.statement.Statement.TheVariants as d
-use Rattle.vs_targets.specs.declared.kinds.AssignmentKind.TheVariants.{Procedural}
+use Rattle.vs_widths.specs.declared.kinds.AssignmentKind.TheVariants.{Procedural}
 use Rattle.vs_design.specs.WellFormed.{numbers}
 use Rattle.vs_selects.specs.Environment.{Environment}
 use Rattle.vs_scopes.specs.declared.faults.Reason.{Reason}

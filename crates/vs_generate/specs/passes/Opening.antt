@@ -11,9 +11,9 @@ abbrev pub nameless_fault : List (List ℕ) → ℕ → Option (List ℕ) → Re
 nameless_fault names k name Unnamed = is_none (name_of_block names k name)
 nameless_fault names k name r = false
 
--- what a turn of a loop generates: a block of this name and of these items, where the genvar has this value
-abbrev pub turn_block : List ℕ → List ℕ → List ModuleItem → Const → Inner
-turn_block name genvar xs c = generated (record { name = name; turn = genvar_number c }) ((genvar, c) ∷ []) xs
+-- what a turn of the loop at a place generates: a block of this name and of these items, where the genvar has this value
+abbrev pub turn_block : ℕ → List ℕ → List ℕ → List ModuleItem → Const → Inner
+turn_block place name genvar xs c = generated place (record { name = name; turn = genvar_number c }) ((genvar, c) ∷ []) xs
 
-abbrev pub turn_blocks : List ℕ → List ℕ → List ModuleItem → List Const → List Inner
-turn_blocks name genvar xs cs = map (turn_block name genvar xs) cs
+abbrev pub turn_blocks : ℕ → List ℕ → List ℕ → List ModuleItem → List Const → List Inner
+turn_blocks place name genvar xs cs = map (turn_block place name genvar xs) cs

@@ -26,7 +26,7 @@ text_name x = named_text x.turn x.name
 -- the scope that a named block opens has the block's name
 abbrev pub IsTitled : Inner → FoundName → Type 0
 IsTitled (instance u) n = Unit {0}
-IsTitled (generated t cs xs) n = Unit {0}
+IsTitled (generated i t cs xs) n = Unit {0}
 IsTitled (g.named x) n = text_name n ≡ Some x.name
 
 -- a scope in the one at a place, with this name of the text, which is no turn of a loop
@@ -68,6 +68,9 @@ with_blocks o bs = record {
   instances = o.instances;
   turns = o.turns;
   depth = o.depth;
+  nets = o.nets;
+  text = o.text;
+  told = o.told;
   ports = o.ports;
   pieces = o.pieces;
   constants = o.constants;
@@ -76,6 +79,7 @@ with_blocks o bs = record {
   within = o.within;
   home = o.home;
   around = o.around;
+  piece = o.piece;
   ends = o.ends;
   blocks = bs;
 }

@@ -1,9 +1,8 @@
 -- From a scope to the scopes of the instances and blocks in it.
-use Rattle.std.specs.Prelude.{◌≡◌, ℕ, ◌≤◌, ◌⊎◌, true, false, List, [], ◌∷◌, ◌++◌, Some, None, length, map, slice_get}
+use Rattle.std.specs.Prelude.{◌≡◌, ℕ, ◌≤◌, ◌⊎◌, Bool, true, false, List, [], ◌∷◌, ◌++◌, Some, None, length, map, slice_get}
 use Rattle.std.specs.Option.{option_map}
 use Rattle.std.specs.List.{IsDistinct}
 use Rattle.std.specs.Str.{bytes_eq}
-use Rattle.std.specs.Borrow.{Bor}
 use Rattle.vs_syntax.specs.declared.tree.Module.{Module}
 use Rattle.vs_selects.specs.declared.constants.Const.{Const}
 use Rattle.vs_selects.specs.declared.faults.WidthReason.{WidthReason}
@@ -20,6 +19,7 @@ use Rattle.vs_scopes.specs.declared.faults.ParameterRefusal.TheVariants as refus
 use Rattle.vs_scopes.specs.Printed.{PathName, Path}
 use Rattle.vs_scopes.specs.Parameters.{is_override_mismatch}
 use Rattle.vs_scopes.specs.Declarations.{Use}
+use Rattle.vs_scopes.specs.Nets.{permits_nets}
 use Rattle.vs_scopes.specs.Generate.{Inner, instance, generated}
 use Rattle.vs_scopes.specs.Generate as g
 use Rattle.vs_scopes.specs.Scopes.{Scope, Before, instance_scope, block_scope, block_fault, opened, module_named, named, named_at, is_inside, is_port_mismatch, levels}
@@ -29,6 +29,7 @@ use Rattle.vs_scopes.specs.declared.printed.PathName.{PathName as FoundName}
 use Rattle.vs_opened.specs.declared.opened.Opened.{Opened as FoundScope}
 use Rattle.vs_opened.specs.declared.opened.Plan.{Plan}
 use Rattle.vs_opened.specs.Opened.{IsEntered}
+use Rattle.vs_opening.specs.declared.entering.Listed.{Listed}
 use Rattle.vs_opening.specs.passes.Blocks.{IsTitled}
 use Rattle.vs_opened.specs.ScopeFaults.{of_module, parameter_fault, override_fault, NamesTwice}
 
@@ -38,9 +39,10 @@ use Rattle.vs_opened.specs.ScopeFaults.{of_module, parameter_fault, override_fau
 abbrev pub module_names : List Module → List (List ℕ)
 module_names ms = map (λ (m : Module). m.name.items) ms
 
--- modules whose names differ, by their names
-pub record Lists (ms : List Module) (names : List (List ℕ × Bor Module)) : Type 0 where
-  pub found : (n : List ℕ) → option_map (λ (m : Bor Module). m.now) (meaning_of names n) ≡ module_named ms n
+-- modules whose names differ, by their names, each with whether undeclared names may be nets in it
+pub record Lists (ms : List Module) (names : List (List ℕ × Listed)) : Type 0 where
+  pub found : (n : List ℕ) → option_map (λ (x : Listed). x.«module».now) (meaning_of names n) ≡ module_named ms n
+  pub nets : (n : List ℕ) (x : Listed) → meaning_of names n ≡ Some x → x.nets ≡ permits_nets ms n
   pub distinct : IsDistinct bytes_eq (module_names ms)
 
 -- why modules were not listed: two have one name
@@ -83,8 +85,8 @@ IsParameterFault s n (refusal.Outer w) e = IsFaultAt (Width w) s.path e
 IsParameterFault s n (refusal.Own w) e = IsFaultAt (Width w) (named s n) e
 
 -- the scope of an instance of this module in the scope at a place, among these, with so much before it
-pub record EntersInstance (ss : List Scope) (s : Scope) (place : ℕ) (at : Before) (u : Use) (m : Module) (o : FoundScope) : Type 0 where
-  pub entered : IsEntered (ss ++ instance_scope s at u m ∷ []) o (instance_scope s at u m)
+pub record EntersInstance (nets : Bool) (ss : List Scope) (s : Scope) (place : ℕ) (at : Before) (u : Use) (m : Module) (o : FoundScope) : Type 0 where
+  pub entered : IsEntered (ss ++ instance_scope nets s at u m ∷ []) o (instance_scope nets s at u m)
   pub around : o.around ≡ Some place
   pub blocks : o.blocks ≡ []
   pub fits : is_override_mismatch u.overrides m ≡ false
@@ -118,9 +120,9 @@ abbrev pub IsBlockRefusal : Scope → PathName → WidthFault → ElabFault → 
 IsBlockRefusal s n width.Memory e = e ≡ Memory
 IsBlockRefusal s n (width.Refused w) e = IsFaultAt (Width w) (named_at s n) e
 
--- the scope of a block of this name in the scope at a place, among these, with so much before it
-pub record EntersBlock (ss : List Scope) (s : Scope) (place : ℕ) (at : Before) (n : FoundName) (cs : List (List ℕ × Const)) (ps : List Piece) (o : FoundScope) : Type 0 where
-  pub entered : IsEntered (ss ++ block_scope s at (read_title n) cs ps ∷ []) o (block_scope s at (read_title n) cs ps)
+-- the scope of a block of this name before a piece of the scope at a place, among these, with so much before it
+pub record EntersBlock (piece : ℕ) (ss : List Scope) (s : Scope) (place : ℕ) (at : Before) (n : FoundName) (cs : List (List ℕ × Const)) (ps : List Piece) (o : FoundScope) : Type 0 where
+  pub entered : IsEntered (ss ++ block_scope piece s at (read_title n) cs ps ∷ []) o (block_scope piece s at (read_title n) cs ps)
   pub around : o.around ≡ Some place
   pub title : o.title ≡ n
   pub blocks : o.blocks ≡ []
@@ -136,7 +138,7 @@ EntersBlockNot s n cs ps _ p = ⊥
 -- what opens a scope, without faults
 abbrev pub IsSoundInner : List Module → Scope → Inner → Type 0
 IsSoundInner ms s (instance u) = IsSoundUse ms s u
-IsSoundInner ms s (generated n cs xs) = (w : WidthReason) → block_fault s cs (pieces_of xs) w ≡ false
+IsSoundInner ms s (generated i n cs xs) = (w : WidthReason) → block_fault s cs (pieces_of xs) w ≡ false
 IsSoundInner ms s (g.named x) = (w : WidthReason) → block_fault s [] (block_pieces x) w ≡ false
 
 -- the scope that an instance or a block in the scope at a place opens among these, with so much before it
@@ -152,5 +154,5 @@ pub record Enters (ms : List Module) (ss : List Scope) (s : Scope) (place : ℕ)
 -- why it opens none: a named block has no parameters
 abbrev pub EntersNot : List Module → Scope → Inner → Reason → Path → Type 0
 EntersNot ms s (instance u) r p = EntersUseNot ms s u r p
-EntersNot ms s (generated n cs xs) r p = EntersBlockNot s n cs (pieces_of xs) r p
+EntersNot ms s (generated i n cs xs) r p = EntersBlockNot s n cs (pieces_of xs) r p
 EntersNot ms s (g.named x) r p = ⊥

@@ -2,7 +2,6 @@
 use Rattle.std.specs.Prelude.{◌≡◌, ℕ, zero, suc, ℤ, ◌+◌, ◌<◌, ◌≤◌, ◌⊎◌, ◌&&◌, not, nat_le, is_some, Bool, true, false, List, [], ◌∷◌, ◌++◌, Option, Some, length, map, slice_get, if◌then◌else◌}
 use Rattle.std.specs.List.{list_any, flat_map, All, AllZip, IsDistinct}
 use Rattle.std.specs.Str.{bytes_eq}
-use Rattle.std.specs.Borrow.{Bor}
 use Rattle.vs_syntax.specs.declared.tree.Module.{Module}
 use Rattle.vs_design.specs.declared.design.ScopeKind.{ScopeKind}
 use Rattle.vs_design.specs.declared.design.Entry.{Entry}
@@ -14,15 +13,17 @@ use Rattle.vs_scopes.specs.Printed.{printed_part, plainly, Path}
 use Rattle.vs_scopes.specs.Ports.{ModulePort, is_wrong_port, has_stray_port, ports_again}
 use Rattle.vs_scopes.specs.Declarations.{Bindings, DeclaredName, declaration_fault, declared_by_port, declared_among, is_unlike}
 use Rattle.vs_scopes.specs.Generate.{Inner, constructs_fault}
-use Rattle.vs_scopes.specs.Scopes.{Scope, Before, bindings_of, keys, all_names_of, declarations_of, environment, named, inner_of, instance_count, turn_count, is_instance, is_parameter, has_block_parameter, opened, module_named, top_scope, within_first, below, scopes_within, scopes_of}
+use Rattle.vs_scopes.specs.Scopes.{Scope, Before, bindings_of, keys, all_names_of, declarations_of, environment, named, text_names, inner_of, late_nets, is_named_as_net, instance_count, turn_count, is_instance, is_parameter, has_block_parameter, opened, module_named, top_scope, within_first, below, scopes_within, scopes_of}
 use Rattle.vs_opened.specs.declared.opened.Opened.{Opened as FoundScope}
 use Rattle.vs_opened.specs.declared.opened.Plan.{Plan}
 use Rattle.vs_opened.specs.Outlines.{declared, signals_of, Line, enter, leave, declare_from, outline_within, outline_below, outline_of, IsEntry}
-use Rattle.vs_opened.specs.ScopeFaults.{Repeated, DeclaresTwice, HasWrongPort, HasUnlikePort, HasStrayPort, HasBlockParameter, HasRangeFault, PassesLimit, PassesTurns, HoldsOpeningIn, top_fault}
+use Rattle.vs_opened.specs.ScopeFaults.{Repeated, DeclaresTwice, HasWrongPort, HasUnlikePort, HasStrayPort, HasBlockParameter, HasLateNet, HasConstructFault, HasRangeFault, PassesLimit, PassesTurns, HoldsOpeningIn, top_fault}
 use Rattle.vs_opened.specs.Opened.{IsEntered, AreOpened, AreSeated}
 use Rattle.vs_opened.specs.passes.Sites.{passes_limit}
 use Rattle.vs_opened.specs.passes.Naming.{Bound}
 use Rattle.vs_opened.specs.passes.Declaring.{SameCounts, Keeps}
+use Rattle.vs_nets.specs.passes.Nets.{IsNamedAsNet}
+use Rattle.vs_opening.specs.declared.entering.Listed.{Listed}
 use Rattle.vs_opening.specs.passes.Blocks.{IsTitled, HasEachNamed, AreNamed, Extends}
 use Rattle.vs_opening.specs.passes.Entering.{Lists, before_next, EntersNot, IsSoundInner, module_names}
 
@@ -47,13 +48,14 @@ pub record IsSoundOwn (s : Scope) : Type 0 where
   pub alike : list_any (is_unlike s.known s.pieces) s.ports ≡ false
   pub few : passes_limit s.kind s.depth s.instances (length s.path) ≡ false
   pub turn : is_late_turn s ≡ false
+  pub nets : late_nets s ≡ []
   pub room : s.base + length (declarations_of s) ≤ 65536
 
 -- the condition of a fault of a scope's own members, with its path
 abbrev pub HoldsOwn : Scope → Reason → Path → Type 0
 HoldsOwn s PortMismatch p = HasWrongPort s p ⊎ HasStrayPort s p
 HoldsOwn s ParameterMismatch p = HasBlockParameter s p
-HoldsOwn s DeclaredTwice p = DeclaresTwice s p ⊎ HasUnlikePort s p
+HoldsOwn s DeclaredTwice p = DeclaresTwice s p ⊎ HasUnlikePort s p ⊎ HasLateNet s p
 HoldsOwn s Limit p = PassesLimit s p ⊎ PassesTurns s p ⊎ HasRangeFault s Limit p
 HoldsOwn s (Width w) p = HasRangeFault s (Width w) p
 HoldsOwn s _ p = ⊥
@@ -71,6 +73,10 @@ pub record HasFittingPieces (s : Scope) : Type 0 where
 -- whether a scope of this kind and these pieces is a block with a parameter that might be overridden
 abbrev pub block_has_parameter : ScopeKind → List Piece → Bool
 block_has_parameter kind ps = not (is_instance kind) && list_any is_parameter ps
+
+-- a scope that uses no net that is declared behind
+abbrev pub HasTimelyNets : Scope → Type 0
+HasTimelyNets s = late_nets s ≡ []
 
 -- a scope that is no turn too many
 abbrev pub HasTimelyTurn : Scope → Type 0
@@ -189,6 +195,9 @@ with_names o ns = record {
   instances = o.instances;
   turns = o.turns;
   depth = o.depth;
+  nets = o.nets;
+  text = o.text;
+  told = o.told;
   ports = o.ports;
   pieces = o.pieces;
   constants = o.constants;
@@ -197,6 +206,7 @@ with_names o ns = record {
   within = o.within;
   home = o.home;
   around = o.around;
+  piece = o.piece;
   ends = o.ends;
   blocks = o.blocks;
 }
@@ -232,14 +242,24 @@ AddsInnerNot ms s at x r p = EntersNot ms s x r p ⊎ ((inner : Scope) × (opene
 -- ---- scopes inside a scope
 
 -- generate constructs of a scope that have no fault, and what opens the scopes in it
-pub record HasInner (s : Scope) (xs : List Inner) : Type 0 where
-  pub sound : (r : Reason) → constructs_fault r (environment s) (all_names_of s) 1 s.pieces ≡ false
+pub record FindsInner (s : Scope) (xs : List Inner) : Type 0 where
+  pub sound : (r : Reason) → constructs_fault r (environment s) (text_names s) 1 s.pieces ≡ false
   pub same : xs ≡ inner_of s
+
+-- the same, where no block has the name of an implicit net
+pub record HasInner (s : Scope) (xs : List Inner) : Type 0 where
+  pub found : FindsInner s xs
+  pub nets : list_any (is_named_as_net s) xs ≡ false
+
+-- why a scope doesn't: a construct has a fault, or a block has such a name
+abbrev pub HasInnerNot : Scope → Reason → Path → Type 0
+HasInnerNot s r p = HasConstructFault s r p ⊎ IsNamedAsNet s (inner_of s) r p
 
 -- a scope whose instances and blocks have no fault
 pub record IsSoundInside (ms : List Module) (s : Scope) : Type 0 where
-  pub constructs : (r : Reason) → constructs_fault r (environment s) (all_names_of s) 1 s.pieces ≡ false
+  pub constructs : (r : Reason) → constructs_fault r (environment s) (text_names s) 1 s.pieces ≡ false
   pub inner : All (IsSoundInner ms s) (inner_of s)
+  pub nets : list_any (is_named_as_net s) (inner_of s) ≡ false
 
 -- the scopes inside a scope, down to so many levels
 abbrev pub scopes_inside : ℕ → List Module → Scope → List Scope
@@ -252,7 +272,7 @@ lines_inside zero ms s = leave ∷ []
 lines_inside (suc n) ms s = outline_below ms (scopes_within n ms) (outline_within n ms) s (within_first s) (inner_of s) ++ leave ∷ []
 
 -- The last of these scopes is about to be opened: so many levels may be inside.
-pub record IsReady (ms : List Module) (ss : List Scope) (s : Scope) (modules : List (List ℕ × Bor Module)) (list : List FoundScope) (plan : Plan) (place room : ℕ) : Type 0 where
+pub record IsReady (ms : List Module) (ss : List Scope) (s : Scope) (modules : List (List ℕ × Listed)) (list : List FoundScope) (plan : Plan) (place room : ℕ) : Type 0 where
   pub lists : Lists ms modules
   pub planned : IsPlanned list plan ss
   pub stands : slice_get ss place ≡ Some s
@@ -261,7 +281,7 @@ pub record IsReady (ms : List Module) (ss : List Scope) (s : Scope) (modules : L
   pub levels : length s.path + room ≡ 16449
 
 -- a place in a list that stands for scopes, where a scope may be added
-pub record IsHolding (ms : List Module) (ss : List Scope) (s : Scope) (modules : List (List ℕ × Bor Module)) (list : List FoundScope) (plan : Plan) (place : ℕ) : Type 0 where
+pub record IsHolding (ms : List Module) (ss : List Scope) (s : Scope) (modules : List (List ℕ × Listed)) (list : List FoundScope) (plan : Plan) (place : ℕ) : Type 0 where
   pub lists : Lists ms modules
   pub planned : IsPlanned list plan ss
   pub stands : slice_get ss place ≡ Some s
@@ -290,9 +310,9 @@ OpensInsideNot room ms s r p = HoldsOpeningIn ms (scopes_within room ms s) r p
 
 -- ---- the top
 
--- the scope of the top
-pub record IsTop (m : Module) (o : FoundScope) : Type 0 where
-  pub entered : IsEntered (top_scope m ∷ []) o (top_scope m)
+-- the scope of the top, which may have implicit nets or not
+pub record IsTop (nets : Bool) (m : Module) (o : FoundScope) : Type 0 where
+  pub entered : IsEntered (top_scope nets m ∷ []) o (top_scope nets m)
   pub blocks : o.blocks ≡ []
   pub parameters : (w : WidthReason) → top_fault w m ≡ false
 

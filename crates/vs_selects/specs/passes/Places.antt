@@ -8,10 +8,10 @@ use Rattle.vs_design.specs.declared.expression.Slice.{Slice}
 use Rattle.vs_design.specs.declared.signal.Bounds.{Bounds}
 use Rattle.vs_design.specs.Selects.{place_of, word_place}
 use Rattle.vs_design.specs.Stores.{Store}
-use Rattle.vs_forms.specs.declared.shape.Shape.{Shape}
-use Rattle.vs_forms.specs.declared.forms.Form.{Form}
-use Rattle.vs_forms.specs.declared.forms.Measured.{Measured}
-use Rattle.vs_forms.specs.Senses.{sense}
+use Rattle.vs_selects.specs.declared.shape.Shape.{Shape}
+use Rattle.vs_selects.specs.declared.forms.Form.{Form}
+use Rattle.vs_selects.specs.declared.forms.Measured.{Measured}
+use Rattle.vs_selects.specs.Senses.{sense}
 use Rattle.vs_selects.specs.declared.faults.WidthFault.{WidthFault}
 use Rattle.vs_selects.specs.declared.places.Extent.{Extent}
 use Rattle.vs_selects.specs.declared.places.Place.{Place}

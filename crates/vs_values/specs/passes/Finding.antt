@@ -1,5 +1,5 @@
 -- How far the values of parameters are found that may name one another.
-use Rattle.std.specs.Prelude.{◌≡◌, ℕ, zero, suc, ◌<◌, ◌==◌, ◌⊎◌, Bool, true, false, List, [], ◌∷◌, ◌++◌, Option, Some, None, option_map, length, slice_get, if◌then◌else◌}
+use Rattle.std.specs.Prelude.{◌≡◌, ℕ, suc, ◌<◌, ◌==◌, ◌⊎◌, Bool, true, false, List, [], ◌∷◌, ◌++◌, Option, Some, None, option_map, length, slice_get, if◌then◌else◌}
 use Rattle.std.specs.List.{list_any}
 use Rattle.std.specs.Str.{bytes_eq}
 use Rattle.vs_selects.specs.declared.bindings.Binding.{Binding}
@@ -68,11 +68,13 @@ Below a b = (n : List ℕ) → (a n ≡ b n) ⊎ (a n ≡ Some Pending)
 
 -- each value that is found is the parameter's where names are bound so
 abbrev pub AreGiven : Environment → Environment → List Given → List (Option Const) → Type 0
-AreGiven around env gs vs = (k : ℕ) (g : Given) (c : Const) → slice_get gs k ≡ Some g → slice_get vs k ≡ Some (Some c) → IsGiven around env g c
+AreGiven around env gs vs =
+    (k : ℕ) (g : Given) (c : Const) → slice_get gs k ≡ Some g → slice_get vs k ≡ Some (Some c) → IsGiven around env g c
 
--- The values that are found of parameters, and what names are bound to with them: no more than after as many rounds as there are values found, and
--- those values are right there.
-pub record AreFound (around env : Environment) (outward : Bindings) (gs : List Given) (vs : List (Option Const)) (known : Bindings) : Type 0 where
+-- The values that are found of parameters, and what names are bound to with them: no more than after as many rounds as there are values
+-- found, and those values are right there.
+pub record AreFound (around env : Environment) (outward : Bindings) (gs : List Given) (vs : List (Option Const))
+    (known : Bindings) : Type 0 where
   pub named : AreNamed outward env gs vs known
   pub below : Below (found_names gs vs env) (known_after (count_found vs) around env gs)
   pub given : AreGiven around (known_after (count_found vs) around env gs) gs vs

@@ -75,7 +75,8 @@ AreNoValues around c m e =
     RefusesValues (is_override_mismatch c m) (λ w. outer_faults w around (given_to c m))
     (λ w. own_faults w around (early m) (given_to c m)) e
 
--- what names are bound to in a block of these constants and pieces, where names are bound so outward, before the values of its parameters are known
+-- what names are bound to in a block of these constants and pieces, where names are bound so outward, before the values of its parameters
+-- are known
 abbrev pub early_inside : Bindings → List (List ℕ × Const) → List Piece → Environment
 early_inside outer cs ps = with_constants (outward (early_names (parameters_among ps) [] ps) (meaning_of outer)) cs
 

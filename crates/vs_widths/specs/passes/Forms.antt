@@ -10,11 +10,11 @@ use Rattle.vs_design.specs.declared.expression.Link.{Link}
 use Rattle.vs_design.specs.Stores.{Store}
 use Rattle.vs_design.specs.WellFormed.{linked_size, at_most_64}
 use Rattle.vs_eval.specs.Values.{left_side, linked}
-use Rattle.vs_forms.specs.declared.shape.Shape.{Shape}
-use Rattle.vs_forms.specs.declared.forms.Form.{Form}
-use Rattle.vs_forms.specs.declared.forms.Measured.{Measured}
-use Rattle.vs_forms.specs.Operations.{operated}
-use Rattle.vs_forms.specs.Senses.{sense, open_link}
+use Rattle.vs_selects.specs.declared.shape.Shape.{Shape}
+use Rattle.vs_selects.specs.declared.forms.Form.{Form}
+use Rattle.vs_selects.specs.declared.forms.Measured.{Measured}
+use Rattle.vs_selects.specs.Operations.{operated}
+use Rattle.vs_selects.specs.Senses.{sense, open_link}
 use Rattle.vs_selects.specs.declared.faults.WidthFault.{WidthFault}
 use Rattle.vs_selects.specs.Environment.{Environment}
 use Rattle.vs_selects.specs.Findings.{Has, unsigned, Refuses}
@@ -43,7 +43,8 @@ pub record IsOperated (left : Form) (op : Binary) (right y : Form) : Type 0 wher
   pub size : (width : ℕ) → (sense y).size width ≡ open_link width ((sense left).size width) (op, (sense right).size width)
   pub ranges : (sense y).reads ≡ (sense left).reads ++ (sense right).reads
   pub value : (store : Store) (time width : ℕ) (signed : Bool) →
-      (sense y).at store time width signed ≡ operated op width signed ((sense left).at store time width signed) ((sense right).at store time width signed)
+      (sense y).at store time width signed
+      ≡ operated op width signed ((sense left).at store time width signed) ((sense right).at store time width signed)
 
 -- a link of a comparison, `&&` or `||`, whose left side has this size or one bit: it takes a digit as it takes it at its own size
 pub record IsTestLink (size : ℕ) (link : Link) (right : Option ℕ) : Type 0 where
@@ -51,7 +52,8 @@ pub record IsTestLink (size : ℕ) (link : Link) (right : Option ℕ) : Type 0 w
   pub whole : linked_size (Some size) (link, right) ≡ Some 1
   pub narrow : linked_size (Some 1) (link, right) ≡ Some 1
   pub same : (d : Digit) →
-      left_side (sizing_of link.operator) link.width (resized false link.width (d ∷ [])) ≡ left_side (sizing_of link.operator) link.width (d ∷ [])
+      left_side (sizing_of link.operator) link.width (resized false link.width (d ∷ []))
+      ≡ left_side (sizing_of link.operator) link.width (d ∷ [])
 
 -- a comparison, `&&` or `||` of two operands, brought to the context
 pub record IsTested (left : Form) (at : Shape) (link : Link) (right y : Form) : Type 0 where
@@ -59,7 +61,8 @@ pub record IsTested (left : Form) (at : Shape) (link : Link) (right y : Form) : 
   pub ranges : (sense y).reads ≡ (sense left).reads ++ (sense right).reads
   pub value : (store : Store) (time width : ℕ) (signed : Bool) →
       (sense y).at store time width signed
-      ≡ resized signed width (linked ((sense left).at store time at.width at.signed) (link, (sense right).at store time link.width link.signed))
+      ≡ resized signed width
+      (linked ((sense left).at store time at.width at.signed) (link, (sense right).at store time link.width link.signed))
 
 -- ---- parts of choices and concatenations
 
@@ -116,7 +119,8 @@ pub record IsRepetition (n : ℕ) (x y : Measured) : Type 0 where
       (sense y.form).size width ≡ option_map (λ m. width) (at_most_64 (option_map (λ m. n * m) ((sense x.form).size y.shape.width)))
   pub ranges : (sense y.form).reads ≡ (sense x.form).reads
   pub value : (store : Store) (time width : ℕ) (signed : Bool) →
-      (sense y.form).at store time width signed ≡ resized signed width (take 64 (replication n ((sense x.form).at store time y.shape.width y.shape.signed)))
+      (sense y.form).at store time width signed
+      ≡ resized signed width (take 64 (replication n ((sense x.form).at store time y.shape.width y.shape.signed)))
 
 -- joined parts so many times, or the fault that these are too many bits
 abbrev pub Repeats : ℕ → Measured → Result Measured WidthFault → Type 0

@@ -4,7 +4,7 @@ use Rattle.std.specs.List.{All, list_any}
 use Rattle.std.specs.declared.vec.Vec.{Vec}
 use Rattle.std.specs.declared.alloc.Global.{Global}
 use Rattle.vs_syntax.specs.declared.tree.PartSelect.{PartSelect}
-use Rattle.vs_forms.specs.declared.forms.Measured.{Measured}
+use Rattle.vs_selects.specs.declared.forms.Measured.{Measured}
 use Rattle.vs_selects.specs.declared.faults.WidthFault.{WidthFault}
 use Rattle.vs_selects.specs.Findings.{Lacks, Refuses}
 use Rattle.vs_selects.specs.Selects.{Select, stands_in}

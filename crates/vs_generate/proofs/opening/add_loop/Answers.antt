@@ -15,12 +15,12 @@ pub returns-in_err-values : goal.returns-in_err-values
 returns-in_err-values c = λ ns a.
     let h = c.args.header.now in
     let p = err_from_is_err_and c.from_residual.result c.from_residual.ensures.1 in
-    rw (p.1, p.2) (loop_refused ns c.args.number h.name.items (turns_of (meaning_of c.args.names.now) h) (content_of c.args.item.now) _ c.in_err-values.ensures)
+    rw (p.1, p.2) (loop_refused c.args.place ns c.args.number h.name.items (turns_of (meaning_of c.args.names.now) h) (content_of c.args.item.now) _ c.in_err-values.ensures)
 
 pub returns-in_default : goal.returns-in_default
 returns-in_default c = λ ns a.
     let h = c.args.header.now in
-    loop_nothing ns c.args.number h.name.items (turns_of (meaning_of c.args.names.now) h) (content_of c.args.item.now) c.in_ok-values.values.items (read_inners c.args.inners.now.items) c.in_ok-values.ensures.1
+    loop_nothing c.args.place ns c.args.number h.name.items (turns_of (meaning_of c.args.names.now) h) (content_of c.args.item.now) c.in_ok-values.values.items (read_inners c.args.inners.now.items) c.in_ok-values.ensures.1
     (sym c.content_of.ensures ∙ content_nothing c.content_of.result c.in_default.not-Block)
 
 pub returns-in_err-name : goal.returns-in_err-name
@@ -29,7 +29,7 @@ returns-in_err-name c = λ ns a.
     let v = c.in_ok-values.values in
     let p = err_from_is_err_and c.from_residual-in_err-name.result c.from_residual-in_err-name.ensures.1 in
     rw (p.1, p.2)
-    (loop_nameless ns c.args.number h.name.items (turns_of (meaning_of c.args.names.now) h) (content_of c.args.item.now) v.items (referred c.in-Block.name) c.in-Block.items.now _ c.in_ok-values.ensures.1 (omega (arith, v.ok.0, c.len.ensures))
+    (loop_nameless c.args.place ns c.args.number h.name.items (turns_of (meaning_of c.args.names.now) h) (content_of c.args.item.now) v.items (referred c.in-Block.name) c.in-Block.items.now _ c.in_ok-values.ensures.1 (omega (arith, v.ok.0, c.len.ensures))
     (sym c.content_of.ensures ∙ ap read_content c.in-Block.is) (c.in_err-name.ensures ns a))
 
 pub returns : goal.returns
@@ -38,6 +38,6 @@ returns c = λ ns a.
     let v = c.in_ok-values.values in
     let n = read_part c.in_ok-name.name in
     let old = read_inners c.args.inners.now.items in
-    let made = ap₂ (λ (g : List ℕ) (cs : List Const). old ++ turn_blocks n g c.in-Block.items.now cs) c.deref.ensures.value c.deref-2.ensures.value in
-    loop_opened ns c.args.number h.name.items (turns_of (meaning_of c.args.names.now) h) (content_of c.args.item.now) v.items (referred c.in-Block.name) c.in-Block.items.now n old (read_inners c.add_turns.new.inners.items) c.in_ok-values.ensures.1
+    let made = ap₂ (λ (g : List ℕ) (cs : List Const). old ++ turn_blocks c.args.place n g c.in-Block.items.now cs) c.deref.ensures.value c.deref-2.ensures.value in
+    loop_opened c.args.place ns c.args.number h.name.items (turns_of (meaning_of c.args.names.now) h) (content_of c.args.item.now) v.items (referred c.in-Block.name) c.in-Block.items.now n old (read_inners c.add_turns.new.inners.items) c.in_ok-values.ensures.1
     (sym c.content_of.ensures ∙ ap read_content c.in-Block.is) (c.in_ok-name.ensures ns a).1 (c.in_ok-add_turns.ensures ∙ made)

@@ -11,5 +11,5 @@ pub returns-in-Loop : goal.returns-in-Loop
 returns-in-Loop c = λ ns a.
     let env = meaning_of c.args.names.now in
     let S : Piece → Type 0 =
-    λ p. Elaborates (λ r. construct_fault r env ns c.args.number p) (λ (u : Unit {0}). read_inners c.add_loop.new.inners.items ≡ read_inners c.args.inners.now.items ++ inner_in env ns c.args.number p) c.add_loop.result in
+    λ p. Elaborates (λ r. construct_fault r env ns c.args.number p) (λ (u : Unit {0}). read_inners c.add_loop.new.inners.items ≡ read_inners c.args.inners.now.items ++ inner_in c.args.place env ns c.args.number p) c.add_loop.result in
     subst S (ap (loop c.in-Loop.header.now) c.deref.ensures ∙ ap read_piece (sym c.in-Loop.is)) (c.add_loop.ensures ns a)

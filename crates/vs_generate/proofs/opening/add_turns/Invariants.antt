@@ -6,4 +6,4 @@ use Rattle.vs_generate.proofs.opening.add_turns.Given as goal
 
 abbrev pub invariant-loop-value : goal.invariant-loop-value
 invariant-loop-value l =
-    read_inners l.inners.items ++ turn_blocks (read_part l.name) l.genvar l.items (drop l.value-index l.values) ≡ read_inners l.fn.inners.items ++ turn_blocks (read_part l.name) l.genvar l.items l.values
+    read_inners l.inners.items ++ turn_blocks l.place (read_part l.name) l.genvar l.items (drop l.value-index l.values) ≡ read_inners l.fn.inners.items ++ turn_blocks l.place (read_part l.name) l.genvar l.items l.values

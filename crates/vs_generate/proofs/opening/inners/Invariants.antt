@@ -7,11 +7,11 @@ use Rattle.vs_generate.specs.Reads.{read_inners}
 use Rattle.vs_generate.specs.passes.Numbering.{AreNames}
 use Rattle.vs_generate.proofs.opening.inners.Given as goal
 
-abbrev pub invariant-loop-piece : goal.invariant-loop-piece
-invariant-loop-piece l = record {
-  few : l.number ≤ l.piece-index + 1;
+abbrev pub invariant-loop-place : goal.invariant-loop-place
+invariant-loop-place l = record {
+  few : l.number ≤ l.place + 1;
   faults : (ns : List (List ℕ)) → AreNames ns l.own → (r : Reason) →
-      constructs_fault r (meaning_of l.names) ns l.number (map read_piece (drop l.piece-index l.pieces)) ≡ constructs_fault r (meaning_of l.names) ns 1 (map read_piece l.pieces);
+      constructs_fault r (meaning_of l.names) ns l.number (map read_piece (drop l.place l.pieces)) ≡ constructs_fault r (meaning_of l.names) ns 1 (map read_piece l.pieces);
   made : (ns : List (List ℕ)) → AreNames ns l.own →
-      read_inners l.all.items ++ inner_from (meaning_of l.names) ns l.number (map read_piece (drop l.piece-index l.pieces)) ≡ inner_from (meaning_of l.names) ns 1 (map read_piece l.pieces);
+      read_inners l.all.items ++ inner_from l.place (meaning_of l.names) ns l.number (map read_piece (drop l.place l.pieces)) ≡ inner_from 0 (meaning_of l.names) ns 1 (map read_piece l.pieces);
 }

@@ -4,6 +4,7 @@ use Rattle.vs_pieces.specs.Reads.{read_piece}
 use Rattle.vs_pieces.specs.Pieces.{pieces_of}
 use Rattle.vs_generate.specs.Reads.{read_use}
 use Rattle.vs_scopes.specs.Ports.{ports_of, listed_ports}
+use Rattle.vs_scopes.specs.Scopes.{instance_scope}
 use Rattle.vs_scopes.specs.passes.Answers.{borrowed}
 use Rattle.vs_scopes.specs.passes.Parts.{read_port}
 use Rattle.vs_opened.specs.passes.Connecting.{ConnectsTo}
@@ -15,12 +16,12 @@ use Rattle.vs_opening.proofs.entering.module_scope.Goals as goal
 
 pub returns-in-Err : goal.returns-in-Err
 returns-in-Err c = λ ss s a h.
-    parameters_told s (read_use c.args.one.now) c.args.module.now c.in-Err.refusal c.parameter_refusal.result (c.in-Err.ensures.fault ss s a h) (c.parameter_refusal.ensures ss s a h)
+    parameters_told s (read_use c.args.one.now) c.args.listed.«module».now c.in-Err.refusal c.parameter_refusal.result (c.in-Err.ensures.fault ss s a h) (c.parameter_refusal.ensures ss s a h)
 
 pub returns-in_default : goal.returns-in_default
 returns-in_default c = λ ss s a h.
     (let u = read_use c.args.one.now in
-    let m = c.args.module.now in
+    let m = c.args.listed.«module».now in
     let pieces : map read_piece c.in_ok-pieces.pieces.items ≡ pieces_of m.items.items = c.in_ok-pieces.ensures ∙ ap pieces_of c.deref.ensures.value in
     let ports : map read_port c.in_ok-ports.ports.items ≡ ports_of m = c.in_ok-ports.ensures ∙ ap (λ z. listed_ports (map read_piece z) m.ports) c.deref-2.ensures.value ∙ ap (λ z. listed_ports z m.ports) pieces in
     let given : ConnectsTo u (map read_port c.deref-5.result.now) None = subst (ConnectsTo u (map read_port c.deref-5.result.now)) c.in_default.is c.in_ok-ends.ensures in
@@ -51,7 +52,7 @@ pub returns : goal.returns
 returns c = λ ss s a h.
     (let list = c.args.list.now in
     let u = read_use c.args.one.now in
-    let m = c.args.module.now in
+    let m = c.args.listed.«module».now in
     let base : c.len.result ≡ length c.args.plan.now.signals.items = omega (arith, c.len.ensures, c.args.plan.now.signals.ok.0) in
     let below : c.args.place < length list = c.requires.place in
     let many : length list ≡ length ss = opened_many list ss a in
@@ -69,7 +70,10 @@ returns c = λ ss s a h.
     let given : ConnectsTo u (map read_port c.deref-5.result.now) (Some c.in-Some.ends) = subst (ConnectsTo u (map read_port c.deref-5.result.now)) c.in-Some.is c.in_ok-ends.ensures in
     let ends : ConnectsTo u (ports_of m) (Some c.in-Some.ends) = subst (λ z. ConnectsTo u z (Some c.in-Some.ends)) (ap (map read_port) c.deref-5.ensures.value ∙ ports) given in
     let within : borrowed c.in_ok-within.within.items ≡ m.name.items ∷ s.within =
-    c.in_ok-within.ensures ∙ ap (λ z. z ∷ borrowed c.deref-7.result.now) c.deref-6.ensures.value ∙ ap (λ z. m.name.items ∷ borrowed z) c.deref-7.ensures.value ∙
+    c.in_ok-within.ensures ∙ ap (λ z. z ∷ borrowed c.deref-8.result.now) c.deref-7.ensures.value ∙ ap (λ z. m.name.items ∷ borrowed z) c.deref-8.ensures.value ∙
     ap (λ z. m.name.items ∷ z) (home_modules list ss c.args.place s one top a h here there) in
-    entered_instance ss s c.args.place (before_next list c.args.plan.now) h many inside u m _ c.in-Ok.values
-    c.plain_title.ensures.title refl refl base refl refl deeper ports pieces refl refl (c.in-Ok.ensures.ok ss s a h) within refl refl ends c.new-2.ensures)
+    let nets = c.args.listed.nets in
+    let inner = instance_scope nets s (before_next list c.args.plan.now) u m in
+    let members = c.in_ok-members.ensures ss inner (record { opened = a; sight = record { outer_scope = s; stands = h; sight = refl }; kind = refl }) in
+    entered_instance ss s c.args.place (before_next list c.args.plan.now) h many inside nets u m _ c.in-Ok.values c.in_ok-members.members
+    c.plain_title.ensures.title refl refl base refl refl deeper refl ports refl refl refl members refl refl (c.in-Ok.ensures.ok ss s a h) within refl refl ends c.new-2.ensures)

@@ -2,10 +2,9 @@ use Rattle.std.proofs.Common.{◌<◌, [], ◌∷◌, ◌++◌, length, map, ref
 use Rattle.std.proofs.lemmas.Result.{err_from_is_err_and}
 use Rattle.vs_generate.specs.Reads.{read_inner}
 use Rattle.vs_opened.specs.Opened.{AreOpened, AreSeated}
-use Rattle.vs_opening.specs.passes.Opens.{IsSoundOwn, HasInner}
-use Rattle.vs_opening.proofs.ListLemmas.{all_at}
+use Rattle.vs_opening.specs.passes.Opens.{HasInner}
 use Rattle.vs_opening.proofs.SeatLemmas.{opened_place}
-use Rattle.vs_opening.proofs.FaultLemmas.{constructs_told}
+use Rattle.vs_opening.proofs.FaultLemmas.{inner_not_told}
 use Rattle.vs_opening.proofs.InsideLemmas.{so_far, holding_start, holding_end, holding_here, add_told, room_inside, ready_inside, inside_told, holding_next}
 use Rattle.vs_opening.proofs.opening.+open_inside.Goals as goal
 
@@ -21,7 +20,7 @@ pub returns-in_err-inner : goal.returns-in_err-inner
 returns-in_err-inner n c = λ ms ss s h.
     (let p = err_from_is_err_and c.from_residual.result c.from_residual.ensures.1 in
     let one : AreOpened c.deref.result.now ss = subst (λ z. AreOpened z ss) (sym c.deref.ensures.value) h.planned.opened in
-    rw (p.1, p.2) (constructs_told c.args.room ms s c.in_err-inner.field-0.0 (c.in_err-inner.ensures ss s one h.stands (all_at IsSoundOwn ss c.args.place s h.planned.sound h.stands))))
+    rw (p.1, p.2) (inner_not_told c.args.room ms s c.in_err-inner.field-0.0 (c.in_err-inner.ensures ss s one h.stands)))
 
 pub loop-one-init : goal.loop-one-init
 loop-one-init n c = λ ms ss s h. holding_start c.args.room c.requires.room ms ss s c.args.place c.args.modules.now c.args.list.now.items c.args.plan.now h
@@ -35,7 +34,7 @@ add-requires n c =
     let items = c.deref-one-items.result.now in
     let one : AreOpened c.deref.result.now ss = subst (λ z. AreOpened z ss) (sym c.deref.ensures.value) h.planned.opened in
     let found : HasInner s (map read_inner items) =
-    subst (λ z. HasInner s (map read_inner z)) (sym c.deref-one-items.ensures.value) (c.in_ok-inner.ensures ss s one h.stands (all_at IsSoundOwn ss c.args.place s h.planned.sound h.stands)) in
+    subst (λ z. HasInner s (map read_inner z)) (sym c.deref-one-items.ensures.value) (c.in_ok-inner.ensures ss s one h.stands) in
     let holds = c.loop-one.invariant ms ss s h in
     let list0 = c.args.list.now.items in
     let list1 = c.loop-one.list.items in
@@ -53,7 +52,7 @@ returns-in_err-next n c = λ ms ss s h.
     let items = c.deref-one-items.result.now in
     let one : AreOpened c.deref.result.now ss = subst (λ z. AreOpened z ss) (sym c.deref.ensures.value) h.planned.opened in
     let found : HasInner s (map read_inner items) =
-    subst (λ z. HasInner s (map read_inner z)) (sym c.deref-one-items.ensures.value) (c.in_ok-inner.ensures ss s one h.stands (all_at IsSoundOwn ss c.args.place s h.planned.sound h.stands)) in
+    subst (λ z. HasInner s (map read_inner z)) (sym c.deref-one-items.ensures.value) (c.in_ok-inner.ensures ss s one h.stands) in
     let holds = c.loop-one.invariant ms ss s h in
     let list0 = c.args.list.now.items in
     let list1 = c.loop-one.list.items in
@@ -74,7 +73,7 @@ open_inside-requires n c =
     let items = c.deref-one-items.result.now in
     let one : AreOpened c.deref.result.now ss = subst (λ z. AreOpened z ss) (sym c.deref.ensures.value) h.planned.opened in
     let found : HasInner s (map read_inner items) =
-    subst (λ z. HasInner s (map read_inner z)) (sym c.deref-one-items.ensures.value) (c.in_ok-inner.ensures ss s one h.stands (all_at IsSoundOwn ss c.args.place s h.planned.sound h.stands)) in
+    subst (λ z. HasInner s (map read_inner z)) (sym c.deref-one-items.ensures.value) (c.in_ok-inner.ensures ss s one h.stands) in
     let holds = c.loop-one.invariant ms ss s h in
     let list0 = c.args.list.now.items in
     let list1 = c.loop-one.list.items in
@@ -97,7 +96,7 @@ returns-in_err-open_inside n c = λ ms ss s h.
     let items = c.deref-one-items.result.now in
     let one : AreOpened c.deref.result.now ss = subst (λ z. AreOpened z ss) (sym c.deref.ensures.value) h.planned.opened in
     let found : HasInner s (map read_inner items) =
-    subst (λ z. HasInner s (map read_inner z)) (sym c.deref-one-items.ensures.value) (c.in_ok-inner.ensures ss s one h.stands (all_at IsSoundOwn ss c.args.place s h.planned.sound h.stands)) in
+    subst (λ z. HasInner s (map read_inner z)) (sym c.deref-one-items.ensures.value) (c.in_ok-inner.ensures ss s one h.stands) in
     let holds = c.loop-one.invariant ms ss s h in
     let list0 = c.args.list.now.items in
     let list1 = c.loop-one.list.items in
@@ -119,7 +118,7 @@ loop-one-preserved n c = λ ms ss s h.
     (let items = c.deref-one-items.result.now in
     let one : AreOpened c.deref.result.now ss = subst (λ z. AreOpened z ss) (sym c.deref.ensures.value) h.planned.opened in
     let found : HasInner s (map read_inner items) =
-    subst (λ z. HasInner s (map read_inner z)) (sym c.deref-one-items.ensures.value) (c.in_ok-inner.ensures ss s one h.stands (all_at IsSoundOwn ss c.args.place s h.planned.sound h.stands)) in
+    subst (λ z. HasInner s (map read_inner z)) (sym c.deref-one-items.ensures.value) (c.in_ok-inner.ensures ss s one h.stands) in
     let holds = c.loop-one.invariant ms ss s h in
     let list0 = c.args.list.now.items in
     let list1 = c.loop-one.list.items in
@@ -141,7 +140,7 @@ returns n c = λ ms ss s h.
     (let items = c.deref-one-items.result.now in
     let one : AreOpened c.deref.result.now ss = subst (λ z. AreOpened z ss) (sym c.deref.ensures.value) h.planned.opened in
     let found : HasInner s (map read_inner items) =
-    subst (λ z. HasInner s (map read_inner z)) (sym c.deref-one-items.ensures.value) (c.in_ok-inner.ensures ss s one h.stands (all_at IsSoundOwn ss c.args.place s h.planned.sound h.stands)) in
+    subst (λ z. HasInner s (map read_inner z)) (sym c.deref-one-items.ensures.value) (c.in_ok-inner.ensures ss s one h.stands) in
     let holds = c.loop-one.invariant ms ss s h in
     let list0 = c.args.list.now.items in
     let list1 = c.loop-one.list.items in

@@ -1,34 +1,30 @@
-use Rattle.std.proofs.Common.{◌≡◌, ◌++◌, Some, map, ap, ◌∙◌}
-use Rattle.std.specs.List.{slice_get}
-use Rattle.vs_widths.specs.Names.{meaning_of, nested_names}
-use Rattle.vs_pieces.specs.Reads.{read_piece}
+use Rattle.std.proofs.Common.{◌≡◌, false, inl, inr, map, ap, subst, ◌∙◌}
+use Rattle.std.specs.List.{list_any}
+use Rattle.std.proofs.lemmas.Result.{err_from_is_err_and}
 use Rattle.vs_generate.specs.Reads.{read_inner}
-use Rattle.vs_scopes.specs.Declarations.{Bindings}
-use Rattle.vs_scopes.specs.Scopes.{environment, all_names_of}
-use Rattle.vs_opening.proofs.EnterLemmas.{got}
-use Rattle.vs_opening.proofs.SeatLemmas.{opened_here}
-use Rattle.vs_opening.proofs.InsideLemmas.{names_are, names_mean, inner_found, fault_found}
+use Rattle.vs_scopes.specs.Scopes.{inner_of, is_named_as_net}
+use Rattle.vs_scopes.specs.passes.Answers.{Told}
+use Rattle.vs_scopes.proofs.AnswerLemmas.{told_by}
+use Rattle.vs_opened.specs.ScopeFaults.{HasConstructFault}
+use Rattle.vs_nets.specs.passes.Nets.{IsNamedAsNet}
+use Rattle.vs_opening.specs.passes.Opens.{HasInnerNot}
 use Rattle.vs_opening.proofs.opening.inner_at.Goals as goal
 
-pub returns-in-Ok : goal.returns-in-Ok
-returns-in-Ok c = λ ss s a e own.
-    (let o = c.index-list-place.result in
-    let stands : slice_get c.args.list.now c.args.place ≡ Some o = got c.args.list.now c.args.place o c.requires.place c.index-list-place.is in
-    let opened = opened_here c.args.list.now ss c.args.place o s a stands e in
-    let outer = c.in_ok-outer.ensures ss s a opened.entered.around opened.entered.kind in
-    let levels : c.new-levels.result ≡ o.names ++ nested_names c.in_ok-outer.outer.items = c.new-levels.ensures ∙ ap (λ z. o.names ++ nested_names z) c.deref.ensures.value in
-    let env : meaning_of c.new-levels.result ≡ environment s = ap (λ (z : Bindings). meaning_of z) levels ∙ names_mean ss o s (nested_names c.in_ok-outer.outer.items) opened outer in
-    let pieces : map read_piece c.deref-2.result.now ≡ s.pieces = ap (map read_piece) c.deref-2.ensures.value ∙ opened.entered.pieces in
-    let k = c.in-Ok.ensures (all_names_of s) (names_are ss o s opened own) in
-    inner_found s (meaning_of c.new-levels.result) (map read_piece c.deref-2.result.now) env pieces (map read_inner c.in-Ok.inner.items) k.0 k.1)
+pub returns-in_err-inner : goal.returns-in_err-inner
+returns-in_err-inner c = λ ss s a e.
+    (let p = err_from_is_err_and c.from_residual.result c.from_residual.ensures.1 in
+    rw (p.1, p.2) (told_by (HasConstructFault s) (HasInnerNot s) c.in_err-inner.field-0.0 (λ r q h. inl h) (c.in_err-inner.ensures ss s a e)))
+
+pub returns-in_err-check_blocks : goal.returns-in_err-check_blocks
+returns-in_err-check_blocks c = λ ss s a e.
+    (let p = err_from_is_err_and c.from_residual-in_err-check_blocks.result c.from_residual-in_err-check_blocks.ensures.1 in
+    let f = c.in_err-check_blocks.field-0.0 in
+    let inner : map read_inner c.deref.result.now ≡ inner_of s = ap (map read_inner) c.deref.ensures.value ∙ (c.in_ok-inner.ensures ss s a e).same in
+    let told : Told (IsNamedAsNet s (inner_of s)) f = subst (λ z. Told (IsNamedAsNet s z) f) inner (c.in_err-check_blocks.ensures ss s a e) in
+    rw (p.1, p.2) (told_by (IsNamedAsNet s (inner_of s)) (HasInnerNot s) f (λ r q h. inr h) told))
 
 pub returns : goal.returns
-returns c = λ ss s a e own.
-    (let o = c.index-list-place.result in
-    let stands : slice_get c.args.list.now c.args.place ≡ Some o = got c.args.list.now c.args.place o c.requires.place c.index-list-place.is in
-    let opened = opened_here c.args.list.now ss c.args.place o s a stands e in
-    let outer = c.in_ok-outer.ensures ss s a opened.entered.around opened.entered.kind in
-    let levels : c.new-levels.result ≡ o.names ++ nested_names c.in_ok-outer.outer.items = c.new-levels.ensures ∙ ap (λ z. o.names ++ nested_names z) c.deref.ensures.value in
-    let env : meaning_of c.new-levels.result ≡ environment s = ap (λ (z : Bindings). meaning_of z) levels ∙ names_mean ss o s (nested_names c.in_ok-outer.outer.items) opened outer in
-    let pieces : map read_piece c.deref-2.result.now ≡ s.pieces = ap (map read_piece) c.deref-2.ensures.value ∙ opened.entered.pieces in
-    fault_found s (meaning_of c.new-levels.result) (map read_piece c.deref-2.result.now) env pieces c.in-Err.fault c.construct_fault.result (c.in-Err.ensures (all_names_of s) (names_are ss o s opened own)) (c.construct_fault.ensures ss s a e))
+returns c = λ ss s a e. record {
+  found = c.in_ok-inner.ensures ss s a e;
+  nets = subst (λ z. list_any (is_named_as_net s) (map read_inner z) ≡ false) c.deref.ensures.value (c.in_ok-check_blocks.ensures ss s a e);
+}

@@ -23,6 +23,7 @@ returns c = λ ss s a e q base.
     let fits = c.in_ok-check_scope.ensures whole s e.entered q in
     let turn = c.in_ok-check_turn.ensures ss s a e in
     let pieces = c.in_ok-check_pieces.ensures ss s a e q in
+    let nets = c.in_ok-check_nets.ensures ss s a e q in
     let outer = c.in_ok-outer.ensures ss s a (around_front ss s o.around e.number e.entered.around) e.entered.kind in
     let known : c.new-known.result ≡ o.known ++ nested_names c.in_ok-outer.outer.items = c.new-known.ensures ∙ ap (λ z. o.known ++ nested_names z) c.deref.ensures.value in
     let site : IsSite s (read_path c.args.path.now) (meaning_of c.new-known.result) = record {
@@ -30,4 +31,4 @@ returns c = λ ss s a e q base.
       known_is = ap (λ (z : Bindings). meaning_of z) known ∙ known_levels o.known (nested_names c.in_ok-outer.outer.items) (seen_from s.kind s.outer) s.known outer e.entered.known;
     } in
     mapped (λ names. OpensNames s names c.args.plan.now c.open_names.new.plan) (λ names. OpensOwn s names c.args.plan.now c.open_names.new.plan) (Told (HoldsOwn s)) c.open_names.result
-    (λ names h. opens_names s names c.args.plan.now c.open_names.new.plan base fits pieces turn h) (c.open_names.ensures whole s e.entered site pieces base))
+    (λ names h. opens_names s names c.args.plan.now c.open_names.new.plan base fits pieces turn nets h) (c.open_names.ensures whole s e.entered site pieces base))

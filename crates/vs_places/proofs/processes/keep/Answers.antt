@@ -3,24 +3,24 @@ use Rattle.vs_places.proofs.TimelinesLemmas.{kept_none, kept_other, kept_roused,
 use Rattle.vs_places.proofs.processes.keep.Goals as goal
 
 pub returns-in_default-clause-kept : goal.returns-in_default-clause-kept
-returns-in_default-clause-kept c = kept_none c.args.process c.requires.kept c.in_default.ensures
+returns-in_default-clause-kept g c = kept_none c.args.process c.requires.kept c.in_default.ensures
 
 pub returns-in_err-enlist-clause-kept : goal.returns-in_err-enlist-clause-kept
-returns-in_err-enlist-clause-kept c =
+returns-in_err-enlist-clause-kept g c =
     kept_roused c.args.process c.in-Some.place.now c.requires.kept c.in-Some.ensures (sym c.is_inactive.ensures ∙ c.if-is_inactive.true) c.in_err-enlist.ensures.active c.in_err-enlist.ensures.unlisted
 
 pub returns-then-is_inactive-clause-kept : goal.returns-then-is_inactive-clause-kept
-returns-then-is_inactive-clause-kept c =
+returns-then-is_inactive-clause-kept g c =
     kept_inactive c.args.process c.in-Some.place.now c.requires.kept c.in-Some.ensures (sym c.is_inactive.ensures ∙ c.if-is_inactive.true) c.in_ok-enlist.ensures.places c.in_ok-enlist.ensures.listed
 
 pub returns-in_err-postpone-clause-kept : goal.returns-in_err-postpone-clause-kept
-returns-in_err-postpone-clause-kept c =
+returns-in_err-postpone-clause-kept g c =
     kept_woken c.args.process c.in-Some-due.due c.in-Some.place.now c.requires.kept c.in-Some.ensures (sym c.due.ensures ∙ c.in-Some-due.is) c.in_err-postpone.ensures.active c.in_err-postpone.ensures.unqueued
 
 pub returns-in-Some-due-clause-kept : goal.returns-in-Some-due-clause-kept
-returns-in-Some-due-clause-kept c =
+returns-in-Some-due-clause-kept g c =
     kept_sleeping c.args.process c.in-Some-due.due c.in-Some.place.now c.requires.kept c.in-Some.ensures (sym c.due.ensures ∙ c.in-Some-due.is) c.in_ok-postpone.ensures.places c.in_ok-postpone.ensures.queued
 
 pub returns-clause-kept : goal.returns-clause-kept
-returns-clause-kept c =
+returns-clause-kept g c =
     kept_other c.args.process c.in-Some.place.now c.requires.kept c.in-Some.ensures (sym c.is_inactive.ensures ∙ c.if-is_inactive.false) (sym c.due.ensures ∙ c.in_default-due.is)

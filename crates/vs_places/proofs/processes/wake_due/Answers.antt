@@ -6,16 +6,16 @@ use Rattle.vs_places.proofs.TimelinesLemmas.{take_some, take_none, taken_none, t
 use Rattle.vs_places.proofs.processes.wake_due.Goals as goal
 
 pub take_due-requires : goal.take_due-requires
-take_due-requires c = record {
+take_due-requires g c = record {
   not_over = c.loop-process.invariant.not_over;
-  none_before = from_least c.args.time c.loop-process.sleepers.bag c.loop-process.invariant.none_before;
+  none_before = from_least c.args.time (g.Q.EventQueue.bag c.loop-process.sleepers) c.loop-process.invariant.none_before;
 }
 
 pub loop-process-preserved : goal.loop-process-preserved
-loop-process-preserved c =
+loop-process-preserved g c =
     let f = woken_at c.args.time in
-    let bag = c.loop-process.sleepers.bag in
-    let bag' = c.take_due.new.self.bag in
+    let bag = g.Q.EventQueue.bag c.loop-process.sleepers in
+    let bag' = g.Q.EventQueue.bag c.take_due.new.self in
     let rest = c.take_due.ensures.rest in
     let some : events_at c.args.time bag ≡ c.in-Some.process ∷ events_at c.args.time bag' = take_some c.args.time bag bag' c.in-Some.process (sym c.take_due.ensures.oldest ∙ c.in-Some.is) rest in
     record {
@@ -27,10 +27,10 @@ loop-process-preserved c =
     }
 
 pub loop-process-preserved-in-Err : goal.loop-process-preserved-in-Err
-loop-process-preserved-in-Err c =
+loop-process-preserved-in-Err g c =
     let f = woken_at c.args.time in
-    let bag = c.loop-process.sleepers.bag in
-    let bag' = c.take_due.new.self.bag in
+    let bag = g.Q.EventQueue.bag c.loop-process.sleepers in
+    let bag' = g.Q.EventQueue.bag c.take_due.new.self in
     let rest = c.take_due.ensures.rest in
     let some : events_at c.args.time bag ≡ c.in-Some.process ∷ events_at c.args.time bag' = take_some c.args.time bag bag' c.in-Some.process (sym c.take_due.ensures.oldest ∙ c.in-Some.is) rest in
     record {
@@ -42,26 +42,26 @@ loop-process-preserved-in-Err c =
     }
 
 pub loop-process-smaller : goal.loop-process-smaller
-loop-process-smaller c =
-    let bag = c.loop-process.sleepers.bag in
-    let bag' = c.take_due.new.self.bag in
+loop-process-smaller g c =
+    let bag = g.Q.EventQueue.bag c.loop-process.sleepers in
+    let bag' = g.Q.EventQueue.bag c.take_due.new.self in
     let rest = c.take_due.ensures.rest in
     let some : events_at c.args.time bag ≡ c.in-Some.process ∷ events_at c.args.time bag' = take_some c.args.time bag bag' c.in-Some.process (sym c.take_due.ensures.oldest ∙ c.in-Some.is) rest in
     omega (arith, ap length some)
 
 pub loop-process-smaller-in-Err : goal.loop-process-smaller-in-Err
-loop-process-smaller-in-Err c =
-    let bag = c.loop-process.sleepers.bag in
-    let bag' = c.take_due.new.self.bag in
+loop-process-smaller-in-Err g c =
+    let bag = g.Q.EventQueue.bag c.loop-process.sleepers in
+    let bag' = g.Q.EventQueue.bag c.take_due.new.self in
     let rest = c.take_due.ensures.rest in
     let some : events_at c.args.time bag ≡ c.in-Some.process ∷ events_at c.args.time bag' = take_some c.args.time bag bag' c.in-Some.process (sym c.take_due.ensures.oldest ∙ c.in-Some.is) rest in
     omega (arith, ap length some)
 
 pub returns : goal.returns
-returns c =
+returns g c =
     let f = woken_at c.args.time in
-    let bag = c.loop-process.sleepers.bag in
-    let bag' = c.take_due.new.self.bag in
+    let bag = g.Q.EventQueue.bag c.loop-process.sleepers in
+    let bag' = g.Q.EventQueue.bag c.take_due.new.self in
     let nothing = sym c.take_due.ensures.oldest ∙ c.in_default.is in
     record {
       places = sym (ap (λ (l : List ℕ). changed_all f l c.loop-process.places) (take_none c.args.time bag nothing)) ∙ c.loop-process.invariant.places;

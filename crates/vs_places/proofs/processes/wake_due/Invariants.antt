@@ -5,12 +5,12 @@ use Rattle.vs_places.specs.Triggers.{changed_all}
 use Rattle.vs_places.proofs.processes.wake_due.Given as goal
 
 abbrev pub invariant-loop-process : goal.invariant-loop-process
-invariant-loop-process l = record {
-  places : changed_all (woken_at l.time) (events_at l.time l.sleepers.bag) l.places ≡ changed_all (woken_at l.time) (events_at l.time l.fn.sleepers.bag) l.fn.places;
-  others : (t : ℕ) → l.time ≢ t → events_at t l.sleepers.bag ≡ events_at t l.fn.sleepers.bag;
-  not_over : l.sleepers.clock ≤ l.time;
-  none_before : IsFrom l.time l.sleepers.bag;
+invariant-loop-process g l = record {
+  places : changed_all (woken_at l.time) (events_at l.time (g.Q.EventQueue.bag l.sleepers)) l.places ≡ changed_all (woken_at l.time) (events_at l.time (g.Q.EventQueue.bag l.fn.sleepers)) l.fn.places;
+  others : (t : ℕ) → l.time ≢ t → events_at t (g.Q.EventQueue.bag l.sleepers) ≡ events_at t (g.Q.EventQueue.bag l.fn.sleepers);
+  not_over : g.Q.EventQueue.clock l.sleepers ≤ l.time;
+  none_before : IsFrom l.time (g.Q.EventQueue.bag l.sleepers);
 }
 
 abbrev pub decreases-loop-process : goal.decreases-loop-process
-decreases-loop-process l = length (events_at l.time l.sleepers.bag)
+decreases-loop-process g l = length (events_at l.time (g.Q.EventQueue.bag l.sleepers))

@@ -17,3 +17,6 @@ returns-in-Local c ns h = leaves_nothing ns _ (borrowed c.args.again.now.items) 
 
 pub returns-in-Inside : goal.returns-in-Inside
 returns-in-Inside c ns h = leaves_nothing ns _ (borrowed c.args.again.now.items) c.args.counts.now (ap (λ (z : FoundPiece). port_names_in (read_piece z)) c.in-Inside.is) h
+
+pub returns-in-Net : goal.returns-in-Net
+returns-in-Net c ns h = leaves_nothing ns _ (borrowed c.args.again.now.items) c.args.counts.now (ap (λ (z : FoundPiece). port_names_in (read_piece z)) c.in-Net.is) h

@@ -3,3 +3,6 @@ use Rattle.vs_sim.proofs.simulation.run_under.Goals as goal
 
 pub returns-in_err-kernel-clause-begun : goal.returns-in_err-kernel-clause-begun
 returns-in_err-kernel-clause-begun g c = on_err _ (header_failed (0, append_none _))
+
+pub returns-in_default-clause-begun : goal.returns-in_default-clause-begun
+returns-in_default-clause-begun g c = header_failed (0, append_none _)

@@ -15,12 +15,12 @@ use Rattle.vs_state.proofs.WaitsLemmas.{within_triggered}
 use Rattle.vs_state.proofs.changes.wake_for.Goals as goal
 
 pub wake_change-requires-clause-size : goal.wake_change-requires-clause-size
-wake_change-requires-clause-size c =
+wake_change-requires-clause-size g c =
     let part = c.part-item.result in
     rw (c.word-before.ensures, c.word_behind-behind.ensures) (put_size c.args.write.now c.args.store.now part.signal part.word)
 
 pub loop-part-preserved : goal.loop-part-preserved
-loop-part-preserved c =
+loop-part-preserved g c =
     let part : Part = c.part-item.result in
     let parts : List Part = c.parts-part-items.result.now in
     let store = c.args.store.now in

@@ -1,4 +1,4 @@
-use Rattle.std.proofs.Common.{◌≡◌, ◌++◌, ◌∙◌, Some, length, map, ap, subst, arith}
+use Rattle.std.proofs.Common.{◌++◌, ◌∙◌, Some, length, map, ap, subst, arith}
 use Rattle.std.proofs.lemmas.List.{length-map, length-set}
 use Rattle.vs_widths.specs.Names.{meaning_of, nested_names}
 use Rattle.vs_scopes.specs.passes.Parts.{read_given}

@@ -1,4 +1,3 @@
-use Rattle.vs_scopes.specs.passes.Parts.{read_given}
 use Rattle.vs_values.proofs.SearchLemmas.{Numbers}
 use Rattle.vs_values.proofs.finding.numbered.Given as goal
 

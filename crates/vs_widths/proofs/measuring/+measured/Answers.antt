@@ -2,10 +2,10 @@ use Rattle.std.proofs.Common.{Some, None, map, refl, ap, sym, arith, rules}
 use Rattle.std.proofs.lemmas.Result.{err_from_is_err_and}
 use Rattle.vs_widths.specs.Names.{meaning_of}
 use Rattle.vs_selects.specs.passes.Measures.{meaning}
-use Rattle.vs_forms.specs.Each.{each_none}
+use Rattle.vs_selects.specs.Each.{each_none}
 use Rattle.vs_widths.specs.Expressions.{meant, chain_meant}
 use Rattle.vs_widths.specs.passes.Forms.{links_meant, pairs_meant, IsChoicePair, IsPartOf}
-use Rattle.vs_forms.proofs.FittingLemmas.{each_step}
+use Rattle.vs_selects.proofs.FittingLemmas.{each_step}
 use Rattle.vs_widths.proofs.DepthLemmas.{falls_by, first_most}
 use Rattle.vs_widths.proofs.MeasuringLemmas.{chain_refused, choice_refused, concat_refused, count_refused, counted_refused, parts_refused, form_Unary, form_Cast, form_Chain, form_Choice, form_Concat, form_Repeat, repeats, links_step, link_refused, pair_of, pairs_step, condition_refused, operand_refused, pairs_end, sum_one, part_of, parts_step, size_step, part_refused, part_too_wide, parts_end}
 use Rattle.vs_widths.proofs.SelectLemmas.{select_refused, place_measures, selects_step, bit_meaning, part_meaning, index_refused, other_refused}

@@ -6,7 +6,7 @@ use Rattle.vs_selects.specs.Findings.{Has}
 use Rattle.vs_widths.specs.Expressions.{meant, meant_selects, chain_meant, choice_finding}
 use Rattle.vs_selects.specs.passes.Measures.{meaning, IsFlexible}
 use Rattle.vs_widths.specs.passes.Forms.{links_meant, pairs_meant, IsChoicePair, IsPartOf}
-use Rattle.vs_forms.specs.Each.{Each}
+use Rattle.vs_selects.specs.Each.{Each}
 use Rattle.vs_widths.proofs.DepthLemmas.{parts_depth, links_depth, pairs_depth}
 use Rattle.vs_widths.proofs.MeasuringLemmas.{sum_from, sizes_of}
 use Rattle.vs_widths.specs.passes.Selects.{AreMeasured}

@@ -3,4 +3,4 @@ use Rattle.vs_places.proofs.TimelinesLemmas.{kept_triggered}
 use Rattle.vs_places.proofs.processes.Processes.trigger.Goals as goal
 
 pub invariant_of-self : goal.invariant_of-self
-invariant_of-self c = kept_triggered c.self.invariant c.args.signal c.args.word (Some c.args.before) (Some c.args.behind) c.args.process c.trigger.ensures
+invariant_of-self g c = kept_triggered c.self.invariant c.args.signal c.args.word (Some c.args.before) (Some c.args.behind) c.args.process c.trigger.ensures

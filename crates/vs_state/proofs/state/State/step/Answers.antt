@@ -8,7 +8,7 @@ use Rattle.vs_state.proofs.WaitsLemmas.{stepped_by, within_set, written_terms}
 use Rattle.vs_state.proofs.state.State.step.Goals as goal
 
 pub perform-requires-clause-terms : goal.perform-requires-clause-terms
-perform-requires-clause-terms c = λ w is.
+perform-requires-clause-terms g c = λ w is.
     let h = c.in_ok-effect.ensures.ok in
     let store = c.self.inside.store in
     let time = c.self.inside.processes.time in
@@ -18,10 +18,10 @@ perform-requires-clause-terms c = λ w is.
     (subst (HasTerms c.args.design.now) (sym c.self.view_is) c.requires.terms))
 
 pub returns-clause-state : goal.returns-clause-state
-returns-clause-state c =
+returns-clause-state g c =
     c.in_ok-line.ensures.state ∙ stepped_by c.self.view_is c.args.process c.step.new.self.time c.step.new.self.places c.in_ok-effect.effect c.step.ensures.time c.in_ok-effect.ensures.ok
 
 pub returns-clause-line : goal.returns-clause-line
-returns-clause-line c =
+returns-clause-line g c =
     subst (λ (made : Option (List ℕ)). MatchOption c.in_ok-line.line (made ≡ None) (λ text. made ≡ Some text.items))
     (sym (step_line c.self.view_is c.args.process c.step.new.self.places c.in_ok-effect.effect c.in_ok-effect.ensures.ok)) c.in_ok-line.ensures.line

@@ -8,7 +8,7 @@ use Rattle.vs_state.proofs.ChangesLemmas.{covers_put, covers_seen}
 use Rattle.vs_state.proofs.state.State.write.Goals as goal
 
 pub returns-clause-made : goal.returns-clause-made
-returns-clause-made c =
+returns-clause-made g c =
     let store = c.self.inside.store in
     let new = put store c.args.write.now in
     let xs : List AssignState = c.self.inside.assigns in
@@ -18,6 +18,6 @@ returns-clause-made c =
     rw (← c.self.view_is, c.put.ensures, woken, triggered, c.wake_for.ensures.time) refl
 
 pub returns-clause-covers : goal.returns-clause-covers
-returns-clause-covers c =
+returns-clause-covers g c =
     covers_seen c.note_signals.new.changed.items c.put.new.self c.self.view_is
     (covers_put c.note_signals.new.changed.items c.args.write.now c.self.inside.store c.put.new.self c.in_ok-note_signals.ensures c.put.ensures)

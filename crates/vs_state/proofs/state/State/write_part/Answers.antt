@@ -15,14 +15,14 @@ use Rattle.vs_state.proofs.ChangesLemmas.{covers_put, covers_seen}
 use Rattle.vs_state.proofs.state.State.write_part.Goals as goal
 
 pub wake_change-requires : goal.wake_change-requires
-wake_change-requires c = record {
+wake_change-requires g c = record {
   size = rw (c.word-before.ensures, c.word-behind.ensures, c.put.ensures) (put_size c.args.write.now c.self.inside.store c.args.part.signal c.args.part.word);
   sources = subst (HasSources c.args.design.now) (sym c.self.view_is) c.requires.sources;
   terms = subst (HasTerms c.args.design.now) (sym c.self.view_is) c.requires.terms;
 }
 
 pub returns-clause-made : goal.returns-clause-made
-returns-clause-made c =
+returns-clause-made g c =
     let part = c.args.part in
     let store = c.self.inside.store in
     let new = put store c.args.write.now in
@@ -42,6 +42,6 @@ returns-clause-made c =
     rw (← c.self.view_is, c.put.ensures, woken, triggered, c.wake_change.ensures.time) refl
 
 pub returns-clause-covers : goal.returns-clause-covers
-returns-clause-covers c =
+returns-clause-covers g c =
     covers_seen c.note_signals.new.changed.items c.put.new.self c.self.view_is
     (covers_put c.note_signals.new.changed.items c.args.write.now c.self.inside.store c.put.new.self c.in_ok-note_signals.ensures c.put.ensures)

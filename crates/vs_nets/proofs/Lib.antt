@@ -1,0 +1,2 @@
+pub mod NetLemmas
+pub mod LateLemmas

@@ -1,4 +1,0 @@
-pub mod AimLemmas
-pub mod ReadLemmas
-pub mod LeftLemmas
-pub mod ExprLemmas
