@@ -10,6 +10,7 @@ use Rattle.std.proofs.lemmas.Option.{none-some, same_Some}
 use Rattle.std.proofs.lemmas.Int.{ints}
 use Rattle.vs_logic4.specs.declared.digit.Digit.{Digit}
 use Rattle.vs_logic4.specs.declared.digit.Digit.TheVariants.{X, Z}
+use Rattle.vs_logic4.specs.Lengths.{length-with_part}
 use Rattle.vs_logic4.specs.Parts.{digit_at, replaced_from}
 use Rattle.vs_logic4.specs.Vectors.{all_unknown, all_high_impedance}
 use Rattle.vs_design.specs.declared.design.Assign.{Assign}
@@ -19,9 +20,8 @@ use Rattle.vs_design.specs.declared.signal.SignalKind.TheVariants.{Wire, Reg, In
 use Rattle.vs_design.specs.declared.statement.Aim.{Aim}
 use Rattle.vs_design.specs.declared.statement.Aim.TheVariants.{Fixed, Chosen}
 use Rattle.vs_design.specs.Drivers.{undriven_word, driven_word, driven_at, driven_by, all_driven, in_copies}
-use Rattle.vs_design.specs.Stores.{changed_at, start_digit, start_digits, start_word, start_words, drives_bit}
+use Rattle.vs_design.specs.Stores.{changed_at, overlaid, start_digit, start_digits, start_word, start_words, drives_bit}
 use Rattle.vs_design.specs.Uses.{aim_range, bits_from, has_bit, has_word, covers, writes, is_of}
-use Rattle.vs_design.proofs.Stores.{length-changed_at}
 
 -- ---- digits at the start
 
@@ -193,36 +193,62 @@ by_assigns (a ∷ rest) test ss =
     ∙ by_assigns rest (λ signal place. test signal place || list_any (covers signal 0 place) (writes a.target)) ss
     ∙ same_words_with _ _ 0 (λ signal place h. or_assoc (test signal place) (list_any (covers signal 0 place) (writes a.target)) (drives_bit rest signal place)) ss
 
-copies_with : (assigns : List Assign) (first : ℕ) (ss : List Signal) → in_copies ss (words_with (drives_bit assigns) first ss) ≡ start_words assigns first ss
+-- how many words each signal has
+abbrev counts : List Signal → List ℕ
+counts ss = map (λ (s : Signal). s.count) ss
+
+copies_with : (assigns : List Assign) (first : ℕ) (ss : List Signal) → in_copies (counts ss) (words_with (drives_bit assigns) first ss) ≡ start_words assigns first ss
 copies_with assigns first [] = refl
 copies_with assigns first (s ∷ ss) = ap (λ ws. replicate s.count (start_word assigns first s) ∷ ws) (copies_with assigns (suc first) ss)
 
 -- the start as it is made
-pub start_is : (assigns : List Assign) (ss : List Signal) → in_copies ss (all_driven assigns (map undriven_word ss)) ≡ start_words assigns 0 ss
+pub start_is : (assigns : List Assign) (ss : List Signal) → in_copies (counts ss) (all_driven assigns (map undriven_word ss)) ≡ start_words assigns 0 ss
 start_is assigns ss =
-    ap (λ ws. in_copies ss (all_driven assigns ws)) (undriven_with 0 ss)
-    ∙ ap (in_copies ss) (by_assigns assigns (λ signal place. false) ss)
+    ap (λ ws. in_copies (counts ss) (all_driven assigns ws)) (undriven_with 0 ss)
+    ∙ ap (in_copies (counts ss)) (by_assigns assigns (λ signal place. false) ss)
     ∙ copies_with assigns 0 ss
 
 -- ---- lengths
 
-length-driven_by : (as' : List Aim) (words : List (List Digit)) → length (driven_by as' words) ≡ length words
-length-driven_by [] words = refl
-length-driven_by (a ∷ as') words = length-driven_by as' (driven_at a words) ∙ length-changed_at (driven_word a) (aim_range a).signal words
+length-driven_word : (a : Aim) (word : List Digit) → length (driven_word a word) ≡ length word
+length-driven_word (Fixed s) word = at (s.word == 0)
+  where
+    at : (b : Bool) → length (if b then overlaid s.low (all_unknown s.width) word else word) ≡ length word
+    at true = length-with_part s.low (all_unknown s.width) word
+    at false = refl
+length-driven_word (Chosen s index low) word = length-replicate (length word) X
 
-pub length-all_driven : (assigns : List Assign) (words : List (List Digit)) → length (all_driven assigns words) ≡ length words
-length-all_driven [] words = refl
-length-all_driven (a ∷ rest) words = length-all_driven rest (driven_by a.target.parts.items words) ∙ length-driven_by a.target.parts.items words
+lengths-changed_at : (f : List Digit → List Digit) → ((ds : List Digit) → length (f ds) ≡ length ds) → (i : ℕ) (words : List (List Digit)) →
+    map length (changed_at f i words) ≡ map length words
+lengths-changed_at f h i [] = refl
+lengths-changed_at f h zero (w ∷ ws) = ap (λ n. n ∷ map length ws) (h w)
+lengths-changed_at f h (suc i) (w ∷ ws) = ap (λ ns. length w ∷ ns) (lengths-changed_at f h i ws)
 
-pub length-in_copies : (ss : List Signal) (words : List (List Digit)) → length words ≡ length ss → length (in_copies ss words) ≡ length ss
+lengths-driven_by : (as' : List Aim) (words : List (List Digit)) → map length (driven_by as' words) ≡ map length words
+lengths-driven_by [] words = refl
+lengths-driven_by (a ∷ as') words = lengths-driven_by as' (driven_at a words) ∙ lengths-changed_at (driven_word a) (length-driven_word a) (aim_range a).signal words
+
+lengths-all_driven : (assigns : List Assign) (words : List (List Digit)) → map length (all_driven assigns words) ≡ map length words
+lengths-all_driven [] words = refl
+lengths-all_driven (a ∷ rest) words = lengths-all_driven rest (driven_by a.target.parts.items words) ∙ lengths-driven_by a.target.parts.items words
+
+lengths-undriven : (ss : List Signal) → map length (map undriven_word ss) ≡ map (λ (s : Signal). s.width) ss
+lengths-undriven [] = refl
+lengths-undriven (s ∷ ss) = ap₂ (λ n ns. n ∷ ns) (length-start_digits (λ place. false) s.kind 0 s.width) (lengths-undriven ss)
+
+-- the words at the start have the sizes of their signals
+pub lengths-start : (assigns : List Assign) (ss : List Signal) → map length (all_driven assigns (map undriven_word ss)) ≡ map (λ (s : Signal). s.width) ss
+lengths-start assigns ss = lengths-all_driven assigns (map undriven_word ss) ∙ lengths-undriven ss
+
+pub length-in_copies : (ns : List ℕ) (words : List (List Digit)) → length words ≡ length ns → length (in_copies ns words) ≡ length ns
 length-in_copies [] words h = refl
-length-in_copies (s ∷ ss) [] h = absurd (omega arith)
-length-in_copies (s ∷ ss) (w ∷ ws) h = ap suc (length-in_copies ss ws (omega arith))
+length-in_copies (n ∷ ns) [] h = absurd (omega arith)
+length-in_copies (n ∷ ns) (w ∷ ws) h = ap suc (length-in_copies ns ws (omega arith))
 
 -- the copies of one word more
-pub copies-more : (ss : List Signal) (words : List (List Digit)) (i : ℕ) (s : Signal) (w : List Digit) → slice_get ss i ≡ Some s → slice_get words i ≡ Some w →
-    take (suc i) (in_copies ss words) ≡ take i (in_copies ss words) ++ replicate s.count w ∷ []
-copies-more [] words i s w h e = absurd (none-some s h)
-copies-more (x ∷ ss) [] i s w h e = absurd (none-some w e)
-copies-more (x ∷ ss) (v ∷ words) zero s w h e = ap₂ (λ (y : Signal) u. replicate y.count u ∷ []) (same_Some x s h) (same_Some v w e)
-copies-more (x ∷ ss) (v ∷ words) (suc i) s w h e = ap (λ ws. replicate x.count v ∷ ws) (copies-more ss words i s w h e)
+pub copies-more : (ns : List ℕ) (words : List (List Digit)) (i n : ℕ) (w : List Digit) → slice_get ns i ≡ Some n → slice_get words i ≡ Some w →
+    take (suc i) (in_copies ns words) ≡ take i (in_copies ns words) ++ replicate n w ∷ []
+copies-more [] words i n w h e = absurd (none-some n h)
+copies-more (m ∷ ns) [] i n w h e = absurd (none-some w e)
+copies-more (m ∷ ns) (v ∷ words) zero n w h e = ap₂ (λ k u. replicate k u ∷ []) (same_Some m n h) (same_Some v w e)
+copies-more (m ∷ ns) (v ∷ words) (suc i) n w h e = ap (λ ws. replicate m v ∷ ws) (copies-more ns words i n w h e)

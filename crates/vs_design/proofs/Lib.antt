@@ -1,4 +1,5 @@
 mod Drivers
+mod ExtentLemmas
 mod Kept
 mod PlanesLemmas
 mod StatementLemmas

@@ -1,5 +1,5 @@
 -- Lemmas on the planes of a store.
-use Rattle.std.proofs.Common.{◌≡◌, ◌≢◌, ℕ, zero, suc, ◌+◌, ◌<◌, ◌≤◌, ◌^◌, ◌⊎◌, inl, inr, ⊎_elim, nat_lt, if◌then◌else◌, Bool, true, false, Option, Some, None, List, [], ◌∷◌, ◌++◌, length, replicate, slice_get, slice_index, option_map, refl, sym, ◌∙◌, ap, ap₂, subst, arith}
+use Rattle.std.proofs.Common.{◌≡◌, ◌≢◌, ℕ, zero, suc, ◌+◌, ◌<◌, ◌≤◌, ◌^◌, ◌⊎◌, inl, inr, ⊎_elim, nat_lt, if◌then◌else◌, Bool, true, false, Option, Some, None, List, [], ◌∷◌, ◌++◌, length, replicate, take, slice_get, slice_index, option_map, refl, sym, ◌∙◌, ap, ap₂, subst, arith}
 use Rattle.std.specs.Prelude.{slice_set}
 use Rattle.std.proofs.lemmas.Bool.{cases_lt, lt-ltb, le-ltb}
 use Rattle.std.proofs.Math.ListN.{get_or-append}
@@ -294,9 +294,15 @@ module _ (es : List Extent) (vs us : List ℕ) (i word : ℕ) (s : Spot) (ds : L
 
 -- ---- a signal added
 
-in_turn_added : (es : List Extent) (from end : ℕ) (e : Extent) → InTurn from es end → e.first ≡ end → InTurn from (es ++ e ∷ []) (end + e.count)
+pub in_turn_added : (es : List Extent) (from end : ℕ) (e : Extent) → InTurn from es end → e.first ≡ end → InTurn from (es ++ e ∷ []) (end + e.count)
 in_turn_added [] from end e t h = (h ∙ sym t, ap (λ n. n + e.count) t)
 in_turn_added (x ∷ es) from end e t h = (t.0, in_turn_added es (from + x.count) end e t.1 h)
+
+-- where the words of the next signal are
+pub next_first : (es : List Extent) (from end total i : ℕ) (e : Extent) → InTurn from es total → InTurn from (take i es) end → slice_get es i ≡ Some e → e.first ≡ end
+next_first [] from end total i e t p h = absurd (none-some e h)
+next_first (x ∷ es) from end total zero e t p h = sym (ap (λ (y : Extent). y.first) (same_Some x e h)) ∙ t.0 ∙ p
+next_first (x ∷ es) from end total (suc i) e t p h = next_first es (from + x.count) end total i e t.1 p.1 h
 
 words_added : (es : List Extent) (e : Extent) (vs us : List ℕ) → AreWords es vs us → ((k : ℕ) → k < e.count → IsWord e.width vs us (e.first + k)) → AreWords (es ++ e ∷ []) vs us
 words_added [] e vs us are is = (is, tt)

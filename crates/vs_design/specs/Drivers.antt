@@ -1,5 +1,5 @@
 -- The start of a store as it is made, one driven place after another: nothing that is promised rests on these.
-use Rattle.std.specs.Prelude.{◌==◌, false, if◌then◌else◌, List, [], ◌∷◌, length, replicate}
+use Rattle.std.specs.Prelude.{ℕ, ◌==◌, false, if◌then◌else◌, List, [], ◌∷◌, length, replicate}
 use Rattle.vs_logic4.specs.declared.digit.Digit.{Digit}
 use Rattle.vs_logic4.specs.Vectors.{all_unknown}
 use Rattle.vs_design.specs.declared.design.Assign.{Assign}
@@ -30,8 +30,8 @@ abbrev pub all_driven : List Assign → List (List Digit) → List (List Digit)
 all_driven [] words = words
 all_driven (a ∷ rest) words = all_driven rest (driven_by a.target.parts.items words)
 
--- each word as often as its signal has words
-abbrev pub in_copies : List Signal → List (List Digit) → Store
+-- each word as often as its signal has words, by their counts
+abbrev pub in_copies : List ℕ → List (List Digit) → Store
 in_copies [] words = []
-in_copies (s ∷ ss) [] = []
-in_copies (s ∷ ss) (w ∷ ws) = replicate s.count w ∷ in_copies ss ws
+in_copies (n ∷ ns) [] = []
+in_copies (n ∷ ns) (w ∷ ws) = replicate n w ∷ in_copies ns ws

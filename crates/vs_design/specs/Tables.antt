@@ -1,9 +1,11 @@
--- The tables of readers and of listeners that a design keeps: nothing that is promised rests on these.
+-- The tables of readers, of listeners and of places in a store that a design keeps: nothing that is promised rests on these.
 use Rattle.std.specs.Prelude.{ℕ, suc, ◌==◌, ◌≡◌, Bool, false, if◌then◌else◌, List, [], ◌∷◌, ◌++◌, map, get_or, replicate}
 use Rattle.std.specs.declared.vec.Vec.{Vec}
 use Rattle.std.specs.declared.alloc.Global.{Global}
 use Rattle.vs_design.specs.declared.design.Assign.{Assign}
 use Rattle.vs_design.specs.declared.design.Process.{Process}
+use Rattle.vs_design.specs.declared.extent.Extent.{Extent}
+use Rattle.vs_design.specs.declared.signal.Signal.{Signal}
 use Rattle.vs_design.specs.declared.statement.EventTerm.{EventTerm}
 use Rattle.vs_design.specs.declared.range.BitRange.{BitRange}
 use Rattle.vs_design.specs.declared.readers.Reader.{Reader}
@@ -12,6 +14,7 @@ use Rattle.vs_design.specs.Uses.{reads}
 use Rattle.vs_design.specs.Readers.{readers}
 use Rattle.vs_design.specs.Statements.{event_terms}
 use Rattle.vs_design.specs.Listeners.{listeners}
+use Rattle.vs_design.specs.passes.Planes.{AreInTurn, counts_of, widths_of}
 
 -- the rows of a table, as lists
 abbrev pub rows : {A : Type 0} → List (Vec A Global) → List (List A)
@@ -61,3 +64,9 @@ heard number (p ∷ rest) table = heard (suc number) rest (all_heard number (eve
 -- the table of a design: of each signal its listeners, and of a signal past the end none
 abbrev pub AreListeners : List Process → List (Vec ℕ Global) → Type 0
 AreListeners processes table = (signal : ℕ) → get_or (rows table) signal [] ≡ listeners processes signal
+
+-- the table of a design: of each signal as many words of its size, those of one behind those of another
+pub record AreExtents (signals : List Signal) (extents : List Extent) : Type 0 where
+  pub in_turn : AreInTurn extents
+  pub counts : counts_of extents ≡ map (λ (s : Signal). s.count) signals
+  pub widths : widths_of extents ≡ map (λ (s : Signal). s.width) signals

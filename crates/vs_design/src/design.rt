@@ -2,14 +2,16 @@
 ghost use Rattle.std.specs.Prelude.{◌≡◌, IfOk};
 ghost use Rattle.vs_design.specs.Listeners.{listeners};
 ghost use Rattle.vs_design.specs.Readers.{readers};
+ghost use Rattle.vs_design.specs.Tables.{AreExtents};
 ghost use Rattle.vs_design.specs.WellFormed.{WellFormed};
 
 use crate::expression::Typed;
-use crate::listeners;
+use crate::extent::Extent;
 use crate::readers::{self, Reader};
 use crate::signal::Signal;
 use crate::statement::{Statement, Target};
 use crate::timescale::Timescale;
+use crate::{extents, listeners};
 use std::alloc::{AllocError, Global};
 use std::marker::Model;
 
@@ -76,12 +78,14 @@ pub struct Design {
     readers: Vec<Vec<Reader>>,
     // For each signal, which processes have an event control that names it.
     listeners: Vec<Vec<usize>>,
+    // For each signal, where a store has its words.
+    extents: Vec<Extent>,
 }
 
 impl Model for Design {
     ghost use Rattle.std.specs.Coded.{codes};
     ghost use Rattle.vs_design.specs.Parts.{Parts};
-    ghost use Rattle.vs_design.specs.Tables.{AreReaders, AreListeners};
+    ghost use Rattle.vs_design.specs.Tables.{AreReaders, AreListeners, AreExtents};
     ghost use Rattle.vs_design.specs.WellFormed.{WellFormed};
     ghost use Rattle.vs_design.specs.contracts.expression.Typed as expression;
     ghost use Rattle.vs_design.specs.contracts.statement.Statement as statement;
@@ -92,7 +96,7 @@ impl Model for Design {
 
     ghost view = { λ d. record { timescale = d.timescale; signals = d.signals.items; assigns = d.assigns.items; processes = d.processes.items; outline = d.outline.items } };
 
-    ghost invariant = { λ d. WellFormed (record { timescale = d.timescale; signals = d.signals.items; assigns = d.assigns.items; processes = d.processes.items; outline = d.outline.items }) × AreReaders d.assigns.items d.readers.items × AreListeners d.processes.items d.listeners.items };
+    ghost invariant = { λ d. WellFormed (record { timescale = d.timescale; signals = d.signals.items; assigns = d.assigns.items; processes = d.processes.items; outline = d.outline.items }) × AreReaders d.assigns.items d.readers.items × AreListeners d.processes.items d.listeners.items × AreExtents d.signals.items d.extents.items };
 }
 
 impl Design {
@@ -122,6 +126,7 @@ impl Design {
     {
         let readers = readers::table_of(alloc, &assigns, signals.len())?;
         let listeners = listeners::table_of(alloc, &processes, signals.len())?;
+        let extents = extents::table_of(alloc, &signals)?;
         Ok(Design {
             timescale,
             signals,
@@ -130,6 +135,7 @@ impl Design {
             outline,
             readers,
             listeners,
+            extents,
         })
     }
 
@@ -186,6 +192,13 @@ impl Design {
             Some(row) => row,
             None => &[],
         }
+    }
+
+    /// For each signal where a store has its words.
+    pub(crate) fn extents(&self) -> &[Extent]
+        ensures { AreExtents self.now.signals result.now }
+    {
+        &self.extents
     }
 
     /// Every design is well formed: this holds of each, and there is nothing to do.

@@ -1,5 +1,5 @@
 //! Where the words of signals are in the planes of a store.
-ghost use Rattle.std.specs.Prelude.{◌+◌, ◌<◌, ◌^◌};
+ghost use Rattle.std.specs.Prelude.{◌+◌, ◌<◌, ◌≤◌, ◌^◌};
 
 /// Where the words of one signal are: one after another.
 #[derive(Clone, Copy)]
@@ -10,6 +10,7 @@ pub(crate) struct Extent {
     pub count: u32,
     /// The size of each word in bits.
     pub width: u32,
+    pub ghost sized: { (0 < width) × (width ≤ 64) },
     pub ghost fits: { first + count < 2 ^ 64 },
 }
 

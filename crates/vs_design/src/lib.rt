@@ -7,6 +7,7 @@
 mod design;
 mod expression;
 mod extent;
+mod extents;
 mod laws;
 mod listeners;
 mod planes;

@@ -1,8 +1,9 @@
 //! Stores.
-ghost use Rattle.std.specs.Prelude.{◌≡◌, IfOk, length, map};
+ghost use Rattle.std.specs.Prelude.{◌≡◌, Some, None, IfOk, IfSome, MatchOption, length, map};
 ghost use Rattle.vs_design.specs.Stores.{word_of, put, put_part, overlaid, changes_nothing, start_store};
 ghost use Rattle.vs_design.specs.Behind.{behind, keeps};
 ghost use Rattle.vs_design.specs.Drivers.{undriven_word, driven_word, driven_at, driven_by, all_driven, in_copies};
+ghost use Rattle.vs_design.specs.passes.Planes.{AreInTurn, counts_of, widths_of};
 
 use crate::design::{Assign, Design};
 use crate::extent::Extent;
@@ -17,53 +18,48 @@ use vs_logic4::Vec4;
 
 /// The values of a design's signals: for each, in design order, those of its words. Two flat planes of bits hold them.
 #[derive(Drop)]
-pub struct Store {
-    extents: Vec<Extent>,
+pub struct Store<'a> {
+    // For each signal, where its words are.
+    extents: &'a [Extent],
     values: Vec<u64>,
     unknowns: Vec<u64>,
 }
 
-impl Model for Store {
+impl<'a> Model for Store<'a> {
     ghost use Rattle.vs_design.specs.Stores.{Store};
     ghost use Rattle.vs_design.specs.passes.Planes.{store_of, ArePlanesOf};
 
     ghost Value = { Store };
 
-    ghost view = { λ s. store_of s.extents.items s.values.items s.unknowns.items };
+    ghost view = { λ s. store_of s.extents.now s.values.items s.unknowns.items };
 
-    ghost invariant = { λ s. ArePlanesOf s.extents.items s.values.items s.unknowns.items };
+    ghost invariant = { λ s. ArePlanesOf s.extents.now s.values.items s.unknowns.items };
 }
 
-impl Store {
+impl<'a> Store<'a> {
     /// The store in which every execution of a design begins.
-    pub fn start(alloc: Global, design: &Design) -> Result<Self, AllocError>
-        ensures { IfOk result (λ s. s ≡ start_store design.now) }
+    pub fn start(alloc: Global, design: &'a Design) -> Result<Self, AllocError>
+        ensures { IfOk result (λ s. s ≡ start_store design.entry.now) }
     {
         let signals = design.signals();
         let mut first = undriven_words(alloc, signals)?;
         drive_all(&mut first, design.assigns());
-        Store::copies(alloc, signals, &first)
+        Store::copies(alloc, design.extents(), &first)
     }
 
     /// Each word as often as its signal has words.
-    fn copies(alloc: Global, signals: &[Signal], words: &[Vec4]) -> Result<Self, AllocError>
-        requires { length words.now ≡ length signals.now }
-        ensures { IfOk result (λ s. s ≡ in_copies signals.now words.now) }
+    fn copies(alloc: Global, extents: &'a [Extent], words: &[Vec4]) -> Result<Self, AllocError>
+        requires in_turn { AreInTurn extents.now }
+        requires widths { map length words.now ≡ widths_of extents.now }
+        ensures { IfOk result (λ s. s ≡ in_copies (counts_of extents.entry.now) words.now) }
     {
-        let mut extents = Vec::with_capacity(alloc, signals.len())?;
         let mut values = Vec::new(alloc);
         let mut unknowns = Vec::new(alloc);
-        for i in 0..signals.len() {
-            let count = signals[i].count;
+        for i in 0..extents.len() {
+            let extent = extents[i];
             let word = words[i];
-            let first = values.len();
-            fill(&mut values, count, word.value_plane())?;
-            fill(&mut unknowns, count, word.unknown_plane())?;
-            extents.push(Extent {
-                first,
-                count,
-                width: word.width(),
-            })?;
+            fill(&mut values, extent.count, word.value_plane())?;
+            fill(&mut unknowns, extent.count, word.unknown_plane())?;
         }
         Ok(Store {
             extents,
@@ -76,7 +72,7 @@ impl Store {
     pub fn word(&self, signal: usize, word: usize) -> Option<Vec4>
         ensures { result ≡ word_of self.now signal word }
     {
-        match spot(&self.extents, signal, word) {
+        match spot(self.extents, signal, word) {
             Some(at) => Some(word_at(&self.values, &self.unknowns, at)),
             None => None,
         }
@@ -87,18 +83,24 @@ impl Store {
         ensures { self.new ≡ put self.old write.now }
     {
         for part in write.parts() {
-            self.put_part(*part);
+            let _ = self.put_part(*part);
         }
     }
 
-    fn put_part(&mut self, part: Part)
-        ensures { self.new ≡ put_part self.old part }
+    /// Makes one part of a write; the answer is the word that it names before and behind it, where there is one.
+    pub fn put_part(&mut self, part: Part) -> Option<(Vec4, Vec4)>
+        ensures put { self.new ≡ put_part self.old part }
+        ensures before { MatchOption result (word_of self.old part.signal part.word ≡ None)
+            (λ words. word_of self.old part.signal part.word ≡ Some words.0) }
+        ensures behind { IfSome result (λ words. word_of self.new part.signal part.word ≡ Some words.1) }
     {
-        let Some(at) = spot(&self.extents, part.signal, part.word) else {
-            return;
+        let Some(at) = spot(self.extents, part.signal, part.word) else {
+            return None;
         };
-        let word = over(word_at(&self.values, &self.unknowns, at), part);
-        set_word(&mut self.values, &mut self.unknowns, at, word);
+        let before = word_at(&self.values, &self.unknowns, at);
+        let behind = over(before, part);
+        set_word(&mut self.values, &mut self.unknowns, at, behind);
+        Some((before, behind))
     }
 
     /// The word of a signal behind a write, where there is one.
@@ -138,7 +140,7 @@ impl Store {
         ensures { IfOk result (λ s. s ≡ self.now) }
     {
         Ok(Store {
-            extents: Vec::from_slice(alloc, &self.extents)?,
+            extents: self.extents,
             values: Vec::from_slice(alloc, &self.values)?,
             unknowns: Vec::from_slice(alloc, &self.unknowns)?,
         })

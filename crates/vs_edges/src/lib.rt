@@ -5,8 +5,10 @@
 
 mod differences;
 mod laws;
+mod sensitivity;
 mod waking;
 
 pub use differences::{difference, sees};
 pub use laws::waking_by_words;
+pub use sensitivity::Sensitivity;
 pub use waking::woken;

@@ -1,14 +1,16 @@
 -- Lemmas on the code of a whole process.
 use Rattle.std.proofs.Common.{◌≡◌, ℕ, ◌≤◌, List, [], length, refl, sym, ◌∙◌, subst, arith}
 use Rattle.std.proofs.lemmas.List.{append-nil}
+use Rattle.vs_design.specs.WellFormed.{numbers}
 use Rattle.vs_design.specs.declared.statement.Statement.{Statement}
 use Rattle.vs_flatcode.specs.declared.draft.Op.{Op}
 use Rattle.vs_flatcode.specs.declared.draft.Draft.{Draft}
 use Rattle.vs_flatcode.specs.Places.{flat}
 use Rattle.vs_flatcode.specs.Links.{AreLinked, todo_at}
 use Rattle.vs_flatcode.specs.Codes.{IsCodeOf, links_of}
-use Rattle.vs_flatcode.specs.Drafts.{drafted, IsReady, IsEmitted}
+use Rattle.vs_flatcode.specs.Drafts.{drafted, IsReady, IsEmitted, Adds}
 use Rattle.vs_flatcode.proofs.Drafts.{grows_self}
+use Rattle.vs_flatcode.proofs.Numbers.{all_stand}
 
 pub ready_empty : (d : Draft) → d.ops.items ≡ [] → IsReady d 0 0
 ready_empty d e = record {
@@ -18,8 +20,8 @@ ready_empty d e = record {
   free = λ later linked more counters k left le. refl;
 }
 
-pub code_done : (a d : Draft) (s : Statement) (start : ℕ) → a.ops.items ≡ [] → IsEmitted a d (flat s) 0 start → IsCodeOf s d.ops.items d.counters start
-code_done a d s start e h = record {
+pub code_done : (a d : Draft) (s : Statement) (start : ℕ) → a.ops.items ≡ [] → IsEmitted a d (flat s) 0 start → Adds a d (numbers s) → IsCodeOf s d.ops.items d.counters start
+code_done a d s start e h k = record {
   code = record {
     linked = h.written.more.linked;
     fits = λ i x at.
@@ -27,6 +29,7 @@ code_done a d s start e h = record {
         h.written.fits i x le at (drafted d) h.written.more.linked (grows_self (drafted d));
   };
   starts = h.leads (drafted d) h.written.more.linked (grows_self (drafted d));
+  stand = all_stand a d s e k;
 }
 
 -- at the start of the code the whole process is to be done

@@ -9,16 +9,18 @@ use Rattle.vs_design.specs.declared.statement.Statement.{Statement}
 use Rattle.vs_design.specs.declared.statement.Statement.TheOpen.{Statement-F}
 use Rattle.vs_design.specs.declared.statement.Statement.TheViews.{out-Statement}
 use Rattle.vs_design.specs.Stores.{Store}
+use Rattle.vs_design.specs.Writes.{Write}
 use Rattle.vs_eval.specs.Values.{value_of}
 use Rattle.vs_flatcode.specs.declared.draft.Op.{Op}
 use Rattle.vs_flatcode.specs.declared.draft.Task.{Task}
 use Rattle.vs_flatcode.specs.declared.draft.Task.TheVariants.{Perform, Turns}
 use Rattle.vs_flatcode.specs.declared.made.Made.{Made}
+use Rattle.vs_flatcode.specs.declared.made.Made.TheVariants as m
 use Rattle.vs_flatcode.specs.Places.{Todo, flat, perform}
-use Rattle.vs_flatcode.specs.Steps.{step, statement_step, branch, first_of, flat_item, repeated, item_matches, is_default, turns_for}
+use Rattle.vs_flatcode.specs.Steps.{Out, step, statement_step, branch, first_of, flat_item, repeated, item_matches, is_default, turns_for}
 use Rattle.vs_flatcode.specs.Links.{Link, todo_at, item_of}
 use Rattle.vs_flatcode.specs.Codes.{Layout, IsCode, IsTurn, LeadAll, FitsStatement, FitsTask, IsFormatOf, IsFormatFor, links_of, link_of, layout_of, job_of}
-use Rattle.vs_flatcode.specs.Landings.{Landing, landing, made_out, IsMade, turned, start_where, place_or, layer_lands, lands, todo_behind}
+use Rattle.vs_flatcode.specs.Landings.{Landing, landing, made_out, item_write, IsMade, turned, start_where, place_or, layer_lands, lands, todo_behind}
 use Rattle.vs_flatcode.proofs.Links.{todo_here}
 use Rattle.vs_flatcode.proofs.Drafts.{link_here}
 
@@ -110,13 +112,29 @@ follows ops cs i x store time h e =
 -- what a step of the code makes is what the step of the process makes
 pub stepped : (ops : List Op) (cs : List ℕ) (place i : ℕ) (x : Op) (store : Store) (time : ℕ) (made : Made) (next : ℕ) (counters : List ℕ) → IsCode ops (length cs) → place ≡ suc i → slice_get ops i ≡ Some x →
     landing next counters ≡ lands x x.task cs store time → IsMade (item_of cs (job_of x.counter x.task)) store time made →
-    step (todo_at (links_of ops) cs place) store time ≡ made_out made (todo_at (links_of ops) counters next)
+    step (todo_at (links_of ops) cs place) store time ≡ made_out made (item_write (item_of cs (job_of x.counter x.task)) store time) (todo_at (links_of ops) counters next)
 stepped ops cs place i x store time made next counters h at e l m =
     let f = follows ops cs i x store time h e in
-    let here : Todo = todo_at (links_of ops) cs (suc i) in
+    let w : Option Write = item_write (item_of cs (job_of x.counter x.task)) store time in
     ap (λ (p : ℕ). step (todo_at (links_of ops) cs p) store time) at
-    ∙ subst (λ (t : Todo). step t store time ≡ made_out made (todo_behind (step t store time).next)) (sym f.0) (m (todo_at (links_of ops) cs x.behind))
-    ∙ ap (made_out made) (f.1 ∙ ap (λ (k : Landing). todo_at (links_of ops) k.counters k.place) (sym l))
+    ∙ subst (λ (t : Todo). step t store time ≡ made_out made w (todo_behind (step t store time).next)) (sym f.0) (m (todo_at (links_of ops) cs x.behind))
+    ∙ ap (made_out made w) (f.1 ∙ ap (λ (k : Landing). todo_at (links_of ops) k.counters k.place) (sym l))
+
+-- a step that makes this writes what it is said to write
+pub made_write : (made : Made) (w : Option Write) (todo : Todo) → (made_out made w todo).write ≡ w
+made_write m.Nothing w todo = refl
+made_write (m.Update ticks u) w todo = refl
+made_write (m.Strobe f) w todo = refl
+made_write (m.Line text) w todo = refl
+made_write m.Finish w todo = refl
+made_write (m.Delay n ticks) w todo = refl
+made_write (m.Wait n terms) w todo = refl
+
+-- a step and its own write
+pub own_write : (out : Out) (made : Made) (w : Option Write) (todo : Todo) → out ≡ made_out made w todo → (out ≡ made_out made out.write todo) × (w ≡ out.write)
+own_write out made w todo e =
+    let same : w ≡ out.write = sym (ap (λ (o : Out). o.write) e ∙ made_write made w todo) in
+    (e ∙ ap (λ (v : Option Write). made_out made v todo) same, same)
 
 format_of_statement : (c : Layout) (x : Op) (here : ℕ) (s : Statement) (f : Statement-F Statement) → FitsStatement c x here s f → IsFormatOf x.format f
 format_of_statement c x here s (Statement-F.Null n) h = tt

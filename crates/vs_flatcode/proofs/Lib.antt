@@ -2,7 +2,10 @@ pub mod Codes
 pub mod Drafts
 pub mod Follows
 pub mod Heads
+pub mod Holding
 pub mod Links
 pub mod Lists
+pub mod Numbers
 pub mod Shapes
 pub mod Starts
+pub mod Ways

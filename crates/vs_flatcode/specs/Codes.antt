@@ -12,6 +12,7 @@ use Rattle.vs_flatcode.specs.declared.draft.Task.{Task}
 use Rattle.vs_flatcode.specs.declared.draft.Task.TheVariants as t
 use Rattle.vs_flatcode.specs.Places.{turns, flat}
 use Rattle.vs_flatcode.specs.Links.{Job, performs, tests, Link, todo_at, AreLinked, Leads}
+use Rattle.vs_flatcode.specs.Numbers.{AllStand}
 
 -- what an instruction does, where its `repeat` has this counter
 abbrev pub job_of : ℕ → Task → Job
@@ -77,10 +78,11 @@ pub record IsCode (ops : List Op) (counters : ℕ) : Type 0 where
   pub linked : AreLinked (links_of ops)
   pub fits : (i : ℕ) (x : Op) → slice_get ops i ≡ Some x → Fits (layout_of ops counters) x (suc i)
 
--- the code of a statement, which starts at a place
+-- the code of a statement, which starts at a place, and has each statement of it as often as the text has
 pub record IsCodeOf (s : Statement) (ops : List Op) (counters start : ℕ) : Type 0 where
   pub code : IsCode ops counters
   pub starts : Leads (links_of ops) (flat s) start 0
+  pub stand : AllStand s (links_of ops)
 
 -- an instruction stands at a place
 abbrev pub StandsAt : List Op → ℕ → Op → Type 0

@@ -1,11 +1,12 @@
 -- Code that is being written, from its end to its start.
-use Rattle.std.specs.Prelude.{ℕ, suc, ◌<◌, ◌≤◌, ◌≡◌, Bool, true, false, Option, Some, List, [], ◌∷◌, ◌++◌, length, slice_get, slice_set}
+use Rattle.std.specs.Prelude.{ℕ, suc, ◌+◌, ◌<◌, ◌≤◌, ◌≡◌, Bool, true, false, Option, Some, List, [], ◌∷◌, ◌++◌, length, slice_get, slice_set}
 use Rattle.std.specs.declared.vec.Vec.{Vec}
 use Rattle.std.specs.declared.alloc.Global.{Global}
 use Rattle.vs_design.specs.declared.expression.Typed.{Typed}
 use Rattle.vs_design.specs.declared.statement.Statement.TheOpen.{Statement-F}
 use Rattle.vs_design.specs.declared.statement.Statement.{Statement}
 use Rattle.vs_design.specs.declared.statement.Statement.TheViews.{out-Statement}
+use Rattle.vs_design.specs.WellFormed.{numbers}
 use denote.Ref.{Bor}
 use Rattle.vs_strobe.specs.Lines.{Format}
 use Rattle.vs_flatcode.specs.declared.draft.Op.{Op}
@@ -14,12 +15,39 @@ use Rattle.vs_flatcode.specs.declared.draft.Task.TheVariants.{Perform}
 use Rattle.vs_flatcode.specs.declared.draft.Draft.{Draft}
 use Rattle.vs_flatcode.specs.Places.{Todo, flat}
 use Rattle.vs_flatcode.specs.Links.{Link, todo_at, AreLinked, Leads}
+use Rattle.vs_flatcode.specs.Numbers.{times_here, times_in, times_stands}
 use Rattle.vs_flatcode.specs.Codes.{Layout, links_of, layout_of, Fits, FitsStatement, LeadAll, IsTurn}
 
 -- the statements of a row, blocks opened
 abbrev pub flat_all : List Statement → Todo
 flat_all [] = []
 flat_all (s ∷ rest) = flat s ++ flat_all rest
+
+-- the numbers of a row of statements and of those in them, in their order
+abbrev pub numbers_all : List Statement → List ℕ
+numbers_all [] = []
+numbers_all (s ∷ rest) = numbers s ++ numbers_all rest
+
+-- the same of the statements of `case` items
+abbrev pub numbers_in : List (Vec Typed Global × Statement) → List ℕ
+numbers_in [] = []
+numbers_in (i ∷ items) = numbers i.1 ++ numbers_in items
+
+-- the same of the statements in a statement, by its outermost layer
+abbrev pub numbers_inside : Statement-F Statement → List ℕ
+numbers_inside (Statement-F.Null n) = []
+numbers_inside (Statement-F.Assign n t e) = []
+numbers_inside (Statement-F.Later n ticks t e) = []
+numbers_inside (Statement-F.Call n c) = []
+numbers_inside (Statement-F.Finish n) = []
+numbers_inside (Statement-F.Block all) = numbers_all all.items
+numbers_inside (Statement-F.Delay n ticks body) = numbers body.value
+numbers_inside (Statement-F.Event n terms body) = numbers body.value
+numbers_inside (Statement-F.If n e a b) = numbers a.value ++ numbers b.value
+numbers_inside (Statement-F.Case n kind e items) = numbers_in items.items
+numbers_inside (Statement-F.While n e body) = numbers body.value
+numbers_inside (Statement-F.Repeat n signed e body) = numbers body.value
+numbers_inside (Statement-F.Forever n body) = numbers body.value
 
 abbrev pub drafted : Draft → Layout
 drafted d = layout_of d.ops.items d.counters
@@ -98,6 +126,7 @@ pub record IsNext (d : Draft) (x : Op) (s : Statement) : Type 0 where
 pub record IsLoop (s body : Statement) : Type 0 where
   pub single : is_block (out-Statement s) ≡ false
   pub fits : (c : Layout) (x : Op) (here : ℕ) → Leads c.links (flat body) x.first here → FitsStatement c x here s (out-Statement s)
+  pub inside : numbers_inside (out-Statement s) ≡ numbers body
 
 -- an instruction has been put that goes on nowhere yet, at this place
 pub record IsHead (old new : Draft) (task : Task) (next depth place : ℕ) : Type 0 where
@@ -110,3 +139,11 @@ pub record IsHead (old new : Draft) (task : Task) (next depth place : ℕ) : Typ
   pub does : op.task ≡ task
   pub behind : op.behind ≡ next
   pub counter : op.counter ≡ depth
+
+-- a draft has a place more for the statement of this number, where there is one, and no other
+abbrev pub AddsOne : Draft → Draft → Option ℕ → Type 0
+AddsOne old new number = (n : ℕ) → times_stands n (links_of new.ops.items) ≡ times_here n number + times_stands n (links_of old.ops.items)
+
+-- a draft has a place more for each statement of these numbers, and no other
+abbrev pub Adds : Draft → Draft → List ℕ → Type 0
+Adds old new ns = (n : ℕ) → times_stands n (links_of new.ops.items) ≡ times_in n ns + times_stands n (links_of old.ops.items)

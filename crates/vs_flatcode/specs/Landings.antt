@@ -11,6 +11,7 @@ use Rattle.vs_design.specs.declared.statement.Statement.{Statement}
 use Rattle.vs_design.specs.declared.statement.Statement.TheOpen.{Statement-F}
 use Rattle.vs_design.specs.declared.statement.Statement.TheViews.{out-Statement}
 use Rattle.vs_design.specs.Stores.{Store}
+use Rattle.vs_design.specs.Writes.{Write}
 use Rattle.vs_eval.specs.Values.{value_of}
 use Rattle.vs_strobe.specs.Lines.{Format}
 use Rattle.vs_flatcode.specs.declared.draft.Op.{Op}
@@ -18,8 +19,8 @@ use Rattle.vs_flatcode.specs.declared.draft.Task.{Task}
 use Rattle.vs_flatcode.specs.declared.draft.Task.TheVariants as t
 use Rattle.vs_flatcode.specs.declared.made.Made.{Made}
 use Rattle.vs_flatcode.specs.declared.made.Made.TheVariants as m
-use Rattle.vs_flatcode.specs.Places.{Todo, Item}
-use Rattle.vs_flatcode.specs.Steps.{Next, on, after, wait, Out, goes, called, step, branch, first_of, item_matches, is_default, turns_for}
+use Rattle.vs_flatcode.specs.Places.{Todo, Item, perform, turns}
+use Rattle.vs_flatcode.specs.Steps.{Next, on, after, wait, Out, goes, assignment, called, step, branch, first_of, item_matches, is_default, turns_for}
 
 -- a place, and the counters there
 pub record Landing : Type 0 where
@@ -82,22 +83,31 @@ todo_behind (on todo) = todo
 todo_behind (after n ticks todo) = todo
 todo_behind (wait n terms todo) = todo
 
--- a step with this effect, behind which a process still has this to do
-abbrev pub made_out : Made → Todo → Out
-made_out m.Nothing todo = goes (on todo)
-made_out (m.Write w) todo = record (goes (on todo)) { write = Some w }
-made_out (m.Update ticks w) todo = record (goes (on todo)) { update = Some (ticks.count, w) }
-made_out (m.Strobe f) todo = record (goes (on todo)) { call = Some f.now }
-made_out (m.Line text) todo = record (goes (on todo)) { line = Some text.items }
-made_out m.Finish todo = record (goes (on todo)) { finish = true }
-made_out (m.Delay n ticks) todo = goes (after n ticks.count todo)
-made_out (m.Wait n terms) todo = goes (wait n terms.now todo)
+-- a step that makes this and may write, behind which a process still has this to do
+abbrev pub made_out : Made → Option Write → Todo → Out
+made_out m.Nothing w todo = record (goes (on todo)) { write = w }
+made_out (m.Update ticks u) w todo = record (goes (on todo)) { write = w; update = Some (ticks.count, u) }
+made_out (m.Strobe f) w todo = record (goes (on todo)) { write = w; call = Some f.now }
+made_out (m.Line text) w todo = record (goes (on todo)) { write = w; line = Some text.items }
+made_out m.Finish w todo = record (goes (on todo)) { write = w; finish = true }
+made_out (m.Delay n ticks) w todo = record (goes (after n ticks.count todo)) { write = w }
+made_out (m.Wait n terms) w todo = record (goes (wait n terms.now todo)) { write = w }
+
+-- what the step of a statement writes, by its outermost layer: a blocking assignment writes (clause 9.2.1)
+abbrev pub layer_write : Statement-F Statement → Store → ℕ → Option Write
+layer_write (Statement-F.Assign n t e) store time = Some (assignment t e store time)
+layer_write _ store time = None
+
+-- what the step of a process with this to do first writes
+abbrev pub item_write : Item → Store → ℕ → Option Write
+item_write (perform s) store time = layer_write (out-Statement s) store time
+item_write (turns n s) store time = None
 
 -- a process with this to do first took its step: it made this
 abbrev pub IsMade : Item → Store → ℕ → Made → Type 0
-IsMade i store time made = (rest : Todo) → let out = step (i ∷ rest) store time in out ≡ made_out made (todo_behind out.next)
+IsMade i store time made = (rest : Todo) → let out = step (i ∷ rest) store time in out ≡ made_out made (item_write i store time) (todo_behind out.next)
 
 -- a call of this kind took its step, where it has a format: it made this
 abbrev pub IsCallMade : Option Format → CallKind → Store → ℕ → Made → Type 0
 IsCallMade None kind store time made = Unit {0}
-IsCallMade (Some f) kind store time made = (rest : Todo) → called kind f rest store time ≡ made_out made rest
+IsCallMade (Some f) kind store time made = (rest : Todo) → called kind f rest store time ≡ made_out made None rest

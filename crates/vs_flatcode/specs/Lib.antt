@@ -1,6 +1,10 @@
+pub mod Changes
 pub mod Codes
 pub mod Drafts
 pub mod Landings
 pub mod Links
+pub mod Nexts
+pub mod Numbers
 pub mod Places
 pub mod Steps
+pub mod Ways

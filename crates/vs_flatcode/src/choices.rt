@@ -11,6 +11,7 @@ use vs_eval::{cut_value, value, write_of};
 use vs_logic4::{CaseKind, Digit, Vec4};
 
 /// The write of an assignment.
+#[inline(always)]
 pub(crate) fn assignment(
     alloc: Global,
     target: &Target,
@@ -25,6 +26,7 @@ pub(crate) fn assignment(
 }
 
 /// The first of two places where a condition is true, else the second; x and z count as false.
+#[inline(always)]
 pub(crate) fn branch(e: &Typed, store: &Store, time: u64, first: usize, second: usize) -> usize
     ensures { result ≡ branch (truth (value_of e.now store.now time)) first second }
 {

@@ -1,12 +1,14 @@
 //! Where a process stands in its flat code.
-ghost use Rattle.std.specs.Prelude.{◌≡◌, slice_set, IfOk, OnErr, MatchOption};
+ghost use Rattle.std.specs.Prelude.{◌≡◌, ◌++◌, slice_set, IfOk, OnOk, OnErr, MatchOption};
 ghost use Rattle.vs_design.specs.declared.statement.Statement.TheViews.{out-Statement};
+ghost use Rattle.vs_flatcode.specs.Changes.{store_behind, changes_of};
 ghost use Rattle.vs_flatcode.specs.Places.{perform, flat};
 ghost use Rattle.vs_flatcode.specs.Steps.{step, has_nothing};
 ghost use Rattle.vs_flatcode.specs.Links.{item_of};
 ghost use Rattle.vs_flatcode.specs.Codes.{job_of, StandsAt, IsEnd, IsFormatOf, IsFormatFor};
-ghost use Rattle.vs_flatcode.specs.Landings.{landing, turned, statement_lands, lands, made_out, IsMade, IsCallMade};
+ghost use Rattle.vs_flatcode.specs.Landings.{landing, turned, statement_lands, lands, made_out, item_write, IsMade, IsCallMade};
 
+use crate::changes::{Change, assign};
 use crate::choices::{assignment, branch, start_taken, turns_for};
 use crate::code::Code;
 use crate::draft::{Op, Task};
@@ -14,7 +16,7 @@ use crate::made::Made;
 use std::alloc::{AllocError, Global};
 use std::marker::Model;
 use vs_design::{CallKind, Statement, Store};
-use vs_eval::value;
+use vs_eval::{cut_value, value};
 use vs_strobe::{Format, full_line};
 
 /// Where a process stands in its code, with the counters of its statements `repeat`. A contract sees it as what the process still
@@ -44,6 +46,7 @@ impl<'a> Model for Cursor<'a> {
 }
 
 // The instruction at a place, where it isn't the end.
+#[inline(always)]
 fn op_at<'a>(ops: &'a [Op<'a>], place: usize) -> Option<&'a Op<'a>>
     ensures { MatchOption result (IsEnd ops.entry.now place) (λ x. StandsAt ops.entry.now place x.now) }
 {
@@ -57,6 +60,7 @@ fn op_at<'a>(ops: &'a [Op<'a>], place: usize) -> Option<&'a Op<'a>>
 }
 
 // Sets a counter.
+#[inline(always)]
 fn set_counter(counters: &mut Vec<u64>, k: usize, left: u64)
     ensures { counters.new.items ≡ slice_set counters.old.items k left }
 {
@@ -66,6 +70,7 @@ fn set_counter(counters: &mut Vec<u64>, k: usize, left: u64)
 }
 
 // A test of a `repeat` with so many turns left: where it leads.
+#[inline(always)]
 fn turn(op: &Op, counters: &mut Vec<u64>, left: u64) -> usize
     ensures { landing result counters.new.items ≡ turned left op.now counters.old.items }
 {
@@ -96,25 +101,32 @@ fn call_made<'a>(
 }
 
 // The step of a statement: what it makes, and where it leads.
+#[inline(always)]
 fn perform<'a>(
     alloc: Global,
     op: &'a Op<'a>,
     s: &'a Statement,
     counters: &mut Vec<u64>,
-    store: &Store,
+    store: &mut Store,
     time: u64,
+    changes: &mut Vec<Change>,
 ) -> Result<(Made<'a>, usize), AllocError>
     requires format { IsFormatOf op.now.format (out-Statement s.now) }
     ensures lands { IfOk result (λ r. landing r.1 counters.new.items
-        ≡ statement_lands op.entry.now s.entry.now counters.old.items store.now time) }
-    ensures made { IfOk result (λ r. IsMade (perform s.entry.now) store.now time r.0) }
-    ensures err { OnErr result (counters.new.items ≡ counters.old.items) }
+        ≡ statement_lands op.entry.now s.entry.now counters.old.items store.old time) }
+    ensures made { IfOk result (λ r. IsMade (perform s.entry.now) store.old time r.0) }
+    ensures store { OnOk result (store.new ≡ store_behind store.old (item_write (perform s.entry.now) store.old time)) }
+    ensures changes { OnOk result (changes.new.items
+        ≡ changes.old.items ++ changes_of store.old (item_write (perform s.entry.now) store.old time)) }
+    ensures counters_kept { OnErr result (counters.new.items ≡ counters.old.items) }
+    ensures store_kept { OnErr result (store.new ≡ store.old) }
 {
     match s {
         Statement::Null(_) => Ok((Made::Nothing, op.behind)),
         Statement::Assign(_, target, e) => {
-            let write = assignment(alloc, target, e, store, time)?;
-            Ok((Made::Write(write), op.behind))
+            let digits = cut_value(target, e, store, time);
+            assign(alloc, target, digits, store, time, changes)?;
+            Ok((Made::Nothing, op.behind))
         }
         Statement::Later(_, ticks, target, e) => {
             let write = assignment(alloc, target, e, store, time)?;
@@ -151,22 +163,29 @@ fn perform<'a>(
 }
 
 // The step of an instruction: what it makes, and where it leads.
+#[inline(always)]
 fn run<'a>(
     alloc: Global,
     op: &'a Op<'a>,
     counters: &mut Vec<u64>,
-    store: &Store,
+    store: &mut Store,
     time: u64,
+    changes: &mut Vec<Change>,
 ) -> Result<(Made<'a>, usize), AllocError>
     requires format { IsFormatFor op.now.format op.now.task }
     ensures lands { IfOk result (λ r. landing r.1 counters.new.items
-        ≡ lands op.entry.now op.entry.now.task counters.old.items store.now time) }
+        ≡ lands op.entry.now op.entry.now.task counters.old.items store.old time) }
     ensures made { IfOk result (λ r.
-        IsMade (item_of counters.old.items (job_of op.entry.now.counter op.entry.now.task)) store.now time r.0) }
-    ensures err { OnErr result (counters.new.items ≡ counters.old.items) }
+        IsMade (item_of counters.old.items (job_of op.entry.now.counter op.entry.now.task)) store.old time r.0) }
+    ensures store { OnOk result (store.new ≡ store_behind store.old
+        (item_write (item_of counters.old.items (job_of op.entry.now.counter op.entry.now.task)) store.old time)) }
+    ensures changes { OnOk result (changes.new.items ≡ changes.old.items ++ changes_of store.old
+        (item_write (item_of counters.old.items (job_of op.entry.now.counter op.entry.now.task)) store.old time)) }
+    ensures counters_kept { OnErr result (counters.new.items ≡ counters.old.items) }
+    ensures store_kept { OnErr result (store.new ≡ store.old) }
 {
     match op.task {
-        Task::Perform(s) => perform(alloc, op, s, counters, store, time),
+        Task::Perform(s) => perform(alloc, op, s, counters, store, time, changes),
         Task::Turns(_) => {
             let left = counters.get(op.counter).copied().unwrap_or(0);
             let place = turn(op, counters, left);
@@ -190,6 +209,7 @@ impl<'a> Cursor<'a> {
     }
 
     /// Whether the process has nothing left to do.
+    #[inline(always)]
     pub fn is_empty(&self) -> bool
         ensures { result ≡ has_nothing self.now }
     {
@@ -200,15 +220,28 @@ impl<'a> Cursor<'a> {
     }
 
     /// One step of the process (IEEE 1364-2005, clauses 9.2 and 9.4 to 9.7) at `time`, in ticks: what it makes beside what the process
-    /// still has to do. Without memory the process stands where it stood.
-    pub fn step(&mut self, alloc: Global, store: &Store, time: u64) -> Result<Made<'a>, AllocError>
-        ensures ok { IfOk result (λ made. step self.old store.now time ≡ made_out made self.new) }
-        ensures err { OnErr result (self.new ≡ self.old) }
+    /// still has to do. The write of a blocking assignment is made in the store, and the words that it changes go to `changes`. Without memory the
+    /// process stands where it stood, and the store is as it was.
+    #[inline(always)]
+    pub fn step(
+        &mut self,
+        alloc: Global,
+        store: &mut Store,
+        time: u64,
+        changes: &mut Vec<Change>,
+    ) -> Result<Made<'a>, AllocError>
+        ensures ok { IfOk result (λ made. step self.old store.old time
+            ≡ made_out made (step self.old store.old time).write self.new) }
+        ensures store { OnOk result (store.new ≡ store_behind store.old (step self.old store.old time).write) }
+        ensures changes { OnOk result (changes.new.items
+            ≡ changes.old.items ++ changes_of store.old (step self.old store.old time).write) }
+        ensures process_kept { OnErr result (self.new ≡ self.old) }
+        ensures store_kept { OnErr result (store.new ≡ store.old) }
     {
         let Some(op) = op_at(self.ops, self.place) else {
             return Ok(Made::Nothing);
         };
-        let (made, place) = run(alloc, op, &mut self.counters, store, time)?;
+        let (made, place) = run(alloc, op, &mut self.counters, store, time, changes)?;
         self.place = place;
         Ok(made)
     }

@@ -1,8 +1,11 @@
 //! The flat code of a process while it is written, from its end to its start.
 ghost use Rattle.std.specs.Prelude.{ℕ, ◌≡◌, ◌≢◌, ◌++◌, ◌∷◌, [], ◌<◌, ◌≤◌, suc, length, map, Some, slice_get, IfOk};
 ghost use Rattle.vs_flatcode.specs.Places.{perform, flat};
-ghost use Rattle.vs_flatcode.specs.Codes.{links_of, layout_of};
-ghost use Rattle.vs_flatcode.specs.Drafts.{flat_all, IsReady, IsEmitted, Written, drafted, AlwaysLeadAll, AlwaysTurn, IsNext, op_of, IsLoop, IsHead};
+ghost use Rattle.vs_flatcode.specs.Codes.{links_of, layout_of, job_of};
+ghost use Rattle.vs_flatcode.specs.Numbers.{number_of, number_at};
+ghost use Rattle.vs_flatcode.specs.Drafts.{flat_all, numbers_all, numbers_in, IsReady, IsEmitted, Written, drafted, AlwaysLeadAll, AlwaysTurn, IsNext, op_of, IsLoop, IsHead, AddsOne, Adds};
+ghost use Rattle.vs_design.specs.WellFormed.{numbers};
+ghost use Rattle.vs_design.specs.declared.statement.Statement.TheViews.{out-Statement};
 
 use std::alloc::{AllocError, Global};
 use vs_design::{Statement, Typed};
@@ -79,7 +82,8 @@ fn put_statement<'a>(
 ) -> Result<usize, AllocError>
     requires ready { IsReady draft.old next depth }
     requires next { IsNext draft.old (op_of s next first second starts depth format) s.now }
-    ensures { IfOk result (λ p. IsEmitted draft.old draft.new (flat s.entry.now) next p) }
+    ensures emitted { IfOk result (λ p. IsEmitted draft.old draft.new (flat s.entry.now) next p) }
+    ensures number { IfOk result (λ _. AddsOne draft.old draft.new (number_of (out-Statement s.entry.now))) }
 {
     let op = Op {
         task: Task::Perform(s),
@@ -103,7 +107,8 @@ fn put_head<'a>(
     depth: usize,
 ) -> Result<usize, AllocError>
     requires ready { IsReady draft.old next depth }
-    ensures { IfOk result (λ p. IsHead draft.old draft.new task.entry next depth p) }
+    ensures head { IfOk result (λ p. IsHead draft.old draft.new task.entry next depth p) }
+    ensures number { IfOk result (λ _. AddsOne draft.old draft.new (number_at (job_of depth task.entry))) }
 {
     let op = Op {
         task,
@@ -130,6 +135,7 @@ fn emit_items<'a>(
     requires ready { IsReady draft.old next depth }
     ensures written { IfOk result (λ _. Written draft.old draft.new) }
     ensures leads { IfOk result (λ starts. AlwaysLeadAll (drafted draft.new) items.entry.now starts.items next) }
+    ensures numbers { IfOk result (λ _. Adds draft.old draft.new (numbers_in items.entry.now)) }
 {
     let mut starts = Vec::new(alloc);
     for (_, s) in items {
@@ -151,7 +157,8 @@ fn emit_loop<'a>(
 ) -> Result<usize, AllocError>
     requires ready { IsReady draft.old next depth }
     requires single { IsLoop s.now body.now }
-    ensures { IfOk result (λ p. IsEmitted draft.old draft.new (flat s.entry.now) next p) }
+    ensures emitted { IfOk result (λ p. IsEmitted draft.old draft.new (flat s.entry.now) next p) }
+    ensures numbers { IfOk result (λ _. Adds draft.old draft.new (numbers s.entry.now)) }
 {
     let i = draft.ops.len();
     let head = put_head(alloc, draft, Task::Perform(s), next, depth)?;
@@ -172,6 +179,7 @@ fn emit_turns<'a>(
     requires ready { IsReady draft.old next depth }
     ensures written { IfOk result (λ _. Written draft.old draft.new) }
     ensures turn { IfOk result (λ first. AlwaysTurn (drafted draft.new) depth body.entry.now first next) }
+    ensures numbers { IfOk result (λ _. Adds draft.old draft.new (numbers body.entry.now)) }
 {
     let i = draft.ops.len();
     draft.counters = draft.counters.max(depth + 1);
@@ -191,7 +199,8 @@ fn emit_all<'a>(
     depth: usize,
 ) -> Result<usize, AllocError>
     requires ready { IsReady draft.old next depth }
-    ensures { IfOk result (λ p. IsEmitted draft.old draft.new (flat_all all.entry.now) next p) }
+    ensures emitted { IfOk result (λ p. IsEmitted draft.old draft.new (flat_all all.entry.now) next p) }
+    ensures numbers { IfOk result (λ _. Adds draft.old draft.new (numbers_all all.entry.now)) }
 {
     let mut place = next;
     for i in (0..all.len()).rev() {
@@ -210,7 +219,8 @@ pub(crate) fn emit<'a>(
     depth: usize,
 ) -> Result<usize, AllocError>
     requires ready { IsReady draft.old next depth }
-    ensures { IfOk result (λ p. IsEmitted draft.old draft.new (flat s.entry.now) next p) }
+    ensures emitted { IfOk result (λ p. IsEmitted draft.old draft.new (flat s.entry.now) next p) }
+    ensures numbers { IfOk result (λ _. Adds draft.old draft.new (numbers s.entry.now)) }
 {
     match s {
         Statement::Null(_) => put_statement(

@@ -3,14 +3,13 @@
 use vs_design::{EventTerm, Ticks, Write};
 use vs_strobe::Format;
 
-/// What a step of a process makes, beside what the process still has to do.
+/// What a step of a process makes, beside what the process still has to do and the write of a blocking assignment, which the step itself makes in
+/// the store (IEEE 1364-2005, clause 9.2.1).
 #[derive(Drop)]
 pub enum Made<'a> {
-    /// Nothing.
+    /// Nothing, or a write.
     Nothing,
-    /// The write of a blocking assignment (IEEE 1364-2005, clause 9.2.1).
-    Write(Write),
-    /// A nonblocking update, due in so many ticks (clause 9.2.2).
+    /// A nonblocking update, due in so many ticks (IEEE 1364-2005, clause 9.2.2).
     Update(Ticks, Write),
     /// A call of `$strobe`, by its format (clause 17.1.2).
     Strobe(&'a Format<'a>),

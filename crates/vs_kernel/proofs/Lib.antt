@@ -1,3 +1,4 @@
-mod MarkingLemmas
+pub mod MarkingLemmas
 pub mod PrintsLemmas
 pub mod RunsLemmas
+pub mod TurnsLemmas

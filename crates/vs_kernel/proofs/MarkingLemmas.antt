@@ -103,6 +103,17 @@ marked_more old mid new signal left rest all next size before set others v off =
 pub mark_changes : (old new signals : List ℕ) (s t : Store) → AreMarked old new signals → CoverChanges signals s t → MarkChanges old new s t
 mark_changes old new signals s t marked covers = λ v off within. let m = marked v off in (m.0, covers v (m.1 within))
 
+-- nothing has changed
+pub changes_none : (marks : List ℕ) (s : Store) → MarkChanges marks marks s s
+changes_none marks s = λ v off within. (off, refl)
+
+-- one more move
+pub changes_more : (old mid new : List ℕ) (s t u : Store) → length mid ≡ length old → MarkChanges old mid s t → MarkChanges mid new t u → MarkChanges old new s u
+changes_more old mid new s t u size h k = λ v off within.
+    let later = k v off (omega (arith, within, size)) in
+    let sooner = h v later.0 within in
+    (sooner.0, later.1 ∙ sooner.1)
+
 one_code : (b : Bool) (first n : ℕ) (rest more : List (Option ℕ)) → length rest ≡ n → length more ≡ n → length (if b then None ∷ rest else Some first ∷ more) ≡ suc n
 one_code true first n rest more h k = ap suc h
 one_code false first n rest more h k = ap suc k

@@ -13,30 +13,22 @@ use Rattle.vs_process.specs.States.{Called, State}
 use Rattle.vs_flatcode.specs.Places.{Place, todo_of}
 use Rattle.vs_flatcode.specs.Steps.{step}
 use Rattle.vs_state.specs.Prints.{made_line, stepped_line}
-use Rattle.vs_kernel.specs.Prints.{given_text, lines_text, slot_lines}
+use Rattle.vs_kernel.specs.Prints.{given_text, lines_text, made_text, slot_lines}
 
 pub lines_more : (xs ys : List Line) → lines_text (xs ++ ys) ≡ lines_text xs ++ lines_text ys
 lines_more [] ys = refl
 lines_more (x ∷ xs) ys = ap (λ (l : List ℕ). x.text ++ l) (lines_more xs ys) ∙ sym (append_assoc x.text (lines_text xs) (lines_text ys))
 
--- the text of the line of a `$display`
-pub made_text : Option (List ℕ) → List ℕ
-made_text None = []
-made_text (Some text) = text
-
 line_made : (i : ℕ) (o : Option (List ℕ)) → lines_text (line_by i o) ≡ made_text o
-unfolding made_text
 line_made i None = refl
 line_made i (Some text) = append-nil text
 
 step_made : (s : State) (i : ℕ) (o : Option Place) → lines_text (step_lines s i o) ≡ made_text (stepped_line s o)
-unfolding made_text
 step_made s i None = refl
 step_made s i (Some x) = line_made i (step (todo_of x) s.store s.time).line
 
 -- a move prints the lines of the slot that it ends, and then the line that it makes at once
 pub move_prints : (m : Move) (s : State) → lines_text (move_lines m s) ≡ lines_text (slot_lines m s) ++ made_text (made_line m s)
-unfolding made_text
 move_prints (Step i) s = step_made s i (slice_get s.places i)
 move_prints (Evaluate j) s = refl
 move_prints (Propagate j) s = refl
@@ -49,15 +41,10 @@ move_prints EndSlot s = sym (append-nil (lines_text (slot_lines EndSlot s)))
 abbrev pub IsLine : Option (Vec ℕ Global) → Option (List ℕ) → Type 0
 IsLine line made = MatchOption line (made ≡ None) (λ text. made ≡ Some text.items)
 
-given_made : (line : Option (Vec ℕ Global)) (made : Option (List ℕ)) → IsLine line made → given_text line ≡ made_text made
-unfolding made_text
+-- the bytes of such a line
+pub given_made : (line : Option (Vec ℕ Global)) (made : Option (List ℕ)) → IsLine line made → given_text line ≡ made_text made
 given_made None made h = sym (ap made_text h)
 given_made (Some text) made h = sym (ap made_text h)
-
--- what is written of a move: the lines of its slot, and then the line that was given
-pub printed : (m : Move) (s : State) (line : Option (Vec ℕ Global)) → IsLine line (made_line m s) →
-    lines_text (slot_lines m s) ++ given_text line ≡ lines_text (move_lines m s)
-printed m s line made = ap (λ (l : List ℕ). lines_text (slot_lines m s) ++ l) (given_made line (made_line m s) made) ∙ sym (move_prints m s)
 
 -- the lines of one more move
 pub lines_behind : (d : Parts) (moves : List Move) (m : Move) (now : State) → after d moves ≡ now →

@@ -1,8 +1,6 @@
 -- A run that goes on, and where it ends.
 use Rattle.std.proofs.Common.{◌≡◌, ℕ, ◌+◌, ◌<◌, ◌≤◌, ◌&&◌, not, cond, Bool, true, false, Option, Some, None, List, [], ◌∷◌, ◌++◌, Result, Ok, Err, take, slice_get, zero, zero-add, map, length, refl, sym, ◌∙◌, ap, subst, arith, leb, append_assoc, suc, inl, inr}
 use Rattle.std.specs.Prelude.{filter, unwrap_or, OnErr, ◌||◌, nat_lt, if◌then◌else◌}
-use Rattle.std.specs.declared.alloc.Global.{Global}
-use Rattle.std.specs.declared.vec.Vec.{Vec}
 use Rattle.std.specs.Io.KnownBytes.{Appends}
 use Rattle.std.proofs.lemmas.Bool.{le-leb, le-ltb, lt-ltb, ltb-false}
 use Rattle.std.proofs.lemmas.List.{append-nil}
@@ -29,11 +27,10 @@ use Rattle.vs_vcd.specs.declared.fault.VcdFault.{VcdFault}
 use Rattle.vs_vcd.specs.declared.fault.VcdFault.TheVariants as fault
 use Rattle.vs_vcd.specs.Text.{vcd_header, vcd_slots, vcd_end, vcd_text}
 use Rattle.vs_state.specs.Prints.{made_line}
-use Rattle.vs_kernel.specs.Turns.{TurnedPart}
 use Rattle.vs_kernel.specs.Ends.{end_in, outcome_in}
 use Rattle.vs_kernel.specs.Faults.{OneFailed}
-use Rattle.vs_kernel.specs.Prints.{given_text, lines_text, slot_lines}
-use Rattle.vs_kernel.proofs.PrintsLemmas.{IsLine, lines_behind, made_text, move_prints, printed}
+use Rattle.vs_kernel.specs.Prints.{lines_text, made_text, slot_lines}
+use Rattle.vs_kernel.proofs.PrintsLemmas.{lines_behind, move_prints}
 use Rattle.vs_kernel.specs.Runs.{RanTo, HasBegun, EndsAs, StopsAt, text_so_far, AppendsSlots, AppendsSlotsPart}
 use Rattle.vs_kernel.specs.declared.outcome.Outcome.{Outcome}
 use Rattle.vs_kernel.specs.declared.outcome.Outcome.TheVariants.{Reached, Quiet, Finished, StepLimit}
@@ -260,11 +257,11 @@ complete_past until s over late = ap (λ b. b || nat_lt until s.time) over ∙ l
 pub complete_over : (until : ℕ) (s : State) → s.over ≡ true → is_complete until s ≡ true
 complete_over until s over = ap (λ b. b || nat_lt until s.time) over
 
-behind_over : (s : State) (w : Option Write) → (written_behind s w).over ≡ s.over
+pub behind_over : (s : State) (w : Option Write) → (written_behind s w).over ≡ s.over
 behind_over s None = refl
 behind_over s (Some w) = refl
 
-stepped_over : (s : State) (i : ℕ) (o : Option Place) → (stepped s i o).over ≡ s.over
+pub stepped_over : (s : State) (i : ℕ) (o : Option Place) → (stepped s i o).over ≡ s.over
 stepped_over s i None = refl
 stepped_over s i (Some x) = behind_over s (step (todo_of x) s.store s.time).write
 
@@ -280,7 +277,7 @@ propagate_over : (s : State) (j : ℕ) (o : Option AssignState) → (propagate s
 propagate_over s j None = refl
 propagate_over s j (Some x) = value_over s j x x.pending
 
-make_over : (s : State) (i : ℕ) (o : Option Update) → (make s i o).over ≡ s.over
+pub make_over : (s : State) (i : ℕ) (o : Option Update) → (make s i o).over ≡ s.over
 make_over s i None = refl
 make_over s i (Some u) = refl
 
@@ -437,17 +434,11 @@ move_failed {d} {until} {steps} {taken} {now} {writer} {old} {new} {new'} {lold}
 pub slots_whole : (old new : Option (List ℕ)) (d : Parts) (before more : List Slot) → AppendsSlots old new d before more → AppendsSlotsPart old new d before more
 slots_whole old new d before more h = (h.0, h.1, part_all old new h.0 h.2)
 
--- a step that failed
-pub turned_part : {inside : Option ℕ} {s : State} {writer : Progress} {old new lold lnew : Option (List ℕ)} (m : Move) → is_enabled s m ≡ true → is_step_of_any inside m ≡ true →
-    ((d : Parts) (before : List Slot) → HasWritten writer d before → AppendsSlotsPart old new d before (ended_slot m s)) →
-    AppendsPart lold lnew (lines_text (move_lines m s)) → TurnedPart inside s writer old new lold lnew
-turned_part m enabled free text lines = record { choice = m; enabled = enabled; free = free; text = text; lines = lines }
-
 -- the lines of a step
-pub step_printed : (old mid new : Option (List ℕ)) (m : Move) (s : State) (line : Option (Vec ℕ Global)) → Appends old mid (lines_text (slot_lines m s)) → IsLine line (made_line m s) →
-    Appends mid new (given_text line) → Appends old new (lines_text (move_lines m s))
-step_printed old mid new m s line ended made given =
-    subst (Appends old new) (printed m s line made) (append_more old mid new (lines_text (slot_lines m s)) (given_text line) ended given)
+pub step_printed : (old mid new : Option (List ℕ)) (m : Move) (s : State) → Appends old mid (lines_text (slot_lines m s)) → Appends mid new (made_text (made_line m s)) →
+    Appends old new (lines_text (move_lines m s))
+step_printed old mid new m s ended made =
+    subst (Appends old new) (sym (move_prints m s)) (append_more old mid new (lines_text (slot_lines m s)) (made_text (made_line m s)) ended made)
 
 -- the lines of a slot weren't written whole, or the move wasn't made
 pub slot_printed : (old new : Option (List ℕ)) (m : Move) (s : State) → AppendsPart old new (lines_text (slot_lines m s)) → AppendsPart old new (lines_text (move_lines m s))
@@ -455,10 +446,10 @@ slot_printed old new m s h =
     subst (AppendsPart old new) (sym (move_prints m s)) (part_front old new (lines_text (slot_lines m s)) (made_text (made_line m s)) h)
 
 -- the line of a step wasn't written whole
-pub line_printed : (old mid new : Option (List ℕ)) (m : Move) (s : State) (line : Option (Vec ℕ Global)) → Appends old mid (lines_text (slot_lines m s)) → IsLine line (made_line m s) →
-    AppendsPart mid new (given_text line) → AppendsPart old new (lines_text (move_lines m s))
-line_printed old mid new m s line ended made h =
-    subst (AppendsPart old new) (printed m s line made) (part_more old mid new (lines_text (slot_lines m s)) (given_text line) ended h)
+pub line_printed : (old mid new : Option (List ℕ)) (m : Move) (s : State) → Appends old mid (lines_text (slot_lines m s)) → AppendsPart mid new (made_text (made_line m s)) →
+    AppendsPart old new (lines_text (move_lines m s))
+line_printed old mid new m s ended h =
+    subst (AppendsPart old new) (sym (move_prints m s)) (part_more old mid new (lines_text (slot_lines m s)) (made_text (made_line m s)) ended h)
 
 -- a slot that wasn't written whole
 pub slot_failed : (fault : VcdFault) (writer : Progress) (old new : Option (List ℕ)) (now : State) (m : Move) (time : ℕ) (store : Store) → m ≡ EndSlot → time ≡ now.time → store ≡ now.store →

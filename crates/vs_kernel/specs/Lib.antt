@@ -2,6 +2,7 @@ pub mod Ends
 pub mod Faults
 pub mod Insides
 pub mod Marking
+pub mod Points
 pub mod Policies
 pub mod Prints
 pub mod Runs

@@ -22,3 +22,8 @@ slot_lines _ s = []
 abbrev pub given_text : Option (Vec ℕ Global) → List ℕ
 given_text None = []
 given_text (Some line) = line.items
+
+-- the bytes of the line that a move makes at once, where it makes one
+abbrev pub made_text : Option (List ℕ) → List ℕ
+made_text None = []
+made_text (Some text) = text

@@ -105,6 +105,7 @@ impl Agenda {
     }
 
     /// Puts an event at the end.
+    #[inline(always)]
     fn add(&mut self, item: Item) -> Result<(), AllocError> {
         self.entries.push_back(Entry {
             item,
@@ -114,6 +115,7 @@ impl Agenda {
     }
 
     /// Puts a process at the end if it is active.
+    #[inline(always)]
     fn add_step<Q: EventQueue<usize>>(
         &mut self,
         process: usize,
@@ -162,6 +164,7 @@ impl Agenda {
     }
 
     /// The signals that an event names, if it is an update.
+    #[inline(always)]
     fn signals_of(&self, item: Item) -> &[usize] {
         let Item::Make(number) = item else {
             return &[];
@@ -176,14 +179,19 @@ impl Agenda {
     }
 
     /// The index of the event that the policy chooses among those that aren't hidden.
+    #[inline(always)]
     pub(crate) fn pick<P: Pick>(&self, policy: &mut P) -> Option<usize> {
+        if self.first {
+            return if self.entries.is_empty() {
+                None
+            } else {
+                Some(0)
+            };
+        }
         let others = self.hidden.saturating_add(self.gaps);
         let count = self.entries.len().saturating_sub(others);
         if count == 0 {
             return None;
-        }
-        if self.first {
-            return Some(0);
         }
         let number = policy.pick(count);
         if others == 0 {
@@ -207,6 +215,7 @@ impl Agenda {
     }
 
     /// The next step of the process whose step was the last move. Its event is where it was: behind a step the list only grows at its end.
+    #[inline(always)]
     pub(crate) fn again(&self, process: usize) -> Choice
         ensures { result.choice ≡ Move.Step process }
     {
@@ -217,6 +226,7 @@ impl Agenda {
     }
 
     /// The move of the event at an index of the list.
+    #[inline(always)]
     pub(crate) fn move_at<Q: EventQueue<usize>>(
         &self,
         index: usize,
@@ -236,10 +246,15 @@ impl Agenda {
     }
 
     /// Takes the event at an index out of the list.
+    #[inline(always)]
     pub(crate) fn remove(&mut self, index: Option<usize>) {
         let Some(index) = index else {
             return;
         };
+        if self.first && index == 0 {
+            self.remove_first();
+            return;
+        }
         let Some(entry) = self.entries.get_mut(index) else {
             return;
         };
@@ -257,7 +272,17 @@ impl Agenda {
         self.release_all(left.item);
     }
 
+    /// Takes the first event out of a list without updates, of which none is hidden.
+    #[inline(always)]
+    fn remove_first(&mut self) {
+        if let Some(_) = self.entries.pop_front() {
+            self.passed = self.passed.wrapping_add(1);
+        }
+        self.trim_front();
+    }
+
     /// Takes the gaps at the front away.
+    #[inline(always)]
     fn trim_front(&mut self) {
         for _ in 0..self.entries.len() {
             match self.entries.front() {
@@ -271,6 +296,7 @@ impl Agenda {
     }
 
     /// Takes the gaps at the end away.
+    #[inline(always)]
     fn trim_back(&mut self) {
         for _ in 0..self.entries.len() {
             match self.entries.back() {
@@ -283,6 +309,7 @@ impl Agenda {
     }
 
     /// An event has left the list: where it is an update, its parts no longer hide others.
+    #[inline(always)]
     fn release_all(&mut self, item: Item) {
         for i in 0..self.signals_of(item).len() {
             if let Some(signal) = self.signals_of(item).get(i) {
@@ -345,6 +372,7 @@ impl Agenda {
 
     /// Brings the list up to date behind a move: an event that is no longer enabled leaves it, and what has become
     /// enabled enters at its end.
+    #[inline(always)]
     pub(crate) fn follow<Q: EventQueue<usize>>(
         &mut self,
         made: Choice,
@@ -375,7 +403,11 @@ impl Agenda {
     }
 
     /// Puts what the last move has woken at the end: the continuous assignments, then the processes.
-    fn add_woken<Q: EventQueue<usize>>(&mut self, state: &State<Q>) -> Result<(), AllocError> {
+    #[inline(always)]
+    pub(crate) fn add_woken<Q: EventQueue<usize>>(
+        &mut self,
+        state: &State<Q>,
+    ) -> Result<(), AllocError> {
         for assign in state.woken() {
             self.add(Item::Evaluate(*assign))?;
         }
@@ -385,6 +417,7 @@ impl Agenda {
         Ok(())
     }
 
+    #[inline(always)]
     fn follow_evaluation<Q: EventQueue<usize>>(
         &mut self,
         assign: usize,
@@ -409,6 +442,7 @@ impl Agenda {
     }
 
     /// Notes where the update of a continuous assignment is listed.
+    #[inline(always)]
     fn set_proposed(&mut self, assign: usize, place: Option<usize>) {
         if let Some(proposed) = self.proposed.get_mut(assign) {
             *proposed = place;

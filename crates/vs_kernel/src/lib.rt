@@ -8,6 +8,7 @@ mod agenda;
 mod kernel;
 mod laws;
 mod marks;
+mod moves;
 mod outcome;
 mod policy;
 mod run;

@@ -19,6 +19,7 @@ pub(crate) fn no_marks(alloc: Global, signals: usize) -> Result<Vec<u64>, AllocE
 }
 
 /// Marks the block of a signal; one past the marks has none.
+#[inline(always)]
 fn mark(marks: &mut Vec<u64>, signal: usize)
     ensures len { length marks.new.items ≡ length marks.old.items }
     ensures set { signal < 512 * length marks.old.items → is_marked marks.new.items signal ≡ true }
@@ -31,6 +32,7 @@ fn mark(marks: &mut Vec<u64>, signal: usize)
 }
 
 /// Marks the blocks of signals.
+#[inline(always)]
 pub(crate) fn mark_all(marks: &mut Vec<u64>, signals: &[usize])
     ensures len { length marks.new.items ≡ length marks.old.items }
     ensures marked { AreMarked marks.old.items marks.new.items signals.now }

@@ -1,18 +1,15 @@
 //! The loop of a run.
-ghost use Rattle.std.specs.Prelude.{◌≡◌, [], ◌<◌, ◌≤◌, ◌*◌, ◌^◌, ◌++◌, ℕ, false, true, Some, None, List, length, map, IfOk, OnOk, OnErr, MatchOption};
+ghost use Rattle.std.specs.Prelude.{◌≡◌, [], ◌<◌, ◌≤◌, ◌*◌, ◌^◌, ◌++◌, ℕ, false, true, Some, None, List, Option, length, map, IfOk, OnOk, OnErr, MatchOption};
 ghost use Rattle.std.specs.Io.KnownBytes.{Appends};
 ghost use Rattle.vs_design.specs.Parts.{Parts};
 ghost use Rattle.vs_design.specs.Traces.{Slot};
 ghost use Rattle.vs_kernel.specs.Ends.{end_in, outcome_in};
 ghost use Rattle.vs_kernel.specs.Faults.{OneFailed};
-ghost use Rattle.vs_kernel.specs.Prints.{given_text, lines_text, slot_lines};
+ghost use Rattle.vs_kernel.specs.Prints.{lines_text, slot_lines};
 ghost use Rattle.vs_kernel.specs.Runs.{RanTo, HasBegun, AppendsSlots, AppendsSlotsPart};
 ghost use Rattle.vs_kernel.specs.Insides.{inside_told};
-ghost use Rattle.vs_kernel.specs.Marking.{MarkChanges};
-ghost use Rattle.vs_kernel.specs.Turns.{Turned, TurnedPart};
-ghost use Rattle.vs_state.specs.Prints.{made_line};
-ghost use Rattle.vs_state.specs.Touches.{HasSources};
-ghost use Rattle.vs_state.specs.Waits.{HasTerms};
+ghost use Rattle.vs_kernel.specs.Points.{point};
+ghost use Rattle.vs_kernel.specs.Turns.{AllTurned, AllTurnedPart, IsReached, Turned, TurnedPart};
 ghost use Rattle.vs_process.specs.Blocks.{is_step_of_any};
 ghost use Rattle.vs_process.specs.Executions as executions;
 ghost use Rattle.vs_process.specs.States as states;
@@ -20,7 +17,8 @@ ghost use Rattle.vs_vcd.specs.Progress.{Covers, HasWritten, is_write_fault};
 ghost use Rattle.vs_vcd.specs.Sinks.{AppendsPart, failed_after};
 
 use crate::agenda::{Agenda, Choice};
-use crate::marks::{clear, mark_all, no_marks};
+use crate::marks::{clear, no_marks};
+use crate::moves::{advance, run_process, run_updates};
 use crate::outcome::Outcome;
 use crate::policy::Pick;
 use std::alloc::{AllocError, Global};
@@ -57,6 +55,7 @@ fn codes_of<'a>(alloc: Global, processes: &'a [Process]) -> Result<Vec<Code<'a>>
 }
 
 /// The combinational block that has taken a step since its control, behind a move: that of the move's step, if it is one.
+#[inline(always)]
 fn inside_behind<Q: EventQueue<usize>>(
     blocks: &[bool],
     state: &State<Q>,
@@ -79,6 +78,7 @@ fn inside_behind<Q: EventQueue<usize>>(
 
 /// The next move. A combinational block that has left its control goes on, which is no choice. Else it is what the policy chooses of the list,
 /// where that is enabled, and else a move that the state has; where the first is always chosen, the activated updates come first.
+#[inline(always)]
 pub(crate) fn choose<Q: EventQueue<usize>, P: Pick>(
     state: &State<Q>,
     inside: Option<usize>,
@@ -135,19 +135,8 @@ fn print_calls<Q: EventQueue<usize>, L: Sink>(
     Ok(())
 }
 
-/// Writes a line, where there is one.
-fn print<L: Sink>(lines: &mut L, line: Option<Vec<u8>>) -> Result<(), VcdFault>
-    ensures ok { OnOk result (Appends (L.bytes lines.old) (L.bytes lines.new) (given_text line)) }
-    ensures err { OnErr result (AppendsPart (L.bytes lines.old) (L.bytes lines.new) (given_text line)) }
-    ensures failures { L.failed lines.new ≡ failed_after (is_write_fault result) (L.failed lines.old) }
-{
-    if let Some(text) = line {
-        write_all(lines, &text)?;
-    }
-    Ok(())
-}
-
 /// Writes the slot that a move ends, if it ends one: the slot of the dump, behind which nothing is marked, then its lines.
+#[inline(always)]
 fn note<Q: EventQueue<usize>, V: Sink, L: Sink>(
     alloc: Global,
     writer: &mut Writer,
@@ -180,34 +169,6 @@ fn note<Q: EventQueue<usize>, V: Sink, L: Sink>(
     Ok(())
 }
 
-/// Makes a move, marks the signals that it may change, and brings the list up to date; the answer is the line that the move makes at once. `changed`
-/// is room to work in.
-pub(crate) fn advance<Q: EventQueue<usize>>(
-    state: &mut State<Q>,
-    design: &Design,
-    agenda: &mut Agenda,
-    marks: &mut Vec<u64>,
-    changed: &mut Vec<usize>,
-    next: Choice,
-) -> Result<Option<Vec<u8>>, AllocError>
-    requires going { state.old.over ≡ false }
-    requires enabled { executions.is_enabled state.old next.choice ≡ true }
-    requires early { state.old.time < 2 ^ 62 }
-    requires sources { HasSources design.now state.old }
-    requires terms { HasTerms design.now state.old }
-    ensures state { OnOk result (state.new ≡ executions.apply next.choice state.old) }
-    ensures line { IfOk result (λ line. MatchOption line (made_line next.choice state.old ≡ None)
-        (λ text. made_line next.choice state.old ≡ Some text.items)) }
-    ensures marked { OnOk result (MarkChanges marks.old.items marks.new.items state.old.store state.new.store) }
-    ensures len { length marks.new.items ≡ length marks.old.items }
-{
-    changed.clear();
-    let line = state.make(design, next.choice, changed)?;
-    mark_all(marks, changed);
-    agenda.follow(next, state)?;
-    Ok(line)
-}
-
 /// How a run ends in a state in which its execution is complete.
 fn outcome_of<Q: EventQueue<usize>>(state: &State<Q>) -> Outcome
     ensures { result ≡ outcome_in state.now }
@@ -233,8 +194,53 @@ fn end_of<Q: EventQueue<usize>>(state: &State<Q>, until: u64) -> u64
     }
 }
 
-/// Takes the next step: chooses a move, writes the slot that it ends, if it ends one, makes it, and writes the line that it makes. The answer is the
-/// combinational block that has taken a step since its control, behind the move.
+/// What a turn has done: how many steps it took, and the combinational block that has taken a step since its control, behind them.
+#[derive(Clone, Copy)]
+struct Taken {
+    steps: u64,
+    inside: Option<usize>,
+}
+
+/// Takes a step: writes the slot that a chosen move ends, if it ends one, makes it, and writes the line that it makes.
+#[inline(always)]
+fn take_one<Q: EventQueue<usize>, V: Sink, L: Sink>(
+    alloc: Global,
+    design: &Design,
+    blocks: &[bool],
+    state: &mut State<Q>,
+    agenda: &mut Agenda,
+    writer: &mut Writer,
+    marks: &mut Vec<u64>,
+    changed: &mut Vec<usize>,
+    next: Choice,
+    vcd: &mut V,
+    lines: &mut L,
+) -> Result<Option<usize>, VcdFault>
+    requires enabled { executions.is_enabled state.old next.choice ≡ true }
+    requires going { state.old.over ≡ false }
+    requires early { state.old.time < 2 ^ 62 }
+    requires reached { IsReached design.now state.old }
+    requires few { length marks.old.items ≤ 2 ^ 57 }
+    requires covers { Covers marks.old.items writer.old state.old.store }
+    ensures covers { OnOk result ((d : Parts) (slots : List Slot) → HasWritten writer.new d slots
+        → length d.signals < 512 * length marks.old.items → Covers marks.new.items writer.new state.new.store) }
+    ensures len { length marks.new.items ≡ length marks.old.items }
+    ensures ok { IfOk result (λ behind. (inside : Option ℕ) → is_step_of_any inside next.choice ≡ true → Turned blocks.now
+        (point inside state.old writer.old (V.bytes vcd.old) (L.bytes lines.old))
+        (point behind state.new writer.new (V.bytes vcd.new) (L.bytes lines.new))) }
+    ensures err { OnErr result ((inside : Option ℕ) → is_step_of_any inside next.choice ≡ true
+        → TurnedPart (point inside state.old writer.old (V.bytes vcd.old) (L.bytes lines.old)) (V.bytes vcd.new) (L.bytes lines.new)) }
+    ensures failures { OneFailed (is_write_fault result) (V.failed vcd.old) (V.failed vcd.new) (L.failed lines.old) (L.failed lines.new) }
+{
+    note(alloc, writer, vcd, lines, marks, state, next.choice)?;
+    advance(state, design, marks, changed, lines, next.choice)?;
+    agenda.follow(next, state)?;
+    Ok(inside_behind(blocks, state, next.choice))
+}
+
+/// Takes the next steps, at least one and at most so many: chooses a move and makes it. Where the first event is always chosen, the steps of a process
+/// go on until it waits, and the activated updates until none is left.
+#[inline(always)]
 fn turn<Q: EventQueue<usize>, P: Pick, V: Sink, L: Sink>(
     alloc: Global,
     design: &Design,
@@ -246,31 +252,58 @@ fn turn<Q: EventQueue<usize>, P: Pick, V: Sink, L: Sink>(
     marks: &mut Vec<u64>,
     changed: &mut Vec<usize>,
     policy: &mut P,
+    steps: u64,
     vcd: &mut V,
     lines: &mut L,
-) -> Result<Option<usize>, VcdFault>
+) -> Result<Taken, VcdFault>
     requires goes_on { (process : ℕ) → inside ≡ Some process → executions.is_enabled state.old (Move.Step process) ≡ true }
+    requires steps { 0 < steps }
     requires going { state.old.over ≡ false }
     requires early { state.old.time < 2 ^ 62 }
-    requires sources { HasSources design.now state.old }
-    requires terms { HasTerms design.now state.old }
+    requires reached { IsReached design.now state.old }
     requires few { length marks.old.items ≤ 2 ^ 57 }
     requires covers { Covers marks.old.items writer.old state.old.store }
     ensures covers { OnOk result ((d : Parts) (slots : List Slot) → HasWritten writer.new d slots
         → length d.signals < 512 * length marks.old.items → Covers marks.new.items writer.new state.new.store) }
     ensures len { length marks.new.items ≡ length marks.old.items }
-    ensures ok { IfOk result (λ next.
-        Turned inside blocks.now state.old state.new writer.old writer.new
-        (V.bytes vcd.old) (V.bytes vcd.new) (L.bytes lines.old) (L.bytes lines.new) next) }
-    ensures err { OnErr result (TurnedPart inside state.old writer.old
-        (V.bytes vcd.old) (V.bytes vcd.new) (L.bytes lines.old) (L.bytes lines.new)) }
+    ensures some { IfOk result (λ taken. 0 < taken.steps) }
+    ensures within { IfOk result (λ taken. taken.steps ≤ steps) }
+    ensures ok { IfOk result (λ taken. AllTurned taken.steps blocks.now
+        (point inside state.old writer.old (V.bytes vcd.old) (L.bytes lines.old))
+        (point taken.inside state.new writer.new (V.bytes vcd.new) (L.bytes lines.new))) }
+    ensures err { OnErr result (AllTurnedPart steps blocks.now
+        (point inside state.old writer.old (V.bytes vcd.old) (L.bytes lines.old)) (V.bytes vcd.new) (L.bytes lines.new)) }
     ensures failures { OneFailed (is_write_fault result) (V.failed vcd.old) (V.failed vcd.new) (L.failed lines.old) (L.failed lines.new) }
 {
     let next = choose(state, inside, agenda, policy);
-    note(alloc, writer, vcd, lines, marks, state, next.choice)?;
-    let line = advance(state, design, agenda, marks, changed, next)?;
-    print(lines, line)?;
-    Ok(inside_behind(blocks, state, next.choice))
+    if P::FIRST {
+        match next.choice {
+            Move::Step(process) => {
+                let taken = run_process(
+                    state, design, agenda, marks, changed, lines, process, next.index, steps,
+                )?;
+                let inside = inside_behind(blocks, state, next.choice);
+                return Ok(Taken {
+                    steps: taken,
+                    inside,
+                });
+            }
+            Move::Make(first) => {
+                let taken = run_updates(
+                    state, design, agenda, marks, changed, lines, first, steps,
+                )?;
+                return Ok(Taken {
+                    steps: taken,
+                    inside: None,
+                });
+            }
+            _ => {}
+        }
+    }
+    let inside = take_one(
+        alloc, design, blocks, state, agenda, writer, marks, changed, next, vcd, lines,
+    )?;
+    Ok(Taken { steps: 1, inside })
 }
 
 /// Runs a design from its start.
@@ -307,7 +340,7 @@ fn execute<Q: EventQueue<usize>, P: Pick, V: Sink, L: Sink>(
         if count == steps {
             return Ok(Outcome::StepLimit(state.time()));
         }
-        let next = turn(
+        let taken = turn(
             alloc,
             design,
             &blocks,
@@ -318,11 +351,12 @@ fn execute<Q: EventQueue<usize>, P: Pick, V: Sink, L: Sink>(
             &mut marks,
             &mut changed,
             policy,
+            steps - count,
             vcd,
             lines,
         )?;
-        inside = next;
-        count += 1;
+        inside = taken.inside;
+        count += taken.steps;
     }
     writer.finish(vcd, end_of(state, until))?;
     Ok(outcome_of(state))

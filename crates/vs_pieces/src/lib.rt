@@ -11,4 +11,4 @@ pub use blocks::{NamedBlock, item_blocks, statement_blocks};
 pub use contents::{Content, branch_names, content_of};
 pub use law::used_are_tokens;
 pub use scope::{Piece, block_pieces, pieces};
-pub use uses::names_used;
+pub use uses::{names_in, names_used};

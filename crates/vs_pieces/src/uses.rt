@@ -258,3 +258,12 @@ pub fn names_used<'s>(alloc: Global, piece: Piece<'s>) -> Result<Vec<&'s [u8]>, 
     }
     Ok(names)
 }
+
+/// The names in an expression, in the order of the text.
+pub fn names_in<'s>(alloc: Global, e: &'s Expr) -> Result<Vec<&'s [u8]>, AllocError>
+    ensures { IfOk result (λ v. read_names v.items ≡ expr_names e.entry.now) }
+{
+    let mut names = Vec::new(alloc);
+    add_expr(&mut names, e)?;
+    Ok(names)
+}

@@ -1,9 +1,11 @@
 -- The processes of a run by what they wait for.
-use Rattle.std.specs.Prelude.{ℕ, ◌≡◌, ◌==◌, Bool, true, false, Some, List, slice_get, slice_set}
+use Rattle.std.specs.Prelude.{ℕ, ◌≡◌, ◌==◌, Bool, true, false, Option, Some, None, List, slice_get, slice_set}
 use Rattle.vs_design.specs.Stores.{Store}
+use Rattle.vs_design.specs.Writes.{Write}
 use Rattle.vs_time_wheel.specs.declared.timing.Timed.{Timed}
 use Rattle.vs_time_wheel.specs.Bag.{events_at}
-use Rattle.vs_flatcode.specs.Places.{Place, sleeping, is_going, is_inactive}
+use Rattle.vs_flatcode.specs.Places.{Place, sleeping, is_going, is_inactive, todo_of}
+use Rattle.vs_flatcode.specs.Steps.{step}
 use Rattle.vs_process.specs.declared.effect.Effect.{Effect}
 use Rattle.vs_process.specs.Effects.{Stepped}
 use Rattle.vs_places.specs.Listed.{Lists}
@@ -36,3 +38,8 @@ pub record StepsAt (old : List Place) (process : ℕ) (store : Store) (time : �
   pub here : slice_get old process ≡ Some from
   pub stepped : Stepped from store time to effect
   pub set : new ≡ slice_set old process to
+
+-- what the step of a process at a place writes, where there is one (clause 9.2.1)
+abbrev pub step_write : Option Place → Store → ℕ → Option Write
+step_write None store time = None
+step_write (Some place) store time = (step (todo_of place) store time).write

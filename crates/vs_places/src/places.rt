@@ -1,12 +1,13 @@
 //! The places of the processes of a run.
-ghost use Rattle.std.specs.Prelude.{◌≡◌, ◌<◌, ◌^◌, Some, None, true, false, length, map, slice_get, IfOk, OnErr, MatchOption};
+ghost use Rattle.std.specs.Prelude.{◌≡◌, ◌++◌, ◌<◌, ◌^◌, Some, None, true, false, length, map, slice_get, IfOk, OnOk, OnErr, MatchOption};
 ghost use Rattle.std.specs.List.{list_any};
 ghost use Rattle.vs_design.specs.Stores.{changed_at};
+ghost use Rattle.vs_flatcode.specs.Changes.{store_behind, changes_of};
 ghost use Rattle.vs_flatcode.specs.Places.{is_going, start_place};
 ghost use Rattle.vs_process.specs.Executions as executions;
 ghost use Rattle.vs_process.specs.States as states;
 ghost use Rattle.vs_places.specs.Listed.{count};
-ghost use Rattle.vs_places.specs.Timelines.{StepsAt};
+ghost use Rattle.vs_places.specs.Timelines.{StepsAt, step_write};
 ghost use Rattle.vs_places.specs.Triggers.{triggered_by};
 
 use crate::counts::recount;
@@ -15,7 +16,7 @@ use std::marker::Model;
 use vs_design::Store;
 use vs_edges::woken;
 use vs_logic4::Vec4;
-use vs_process::{Code, Effect, Place};
+use vs_process::{Change, Code, Effect, Place};
 
 /// The places of the processes, and how many of these are active. A contract sees the places.
 #[derive(Drop)]
@@ -92,6 +93,7 @@ impl<'a> Places<'a> {
     }
 
     /// The place of a process.
+    #[inline(always)]
     pub(crate) fn get(&self, process: usize) -> Option<&Place<'a>>
         ensures { MatchOption result (slice_get self.now process ≡ None) (λ place. slice_get self.now process ≡ Some place.now) }
     {
@@ -99,6 +101,7 @@ impl<'a> Places<'a> {
     }
 
     /// Whether a process is active.
+    #[inline(always)]
     pub(crate) fn has_active(&self) -> bool
         ensures { result ≡ list_any is_going self.now }
     {
@@ -113,29 +116,37 @@ impl<'a> Places<'a> {
         active_process(&self.items)
     }
 
-    /// A step of an active process at `time`, in ticks; without memory the places are as they were.
+    /// A step of an active process at `time`, in ticks: its write is made in the store, and the words that it changes go to `changes`. Without
+    /// memory the places and the store are as they were.
+    #[inline(always)]
     pub(crate) fn step(
         &mut self,
         process: usize,
         alloc: Global,
-        store: &Store,
+        store: &mut Store,
         time: u64,
+        changes: &mut Vec<Change>,
     ) -> Result<Effect<'a>, AllocError>
         requires active { executions.if_some is_going (slice_get self.old process) ≡ true }
         requires early { time < 2 ^ 62 }
-        ensures ok { IfOk result (λ e. StepsAt self.old process store.now time self.new e) }
-        ensures err { OnErr result (self.new ≡ self.old) }
+        ensures ok { IfOk result (λ e. StepsAt self.old process store.old time self.new e) }
+        ensures store { OnOk result (store.new ≡ store_behind store.old (step_write (slice_get self.old process) store.old time)) }
+        ensures changes { OnOk result (changes.new.items
+            ≡ changes.old.items ++ changes_of store.old (step_write (slice_get self.old process) store.old time)) }
+        ensures places_kept { OnErr result (self.new ≡ self.old) }
+        ensures store_kept { OnErr result (store.new ≡ store.old) }
     {
         let Some(place) = self.items.get_mut(process) else {
             return Ok(Effect::Nothing);
         };
-        let effect = place.step(alloc, store, time)?;
+        let effect = place.step(alloc, store, time, changes)?;
         self.going = recount(self.going, true, place.is_going());
         Ok(effect)
     }
 
     /// A process becomes active where the change of one word of a signal wakes a term that it waits for, and the answer is whether it does;
     /// one past the end is none.
+    #[inline(always)]
     pub(crate) fn trigger(
         &mut self,
         process: usize,
@@ -172,6 +183,7 @@ impl<'a> Places<'a> {
     }
 
     /// A process whose delay ends at this time, in ticks, becomes active; one past the end is none.
+    #[inline(always)]
     pub(crate) fn wake(&mut self, process: usize, time: u64)
         ensures { self.new ≡ changed_at (states.woken_at time) process self.old }
     {

@@ -4,10 +4,11 @@ ghost use Rattle.std.specs.List.{list_any};
 ghost use Rattle.std.specs.Option.{ForSome};
 ghost use Rattle.vs_time_wheel.specs.Bag.{IsFrom, SameBag, events_at};
 ghost use Rattle.vs_design.specs.Stores.{changed_at};
+ghost use Rattle.vs_flatcode.specs.Changes.{store_behind, changes_of};
 ghost use Rattle.vs_flatcode.specs.Places.{is_going, is_inactive, start_place};
 ghost use Rattle.vs_process.specs.Executions as executions;
 ghost use Rattle.vs_process.specs.States as states;
-ghost use Rattle.vs_places.specs.Timelines.{AreKept, AreKeptBut, StepsAt};
+ghost use Rattle.vs_places.specs.Timelines.{AreKept, AreKeptBut, StepsAt, step_write};
 ghost use Rattle.vs_places.specs.Triggers.{changed_all, triggered_by};
 
 use crate::places::Places;
@@ -16,7 +17,7 @@ use std::marker::Model;
 use std::mem;
 use vs_design::Store;
 use vs_logic4::Vec4;
-use vs_process::{Code, Effect, Place};
+use vs_process::{Change, Code, Effect, Place};
 use vs_time_wheel::EventQueue;
 
 /// The processes: their places, the list of the inactive ones in the order of their arrival, and the sleeping ones by the time at which their
@@ -79,6 +80,7 @@ fn postpone<Q: EventQueue<usize>>(
 
 /// A process that was active before its step enters the list or the queue where it is inactive or sleeps behind it; where it finds no room it
 /// becomes active again.
+#[inline(always)]
 fn keep<Q: EventQueue<usize>>(
     places: &mut Places,
     inactive: &mut Vec<usize>,
@@ -158,6 +160,7 @@ impl<'a, Q: EventQueue<usize>> Processes<'a, Q> {
     }
 
     /// The time of the slot, in ticks.
+    #[inline(always)]
     pub fn time(&self) -> u64
         ensures { result ≡ self.now.time }
     {
@@ -170,6 +173,7 @@ impl<'a, Q: EventQueue<usize>> Processes<'a, Q> {
     }
 
     /// The place of a process.
+    #[inline(always)]
     pub fn get(&self, process: usize) -> Option<&Place<'a>>
         ensures { MatchOption result (slice_get self.now.places process ≡ None)
             (λ place. slice_get self.now.places process ≡ Some place.now) }
@@ -178,6 +182,7 @@ impl<'a, Q: EventQueue<usize>> Processes<'a, Q> {
     }
 
     /// Whether a process is active.
+    #[inline(always)]
     pub fn has_active(&self) -> bool
         ensures { result ≡ list_any is_going self.now.places }
     {
@@ -193,6 +198,7 @@ impl<'a, Q: EventQueue<usize>> Processes<'a, Q> {
     }
 
     /// Whether a process is inactive.
+    #[inline(always)]
     pub fn has_inactive(&self) -> bool
         ensures { result ≡ list_any is_inactive self.now.places }
     {
@@ -207,20 +213,26 @@ impl<'a, Q: EventQueue<usize>> Processes<'a, Q> {
         self.sleepers.next_time()
     }
 
-    /// A step of an active process.
+    /// A step of an active process: its write is made in the store, and the words that it changes go to `changes`.
+    #[inline(always)]
     pub fn step(
         &mut self,
         process: usize,
         alloc: Global,
-        store: &Store,
+        store: &mut Store,
+        changes: &mut Vec<Change>,
     ) -> Result<Effect<'a>, AllocError>
         requires active { executions.if_some is_going (slice_get self.old.places process) ≡ true }
         requires early { self.old.time < 2 ^ 62 }
-        ensures ok { IfOk result (λ e. StepsAt self.old.places process store.now self.old.time self.new.places e) }
+        ensures ok { IfOk result (λ e. StepsAt self.old.places process store.old self.old.time self.new.places e) }
+        ensures store { OnOk result (store.new
+            ≡ store_behind store.old (step_write (slice_get self.old.places process) store.old self.old.time)) }
+        ensures changes { OnOk result (changes.new.items
+            ≡ changes.old.items ++ changes_of store.old (step_write (slice_get self.old.places process) store.old self.old.time)) }
         ensures time { self.new.time ≡ self.old.time }
     {
         let time = self.sleepers.now();
-        let effect = self.places.step(process, alloc, store, time)?;
+        let effect = self.places.step(process, alloc, store, time, changes)?;
         keep(
             &mut self.places,
             &mut self.inactive,
@@ -232,6 +244,7 @@ impl<'a, Q: EventQueue<usize>> Processes<'a, Q> {
 
     /// A process becomes active where the change of one word of a signal wakes a term that it waits for, and the answer is whether it does;
     /// one past the end is none.
+    #[inline(always)]
     pub fn trigger(
         &mut self,
         process: usize,

@@ -85,6 +85,12 @@ same_slot f None (Some y) h same = cc
 same_slot f (Some x) None h same = cc
 same_slot f (Some x) (Some y) h same = ap (λ l. Some l) same
 
+-- a signal of which no word is changed by a write stays
+pub signal_kept : (store : Store) (w : Write) (v : ℕ) → is_changed store (put store w) (all_words v) ≡ false → slice_get (put store w) v ≡ slice_get store v
+signal_kept store w v same =
+    sym (same_slot _ (slice_get store v) (slice_get (put store w) v) (sym (same_sizes (put store w) store v (shape-put store w)))
+    (sym (all_content (words_in (slice_get store v))) ∙ unchanged store (put store w) (all_words v) same ∙ all_content (words_in (slice_get (put store w) v))))
+
 -- a write that would change nothing leaves the store
 pub nothing_changed : (store : Store) (w : Write) → changes_nothing store w ≡ true → put store w ≡ store
 nothing_changed store w h = same_gets (put store w) store (λ v.
@@ -96,13 +102,8 @@ nothing_changed store w h = same_gets (put store w) store (λ v.
     none : list_any (λ (p : Part). is_changed store (put store w) (all_words p.signal)) w ≡ false
     none = not-true (list_any (λ (p : Part). is_changed store (put store w) (all_words p.signal)) w) h
 
-    at_signal : (v : ℕ) → is_changed store (put store w) (all_words v) ≡ false → slice_get (put store w) v ≡ slice_get store v
-    at_signal v same =
-        sym (same_slot _ (slice_get store v) (slice_get (put store w) v) (sym (same_sizes (put store w) store v (shape-put store w)))
-        (sym (all_content (words_in (slice_get store v))) ∙ unchanged store (put store w) (all_words v) same ∙ all_content (words_in (slice_get (put store w) v))))
-
     named : (v : ℕ) → ((i : ℕ) × (p : Part) × (slice_get w i ≡ Some p) × ((p.signal == v) ≡ true)) → slice_get (put store w) v ≡ slice_get store v
-    named v (i, p, is, at_v) = at_signal v (subst (λ n. is_changed store (put store w) (all_words n) ≡ false) (eqb-true p.signal v at_v) (none_at (λ (p : Part). is_changed store (put store w) (all_words p.signal)) w i p is none))
+    named v (i, p, is, at_v) = signal_kept store w v (subst (λ n. is_changed store (put store w) (all_words n) ≡ false) (eqb-true p.signal v at_v) (none_at (λ (p : Part). is_changed store (put store w) (all_words p.signal)) w i p is none))
 
 -- and one that leaves it changes nothing
 pub left_unchanged : (store : Store) (w : Write) → put store w ≡ store → changes_nothing store w ≡ true

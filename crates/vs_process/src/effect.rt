@@ -3,13 +3,12 @@
 use vs_design::{Ticks, Write};
 use vs_strobe::Format;
 
-/// What a step of a process does to the rest of the state, and what it prints.
+/// What a step of a process does to the rest of the state, and what it prints. The write of a blocking assignment is none of it: the step makes it in
+/// the store, and the words that it changes go to the caller's list (IEEE 1364-2005, clause 9.2.1).
 #[derive(Drop)]
 pub enum Effect<'a> {
-    /// Nothing.
+    /// Nothing, or a write.
     Nothing,
-    /// The write of a blocking assignment.
-    Write(Write),
     /// A nonblocking update, due in so many ticks (IEEE 1364-2005, clause 9.2.2).
     Update(Ticks, Write),
     /// A call of `$strobe`, by its format: its line is made at the end of the slot (clause 17.1.2).

@@ -15,4 +15,4 @@ pub use laws::{
 };
 pub use moves::{Grain, Move};
 pub use place::Place;
-pub use vs_flatcode::{Code, Gait, compile};
+pub use vs_flatcode::{Change, Code, Gait, compile};

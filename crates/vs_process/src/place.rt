@@ -1,7 +1,10 @@
 //! Where a process is.
-ghost use Rattle.std.specs.Prelude.{◌≡◌, ◌<◌, ◌^◌, IfOk, OnErr, true};
+ghost use Rattle.std.specs.Prelude.{◌≡◌, ◌++◌, ◌<◌, ◌^◌, IfOk, Option, OnOk, OnErr, true};
+ghost use Rattle.vs_design.specs.Writes.{Write};
+ghost use Rattle.vs_flatcode.specs.Changes.{store_behind, changes_of};
 ghost use Rattle.vs_flatcode.specs.Landings.{made_out};
-ghost use Rattle.vs_flatcode.specs.Places.{Todo, going, start_place, is_going, is_inactive, is_inside, stepped_gait};
+ghost use Rattle.vs_flatcode.specs.Places.{Todo, going, start_place, is_going, is_inactive, is_inside, stepped_gait, todo_of};
+ghost use Rattle.vs_flatcode.specs.Steps.{step};
 ghost use Rattle.vs_process.specs.Waits.{place_of, paused_wait};
 ghost use Rattle.vs_process.specs.Effects.{Leads, Stepped};
 ghost use Rattle.vs_process.specs.States.{roused, woken_at, due_of, terms_of, triggered};
@@ -10,7 +13,7 @@ use crate::effect::Effect;
 use std::alloc::{AllocError, Global};
 use std::marker::Model;
 use vs_design::{EventTerm, Store};
-use vs_flatcode::{Code, Cursor, Gait, Made};
+use vs_flatcode::{Change, Code, Cursor, Gait, Made};
 
 // What a process waits for.
 #[derive(Clone, Copy)]
@@ -46,6 +49,7 @@ impl<'a> Model for Place<'a> {
 }
 
 // The gait behind a step.
+#[inline(always)]
 fn gait_behind(gait: Gait) -> Gait
     ensures { result ≡ stepped_gait gait }
 {
@@ -57,6 +61,7 @@ fn gait_behind(gait: Gait) -> Gait
 }
 
 // What a process waits for when a delay begins.
+#[inline(always)]
 fn pause<'a>(time: u64, ticks: u64) -> Wait<'a>
     requires early { time < 2 ^ 62 }
     requires short { ticks < 2 ^ 62 }
@@ -70,13 +75,14 @@ fn pause<'a>(time: u64, ticks: u64) -> Wait<'a>
 }
 
 // What a process of this gait waits for behind a step that makes this, and what the step does to the rest of the state.
+#[inline(always)]
 fn behind<'a>(gait: Gait, time: u64, made: Made<'a>) -> (Wait<'a>, Effect<'a>)
     requires early { time < 2 ^ 62 }
-    ensures { (old todo : Todo) → Leads (made_out made.entry todo) (going gait old) time (place_of result.0 todo) result.1 }
+    ensures { (old todo : Todo) (w : Option Write) →
+        Leads (made_out made.entry w todo) (going gait old) time (place_of result.0 todo) result.1 }
 {
     match made {
         Made::Nothing => (Wait::Nothing(gait_behind(gait)), Effect::Nothing),
-        Made::Write(write) => (Wait::Nothing(gait_behind(gait)), Effect::Write(write)),
         Made::Update(ticks, write) => {
             (
                 Wait::Nothing(gait_behind(gait)),
@@ -103,6 +109,7 @@ impl<'a> Place<'a> {
     }
 
     /// Whether the process is active.
+    #[inline(always)]
     pub fn is_going(&self) -> bool
         ensures { result ≡ is_going self.now }
     {
@@ -113,6 +120,7 @@ impl<'a> Place<'a> {
     }
 
     /// Whether the process is inactive: a delay of zero ticks (IEEE 1364-2005, clause 11.3).
+    #[inline(always)]
     pub fn is_inactive(&self) -> bool
         ensures { result ≡ is_inactive self.now }
     {
@@ -123,6 +131,7 @@ impl<'a> Place<'a> {
     }
 
     /// The time in ticks at which its delay ends, where it waits for one.
+    #[inline(always)]
     pub fn due(&self) -> Option<u64>
         ensures { result ≡ due_of self.now }
     {
@@ -133,6 +142,7 @@ impl<'a> Place<'a> {
     }
 
     /// Whether the process is active and has taken a step since its timing control ended.
+    #[inline(always)]
     pub fn is_inside(&self) -> bool
         ensures { result ≡ is_inside self.now }
     {
@@ -143,6 +153,7 @@ impl<'a> Place<'a> {
     }
 
     /// The event terms that the process waits for; none where it waits for no event (IEEE 1364-2005, clause 9.7.2).
+    #[inline(always)]
     pub fn terms(&self) -> &[EventTerm]
         ensures { result.now ≡ terms_of self.now }
     {
@@ -153,6 +164,7 @@ impl<'a> Place<'a> {
     }
 
     /// A process that waits for an event becomes active; another stays as it is.
+    #[inline(always)]
     pub fn trigger(&mut self)
         ensures { self.new ≡ triggered self.old }
     {
@@ -163,6 +175,7 @@ impl<'a> Place<'a> {
     }
 
     /// An inactive process becomes active.
+    #[inline(always)]
     pub fn rouse(&mut self)
         ensures { self.new ≡ roused self.old }
     {
@@ -173,6 +186,7 @@ impl<'a> Place<'a> {
     }
 
     /// A process whose delay ends at this time, in ticks, becomes active.
+    #[inline(always)]
     pub fn wake(&mut self, time: u64)
         ensures { self.new ≡ woken_at time self.old }
     {
@@ -186,23 +200,30 @@ impl<'a> Place<'a> {
         }
     }
 
-    /// One step of an active process (IEEE 1364-2005, clauses 9.2 and 9.7) at `time`, in ticks: where it goes from there, and
-    /// what the step does to the rest of the state. Without memory the place is as it was.
+    /// One step of an active process (IEEE 1364-2005, clauses 9.2 and 9.7) at `time`, in ticks: where it goes from there, and what the step does to
+    /// the rest of the state. The write of a blocking assignment is made in the store, and the words that it changes go to `changes`. Without memory
+    /// the place and the store are as they were.
+    #[inline(always)]
     pub fn step(
         &mut self,
         alloc: Global,
-        store: &Store,
+        store: &mut Store,
         time: u64,
+        changes: &mut Vec<Change>,
     ) -> Result<Effect<'a>, AllocError>
         requires active { is_going self.old ≡ true }
         requires early { time < 2 ^ 62 }
-        ensures ok { IfOk result (λ e. Stepped self.old store.now time self.new e) }
-        ensures err { OnErr result (self.new ≡ self.old) }
+        ensures ok { IfOk result (λ e. Stepped self.old store.old time self.new e) }
+        ensures store { OnOk result (store.new ≡ store_behind store.old (step (todo_of self.old) store.old time).write) }
+        ensures changes { OnOk result (changes.new.items
+            ≡ changes.old.items ++ changes_of store.old (step (todo_of self.old) store.old time).write) }
+        ensures place_kept { OnErr result (self.new ≡ self.old) }
+        ensures store_kept { OnErr result (store.new ≡ store.old) }
     {
         let Wait::Nothing(gait) = self.wait else {
             return Ok(Effect::Nothing);
         };
-        let made = self.cursor.step(alloc, store, time)?;
+        let made = self.cursor.step(alloc, store, time, changes)?;
         let (wait, effect) = behind(gait, time, made);
         self.wait = wait;
         Ok(effect)

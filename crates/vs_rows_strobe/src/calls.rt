@@ -1,5 +1,5 @@
 //! Calls, whose text need not be a good one, and the steps of a process that makes calls.
-use crate::designs::first_store;
+use crate::designs::one_signal;
 use crate::showing::values;
 use std::alloc::{AllocError, Global};
 use std::test::Fail;
@@ -41,7 +41,8 @@ fn printed(alloc: Global, text: &str, count: usize) -> Result<Vec<u8>, AllocErro
     let args = values(alloc, false, "1", count)?;
     let call = call(alloc, CallKind::Display, text, args)?;
     let format = Format::of(alloc, &call)?;
-    full_line(alloc, &format, &first_store(alloc)?, 0)
+    let design = one_signal(alloc)?;
+    full_line(alloc, &format, &Store::start(alloc, &design)?, 0)
 }
 
 #[test]
@@ -65,8 +66,8 @@ fn display(alloc: Global) -> Result<Statement, AllocError> {
     Ok(Statement::Call(0, call(alloc, CallKind::Display, "%b", args)?))
 }
 
-// `a <= #5 1'b1`.
-fn later(alloc: Global) -> Result<Statement, AllocError> {
+// `a`.
+fn target(alloc: Global) -> Result<Target, AllocError> {
     let bit = Slice {
         signal: 0,
         word: 0,
@@ -75,18 +76,23 @@ fn later(alloc: Global) -> Result<Statement, AllocError> {
     };
     let mut parts = Vec::new(alloc);
     parts.push(Aim::Fixed(bit))?;
-    let target = Target { parts, width: 1 };
-    let one = Typed::Number(Vec4::from_number(1, 1));
-    Ok(Statement::Later(2, Ticks { count: 5 }, target, one))
+    Ok(Target { parts, width: 1 })
 }
 
-// `begin $display("%b", a); $strobe("p"); a <= #5 1'b1; $finish; end`.
+// `1'b1`.
+fn one() -> Typed {
+    Typed::Number(Vec4::from_number(1, 1))
+}
+
+// `begin $display("%b", a); a = 1'b1; a = 1'b1; $strobe("p"); a <= #5 1'b1; $finish; end`.
 fn body(alloc: Global) -> Result<Statement, AllocError> {
     let mut all = Vec::new(alloc);
     all.push(display(alloc)?)?;
-    all.push(Statement::Call(1, call(alloc, CallKind::Strobe, "p", Vec::new(alloc))?))?;
-    all.push(later(alloc)?)?;
-    all.push(Statement::Finish(3))?;
+    all.push(Statement::Assign(1, target(alloc)?, one()))?;
+    all.push(Statement::Assign(2, target(alloc)?, one()))?;
+    all.push(Statement::Call(3, call(alloc, CallKind::Strobe, "p", Vec::new(alloc))?))?;
+    all.push(Statement::Later(4, Ticks { count: 5 }, target(alloc)?, one()))?;
+    all.push(Statement::Finish(5))?;
     Ok(Statement::Block(all))
 }
 
@@ -99,7 +105,6 @@ fn tell(
 ) -> Result<(), AllocError> {
     match effect {
         Effect::Nothing => out.push(b'n')?,
-        Effect::Write(_) => out.push(b'w')?,
         Effect::Update(ticks, _) => {
             out.push(b'u')?;
             out.push(b'0' + (ticks.count % 10) as u8)?;
@@ -117,22 +122,29 @@ fn tell(
     Ok(())
 }
 
-// A step of an active process.
+// A step of an active process: a letter for each word that its write changes, and then its effect.
 fn step_told<'a>(
     alloc: Global,
     out: &mut Vec<u8>,
     place: &mut Place<'a>,
-    store: &Store,
+    store: &mut Store,
 ) -> Result<(), AllocError> {
     if place.is_going() {
-        let effect = place.step(alloc, store, 0)?;
+        let mut changes = Vec::new(alloc);
+        let effect = place.step(alloc, store, 0, &mut changes)?;
+        out.resize(out.len() + changes.len(), b'w')?;
         tell(alloc, out, effect, store)?;
     }
     Ok(())
 }
 
 // So many steps of each process with one of these codes, one after another.
-fn told(alloc: Global, codes: &[Code], count: usize, store: &Store) -> Result<Vec<u8>, AllocError> {
+fn told(
+    alloc: Global,
+    codes: &[Code],
+    count: usize,
+    store: &mut Store,
+) -> Result<Vec<u8>, AllocError> {
     let mut out = Vec::new(alloc);
     for code in codes {
         let mut place = Place::start(alloc, code)?;
@@ -157,7 +169,7 @@ fn told_of(
     alloc: Global,
     bodies: &[Statement],
     count: usize,
-    store: &Store,
+    store: &mut Store,
 ) -> Result<Vec<u8>, AllocError> {
     let codes = codes_of(alloc, bodies)?;
     told(alloc, &codes, count, store)
@@ -165,9 +177,10 @@ fn told_of(
 
 #[test]
 fn steps(rt: HostRuntime) -> Result<(), Fail> {
-    let store = first_store(rt.alloc())?;
+    let design = one_signal(rt.alloc())?;
+    let mut store = Store::start(rt.alloc(), &design)?;
     let bodies = vec![in rt.alloc(); body(rt.alloc())?]?;
-    let told = told_of(rt.alloc(), &bodies, 5, &store)?;
-    assert_eq!(rt; told.as_slice(), b"lx\nsp\nu5f".as_slice());
+    let told = told_of(rt.alloc(), &bodies, 7, &mut store)?;
+    assert_eq!(rt; told.as_slice(), b"lx\nwnnsp\nu5f".as_slice());
     Ok(())
 }

@@ -49,11 +49,6 @@ pub fn one_signal(alloc: Global) -> Result<Design, AllocError> {
     )
 }
 
-// The store where nothing has been written.
-pub fn first_store(alloc: Global) -> Result<Store, AllocError> {
-    Store::start(alloc, &one_signal(alloc)?)
-}
-
 // Makes `a` this value.
 pub fn assign(alloc: Global, store: &mut Store, digits: Vec4) -> Result<(), AllocError> {
     let mut write = Write::new(alloc);

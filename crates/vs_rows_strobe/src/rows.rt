@@ -1,5 +1,5 @@
 //! Whole lines.
-use crate::designs::{assign, first_store};
+use crate::designs::{assign, one_signal};
 use crate::showing::{line_of, line_of_value, values, vector};
 use std::alloc::Global;
 use std::test::Fail;
@@ -115,7 +115,8 @@ fn shown(alloc: Global, text: &str, store: &Store) -> Result<Vec<u8>, FormatFaul
 // The values are those of the store that a line is made in.
 #[test]
 fn a_line_shows_its_store(rt: HostRuntime) -> Result<(), Fail> {
-    let mut store = first_store(rt.alloc())?;
+    let design = one_signal(rt.alloc())?;
+    let mut store = Store::start(rt.alloc(), &design)?;
     assert_eq!(rt;
         shown(rt.alloc(), "%b", &store)?.as_slice(),
         b"x".as_slice()

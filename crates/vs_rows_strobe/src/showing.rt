@@ -1,7 +1,7 @@
 //! Lines of given values.
-use crate::designs::first_store;
+use crate::designs::one_signal;
 use std::alloc::{AllocError, Global};
-use vs_design::{FormatArg, Typed};
+use vs_design::{FormatArg, Store, Typed};
 use vs_logic4::{Digit, Vec4};
 use vs_strobe::{Format, FormatFault, line};
 
@@ -58,7 +58,8 @@ pub fn line_of(
     ratio: u64,
     time: u64,
 ) -> Result<Vec<u8>, FormatFault> {
-    let store = first_store(alloc)?;
+    let design = one_signal(alloc)?;
+    let store = Store::start(alloc, &design)?;
     let ratio = if ratio == 1000 { 1000 } else { 1 };
     let format = Format::read(alloc, text.as_bytes(), args, b"t.g[0]", ratio)?;
     Ok(line(alloc, &format, &store, time)?)

@@ -48,9 +48,10 @@ fn outline(alloc: Global) -> Result<Vec<Entry>, AllocError>
     Ok(outline)
 }
 
-// A module `t` with the array `m`, the variable `a` of one bit and the variable `b [-1:2]`; a tick is 10 ps.
-pub fn three_signals(alloc: Global) -> Result<Design, AllocError> {
-    let range = Bounds { left: -1, right: 2 };
+// A module `t` with the array `m`, the variable `a` of one bit and the variable `b` of so many; a tick is 10 ps.
+pub fn three_signals_of(alloc: Global, width: u32, range: Bounds) -> Result<Design, AllocError>
+    requires { (0 < width) × (width ≤ 64) }
+{
     let words = Bounds { left: 0, right: 7 };
     let precision = TimeSpan {
         magnitude: Magnitude::Ten,
@@ -63,7 +64,7 @@ pub fn three_signals(alloc: Global) -> Result<Design, AllocError> {
     let mut signals = Vec::new(alloc);
     signals.push(variable(alloc, b"t.m", 8, None, Some(words), 8)?)?;
     signals.push(variable(alloc, b"t.a", 1, None, None, 1)?)?;
-    signals.push(variable(alloc, b"t.b", 4, Some(range), None, 1)?)?;
+    signals.push(variable(alloc, b"t.b", width, Some(range), None, 1)?)?;
     let outline = outline(alloc)?;
     Design::new(
         alloc,
@@ -73,6 +74,11 @@ pub fn three_signals(alloc: Global) -> Result<Design, AllocError> {
         Vec::new(alloc),
         outline,
     )
+}
+
+// The module whose variable `b` is `b [-1:2]`.
+pub fn three_signals(alloc: Global) -> Result<Design, AllocError> {
+    three_signals_of(alloc, 4, Bounds { left: -1, right: 2 })
 }
 
 // A write of a whole signal.
@@ -89,6 +95,9 @@ pub fn whole(alloc: Global, signal: usize, digits: Vec4) -> Result<Write, AllocE
 
 pub const HEADER: &[u8] =
     b"$timescale 10 ps $end\n$scope module t $end\n$var reg 1 ! a $end\n$var reg 4 \" b [-1:2] $end\n$upscope $end\n$enddefinitions $end\n";
+
+pub const WIDE_HEADER: &[u8] =
+    b"$timescale 10 ps $end\n$scope module t $end\n$var reg 1 ! a $end\n$var reg 64 \" b [63:0] $end\n$upscope $end\n$enddefinitions $end\n";
 
 pub const DUMP: &[u8] =
     b"$timescale 10 ps $end\n$scope module t $end\n$var reg 1 ! a $end\n$var reg 4 \" b [-1:2] $end\n$upscope $end\n$enddefinitions $end\n#0\n$dumpvars\n0!\nbx \"\n$end\n#5\n1!\n#7\nb101 \"\n#10\n";

@@ -1,8 +1,10 @@
 //! Texts of dumps.
-use crate::designs::{DUMP, HEADER, three_signals, whole, write_dump};
+use crate::designs::{
+    DUMP, HEADER, WIDE_HEADER, three_signals, three_signals_of, whole, write_dump,
+};
 use std::alloc::Global;
 use std::test::Fail;
-use vs_design::Store;
+use vs_design::{Bounds, Store};
 use vs_logic4::{Digit, Vec4};
 use vs_vcd::{Counted, Sink, VcdFault, Writer, shows_values_at_slot_ends};
 
@@ -61,6 +63,74 @@ fn left_digits_are_dropped(rt: HostRuntime) -> Result<(), Fail> {
         assert!(rt; bytes.starts_with(HEADER));
         assert!(rt; bytes.ends_with(text));
         assert_eq!(rt; bytes.len(), HEADER.len() + text.len());
+    }
+    Ok(())
+}
+
+// A dump of one slot at 0, in which `b` has the 64 digits of two planes.
+fn write_planes<S: Sink>(
+    alloc: Global,
+    sink: &mut S,
+    value: u64,
+    unknown: u64,
+) -> Result<(), VcdFault> {
+    let range = Bounds { left: 63, right: 0 };
+    let design = three_signals_of(alloc, 64, range)?;
+    let mut store = Store::start(alloc, &design)?;
+    store.put(&whole(alloc, 2, Vec4::from_planes(64, value, unknown))?);
+    let mut writer = Writer::header(alloc, sink, &design)?;
+    writer.slot(alloc, sink, 0, &store)?;
+    writer.finish(sink, 0)
+}
+
+#[test]
+fn sixty_four_digits_are_written(rt: HostRuntime) -> Result<(), Fail> {
+    // The planes of the values and of the unknown digits: x is in both, z in the second alone.
+    let rows: [(u64, u64, &[u8]); 10] = [
+        (u64::MAX, u64::MAX, b"bx"),
+        (
+            u64::MAX,
+            0,
+            b"b1111111111111111111111111111111111111111111111111111111111111111",
+        ),
+        (0, 0, b"b0"),
+        (0, u64::MAX, b"bz"),
+        (
+            0x8000000000000003,
+            0x0000000100000002,
+            b"b1000000000000000000000000000000z000000000000000000000000000000x1",
+        ),
+        (
+            0x0000015555555555,
+            0x0000010000000000,
+            b"b0x0101010101010101010101010101010101010101",
+        ),
+        (
+            0xffaaaaaaaaaaaaaa,
+            0xff95555555555555,
+            b"bx01z1z1z1z1z1z1z1z1z1z1z1z1z1z1z1z1z1z1z1z1z1z1z1z1z1z1z",
+        ),
+        (
+            0x0000000000800000,
+            0xffffffffff000000,
+            b"bz100000000000000000000000",
+        ),
+        (1, 0, b"b1"),
+        (
+            0,
+            0x0000000180000000,
+            b"b0zz0000000000000000000000000000000",
+        ),
+    ];
+    for (value, unknown, text) in rows {
+        let mut sink = Counted::new(Vec::new(rt.alloc()));
+        write_planes(rt.alloc(), &mut sink, value, unknown)?;
+        let bytes = sink.into_inner();
+        let mut wanted = Vec::from_slice(rt.alloc(), WIDE_HEADER)?;
+        wanted.extend_from_slice(b"#0\n$dumpvars\nx!\n")?;
+        wanted.extend_from_slice(text)?;
+        wanted.extend_from_slice(b" \"\n$end\n")?;
+        assert_eq!(rt; bytes.as_slice(), wanted.as_slice());
     }
     Ok(())
 }

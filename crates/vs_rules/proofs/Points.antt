@@ -29,7 +29,8 @@ use Rattle.vs_flatcode.specs.Places.{perform, turns}
 use Rattle.vs_flatcode.specs.Steps.{assignment, statement_step, is_default, flat_item, taken, turns_for, repeated}
 use Rattle.vs_process.proofs.Ranges.{assigned_names}
 use Rattle.vs_eval.specs.Values.{target_value, value_of}
-use Rattle.vs_rules.specs.Points.{Among, erased_item, erased, erased_next, past, case_nexts, statement_nexts, statement_writes, statement_updates, Goes, Point, Late, Slot0, WritesNow, WritesLater, Hot, RunsAt}
+use Rattle.vs_flatcode.specs.Nexts.{erased_item, erased, erased_next, past, case_nexts, statement_nexts}
+use Rattle.vs_rules.specs.Points.{Among, statement_writes, statement_updates, Goes, Point, Late, Slot0, WritesNow, WritesLater, Hot, RunsAt}
 
 -- ---- what is to be done, but for the turns that are left
 

@@ -42,7 +42,8 @@ use Rattle.vs_independence.proofs.Making.{none_get}
 use Rattle.vs_independence.proofs.Ends.{AtEnd, at_end, all_idle, some_of}
 use Rattle.vs_independence.proofs.Times.{is_after, after_next, get_from_all}
 use Rattle.vs_independence.proofs.Moves.{performed_at, performed_is}
-use Rattle.vs_rules.specs.Points.{erased, Point, Late, Slot0, WritesNow, WritesLater, ReadsNow, Hot, RunsAt, first_todo}
+use Rattle.vs_flatcode.specs.Nexts.{erased}
+use Rattle.vs_rules.specs.Points.{Point, Late, Slot0, WritesNow, WritesLater, ReadsNow, Hot, RunsAt, first_todo}
 use Rattle.vs_rules.specs.Claims.{Name, Claims, claim_of, writer_in, second_in, names_process, is_writer, is_second, place_of, ends_at}
 use Rattle.vs_rules.specs.Rules.{now, later, by, K2, K4, K10, Ruled}
 use Rattle.vs_rules.proofs.Points.{erased_flat, erased_reads, At, at_zero, at_later, Here, Stands, Closed, stands_step, stands_roused, stands_active, HotAt, Walked, walked}

@@ -119,7 +119,8 @@ pub fn reads_nothing(alloc: Global, y: &Typed) -> Result<bool, AllocError>
 pub fn value_alone(alloc: Global, y: &Typed) -> Result<Vec4, AllocError>
     ensures { IfOk result (λ v. v ≡ value_of y.now [] 0) }
 {
-    let store = empty_store(alloc)?;
+    let design = empty_design(alloc)?;
+    let store = Store::start(alloc, &design)?;
     Ok(value(y, &store, 0))
 }
 
@@ -155,17 +156,16 @@ pub fn whole_of(alloc: Global, x: &Measured) -> Result<i64, WidthFault>
     }
 }
 
-/// A store without signals.
-fn empty_store(alloc: Global) -> Result<Store, AllocError>
-    ensures { IfOk result (λ s. s ≡ []) }
+/// A design without signals.
+fn empty_design(alloc: Global) -> Result<Design, AllocError>
+    ensures { IfOk result (λ d. d.signals ≡ []) }
 {
-    let design = Design::new(
+    Design::new(
         alloc,
         DEFAULT_TIMESCALE,
         Vec::new(alloc),
         Vec::new(alloc),
         Vec::new(alloc),
         Vec::new(alloc),
-    )?;
-    Store::start(alloc, &design)
+    )
 }

@@ -86,7 +86,7 @@ fn fitted_links(
 ) -> Result<Vec<(Link, Typed)>, AllocError>
     ensures { IfOk result (λ ys. Each (IsLink shape.width shape.signed) links.now ys.items) }
 {
-    let mut done = Vec::new(alloc);
+    let mut done = Vec::with_capacity(alloc, links.len())?;
     for (operator, form) in links {
         let operand = fitted(alloc, form, shape)?;
         let link = Link {
@@ -105,7 +105,7 @@ fn fitted_links(
 fn fitted_tests(alloc: Global, links: &[(Link, Form)]) -> Result<Vec<(Link, Typed)>, AllocError>
     ensures { IfOk result (λ ys. Each IsTest links.now ys.items) }
 {
-    let mut done = Vec::new(alloc);
+    let mut done = Vec::with_capacity(alloc, links.len())?;
     for (link, form) in links {
         let shape = Shape {
             width: link.width,
@@ -127,7 +127,7 @@ fn fitted_pairs(
 ) -> Result<Vec<(Typed, Typed)>, AllocError>
     ensures { IfOk result (λ ys. Each (IsPair shape.width shape.signed) pairs.now ys.items) }
 {
-    let mut done = Vec::new(alloc);
+    let mut done = Vec::with_capacity(alloc, pairs.len())?;
     for (condition, value) in pairs {
         let condition = fitted(alloc, condition, shape)?;
         let value = fitted(alloc, value, shape)?;
@@ -142,7 +142,7 @@ fn fitted_pairs(
 fn fitted_parts(alloc: Global, parts: &[Form], shape: Shape) -> Result<Vec<Typed>, AllocError>
     ensures { IfOk result (λ ys. Each (IsPart shape.width shape.signed) parts.now ys.items) }
 {
-    let mut done = Vec::new(alloc);
+    let mut done = Vec::with_capacity(alloc, parts.len())?;
     for part in parts {
         done.push(fitted(alloc, part, shape)?)?;
     }

@@ -39,8 +39,10 @@ pub(crate) fn design_of<'s>(
     ensures { MatchResult result (λ d. Defines source.entry.now top.now d)
         (λ fault. DefinesNone source.entry.now top.now fault) }
 {
-    let tokens = lex(alloc, source)?;
-    let tree = parse(alloc, &tokens)?;
+    let tree = {
+        let tokens = lex(alloc, source)?;
+        parse(alloc, &tokens)?
+    };
     let design = elaborate(alloc, &tree, top)?;
     Ok(design)
 }

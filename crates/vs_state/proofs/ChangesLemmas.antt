@@ -1,27 +1,113 @@
--- Which signals a move may change.
-use Rattle.std.proofs.Common.{◌≡◌, ℕ, ◌||◌, Bool, true, false, List, [], ◌∷◌, ◌++◌, slice_get, sym, ◌∙◌, ap, subst}
-use Rattle.std.proofs.lemmas.Bool.{ne_eqb, or_parts, false≢true}
-use Rattle.vs_design.specs.declared.write.Part.{Part}
-use Rattle.vs_design.specs.Stores.{Store, put}
-use Rattle.vs_design.specs.Writes as writes
+-- Which words and signals a move may change.
+use Rattle.std.proofs.Common.{◌≡◌, ℕ, ◌<◌, ◌==◌, ◌||◌, ◌&&◌, Bool, true, false, Option, Some, None, List, [], ◌∷◌, ◌++◌, length, slice_get, if◌then◌else◌, refl, sym, ◌∙◌, ap, subst, arith}
+use Rattle.std.specs.List.{list_any}
+use Rattle.std.proofs.lemmas.Bool.{ne_eqb, eqb-false, or_parts, or_from, false≢true}
+use Rattle.std.proofs.lemmas.List.Folds.{list_any-append}
+use Rattle.vs_logic4.specs.declared.digit.Digit.{Digit}
+use Rattle.vs_logic4.specs.Sameness.{same_digits-true}
+use Rattle.vs_logic4.specs.Vectors.{same_digits}
+use Rattle.vs_design.specs.Stores.{Store, word_of, put}
+use Rattle.vs_design.specs.Uses.{all_words, has_word}
 use Rattle.vs_design.specs.Writes.{Write}
-use Rattle.vs_process.proofs.Stores.{put_other}
+use Rattle.vs_edges.specs.Differences.{HaveOneSize, bits_differ, word_changes, part_changes}
+use Rattle.vs_edges.proofs.StoresLemmas.{changed_by_parts, put_size}
+use Rattle.vs_flatcode.specs.declared.changes.Change.{Change}
+use Rattle.vs_flatcode.specs.Changes.{changed_word, changed_part, changed_words, store_behind, changes_of}
+use Rattle.vs_flatcode.specs.Steps.{has_nothing}
+use Rattle.vs_process.proofs.Assigns.{signal_kept}
 use Rattle.vs_process.specs.States.{State}
 use Rattle.vs_places.specs.Listed.{is_number, names}
 use Rattle.vs_places.proofs.ListedLemmas.{is_itself, names-push}
-use Rattle.vs_state.specs.Changes.{CoverWrite, CoverChanges}
+use Rattle.vs_state.specs.Changes.{HaveSizes, CoverWords, CoverChanges}
+use Rattle.vs_state.proofs.TouchesLemmas.{same_bits}
+
+-- whether one of some words is of a signal
+abbrev pub is_among : List Change → ℕ → Bool
+is_among cs v = list_any (λ (c : Change). c.signal == v) cs
 
 -- one more signal is noted
-pub noted : (signals more : List ℕ) (p : Part) (ps rest : Write) (v : ℕ) → more ≡ signals ++ p.signal ∷ [] → ps ≡ p ∷ rest → names more v ≡ false →
-    (names signals v ≡ false) × (writes.names rest v ≡ writes.names ps v)
-noted signals more p ps rest v is next none =
-    let parts = or_parts (names signals v) (is_number p.signal v) (sym (ap (λ (l : List ℕ). names l v) is ∙ names-push signals p.signal v) ∙ none) in
-    let apart : p.signal ≡ v → ⊥ = λ e. false≢true (sym parts.1 ∙ subst (λ (u : ℕ). is_number p.signal u ≡ true) e (is_itself p.signal)) in
-    (parts.0, sym (ap (λ (w : Write). writes.names w v) next ∙ ap (λ (b : Bool). b || writes.names rest v) (ne_eqb p.signal v apart)))
+pub noted : (signals more : List ℕ) (c : Change) (cs rest : List Change) (v : ℕ) → more ≡ signals ++ c.signal ∷ [] → cs ≡ c ∷ rest → names more v ≡ false →
+    (names signals v ≡ false) × (is_among rest v ≡ is_among cs v)
+noted signals more c cs rest v is next none =
+    let parts = or_parts (names signals v) (is_number c.signal v) (sym (ap (λ (l : List ℕ). names l v) is ∙ names-push signals c.signal v) ∙ none) in
+    let apart : c.signal ≡ v → ⊥ = λ e. false≢true (sym parts.1 ∙ subst (λ (u : ℕ). is_number c.signal u ≡ true) e (is_itself c.signal)) in
+    (parts.0, sym (ap (λ (l : List Change). is_among l v) next ∙ ap (λ (b : Bool). b || is_among rest v) (ne_eqb c.signal v apart)))
 
--- a write whose signals are noted
-pub covers_put : (signals : List ℕ) (w : Write) (old new : Store) → CoverWrite signals w → new ≡ put old w → CoverChanges signals old new
-covers_put signals w old new all is = λ v none. ap (λ (s : Store). slice_get s v) is ∙ put_other old w v (all v none)
+-- a list with an element has some
+pub some_there : {A : Type 0} (xs : List A) (i : ℕ) → i < length xs → has_nothing xs ≡ false
+some_there [] i h = absurd (omega arith)
+some_there (x ∷ xs) i h = refl
+
+-- ---- sizes
+
+sized_word : (signal word : ℕ) (before behind : Option (List Digit)) (cs : List Change) → HaveOneSize before behind → HaveSizes cs → HaveSizes (changed_word signal word before behind ++ cs)
+sized_word signal word None None cs size h = h
+sized_word signal word None (Some ds) cs size h = cc
+sized_word signal word (Some ds) None cs size h = cc
+sized_word signal word (Some before) (Some behind) cs size h = by_test (same_digits before behind)
+  where
+    by_test : (b : Bool) → HaveSizes ((if b then [] else record { signal = signal; word = word; before = before; behind = behind } ∷ []) ++ cs)
+    by_test true = h
+    by_test false = let e : length before ≡ length behind = cc in (e, h)
+
+sized_words : (old new : Store) (ps : Write) → ((signal word : ℕ) → HaveOneSize (word_of old signal word) (word_of new signal word)) → HaveSizes (changed_words old new ps)
+sized_words old new [] size = tt
+sized_words old new (p ∷ ps) size =
+    sized_word p.signal p.word (word_of old p.signal p.word) (word_of new p.signal p.word) (changed_words old new ps) (size p.signal p.word) (sized_words old new ps size)
+
+-- the words that a write changes have one size before and behind
+pub sizes_put : (w : Write) (store new : Store) (cs : List Change) → new ≡ put store w → cs ≡ changed_words store new w → HaveSizes cs
+sizes_put w store new cs is words =
+    subst HaveSizes (sym (words ∙ ap (λ (s : Store). changed_words store s w) is)) (sized_words store (put store w) w (put_size w store))
+
+-- the same of a step that may write
+pub sizes_behind : (w : Option Write) (store : Store) (cs : List Change) → cs ≡ changes_of store w → HaveSizes cs
+sizes_behind None store cs words = subst HaveSizes (sym words) tt
+sizes_behind (Some w) store cs words = sizes_put w store (put store w) cs refl words
+
+-- ---- signals
+
+-- a word that isn't among the changed ones doesn't change its signal
+quiet_word : (signal word : ℕ) (before behind : Option (List Digit)) (v : ℕ) → HaveOneSize before behind → is_among (changed_word signal word before behind) v ≡ false →
+    word_changes signal word before behind (all_words v) ≡ false
+quiet_word signal word None None v size h = same_bits signal word None (all_words v)
+quiet_word signal word None (Some ds) v size h = cc
+quiet_word signal word (Some ds) None v size h = cc
+quiet_word signal word (Some before) (Some behind) v size h = by_test (same_digits before behind) refl h
+  where
+    by_test : (b : Bool) → same_digits before behind ≡ b →
+        is_among (if b then [] else record { signal = signal; word = word; before = before; behind = behind } ∷ []) v ≡ false → word_changes signal word (Some before) (Some behind) (all_words v) ≡ false
+    by_test true same none =
+        ap (λ (ds : List Digit). word_changes signal word (Some before) (Some ds) (all_words v)) (sym (same_digits-true before behind same)) ∙ same_bits signal word (Some before) (all_words v)
+    by_test false same none =
+        let parts = or_parts (signal == v) false none in
+        ap (λ (b : Bool). b && (has_word (all_words v).word word && bits_differ (all_words v).bits (Some before) (Some behind))) (ne_eqb v signal (λ e. eqb-false signal v parts.0 (sym e)))
+
+quiet_parts : (old new : Store) (ps : Write) (v : ℕ) → ((signal word : ℕ) → HaveOneSize (word_of old signal word) (word_of new signal word)) → is_among (changed_words old new ps) v ≡ false →
+    list_any (λ p. part_changes old new p (all_words v)) ps ≡ false
+quiet_parts old new [] v size h = refl
+quiet_parts old new (p ∷ ps) v size h =
+    let parts = or_parts (is_among (changed_part old new p) v) (is_among (changed_words old new ps) v)
+    (sym (list_any-append (λ (c : Change). c.signal == v) (changed_part old new p) (changed_words old new ps)) ∙ h)
+    in
+    or_from (part_changes old new p (all_words v)) (list_any (λ p. part_changes old new p (all_words v)) ps)
+    (quiet_word p.signal p.word (word_of old p.signal p.word) (word_of new p.signal p.word) v (size p.signal p.word) parts.0)
+    (quiet_parts old new ps v size parts.1)
+
+-- a write of whose changed words the signals are noted
+pub covers_put : (signals : List ℕ) (w : Write) (old new : Store) (cs : List Change) → CoverWords signals cs → cs ≡ changed_words old new w → new ≡ put old w → CoverChanges signals old new
+covers_put signals w old new cs all words is = λ v none.
+    let quiet : is_among (changed_words old (put old w) w) v ≡ false =
+    ap (λ (l : List Change). is_among l v) (sym (words ∙ ap (λ (s : Store). changed_words old s w) is)) ∙ all v none
+    in
+    ap (λ (s : Store). slice_get s v) is
+    ∙ signal_kept old w v (changed_by_parts w old (all_words v) ∙ quiet_parts old (put old w) w v (put_size w old) quiet)
+
+-- the same of a step that may write
+pub covers_behind : (signals : List ℕ) (w : Option Write) (old new : Store) (cs : List Change) → CoverWords signals cs → cs ≡ changes_of old w → new ≡ store_behind old w →
+    CoverChanges signals old new
+covers_behind signals None old new cs all words is = λ v none. ap (λ (s : Store). slice_get s v) is
+covers_behind signals (Some w) old new cs all words is = covers_put signals w old new cs all (words ∙ ap (λ (s : Store). changed_words old s w) (sym is)) is
 
 -- a store that stays
 pub covers_none : (signals : List ℕ) (old new : Store) → new ≡ old → CoverChanges signals old new

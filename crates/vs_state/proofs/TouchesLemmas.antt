@@ -1,24 +1,28 @@
--- Which continuous assignments a write wakes.
-use Rattle.std.proofs.Common.{◌≡◌, ℕ, suc, ◌||◌, ◌&&◌, Bool, true, false, Option, Some, List, [], ◌∷◌, ◌++◌, map, length, if◌then◌else◌, refl, sym, ◌∙◌, ap, ap₂, arith, append_assoc}
+-- Which continuous assignments the words wake that a write changes.
+use Rattle.std.proofs.Common.{◌≡◌, ℕ, suc, ◌||◌, ◌&&◌, Bool, true, false, Option, Some, None, List, [], ◌∷◌, ◌++◌, map, length, if◌then◌else◌, refl, sym, ◌∙◌, ap, ap₂, arith, append_assoc}
 use Rattle.std.specs.List.{list_any}
 use Rattle.std.proofs.Math.Bool.{or-false}
 use Rattle.std.proofs.lemmas.List.{length-append}
 use Rattle.vs_logic4.specs.declared.digit.Digit.{Digit}
+use Rattle.vs_logic4.specs.Sameness.{same_digits-true}
+use Rattle.vs_logic4.specs.Vectors.{same_digits}
 use Rattle.vs_design.specs.declared.design.Assign.{Assign}
 use Rattle.vs_design.specs.declared.expression.Typed.{Typed}
 use Rattle.vs_design.specs.declared.range.BitRange.{BitRange}
 use Rattle.vs_design.specs.declared.readers.Reader.{Reader}
 use Rattle.vs_design.specs.Parts.{Parts}
 use Rattle.vs_design.specs.Readers.{readers, readers_from, readings}
-use Rattle.vs_design.specs.Stores.{Store, is_changed, put}
+use Rattle.vs_design.specs.Stores.{Store, word_of, is_changed, put}
 use Rattle.vs_design.specs.Uses.{reads, is_of, has_word}
 use Rattle.vs_design.specs.Writes.{Write}
+use Rattle.vs_flatcode.specs.declared.changes.Change.{Change}
+use Rattle.vs_flatcode.specs.Changes.{changed_word, changed_words}
 use Rattle.vs_process.specs.States.{AssignState, touched}
 use Rattle.vs_edges.specs.Differences.{bits_differ, HaveOneSize, difference, word_difference, sees, word_changes, part_changes}
 use Rattle.vs_places.proofs.ChangedLemmas.{changed_behind}
-use Rattle.vs_state.specs.Touches.{AreOf, woken, woken_in, all_woken, woken_by, woken_parts}
+use Rattle.vs_state.specs.Touches.{AreOf, woken, woken_in, all_woken, woken_by, woken_changes}
 use Rattle.vs_edges.proofs.DifferencesLemmas.{sees_difference}
-use Rattle.vs_edges.proofs.StoresLemmas.{same_bits_differ, changed_by_parts}
+use Rattle.vs_edges.proofs.StoresLemmas.{same_bits_differ, changed_by_parts, put_size}
 
 -- ---- waking the readers of a signal
 
@@ -100,7 +104,7 @@ pub woken_for_word : (d : Parts) (xs ys : List AssignState) (signal word : ℕ) 
 woken_for_word d xs ys signal word before behind number rs same size differing read woken =
     woken ∙ ap₂ (λ (n : ℕ) (l : List Reader). all_woken (sees word n) l xs) differing read ∙ wake_word_readers d xs signal word (Some before) (Some behind) same (ap Some size)
 
-same_bits : (signal word : ℕ) (o : Option (List Digit)) (r : BitRange) → word_changes signal word o o r ≡ false
+pub same_bits : (signal word : ℕ) (o : Option (List Digit)) (r : BitRange) → word_changes signal word o o r ≡ false
 same_bits signal word o r = and_none (is_of signal r) (has_word r.word word) (bits_differ r.bits o o) (same_bits_differ r.bits o)
   where
     and_none : (a b c : Bool) → c ≡ false → (a && (b && c)) ≡ false
@@ -142,16 +146,49 @@ wakes_none (x ∷ xs) = ap₂ (λ (b : Bool) (l : List AssignState). record x { 
 pub same_wakes_none : (xs : List AssignState) (signal word : ℕ) (o : Option (List Digit)) → xs ≡ map (woken_by (word_changes signal word o o)) xs
 same_wakes_none xs signal word o = wakes_none xs ∙ wakes_alike (λ r. false) (word_changes signal word o o) (λ r. sym (same_bits signal word o r)) xs
 
+-- continuous assignments that the parts of a write wake between two stores, one after another
+abbrev woken_parts : Store → Store → Write → List AssignState → List AssignState
+woken_parts old new [] xs = xs
+woken_parts old new (p ∷ ps) xs = woken_parts old new ps (map (woken_by (part_changes old new p)) xs)
+
 parts_wake : (old new : Store) (ps : Write) (xs : List AssignState) → woken_parts old new ps xs ≡ map (woken_by (λ r. list_any (λ p. part_changes old new p r) ps)) xs
 parts_wake old new [] xs = wakes_none xs
 parts_wake old new (p ∷ ps) xs =
     parts_wake old new ps (map (woken_by (part_changes old new p)) xs) ∙ wakes_both (part_changes old new p) (λ r. list_any (λ q. part_changes old new q r) ps) xs
 
 -- the parts of a write wake what reads a bit that it changes
-pub parts_touch : (w : Write) (store : Store) (xs : List AssignState) → woken_parts store (put store w) w xs ≡ map (touched store (put store w)) xs
+parts_touch : (w : Write) (store : Store) (xs : List AssignState) → woken_parts store (put store w) w xs ≡ map (touched store (put store w)) xs
 parts_touch w store xs =
     parts_wake store (put store w) w xs
     ∙ wakes_alike (λ r. list_any (λ p. part_changes store (put store w) p r) w) (is_changed store (put store w)) (λ r. sym (changed_by_parts w store r)) xs
+
+-- a word wakes as much where only a change of it counts
+woken_word : (signal word : ℕ) (before behind : Option (List Digit)) (cs : List Change) (xs : List AssignState) → HaveOneSize before behind →
+    woken_changes (changed_word signal word before behind ++ cs) xs ≡ woken_changes cs (map (woken_by (word_changes signal word before behind)) xs)
+woken_word signal word None None cs xs size = ap (woken_changes cs) (same_wakes_none xs signal word None)
+woken_word signal word None (Some ds) cs xs size = cc
+woken_word signal word (Some ds) None cs xs size = cc
+woken_word signal word (Some before) (Some behind) cs xs size = by_test (same_digits before behind) refl
+  where
+    by_test : (b : Bool) → same_digits before behind ≡ b →
+        woken_changes ((if b then [] else record { signal = signal; word = word; before = before; behind = behind } ∷ []) ++ cs) xs
+        ≡ woken_changes cs (map (woken_by (word_changes signal word (Some before) (Some behind))) xs)
+    by_test true h =
+        ap (woken_changes cs)
+        (same_wakes_none xs signal word (Some before)
+        ∙ ap (λ (ds : List Digit). map (woken_by (word_changes signal word (Some before) (Some ds))) xs) (same_digits-true before behind h))
+    by_test false h = refl
+
+woken_words : (old new : Store) (ps : Write) (xs : List AssignState) → ((signal word : ℕ) → HaveOneSize (word_of old signal word) (word_of new signal word)) →
+    woken_changes (changed_words old new ps) xs ≡ woken_parts old new ps xs
+woken_words old new [] xs size = refl
+woken_words old new (p ∷ ps) xs size =
+    woken_word p.signal p.word (word_of old p.signal p.word) (word_of new p.signal p.word) (changed_words old new ps) xs (size p.signal p.word)
+    ∙ woken_words old new ps (map (woken_by (part_changes old new p)) xs) size
+
+-- the words that a write changes wake what reads a bit that it changes
+pub changes_touch : (w : Write) (store : Store) (xs : List AssignState) → woken_changes (changed_words store (put store w) w) xs ≡ map (touched store (put store w)) xs
+changes_touch w store xs = woken_words store (put store w) w xs (put_size w store) ∙ parts_touch w store xs
 
 -- what is woken evaluates the same
 pub woken_of : (d : Parts) (test : BitRange → Bool) (xs : List AssignState) → AreOf d xs → AreOf d (map (woken_by test) xs)

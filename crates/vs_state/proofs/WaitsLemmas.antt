@@ -1,10 +1,12 @@
--- Which processes a write wakes.
+-- Which processes the words wake that a write changes, and what a step does.
 use Rattle.std.proofs.Common.{◌≡◌, ℕ, zero, suc, ◌+◌, ◌||◌, ◌&&◌, Bool, true, false, Option, Some, None, List, [], ◌∷◌, ◌++◌, map, length, slice_get, slice_set, if◌then◌else◌, refl, sym, ◌∙◌, ap, ap₂, subst, arith, append_assoc}
 use Rattle.std.specs.List.{list_any}
 use Rattle.std.proofs.lemmas.Bool.{or_parts, false_from_ne_true, false≢true}
 use Rattle.std.proofs.Math.Bool.{or-false}
 use Rattle.std.proofs.lemmas.List.{length-append}
 use Rattle.vs_logic4.specs.declared.digit.Digit.{Digit}
+use Rattle.vs_logic4.specs.Sameness.{same_digits-true}
+use Rattle.vs_logic4.specs.Vectors.{same_digits}
 use Rattle.vs_logic4.specs.declared.edge.Edge.{Edge}
 use Rattle.vs_logic4.specs.declared.edge.Edge.TheVariants.{Any, Posedge, Negedge}
 use Rattle.vs_design.specs.declared.design.Process.{Process}
@@ -12,14 +14,18 @@ use Rattle.vs_design.specs.declared.range.BitRange.{BitRange}
 use Rattle.vs_design.specs.declared.statement.EventTerm.{EventTerm}
 use Rattle.vs_design.specs.Listeners.{listeners, listeners_from}
 use Rattle.vs_design.specs.Statements.{listens}
-use Rattle.vs_design.specs.Stores.{Store, put}
+use Rattle.vs_design.specs.declared.write.Part.{Part}
+use Rattle.vs_design.specs.Stores.{Store, word_of, put}
 use Rattle.vs_design.specs.Uses.{is_of}
 use Rattle.vs_design.specs.Writes.{Write}
 use Rattle.vs_edges.specs.Differences.{HaveOneSize}
 use Rattle.vs_edges.specs.Waking.{range_wakes, word_wakes, part_wakes, wake_any}
+use Rattle.vs_edges.proofs.StoresLemmas.{put_size}
 use Rattle.vs_edges.proofs.WakingLemmas.{same_wakes_none, waking_by_parts}
 use Rattle.vs_flatcode.specs.Places.{perform, turns, Todo, Place, going, sleeping, inactive, waiting, ended, active_at, stepped_gait, todo_of}
-use Rattle.vs_flatcode.specs.Steps.{on, Out, step, statement_step}
+use Rattle.vs_flatcode.specs.declared.changes.Change.{Change}
+use Rattle.vs_flatcode.specs.Changes.{changed_word, changed_words, store_behind, changes_of}
+use Rattle.vs_flatcode.specs.Steps.{Next, on, Out, step, statement_step, has_nothing}
 use Rattle.vs_design.specs.declared.statement.Statement.{Statement}
 use Rattle.vs_design.specs.declared.statement.Statement.TheOpen.{Statement-F}
 use Rattle.vs_design.specs.declared.statement.Statement.TheViews.{out-Statement}
@@ -28,13 +34,14 @@ use Rattle.vs_flatcode.specs.declared.gait.Gait.TheVariants.{Woken}
 use Rattle.vs_process.specs.declared.effect.Effect.{Effect}
 use Rattle.vs_process.specs.declared.effect.Effect.TheVariants as e
 use Rattle.vs_process.specs.Effects.{Stepped, out_of}
-use Rattle.vs_process.specs.States.{State, terms_of, triggered, wakened, written, performed, stepped, place_behind}
+use Rattle.vs_process.specs.States.{State, AssignState, Update, Called, terms_of, triggered, touched, wakened, written, written_behind, performed, stepped, place_behind}
 use Rattle.vs_process.proofs.Waking.{wakened-triggered}
 use Rattle.vs_places.proofs.ChangedLemmas.{changed_behind}
-use Rattle.vs_places.specs.Timelines.{StepsAt}
-use Rattle.vs_state.specs.Touches.{behind_effect}
+use Rattle.vs_places.specs.Timelines.{StepsAt, step_write}
+use Rattle.vs_state.specs.Touches.{behind_effect, woken_changes}
 use Rattle.vs_places.specs.Triggers.{triggered_by, changed_all}
-use Rattle.vs_state.specs.Waits.{triggered_part, triggered_parts, name_signal, WaitsWithin, WaitWithin}
+use Rattle.vs_state.specs.Waits.{triggered_changes, name_signal, WaitsWithin, WaitWithin}
+use Rattle.vs_state.proofs.TouchesLemmas.{changes_touch}
 
 -- ---- the listeners of a signal
 
@@ -130,6 +137,15 @@ within_triggered (p ∷ ps) (x ∷ xs) signal word before behind h =
 
 -- ---- the parts of a write
 
+-- a process behind the change of the word of a part between two stores
+abbrev triggered_part : Store → Store → Part → Place → Place
+triggered_part old new p = triggered_by p.signal p.word (word_of old p.signal p.word) (word_of new p.signal p.word)
+
+-- processes that the parts of a write wake between two stores, one after another
+abbrev triggered_parts : Store → Store → Write → List Place → List Place
+triggered_parts old new [] xs = xs
+triggered_parts old new (p ∷ ps) xs = triggered_parts old new ps (map (triggered_part old new p) xs)
+
 -- a place behind the parts of a write, one after another
 through : Store → Store → Write → Place → Place
 through old new [] x = x
@@ -172,9 +188,37 @@ map_alike f g h [] = refl
 map_alike f g h (x ∷ xs) = ap₂ (λ (a : Place) (l : List Place). a ∷ l) (h x) (map_alike f g h xs)
 
 -- the parts of a write wake the processes that wait for a change which the whole of it makes
-pub parts_wake_places : (w : Write) (store : Store) (xs : List Place) → triggered_parts store (put store w) w xs ≡ map (wakened store (put store w)) xs
+parts_wake_places : (w : Write) (store : Store) (xs : List Place) → triggered_parts store (put store w) w xs ≡ map (wakened store (put store w)) xs
 parts_wake_places w store xs =
     map_through store (put store w) w xs ∙ map_alike (through store (put store w) w) (wakened store (put store w)) (through_write store w) xs
+
+-- a word wakes as many where only a change of it counts
+triggered_word : (signal word : ℕ) (before behind : Option (List Digit)) (cs : List Change) (xs : List Place) → HaveOneSize before behind →
+    triggered_changes (changed_word signal word before behind ++ cs) xs ≡ triggered_changes cs (map (triggered_by signal word before behind) xs)
+triggered_word signal word None None cs xs size = ap (triggered_changes cs) (same_wakes_no_place xs signal word None)
+triggered_word signal word None (Some ds) cs xs size = cc
+triggered_word signal word (Some ds) None cs xs size = cc
+triggered_word signal word (Some before) (Some behind) cs xs size = by_test (same_digits before behind) refl
+  where
+    by_test : (b : Bool) → same_digits before behind ≡ b →
+        triggered_changes ((if b then [] else record { signal = signal; word = word; before = before; behind = behind } ∷ []) ++ cs) xs
+        ≡ triggered_changes cs (map (triggered_by signal word (Some before) (Some behind)) xs)
+    by_test true h =
+        ap (triggered_changes cs)
+        (same_wakes_no_place xs signal word (Some before)
+        ∙ ap (λ (ds : List Digit). map (triggered_by signal word (Some before) (Some ds)) xs) (same_digits-true before behind h))
+    by_test false h = refl
+
+triggered_words : (old new : Store) (ps : Write) (xs : List Place) → ((signal word : ℕ) → HaveOneSize (word_of old signal word) (word_of new signal word)) →
+    triggered_changes (changed_words old new ps) xs ≡ triggered_parts old new ps xs
+triggered_words old new [] xs size = refl
+triggered_words old new (p ∷ ps) xs size =
+    triggered_word p.signal p.word (word_of old p.signal p.word) (word_of new p.signal p.word) (changed_words old new ps) xs (size p.signal p.word)
+    ∙ triggered_words old new ps (map (triggered_part old new p) xs) size
+
+-- the words that a write changes wake the processes that wait for a change which the whole of it makes
+pub changes_wake_places : (w : Write) (store : Store) (xs : List Place) → triggered_changes (changed_words store (put store w) w) xs ≡ map (wakened store (put store w)) xs
+changes_wake_places w store xs = triggered_words store (put store w) w xs (put_size w store) ∙ parts_wake_places w store xs
 
 -- ---- what a step does
 
@@ -208,18 +252,28 @@ on_terms (waiting terms todo) time rest = refl
 on_terms ended time rest = refl
 
 -- where a step writes, the process waits for nothing behind it
-pub written_terms : (x y : Place) (store : Store) (time : ℕ) (w : Write) → Stepped x store time y (e.Write w) → terms_of y ≡ []
-written_terms x y store time w h =
-    let found = step_written (todo_of x) store time w (ap (λ (o : Out). o.write) h.0) in
+written_terms : (x y : Place) (store : Store) (time : ℕ) (w : Write) (effect : Effect) → Stepped x store time y effect → (step (todo_of x) store time).write ≡ Some w → terms_of y ≡ []
+written_terms x y store time w effect h is =
+    let found = step_written (todo_of x) store time w is in
     ap terms_of (h.1 ∙ ap (place_behind x time) found.1) ∙ on_terms x time found.0
 
 -- a process that waits for nothing in the place of another
-pub within_set : (ps : List Process) (xs : List Place) (i : ℕ) (y : Place) → terms_of y ≡ [] → WaitWithin ps xs → WaitWithin ps (slice_set xs i y)
+within_set : (ps : List Process) (xs : List Place) (i : ℕ) (y : Place) → terms_of y ≡ [] → WaitWithin ps xs → WaitWithin ps (slice_set xs i y)
 within_set [] [] i y none h = h
 within_set [] (x ∷ xs) i y none h = absurd h
 within_set (p ∷ ps) [] i y none h = absurd h
 within_set (p ∷ ps) (x ∷ xs) zero y none h = (waits_for_none p y none, h.1)
 within_set (p ∷ ps) (x ∷ xs) (suc i) y none h = (h.0, within_set ps xs i y none h.1)
+
+-- where a step changes a word, the processes wait within their texts behind it
+pub within_step : (ps : List Process) (xs ys : List Place) (i : ℕ) (store : Store) (time : ℕ) (effect : Effect) → StepsAt xs i store time ys effect →
+    has_nothing (changes_of store (step_write (slice_get xs i) store time)) ≡ false → WaitWithin ps xs → WaitWithin ps ys
+within_step ps xs ys i store time effect h some within =
+    by_write (step (todo_of h.from) store time).write refl (sym (ap (λ (o : Option Place). has_nothing (changes_of store (step_write o store time))) h.here) ∙ some)
+  where
+    by_write : (w : Option Write) → (step (todo_of h.from) store time).write ≡ w → has_nothing (changes_of store (step (todo_of h.from) store time).write) ≡ false → WaitWithin ps ys
+    by_write None is more = absurd (false≢true (sym more ∙ ap (λ (o : Option Write). has_nothing (changes_of store o)) is))
+    by_write (Some v) is more = subst (WaitWithin ps) (sym h.set) (within_set ps xs i h.to (written_terms h.from h.to store time v effect h.stepped is) within)
 
 unwakened : (old new : Store) (y : Place) → terms_of y ≡ [] → wakened old new y ≡ y
 unwakened old new y h = wakened-triggered old new y ∙ ap (λ (terms : List EventTerm). if wake_any terms old new then triggered y else y) h
@@ -233,49 +287,71 @@ or-true : (b : Bool) → (b || true) ≡ true
 or-true true = refl
 or-true false = refl
 
--- a step with an effect, where its place is set first
-effect_at : (s : State) (i : ℕ) (x y : Place) (effect : Effect) → Stepped x s.store s.time y effect →
-    behind_effect (record s { places = slice_set s.places i y }) i effect ≡ performed s i x (out_of (step (todo_of x) s.store s.time).next effect)
-effect_at s i x y e.Nothing h =
-    ap₂ (λ (z : Place) (f : Bool). record s { places = slice_set s.places i z; finishing = f }) h.1 (sym (or-false s.finishing))
-effect_at s i x y (e.Write w) h =
-    let t = written s w in
-    ap₂ (λ (l : List Place) (f : Bool). record t { places = l; finishing = f })
-    (wakened_set s.store (put s.store w) s.places i y (written_terms x y s.store s.time w h) ∙ ap (slice_set t.places i) h.1) (sym (or-false s.finishing))
-effect_at s i x y (e.Update ticks w) h =
-    ap₂ (λ (z : Place) (f : Bool). record s {
-      places = slice_set s.places i z;
-      updates = s.updates ++ record { by = i; due = s.time + ticks.count; active = false; what = w } ∷ [];
-      finishing = f;
-    }) h.1 (sym (or-false s.finishing))
-effect_at s i x y (e.Strobe format) h =
-    ap₂ (λ (z : Place) (f : Bool). record s {
-      places = slice_set s.places i z;
-      calls = s.calls ++ record { by = i; call = format.now } ∷ [];
-      finishing = f;
-    }) h.1 (sym (or-false s.finishing))
-effect_at s i x y (e.Line text) h =
-    ap₂ (λ (z : Place) (f : Bool). record s { places = slice_set s.places i z; finishing = f }) h.1 (sym (or-false s.finishing))
-effect_at s i x y e.Finish h =
-    ap₂ (λ (z : Place) (f : Bool). record s { places = slice_set s.places i z; finishing = f }) h.1 (sym (or-true s.finishing))
+-- what a step with an effect makes of a state, beside its write
+effect_at : (s : State) (i : ℕ) (x y : Place) (next : Next) (w : Option Write) (effect : Effect) (store : Store) (places : List Place) (assigns : List AssignState) →
+    y ≡ place_behind x s.time next → written_behind s w ≡ record s { store = store; places = places; assigns = assigns } →
+    behind_effect (record s { store = store; places = slice_set places i y; assigns = assigns }) i effect ≡ performed s i x (out_of next w effect)
+effect_at s i x y next w e.Nothing store places assigns h over =
+    ap₂ (λ (z : Place) (f : Bool). record s { store = store; places = slice_set places i z; assigns = assigns; finishing = f }) h (sym (or-false s.finishing))
+    ∙ sym (ap (λ (t : State). record t { places = slice_set t.places i (place_behind x s.time next); updates = s.updates; calls = s.calls; finishing = s.finishing || false }) over)
+effect_at s i x y next w (e.Update ticks u) store places assigns h over =
+    let made : List Update = s.updates ++ record { by = i; due = s.time + ticks.count; active = false; what = u } ∷ [] in
+    ap₂ (λ (z : Place) (f : Bool). record s { store = store; places = slice_set places i z; assigns = assigns; updates = made; finishing = f }) h (sym (or-false s.finishing))
+    ∙ sym (ap (λ (t : State). record t { places = slice_set t.places i (place_behind x s.time next); updates = made; calls = s.calls; finishing = s.finishing || false }) over)
+effect_at s i x y next w (e.Strobe format) store places assigns h over =
+    let made : List Called = s.calls ++ record { by = i; call = format.now } ∷ [] in
+    ap₂ (λ (z : Place) (f : Bool). record s { store = store; places = slice_set places i z; assigns = assigns; calls = made; finishing = f }) h (sym (or-false s.finishing))
+    ∙ sym (ap (λ (t : State). record t { places = slice_set t.places i (place_behind x s.time next); updates = s.updates; calls = made; finishing = s.finishing || false }) over)
+effect_at s i x y next w (e.Line text) store places assigns h over =
+    ap₂ (λ (z : Place) (f : Bool). record s { store = store; places = slice_set places i z; assigns = assigns; finishing = f }) h (sym (or-false s.finishing))
+    ∙ sym (ap (λ (t : State). record t { places = slice_set t.places i (place_behind x s.time next); updates = s.updates; calls = s.calls; finishing = s.finishing || false }) over)
+effect_at s i x y next w e.Finish store places assigns h over =
+    ap₂ (λ (z : Place) (f : Bool). record s { store = store; places = slice_set places i z; assigns = assigns; finishing = f }) h (sym (or-true s.finishing))
+    ∙ sym (ap (λ (t : State). record t { places = slice_set t.places i (place_behind x s.time next); updates = s.updates; calls = s.calls; finishing = s.finishing || true }) over)
 
--- a step of a process, and what it does beyond its place
-pub stepped_at : {s now : State} (same : s ≡ now) (i : ℕ) (x y : Place) (effect : Effect) → slice_get s.places i ≡ Some x → Stepped x s.store s.time y effect →
-    behind_effect (record s { places = slice_set s.places i y }) i effect ≡ stepped now i (slice_get now.places i)
-stepped_at {s} {now} same i x y effect here h =
-    subst (λ (t : State). behind_effect (record s { places = slice_set s.places i y }) i effect ≡ stepped t i (slice_get t.places i)) same
-    (effect_at s i x y effect h ∙ ap (performed s i x) (sym h.0) ∙ sym (ap (stepped s i) here))
+-- the state behind what a step may write is the one before it but for the store, the places and the assignments
+written_over : (s : State) (w : Option Write) → let t = written_behind s w in t ≡ record s { store = t.store; places = t.places; assigns = t.assigns }
+written_over s None = refl
+written_over s (Some w) = refl
 
--- the same of a step whose place stands in the list
-pub stepped_by : {s now : State} (same : s ≡ now) (i time : ℕ) (places : List Place) (effect : Effect) → time ≡ s.time → StepsAt s.places i s.store s.time places effect →
-    behind_effect (record s { places = places; time = time }) i effect ≡ stepped now i (slice_get now.places i)
-stepped_by {s} {now} same i time places effect still h =
-    ap₂ (λ (l : List Place) (t : ℕ). behind_effect (record s { places = l; time = t }) i effect) h.set still ∙ stepped_at same i h.from h.to effect h.here h.stepped
+-- the parts of a state that a step's write changes, where its place is set first
+written_parts : (s : State) (i : ℕ) (y : Place) (w : Option Write) → ((v : Write) → w ≡ Some v → terms_of y ≡ []) → let t = written_behind s w in
+    (store_behind s.store w ≡ t.store) × (woken_changes (changes_of s.store w) s.assigns ≡ t.assigns) × (triggered_changes (changes_of s.store w) (slice_set s.places i y) ≡ slice_set t.places i y)
+written_parts s i y None none = (refl, refl, refl)
+written_parts s i y (Some v) none = (
+  refl,
+  changes_touch v s.store s.assigns,
+  changes_wake_places v s.store (slice_set s.places i y) ∙ wakened_set s.store (put s.store v) s.places i y (none v refl),
+)
 
--- ---- no word
+-- a step of a process: its place, its write, what follows from the words that this changes, and the rest
+pub stepped_by : {s now : State} (same : s ≡ now) (i time : ℕ) (store : Store) (cs : List Change) (set places : List Place) (assigns : List AssignState) (effect : Effect) →
+    StepsAt s.places i s.store s.time set effect → store ≡ store_behind s.store (step_write (slice_get s.places i) s.store s.time) →
+    cs ≡ changes_of s.store (step_write (slice_get s.places i) s.store s.time) → assigns ≡ woken_changes cs s.assigns → places ≡ triggered_changes cs set → time ≡ s.time →
+    behind_effect (record s { store = store; places = places; assigns = assigns; time = time }) i effect ≡ stepped now i (slice_get now.places i)
+stepped_by {s} {now} same i time store cs set places assigns effect h wrote changed woken triggered still =
+    let out : Out = step (todo_of h.from) s.store s.time in
+    let t : State = written_behind s out.write in
+    let here : step_write (slice_get s.places i) s.store s.time ≡ out.write = ap (λ (o : Option Place). step_write o s.store s.time) h.here in
+    let parts = written_parts s i h.to out.write (λ v is. written_terms h.from h.to s.store s.time v effect h.stepped is) in
+    let words : cs ≡ changes_of s.store out.write = changed ∙ ap (changes_of s.store) here in
+    let a : store ≡ t.store = wrote ∙ ap (store_behind s.store) here ∙ parts.0 in
+    let b : assigns ≡ t.assigns = woken ∙ ap (λ (l : List Change). woken_changes l s.assigns) words ∙ parts.1 in
+    let c : places ≡ slice_set t.places i h.to = triggered ∙ ap₂ triggered_changes words h.set ∙ parts.2 in
+    let moved : behind_effect (record s { store = store; places = places; assigns = assigns; time = time }) i effect
+    ≡ behind_effect (record s { store = t.store; places = slice_set t.places i h.to; assigns = t.assigns }) i effect = rw (a, b, c, still) refl in
+    let done : behind_effect (record s { store = t.store; places = slice_set t.places i h.to; assigns = t.assigns }) i effect ≡ stepped s i (slice_get s.places i) =
+    effect_at s i h.from h.to out.next out.write effect t.store t.places t.assigns h.stepped.1 (written_over s out.write)
+    ∙ ap (performed s i h.from) (sym h.stepped.0) ∙ sym (ap (stepped s i) h.here)
+    in
+    moved ∙ done ∙ ap (λ (r : State). stepped r i (slice_get r.places i)) same
 
--- where a word isn't there before a write, it isn't behind it
-pub none_behind : (before behind : Option (List Digit)) → HaveOneSize before behind → before ≡ None → behind ≡ None
-none_behind None None size h = refl
-none_behind None (Some ds) size h = cc
-none_behind (Some ds) behind size h = cc
+-- a write, and what follows from the words that it changes
+pub written_by : (s : State) (w : Write) (time : ℕ) (store : Store) (cs : List Change) (places : List Place) (assigns : List AssignState) → store ≡ put s.store w →
+    cs ≡ changed_words s.store store w → assigns ≡ woken_changes cs s.assigns → places ≡ triggered_changes cs s.places → time ≡ s.time →
+    record s { store = store; places = places; assigns = assigns; time = time } ≡ written s w
+written_by s w time store cs places assigns wrote changed woken triggered still =
+    let words : cs ≡ changed_words s.store (put s.store w) w = changed ∙ ap (λ (r : Store). changed_words s.store r w) wrote in
+    let b : assigns ≡ map (touched s.store (put s.store w)) s.assigns = woken ∙ ap (λ (l : List Change). woken_changes l s.assigns) words ∙ changes_touch w s.store s.assigns in
+    let c : places ≡ map (wakened s.store (put s.store w)) s.places = triggered ∙ ap (λ (l : List Change). triggered_changes l s.places) words ∙ changes_wake_places w s.store s.places in
+    rw (wrote, b, c, still) refl

@@ -1,17 +1,17 @@
--- Which continuous assignments a write wakes, and what a step of a process does beyond its place.
-use Rattle.std.specs.Prelude.{ℕ, ◌≡◌, ◌+◌, ◌||◌, Bool, true, false, is_some, List, [], ◌∷◌, ◌++◌, map, if◌then◌else◌}
+-- Which continuous assignments changes of words wake, and what a step of a process does beyond its place.
+use Rattle.std.specs.Prelude.{ℕ, ◌≡◌, ◌+◌, ◌||◌, Bool, true, false, Some, is_some, List, [], ◌∷◌, ◌++◌, map, if◌then◌else◌}
 use Rattle.std.specs.List.{list_any}
 use Rattle.vs_design.specs.declared.design.Assign.{Assign}
 use Rattle.vs_design.specs.declared.range.BitRange.{BitRange}
 use Rattle.vs_design.specs.declared.readers.Reader.{Reader}
 use Rattle.vs_design.specs.Parts.{Parts}
-use Rattle.vs_design.specs.Stores.{Store, changed_at}
+use Rattle.vs_design.specs.Stores.{changed_at}
 use Rattle.vs_design.specs.Uses.{reads}
-use Rattle.vs_design.specs.Writes.{Write}
-use Rattle.vs_edges.specs.Differences.{part_changes}
+use Rattle.vs_edges.specs.Differences.{word_changes}
+use Rattle.vs_flatcode.specs.declared.changes.Change.{Change}
 use Rattle.vs_process.specs.declared.effect.Effect.{Effect}
 use Rattle.vs_process.specs.declared.effect.Effect.TheVariants as e
-use Rattle.vs_process.specs.States.{AssignState, State, written}
+use Rattle.vs_process.specs.States.{AssignState, State}
 
 -- ---- what is woken
 
@@ -36,10 +36,10 @@ all_woken test (r ∷ rs) xs = all_woken test rs (if test r.range then woken_in 
 abbrev pub woken_by : (BitRange → Bool) → AssignState → AssignState
 woken_by test x = record x { needs = x.needs || list_any test (reads x.source) }
 
--- continuous assignments that the parts of a write wake between two stores, one after another
-abbrev pub woken_parts : Store → Store → Write → List AssignState → List AssignState
-woken_parts old new [] xs = xs
-woken_parts old new (p ∷ ps) xs = woken_parts old new ps (map (woken_by (part_changes old new p)) xs)
+-- continuous assignments that the changes of some words wake, one after another
+abbrev pub woken_changes : List Change → List AssignState → List AssignState
+woken_changes [] xs = xs
+woken_changes (c ∷ cs) xs = woken_changes cs (map (woken_by (word_changes c.signal c.word (Some c.before) (Some c.behind))) xs)
 
 -- ---- the continuous assignments of a design
 
@@ -51,10 +51,9 @@ AreOf d xs = map (λ (x : AssignState). x.source) xs ≡ map (λ (a : Assign). a
 abbrev pub HasSources : Parts → State → Type 0
 HasSources d s = AreOf d s.assigns
 
--- the state behind what a step of a process does beyond its place
+-- the state behind what a step of a process does beyond its place and its write
 abbrev pub behind_effect : State → ℕ → Effect → State
 behind_effect s process e.Nothing = s
-behind_effect s process (e.Write w) = written s w
 behind_effect s process (e.Update ticks w) =
     record s { updates = s.updates ++ record { by = process; due = s.time + ticks.count; active = false; what = w } ∷ [] }
 behind_effect s process (e.Strobe f) = record s { calls = s.calls ++ record { by = process; call = f.now } ∷ [] }

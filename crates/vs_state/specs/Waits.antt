@@ -1,28 +1,22 @@
--- Which processes a write wakes.
-use Rattle.std.specs.Prelude.{ℕ, ◌≡◌, Bool, true, List, [], ◌∷◌, map}
+-- Which processes changes of words wake.
+use Rattle.std.specs.Prelude.{ℕ, ◌≡◌, Bool, true, Some, List, [], ◌∷◌, map}
 use Rattle.std.specs.List.{list_any}
 use Rattle.vs_design.specs.declared.design.Process.{Process}
 use Rattle.vs_design.specs.declared.statement.EventTerm.{EventTerm}
-use Rattle.vs_design.specs.declared.write.Part.{Part}
 use Rattle.vs_design.specs.Parts.{Parts}
 use Rattle.vs_design.specs.Statements.{listens}
-use Rattle.vs_design.specs.Stores.{Store, word_of}
 use Rattle.vs_design.specs.Uses.{is_of}
-use Rattle.vs_design.specs.Writes.{Write}
+use Rattle.vs_flatcode.specs.declared.changes.Change.{Change}
 use Rattle.vs_flatcode.specs.Places.{Place}
 use Rattle.vs_places.specs.Triggers.{triggered_by}
 use Rattle.vs_process.specs.States.{State, terms_of}
 
 -- ---- what is woken
 
--- a process behind the change of the word of a part between two stores
-abbrev pub triggered_part : Store → Store → Part → Place → Place
-triggered_part old new p = triggered_by p.signal p.word (word_of old p.signal p.word) (word_of new p.signal p.word)
-
--- processes that the parts of a write wake between two stores, one after another
-abbrev pub triggered_parts : Store → Store → Write → List Place → List Place
-triggered_parts old new [] xs = xs
-triggered_parts old new (p ∷ ps) xs = triggered_parts old new ps (map (triggered_part old new p) xs)
+-- processes that the changes of some words wake, one after another
+abbrev pub triggered_changes : List Change → List Place → List Place
+triggered_changes [] xs = xs
+triggered_changes (c ∷ cs) xs = triggered_changes cs (map (triggered_by c.signal c.word (Some c.before) (Some c.behind)) xs)
 
 -- ---- the processes of a design
 

@@ -6,7 +6,8 @@ ghost use Rattle.vs_process.specs.States as states;
 use std::alloc::{AllocError, Global};
 use std::marker::Model;
 use vs_design::{Assign, Store, Target, Typed};
-use vs_eval::{cut_value, write_of};
+use vs_eval::cut_value;
+use vs_flatcode::holds;
 use vs_logic4::Vec4;
 
 /// A continuous assignment: what it drives and evaluates, whether it has to be evaluated, and the value that waits to be
@@ -45,6 +46,7 @@ impl<'a> AssignState<'a> {
     }
 
     /// Whether it has to be evaluated.
+    #[inline(always)]
     pub(crate) fn needs(&self) -> bool
         ensures { result ≡ self.now.needs }
     {
@@ -52,6 +54,7 @@ impl<'a> AssignState<'a> {
     }
 
     /// Whether it has to be evaluated or has a value that waits to be written.
+    #[inline(always)]
     pub(crate) fn is_left(&self) -> bool
         ensures { result ≡ is_left self.now }
     {
@@ -59,6 +62,7 @@ impl<'a> AssignState<'a> {
     }
 
     /// What it drives.
+    #[inline(always)]
     pub(crate) fn target(&self) -> &'a Target
         ensures { result.now ≡ self.now.target }
     {
@@ -67,6 +71,7 @@ impl<'a> AssignState<'a> {
 
     /// Evaluates it at a time in ticks: a value that would change nothing leaves nothing pending, another one takes the place
     /// of an older one. Without memory it is as it was.
+    #[inline(always)]
     pub(crate) fn evaluate(
         &mut self,
         alloc: Global,
@@ -77,17 +82,14 @@ impl<'a> AssignState<'a> {
         ensures err { OnErr result (self.new ≡ self.old) }
     {
         let digits = cut_value(self.target, self.source, store, time);
-        let write = write_of(alloc, self.target, digits, store, time)?;
+        let held = holds(alloc, self.target, digits, store, time)?;
         self.needs = false;
-        self.pending = if store.has(&write) {
-            None
-        } else {
-            Some(digits)
-        };
+        self.pending = if held { None } else { Some(digits) };
         Ok(())
     }
 
     /// The value that waits to be written.
+    #[inline(always)]
     pub(crate) fn pending(&self) -> Option<Vec4>
         ensures { result ≡ self.now.pending }
     {
@@ -95,6 +97,7 @@ impl<'a> AssignState<'a> {
     }
 
     /// Leaves nothing pending.
+    #[inline(always)]
     pub(crate) fn settle(&mut self)
         ensures { self.new ≡ states.settled self.old }
     {
@@ -102,6 +105,7 @@ impl<'a> AssignState<'a> {
     }
 
     /// It has to be evaluated; the answer is whether that is new.
+    #[inline(always)]
     pub(crate) fn wake(&mut self) -> bool
         ensures woken { self.new ≡ woken self.old }
         ensures new { result ≡ not self.old.needs }

@@ -67,6 +67,7 @@ impl<'a> Assigns<'a> {
     }
 
     /// A continuous assignment.
+    #[inline(always)]
     pub(crate) fn get(&self, assign: usize) -> Option<&AssignState<'a>>
         ensures { MatchOption result (slice_get self.now assign ≡ None) (λ x. slice_get self.now assign ≡ Some x.now) }
     {
@@ -74,6 +75,7 @@ impl<'a> Assigns<'a> {
     }
 
     /// Whether one has to be evaluated or has a value that waits to be written.
+    #[inline(always)]
     pub(crate) fn has_left(&self) -> bool
         ensures { result ≡ list_any is_left self.now }
     {
@@ -89,6 +91,7 @@ impl<'a> Assigns<'a> {
     }
 
     /// One has to be evaluated, and the answer is whether that is new; one past the end is none.
+    #[inline(always)]
     pub(crate) fn wake(&mut self, assign: usize) -> bool
         ensures { self.new ≡ woken_in assign self.old }
     {
@@ -102,6 +105,7 @@ impl<'a> Assigns<'a> {
     }
 
     /// One is evaluated at a time in ticks; one past the end is none.
+    #[inline(always)]
     pub(crate) fn evaluate(
         &mut self,
         assign: usize,
@@ -121,6 +125,7 @@ impl<'a> Assigns<'a> {
     }
 
     /// Leaves nothing pending of one; one past the end is none.
+    #[inline(always)]
     pub(crate) fn settle(&mut self, assign: usize)
         ensures { self.new ≡ changed_at states.settled assign self.old }
     {

@@ -1,11 +1,12 @@
 //! Changes of assignments, places or updates.
-ghost use Rattle.std.specs.Prelude.{◌≡◌, Some, length, map, OnOk};
-ghost use Rattle.vs_design.specs.Stores.{put};
-ghost use Rattle.vs_edges.specs.Differences.{HaveOneSize, sees, word_changes};
+ghost use Rattle.std.specs.Prelude.{◌≡◌, Some, false, length, map, OnOk};
+ghost use Rattle.vs_edges.specs.Differences.{sees, word_changes};
+ghost use Rattle.vs_flatcode.specs.Steps.{has_nothing};
 ghost use Rattle.vs_process.specs.States as states;
 ghost use Rattle.vs_places.specs.Listed.{count};
-ghost use Rattle.vs_state.specs.Touches.{AreOf, all_woken, woken_by, woken_parts};
-ghost use Rattle.vs_state.specs.Waits.{WaitWithin, triggered_parts};
+ghost use Rattle.vs_state.specs.Changes.{CoverWords, HaveSizes};
+ghost use Rattle.vs_state.specs.Touches.{AreOf, all_woken, woken_by, woken_changes};
+ghost use Rattle.vs_state.specs.Waits.{WaitWithin, triggered_changes};
 ghost use Rattle.vs_places.specs.Triggers.{changed_all, triggered_by};
 
 use crate::assigns::Assigns;
@@ -13,13 +14,15 @@ use crate::update::Update;
 use crate::woken::Woken;
 use std::alloc::AllocError;
 use std::collections::VecDeque;
-use vs_design::{Design, Reader, Store, Write};
-use vs_edges::{difference, sees};
+use vs_design::{Design, Reader};
+use vs_edges::{Sensitivity, difference, sees};
+use vs_flatcode::Change;
 use vs_logic4::Vec4;
 use vs_places::{Processes, recount};
 use vs_time_wheel::EventQueue;
 
 /// The continuous assignments that read one of these bits of a word have to be evaluated; those of which that is new are noted in `woken`.
+#[inline(always)]
 pub(crate) fn wake_readers(
     assigns: &mut Assigns,
     woken: &mut Vec<usize>,
@@ -38,6 +41,7 @@ pub(crate) fn wake_readers(
 }
 
 /// Of the listeners of a signal those become active that the change of one word of it wakes; they are noted in `woken`.
+#[inline(always)]
 fn trigger_listeners<Q: EventQueue<usize>>(
     processes: &mut Processes<Q>,
     woken: &mut Vec<usize>,
@@ -62,6 +66,7 @@ fn trigger_listeners<Q: EventQueue<usize>>(
 
 /// What the change of one word of a signal wakes: the continuous assignments that read a bit of it which differs have to be evaluated, and the
 /// processes that wait for it become active. It looks at the readers and the listeners of the signal alone.
+#[inline(always)]
 fn wake_word<Q: EventQueue<usize>>(
     assigns: &mut Assigns,
     processes: &mut Processes<Q>,
@@ -84,68 +89,85 @@ fn wake_word<Q: EventQueue<usize>>(
         return Ok(());
     }
     let differing = difference(before, behind);
-    let readers = design.readers(signal);
-    wake_readers(assigns, &mut woken.assigns, readers, word, differing)?;
-    let listeners = design.listeners(signal);
+    let senses = Sensitivity::of(design, signal);
+    wake_readers(assigns, &mut woken.assigns, senses.readers, word, differing)?;
     let noted = &mut woken.processes;
-    trigger_listeners(processes, noted, listeners, signal, word, before, behind)
+    trigger_listeners(
+        processes,
+        noted,
+        senses.listeners,
+        signal,
+        word,
+        before,
+        behind,
+    )
 }
 
-/// What the change of one word of a signal wakes, where there is such a word.
-pub(crate) fn wake_change<Q: EventQueue<usize>>(
+/// What the words that a write has changed wake, one after another.
+#[inline(always)]
+fn wake_changes<Q: EventQueue<usize>>(
     assigns: &mut Assigns,
     processes: &mut Processes<Q>,
     woken: &mut Woken,
     design: &Design,
-    signal: usize,
-    word: usize,
-    before: Option<Vec4>,
-    behind: Option<Vec4>,
+    changes: &Vec<Change>,
 ) -> Result<(), AllocError>
-    requires size { HaveOneSize before behind }
+    requires sizes { HaveSizes changes.now.items }
     requires sources { AreOf design.now assigns.old }
-    requires terms { WaitWithin design.now.processes processes.old.places }
-    ensures assigns { OnOk result (assigns.new ≡ map (woken_by (word_changes signal word before behind)) assigns.old) }
-    ensures places { OnOk result (processes.new.places ≡ map (triggered_by signal word before behind) processes.old.places) }
+    requires terms { has_nothing changes.now.items ≡ false → WaitWithin design.now.processes processes.old.places }
+    ensures assigns { OnOk result (assigns.new ≡ woken_changes changes.now.items assigns.old) }
+    ensures places { OnOk result (processes.new.places ≡ triggered_changes changes.now.items processes.old.places) }
     ensures time { processes.new.time ≡ processes.old.time }
 {
-    match (before, behind) {
-        (Some(before), Some(behind)) => wake_word(
-            assigns, processes, woken, design, signal, word, before, behind,
-        ),
-        _ => Ok(()),
-    }
-}
-
-/// What a write will wake: of each of its parts the word before the whole write and the word behind it are compared.
-pub(crate) fn wake_for<Q: EventQueue<usize>>(
-    assigns: &mut Assigns,
-    processes: &mut Processes<Q>,
-    woken: &mut Woken,
-    design: &Design,
-    store: &Store,
-    write: &Write,
-) -> Result<(), AllocError>
-    requires sources { AreOf design.now assigns.old }
-    requires terms { WaitWithin design.now.processes processes.old.places }
-    ensures assigns { OnOk result (assigns.new ≡ woken_parts store.now (put store.now write.now) write.now assigns.old) }
-    ensures places { OnOk result (processes.new.places
-        ≡ triggered_parts store.now (put store.now write.now) write.now processes.old.places) }
-    ensures time { processes.new.time ≡ processes.old.time }
-{
-    for part in write.parts() {
-        let before = store.word(part.signal, part.word);
-        let behind = store.word_behind(write, part.signal, part.word);
-        wake_change(
+    for change in changes {
+        wake_word(
             assigns,
             processes,
             woken,
             design,
-            part.signal,
-            part.word,
-            before,
-            behind,
+            change.signal,
+            change.word,
+            change.before,
+            change.behind,
         )?;
+    }
+    Ok(())
+}
+
+/// Notes the signals of the words that a write has changed.
+#[inline(always)]
+fn note_signals(changed: &mut Vec<usize>, changes: &Vec<Change>) -> Result<(), AllocError>
+    ensures { OnOk result (CoverWords changed.new.items changes.now.items) }
+{
+    for change in changes {
+        changed.push(change.signal)?;
+    }
+    Ok(())
+}
+
+/// What follows from the words that a write has changed: their signals are noted in `changed`, the continuous assignments that read a bit of them
+/// which differs have to be evaluated, and the processes that wait for such a change become active. Each kind is noted in design order.
+#[inline(always)]
+pub(crate) fn follow<Q: EventQueue<usize>>(
+    assigns: &mut Assigns,
+    processes: &mut Processes<Q>,
+    woken: &mut Woken,
+    design: &Design,
+    changes: &Vec<Change>,
+    changed: &mut Vec<usize>,
+) -> Result<(), AllocError>
+    requires sizes { HaveSizes changes.now.items }
+    requires sources { AreOf design.now assigns.old }
+    requires terms { has_nothing changes.now.items ≡ false → WaitWithin design.now.processes processes.old.places }
+    ensures assigns { OnOk result (assigns.new ≡ woken_changes changes.now.items assigns.old) }
+    ensures places { OnOk result (processes.new.places ≡ triggered_changes changes.now.items processes.old.places) }
+    ensures time { processes.new.time ≡ processes.old.time }
+    ensures covers { OnOk result (CoverWords changed.new.items changes.now.items) }
+{
+    note_signals(changed, changes)?;
+    wake_changes(assigns, processes, woken, design, changes)?;
+    if changes.len() > 1 {
+        woken.sort();
     }
     Ok(())
 }

@@ -3,95 +3,24 @@ ghost use Rattle.std.specs.Prelude.{◌≡◌, ◌<◌, ◌^◌, ◌∷◌, [], 
 ghost use Rattle.vs_process.specs.Executions as executions;
 ghost use Rattle.vs_flatcode.specs.Places.{is_going};
 ghost use Rattle.vs_process.specs.States as states;
-ghost use Rattle.vs_state.specs.Changes.{CoverChanges, CoverWrite};
+ghost use Rattle.vs_state.specs.Changes.{CoverChanges};
 ghost use Rattle.vs_state.specs.Touches.{HasSources, behind_effect};
 ghost use Rattle.vs_state.specs.Prints.{line_of, made_line};
 ghost use Rattle.vs_state.specs.Waits.{HasTerms};
 
 use crate::called::Called;
-use crate::changes::{wake_change, wake_for};
+use crate::changes::follow;
 use crate::state::State;
 use crate::update::Update;
 use std::alloc::AllocError;
-use vs_design::{Design, Part, Ticks, Write};
-use vs_eval::write_of;
+use vs_design::{Design, Ticks, Write};
+use vs_flatcode::{assign, make};
 use vs_process::{Effect, Move};
 use vs_time_wheel::EventQueue;
 
-/// Notes the signals that a write names.
-fn note_signals(changed: &mut Vec<usize>, write: &Write) -> Result<(), AllocError>
-    ensures { OnOk result (CoverWrite changed.new.items write.now) }
-{
-    for part in write.parts() {
-        changed.push(part.signal)?;
-    }
-    Ok(())
-}
-
 impl<'a, Q: EventQueue<usize>> State<'a, Q> {
-    /// Makes a write of one part, and wakes what waits for a change that it makes.
-    fn write_part(
-        &mut self,
-        design: &Design,
-        part: Part,
-        write: &Write,
-        changed: &mut Vec<usize>,
-    ) -> Result<(), AllocError>
-        requires one { write.now ≡ part ∷ [] }
-        requires sources { HasSources design.now self.old }
-        requires terms { HasTerms design.now self.old }
-        ensures made { OnOk result (self.new ≡ states.written self.old write.now) }
-        ensures covers { OnOk result (CoverChanges changed.new.items self.old.store self.new.store) }
-    {
-        note_signals(changed, write)?;
-        let before = self.store.word(part.signal, part.word);
-        self.store.put(write);
-        let behind = self.store.word(part.signal, part.word);
-        wake_change(
-            &mut self.assigns,
-            &mut self.processes,
-            &mut self.woken,
-            design,
-            part.signal,
-            part.word,
-            before,
-            behind,
-        )?;
-        Ok(())
-    }
-
-    /// Makes a write: the assignments that read a bit which it changes have to be evaluated, and the processes that wait for a change which it
-    /// makes become active.
-    fn write(
-        &mut self,
-        design: &Design,
-        write: &Write,
-        changed: &mut Vec<usize>,
-    ) -> Result<(), AllocError>
-        requires sources { HasSources design.now self.old }
-        requires terms { HasTerms design.now self.old }
-        ensures made { OnOk result (self.new ≡ states.written self.old write.now) }
-        ensures covers { OnOk result (CoverChanges changed.new.items self.old.store self.new.store) }
-    {
-        let parts = write.parts();
-        if parts.len() == 1 {
-            return self.write_part(design, parts[0], write, changed);
-        }
-        note_signals(changed, write)?;
-        wake_for(
-            &mut self.assigns,
-            &mut self.processes,
-            &mut self.woken,
-            design,
-            &self.store,
-            write,
-        )?;
-        self.woken.sort();
-        self.store.put(write);
-        Ok(())
-    }
-
     /// Appends a nonblocking update that is due in so many ticks.
+    #[inline(always)]
     fn queue(&mut self, process: usize, ticks: Ticks, write: Write) -> Result<(), AllocError>
         requires early { self.old.time < 2 ^ 62 }
         ensures queued { OnOk result (self.new ≡ behind_effect self.old process (Effect.Update ticks write)) }
@@ -104,28 +33,17 @@ impl<'a, Q: EventQueue<usize>> State<'a, Q> {
         Ok(())
     }
 
-    /// Does what a step of a process does beyond its place; the answer is the line that it makes.
-    fn perform(
-        &mut self,
-        design: &Design,
-        process: usize,
-        effect: Effect<'a>,
-        changed: &mut Vec<usize>,
-    ) -> Result<Option<Vec<u8>>, AllocError>
+    /// Does what a step of a process does beyond its place and its write; the answer is the line that it makes.
+    #[inline(always)]
+    fn perform(&mut self, process: usize, effect: Effect<'a>) -> Result<Option<Vec<u8>>, AllocError>
         requires early { self.old.time < 2 ^ 62 }
-        requires sources { HasSources design.now self.old }
-        requires terms { (w : Write) → effect ≡ Effect.Write w → HasTerms design.now self.old }
         ensures state { OnOk result (self.new ≡ behind_effect self.old process effect.entry) }
         ensures line { IfOk result (λ line. MatchOption line (line_of effect.entry ≡ None)
             (λ text. line_of effect.entry ≡ Some text.items)) }
-        ensures covers { OnOk result (CoverChanges changed.new.items self.old.store self.new.store) }
+        ensures store { self.new.store ≡ self.old.store }
     {
         match effect {
             Effect::Nothing => Ok(None),
-            Effect::Write(write) => {
-                self.write(design, &write, changed)?;
-                Ok(None)
-            }
             Effect::Update(ticks, write) => {
                 self.queue(process, ticks, write)?;
                 Ok(None)
@@ -146,6 +64,7 @@ impl<'a, Q: EventQueue<usize>> State<'a, Q> {
     }
 
     /// A step of an active process; the answer is the line that it makes.
+    #[inline(always)]
     fn step(
         &mut self,
         design: &Design,
@@ -161,12 +80,24 @@ impl<'a, Q: EventQueue<usize>> State<'a, Q> {
             (λ text. made_line (Move.Step process) self.old ≡ Some text.items)) }
         ensures covers { OnOk result (CoverChanges changed.new.items self.old.store self.new.store) }
     {
-        let effect = self.processes.step(process, self.alloc, &self.store)?;
-        let line = self.perform(design, process, effect, changed)?;
+        self.changes.clear();
+        let effect = self
+            .processes
+            .step(process, self.alloc, &mut self.store, &mut self.changes)?;
+        follow(
+            &mut self.assigns,
+            &mut self.processes,
+            &mut self.woken,
+            design,
+            &self.changes,
+            changed,
+        )?;
+        let line = self.perform(process, effect)?;
         Ok(line)
     }
 
     /// The evaluation of a continuous assignment.
+    #[inline(always)]
     fn evaluate(&mut self, assign: usize) -> Result<(), AllocError>
         ensures made { OnOk result (self.new ≡ states.evaluate self.old assign (slice_get self.old.assigns assign)) }
         ensures store { self.new.store ≡ self.old.store }
@@ -178,19 +109,20 @@ impl<'a, Q: EventQueue<usize>> State<'a, Q> {
     }
 
     /// The update of a continuous assignment.
+    #[inline(always)]
     fn propagate(
         &mut self,
         design: &Design,
-        assign: usize,
+        number: usize,
         changed: &mut Vec<usize>,
     ) -> Result<(), AllocError>
-        requires waits { executions.if_some (λ x. is_some x.pending) (slice_get self.old.assigns assign) ≡ true }
+        requires waits { executions.if_some (λ x. is_some x.pending) (slice_get self.old.assigns number) ≡ true }
         requires sources { HasSources design.now self.old }
         requires terms { HasTerms design.now self.old }
-        ensures made { OnOk result (self.new ≡ states.propagate self.old assign (slice_get self.old.assigns assign)) }
+        ensures made { OnOk result (self.new ≡ states.propagate self.old number (slice_get self.old.assigns number)) }
         ensures covers { OnOk result (CoverChanges changed.new.items self.old.store self.new.store) }
     {
-        let Some(x) = self.assigns.get(assign) else {
+        let Some(x) = self.assigns.get(number) else {
             return Ok(());
         };
         let Some(digits) = x.pending() else {
@@ -198,13 +130,29 @@ impl<'a, Q: EventQueue<usize>> State<'a, Q> {
         };
         let target = x.target();
         let time = self.processes.time();
-        let change = write_of(self.alloc, target, digits, &self.store, time)?;
-        self.assigns.settle(assign);
-        self.write(design, &change, changed)?;
+        self.changes.clear();
+        assign(
+            self.alloc,
+            target,
+            digits,
+            &mut self.store,
+            time,
+            &mut self.changes,
+        )?;
+        self.assigns.settle(number);
+        follow(
+            &mut self.assigns,
+            &mut self.processes,
+            &mut self.woken,
+            design,
+            &self.changes,
+            changed,
+        )?;
         Ok(())
     }
 
     /// A nonblocking update.
+    #[inline(always)]
     fn update(
         &mut self,
         design: &Design,
@@ -219,7 +167,16 @@ impl<'a, Q: EventQueue<usize>> State<'a, Q> {
         let Some(update) = self.updates.take(index) else {
             return Ok(());
         };
-        self.write(design, update.what(), changed)?;
+        self.changes.clear();
+        make(&mut self.store, update.what(), &mut self.changes)?;
+        follow(
+            &mut self.assigns,
+            &mut self.processes,
+            &mut self.woken,
+            design,
+            &self.changes,
+            changed,
+        )?;
         Ok(())
     }
 
@@ -244,6 +201,7 @@ impl<'a, Q: EventQueue<usize>> State<'a, Q> {
     /// Makes an enabled move, and notes in `changed` the signals that it may change; the answer is the line that it makes at once, with the line
     /// feed that ends it (IEEE 1364-2005, clause 17.1.1). The lines of the calls of `$strobe` are the caller's to make before the end of the slot,
     /// of `calls`.
+    #[inline(always)]
     pub fn make(
         &mut self,
         design: &Design,

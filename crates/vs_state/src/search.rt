@@ -25,6 +25,7 @@ pub(crate) fn busy_assign(assigns: &Vec<AssignState>) -> Option<usize>
 }
 
 /// The oldest activated update.
+#[inline(always)]
 pub(crate) fn oldest_active(updates: &VecDeque<Update>) -> Option<usize>
     ensures { MatchOption result (list_any (λ u. u.active) updates.now.items ≡ false)
         (λ i. executions.if_some (executions.is_first updates.now.items i) (slice_get updates.now.items i) ≡ true) }
@@ -38,6 +39,7 @@ pub(crate) fn oldest_active(updates: &VecDeque<Update>) -> Option<usize>
 }
 
 /// Whether an update is activated and no older activated one names a signal that it names.
+#[inline(always)]
 pub(crate) fn is_first(updates: &VecDeque<Update>, index: usize) -> bool
     ensures { result ≡ executions.if_some (executions.is_first updates.now.items index) (slice_get updates.now.items index) }
 {
@@ -86,6 +88,7 @@ impl<'a, Q: EventQueue<usize>> State<'a, Q> {
     }
 
     /// Whether an active event is left in the slot.
+    #[inline(always)]
     fn is_busy(&self) -> bool
         ensures { result ≡ executions.is_busy self.now }
     {
@@ -112,6 +115,7 @@ impl<'a, Q: EventQueue<usize>> State<'a, Q> {
     }
 
     /// The oldest activated update.
+    #[inline(always)]
     pub fn first_update(&self) -> Option<usize>
         ensures { MatchOption result (list_any (λ u. u.active) self.now.updates ≡ false)
             (λ i. executions.is_enabled self.now (Move.Make i) ≡ true) }
@@ -123,6 +127,7 @@ impl<'a, Q: EventQueue<usize>> State<'a, Q> {
     }
 
     /// A move that is enabled. Where no active event is left, it takes no search.
+    #[inline(always)]
     pub fn enabled_move(&self) -> Move
         ensures { executions.is_enabled self.now result ≡ true }
     {
@@ -141,6 +146,7 @@ impl<'a, Q: EventQueue<usize>> State<'a, Q> {
     }
 
     /// Whether an event is enabled: a step, an evaluation, or an update. Of the other moves it says no.
+    #[inline(always)]
     pub fn is_enabled(&self, choice: Move) -> bool
         ensures { result ≡ true → executions.is_enabled self.now choice ≡ true }
     {

@@ -13,6 +13,7 @@ use std::alloc::{AllocError, Global};
 use std::collections::VecDeque;
 use std::marker::Model;
 use vs_design::{Design, Store};
+use vs_flatcode::Change;
 use vs_places::Processes;
 use vs_process::Code;
 use vs_time_wheel::EventQueue;
@@ -21,7 +22,7 @@ use vs_time_wheel::EventQueue;
 #[derive(Drop)]
 pub struct State<'a, Q: EventQueue<usize>> {
     pub(crate) alloc: Global,
-    pub(crate) store: Store,
+    pub(crate) store: Store<'a>,
     /// The processes, and the time of the slot.
     pub(crate) processes: Processes<'a, Q>,
     pub(crate) assigns: Assigns<'a>,
@@ -33,6 +34,8 @@ pub struct State<'a, Q: EventQueue<usize>> {
     pub(crate) over: bool,
     /// How many nonblocking updates were made so far; no part of the definition's state.
     pub(crate) serial: u64,
+    /// The words that the last write has changed; no part of the definition's state.
+    pub(crate) changes: Vec<Change>,
     /// What the last move has woken; no part of the definition's state.
     pub(crate) woken: Woken,
 }
@@ -92,11 +95,13 @@ impl<'a, Q: EventQueue<usize>> State<'a, Q> {
             finishing: false,
             over: false,
             serial: 0,
+            changes: Vec::new(alloc),
             woken: Woken::none(alloc),
         })
     }
 
     /// The time of the slot, in ticks.
+    #[inline(always)]
     pub fn time(&self) -> u64
         ensures { result ≡ self.now.time }
     {
@@ -104,6 +109,7 @@ impl<'a, Q: EventQueue<usize>> State<'a, Q> {
     }
 
     /// Whether the execution is over.
+    #[inline(always)]
     pub fn is_over(&self) -> bool
         ensures { result ≡ self.now.over }
     {
@@ -111,6 +117,7 @@ impl<'a, Q: EventQueue<usize>> State<'a, Q> {
     }
 
     /// Whether a `$finish` was executed: the execution is over at the end of the slot (IEEE 1364-2005, clause 17.4.1, and profile).
+    #[inline(always)]
     pub fn is_finishing(&self) -> bool
         ensures { result ≡ self.now.finishing }
     {
@@ -125,13 +132,15 @@ impl<'a, Q: EventQueue<usize>> State<'a, Q> {
     }
 
     /// The store.
-    pub fn store(&self) -> &Store
+    #[inline(always)]
+    pub fn store(&self) -> &Store<'a>
         ensures { result.now ≡ self.now.store }
     {
         &self.store
     }
 
     /// Whether a process is active.
+    #[inline(always)]
     pub fn is_going(&self, process: usize) -> bool
         ensures { result ≡ if_some is_going (slice_get self.now.places process) }
     {
@@ -142,6 +151,7 @@ impl<'a, Q: EventQueue<usize>> State<'a, Q> {
     }
 
     /// Whether a continuous assignment has to be evaluated.
+    #[inline(always)]
     pub fn needs(&self, assign: usize) -> bool
         ensures { result ≡ if_some (λ d. d.needs) (slice_get self.now.assigns assign) }
     {
@@ -152,6 +162,7 @@ impl<'a, Q: EventQueue<usize>> State<'a, Q> {
     }
 
     /// Whether a value of a continuous assignment waits to be written.
+    #[inline(always)]
     pub fn is_pending(&self, assign: usize) -> bool
         ensures { result ≡ if_some (λ d. is_some d.pending) (slice_get self.now.assigns assign) }
     {
@@ -172,22 +183,26 @@ impl<'a, Q: EventQueue<usize>> State<'a, Q> {
     }
 
     /// The nonblocking updates that wait, in the order of execution.
+    #[inline(always)]
     pub fn updates(&self) -> &VecDeque<Update> {
         self.updates.items()
     }
 
     /// The continuous assignments that the last move has woken.
+    #[inline(always)]
     pub fn woken(&self) -> &[usize] {
         &self.woken.assigns
     }
 
     /// The processes that the last move has made active: by an event control in design order, each once; else in the order in which they came to
     /// wait.
+    #[inline(always)]
     pub fn woken_processes(&self) -> &[usize] {
         &self.woken.processes
     }
 
     /// Whether a process is active and has taken a step since its timing control ended.
+    #[inline(always)]
     pub fn is_inside(&self, process: usize) -> bool
         ensures { result ≡ if_some is_inside (slice_get self.now.places process) }
     {

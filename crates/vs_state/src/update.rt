@@ -27,6 +27,7 @@ impl Model for Update {
 
 impl Update {
     /// An update that isn't activated yet.
+    #[inline(always)]
     pub(crate) fn new(serial: u64, by: usize, due: u64, what: Write) -> Self
         ensures { result ≡ record { by = by; due = due; active = false; what = what } }
     {
@@ -45,6 +46,7 @@ impl Update {
     }
 
     /// The time at which it is due, in ticks.
+    #[inline(always)]
     pub(crate) fn due(&self) -> u64
         ensures { result ≡ self.now.due }
     {
@@ -52,6 +54,7 @@ impl Update {
     }
 
     /// Whether it is activated.
+    #[inline(always)]
     pub fn is_active(&self) -> bool
         ensures { result ≡ self.now.active }
     {
@@ -59,6 +62,7 @@ impl Update {
     }
 
     /// Whether it is due at this time and not activated.
+    #[inline(always)]
     pub(crate) fn is_due(&self, time: u64) -> bool
         ensures { result ≡ states.is_due time self.now }
     {
@@ -66,6 +70,7 @@ impl Update {
     }
 
     /// Activates it where it is due at this time.
+    #[inline(always)]
     pub(crate) fn activate(&mut self, time: u64)
         ensures { self.new ≡ states.activated time self.old }
     {
@@ -73,6 +78,7 @@ impl Update {
     }
 
     /// Whether it is activated and names a signal that a newer update names too.
+    #[inline(always)]
     pub(crate) fn hides(&self, newer: &Update) -> bool
         ensures { result ≡ (self.now.active && shares self.now.what newer.now.what) }
     {
@@ -80,6 +86,7 @@ impl Update {
     }
 
     /// What it writes.
+    #[inline(always)]
     pub fn what(&self) -> &Write
         ensures { result.now ≡ self.now.what }
     {

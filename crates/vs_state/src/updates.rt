@@ -51,6 +51,7 @@ impl Updates {
     }
 
     /// Whether one is activated.
+    #[inline(always)]
     pub(crate) fn has_active(&self) -> bool
         ensures { result ≡ list_any (λ u. u.active) self.now }
     {
@@ -58,6 +59,7 @@ impl Updates {
     }
 
     /// The oldest activated one.
+    #[inline(always)]
     pub(crate) fn first_active(&self) -> Option<usize>
         ensures { MatchOption result (list_any (λ u. u.active) self.now ≡ false)
             (λ i. executions.if_some (executions.is_first self.now i) (slice_get self.now i) ≡ true) }
@@ -66,6 +68,7 @@ impl Updates {
     }
 
     /// Whether one is activated and no older activated one names a signal that it names.
+    #[inline(always)]
     pub(crate) fn is_first(&self, index: usize) -> bool
         ensures { result ≡ executions.if_some (executions.is_first self.now index) (slice_get self.now index) }
     {
@@ -87,6 +90,7 @@ impl Updates {
     }
 
     /// Appends one that isn't activated.
+    #[inline(always)]
     pub(crate) fn push(&mut self, update: Update) -> Result<(), AllocError>
         requires { update.active ≡ false }
         ensures ok { OnOk result (self.new ≡ self.old ++ update ∷ []) }
@@ -97,6 +101,7 @@ impl Updates {
     }
 
     /// Takes one out.
+    #[inline(always)]
     pub(crate) fn take(&mut self, index: usize) -> Option<Update>
         ensures taken { result ≡ slice_get self.old index }
         ensures rest { self.new ≡ remove self.old index }

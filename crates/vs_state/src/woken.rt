@@ -27,6 +27,7 @@ impl Woken {
     }
 
     /// Forgets what an earlier move has woken.
+    #[inline(always)]
     pub(crate) fn clear(&mut self) {
         self.assigns.clear();
         self.processes.clear();

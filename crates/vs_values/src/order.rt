@@ -1,9 +1,9 @@
 //! In which order to look at parameters that name one another. No value rests on it: whatever the order, what is found is the same.
 use std::alloc::{AllocError, Global};
-use vs_logic4::Binary;
+use vs_pieces::names_in;
 use vs_scopes::Given;
 use vs_selects::Const;
-use vs_syntax::{Expr, ParameterForm, PartSelect, Range};
+use vs_syntax::{Expr, ParameterForm, Range};
 use vs_widths::Names;
 
 /// Which parameters parameters name: those of each stand behind those of the one before.
@@ -37,119 +37,46 @@ fn push_use(name: &[u8], numbers: &Names<usize>, used: &mut Vec<usize>) -> Resul
 }
 
 /// Appends the numbers of the parameters that an expression names.
-#[cycle(push_uses)]
-fn push_uses(e: &Expr, numbers: &Names<usize>, used: &mut Vec<usize>) -> Result<(), AllocError> {
-    match e {
-        Expr::Number(_) => Ok(()),
-        Expr::Name(name) => push_use(name, numbers, used),
-        Expr::Select(name, selects) => {
-            push_use(name, numbers, used)?;
-            push_select_uses(selects, numbers, used)
-        }
-        Expr::Group(x) => push_uses(x, numbers, used),
-        Expr::Unary(_, x) => push_uses(x, numbers, used),
-        Expr::Chain(first, links) => {
-            push_uses(first, numbers, used)?;
-            push_link_uses(links, numbers, used)
-        }
-        Expr::Choice(pairs, last) => {
-            push_pair_uses(pairs, numbers, used)?;
-            push_uses(last, numbers, used)
-        }
-        Expr::Concat(first, rest) => {
-            push_uses(first, numbers, used)?;
-            push_all_uses(rest, numbers, used)
-        }
-        Expr::Repeat(count, first, rest) => {
-            push_uses(count, numbers, used)?;
-            push_uses(first, numbers, used)?;
-            push_all_uses(rest, numbers, used)
-        }
-        Expr::Cast(_, x) => push_uses(x, numbers, used),
-    }
-}
-
-/// Appends the numbers of the parameters that selects name.
-#[cycle(push_uses)]
-fn push_select_uses(
-    selects: &[(Expr, Option<(PartSelect, Expr)>)],
+fn push_uses(
+    alloc: Global,
+    e: &Expr,
     numbers: &Names<usize>,
     used: &mut Vec<usize>,
 ) -> Result<(), AllocError> {
-    for (index, part) in selects {
-        push_uses(index, numbers, used)?;
-        if let Some((_, other)) = part {
-            push_uses(other, numbers, used)?;
-        }
-    }
-    Ok(())
-}
-
-/// Appends the numbers of the parameters that operands name.
-#[cycle(push_uses)]
-fn push_link_uses(
-    links: &[(Binary, Expr)],
-    numbers: &Names<usize>,
-    used: &mut Vec<usize>,
-) -> Result<(), AllocError> {
-    for (_, e) in links {
-        push_uses(e, numbers, used)?;
-    }
-    Ok(())
-}
-
-/// Appends the numbers of the parameters that conditions and the operands behind them name.
-#[cycle(push_uses)]
-fn push_pair_uses(
-    pairs: &[(Expr, Expr)],
-    numbers: &Names<usize>,
-    used: &mut Vec<usize>,
-) -> Result<(), AllocError> {
-    for (condition, e) in pairs {
-        push_uses(condition, numbers, used)?;
-        push_uses(e, numbers, used)?;
-    }
-    Ok(())
-}
-
-/// Appends the numbers of the parameters that parts name.
-#[cycle(push_uses)]
-fn push_all_uses(
-    all: &[Expr],
-    numbers: &Names<usize>,
-    used: &mut Vec<usize>,
-) -> Result<(), AllocError> {
-    for e in all {
-        push_uses(e, numbers, used)?;
+    let names = names_in(alloc, e)?;
+    for name in &names {
+        push_use(name, numbers, used)?;
     }
     Ok(())
 }
 
 /// Appends the numbers of the parameters that a range names.
 fn push_range_uses(
+    alloc: Global,
     range: &Range,
     numbers: &Names<usize>,
     used: &mut Vec<usize>,
 ) -> Result<(), AllocError> {
-    push_uses(&range.left, numbers, used)?;
-    push_uses(&range.right, numbers, used)
+    push_uses(alloc, &range.left, numbers, used)?;
+    push_uses(alloc, &range.right, numbers, used)
 }
 
 /// Appends the numbers of the parameters that a parameter of the same scope needs: those in its range, and in its value where nothing
 /// overrides that.
 fn push_given_uses(
+    alloc: Global,
     given: &Given,
     numbers: &Names<usize>,
     used: &mut Vec<usize>,
 ) -> Result<(), AllocError> {
     if let Some(ParameterForm::Vector(form)) = given.parameter.form {
         if let Some(range) = &form.range {
-            push_range_uses(range, numbers, used)?;
+            push_range_uses(alloc, range, numbers, used)?;
         }
     }
     match given.over {
         Some(_) => Ok(()),
-        None => push_uses(given.parameter.value, numbers, used),
+        None => push_uses(alloc, given.parameter.value, numbers, used),
     }
 }
 
@@ -165,7 +92,7 @@ fn all_uses(
     starts.push(0)?;
     for number in 0..list.len() {
         if let Some(None) = values.get(number) {
-            push_given_uses(&list[number], numbers, &mut used)?;
+            push_given_uses(alloc, &list[number], numbers, &mut used)?;
         }
         starts.push(used.len())?;
     }

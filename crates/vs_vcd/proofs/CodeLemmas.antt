@@ -1,5 +1,5 @@
 -- Identifier codes.
-use Rattle.std.proofs.Common.{◌≡◌, ℕ, zero, suc, ◌+◌, ◌-◌, ◌/◌, ◌%◌, ◌<◌, ◌≤◌, List, [], ◌∷◌, ◌++◌, refl, sym, ap, append_assoc, ◌∙◌, arith}
+use Rattle.std.proofs.Common.{◌≡◌, ℕ, zero, suc, ◌+◌, ◌-◌, ◌/◌, ◌%◌, ◌<◌, ◌≤◌, List, [], ◌∷◌, ◌++◌, ◌^◌, length, refl, sym, ap, append_assoc, ◌∙◌, arith}
 use Rattle.std.proofs.Common.{inl, inr, ◌*◌}
 use Rattle.std.proofs.lemmas.Bool.{lt-ltb, le-ltb, cond-true, cond-false, cases_lt}
 use Rattle.std.specs.Prelude.{nat_lt, if◌then◌else◌}
@@ -27,6 +27,34 @@ code-long (suc n) h =
 pub code_more : (old new text : List ℕ) (n : ℕ) → 94 ≤ n → new ≡ old ++ (33 + n % 94) ∷ [] → old ++ code n ≡ text → new ++ code (n / 94 - 1) ≡ text
 code_more old new text n h push so_far =
     ap (λ l. l ++ code (n / 94 - 1)) push ∙ append_assoc old ((33 + n % 94) ∷ []) (code (n / 94 - 1)) ∙ ap (λ l. old ++ l) (sym (code-long n h)) ∙ so_far
+
+-- a code has at most ten characters where its number has 64 bits
+length-code_with_fuel : (k f n : ℕ) → n ≤ f → n < 94 ^ suc k → length (code_with_fuel f n) ≤ suc k
+length-code_with_fuel k zero n p h = omega arith
+length-code_with_fuel zero (suc f) n p h =
+    omega (arith, ap length (cond-true (nat_lt n 94) ((33 + n) ∷ []) ((33 + n % 94) ∷ code_with_fuel f (n / 94 - 1)) (lt-ltb n 94 (omega (arith, h)))))
+length-code_with_fuel (suc k) (suc f) n p h =
+    elim (cases_lt n 94) [
+      | inl short ↦ omega (arith, ap length (cond-true (nat_lt n 94) ((33 + n) ∷ []) ((33 + n % 94) ∷ code_with_fuel f (n / 94 - 1)) (lt-ltb n 94 short)))
+      | inr long ↦
+          let rest = length-code_with_fuel k f (n / 94 - 1) (omega arith) (omega (arith, h, long)) in
+          omega (arith, rest, ap length (cond-false (nat_lt n 94) ((33 + n) ∷ []) ((33 + n % 94) ∷ code_with_fuel f (n / 94 - 1)) (le-ltb n 94 long)))
+    ]
+
+pub length-code : (n : ℕ) → n < 2 ^ 64 → length (code n) ≤ 10
+length-code n h = length-code_with_fuel 9 n n (omega arith) (omega (arith, h))
+
+-- one character of a code less is left
+pub length-code-long : (n : ℕ) → 94 ≤ n → length (code n) ≡ length (code (n / 94 - 1)) + 1
+length-code-long n h = ap length (code-long n h) ∙ omega arith
+
+pub length-code-least : (n : ℕ) → 0 < length (code n)
+length-code-least zero = omega arith
+length-code-least (suc n) =
+    elim (cases_lt (suc n) 94) [
+      | inl short ↦ omega (arith, ap length (code-short (suc n) short))
+      | inr long ↦ omega (arith, ap length (code-long (suc n) long))
+    ]
 
 -- one more than the number that a code is of
 counted : List ℕ → ℕ

@@ -1,6 +1,7 @@
 pub mod ChangeLemmas
 pub mod CodeLemmas
 pub mod CodeTableLemmas
+pub mod DigitLemmas
 pub mod ExtendLemmas
 pub mod HeaderLemmas
 pub mod KeptLemmas

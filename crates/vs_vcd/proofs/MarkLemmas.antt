@@ -1,7 +1,7 @@
 -- Marks of blocks.
-use Rattle.std.proofs.Common.{◌≡◌, ℕ, ◌+◌, ◌*◌, ◌-◌, ◌/◌, ◌%◌, ◌^◌, ◌<◌, ◌≤◌, true, false, Option, Some, None, List, sym, ap, ◌∙◌, arith, w64, inl, inr}
+use Rattle.std.proofs.Common.{◌≡◌, ℕ, ◌+◌, ◌*◌, ◌-◌, ◌/◌, ◌%◌, ◌^◌, ◌<◌, ◌≤◌, true, false, Option, Some, None, List, bit_or, refl, sym, ap, ◌∙◌, arith, w64, inl, inr}
 use Rattle.std.proofs.Math.Nat.{div-le_self}
-use Rattle.std.proofs.lemmas.Nat.{shr-shr}
+use Rattle.std.proofs.lemmas.Nat.{shr-shr, le_or_l, le_or_r}
 use Rattle.std.proofs.lemmas.Bool.{eq-eqb, ne_eqb, cases_lt}
 use Rattle.std.proofs.lemmas.Nat.Bits.{bit_at-trailing_zeros, bit_at-zero, bit_at_above}
 use Rattle.std.specs.Prelude.{◌==◌, slice_index}
@@ -91,6 +91,39 @@ mark_of_word marks word from n is small some order before =
             ],
       ),
     )
+
+-- four words more have no mark
+pub four_more : (marks : List ℕ) (from word : ℕ)
+    → bit_or (bit_or (bit_or (slice_index marks word) (slice_index marks (word + 1))) (slice_index marks (word + 2))) (slice_index marks (word + 3)) ≡ 0
+    → ((w : ℕ) → from ≤ w → w < word → slice_index marks w ≡ 0) → (w : ℕ) → from ≤ w → w < word + 4 → slice_index marks w ≡ 0
+four_more marks from word none before w ge lt =
+    let a = slice_index marks word in
+    let b = slice_index marks (word + 1) in
+    let c = slice_index marks (word + 2) in
+    let d = slice_index marks (word + 3) in
+    let one = le_or_l (bit_or (bit_or a b) c) d in
+    let two = le_or_l (bit_or a b) c in
+    elim (cases_lt w word) [
+      | inl near ↦ before w ge near
+      | inr far ↦
+          elim (cases_lt w (word + 1)) [
+            | inl first ↦ let at : w ≡ word = omega arith in ap (slice_index marks) at ∙ omega (arith, none, one, two, le_or_l a b)
+            | inr second ↦
+                elim (cases_lt w (word + 2)) [
+                  | inl here ↦ let at : w ≡ word + 1 = omega arith in ap (slice_index marks) at ∙ omega (arith, none, one, two, le_or_r a b)
+                  | inr third ↦
+                      elim (cases_lt w (word + 3)) [
+                        | inl there ↦ let at : w ≡ word + 2 = omega arith in ap (slice_index marks) at ∙ omega (arith, none, one, le_or_r (bit_or a b) c)
+                        | inr last ↦ let at : w ≡ word + 3 = omega arith in ap (slice_index marks) at ∙ omega (arith, none, le_or_r (bit_or (bit_or a b) c) d)
+                      ]
+                ]
+          ]
+    ]
+
+-- the blocks of words without a mark
+pub unmarked_words : (marks : List ℕ) (from to : ℕ) → ((w : ℕ) → from ≤ w → w < to → slice_index marks w ≡ 0)
+    → (b : ℕ) → 64 * from ≤ b → b < 64 * to → is_block_marked marks b ≡ false
+unmarked_words marks from to none b ge lt = bit_unmarked marks b (b / 64) (b % 64) 0 refl refl (none (b / 64) (omega arith) (omega arith)) (bit_at-zero (b % 64))
 
 -- ---- signals
 

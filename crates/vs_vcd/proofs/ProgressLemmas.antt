@@ -1,6 +1,7 @@
 -- How far a value change dump is written after one more slot.
 use Rattle.std.proofs.Common.{◌≡◌, ℕ, suc, ◌+◌, Bool, true, false, Option, Some, None, Result, List, [], ◌∷◌, ◌++◌, refl, sym, ap, subst, ◌∙◌, append_assoc, append-nil, arith, inl, inr}
-use Rattle.std.proofs.lemmas.Bool.{cases_Bool, cond-true}
+use Rattle.std.proofs.lemmas.Bool.{cond-true}
+use Rattle.std.proofs.lemmas.List.{map-append}
 use Rattle.std.specs.Prelude.{Ok, Err, OnOk, codes, slice_get, is_none, if◌then◌else◌}
 use Rattle.vs_logic4.specs.declared.digit.Digit.{Digit}
 use Rattle.vs_logic4.specs.Vectors.{same_digits}
@@ -15,7 +16,8 @@ use Rattle.vs_vcd.specs.Codes.{is_array, shown, shown_from}
 use Rattle.vs_vcd.specs.CodeTables.{code_table}
 use Rattle.vs_vcd.specs.Values.{shown_value}
 use Rattle.vs_vcd.specs.Text.{text_of, time_line, is_written, value_line, change_line, changed_line, coded_lines, timed, first_lines, later_lines, lines_after, slots_lines, last_time_after, vcd_slots}
-use Rattle.vs_vcd.specs.Kept.{codes_of, renewed, kept_lines, coded, first_line, change_from, is_chosen, chosen_line, first_kept, later_kept, next_kept, time_kept}
+use Rattle.vs_vcd.specs.declared.kept.Change.{Change}
+use Rattle.vs_vcd.specs.Kept.{codes_of, kept_changes, change_to, first_by, first_change, later_by, is_chosen, chosen_change, change_text, change_texts, next_kept, time_kept}
 use Rattle.vs_vcd.specs.Progress.{last_store_after, last_of, time_of, next_lines, time_after, vcd_slot, Progress, AreKept, AreLast, HasWritten, Covers, Follows, IsSlotAt, WritesPiece}
 use Rattle.vs_vcd.proofs.LineLemmas.{text_of-append}
 
@@ -70,16 +72,31 @@ covered_by (Some t) marks w store is covers i n k get code not = covers t i n k 
 pub marks_cover : (all : Bool) (marks : List ℕ) (w : Progress) (store : Store) → all ≡ is_none w.last → Covers marks w store → Unseen all marks w.kept store
 marks_cover all marks w store first covers = subst (λ b. Unseen b marks w.kept store) (sym first) (covered_by w.last marks w store refl covers)
 
+-- the lines by the number of a code; none where there is none
+abbrev coded : (ℕ → List (List ℕ)) → Option ℕ → List (List ℕ)
+coded lines None = []
+coded lines (Some number) = lines number
+
+texts_cond : (b : Bool) (c : Change) → change_texts (if b then [] else c ∷ []) ≡ (if b then [] else change_text c ∷ [])
+texts_cond true c = refl
+texts_cond false c = refl
+
 -- the lines of one signal, by what is kept
 line_by : (before store : Store) (j : ℕ) (value : List Digit) (seen : Bool) (code : Option ℕ) → ((n : ℕ) → code ≡ Some n → value ≡ shown_value before j)
     → ((n : ℕ) → code ≡ Some n → seen ≡ false → value ≡ shown_value store j)
-    → (if seen then coded (change_from value store j) code else []) ≡ coded (λ n. changed_line before store n j) code
+    → change_texts (if seen then later_by store j value code else []) ≡ coded (λ n. changed_line before store n j) code
 line_by before store j value true None is unseen = refl
 line_by before store j value false None is unseen = refl
-line_by before store j value true (Some n) is unseen = ap (λ v. change_from v store j n) (is n refl)
+line_by before store j value true (Some n) is unseen =
+    texts_cond (same_digits value (shown_value store j)) (change_to store j n)
+    ∙ ap (λ v. if same_digits v (shown_value store j) then [] else change_line store n j ∷ []) (is n refl)
 line_by before store j value false (Some n) is unseen =
     sym (cond-true (same_digits (shown_value before j) (shown_value store j)) [] (change_line store n j ∷ [])
     (ap (λ v. same_digits v (shown_value store j)) (sym (is n refl) ∙ unseen n refl refl) ∙ same_digits_self (shown_value store j)))
+
+first_line_by : (store : Store) (j : ℕ) (code : Option ℕ) → change_texts (first_by store j code) ≡ coded (λ n. value_line store n j) code
+first_line_by store j None = refl
+first_line_by store j (Some n) = refl
 
 -- one signal, and the signals behind it
 front : (lines : ℕ → ℕ → List (List ℕ)) (first k : ℕ) (array : Bool) (ss : List Signal) (code : Option ℕ) (codes : List (Option ℕ)) (here : List (List ℕ)) (behind : List (List ℕ))
@@ -100,36 +117,39 @@ not_empty true x y xs ys h = cc
 not_empty false x y xs ys h = cc
 
 -- the lines by what is kept are those by the signals that are shown
-shown_lines : (lines : ℕ → ℕ → List (List ℕ)) (by : ℕ → Kept → List (List ℕ)) (first k : ℕ) (ss : List Signal) (kept : List Kept) → codes_of kept ≡ code_table first ss
-    → ((i j : ℕ) (e : Kept) → j ≡ k + i → slice_get kept i ≡ Some e → by j e ≡ coded (λ n. lines n j) e.code)
-    → kept_lines by k kept ≡ coded_lines lines first (shown_from k ss)
+shown_lines : (lines : ℕ → ℕ → List (List ℕ)) (by : ℕ → Kept → List Change) (first k : ℕ) (ss : List Signal) (kept : List Kept) → codes_of kept ≡ code_table first ss
+    → ((i j : ℕ) (e : Kept) → j ≡ k + i → slice_get kept i ≡ Some e → change_texts (by j e) ≡ coded (λ n. lines n j) e.code)
+    → change_texts (kept_changes by k kept) ≡ coded_lines lines first (shown_from k ss)
 shown_lines lines by first k [] [] table is = refl
 shown_lines lines by first k [] (e ∷ es) table is = cc
 shown_lines lines by first k (s ∷ ss) [] table is = not_empty (is_array s) None (Some first) (code_table first ss) (code_table (suc first) ss) table
 shown_lines lines by first k (s ∷ ss) (e ∷ es) table is =
-    front lines first k (is_array s) ss e.code (codes_of es) (by k e) (kept_lines by (suc k) es) table (is 0 k e (omega arith) refl)
+    map-append change_text (by k e) (kept_changes by (suc k) es)
+    ∙ front lines first k (is_array s) ss e.code (codes_of es) (change_texts (by k e)) (change_texts (kept_changes by (suc k) es)) table (is 0 k e (omega arith) refl)
     (λ f same. shown_lines lines by f (suc k) ss es same (λ i j x at get. is (suc i) j x (omega (arith, at)) get))
 
-later_is : (signals : List Signal) (kept : List Kept) (before : Store) (all : Bool) (marks : List ℕ) (t : ℕ) (store : Store) → codes_of kept ≡ code_table 0 signals → AreKept kept before
-    → Unseen all marks kept store → later_kept kept all marks t store ≡ later_lines (shown_from 0 signals) before t store
-later_is signals kept before all marks t store table values unseen =
-    ap (timed t) (shown_lines (changed_line before store) (chosen_line all marks store) 0 0 signals kept table
+later_is : (signals : List Signal) (kept : List Kept) (before : Store) (last : ℕ) (all : Bool) (marks : List ℕ) (t : ℕ) (store : Store) → codes_of kept ≡ code_table 0 signals → AreKept kept before
+    → Unseen all marks kept store → next_kept kept (Some last) all marks t store ≡ later_lines (shown_from 0 signals) before t store
+later_is signals kept before last all marks t store table values unseen =
+    ap (timed t) (shown_lines (changed_line before store) (chosen_change all marks store) 0 0 signals kept table
     (λ i j e at get.
     let place : j ≡ i = omega (arith, at) in
     let here : slice_get kept j ≡ Some e = ap (slice_get kept) place ∙ get in
     line_by before store j e.value (is_chosen all marks j) e.code (λ n code. values j n e here code) (λ n code not. unseen j n e here code not)))
 
-first_is : (signals : List Signal) (kept : List Kept) (t : ℕ) (store : Store) → codes_of kept ≡ code_table 0 signals → first_kept kept t store ≡ first_lines (shown_from 0 signals) t store
-first_is signals kept t store table =
-    ap (λ l. time_line t ∷ codes "$dumpvars" ∷ l ++ codes "$end" ∷ []) (shown_lines (value_line store) (first_line store) 0 0 signals kept table (λ i j e at get. refl))
+first_is : (signals : List Signal) (kept : List Kept) (all : Bool) (marks : List ℕ) (t : ℕ) (store : Store) → codes_of kept ≡ code_table 0 signals
+    → next_kept kept None all marks t store ≡ first_lines (shown_from 0 signals) t store
+first_is signals kept all marks t store table =
+    ap (λ l. time_line t ∷ codes "$dumpvars" ∷ l ++ codes "$end" ∷ [])
+    (shown_lines (value_line store) (first_change store) 0 0 signals kept table (λ i j e at get. first_line_by store j e.code))
 
 lines_by : (signals : List Signal) (kept : List Kept) (o : Option (ℕ × Store)) (last : Option ℕ) (all : Bool) (marks : List ℕ) (t : ℕ) (store : Store) → codes_of kept ≡ code_table 0 signals
     → last ≡ time_of o → AreLast kept o → Unseen all marks kept store
     → (next_kept kept last all marks t store ≡ next_lines (shown_from 0 signals) o t store) × (time_kept kept last all marks t store ≡ time_after (shown_from 0 signals) o t store)
 lines_by signals kept None last all marks t store table time values unseen =
-    (ap (λ l. next_kept kept l all marks t store) time ∙ first_is signals kept t store table, ap (λ l. time_kept kept l all marks t store) time)
+    (ap (λ l. next_kept kept l all marks t store) time ∙ first_is signals kept all marks t store table, ap (λ l. time_kept kept l all marks t store) time)
 lines_by signals kept (Some o) last all marks t store table time values unseen =
-    let same = later_is signals kept o.1 all marks t store table values unseen in (
+    let same = later_is signals kept o.1 o.0 all marks t store table values unseen in (
       ap (λ l. next_kept kept l all marks t store) time ∙ same,
       ap (λ l. time_kept kept l all marks t store) time ∙ ap (λ l. if is_written l then t else o.0) same,
     )
@@ -149,17 +169,9 @@ piece_written result old new w all marks t store unseen wrote d slots s h at = s
 
 -- ---- one more slot is kept
 
-renewed_value : (store : Store) (i : ℕ) (o : Option Kept) (k : Kept) → renewed store i o ≡ Some k → k.value ≡ shown_value store i
-renewed_value store i None k h = cc
-renewed_value store i (Some e) k h = cc
-
 -- behind a slot the values of its store are kept
 all_kept : (old new : Progress) (all : Bool) (marks : List ℕ) (t : ℕ) (store : Store) → Unseen all marks old.kept store → Follows old new all marks t store → AreKept new.kept store
-all_kept old new all marks t store unseen f i n k get code =
-    elim (cases_Bool (is_chosen all marks i)) [
-      | inl here ↦ renewed_value store i (slice_get old.kept i) k (sym (f.chosen i here) ∙ get)
-      | inr not ↦ unseen i n k (sym (f.others i not) ∙ get) code not
-    ]
+all_kept old new all marks t store unseen f i n k get code = elim (f.values i n k get code) [ inl is ↦ is | inr rest ↦ unseen i n k rest.1 code rest.0 ]
 
 -- a writer after one more slot
 written_more : (old new : Progress) (all : Bool) (marks : List ℕ) (t : ℕ) (store : Store) → Unseen all marks old.kept store → Follows old new all marks t store

@@ -1,10 +1,10 @@
 -- Digits as a value change dump writes them.
-use Rattle.std.proofs.Common.{◌≡◌, ℕ, zero, suc, true, false, Some, List, [], ◌∷◌, ◌++◌, length, take, reverse, map, refl, sym, ap, append_assoc, ◌∙◌, arith}
+use Rattle.std.proofs.Common.{◌≡◌, ℕ, zero, suc, true, false, Some, List, [], ◌∷◌, ◌++◌, length, take, reverse, refl, ap, ◌∙◌, arith}
 use Rattle.std.proofs.lemmas.List.{reverse-append}
 use Rattle.std.proofs.lemmas.Bool.{cond-true, cond-false}
 use Rattle.std.specs.Prelude.{slice_get}
 use Rattle.vs_logic4.specs.declared.digit.Digit.{Digit}
-use Rattle.vs_vcd.specs.Values.{digit_character, is_extension, shortened}
+use Rattle.vs_vcd.specs.Values.{is_extension, shortened}
 
 take_snoc : {A : Type 0} (xs : List A) (i : ℕ) (x : A) → slice_get xs i ≡ Some x → take (suc i) xs ≡ take i xs ++ x ∷ []
 take_snoc [] i x h = cc
@@ -31,15 +31,7 @@ pub shortened-kept : (ds : List Digit) (k i j : ℕ) (d e : Digit) → k ≡ suc
 shortened-kept ds k i j d e p q top next h =
     rw (reversed_top ds k i d p top, reversed_top ds i j e q next) (cond-false (is_extension d e) _ _ h)
 
-shortened-one : (ds : List Digit) → length ds ≡ 1 → shortened (reverse ds) ≡ reverse ds
+pub shortened-one : (ds : List Digit) → length ds ≡ 1 → shortened (reverse ds) ≡ reverse ds
 shortened-one [] h = absurd (omega arith)
 shortened-one (d ∷ []) h = rw (reverse-one d) refl
 shortened-one (d ∷ e ∷ ds) h = absurd (omega arith)
-
--- one more digit is written
-pub digits_more : (old new text : List ℕ) (ds : List Digit) (k i : ℕ) (d : Digit) → k ≡ suc i → slice_get ds i ≡ Some d → new ≡ old ++ digit_character d ∷ []
-    → old ++ map digit_character (reverse (take k ds)) ≡ text → new ++ map digit_character (reverse (take i ds)) ≡ text
-digits_more old new text ds k i d e h push so_far =
-    ap (λ l. l ++ map digit_character (reverse (take i ds))) push
-    ∙ append_assoc old (digit_character d ∷ []) (map digit_character (reverse (take i ds)))
-    ∙ ap (λ l. old ++ map digit_character l) (sym (reversed_top ds k i d e h)) ∙ so_far

@@ -1,71 +1,103 @@
--- What the writer keeps, and the lines that it makes of it: nothing that is promised rests on these but `Progress`.
-use Rattle.std.specs.Prelude.{◌≡◌, ℕ, suc, ◌<◌, ◌≤◌, ◌||◌, Bool, Option, Some, None, List, [], ◌∷◌, ◌++◌, codes, map, if◌then◌else◌}
+-- What the writer keeps, and the changes that it makes of it: nothing that is promised rests on these but `Progress`.
+use Rattle.std.specs.Prelude.{◌≡◌, ℕ, zero, suc, ◌<◌, ◌≤◌, ◌||◌, Bool, Option, Some, None, if◌then◌else◌}
+use Rattle.std.specs.Prelude.{List, [], ◌∷◌, ◌++◌, codes, map, reverse}
 use Rattle.vs_logic4.specs.declared.digit.Digit.{Digit}
 use Rattle.vs_logic4.specs.Vectors.{same_digits}
 use Rattle.vs_design.specs.Stores.{Store}
 use Rattle.vs_vcd.specs.declared.kept.Kept.{Kept}
-use Rattle.vs_vcd.specs.Values.{shown_value}
-use Rattle.vs_vcd.specs.Text.{time_line, change_line, value_line, timed, is_written}
+use Rattle.vs_vcd.specs.declared.kept.Change.{Change}
+use Rattle.vs_vcd.specs.Codes.{code}
+use Rattle.vs_vcd.specs.Values.{digit_character, shortened, value_change, shown_value}
+use Rattle.vs_vcd.specs.Text.{time_line, timed, is_written}
 use Rattle.vs_vcd.specs.Marks.{is_marked}
 
 -- the numbers of the codes
 abbrev pub codes_of : List Kept → List (Option ℕ)
 codes_of kept = map (λ (k : Kept). k.code) kept
 
--- what is kept of a signal once its value in a store is written
-abbrev pub renewed : Store → ℕ → Option Kept → Option Kept
-renewed store signal None = None
-renewed store signal (Some k) = Some (record { code = k.code; value = shown_value store signal })
+-- what is kept with a value in the place of that of one signal
+abbrev pub with_value : List Kept → ℕ → List Digit → List Kept
+with_value [] signal value = []
+with_value (k ∷ ks) zero value = record { code = k.code; value = value } ∷ ks
+with_value (k ∷ ks) (suc signal) value = k ∷ with_value ks signal value
 
--- ---- lines
+-- what is kept behind changes
+abbrev pub kept_behind : List Kept → List Change → List Kept
+kept_behind kept [] = kept
+kept_behind kept (c ∷ cs) = kept_behind (with_value kept c.signal c.value) cs
 
--- the lines of signals one after another, where the first signal has this number
-abbrev pub kept_lines : (ℕ → Kept → List (List ℕ)) → ℕ → List Kept → List (List ℕ)
-kept_lines lines signal [] = []
-kept_lines lines signal (k ∷ ks) = lines signal k ++ kept_lines lines (suc signal) ks
+-- ---- changes
 
--- the lines by the number of a code; none where there is none
-abbrev pub coded : (ℕ → List (List ℕ)) → Option ℕ → List (List ℕ)
-coded lines None = []
-coded lines (Some number) = lines number
+-- the changes of signals one after another, where the first signal has this number
+abbrev pub kept_changes : (ℕ → Kept → List Change) → ℕ → List Kept → List Change
+kept_changes by signal [] = []
+kept_changes by signal (k ∷ ks) = by signal k ++ kept_changes by (suc signal) ks
 
--- the value of a signal in a store
-abbrev pub first_line : Store → ℕ → Kept → List (List ℕ)
-first_line store signal k = coded (λ n. value_line store n signal) k.code
+-- the change to the value of a signal in a store
+abbrev pub change_to : Store → ℕ → ℕ → Change
+change_to store signal number = record { signal = signal; number = number; value = shown_value store signal }
 
--- the change of a signal from the value kept to that in a store
-abbrev pub change_from : List Digit → Store → ℕ → ℕ → List (List ℕ)
-change_from value store signal n = if same_digits value (shown_value store signal) then [] else change_line store n signal ∷ []
+-- the value of a signal in a store; none where the signal has no code
+abbrev pub first_by : Store → ℕ → Option ℕ → List Change
+first_by store signal None = []
+first_by store signal (Some number) = change_to store signal number ∷ []
 
-abbrev pub later_line : Store → ℕ → Kept → List (List ℕ)
-later_line store signal k = coded (change_from k.value store signal) k.code
+abbrev pub first_change : Store → ℕ → Kept → List Change
+first_change store signal k = first_by store signal k.code
 
--- the lines of the signals from one number on, below another, are their changes
-abbrev pub AreLater : (ℕ → Kept → List (List ℕ)) → Store → ℕ → ℕ → Type 0
-AreLater lines store from to = (i : ℕ) (k : Kept) → from ≤ i → i < to → lines i k ≡ later_line store i k
+-- the change of a signal from a value to that in a store, where there is one; none where the signal has no code
+abbrev pub later_by : Store → ℕ → List Digit → Option ℕ → List Change
+later_by store signal value None = []
+later_by store signal value (Some number) = if same_digits value (shown_value store signal) then [] else change_to store signal number ∷ []
+
+abbrev pub later_change : Store → ℕ → Kept → List Change
+later_change store signal k = later_by store signal k.value k.code
+
+-- the changes of the signals from one number on, below another, are those from the values kept
+abbrev pub AreLater : (ℕ → Kept → List Change) → Store → ℕ → ℕ → Type 0
+AreLater by store from to = (i : ℕ) (k : Kept) → from ≤ i → i < to → by i k ≡ later_change store i k
 
 -- whether a signal is looked at: each is, or those whose blocks are marked
 abbrev pub is_chosen : Bool → List ℕ → ℕ → Bool
 is_chosen all marks signal = all || is_marked marks signal
 
 -- the change of a signal that is looked at
-abbrev pub chosen_line : Bool → List ℕ → Store → ℕ → Kept → List (List ℕ)
-chosen_line all marks store signal k = if is_chosen all marks signal then later_line store signal k else []
+abbrev pub chosen_change : Bool → List ℕ → Store → ℕ → Kept → List Change
+chosen_change all marks store signal k = if is_chosen all marks signal then later_change store signal k else []
 
--- the lines of the first slot
-abbrev pub first_kept : List Kept → ℕ → Store → List (List ℕ)
-first_kept kept time store = time_line time ∷ codes "$dumpvars" ∷ kept_lines (first_line store) 0 kept ++ codes "$end" ∷ []
+-- the changes of the next slot, where this was the last time written
+abbrev pub next_changes : List Kept → Option ℕ → Bool → List ℕ → Store → List Change
+next_changes kept None all marks store = kept_changes (first_change store) 0 kept
+next_changes kept (Some last) all marks store = kept_changes (chosen_change all marks store) 0 kept
 
--- the lines of a later slot
-abbrev pub later_kept : List Kept → Bool → List ℕ → ℕ → Store → List (List ℕ)
-later_kept kept all marks time store = timed time (kept_lines (chosen_line all marks store) 0 kept)
+-- ---- lines
 
--- the lines of the next slot, where this was the last time written
+-- what stands before the code in the change to a value
+abbrev pub before_code : List Digit → List ℕ
+before_code (d ∷ []) = digit_character d ∷ []
+before_code ds = codes "b" ++ map digit_character (shortened (reverse ds)) ++ codes " "
+
+-- the line of a change
+abbrev pub change_text : Change → List ℕ
+change_text c = value_change c.value (code c.number)
+
+abbrev pub change_texts : List Change → List (List ℕ)
+change_texts changes = map change_text changes
+
+-- the lines of the next slot by those of its changes, where this was the last time written
+abbrev pub slot_lines : Option ℕ → ℕ → List (List ℕ) → List (List ℕ)
+slot_lines None time lines = time_line time ∷ codes "$dumpvars" ∷ lines ++ codes "$end" ∷ []
+slot_lines (Some last) time lines = timed time lines
+
+-- the last time written after the next slot
+abbrev pub slot_time : Option ℕ → ℕ → List (List ℕ) → ℕ
+slot_time None time lines = time
+slot_time (Some last) time lines = if is_written (timed time lines) then time else last
+
+-- the lines of the next slot
 abbrev pub next_kept : List Kept → Option ℕ → Bool → List ℕ → ℕ → Store → List (List ℕ)
-next_kept kept None all marks time store = first_kept kept time store
-next_kept kept (Some last) all marks time store = later_kept kept all marks time store
+next_kept kept last all marks time store = slot_lines last time (change_texts (next_changes kept last all marks store))
 
 -- the last time written after the next slot
 abbrev pub time_kept : List Kept → Option ℕ → Bool → List ℕ → ℕ → Store → ℕ
-time_kept kept None all marks time store = time
-time_kept kept (Some last) all marks time store = if is_written (later_kept kept all marks time store) then time else last
+time_kept kept last all marks time store = slot_time last time (change_texts (next_changes kept last all marks store))

@@ -1,5 +1,5 @@
 -- How far a value change dump is written.
-use Rattle.std.specs.Prelude.{◌≡◌, ℕ, Bool, true, false, if◌then◌else◌}
+use Rattle.std.specs.Prelude.{◌≡◌, ◌⊎◌, ℕ, Bool, true, false, if◌then◌else◌}
 use Rattle.std.specs.Prelude.{Option, Some, None, Result, Ok, Err, List, [], ◌∷◌, slice_get}
 use Rattle.std.specs.Io.KnownBytes.{Appends}
 use Rattle.vs_design.specs.Parts.{Parts}
@@ -12,7 +12,7 @@ use Rattle.vs_vcd.specs.Codes.{shown}
 use Rattle.vs_vcd.specs.CodeTables.{code_table}
 use Rattle.vs_vcd.specs.Values.{shown_value}
 use Rattle.vs_vcd.specs.Marks.{is_marked}
-use Rattle.vs_vcd.specs.Kept.{codes_of, renewed, is_chosen, time_kept}
+use Rattle.vs_vcd.specs.Kept.{codes_of, is_chosen, time_kept}
 use Rattle.vs_vcd.specs.Sinks.{AppendsPart}
 use Rattle.vs_vcd.specs.Text.{text_of, is_written, first_lines, later_lines, last_time_after}
 
@@ -71,12 +71,13 @@ abbrev pub Covers : List ℕ → Progress → Store → Type 0
 Covers marks w store = (t i n : ℕ) (k : Kept) → w.last ≡ Some t → slice_get w.kept i ≡ Some k → k.code ≡ Some n
     → is_marked marks i ≡ false → k.value ≡ shown_value store i
 
--- a writer after the next slot, at which it looked at all signals, or at those whose blocks are marked
+-- a writer after the next slot, at which it looked at all signals, or at those whose blocks are marked: of each signal that has
+-- a code it keeps the value in the store, or it didn't look at it and keeps what it kept
 pub record Follows (old new : Progress) (all : Bool) (marks : List ℕ) (t : ℕ) (store : Store) : Type 0 where
   pub codes : codes_of new.kept ≡ codes_of old.kept
   pub last : new.last ≡ Some (time_kept old.kept old.last all marks t store)
-  pub chosen : (i : ℕ) → is_chosen all marks i ≡ true → slice_get new.kept i ≡ renewed store i (slice_get old.kept i)
-  pub others : (i : ℕ) → is_chosen all marks i ≡ false → slice_get new.kept i ≡ slice_get old.kept i
+  pub values : (i n : ℕ) (k : Kept) → slice_get new.kept i ≡ Some k → k.code ≡ Some n
+      → (k.value ≡ shown_value store i) ⊎ ((is_chosen all marks i ≡ false) × (slice_get old.kept i ≡ Some k))
 
 -- the slot has this time and this store
 pub record IsSlotAt (s : Slot) (t : ℕ) (store : Store) : Type 0 where

@@ -1,10 +1,9 @@
 //! What the writer keeps of each signal.
-ghost use Rattle.std.specs.Prelude.{◌≡◌, ℕ, ◌<◌, ◌≤◌, ◌^◌, true, false, IfOk, length, slice_get};
+ghost use Rattle.std.specs.Prelude.{◌≡◌, ◌<◌, IfOk, length};
+ghost use Rattle.std.specs.List.{All};
 ghost use Rattle.vs_vcd.specs.Values.{shown_value};
-ghost use Rattle.vs_vcd.specs.Kept.{codes_of, renewed, is_chosen};
-ghost use Rattle.vs_vcd.specs.Marks.{is_marked};
+ghost use Rattle.vs_vcd.specs.Kept.{codes_of, kept_behind};
 
-use crate::marks::{BLOCK, block_range, next_mark};
 use std::alloc::{AllocError, Global};
 use vs_design::Store;
 use vs_logic4::Vec4;
@@ -13,6 +12,14 @@ use vs_logic4::Vec4;
 #[derive(Clone, Copy)]
 pub(crate) struct Kept {
     pub code: Option<usize>,
+    pub value: Vec4,
+}
+
+/// A value to write: the signal, the number of its code, and the value.
+#[derive(Clone, Copy)]
+pub(crate) struct Change {
+    pub signal: usize,
+    pub number: usize,
     pub value: Vec4,
 }
 
@@ -40,58 +47,12 @@ pub(crate) fn shown(store: &Store, signal: usize) -> Vec4
     }
 }
 
-/// Keeps the values of the signals from one number on, below another.
-fn keep_range(kept: &mut Vec<Kept>, store: &Store, from: usize, to: usize)
-    requires order { from ≤ to }
-    requires within { to ≤ length kept.old.items }
-    ensures codes { codes_of kept.new.items ≡ codes_of kept.old.items }
-    ensures len { length kept.new.items ≡ length kept.old.items }
-    ensures inside { (i : ℕ) → from ≤ i → i < to
-        → slice_get kept.new.items i ≡ renewed store.now i (slice_get kept.old.items i) }
-    ensures before { (i : ℕ) → i < from → slice_get kept.new.items i ≡ slice_get kept.old.items i }
-    ensures behind { (i : ℕ) → to ≤ i → slice_get kept.new.items i ≡ slice_get kept.old.items i }
+/// Keeps the values of changes. It looks at these alone.
+pub(crate) fn keep(kept: &mut Vec<Kept>, changes: &[Change])
+    requires { All (λ c. c.signal < length kept.old.items) changes.now }
+    ensures { kept.new.items ≡ kept_behind kept.old.items changes.now }
 {
-    for signal in from..to {
-        let value = shown(store, signal);
-        kept[signal].value = value;
-    }
-}
-
-/// Keeps the values of the signals whose blocks are marked.
-fn keep_marked(kept: &mut Vec<Kept>, store: &Store, marks: &[u64])
-    requires few { length marks.now ≤ 2 ^ 57 }
-    ensures codes { codes_of kept.new.items ≡ codes_of kept.old.items }
-    ensures len { length kept.new.items ≡ length kept.old.items }
-    ensures marked { (i : ℕ) → is_marked marks.now i ≡ true
-        → slice_get kept.new.items i ≡ renewed store.now i (slice_get kept.old.items i) }
-    ensures others { (i : ℕ) → is_marked marks.now i ≡ false → slice_get kept.new.items i ≡ slice_get kept.old.items i }
-{
-    let mut from = 0;
-    while from <= kept.len() / BLOCK {
-        let Some(block) = next_mark(marks, from) else {
-            return;
-        };
-        let Some(range) = block_range(block, kept.len()) else {
-            return;
-        };
-        keep_range(kept, store, range.from, range.to);
-        from = block + 1;
-    }
-}
-
-/// Keeps the values of the signals: of all, or of those whose blocks are marked.
-pub(crate) fn keep(kept: &mut Vec<Kept>, store: &Store, all: bool, marks: &[u64])
-    requires few { length marks.now ≤ 2 ^ 57 }
-    ensures codes { codes_of kept.new.items ≡ codes_of kept.old.items }
-    ensures len { length kept.new.items ≡ length kept.old.items }
-    ensures chosen { (i : ℕ) → is_chosen all marks.now i ≡ true
-        → slice_get kept.new.items i ≡ renewed store.now i (slice_get kept.old.items i) }
-    ensures others { (i : ℕ) → is_chosen all marks.now i ≡ false → slice_get kept.new.items i ≡ slice_get kept.old.items i }
-{
-    if all {
-        let count = kept.len();
-        keep_range(kept, store, 0, count);
-    } else {
-        keep_marked(kept, store, marks);
+    for change in changes {
+        kept[change.signal].value = change.value;
     }
 }

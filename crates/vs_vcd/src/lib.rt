@@ -1,6 +1,7 @@
 //! Value change dumps (IEEE 1364-2005, clause 18): the text of a trace, its writer, and the sinks that take it.
 #![tactic(auto)]
 
+mod changes;
 mod codes;
 mod fault;
 mod header;

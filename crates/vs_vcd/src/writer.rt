@@ -3,43 +3,40 @@ ghost use Rattle.std.specs.Prelude.{◌≡◌, ◌≤◌, ◌^◌, ℕ, ◌++◌
 ghost use Rattle.vs_design.specs.Parts.{Parts};
 ghost use Rattle.vs_design.specs.Traces.{Slot};
 ghost use Rattle.vs_vcd.specs.Sinks.{failed_after};
-ghost use Rattle.vs_vcd.specs.Kept.{next_kept, time_kept};
+ghost use Rattle.vs_vcd.specs.Kept.{next_changes, change_texts, slot_lines, slot_time, next_kept, time_kept};
 ghost use Rattle.vs_vcd.specs.Text.{text_of, end_lines, vcd_header, vcd_slots, vcd_end};
 ghost use Rattle.vs_vcd.specs.Progress.{vcd_slot, HasWritten, Covers, Follows, IsSlotAt, is_write_fault, WritesPiece};
 
+use crate::changes::list_changes;
 use crate::codes::code_numbers;
 use crate::fault::VcdFault;
 use crate::header::push_header;
-use crate::kept::{Kept, keep, unwritten};
+use crate::kept::{Change, Kept, keep, unwritten};
 use crate::lines::{push_first, push_later, push_time};
 use crate::sink::{Sink, write_all};
 use std::alloc::{AllocError, Global};
 use std::marker::Model;
 use vs_design::{Design, Store};
 
-/// Appends the lines of the next slot, and answers the last time written. It looks at all signals, or at those whose blocks are marked.
+/// Appends the lines of a slot by its changes, and answers the last time written.
 fn push_slot(
     text: &mut Vec<u8>,
-    kept: &[Kept],
+    changes: &[Change],
     last: Option<u64>,
-    all: bool,
-    marks: &[u64],
     time: u64,
-    store: &Store,
 ) -> Result<u64, AllocError>
-    requires few { length marks.now ≤ 2 ^ 57 }
-    ensures text { OnOk result (text.new.items ≡ text.old.items ++ text_of (next_kept kept.now last all marks.now time store.now)) }
-    ensures time { IfOk result (λ written. written ≡ time_kept kept.now last all marks.now time store.now) }
+    ensures text { OnOk result (text.new.items ≡ text.old.items ++ text_of (slot_lines last time (change_texts changes.now))) }
+    ensures time { IfOk result (λ written. written ≡ slot_time last time (change_texts changes.now)) }
 {
     let Some(before) = last else {
-        push_first(text, kept, time, store)?;
+        push_first(text, changes, time)?;
         return Ok(time);
     };
-    if push_later(text, kept, all, marks, time, store)? {
-        Ok(time)
-    } else {
-        Ok(before)
+    if changes.is_empty() {
+        return Ok(before);
     }
+    push_later(text, changes, time)?;
+    Ok(time)
 }
 
 /// Appends the line of the end, unless its time is the last one written.
@@ -58,10 +55,12 @@ fn push_end(text: &mut Vec<u8>, last: Option<u64>, time: u64) -> Result<(), Allo
     }
 }
 
-/// Writes the lines of the next slot, and answers the last time written. `text` is room to work in.
+/// Writes the lines of the next slot, and answers the last time written. `text` is room to work in, and `changes` has the
+/// slot's changes behind it.
 fn write_slot<S: Sink>(
     sink: &mut S,
     text: &mut Vec<u8>,
+    changes: &mut Vec<Change>,
     kept: &[Kept],
     last: Option<u64>,
     all: bool,
@@ -70,13 +69,15 @@ fn write_slot<S: Sink>(
     store: &Store,
 ) -> Result<u64, VcdFault>
     requires few { length marks.now ≤ 2 ^ 57 }
+    ensures changes { OnOk result (changes.new.items ≡ next_changes kept.now last all marks.now store.now) }
     ensures time { IfOk result (λ written. written ≡ time_kept kept.now last all marks.now time store.now) }
     ensures bytes { WritesPiece result (S.bytes sink.old) (S.bytes sink.new)
         (text_of (next_kept kept.now last all marks.now time store.now)) }
     ensures failures { S.failed sink.new ≡ failed_after (is_write_fault result) (S.failed sink.old) }
 {
+    list_changes(changes, store, kept, last, all, marks)?;
     text.clear();
-    let written = push_slot(text, kept, last, all, marks, time, store)?;
+    let written = push_slot(text, changes, last, time)?;
     write_all(sink, text)?;
     Ok(written)
 }
@@ -104,7 +105,9 @@ pub struct Writer {
     kept: Vec<Kept>,
     // The last time written.
     last: Option<u64>,
+    // Room to work in: the text of a slot, and its changes.
     text: Vec<u8>,
+    changes: Vec<Change>,
 }
 
 impl Model for Writer {
@@ -131,6 +134,7 @@ impl Writer {
             kept,
             last: None,
             text,
+            changes: Vec::new(alloc),
         })
     }
 
@@ -160,6 +164,7 @@ impl Writer {
         let written = write_slot(
             sink,
             &mut self.text,
+            &mut self.changes,
             &self.kept,
             self.last,
             all,
@@ -167,14 +172,14 @@ impl Writer {
             time,
             store,
         )?;
-        keep(&mut self.kept, store, all, marks);
+        keep(&mut self.kept, &self.changes);
         self.last = Some(written);
         Ok(())
     }
 
     /// Writes a slot that ended at a time in ticks with a store. On an error the writer is as before.
     ///
-    /// It looks at every signal, and takes memory for nothing but the text.
+    /// It looks at every signal, and takes memory for nothing but the text and the list of what changed.
     pub fn slot<S: Sink>(
         &mut self,
         _alloc: Global,

@@ -10,7 +10,7 @@ ghost use Rattle.vs_widths.specs.passes.Aims.{takes_aim, IsAim, AimsAt, AreWithi
 
 use crate::kinds::{AssignmentKind, takes_kind};
 use crate::levels::Levels;
-use std::alloc::{AllocError, AllocFailed, Global};
+use std::alloc::{AllocError, Global};
 use vs_design::{Aim, Target};
 use vs_selects::{
     Binding, Measured, Place, WidthFault, WidthReason, fitted, fixed, named, selection,
@@ -77,7 +77,7 @@ fn bound_aim(
 }
 
 /// The target of one place.
-fn alone(alloc: Global, aim: Aim) -> Result<Target, AllocFailed<Aim>>
+fn alone(alloc: Global, aim: Aim) -> Result<Target, AllocError>
     ensures parts { IfOk result (λ t. t.parts.items ≡ aim ∷ []) }
     ensures width { IfOk result (λ t. t.width ≡ aim_width aim) }
 {
@@ -85,7 +85,7 @@ fn alone(alloc: Global, aim: Aim) -> Result<Target, AllocFailed<Aim>>
         Aim::Fixed(slice) => slice.width,
         Aim::Chosen(selection, _, _) => selection.width,
     };
-    let mut parts = Vec::new(alloc);
+    let mut parts = Vec::with_capacity(alloc, 1)?;
     parts.push(aim)?;
     Ok(Target { parts, width })
 }

@@ -141,7 +141,7 @@ fn operated(alloc: Global, left: Form, operator: Binary, right: Form) -> Result<
             Ok(Form::Chain(first, links))
         }
         left => {
-            let mut links = Vec::new(alloc);
+            let mut links = Vec::with_capacity(alloc, 1)?;
             links.push((operator, right))?;
             Ok(Form::Chain(Box::new(alloc, left)?, links))
         }

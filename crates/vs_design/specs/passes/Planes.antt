@@ -1,5 +1,5 @@
 -- The words of a store in two planes of bits: nothing that is promised rests on these.
-use Rattle.std.specs.Prelude.{◌≡◌, ℕ, zero, suc, ◌+◌, ◌<◌, nat_lt, if◌then◌else◌, Option, Some, None, List, [], ◌∷◌, map, length, slice_get, slice_index}
+use Rattle.std.specs.Prelude.{◌≡◌, ℕ, zero, suc, ◌+◌, ◌<◌, nat_lt, if◌then◌else◌, Option, Some, None, List, [], ◌∷◌, map, length, sum_by, slice_get, slice_index}
 use Rattle.vs_logic4.specs.declared.digit.Digit.{Digit}
 use Rattle.vs_logic4.specs.Planes.{digits_of_planes, ArePlanes}
 use Rattle.vs_design.specs.declared.extent.Extent.{Extent}
@@ -40,6 +40,18 @@ spot_of extents signal word = spot_in (slice_get extents signal) word
 abbrev pub InTurn : ℕ → List Extent → ℕ → Type 0
 InTurn index [] end = index ≡ end
 InTurn index (e ∷ es) end = (e.first ≡ index) × InTurn (index + e.count) es end
+
+-- the words of signals are one after another from the start of the planes on
+abbrev pub AreInTurn : List Extent → Type 0
+AreInTurn extents = InTurn 0 extents (sum_by (λ (e : Extent). e.count) extents)
+
+-- how many words each signal has
+abbrev pub counts_of : List Extent → List ℕ
+counts_of extents = map (λ (e : Extent). e.count) extents
+
+-- the size of each signal's words
+abbrev pub widths_of : List Extent → List ℕ
+widths_of extents = map (λ (e : Extent). e.width) extents
 
 -- a word of this width is at an index of the planes, and they are zero above it
 abbrev pub IsWord : ℕ → List ℕ → List ℕ → ℕ → Type 0

@@ -3,10 +3,11 @@ use Rattle.std.proofs.lemmas.List.{length-append}
 use Rattle.vs_flatcode.specs.declared.draft.Op.{Op}
 use Rattle.vs_flatcode.proofs.Lists.{at_seam}
 use Rattle.vs_flatcode.proofs.Drafts.{longer_put}
+use Rattle.vs_flatcode.proofs.Numbers.{adds_put}
 use Rattle.vs_flatcode.proofs.draft.put_head.Goals as goal
 
-pub returns : goal.returns
-returns c =
+pub returns-clause-head : goal.returns-clause-head
+returns-clause-head c =
     let op : Op = record { task = c.args.task; behind = c.args.next; first = c.args.next; second = c.args.next; starts = c.new.result; counter = c.args.depth; format = None } in
     record {
       more = longer_put c.args.draft.now c.put.new.draft op c.requires.ready.linked c.in_ok-place.ensures.ops (omega (arith, c.in_ok-place.ensures.counters)) c.requires.ready.within;
@@ -19,3 +20,8 @@ returns c =
       behind = refl;
       counter = refl;
     }
+
+pub returns-clause-number : goal.returns-clause-number
+returns-clause-number c =
+    let op : Op = record { task = c.args.task; behind = c.args.next; first = c.args.next; second = c.args.next; starts = c.new.result; counter = c.args.depth; format = None } in
+    adds_put c.args.draft.now c.put.new.draft op c.in_ok-place.ensures.ops

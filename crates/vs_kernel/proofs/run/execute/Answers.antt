@@ -1,13 +1,11 @@
-use Rattle.std.proofs.Common.{◌≡◌, ◌∙◌, ◌<◌, ◌≤◌, refl, rules, sym, ap, map, length, true, subst, arith}
+use Rattle.std.proofs.Common.{◌≡◌, ◌∙◌, ◌+◌, ◌-◌, ◌≤◌, ℕ, List, Option, refl, rules, sym, ap, map, length, true, arith}
 use Rattle.vs_process.specs.Executions.{is_combinational, is_complete}
 use Rattle.vs_process.specs.States.{State}
 use Rattle.vs_process.specs.Blocks.{inside_block}
-use Rattle.vs_state.specs.Touches.{HasSources}
-use Rattle.vs_state.specs.Waits.{HasTerms}
-use Rattle.vs_state.proofs.TermsLemmas.{has_terms}
 use Rattle.vs_kernel.proofs.MarkingLemmas.{covers_first}
-use Rattle.vs_kernel.proofs.RunsLemmas.{append_none, begins, inside_next, permitted, permitted_block, goes_on, limited, incomplete, complete_past, complete_over, ended_run, header_failed, move_failed, end_failed, part_failed, first_failed, failed_as, failed_from, on_err}
-use Rattle.vs_state.specs.Sources.{has_sources}
+use Rattle.vs_kernel.proofs.RunsLemmas.{append_none, begins, limited, incomplete, complete_past, complete_over, ended_run, header_failed, end_failed, part_failed, first_failed, failed_as, failed_from, on_err}
+use Rattle.vs_kernel.specs.Points.{Point, point}
+use Rattle.vs_kernel.proofs.TurnsLemmas.{StandsAt, all_failed, all_on}
 use Rattle.vs_kernel.proofs.run.execute.Goals as goal
 use Rattle.vs_kernel.proofs.run.execute.Goals.{then-loop-state-test+else-time-until, else-loop-state-test}
 
@@ -25,33 +23,38 @@ loop-state-init g c = record {
 pub turn-requires : goal.turn-requires
 turn-requires g c = record {
   goes_on = λ process is. c.inside_goes_on.ensures c.args.design.now c.loop-state.state process (sym c.loop-state.invariant.inside ∙ is);
+  steps = omega (arith, c.loop-state.invariant.run.within, c.if-count-steps.false);
   going = sym c.is_over.ensures ∙ c.loop-state-test.true;
   early = omega (arith, c.requires.early, c.time.ensures, c.if-time-until.true);
-  sources = subst (λ (s : State). HasSources c.args.design.now s) c.loop-state.invariant.run.state (has_sources c.args.design.now c.loop-state.invariant.run.moves);
-  terms = subst (λ (s : State). HasTerms c.args.design.now s) c.loop-state.invariant.run.state (has_terms c.args.design.now c.loop-state.invariant.run.moves);
+  reached = (c.loop-state.invariant.run.moves, c.loop-state.invariant.run.state);
   few = c.loop-state.invariant.few;
   covers = c.loop-state.invariant.covers;
 }
 
 pub loop-state-preserved : goal.loop-state-preserved
 loop-state-preserved g c =
-    let over = sym c.is_over.ensures ∙ c.loop-state-test.true in
     let early : c.loop-state.state.time ≤ c.args.until = omega (arith, c.time.ensures, c.if-time-until.true) in
-    let t = c.in_ok-next.ensures.ok in
-    let block = permitted_block c.loop-state.invariant.run c.blocks_exclude.ensures c.loop-state.inside t.choice c.loop-state.invariant.inside over t.enabled t.free in
+    let n : ℕ = c.in_ok-taken.taken.steps in
+    let old : Option (List ℕ) = g.V.Sink.bytes c.args.vcd.now in
+    let lold : Option (List ℕ) = g.L.Sink.bytes c.args.lines.now in
+    let p : Point = point c.loop-state.inside c.loop-state.state c.loop-state.writer (g.V.Sink.bytes c.loop-state.vcd) (g.L.Sink.bytes c.loop-state.lines) in
+    let q : Point = point c.in_ok-taken.taken.inside c.turn.new.state c.turn.new.writer (g.V.Sink.bytes c.turn.new.vcd) (g.L.Sink.bytes c.turn.new.lines) in
+    let before : StandsAt c.args.design.now c.args.until c.args.steps c.loop-state.count p old lold =
+    record { run = c.loop-state.invariant.run; inside = c.loop-state.invariant.inside }
+    in
+    let within : c.loop-state.count + n ≤ c.args.steps = omega (arith, c.loop-state.invariant.run.within, c.in_ok-taken.ensures.within) in
+    let behind : StandsAt c.args.design.now c.args.until c.args.steps (c.loop-state.count + n) q old lold =
+    all_on before n c.deref.result.now q c.blocks_exclude.ensures c.inside_follows.ensures
+    (c.deref.ensures.value ∙ c.in_ok-blocks.ensures ∙ ap (map is_combinational) c.processes.ensures) early within c.in_ok-taken.ensures.ok
+    in
     record {
-      inside =
-          inside_next c.args.design.now c.loop-state.state c.turn.new.state t.choice c.deref.result.now c.in_ok-next.next
-          c.inside_follows.ensures (c.deref.ensures.value ∙ c.in_ok-blocks.ensures ∙ ap (map is_combinational) c.processes.ensures) block t.made t.told;
-      run =
-          goes_on c.loop-state.invariant.run t.choice (permitted c.args.design.now c.loop-state.state t.choice over t.enabled) block
-          (incomplete c.args.until c.loop-state.state over early) c.if-count-steps.false t.made (t.written c.args.design.now) (t.text c.args.design.now) t.lines;
-      covers =
-          c.in_ok-next.ensures.covers c.args.design.now _ (t.written c.args.design.now _ c.loop-state.invariant.run.written) c.loop-state.invariant.room;
+      inside = behind.inside;
+      run = behind.run;
+      covers = c.in_ok-taken.ensures.covers c.args.design.now _ behind.run.written c.loop-state.invariant.room;
       room = omega (arith, c.loop-state.invariant.room, c.turn.ensures.len);
       few = omega (arith, c.loop-state.invariant.few, c.turn.ensures.len);
-      failures = c.in_ok-next.ensures.failures.0 ∙ c.loop-state.invariant.failures;
-      line_failures = c.in_ok-next.ensures.failures.1 ∙ c.loop-state.invariant.line_failures;
+      failures = c.in_ok-taken.ensures.failures.0 ∙ c.loop-state.invariant.failures;
+      line_failures = c.in_ok-taken.ensures.failures.1 ∙ c.loop-state.invariant.line_failures;
     }
 
 pub returns-then-count-steps-clause-ran : goal.returns-then-count-steps-clause-ran
@@ -89,20 +92,22 @@ pub returns-in_err-writer-clause-failures : goal.returns-in_err-writer-clause-fa
 returns-in_err-writer-clause-failures g c =
     failed_as c.from_residual-in_err-writer.result c.in_err-writer.field-0.0 _ _ _ _ (search rules) (first_failed _ _ _ _ _ c.in_err-writer.ensures.failures refl)
 
-pub returns-in_err-next-clause-begun : goal.returns-in_err-next-clause-begun
-returns-in_err-next-clause-begun g c =
-    let over = sym c.is_over.ensures ∙ c.loop-state-test.true in
+pub returns-in_err-taken-clause-begun : goal.returns-in_err-taken-clause-begun
+returns-in_err-taken-clause-begun g c =
     let early : c.loop-state.state.time ≤ c.args.until = omega (arith, c.time.ensures, c.if-time-until.true) in
-    let t = c.in_err-next.ensures.err in
+    let p : Point = point c.loop-state.inside c.loop-state.state c.loop-state.writer (g.V.Sink.bytes c.loop-state.vcd) (g.L.Sink.bytes c.loop-state.lines) in
+    let before : StandsAt c.args.design.now c.args.until c.args.steps c.loop-state.count p (g.V.Sink.bytes c.args.vcd.now) (g.L.Sink.bytes c.args.lines.now) =
+    record { run = c.loop-state.invariant.run; inside = c.loop-state.invariant.inside }
+    in
+    let within : c.loop-state.count + (c.args.steps - c.loop-state.count) ≤ c.args.steps = omega (arith, c.loop-state.invariant.run.within) in
     on_err _
-    (move_failed c.loop-state.invariant.run t.choice (permitted c.args.design.now c.loop-state.state t.choice over t.enabled)
-    (permitted_block c.loop-state.invariant.run c.blocks_exclude.ensures c.loop-state.inside t.choice c.loop-state.invariant.inside over t.enabled t.free)
-    (incomplete c.args.until c.loop-state.state over early) c.if-count-steps.false (t.text c.args.design.now) t.lines)
+    (all_failed before c.deref.result.now c.blocks_exclude.ensures c.inside_follows.ensures
+    (c.deref.ensures.value ∙ c.in_ok-blocks.ensures ∙ ap (map is_combinational) c.processes.ensures) early within c.in_err-taken.ensures.err)
 
-pub returns-in_err-next-clause-failures : goal.returns-in_err-next-clause-failures
-returns-in_err-next-clause-failures g c =
-    failed_as c.from_residual-in_err-next.result c.in_err-next.field-0.0 _ _ _ _ (search rules)
-    (failed_from _ _ _ _ _ _ _ c.loop-state.invariant.failures c.loop-state.invariant.line_failures c.in_err-next.ensures.failures)
+pub returns-in_err-taken-clause-failures : goal.returns-in_err-taken-clause-failures
+returns-in_err-taken-clause-failures g c =
+    failed_as c.from_residual-in_err-taken.result c.in_err-taken.field-0.0 _ _ _ _ (search rules)
+    (failed_from _ _ _ _ _ _ _ c.loop-state.invariant.failures c.loop-state.invariant.line_failures c.in_err-taken.ensures.failures)
 
 pub returns-in_err-finish-clause-begun : goal.returns-in_err-finish-clause-begun
 returns-in_err-finish-clause-begun g c =

@@ -1,60 +1,21 @@
-use Rattle.std.proofs.Common.{◌≡◌, ◌∙◌, Bool, false, rules, ap, sym, subst, arith}
-use Rattle.vs_vcd.specs.Progress.{is_write_fault}
-use Rattle.vs_vcd.specs.Sinks.{failed_after}
-use Rattle.vs_kernel.specs.Faults.{OneFailed}
+use Rattle.vs_kernel.specs.Points.{point}
 use Rattle.vs_kernel.proofs.MarkingLemmas.{covers_on}
-use Rattle.vs_kernel.proofs.RunsLemmas.{part_all, slots_whole, turned_part, step_printed, slot_printed, line_printed, failed_as, second_failed, on_err}
+use Rattle.vs_kernel.proofs.RunsLemmas.{on_err}
+use Rattle.vs_kernel.proofs.TurnsLemmas.{once_part}
 use Rattle.vs_kernel.proofs.run.turn.Goals as goal
 
-pub returns-clause-ok : goal.returns-clause-ok
-returns-clause-ok g c = record {
-  choice = c.choose-next.result.choice;
-  enabled = c.choose-next.ensures.enabled;
-  free = c.choose-next.ensures.free;
-  made = c.in_ok-line.ensures.state;
-  told = c.inside_behind.ensures;
-  written = c.in_ok-note.ensures.written;
-  text = c.in_ok-note.ensures.bytes;
-  lines = step_printed _ _ _ c.choose-next.result.choice c.args.state.now c.in_ok-line.line c.in_ok-note.ensures.lines c.in_ok-line.ensures.line c.in_ok-print.ensures.ok;
-}
+pub returns-in-Step-clause-covers : goal.returns-in-Step-clause-covers
+returns-in-Step-clause-covers g c = λ d slots h room.
+    covers_on c.args.marks.now.items c.run_process.new.marks.items c.args.state.now.store c.run_process.new.state.store h room c.requires.covers
+    c.in_ok-taken-in-Step.ensures.marked
 
-pub returns-clause-failures : goal.returns-clause-failures
-returns-clause-failures g c = (c.in_ok-note.ensures.failures.0, c.in_ok-print.ensures.failures ∙ c.in_ok-note.ensures.failures.1)
+pub returns-in-Make-clause-covers : goal.returns-in-Make-clause-covers
+returns-in-Make-clause-covers g c = λ d slots h room.
+    covers_on c.args.marks.now.items c.run_updates.new.marks.items c.args.state.now.store c.run_updates.new.state.store h room c.requires.covers
+    c.in_ok-taken-in-Make.ensures.marked
 
-pub returns-in_err-note-clause-err : goal.returns-in_err-note-clause-err
-returns-in_err-note-clause-err g c =
+pub returns-in_err-inside-clause-err : goal.returns-in_err-inside-clause-err
+returns-in_err-inside-clause-err g c =
     on_err _
-    (turned_part c.choose-next.result.choice c.choose-next.ensures.enabled c.choose-next.ensures.free c.in_err-note.ensures.part
-    (slot_printed _ _ c.choose-next.result.choice c.args.state.now c.in_err-note.ensures.lines_part))
-
-pub returns-in_err-line-clause-err : goal.returns-in_err-line-clause-err
-returns-in_err-line-clause-err g c =
-    on_err _
-    (turned_part c.choose-next.result.choice c.choose-next.ensures.enabled c.choose-next.ensures.free (λ d before h. slots_whole _ _ d before _ (c.in_ok-note.ensures.bytes d before h))
-    (slot_printed _ _ c.choose-next.result.choice c.args.state.now (part_all _ _ _ c.in_ok-note.ensures.lines)))
-
-pub returns-in_err-line-clause-failures : goal.returns-in_err-line-clause-failures
-returns-in_err-line-clause-failures g c =
-    let same : is_write_fault c.from_residual-in_err-line.result ≡ false = search rules in
-    subst (λ (b : Bool). OneFailed b (g.V.Sink.failed c.args.vcd.now) (g.V.Sink.failed c.note.new.vcd) (g.L.Sink.failed c.args.lines.now) (g.L.Sink.failed c.note.new.lines)) (sym same)
-    c.in_ok-note.ensures.failures
-
-pub returns-in_err-note-clause-failures : goal.returns-in_err-note-clause-failures
-returns-in_err-note-clause-failures g c =
-    failed_as c.from_residual.result c.in_err-note.field-0.0 _ _ _ _ (search rules) c.in_err-note.ensures.failures
-
-pub returns-in_err-print-clause-err : goal.returns-in_err-print-clause-err
-returns-in_err-print-clause-err g c =
-    on_err _
-    (turned_part c.choose-next.result.choice c.choose-next.ensures.enabled c.choose-next.ensures.free (λ d before h. slots_whole _ _ d before _ (c.in_ok-note.ensures.bytes d before h))
-    (line_printed _ _ _ c.choose-next.result.choice c.args.state.now c.in_ok-line.line c.in_ok-note.ensures.lines c.in_ok-line.ensures.line c.in_err-print.ensures.err))
-
-pub returns-in_err-print-clause-failures : goal.returns-in_err-print-clause-failures
-returns-in_err-print-clause-failures g c =
-    let lines : g.L.Sink.failed c.print.new.lines ≡ failed_after (is_write_fault c.from_residual-in_err-print.result) (g.L.Sink.failed c.note.new.lines) = search rules in
-    second_failed _ _ _ _ _ c.in_ok-note.ensures.failures.0 (lines ∙ ap (failed_after (is_write_fault c.from_residual-in_err-print.result)) c.in_ok-note.ensures.failures.1)
-
-pub returns-clause-covers : goal.returns-clause-covers
-returns-clause-covers g c = λ d slots h room.
-    covers_on c.note.new.marks.items c.advance.new.marks.items c.args.state.now.store c.advance.new.state.store h (omega (arith, room, c.note.ensures.len)) c.in_ok-note.ensures.covers
-    c.in_ok-line.ensures.marked
+    (once_part c.args.steps c.args.blocks.now (point c.args.inside c.args.state.now c.args.writer.now (g.V.Sink.bytes c.args.vcd.now) (g.L.Sink.bytes c.args.lines.now)) _ _ c.requires.steps
+    c.requires.going (c.in_err-inside.ensures.err c.args.inside c.choose-next.ensures.free))

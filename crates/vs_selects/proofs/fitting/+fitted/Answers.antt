@@ -37,7 +37,7 @@ fitted-returns-in_ok-x-in-Closed t c =
     rw c.in-Closed.is (fits_Closed c.in-Closed.own c.in-Closed.x _ c.in_ok-x-in-Closed.x.value c.resized.result c.args.shape.width c.args.shape.signed c.deref-in-Closed.ensures c.in_ok-x-in-Closed.ensures c.resized.ensures)
 
 pub fitted_links-loop-operator-init : goal.fitted_links-loop-operator-init
-fitted_links-loop-operator-init t c = rw c.new-done.ensures.items each_none
+fitted_links-loop-operator-init t c = rw c.in_ok-done.ensures.items each_none
 
 pub fitted_links-loop-operator-preserved : goal.fitted_links-loop-operator-preserved
 fitted_links-loop-operator-preserved t c =
@@ -45,7 +45,7 @@ fitted_links-loop-operator-preserved t c =
     (record { operator = refl; width_is = refl; sign_is = refl; fits = c.in_ok-operand.ensures })
 
 pub fitted_tests-loop-link-init : goal.fitted_tests-loop-link-init
-fitted_tests-loop-link-init t c = rw c.new-done.ensures.items each_none
+fitted_tests-loop-link-init t c = rw c.in_ok-done.ensures.items each_none
 
 pub fitted_tests-loop-link-preserved : goal.fitted_tests-loop-link-preserved
 fitted_tests-loop-link-preserved t c =
@@ -53,7 +53,7 @@ fitted_tests-loop-link-preserved t c =
     (record { link = refl; fits = c.in_ok-operand.ensures })
 
 pub fitted_pairs-loop-condition-init : goal.fitted_pairs-loop-condition-init
-fitted_pairs-loop-condition-init t c = rw c.new-done.ensures.items each_none
+fitted_pairs-loop-condition-init t c = rw c.in_ok-done.ensures.items each_none
 
 pub fitted_pairs-loop-condition-preserved : goal.fitted_pairs-loop-condition-preserved
 fitted_pairs-loop-condition-preserved t c =
@@ -61,7 +61,7 @@ fitted_pairs-loop-condition-preserved t c =
     (record { condition = c.in_ok-condition.ensures; value = c.in_ok-value.ensures })
 
 pub fitted_parts-loop-part-init : goal.fitted_parts-loop-part-init
-fitted_parts-loop-part-init t c = rw c.new-done.ensures.items each_none
+fitted_parts-loop-part-init t c = rw c.in_ok-done.ensures.items each_none
 
 pub fitted_parts-loop-part-preserved : goal.fitted_parts-loop-part-preserved
 fitted_parts-loop-part-preserved t c =

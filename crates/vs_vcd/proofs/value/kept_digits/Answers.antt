@@ -1,14 +1,5 @@
-use Rattle.std.proofs.Common.{arith, ◌-◌, sym, ◌∙◌}
-use Rattle.vs_vcd.proofs.ValueLemmas.{shortened-less, shortened-kept}
+use Rattle.vs_vcd.proofs.DigitLemmas.{kept_count}
 use Rattle.vs_vcd.proofs.value.kept_digits.Goals as goal
 
-pub returns-then-not-is_extended-clause-kept : goal.returns-then-not-is_extended-clause-kept
-returns-then-not-is_extended-clause-kept c =
-    sym (shortened-kept c.args.value c.loop-kept.kept (c.loop-kept.kept - 1) (c.loop-kept.kept - 2) c.digit.result c.digit-in-loop-kept.result (omega arith) (omega arith) c.digit.ensures c.digit-in-loop-kept.ensures (cc)) ∙ c.loop-kept.invariant.same
-
-pub loop-kept-preserved : goal.loop-kept-preserved
-loop-kept-preserved c = record {
-  some = omega arith;
-  most = omega arith;
-  same = sym (shortened-less c.args.value c.loop-kept.kept (c.loop-kept.kept - 1) (c.loop-kept.kept - 2) c.digit.result c.digit-in-loop-kept.result (omega arith) (omega arith) c.digit.ensures c.digit-in-loop-kept.ensures (cc)) ∙ c.loop-kept.invariant.same;
-}
+pub returns : goal.returns
+returns c = let k = kept_count c.args.value c.kept_places-places.result c.value_plane.result c.unknown_plane.result c.width.result c.value_plane.ensures c.unknown_plane.ensures c.width.ensures.digits c.width.ensures.some c.width.ensures.most c.kept_places-places.ensures.lowest c.kept_places-places.ensures.others in record { most = k.0; kept = k.1 }

@@ -1,45 +1,56 @@
-use Rattle.std.proofs.Common.{◌≡◌, ◌∙◌, ◌++◌, ◌∷◌, [], ap, ap₂, arith, refl, rules, sym, take, length, replicate, vec_len, ◌<◌, ◌≤◌}
+use Rattle.std.proofs.Common.{◌≡◌, ◌∙◌, ◌++◌, ◌∷◌, [], ◌+◌, ap, arith, refl, sym, subst, take, length, replicate, ◌<◌, ◌≤◌}
 use Rattle.std.proofs.Math.Numerals.{add-one}
 use Rattle.std.proofs.Math.Seq.{take-length}
+use Rattle.std.proofs.lemmas.List.{take_more, length-map}
 use Rattle.std.proofs.lemmas.Option.{slice_get_read}
-use Rattle.vs_design.specs.declared.signal.Signal.{Signal}
+use Rattle.vs_design.specs.declared.extent.Extent.{Extent}
 use Rattle.vs_design.specs.Drivers.{in_copies}
+use Rattle.vs_design.specs.passes.Planes.{store_of, counts_of}
 use Rattle.vs_design.proofs.Drivers.{copies-more, length-in_copies}
-use Rattle.vs_design.proofs.PlanesLemmas.{planes_grown, store_grown}
+use Rattle.vs_design.proofs.PlanesLemmas.{planes_grown, store_grown, next_first}
+use Rattle.vs_design.proofs.ExtentLemmas.{same_number, same_width, count_at}
 use Rattle.vs_design.proofs.store.Store.copies.Goals as goal
 
 pub loop-i-preserved : goal.loop-i-preserved
 loop-i-preserved c =
-    let signals = c.args.signals.now in
+    let extents = c.args.extents.now in
     let words = c.args.words.now in
     let i = c.loop-i.i in
-    let s = c.index-signals-i.result in
+    let e = c.index-extents-i.result in
     let w = c.index-words-i.result in
-    let es = c.loop-i.extents.items in
     let vs = c.loop-i.values.items in
     let us = c.loop-i.unknowns.items in
-    let count = sym (ap (λ (x : Signal). x.count) c.index-signals-i.is) in
-    let values = c.in_ok-fill.ensures ∙ ap₂ (λ n v. vs ++ replicate n v) count c.value_plane.ensures in
-    let unknowns = c.in_ok-fill-2.ensures ∙ ap₂ (λ n u. us ++ replicate n u) count c.unknown_plane.ensures in
-    let len : vec_len c.loop-i.values ≡ length vs = search rules in
-    let first : c.len-first.result ≡ length vs = c.len-first.ensures ∙ len in
-    let some : 0 < length w = omega (arith, c.width.ensures.digits, c.width.ensures.some) in
-    let most : length w ≤ 64 = omega (arith, c.width.ensures.digits, c.width.ensures.most) in
-    let at_signal = slice_get_read signals (length signals) i s refl c.loop-i-test.true c.index-signals-i.is in
-    let at_word = slice_get_read words (length signals) i w (sym c.requires) c.loop-i-test.true c.index-words-i.is in
+    let counts = counts_of extents in
+    let values = c.in_ok-fill.ensures ∙ ap (λ v. vs ++ replicate e.count v) c.value_plane.ensures in
+    let unknowns = c.in_ok-fill-2.ensures ∙ ap (λ u. us ++ replicate e.count u) c.unknown_plane.ensures in
+    let at_extent = slice_get_read extents (length extents) i e refl c.loop-i-test.true c.index-extents-i.is in
+    let at_word = slice_get_read words (length extents) i w (sym (same_number extents words c.requires.widths)) c.loop-i-test.true c.index-words-i.is in
+    let width = same_width extents words i e w c.requires.widths at_extent at_word in
+    let some : 0 < length w = subst (λ n. 0 < n) width e.sized.0 in
+    let most : length w ≤ 64 = subst (λ n. n ≤ 64) width e.sized.1 in
+    let first = next_first extents 0 (length vs) _ i e c.requires.in_turn c.loop-i.invariant.planes.in_turn at_extent in
+    let next : take (i + 1) extents ≡ take i extents ++ e ∷ [] =
+    take_more extents i e c.loop-i-test.true ∙ ap (λ (x : Extent). take i extents ++ x ∷ []) (sym c.index-extents-i.is) in
     record {
-      planes = planes_grown es c.push.new.self.items vs us c.fill.new.plane.items c.fill-in-loop-i.new.plane.items _ s.count w
-          c.in_ok-push.ensures.items values unknowns c.loop-i.invariant.planes first count c.width.ensures.digits some most;
+      planes = planes_grown (take i extents) (take (i + 1) extents) vs us c.fill.new.plane.items c.fill-in-loop-i.new.plane.items e e.count w
+          next values unknowns c.loop-i.invariant.planes first refl width some most;
       store =
-          store_grown es c.push.new.self.items vs us c.fill.new.plane.items c.fill-in-loop-i.new.plane.items _ s.count w
-          c.in_ok-push.ensures.items values unknowns c.loop-i.invariant.planes first count c.width.ensures.digits
-          ∙ ap (λ front. front ++ replicate s.count w ∷ []) c.loop-i.invariant.store
-          ∙ sym (copies-more signals words i s w at_signal at_word)
-          ∙ ap (λ n. take n (in_copies signals words)) (sym (add-one i));
+          store_grown (take i extents) (take (i + 1) extents) vs us c.fill.new.plane.items c.fill-in-loop-i.new.plane.items e e.count w
+          next values unknowns c.loop-i.invariant.planes first refl width
+          ∙ ap (λ front. front ++ replicate e.count w ∷ []) c.loop-i.invariant.store
+          ∙ sym (copies-more counts words i e.count w (count_at extents i e at_extent) at_word)
+          ∙ ap (λ n. take n (in_copies counts words)) (sym (add-one i));
     }
 
 pub returns : goal.returns
 returns c =
-    let all : c.loop-i.i ≡ length (in_copies c.args.signals.now c.args.words.now) =
-    omega (arith, c.loop-i-test.false, c.loop-i.auto.i-end, length-in_copies c.args.signals.now c.args.words.now c.requires) in
-    c.loop-i.invariant.store ∙ ap (λ n. take n (in_copies c.args.signals.now c.args.words.now)) all ∙ take-length (in_copies c.args.signals.now c.args.words.now)
+    let extents = c.args.extents.now in
+    let words = c.args.words.now in
+    let counts = counts_of extents in
+    let number : c.loop-i.i ≡ length extents = omega (arith, c.loop-i-test.false, c.loop-i.auto.i-end) in
+    let whole : take c.loop-i.i extents ≡ extents = ap (λ n. take n extents) number ∙ take-length extents in
+    let same : length words ≡ length counts = same_number extents words c.requires.widths ∙ sym (length-map extents (λ (e : Extent). e.count)) in
+    let all : c.loop-i.i ≡ length (in_copies counts words) =
+    number ∙ sym (length-in_copies counts words same ∙ length-map extents (λ (e : Extent). e.count)) in
+    subst (λ es. store_of es c.loop-i.values.items c.loop-i.unknowns.items ≡ in_copies counts words) whole
+    (c.loop-i.invariant.store ∙ ap (λ n. take n (in_copies counts words)) all ∙ take-length (in_copies counts words))

@@ -1,14 +1,65 @@
-use Rattle.std.proofs.Common.{◌∙◌, ap, sym, length}
+use Rattle.std.proofs.Common.{◌≡◌, ◌∙◌, ◌++◌, Option, ap, length, subst}
+use Rattle.vs_design.specs.Writes.{Write}
+use Rattle.vs_flatcode.specs.Changes.{store_behind, changes_of}
+use Rattle.vs_flatcode.specs.Codes.{job_of, links_of}
+use Rattle.vs_flatcode.specs.Landings.{made_out, item_write}
+use Rattle.vs_flatcode.specs.Links.{item_of, todo_at}
 use Rattle.vs_flatcode.specs.Places.{Todo}
 use Rattle.vs_flatcode.specs.Steps.{step}
-use Rattle.vs_flatcode.proofs.Follows.{has_format, stepped}
+use Rattle.vs_flatcode.proofs.Follows.{has_format, stepped, own_write}
 use Rattle.vs_flatcode.proofs.cursor.Cursor.step.Goals as goal
 
 pub returns-clause-ok : goal.returns-clause-ok
 returns-clause-ok c =
-    ap (λ (t : Todo). step t c.args.store.now c.args.time) (sym c.self.view_is)
-    ∙ stepped c.self.inside.ops.now c.self.inside.counters.items c.self.inside.place c.in-Some.ensures.0 c.in-Some.op.now c.args.store.now c.args.time c.in_ok-made.made c.in_ok-made.place c.run.new.counters.items
+    let store = c.args.store.now in
+    let time = c.args.time in
+    let op = c.in-Some.op.now in
+    let cs = c.self.inside.counters.items in
+    let links = links_of c.self.inside.ops.now in
+    let made = c.in_ok-made.made in
+    let here : Todo = todo_at links cs c.self.inside.place in
+    let behind : Todo = todo_at links c.run.new.counters.items c.in_ok-made.place in
+    let w : Option Write = item_write (item_of cs (job_of op.counter op.task)) store time in
+    let e : step here store time ≡ made_out made w behind =
+    stepped c.self.inside.ops.now cs c.self.inside.place c.in-Some.ensures.0 op store time made c.in_ok-made.place c.run.new.counters.items
     c.self.invariant c.in-Some.ensures.1 c.in-Some.ensures.2 c.in_ok-made.ensures.lands c.in_ok-made.ensures.made
+    in
+    subst (λ (t : Todo). step t store time ≡ made_out made (step t store time).write behind) c.self.view_is (own_write (step here store time) made w behind e).0
+
+pub returns-clause-store : goal.returns-clause-store
+returns-clause-store c =
+    let store = c.args.store.now in
+    let time = c.args.time in
+    let op = c.in-Some.op.now in
+    let cs = c.self.inside.counters.items in
+    let links = links_of c.self.inside.ops.now in
+    let made = c.in_ok-made.made in
+    let here : Todo = todo_at links cs c.self.inside.place in
+    let behind : Todo = todo_at links c.run.new.counters.items c.in_ok-made.place in
+    let w : Option Write = item_write (item_of cs (job_of op.counter op.task)) store time in
+    let e : step here store time ≡ made_out made w behind =
+    stepped c.self.inside.ops.now cs c.self.inside.place c.in-Some.ensures.0 op store time made c.in_ok-made.place c.run.new.counters.items
+    c.self.invariant c.in-Some.ensures.1 c.in-Some.ensures.2 c.in_ok-made.ensures.lands c.in_ok-made.ensures.made
+    in
+    c.in_ok-made.ensures.store ∙ ap (store_behind store) ((own_write (step here store time) made w behind e).1 ∙ ap (λ (t : Todo). (step t store time).write) c.self.view_is)
+
+pub returns-clause-changes : goal.returns-clause-changes
+returns-clause-changes c =
+    let store = c.args.store.now in
+    let time = c.args.time in
+    let op = c.in-Some.op.now in
+    let cs = c.self.inside.counters.items in
+    let links = links_of c.self.inside.ops.now in
+    let made = c.in_ok-made.made in
+    let here : Todo = todo_at links cs c.self.inside.place in
+    let behind : Todo = todo_at links c.run.new.counters.items c.in_ok-made.place in
+    let w : Option Write = item_write (item_of cs (job_of op.counter op.task)) store time in
+    let e : step here store time ≡ made_out made w behind =
+    stepped c.self.inside.ops.now cs c.self.inside.place c.in-Some.ensures.0 op store time made c.in_ok-made.place c.run.new.counters.items
+    c.self.invariant c.in-Some.ensures.1 c.in-Some.ensures.2 c.in_ok-made.ensures.lands c.in_ok-made.ensures.made
+    in
+    c.in_ok-made.ensures.changes
+    ∙ ap (λ (v : Option Write). c.args.changes.now.items ++ changes_of store v) ((own_write (step here store time) made w behind e).1 ∙ ap (λ (t : Todo). (step t store time).write) c.self.view_is)
 
 pub run-requires : goal.run-requires
 run-requires c = record {

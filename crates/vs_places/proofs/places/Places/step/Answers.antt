@@ -1,7 +1,9 @@
-use Rattle.std.proofs.Common.{◌≡◌, ◌<◌, true, List, Some, length, slice_get, slice_set, refl, sym, ap, ◌∙◌, arith}
+use Rattle.std.proofs.Common.{◌≡◌, ◌++◌, ◌<◌, true, Option, List, Some, length, slice_get, slice_set, refl, sym, ap, ◌∙◌, arith}
 use Rattle.std.proofs.lemmas.Option.{slice_get_read}
+use Rattle.vs_flatcode.specs.Changes.{store_behind, changes_of}
 use Rattle.vs_flatcode.specs.Places.{Place, is_going}
 use Rattle.vs_process.specs.Executions.{if_some}
+use Rattle.vs_places.specs.Timelines.{step_write}
 use Rattle.vs_places.proofs.ListedLemmas.{counted, fits, recounted}
 use Rattle.vs_places.proofs.places.Places.step.Goals as goal
 
@@ -42,3 +44,25 @@ returns-clause-ok c =
       stepped = c.in_ok-effect.ensures.ok;
       set = ap (λ (l : List Place). slice_set l c.args.process c.step.new.self) c.self.view_is;
     }
+
+pub returns-clause-store : goal.returns-clause-store
+returns-clause-store c =
+    let xs = c.self.inside.items.items in
+    let x = c.in-Some.place.now in
+    let store = c.args.store.now in
+    let below = c.in-Some.ensures.variant.0 refl in
+    let within : c.args.process < length xs = omega (arith, c.self.inside.items.ok.0, below) in
+    let here : slice_get xs c.args.process ≡ Some x = slice_get_read xs (length xs) c.args.process x refl within c.in-Some.ensures.value in
+    let found : slice_get c.args.self.now c.args.process ≡ Some x = sym (ap (λ (l : List Place). slice_get l c.args.process) c.self.view_is) ∙ here in
+    c.in_ok-effect.ensures.store ∙ sym (ap (λ (o : Option Place). store_behind store (step_write o store c.args.time)) found)
+
+pub returns-clause-changes : goal.returns-clause-changes
+returns-clause-changes c =
+    let xs = c.self.inside.items.items in
+    let x = c.in-Some.place.now in
+    let store = c.args.store.now in
+    let below = c.in-Some.ensures.variant.0 refl in
+    let within : c.args.process < length xs = omega (arith, c.self.inside.items.ok.0, below) in
+    let here : slice_get xs c.args.process ≡ Some x = slice_get_read xs (length xs) c.args.process x refl within c.in-Some.ensures.value in
+    let found : slice_get c.args.self.now c.args.process ≡ Some x = sym (ap (λ (l : List Place). slice_get l c.args.process) c.self.view_is) ∙ here in
+    c.in_ok-effect.ensures.changes ∙ sym (ap (λ (o : Option Place). c.args.changes.now.items ++ changes_of store (step_write o store c.args.time)) found)

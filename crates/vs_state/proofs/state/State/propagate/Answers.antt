@@ -1,18 +1,57 @@
-use Rattle.std.proofs.Common.{◌∙◌, sym, subst}
+use Rattle.std.proofs.Common.{◌≡◌, ◌++◌, ◌∙◌, List, refl, sym, ap, subst}
+use Rattle.vs_design.specs.Writes.{Write}
+use Rattle.vs_eval.specs.Targets.{assigned}
+use Rattle.vs_flatcode.specs.declared.changes.Change.{Change}
+use Rattle.vs_flatcode.specs.Changes.{changed_words}
 use Rattle.vs_process.specs.States.{State}
 use Rattle.vs_state.specs.Touches.{HasSources}
 use Rattle.vs_state.specs.Waits.{HasTerms}
+use Rattle.vs_state.proofs.ChangesLemmas.{sizes_put, covers_put, covers_seen}
 use Rattle.vs_state.proofs.ExecutionsLemmas.{propagate_at, settled_sources}
+use Rattle.vs_state.proofs.WaitsLemmas.{written_by}
 use Rattle.vs_state.proofs.state.State.propagate.Goals as goal
+
+pub follow-requires : goal.follow-requires
+follow-requires g c =
+    let s = c.self.inside in
+    let w : Write = assigned c.target-target.result.now c.in-Some-pending.digits s.store c.time-time.result in
+    let words : c.assign.new.changes.items ≡ changed_words s.store c.assign.new.store w =
+    c.in_ok-assign.ensures.changes ∙ ap (λ (l : List Change). l ++ changed_words s.store c.assign.new.store w) c.clear.ensures.items
+    in
+    record {
+      sizes = sizes_put w s.store c.assign.new.store c.assign.new.changes.items c.in_ok-assign.ensures.store words;
+      sources = settled_sources c.args.design.now s.assigns c.settle.new.self c.args.number c.settle.ensures (subst (λ (s : State). HasSources c.args.design.now s) (sym c.self.view_is) c.requires.sources);
+      terms = λ some. subst (λ (s : State). HasTerms c.args.design.now s) (sym c.self.view_is) c.requires.terms;
+    }
 
 pub returns-clause-made : goal.returns-clause-made
 returns-clause-made g c =
-    c.in_ok-write.ensures.made
-    ∙ propagate_at c.self.view_is c.args.assign c.time-time.result c.in-Some.x.now c.settle.new.self c.target-target.result.now c.in-Some-pending.digits c.in_ok-change.change c.in-Some.ensures
-    (sym c.pending.ensures ∙ c.in-Some-pending.is) c.settle.ensures c.target-target.ensures c.time-time.ensures c.in_ok-change.ensures
+    let s = c.self.inside in
+    let w : Write = assigned c.target-target.result.now c.in-Some-pending.digits s.store c.time-time.result in
+    let words : c.assign.new.changes.items ≡ changed_words s.store c.assign.new.store w =
+    c.in_ok-assign.ensures.changes ∙ ap (λ (l : List Change). l ++ changed_words s.store c.assign.new.store w) c.clear.ensures.items
+    in
+    let before : State = record {
+      store = s.store;
+      places = s.processes.places;
+      assigns = c.settle.new.self;
+      updates = s.updates;
+      calls = s.calls.items;
+      time = s.processes.time;
+      finishing = s.finishing;
+      over = s.over;
+    } in
+    written_by before w c.follow.new.processes.time c.assign.new.store c.assign.new.changes.items c.follow.new.processes.places c.follow.new.assigns
+    c.in_ok-assign.ensures.store words c.in_ok-follow.ensures.assigns c.in_ok-follow.ensures.places c.follow.ensures.time
+    ∙ propagate_at c.self.view_is c.args.number c.time-time.result c.in-Some.x.now c.settle.new.self c.target-target.result.now c.in-Some-pending.digits w c.in-Some.ensures
+    (sym c.pending.ensures ∙ c.in-Some-pending.is) c.settle.ensures c.target-target.ensures c.time-time.ensures refl
 
-pub write-requires : goal.write-requires
-write-requires g c = record {
-  sources = settled_sources c.args.design.now c.self.inside.assigns c.settle.new.self c.args.assign c.settle.ensures (subst (λ (s : State). HasSources c.args.design.now s) (sym c.self.view_is) c.requires.sources);
-  terms = subst (λ (s : State). HasTerms c.args.design.now s) (sym c.self.view_is) c.requires.terms;
-}
+pub returns-clause-covers : goal.returns-clause-covers
+returns-clause-covers g c =
+    let s = c.self.inside in
+    let w : Write = assigned c.target-target.result.now c.in-Some-pending.digits s.store c.time-time.result in
+    let words : c.assign.new.changes.items ≡ changed_words s.store c.assign.new.store w =
+    c.in_ok-assign.ensures.changes ∙ ap (λ (l : List Change). l ++ changed_words s.store c.assign.new.store w) c.clear.ensures.items
+    in
+    covers_seen c.follow.new.changed.items c.assign.new.store c.self.view_is
+    (covers_put c.follow.new.changed.items w s.store c.assign.new.store c.assign.new.changes.items c.in_ok-follow.ensures.covers words c.in_ok-assign.ensures.store)

@@ -1,0 +1,232 @@
+-- Steps of a run, one after another.
+use Rattle.std.proofs.Common.{◌≡◌, ℕ, zero, suc, ◌+◌, ◌<◌, ◌≤◌, Bool, true, false, if◌then◌else◌, Option, Some, None, List, [], ◌∷◌, ◌++◌, map, slice_get, refl, sym, ◌∙◌, ap, subst, arith, eq-eqb}
+use Rattle.std.specs.Io.KnownBytes.{Appends}
+use Rattle.std.proofs.lemmas.List.{append-nil}
+use Rattle.vs_design.specs.Parts.{Parts}
+use Rattle.vs_design.specs.Traces.{Slot}
+use Rattle.vs_process.specs.declared.moves.Move.{Move}
+use Rattle.vs_process.specs.declared.moves.Move.TheVariants.{Step, Make, EndSlot}
+use Rattle.vs_process.specs.Executions.{apply, ended_slot, is_combinational, is_enabled, move_lines}
+use Rattle.vs_process.specs.Blocks.{BlocksExclude, InsideFollows, inside_block, is_step_of_any}
+use Rattle.vs_flatcode.specs.Places.{Place, todo_of}
+use Rattle.vs_flatcode.specs.Steps.{step}
+use Rattle.vs_design.specs.Writes.{Write}
+use Rattle.vs_process.specs.States.{State, Update, make, stepped, written_behind}
+use Rattle.vs_state.specs.Prints.{made_line}
+use Rattle.vs_vcd.specs.Progress.{HasWritten, Progress}
+use Rattle.vs_vcd.specs.Sinks.{AppendsPart}
+use Rattle.vs_vcd.specs.Text.{vcd_slots}
+use Rattle.vs_kernel.specs.Insides.{inside_told, is_told}
+use Rattle.vs_kernel.specs.Points.{Point, point}
+use Rattle.vs_kernel.specs.Prints.{lines_text, made_text}
+use Rattle.vs_kernel.specs.Runs.{AppendsSlots, AppendsSlotsPart, HasBegun}
+use Rattle.vs_kernel.specs.Turns.{AllTurned, AllTurnedPart, Batch, BatchPart, IsReached, Turned, TurnedPart}
+use Rattle.vs_kernel.proofs.PrintsLemmas.{move_prints}
+use Rattle.vs_kernel.proofs.RunsLemmas.{HasRun, append_none, goes_on, incomplete, inside_next, make_over, move_failed, none_ended, not_ended, part_all, permitted, permitted_block, stepped_over}
+
+-- ---- a step that ends no slot
+
+-- behind one more move
+pub reached_on : (d : Parts) (s t : State) (m : Move) → IsReached d s → t ≡ apply m s → IsReached d t
+reached_on d s t m h next = (m ∷ h.0, ap (apply m) h.1 ∙ sym next)
+
+-- no slot ends
+pub no_slot : (old : Option (List ℕ)) (m : Move) (s : State) → (m ≡ EndSlot → ⊥) → (d : Parts) (before : List Slot) → AppendsSlots old old d before (ended_slot m s)
+no_slot old m s inner d before = (
+  [],
+  ap (vcd_slots d) (ap (λ (l : List Slot). before ++ l) (not_ended m s inner) ∙ append-nil before) ∙ sym (append-nil (vcd_slots d before)),
+  append_none old,
+)
+
+-- all lines of a step that ends no slot are made at once
+made_lines : (m : Move) (s : State) → (m ≡ EndSlot → ⊥) → made_text (made_line m s) ≡ lines_text (move_lines m s)
+made_lines m s inner = sym (move_prints m s ∙ ap (λ (l : List ℕ). l ++ made_text (made_line m s)) (ap lines_text (none_ended m s inner)) ∙ empty_front (made_text (made_line m s)))
+  where
+    empty_front : (l : List ℕ) → [] ++ l ≡ l
+    empty_front l = refl
+
+-- such a step
+pub one_turned : (blocks : List Bool) (inside : Option ℕ) (s t : State) (writer : Progress) (vcd old new : Option (List ℕ)) (m : Move) → (m ≡ EndSlot → ⊥) → is_enabled s m ≡ true →
+    is_step_of_any inside m ≡ true → t ≡ apply m s → Appends old new (made_text (made_line m s)) → Turned blocks (point inside s writer vcd old) (point (inside_told blocks t.places m) t writer vcd new)
+one_turned blocks inside s t writer vcd old new m inner enabled free made printed = record {
+  choice = m;
+  enabled = enabled;
+  free = free;
+  made = made;
+  told = refl;
+  written = λ d before h. subst (HasWritten writer d) (sym (ap (λ (l : List Slot). before ++ l) (not_ended m s inner) ∙ append-nil before)) h;
+  text = λ d before h. no_slot vcd m s inner d before;
+  lines = subst (Appends old new) (made_lines m s inner) printed;
+}
+
+-- and one that failed
+pub one_part : (inside : Option ℕ) (s : State) (writer : Progress) (vcd old new : Option (List ℕ)) (m : Move) → (m ≡ EndSlot → ⊥) → is_enabled s m ≡ true → is_step_of_any inside m ≡ true →
+    AppendsPart old new (made_text (made_line m s)) → TurnedPart (point inside s writer vcd old) vcd new
+one_part inside s writer vcd old new m inner enabled free printed = record {
+  choice = m;
+  enabled = enabled;
+  free = free;
+  text = λ d before h. let piece = no_slot vcd m s inner d before in (piece.0, piece.1, part_all vcd vcd piece.0 piece.2);
+  lines = subst (AppendsPart old new) (made_lines m s inner) printed;
+}
+
+-- a step that failed, of whatever block
+pub part_at : {s : State} {writer : Progress} {old new lold lnew : Option (List ℕ)} (m : Move) → is_enabled s m ≡ true →
+    ((d : Parts) (before : List Slot) → HasWritten writer d before → AppendsSlotsPart old new d before (ended_slot m s)) →
+    AppendsPart lold lnew (lines_text (move_lines m s)) → (inside : Option ℕ) → is_step_of_any inside m ≡ true → TurnedPart (point inside s writer old lold) new lnew
+part_at m enabled text lines inside free = record { choice = m; enabled = enabled; free = free; text = text; lines = lines }
+
+-- ---- a batch
+
+-- so many steps of which none ends a slot, from the first move on, behind which this one is the next
+pub record Along (taken : ℕ) (first next : Move) (s t : State) (old new : Option (List ℕ)) : Type 0 where
+  pub going : t.over ≡ false
+  pub time : t.time ≡ s.time
+  pub enabled : is_enabled t next ≡ true
+  pub turned :
+      (blocks : List Bool) (inside : Option ℕ) (writer : Progress) (vcd : Option (List ℕ)) → is_step_of_any inside first ≡ true →
+      (now : Option ℕ) × AllTurned taken blocks (point inside s writer vcd old) (point now t writer vcd new) × (is_step_of_any now next ≡ true)
+
+pub along_first : (m : Move) (s : State) (old : Option (List ℕ)) → s.over ≡ false → is_enabled s m ≡ true → Along 0 m m s s old old
+along_first m s old going enabled = record {
+  going = going;
+  time = refl;
+  enabled = enabled;
+  turned = λ blocks inside writer vcd free. (inside, refl, free);
+}
+
+-- one more step
+all_more : {taken : ℕ} {first m : Move} {s t : State} {old mid : Option (List ℕ)} → Along taken first m s t old mid → (t' : State) (new : Option (List ℕ)) → (m ≡ EndSlot → ⊥) → t' ≡ apply m t →
+    Appends mid new (made_text (made_line m t)) →
+    (blocks : List Bool) (inside : Option ℕ) (writer : Progress) (vcd : Option (List ℕ)) → is_step_of_any inside first ≡ true →
+    AllTurned (taken + 1) blocks (point inside s writer vcd old) (point (inside_told blocks t'.places m) t' writer vcd new)
+all_more {taken} {first} {m} {s} {t} {old} {mid} a t' new inner made printed blocks inside writer vcd free =
+    let h = a.turned blocks inside writer vcd free in
+    let p : Point = point inside s writer vcd old in
+    let q : Point = point (inside_told blocks t'.places m) t' writer vcd new in
+    let all : AllTurned (suc taken) blocks p q =
+    (point h.0 t writer vcd mid, h.1, a.going, a.time, one_turned blocks h.0 t t' writer vcd mid new m inner a.enabled h.2 made printed)
+    in
+    let more : suc taken ≡ taken + 1 = omega arith in
+    subst (λ (n : ℕ). AllTurned n blocks p q) more all
+
+pub along_more : {taken : ℕ} {first m : Move} {s t : State} {old mid : Option (List ℕ)} → Along taken first m s t old mid → (t' : State) (new : Option (List ℕ)) (next : Move) → (m ≡ EndSlot → ⊥) →
+    t' ≡ apply m t → Appends mid new (made_text (made_line m t)) → t'.over ≡ false → t'.time ≡ t.time → is_enabled t' next ≡ true →
+    ((blocks : List Bool) (xs : List Place) → is_step_of_any (inside_told blocks xs m) next ≡ true) → Along (taken + 1) first next s t' old new
+along_more {taken} {first} {m} {s} {t} {old} {mid} a t' new next inner made printed going time enabled free = record {
+  going = going;
+  time = time ∙ a.time;
+  enabled = enabled;
+  turned = λ blocks inside writer vcd h. (inside_told blocks t'.places m, all_more a t' new inner made printed blocks inside writer vcd h, free blocks t'.places);
+}
+
+-- the last step
+pub batch_all : {taken : ℕ} {first m : Move} {s t : State} {old mid : Option (List ℕ)} → Along taken first m s t old mid → (t' : State) (new : Option (List ℕ)) → (m ≡ EndSlot → ⊥) → t' ≡ apply m t →
+    Appends mid new (made_text (made_line m t)) → ((blocks : List Bool) (xs : List Place) → inside_told blocks xs m ≡ inside_told blocks xs first) → Batch (taken + 1) first s t' old new
+batch_all {taken} {first} {m} {s} {t} {old} {mid} a t' new inner made printed same = λ blocks inside writer vcd free.
+    subst (λ (o : Option ℕ). AllTurned (taken + 1) blocks (point inside s writer vcd old) (point o t' writer vcd new)) (same blocks t'.places)
+    (all_more a t' new inner made printed blocks inside writer vcd free)
+
+-- a step that failed
+pub batch_part : {taken : ℕ} {first m : Move} {s t : State} {old mid : Option (List ℕ)} → Along taken first m s t old mid → (steps : ℕ) (new : Option (List ℕ)) → (m ≡ EndSlot → ⊥) → taken < steps →
+    AppendsPart mid new (made_text (made_line m t)) → BatchPart steps first s old new
+batch_part {taken} {first} {m} {s} {t} {old} {mid} a steps new inner within printed = λ blocks inside writer vcd free.
+    let h = a.turned blocks inside writer vcd free in
+    record {
+      taken = taken;
+      last = point h.0 t writer vcd mid;
+      within = within;
+      turned = h.1;
+      going = a.going;
+      time = a.time;
+      failed = one_part h.0 t writer vcd mid new m inner a.enabled h.2 printed;
+    }
+
+-- a process's own step is free behind its step
+pub own_step : (i : ℕ) (blocks : List Bool) (xs : List Place) → is_step_of_any (inside_told blocks xs (Step i)) (Step i) ≡ true
+own_step i blocks xs = by_told (is_told (slice_get blocks i) (slice_get xs i))
+  where
+    by_told : (b : Bool) → is_step_of_any (if b then Some i else None) (Step i) ≡ true
+    by_told true = eq-eqb i i refl
+    by_told false = refl
+
+-- a step of a process ends no slot, and leaves the time and the end
+pub step_inner : (i : ℕ) → Step i ≡ EndSlot → ⊥
+step_inner i e = cc
+
+pub step_over : (s t : State) (i : ℕ) → t ≡ apply (Step i) s → s.over ≡ false → t.over ≡ false
+step_over s t i next going = ap (λ (r : State). r.over) next ∙ stepped_over s i (slice_get s.places i) ∙ going
+
+behind_time : (s : State) (w : Option Write) → (written_behind s w).time ≡ s.time
+behind_time s None = refl
+behind_time s (Some w) = refl
+
+stepped_time : (s : State) (i : ℕ) (o : Option Place) → (stepped s i o).time ≡ s.time
+stepped_time s i None = refl
+stepped_time s i (Some x) = behind_time s (step (todo_of x) s.store s.time).write
+
+pub step_time : (s t : State) (i : ℕ) → t ≡ apply (Step i) s → t.time ≡ s.time
+step_time s t i next = ap (λ (r : State). r.time) next ∙ stepped_time s i (slice_get s.places i)
+
+-- so does an update
+pub make_inner : (i : ℕ) → Make i ≡ EndSlot → ⊥
+make_inner i e = cc
+
+pub update_over : (s t : State) (i : ℕ) → t ≡ apply (Make i) s → s.over ≡ false → t.over ≡ false
+update_over s t i next going = ap (λ (r : State). r.over) next ∙ make_over s i (slice_get s.updates i) ∙ going
+
+make_time : (s : State) (i : ℕ) (o : Option Update) → (make s i o).time ≡ s.time
+make_time s i None = refl
+make_time s i (Some u) = refl
+
+pub update_time : (s t : State) (i : ℕ) → t ≡ apply (Make i) s → t.time ≡ s.time
+update_time s t i next = ap (λ (r : State). r.time) next ∙ make_time s i (slice_get s.updates i)
+
+-- ---- the turns of a run
+
+-- one turn alone
+pub once : (blocks : List Bool) (p q : Point) → p.state.over ≡ false → Turned blocks p q → AllTurned 1 blocks p q
+once blocks p q going t = (p, refl, going, refl, t)
+
+-- one turn that failed
+pub once_part : (steps : ℕ) (blocks : List Bool) (p : Point) (vcd lines : Option (List ℕ)) → 0 < steps → p.state.over ≡ false → TurnedPart p vcd lines → AllTurnedPart steps blocks p vcd lines
+once_part steps blocks p vcd lines some going t = record { taken = 0; last = p; within = some; turned = refl; going = going; time = refl; failed = t }
+
+-- a run that stands at a point
+pub record StandsAt (d : Parts) (until steps taken : ℕ) (p : Point) (old lold : Option (List ℕ)) : Type 0 where
+  pub run : HasRun d until steps taken p.state p.writer old p.vcd lold p.lines
+  pub inside : p.inside ≡ inside_block d.processes p.state.places
+
+-- behind a turn
+one_on : {d : Parts} {until steps taken : ℕ} {p : Point} {old lold : Option (List ℕ)} → StandsAt d until steps taken p old lold → (blocks : List Bool) (q : Point) → BlocksExclude → InsideFollows →
+    blocks ≡ map is_combinational d.processes → p.state.over ≡ false → p.state.time ≤ until → (taken ≡ steps → ⊥) → Turned blocks p q → StandsAt d until steps (taken + 1) q old lold
+one_on {d} {until} {steps} {taken} {p} {old} {lold} r blocks q exclude follows told going early more t =
+    let block = permitted_block r.run exclude p.inside t.choice r.inside going t.enabled t.free in
+    record {
+      run =
+          goes_on r.run t.choice (permitted d p.state t.choice going t.enabled) block (incomplete until p.state going early) more t.made (t.written d) (t.text d) t.lines;
+      inside = inside_next d p.state q.state t.choice blocks q.inside follows told block t.made t.told;
+    }
+
+-- behind turns, one after another
+pub all_on : {d : Parts} {until steps taken : ℕ} {p : Point} {old lold : Option (List ℕ)} → StandsAt d until steps taken p old lold → (n : ℕ) (blocks : List Bool) (q : Point) → BlocksExclude → InsideFollows →
+    blocks ≡ map is_combinational d.processes → p.state.time ≤ until → taken + n ≤ steps → AllTurned n blocks p q → StandsAt d until steps (taken + n) q old lold
+all_on {d} {until} {steps} {taken} {p} {old} {lold} r zero blocks q exclude follows told early within t =
+    let none : taken ≡ taken + 0 = omega arith in
+    subst (λ (k : ℕ). StandsAt d until steps k q old lold) none (subst (λ (x : Point). StandsAt d until steps taken x old lold) (sym t) r)
+all_on {d} {until} {steps} {taken} {p} {old} {lold} r (suc n) blocks q exclude follows told early within t =
+    let before : StandsAt d until steps (taken + n) t.0 old lold = all_on r n blocks t.0 exclude follows told early (omega (arith, within)) t.1 in
+    let by : t.0.state.time ≤ until = omega (arith, t.3, early) in
+    let more : (taken + n) + 1 ≡ taken + suc n = omega arith in
+    subst (λ (k : ℕ). StandsAt d until steps k q old lold) more (one_on before blocks q exclude follows told t.2 by (omega (arith, within)) t.4)
+
+-- turns of which the last one failed
+pub all_failed : {d : Parts} {until steps taken budget : ℕ} {p : Point} {old lold vcd lines : Option (List ℕ)} → StandsAt d until steps taken p old lold → (blocks : List Bool) → BlocksExclude → InsideFollows →
+    blocks ≡ map is_combinational d.processes → p.state.time ≤ until → taken + budget ≤ steps → AllTurnedPart budget blocks p vcd lines → HasBegun d until steps old vcd lold lines
+all_failed {d} {until} {steps} {taken} {budget} {p} {old} {lold} {vcd} {lines} r blocks exclude follows told early within t =
+    let q = t.last in
+    let f = t.failed in
+    let here : StandsAt d until steps (taken + t.taken) q old lold = all_on r t.taken blocks q exclude follows told early (omega (arith, within, t.within)) t.turned in
+    let by : q.state.time ≤ until = omega (arith, t.time, early) in
+    move_failed here.run f.choice (permitted d q.state f.choice t.going f.enabled) (permitted_block here.run exclude q.inside f.choice here.inside t.going f.enabled f.free)
+    (incomplete until q.state t.going by) (omega (arith, within, t.within)) (f.text d) f.lines

@@ -1,0 +1,61 @@
+use Rattle.std.proofs.Common.{◌≡◌, ◌∙◌, Bool, false, rules, ap, sym, subst, arith}
+use Rattle.vs_vcd.specs.Progress.{is_write_fault}
+use Rattle.vs_vcd.specs.Sinks.{failed_after}
+use Rattle.vs_kernel.specs.Faults.{OneFailed}
+use Rattle.vs_kernel.proofs.MarkingLemmas.{covers_on}
+use Rattle.vs_kernel.proofs.RunsLemmas.{part_all, slots_whole, step_printed, slot_printed, line_printed, failed_as, second_failed, on_err}
+use Rattle.vs_kernel.proofs.TurnsLemmas.{part_at}
+use Rattle.vs_kernel.proofs.run.take_one.Goals as goal
+
+pub returns-clause-ok : goal.returns-clause-ok
+returns-clause-ok g c = λ inside free. record {
+  choice = c.args.next.choice;
+  enabled = c.requires.enabled;
+  free = free;
+  made = c.in_ok-advance.ensures.state;
+  told = c.inside_behind.ensures;
+  written = c.in_ok-note.ensures.written;
+  text = c.in_ok-note.ensures.bytes;
+  lines = step_printed _ _ _ c.args.next.choice c.args.state.now c.in_ok-note.ensures.lines c.in_ok-advance.ensures.printed;
+}
+
+pub returns-clause-failures : goal.returns-clause-failures
+returns-clause-failures g c = (c.in_ok-note.ensures.failures.0, c.in_ok-advance.ensures.failures ∙ c.in_ok-note.ensures.failures.1)
+
+pub returns-clause-covers : goal.returns-clause-covers
+returns-clause-covers g c = λ d slots h room.
+    covers_on c.note.new.marks.items c.advance.new.marks.items c.args.state.now.store c.advance.new.state.store h (omega (arith, room, c.note.ensures.len)) c.in_ok-note.ensures.covers
+    c.in_ok-advance.ensures.marked
+
+pub returns-in_err-note-clause-err : goal.returns-in_err-note-clause-err
+returns-in_err-note-clause-err g c =
+    on_err _
+    (part_at c.args.next.choice c.requires.enabled c.in_err-note.ensures.part
+    (slot_printed _ _ c.args.next.choice c.args.state.now c.in_err-note.ensures.lines_part))
+
+pub returns-in_err-note-clause-failures : goal.returns-in_err-note-clause-failures
+returns-in_err-note-clause-failures g c =
+    failed_as c.from_residual.result c.in_err-note.field-0.0 _ _ _ _ (search rules) c.in_err-note.ensures.failures
+
+pub returns-in_err-advance-clause-err : goal.returns-in_err-advance-clause-err
+returns-in_err-advance-clause-err g c =
+    on_err _
+    (part_at c.args.next.choice c.requires.enabled (λ d before h. slots_whole _ _ d before _ (c.in_ok-note.ensures.bytes d before h))
+    (line_printed _ _ _ c.args.next.choice c.args.state.now c.in_ok-note.ensures.lines c.in_err-advance.ensures.part))
+
+pub returns-in_err-advance-clause-failures : goal.returns-in_err-advance-clause-failures
+returns-in_err-advance-clause-failures g c =
+    let lines : g.L.Sink.failed c.advance.new.lines ≡ failed_after (is_write_fault c.from_residual-in_err-advance.result) (g.L.Sink.failed c.note.new.lines) = search rules in
+    second_failed _ _ _ _ _ c.in_ok-note.ensures.failures.0 (lines ∙ ap (failed_after (is_write_fault c.from_residual-in_err-advance.result)) c.in_ok-note.ensures.failures.1)
+
+pub returns-in_err-follow-clause-err : goal.returns-in_err-follow-clause-err
+returns-in_err-follow-clause-err g c =
+    on_err _
+    (part_at c.args.next.choice c.requires.enabled (λ d before h. slots_whole _ _ d before _ (c.in_ok-note.ensures.bytes d before h))
+    (part_all _ _ _ (step_printed _ _ _ c.args.next.choice c.args.state.now c.in_ok-note.ensures.lines c.in_ok-advance.ensures.printed)))
+
+pub returns-in_err-follow-clause-failures : goal.returns-in_err-follow-clause-failures
+returns-in_err-follow-clause-failures g c =
+    let same : is_write_fault c.from_residual-in_err-follow.result ≡ false = search rules in
+    subst (λ (b : Bool). OneFailed b (g.V.Sink.failed c.args.vcd.now) (g.V.Sink.failed c.note.new.vcd) (g.L.Sink.failed c.args.lines.now) (g.L.Sink.failed c.advance.new.lines)) (sym same)
+    (c.in_ok-note.ensures.failures.0, c.in_ok-advance.ensures.failures ∙ c.in_ok-note.ensures.failures.1)

@@ -1,0 +1,4 @@
+pub mod Items
+pub mod Active
+pub mod Entries
+pub mod Regions

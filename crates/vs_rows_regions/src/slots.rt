@@ -1,0 +1,106 @@
+//! What waits, slot by slot, with a list and with a wheel.
+ghost use Rattle.std.specs.Prelude.{◌≡◌, ◌<◌, ◌^◌, []};
+
+use std::alloc::{AllocError, Global};
+use std::test::Fail;
+use vs_design::{Ticks, Write};
+use vs_regions::{Item, Regions};
+use vs_time_wheel::{EventQueue, ListQueue, Wheel};
+
+// Pushes an update of a process that is due in so many ticks; without memory, and late in time, none.
+fn push<Q: EventQueue<Item>>(
+    alloc: Global,
+    regions: &mut Regions<Q>,
+    by: usize,
+    count: u64,
+) -> Result<(), AllocError>
+    requires { count < 2 ^ 62 }
+{
+    if regions.time() < 1 << 62 {
+        regions.push(by, Ticks { count }, Write::new(alloc))?;
+    }
+    Ok(())
+}
+
+// Activates the updates that are due, and takes them, the oldest first: their numbers in the order of execution.
+fn make_due<Q: EventQueue<Item>>(
+    regions: &mut Regions<Q>,
+    made: &mut Vec<u64>,
+) -> Result<(), AllocError> {
+    if !regions.has_active() {
+        regions.activate();
+    }
+    for _ in 0..regions.activated().len() {
+        let Some(first) = regions.first() else {
+            return Ok(());
+        };
+        if let Some(update) = regions.take(first) {
+            made.push(update.serial())?;
+        }
+    }
+    Ok(())
+}
+
+// The slot ends; the answer is whether there is another.
+fn end_slot<Q: EventQueue<Item>>(
+    regions: &mut Regions<Q>,
+    woken: &mut Vec<usize>,
+) -> Result<bool, AllocError> {
+    if regions.has_active() || regions.has_due() {
+        return Ok(false);
+    }
+    let Some(time) = regions.next_time() else {
+        return Ok(false);
+    };
+    regions.advance(time, woken)?;
+    Ok(true)
+}
+
+// Two updates of the first slot around late ones, a process that sleeps, and one that is inactive: what is made and woken, slot by slot.
+fn some_slots<Q: EventQueue<Item> + Drop>(
+    alloc: Global,
+    queue: Q,
+) -> Result<(Vec<u64>, Vec<usize>), AllocError>
+    requires empty { Q.bag queue ≡ [] }
+    requires at_zero { Q.clock queue ≡ 0 }
+{
+    let mut regions = Regions::start(alloc, queue);
+    let mut made = Vec::new(alloc);
+    let mut woken = Vec::new(alloc);
+    push(alloc, &mut regions, 1, 0)?;
+    push(alloc, &mut regions, 2, 300)?;
+    push(alloc, &mut regions, 3, 0)?;
+    push(alloc, &mut regions, 4, 44)?;
+    push(alloc, &mut regions, 5, 300)?;
+    let until = regions.time().saturating_add(44);
+    regions.sleep(6, until)?;
+    regions.wait(7)?;
+    if regions.has_inactive() {
+        regions.rouse(&mut woken);
+    }
+    make_due(&mut regions, &mut made)?;
+    for _ in 0..3 {
+        if end_slot(&mut regions, &mut woken)? {
+            push(alloc, &mut regions, 8, 256)?;
+            make_due(&mut regions, &mut made)?;
+        }
+    }
+    Ok((made, woken))
+}
+
+#[test]
+fn slots_of_a_list(rt: HostRuntime) -> Result<(), Fail> {
+    let (made, woken) = some_slots(rt.alloc(), ListQueue::new(rt.alloc()))?;
+    assert_eq!(rt; made.as_slice(), [0, 2, 3, 1, 4, 5, 6].as_slice());
+    assert_eq!(rt; woken.as_slice(), [7, 6].as_slice());
+    Ok(())
+}
+
+#[test]
+fn slots_of_a_wheel(rt: HostRuntime) -> Result<(), Fail> {
+    let queue = Wheel::new(rt.alloc()).ok().ok_or("memory")?;
+    let (made, woken) = some_slots(rt.alloc(), queue)?;
+    assert_eq!(rt; made.as_slice(), [0, 2, 3, 1, 4, 5, 6].as_slice());
+    assert_eq!(rt; woken.as_slice(), [7, 6].as_slice());
+    Ok(())
+}

@@ -1,0 +1,58 @@
+use Rattle.std.proofs.Common.{◌≡◌, ◌∙◌, ◌+◌, Some, List, ◌∷◌, drop, sym, ap, subst, arith}
+use Rattle.std.proofs.lemmas.List.{drop_more}
+use Rattle.vs_edges.specs.Differences.{word_changes}
+use Rattle.vs_flatcode.specs.declared.changes.Change.{Change}
+use Rattle.vs_flatcode.specs.Places.{Place}
+use Rattle.vs_process.specs.States.{AssignState}
+use Rattle.vs_state.specs.Changes.{HaveSizes}
+use Rattle.vs_state.specs.Touches.{AreOf, woken_changes}
+use Rattle.vs_state.specs.Waits.{WaitWithin, triggered_changes}
+use Rattle.vs_state.proofs.ChangesLemmas.{some_there}
+use Rattle.vs_state.proofs.TouchesLemmas.{woken_of}
+use Rattle.vs_state.proofs.WaitsLemmas.{within_triggered}
+use Rattle.vs_state.proofs.changes.wake_changes.Goals as goal
+
+pub wake_word-requires-clause-size : goal.wake_word-requires-clause-size
+wake_word-requires-clause-size g c =
+    let change : Change = c.change-item.result in
+    let changes : List Change = c.args.changes.now.items in
+    let items : List Change = c.deref-change-items.result.now in
+    let same : items ≡ changes = c.deref-change-items.ensures.value in
+    let first : drop c.loop-change.change-index items ≡ change ∷ drop (c.loop-change.change-index + 1) items =
+    drop_more items c.loop-change.change-index change c.loop-change-test.true ∙ ap (λ (p : Change). p ∷ drop (c.loop-change.change-index + 1) items) (sym c.change-item.is)
+    in
+    let next : drop c.loop-change.change-index changes ≡ change ∷ drop (c.loop-change.change-index + 1) changes =
+    subst (λ (l : List Change). drop c.loop-change.change-index l ≡ change ∷ drop (c.loop-change.change-index + 1) l) same first
+    in
+    (subst HaveSizes next c.loop-change.invariant.sizes).0
+
+pub wake_word-requires-clause-terms : goal.wake_word-requires-clause-terms
+wake_word-requires-clause-terms g c = c.loop-change.invariant.terms (some_there c.args.changes.now.items c.loop-change.change-index (omega (arith, c.loop-change-test.true)))
+
+pub loop-change-preserved : goal.loop-change-preserved
+loop-change-preserved g c =
+    let change : Change = c.change-item.result in
+    let changes : List Change = c.args.changes.now.items in
+    let xs : List AssignState = c.loop-change.assigns in
+    let ys : List Place = c.loop-change.processes.places in
+    let rest : List Change = drop (c.loop-change.change-index + 1) changes in
+    let items : List Change = c.deref-change-items.result.now in
+    let same : items ≡ changes = c.deref-change-items.ensures.value in
+    let first : drop c.loop-change.change-index items ≡ change ∷ drop (c.loop-change.change-index + 1) items =
+    drop_more items c.loop-change.change-index change c.loop-change-test.true ∙ ap (λ (p : Change). p ∷ drop (c.loop-change.change-index + 1) items) (sym c.change-item.is)
+    in
+    let next : drop c.loop-change.change-index changes ≡ change ∷ drop (c.loop-change.change-index + 1) changes =
+    subst (λ (l : List Change). drop c.loop-change.change-index l ≡ change ∷ drop (c.loop-change.change-index + 1) l) same first
+    in
+    record {
+      assigns = ap (woken_changes rest) c.in_ok-wake_word.ensures.assigns ∙ sym (ap (λ (cs : List Change). woken_changes cs xs) next) ∙ c.loop-change.invariant.assigns;
+      places = ap (triggered_changes rest) c.in_ok-wake_word.ensures.places ∙ sym (ap (λ (cs : List Change). triggered_changes cs ys) next) ∙ c.loop-change.invariant.places;
+      sizes = (subst HaveSizes next c.loop-change.invariant.sizes).1;
+      sources =
+          subst (AreOf c.args.design.now) (sym c.in_ok-wake_word.ensures.assigns)
+          (woken_of c.args.design.now (word_changes change.signal change.word (Some change.before) (Some change.behind)) xs c.loop-change.invariant.sources);
+      terms = λ some.
+          subst (WaitWithin c.args.design.now.processes) (sym c.in_ok-wake_word.ensures.places)
+          (within_triggered c.args.design.now.processes ys change.signal change.word (Some change.before) (Some change.behind) (c.loop-change.invariant.terms some));
+      time = c.wake_word.ensures.time ∙ c.loop-change.invariant.time;
+    }
