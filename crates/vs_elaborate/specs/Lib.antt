@@ -15,5 +15,3 @@ pub use Rattle.vs_bodies.specs.Processes
 pub mod Faults
 pub mod DesignOf
 pub mod passes
-pub mod OneLine
-pub mod Same

@@ -6,12 +6,10 @@ mod contents;
 mod drivers;
 mod filling;
 mod frames;
-mod laws;
 mod marks;
 mod processes;
 mod source;
 mod timescales;
 
-pub use laws::{names_of_one_line, one_design};
 pub use source::elaborate;
 pub use vs_scopes::{ElabFault, Reason, fault_text};

@@ -226,7 +226,7 @@ fn chain<'t, 's>(
     let mut height = first_height;
     // All of them, but from a call: so the borrow checker can join it with what the loop sets.
     let (_none, mut rest) = start.split_at(0);
-    let mut links = Vec::new(alloc);
+    let mut links = Vec::with_capacity(alloc, 1)?;
     while let Some((operator, after)) = binary_at(rest, level) {
         let other = operands(alloc, room - 1, after, level)?;
         height = height.max(other.height);

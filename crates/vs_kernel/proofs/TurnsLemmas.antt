@@ -3,16 +3,18 @@ use Rattle.std.proofs.Common.{◌≡◌, ℕ, zero, suc, ◌+◌, ◌<◌, ◌�
 use Rattle.std.specs.Io.KnownBytes.{Appends}
 use Rattle.std.proofs.lemmas.List.{append-nil}
 use Rattle.vs_design.specs.Parts.{Parts}
-use Rattle.vs_design.specs.Traces.{Slot}
+use Rattle.vs_design.specs.Traces.{Line, Slot}
 use Rattle.vs_process.specs.declared.moves.Move.{Move}
-use Rattle.vs_process.specs.declared.moves.Move.TheVariants.{Step, Make, EndSlot}
+use Rattle.vs_process.specs.declared.moves.Move.TheVariants.{Step, Evaluate, Propagate, Make, Rouse, Activate, EndSlot}
 use Rattle.vs_process.specs.Executions.{apply, ended_slot, is_combinational, is_enabled, move_lines}
 use Rattle.vs_process.specs.Blocks.{BlocksExclude, InsideFollows, inside_block, is_step_of_any}
 use Rattle.vs_flatcode.specs.Places.{Place, todo_of}
 use Rattle.vs_flatcode.specs.Steps.{step}
 use Rattle.vs_design.specs.Writes.{Write}
 use Rattle.vs_process.specs.States.{State, Update, make, stepped, written_behind}
+use Rattle.vs_regions.specs.Active.{place_of_active}
 use Rattle.vs_state.specs.Prints.{made_line}
+use Rattle.vs_state.specs.Told.{told}
 use Rattle.vs_vcd.specs.Progress.{HasWritten, Progress}
 use Rattle.vs_vcd.specs.Sinks.{AppendsPart}
 use Rattle.vs_vcd.specs.Text.{vcd_slots}
@@ -23,6 +25,48 @@ use Rattle.vs_kernel.specs.Runs.{AppendsSlots, AppendsSlotsPart, HasBegun}
 use Rattle.vs_kernel.specs.Turns.{AllTurned, AllTurnedPart, Batch, BatchPart, IsReached, Turned, TurnedPart}
 use Rattle.vs_kernel.proofs.PrintsLemmas.{move_prints}
 use Rattle.vs_kernel.proofs.RunsLemmas.{HasRun, append_none, goes_on, incomplete, inside_next, make_over, move_failed, none_ended, not_ended, part_all, permitted, permitted_block, stepped_over}
+
+-- ---- updates by their number among the activated ones
+
+-- what doesn't look at the number of an update is the same of the definition's move
+told_same : {A : Type 0} (f : Move → A) → ((i k : ℕ) → f (Make i) ≡ f (Make k)) → (s : State) (m : Move) → f (told s m) ≡ f m
+told_same f any s (Step i) = refl
+told_same f any s (Evaluate j) = refl
+told_same f any s (Propagate j) = refl
+told_same f any s (Make k) = any (place_of_active k s.updates) k
+told_same f any s Rouse = refl
+told_same f any s Activate = refl
+told_same f any s EndSlot = refl
+
+update_free : (inside : Option ℕ) (i k : ℕ) → is_step_of_any inside (Make i) ≡ is_step_of_any inside (Make k)
+update_free None i k = refl
+update_free (Some process) i k = refl
+
+told_free : (inside : Option ℕ) (s : State) (m : Move) → is_step_of_any inside m ≡ true → is_step_of_any inside (told s m) ≡ true
+told_free inside s m free = told_same (is_step_of_any inside) (update_free inside) s m ∙ free
+
+told_slot : (s : State) (m : Move) → ended_slot m s ≡ ended_slot (told s m) s
+told_slot s m = sym (told_same (λ (n : Move). ended_slot n s) (λ i k. refl) s m)
+
+told_lines : (s : State) (m : Move) → move_lines m s ≡ move_lines (told s m) s
+told_lines s m = sym (told_same (λ (n : Move). move_lines n s) (λ i k. refl) s m)
+
+-- a step by a move of a run
+pub turned_told : (blocks : List Bool) (inside behind : Option ℕ) (s t : State) (writer writer' : Progress) (vcd vcd' lines lines' : Option (List ℕ)) (m : Move) →
+    is_enabled s (told s m) ≡ true → is_step_of_any inside m ≡ true → t ≡ apply (told s m) s → behind ≡ inside_told blocks t.places m →
+    ((d : Parts) (before : List Slot) → HasWritten writer d before → HasWritten writer' d (before ++ ended_slot m s)) →
+    ((d : Parts) (before : List Slot) → HasWritten writer d before → AppendsSlots vcd vcd' d before (ended_slot m s)) →
+    Appends lines lines' (lines_text (move_lines m s)) → Turned blocks (point inside s writer vcd lines) (point behind t writer' vcd' lines')
+turned_told blocks inside behind s t writer writer' vcd vcd' lines lines' m enabled free made follows written text printed = record {
+  choice = told s m;
+  enabled = enabled;
+  free = told_free inside s m free;
+  made = made;
+  told = follows ∙ sym (told_same (inside_told blocks t.places) (λ i k. refl) s m);
+  written = λ d before h. subst (λ (l : List Slot). HasWritten writer' d (before ++ l)) (told_slot s m) (written d before h);
+  text = λ d before h. subst (AppendsSlots vcd vcd' d before) (told_slot s m) (text d before h);
+  lines = subst (λ (l : List Line). Appends lines lines' (lines_text l)) (told_lines s m) printed;
+}
 
 -- ---- a step that ends no slot
 
@@ -70,11 +114,17 @@ one_part inside s writer vcd old new m inner enabled free printed = record {
   lines = subst (AppendsPart old new) (made_lines m s inner) printed;
 }
 
--- a step that failed, of whatever block
-pub part_at : {s : State} {writer : Progress} {old new lold lnew : Option (List ℕ)} (m : Move) → is_enabled s m ≡ true →
+-- a step by a move of a run that failed, of whatever block
+pub part_at : {s : State} {writer : Progress} {old new lold lnew : Option (List ℕ)} (m : Move) → is_enabled s (told s m) ≡ true →
     ((d : Parts) (before : List Slot) → HasWritten writer d before → AppendsSlotsPart old new d before (ended_slot m s)) →
     AppendsPart lold lnew (lines_text (move_lines m s)) → (inside : Option ℕ) → is_step_of_any inside m ≡ true → TurnedPart (point inside s writer old lold) new lnew
-part_at m enabled text lines inside free = record { choice = m; enabled = enabled; free = free; text = text; lines = lines }
+part_at {s} {writer} {old} {new} {lold} {lnew} m enabled text lines inside free = record {
+  choice = told s m;
+  enabled = enabled;
+  free = told_free inside s m free;
+  text = λ d before h. subst (AppendsSlotsPart old new d before) (told_slot s m) (text d before h);
+  lines = subst (λ (l : List Line). AppendsPart lold lnew (lines_text l)) (told_lines s m) lines;
+}
 
 -- ---- a batch
 
@@ -87,12 +137,12 @@ pub record Along (taken : ℕ) (first next : Move) (s t : State) (old new : Opti
       (blocks : List Bool) (inside : Option ℕ) (writer : Progress) (vcd : Option (List ℕ)) → is_step_of_any inside first ≡ true →
       (now : Option ℕ) × AllTurned taken blocks (point inside s writer vcd old) (point now t writer vcd new) × (is_step_of_any now next ≡ true)
 
-pub along_first : (m : Move) (s : State) (old : Option (List ℕ)) → s.over ≡ false → is_enabled s m ≡ true → Along 0 m m s s old old
+pub along_first : (m : Move) (s : State) (old : Option (List ℕ)) → s.over ≡ false → is_enabled s (told s m) ≡ true → Along 0 m (told s m) s s old old
 along_first m s old going enabled = record {
   going = going;
   time = refl;
   enabled = enabled;
-  turned = λ blocks inside writer vcd free. (inside, refl, free);
+  turned = λ blocks inside writer vcd free. (inside, refl, told_free inside s m free);
 }
 
 -- one more step
@@ -168,19 +218,23 @@ stepped_time s i (Some x) = behind_time s (step (todo_of x) s.store s.time).writ
 pub step_time : (s t : State) (i : ℕ) → t ≡ apply (Step i) s → t.time ≡ s.time
 step_time s t i next = ap (λ (r : State). r.time) next ∙ stepped_time s i (slice_get s.places i)
 
--- so does an update
-pub make_inner : (i : ℕ) → Make i ≡ EndSlot → ⊥
-make_inner i e = cc
+-- so does an update, by its number among the activated ones
+pub made_inner : (s : State) (k : ℕ) → told s (Make k) ≡ EndSlot → ⊥
+made_inner s k e = cc
 
-pub update_over : (s t : State) (i : ℕ) → t ≡ apply (Make i) s → s.over ≡ false → t.over ≡ false
-update_over s t i next going = ap (λ (r : State). r.over) next ∙ make_over s i (slice_get s.updates i) ∙ going
+pub update_over : (s t : State) (k : ℕ) → t ≡ apply (told s (Make k)) s → s.over ≡ false → t.over ≡ false
+update_over s t k next going =
+    let i = place_of_active k s.updates in
+    ap (λ (r : State). r.over) next ∙ make_over s i (slice_get s.updates i) ∙ going
 
 make_time : (s : State) (i : ℕ) (o : Option Update) → (make s i o).time ≡ s.time
 make_time s i None = refl
 make_time s i (Some u) = refl
 
-pub update_time : (s t : State) (i : ℕ) → t ≡ apply (Make i) s → t.time ≡ s.time
-update_time s t i next = ap (λ (r : State). r.time) next ∙ make_time s i (slice_get s.updates i)
+pub update_time : (s t : State) (k : ℕ) → t ≡ apply (told s (Make k)) s → t.time ≡ s.time
+update_time s t k next =
+    let i = place_of_active k s.updates in
+    ap (λ (r : State). r.time) next ∙ make_time s i (slice_get s.updates i)
 
 -- ---- the turns of a run
 

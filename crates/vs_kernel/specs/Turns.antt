@@ -54,13 +54,13 @@ pub record AllTurnedPart (steps : ℕ) (blocks : List Bool) (old : Point) (sink 
   pub time : last.state.time ≡ old.state.time
   pub failed : TurnedPart last sink lines_sink
 
--- so many steps of which none ends a slot; this move is the first
+-- so many steps of which none ends a slot; this move is the first, whatever the number of its update
 abbrev pub Batch : ℕ → Move → State → State → Option (List ℕ) → Option (List ℕ) → Type 0
 Batch taken first s t old new =
     (blocks : List Bool) (inside : Option ℕ) (writer : Progress) (vcd : Option (List ℕ)) → is_step_of_any inside first ≡ true →
     AllTurned taken blocks (point inside s writer vcd old) (point (inside_told blocks t.places first) t writer vcd new)
 
--- fewer than so many steps of which none ends a slot, and then one that failed; this move is the first
+-- fewer than so many steps of which none ends a slot, and then one that failed; this move is the first, whatever the number of its update
 abbrev pub BatchPart : ℕ → Move → State → Option (List ℕ) → Option (List ℕ) → Type 0
 BatchPart steps first s old new =
     (blocks : List Bool) (inside : Option ℕ) (writer : Progress) (vcd : Option (List ℕ)) → is_step_of_any inside first ≡ true →

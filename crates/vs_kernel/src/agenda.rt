@@ -8,12 +8,13 @@ use std::alloc::{AllocError, Global};
 use std::collections::VecDeque;
 use vs_design::Write;
 use vs_process::Move;
+use vs_regions::Item;
 use vs_state::State;
 use vs_time_wheel::EventQueue;
 
 /// An event of the list.
 #[derive(Clone, Copy, PartialEq, Eq)]
-enum Item {
+enum Event {
     /// The evaluation of a continuous assignment, by its number.
     Evaluate(usize),
     /// The update of a continuous assignment, by its number.
@@ -35,7 +36,7 @@ pub(crate) struct Choice {
 
 #[derive(Clone, Copy)]
 struct Entry {
-    item: Item,
+    event: Event,
     /// Whether it is an update that waits for an older one which names one of its signals.
     hidden: bool,
 }
@@ -77,7 +78,7 @@ pub(crate) struct Agenda {
 
 impl Agenda {
     /// The list at the start of a run: every continuous assignment, then every active process, in design order.
-    pub(crate) fn start<Q: EventQueue<usize>>(
+    pub(crate) fn start<Q: EventQueue<Item>>(
         alloc: Global,
         first: bool,
         signals: usize,
@@ -96,7 +97,7 @@ impl Agenda {
             last: None,
         };
         for assign in 0..state.assign_count() {
-            agenda.add(Item::Evaluate(assign))?;
+            agenda.add(Event::Evaluate(assign))?;
         }
         for process in 0..state.process_count() {
             agenda.add_step(process, state)?;
@@ -106,9 +107,9 @@ impl Agenda {
 
     /// Puts an event at the end.
     #[inline(always)]
-    fn add(&mut self, item: Item) -> Result<(), AllocError> {
+    fn add(&mut self, event: Event) -> Result<(), AllocError> {
         self.entries.push_back(Entry {
-            item,
+            event,
             hidden: false,
         })?;
         Ok(())
@@ -116,13 +117,13 @@ impl Agenda {
 
     /// Puts a process at the end if it is active.
     #[inline(always)]
-    fn add_step<Q: EventQueue<usize>>(
+    fn add_step<Q: EventQueue<Item>>(
         &mut self,
         process: usize,
         state: &State<Q>,
     ) -> Result<(), AllocError> {
         if state.is_going(process) {
-            self.add(Item::Step(process))?;
+            self.add(Event::Step(process))?;
         }
         Ok(())
     }
@@ -138,10 +139,10 @@ impl Agenda {
         for part in what.parts() {
             self.claim(part.signal);
         }
-        let item = Item::Make(self.activated.len());
+        let event = Event::Make(self.activated.len());
         let to = self.signals.len();
         self.activated.push(Activated { serial, from, to })?;
-        self.entries.push_back(Entry { item, hidden })?;
+        self.entries.push_back(Entry { event, hidden })?;
         if hidden {
             self.hidden = self.hidden.saturating_add(1);
         }
@@ -165,8 +166,8 @@ impl Agenda {
 
     /// The signals that an event names, if it is an update.
     #[inline(always)]
-    fn signals_of(&self, item: Item) -> &[usize] {
-        let Item::Make(number) = item else {
+    fn signals_of(&self, event: Event) -> &[usize] {
+        let Event::Make(number) = event else {
             return &[];
         };
         let Some(update) = self.activated.get(number) else {
@@ -204,7 +205,7 @@ impl Agenda {
     fn index_of(&self, number: usize) -> Option<usize> {
         let mut left = number;
         for (index, entry) in self.entries.iter().enumerate() {
-            if !entry.hidden && entry.item != Item::Gone {
+            if !entry.hidden && entry.event != Event::Gone {
                 if left == 0 {
                     return Some(index);
                 }
@@ -227,21 +228,21 @@ impl Agenda {
 
     /// The move of the event at an index of the list.
     #[inline(always)]
-    pub(crate) fn move_at<Q: EventQueue<usize>>(
+    pub(crate) fn move_at<Q: EventQueue<Item>>(
         &self,
         index: usize,
         state: &State<Q>,
     ) -> Option<Move> {
-        match self.entries.get(index)?.item {
-            Item::Evaluate(assign) => Some(Move::Evaluate(assign)),
-            Item::Propagate(assign) => Some(Move::Propagate(assign)),
-            Item::Step(process) => Some(Move::Step(process)),
-            Item::Make(number) => {
+        match self.entries.get(index)?.event {
+            Event::Evaluate(assign) => Some(Move::Evaluate(assign)),
+            Event::Propagate(assign) => Some(Move::Propagate(assign)),
+            Event::Step(process) => Some(Move::Step(process)),
+            Event::Make(number) => {
                 let serial = self.activated.get(number)?.serial;
-                let mut updates = state.updates().iter();
+                let mut updates = state.activated().iter();
                 Some(Move::Make(updates.position(|u| u.serial() == serial)?))
             }
-            Item::Gone => None,
+            Event::Gone => None,
         }
     }
 
@@ -259,9 +260,9 @@ impl Agenda {
             return;
         };
         let left = *entry;
-        entry.item = Item::Gone;
+        entry.event = Event::Gone;
         entry.hidden = false;
-        if left.item != Item::Gone {
+        if left.event != Event::Gone {
             self.gaps = self.gaps.saturating_add(1);
         }
         if left.hidden {
@@ -269,7 +270,7 @@ impl Agenda {
         }
         self.trim_front();
         self.trim_back();
-        self.release_all(left.item);
+        self.release_all(left.event);
     }
 
     /// Takes the first event out of a list without updates, of which none is hidden.
@@ -286,7 +287,7 @@ impl Agenda {
     fn trim_front(&mut self) {
         for _ in 0..self.entries.len() {
             match self.entries.front() {
-                Some(entry) if entry.item == Item::Gone => {}
+                Some(entry) if entry.event == Event::Gone => {}
                 _ => return,
             }
             let _ = self.entries.pop_front();
@@ -300,7 +301,7 @@ impl Agenda {
     fn trim_back(&mut self) {
         for _ in 0..self.entries.len() {
             match self.entries.back() {
-                Some(entry) if entry.item == Item::Gone => {}
+                Some(entry) if entry.event == Event::Gone => {}
                 _ => return,
             }
             let _ = self.entries.pop_back();
@@ -310,9 +311,9 @@ impl Agenda {
 
     /// An event has left the list: where it is an update, its parts no longer hide others.
     #[inline(always)]
-    fn release_all(&mut self, item: Item) {
-        for i in 0..self.signals_of(item).len() {
-            if let Some(signal) = self.signals_of(item).get(i) {
+    fn release_all(&mut self, event: Event) {
+        for i in 0..self.signals_of(event).len() {
+            if let Some(signal) = self.signals_of(event).get(i) {
                 let signal = *signal;
                 self.release(signal);
             }
@@ -330,7 +331,7 @@ impl Agenda {
             return;
         }
         let mut entries = self.entries.iter();
-        let Some(index) = entries.position(|entry| self.signals_of(entry.item).contains(&signal))
+        let Some(index) = entries.position(|entry| self.signals_of(entry.event).contains(&signal))
         else {
             return;
         };
@@ -350,13 +351,13 @@ impl Agenda {
         let Some(update) = self.entries.get(index) else {
             return false;
         };
-        let signals = self.signals_of(update.item);
+        let signals = self.signals_of(update.event);
         if signals.len() < 2 {
             return false;
         }
         for older in 0..index {
             if let Some(entry) = self.entries.get(older)
-                && self.shares(entry.item, signals)
+                && self.shares(entry.event, signals)
             {
                 return true;
             }
@@ -365,15 +366,15 @@ impl Agenda {
     }
 
     /// Whether an event is an update that names one of these signals.
-    fn shares(&self, item: Item, signals: &[usize]) -> bool {
-        let named = self.signals_of(item);
+    fn shares(&self, event: Event, signals: &[usize]) -> bool {
+        let named = self.signals_of(event);
         signals.iter().any(|signal| named.contains(signal))
     }
 
     /// Brings the list up to date behind a move: an event that is no longer enabled leaves it, and what has become
     /// enabled enters at its end.
     #[inline(always)]
-    pub(crate) fn follow<Q: EventQueue<usize>>(
+    pub(crate) fn follow<Q: EventQueue<Item>>(
         &mut self,
         made: Choice,
         state: &State<Q>,
@@ -404,12 +405,12 @@ impl Agenda {
 
     /// Puts what the last move has woken at the end: the continuous assignments, then the processes.
     #[inline(always)]
-    pub(crate) fn add_woken<Q: EventQueue<usize>>(
+    pub(crate) fn add_woken<Q: EventQueue<Item>>(
         &mut self,
         state: &State<Q>,
     ) -> Result<(), AllocError> {
         for assign in state.woken() {
-            self.add(Item::Evaluate(*assign))?;
+            self.add(Event::Evaluate(*assign))?;
         }
         for process in state.woken_processes() {
             self.add_step(*process, state)?;
@@ -418,7 +419,7 @@ impl Agenda {
     }
 
     #[inline(always)]
-    fn follow_evaluation<Q: EventQueue<usize>>(
+    fn follow_evaluation<Q: EventQueue<Item>>(
         &mut self,
         assign: usize,
         index: Option<usize>,
@@ -429,7 +430,7 @@ impl Agenda {
         if state.is_pending(assign) {
             if listed.is_none() {
                 let place = self.passed.wrapping_add(self.entries.len());
-                self.add(Item::Propagate(assign))?;
+                self.add(Event::Propagate(assign))?;
                 self.set_proposed(assign, Some(place));
             }
             return Ok(());
@@ -450,7 +451,7 @@ impl Agenda {
     }
 
     /// Lists the updates that were activated, unless the first event is always chosen.
-    fn follow_activation<Q: EventQueue<usize>>(
+    fn follow_activation<Q: EventQueue<Item>>(
         &mut self,
         state: &State<Q>,
     ) -> Result<(), AllocError> {
@@ -459,10 +460,8 @@ impl Agenda {
         }
         self.activated.clear();
         self.signals.clear();
-        for i in 0..state.updates().len() {
-            if let Some(update) = state.updates().get(i)
-                && update.is_active()
-            {
+        for number in 0..state.activated().len() {
+            if let Some(update) = state.activated().get(number) {
                 self.add_update(update.serial(), update.what())?;
             }
         }

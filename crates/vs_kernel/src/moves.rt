@@ -5,6 +5,7 @@ ghost use Rattle.vs_kernel.specs.Marking.{MarkChanges};
 ghost use Rattle.vs_kernel.specs.Prints.{given_text, made_text};
 ghost use Rattle.vs_kernel.specs.Turns.{Batch, BatchPart, IsReached};
 ghost use Rattle.vs_state.specs.Prints.{made_line};
+ghost use Rattle.vs_state.specs.Told.{told};
 ghost use Rattle.vs_process.specs.Executions as executions;
 ghost use Rattle.vs_vcd.specs.Progress.{is_write_fault};
 ghost use Rattle.vs_vcd.specs.Sinks.{AppendsPart, failed_after};
@@ -13,6 +14,7 @@ use crate::agenda::Agenda;
 use crate::marks::mark_all;
 use vs_design::Design;
 use vs_process::Move;
+use vs_regions::Item;
 use vs_state::State;
 use vs_time_wheel::EventQueue;
 use vs_vcd::{Sink, VcdFault, write_all};
@@ -32,7 +34,7 @@ fn print<L: Sink>(lines: &mut L, line: Option<Vec<u8>>) -> Result<(), VcdFault>
 
 /// Makes a move, marks the signals that it may change, and writes the line that it makes at once. `changed` is room to work in.
 #[inline(always)]
-pub(crate) fn advance<Q: EventQueue<usize>, L: Sink>(
+pub(crate) fn advance<Q: EventQueue<Item>, L: Sink>(
     state: &mut State<Q>,
     design: &Design,
     marks: &mut Vec<u64>,
@@ -41,10 +43,10 @@ pub(crate) fn advance<Q: EventQueue<usize>, L: Sink>(
     choice: Move,
 ) -> Result<(), VcdFault>
     requires going { state.old.over ≡ false }
-    requires enabled { executions.is_enabled state.old choice ≡ true }
+    requires enabled { executions.is_enabled state.old (told state.old choice) ≡ true }
     requires early { state.old.time < 2 ^ 62 }
     requires reached { IsReached design.now state.old }
-    ensures state { OnOk result (state.new ≡ executions.apply choice state.old) }
+    ensures state { OnOk result (state.new ≡ executions.apply (told state.old choice) state.old) }
     ensures marked { OnOk result (MarkChanges marks.old.items marks.new.items state.old.store state.new.store) }
     ensures len { length marks.new.items ≡ length marks.old.items }
     ensures printed { OnOk result (Appends (L.bytes lines.old) (L.bytes lines.new) (made_text (made_line choice state.old))) }
@@ -60,7 +62,7 @@ pub(crate) fn advance<Q: EventQueue<usize>, L: Sink>(
 
 /// Takes the steps of a process, one after another, until it is no longer active or so many are taken. The answer is how many were taken.
 #[inline(always)]
-pub(crate) fn run_process<Q: EventQueue<usize>, L: Sink>(
+pub(crate) fn run_process<Q: EventQueue<Item>, L: Sink>(
     state: &mut State<Q>,
     design: &Design,
     agenda: &mut Agenda,
@@ -99,9 +101,10 @@ pub(crate) fn run_process<Q: EventQueue<usize>, L: Sink>(
     }
 }
 
-/// Makes the activated updates, one after another, until none is left or so many are made; this is the first. The answer is how many were made.
+/// Makes the activated updates, one after another, until none is left or so many are made; this is the number of the first among them. The
+/// answer is how many were made.
 #[inline(always)]
-pub(crate) fn run_updates<Q: EventQueue<usize>, L: Sink>(
+pub(crate) fn run_updates<Q: EventQueue<Item>, L: Sink>(
     state: &mut State<Q>,
     design: &Design,
     agenda: &mut Agenda,
@@ -113,7 +116,7 @@ pub(crate) fn run_updates<Q: EventQueue<usize>, L: Sink>(
 ) -> Result<u64, VcdFault>
     requires steps { 0 < steps }
     requires going { state.old.over ≡ false }
-    requires enabled { executions.is_enabled state.old (Move.Make first) ≡ true }
+    requires enabled { executions.is_enabled state.old (told state.old (Move.Make first)) ≡ true }
     requires early { state.old.time < 2 ^ 62 }
     requires reached { IsReached design.now state.old }
     ensures some { IfOk result (λ made. 0 < made) }

@@ -13,6 +13,7 @@ ghost use Rattle.vs_kernel.specs.Turns.{AllTurned, AllTurnedPart, IsReached, Tur
 ghost use Rattle.vs_process.specs.Blocks.{is_step_of_any};
 ghost use Rattle.vs_process.specs.Executions as executions;
 ghost use Rattle.vs_process.specs.States as states;
+ghost use Rattle.vs_state.specs.Told.{told};
 ghost use Rattle.vs_vcd.specs.Progress.{Covers, HasWritten, is_write_fault};
 ghost use Rattle.vs_vcd.specs.Sinks.{AppendsPart, failed_after};
 
@@ -27,6 +28,7 @@ use vs_process::{
     Code, Move, blocks_exclude, compile, inside_follows, inside_goes_on, is_combinational,
     none_inside_first,
 };
+use vs_regions::Item;
 use vs_state::State;
 use vs_strobe::full_line;
 use vs_time_wheel::EventQueue;
@@ -56,7 +58,7 @@ fn codes_of<'a>(alloc: Global, processes: &'a [Process]) -> Result<Vec<Code<'a>>
 
 /// The combinational block that has taken a step since its control, behind a move: that of the move's step, if it is one.
 #[inline(always)]
-fn inside_behind<Q: EventQueue<usize>>(
+fn inside_behind<Q: EventQueue<Item>>(
     blocks: &[bool],
     state: &State<Q>,
     made: Move,
@@ -79,14 +81,14 @@ fn inside_behind<Q: EventQueue<usize>>(
 /// The next move. A combinational block that has left its control goes on, which is no choice. Else it is what the policy chooses of the list,
 /// where that is enabled, and else a move that the state has; where the first is always chosen, the activated updates come first.
 #[inline(always)]
-pub(crate) fn choose<Q: EventQueue<usize>, P: Pick>(
+pub(crate) fn choose<Q: EventQueue<Item>, P: Pick>(
     state: &State<Q>,
     inside: Option<usize>,
     agenda: &mut Agenda,
     policy: &mut P,
 ) -> Choice
     requires goes_on { (process : ℕ) → inside ≡ Some process → executions.is_enabled state.now (Move.Step process) ≡ true }
-    ensures enabled { executions.is_enabled state.now result.choice ≡ true }
+    ensures enabled { executions.is_enabled state.now (told state.now result.choice) ≡ true }
     ensures free { is_step_of_any inside result.choice ≡ true }
 {
     if let Some(process) = inside {
@@ -118,7 +120,7 @@ pub(crate) fn choose<Q: EventQueue<usize>, P: Pick>(
 }
 
 /// Writes the lines of the calls of `$strobe` of a slot at its end, in the order of the calls (IEEE 1364-2005, clause 17.1.2).
-fn print_calls<Q: EventQueue<usize>, L: Sink>(
+fn print_calls<Q: EventQueue<Item>, L: Sink>(
     alloc: Global,
     lines: &mut L,
     state: &State<Q>,
@@ -137,7 +139,7 @@ fn print_calls<Q: EventQueue<usize>, L: Sink>(
 
 /// Writes the slot that a move ends, if it ends one: the slot of the dump, behind which nothing is marked, then its lines.
 #[inline(always)]
-fn note<Q: EventQueue<usize>, V: Sink, L: Sink>(
+fn note<Q: EventQueue<Item>, V: Sink, L: Sink>(
     alloc: Global,
     writer: &mut Writer,
     vcd: &mut V,
@@ -170,7 +172,7 @@ fn note<Q: EventQueue<usize>, V: Sink, L: Sink>(
 }
 
 /// How a run ends in a state in which its execution is complete.
-fn outcome_of<Q: EventQueue<usize>>(state: &State<Q>) -> Outcome
+fn outcome_of<Q: EventQueue<Item>>(state: &State<Q>) -> Outcome
     ensures { result ≡ outcome_in state.now }
 {
     if !state.is_over() {
@@ -184,7 +186,7 @@ fn outcome_of<Q: EventQueue<usize>>(state: &State<Q>) -> Outcome
 }
 
 /// The time at which the value change dump of a complete execution ends, in ticks.
-fn end_of<Q: EventQueue<usize>>(state: &State<Q>, until: u64) -> u64
+fn end_of<Q: EventQueue<Item>>(state: &State<Q>, until: u64) -> u64
     ensures { result ≡ end_in until state.now }
 {
     if state.is_over() && state.is_finishing() {
@@ -203,7 +205,7 @@ struct Taken {
 
 /// Takes a step: writes the slot that a chosen move ends, if it ends one, makes it, and writes the line that it makes.
 #[inline(always)]
-fn take_one<Q: EventQueue<usize>, V: Sink, L: Sink>(
+fn take_one<Q: EventQueue<Item>, V: Sink, L: Sink>(
     alloc: Global,
     design: &Design,
     blocks: &[bool],
@@ -216,7 +218,7 @@ fn take_one<Q: EventQueue<usize>, V: Sink, L: Sink>(
     vcd: &mut V,
     lines: &mut L,
 ) -> Result<Option<usize>, VcdFault>
-    requires enabled { executions.is_enabled state.old next.choice ≡ true }
+    requires enabled { executions.is_enabled state.old (told state.old next.choice) ≡ true }
     requires going { state.old.over ≡ false }
     requires early { state.old.time < 2 ^ 62 }
     requires reached { IsReached design.now state.old }
@@ -238,10 +240,10 @@ fn take_one<Q: EventQueue<usize>, V: Sink, L: Sink>(
     Ok(inside_behind(blocks, state, next.choice))
 }
 
-/// Takes the next steps, at least one and at most so many: chooses a move and makes it. Where the first event is always chosen, the steps of a process
-/// go on until it waits, and the activated updates until none is left.
+/// Takes the next steps, at least one and at most so many: chooses a move and makes it. Where the first event is always chosen, the steps of
+/// a process go on until it waits, and the activated updates until none is left.
 #[inline(always)]
-fn turn<Q: EventQueue<usize>, P: Pick, V: Sink, L: Sink>(
+fn turn<Q: EventQueue<Item>, P: Pick, V: Sink, L: Sink>(
     alloc: Global,
     design: &Design,
     blocks: &[bool],
@@ -307,7 +309,7 @@ fn turn<Q: EventQueue<usize>, P: Pick, V: Sink, L: Sink>(
 }
 
 /// Runs a design from its start.
-fn execute<Q: EventQueue<usize>, P: Pick, V: Sink, L: Sink>(
+fn execute<Q: EventQueue<Item>, P: Pick, V: Sink, L: Sink>(
     alloc: Global,
     design: &Design,
     state: &mut State<Q>,
@@ -363,7 +365,7 @@ fn execute<Q: EventQueue<usize>, P: Pick, V: Sink, L: Sink>(
 }
 
 /// Runs a design from its start; these are the codes of its processes, one each in order.
-fn execute_codes<Q: EventQueue<usize> + Drop, P: Pick, V: Sink, L: Sink>(
+fn execute_codes<Q: EventQueue<Item> + Drop, P: Pick, V: Sink, L: Sink>(
     alloc: Global,
     design: &Design,
     codes: &[Code],
@@ -400,7 +402,7 @@ fn execute_codes<Q: EventQueue<usize> + Drop, P: Pick, V: Sink, L: Sink>(
 }
 
 /// Compiles the processes of a design, and runs it from its start.
-pub(crate) fn launch<Q: EventQueue<usize> + Drop, P: Pick, V: Sink, L: Sink>(
+pub(crate) fn launch<Q: EventQueue<Item> + Drop, P: Pick, V: Sink, L: Sink>(
     alloc: Global,
     design: &Design,
     queue: Q,

@@ -1,9 +1,4 @@
-pub mod Declarations
-pub mod Headers
-pub mod Instances
-pub mod Trees
-pub mod Items
-pub mod Generated
+pub mod Modules
 pub mod Sources
 pub mod Faulty
 pub mod SystemNames

@@ -12,7 +12,7 @@ use Rattle.vs_tokens.specs.declared.token.Word.TheVariants as w
 use Rattle.vs_syntax.specs.Symbols.{Symbol, a_word, a_directive, the_word, first}
 use Rattle.vs_syntax.specs.Grammar.{many, part, a_module}
 use Rattle.vs_syntax.specs.Tables.{goes}
-use Rattle.vs_syntax.specs.Derivation.{Tree, leaf}
+use Rattle.vs_syntax.specs.Derivation.{Tree}
 use Rattle.vs_syntax.specs.Reading.{Gets, Stuck, stuck_left, stuck_many}
 use Rattle.vs_syntax.specs.Views.{module_tree, directive_tree, directed_trees}
 use Rattle.vs_syntax.specs.declared.tree.Module.{Module}

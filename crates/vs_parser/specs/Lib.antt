@@ -1,4 +1,3 @@
 pub mod Heads
-pub mod Generated
 pub mod LeftOut
 pub mod Faults

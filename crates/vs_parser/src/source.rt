@@ -6,11 +6,11 @@ ghost use Rattle.vs_syntax.specs.Grammar.{part, a_source, a_module};
 ghost use Rattle.vs_syntax.specs.Views.{module_tree, source_tree};
 ghost use Rattle.vs_expressions.specs.Answers.{seen, Reads};
 
-use crate::generate::items;
 use crate::head::{SourceHead, source_head};
-use crate::header::{header_parameters, header_ports};
 use std::alloc::Global;
 use vs_expressions::{Read, Stop, expect_mark, expect_name, expect_word};
+use vs_headers::{header_parameters, header_ports};
+use vs_items::items;
 use vs_lexer::{Directive, Mark, Token, Word};
 use vs_syntax::{Module, Source};
 

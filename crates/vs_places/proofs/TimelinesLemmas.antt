@@ -1,12 +1,11 @@
 -- The processes of a run by what they wait for.
-use Rattle.std.proofs.Common.{◌≡◌, ◌≢◌, ℕ, zero, suc, ◌+◌, ◌≤◌, ◌==◌, ◌||◌, ◌⊎◌, inl, inr, min, not, drop, Bool, true, false, if◌then◌else◌, Option, Some, None, List, [], ◌∷◌, ◌++◌, map, length, slice_get, slice_set, refl, sym, ◌∙◌, ap, subst, arith}
-use Rattle.std.specs.Option.{ForSome, IfSome}
+use Rattle.std.proofs.Common.{◌≡◌, ◌≢◌, ℕ, zero, suc, ◌+◌, ◌≤◌, ◌==◌, ◌||◌, ◌<◌, ◌⊎◌, ◌↔◌, IsTrue, inl, inr, min, Bool, true, false, if◌then◌else◌, Option, Some, None, List, [], ◌∷◌, ◌++◌, map, length, slice_get, slice_set, refl, sym, ◌∙◌, ap, subst, arith}
+use Rattle.std.specs.Option.{ForSome}
 use Rattle.std.specs.List.{list_any}
 use Rattle.std.proofs.lemmas.Bool.{eqb-true, eq-eqb, ne_eqb, cases_lt, cases_eq, false≢true}
 use Rattle.vs_time_wheel.specs.declared.timing.Timed.{Timed}
-use Rattle.vs_time_wheel.specs.Bag.{events_at, least_time, SameBag, IsFrom, oldest_at, without_oldest}
-use Rattle.vs_time_wheel.specs.Turn.{first_of}
-use Rattle.vs_time_wheel.proofs.Bags.{IsLeast, least_time-from, least_time-from_time, none_before, oldest_at-first, events_at-without_oldest, events_at-without_other, events_at-append, events_at-here, events_at-apart}
+use Rattle.vs_time_wheel.specs.Bag.{events_at, least_time, SameBag}
+use Rattle.vs_time_wheel.proofs.Bags.{IsLeast, least_time-from, events_at-append, events_at-here, events_at-apart}
 use Rattle.vs_logic4.specs.declared.digit.Digit.{Digit}
 use Rattle.vs_design.specs.declared.statement.Statement.{Statement}
 use Rattle.vs_design.specs.Stores.{Store, changed_at}
@@ -18,7 +17,7 @@ use Rattle.vs_process.specs.declared.effect.Effect.{Effect}
 use Rattle.vs_process.specs.Effects.{Stepped}
 use Rattle.vs_process.specs.Executions.{if_some, earlier, next_wake}
 use Rattle.vs_process.specs.States.{roused, woken_at, due_of, place_behind, paused, triggered}
-use Rattle.vs_places.specs.Listed.{names, Lists}
+use Rattle.vs_places.specs.Listed.{is_number, names, Lists}
 use Rattle.vs_places.specs.Timelines.{sleeps_until, AreKept, AreKeptBut, StepsAt}
 use Rattle.vs_places.specs.Triggers.{triggered_by, changed_all}
 use Rattle.vs_places.proofs.ChangedLemmas.{changed_there}
@@ -336,10 +335,21 @@ kept_all_roused {ps} {qs} {ns} {ms} {bag} h changed none =
       sleeping_ones = λ t. lists_map (h.sleeping_ones t) roused (roused_sleeps t);
     }))
 
+-- numbers behind others
+named_behind : (others ns : List ℕ) (i : ℕ) → names (others ++ ns) i ≡ false → names ns i ≡ false
+named_behind [] ns i h = h
+named_behind (n ∷ others) ns i h = named_behind others ns i (right (is_number n i) (names (others ++ ns) i) h)
+  where
+    right : (a b : Bool) → (a || b) ≡ false → b ≡ false
+    right true b h = cc
+    right false b h = h
+
 -- all processes become active whose delay ends at a time
-pub all_woken_at : (ps : List Place) (ns : List ℕ) (bag : List (Timed ℕ)) (time : ℕ) → AreKept ps ns bag → changed_all (woken_at time) (events_at time bag) ps ≡ map (woken_at time) ps
-all_woken_at ps ns bag time h =
-    visited (sleeps_until time) (woken_at time) (woken_stays time) (woken_sleeps time) (events_at time bag) ps (covered (sleeps_until time) ps (events_at time bag) (h.sleeping_ones time))
+pub all_woken_at : (ps : List Place) (ns : List ℕ) (bag : List (Timed ℕ)) (time : ℕ) (others woken : List ℕ) → AreKept ps ns bag → woken ≡ others ++ events_at time bag → changed_all (woken_at time) woken ps ≡ map (woken_at time) ps
+all_woken_at ps ns bag time others woken h e =
+    visited (sleeps_until time) (woken_at time) (woken_stays time) (woken_sleeps time) woken ps
+    (λ i none. covered (sleeps_until time) ps (events_at time bag) (h.sleeping_ones time) i
+    (named_behind others (events_at time bag) i (sym (ap (λ (l : List ℕ). names l i) e) ∙ none)))
 
 pub kept_all_woken : {ps qs : List Place} {ns : List ℕ} {bag bag' : List (Timed ℕ)} (time : ℕ) → AreKept ps ns bag → qs ≡ map (woken_at time) ps → events_at time bag' ≡ [] →
     ((t : ℕ) → time ≢ t → events_at t bag' ≡ events_at t bag) → AreKept qs ns bag'
@@ -469,42 +479,7 @@ pub any_inactive : (ps : List Place) (ns : List ℕ) (bag : List (Timed ℕ)) �
 any_inactive ps [] bag h = no_number ps h.inactive_ones
 any_inactive ps (n ∷ ns) bag h = some_number n ns ps h.inactive_ones
 
-pub any_number : (ns : List ℕ) (n : ℕ) (b : Bool) → n ≡ length ns → b ≡ (n == 0) → not b ≡ has_number ns
-any_number [] n b e h = ap not (h ∙ eq-eqb n 0 e)
-any_number (m ∷ ns) n b e h = ap not (h ∙ ne_eqb n 0 (λ z. omega arith))
-
--- ---- what is taken from the queue
-
-first_some : (l : List ℕ) (p : ℕ) → first_of l ≡ Some p → l ≡ p ∷ drop 1 l
-first_some [] p h = cc
-first_some (x ∷ l) p h = let e : x ≡ p = cc in ap (λ (y : ℕ). y ∷ l) e
-
-first_none : (l : List ℕ) → first_of l ≡ None → l ≡ []
-first_none [] h = refl
-first_none (x ∷ l) h = cc
-
-pub take_some : (time : ℕ) (bag bag' : List (Timed ℕ)) (p : ℕ) → oldest_at time bag ≡ Some p → SameBag bag' (without_oldest time bag) → events_at time bag ≡ p ∷ events_at time bag'
-take_some time bag bag' p h same =
-    first_some (events_at time bag) p (sym (oldest_at-first time bag) ∙ h) ∙ ap (λ (l : List ℕ). p ∷ l) (sym (same.at_each time ∙ events_at-without_oldest time bag))
-
-pub take_none : (time : ℕ) (bag : List (Timed ℕ)) → oldest_at time bag ≡ None → events_at time bag ≡ []
-take_none time bag h = first_none (events_at time bag) (sym (oldest_at-first time bag) ∙ h)
-
-pub taken_none : (time : ℕ) (bag bag' : List (Timed ℕ)) → oldest_at time bag ≡ None → SameBag bag' (without_oldest time bag) → events_at time bag' ≡ []
-taken_none time bag bag' h same = same.at_each time ∙ events_at-without_oldest time bag ∙ ap (drop 1) (take_none time bag h)
-
-pub take_others : (time : ℕ) (bag bag' : List (Timed ℕ)) → SameBag bag' (without_oldest time bag) → (t : ℕ) → time ≢ t → events_at t bag' ≡ events_at t bag
-take_others time bag bag' same t apart = same.at_each t ∙ events_at-without_other time t bag apart
-
-pub take_from : (time : ℕ) (bag bag' : List (Timed ℕ)) → SameBag bag' (without_oldest time bag) → IsFrom time bag → IsFrom time bag'
-take_from time bag bag' same from = record { none_before = λ t before. take_others time bag bag' same t (λ e. omega arith) ∙ from.none_before t before }
-
-for_some : (o : Option ℕ) (time : ℕ) → IfSome o (λ b. time ≤ b) → ForSome o (λ b. time ≤ b)
-for_some None time h x e = cc
-for_some (Some y) time h x e = let same : y ≡ x = cc in omega arith
-
-pub from_least : (time : ℕ) (bag : List (Timed ℕ)) → IsFrom time bag → ForSome (least_time bag) (λ next. time ≤ next)
-from_least time bag from = for_some (least_time bag) time (least_time-from_time time bag from)
-
-pub from_wake : (time : ℕ) (ps : List Place) (ns : List ℕ) (bag : List (Timed ℕ)) → AreKept ps ns bag → ForSome (next_wake None ps) (λ next. time ≤ next) → IsFrom time bag
-from_wake time ps ns bag h first = record { none_before = none_before bag time (λ x e. first x (sym (least_wake ps ns bag h) ∙ e)) }
+pub any_number : (ns : List ℕ) (b : Bool) → IsTrue b ↔ (0 < length ns) → b ≡ has_number ns
+any_number [] true h = let none : 0 < 0 = h.0 refl in absurd (omega arith)
+any_number [] false h = refl
+any_number (m ∷ ns) b h = h.1 (omega arith)

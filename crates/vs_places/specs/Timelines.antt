@@ -1,4 +1,4 @@
--- The processes of a run by what they wait for.
+-- The processes of a run by what they wait for, and the nonblocking updates.
 use Rattle.std.specs.Prelude.{ℕ, ◌≡◌, ◌==◌, Bool, true, false, Option, Some, None, List, slice_get, slice_set}
 use Rattle.vs_design.specs.Stores.{Store}
 use Rattle.vs_design.specs.Writes.{Write}
@@ -8,12 +8,14 @@ use Rattle.vs_flatcode.specs.Places.{Place, sleeping, is_going, is_inactive, tod
 use Rattle.vs_flatcode.specs.Steps.{step}
 use Rattle.vs_process.specs.declared.effect.Effect.{Effect}
 use Rattle.vs_process.specs.Effects.{Stepped}
+use Rattle.vs_process.specs.States.{Update}
 use Rattle.vs_places.specs.Listed.{Lists}
 
--- the places of the processes, and the time of the slot
+-- the places of the processes, the time of the slot, and the nonblocking updates in the order of execution
 pub record Timeline : Type 0 where
   pub places : List Place
   pub time : ℕ
+  pub updates : List Update
 
 -- whether the delay of a process ends at a time
 abbrev pub sleeps_until : ℕ → Place → Bool

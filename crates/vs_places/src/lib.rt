@@ -1,7 +1,8 @@
-//! The places of the processes of a run, by what the processes wait for (IEEE 1364-2005, clauses 9.7 and 11.3).
+//! The places of the processes of a run, by what the processes wait for, and the nonblocking updates
+//! (IEEE 1364-2005, clauses 9.7 and 11.3).
 //!
-//! Counts, lists and a queue stand beside the places, so that nothing looks at all processes: neither the search for an active one that isn't
-//! there, nor a change of the inactive ones, nor the end of a slot.
+//! A count, and what waits in the slot and behind it, stand beside the places, so that nothing looks at all processes: neither the search
+//! for an active one that isn't there, nor a change of the inactive ones, nor the end of a slot.
 #![tactic(auto)]
 
 mod counts;
@@ -10,3 +11,4 @@ mod processes;
 
 pub use counts::recount;
 pub use processes::Processes;
+pub use vs_regions::{Item, Regions, Update};

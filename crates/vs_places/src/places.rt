@@ -51,6 +51,16 @@ fn start_places<'a>(alloc: Global, codes: &'a [Code<'a>]) -> Result<Vec<Place<'a
     Ok(places)
 }
 
+/// The processes whose delay ends at this time become active.
+fn wake_each(places: &mut Vec<Place>, time: u64)
+    ensures { places.new.items ≡ map (states.woken_at time) places.old.items }
+{
+    for process in 0..places.len() {
+        let place = &mut places[process];
+        place.wake(time);
+    }
+}
+
 /// How many processes are active.
 fn count_going(places: &Vec<Place>) -> usize
     ensures { result ≡ count is_going places.now.items }
@@ -116,8 +126,8 @@ impl<'a> Places<'a> {
         active_process(&self.items)
     }
 
-    /// A step of an active process at `time`, in ticks: its write is made in the store, and the words that it changes go to `changes`. Without
-    /// memory the places and the store are as they were.
+    /// A step of an active process at `time`, in ticks: its write is made in the store, and the words that it changes go to `changes`.
+    /// Without memory the places and the store are as they were.
     #[inline(always)]
     pub(crate) fn step(
         &mut self,
@@ -193,5 +203,13 @@ impl<'a> Places<'a> {
         let was = place.is_going();
         place.wake(time);
         self.going = recount(self.going, was, place.is_going());
+    }
+
+    /// The processes whose delay ends at this time, in ticks, become active.
+    pub(crate) fn wake_all(&mut self, time: u64)
+        ensures { self.new ≡ map (states.woken_at time) self.old }
+    {
+        wake_each(&mut self.items, time);
+        self.going = count_going(&self.items);
     }
 }

@@ -1,35 +1,36 @@
-//! The processes of a run by what they wait for.
-ghost use Rattle.std.specs.Prelude.{ℕ, ◌≡◌, ◌≢◌, ◌++◌, ◌∷◌, [], ◌<◌, ◌≤◌, ◌^◌, Some, None, true, false, length, map, slice_get, IfOk, IfSome, OnOk, OnErr, MatchOption};
+//! The processes of a run by what they wait for, and the nonblocking updates.
+ghost use Rattle.std.specs.Prelude.{ℕ, ◌≡◌, ◌++◌, ◌∷◌, [], ◌<◌, ◌≤◌, ◌+◌, ◌^◌, Some, None, true, false, length, map, slice_get, IfOk, IfSome, OnOk, OnErr, MatchOption};
 ghost use Rattle.std.specs.List.{list_any};
 ghost use Rattle.std.specs.Option.{ForSome};
-ghost use Rattle.vs_time_wheel.specs.Bag.{IsFrom, SameBag, events_at};
+ghost use Rattle.vs_time_wheel.specs.Bag.{SameBag};
 ghost use Rattle.vs_design.specs.Stores.{changed_at};
 ghost use Rattle.vs_flatcode.specs.Changes.{store_behind, changes_of};
 ghost use Rattle.vs_flatcode.specs.Places.{is_going, is_inactive, start_place};
 ghost use Rattle.vs_process.specs.Executions as executions;
 ghost use Rattle.vs_process.specs.States as states;
+ghost use Rattle.vs_regions.specs.Active.{is_active, place_of_active};
 ghost use Rattle.vs_places.specs.Timelines.{AreKept, AreKeptBut, StepsAt, step_write};
 ghost use Rattle.vs_places.specs.Triggers.{changed_all, triggered_by};
 
 use crate::places::Places;
 use std::alloc::{AllocError, Global};
 use std::marker::Model;
-use std::mem;
-use vs_design::Store;
+use vs_design::{Store, Ticks, Write};
 use vs_logic4::Vec4;
 use vs_process::{Change, Code, Effect, Place};
+use vs_regions::{Item, Regions, Update};
 use vs_time_wheel::EventQueue;
 
-/// The processes: their places, the list of the inactive ones in the order of their arrival, and the sleeping ones by the time at which their
-/// delay ends. A contract sees the places and the time of the slot, which is the last one at which sleepers were woken.
+/// The processes: their places, and what waits in the slot and behind it, which is the inactive ones in the order of their arrival, the
+/// sleeping ones by the time at which their delay ends, and the nonblocking updates. A contract sees the places, the updates in the order of
+/// execution, and the time of the slot, which is the last one that `advance` went to.
 #[derive(Drop)]
-pub struct Processes<'a, Q: EventQueue<usize>> {
+pub struct Processes<'a, Q: EventQueue<Item>> {
     places: Places<'a>,
-    inactive: Vec<usize>,
-    sleepers: Q,
+    regions: Regions<Q>,
 }
 
-impl<'a, Q: EventQueue<usize>> Model for Processes<'a, Q> {
+impl<'a, Q: EventQueue<Item>> Model for Processes<'a, Q> {
     ghost use Rattle.std.specs.Coded.{codes};
     ghost use Rattle.vs_design.specs.contracts.statement.Statement as statement;
     ghost use Rattle.vs_places.specs.Timelines.{Timeline, AreKept};
@@ -38,19 +39,23 @@ impl<'a, Q: EventQueue<usize>> Model for Processes<'a, Q> {
 
     ghost coded = { Prim.hlevel (codes, statement.the_row.coded) };
 
-    ghost view = { λ p. record { places = p.places; time = Q.clock p.sleepers } };
+    ghost view = { λ p. record { places = p.places; time = p.regions.time; updates = p.regions.updates } };
 
-    ghost invariant = { λ p. AreKept p.places p.inactive.items (Q.bag p.sleepers) };
+    ghost invariant = { λ p. AreKept p.places p.regions.inactive p.regions.sleepers };
 }
 
 /// An inactive process enters the list of those; where it finds no room it becomes active.
-fn enlist(places: &mut Places, inactive: &mut Vec<usize>, process: usize) -> Result<(), AllocError>
+fn enlist<Q: EventQueue<Item>>(
+    places: &mut Places,
+    regions: &mut Regions<Q>,
+    process: usize,
+) -> Result<(), AllocError>
     ensures places { OnOk result (places.new ≡ places.old) }
-    ensures listed { OnOk result (inactive.new.items ≡ inactive.old.items ++ process ∷ []) }
+    ensures listed { OnOk result (regions.new ≡ record regions.old { inactive = regions.old.inactive ++ process ∷ [] }) }
     ensures active { OnErr result (places.new ≡ changed_at states.roused process places.old) }
-    ensures unlisted { OnErr result (inactive.new.items ≡ inactive.old.items) }
+    ensures unlisted { OnErr result (regions.new ≡ regions.old) }
 {
-    if let Err(_) = inactive.push(process) {
+    if let Err(_) = regions.wait(process) {
         places.rouse(process);
         return Err(AllocError);
     }
@@ -58,51 +63,53 @@ fn enlist(places: &mut Places, inactive: &mut Vec<usize>, process: usize) -> Res
 }
 
 /// A process whose delay ends at a time enters the queue; where it finds no room it becomes active.
-fn postpone<Q: EventQueue<usize>>(
+fn postpone<Q: EventQueue<Item>>(
     places: &mut Places,
-    sleepers: &mut Q,
+    regions: &mut Regions<Q>,
     process: usize,
     due: u64,
 ) -> Result<(), AllocError>
-    requires { Q.clock sleepers.old ≤ due }
+    requires { regions.old.time ≤ due }
     ensures places { OnOk result (places.new ≡ places.old) }
-    ensures queued { OnOk result (SameBag (Q.bag sleepers.new) (Q.bag sleepers.old ++ record { time = due; event = process } ∷ [])) }
+    ensures queued { OnOk result (SameBag regions.new.sleepers (regions.old.sleepers ++ record { time = due; event = process } ∷ [])) }
     ensures active { OnErr result (places.new ≡ changed_at (states.woken_at due) process places.old) }
-    ensures unqueued { OnErr result (SameBag (Q.bag sleepers.new) (Q.bag sleepers.old)) }
-    ensures clock { Q.clock sleepers.new ≡ Q.clock sleepers.old }
+    ensures unqueued { OnErr result (SameBag regions.new.sleepers regions.old.sleepers) }
+    ensures inactive { regions.new.inactive ≡ regions.old.inactive }
+    ensures updates { regions.new.updates ≡ regions.old.updates }
+    ensures time { regions.new.time ≡ regions.old.time }
 {
-    if let Err(_) = sleepers.schedule(due, process) {
+    if let Err(_) = regions.sleep(process, due) {
         places.wake(process, due);
         return Err(AllocError);
     }
     Ok(())
 }
 
-/// A process that was active before its step enters the list or the queue where it is inactive or sleeps behind it; where it finds no room it
-/// becomes active again.
+/// A process that was active before its step enters the list or the queue where it is inactive or sleeps behind it; where it finds no
+/// room it becomes active again.
 #[inline(always)]
-fn keep<Q: EventQueue<usize>>(
+fn keep<Q: EventQueue<Item>>(
     places: &mut Places,
-    inactive: &mut Vec<usize>,
-    sleepers: &mut Q,
+    regions: &mut Regions<Q>,
     process: usize,
 ) -> Result<(), AllocError>
-    requires kept { AreKeptBut places.old inactive.old.items (Q.bag sleepers.old) process }
+    requires kept { AreKeptBut places.old regions.old.inactive regions.old.sleepers process }
     requires not_over { ForSome (slice_get places.old process)
-        (λ place. ForSome (states.due_of place) (λ due. Q.clock sleepers.old ≤ due)) }
-    ensures kept { AreKept places.new inactive.new.items (Q.bag sleepers.new) }
+        (λ place. ForSome (states.due_of place) (λ due. regions.old.time ≤ due)) }
+    ensures kept { AreKept places.new regions.new.inactive regions.new.sleepers }
     ensures places { OnOk result (places.new ≡ places.old) }
-    ensures clock { Q.clock sleepers.new ≡ Q.clock sleepers.old }
+    ensures updates { regions.new.updates ≡ regions.old.updates }
+    ensures time { regions.new.time ≡ regions.old.time }
 {
     let Some(place) = places.get(process) else {
         return Ok(());
     };
     if place.is_inactive() {
-        enlist(places, inactive, process)?;
+        enlist(places, regions, process)?;
         return Ok(());
     }
     if let Some(due) = place.due() {
-        postpone(places, sleepers, process, due)?;
+        postpone(places, regions, process, due)?;
         return Ok(());
     }
     Ok(())
@@ -117,46 +124,29 @@ fn rouse_each(places: &mut Places, processes: &Vec<usize>)
     }
 }
 
-/// The processes become active whose delay ends at a time; they are noted in `woken`. The answer is whether all found room there.
-fn wake_due<Q: EventQueue<usize>>(
-    places: &mut Places,
-    sleepers: &mut Q,
-    time: u64,
-    woken: &mut Vec<usize>,
-) -> bool
-    requires not_over { Q.clock sleepers.old ≤ time }
-    requires none_before { IsFrom time (Q.bag sleepers.old) }
-    ensures places { places.new ≡ changed_all (states.woken_at time) (events_at time (Q.bag sleepers.old)) places.old }
-    ensures taken { events_at time (Q.bag sleepers.new) ≡ [] }
-    ensures others { (t : ℕ) → time ≢ t → events_at t (Q.bag sleepers.new) ≡ events_at t (Q.bag sleepers.old) }
-    ensures clock { Q.clock sleepers.new ≡ time }
+/// Of these processes those become active whose delay ends at a time.
+fn wake_each(places: &mut Places, processes: &Vec<usize>, time: u64)
+    ensures { places.new ≡ changed_all (states.woken_at time) processes.now.items places.old }
 {
-    let mut room = true;
-    while let Some(process) = sleepers.take_due(time) {
-        places.wake(process, time);
-        if let Err(_) = woken.push(process) {
-            room = false;
-        }
+    for process in processes {
+        places.wake(*process, time);
     }
-    room
 }
 
-impl<'a, Q: EventQueue<usize>> Processes<'a, Q> {
-    /// Processes with these codes at the start of a run, whose delays the queue keeps.
-    pub fn start(alloc: Global, codes: &'a [Code<'a>], sleepers: Q) -> Result<Self, AllocError>
+impl<'a, Q: EventQueue<Item>> Processes<'a, Q> {
+    /// Processes with these codes at the start of a run; the queue keeps the ends of their delays, and the updates of later slots.
+    pub fn start(alloc: Global, codes: &'a [Code<'a>], queue: Q) -> Result<Self, AllocError>
     where
         Q: Drop,
-        requires empty { Q.bag sleepers ≡ [] }
-        requires at_zero { Q.clock sleepers ≡ 0 }
+        requires empty { Q.bag queue ≡ [] }
+        requires at_zero { Q.clock queue ≡ 0 }
         ensures places { IfOk result (λ all. all.places ≡ map start_place codes.entry.now) }
         ensures time { IfOk result (λ all. all.time ≡ 0) }
+        ensures updates { IfOk result (λ all. all.updates ≡ []) }
     {
         let places = Places::start(alloc, codes)?;
-        Ok(Processes {
-            places,
-            inactive: Vec::new(alloc),
-            sleepers,
-        })
+        let regions = Regions::start(alloc, queue);
+        Ok(Processes { places, regions })
     }
 
     /// The time of the slot, in ticks.
@@ -164,7 +154,16 @@ impl<'a, Q: EventQueue<usize>> Processes<'a, Q> {
     pub fn time(&self) -> u64
         ensures { result ≡ self.now.time }
     {
-        self.sleepers.now()
+        self.regions.time()
+    }
+
+    /// What waits in the slot and behind it, which tells of the nonblocking updates.
+    #[inline(always)]
+    pub fn regions(&self) -> &Regions<Q>
+        ensures time { result.now.time ≡ self.now.time }
+        ensures updates { result.now.updates ≡ self.now.updates }
+    {
+        &self.regions
     }
 
     /// How many processes there are.
@@ -202,15 +201,17 @@ impl<'a, Q: EventQueue<usize>> Processes<'a, Q> {
     pub fn has_inactive(&self) -> bool
         ensures { result ≡ list_any is_inactive self.now.places }
     {
-        !self.inactive.is_empty()
+        self.regions.has_inactive()
     }
 
-    /// The least time at which a delay ends.
-    pub fn next_wake(&self) -> Option<u64>
-        ensures least { result ≡ executions.next_wake None self.now.places }
+    /// The least time at which a delay ends or an update is due, in ticks, where no update is activated or due in this slot.
+    pub fn next_time(&self) -> Option<u64>
+        requires idle { list_any is_active self.now.updates ≡ false }
+        requires done { list_any (states.is_due self.now.time) self.now.updates ≡ false }
+        ensures least { result ≡ executions.next_update (executions.next_wake None self.now.places) self.now.updates }
         ensures not_over { IfSome result (λ time. self.now.time ≤ time) }
     {
-        self.sleepers.next_time()
+        self.regions.next_time()
     }
 
     /// A step of an active process: its write is made in the store, and the words that it changes go to `changes`.
@@ -230,15 +231,11 @@ impl<'a, Q: EventQueue<usize>> Processes<'a, Q> {
         ensures changes { OnOk result (changes.new.items
             ≡ changes.old.items ++ changes_of store.old (step_write (slice_get self.old.places process) store.old self.old.time)) }
         ensures time { self.new.time ≡ self.old.time }
+        ensures updates { self.new.updates ≡ self.old.updates }
     {
-        let time = self.sleepers.now();
+        let time = self.regions.time();
         let effect = self.places.step(process, alloc, store, time, changes)?;
-        keep(
-            &mut self.places,
-            &mut self.inactive,
-            &mut self.sleepers,
-            process,
-        )?;
+        keep(&mut self.places, &mut self.regions, process)?;
         Ok(effect)
     }
 
@@ -256,32 +253,73 @@ impl<'a, Q: EventQueue<usize>> Processes<'a, Q> {
         requires { length before ≡ length behind }
         ensures places { self.new.places ≡ changed_at (triggered_by signal word (Some before) (Some behind)) process self.old.places }
         ensures time { self.new.time ≡ self.old.time }
+        ensures updates { self.new.updates ≡ self.old.updates }
     {
         self.places.trigger(process, signal, word, before, behind)
     }
 
-    /// The inactive processes become active; they are noted in `woken`, which is empty before.
+    /// Appends a nonblocking update that is due in so many ticks; without memory the updates are as they were.
+    #[inline(always)]
+    pub fn push(&mut self, by: usize, ticks: Ticks, what: Write) -> Result<(), AllocError>
+        requires { self.old.time < 2 ^ 62 }
+        ensures pushed { OnOk result (self.new.updates ≡ self.old.updates
+            ++ record { by = by; due = self.old.time + ticks.count; active = false; what = what } ∷ []) }
+        ensures unpushed { OnErr result (self.new.updates ≡ self.old.updates) }
+        ensures places { self.new.places ≡ self.old.places }
+        ensures time { self.new.time ≡ self.old.time }
+    {
+        self.regions.push(by, ticks, what)
+    }
+
+    /// Takes out the activated update of this number among these, the oldest being 0.
+    #[inline(always)]
+    pub fn take(&mut self, index: usize) -> Option<Update>
+        ensures taken { result ≡ slice_get self.old.updates (place_of_active index self.old.updates) }
+        ensures rest { self.new.updates ≡ states.without (place_of_active index self.old.updates) self.old.updates }
+        ensures places { self.new.places ≡ self.old.places }
+        ensures time { self.new.time ≡ self.old.time }
+    {
+        self.regions.take(index)
+    }
+
+    /// The updates that are due in this slot are activated.
+    pub fn activate(&mut self)
+        requires { list_any is_active self.old.updates ≡ false }
+        ensures updates { self.new.updates ≡ map (states.activated self.old.time) self.old.updates }
+        ensures places { self.new.places ≡ self.old.places }
+        ensures time { self.new.time ≡ self.old.time }
+    {
+        self.regions.activate();
+    }
+
+    /// The inactive processes become active; they are noted in `woken`, in place of what is there.
     pub fn rouse_all(&mut self, woken: &mut Vec<usize>)
         ensures places { self.new.places ≡ map states.roused self.old.places }
         ensures time { self.new.time ≡ self.old.time }
+        ensures updates { self.new.updates ≡ self.old.updates }
     {
-        rouse_each(&mut self.places, &self.inactive);
-        mem::swap(&mut self.inactive, woken);
-        self.inactive.clear();
+        self.regions.rouse(woken);
+        rouse_each(&mut self.places, woken);
     }
 
-    /// Time goes to the least at which something is due, in ticks, and the processes whose delay ends then become active; they are noted in
-    /// `woken`.
+    /// Time goes to the least at which something is due, in ticks: the processes whose delay ends then become active, and are noted in
+    /// `woken` behind what is there, and the updates of that time are due in the slot. Without memory these updates are lost, and `woken`
+    /// may lack some of the processes.
     pub fn advance(&mut self, time: u64, woken: &mut Vec<usize>) -> Result<(), AllocError>
+        requires idle { list_any is_active self.old.updates ≡ false }
+        requires done { list_any (states.is_due self.old.time) self.old.updates ≡ false }
         requires not_over { self.old.time ≤ time }
-        requires none_before { ForSome (executions.next_wake None self.old.places) (λ next. time ≤ next) }
+        requires none_before { ForSome (executions.next_update (executions.next_wake None self.old.places) self.old.updates)
+            (λ next. time ≤ next) }
         ensures places { self.new.places ≡ map (states.woken_at time) self.old.places }
         ensures time { self.new.time ≡ time }
+        ensures updates { OnOk result (self.new.updates ≡ self.old.updates) }
     {
-        if wake_due(&mut self.places, &mut self.sleepers, time, woken) {
-            Ok(())
-        } else {
-            Err(AllocError)
+        if let Err(_) = self.regions.advance(time, woken) {
+            self.places.wake_all(time);
+            return Err(AllocError);
         }
+        wake_each(&mut self.places, woken, time);
+        Ok(())
     }
 }

@@ -9,6 +9,7 @@ use std::process::Abort;
 use std::test::Fail;
 use vs_design::Design;
 use vs_kernel::{Fifo, Kernel, Outcome, RunFault};
+use vs_regions::Item;
 use vs_sim::Dropped;
 use vs_time_wheel::ListQueue;
 use vs_vcd::Counted;
@@ -110,7 +111,7 @@ fn is_failed(
     design: &Design,
     left: usize,
 ) -> Result<(), AllocError> {
-    let mut kernel = Kernel::new(alloc, design, ListQueue::<usize>::new(alloc), Fifo)?;
+    let mut kernel = Kernel::new(alloc, design, ListQueue::<Item>::new(alloc), Fifo)?;
     let mut vcd = Counted::new(Short::new(alloc, left, true));
     let first = kernel.run(10, 100, &mut vcd, &mut Dropped);
     let second = kernel.run(10, 100, &mut vcd, &mut Dropped);

@@ -6,6 +6,7 @@ use crate::running::{design_of, is_text};
 use std::alloc::Global;
 use std::test::Fail;
 use vs_kernel::{Kernel, Outcome, Pick};
+use vs_regions::Item;
 use vs_sim::Dropped;
 use vs_time_wheel::Wheel;
 use vs_vcd::Counted;
@@ -127,7 +128,7 @@ fn ordered(alloc: Global, order: &Order) -> Result<(Outcome, Vec<u8>), Fail> {
         choices: order.choices,
         next: 0,
     };
-    let queue = Wheel::<usize>::new(alloc).ok().ok_or("memory")?;
+    let queue = Wheel::<Item>::new(alloc).ok().ok_or("memory")?;
     let mut kernel = Kernel::new(alloc, &design, queue, policy)?;
     let mut out = Counted::new(Vec::new(alloc));
     let outcome = kernel

@@ -7,6 +7,7 @@ use std::process::Abort;
 use std::test::Fail;
 use vs_design::Design;
 use vs_kernel::{Fifo, Kernel, Lifo, Outcome, Pick};
+use vs_regions::Item;
 use vs_time_wheel::{EventQueue, ListQueue, Wheel};
 use vs_vcd::Counted;
 
@@ -44,6 +45,14 @@ const DELAYED: &[Delayed] = &[
         fifo: "01\n02\n03\n",
         lifo: "00\n01\n02\n03\n",
     },
+    // Updates that were made in three slots are due at once, when a delay ends too: they follow the process, in the order of their execution.
+    Delayed {
+        source: "module t; reg [7:0] n; initial begin n <= #300 1; #100 n <= #200 2; #100 n <= #100 3; #100 $display(\"%h\", n); #1 $display(\"%h\", n); end endmodule",
+        outcome: Outcome::Quiet,
+        end: "\n#3000\n",
+        fifo: "xx\n03\n",
+        lifo: "xx\n03\n",
+    },
 ];
 
 /// What a run answers and writes.
@@ -55,7 +64,7 @@ struct Answer {
 }
 
 // A run to 3000 over a queue.
-fn run_over<Q: EventQueue<usize> + Drop, P: Pick + Drop>(
+fn run_over<Q: EventQueue<Item> + Drop, P: Pick + Drop>(
     alloc: Global,
     design: &Design,
     queue: Q,
@@ -88,8 +97,8 @@ fn compare<P: Pick + Copy + Drop>(
 ) -> Result<(), Fail> {
     let source = row.source;
     let design = design_of(alloc, source)?;
-    let wheel = Wheel::<usize>::new(alloc).ok().ok_or("memory")?;
-    let list = ListQueue::<usize>::new(alloc);
+    let wheel = Wheel::<Item>::new(alloc).ok().ok_or("memory")?;
+    let list = ListQueue::<Item>::new(alloc);
     let fast = run_over(alloc, &design, wheel, policy)?;
     let plain = run_over(alloc, &design, list, policy)?;
     assert_eq!(rt; fast.outcome, row.outcome, "{source}");

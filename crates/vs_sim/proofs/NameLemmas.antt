@@ -17,7 +17,7 @@ use Rattle.vs_pieces.specs.Uses.{names_used_among, UsedAreTokens}
 use Rattle.vs_design.specs.OneLine.{HasNamesOfOneLine}
 use Rattle.vs_design.specs.Parts.{Parts}
 use Rattle.vs_elaborate.specs.DesignOf.{DesignOf}
-use Rattle.vs_elaborate.specs.OneLine.{HasModulesOfOneLine}
+use Rattle.vs_design_laws.specs.OneLine.{HasModulesOfOneLine}
 use Rattle.vs_sim.specs.Honesty.{Defines}
 
 -- whether a symbol is no name, or a name without line feed

@@ -9,12 +9,14 @@ ghost use Rattle.vs_sim.specs.Honesty.{Defines, DefinesNone, IsRun, HasBegunRun,
 use crate::fault::SimFault;
 use std::alloc::Global;
 use vs_design::Design;
-use vs_elaborate::{elaborate, names_of_one_line as defined_of_one_line};
+use vs_design_laws::names_of_one_line as defined_of_one_line;
+use vs_elaborate::elaborate;
 use vs_kernel::{Fifo, Kernel, Lifo, Listed, Outcome, Pick, RunFault, dumps_show_slot_ends};
 use vs_lexer::{lex, names_of_one_line as spelled_of_one_line};
 use vs_parser::parse;
 use vs_pieces::used_are_tokens;
 use vs_process::never_stuck;
+use vs_regions::Item;
 use vs_syntax::names_are_tokens;
 use vs_time_wheel::Wheel;
 use vs_vcd::Sink;
@@ -66,7 +68,7 @@ fn run_under<P: Pick + Drop, V: Sink, L: Sink>(
     ensures fault { IfErr result (λ fault. FaultAt Ready fault) }
     ensures failures { OneFailed (is_run_write result) (V.failed vcd.old) (V.failed vcd.new) (L.failed lines.old) (L.failed lines.new) }
 {
-    let Ok(queue) = Wheel::<usize>::new(alloc) else {
+    let Ok(queue) = Wheel::<Item>::new(alloc) else {
         return Err(RunFault::Memory);
     };
     let mut kernel = Kernel::new(alloc, design, queue, policy)?;

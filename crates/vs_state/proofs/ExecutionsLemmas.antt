@@ -1,84 +1,70 @@
--- Moves of assignments and updates, and the oldest activated update.
-use Rattle.std.proofs.Common.{◌≡◌, ℕ, zero, suc, ◌<◌, ◌||◌, ◌&&◌, not, Bool, true, false, Option, Some, None, List, [], ◌∷◌, length, map, take, get_or, slice_get, slice_set, refl, sym, ◌∙◌, ap, subst, arith}
-use Rattle.std.specs.List.{list_any, remove}
-use Rattle.std.proofs.lemmas.List.{get_or-take, length-take}
-use Rattle.std.proofs.lemmas.List.Folds.{list_any_at}
+-- Moves of assignments and updates, and the ends of regions.
+use Rattle.std.proofs.Common.{◌≡◌, ℕ, zero, suc, ◌≤◌, ◌||◌, ◌&&◌, not, Bool, true, false, Option, Some, None, List, [], ◌∷◌, map, slice_get, slice_set, refl, sym, ◌∙◌, ap, ap₂, subst, arith}
+use Rattle.std.specs.List.{list_any}
+use Rattle.std.specs.Option.{ForSome}
+use Rattle.std.proofs.lemmas.Bool.{and_parts, or_parts}
 use Rattle.vs_logic4.specs.declared.digit.Digit.{Digit}
 use Rattle.vs_design.specs.declared.statement.Target.{Target}
 use Rattle.vs_design.specs.declared.expression.Typed.{Typed}
 use Rattle.vs_design.specs.Parts.{Parts}
 use Rattle.vs_design.specs.Stores.{changed_at}
-use Rattle.vs_design.specs.Writes.{Write, shares}
+use Rattle.vs_design.specs.Writes.{Write}
 use Rattle.vs_eval.specs.Targets.{assigned}
-use Rattle.vs_process.specs.Executions.{if_some, is_first}
-use Rattle.vs_state.specs.Touches.{AreOf}
+use Rattle.vs_process.specs.declared.moves.Move.TheVariants.{Make, Activate, EndSlot}
+use Rattle.vs_process.specs.Executions.{is_enabled, is_busy, has_inactive, has_due, apply}
+use Rattle.vs_process.specs.States.{State, AssignState, Update, without, written, evaluated, evaluate, propagate, propagate_value, settled, make, is_due}
+use Rattle.vs_flatcode.specs.Places.{Place, is_going}
 use Rattle.vs_places.proofs.ChangedLemmas.{changed_there}
-use Rattle.vs_process.specs.States.{State, AssignState, Update, without, written, evaluated, evaluate, propagate, propagate_value, settled, make}
+use Rattle.vs_regions.specs.Active.{is_active, place_of_active}
+use Rattle.vs_state.specs.Told.{told}
+use Rattle.vs_state.specs.Touches.{AreOf, is_left}
 
--- whether an update is activated and hides a newer one
-abbrev pub hides : Update → Update → Bool
-hides newer older = older.active && shares older.what newer.what
+-- ---- ends of regions
 
-none_here : (a s rest new : Bool) → (a || rest) ≡ false → (rest ≡ false → new ≡ false) → ((a && s) || new) ≡ false
-none_here true s rest new h f = cc
-none_here false s rest new h f = f h
+not_true : (b : Bool) → not b ≡ true → b ≡ false
+not_true false h = refl
+not_true true h = cc
 
--- where none is activated, none hides another
-none_older : (u : Update) (us : List Update) → list_any (λ (o : Update). o.active) us ≡ false → list_any (hides u) us ≡ false
-none_older u [] h = refl
-none_older u (o ∷ os) h = none_here o.active (shares o.what u.what) (list_any (λ (o : Update). o.active) os) (list_any (hides u) os) h (none_older u os)
+-- where no active event is left, no update is activated
+idle_of : (s : State) → not (is_busy s) ≡ true → list_any is_active s.updates ≡ false
+idle_of s h = (or_parts (list_any is_going s.places || list_any is_left s.assigns) (list_any is_active s.updates) (not_true (is_busy s) h)).1
 
-at_update : (us : List Update) (i : ℕ) (u : Update) → slice_get us i ≡ Some u → if_some (is_first us i) (slice_get us i) ≡ is_first us i u
-at_update us i u here = ap (if_some (is_first us i)) here
+-- where the slot may end, no update is activated and none is due in it
+pub end_is_idle : (s : State) → is_enabled s EndSlot ≡ true → (list_any is_active s.updates ≡ false) × (list_any (is_due s.time) s.updates ≡ false)
+end_is_idle s h =
+    let all = and_parts (not (is_busy s) && not (has_inactive s)) (not (has_due s)) h in
+    let quiet = and_parts (not (is_busy s)) (not (has_inactive s)) all.0 in
+    (idle_of s quiet.0, not_true (has_due s) all.1)
 
-first_from : (a h : Bool) → a ≡ true → h ≡ false → (a && not h) ≡ true
-first_from true false p q = refl
-first_from _ _ p q = cc
+-- where updates may be activated, none is yet
+pub activation_is_idle : (s : State) → is_enabled s Activate ≡ true → list_any is_active s.updates ≡ false
+activation_is_idle s h =
+    let all = and_parts (not (is_busy s) && not (has_inactive s)) (has_due s) h in
+    idle_of s (and_parts (not (is_busy s)) (not (has_inactive s)) all.0).0
 
-later_from : (a h : Bool) → h ≡ true → (a && not h) ≡ false
-later_from true true q = refl
-later_from false true q = refl
-later_from _ _ q = cc
+-- the least due time is none that is past a due one
+pub least_next : (next : Option ℕ) (time : ℕ) → next ≡ Some time → ForSome next (λ due. time ≤ due)
+least_next next time h = λ due e. let same : due ≡ time = cc in omega arith
 
--- the oldest activated update is the first of its signal
-pub oldest_is_first : (us : List Update) (i : ℕ) (u : Update) → slice_get us i ≡ Some u → u.active ≡ true → list_any (λ (o : Update). o.active) (take i us) ≡ false →
-    if_some (is_first us i) (slice_get us i) ≡ true
-oldest_is_first us i u here active none =
-    at_update us i u here ∙ first_from u.active (list_any (hides u) (take i us)) active (none_older u (take i us) none)
-
--- an update that no older one hides is the first of its signal
-pub shown_is_first : (us : List Update) (i k : ℕ) (u : Update) → slice_get us i ≡ Some u → u.active ≡ true → k ≡ i → list_any (hides u) (take k us) ≡ false →
-    true ≡ if_some (is_first us i) (slice_get us i)
-shown_is_first us i k u here active e none =
-    sym (at_update us i u here ∙ first_from u.active (list_any (hides u) (take i us)) active (ap (λ n. list_any (hides u) (take n us)) (sym e) ∙ none))
-
--- an update that an older one hides isn't
-pub hidden_is_later : (us : List Update) (i k : ℕ) (u o : Update) → slice_get us i ≡ Some u → k < i → k < length us → o ≡ get_or us k o → hides u o ≡ true →
-    false ≡ if_some (is_first us i) (slice_get us i)
-hidden_is_later us i k u o here below within is h =
-    let inside : k < length (take i us) = omega (arith, length-take i us) in
-    let found : hides u (get_or (take i us) k o) ≡ true = ap (hides u) (get_or-take i us k o below ∙ sym is) ∙ h in
-    sym (at_update us i u here ∙ later_from u.active (list_any (hides u) (take i us)) (list_any_at (hides u) (take i us) k o inside found))
-
-without-remove : {A : Type 0} (xs : List A) (i : ℕ) → without i xs ≡ remove xs i
-without-remove [] zero = refl
-without-remove [] (suc i) = refl
-without-remove (x ∷ xs) zero = refl
-without-remove (x ∷ xs) (suc i) = ap (λ rest. x ∷ rest) (without-remove xs i)
+-- ---- moves
 
 -- a nonblocking update that is taken out of the list and written
-pub make_at : {s now : State} (e : s ≡ now) (i : ℕ) (u : Update) (us : List Update) (w : Write) → slice_get s.updates i ≡ Some u → us ≡ remove s.updates i → u.what ≡ w →
-    written (record s { updates = us }) w ≡ make now i (slice_get now.updates i)
-make_at {s} {now} e i u us w here gone what =
-    subst (λ (t : State). written (record s { updates = us }) w ≡ make t i (slice_get t.updates i)) e
-    (ap (written (record s { updates = us })) (sym what)
-    ∙ ap (λ (l : List Update). written (record s { updates = l }) u.what) (gone ∙ sym (without-remove s.updates i)) ∙ sym (ap (make s i) here))
+pub make_at : {s now : State} (e : s ≡ now) (k time : ℕ) (u : Update) (places : List Place) (us : List Update) (w : Write) → slice_get s.updates (place_of_active k s.updates) ≡ Some u →
+    places ≡ s.places → time ≡ s.time → us ≡ without (place_of_active k s.updates) s.updates → u.what ≡ w → written (record s { places = places; time = time; updates = us }) w ≡ apply (told now (Make k)) now
+make_at {s} {now} e k time u places us w here still same gone what =
+    let i = place_of_active k s.updates in
+    subst (λ (t : State). written (record s { places = places; time = time; updates = us }) w ≡ apply (told t (Make k)) t) e
+    (ap₂ (λ (ps : List Place) (n : ℕ). written (record s { places = ps; time = n; updates = us }) w) still same
+    ∙ ap (written (record s { updates = us })) (sym what) ∙ ap (λ (l : List Update). written (record s { updates = l }) u.what) gone ∙ sym (ap (make s i) here))
 
 -- no nonblocking update
-pub make_past : {s now : State} (e : s ≡ now) (i : ℕ) (us : List Update) → slice_get s.updates i ≡ None → us ≡ remove s.updates i → record s { updates = us } ≡ make now i (slice_get now.updates i)
-make_past {s} {now} e i us here gone =
-    subst (λ (t : State). record s { updates = us } ≡ make t i (slice_get t.updates i)) e
-    (ap (λ (l : List Update). record s { updates = l }) (gone ∙ sym (without-remove s.updates i) ∙ none_without s.updates i here) ∙ sym (ap (make s i) here))
+pub make_past : {s now : State} (e : s ≡ now) (k time : ℕ) (places : List Place) (us : List Update) → slice_get s.updates (place_of_active k s.updates) ≡ None →
+    places ≡ s.places → time ≡ s.time → us ≡ without (place_of_active k s.updates) s.updates → record s { places = places; time = time; updates = us } ≡ apply (told now (Make k)) now
+make_past {s} {now} e k time places us here still same gone =
+    let i = place_of_active k s.updates in
+    subst (λ (t : State). record s { places = places; time = time; updates = us } ≡ apply (told t (Make k)) t) e
+    (ap₂ (λ (ps : List Place) (n : ℕ). record s { places = ps; time = n; updates = us }) still same
+    ∙ ap (λ (l : List Update). record s { updates = l }) (gone ∙ none_without s.updates i here) ∙ sym (ap (make s i) here))
   where
     none_without : (xs : List Update) (i : ℕ) → slice_get xs i ≡ None → without i xs ≡ xs
     none_without [] i h = refl

@@ -1,5 +1,4 @@
 mod ChangesLemmas
-mod DuesLemmas
 pub mod ExecutionsLemmas
 pub mod PrintsLemmas
 pub mod TouchesLemmas

@@ -325,11 +325,11 @@ written_parts s i y (Some v) none = (
 )
 
 -- a step of a process: its place, its write, what follows from the words that this changes, and the rest
-pub stepped_by : {s now : State} (same : s ≡ now) (i time : ℕ) (store : Store) (cs : List Change) (set places : List Place) (assigns : List AssignState) (effect : Effect) →
+pub stepped_by : {s now : State} (same : s ≡ now) (i time : ℕ) (store : Store) (cs : List Change) (set places : List Place) (assigns : List AssignState) (updates : List Update) (effect : Effect) →
     StepsAt s.places i s.store s.time set effect → store ≡ store_behind s.store (step_write (slice_get s.places i) s.store s.time) →
-    cs ≡ changes_of s.store (step_write (slice_get s.places i) s.store s.time) → assigns ≡ woken_changes cs s.assigns → places ≡ triggered_changes cs set → time ≡ s.time →
-    behind_effect (record s { store = store; places = places; assigns = assigns; time = time }) i effect ≡ stepped now i (slice_get now.places i)
-stepped_by {s} {now} same i time store cs set places assigns effect h wrote changed woken triggered still =
+    cs ≡ changes_of s.store (step_write (slice_get s.places i) s.store s.time) → assigns ≡ woken_changes cs s.assigns → places ≡ triggered_changes cs set → time ≡ s.time → updates ≡ s.updates →
+    behind_effect (record s { store = store; places = places; assigns = assigns; time = time; updates = updates }) i effect ≡ stepped now i (slice_get now.places i)
+stepped_by {s} {now} same i time store cs set places assigns updates effect h wrote changed woken triggered still kept =
     let out : Out = step (todo_of h.from) s.store s.time in
     let t : State = written_behind s out.write in
     let here : step_write (slice_get s.places i) s.store s.time ≡ out.write = ap (λ (o : Option Place). step_write o s.store s.time) h.here in
@@ -338,8 +338,8 @@ stepped_by {s} {now} same i time store cs set places assigns effect h wrote chan
     let a : store ≡ t.store = wrote ∙ ap (store_behind s.store) here ∙ parts.0 in
     let b : assigns ≡ t.assigns = woken ∙ ap (λ (l : List Change). woken_changes l s.assigns) words ∙ parts.1 in
     let c : places ≡ slice_set t.places i h.to = triggered ∙ ap₂ triggered_changes words h.set ∙ parts.2 in
-    let moved : behind_effect (record s { store = store; places = places; assigns = assigns; time = time }) i effect
-    ≡ behind_effect (record s { store = t.store; places = slice_set t.places i h.to; assigns = t.assigns }) i effect = rw (a, b, c, still) refl in
+    let moved : behind_effect (record s { store = store; places = places; assigns = assigns; time = time; updates = updates }) i effect
+    ≡ behind_effect (record s { store = t.store; places = slice_set t.places i h.to; assigns = t.assigns }) i effect = rw (a, b, c, still, kept) refl in
     let done : behind_effect (record s { store = t.store; places = slice_set t.places i h.to; assigns = t.assigns }) i effect ≡ stepped s i (slice_get s.places i) =
     effect_at s i h.from h.to out.next out.write effect t.store t.places t.assigns h.stepped.1 (written_over s out.write)
     ∙ ap (performed s i h.from) (sym h.stepped.0) ∙ sym (ap (stepped s i) h.here)
@@ -347,11 +347,11 @@ stepped_by {s} {now} same i time store cs set places assigns effect h wrote chan
     moved ∙ done ∙ ap (λ (r : State). stepped r i (slice_get r.places i)) same
 
 -- a write, and what follows from the words that it changes
-pub written_by : (s : State) (w : Write) (time : ℕ) (store : Store) (cs : List Change) (places : List Place) (assigns : List AssignState) → store ≡ put s.store w →
-    cs ≡ changed_words s.store store w → assigns ≡ woken_changes cs s.assigns → places ≡ triggered_changes cs s.places → time ≡ s.time →
-    record s { store = store; places = places; assigns = assigns; time = time } ≡ written s w
-written_by s w time store cs places assigns wrote changed woken triggered still =
+pub written_by : (s : State) (w : Write) (time : ℕ) (store : Store) (cs : List Change) (places : List Place) (assigns : List AssignState) (updates : List Update) → store ≡ put s.store w →
+    cs ≡ changed_words s.store store w → assigns ≡ woken_changes cs s.assigns → places ≡ triggered_changes cs s.places → time ≡ s.time → updates ≡ s.updates →
+    record s { store = store; places = places; assigns = assigns; time = time; updates = updates } ≡ written s w
+written_by s w time store cs places assigns updates wrote changed woken triggered still kept =
     let words : cs ≡ changed_words s.store (put s.store w) w = changed ∙ ap (λ (r : Store). changed_words s.store r w) wrote in
     let b : assigns ≡ map (touched s.store (put s.store w)) s.assigns = woken ∙ ap (λ (l : List Change). woken_changes l s.assigns) words ∙ changes_touch w s.store s.assigns in
     let c : places ≡ map (wakened s.store (put s.store w)) s.places = triggered ∙ ap (λ (l : List Change). triggered_changes l s.places) words ∙ changes_wake_places w s.store s.places in
-    rw (wrote, b, c, still) refl
+    rw (wrote, b, c, still, kept) refl

@@ -1,6 +1,6 @@
 pub mod Changes
-pub mod Dues
 pub mod Prints
 pub mod Sources
+pub mod Told
 pub mod Touches
 pub mod Waits

@@ -1,24 +1,21 @@
-//! Changes of assignments, places or updates.
+//! Changes of assignments and places.
 ghost use Rattle.std.specs.Prelude.{◌≡◌, Some, false, length, map, OnOk};
 ghost use Rattle.vs_edges.specs.Differences.{sees, word_changes};
 ghost use Rattle.vs_flatcode.specs.Steps.{has_nothing};
-ghost use Rattle.vs_process.specs.States as states;
-ghost use Rattle.vs_places.specs.Listed.{count};
 ghost use Rattle.vs_state.specs.Changes.{CoverWords, HaveSizes};
 ghost use Rattle.vs_state.specs.Touches.{AreOf, all_woken, woken_by, woken_changes};
 ghost use Rattle.vs_state.specs.Waits.{WaitWithin, triggered_changes};
 ghost use Rattle.vs_places.specs.Triggers.{changed_all, triggered_by};
 
 use crate::assigns::Assigns;
-use crate::update::Update;
 use crate::woken::Woken;
 use std::alloc::AllocError;
-use std::collections::VecDeque;
 use vs_design::{Design, Reader};
 use vs_edges::{Sensitivity, difference, sees};
 use vs_flatcode::Change;
 use vs_logic4::Vec4;
-use vs_places::{Processes, recount};
+use vs_places::Processes;
+use vs_regions::Item;
 use vs_time_wheel::EventQueue;
 
 /// The continuous assignments that read one of these bits of a word have to be evaluated; those of which that is new are noted in `woken`.
@@ -42,7 +39,7 @@ pub(crate) fn wake_readers(
 
 /// Of the listeners of a signal those become active that the change of one word of it wakes; they are noted in `woken`.
 #[inline(always)]
-fn trigger_listeners<Q: EventQueue<usize>>(
+fn trigger_listeners<Q: EventQueue<Item>>(
     processes: &mut Processes<Q>,
     woken: &mut Vec<usize>,
     listeners: &[usize],
@@ -55,6 +52,7 @@ fn trigger_listeners<Q: EventQueue<usize>>(
     ensures places { OnOk result (processes.new.places
         ≡ changed_all (triggered_by signal word (Some before) (Some behind)) listeners.now processes.old.places) }
     ensures time { processes.new.time ≡ processes.old.time }
+    ensures updates { processes.new.updates ≡ processes.old.updates }
 {
     for process in listeners {
         if processes.trigger(*process, signal, word, before, behind) {
@@ -64,10 +62,10 @@ fn trigger_listeners<Q: EventQueue<usize>>(
     Ok(())
 }
 
-/// What the change of one word of a signal wakes: the continuous assignments that read a bit of it which differs have to be evaluated, and the
-/// processes that wait for it become active. It looks at the readers and the listeners of the signal alone.
+/// What the change of one word of a signal wakes: the continuous assignments that read a bit of it which differs have to be evaluated, and
+/// the processes that wait for it become active. It looks at the readers and the listeners of the signal alone.
 #[inline(always)]
-fn wake_word<Q: EventQueue<usize>>(
+fn wake_word<Q: EventQueue<Item>>(
     assigns: &mut Assigns,
     processes: &mut Processes<Q>,
     woken: &mut Woken,
@@ -84,10 +82,8 @@ fn wake_word<Q: EventQueue<usize>>(
         ≡ map (woken_by (word_changes signal word (Some before) (Some behind))) assigns.old) }
     ensures places { OnOk result (processes.new.places ≡ map (triggered_by signal word (Some before) (Some behind)) processes.old.places) }
     ensures time { processes.new.time ≡ processes.old.time }
+    ensures updates { processes.new.updates ≡ processes.old.updates }
 {
-    if before == behind {
-        return Ok(());
-    }
     let differing = difference(before, behind);
     let senses = Sensitivity::of(design, signal);
     wake_readers(assigns, &mut woken.assigns, senses.readers, word, differing)?;
@@ -105,7 +101,7 @@ fn wake_word<Q: EventQueue<usize>>(
 
 /// What the words that a write has changed wake, one after another.
 #[inline(always)]
-fn wake_changes<Q: EventQueue<usize>>(
+fn wake_changes<Q: EventQueue<Item>>(
     assigns: &mut Assigns,
     processes: &mut Processes<Q>,
     woken: &mut Woken,
@@ -118,6 +114,7 @@ fn wake_changes<Q: EventQueue<usize>>(
     ensures assigns { OnOk result (assigns.new ≡ woken_changes changes.now.items assigns.old) }
     ensures places { OnOk result (processes.new.places ≡ triggered_changes changes.now.items processes.old.places) }
     ensures time { processes.new.time ≡ processes.old.time }
+    ensures updates { processes.new.updates ≡ processes.old.updates }
 {
     for change in changes {
         wake_word(
@@ -145,10 +142,11 @@ fn note_signals(changed: &mut Vec<usize>, changes: &Vec<Change>) -> Result<(), A
     Ok(())
 }
 
-/// What follows from the words that a write has changed: their signals are noted in `changed`, the continuous assignments that read a bit of them
-/// which differs have to be evaluated, and the processes that wait for such a change become active. Each kind is noted in design order.
+/// What follows from the words that a write has changed: their signals are noted in `changed`, the continuous assignments that read a bit
+/// of them which differs have to be evaluated, and the processes that wait for such a change become active. Each kind is noted in design
+/// order.
 #[inline(always)]
-pub(crate) fn follow<Q: EventQueue<usize>>(
+pub(crate) fn follow<Q: EventQueue<Item>>(
     assigns: &mut Assigns,
     processes: &mut Processes<Q>,
     woken: &mut Woken,
@@ -162,6 +160,7 @@ pub(crate) fn follow<Q: EventQueue<usize>>(
     ensures assigns { OnOk result (assigns.new ≡ woken_changes changes.now.items assigns.old) }
     ensures places { OnOk result (processes.new.places ≡ triggered_changes changes.now.items processes.old.places) }
     ensures time { processes.new.time ≡ processes.old.time }
+    ensures updates { processes.new.updates ≡ processes.old.updates }
     ensures covers { OnOk result (CoverWords changed.new.items changes.now.items) }
 {
     note_signals(changed, changes)?;
@@ -170,20 +169,4 @@ pub(crate) fn follow<Q: EventQueue<usize>>(
         woken.sort();
     }
     Ok(())
-}
-
-/// The updates that are due at this time are activated. From the count of the activated ones before it makes the one behind.
-pub(crate) fn activate_all(updates: &mut VecDeque<Update>, before: usize, time: u64) -> usize
-    requires { before ≡ count (λ u. u.active) updates.old.items }
-    ensures updates { updates.new.items ≡ map (states.activated time) updates.old.items }
-    ensures active { result ≡ count (λ u. u.active) updates.new.items }
-{
-    let mut active = before;
-    for i in 0..updates.len() {
-        let update = &mut updates[i];
-        let was = update.is_active();
-        update.activate(time);
-        active = recount(active, was, update.is_active());
-    }
-    active
 }

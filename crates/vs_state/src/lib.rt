@@ -10,10 +10,8 @@ mod changes;
 mod moves;
 mod search;
 mod state;
-mod update;
-mod updates;
 mod woken;
 
 pub use called::Called;
 pub use state::State;
-pub use update::Update;
+pub use vs_regions::Update;

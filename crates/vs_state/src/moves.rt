@@ -6,33 +6,20 @@ ghost use Rattle.vs_process.specs.States as states;
 ghost use Rattle.vs_state.specs.Changes.{CoverChanges};
 ghost use Rattle.vs_state.specs.Touches.{HasSources, behind_effect};
 ghost use Rattle.vs_state.specs.Prints.{line_of, made_line};
+ghost use Rattle.vs_state.specs.Told.{told};
 ghost use Rattle.vs_state.specs.Waits.{HasTerms};
 
 use crate::called::Called;
 use crate::changes::follow;
 use crate::state::State;
-use crate::update::Update;
 use std::alloc::AllocError;
-use vs_design::{Design, Ticks, Write};
+use vs_design::Design;
 use vs_flatcode::{assign, make};
 use vs_process::{Effect, Move};
+use vs_regions::Item;
 use vs_time_wheel::EventQueue;
 
-impl<'a, Q: EventQueue<usize>> State<'a, Q> {
-    /// Appends a nonblocking update that is due in so many ticks.
-    #[inline(always)]
-    fn queue(&mut self, process: usize, ticks: Ticks, write: Write) -> Result<(), AllocError>
-        requires early { self.old.time < 2 ^ 62 }
-        ensures queued { OnOk result (self.new ≡ behind_effect self.old process (Effect.Update ticks write)) }
-        ensures store { self.new.store ≡ self.old.store }
-    {
-        let due = self.processes.time() + ticks.count;
-        let update = Update::new(self.serial, process, due, write);
-        self.updates.push(update)?;
-        self.serial = self.serial.wrapping_add(1);
-        Ok(())
-    }
-
+impl<'a, Q: EventQueue<Item>> State<'a, Q> {
     /// Does what a step of a process does beyond its place and its write; the answer is the line that it makes.
     #[inline(always)]
     fn perform(&mut self, process: usize, effect: Effect<'a>) -> Result<Option<Vec<u8>>, AllocError>
@@ -45,7 +32,7 @@ impl<'a, Q: EventQueue<usize>> State<'a, Q> {
         match effect {
             Effect::Nothing => Ok(None),
             Effect::Update(ticks, write) => {
-                self.queue(process, ticks, write)?;
+                self.processes.push(process, ticks, write)?;
                 Ok(None)
             }
             Effect::Strobe(format) => {
@@ -151,7 +138,7 @@ impl<'a, Q: EventQueue<usize>> State<'a, Q> {
         Ok(())
     }
 
-    /// A nonblocking update.
+    /// A nonblocking update, by its number among the activated ones.
     #[inline(always)]
     fn update(
         &mut self,
@@ -161,10 +148,10 @@ impl<'a, Q: EventQueue<usize>> State<'a, Q> {
     ) -> Result<(), AllocError>
         requires sources { HasSources design.now self.old }
         requires terms { HasTerms design.now self.old }
-        ensures made { OnOk result (self.new ≡ states.make self.old index (slice_get self.old.updates index)) }
+        ensures made { OnOk result (self.new ≡ executions.apply (told self.old (Move.Make index)) self.old) }
         ensures covers { OnOk result (CoverChanges changed.new.items self.old.store self.new.store) }
     {
-        let Some(update) = self.updates.take(index) else {
+        let Some(update) = self.processes.take(index) else {
             return Ok(());
         };
         self.changes.clear();
@@ -183,6 +170,7 @@ impl<'a, Q: EventQueue<usize>> State<'a, Q> {
     /// The slot ends: time goes to the least due time, or the execution is over.
     fn end_slot(&mut self) -> Result<(), AllocError>
         requires going { self.old.over ≡ false }
+        requires enabled { executions.is_enabled self.old Move.EndSlot ≡ true }
         ensures made { OnOk result (self.new ≡ executions.apply Move.EndSlot self.old) }
         ensures store { self.new.store ≡ self.old.store }
     {
@@ -191,16 +179,16 @@ impl<'a, Q: EventQueue<usize>> State<'a, Q> {
             self.over = true;
             return Ok(());
         }
-        match self.next_time() {
+        match self.processes.next_time() {
             None => self.over = true,
             Some(time) => self.processes.advance(time, &mut self.woken.processes)?,
         }
         Ok(())
     }
 
-    /// Makes an enabled move, and notes in `changed` the signals that it may change; the answer is the line that it makes at once, with the line
-    /// feed that ends it (IEEE 1364-2005, clause 17.1.1). The lines of the calls of `$strobe` are the caller's to make before the end of the slot,
-    /// of `calls`.
+    /// Makes an enabled move, and notes in `changed` the signals that it may change; the answer is the line that it makes at once, with the
+    /// line feed that ends it (IEEE 1364-2005, clause 17.1.1). A move tells a nonblocking update by its number among the activated ones, the
+    /// oldest being 0. The lines of the calls of `$strobe` are the caller's to make before the end of the slot, of `calls`.
     #[inline(always)]
     pub fn make(
         &mut self,
@@ -209,11 +197,11 @@ impl<'a, Q: EventQueue<usize>> State<'a, Q> {
         changed: &mut Vec<usize>,
     ) -> Result<Option<Vec<u8>>, AllocError>
         requires going { self.old.over ≡ false }
-        requires enabled { executions.is_enabled self.old choice ≡ true }
+        requires enabled { executions.is_enabled self.old (told self.old choice) ≡ true }
         requires early { self.old.time < 2 ^ 62 }
         requires sources { HasSources design.now self.old }
         requires terms { HasTerms design.now self.old }
-        ensures state { OnOk result (self.new ≡ executions.apply choice self.old) }
+        ensures state { OnOk result (self.new ≡ executions.apply (told self.old choice) self.old) }
         ensures line { IfOk result (λ line. MatchOption line (made_line choice self.old ≡ None)
             (λ text. made_line choice self.old ≡ Some text.items)) }
         ensures covers { OnOk result (CoverChanges changed.new.items self.old.store self.new.store) }
@@ -225,7 +213,7 @@ impl<'a, Q: EventQueue<usize>> State<'a, Q> {
             Move::Propagate(assign) => self.propagate(design, assign, changed)?,
             Move::Make(index) => self.update(design, index, changed)?,
             Move::Rouse => self.processes.rouse_all(&mut self.woken.processes),
-            Move::Activate => self.updates.activate(self.processes.time()),
+            Move::Activate => self.processes.activate(),
             Move::EndSlot => self.end_slot()?,
         }
         Ok(None)

@@ -1,13 +1,12 @@
 //! The state of a run.
-ghost use Rattle.std.specs.Prelude.{◌≡◌, [], map, slice_get, is_some, IfOk};
+ghost use Rattle.std.specs.Prelude.{◌≡◌, [], filter, map, slice_get, is_some, IfOk};
 ghost use Rattle.vs_process.specs.Executions.{if_some};
 ghost use Rattle.vs_flatcode.specs.Places.{is_going, is_inside};
 ghost use Rattle.vs_process.specs.States as states;
+ghost use Rattle.vs_regions.specs.Active.{is_active};
 
 use crate::assigns::Assigns;
 use crate::called::Called;
-use crate::update::Update;
-use crate::updates::Updates;
 use crate::woken::Woken;
 use std::alloc::{AllocError, Global};
 use std::collections::VecDeque;
@@ -16,36 +15,32 @@ use vs_design::{Design, Store};
 use vs_flatcode::Change;
 use vs_places::Processes;
 use vs_process::Code;
+use vs_regions::{Item, Update};
 use vs_time_wheel::EventQueue;
 
 /// The state of a run. A contract sees it as a state of the definition.
 #[derive(Drop)]
-pub struct State<'a, Q: EventQueue<usize>> {
+pub struct State<'a, Q: EventQueue<Item>> {
     pub(crate) alloc: Global,
     pub(crate) store: Store<'a>,
-    /// The processes, and the time of the slot.
+    /// The processes, the nonblocking updates, and the time of the slot.
     pub(crate) processes: Processes<'a, Q>,
     pub(crate) assigns: Assigns<'a>,
-    /// The nonblocking updates that wait, in the order of execution.
-    pub(crate) updates: Updates,
     /// The calls of `$strobe` in this slot, in their order.
     pub(crate) calls: Vec<Called<'a>>,
     pub(crate) finishing: bool,
     pub(crate) over: bool,
-    /// How many nonblocking updates were made so far; no part of the definition's state.
-    pub(crate) serial: u64,
     /// The words that the last write has changed; no part of the definition's state.
     pub(crate) changes: Vec<Change>,
     /// What the last move has woken; no part of the definition's state.
     pub(crate) woken: Woken,
 }
 
-impl<'a, Q: EventQueue<usize>> Model for State<'a, Q> {
+impl<'a, Q: EventQueue<Item>> Model for State<'a, Q> {
     ghost use Rattle.std.specs.Coded.{codes};
     ghost use Rattle.vs_design.specs.contracts.expression.Typed as expression;
     ghost use Rattle.vs_design.specs.contracts.statement.Statement as statement;
     ghost use Rattle.vs_process.specs.States as states;
-    ghost use Rattle.vs_state.specs.Dues.{AreFrom};
 
     ghost Value = { states.State };
 
@@ -55,20 +50,17 @@ impl<'a, Q: EventQueue<usize>> Model for State<'a, Q> {
       store = m.store;
       places = m.processes.places;
       assigns = m.assigns;
-      updates = m.updates;
+      updates = m.processes.updates;
       calls = m.calls.items;
       time = m.processes.time;
       finishing = m.finishing;
       over = m.over;
     } };
-
-    // No update is due before the slot.
-    ghost invariant = { λ m. AreFrom m.processes.time m.updates };
 }
 
-impl<'a, Q: EventQueue<usize>> State<'a, Q> {
-    /// The state in which every execution of a design begins; these are the codes of its processes, one each in order, and the queue keeps the
-    /// ends of their delays.
+impl<'a, Q: EventQueue<Item>> State<'a, Q> {
+    /// The state in which every execution of a design begins; these are the codes of its processes, one each in order, and the queue keeps
+    /// the ends of their delays and the nonblocking updates of later slots.
     pub fn start(
         alloc: Global,
         design: &'a Design,
@@ -90,11 +82,9 @@ impl<'a, Q: EventQueue<usize>> State<'a, Q> {
             store,
             processes,
             assigns,
-            updates: Updates::none(alloc),
             calls: Vec::new(alloc),
             finishing: false,
             over: false,
-            serial: 0,
             changes: Vec::new(alloc),
             woken: Woken::none(alloc),
         })
@@ -182,10 +172,12 @@ impl<'a, Q: EventQueue<usize>> State<'a, Q> {
         self.assigns.len()
     }
 
-    /// The nonblocking updates that wait, in the order of execution.
+    /// The activated nonblocking updates, the oldest first.
     #[inline(always)]
-    pub fn updates(&self) -> &VecDeque<Update> {
-        self.updates.items()
+    pub fn activated(&self) -> &VecDeque<Update>
+        ensures { filter is_active self.now.updates ≡ result.now.items }
+    {
+        self.processes.regions().activated()
     }
 
     /// The continuous assignments that the last move has woken.
@@ -194,8 +186,8 @@ impl<'a, Q: EventQueue<usize>> State<'a, Q> {
         &self.woken.assigns
     }
 
-    /// The processes that the last move has made active: by an event control in design order, each once; else in the order in which they came to
-    /// wait.
+    /// The processes that the last move has made active: by an event control in design order, each once; else in the order in which they
+    /// came to wait.
     #[inline(always)]
     pub fn woken_processes(&self) -> &[usize] {
         &self.woken.processes

@@ -120,7 +120,7 @@ chain-returns-then-first_height-room-clause-reads t c = λ ts q.
 
 pub chain-returns-in_err-other-clause-reads : goal.chain-returns-in_err-other-clause-reads
 chain-returns-in_err-other-clause-reads t c = λ ts q.
-    let p = err_from_is_err_and c.from_residual.result c.from_residual.ensures.1 in
+    let p = err_from_is_err_and c.from_residual-in_err-other.result c.from_residual-in_err-other.ensures.1 in
     let h : height (expr_tree c.args.first) < c.args.room = omega (arith, c.requires) in
     rw (p.1, p.2) (fails_by (part (a_level c.args.level)) (part (a_level (suc c.args.level))) (c.args.room - 1) c.args.room (seen c.in-Some-binary_at.after.now) ts
     (λ deep at s. chain_stuck c.args.level c.args.room deep ts _ _ _ _ at _ _ _ _ c.in-Some.ensures c.in-Some-binary_at.ensures q h c.loop-operator.invariant.along s)

@@ -1,8 +1,9 @@
 use Rattle.std.proofs.Common.{◌∙◌, refl, arith}
 use Rattle.vs_process.specs.declared.moves.Move.TheVariants.{Make}
+use Rattle.vs_state.specs.Told.{told}
 use Rattle.vs_kernel.proofs.MarkingLemmas.{changes_more, changes_none}
 use Rattle.vs_kernel.proofs.RunsLemmas.{on_err, part_all}
-use Rattle.vs_kernel.proofs.TurnsLemmas.{along_first, along_more, batch_all, batch_part, make_inner, reached_on, update_over, update_time}
+use Rattle.vs_kernel.proofs.TurnsLemmas.{along_first, along_more, batch_all, batch_part, made_inner, reached_on, update_over, update_time}
 use Rattle.vs_kernel.proofs.moves.run_updates.Goals as goal
 
 pub advance-requires : goal.advance-requires
@@ -26,18 +27,18 @@ loop-agenda-init g c = record {
 pub returns-in_err-advance-clause-err : goal.returns-in_err-advance-clause-err
 returns-in_err-advance-clause-err g c =
     on_err _
-    (batch_part c.loop-agenda.invariant.run c.args.steps (g.L.Sink.bytes c.advance.new.lines) (make_inner c.loop-agenda.update) c.loop-agenda.invariant.within
+    (batch_part c.loop-agenda.invariant.run c.args.steps (g.L.Sink.bytes c.advance.new.lines) (made_inner c.loop-agenda.state c.loop-agenda.update) c.loop-agenda.invariant.within
     c.in_err-advance.ensures.part)
 
 pub returns-in_err-add_woken-clause-err : goal.returns-in_err-add_woken-clause-err
 returns-in_err-add_woken-clause-err g c =
     on_err _
-    (batch_part c.loop-agenda.invariant.run c.args.steps (g.L.Sink.bytes c.advance.new.lines) (make_inner c.loop-agenda.update) c.loop-agenda.invariant.within
+    (batch_part c.loop-agenda.invariant.run c.args.steps (g.L.Sink.bytes c.advance.new.lines) (made_inner c.loop-agenda.state c.loop-agenda.update) c.loop-agenda.invariant.within
     (part_all _ _ _ c.in_ok-advance.ensures.printed))
 
 pub returns-then-made-steps-clause-ok : goal.returns-then-made-steps-clause-ok
 returns-then-made-steps-clause-ok g c =
-    batch_all c.loop-agenda.invariant.run c.advance.new.state (g.L.Sink.bytes c.advance.new.lines) (make_inner c.loop-agenda.update) c.in_ok-advance.ensures.state
+    batch_all c.loop-agenda.invariant.run c.advance.new.state (g.L.Sink.bytes c.advance.new.lines) (made_inner c.loop-agenda.state c.loop-agenda.update) c.in_ok-advance.ensures.state
     c.in_ok-advance.ensures.printed (λ blocks xs. refl)
 
 pub returns-then-made-steps-clause-marked : goal.returns-then-made-steps-clause-marked
@@ -47,7 +48,7 @@ returns-then-made-steps-clause-marked g c =
 
 pub returns-in-None-clause-ok : goal.returns-in-None-clause-ok
 returns-in-None-clause-ok g c =
-    batch_all c.loop-agenda.invariant.run c.advance.new.state (g.L.Sink.bytes c.advance.new.lines) (make_inner c.loop-agenda.update) c.in_ok-advance.ensures.state
+    batch_all c.loop-agenda.invariant.run c.advance.new.state (g.L.Sink.bytes c.advance.new.lines) (made_inner c.loop-agenda.state c.loop-agenda.update) c.in_ok-advance.ensures.state
     c.in_ok-advance.ensures.printed (λ blocks xs. refl)
 
 pub returns-in-None-clause-marked : goal.returns-in-None-clause-marked
@@ -58,11 +59,11 @@ returns-in-None-clause-marked g c =
 pub loop-agenda-preserved : goal.loop-agenda-preserved
 loop-agenda-preserved g c = record {
   run =
-      along_more c.loop-agenda.invariant.run c.advance.new.state (g.L.Sink.bytes c.advance.new.lines) (Make c.in-Some.next) (make_inner c.loop-agenda.update)
-      c.in_ok-advance.ensures.state c.in_ok-advance.ensures.printed
+      along_more c.loop-agenda.invariant.run c.advance.new.state (g.L.Sink.bytes c.advance.new.lines) (told c.advance.new.state (Make c.in-Some.next))
+      (made_inner c.loop-agenda.state c.loop-agenda.update) c.in_ok-advance.ensures.state c.in_ok-advance.ensures.printed
       (update_over c.loop-agenda.state c.advance.new.state c.loop-agenda.update c.in_ok-advance.ensures.state c.loop-agenda.invariant.run.going)
       (update_time c.loop-agenda.state c.advance.new.state c.loop-agenda.update c.in_ok-advance.ensures.state) c.in-Some.ensures (λ blocks xs. refl);
-  reached = reached_on c.args.design.now c.loop-agenda.state c.advance.new.state (Make c.loop-agenda.update) c.loop-agenda.invariant.reached c.in_ok-advance.ensures.state;
+  reached = reached_on c.args.design.now c.loop-agenda.state c.advance.new.state (told c.loop-agenda.state (Make c.loop-agenda.update)) c.loop-agenda.invariant.reached c.in_ok-advance.ensures.state;
   within = omega (arith, c.loop-agenda.invariant.within, c.if-made-steps.false);
   marked =
       changes_more c.args.marks.now.items c.loop-agenda.marks.items c.advance.new.marks.items c.args.state.now.store c.loop-agenda.state.store c.advance.new.state.store

@@ -1,5 +1,6 @@
 use Rattle.std.proofs.Common.{◌≡◌, ◌-◌, ◌<◌, length}
 use Rattle.vs_process.specs.declared.moves.Move.TheVariants.{Make}
+use Rattle.vs_state.specs.Told.{told}
 use Rattle.vs_kernel.specs.Marking.{MarkChanges}
 use Rattle.vs_kernel.specs.Turns.{IsReached}
 use Rattle.vs_kernel.proofs.TurnsLemmas.{Along}
@@ -7,7 +8,7 @@ use Rattle.vs_kernel.proofs.moves.run_updates.Given as goal
 
 abbrev pub invariant-loop-agenda : goal.invariant-loop-agenda
 invariant-loop-agenda g l = record {
-  run : Along l.made (Make l.first) (Make l.update) l.fn.state l.state (g.L.Sink.bytes l.fn.lines) (g.L.Sink.bytes l.lines);
+  run : Along l.made (Make l.first) (told l.state (Make l.update)) l.fn.state l.state (g.L.Sink.bytes l.fn.lines) (g.L.Sink.bytes l.lines);
   reached : IsReached l.design l.state;
   within : l.made < l.steps;
   marked : MarkChanges l.fn.marks.items l.marks.items l.fn.state.store l.state.store;

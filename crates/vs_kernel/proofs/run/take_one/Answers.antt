@@ -4,20 +4,14 @@ use Rattle.vs_vcd.specs.Sinks.{failed_after}
 use Rattle.vs_kernel.specs.Faults.{OneFailed}
 use Rattle.vs_kernel.proofs.MarkingLemmas.{covers_on}
 use Rattle.vs_kernel.proofs.RunsLemmas.{part_all, slots_whole, step_printed, slot_printed, line_printed, failed_as, second_failed, on_err}
-use Rattle.vs_kernel.proofs.TurnsLemmas.{part_at}
+use Rattle.vs_kernel.proofs.TurnsLemmas.{part_at, turned_told}
 use Rattle.vs_kernel.proofs.run.take_one.Goals as goal
 
 pub returns-clause-ok : goal.returns-clause-ok
-returns-clause-ok g c = λ inside free. record {
-  choice = c.args.next.choice;
-  enabled = c.requires.enabled;
-  free = free;
-  made = c.in_ok-advance.ensures.state;
-  told = c.inside_behind.ensures;
-  written = c.in_ok-note.ensures.written;
-  text = c.in_ok-note.ensures.bytes;
-  lines = step_printed _ _ _ c.args.next.choice c.args.state.now c.in_ok-note.ensures.lines c.in_ok-advance.ensures.printed;
-}
+returns-clause-ok g c = λ inside free.
+    turned_told c.args.blocks.now inside c.inside_behind.result c.args.state.now c.advance.new.state c.args.writer.now c.note.new.writer _ _ _ _ c.args.next.choice c.requires.enabled free
+    c.in_ok-advance.ensures.state c.inside_behind.ensures c.in_ok-note.ensures.written c.in_ok-note.ensures.bytes
+    (step_printed _ _ _ c.args.next.choice c.args.state.now c.in_ok-note.ensures.lines c.in_ok-advance.ensures.printed)
 
 pub returns-clause-failures : goal.returns-clause-failures
 returns-clause-failures g c = (c.in_ok-note.ensures.failures.0, c.in_ok-advance.ensures.failures ∙ c.in_ok-note.ensures.failures.1)

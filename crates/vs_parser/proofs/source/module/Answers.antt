@@ -6,7 +6,7 @@ use Rattle.vs_syntax.specs.Reading.{stuck_first, stuck_second}
 use Rattle.vs_syntax.proofs.Gets.{gets_seq}
 use Rattle.vs_expressions.specs.Answers.{seen}
 use Rattle.vs_expressions.proofs.Exits.{fails_by}
-use Rattle.vs_parser.proofs.Items.{module_stuck, module_read}
+use Rattle.vs_parser.proofs.Modules.{module_stuck, module_read}
 use Rattle.vs_parser.proofs.source.module.Goals as goal
 
 pub returns-in_err-name-clause-reads : goal.returns-in_err-name-clause-reads

@@ -7,4 +7,5 @@ invariant-loop-process g l = record {
   places : changed_all (triggered_by l.signal l.word (Some l.before) (Some l.behind)) (drop l.process-index l.listeners) l.processes.places
       ≡ changed_all (triggered_by l.signal l.word (Some l.before) (Some l.behind)) l.listeners l.fn.processes.places;
   time : l.processes.time ≡ l.fn.processes.time;
+  updates : l.processes.updates ≡ l.fn.processes.updates;
 }

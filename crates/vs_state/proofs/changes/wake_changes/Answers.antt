@@ -55,4 +55,5 @@ loop-change-preserved g c =
           subst (WaitWithin c.args.design.now.processes) (sym c.in_ok-wake_word.ensures.places)
           (within_triggered c.args.design.now.processes ys change.signal change.word (Some change.before) (Some change.behind) (c.loop-change.invariant.terms some));
       time = c.wake_word.ensures.time ∙ c.loop-change.invariant.time;
+      updates = c.wake_word.ensures.updates ∙ c.loop-change.invariant.updates;
     }

@@ -13,4 +13,5 @@ invariant-loop-change g l = record {
   sources : AreOf l.design l.assigns;
   terms : has_nothing l.changes.items ≡ false → WaitWithin l.design.processes l.processes.places;
   time : l.processes.time ≡ l.fn.processes.time;
+  updates : l.processes.updates ≡ l.fn.processes.updates;
 }

@@ -1,10 +1,14 @@
-use Rattle.std.proofs.Common.{List, sym, subst}
-use Rattle.vs_process.specs.States.{Update}
-use Rattle.vs_state.specs.Dues.{AreFrom}
-use Rattle.vs_state.proofs.DuesLemmas.{from_activated}
+use Rattle.std.proofs.Common.{◌≡◌, false, true, sym, subst}
+use Rattle.std.specs.List.{list_any}
+use Rattle.vs_process.specs.declared.moves.Move.{Move}
+use Rattle.vs_process.specs.Executions.{is_enabled}
+use Rattle.vs_process.specs.States.{State}
+use Rattle.vs_regions.specs.Active.{is_active}
+use Rattle.vs_state.specs.Told.{told}
+use Rattle.vs_state.proofs.ExecutionsLemmas.{activation_is_idle}
 use Rattle.vs_state.proofs.state.State.make.Goals as goal
 
-pub invariant_of-self-in-Activate : goal.invariant_of-self-in-Activate
-invariant_of-self-in-Activate g c =
-    let time = c.self.inside.processes.time in
-    subst (λ (l : List Update). AreFrom time l) (sym c.activate.ensures) (from_activated time c.time.result c.self.inside.updates c.self.invariant)
+pub activate-requires : goal.activate-requires
+activate-requires g c =
+    subst (λ (s : State). list_any is_active s.updates ≡ false) (sym c.self.view_is)
+    (activation_is_idle c.args.self.now (subst (λ (m : Move). is_enabled c.args.self.now (told c.args.self.now m) ≡ true) c.in-Activate.is c.requires.enabled))

@@ -35,14 +35,14 @@ returns-clause-made g c =
       store = s.store;
       places = s.processes.places;
       assigns = c.settle.new.self;
-      updates = s.updates;
+      updates = s.processes.updates;
       calls = s.calls.items;
       time = s.processes.time;
       finishing = s.finishing;
       over = s.over;
     } in
     written_by before w c.follow.new.processes.time c.assign.new.store c.assign.new.changes.items c.follow.new.processes.places c.follow.new.assigns
-    c.in_ok-assign.ensures.store words c.in_ok-follow.ensures.assigns c.in_ok-follow.ensures.places c.follow.ensures.time
+    c.follow.new.processes.updates c.in_ok-assign.ensures.store words c.in_ok-follow.ensures.assigns c.in_ok-follow.ensures.places c.follow.ensures.time c.follow.ensures.updates
     ∙ propagate_at c.self.view_is c.args.number c.time-time.result c.in-Some.x.now c.settle.new.self c.target-target.result.now c.in-Some-pending.digits w c.in-Some.ensures
     (sym c.pending.ensures ∙ c.in-Some-pending.is) c.settle.ensures c.target-target.ensures c.time-time.ensures refl
 

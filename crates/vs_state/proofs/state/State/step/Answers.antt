@@ -33,7 +33,8 @@ returns-clause-state g c =
     let words : c.step.new.changes.items ≡ changes_of s.store w = c.in_ok-effect.ensures.changes ∙ ap (λ (l : List Change). l ++ changes_of s.store w) c.clear.ensures.items in
     c.in_ok-line.ensures.state
     ∙ stepped_by c.self.view_is c.args.process c.follow.new.processes.time c.step.new.store c.step.new.changes.items c.step.new.self.places c.follow.new.processes.places c.follow.new.assigns
-    c.in_ok-effect.effect c.in_ok-effect.ensures.ok c.in_ok-effect.ensures.store words c.in_ok-follow.ensures.assigns c.in_ok-follow.ensures.places (c.follow.ensures.time ∙ c.step.ensures.time)
+    c.follow.new.processes.updates c.in_ok-effect.effect c.in_ok-effect.ensures.ok c.in_ok-effect.ensures.store words c.in_ok-follow.ensures.assigns c.in_ok-follow.ensures.places
+    (c.follow.ensures.time ∙ c.step.ensures.time) (c.follow.ensures.updates ∙ c.step.ensures.updates)
 
 pub returns-clause-line : goal.returns-clause-line
 returns-clause-line g c =

@@ -1,0 +1,3 @@
+pub use Rattle.vs_elaborate.specs.DesignOf
+pub mod OneLine
+pub mod Same

@@ -1,0 +1,22 @@
+use Rattle.std.proofs.Common.{refl}
+use Rattle.std.proofs.lemmas.Result.{err_from_is_err_and}
+use Rattle.vs_tokens.specs.declared.token.Mark.TheVariants as m
+use Rattle.vs_syntax.specs.Symbols.{a_mark, the_mark}
+use Rattle.vs_syntax.specs.Grammar.{nothing, ◌·◌, ◌or◌, part, mark, an_expr}
+use Rattle.vs_expressions.specs.Answers.{seen}
+use Rattle.vs_expressions.proofs.Exits.{fails_by}
+use Rattle.vs_statements.proofs.Forms.{absent, present_stuck, present_read}
+use Rattle.vs_headers.proofs.declaration.declared_value.Goals as goal
+
+pub returns-in_default : goal.returns-in_default
+returns-in_default c = absent (the_mark m.Assign) (part an_expr) c.args.room _ c.in_default.ensures
+
+pub returns-in_err-value : goal.returns-in_err-value
+returns-in_err-value c =
+    let p = err_from_is_err_and c.from_residual.result c.from_residual.ensures.1 in
+    rw (p.1, p.2) (fails_by (part an_expr) (mark m.Assign · part an_expr or nothing) c.args.room c.args.room (seen c.in-Some.after.now) (seen c.args.tokens.now)
+    (λ deep at s. present_stuck (a_mark m.Assign) (part an_expr) c.args.room deep _ _ at refl c.in-Some.ensures s)
+    c.in_err-value.field-0.0 c.in_err-value.ensures)
+
+pub returns : goal.returns
+returns c = present_read (a_mark m.Assign) (part an_expr) c.args.room _ _ _ _ c.in-Some.ensures c.in_ok-value.ensures

@@ -1,0 +1,18 @@
+use Rattle.std.proofs.lemmas.Result.{err_from_is_err_and}
+use Rattle.vs_syntax.specs.Grammar.{◌·◌, form, listed, a_bare_name}
+use Rattle.vs_syntax.specs.Reading.{stuck_second}
+use Rattle.vs_syntax.proofs.Gets.{gets_seq}
+use Rattle.vs_expressions.specs.Answers.{seen}
+use Rattle.vs_expressions.proofs.Exits.{fails_by}
+use Rattle.vs_headers.specs.Ports.{behind_direction}
+use Rattle.vs_headers.proofs.header.declared_ports.Goals as goal
+
+pub returns-in_err-names-clause-reads : goal.returns-in_err-names-clause-reads
+returns-in_err-names-clause-reads c =
+    let p = err_from_is_err_and c.from_residual.result c.from_residual.ensures.1 in
+    rw (p.1, p.2) (fails_by (form · listed a_bare_name) behind_direction c.args.room c.args.room (seen c.told_kind-kind.result.1.now) (seen c.args.tokens.now)
+    (λ deep at s. stuck_second (c.told_kind-kind.ensures c.args.room) s)
+    c.in_err-names.field-0.0 c.in_err-names.ensures)
+
+pub returns-clause-reads : goal.returns-clause-reads
+returns-clause-reads c = gets_seq (c.told_kind-kind.ensures c.args.room) c.in_ok-names.ensures

@@ -1,0 +1,31 @@
+use Rattle.std.proofs.lemmas.Result.{err_from_is_err_and}
+use Rattle.vs_syntax.specs.Grammar.{◌or◌, nothing, part, name, port_form, may_value, a_port}
+use Rattle.vs_syntax.specs.Reading.{stuck_first, stuck_second, stuck_part}
+use Rattle.vs_syntax.proofs.Gets.{gets_seq, gets_part}
+use Rattle.vs_expressions.specs.Answers.{seen}
+use Rattle.vs_expressions.proofs.Exits.{fails_by}
+use Rattle.vs_headers.proofs.header.other_port.Goals as goal
+
+pub returns-in_err-said : goal.returns-in_err-said
+returns-in_err-said c =
+    let p = err_from_is_err_and c.from_residual.result c.from_residual.ensures.1 in
+    rw (p.1, p.2) (fails_by (port_form or nothing) (part a_port) c.args.room c.args.room (seen c.args.tokens.now) (seen c.args.tokens.now)
+    (λ deep at s. stuck_part (stuck_first s))
+    c.in_err-said.field-0.0 c.in_err-said.ensures)
+
+pub returns-in_err-name : goal.returns-in_err-name
+returns-in_err-name c =
+    let p = err_from_is_err_and c.from_residual-in_err-name.result c.from_residual-in_err-name.ensures.1 in
+    rw (p.1, p.2) (fails_by name (part a_port) c.args.room c.args.room (seen c.in_ok-said.said.rest.now) (seen c.args.tokens.now)
+    (λ deep at s. stuck_part (stuck_second c.in_ok-said.ensures (stuck_first s)))
+    c.in_err-name.field-0.0 (c.in_err-name.ensures c.args.room))
+
+pub returns-in_err-value : goal.returns-in_err-value
+returns-in_err-value c =
+    let p = err_from_is_err_and c.from_residual-in_err-value.result c.from_residual-in_err-value.ensures.1 in
+    rw (p.1, p.2) (fails_by may_value (part a_port) c.args.room c.args.room (seen c.in_ok-name.after_name.now) (seen c.args.tokens.now)
+    (λ deep at s. stuck_part (stuck_second c.in_ok-said.ensures (stuck_second (c.in_ok-name.ensures c.args.room) s)))
+    c.in_err-value.field-0.0 c.in_err-value.ensures)
+
+pub returns : goal.returns
+returns c = gets_part (gets_seq c.in_ok-said.ensures (gets_seq (c.in_ok-name.ensures c.args.room) c.in_ok-value.ensures))

@@ -1,0 +1,4 @@
+pub mod Instances
+pub mod Trees
+pub mod Heads
+pub mod Generated

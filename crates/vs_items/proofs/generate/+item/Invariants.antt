@@ -1,0 +1,50 @@
+use Rattle.std.proofs.Common.{◌+◌, ◌*◌, length, map}
+use Rattle.vs_syntax.specs.Grammar.{part, an_item}
+use Rattle.vs_syntax.specs.Views.{module_item_tree}
+use Rattle.vs_expressions.specs.Answers.{seen}
+use Rattle.vs_expressions.proofs.Rows.{Along}
+use Rattle.vs_items.proofs.generate.+item.Given as goal
+
+abbrev pub decreases-item : goal.decreases-item
+decreases-item l = 16 * l.room
+
+abbrev pub decreases-construct : goal.decreases-construct
+decreases-construct l = 16 * l.room + 8
+
+abbrev pub decreases-items : goal.decreases-items
+decreases-items l = 16 * l.room + 1
+
+abbrev pub decreases-region : goal.decreases-region
+decreases-region l = 16 * l.room + 7
+
+abbrev pub decreases-generate_for : goal.decreases-generate_for
+decreases-generate_for l = 16 * l.room + 7
+
+abbrev pub decreases-generate_if : goal.decreases-generate_if
+decreases-generate_if l = 16 * l.room + 7
+
+abbrev pub decreases-alternative : goal.decreases-alternative
+decreases-alternative l = 16 * l.room + 6
+
+abbrev pub decreases-boxed : goal.decreases-boxed
+decreases-boxed l = 16 * l.room + 5
+
+abbrev pub decreases-generated : goal.decreases-generated
+decreases-generated l = 16 * l.room + 4
+
+abbrev pub decreases-block_or_item : goal.decreases-block_or_item
+decreases-block_or_item l = 16 * l.room + 3
+
+abbrev pub decreases-one_item : goal.decreases-one_item
+decreases-one_item l = 16 * l.room + 1
+
+abbrev pub decreases-block : goal.decreases-block
+decreases-block l = 16 * l.room + 2
+
+abbrev pub invariant-items-loop-head : goal.invariant-items-loop-head
+invariant-items-loop-head l = record {
+  along : Along (part an_item) l.room (seen l.tokens) (seen l.rest) (map module_item_tree l.tree.items);
+}
+
+abbrev pub decreases-items-loop-head : goal.decreases-items-loop-head
+decreases-items-loop-head l = length (seen l.rest)

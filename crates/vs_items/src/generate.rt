@@ -1,0 +1,326 @@
+//! Reading generate constructs and the items in them. What one form of them needs is never inlined, so that a level of nesting takes little
+//! stack.
+ghost use Rattle.std.specs.Prelude.{◌≡◌, ℕ, false, map};
+ghost use Rattle.vs_tokens.specs.declared.token.Mark.TheVariants as m;
+ghost use Rattle.vs_tokens.specs.declared.token.Word.TheVariants as w;
+ghost use Rattle.vs_syntax.specs.Symbols.{a_word, the_word};
+ghost use Rattle.vs_syntax.specs.Grammar.{Grammar, ◌·◌, many, part, mark, word, optional, guarded, named_value, generate_loop, generate_branches, block_name, a_generate_block, an_item};
+ghost use Rattle.vs_syntax.specs.Tables.{goes};
+ghost use Rattle.vs_syntax.specs.Derivation.{both};
+ghost use Rattle.vs_syntax.specs.Views.{row_of, constant_tree, loop_tree, block_name_tree, module_item_tree};
+ghost use Rattle.vs_expressions.specs.Answers.{seen, Reads};
+ghost use Rattle.vs_statements.specs.Parts.{ReadsWithin, Leads, headed, marked};
+ghost use Rattle.vs_items.specs.Heads.{BeginsItem, generate_word, construct_of};
+ghost use Rattle.vs_items.specs.Generated.{boxed_item_tree, other_item_tree, begun, block_rest};
+
+use crate::head::{GenerateWord, ItemHead, item_head, least_item};
+use crate::item::plain_item;
+use std::alloc::Global;
+use vs_expressions::{Read, Stop, expect_mark, expect_name, expect_word, expr, mark_at, word_at};
+use vs_lexer::{Mark, Token, Word};
+use vs_statements::{expr_until, guard};
+use vs_syntax::{Constant, LoopHeader, ModuleItem};
+
+/// Reads an item, behind whose first token `after` stands, in at most `room` nodes below one another.
+#[cycle(item)]
+fn item<'t, 's>(
+    alloc: Global,
+    room: u32,
+    tokens: &'t [Token<'s>],
+    head: ItemHead<'s>,
+    after: &'t [Token<'s>],
+) -> Result<Read<'t, 's, ModuleItem>, Stop<'t, 's>>
+    requires { BeginsItem (seen tokens.now) head (seen after.now) }
+    ensures { Reads (part an_item) room tokens.now module_item_tree result }
+{
+    if room < least_item(head) {
+        return Err(Stop::TooDeep(tokens));
+    }
+    match head {
+        ItemHead::Plain(plain) => plain_item(alloc, room - 1, after, plain),
+        ItemHead::Generate(word) => construct(alloc, room - 1, after, word),
+    }
+}
+
+/// Reads a generate construct behind the word that it begins with.
+#[cycle(item)]
+fn construct<'t, 's>(
+    alloc: Global,
+    room: u32,
+    tokens: &'t [Token<'s>],
+    word: GenerateWord,
+) -> Result<Read<'t, 's, ModuleItem>, Stop<'t, 's>>
+    ensures { ReadsWithin module_item_tree (headed (a_word (generate_word word))) (construct_of word) room tokens.now result }
+{
+    match word {
+        GenerateWord::Region => region(alloc, room, tokens),
+        GenerateWord::For => generate_for(alloc, room, tokens),
+        GenerateWord::If => generate_if(alloc, room, tokens),
+    }
+}
+
+/// Reads the items that are next, in at most `room` nodes below one another.
+#[cycle(item)]
+#[inline(never)]
+pub fn items<'t, 's>(
+    alloc: Global,
+    room: u32,
+    tokens: &'t [Token<'s>],
+) -> Result<Read<'t, 's, Vec<ModuleItem>>, Stop<'t, 's>>
+    ensures { Reads (many (part an_item)) room tokens.now (λ xs. row_of (map module_item_tree xs.items)) result }
+{
+    let mut tree = Vec::new(alloc);
+    // All of them, but from a call: so the borrow checker can join it with what the loop sets.
+    let (_none, mut rest) = tokens.split_at(0);
+    while let Some((head, after)) = item_head(rest) {
+        let inner = item(alloc, room, rest, head, after)?;
+        rest = inner.rest;
+        tree.push(inner.tree)?;
+    }
+    Ok(Read { tree, rest })
+}
+
+/// Reads what stands behind `generate`: items, and `endgenerate`.
+#[cycle(item)]
+#[inline(never)]
+fn region<'t, 's>(
+    alloc: Global,
+    room: u32,
+    tokens: &'t [Token<'s>],
+) -> Result<Read<'t, 's, ModuleItem>, Stop<'t, 's>>
+    ensures { ReadsWithin module_item_tree (headed (a_word w.Generate)) (many (part an_item) · word w.Endgenerate) room tokens.now result }
+{
+    let inner = items(alloc, room, tokens)?;
+    let rest = expect_word(inner.rest, Word::Endgenerate)?;
+    Ok(Read {
+        tree: ModuleItem::Region(inner.tree),
+        rest,
+    })
+}
+
+/// Reads what stands behind the `for` of a generate loop.
+#[cycle(item)]
+#[inline(never)]
+fn generate_for<'t, 's>(
+    alloc: Global,
+    room: u32,
+    tokens: &'t [Token<'s>],
+) -> Result<Read<'t, 's, ModuleItem>, Stop<'t, 's>>
+    ensures { ReadsWithin module_item_tree (headed (a_word w.For)) generate_loop room tokens.now result }
+{
+    let header = loop_header(alloc, room, tokens)?;
+    let inner = boxed(alloc, room, header.rest)?;
+    Ok(Read {
+        tree: ModuleItem::For(header.tree, inner.tree),
+        rest: inner.rest,
+    })
+}
+
+/// Reads what stands behind the `if` of a generate construct: the condition, what is generated where it holds, and what stands behind
+/// `else`, where that is next.
+#[cycle(item)]
+#[inline(never)]
+fn generate_if<'t, 's>(
+    alloc: Global,
+    room: u32,
+    tokens: &'t [Token<'s>],
+) -> Result<Read<'t, 's, ModuleItem>, Stop<'t, 's>>
+    ensures { ReadsWithin module_item_tree (headed (a_word w.If)) (guarded generate_branches) room tokens.now result }
+{
+    let condition = guard(alloc, room, tokens)?;
+    let inner = boxed(alloc, room, condition.rest)?;
+    let other = alternative(alloc, room, inner.rest)?;
+    Ok(Read {
+        tree: ModuleItem::If(condition.tree, inner.tree, other.tree),
+        rest: other.rest,
+    })
+}
+
+/// Reads `else` and what is generated where the condition does not hold, where that is next.
+#[cycle(item)]
+#[inline(never)]
+fn alternative<'t, 's>(
+    alloc: Global,
+    room: u32,
+    tokens: &'t [Token<'s>],
+) -> Result<Read<'t, 's, Option<Box<ModuleItem>>>, Stop<'t, 's>>
+    ensures { Reads (optional (the_word w.Else) (part a_generate_block)) room tokens.now other_item_tree result }
+{
+    let Some(after) = word_at(tokens, Word::Else) else {
+        return Ok(Read {
+            tree: None,
+            rest: tokens,
+        });
+    };
+    let inner = boxed(alloc, room, after)?;
+    Ok(Read {
+        tree: Some(inner.tree),
+        rest: inner.rest,
+    })
+}
+
+/// Reads what a generate construct generates, into a box.
+#[cycle(item)]
+#[inline(never)]
+fn boxed<'t, 's>(
+    alloc: Global,
+    room: u32,
+    tokens: &'t [Token<'s>],
+) -> Result<Read<'t, 's, Box<ModuleItem>>, Stop<'t, 's>>
+    ensures { Reads (part a_generate_block) room tokens.now boxed_item_tree result }
+{
+    let inner = generated(alloc, room, tokens)?;
+    let rest = inner.rest;
+    let tree = Box::new(alloc, inner.tree)?;
+    Ok(Read { tree, rest })
+}
+
+/// Reads what a generate construct generates: nothing, a block, or an item.
+#[cycle(item)]
+fn generated<'t, 's>(
+    alloc: Global,
+    room: u32,
+    tokens: &'t [Token<'s>],
+) -> Result<Read<'t, 's, ModuleItem>, Stop<'t, 's>>
+    ensures { Reads (part a_generate_block) room tokens.now module_item_tree result }
+{
+    let Some(rest) = mark_at(tokens, Mark::Semicolon) else {
+        return block_or_item(alloc, room, tokens);
+    };
+    Ok(Read {
+        tree: ModuleItem::Null,
+        rest,
+    })
+}
+
+/// Reads a block, or an item.
+#[cycle(item)]
+fn block_or_item<'t, 's>(
+    alloc: Global,
+    room: u32,
+    tokens: &'t [Token<'s>],
+) -> Result<Read<'t, 's, ModuleItem>, Stop<'t, 's>>
+    requires { goes (mark m.Semicolon) (seen tokens.now) ≡ false }
+    ensures { Reads (part a_generate_block) room tokens.now module_item_tree result }
+{
+    let Some(after) = word_at(tokens, Word::Begin) else {
+        return one_item(alloc, room, tokens);
+    };
+    block(alloc, room, after)
+}
+
+/// Reads the item that is next.
+#[cycle(item)]
+fn one_item<'t, 's>(
+    alloc: Global,
+    room: u32,
+    tokens: &'t [Token<'s>],
+) -> Result<Read<'t, 's, ModuleItem>, Stop<'t, 's>>
+    ensures { Reads (part an_item) room tokens.now module_item_tree result }
+{
+    let Some((head, after)) = item_head(tokens) else {
+        return Err(Stop::Unexpected(tokens));
+    };
+    item(alloc, room, tokens, head, after)
+}
+
+/// Reads what stands behind the `begin` of a block: its name, where it has one, its items, and `end`.
+#[cycle(item)]
+#[inline(never)]
+fn block<'t, 's>(
+    alloc: Global,
+    room: u32,
+    tokens: &'t [Token<'s>],
+) -> Result<Read<'t, 's, ModuleItem>, Stop<'t, 's>>
+    ensures { ReadsWithin module_item_tree begun block_rest room tokens.now result }
+{
+    let name = block_name(alloc, tokens)?;
+    let inner = items(alloc, room, name.rest)?;
+    let rest = expect_word(inner.rest, Word::End)?;
+    Ok(Read {
+        tree: ModuleItem::Block(name.tree, inner.tree),
+        rest,
+    })
+}
+
+/// Reads the colon behind the `begin` of a block, and the name, where the colon is next.
+fn block_name<'t, 's>(
+    alloc: Global,
+    tokens: &'t [Token<'s>],
+) -> Result<Read<'t, 's, Option<Vec<u8>>>, Stop<'t, 's>>
+    ensures { (room : ℕ) → Reads block_name room tokens.now block_name_tree result }
+{
+    let Some(after) = mark_at(tokens, Mark::Colon) else {
+        return Ok(Read {
+            tree: None,
+            rest: tokens,
+        });
+    };
+    let (name, rest) = expect_name(alloc, after)?;
+    Ok(Read {
+        tree: Some(name),
+        rest,
+    })
+}
+
+/// Reads a name, the sign, and its value.
+fn named_value<'t, 's>(
+    alloc: Global,
+    room: u32,
+    tokens: &'t [Token<'s>],
+) -> Result<Read<'t, 's, Constant>, Stop<'t, 's>>
+    ensures { Reads named_value room tokens.now constant_tree result }
+{
+    let (name, after_name) = expect_name(alloc, tokens)?;
+    let after_sign = expect_mark(after_name, Mark::Assign)?;
+    let value = expr(alloc, room, after_sign)?;
+    Ok(Read {
+        tree: Constant {
+            name,
+            value: value.tree,
+        },
+        rest: value.rest,
+    })
+}
+
+/// Reads a name, the sign, and its value, and the mark behind it.
+fn named_value_until<'t, 's>(
+    alloc: Global,
+    room: u32,
+    tokens: &'t [Token<'s>],
+    end: Mark,
+) -> Result<Read<'t, 's, Constant>, Stop<'t, 's>>
+    ensures { (a : Grammar) → Leads a (named_value · mark end · a)
+        (λ x y. both (constant_tree x) (marked end y)) room tokens.now result }
+{
+    let value = named_value(alloc, room, tokens)?;
+    let rest = expect_mark(value.rest, end)?;
+    Ok(Read {
+        tree: value.tree,
+        rest,
+    })
+}
+
+/// Reads the header of a generate loop.
+fn loop_header<'t, 's>(
+    alloc: Global,
+    room: u32,
+    tokens: &'t [Token<'s>],
+) -> Result<Read<'t, 's, LoopHeader>, Stop<'t, 's>>
+    ensures { Leads (part a_generate_block) generate_loop loop_tree room tokens.now result }
+{
+    let inside = expect_mark(tokens, Mark::Open)?;
+    let first = named_value_until(alloc, room, inside, Mark::Semicolon)?;
+    let condition = expr_until(alloc, room, first.rest, Mark::Semicolon)?;
+    let step = named_value_until(alloc, room, condition.rest, Mark::Close)?;
+    Ok(Read {
+        tree: LoopHeader {
+            name: first.tree.name,
+            first: first.tree.value,
+            condition: condition.tree,
+            next: step.tree.name,
+            step: step.tree.value,
+        },
+        rest: step.rest,
+    })
+}

@@ -1,4 +1,0 @@
-use Rattle.vs_parser.proofs.declaration.BareNameElement.read.Goals as goal
-
-pub returns : goal.returns
-returns c = c.bare_name.ensures c.args._room

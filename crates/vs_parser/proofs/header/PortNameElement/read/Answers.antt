@@ -1,4 +1,0 @@
-use Rattle.vs_parser.proofs.header.PortNameElement.read.Goals as goal
-
-pub returns : goal.returns
-returns c = c.port_name.ensures c.args._room
