@@ -8,6 +8,7 @@ use Rattle.std.proofs.Math.Path.{fun_ext}
 use Rattle.std.proofs.lemmas.Option.{none-some, same_Some}
 use Rattle.vs_syntax.specs.declared.tree.Expr.{Expr}
 use Rattle.vs_syntax.specs.declared.tree.Left.{Left}
+use Rattle.vs_syntax.specs.declared.tree.ForHeader.{ForHeader}
 use Rattle.vs_syntax.specs.declared.tree.LocalDeclaration.{LocalDeclaration}
 use Rattle.vs_syntax.specs.declared.tree.DelayValue.{DelayValue}
 use Rattle.vs_syntax.specs.declared.tree.EventControl.{EventControl}
@@ -62,18 +63,18 @@ blocks_layer l x h =
 pub blocks_Null : blocks_in s.Null ≡ []
 blocks_Null = blocks_layer f.Null _ rolls-Null
 
-pub blocks_Assign : (l : Left) (e : Expr) → blocks_in (s.Assign l e) ≡ []
+pub blocks_Assign : (l : Box Left Global) (e : Expr) → blocks_in (s.Assign l e) ≡ []
 blocks_Assign l e = blocks_layer (f.Assign l e) _ (rolls-Assign l e)
 
-pub blocks_Later : (l : Left) (v : Option DelayValue) (e : Expr) → blocks_in (s.Later l v e) ≡ []
+pub blocks_Later : (l : Box Left Global) (v : Option DelayValue) (e : Box Expr Global) → blocks_in (s.Later l v e) ≡ []
 blocks_Later l v e = blocks_layer (f.Later l v e) _ (rolls-Later l v e)
 
 pub blocks_Named : (n : Vec ℕ Global) (ls : Vec LocalDeclaration Global) (xs : Vec Stmt Global) →
     blocks_in (s.Named n ls xs) ≡ record { name = n.items; locals = ls.items; statements = xs.items } ∷ []
 blocks_Named n ls xs = blocks_layer (f.Named n ls xs) _ (rolls-Named n ls xs)
 
-pub blocks_For : (l : Left) (a c : Expr) (m : Left) (e : Expr) (x : Box Stmt Global) → blocks_in (s.For l a c m e x) ≡ blocks_in x.value
-blocks_For l a c m e x = blocks_layer (f.For l a c m e x) _ (rolls-For l a c m e x)
+pub blocks_For : (head : Box ForHeader Global) (x : Box Stmt Global) → blocks_in (s.For head x) ≡ blocks_in x.value
+blocks_For head x = blocks_layer (f.For head x) _ (rolls-For head x)
 
 pub blocks_While : (e : Expr) (x : Box Stmt Global) → blocks_in (s.While e x) ≡ blocks_in x.value
 blocks_While e x = blocks_layer (f.While e x) _ (rolls-While e x)

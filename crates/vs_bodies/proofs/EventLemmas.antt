@@ -2,6 +2,7 @@
 use Rattle.std.proofs.Common.{◌≡◌, ℕ, ◌+◌, ◌<◌, ◌≤◌, Bool, true, false, ◌||◌, List, [], ◌∷◌, ◌++◌, Option, Result, length, map, take, get_or, refl, ap, sym, subst, ◌∙◌, true≢false}
 use Rattle.std.specs.List.{list_any}
 use Rattle.std.proofs.lemmas.List.{map-append, take_all}
+use Rattle.std.specs.declared.boxed.Box.{Box}
 use Rattle.std.specs.declared.vec.Vec.{Vec}
 use Rattle.std.specs.declared.alloc.Global.{Global}
 use Rattle.vs_syntax.specs.declared.tree.Expr.{Expr}
@@ -180,16 +181,16 @@ events_name env body n m y ys zs i j k h =
       subst (AreEvents env body (c.Name n)) (sym (k ∙ ap (λ z. z ++ y ∷ []) j)) (are_name n y one),
     )
 
-pub events_terms : (env : Environment) (body : Statement) (t : EventExpr) (ts : Vec (Separator × EventExpr) Global) (xs : List (Separator × EventExpr)) (r : Result (Vec EventTerm Global) BodyFault) → xs ≡ ts.items →
-    Elaborates (terms_fault env (t ∷ map (λ (x : Separator × EventExpr). x.1) xs)) (λ v. AreTerms env (t ∷ map (λ (x : Separator × EventExpr). x.1) xs) v.items) r →
+pub events_terms : (env : Environment) (body : Statement) (t : Box EventExpr Global) (ts : Vec (Separator × EventExpr) Global) (xs : List (Separator × EventExpr)) (r : Result (Vec EventTerm Global) BodyFault) → xs ≡ ts.items →
+    Elaborates (terms_fault env (t.value ∷ map (λ (x : Separator × EventExpr). x.1) xs)) (λ v. AreTerms env (t.value ∷ map (λ (x : Separator × EventExpr). x.1) xs) v.items) r →
     Elaborates (λ r. event_fault r env (c.Terms t ts)) (λ v. AreEvents env body (c.Terms t ts) v.items) r
 events_terms env body t ts xs r i h =
     let second : Separator × EventExpr → EventExpr = λ x. x.1 in
-    answered_by (terms_fault env (t ∷ map second ts.items)) (λ r. event_fault r env (c.Terms t ts)) (λ v. AreTerms env (t ∷ map second ts.items) v.items) (λ v. AreEvents env body (c.Terms t ts) v.items) r
+    answered_by (terms_fault env (t.value ∷ map second ts.items)) (λ r. event_fault r env (c.Terms t ts)) (λ v. AreTerms env (t.value ∷ map second ts.items) v.items) (λ v. AreEvents env body (c.Terms t ts) v.items) r
     (λ v u m. (events_sound env (c.Terms t ts) (λ w. u (Width w)), are_terms t ts v.items m)) by
-    (subst (λ z. Elaborates (terms_fault env (t ∷ map second z)) (λ v. AreTerms env (t ∷ map second z) v.items) r) i h)
+    (subst (λ z. Elaborates (terms_fault env (t.value ∷ map second z)) (λ v. AreTerms env (t.value ∷ map second z) v.items) r) i h)
   where
-    by : (q : Reason) → terms_fault env (t ∷ map (λ (x : Separator × EventExpr). x.1) ts.items) q ≡ true → event_fault q env (c.Terms t ts) ≡ true
+    by : (q : Reason) → terms_fault env (t.value ∷ map (λ (x : Separator × EventExpr). x.1) ts.items) q ≡ true → event_fault q env (c.Terms t ts) ≡ true
     by (Width w) u = u
     by NoModule u = u
     by Inside u = u

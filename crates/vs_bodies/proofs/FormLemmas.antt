@@ -7,6 +7,7 @@ use Rattle.std.specs.declared.alloc.Global.{Global}
 use Rattle.std.proofs.lemmas.List.{append-nil}
 use Rattle.vs_syntax.specs.declared.tree.Expr.{Expr}
 use Rattle.vs_syntax.specs.declared.tree.Left.{Left}
+use Rattle.vs_syntax.specs.declared.tree.ForHeader.{ForHeader}
 use Rattle.vs_syntax.specs.declared.tree.LocalDeclaration.{LocalDeclaration}
 use Rattle.vs_syntax.specs.declared.tree.Stmt.{Stmt}
 use Rattle.vs_syntax.specs.declared.tree.Stmt.TheVariants as s
@@ -47,10 +48,10 @@ use Rattle.vs_scopes.proofs.Folds.{any_of_map}
 pub fault_Null : (r : Reason) (env : Surroundings) → has_fault r env s.Null ≡ false
 fault_Null r env = ap (has_fault r env) (sym rolls-Null) ∙ fold-roll-Stmt Bool (fault_step r env) f.Null
 
-pub fault_Assign : (r : Reason) (env : Surroundings) (l : Left) (e : Expr) → has_fault r env (s.Assign l e) ≡ assign_fault r Procedural env.names (places l) e
+pub fault_Assign : (r : Reason) (env : Surroundings) (l : Box Left Global) (e : Expr) → has_fault r env (s.Assign l e) ≡ assign_fault r Procedural env.names (places l.value) e
 fault_Assign r env l e = ap (has_fault r env) (sym (rolls-Assign l e)) ∙ fold-roll-Stmt Bool (fault_step r env) (f.Assign l e)
 
-pub fault_Later : (r : Reason) (env : Surroundings) (l : Left) (v : Option DelayValue) (e : Expr) → has_fault r env (s.Later l v e) ≡ (assign_fault r Procedural env.names (places l) e || due_fault r env.names env.ratio v)
+pub fault_Later : (r : Reason) (env : Surroundings) (l : Box Left Global) (v : Option DelayValue) (e : Box Expr Global) → has_fault r env (s.Later l v e) ≡ (assign_fault r Procedural env.names (places l.value) e.value || due_fault r env.names env.ratio v)
 fault_Later r env l v e = ap (has_fault r env) (sym (rolls-Later l v e)) ∙ fold-roll-Stmt Bool (fault_step r env) (f.Later l v e)
 
 pub fault_Print : (r : Reason) (env : Surroundings) (task : PrintTask) (xs : PrintArguments) → has_fault r env (s.Print task xs) ≡ print_fault r env.names xs
@@ -72,12 +73,12 @@ or_none : (a : Bool) → (a || false) ≡ a
 or_none true = refl
 or_none false = refl
 
-pub fault_If : (r : Reason) (env : Surroundings) (e : Expr) (x : Box Stmt Global) (o : Option (Box Stmt Global)) →
-    has_fault r env (s.If e x o) ≡ (operand_fault r env.names e || has_fault r env x.value || list_any (has_fault r env) (else_list o))
+pub fault_If : (r : Reason) (env : Surroundings) (e : Box Expr Global) (x : Box Stmt Global) (o : Option (Box Stmt Global)) →
+    has_fault r env (s.If e x o) ≡ (operand_fault r env.names e.value || has_fault r env x.value || list_any (has_fault r env) (else_list o))
 fault_If r env e x None = ap (has_fault r env) (sym (rolls-If e x None)) ∙ fold-roll-Stmt Bool (fault_step r env) (f.If e x None)
 fault_If r env e x (Some z) =
     ap (has_fault r env) (sym (rolls-If e x (Some z))) ∙ fold-roll-Stmt Bool (fault_step r env) (f.If e x (Some z))
-    ∙ ap (λ b. operand_fault r env.names e || has_fault r env x.value || b) (sym (or_none (has_fault r env z.value)))
+    ∙ ap (λ b. operand_fault r env.names e.value || has_fault r env x.value || b) (sym (or_none (has_fault r env z.value)))
 
 labels_each : {B C : Type 0} (g : B → C) (xs : List (CaseLabel × B)) → map (λ (x : CaseLabel × C). x.0) (map (λ (x : CaseLabel × B). (x.0, g x.1)) xs) ≡ map (λ (x : CaseLabel × B). x.0) xs
 labels_each g [] = refl
@@ -91,16 +92,16 @@ any_each g (x ∷ xs) = ap (λ b. g x.1 || b) (any_each g xs)
 abbrev pub labels_of : List (CaseLabel × Stmt) → List CaseLabel
 labels_of xs = map (λ (x : CaseLabel × Stmt). x.0) xs
 
-pub fault_Case : (r : Reason) (env : Surroundings) (kind : CaseKind) (e : Expr) (xs : Vec (CaseLabel × Stmt) Global) →
-    has_fault r env (s.Case kind e xs) ≡ (case_fault r env.names e (labels_of xs.items) || list_any (λ (x : CaseLabel × Stmt). has_fault r env x.1) xs.items)
+pub fault_Case : (r : Reason) (env : Surroundings) (kind : CaseKind) (e : Box Expr Global) (xs : Vec (CaseLabel × Stmt) Global) →
+    has_fault r env (s.Case kind e xs) ≡ (case_fault r env.names e.value (labels_of xs.items) || list_any (λ (x : CaseLabel × Stmt). has_fault r env x.1) xs.items)
 fault_Case r env kind e xs =
     ap (has_fault r env) (sym (rolls-Case kind e xs)) ∙ fold-roll-Stmt Bool (fault_step r env) (f.Case kind e xs)
-    ∙ ap (λ ls. case_fault r env.names e ls || list_any (λ (x : CaseLabel × Bool). x.1) (map (λ (x : CaseLabel × Stmt). (x.0, has_fault r env x.1)) xs.items)) (labels_each (has_fault r env) xs.items)
-    ∙ ap (λ b. case_fault r env.names e (labels_of xs.items) || b) (any_each (has_fault r env) xs.items)
+    ∙ ap (λ ls. case_fault r env.names e.value ls || list_any (λ (x : CaseLabel × Bool). x.1) (map (λ (x : CaseLabel × Stmt). (x.0, has_fault r env x.1)) xs.items)) (labels_each (has_fault r env) xs.items)
+    ∙ ap (λ b. case_fault r env.names e.value (labels_of xs.items) || b) (any_each (has_fault r env) xs.items)
 
-pub fault_For : (r : Reason) (env : Surroundings) (l : Left) (a c : Expr) (m : Left) (b : Expr) (x : Box Stmt Global) →
-    has_fault r env (s.For l a c m b x) ≡ (assign_fault r Procedural env.names (places l) a || operand_fault r env.names c || assign_fault r Procedural env.names (places m) b || has_fault r env x.value)
-fault_For r env l a c m b x = ap (has_fault r env) (sym (rolls-For l a c m b x)) ∙ fold-roll-Stmt Bool (fault_step r env) (f.For l a c m b x)
+pub fault_For : (r : Reason) (env : Surroundings) (head : Box ForHeader Global) (x : Box Stmt Global) →
+    has_fault r env (s.For head x) ≡ (assign_fault r Procedural env.names (places head.value.first.0) head.value.first.1 || operand_fault r env.names head.value.condition || assign_fault r Procedural env.names (places head.value.step.0) head.value.step.1 || has_fault r env x.value)
+fault_For r env head x = ap (has_fault r env) (sym (rolls-For head x)) ∙ fold-roll-Stmt Bool (fault_step r env) (f.For head x)
 
 pub fault_While : (r : Reason) (env : Surroundings) (e : Expr) (x : Box Stmt Global) → has_fault r env (s.While e x) ≡ (operand_fault r env.names e || has_fault r env x.value)
 fault_While r env e x = ap (has_fault r env) (sym (rolls-While e x)) ∙ fold-roll-Stmt Bool (fault_step r env) (f.While e x)
@@ -122,10 +123,10 @@ fault_Event r env e x = ap (has_fault r env) (sym (rolls-Event e x)) ∙ fold-ro
 pub count_Null : count_of s.Null ≡ 1
 count_Null = ap count_of (sym rolls-Null) ∙ fold-roll-Stmt ℕ count_step f.Null
 
-pub count_Assign : (l : Left) (e : Expr) → count_of (s.Assign l e) ≡ 1
+pub count_Assign : (l : Box Left Global) (e : Expr) → count_of (s.Assign l e) ≡ 1
 count_Assign l e = ap count_of (sym (rolls-Assign l e)) ∙ fold-roll-Stmt ℕ count_step (f.Assign l e)
 
-pub count_Later : (l : Left) (v : Option DelayValue) (e : Expr) → count_of (s.Later l v e) ≡ 1
+pub count_Later : (l : Box Left Global) (v : Option DelayValue) (e : Box Expr Global) → count_of (s.Later l v e) ≡ 1
 count_Later l v e = ap count_of (sym (rolls-Later l v e)) ∙ fold-roll-Stmt ℕ count_step (f.Later l v e)
 
 pub count_Print : (task : PrintTask) (xs : PrintArguments) → count_of (s.Print task xs) ≡ 1
@@ -146,7 +147,7 @@ count_Block xs = ap count_of (sym (rolls-Block xs)) ∙ fold-roll-Stmt ℕ count
 pub count_Named : (n : Vec ℕ Global) (ls : Vec LocalDeclaration Global) (xs : Vec Stmt Global) → count_of (s.Named n ls xs) ≡ counts xs.items
 count_Named n ls xs = ap count_of (sym (rolls-Named n ls xs)) ∙ fold-roll-Stmt ℕ count_step (f.Named n ls xs)
 
-pub count_If : (e : Expr) (x : Box Stmt Global) (o : Option (Box Stmt Global)) → count_of (s.If e x o) ≡ 1 + count_of x.value + counts (else_list o)
+pub count_If : (e : Box Expr Global) (x : Box Stmt Global) (o : Option (Box Stmt Global)) → count_of (s.If e x o) ≡ 1 + count_of x.value + counts (else_list o)
 count_If e x None = ap count_of (sym (rolls-If e x None)) ∙ fold-roll-Stmt ℕ count_step (f.If e x None)
 count_If e x (Some z) =
     ap count_of (sym (rolls-If e x (Some z))) ∙ fold-roll-Stmt ℕ count_step (f.If e x (Some z))
@@ -160,12 +161,12 @@ total_each g (x ∷ xs) = ap (λ n. g x.1 + n) (total_each g xs)
 abbrev pub item_count : CaseLabel × Stmt → ℕ
 item_count x = count_of x.1
 
-pub count_Case : (kind : CaseKind) (e : Expr) (xs : Vec (CaseLabel × Stmt) Global) → count_of (s.Case kind e xs) ≡ 1 + total (map item_count xs.items)
+pub count_Case : (kind : CaseKind) (e : Box Expr Global) (xs : Vec (CaseLabel × Stmt) Global) → count_of (s.Case kind e xs) ≡ 1 + total (map item_count xs.items)
 count_Case kind e xs =
     ap count_of (sym (rolls-Case kind e xs)) ∙ fold-roll-Stmt ℕ count_step (f.Case kind e xs) ∙ ap (λ n. 1 + n) (total_each count_of xs.items)
 
-pub count_For : (l : Left) (a c : Expr) (m : Left) (b : Expr) (x : Box Stmt Global) → count_of (s.For l a c m b x) ≡ 3 + count_of x.value
-count_For l a c m b x = ap count_of (sym (rolls-For l a c m b x)) ∙ fold-roll-Stmt ℕ count_step (f.For l a c m b x)
+pub count_For : (head : Box ForHeader Global) (x : Box Stmt Global) → count_of (s.For head x) ≡ 3 + count_of x.value
+count_For head x = ap count_of (sym (rolls-For head x)) ∙ fold-roll-Stmt ℕ count_step (f.For head x)
 
 pub count_While : (e : Expr) (x : Box Stmt Global) → count_of (s.While e x) ≡ 1 + count_of x.value
 count_While e x = ap count_of (sym (rolls-While e x)) ∙ fold-roll-Stmt ℕ count_step (f.While e x)

@@ -7,7 +7,7 @@ use Rattle.std.specs.declared.alloc.Global.{Global}
 use Rattle.std.proofs.lemmas.Bool.{leb-true}
 use Rattle.std.proofs.lemmas.List.{append-nil}
 use Rattle.vs_syntax.specs.declared.tree.Expr.{Expr}
-use Rattle.vs_syntax.specs.declared.tree.Left.{Left}
+use Rattle.vs_syntax.specs.declared.tree.ForHeader.{ForHeader}
 use Rattle.vs_syntax.specs.declared.tree.LocalDeclaration.{LocalDeclaration}
 use Rattle.vs_syntax.specs.declared.tree.Stmt.{Stmt}
 use Rattle.vs_syntax.specs.declared.tree.Stmt.TheVariants as s
@@ -123,7 +123,7 @@ else_blocks : (o : Option (Box Stmt Global)) → blocks_behind o ≡ blocks_amon
 else_blocks None = refl
 else_blocks (Some x) = sym (append-nil (blocks_in x.value))
 
-pub if_blocks : (e : Expr) (x : Box Stmt Global) (o : Option (Box Stmt Global)) → blocks_in (s.If e x o) ≡ blocks_in x.value ++ blocks_among (else_list o)
+pub if_blocks : (e : Box Expr Global) (x : Box Stmt Global) (o : Option (Box Stmt Global)) → blocks_in (s.If e x o) ≡ blocks_in x.value ++ blocks_among (else_list o)
 if_blocks e x o = blocks_If e x o ∙ ap (λ z. blocks_in x.value ++ z) (else_blocks o)
 
 -- ---- `case`
@@ -199,76 +199,76 @@ module _ (env : Surroundings) (first : ℕ) where
         blocks = blocks_Named n ls xs;
       }
 
-  pub then_part : (e : Expr) (x : Box Stmt Global) (o : Option (Box Stmt Global)) → IsPart (statement_burden env (first + 1) x.value) (statement_burden env first (s.If e x o))
+  pub then_part : (e : Box Expr Global) (x : Box Stmt Global) (o : Option (Box Stmt Global)) → IsPart (statement_burden env (first + 1) x.value) (statement_burden env first (s.If e x o))
   then_part e x o =
       let n : count_of (s.If e x o) ≡ 1 + count_of x.value + counts (else_list o) = count_If e x o in
       record {
-        own = λ r u. fault_If r env e x o ∙ left_true _ _ (right_true (operand_fault r env.names e) _ u);
+        own = λ r u. fault_If r env e x o ∙ left_true _ _ (right_true (operand_fault r env.names e.value) _ u);
         last = omega (arith, n);
         before = [];
         behind = blocks_among (else_list o);
         blocks = if_blocks e x o;
       }
 
-  pub else_part : (mid : ℕ) (e : Expr) (x : Box Stmt Global) (o : Option (Box Stmt Global)) → mid ≡ first + 1 + count_of x.value → IsPart (statements_burden env mid (else_list o)) (statement_burden env first (s.If e x o))
+  pub else_part : (mid : ℕ) (e : Box Expr Global) (x : Box Stmt Global) (o : Option (Box Stmt Global)) → mid ≡ first + 1 + count_of x.value → IsPart (statements_burden env mid (else_list o)) (statement_burden env first (s.If e x o))
   else_part mid e x o m =
       let n : count_of (s.If e x o) ≡ 1 + count_of x.value + counts (else_list o) = count_If e x o in
       record {
-        own = λ r u. fault_If r env e x o ∙ right_true (operand_fault r env.names e || has_fault r env x.value) _ u;
+        own = λ r u. fault_If r env e x o ∙ right_true (operand_fault r env.names e.value || has_fault r env x.value) _ u;
         last = omega (arith, n, m);
         before = blocks_in x.value;
         behind = [];
         blocks = if_blocks e x o ∙ ap (λ z. blocks_in x.value ++ z) (sym (append-nil (blocks_among (else_list o))));
       }
 
-  pub items_part : (mid : ℕ) (kind : CaseKind) (e : Expr) (v : Vec (CaseLabel × Stmt) Global) → mid ≡ first + 1 → IsPart (items_burden env mid v.items) (statement_burden env first (s.Case kind e v))
+  pub items_part : (mid : ℕ) (kind : CaseKind) (e : Box Expr Global) (v : Vec (CaseLabel × Stmt) Global) → mid ≡ first + 1 → IsPart (items_burden env mid v.items) (statement_burden env first (s.Case kind e v))
   items_part mid kind e v m =
       let n : count_of (s.Case kind e v) ≡ 1 + total (map item_count v.items) = count_Case kind e v in
       record {
         own = λ r u.
             fault_Case r env kind e v
-            ∙ case_by (list_any (operand_fault r env.names) (exprs_in v.items)) (case_fault r env.names e (labels_of v.items)) (list_any (inner_fault r env) v.items) (labels_stand r env.names e v.items) (sym (items_parts r env v.items) ∙ u);
+            ∙ case_by (list_any (operand_fault r env.names) (exprs_in v.items)) (case_fault r env.names e.value (labels_of v.items)) (list_any (inner_fault r env) v.items) (labels_stand r env.names e.value v.items) (sym (items_parts r env v.items) ∙ u);
         last = omega (arith, n, m);
         before = [];
         behind = [];
         blocks = whole_blocks (blocks_in (s.Case kind e v)) (flat_map (λ (x : CaseLabel × Stmt). blocks_in x.1) v.items) (blocks_Case kind e v);
       }
 
-  module _ (l : Left) (a c : Expr) (m : Left) (b : Expr) (x : Box Stmt Global) where
-    for_count : count_of (s.For l a c m b x) ≡ 3 + count_of x.value
-    for_count = count_For l a c m b x
+  module _ (head : Box ForHeader Global) (x : Box Stmt Global) where
+    for_count : count_of (s.For head x) ≡ 3 + count_of x.value
+    for_count = count_For head x
 
-    pub begin_part : IsPart (numbered_burden env first l a) (statement_burden env first (s.For l a c m b x))
+    pub begin_part : IsPart (numbered_burden env first head.value.first.0 head.value.first.1) (statement_burden env first (s.For head x))
     begin_part =
         let n = for_count in
         record {
-          own = λ r u. fault_For r env l a c m b x ∙ left_true _ _ (left_true _ _ (left_true _ (operand_fault r env.names c) u));
+          own = λ r u. fault_For r env head x ∙ left_true _ _ (left_true _ _ (left_true _ (operand_fault r env.names head.value.condition) u));
           last = omega (arith, n);
           before = [];
           behind = blocks_in x.value;
-          blocks = blocks_For l a c m b x;
+          blocks = blocks_For head x;
         }
 
-    pub turn_part : (mid : ℕ) → mid ≡ first + 1 → IsPart (statement_burden env (mid + 1) x.value) (statement_burden env first (s.For l a c m b x))
+    pub turn_part : (mid : ℕ) → mid ≡ first + 1 → IsPart (statement_burden env (mid + 1) x.value) (statement_burden env first (s.For head x))
     turn_part mid h =
         let n = for_count in
         record {
-          own = λ r u. fault_For r env l a c m b x ∙ right_true ((assign_fault r Procedural env.names (places l) a || operand_fault r env.names c) || assign_fault r Procedural env.names (places m) b) _ u;
+          own = λ r u. fault_For r env head x ∙ right_true ((assign_fault r Procedural env.names (places head.value.first.0) head.value.first.1 || operand_fault r env.names head.value.condition) || assign_fault r Procedural env.names (places head.value.step.0) head.value.step.1) _ u;
           last = omega (arith, n, h);
           before = [];
           behind = [];
-          blocks = whole_blocks _ _ (blocks_For l a c m b x);
+          blocks = whole_blocks _ _ (blocks_For head x);
         }
 
-    pub step_part : (mid : ℕ) → mid ≡ first + 2 + count_of x.value → IsPart (numbered_burden env mid m b) (statement_burden env first (s.For l a c m b x))
+    pub step_part : (mid : ℕ) → mid ≡ first + 2 + count_of x.value → IsPart (numbered_burden env mid head.value.step.0 head.value.step.1) (statement_burden env first (s.For head x))
     step_part mid h =
         let n = for_count in
         record {
-          own = λ r u. fault_For r env l a c m b x ∙ left_true _ _ (right_true (assign_fault r Procedural env.names (places l) a || operand_fault r env.names c) _ u);
+          own = λ r u. fault_For r env head x ∙ left_true _ _ (right_true (assign_fault r Procedural env.names (places head.value.first.0) head.value.first.1 || operand_fault r env.names head.value.condition) _ u);
           last = omega (arith, n, h);
           before = [];
           behind = blocks_in x.value;
-          blocks = blocks_For l a c m b x;
+          blocks = blocks_For head x;
         }
 
 -- the parts of a list of lists: those before an element's, its own, and those behind

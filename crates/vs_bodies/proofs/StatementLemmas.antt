@@ -9,6 +9,7 @@ use Rattle.std.proofs.lemmas.Bool.{le-leb}
 use Rattle.std.proofs.lemmas.List.{map-append, append-nil, take_all}
 use Rattle.vs_syntax.specs.declared.tree.Expr.{Expr}
 use Rattle.vs_syntax.specs.declared.tree.Left.{Left}
+use Rattle.vs_syntax.specs.declared.tree.ForHeader.{ForHeader}
 use Rattle.vs_syntax.specs.declared.tree.LocalDeclaration.{LocalDeclaration}
 use Rattle.vs_syntax.specs.declared.tree.Stmt.{Stmt}
 use Rattle.vs_syntax.specs.declared.tree.Stmt.TheVariants as s
@@ -102,32 +103,32 @@ module _ (list : List FoundScope) (envs : Path → Surroundings) (p : Path) wher
   takes_of : (first k next : ℕ) (l : Left) (e : Expr) (t : Target) (x : Typed) → Numbers first l e k t x next → Takes first k next
   takes_of first k next l e t x h = (h.1.number, (h.1.next_is, h.0.room))
 
-  pub states_Assign : (first k next : ℕ) (l : Left) (e : Expr) (t : Target) (x : Typed) → Numbers first l e k t x next → States first (s.Assign l e) (d.Assign k t x) next
+  pub states_Assign : (first k next : ℕ) (l : Box Left Global) (e : Expr) (t : Target) (x : Typed) → Numbers first l.value e k t x next → States first (s.Assign l e) (d.Assign k t x) next
   states_Assign first k next l e t x h =
-      one_statement first k next (s.Assign l e) (d.Assign k t x) (takes_of first k next l e t x h) (count_Assign l e) (λ r. fault_Assign r (envs p) l e ∙ h.0.own r) (blocks_Assign l e) (is_assign p l e k t x h.1.sides) (numbers_Assign k t x)
+      one_statement first k next (s.Assign l e) (d.Assign k t x) (takes_of first k next l.value e t x h) (count_Assign l e) (λ r. fault_Assign r (envs p) l e ∙ h.0.own r) (blocks_Assign l e) (is_assign p l e k t x h.1.sides) (numbers_Assign k t x)
 
-  pub states_Later : (first k next : ℕ) (l : Left) (v : Option DelayValue) (e : Expr) (n : Ticks) (t : Target) (x : Typed) → Numbers first l e k t x next → ((r : Reason) → due_fault r (envs p).names (envs p).ratio v ≡ false) × (due_of (envs p).names (envs p).ratio v ≡ Some n.count) →
+  pub states_Later : (first k next : ℕ) (l : Box Left Global) (v : Option DelayValue) (e : Box Expr Global) (n : Ticks) (t : Target) (x : Typed) → Numbers first l.value e.value k t x next → ((r : Reason) → due_fault r (envs p).names (envs p).ratio v ≡ false) × (due_of (envs p).names (envs p).ratio v ≡ Some n.count) →
       States first (s.Later l v e) (d.Later k n t x) next
   states_Later first k next l v e n t x h u =
-      one_statement first k next (s.Later l v e) (d.Later k n t x) (takes_of first k next l e t x h) (count_Later l v e) (λ r. fault_Later r (envs p) l v e ∙ both_false _ _ (h.0.own r) (u.0 r)) (blocks_Later l v e) (is_later p l v e k n t x h.1.sides u.1) (numbers_Later k n t x)
+      one_statement first k next (s.Later l v e) (d.Later k n t x) (takes_of first k next l.value e.value t x h) (count_Later l v e) (λ r. fault_Later r (envs p) l v e ∙ both_false _ _ (h.0.own r) (u.0 r)) (blocks_Later l v e) (is_later p l v e k n t x h.1.sides u.1) (numbers_Later k n t x)
 
-  pub assign_refused : (first : ℕ) (l : Left) (e : Expr) (f : StatementFault) → FailsNumbered first l e f → FailsIn first (s.Assign l e) f
+  pub assign_refused : (first : ℕ) (l : Box Left Global) (e : Expr) (f : StatementFault) → FailsNumbered first l.value e f → FailsIn first (s.Assign l e) f
   assign_refused first l e f h =
       let c : count_of (s.Assign l e) ≡ 1 = count_Assign l e in
-      fails_part list envs p (numbered_burden (envs p) first l e) (statement_burden (envs p) first (s.Assign l e)) f
+      fails_part list envs p (numbered_burden (envs p) first l.value e) (statement_burden (envs p) first (s.Assign l e)) f
       (record { own = λ r u. fault_Assign r (envs p) l e ∙ u; last = omega (arith, c); before = []; behind = []; blocks = blocks_Assign l e }) h
 
-  pub later_refused : (first : ℕ) (l : Left) (v : Option DelayValue) (e : Expr) (f : StatementFault) → FailsNumbered first l e f → FailsIn first (s.Later l v e) f
+  pub later_refused : (first : ℕ) (l : Box Left Global) (v : Option DelayValue) (e : Box Expr Global) (f : StatementFault) → FailsNumbered first l.value e.value f → FailsIn first (s.Later l v e) f
   later_refused first l v e f h =
       let c : count_of (s.Later l v e) ≡ 1 = count_Later l v e in
-      fails_part list envs p (numbered_burden (envs p) first l e) (statement_burden (envs p) first (s.Later l v e)) f
+      fails_part list envs p (numbered_burden (envs p) first l.value e.value) (statement_burden (envs p) first (s.Later l v e)) f
       (record { own = λ r u. fault_Later r (envs p) l v e ∙ left_true _ (due_fault r (envs p).names (envs p).ratio v) u; last = omega (arith, c); before = []; behind = []; blocks = blocks_Later l v e }) h
 
   -- a fault of the delay of a nonblocking assignment
-  pub due_refused : (first : ℕ) (l : Left) (v : Option DelayValue) (e : Expr) (f : BodyFault) → Refuses (λ r. due_fault r (envs p).names (envs p).ratio v) f → FailsIn first (s.Later l v e) (as_statement_fault f)
+  pub due_refused : (first : ℕ) (l : Box Left Global) (v : Option DelayValue) (e : Box Expr Global) (f : BodyFault) → Refuses (λ r. due_fault r (envs p).names (envs p).ratio v) f → FailsIn first (s.Later l v e) (as_statement_fault f)
   due_refused first l v e f h =
       fails_by list envs p (λ r. due_fault r (envs p).names (envs p).ratio v) (statement_burden (envs p) first (s.Later l v e)) f
-      (λ r u. fault_Later r (envs p) l v e ∙ right_true (assign_fault r Procedural (envs p).names (places l) e) _ u) h
+      (λ r u. fault_Later r (envs p) l v e ∙ right_true (assign_fault r Procedural (envs p).names (places l.value) e.value) _ u) h
 
   -- ---- system tasks
 
@@ -363,22 +364,22 @@ module _ (list : List FoundScope) (envs : Path → Surroundings) (p : Path) wher
       )
 
   -- a fault of the condition of an `if`
-  pub if_refused : (first : ℕ) (e : Expr) (x : Box Stmt Global) (o : Option (Box Stmt Global)) (f : BodyFault) → Refuses (λ r. operand_fault r (envs p).names e) f → FailsIn first (s.If e x o) (as_statement_fault f)
+  pub if_refused : (first : ℕ) (e : Box Expr Global) (x : Box Stmt Global) (o : Option (Box Stmt Global)) (f : BodyFault) → Refuses (λ r. operand_fault r (envs p).names e.value) f → FailsIn first (s.If e x o) (as_statement_fault f)
   if_refused first e x o f h =
-      fails_by list envs p (λ r. operand_fault r (envs p).names e) (statement_burden (envs p) first (s.If e x o)) f
-      (λ r u. fault_If r (envs p) e x o ∙ left_true _ _ (left_true (operand_fault r (envs p).names e) (has_fault r (envs p) x.value) u)) h
+      fails_by list envs p (λ r. operand_fault r (envs p).names e.value) (statement_burden (envs p) first (s.If e x o)) f
+      (λ r u. fault_If r (envs p) e x o ∙ left_true _ _ (left_true (operand_fault r (envs p).names e.value) (has_fault r (envs p) x.value) u)) h
 
   -- a fault of the statement behind the condition
-  pub then_refused : (first : ℕ) (e : Expr) (x : Box Stmt Global) (o : Option (Box Stmt Global)) (a : Stmt) (f : StatementFault) → a ≡ x.value → FailsIn (first + 1) a f → FailsIn first (s.If e x o) f
+  pub then_refused : (first : ℕ) (e : Box Expr Global) (x : Box Stmt Global) (o : Option (Box Stmt Global)) (a : Stmt) (f : StatementFault) → a ≡ x.value → FailsIn (first + 1) a f → FailsIn first (s.If e x o) f
   then_refused first e x o a f i h =
       fails_part list envs p (statement_burden (envs p) (first + 1) x.value) (statement_burden (envs p) first (s.If e x o)) f (then_part (envs p) first e x o) (subst (λ z. FailsIn (first + 1) z f) i h)
 
   -- a fault of the statement behind `else`
-  pub else_refused : (first mid : ℕ) (e : Expr) (x : Box Stmt Global) (o : Option (Box Stmt Global)) (a : Stmt) (f : StatementFault) → a ≡ x.value → mid ≡ first + 1 + count_of a → Fails list envs p (statements_burden (envs p) mid (else_list o)) f → FailsIn first (s.If e x o) f
+  pub else_refused : (first mid : ℕ) (e : Box Expr Global) (x : Box Stmt Global) (o : Option (Box Stmt Global)) (a : Stmt) (f : StatementFault) → a ≡ x.value → mid ≡ first + 1 + count_of a → Fails list envs p (statements_burden (envs p) mid (else_list o)) f → FailsIn first (s.If e x o) f
   else_refused first mid e x o a f i m h =
       fails_part list envs p (statements_burden (envs p) mid (else_list o)) (statement_burden (envs p) first (s.If e x o)) f (else_part (envs p) first mid e x o (m ∙ ap (λ z. first + 1 + count_of z) i)) h
 
-  pub states_If : (first k mid next : ℕ) (e : Expr) (signed : Bool) (z : Typed) (x : Box Stmt Global) (o : Option (Box Stmt Global)) (y w : Box Statement Global) (a : Stmt) (b c : Statement) → Behind first a k b mid → Otherwise mid o c next → Operates e signed z →
+  pub states_If : (first k mid next : ℕ) (e : Box Expr Global) (signed : Bool) (z : Typed) (x : Box Stmt Global) (o : Option (Box Stmt Global)) (y w : Box Statement Global) (a : Stmt) (b c : Statement) → Behind first a k b mid → Otherwise mid o c next → Operates e.value signed z →
       a ≡ x.value → y.value ≡ b → w.value ≡ c → States first (s.If e x o) (d.If k z y w) next
   states_If first k mid next e signed z x o y w a b c h g u i j l =
       let at : mid ≡ first + 1 + count_of x.value = h.1.1.next_is ∙ ap (λ v. first + 1 + count_of v) i in
@@ -405,35 +406,35 @@ module _ (list : List FoundScope) (envs : Path → Surroundings) (p : Path) wher
 
   -- ---- `for`
 
-  module _ (first : ℕ) (l m : Left) (a c b : Expr) (x : Box Stmt Global) where
-    pub begin_refused : (f : StatementFault) → FailsNumbered first l a f → FailsIn first (s.For l a c m b x) f
-    begin_refused f h = fails_part list envs p (numbered_burden (envs p) first l a) (statement_burden (envs p) first (s.For l a c m b x)) f (begin_part (envs p) first l a c m b x) h
+  module _ (first : ℕ) (head : Box ForHeader Global) (x : Box Stmt Global) where
+    pub begin_refused : (f : StatementFault) → FailsNumbered first head.value.first.0 head.value.first.1 f → FailsIn first (s.For head x) f
+    begin_refused f h = fails_part list envs p (numbered_burden (envs p) first head.value.first.0 head.value.first.1) (statement_burden (envs p) first (s.For head x)) f (begin_part (envs p) first head x) h
 
-    pub turn_refused : (mid : ℕ) (q : Stmt) (f : StatementFault) → mid ≡ first + 1 → q ≡ x.value → FailsIn (mid + 1) q f → FailsIn first (s.For l a c m b x) f
+    pub turn_refused : (mid : ℕ) (q : Stmt) (f : StatementFault) → mid ≡ first + 1 → q ≡ x.value → FailsIn (mid + 1) q f → FailsIn first (s.For head x) f
     turn_refused mid q f e i h =
-        fails_part list envs p (statement_burden (envs p) (mid + 1) x.value) (statement_burden (envs p) first (s.For l a c m b x)) f (turn_part (envs p) first l a c m b x mid e) (subst (λ z. FailsIn (mid + 1) z f) i h)
+        fails_part list envs p (statement_burden (envs p) (mid + 1) x.value) (statement_burden (envs p) first (s.For head x)) f (turn_part (envs p) first head x mid e) (subst (λ z. FailsIn (mid + 1) z f) i h)
 
-    pub test_refused : (f : BodyFault) → Refuses (λ r. operand_fault r (envs p).names c) f → FailsIn first (s.For l a c m b x) (as_statement_fault f)
+    pub test_refused : (f : BodyFault) → Refuses (λ r. operand_fault r (envs p).names head.value.condition) f → FailsIn first (s.For head x) (as_statement_fault f)
     test_refused f h =
-        fails_by list envs p (λ r. operand_fault r (envs p).names c) (statement_burden (envs p) first (s.For l a c m b x)) f
-        (λ r u. fault_For r (envs p) l a c m b x ∙ left_true _ _ (left_true _ _ (right_true (assign_fault r Procedural (envs p).names (places l) a) _ u))) h
+        fails_by list envs p (λ r. operand_fault r (envs p).names head.value.condition) (statement_burden (envs p) first (s.For head x)) f
+        (λ r u. fault_For r (envs p) head x ∙ left_true _ _ (left_true _ _ (right_true (assign_fault r Procedural (envs p).names (places head.value.first.0) head.value.first.1) _ u))) h
 
-    pub step_refused : (m1 m2 : ℕ) (q : Stmt) (f : StatementFault) → m1 ≡ first + 1 → m2 ≡ m1 + 1 + count_of q → q ≡ x.value → FailsNumbered m2 m b f → FailsIn first (s.For l a c m b x) f
+    pub step_refused : (m1 m2 : ℕ) (q : Stmt) (f : StatementFault) → m1 ≡ first + 1 → m2 ≡ m1 + 1 + count_of q → q ≡ x.value → FailsNumbered m2 head.value.step.0 head.value.step.1 f → FailsIn first (s.For head x) f
     step_refused m1 m2 q f e g i h =
         let n : count_of q ≡ count_of x.value = ap count_of i in
         let at : m2 ≡ first + 2 + count_of x.value = omega (arith, e, g, n) in
-        fails_part list envs p (numbered_burden (envs p) m2 m b) (statement_burden (envs p) first (s.For l a c m b x)) f (step_part (envs p) first l a c m b x m2 at) h
+        fails_part list envs p (numbered_burden (envs p) m2 head.value.step.0 head.value.step.1) (statement_burden (envs p) first (s.For head x)) f (step_part (envs p) first head x m2 at) h
 
-  pub states_For : (first m1 m2 next i j k : ℕ) (l m : Left) (a c b : Expr) (x : Box Stmt Global) (t u : Target) (y z w : Typed) (signed : Bool) (q : Stmt) (one made : Statement) → Numbers first l a i t y m1 → Behind m1 q j one m2 → Operates c signed z → Numbers m2 m b k u w next →
-      q ≡ x.value → IsRepeated (d.Assign i t y) j z one (d.Assign k u w) made → States first (s.For l a c m b x) made next
-  states_For first m1 m2 next i j k l m a c b x t u y z w signed q one made h g v o e r =
+  pub states_For : (first m1 m2 next i j k : ℕ) (head : Box ForHeader Global) (x : Box Stmt Global) (t u : Target) (y z w : Typed) (signed : Bool) (q : Stmt) (one made : Statement) → Numbers first head.value.first.0 head.value.first.1 i t y m1 → Behind m1 q j one m2 → Operates head.value.condition signed z → Numbers m2 head.value.step.0 head.value.step.1 k u w next →
+      q ≡ x.value → IsRepeated (d.Assign i t y) j z one (d.Assign k u w) made → States first (s.For head x) made next
+  states_For first m1 m2 next i j k head x t u y z w signed q one made h g v o e r =
       let n = count_of x.value in
       let at1 : m1 ≡ first + 1 = h.1.next_is in
       let at2 : m2 ≡ first + 1 + 1 + n = g.1.1.next_is ∙ ap (λ o. m1 + 1 + count_of o) e ∙ ap (λ o. o + 1 + n) at1 in
       let at3 : next ≡ first + (3 + n) = o.1.next_is ∙ ap (λ o. o + 1) at2 ∙ (let e : first + 1 + 1 + n + 1 ≡ first + (3 + n) = omega arith in e) in
       let two : first + 1 + 1 ≡ suc (suc first) = omega arith in
-      let count : count_of (s.For l a c m b x) ≡ 3 + n = count_For l a c m b x in
-      let whole : first + (3 + n) ≡ first + count_of (s.For l a c m b x) = ap (λ o. first + o) (sym count) in
+      let count : count_of (s.For head x) ≡ 3 + n = count_For head x in
+      let whole : first + (3 + n) ≡ first + count_of (s.For head x) = ap (λ o. first + o) (sym count) in
       let long : suc (suc (n + 1)) ≡ 3 + n = omega arith in
       let inner : numbers one ≡ counting (suc (suc first)) n = g.1.1.numbered ∙ ap (λ o. counting (m1 + 1) (count_of o)) e ∙ ap (λ o. counting (o + 1) n) at1 ∙ ap (λ o. counting o n) two in
       let last : k ∷ [] ≡ counting (suc (suc first) + n) 1 = ap (λ o. o ∷ []) (o.1.number ∙ at2 ∙ ap (λ o. o + n) two) in
@@ -450,13 +451,13 @@ module _ (list : List FoundScope) (envs : Path → Surroundings) (p : Path) wher
       let room : m2 + 1 < 2 ^ 32 = o.0.room in (
         record {
           own = λ f.
-              fault_For f (envs p) l a c m b x
+              fault_For f (envs p) head x
               ∙ both_false _ _ (both_false _ _ (both_false _ _ (h.0.own f) (v.0 f)) (o.0.own f)) (ap (has_fault f (envs p)) (sym e) ∙ g.0.own f);
           room = omega (arith, count, room, at2);
-          blocks = free_same envs p (blocks_in x.value) (blocks_in (s.For l a c m b x)) (blocks_For l a c m b x) (subst (λ o. AreFree envs p (blocks_in o)) e g.0.blocks);
+          blocks = free_same envs p (blocks_in x.value) (blocks_in (s.For head x)) (blocks_For head x) (subst (λ o. AreFree envs p (blocks_in o)) e g.0.blocks);
         },
         record {
-          means = subst (IsStatement envs p (s.For l a c m b x)) (sym r.whole) (is_for p l a c m b x i j k t u y w z signed r.all r.inner r.body one h.1.sides v.1 o.1.sides body r.turns r.turn r.parts);
+          means = subst (IsStatement envs p (s.For head x)) (sym r.whole) (is_for p head x i j k t u y w z signed r.all r.inner r.body one h.1.sides v.1 o.1.sides body r.turns r.turn r.parts);
           next_is = at3 ∙ whole;
           numbered = all ∙ ap (counting first) (sym count);
         },
@@ -465,16 +466,16 @@ module _ (list : List FoundScope) (envs : Path → Surroundings) (p : Path) wher
   -- ---- `case`
 
   -- a fault of the expressions of a `case`
-  pub case_refused_by : (first : ℕ) (kind : CaseKind) (e : Expr) (v : Vec (CaseLabel × Stmt) Global) (xs : List (CaseLabel × Stmt)) (f : BodyFault) → xs ≡ v.items → Refuses (λ r. case_fault r (envs p).names e (labels_of xs)) f → FailsIn first (s.Case kind e v) (as_statement_fault f)
+  pub case_refused_by : (first : ℕ) (kind : CaseKind) (e : Box Expr Global) (v : Vec (CaseLabel × Stmt) Global) (xs : List (CaseLabel × Stmt)) (f : BodyFault) → xs ≡ v.items → Refuses (λ r. case_fault r (envs p).names e.value (labels_of xs)) f → FailsIn first (s.Case kind e v) (as_statement_fault f)
   case_refused_by first kind e v xs f i h =
-      fails_by list envs p (λ r. case_fault r (envs p).names e (labels_of v.items)) (statement_burden (envs p) first (s.Case kind e v)) f
-      (λ r u. fault_Case r (envs p) kind e v ∙ left_true (case_fault r (envs p).names e (labels_of v.items)) _ u) (subst (λ z. Refuses (λ r. case_fault r (envs p).names e (labels_of z)) f) i h)
+      fails_by list envs p (λ r. case_fault r (envs p).names e.value (labels_of v.items)) (statement_burden (envs p) first (s.Case kind e v)) f
+      (λ r u. fault_Case r (envs p) kind e v ∙ left_true (case_fault r (envs p).names e.value (labels_of v.items)) _ u) (subst (λ z. Refuses (λ r. case_fault r (envs p).names e.value (labels_of z)) f) i h)
 
-  pub case_overfull : (first : ℕ) (kind : CaseKind) (e : Expr) (v : Vec (CaseLabel × Stmt) Global) (f : StatementFault) → (f ≡ t.Overfull) × (2 ^ 32 ≤ first + 1) → FailsIn first (s.Case kind e v) f
+  pub case_overfull : (first : ℕ) (kind : CaseKind) (e : Box Expr Global) (v : Vec (CaseLabel × Stmt) Global) (f : StatementFault) → (f ≡ t.Overfull) × (2 ^ 32 ≤ first + 1) → FailsIn first (s.Case kind e v) f
   case_overfull first kind e v f h = fails_overfull list envs p (statement_burden (envs p) first (s.Case kind e v)) (first + 1) f (let n = count_Case kind e v in omega (arith, n)) h
 
   -- a fault of the items of a `case`
-  pub items_refused : (first mid : ℕ) (kind : CaseKind) (e : Expr) (v : Vec (CaseLabel × Stmt) Global) (xs : List (CaseLabel × Stmt)) (f : StatementFault) → mid ≡ first + 1 → xs ≡ v.items → Fails list envs p (items_burden (envs p) mid xs) f → FailsIn first (s.Case kind e v) f
+  pub items_refused : (first mid : ℕ) (kind : CaseKind) (e : Box Expr Global) (v : Vec (CaseLabel × Stmt) Global) (xs : List (CaseLabel × Stmt)) (f : StatementFault) → mid ≡ first + 1 → xs ≡ v.items → Fails list envs p (items_burden (envs p) mid xs) f → FailsIn first (s.Case kind e v) f
   items_refused first mid kind e v xs f m i h =
       fails_part list envs p (items_burden (envs p) mid v.items) (statement_burden (envs p) first (s.Case kind e v)) f (items_part (envs p) first mid kind e v m) (subst (λ z. Fails list envs p (items_burden (envs p) mid z) f) i h)
 
@@ -482,12 +483,12 @@ module _ (list : List FoundScope) (envs : Path → Surroundings) (p : Path) wher
   abbrev pub Lists : Shape → ℕ → List (CaseLabel × Stmt) → List (Vec Typed Global × Statement) → ℕ → Type 0
   Lists s first xs ys next = IsFree envs p (items_burden (envs p) first xs) × MeansItems envs p s first xs ys next
 
-  pub states_Case : (first k mid next : ℕ) (kind : CaseKind) (e : Expr) (v : Vec (CaseLabel × Stmt) Global) (sh : Shape) (z : Typed) (ws : Vec (Vec Typed Global × Statement) Global) (xs ys : List (CaseLabel × Stmt)) → Takes first k mid →
-      ((r : Reason) → case_fault r (envs p).names e (labels_of xs) ≡ false) × IsCase (envs p).names e (labels_of xs) sh z → Lists sh mid ys ws.items next → xs ≡ v.items → ys ≡ v.items → States first (s.Case kind e v) (d.Case k kind z ws) next
+  pub states_Case : (first k mid next : ℕ) (kind : CaseKind) (e : Box Expr Global) (v : Vec (CaseLabel × Stmt) Global) (sh : Shape) (z : Typed) (ws : Vec (Vec Typed Global × Statement) Global) (xs ys : List (CaseLabel × Stmt)) → Takes first k mid →
+      ((r : Reason) → case_fault r (envs p).names e.value (labels_of xs) ≡ false) × IsCase (envs p).names e.value (labels_of xs) sh z → Lists sh mid ys ws.items next → xs ≡ v.items → ys ≡ v.items → States first (s.Case kind e v) (d.Case k kind z ws) next
   states_Case first k mid next kind e v sh z ws xs ys h g q i j =
       let env = envs p in
       let n = total (map item_count v.items) in
-      let one = subst (λ o. ((r : Reason) → case_fault r env.names e (labels_of o) ≡ false) × IsCase env.names e (labels_of o) sh z) i g in
+      let one = subst (λ o. ((r : Reason) → case_fault r env.names e.value (labels_of o) ≡ false) × IsCase env.names e.value (labels_of o) sh z) i g in
       let all : Lists sh mid v.items ws.items next = subst (λ o. Lists sh mid o ws.items next) j q in
       let count : count_of (s.Case kind e v) ≡ 1 + n = count_Case kind e v in
       let same : mid + n ≡ first + (1 + n) = ap (λ o. o + n) h.1.0 ∙ behind_count first n in

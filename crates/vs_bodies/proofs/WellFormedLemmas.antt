@@ -260,20 +260,20 @@ module _ (ss : List Signal) (envs : Path → Surroundings) (good : (p : Path) �
   mutual
     statement_sound : (p : Path) (x : Stmt) (z : Statement) → IsStatement envs p x z → is_sound_statement ss z ≡ true
     statement_sound _ _ _ (is_null p j) = sound_Null ss j
-    statement_sound _ _ _ (is_assign p l e j u x h) = sound_Assign ss j u x ∙ assigned_at p (places l) e u x h
-    statement_sound _ _ _ (is_later p l v e j n u x h due) = sound_Later ss j n u x ∙ assigned_at p (places l) e u x h
+    statement_sound _ _ _ (is_assign p l e j u x h) = sound_Assign ss j u x ∙ assigned_at p (places l.value) e u x h
+    statement_sound _ _ _ (is_later p l v e j n u x h due) = sound_Later ss j n u x ∙ assigned_at p (places l.value) e.value u x h
     statement_sound _ _ _ (is_block p xs zs h) = sound_Block ss zs ∙ statements_sound p _ _ h
     statement_sound _ _ _ (is_named p n ls xs zs h) = sound_Block ss zs ∙ statements_sound _ _ _ h
     statement_sound _ _ _ (is_if p e j z signed x o y w h g k) =
-        sound_If ss j z y w ∙ both_true _ _ (both_true _ _ (typed_at p e h.width signed z h.typed) (statement_sound p _ _ g)) (else_sound p _ _ k)
+        sound_If ss j z y w ∙ both_true _ _ (both_true _ _ (typed_at p e.value h.width signed z h.typed) (statement_sound p _ _ g)) (else_sound p _ _ k)
     statement_sound _ _ _ (is_case p kind e j z width signed xs ys found h two k) =
-        sound_Case ss j kind z ys ∙ both_true _ _ (typed_at p e width signed z h) (items_sound p width signed z _ _ h.size k)
-    statement_sound _ _ _ (is_for p l a c m b x i j k t u y w z signed all inner body one h g o q turns turn parts) =
-        let step : is_sound_statement ss (d.Assign k u w) ≡ true = sound_Assign ss k u w ∙ assigned_at p (places m) b u w o in
+        sound_Case ss j kind z ys ∙ both_true _ _ (typed_at p e.value width signed z h) (items_sound p width signed z _ _ h.size k)
+    statement_sound _ _ _ (is_for p head x i j k t u y w z signed all inner body one h g o q turns turn parts) =
+        let step : is_sound_statement ss (d.Assign k u w) ≡ true = sound_Assign ss k u w ∙ assigned_at p (places head.value.step.0) head.value.step.1 u w o in
         let block : is_sound_statement ss body.value ≡ true =
         ap (is_sound_statement ss) turn ∙ sound_Block ss inner ∙ ap (list_all (is_sound_statement ss)) turns ∙ both_true _ _ (statement_sound p _ _ q) (both_true _ _ step refl) in
-        let loop : is_sound_statement ss (d.While j z body) ≡ true = sound_While ss j z body ∙ both_true _ _ (typed_at p c g.width signed z g.typed) block in
-        sound_Block ss all ∙ ap (list_all (is_sound_statement ss)) parts ∙ both_true _ _ (sound_Assign ss i t y ∙ assigned_at p (places l) a t y h) (both_true _ _ loop refl)
+        let loop : is_sound_statement ss (d.While j z body) ≡ true = sound_While ss j z body ∙ both_true _ _ (typed_at p head.value.condition g.width signed z g.typed) block in
+        sound_Block ss all ∙ ap (list_all (is_sound_statement ss)) parts ∙ both_true _ _ (sound_Assign ss i t y ∙ assigned_at p (places head.value.first.0) head.value.first.1 t y h) (both_true _ _ loop refl)
     statement_sound _ _ _ (is_while p e j z signed x y h g) = sound_While ss j z y ∙ both_true _ _ (typed_at p e h.width signed z h.typed) (statement_sound p _ _ g)
     statement_sound _ _ _ (is_repeat p e j z signed x y h g) = sound_Repeat ss j signed z y ∙ both_true _ _ (typed_at p e h.width signed z h.typed) (statement_sound p _ _ g)
     statement_sound _ _ _ (repeats_forever p j x y g) = sound_Forever ss j y ∙ statement_sound p _ _ g

@@ -27,6 +27,7 @@ use Rattle.vs_syntax.specs.declared.tree.PrintArguments.TheVariants as print
 use Rattle.vs_syntax.specs.declared.tree.DumpTask.{DumpTask}
 use Rattle.vs_syntax.specs.declared.tree.DumpArgument.{DumpArgument}
 use Rattle.vs_syntax.specs.declared.tree.LocalDeclaration.{LocalDeclaration}
+use Rattle.vs_syntax.specs.declared.tree.ForHeader.{ForHeader}
 use Rattle.vs_syntax.specs.declared.tree.Stmt.{Stmt}
 use Rattle.vs_pieces.specs.Pieces.{NamedBlock, blocks_in}
 use Rattle.vs_scopes.specs.Printed.{plainly, Path, printed}
@@ -106,7 +107,7 @@ operand_fault _ env e = false
 abbrev pub delay_meant : Environment → DelayValue → Meant
 delay_meant env (v.Number l) = number_meant l
 delay_meant env (v.Name n) = name_meant (env n.items)
-delay_meant env (v.Group e) = meant env e
+delay_meant env (v.Group e) = meant env e.value
 
 -- the ticks of a delay where a unit of time is so many, where it is a constant number of units from 0 on (clauses 9.7.1 and 19.8; a negative one is
 -- refused: profile)
@@ -179,15 +180,15 @@ pub data AreEvents (env : Environment) (body : Statement) : EventControl → Lis
   are_star : AreEvents env body c.Star (map level_term (statement_reads body))
   are_grouped : AreEvents env body c.GroupedStar (map level_term (statement_reads body))
   are_name : (n : Vec ℕ Global) (y : EventTerm) → IsTerm env Any (name_aimed Event (env n.items) []) y → AreEvents env body (c.Name n) (y ∷ [])
-  are_terms : (t : EventExpr) (ts : Vec (Separator × EventExpr) Global) (ys : List EventTerm) →
-      AreTerms env (t ∷ map (λ (x : Separator × EventExpr). x.1) ts.items) ys → AreEvents env body (c.Terms t ts) ys
+  are_terms : (t : Box EventExpr Global) (ts : Vec (Separator × EventExpr) Global) (ys : List EventTerm) →
+      AreTerms env (t.value ∷ map (λ (x : Separator × EventExpr). x.1) ts.items) ys → AreEvents env body (c.Terms t ts) ys
 
 -- what an event control names, one for each term of its text (clause 9.7.2)
 abbrev pub events_aimed : Environment → EventControl → List Aimed
 events_aimed env c.Star = []
 events_aimed env c.GroupedStar = []
 events_aimed env (c.Name n) = name_aimed Event (env n.items) [] ∷ []
-events_aimed env (c.Terms t ts) = map (event_aimed env) (t ∷ map (λ (x : Separator × EventExpr). x.1) ts.items)
+events_aimed env (c.Terms t ts) = map (event_aimed env) (t.value ∷ map (λ (x : Separator × EventExpr). x.1) ts.items)
 
 -- a fault of a term of an event control (clause 9.7.2)
 abbrev pub event_fault : Reason → Environment → EventControl → Bool
@@ -292,26 +293,30 @@ mutual
   -- profile).
   pub data IsStatement (envs : Path → Surroundings) : Path → Stmt → Statement → Type 0 where
     is_null : (p : Path) (k : ℕ) → IsStatement envs p h.Null (d.Null k)
-    is_assign : (p : Path) (l : Left) (e : Expr) (k : ℕ) (t : Target) (x : Typed) → IsAssignment Procedural (envs p).names (places l) e t x →
-        IsStatement envs p (h.Assign l e) (d.Assign k t x)
-    is_later : (p : Path) (l : Left) (v : Option DelayValue) (e : Expr) (k : ℕ) (n : Ticks) (t : Target) (x : Typed) →
-        IsAssignment Procedural (envs p).names (places l) e t x → due_of (envs p).names (envs p).ratio v ≡ Some n.count →
+    is_assign : (p : Path) (l : Box Left Global) (e : Expr) (k : ℕ) (t : Target) (x : Typed) →
+        IsAssignment Procedural (envs p).names (places l.value) e t x → IsStatement envs p (h.Assign l e) (d.Assign k t x)
+    is_later : (p : Path) (l : Box Left Global) (v : Option DelayValue) (e : Box Expr Global) (k : ℕ) (n : Ticks) (t : Target) (x : Typed) →
+        IsAssignment Procedural (envs p).names (places l.value) e.value t x → due_of (envs p).names (envs p).ratio v ≡ Some n.count →
         IsStatement envs p (h.Later l v e) (d.Later k n t x)
     is_block : (p : Path) (xs : Vec Stmt Global) (ys : Vec Statement Global) → AreStatements envs p xs.items ys.items → IsStatement envs p (h.Block xs) (d.Block ys)
     is_named : (p : Path) (n : Vec ℕ Global) (ls : Vec LocalDeclaration Global) (xs : Vec Stmt Global) (ys : Vec Statement Global) →
         AreStatements envs (p ++ plainly n.items ∷ []) xs.items ys.items → IsStatement envs p (h.Named n ls xs) (d.Block ys)
-    is_if : (p : Path) (e : Expr) (k : ℕ) (z : Typed) (signed : Bool) (x : Box Stmt Global) (o : Option (Box Stmt Global)) (y w : Box Statement Global) →
-        IsOperand (envs p).names e signed z → IsStatement envs p x.value y.value → IsElse envs p o w.value → IsStatement envs p (h.If e x o) (d.If k z y w)
-    is_case : (p : Path) (kind : CaseKind) (e : Expr) (k : ℕ) (z : Typed) (width : ℕ) (signed : Bool) (xs : Vec (CaseLabel × Stmt) Global)
-        (ys : Vec (Vec Typed Global × Statement) Global) →
-        case_finding (envs p).names e (map (λ (x : CaseLabel × Stmt). x.0) xs.items) ≡ Has width signed → IsTypedAs (meant (envs p).names e) width signed z →
+    is_if : (p : Path) (e : Box Expr Global) (k : ℕ) (z : Typed) (signed : Bool) (x : Box Stmt Global) (o : Option (Box Stmt Global))
+        (y w : Box Statement Global) → IsOperand (envs p).names e.value signed z → IsStatement envs p x.value y.value → IsElse envs p o w.value →
+        IsStatement envs p (h.If e x o) (d.If k z y w)
+    is_case : (p : Path) (kind : CaseKind) (e : Box Expr Global) (k : ℕ) (z : Typed) (width : ℕ) (signed : Bool)
+        (xs : Vec (CaseLabel × Stmt) Global) (ys : Vec (Vec Typed Global × Statement) Global) →
+        case_finding (envs p).names e.value (map (λ (x : CaseLabel × Stmt). x.0) xs.items) ≡ Has width signed →
+        IsTypedAs (meant (envs p).names e.value) width signed z →
         has_two_defaults (map (λ (x : CaseLabel × Stmt). x.0) xs.items) ≡ false → AreItems envs p width signed xs.items ys.items →
         IsStatement envs p (h.Case kind e xs) (d.Case k kind z ys)
-    is_for : (p : Path) (l : Left) (a c : Expr) (m : Left) (b : Expr) (x : Box Stmt Global) (i j k : ℕ) (t u : Target) (y w z : Typed) (signed : Bool)
-        (all inner : Vec Statement Global) (body : Box Statement Global) (one : Statement) → IsAssignment Procedural (envs p).names (places l) a t y →
-        IsOperand (envs p).names c signed z → IsAssignment Procedural (envs p).names (places m) b u w → IsStatement envs p x.value one →
+    is_for : (p : Path) (head : Box ForHeader Global) (x : Box Stmt Global) (i j k : ℕ) (t u : Target) (y w z : Typed) (signed : Bool)
+        (all inner : Vec Statement Global) (body : Box Statement Global) (one : Statement) →
+        IsAssignment Procedural (envs p).names (places head.value.first.0) head.value.first.1 t y →
+        IsOperand (envs p).names head.value.condition signed z →
+        IsAssignment Procedural (envs p).names (places head.value.step.0) head.value.step.1 u w → IsStatement envs p x.value one →
         inner.items ≡ one ∷ d.Assign k u w ∷ [] → body.value ≡ d.Block inner → all.items ≡ d.Assign i t y ∷ d.While j z body ∷ [] →
-        IsStatement envs p (h.For l a c m b x) (d.Block all)
+        IsStatement envs p (h.For head x) (d.Block all)
     is_while : (p : Path) (e : Expr) (k : ℕ) (z : Typed) (signed : Bool) (x : Box Stmt Global) (y : Box Statement Global) → IsOperand (envs p).names e signed z →
         IsStatement envs p x.value y.value → IsStatement envs p (h.While e x) (d.While k z y)
     is_repeat : (p : Path) (e : Expr) (k : ℕ) (z : Typed) (signed : Bool) (x : Box Stmt Global) (y : Box Statement Global) → IsOperand (envs p).names e signed z →
@@ -363,7 +368,7 @@ count_step (f.Block xs) = total xs.items
 count_step (f.Named n ls xs) = total xs.items
 count_step (f.If e x o) = 1 + x.value + else_count o
 count_step (f.Case kind e xs) = 1 + total (map (λ (x : CaseLabel × ℕ). x.1) xs.items)
-count_step (f.For l a c m b x) = 3 + x.value
+count_step (f.For head x) = 3 + x.value
 count_step (f.While e x) = 1 + x.value
 count_step (f.Repeat e x) = 1 + x.value
 count_step (f.Forever x) = 1 + x.value
@@ -395,15 +400,16 @@ else_fault (Some b) = b.value
 -- another scope
 abbrev pub fault_step : Reason → Surroundings → Stmt-F Bool → Bool
 fault_step r env f.Null = false
-fault_step r env (f.Assign l e) = assign_fault r Procedural env.names (places l) e
-fault_step r env (f.Later l v e) = assign_fault r Procedural env.names (places l) e || due_fault r env.names env.ratio v
+fault_step r env (f.Assign l e) = assign_fault r Procedural env.names (places l.value) e
+fault_step r env (f.Later l v e) = assign_fault r Procedural env.names (places l.value) e.value || due_fault r env.names env.ratio v
 fault_step r env (f.Block xs) = list_any (λ b. b) xs.items
 fault_step r env (f.Named n ls xs) = false
-fault_step r env (f.If e x o) = operand_fault r env.names e || x.value || else_fault o
+fault_step r env (f.If e x o) = operand_fault r env.names e.value || x.value || else_fault o
 fault_step r env (f.Case kind e xs) =
-    case_fault r env.names e (map (λ (x : CaseLabel × Bool). x.0) xs.items) || list_any (λ (x : CaseLabel × Bool). x.1) xs.items
-fault_step r env (f.For l a c m b x) =
-    assign_fault r Procedural env.names (places l) a || operand_fault r env.names c || assign_fault r Procedural env.names (places m) b || x.value
+    case_fault r env.names e.value (map (λ (x : CaseLabel × Bool). x.0) xs.items) || list_any (λ (x : CaseLabel × Bool). x.1) xs.items
+fault_step r env (f.For head x) =
+    assign_fault r Procedural env.names (places head.value.first.0) head.value.first.1 || operand_fault r env.names head.value.condition
+    || assign_fault r Procedural env.names (places head.value.step.0) head.value.step.1 || x.value
 fault_step r env (f.While e x) = operand_fault r env.names e || x.value
 fault_step r env (f.Repeat e x) = operand_fault r env.names e || x.value
 fault_step r env (f.Forever x) = x.value

@@ -50,7 +50,7 @@ fn arguments(alloc: Global, names: &Levels, all: &[Argument]) -> Result<Vec<Form
     ensures { let env = meaning_of names.now in
         Elaborates (λ r. list_any (argument_fault r env) all.now) (λ v. AllZip (IsArgument env) all.now v.items) result }
 {
-    let mut done = Vec::new(alloc);
+    let mut done = Vec::with_capacity(alloc, all.len())?;
     for one in all {
         let value = argument(alloc, names, one)?;
         done.push(value)?;

@@ -128,7 +128,7 @@ fn values(
         Elaborates (λ r. list_any (operand_fault r env) (first.now ∷ others.now))
         (λ v. AreTypedAt env shape.width shape.signed (first.now ∷ others.now) v.items) result }
 {
-    let mut done = Vec::new(alloc);
+    let mut done = Vec::with_capacity(alloc, 1)?;
     let one = typed(alloc, names, shape, first)?;
     done.push(one)?;
     for e in others {

@@ -83,7 +83,7 @@ fn terms(
         Elaborates (terms_fault env (first.now ∷ map (λ x. x.1) others.now))
         (λ v. AreTerms env (first.now ∷ map (λ x. x.1) others.now) v.items) result }
 {
-    let mut done = Vec::new(alloc);
+    let mut done = Vec::with_capacity(alloc, 1)?;
     let one = term(alloc, names, first)?;
     done.push(one)?;
     for (_, t) in others {
@@ -123,7 +123,7 @@ pub fn event_terms(
         EventControl::GroupedStar => Ok(level_terms(alloc, body)?),
         EventControl::Name(name) => {
             let one = named_term(alloc, names, name)?;
-            let mut done = Vec::new(alloc);
+            let mut done = Vec::with_capacity(alloc, 1)?;
             done.push(one)?;
             Ok(done)
         }

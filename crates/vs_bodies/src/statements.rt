@@ -71,9 +71,9 @@ fn later(
     alloc: Global,
     view: &View,
     next: &mut u32,
-    left: &Left,
+    left: &Box<Left>,
     value: &Option<DelayValue>,
-    e: &Expr,
+    e: &Box<Expr>,
 ) -> Result<Statement, StatementFault>
     ensures answer { (envs : Path → Surroundings) (p : Path) → IsView view.now envs p →
         Answers view.now.list.now envs p (statement_burden (envs p) next.old (form.Later left.now value.now e.now))
@@ -117,11 +117,11 @@ fn repeated(
 ) -> Result<Statement, AllocError>
     ensures { IfOk result (IsRepeated begin number condition body step) }
 {
-    let mut inner = Vec::new(alloc);
+    let mut inner = Vec::with_capacity(alloc, 2)?;
     inner.push(body)?;
     inner.push(step)?;
     let body = Box::new(alloc, Statement::Block(inner))?;
-    let mut all = Vec::new(alloc);
+    let mut all = Vec::with_capacity(alloc, 2)?;
     all.push(begin)?;
     all.push(Statement::While(number, condition, body))?;
     Ok(Statement::Block(all))
@@ -168,12 +168,18 @@ pub fn statement(
             Ok(Statement::If(number, condition, first, second))
         }
         Stmt::Case(kind, e, all) => case_statement(alloc, view, next, all, *kind, e),
-        Stmt::For(left, first, e, other, step, x) => {
-            let (number, target, source) = numbered(alloc, view, next, left, first)?;
+        Stmt::For(head, x) => {
+            let (number, target, source) = numbered(
+                alloc,
+                view,
+                next,
+                &head.first.0,
+                &head.first.1,
+            )?;
             let begin = Statement::Assign(number, target, source);
             let (number, body) = behind(alloc, view, next, x)?;
-            let (_, condition) = operand(alloc, view.names, e)?;
-            let (last, target, source) = numbered(alloc, view, next, other, step)?;
+            let (_, condition) = operand(alloc, view.names, &head.condition)?;
+            let (last, target, source) = numbered(alloc, view, next, &head.step.0, &head.step.1)?;
             let step = Statement::Assign(last, target, source);
             Ok(repeated(alloc, begin, number, condition, body, step)?)
         }
@@ -227,7 +233,7 @@ fn statements(
         (λ d. MeansStatements envs p next.old all.now d.items next.new) result }
     ensures below { IfErr result (IsBelow (length view.now.list.now)) }
 {
-    let mut done = Vec::new(alloc);
+    let mut done = Vec::with_capacity(alloc, all.len())?;
     for s in all {
         let one = statement(alloc, view, next, s)?;
         done.push(one)?;
@@ -322,7 +328,7 @@ fn case_statement(
     next: &mut u32,
     all: &[(CaseLabel, Stmt)],
     kind: CaseKind,
-    e: &Expr,
+    e: &Box<Expr>,
 ) -> Result<Statement, StatementFault>
     requires { IsPlaced view.now.list.now view.now.place }
     ensures answer { (envs : Path → Surroundings) (p : Path) (v : Vec (CaseLabel × Stmt) Global) → v.items ≡ all.now
@@ -351,7 +357,7 @@ fn items(
         (λ v. MeansItems envs p shape next.old all.now v.items next.new) result }
     ensures below { IfErr result (IsBelow (length view.now.list.now)) }
 {
-    let mut done = Vec::new(alloc);
+    let mut done = Vec::with_capacity(alloc, all.len())?;
     for (label, s) in all {
         let values = label_values(alloc, view.names, shape, label)?;
         let one = statement(alloc, view, next, s)?;

@@ -140,7 +140,7 @@ all_themselves R h (x ∷ xs) = pair_more x x xs xs (h x) (all_themselves R h xs
 delay_itself : (l : DelayValue) → SameDelay l l
 delay_itself (v.Number l) = same_delay_number l
 delay_itself (v.Name n) = same_delay_name n n refl
-delay_itself (v.Group e) = same_delay_group e e (expr_itself e)
+delay_itself (v.Group e) = same_delay_group e e (expr_itself e.value)
 
 term_itself : (t : EventExpr) → SameEventExpr t t
 term_itself t = record { edge = refl; name = refl; selects = selects_themselves t.selects.items }
@@ -149,7 +149,7 @@ event_itself : (e : EventControl) → SameEvent e e
 event_itself w.Star = same_star
 event_itself w.GroupedStar = same_grouped_star
 event_itself (w.Name n) = same_event_name n n refl
-event_itself (w.Terms t ts) = same_terms t t ts ts (term_itself t) (all_themselves SameOtherEvent (λ x. record { separator = refl; event = term_itself x.1 }) ts.items)
+event_itself (w.Terms t ts) = same_terms t t ts ts (term_itself t.value) (all_themselves SameOtherEvent (λ x. record { separator = refl; event = term_itself x.1 }) ts.items)
 
 labels_themselves : (es : List Expr) → SameExprs es es
 labels_themselves [] = same_no_expr
@@ -174,7 +174,7 @@ print_itself (print.Text n xs) = same_printed n n xs xs refl (all_themselves Sam
 
 dumped_itself : (x : DumpArgument) → SameDumpArgument x x
 dumped_itself (dump.Text n) = same_dump_text n n refl
-dumped_itself (dump.Value e) = same_dump_value e e (expr_itself e)
+dumped_itself (dump.Value e) = same_dump_value e e (expr_itself e.value)
 
 dump_itself : (xs : DumpArgument × Vec DumpArgument Global) → SameDump xs xs
 dump_itself xs = record { first = dumped_itself xs.0; others = all_themselves SameDumpArgument dumped_itself xs.1.items }
@@ -221,14 +221,16 @@ items_themselves (x ∷ xs) = same_more_items _ _ _ _ (label_itself x.0) x.1.1 (
 
 stmt_layer : (y : Stmt-F InnerStmt) → SameStmt (roll-Stmt (bare_stmt y)) (roll-Stmt (bare_stmt y))
 stmt_layer g.Null = rw rolls-Null same_null
-stmt_layer (g.Assign n v) = rw (rolls-Assign n v) (same_assign n n v v (left_itself n) (expr_itself v))
-stmt_layer (g.Later n l v) = rw (rolls-Later n l v) (same_later n n l l v v (left_itself n) (option_itself SameDelay delay_itself l) (expr_itself v))
+stmt_layer (g.Assign n v) = rw (rolls-Assign n v) (same_assign n n v v (left_itself n.value) (expr_itself v))
+stmt_layer (g.Later n l v) = rw (rolls-Later n l v) (same_later n n l l v v (left_itself n.value) (option_itself SameDelay delay_itself l) (expr_itself v.value))
 stmt_layer (g.Block xs) = rw (rolls-Block _) (same_block _ _ (stmts_themselves xs.items))
 stmt_layer (g.Named n ls xs) =
     rw (rolls-Named n ls _) (same_named_block n n ls ls _ _ refl (all_themselves SameLocals declaration_itself ls.items) (stmts_themselves xs.items))
-stmt_layer (g.If e x o) = rw (rolls-If e _ _) (same_if e e _ _ _ _ (expr_itself e) x.value.1 (else_itself o))
-stmt_layer (g.Case kind e xs) = rw (rolls-Case kind e _) (same_case kind e e _ _ (expr_itself e) (items_themselves xs.items))
-stmt_layer (g.For l a c m b x) = rw (rolls-For l a c m b _) (same_for l l a a c c m m b b _ _ (left_itself l) (expr_itself a) (expr_itself c) (left_itself m) (expr_itself b) x.value.1)
+stmt_layer (g.If e x o) = rw (rolls-If e _ _) (same_if e e _ _ _ _ (expr_itself e.value) x.value.1 (else_itself o))
+stmt_layer (g.Case kind e xs) = rw (rolls-Case kind e _) (same_case kind e e _ _ (expr_itself e.value) (items_themselves xs.items))
+stmt_layer (g.For head x) =
+    rw (rolls-For head _)
+    (same_for head head _ _ (left_itself head.value.first.0) (expr_itself head.value.first.1) (expr_itself head.value.condition) (left_itself head.value.step.0) (expr_itself head.value.step.1) x.value.1)
 stmt_layer (g.While e x) = rw (rolls-While e _) (same_while e e _ _ (expr_itself e) x.value.1)
 stmt_layer (g.Repeat e x) = rw (rolls-Times e _) (same_repeated e e _ _ (expr_itself e) x.value.1)
 stmt_layer (g.Forever x) = rw (rolls-Forever _) (same_forever _ _ x.value.1)

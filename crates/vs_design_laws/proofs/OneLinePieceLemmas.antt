@@ -90,7 +90,7 @@ cases_one_line (x ∷ xs) h =
     each_append IsOneLineBlock (blocks_in x.1.0) (case_blocks (bare_cases xs)) (x.1.1 parts.0) (cases_one_line xs parts.1)
 
 -- the named blocks of an `if`
-if_one_line : (e : Expr) (x : Box InnerStmt Global) (o : Option (Box InnerStmt Global)) → AreOneLine (names_layered (bare_stmt (sf.If e x o))) → AreOneLineBlocks (blocks_layered (bare_stmt (sf.If e x o)))
+if_one_line : (e : Box Expr Global) (x : Box InnerStmt Global) (o : Option (Box InnerStmt Global)) → AreOneLine (names_layered (bare_stmt (sf.If e x o))) → AreOneLineBlocks (blocks_layered (bare_stmt (sf.If e x o)))
 if_one_line e x None h =
     each_append IsOneLineBlock (blocks_in x.value.0) [] (x.value.1 (halves is_one_line (stmt_names x.value.0) [] h).0) tt
 if_one_line e x (Some z) h =
@@ -112,7 +112,7 @@ stmt_layer (sf.Block xs) = by_layer (bare_stmt (sf.Block xs)) (λ h. stmts_one_l
 stmt_layer (sf.Named n ls xs) = by_layer (bare_stmt (sf.Named n ls xs)) (named_one_line n ls xs)
 stmt_layer (sf.If e x o) = by_layer (bare_stmt (sf.If e x o)) (if_one_line e x o)
 stmt_layer (sf.Case k e xs) = by_layer (bare_stmt (sf.Case k e xs)) (λ h. cases_one_line xs.items h)
-stmt_layer (sf.For l a c m b x) = by_layer (bare_stmt (sf.For l a c m b x)) (λ h. x.value.1 h)
+stmt_layer (sf.For k x) = by_layer (bare_stmt (sf.For k x)) (λ h. x.value.1 h)
 stmt_layer (sf.While e x) = by_layer (bare_stmt (sf.While e x)) (λ h. x.value.1 h)
 stmt_layer (sf.Repeat e x) = by_layer (bare_stmt (sf.Repeat e x)) (λ h. x.value.1 h)
 stmt_layer (sf.Forever x) = by_layer (bare_stmt (sf.Forever x)) (λ h. x.value.1 h)

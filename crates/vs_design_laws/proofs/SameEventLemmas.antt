@@ -163,5 +163,5 @@ one_events env b b' _ _ _ _ m same_grouped_star are_grouped are_grouped = ap (ma
 one_events env b b' _ _ _ _ m (same_event_name n n' i) (are_name _ y h) (are_name _ y' k) =
     ap (λ z. z ∷ []) (one_term env Any (name_aimed Event (env n.items) []) y y' h (subst (λ a. IsTerm env Any (name_aimed Event (env a) []) y') (sym i) k))
 one_events env b b' _ _ ys ys' m (same_terms t t' ts ts' i r) (are_terms _ _ _ h) (are_terms _ _ _ k) =
-    one_terms env (t ∷ map (λ (x : Separator × EventExpr). x.1) ts.items) (t' ∷ map (λ (x : Separator × EventExpr). x.1) ts'.items) ys ys'
-    (pair_more t t' _ _ i (pair_map SameOtherEvent SameEventExpr (λ (x : Separator × EventExpr). x.1) (λ (x : Separator × EventExpr). x.1) (λ x x' g. g.event) ts.items ts'.items r)) h k
+    one_terms env (t.value ∷ map (λ (x : Separator × EventExpr). x.1) ts.items) (t'.value ∷ map (λ (x : Separator × EventExpr). x.1) ts'.items) ys ys'
+    (pair_more t.value t'.value _ _ i (pair_map SameOtherEvent SameEventExpr (λ (x : Separator × EventExpr). x.1) (λ (x : Separator × EventExpr). x.1) (λ x x' g. g.event) ts.items ts'.items r)) h k

@@ -58,8 +58,8 @@ mutual
       both_blocks (sf.If e y o) (sf.If e' y' o') x x' (rolls-If e y o) (rolls-If e' y' o') (with_else e e' y y' o o' (blocks_same y.value y'.value m) r)
   blocks_same x x' (same_case kind e e' ys ys' i m) =
       both_blocks (sf.Case kind e ys) (sf.Case kind e' ys') x x' (rolls-Case kind e ys) (rolls-Case kind e' ys') (item_blocks_same ys.items ys'.items m)
-  blocks_same x x' (same_for l l' a a' c c' k k' b b' y y' i1 i2 i3 i4 i5 m) =
-      both_blocks (sf.For l a c k b y) (sf.For l' a' c' k' b' y') x x' (rolls-For l a c k b y) (rolls-For l' a' c' k' b' y') (blocks_same y.value y'.value m)
+  blocks_same x x' (same_for k k' y y' i1 i2 i3 i4 i5 m) =
+      both_blocks (sf.For k y) (sf.For k' y') x x' (rolls-For k y) (rolls-For k' y') (blocks_same y.value y'.value m)
   blocks_same x x' (same_while e e' y y' i m) = both_blocks (sf.While e y) (sf.While e' y') x x' (rolls-While e y) (rolls-While e' y') (blocks_same y.value y'.value m)
   blocks_same x x' (same_repeated e e' y y' i m) = both_blocks (sf.Repeat e y) (sf.Repeat e' y') x x' (rolls-Repeat e y) (rolls-Repeat e' y') (blocks_same y.value y'.value m)
   blocks_same x x' (same_forever y y' m) = both_blocks (sf.Forever y) (sf.Forever y') x x' (rolls-Forever y) (rolls-Forever y') (blocks_same y.value y'.value m)
@@ -69,7 +69,7 @@ mutual
   blocks_same x x' (same_finish n) = both_blocks (sf.Finish n) (sf.Finish n) x x' (rolls-Finish n) (rolls-Finish n) no_pair
   blocks_same x x' (same_dump task xs xs' m) = both_blocks (sf.Dump task xs) (sf.Dump task xs') x x' (rolls-Dump task xs) (rolls-Dump task xs') no_pair
 
-  with_else : (e e' : Expr) (y y' : Box Stmt Global) (o o' : Option (Box Stmt Global)) → AreSameBlocks (blocks_in y.value) (blocks_in y'.value) → SameElse o o' → AreSameBlocks (blocks_layered (sf.If e y o)) (blocks_layered (sf.If e' y' o'))
+  with_else : (e e' : Box Expr Global) (y y' : Box Stmt Global) (o o' : Option (Box Stmt Global)) → AreSameBlocks (blocks_in y.value) (blocks_in y'.value) → SameElse o o' → AreSameBlocks (blocks_layered (sf.If e y o)) (blocks_layered (sf.If e' y' o'))
   with_else e e' y y' _ _ m same_no_else = pair_append SameBlock (blocks_in y.value) (blocks_in y'.value) [] [] m no_pair
   with_else e e' y y' _ _ m (same_else z z' k) = pair_append SameBlock (blocks_in y.value) (blocks_in y'.value) (blocks_in z.value) (blocks_in z'.value) m (blocks_same z.value z'.value k)
 

@@ -91,13 +91,13 @@ record IsChoice (envs : Path → Surroundings) (p : Path) (kind : CaseKind) (e :
 -- what the statement of a design is, by the form of the source's
 abbrev StatementLayer : (Path → Surroundings) → Path → Stmt-F Stmt → Statement → Type 0
 StatementLayer envs p g.Null y = (k : ℕ) × (y ≡ d.Null k)
-StatementLayer envs p (g.Assign n v) y = (k : ℕ) × (u : Target) × (x : Typed) × IsAssignment Procedural (envs p).names (places n) v u x × (y ≡ d.Assign k u x)
-StatementLayer envs p (g.Later l v e) y = (k : ℕ) × (n : Ticks) × (u : Target) × (x : Typed) × IsAssignment Procedural (envs p).names (places l) e u x × (due_of (envs p).names (envs p).ratio v ≡ Some n.count) × (y ≡ d.Later k n u x)
+StatementLayer envs p (g.Assign n v) y = (k : ℕ) × (u : Target) × (x : Typed) × IsAssignment Procedural (envs p).names (places n.value) v u x × (y ≡ d.Assign k u x)
+StatementLayer envs p (g.Later l v e) y = (k : ℕ) × (n : Ticks) × (u : Target) × (x : Typed) × IsAssignment Procedural (envs p).names (places l.value) e.value u x × (due_of (envs p).names (envs p).ratio v ≡ Some n.count) × (y ≡ d.Later k n u x)
 StatementLayer envs p (g.Block xs) y = (ys : Vec Statement Global) × AreStatements envs p xs.items ys.items × (y ≡ d.Block ys)
 StatementLayer envs p (g.Named n ls xs) y = (ys : Vec Statement Global) × AreStatements envs (p ++ plainly n.items ∷ []) xs.items ys.items × (y ≡ d.Block ys)
-StatementLayer envs p (g.If e x o) y = (k : ℕ) × (z : Typed) × (signed : Bool) × (u w : Box Statement Global) × IsOperand (envs p).names e signed z × IsStatement envs p x.value u.value × IsElse envs p o w.value × (y ≡ d.If k z u w)
-StatementLayer envs p (g.Case kind e xs) y = IsChoice envs p kind e xs.items y
-StatementLayer envs p (g.For l a c m b x) y = IsLoop envs p l a c m b x.value y
+StatementLayer envs p (g.If e x o) y = (k : ℕ) × (z : Typed) × (signed : Bool) × (u w : Box Statement Global) × IsOperand (envs p).names e.value signed z × IsStatement envs p x.value u.value × IsElse envs p o w.value × (y ≡ d.If k z u w)
+StatementLayer envs p (g.Case kind e xs) y = IsChoice envs p kind e.value xs.items y
+StatementLayer envs p (g.For head x) y = IsLoop envs p head.value.first.0 head.value.first.1 head.value.condition head.value.step.0 head.value.step.1 x.value y
 StatementLayer envs p (g.While e x) y = (k : ℕ) × (z : Typed) × (signed : Bool) × (u : Box Statement Global) × IsOperand (envs p).names e signed z × IsStatement envs p x.value u.value × (y ≡ d.While k z u)
 StatementLayer envs p (g.Repeat e x) y = (k : ℕ) × (z : Typed) × (signed : Bool) × (u : Box Statement Global) × IsOperand (envs p).names e signed z × IsStatement envs p x.value u.value × (y ≡ d.Repeat k signed z u)
 StatementLayer envs p (g.Forever x) y = (k : ℕ) × (u : Box Statement Global) × IsStatement envs p x.value u.value × (y ≡ d.Forever k u)
@@ -123,8 +123,8 @@ statement_layer envs p x y (is_named _ n ls xs ys h) = layered envs p (g.Named n
 statement_layer envs p x y (is_if _ e k z signed b o u w h m q) = layered envs p (g.If e b o) x y (rolls-If e b o) (k, z, signed, u, w, h, m, q, refl)
 statement_layer envs p x y (is_case _ kind e k z width signed xs ys f h n m) =
     layered envs p (g.Case kind e xs) x y (rolls-Case kind e xs) (record { k = k; z = z; width = width; signed = signed; ys = ys; found = f; typed = h; items = m; is = refl })
-statement_layer envs p x made (is_for _ l a c m b v i j k t u y w z signed all inner body one f h n e q r o) =
-    layered envs p (g.For l a c m b v) x made (rolls-For l a c m b v)
+statement_layer envs p x made (is_for _ head v i j k t u y w z signed all inner body one f h n e q r o) =
+    layered envs p (g.For head v) x made (rolls-For head v)
     (record { i = i; j = j; k = k; t = t; u = u; y = y; w = w; z = z; signed = signed; all = all; inner = inner; body = body; one = one; first = f; condition = h; second = n; statement = e; inner_is = q; body_is = r; all_is = o; is = refl })
 statement_layer envs p x y (is_while _ e k z signed b u h m) = layered envs p (g.While e b) x y (rolls-While e b) (k, z, signed, u, h, m, refl)
 statement_layer envs p x y (is_repeat _ e k z signed b u h m) = layered envs p (g.Repeat e b) x y (rolls-Repeat e b) (k, z, signed, u, h, m, refl)
@@ -162,7 +162,7 @@ one_operand env e e' g g' y y' m h k =
 same_delay_meant : (env : Environment) (l l' : DelayValue) → SameDelay l l' → delay_meant env l ≡ delay_meant env l'
 same_delay_meant env _ _ (same_delay_number n) = refl
 same_delay_meant env _ _ (same_delay_name n n' i) = ap (λ m. name_meant (env m)) i
-same_delay_meant env _ _ (same_delay_group e e' m) = same_meant env e e' m
+same_delay_meant env _ _ (same_delay_group e e' m) = same_meant env e.value e'.value m
 
 -- delays that say the same have as many ticks
 same_ticks : (env : Environment) (ratio : ℕ) (l l' : DelayValue) → SameDelay l l' → delay_of env ratio l ≡ delay_of env ratio l'
@@ -263,13 +263,13 @@ mutual
   one_statement envs at _ _ y y' (same_assign l l' e e' i m) h k =
       let p = by_form envs at (g.Assign l e) (s.Assign l e) y (rolls-Assign l e) h in
       let q = by_form envs at (g.Assign l' e') (s.Assign l' e') y' (rolls-Assign l' e') k in
-      by_both SameStatement y y' _ _ p.4 q.4 (assign_same p.0 q.0 p.1 q.1 p.2 q.2 (one_sides Procedural (envs at).names (places l) (places l') e e' p.1 q.1 p.2 q.2 i m p.3 q.3))
+      by_both SameStatement y y' _ _ p.4 q.4 (assign_same p.0 q.0 p.1 q.1 p.2 q.2 (one_sides Procedural (envs at).names (places l.value) (places l'.value) e e' p.1 q.1 p.2 q.2 i m p.3 q.3))
   one_statement envs at _ _ y y' (same_later l l' v v' e e' i r m) h k =
       let p = by_form envs at (g.Later l v e) (s.Later l v e) y (rolls-Later l v e) h in
       let q = by_form envs at (g.Later l' v' e') (s.Later l' v' e') y' (rolls-Later l' v' e') k in
       by_both SameStatement y y' _ _ p.6 q.6
       (later_same p.0 q.0 p.1 q.1 p.2 q.2 p.3 q.3 (same_Some p.1.count q.1.count (sym p.5 ∙ same_due (envs at).names (envs at).ratio v v' r ∙ q.5))
-      (one_sides Procedural (envs at).names (places l) (places l') e e' p.2 q.2 p.3 q.3 i m p.4 q.4))
+      (one_sides Procedural (envs at).names (places l.value) (places l'.value) e.value e'.value p.2 q.2 p.3 q.3 i m p.4 q.4))
   one_statement envs at _ _ y y' (same_block xs xs' m) h k =
       let p = by_form envs at (g.Block xs) (s.Block xs) y (rolls-Block xs) h in
       let q = by_form envs at (g.Block xs') (s.Block xs') y' (rolls-Block xs') k in
@@ -283,20 +283,24 @@ mutual
       let p = by_form envs at (g.If e x o) (s.If e x o) y (rolls-If e x o) h in
       let q = by_form envs at (g.If e' x' o') (s.If e' x' o') y' (rolls-If e' x' o') k in
       by_both SameStatement y y' _ _ p.8 q.8
-      (if_same p.0 q.0 p.1 q.1 p.3 q.3 p.4 q.4 (one_operand (envs at).names e e' p.2 q.2 p.1 q.1 i p.5 q.5) (one_statement envs at x.value x'.value p.3.value q.3.value m p.6 q.6) (one_else envs at o o' p.4.value q.4.value r p.7 q.7))
+      (if_same p.0 q.0 p.1 q.1 p.3 q.3 p.4 q.4 (one_operand (envs at).names e.value e'.value p.2 q.2 p.1 q.1 i p.5 q.5) (one_statement envs at x.value x'.value p.3.value q.3.value m p.6 q.6) (one_else envs at o o' p.4.value q.4.value r p.7 q.7))
   one_statement envs at _ _ y y' (same_case kind e e' xs xs' i m) h k =
       let p = by_form envs at (g.Case kind e xs) (s.Case kind e xs) y (rolls-Case kind e xs) h in
       let q = by_form envs at (g.Case kind e' xs') (s.Case kind e' xs') y' (rolls-Case kind e' xs') k in
       let one : Has p.width p.signed ≡ Has q.width q.signed
-      = sym p.found ∙ same_common (envs at).names (meant (envs at).names e).finding (meant (envs at).names e').finding (exprs_of xs.items) (exprs_of xs'.items) (ap (λ v. v.finding) (same_meant (envs at).names e e' i)) (same_item_exprs xs.items xs'.items m) ∙ q.found in
+      = sym p.found ∙ same_common (envs at).names (meant (envs at).names e.value).finding (meant (envs at).names e'.value).finding (exprs_of xs.items) (exprs_of xs'.items) (ap (λ v. v.finding) (same_meant (envs at).names e.value e'.value i)) (same_item_exprs xs.items xs'.items m) ∙ q.found in
       by_both SameStatement y y' _ _ p.is q.is
-      (case_same p.k q.k kind p.z q.z p.ys q.ys (found_typed (envs at).names e e' p.width q.width p.signed q.signed p.z q.z i one p.typed q.typed)
+      (case_same p.k q.k kind p.z q.z p.ys q.ys (found_typed (envs at).names e.value e'.value p.width q.width p.signed q.signed p.z q.z i one p.typed q.typed)
       (one_items envs at p.width q.width p.signed q.signed xs.items xs'.items p.ys.items q.ys.items (ap found_width one) (ap found_sign one) m p.items q.items))
-  one_statement envs at _ _ y y' (same_for l l' a a' c c' n n' b b' x x' i1 i2 i3 i4 i5 m) h k =
-      let p = by_form envs at (g.For l a c n b x) (s.For l a c n b x) y (rolls-For l a c n b x) h in
-      let q = by_form envs at (g.For l' a' c' n' b' x') (s.For l' a' c' n' b' x') y' (rolls-For l' a' c' n' b' x') k in
-      loops_same envs at l l' a a' c c' n n' b b' x.value x'.value y y' p q (one_sides Procedural (envs at).names (places l) (places l') a a' p.t q.t p.y q.y i1 i2 p.first q.first)
-      (one_operand (envs at).names c c' p.signed q.signed p.z q.z i3 p.condition q.condition) (one_sides Procedural (envs at).names (places n) (places n') b b' p.u q.u p.w q.w i4 i5 p.second q.second)
+  one_statement envs at _ _ y y' (same_for r r' x x' i1 i2 i3 i4 i5 m) h k =
+      let p = by_form envs at (g.For r x) (s.For r x) y (rolls-For r x) h in
+      let q = by_form envs at (g.For r' x') (s.For r' x') y' (rolls-For r' x') k in
+      let o = r.value in
+      let o' = r'.value in
+      loops_same envs at o.first.0 o'.first.0 o.first.1 o'.first.1 o.condition o'.condition o.step.0 o'.step.0 o.step.1 o'.step.1 x.value x'.value y y' p q
+      (one_sides Procedural (envs at).names (places o.first.0) (places o'.first.0) o.first.1 o'.first.1 p.t q.t p.y q.y i1 i2 p.first q.first)
+      (one_operand (envs at).names o.condition o'.condition p.signed q.signed p.z q.z i3 p.condition q.condition)
+      (one_sides Procedural (envs at).names (places o.step.0) (places o'.step.0) o.step.1 o'.step.1 p.u q.u p.w q.w i4 i5 p.second q.second)
       (one_statement envs at x.value x'.value p.one q.one m p.statement q.statement)
   one_statement envs at _ _ y y' (same_while e e' x x' i m) h k =
       let p = by_form envs at (g.While e x) (s.While e x) y (rolls-While e x) h in

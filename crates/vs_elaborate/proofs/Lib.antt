@@ -1,4 +1,3 @@
-pub mod MarkLemmas
 pub mod CheckLemmas
 pub mod PortLemmas
 pub mod FillingLemmas

@@ -47,7 +47,7 @@ use Rattle.vs_elaborate.specs.Timescales.{timescale_of, has_other_timescale}
 use Rattle.vs_elaborate.specs.Faults.{Faults, DrivesTwice, surroundings_of}
 use Rattle.vs_elaborate.specs.DesignOf.{DesignOf}
 use Rattle.vs_elaborate.specs.passes.Filling.{AreLefts, Fills, DrivenTwiceOnly}
-use Rattle.vs_elaborate.specs.passes.Marks.{AreWithin}
+use Rattle.vs_marks.specs.Marks.{AreWithin}
 use Rattle.vs_elaborate.proofs.SignalLemmas.{AreSized, AreInside, AreBased, each_at, there, signals_counted, good_inside, good_around}
 use Rattle.vs_elaborate.proofs.WellFormedLemmas.{IsFine, OfNet, processes_sound, assigns_sound, driven_nets, of_net_within}
 use Rattle.vs_elaborate.proofs.OutlineLemmas.{outline_declares, counting_below, counting_distinct, counting_contains}

@@ -69,14 +69,17 @@ module _ (r : Reason) (env : Surroundings) (apart : IsApart r env.names) where
 
   step : (y : Stmt-F Inner) → fault_step r env (map-Stmt Stmt Bool (has_fault r env) (bare y)) ≡ false
   step f.Null = refl
-  step (f.Assign l e) = apart.assign Procedural (places l) e
-  step (f.Later l v e) = both_false _ _ (apart.assign Procedural (places l) e) (none_due v)
+  step (f.Assign l e) = apart.assign Procedural (places l.value) e
+  step (f.Later l v e) = both_false _ _ (apart.assign Procedural (places l.value) e.value) (none_due v)
   step (f.Block xs) = none_in xs.items
   step (f.Named n ls xs) = refl
-  step (f.If e x None) = both_false _ _ (both_false _ _ (apart.operand e) x.value.1) refl
-  step (f.If e x (Some o)) = both_false _ _ (both_false _ _ (apart.operand e) x.value.1) o.value.1
-  step (f.Case kind e xs) = both_false _ _ (apart.cases e _) (none_item xs.items)
-  step (f.For l a c m b x) = both_false _ _ (both_false _ _ (both_false _ _ (apart.assign Procedural (places l) a) (apart.operand c)) (apart.assign Procedural (places m) b)) x.value.1
+  step (f.If e x None) = both_false _ _ (both_false _ _ (apart.operand e.value) x.value.1) refl
+  step (f.If e x (Some o)) = both_false _ _ (both_false _ _ (apart.operand e.value) x.value.1) o.value.1
+  step (f.Case kind e xs) = both_false _ _ (apart.cases e.value _) (none_item xs.items)
+  step (f.For head x) =
+      both_false _ _
+      (both_false _ _ (both_false _ _ (apart.assign Procedural (places head.value.first.0) head.value.first.1) (apart.operand head.value.condition)) (apart.assign Procedural (places head.value.step.0) head.value.step.1))
+      x.value.1
   step (f.While e x) = both_false _ _ (apart.operand e) x.value.1
   step (f.Repeat e x) = both_false _ _ (apart.operand e) x.value.1
   step (f.Forever x) = x.value.1

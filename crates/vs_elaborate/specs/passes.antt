@@ -1,4 +1,3 @@
 -- What the functions of this crate tell one another: nothing that is promised rests on these.
-pub mod Marks
 pub mod Filling
 pub mod Scales

@@ -6,7 +6,6 @@ mod contents;
 mod drivers;
 mod filling;
 mod frames;
-mod marks;
 mod processes;
 mod source;
 mod timescales;

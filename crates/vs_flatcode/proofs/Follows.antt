@@ -14,13 +14,15 @@ use Rattle.vs_eval.specs.Values.{value_of}
 use Rattle.vs_flatcode.specs.declared.draft.Op.{Op}
 use Rattle.vs_flatcode.specs.declared.draft.Task.{Task}
 use Rattle.vs_flatcode.specs.declared.draft.Task.TheVariants.{Perform, Turns}
-use Rattle.vs_flatcode.specs.declared.made.Made.{Made}
-use Rattle.vs_flatcode.specs.declared.made.Made.TheVariants as m
+use Rattle.vs_flatcode.specs.declared.made.Effect.{Effect}
+use Rattle.vs_flatcode.specs.declared.made.Effect.TheVariants as e
+use Rattle.vs_flatcode.specs.declared.made.Halt.{Halt}
+use Rattle.vs_flatcode.specs.Extras.{format_in, starts_in}
 use Rattle.vs_flatcode.specs.Places.{Todo, flat, perform}
-use Rattle.vs_flatcode.specs.Steps.{Out, step, statement_step, branch, first_of, flat_item, repeated, item_matches, is_default, turns_for}
+use Rattle.vs_flatcode.specs.Steps.{Next, Out, step, statement_step, branch, first_of, flat_item, repeated, item_matches, is_default, turns_for}
 use Rattle.vs_flatcode.specs.Links.{Link, todo_at, item_of}
 use Rattle.vs_flatcode.specs.Codes.{Layout, IsCode, IsTurn, LeadAll, FitsStatement, FitsTask, IsFormatOf, IsFormatFor, links_of, link_of, layout_of, job_of}
-use Rattle.vs_flatcode.specs.Landings.{Landing, landing, made_out, item_write, IsMade, turned, start_where, place_or, layer_lands, lands, todo_behind}
+use Rattle.vs_flatcode.specs.Landings.{Landing, landing, out_of, made_out, item_write, IsMade, turned, start_where, place_or, layer_lands, lands, todo_behind}
 use Rattle.vs_flatcode.proofs.Links.{todo_here}
 use Rattle.vs_flatcode.proofs.Drafts.{link_here}
 
@@ -86,8 +88,8 @@ follows_statement c x here cs s (Statement-F.If n v a b) store time e h at =
     branch_front (truth (value_of v store time)) (flat a.value) (flat b.value) (todo_at c.links cs x.behind)
     ∙ branch_leads c.links cs (truth (value_of v store time)) (flat a.value ++ todo_at c.links cs x.behind) (flat b.value ++ todo_at c.links cs x.behind) x.first x.second (h.0 cs) (h.1 cs)
 follows_statement c x here cs s (Statement-F.Case n kind v items) store time e h at =
-    found_leads c.links cs (item_matches kind (value_of v store time) store time) items.items x.starts.items x.behind h (find is_default items.items) (start_where is_default items.items x.starts.items)
-    (default_leads c.links cs items.items x.starts.items x.behind h)
+    found_leads c.links cs (item_matches kind (value_of v store time) store time) items.items (starts_in x) x.behind h (find is_default items.items) (start_where is_default items.items (starts_in x))
+    (default_leads c.links cs items.items (starts_in x) x.behind h)
 follows_statement c x here cs s (Statement-F.While n v body) store time e h at =
     branch_leads c.links cs (truth (value_of v store time)) (flat body.value ++ perform s ∷ todo_at c.links cs x.behind) (todo_at c.links cs x.behind) x.first x.behind
     (h cs ∙ ap (λ (t : Todo). flat body.value ++ t) at) refl
@@ -110,33 +112,31 @@ follows ops cs i x store time h e =
     (at, ap (λ (t : Todo). todo_behind (step t store time).next) at ∙ follows_task (layout_of ops (length cs)) x (suc i) cs x.task store time refl (h.fits i x e) at)
 
 -- what a step of the code makes is what the step of the process makes
-pub stepped : (ops : List Op) (cs : List ℕ) (place i : ℕ) (x : Op) (store : Store) (time : ℕ) (made : Made) (next : ℕ) (counters : List ℕ) → IsCode ops (length cs) → place ≡ suc i → slice_get ops i ≡ Some x →
-    landing next counters ≡ lands x x.task cs store time → IsMade (item_of cs (job_of x.counter x.task)) store time made →
-    step (todo_at (links_of ops) cs place) store time ≡ made_out made (item_write (item_of cs (job_of x.counter x.task)) store time) (todo_at (links_of ops) counters next)
-stepped ops cs place i x store time made next counters h at e l m =
+pub stepped : (ops : List Op) (cs : List ℕ) (place i : ℕ) (x : Op) (store : Store) (time : ℕ) (halt : Halt) (effect : Effect) (next : ℕ) (counters : List ℕ) → IsCode ops (length cs) → place ≡ suc i → slice_get ops i ≡ Some x →
+    landing next counters ≡ lands x x.task cs store time → IsMade (item_of cs (job_of x.counter x.task)) store time halt effect →
+    step (todo_at (links_of ops) cs place) store time ≡ made_out halt effect (item_write (item_of cs (job_of x.counter x.task)) store time) (todo_at (links_of ops) counters next)
+stepped ops cs place i x store time halt effect next counters h at e l m =
     let f = follows ops cs i x store time h e in
     let w : Option Write = item_write (item_of cs (job_of x.counter x.task)) store time in
     ap (λ (p : ℕ). step (todo_at (links_of ops) cs p) store time) at
-    ∙ subst (λ (t : Todo). step t store time ≡ made_out made w (todo_behind (step t store time).next)) (sym f.0) (m (todo_at (links_of ops) cs x.behind))
-    ∙ ap (made_out made w) (f.1 ∙ ap (λ (k : Landing). todo_at (links_of ops) k.counters k.place) (sym l))
+    ∙ subst (λ (t : Todo). step t store time ≡ made_out halt effect w (todo_behind (step t store time).next)) (sym f.0) (m (todo_at (links_of ops) cs x.behind))
+    ∙ ap (made_out halt effect w) (f.1 ∙ ap (λ (k : Landing). todo_at (links_of ops) k.counters k.place) (sym l))
 
 -- a step that makes this writes what it is said to write
-pub made_write : (made : Made) (w : Option Write) (todo : Todo) → (made_out made w todo).write ≡ w
-made_write m.Nothing w todo = refl
-made_write (m.Update ticks u) w todo = refl
-made_write (m.Strobe f) w todo = refl
-made_write (m.Line text) w todo = refl
-made_write m.Finish w todo = refl
-made_write (m.Delay n ticks) w todo = refl
-made_write (m.Wait n terms) w todo = refl
+pub made_write : (next : Next) (effect : Effect) (w : Option Write) → (out_of next w effect).write ≡ w
+made_write next e.Nothing w = refl
+made_write next (e.Update ticks u) w = refl
+made_write next (e.Strobe f) w = refl
+made_write next (e.Line text) w = refl
+made_write next e.Finish w = refl
 
 -- a step and its own write
-pub own_write : (out : Out) (made : Made) (w : Option Write) (todo : Todo) → out ≡ made_out made w todo → (out ≡ made_out made out.write todo) × (w ≡ out.write)
-own_write out made w todo e =
-    let same : w ≡ out.write = sym (ap (λ (o : Out). o.write) e ∙ made_write made w todo) in
-    (e ∙ ap (λ (v : Option Write). made_out made v todo) same, same)
+pub own_write : (out : Out) (next : Next) (effect : Effect) (w : Option Write) → out ≡ out_of next w effect → (out ≡ out_of next out.write effect) × (w ≡ out.write)
+own_write out next effect w e =
+    let same : w ≡ out.write = sym (ap (λ (o : Out). o.write) e ∙ made_write next effect w) in
+    (e ∙ ap (λ (v : Option Write). out_of next v effect) same, same)
 
-format_of_statement : (c : Layout) (x : Op) (here : ℕ) (s : Statement) (f : Statement-F Statement) → FitsStatement c x here s f → IsFormatOf x.format f
+format_of_statement : (c : Layout) (x : Op) (here : ℕ) (s : Statement) (f : Statement-F Statement) → FitsStatement c x here s f → IsFormatOf (format_in x) f
 format_of_statement c x here s (Statement-F.Null n) h = tt
 format_of_statement c x here s (Statement-F.Assign n t v) h = tt
 format_of_statement c x here s (Statement-F.Later n ticks t v) h = tt
@@ -151,10 +151,10 @@ format_of_statement c x here s (Statement-F.While n v body) h = tt
 format_of_statement c x here s (Statement-F.Repeat n signed v body) h = tt
 format_of_statement c x here s (Statement-F.Forever n body) h = tt
 
-format_of_task : (c : Layout) (x : Op) (here : ℕ) (task : Task) → FitsTask c x here task → IsFormatFor x.format task
+format_of_task : (c : Layout) (x : Op) (here : ℕ) (task : Task) → FitsTask c x here task → IsFormatFor (format_in x) task
 format_of_task c x here (Perform s) h = format_of_statement c x here s.now (out-Statement s.now) h
 format_of_task c x here (Turns s) h = tt
 
 -- an instruction of a code has the format of its call
-pub has_format : (ops : List Op) (n i : ℕ) (x : Op) → IsCode ops n → slice_get ops i ≡ Some x → IsFormatFor x.format x.task
+pub has_format : (ops : List Op) (n i : ℕ) (x : Op) → IsCode ops n → slice_get ops i ≡ Some x → IsFormatFor (format_in x) x.task
 has_format ops n i x h e = format_of_task (layout_of ops n) x (suc i) x.task (h.fits i x e)

@@ -6,6 +6,7 @@ pub mod Holding
 pub mod Links
 pub mod Lists
 pub mod Numbers
+pub mod Quick
 pub mod Shapes
 pub mod Starts
 pub mod Ways

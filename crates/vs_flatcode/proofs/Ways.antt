@@ -11,6 +11,7 @@ use Rattle.vs_design.specs.declared.statement.Statement.TheViews.{out-Statement}
 use Rattle.vs_flatcode.specs.declared.draft.Op.{Op}
 use Rattle.vs_flatcode.specs.declared.draft.Task.{Task}
 use Rattle.vs_flatcode.specs.declared.draft.Task.TheVariants.{Perform, Turns}
+use Rattle.vs_flatcode.specs.Extras.{starts_in}
 use Rattle.vs_flatcode.specs.Places.{Item, Todo, flat, perform, turns}
 use Rattle.vs_flatcode.specs.Steps.{Next, on, after, wait, is_default}
 use Rattle.vs_flatcode.specs.Nexts.{erased_item, erased, past, case_nexts, statement_nexts, nexts}
@@ -111,8 +112,8 @@ statement_points c x here s (Statement-F.Delay n ticks body) h at = ap (λ (t : 
 statement_points c x here s (Statement-F.Event n terms body) h at = ap (λ (t : Todo). wait n terms.items t ∷ []) (sym (h []))
 statement_points c x here s (Statement-F.If n e a b) h at = ap₂ (λ (t r : Todo). on t ∷ on r ∷ []) (sym (h.0 [])) (sym (h.1 []))
 statement_points c x here s (Statement-F.Case n kind e items) h at =
-    ap₂ (λ (l r : List Next). l ++ r) (case_points c.links items.items x.starts.items x.behind h) (past_points c.links (list_any is_default items.items) x.behind)
-    ∙ sym (map-append (next_at c.links) (map way_on x.starts.items) (past_ways (list_any is_default items.items) x.behind))
+    ap₂ (λ (l r : List Next). l ++ r) (case_points c.links items.items (starts_in x) x.behind h) (past_points c.links (list_any is_default items.items) x.behind)
+    ∙ sym (map-append (next_at c.links) (map way_on (starts_in x)) (past_ways (list_any is_default items.items) x.behind))
 statement_points c x here s (Statement-F.While n e body) h at =
     ap (λ (t : Todo). on t ∷ on (point_at c.links x.behind) ∷ []) (sym (h [] ∙ ap (λ (t : Todo). flat body.value ++ t) at))
 statement_points c x here s (Statement-F.Repeat n signed e body) h at = turn_ways c x body.value h

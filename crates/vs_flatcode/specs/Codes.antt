@@ -10,6 +10,7 @@ use Rattle.vs_strobe.specs.Lines.{Format, format_of_call}
 use Rattle.vs_flatcode.specs.declared.draft.Op.{Op}
 use Rattle.vs_flatcode.specs.declared.draft.Task.{Task}
 use Rattle.vs_flatcode.specs.declared.draft.Task.TheVariants as t
+use Rattle.vs_flatcode.specs.Extras.{format_in, starts_in}
 use Rattle.vs_flatcode.specs.Places.{turns, flat}
 use Rattle.vs_flatcode.specs.Links.{Job, performs, tests, Link, todo_at, AreLinked, Leads}
 use Rattle.vs_flatcode.specs.Numbers.{AllStand}
@@ -49,14 +50,14 @@ abbrev pub FitsStatement : Layout → Op → ℕ → Statement → Statement-F S
 FitsStatement c x here s (Statement-F.Null n) = Unit {0}
 FitsStatement c x here s (Statement-F.Assign n t e) = Unit {0}
 FitsStatement c x here s (Statement-F.Later n ticks t e) = Unit {0}
-FitsStatement c x here s (Statement-F.Call n call) = x.format ≡ Some (format_of_call call)
+FitsStatement c x here s (Statement-F.Call n call) = format_in x ≡ Some (format_of_call call)
 FitsStatement c x here s (Statement-F.Finish n) = Unit {0}
 FitsStatement c x here s (Statement-F.Block all) = Leads c.links (flat s) x.first x.behind
 FitsStatement c x here s (Statement-F.Delay n ticks body) = Leads c.links (flat body.value) x.first x.behind
 FitsStatement c x here s (Statement-F.Event n terms body) = Leads c.links (flat body.value) x.first x.behind
 FitsStatement c x here s (Statement-F.If n e a b) =
     Leads c.links (flat a.value) x.first x.behind × Leads c.links (flat b.value) x.second x.behind
-FitsStatement c x here s (Statement-F.Case n kind e items) = LeadAll c.links items.items x.starts.items x.behind
+FitsStatement c x here s (Statement-F.Case n kind e items) = LeadAll c.links items.items (starts_in x) x.behind
 FitsStatement c x here s (Statement-F.While n e body) = Leads c.links (flat body.value) x.first here
 FitsStatement c x here s (Statement-F.Repeat n signed e body) = IsTurn c x.counter body.value x.first x.behind
 FitsStatement c x here s (Statement-F.Forever n body) = Leads c.links (flat body.value) x.first here

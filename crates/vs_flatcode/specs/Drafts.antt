@@ -8,7 +8,7 @@ use Rattle.vs_design.specs.declared.statement.Statement.{Statement}
 use Rattle.vs_design.specs.declared.statement.Statement.TheViews.{out-Statement}
 use Rattle.vs_design.specs.WellFormed.{numbers}
 use denote.Ref.{Bor}
-use Rattle.vs_strobe.specs.Lines.{Format}
+use Rattle.vs_flatcode.specs.declared.draft.Extra.{Extra}
 use Rattle.vs_flatcode.specs.declared.draft.Op.{Op}
 use Rattle.vs_flatcode.specs.declared.draft.Task.{Task}
 use Rattle.vs_flatcode.specs.declared.draft.Task.TheVariants.{Perform}
@@ -113,9 +113,9 @@ is_block (Statement-F.Block all) = true
 is_block _ = false
 
 -- the instruction of a statement
-abbrev pub op_of : Bor Statement → ℕ → ℕ → ℕ → Vec ℕ Global → ℕ → Option Format → Op
-op_of s behind first second starts counter format =
-    record { task = Perform s; behind = behind; first = first; second = second; starts = starts; counter = counter; format = format }
+abbrev pub op_of : Bor Statement → ℕ → ℕ → ℕ → ℕ → Extra → Op
+op_of s behind first second counter extra =
+    record { task = Perform s; behind = behind; first = first; second = second; counter = counter; extra = extra }
 
 -- an instruction put next does this statement, and goes on where it must
 pub record IsNext (d : Draft) (x : Op) (s : Statement) : Type 0 where

@@ -17,8 +17,11 @@ use Rattle.vs_strobe.specs.Lines.{Format}
 use Rattle.vs_flatcode.specs.declared.draft.Op.{Op}
 use Rattle.vs_flatcode.specs.declared.draft.Task.{Task}
 use Rattle.vs_flatcode.specs.declared.draft.Task.TheVariants as t
-use Rattle.vs_flatcode.specs.declared.made.Made.{Made}
-use Rattle.vs_flatcode.specs.declared.made.Made.TheVariants as m
+use Rattle.vs_flatcode.specs.declared.made.Effect.{Effect}
+use Rattle.vs_flatcode.specs.declared.made.Effect.TheVariants as e
+use Rattle.vs_flatcode.specs.declared.made.Halt.{Halt}
+use Rattle.vs_flatcode.specs.declared.made.Halt.TheVariants as h
+use Rattle.vs_flatcode.specs.Extras.{starts_in}
 use Rattle.vs_flatcode.specs.Places.{Todo, Item, perform, turns}
 use Rattle.vs_flatcode.specs.Steps.{Next, on, after, wait, Out, goes, assignment, called, step, branch, first_of, item_matches, is_default, turns_for}
 
@@ -62,7 +65,7 @@ layer_lands x (Statement-F.Event n terms body) counters store time = landing x.f
 layer_lands x (Statement-F.If n e a b) counters store time =
     landing (branch (truth (value_of e store time)) x.first x.second) counters
 layer_lands x (Statement-F.Case n kind e items) counters store time =
-    landing (start_taken kind (value_of e store time) store time items.items x.starts.items x.behind) counters
+    landing (start_taken kind (value_of e store time) store time items.items (starts_in x) x.behind) counters
 layer_lands x (Statement-F.While n e body) counters store time =
     landing (branch (truth (value_of e store time)) x.first x.behind) counters
 layer_lands x (Statement-F.Repeat n signed e body) counters store time =
@@ -83,15 +86,23 @@ todo_behind (on todo) = todo
 todo_behind (after n ticks todo) = todo
 todo_behind (wait n terms todo) = todo
 
--- a step that makes this and may write, behind which a process still has this to do
-abbrev pub made_out : Made → Option Write → Todo → Out
-made_out m.Nothing w todo = record (goes (on todo)) { write = w }
-made_out (m.Update ticks u) w todo = record (goes (on todo)) { write = w; update = Some (ticks.count, u) }
-made_out (m.Strobe f) w todo = record (goes (on todo)) { write = w; call = Some f.now }
-made_out (m.Line text) w todo = record (goes (on todo)) { write = w; line = Some text.items }
-made_out m.Finish w todo = record (goes (on todo)) { write = w; finish = true }
-made_out (m.Delay n ticks) w todo = record (goes (after n ticks.count todo)) { write = w }
-made_out (m.Wait n terms) w todo = record (goes (wait n terms.now todo)) { write = w }
+-- a step that leads there, may write, and has this effect
+abbrev pub out_of : Next → Option Write → Effect → Out
+out_of next w e.Nothing = record (goes next) { write = w }
+out_of next w (e.Update ticks u) = record (goes next) { write = w; update = Some (ticks.count, u) }
+out_of next w (e.Strobe f) = record (goes next) { write = w; call = Some f.now }
+out_of next w (e.Line text) = record (goes next) { write = w; line = Some text.items }
+out_of next w e.Finish = record (goes next) { write = w; finish = true }
+
+-- where a step leads that meets this, behind which a process still has this to do
+abbrev pub next_of : Halt → Todo → Next
+next_of h.Nothing todo = on todo
+next_of (h.Delay n ticks) todo = after n ticks.count todo
+next_of (h.Wait n terms) todo = wait n terms.now todo
+
+-- a step that meets this, has this effect and may write, behind which a process still has this to do
+abbrev pub made_out : Halt → Effect → Option Write → Todo → Out
+made_out halt effect w todo = out_of (next_of halt todo) w effect
 
 -- what the step of a statement writes, by its outermost layer: a blocking assignment writes (clause 9.2.1)
 abbrev pub layer_write : Statement-F Statement → Store → ℕ → Option Write
@@ -103,11 +114,12 @@ abbrev pub item_write : Item → Store → ℕ → Option Write
 item_write (perform s) store time = layer_write (out-Statement s) store time
 item_write (turns n s) store time = None
 
--- a process with this to do first took its step: it made this
-abbrev pub IsMade : Item → Store → ℕ → Made → Type 0
-IsMade i store time made = (rest : Todo) → let out = step (i ∷ rest) store time in out ≡ made_out made (item_write i store time) (todo_behind out.next)
+-- a process with this to do first took its step: it met this and has this effect
+abbrev pub IsMade : Item → Store → ℕ → Halt → Effect → Type 0
+IsMade i store time halt effect =
+    (rest : Todo) → let out = step (i ∷ rest) store time in out ≡ made_out halt effect (item_write i store time) (todo_behind out.next)
 
--- a call of this kind took its step, where it has a format: it made this
-abbrev pub IsCallMade : Option Format → CallKind → Store → ℕ → Made → Type 0
-IsCallMade None kind store time made = Unit {0}
-IsCallMade (Some f) kind store time made = (rest : Todo) → called kind f rest store time ≡ made_out made None rest
+-- a call of this kind took its step, where it has a format: it has this effect
+abbrev pub IsCallMade : Option Format → CallKind → Store → ℕ → Effect → Type 0
+IsCallMade None kind store time effect = Unit {0}
+IsCallMade (Some f) kind store time effect = (rest : Todo) → called kind f rest store time ≡ made_out h.Nothing effect None rest

@@ -1,6 +1,7 @@
 pub mod Changes
 pub mod Codes
 pub mod Drafts
+pub mod Extras
 pub mod Landings
 pub mod Links
 pub mod Nexts

@@ -12,6 +12,7 @@ use Rattle.vs_design.specs.declared.statement.Statement.TheViews.{out-Statement}
 use Rattle.vs_flatcode.specs.declared.draft.Op.{Op}
 use Rattle.vs_flatcode.specs.declared.draft.Task.{Task}
 use Rattle.vs_flatcode.specs.declared.draft.Task.TheVariants as t
+use Rattle.vs_flatcode.specs.Extras.{starts_in}
 use Rattle.vs_flatcode.specs.Places.{Todo, flat}
 use Rattle.vs_flatcode.specs.Steps.{Next, on, after, wait, is_default}
 use Rattle.vs_flatcode.specs.Nexts.{erased, nexts}
@@ -53,7 +54,7 @@ statement_ways x (Statement-F.Block all) = way_on x.first ∷ []
 statement_ways x (Statement-F.Delay n ticks body) = record { to = x.first; pause = delay n ticks.count } ∷ []
 statement_ways x (Statement-F.Event n terms body) = record { to = x.first; pause = event n terms.items } ∷ []
 statement_ways x (Statement-F.If n e a b) = way_on x.first ∷ way_on x.second ∷ []
-statement_ways x (Statement-F.Case n kind e items) = map way_on x.starts.items ++ past_ways (list_any is_default items.items) x.behind
+statement_ways x (Statement-F.Case n kind e items) = map way_on (starts_in x) ++ past_ways (list_any is_default items.items) x.behind
 statement_ways x (Statement-F.While n e body) = way_on x.first ∷ way_on x.behind ∷ []
 statement_ways x (Statement-F.Repeat n signed e body) = way_on x.first ∷ way_on x.behind ∷ []
 statement_ways x (Statement-F.Forever n body) = way_on x.first ∷ []

@@ -1,5 +1,6 @@
 //! Writes that are made in a store, and the words that they change (IEEE 1364-2005, clauses 6, 9.2 and 9.7.2).
-ghost use Rattle.std.specs.Prelude.{◌≡◌, ◌++◌, ◌∷◌, [], ◌<◌, ℕ, Some, vec_len, vec_capacity, IfOk, IfSome, OnOk, OnErr};
+ghost use Rattle.std.specs.Prelude.{◌≡◌, ◌++◌, ◌∷◌, [], ◌<◌, ◌≤◌, ℕ, pos, Some, vec_len, vec_capacity, IfOk, IfSome, OnOk, OnErr};
+ghost use Rattle.vs_logic4.specs.Parts.{selected};
 ghost use Rattle.vs_design.specs.Stores.{Store, put, put_part, overlaid, changes_nothing};
 ghost use Rattle.vs_eval.specs.Targets.{assigned};
 ghost use Rattle.vs_flatcode.specs.Changes.{changed_word, changed_part, changed_words};
@@ -85,6 +86,18 @@ fn foresee_word(
     Ok(())
 }
 
+/// Makes a write, and appends the words that it changes, each as it is behind the whole of it.
+#[inline(never)]
+fn make_parts(store: &mut Store, write: &Write, changes: &mut Vec<Change>) -> Result<(), AllocError>
+    ensures store { OnOk result (store.new ≡ put store.old write.now) }
+    ensures changes { OnOk result (changes.new.items ≡ changes.old.items ++ changed_words store.old store.new write.now) }
+    ensures store_kept { OnErr result (store.new ≡ store.old) }
+{
+    foresee(store, write, changes)?;
+    store.put(write);
+    Ok(())
+}
+
 /// Makes a write, and appends the words that it changes: each that one of its parts names, where it isn't behind the whole write as before it.
 /// Without memory the store is as it was.
 #[inline(always)]
@@ -97,14 +110,26 @@ pub fn make(store: &mut Store, write: &Write, changes: &mut Vec<Change>) -> Resu
     if parts.len() == 1 {
         return make_part(store, parts[0], changes);
     }
-    foresee(store, write, changes)?;
-    store.put(write);
-    Ok(())
+    make_parts(store, write, changes)
+}
+
+/// The lowest digits of a value.
+#[inline(always)]
+fn lowest(digits: Vec4, width: u32) -> Vec4
+    requires some { 0 < width }
+    requires most { width ≤ 64 }
+    ensures { result ≡ selected (pos 0) width digits }
+{
+    if digits.width() == width {
+        digits
+    } else {
+        digits.select(0, width)
+    }
 }
 
 /// The one part of the write that gives a target these digits, where the target is one fixed place.
 #[inline(always)]
-fn only_part(target: &Target, digits: Vec4) -> Option<Part>
+pub(crate) fn only_part(target: &Target, digits: Vec4) -> Option<Part>
     ensures { IfSome result (λ part. (store : Store) (time : ℕ) → assigned target.now digits store time ≡ part ∷ []) }
 {
     if target.parts.len() == 1
@@ -114,10 +139,29 @@ fn only_part(target: &Target, digits: Vec4) -> Option<Part>
             signal: s.signal,
             word: s.word,
             low: s.low as i64,
-            digits: digits.select(0, s.width),
+            digits: lowest(digits, s.width),
         });
     }
     None
+}
+
+/// Makes the write that gives any target these digits, and appends the words that it changes.
+#[inline(never)]
+fn assign_any(
+    alloc: Global,
+    target: &Target,
+    digits: Vec4,
+    store: &mut Store,
+    time: u64,
+    changes: &mut Vec<Change>,
+) -> Result<(), AllocError>
+    ensures store { OnOk result (store.new ≡ put store.old (assigned target.now digits store.old time)) }
+    ensures changes { OnOk result (changes.new.items
+        ≡ changes.old.items ++ changed_words store.old store.new (assigned target.now digits store.old time)) }
+    ensures store_kept { OnErr result (store.new ≡ store.old) }
+{
+    let write = write_of(alloc, target, digits, store, time)?;
+    make(store, &write, changes)
 }
 
 /// Makes the write that gives a target these digits, its indices read in this store at a time in ticks, and appends the words that it changes, as
@@ -139,8 +183,19 @@ pub fn assign(
     if let Some(part) = only_part(target, digits) {
         return make_part(store, part, changes);
     }
-    let write = write_of(alloc, target, digits, store, time)?;
-    make(store, &write, changes)
+    assign_any(alloc, target, digits, store, time, changes)
+}
+
+/// A word with digits laid over it from a place on: those digits, where they are as many.
+#[inline(always)]
+fn laid(word: Vec4, low: i64, digits: Vec4) -> Vec4
+    ensures { result ≡ overlaid low digits word }
+{
+    if low == 0 && digits.width() == word.width() {
+        digits
+    } else {
+        word.put(low, digits)
+    }
 }
 
 /// A word behind a part of a write that names it.
@@ -148,7 +203,7 @@ pub fn assign(
 fn over(word: Vec4, part: Part) -> Vec4
     ensures { result ≡ overlaid part.low part.digits word }
 {
-    word.put(part.low, part.digits)
+    laid(word, part.low, part.digits)
 }
 
 /// Whether a write of one part would change nothing.
@@ -160,6 +215,21 @@ fn holds_part(store: &Store, part: Part) -> bool
         Some(word) => word == over(word, part),
         None => true,
     }
+}
+
+/// Whether the write that gives any target these digits would change nothing.
+#[inline(never)]
+fn holds_any(
+    alloc: Global,
+    target: &Target,
+    digits: Vec4,
+    store: &Store,
+    time: u64,
+) -> Result<bool, AllocError>
+    ensures { IfOk result (λ held. held ≡ changes_nothing store.now (assigned target.now digits store.now time)) }
+{
+    let write = write_of(alloc, target, digits, store, time)?;
+    Ok(store.has(&write))
 }
 
 /// Whether the write that gives a target these digits, its indices read in this store at a time in ticks, would change nothing. A target of one fixed
@@ -177,6 +247,5 @@ pub fn holds(
     if let Some(part) = only_part(target, digits) {
         return Ok(holds_part(store, part));
     }
-    let write = write_of(alloc, target, digits, store, time)?;
-    Ok(store.has(&write))
+    holds_any(alloc, target, digits, store, time)
 }

@@ -1,23 +1,24 @@
 //! Where a process stands in its flat code.
 ghost use Rattle.std.specs.Prelude.{◌≡◌, ◌++◌, slice_set, IfOk, OnOk, OnErr, MatchOption};
 ghost use Rattle.vs_design.specs.declared.statement.Statement.TheViews.{out-Statement};
+ghost use Rattle.vs_flatcode.specs.declared.made.Effect.TheVariants as Effect;
 ghost use Rattle.vs_flatcode.specs.Changes.{store_behind, changes_of};
 ghost use Rattle.vs_flatcode.specs.Places.{perform, flat};
-ghost use Rattle.vs_flatcode.specs.Steps.{step, has_nothing};
+ghost use Rattle.vs_flatcode.specs.Steps.{assignment, step, has_nothing};
 ghost use Rattle.vs_flatcode.specs.Links.{item_of};
+ghost use Rattle.vs_flatcode.specs.Extras.{format_of, starts_of, format_in};
 ghost use Rattle.vs_flatcode.specs.Codes.{job_of, StandsAt, IsEnd, IsFormatOf, IsFormatFor};
 ghost use Rattle.vs_flatcode.specs.Landings.{landing, turned, statement_lands, lands, made_out, item_write, IsMade, IsCallMade};
 
 use crate::changes::{Change, assign};
-use crate::choices::{assignment, branch, start_taken, turns_for};
+use crate::choices::{assignment, branch, cut_value, quick_value, start_taken, turns_for};
 use crate::code::Code;
-use crate::draft::{Op, Task};
-use crate::made::Made;
+use crate::draft::{Extra, Op, Task};
+use crate::made::{Effect, Halt};
 use std::alloc::{AllocError, Global};
 use std::marker::Model;
-use vs_design::{CallKind, Statement, Store};
-use vs_eval::{cut_value, value};
-use vs_strobe::{Format, full_line};
+use vs_design::{CallKind, Statement, Store, Target, Ticks, Typed};
+use vs_strobe::full_line;
 
 /// Where a process stands in its code, with the counters of its statements `repeat`. A contract sees it as what the process still
 /// has to do.
@@ -81,26 +82,59 @@ fn turn(op: &Op, counters: &mut Vec<u64>, left: u64) -> usize
     op.first
 }
 
-// What a call makes, by the format that its instruction has.
-fn call_made<'a>(
-    alloc: Global,
-    format: &'a Option<Format<'a>>,
-    kind: CallKind,
-    store: &Store,
-    time: u64,
-) -> Result<Made<'a>, AllocError>
-    ensures { IfOk result (λ made. IsCallMade format.entry.now kind store.now time made) }
+// The starts of the items of a `case` that its instruction has.
+#[inline(always)]
+fn starts_of<'a>(extra: &'a Extra<'a>) -> &'a [usize]
+    ensures { result.now ≡ starts_of extra.entry.now }
 {
-    let Some(format) = format else {
-        return Ok(Made::Nothing);
-    };
-    match kind {
-        CallKind::Display => Ok(Made::Line(full_line(alloc, format, store, time)?)),
-        CallKind::Strobe => Ok(Made::Strobe(format)),
+    match extra {
+        Extra::Starts(starts) => starts.as_slice(),
+        _ => &[],
     }
 }
 
-// The step of a statement: what it makes, and where it leads.
+// What a call makes, by the format that its instruction has.
+#[inline(never)]
+fn call_made<'a>(
+    alloc: Global,
+    extra: &'a Extra<'a>,
+    kind: CallKind,
+    store: &Store,
+    time: u64,
+) -> Result<Effect<'a>, AllocError>
+    ensures { IfOk result (λ effect. IsCallMade (format_of extra.entry.now) kind store.now time effect) }
+{
+    let Extra::Formats(formats) = extra else {
+        return Ok(Effect::Nothing);
+    };
+    let Some(format) = formats.get(0) else {
+        return Ok(Effect::Nothing);
+    };
+    match kind {
+        CallKind::Display => Ok(Effect::Line(full_line(alloc, format, store, time)?)),
+        CallKind::Strobe => Ok(Effect::Strobe(format)),
+    }
+}
+
+// The nonblocking update of an assignment, due in so many ticks.
+#[inline(never)]
+fn update<'a>(
+    alloc: Global,
+    ticks: Ticks,
+    target: &Target,
+    e: &Typed,
+    store: &Store,
+    time: u64,
+    effect: &mut Effect<'a>,
+) -> Result<(), AllocError>
+    ensures { OnOk result (effect.new ≡ Effect.Update ticks (assignment target.now e.now store.now time)) }
+{
+    let write = assignment(alloc, target, e, store, time)?;
+    *effect = Effect::Update(ticks, write);
+    Ok(())
+}
+
+// The step of a statement: the timing control that it meets, and where it leads.
 #[inline(always)]
 fn perform<'a>(
     alloc: Global,
@@ -110,11 +144,13 @@ fn perform<'a>(
     store: &mut Store,
     time: u64,
     changes: &mut Vec<Change>,
-) -> Result<(Made<'a>, usize), AllocError>
-    requires format { IsFormatOf op.now.format (out-Statement s.now) }
+    effect: &mut Effect<'a>,
+) -> Result<(Halt<'a>, usize), AllocError>
+    requires quiet { effect.old ≡ Effect.Nothing }
+    requires format { IsFormatOf (format_in op.now) (out-Statement s.now) }
     ensures lands { IfOk result (λ r. landing r.1 counters.new.items
         ≡ statement_lands op.entry.now s.entry.now counters.old.items store.old time) }
-    ensures made { IfOk result (λ r. IsMade (perform s.entry.now) store.old time r.0) }
+    ensures made { IfOk result (λ r. IsMade (perform s.entry.now) store.old time r.0 effect.new) }
     ensures store { OnOk result (store.new ≡ store_behind store.old (item_write (perform s.entry.now) store.old time)) }
     ensures changes { OnOk result (changes.new.items
         ≡ changes.old.items ++ changes_of store.old (item_write (perform s.entry.now) store.old time)) }
@@ -122,47 +158,51 @@ fn perform<'a>(
     ensures store_kept { OnErr result (store.new ≡ store.old) }
 {
     match s {
-        Statement::Null(_) => Ok((Made::Nothing, op.behind)),
+        Statement::Null(_) => Ok((Halt::Nothing, op.behind)),
         Statement::Assign(_, target, e) => {
             let digits = cut_value(target, e, store, time);
             assign(alloc, target, digits, store, time, changes)?;
-            Ok((Made::Nothing, op.behind))
+            Ok((Halt::Nothing, op.behind))
         }
         Statement::Later(_, ticks, target, e) => {
-            let write = assignment(alloc, target, e, store, time)?;
-            Ok((Made::Update(*ticks, write), op.behind))
+            update(alloc, *ticks, target, e, store, time, effect)?;
+            Ok((Halt::Nothing, op.behind))
         }
         Statement::Call(_, call) => {
-            let made = call_made(alloc, &op.format, call.kind, store, time)?;
-            Ok((made, op.behind))
+            *effect = call_made(alloc, &op.extra, call.kind, store, time)?;
+            Ok((Halt::Nothing, op.behind))
         }
-        Statement::Finish(_) => Ok((Made::Finish, op.behind)),
-        Statement::Block(_) => Ok((Made::Nothing, op.first)),
-        Statement::Delay(n, ticks, _) => Ok((Made::Delay(*n, *ticks), op.first)),
-        Statement::Event(n, terms, _) => Ok((Made::Wait(*n, terms), op.first)),
+        Statement::Finish(_) => {
+            *effect = Effect::Finish;
+            Ok((Halt::Nothing, op.behind))
+        }
+        Statement::Block(_) => Ok((Halt::Nothing, op.first)),
+        Statement::Delay(n, ticks, _) => Ok((Halt::Delay(*n, *ticks), op.first)),
+        Statement::Event(n, terms, _) => Ok((Halt::Wait(*n, terms), op.first)),
         Statement::If(_, e, _, _) => {
             let place = branch(e, store, time, op.first, op.second);
-            Ok((Made::Nothing, place))
+            Ok((Halt::Nothing, place))
         }
         Statement::Case(_, kind, e, items) => {
-            let digits = value(e, store, time);
-            let place = start_taken(*kind, digits, store, time, items, &op.starts, op.behind);
-            Ok((Made::Nothing, place))
+            let digits = quick_value(e, store, time);
+            let starts = starts_of(&op.extra);
+            let place = start_taken(*kind, digits, store, time, items, starts, op.behind);
+            Ok((Halt::Nothing, place))
         }
         Statement::While(_, e, _) => {
             let place = branch(e, store, time, op.first, op.behind);
-            Ok((Made::Nothing, place))
+            Ok((Halt::Nothing, place))
         }
         Statement::Repeat(_, signed, e, _) => {
-            let left = turns_for(*signed, value(e, store, time));
+            let left = turns_for(*signed, quick_value(e, store, time));
             let place = turn(op, counters, left);
-            Ok((Made::Nothing, place))
+            Ok((Halt::Nothing, place))
         }
-        Statement::Forever(_, _) => Ok((Made::Nothing, op.first)),
+        Statement::Forever(_, _) => Ok((Halt::Nothing, op.first)),
     }
 }
 
-// The step of an instruction: what it makes, and where it leads.
+// The step of an instruction: the timing control that it meets, and where it leads.
 #[inline(always)]
 fn run<'a>(
     alloc: Global,
@@ -171,12 +211,14 @@ fn run<'a>(
     store: &mut Store,
     time: u64,
     changes: &mut Vec<Change>,
-) -> Result<(Made<'a>, usize), AllocError>
-    requires format { IsFormatFor op.now.format op.now.task }
+    effect: &mut Effect<'a>,
+) -> Result<(Halt<'a>, usize), AllocError>
+    requires quiet { effect.old ≡ Effect.Nothing }
+    requires format { IsFormatFor (format_in op.now) op.now.task }
     ensures lands { IfOk result (λ r. landing r.1 counters.new.items
         ≡ lands op.entry.now op.entry.now.task counters.old.items store.old time) }
     ensures made { IfOk result (λ r.
-        IsMade (item_of counters.old.items (job_of op.entry.now.counter op.entry.now.task)) store.old time r.0) }
+        IsMade (item_of counters.old.items (job_of op.entry.now.counter op.entry.now.task)) store.old time r.0 effect.new) }
     ensures store { OnOk result (store.new ≡ store_behind store.old
         (item_write (item_of counters.old.items (job_of op.entry.now.counter op.entry.now.task)) store.old time)) }
     ensures changes { OnOk result (changes.new.items ≡ changes.old.items ++ changes_of store.old
@@ -185,11 +227,11 @@ fn run<'a>(
     ensures store_kept { OnErr result (store.new ≡ store.old) }
 {
     match op.task {
-        Task::Perform(s) => perform(alloc, op, s, counters, store, time, changes),
+        Task::Perform(s) => perform(alloc, op, s, counters, store, time, changes, effect),
         Task::Turns(_) => {
             let left = counters.get(op.counter).copied().unwrap_or(0);
             let place = turn(op, counters, left);
-            Ok((Made::Nothing, place))
+            Ok((Halt::Nothing, place))
         }
     }
 }
@@ -219,8 +261,8 @@ impl<'a> Cursor<'a> {
         }
     }
 
-    /// One step of the process (IEEE 1364-2005, clauses 9.2 and 9.4 to 9.7) at `time`, in ticks: what it makes beside what the process
-    /// still has to do. The write of a blocking assignment is made in the store, and the words that it changes go to `changes`. Without memory the
+    /// One step of the process (IEEE 1364-2005, clauses 9.2 and 9.4 to 9.7) at `time`, in ticks: the timing control that it meets, and in
+    /// `effect` what it makes beside what the process still has to do. The write of a blocking assignment is made in the store, and the words that it changes go to `changes`. Without memory the
     /// process stands where it stood, and the store is as it was.
     #[inline(always)]
     pub fn step(
@@ -229,9 +271,11 @@ impl<'a> Cursor<'a> {
         store: &mut Store,
         time: u64,
         changes: &mut Vec<Change>,
-    ) -> Result<Made<'a>, AllocError>
-        ensures ok { IfOk result (λ made. step self.old store.old time
-            ≡ made_out made (step self.old store.old time).write self.new) }
+        effect: &mut Effect<'a>,
+    ) -> Result<Halt<'a>, AllocError>
+        requires quiet { effect.old ≡ Effect.Nothing }
+        ensures ok { IfOk result (λ halt. step self.old store.old time
+            ≡ made_out halt effect.new (step self.old store.old time).write self.new) }
         ensures store { OnOk result (store.new ≡ store_behind store.old (step self.old store.old time).write) }
         ensures changes { OnOk result (changes.new.items
             ≡ changes.old.items ++ changes_of store.old (step self.old store.old time).write) }
@@ -239,10 +283,10 @@ impl<'a> Cursor<'a> {
         ensures store_kept { OnErr result (store.new ≡ store.old) }
     {
         let Some(op) = op_at(self.ops, self.place) else {
-            return Ok(Made::Nothing);
+            return Ok(Halt::Nothing);
         };
-        let (made, place) = run(alloc, op, &mut self.counters, store, time, changes)?;
+        let (halt, place) = run(alloc, op, &mut self.counters, store, time, changes, effect)?;
         self.place = place;
-        Ok(made)
+        Ok(halt)
     }
 }

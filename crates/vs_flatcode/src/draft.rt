@@ -4,11 +4,13 @@ ghost use Rattle.vs_flatcode.specs.Places.{perform, flat};
 ghost use Rattle.vs_flatcode.specs.Codes.{links_of, layout_of, job_of};
 ghost use Rattle.vs_flatcode.specs.Numbers.{number_of, number_at};
 ghost use Rattle.vs_flatcode.specs.Drafts.{flat_all, numbers_all, numbers_in, IsReady, IsEmitted, Written, drafted, AlwaysLeadAll, AlwaysTurn, IsNext, op_of, IsLoop, IsHead, AddsOne, Adds};
+ghost use Rattle.vs_flatcode.specs.Extras.{format_of};
+ghost use Rattle.vs_strobe.specs.Lines.{format_of_call};
 ghost use Rattle.vs_design.specs.WellFormed.{numbers};
 ghost use Rattle.vs_design.specs.declared.statement.Statement.TheViews.{out-Statement};
 
 use std::alloc::{AllocError, Global};
-use vs_design::{Statement, Typed};
+use vs_design::{Call, Statement, Typed};
 use vs_strobe::Format;
 
 /// What is done at a place.
@@ -18,6 +20,17 @@ pub(crate) enum Task<'a> {
     Perform(&'a Statement),
     /// A test of a `repeat` that has its count, by the statement in it (IEEE 1364-2005, clause 9.6).
     Turns(&'a Statement),
+}
+
+/// What an instruction has beside its places: few have anything, and so it stands elsewhere.
+#[derive(Drop)]
+pub(crate) enum Extra<'a> {
+    /// Nothing.
+    Nothing,
+    /// The starts of the items of a `case`.
+    Starts(Vec<usize>),
+    /// The format of a call of `$display` or `$strobe`, read once: a list of one, which takes less room in an instruction than the format.
+    Formats(Vec<Format<'a>>),
 }
 
 /// An instruction: what is done, and the places where it goes on. Place 0 is the end of the code; the instruction of index i has place
@@ -32,12 +45,10 @@ pub(crate) struct Op<'a> {
     pub(crate) first: usize,
     /// The start of what an `if` does else.
     pub(crate) second: usize,
-    /// The starts of the items of a `case`.
-    pub(crate) starts: Vec<usize>,
     /// The counter of a `repeat`: how many others it stands in.
     pub(crate) counter: usize,
-    /// The format of a call of `$display` or `$strobe`, read once.
-    pub(crate) format: Option<Format<'a>>,
+    /// The starts of the items of a `case`, or the format of a call.
+    pub(crate) extra: Extra<'a>,
 }
 
 /// The code that has been written.
@@ -76,12 +87,11 @@ fn put_statement<'a>(
     next: usize,
     first: usize,
     second: usize,
-    starts: Vec<usize>,
     depth: usize,
-    format: Option<Format<'a>>,
+    extra: Extra<'a>,
 ) -> Result<usize, AllocError>
     requires ready { IsReady draft.old next depth }
-    requires next { IsNext draft.old (op_of s next first second starts depth format) s.now }
+    requires next { IsNext draft.old (op_of s next first second depth extra) s.now }
     ensures emitted { IfOk result (λ p. IsEmitted draft.old draft.new (flat s.entry.now) next p) }
     ensures number { IfOk result (λ _. AddsOne draft.old draft.new (number_of (out-Statement s.entry.now))) }
 {
@@ -90,9 +100,8 @@ fn put_statement<'a>(
         behind: next,
         first,
         second,
-        starts,
         counter: depth,
-        format,
+        extra,
     };
     let place = put(draft, op)?;
     Ok(place)
@@ -100,7 +109,6 @@ fn put_statement<'a>(
 
 // Puts an instruction that goes on nowhere yet, and answers its place.
 fn put_head<'a>(
-    alloc: Global,
     draft: &mut Draft<'a>,
     task: Task<'a>,
     next: usize,
@@ -115,12 +123,21 @@ fn put_head<'a>(
         behind: next,
         first: next,
         second: next,
-        starts: Vec::new(alloc),
         counter: depth,
-        format: None,
+        extra: Extra::Nothing,
     };
     let place = put(draft, op)?;
     Ok(place)
+}
+
+// What the instruction of a call has: its format.
+fn format_read<'a>(alloc: Global, call: &'a Call) -> Result<Extra<'a>, AllocError>
+    ensures { IfOk result (λ extra. format_of extra ≡ Some (format_of_call call.entry.now)) }
+{
+    let format = Format::of(alloc, call)?;
+    let mut formats = Vec::with_capacity(alloc, 1)?;
+    formats.push(format)?;
+    Ok(Extra::Formats(formats))
 }
 
 // The code of the items of a `case`, and where each starts.
@@ -161,7 +178,7 @@ fn emit_loop<'a>(
     ensures numbers { IfOk result (λ _. Adds draft.old draft.new (numbers s.entry.now)) }
 {
     let i = draft.ops.len();
-    let head = put_head(alloc, draft, Task::Perform(s), next, depth)?;
+    let head = put_head(draft, Task::Perform(s), next, depth)?;
     let first = emit(alloc, draft, body, head, depth)?;
     set_first(&mut draft.ops, i, first);
     Ok(head)
@@ -183,7 +200,7 @@ fn emit_turns<'a>(
 {
     let i = draft.ops.len();
     draft.counters = draft.counters.max(depth + 1);
-    let test = put_head(alloc, draft, Task::Turns(body), next, depth)?;
+    let test = put_head(draft, Task::Turns(body), next, depth)?;
     let first = emit(alloc, draft, body, test, depth + 1)?;
     set_first(&mut draft.ops, i, first);
     Ok(first)
@@ -223,60 +240,40 @@ pub(crate) fn emit<'a>(
     ensures numbers { IfOk result (λ _. Adds draft.old draft.new (numbers s.entry.now)) }
 {
     match s {
-        Statement::Null(_) => put_statement(
-            draft,
-            s,
-            next,
-            next,
-            next,
-            Vec::new(alloc),
-            depth,
-            None,
-        ),
+        Statement::Null(_) => put_statement(draft, s, next, next, next, depth, Extra::Nothing),
         Statement::Assign(_, _, _) => {
-            put_statement(draft, s, next, next, next, Vec::new(alloc), depth, None)
+            put_statement(draft, s, next, next, next, depth, Extra::Nothing)
         }
         Statement::Later(_, _, _, _) => {
-            put_statement(draft, s, next, next, next, Vec::new(alloc), depth, None)
+            put_statement(draft, s, next, next, next, depth, Extra::Nothing)
         }
         Statement::Call(_, call) => {
-            let format = Format::of(alloc, call)?;
-            put_statement(
-                draft,
-                s,
-                next,
-                next,
-                next,
-                Vec::new(alloc),
-                depth,
-                Some(format),
-            )
+            let extra = format_read(alloc, call)?;
+            put_statement(draft, s, next, next, next, depth, extra)
         }
-        Statement::Finish(_) => {
-            put_statement(draft, s, next, next, next, Vec::new(alloc), depth, None)
-        }
+        Statement::Finish(_) => put_statement(draft, s, next, next, next, depth, Extra::Nothing),
         Statement::Block(all) => emit_all(alloc, draft, all, next, depth),
         Statement::Delay(_, _, body) => {
             let first = emit(alloc, draft, body, next, depth)?;
-            put_statement(draft, s, next, first, next, Vec::new(alloc), depth, None)
+            put_statement(draft, s, next, first, next, depth, Extra::Nothing)
         }
         Statement::Event(_, _, body) => {
             let first = emit(alloc, draft, body, next, depth)?;
-            put_statement(draft, s, next, first, next, Vec::new(alloc), depth, None)
+            put_statement(draft, s, next, first, next, depth, Extra::Nothing)
         }
         Statement::If(_, _, a, b) => {
             let second = emit(alloc, draft, b, next, depth)?;
             let first = emit(alloc, draft, a, next, depth)?;
-            put_statement(draft, s, next, first, second, Vec::new(alloc), depth, None)
+            put_statement(draft, s, next, first, second, depth, Extra::Nothing)
         }
         Statement::Case(_, _, _, items) => {
             let starts = emit_items(alloc, draft, items, next, depth)?;
-            put_statement(draft, s, next, next, next, starts, depth, None)
+            put_statement(draft, s, next, next, next, depth, Extra::Starts(starts))
         }
         Statement::While(_, _, body) => emit_loop(alloc, draft, body, s, next, depth),
         Statement::Repeat(_, _, _, body) => {
             let first = emit_turns(alloc, draft, body, next, depth)?;
-            put_statement(draft, s, next, first, next, Vec::new(alloc), depth, None)
+            put_statement(draft, s, next, first, next, depth, Extra::Nothing)
         }
         Statement::Forever(_, body) => emit_loop(alloc, draft, body, s, next, depth),
     }

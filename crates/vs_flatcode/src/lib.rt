@@ -11,8 +11,9 @@ mod laws;
 mod made;
 
 pub use changes::{Change, assign, holds, make};
+pub use choices::cut_value;
 pub use code::{Code, compile};
 pub use cursor::Cursor;
 pub use gait::Gait;
 pub use laws::{one_place, ways_are};
-pub use made::Made;
+pub use made::{Effect, Halt};

@@ -3,22 +3,29 @@
 use vs_design::{EventTerm, Ticks, Write};
 use vs_strobe::Format;
 
-/// What a step of a process makes, beside what the process still has to do and the write of a blocking assignment, which the step itself makes in
-/// the store (IEEE 1364-2005, clause 9.2.1).
+/// The timing control that a step of a process meets, if it meets one.
+#[derive(Clone, Copy)]
+pub enum Halt<'a> {
+    /// None: the process goes on.
+    Nothing,
+    /// A delay of so many ticks, by the delay control of this number in the process's text (IEEE 1364-2005, clause 9.7.1).
+    Delay(u32, Ticks),
+    /// A wait for one of these terms, by the event control of this number in the process's text (clause 9.7.2).
+    Wait(u32, &'a [EventTerm]),
+}
+
+/// What a step of a process does beyond the process, and what it prints. The write of a blocking assignment is none of it: the step makes it in
+/// the store, and the words that it changes go to the caller's list (IEEE 1364-2005, clause 9.2.1).
 #[derive(Drop)]
-pub enum Made<'a> {
+pub enum Effect<'a> {
     /// Nothing, or a write.
     Nothing,
     /// A nonblocking update, due in so many ticks (IEEE 1364-2005, clause 9.2.2).
     Update(Ticks, Write),
-    /// A call of `$strobe`, by its format (clause 17.1.2).
+    /// A call of `$strobe`, by its format: its line is made at the end of the slot (clause 17.1.2).
     Strobe(&'a Format<'a>),
     /// The line of a `$display`, with the line feed that ends it (clause 17.1.1).
     Line(Vec<u8>),
-    /// A call of `$finish` (clause 17.4.1).
+    /// A `$finish`: the execution is over at the end of the slot (clause 17.4.1, and profile).
     Finish,
-    /// A delay of so many ticks, by the delay control of this number in the process's text (clause 9.7.1).
-    Delay(u32, Ticks),
-    /// A wait for one of these terms, by the event control of this number in the process's text (clause 9.7.2).
-    Wait(u32, &'a [EventTerm]),
 }

@@ -1,3 +1,4 @@
+pub mod AssignsLemmas
 pub mod MarkingLemmas
 pub mod PrintsLemmas
 pub mod RunsLemmas

@@ -1,8 +1,5 @@
 -- The lines that a run prints.
 use Rattle.std.proofs.Common.{◌≡◌, ℕ, ◌+◌, Option, Some, None, List, [], ◌∷◌, ◌++◌, map, take, drop, slice_get, refl, sym, ◌∙◌, ap, append_assoc}
-use Rattle.std.specs.Prelude.{MatchOption}
-use Rattle.std.specs.declared.alloc.Global.{Global}
-use Rattle.std.specs.declared.vec.Vec.{Vec}
 use Rattle.std.proofs.lemmas.List.{append-nil, map-append, take-append-drop}
 use Rattle.vs_design.specs.Parts.{Parts}
 use Rattle.vs_design.specs.Traces.{Line}
@@ -12,8 +9,8 @@ use Rattle.vs_process.specs.Executions.{after, line_by, lines_of, move_lines, st
 use Rattle.vs_process.specs.States.{Called, State}
 use Rattle.vs_flatcode.specs.Places.{Place, todo_of}
 use Rattle.vs_flatcode.specs.Steps.{step}
-use Rattle.vs_state.specs.Prints.{made_line, stepped_line}
-use Rattle.vs_kernel.specs.Prints.{given_text, lines_text, made_text, slot_lines}
+use Rattle.vs_state.specs.Prints.{made_line, made_text, stepped_line}
+use Rattle.vs_kernel.specs.Prints.{lines_text, slot_lines}
 
 pub lines_more : (xs ys : List Line) → lines_text (xs ++ ys) ≡ lines_text xs ++ lines_text ys
 lines_more [] ys = refl
@@ -36,15 +33,6 @@ move_prints (Make i) s = refl
 move_prints Rouse s = refl
 move_prints Activate s = refl
 move_prints EndSlot s = sym (append-nil (lines_text (slot_lines EndSlot s)))
-
--- a line that was given is the one that was made
-abbrev pub IsLine : Option (Vec ℕ Global) → Option (List ℕ) → Type 0
-IsLine line made = MatchOption line (made ≡ None) (λ text. made ≡ Some text.items)
-
--- the bytes of such a line
-pub given_made : (line : Option (Vec ℕ Global)) (made : Option (List ℕ)) → IsLine line made → given_text line ≡ made_text made
-given_made None made h = sym (ap made_text h)
-given_made (Some text) made h = sym (ap made_text h)
 
 -- the lines of one more move
 pub lines_behind : (d : Parts) (moves : List Move) (m : Move) (now : State) → after d moves ≡ now →

@@ -26,10 +26,10 @@ use Rattle.vs_vcd.specs.Sinks.{AppendsPart, failed_after}
 use Rattle.vs_vcd.specs.declared.fault.VcdFault.{VcdFault}
 use Rattle.vs_vcd.specs.declared.fault.VcdFault.TheVariants as fault
 use Rattle.vs_vcd.specs.Text.{vcd_header, vcd_slots, vcd_end, vcd_text}
-use Rattle.vs_state.specs.Prints.{made_line}
+use Rattle.vs_state.specs.Prints.{made_line, made_text}
 use Rattle.vs_kernel.specs.Ends.{end_in, outcome_in}
 use Rattle.vs_kernel.specs.Faults.{OneFailed}
-use Rattle.vs_kernel.specs.Prints.{lines_text, made_text, slot_lines}
+use Rattle.vs_kernel.specs.Prints.{lines_text, slot_lines}
 use Rattle.vs_kernel.proofs.PrintsLemmas.{lines_behind, move_prints}
 use Rattle.vs_kernel.specs.Runs.{RanTo, HasBegun, EndsAs, StopsAt, text_so_far, AppendsSlots, AppendsSlotsPart}
 use Rattle.vs_kernel.specs.declared.outcome.Outcome.{Outcome}
@@ -265,7 +265,7 @@ pub stepped_over : (s : State) (i : ℕ) (o : Option Place) → (stepped s i o).
 stepped_over s i None = refl
 stepped_over s i (Some x) = behind_over s (step (todo_of x) s.store s.time).write
 
-evaluate_over : (s : State) (j : ℕ) (o : Option AssignState) → (evaluate s j o).over ≡ s.over
+pub evaluate_over : (s : State) (j : ℕ) (o : Option AssignState) → (evaluate s j o).over ≡ s.over
 evaluate_over s j None = refl
 evaluate_over s j (Some x) = refl
 
@@ -273,7 +273,7 @@ value_over : (s : State) (j : ℕ) (x : AssignState) (o : Option (List Digit)) �
 value_over s j x None = refl
 value_over s j x (Some v) = refl
 
-propagate_over : (s : State) (j : ℕ) (o : Option AssignState) → (propagate s j o).over ≡ s.over
+pub propagate_over : (s : State) (j : ℕ) (o : Option AssignState) → (propagate s j o).over ≡ s.over
 propagate_over s j None = refl
 propagate_over s j (Some x) = value_over s j x x.pending
 

@@ -13,14 +13,14 @@ use Rattle.vs_flatcode.specs.Steps.{step}
 use Rattle.vs_design.specs.Writes.{Write}
 use Rattle.vs_process.specs.States.{State, Update, make, stepped, written_behind}
 use Rattle.vs_regions.specs.Active.{place_of_active}
-use Rattle.vs_state.specs.Prints.{made_line}
+use Rattle.vs_state.specs.Prints.{made_line, made_text}
 use Rattle.vs_state.specs.Told.{told}
 use Rattle.vs_vcd.specs.Progress.{HasWritten, Progress}
 use Rattle.vs_vcd.specs.Sinks.{AppendsPart}
 use Rattle.vs_vcd.specs.Text.{vcd_slots}
 use Rattle.vs_kernel.specs.Insides.{inside_told, is_told}
 use Rattle.vs_kernel.specs.Points.{Point, point}
-use Rattle.vs_kernel.specs.Prints.{lines_text, made_text}
+use Rattle.vs_kernel.specs.Prints.{lines_text}
 use Rattle.vs_kernel.specs.Runs.{AppendsSlots, AppendsSlotsPart, HasBegun}
 use Rattle.vs_kernel.specs.Turns.{AllTurned, AllTurnedPart, Batch, BatchPart, IsReached, Turned, TurnedPart}
 use Rattle.vs_kernel.proofs.PrintsLemmas.{move_prints}

@@ -1,3 +1,4 @@
+pub mod AssignEvents
 pub mod Ends
 pub mod Faults
 pub mod Insides

@@ -1,44 +1,24 @@
 //! The list of enabled events, in the order in which the kernel offers them to its policy.
 //!
 //! It is a hint: what stands in it is tested before it is made, so that nothing of a run's contract rests on it.
-ghost use Rattle.std.specs.Prelude.{◌≡◌};
+ghost use Rattle.std.specs.Prelude.{◌≡◌, true, IfSome};
+ghost use Rattle.vs_process.specs.Executions as executions;
+ghost use Rattle.vs_kernel.specs.AssignEvents.{move_of};
 
+use crate::entries::{AssignEvent, Entries, Entry, Event};
 use crate::policy::Pick;
 use std::alloc::{AllocError, Global};
-use std::collections::VecDeque;
 use vs_design::Write;
 use vs_process::Move;
 use vs_regions::Item;
 use vs_state::State;
 use vs_time_wheel::EventQueue;
 
-/// An event of the list.
-#[derive(Clone, Copy, PartialEq, Eq)]
-enum Event {
-    /// The evaluation of a continuous assignment, by its number.
-    Evaluate(usize),
-    /// The update of a continuous assignment, by its number.
-    Propagate(usize),
-    /// A step of a process, by its number.
-    Step(usize),
-    /// A nonblocking update, by its number among those that were activated last.
-    Make(usize),
-    /// None: an event has left the list from within.
-    Gone,
-}
-
 /// A move and the index of its event in the list, where it stands in it.
 #[derive(Clone, Copy)]
 pub(crate) struct Choice {
     pub(crate) choice: Move,
     pub(crate) index: Option<usize>,
-}
-
-#[derive(Clone, Copy)]
-struct Entry {
-    event: Event,
-    /// Whether it is an update that waits for an older one which names one of its signals.
-    hidden: bool,
 }
 
 /// An activated update: its number in the order of execution, and where the signals that its parts name begin and end.
@@ -56,7 +36,7 @@ struct Activated {
 /// updates: the oldest activated one comes before all that is listed.
 #[derive(Drop)]
 pub(crate) struct Agenda {
-    entries: VecDeque<Entry>,
+    entries: Entries,
     /// Whether the first event is always chosen.
     first: bool,
     /// How many entries have left at the front, modulo 2^64.
@@ -85,7 +65,10 @@ impl Agenda {
         state: &State<Q>,
     ) -> Result<Self, AllocError> {
         let mut agenda = Agenda {
-            entries: VecDeque::new(alloc),
+            entries: Entries {
+                items: Vec::new(alloc),
+                from: 0,
+            },
             first,
             passed: 0,
             hidden: 0,
@@ -133,11 +116,17 @@ impl Agenda {
         let from = self.signals.len();
         let mut hidden = false;
         for part in what.parts() {
-            hidden = hidden || self.is_claimed(part.signal);
+            if let Some(count) = self.claims.get(part.signal)
+                && *count > 0
+            {
+                hidden = true;
+            }
             self.signals.push(part.signal)?;
         }
         for part in what.parts() {
-            self.claim(part.signal);
+            if let Some(count) = self.claims.get_mut(part.signal) {
+                *count = count.saturating_add(1);
+            }
         }
         let event = Event::Make(self.activated.len());
         let to = self.signals.len();
@@ -147,21 +136,6 @@ impl Agenda {
             self.hidden = self.hidden.saturating_add(1);
         }
         Ok(())
-    }
-
-    /// Whether a listed update names a signal.
-    fn is_claimed(&self, signal: usize) -> bool {
-        match self.claims.get(signal) {
-            Some(count) => *count > 0,
-            None => false,
-        }
-    }
-
-    /// One more part of a listed update names a signal.
-    fn claim(&mut self, signal: usize) {
-        if let Some(count) = self.claims.get_mut(signal) {
-            *count = count.saturating_add(1);
-        }
     }
 
     /// The signals that an event names, if it is an update.
@@ -183,7 +157,7 @@ impl Agenda {
     #[inline(always)]
     pub(crate) fn pick<P: Pick>(&self, policy: &mut P) -> Option<usize> {
         if self.first {
-            return if self.entries.is_empty() {
+            return if self.entries.len() == 0 {
                 None
             } else {
                 Some(0)
@@ -204,8 +178,11 @@ impl Agenda {
     /// The index of an event by its number among those that aren't hidden.
     fn index_of(&self, number: usize) -> Option<usize> {
         let mut left = number;
-        for (index, entry) in self.entries.iter().enumerate() {
-            if !entry.hidden && entry.event != Event::Gone {
+        for index in 0..self.entries.len() {
+            if let Some(entry) = self.entries.get(index)
+                && !entry.hidden
+                && !matches!(entry.event, Event::Gone)
+            {
                 if left == 0 {
                     return Some(index);
                 }
@@ -246,6 +223,20 @@ impl Agenda {
         }
     }
 
+    /// The first event, where it is one of a continuous assignment and enabled.
+    #[inline(always)]
+    pub(crate) fn next_assign<Q: EventQueue<Item>>(&self, state: &State<Q>) -> Option<AssignEvent>
+        ensures { IfSome result (λ event. executions.is_enabled state.now (move_of event) ≡ true) }
+    {
+        match self.entries.get(0)?.event {
+            Event::Evaluate(assign) if state.needs(assign) => Some(AssignEvent::Evaluate(assign)),
+            Event::Propagate(assign) if state.is_pending(assign) => {
+                Some(AssignEvent::Propagate(assign))
+            }
+            _ => None,
+        }
+    }
+
     /// Takes the event at an index out of the list.
     #[inline(always)]
     pub(crate) fn remove(&mut self, index: Option<usize>) {
@@ -262,7 +253,7 @@ impl Agenda {
         let left = *entry;
         entry.event = Event::Gone;
         entry.hidden = false;
-        if left.event != Event::Gone {
+        if !matches!(left.event, Event::Gone) {
             self.gaps = self.gaps.saturating_add(1);
         }
         if left.hidden {
@@ -276,7 +267,7 @@ impl Agenda {
     /// Takes the first event out of a list without updates, of which none is hidden.
     #[inline(always)]
     fn remove_first(&mut self) {
-        if let Some(_) = self.entries.pop_front() {
+        if self.entries.pop_front() {
             self.passed = self.passed.wrapping_add(1);
         }
         self.trim_front();
@@ -286,11 +277,11 @@ impl Agenda {
     #[inline(always)]
     fn trim_front(&mut self) {
         for _ in 0..self.entries.len() {
-            match self.entries.front() {
-                Some(entry) if entry.event == Event::Gone => {}
+            match self.entries.get(0) {
+                Some(entry) if matches!(entry.event, Event::Gone) => {}
                 _ => return,
             }
-            let _ = self.entries.pop_front();
+            self.entries.pop_front();
             self.passed = self.passed.wrapping_add(1);
             self.gaps = self.gaps.saturating_sub(1);
         }
@@ -300,11 +291,11 @@ impl Agenda {
     #[inline(always)]
     fn trim_back(&mut self) {
         for _ in 0..self.entries.len() {
-            match self.entries.back() {
-                Some(entry) if entry.event == Event::Gone => {}
+            match self.entries.get(self.entries.len().wrapping_sub(1)) {
+                Some(entry) if matches!(entry.event, Event::Gone) => {}
                 _ => return,
             }
-            let _ = self.entries.pop_back();
+            let _ = self.entries.items.pop();
             self.gaps = self.gaps.saturating_sub(1);
         }
     }
@@ -330,11 +321,18 @@ impl Agenda {
         if *count == 0 {
             return;
         }
-        let mut entries = self.entries.iter();
-        let Some(index) = entries.position(|entry| self.signals_of(entry.event).contains(&signal))
-        else {
-            return;
-        };
+        for index in 0..self.entries.len() {
+            if let Some(entry) = self.entries.get(index)
+                && self.signals_of(entry.event).contains(&signal)
+            {
+                self.show(index);
+                return;
+            }
+        }
+    }
+
+    /// An update is no longer hidden, unless it waits for another one.
+    fn show(&mut self, index: usize) {
         if self.waits(index) {
             return;
         }
@@ -419,7 +417,7 @@ impl Agenda {
     }
 
     #[inline(always)]
-    fn follow_evaluation<Q: EventQueue<Item>>(
+    pub(crate) fn follow_evaluation<Q: EventQueue<Item>>(
         &mut self,
         assign: usize,
         index: Option<usize>,

@@ -5,6 +5,7 @@
 #![tactic(auto)]
 
 mod agenda;
+mod entries;
 mod kernel;
 mod laws;
 mod marks;

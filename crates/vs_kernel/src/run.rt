@@ -18,14 +18,15 @@ ghost use Rattle.vs_vcd.specs.Progress.{Covers, HasWritten, is_write_fault};
 ghost use Rattle.vs_vcd.specs.Sinks.{AppendsPart, failed_after};
 
 use crate::agenda::{Agenda, Choice};
+use crate::entries::AssignEvent;
 use crate::marks::{clear, no_marks};
-use crate::moves::{advance, run_process, run_updates};
+use crate::moves::{Room, advance, run_assigns, run_process, run_updates};
 use crate::outcome::Outcome;
 use crate::policy::Pick;
 use std::alloc::{AllocError, Global};
 use vs_design::{Design, Process};
 use vs_process::{
-    Code, Move, blocks_exclude, compile, inside_follows, inside_goes_on, is_combinational,
+    Code, Effect, Move, blocks_exclude, compile, inside_follows, inside_goes_on, is_combinational,
     none_inside_first,
 };
 use vs_regions::Item;
@@ -205,15 +206,15 @@ struct Taken {
 
 /// Takes a step: writes the slot that a chosen move ends, if it ends one, makes it, and writes the line that it makes.
 #[inline(always)]
-fn take_one<Q: EventQueue<Item>, V: Sink, L: Sink>(
+fn take_one<'a, Q: EventQueue<Item>, V: Sink, L: Sink>(
     alloc: Global,
     design: &Design,
     blocks: &[bool],
-    state: &mut State<Q>,
+    state: &mut State<'a, Q>,
     agenda: &mut Agenda,
     writer: &mut Writer,
     marks: &mut Vec<u64>,
-    changed: &mut Vec<usize>,
+    room: &mut Room<'a>,
     next: Choice,
     vcd: &mut V,
     lines: &mut L,
@@ -235,7 +236,7 @@ fn take_one<Q: EventQueue<Item>, V: Sink, L: Sink>(
     ensures failures { OneFailed (is_write_fault result) (V.failed vcd.old) (V.failed vcd.new) (L.failed lines.old) (L.failed lines.new) }
 {
     note(alloc, writer, vcd, lines, marks, state, next.choice)?;
-    advance(state, design, marks, changed, lines, next.choice)?;
+    advance(state, design, marks, room, lines, next.choice)?;
     agenda.follow(next, state)?;
     Ok(inside_behind(blocks, state, next.choice))
 }
@@ -243,16 +244,16 @@ fn take_one<Q: EventQueue<Item>, V: Sink, L: Sink>(
 /// Takes the next steps, at least one and at most so many: chooses a move and makes it. Where the first event is always chosen, the steps of
 /// a process go on until it waits, and the activated updates until none is left.
 #[inline(always)]
-fn turn<Q: EventQueue<Item>, P: Pick, V: Sink, L: Sink>(
+fn turn<'a, Q: EventQueue<Item>, P: Pick, V: Sink, L: Sink>(
     alloc: Global,
     design: &Design,
     blocks: &[bool],
-    state: &mut State<Q>,
+    state: &mut State<'a, Q>,
     agenda: &mut Agenda,
     inside: Option<usize>,
     writer: &mut Writer,
     marks: &mut Vec<u64>,
-    changed: &mut Vec<usize>,
+    room: &mut Room<'a>,
     policy: &mut P,
     steps: u64,
     vcd: &mut V,
@@ -282,7 +283,7 @@ fn turn<Q: EventQueue<Item>, P: Pick, V: Sink, L: Sink>(
         match next.choice {
             Move::Step(process) => {
                 let taken = run_process(
-                    state, design, agenda, marks, changed, lines, process, next.index, steps,
+                    state, design, agenda, marks, room, lines, process, next.index, steps,
                 )?;
                 let inside = inside_behind(blocks, state, next.choice);
                 return Ok(Taken {
@@ -291,8 +292,26 @@ fn turn<Q: EventQueue<Item>, P: Pick, V: Sink, L: Sink>(
                 });
             }
             Move::Make(first) => {
-                let taken = run_updates(
-                    state, design, agenda, marks, changed, lines, first, steps,
+                let taken = run_updates(state, design, agenda, marks, room, lines, first, steps)?;
+                return Ok(Taken {
+                    steps: taken,
+                    inside: None,
+                });
+            }
+            Move::Evaluate(assign) => {
+                let first = AssignEvent::Evaluate(assign);
+                let taken = run_assigns(
+                    state, design, agenda, marks, room, lines, first, next.index, steps,
+                )?;
+                return Ok(Taken {
+                    steps: taken,
+                    inside: None,
+                });
+            }
+            Move::Propagate(assign) => {
+                let first = AssignEvent::Propagate(assign);
+                let taken = run_assigns(
+                    state, design, agenda, marks, room, lines, first, next.index, steps,
                 )?;
                 return Ok(Taken {
                     steps: taken,
@@ -303,16 +322,16 @@ fn turn<Q: EventQueue<Item>, P: Pick, V: Sink, L: Sink>(
         }
     }
     let inside = take_one(
-        alloc, design, blocks, state, agenda, writer, marks, changed, next, vcd, lines,
+        alloc, design, blocks, state, agenda, writer, marks, room, next, vcd, lines,
     )?;
     Ok(Taken { steps: 1, inside })
 }
 
 /// Runs a design from its start.
-fn execute<Q: EventQueue<Item>, P: Pick, V: Sink, L: Sink>(
+fn execute<'a, Q: EventQueue<Item>, P: Pick, V: Sink, L: Sink>(
     alloc: Global,
     design: &Design,
-    state: &mut State<Q>,
+    state: &mut State<'a, Q>,
     agenda: &mut Agenda,
     policy: &mut P,
     until: u64,
@@ -334,7 +353,11 @@ fn execute<Q: EventQueue<Item>, P: Pick, V: Sink, L: Sink>(
     none_inside_first();
     let blocks = blocks_of(alloc, design.processes())?;
     let mut marks = no_marks(alloc, design.signals().len())?;
-    let mut changed = Vec::new(alloc);
+    let mut room = Room {
+        changed: Vec::new(alloc),
+        effect: Effect::Nothing,
+        line: Vec::new(alloc),
+    };
     let mut writer = Writer::header(alloc, vcd, design)?;
     let mut inside = None;
     let mut count = 0;
@@ -351,7 +374,7 @@ fn execute<Q: EventQueue<Item>, P: Pick, V: Sink, L: Sink>(
             inside,
             &mut writer,
             &mut marks,
-            &mut changed,
+            &mut room,
             policy,
             steps - count,
             vcd,

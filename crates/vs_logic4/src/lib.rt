@@ -7,8 +7,6 @@ mod digit;
 mod edge;
 mod laws;
 mod operators;
-#[cfg(test)]
-mod tests;
 mod vector;
 
 pub use case::CaseKind;

@@ -1,5 +1,5 @@
 //! From a scope to the scopes of the instances and blocks in it.
-ghost use Rattle.std.specs.Prelude.{◌≡◌, ◌<◌, ◌∷◌, [], List, Some, length, map, slice_get, IfOk, IfErr, MatchResult};
+ghost use Rattle.std.specs.Prelude.{◌≡◌, ◌<◌, [], List, Some, length, map, slice_get, IfOk, IfErr, MatchResult};
 ghost use Rattle.std.specs.List.{list_any};
 ghost use Rattle.std.specs.Str.{bytes_eq};
 ghost use Rattle.vs_syntax.specs.declared.tree.Module.{Module as Tree};
@@ -19,7 +19,7 @@ ghost use Rattle.vs_opened.specs.Opened.{AreOpened, AreSeated};
 ghost use Rattle.vs_opening.specs.passes.Blocks.{text_name};
 ghost use Rattle.vs_opening.specs.passes.Entering.{Lists, before_next, IsParameterFault, IsBlockRefusal, EntersInstance, EntersInstanceNot, EntersBlock, EntersBlockNot, Enters, EntersNot, IsShallow};
 
-use std::alloc::{AllocError, Global};
+use std::alloc::Global;
 use std::slice;
 use vs_design::ScopeKind;
 use vs_generate::{Inner, Use};
@@ -30,7 +30,7 @@ use vs_opened::{
 };
 use vs_pieces::{Piece, block_pieces, pieces};
 use vs_scopes::{
-    ElabFault, ModulePort, ParameterRefusal, PartName, PathName, Reason, module_ports,
+    ElabFault, ModulePort, ParameterRefusal, PartName, PathName, Reason, module_ports, with_first,
 };
 use vs_selects::{Const, WidthFault};
 use vs_syntax::{Module, ModuleItem};
@@ -103,22 +103,6 @@ fn block_refusal<'s>(
             Err(_) => ElabFault::Memory,
         },
     }
-}
-
-/// Names with one before them.
-fn with_first<'s>(
-    alloc: Global,
-    first: &'s [u8],
-    names: &[&'s [u8]],
-) -> Result<Vec<&'s [u8]>, AllocError>
-    ensures { IfOk result (λ v. borrowed v.items ≡ first.entry.now ∷ borrowed names.now) }
-{
-    let mut all = Vec::new(alloc);
-    all.push(first)?;
-    for name in names {
-        all.push(*name)?;
-    }
-    Ok(all)
 }
 
 /// The values of the parameters of a module that is instantiated in the scope at a place (IEEE 1364-2005, clause 12.2.2).

@@ -49,11 +49,11 @@ blocks_layer l x h =
 pub blocks_Block : (xs : Vec Stmt Global) → blocks_in (s.Block xs) ≡ blocks_among xs.items
 blocks_Block xs = blocks_layer (f.Block xs) _ (rolls-Block xs) ∙ each_of_made blocks_by xs.items
 
-pub blocks_If : (e : Expr) (x : Box Stmt Global) (o : Option (Box Stmt Global)) → blocks_in (s.If e x o) ≡ blocks_in x.value ++ blocks_behind o
+pub blocks_If : (e : Box Expr Global) (x : Box Stmt Global) (o : Option (Box Stmt Global)) → blocks_in (s.If e x o) ≡ blocks_in x.value ++ blocks_behind o
 blocks_If e x None = blocks_layer (f.If e x None) _ (rolls-If e x None)
 blocks_If e x (Some y) = blocks_layer (f.If e x (Some y)) _ (rolls-If e x (Some y))
 
-pub blocks_Case : (k : CaseKind) (e : Expr) (xs : Vec (CaseLabel × Stmt) Global) → blocks_in (s.Case k e xs) ≡ blocks_in_items xs.items
+pub blocks_Case : (k : CaseKind) (e : Box Expr Global) (xs : Vec (CaseLabel × Stmt) Global) → blocks_in (s.Case k e xs) ≡ blocks_in_items xs.items
 blocks_Case k e xs = blocks_layer (f.Case k e xs) _ (rolls-Case k e xs) ∙ each_of_second blocks_by xs.items
 
 -- ---- pieces

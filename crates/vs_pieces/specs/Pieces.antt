@@ -48,7 +48,7 @@ blocks_step (f.Named n ls gs) (f.Named n' ls' xs) = record { name = n'.items; lo
 blocks_step (f.If e g h) (f.If e' x o) = g.value x.value ++ else_of h o
 blocks_step (f.Case k e gs) (f.Case k' e' xs) =
     each_of (map (λ (g : CaseLabel × (Stmt → List NamedBlock)). g.1) gs.items) (map (λ (x : CaseLabel × Stmt). x.1) xs.items)
-blocks_step (f.For l a c m b g) (f.For l' a' c' m' b' x) = g.value x.value
+blocks_step (f.For k g) (f.For k' x) = g.value x.value
 blocks_step (f.While e g) (f.While e' x) = g.value x.value
 blocks_step (f.Repeat e g) (f.Repeat e' x) = g.value x.value
 blocks_step (f.Forever g) (f.Forever x) = g.value x.value

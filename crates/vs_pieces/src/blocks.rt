@@ -55,7 +55,7 @@ fn add_blocks<'s>(blocks: &mut Vec<NamedBlock<'s>>, s: &'s Stmt) -> Result<(), A
             add_blocks_behind(blocks, other)
         }
         Stmt::Case(_, _, items) => add_blocks_in_items(blocks, items),
-        Stmt::For(_, _, _, _, _, x) => add_blocks(blocks, x),
+        Stmt::For(_, x) => add_blocks(blocks, x),
         Stmt::While(_, x) => add_blocks(blocks, x),
         Stmt::Repeat(_, x) => add_blocks(blocks, x),
         Stmt::Forever(x) => add_blocks(blocks, x),

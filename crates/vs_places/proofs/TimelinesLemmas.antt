@@ -13,7 +13,7 @@ use Rattle.vs_flatcode.specs.declared.gait.Gait.{Gait}
 use Rattle.vs_flatcode.specs.declared.gait.Gait.TheVariants.{Fresh, Woken}
 use Rattle.vs_flatcode.specs.Places.{Place, Todo, going, sleeping, inactive, waiting, ended, active_at, stepped_gait, is_going, is_inactive, start_place, todo_of, flat}
 use Rattle.vs_flatcode.specs.Steps.{Next, on, after, wait, step}
-use Rattle.vs_process.specs.declared.effect.Effect.{Effect}
+use Rattle.vs_flatcode.specs.declared.made.Effect.{Effect}
 use Rattle.vs_process.specs.Effects.{Stepped}
 use Rattle.vs_process.specs.Executions.{if_some, earlier, next_wake}
 use Rattle.vs_process.specs.States.{roused, woken_at, due_of, place_behind, paused, triggered}

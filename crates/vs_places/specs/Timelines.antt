@@ -6,7 +6,7 @@ use Rattle.vs_time_wheel.specs.declared.timing.Timed.{Timed}
 use Rattle.vs_time_wheel.specs.Bag.{events_at}
 use Rattle.vs_flatcode.specs.Places.{Place, sleeping, is_going, is_inactive, todo_of}
 use Rattle.vs_flatcode.specs.Steps.{step}
-use Rattle.vs_process.specs.declared.effect.Effect.{Effect}
+use Rattle.vs_flatcode.specs.declared.made.Effect.{Effect}
 use Rattle.vs_process.specs.Effects.{Stepped}
 use Rattle.vs_process.specs.States.{Update}
 use Rattle.vs_places.specs.Listed.{Lists}

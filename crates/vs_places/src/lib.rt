@@ -11,4 +11,3 @@ mod processes;
 
 pub use counts::recount;
 pub use processes::Processes;
-pub use vs_regions::{Item, Regions, Update};

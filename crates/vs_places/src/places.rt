@@ -2,6 +2,7 @@
 ghost use Rattle.std.specs.Prelude.{◌≡◌, ◌++◌, ◌<◌, ◌^◌, Some, None, true, false, length, map, slice_get, IfOk, OnOk, OnErr, MatchOption};
 ghost use Rattle.std.specs.List.{list_any};
 ghost use Rattle.vs_design.specs.Stores.{changed_at};
+ghost use Rattle.vs_flatcode.specs.declared.made.Effect.TheVariants as Effect;
 ghost use Rattle.vs_flatcode.specs.Changes.{store_behind, changes_of};
 ghost use Rattle.vs_flatcode.specs.Places.{is_going, start_place};
 ghost use Rattle.vs_process.specs.Executions as executions;
@@ -52,7 +53,7 @@ fn start_places<'a>(alloc: Global, codes: &'a [Code<'a>]) -> Result<Vec<Place<'a
 }
 
 /// The processes whose delay ends at this time become active.
-fn wake_each(places: &mut Vec<Place>, time: u64)
+fn wake_places(places: &mut Vec<Place>, time: u64)
     ensures { places.new.items ≡ map (states.woken_at time) places.old.items }
 {
     for process in 0..places.len() {
@@ -136,10 +137,12 @@ impl<'a> Places<'a> {
         store: &mut Store,
         time: u64,
         changes: &mut Vec<Change>,
-    ) -> Result<Effect<'a>, AllocError>
+        effect: &mut Effect<'a>,
+    ) -> Result<(), AllocError>
+        requires quiet { effect.old ≡ Effect.Nothing }
         requires active { executions.if_some is_going (slice_get self.old process) ≡ true }
         requires early { time < 2 ^ 62 }
-        ensures ok { IfOk result (λ e. StepsAt self.old process store.old time self.new e) }
+        ensures ok { OnOk result (StepsAt self.old process store.old time self.new effect.new) }
         ensures store { OnOk result (store.new ≡ store_behind store.old (step_write (slice_get self.old process) store.old time)) }
         ensures changes { OnOk result (changes.new.items
             ≡ changes.old.items ++ changes_of store.old (step_write (slice_get self.old process) store.old time)) }
@@ -147,11 +150,11 @@ impl<'a> Places<'a> {
         ensures store_kept { OnErr result (store.new ≡ store.old) }
     {
         let Some(place) = self.items.get_mut(process) else {
-            return Ok(Effect::Nothing);
+            return Ok(());
         };
-        let effect = place.step(alloc, store, time, changes)?;
+        place.step(alloc, store, time, changes, effect)?;
         self.going = recount(self.going, true, place.is_going());
-        Ok(effect)
+        Ok(())
     }
 
     /// A process becomes active where the change of one word of a signal wakes a term that it waits for, and the answer is whether it does;
@@ -209,7 +212,7 @@ impl<'a> Places<'a> {
     pub(crate) fn wake_all(&mut self, time: u64)
         ensures { self.new ≡ map (states.woken_at time) self.old }
     {
-        wake_each(&mut self.items, time);
+        wake_places(&mut self.items, time);
         self.going = count_going(&self.items);
     }
 }

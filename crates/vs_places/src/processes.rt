@@ -4,6 +4,7 @@ ghost use Rattle.std.specs.List.{list_any};
 ghost use Rattle.std.specs.Option.{ForSome};
 ghost use Rattle.vs_time_wheel.specs.Bag.{SameBag};
 ghost use Rattle.vs_design.specs.Stores.{changed_at};
+ghost use Rattle.vs_flatcode.specs.declared.made.Effect.TheVariants as Effect;
 ghost use Rattle.vs_flatcode.specs.Changes.{store_behind, changes_of};
 ghost use Rattle.vs_flatcode.specs.Places.{is_going, is_inactive, start_place};
 ghost use Rattle.vs_process.specs.Executions as executions;
@@ -222,10 +223,12 @@ impl<'a, Q: EventQueue<Item>> Processes<'a, Q> {
         alloc: Global,
         store: &mut Store,
         changes: &mut Vec<Change>,
-    ) -> Result<Effect<'a>, AllocError>
+        effect: &mut Effect<'a>,
+    ) -> Result<(), AllocError>
+        requires quiet { effect.old ≡ Effect.Nothing }
         requires active { executions.if_some is_going (slice_get self.old.places process) ≡ true }
         requires early { self.old.time < 2 ^ 62 }
-        ensures ok { IfOk result (λ e. StepsAt self.old.places process store.old self.old.time self.new.places e) }
+        ensures ok { OnOk result (StepsAt self.old.places process store.old self.old.time self.new.places effect.new) }
         ensures store { OnOk result (store.new
             ≡ store_behind store.old (step_write (slice_get self.old.places process) store.old self.old.time)) }
         ensures changes { OnOk result (changes.new.items
@@ -234,9 +237,10 @@ impl<'a, Q: EventQueue<Item>> Processes<'a, Q> {
         ensures updates { self.new.updates ≡ self.old.updates }
     {
         let time = self.regions.time();
-        let effect = self.places.step(process, alloc, store, time, changes)?;
+        self.places
+            .step(process, alloc, store, time, changes, effect)?;
         keep(&mut self.places, &mut self.regions, process)?;
-        Ok(effect)
+        Ok(())
     }
 
     /// A process becomes active where the change of one word of a signal wakes a term that it waits for, and the answer is whether it does;

@@ -2,17 +2,15 @@
 #![tactic(auto)]
 
 mod combinational;
-mod effect;
 mod laws;
 mod moves;
 mod place;
 
 pub use combinational::is_combinational;
-pub use effect::Effect;
 pub use laws::{
     blocks_are_told, blocks_exclude, idle_assigns_have_values, inside_follows, inside_goes_on,
     moves_are_permitted, never_stuck, none_inside_first, times_rise,
 };
 pub use moves::{Grain, Move};
 pub use place::Place;
-pub use vs_flatcode::{Change, Code, Gait, compile};
+pub use vs_flatcode::{Change, Code, Effect, Gait, compile};

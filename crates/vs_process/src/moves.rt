@@ -18,7 +18,7 @@ pub enum Move {
     Evaluate(usize),
     /// The update of a continuous assignment, by its number.
     Propagate(usize),
-    /// An activated nonblocking update, by its place among those that wait.
+    /// An activated nonblocking update: by its place among those that wait, and in a run by its number among the activated ones.
     Make(usize),
     /// The inactive processes become active.
     Rouse,

@@ -1,19 +1,18 @@
 //! Where a process is.
-ghost use Rattle.std.specs.Prelude.{◌≡◌, ◌++◌, ◌<◌, ◌^◌, IfOk, Option, OnOk, OnErr, true};
-ghost use Rattle.vs_design.specs.Writes.{Write};
+ghost use Rattle.std.specs.Prelude.{◌≡◌, ◌++◌, ◌<◌, ◌^◌, IfOk, OnOk, OnErr, true};
+ghost use Rattle.vs_flatcode.specs.declared.made.Effect.TheVariants as Effect;
 ghost use Rattle.vs_flatcode.specs.Changes.{store_behind, changes_of};
-ghost use Rattle.vs_flatcode.specs.Landings.{made_out};
+ghost use Rattle.vs_flatcode.specs.Landings.{next_of};
 ghost use Rattle.vs_flatcode.specs.Places.{Todo, going, start_place, is_going, is_inactive, is_inside, stepped_gait, todo_of};
 ghost use Rattle.vs_flatcode.specs.Steps.{step};
 ghost use Rattle.vs_process.specs.Waits.{place_of, paused_wait};
-ghost use Rattle.vs_process.specs.Effects.{Leads, Stepped};
-ghost use Rattle.vs_process.specs.States.{roused, woken_at, due_of, terms_of, triggered};
+ghost use Rattle.vs_process.specs.Effects.{Stepped};
+ghost use Rattle.vs_process.specs.States.{place_behind, roused, woken_at, due_of, terms_of, triggered};
 
-use crate::effect::Effect;
 use std::alloc::{AllocError, Global};
 use std::marker::Model;
 use vs_design::{EventTerm, Store};
-use vs_flatcode::{Change, Code, Cursor, Gait, Made};
+use vs_flatcode::{Change, Code, Cursor, Effect, Gait, Halt};
 
 // What a process waits for.
 #[derive(Clone, Copy)]
@@ -74,26 +73,16 @@ fn pause<'a>(time: u64, ticks: u64) -> Wait<'a>
     }
 }
 
-// What a process of this gait waits for behind a step that makes this, and what the step does to the rest of the state.
+// What a process of this gait waits for behind a step that meets this.
 #[inline(always)]
-fn behind<'a>(gait: Gait, time: u64, made: Made<'a>) -> (Wait<'a>, Effect<'a>)
+fn behind<'a>(gait: Gait, time: u64, halt: Halt<'a>) -> Wait<'a>
     requires early { time < 2 ^ 62 }
-    ensures { (old todo : Todo) (w : Option Write) →
-        Leads (made_out made.entry w todo) (going gait old) time (place_of result.0 todo) result.1 }
+    ensures { (old todo : Todo) → place_of result todo ≡ place_behind (going gait old) time (next_of halt.entry todo) }
 {
-    match made {
-        Made::Nothing => (Wait::Nothing(gait_behind(gait)), Effect::Nothing),
-        Made::Update(ticks, write) => {
-            (
-                Wait::Nothing(gait_behind(gait)),
-                Effect::Update(ticks, write),
-            )
-        }
-        Made::Strobe(format) => (Wait::Nothing(gait_behind(gait)), Effect::Strobe(format)),
-        Made::Line(text) => (Wait::Nothing(gait_behind(gait)), Effect::Line(text)),
-        Made::Finish => (Wait::Nothing(gait_behind(gait)), Effect::Finish),
-        Made::Delay(_, ticks) => (pause(time, ticks.count), Effect::Nothing),
-        Made::Wait(_, terms) => (Wait::Terms(terms), Effect::Nothing),
+    match halt {
+        Halt::Nothing => Wait::Nothing(gait_behind(gait)),
+        Halt::Delay(_, ticks) => pause(time, ticks.count),
+        Halt::Wait(_, terms) => Wait::Terms(terms),
     }
 }
 
@@ -200,8 +189,8 @@ impl<'a> Place<'a> {
         }
     }
 
-    /// One step of an active process (IEEE 1364-2005, clauses 9.2 and 9.7) at `time`, in ticks: where it goes from there, and what the step does to
-    /// the rest of the state. The write of a blocking assignment is made in the store, and the words that it changes go to `changes`. Without memory
+    /// One step of an active process (IEEE 1364-2005, clauses 9.2 and 9.7) at `time`, in ticks: where it goes from there, and in `effect` what the step
+    /// does to the rest of the state. The write of a blocking assignment is made in the store, and the words that it changes go to `changes`. Without memory
     /// the place and the store are as they were.
     #[inline(always)]
     pub fn step(
@@ -210,10 +199,12 @@ impl<'a> Place<'a> {
         store: &mut Store,
         time: u64,
         changes: &mut Vec<Change>,
-    ) -> Result<Effect<'a>, AllocError>
+        effect: &mut Effect<'a>,
+    ) -> Result<(), AllocError>
+        requires quiet { effect.old ≡ Effect.Nothing }
         requires active { is_going self.old ≡ true }
         requires early { time < 2 ^ 62 }
-        ensures ok { IfOk result (λ e. Stepped self.old store.old time self.new e) }
+        ensures ok { OnOk result (Stepped self.old store.old time self.new effect.new) }
         ensures store { OnOk result (store.new ≡ store_behind store.old (step (todo_of self.old) store.old time).write) }
         ensures changes { OnOk result (changes.new.items
             ≡ changes.old.items ++ changes_of store.old (step (todo_of self.old) store.old time).write) }
@@ -221,11 +212,10 @@ impl<'a> Place<'a> {
         ensures store_kept { OnErr result (store.new ≡ store.old) }
     {
         let Wait::Nothing(gait) = self.wait else {
-            return Ok(Effect::Nothing);
+            return Ok(());
         };
-        let made = self.cursor.step(alloc, store, time, changes)?;
-        let (wait, effect) = behind(gait, time, made);
-        self.wait = wait;
-        Ok(effect)
+        let halt = self.cursor.step(alloc, store, time, changes, effect)?;
+        self.wait = behind(gait, time, halt);
+        Ok(())
     }
 }

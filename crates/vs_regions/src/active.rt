@@ -1,5 +1,6 @@
 //! Activated updates.
-ghost use Rattle.std.specs.Prelude.{◌≡◌, map, slice_get};
+ghost use Rattle.std.specs.Prelude.{◌≡◌, ◌<◌, ◌↔◌, map, length, slice_get, slice_index_or, IsSome, IfSome, MatchOption};
+ghost use Rattle.std.specs.List.{remove};
 ghost use Rattle.vs_process.specs.Executions as executions;
 ghost use Rattle.vs_process.specs.States as states;
 
@@ -33,4 +34,17 @@ pub(crate) fn activate_each(updates: &mut VecDeque<Update>, time: u64)
         let update = &mut updates[i];
         update.activate(time);
     }
+}
+
+/// Takes out the update of this number among these; the oldest one, whose number is 0, in constant time.
+#[inline(always)]
+pub(crate) fn take_at(updates: &mut VecDeque<Update>, index: usize) -> Option<Update>
+    ensures variant { IsSome result ↔ (index < length updates.old.items) }
+    ensures value { IfSome result (λ u. u ≡ slice_index_or updates.old.items index u) }
+    ensures items { MatchOption result (updates.new.items ≡ updates.old.items) (λ _. updates.new.items ≡ remove updates.old.items index) }
+{
+    if index == 0 {
+        return updates.pop_front();
+    }
+    updates.remove(index)
 }

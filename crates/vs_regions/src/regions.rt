@@ -7,7 +7,7 @@ ghost use Rattle.vs_process.specs.Executions as executions;
 ghost use Rattle.vs_process.specs.States as states;
 ghost use Rattle.vs_regions.specs.Active.{is_active, not_due, place_of_active};
 
-use crate::active::{activate_each, is_first};
+use crate::active::{activate_each, is_first, take_at};
 use crate::entry::{enter, take_due};
 use crate::item::Item;
 use crate::listed::Listed;
@@ -150,7 +150,7 @@ impl<Q: EventQueue<Item>> Regions<Q> {
         ensures taken { result ≡ slice_get self.old.updates (place_of_active index self.old.updates) }
         ensures rest { self.new ≡ record self.old { updates = states.without (place_of_active index self.old.updates) self.old.updates } }
     {
-        let Some(update) = self.active.remove(index) else {
+        let Some(update) = take_at(&mut self.active, index) else {
             return None;
         };
         self.updates = self.updates.next(&index);

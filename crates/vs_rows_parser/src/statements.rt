@@ -158,14 +158,20 @@ pub(crate) fn stmt_within(alloc: Global, depth: u32, s: &Stmt) -> Result<Vec<u8>
             }
             text.push(b']')?;
         }
-        Stmt::For(left, value, condition, target, step, inner) => {
+        Stmt::For(head, inner) => {
+            let (target, value) = &head.first;
             put(
                 &mut text,
                 b"[for ",
-                &sides_shown(alloc, left, b" = ", value)?,
+                &sides_shown(alloc, target, b" = ", value)?,
             )?;
-            put(&mut text, b"; ", &shown(alloc, condition)?)?;
-            put(&mut text, b"; ", &sides_shown(alloc, target, b" = ", step)?)?;
+            put(&mut text, b"; ", &shown(alloc, &head.condition)?)?;
+            let (target, value) = &head.step;
+            put(
+                &mut text,
+                b"; ",
+                &sides_shown(alloc, target, b" = ", value)?,
+            )?;
             put(&mut text, b" do ", &stmt_within(alloc, room, inner)?)?;
             text.push(b']')?;
         }

@@ -131,7 +131,8 @@ fn step_told<'a>(
 ) -> Result<(), AllocError> {
     if place.is_going() {
         let mut changes = Vec::new(alloc);
-        let effect = place.step(alloc, store, 0, &mut changes)?;
+        let mut effect = Effect::Nothing;
+        place.step(alloc, store, 0, &mut changes, &mut effect)?;
         out.resize(out.len() + changes.len(), b'w')?;
         tell(alloc, out, effect, store)?;
     }

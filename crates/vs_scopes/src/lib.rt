@@ -5,6 +5,7 @@ mod connections;
 mod declared;
 mod faults;
 mod forms;
+mod modules;
 mod parameters;
 mod ports;
 mod printed;
@@ -15,6 +16,7 @@ mod words;
 pub use connections::ends;
 pub use declared::{KindSaid, add_first, kinds_said};
 pub use faults::{BodyFault, ElabFault, ParameterRefusal, Reason};
+pub use modules::with_first;
 pub use parameters::{
     Given, Parameter, block_parameters, given_alone, given_to, module_parameters,
 };

@@ -54,16 +54,16 @@ cut_fixed digits value low e z h k l s p =
     }
 
 -- bits that any other index chooses
-pub cut_chosen : (digits : List Digit) (e : Extent) (x : Excerpt) (b : Box Form Global) → IsOwnPart e.index b.value → x.digits ≡ digits → x.bits ≡ e.axis → x.width ≡ e.shape.width →
+pub cut_chosen : (digits : List Digit) (e : Extent) (x : Box Excerpt Global) (b : Box Form Global) → IsOwnPart e.index b.value → x.value.digits ≡ digits → x.value.bits ≡ e.axis → x.value.width ≡ e.shape.width →
     (s : Span) → IsExtent s e → IsExcerpt digits s e.shape (v.Excerpt x b)
 cut_chosen digits e x b q h k l s p =
     let same = layer (f.Excerpt x b) (v.Excerpt x b) (v.rolls-Excerpt x b) in
     let w = e.shape.width in
     record {
-      size = ap (λ y. y.size w) same ∙ ap (option_map (λ n. x.width)) (q.size w ∙ p.flexible e.index.shape.width) ∙ ap Some l;
+      size = ap (λ y. y.size w) same ∙ ap (option_map (λ n. x.value.width)) (q.size w ∙ p.flexible e.index.shape.width) ∙ ap Some l;
       ranges = ap (λ y. y.reads) same ∙ q.ranges ∙ sym p.ranges;
       value = λ store time.
-          ap (λ y. y.at store time w e.shape.signed) same ∙ ap (excerpt_value x) (q.value store time w e.shape.signed)
+          ap (λ y. y.at store time w e.shape.signed) same ∙ ap (excerpt_value x.value) (q.value store time w e.shape.signed)
           ∙ rw (h, k, l) (sym (span_valued digits s e store time _ p (p.low store time)));
     }
 

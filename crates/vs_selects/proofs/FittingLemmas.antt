@@ -73,15 +73,16 @@ fitted_extended x z h w g y e k size value ranges =
 pub fits_Slice : (n : Slice) (w : ℕ) (g : Bool) → IsFitted (sense (v.Slice n)) w g (t.Slice n)
 fits_Slice n w g = fitted_as (f.Slice n) (v.Slice n) (v.rolls-Slice n) w g (o.Slice n) (t.Slice n) (t.rolls-Slice n) refl (λ store time. refl) refl
 
-pub fits_Select : (s : Selection) (xw xl : Box Form Global) (aw al : Form) (bw bl : Box Typed Global) (w : ℕ) (g : Bool) → aw ≡ xw.value → al ≡ xl.value →
-    IsFitted (sense aw) w g bw.value → IsFitted (sense al) w g bl.value → IsFitted (sense (v.Select s xw xl)) w g (t.Select s bw bl)
-fits_Select s xw xl aw al bw bl w g hw hl pw pl =
+pub fits_Select : (s : Box Selection Global) (c : Selection) (xw xl : Box Form Global) (aw al : Form) (bw bl : Box Typed Global) (w : ℕ) (g : Bool) → c ≡ s.value → aw ≡ xw.value → al ≡ xl.value →
+    IsFitted (sense aw) w g bw.value → IsFitted (sense al) w g bl.value → IsFitted (sense (v.Select s xw xl)) w g (t.Select c bw bl)
+fits_Select s c xw xl aw al bw bl w g hc hw hl pw pl =
     let qw : IsFitted (sense xw.value) w g bw.value = subst (λ z. IsFitted (sense z) w g bw.value) hw pw in
     let ql : IsFitted (sense xl.value) w g bl.value = subst (λ z. IsFitted (sense z) w g bl.value) hl pl in
-    fitted_as (f.Select s xw xl) (v.Select s xw xl) (v.rolls-Select s xw xl) w g (o.Select s bw bl) (t.Select s bw bl) (t.rolls-Select s bw bl)
-    (ap₂ (indexed_size s.width) qw.size ql.size)
-    (λ store time. ap₂ (selection_value s store) (qw.value store time) (ql.value store time))
-    (ap₂ (λ a b. all_words s.signal ∷ a ++ b) qw.ranges ql.ranges)
+    rw hc (
+    fitted_as (f.Select s xw xl) (v.Select s xw xl) (v.rolls-Select s xw xl) w g (o.Select s.value bw bl) (t.Select s.value bw bl) (t.rolls-Select s.value bw bl)
+    (ap₂ (indexed_size s.value.width) qw.size ql.size)
+    (λ store time. ap₂ (selection_value s.value store) (qw.value store time) (ql.value store time))
+    (ap₂ (λ a b. all_words s.value.signal ∷ a ++ b) qw.ranges ql.ranges))
 
 -- ---- operands behind the first one
 

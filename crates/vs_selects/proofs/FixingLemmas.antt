@@ -143,21 +143,21 @@ fixed_chosen p s q n h =
           ∙ sym (valued n w p.extent.shape.signed store time h.found);
     }
 
-pub select_chosen : (p : Place) (s : Selection) (b d : Box Form Global) → IsOwnPart p.word b.value → IsOwnPart p.extent.index d.value → s.signal ≡ p.signal → s.words ≡ p.words → s.bits ≡ p.extent.axis → s.width ≡ p.extent.shape.width →
+pub select_chosen : (p : Place) (s : Box Selection Global) (b d : Box Form Global) → IsOwnPart p.word b.value → IsOwnPart p.extent.index d.value → s.value.signal ≡ p.signal → s.value.words ≡ p.words → s.value.bits ≡ p.extent.axis → s.value.width ≡ p.extent.shape.width →
     ((sense p.word.form).reads ≡ [] → (sense p.extent.index.form).reads ≡ [] → ⊥) → (n : Named) → IsPlaced n p → IsChosen n (v.Select s b d)
 select_chosen p s b d k l e i j w q n h =
     let same = layer (f.Select s b d) (v.Select s b d) (v.rolls-Select s b d) in
     record {
       size = λ width.
           ap (λ z. z.size width) same
-          ∙ ap₂ (indexed_size s.width) (k.size width ∙ h.word_flexible p.word.shape.width) (l.size width ∙ h.flexible p.extent.index.shape.width)
+          ∙ ap₂ (indexed_size s.value.width) (k.size width ∙ h.word_flexible p.word.shape.width) (l.size width ∙ h.flexible p.extent.index.shape.width)
           ∙ ap Some (w ∙ sym (sized n p.extent.shape.width p.extent.shape.signed h.found));
       ranges = ap (λ z. z.reads) same
-          ∙ ap₂ (λ a c. all_words s.signal ∷ a ++ c) k.ranges l.ranges
+          ∙ ap₂ (λ a c. all_words s.value.signal ∷ a ++ c) k.ranges l.ranges
           ∙ ap₂ (λ a c. a ∷ c) (ap all_words e ∙ chosen_range p q n h) (sym h.ranges);
       value = λ store time width signed.
           ap (λ z. z.at store time width signed) same
-          ∙ ap₂ (selection_value s store) (k.value store time width signed) (l.value store time width signed)
+          ∙ ap₂ (selection_value s.value store) (k.value store time width signed) (l.value store time width signed)
           ∙ rw (e, i, j, w) (
           ap₂ (λ a c. bits_value a p.extent.shape.width (word_of store p.signal c)) (sym (h.low store time)) (sym (h.word store time))
           ∙ ap (λ a. bits_value (n.low store time) p.extent.shape.width (word_of store a (n.word store time))) (sym h.signal)

@@ -58,14 +58,14 @@ form_step (f.Slice s) = record {
   at = λ store time width signed. bits_value s.low s.width (word_of store s.signal s.word);
 }
 form_step (f.Select s word low) = record {
-  size = λ width. indexed_size s.width (word.value.size width) (low.value.size width);
-  reads = all_words s.signal ∷ word.value.reads ++ low.value.reads;
-  at = λ store time width signed. selection_value s store (word.value.at store time width signed) (low.value.at store time width signed);
+  size = λ width. indexed_size s.value.width (word.value.size width) (low.value.size width);
+  reads = all_words s.value.signal ∷ word.value.reads ++ low.value.reads;
+  at = λ store time width signed. selection_value s.value store (word.value.at store time width signed) (low.value.at store time width signed);
 }
 form_step (f.Excerpt s low) = record {
-  size = λ width. option_map (λ n. s.width) (low.value.size width);
+  size = λ width. option_map (λ n. s.value.width) (low.value.size width);
   reads = low.value.reads;
-  at = λ store time width signed. excerpt_value s (low.value.at store time width signed);
+  at = λ store time width signed. excerpt_value s.value (low.value.at store time width signed);
 }
 form_step (f.Unary op x) = record {
   size = λ width. option_map (λ n. if gives_bit op then 1 else n) (x.value.size width);

@@ -25,11 +25,11 @@ pub fn fitted(alloc: Global, form: &Form, shape: Shape) -> Result<Typed, AllocEr
         Form::Select(selection, word, low) => {
             let word = boxed(alloc, word, shape)?;
             let low = boxed(alloc, low, shape)?;
-            Ok(Typed::Select(*selection, word, low))
+            Ok(Typed::Select(**selection, word, low))
         }
         Form::Excerpt(excerpt, low) => {
             let low = boxed(alloc, low, shape)?;
-            Ok(Typed::Excerpt(*excerpt, low))
+            Ok(Typed::Excerpt(**excerpt, low))
         }
         Form::Unary(operator, x) => {
             let x = boxed(alloc, x, shape)?;

@@ -80,6 +80,7 @@ fn chosen(alloc: Global, place: Place) -> Result<Form, AllocError>
             let selection = selection(&place);
             let word = own(alloc, place.word)?;
             let low = own(alloc, place.extent.index)?;
+            let selection = Box::new(alloc, selection)?;
             Ok(Form::Select(selection, word, low))
         }
     }
@@ -114,6 +115,7 @@ fn cut(alloc: Global, digits: Vec4, extent: Extent) -> Result<Form, AllocError>
                 width,
             };
             let low = own(alloc, extent.index)?;
+            let excerpt = Box::new(alloc, excerpt)?;
             Ok(Form::Excerpt(excerpt, low))
         }
     }

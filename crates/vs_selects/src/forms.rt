@@ -13,9 +13,9 @@ pub enum Form {
     /// Bits of a word by constant indices, at their own size whatever the context.
     Slice(Slice),
     /// Bits of a word by the values of two indices, the word's and the lowest bit's, at their own size whatever the context.
-    Select(Selection, Box<Form>, Box<Form>),
+    Select(Box<Selection>, Box<Form>, Box<Form>),
     /// Bits of a constant by the value of an index, at their own size whatever the context.
-    Excerpt(Excerpt, Box<Form>),
+    Excerpt(Box<Excerpt>, Box<Form>),
     /// An operator and its operand.
     Unary(Unary, Box<Form>),
     /// Operands at the size of the context, and shifts' amounts, with operators between them, from left to right.

@@ -20,4 +20,8 @@ impl Sink for Dropped {
     fn failures(&self) -> u64 {
         0
     }
+
+    fn keeps_nothing(&self) -> bool {
+        true
+    }
 }

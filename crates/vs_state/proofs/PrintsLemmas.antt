@@ -1,10 +1,10 @@
 -- The line of a step.
 use Rattle.std.proofs.Common.{◌≡◌, ℕ, Option, List, refl, ◌∙◌, ap, subst}
 use Rattle.vs_design.specs.Writes.{Write}
-use Rattle.vs_process.specs.declared.effect.Effect.{Effect}
-use Rattle.vs_process.specs.declared.effect.Effect.TheVariants as e
+use Rattle.vs_flatcode.specs.declared.made.Effect.{Effect}
+use Rattle.vs_flatcode.specs.declared.made.Effect.TheVariants as e
 use Rattle.vs_process.specs.declared.moves.Move.TheVariants.{Step}
-use Rattle.vs_process.specs.Effects.{out_of}
+use Rattle.vs_flatcode.specs.Landings.{out_of}
 use Rattle.vs_process.specs.States.{State}
 use Rattle.vs_flatcode.specs.Places.{Place, todo_of}
 use Rattle.vs_flatcode.specs.Steps.{Next, Out, step}

@@ -31,9 +31,10 @@ use Rattle.vs_design.specs.declared.statement.Statement.TheOpen.{Statement-F}
 use Rattle.vs_design.specs.declared.statement.Statement.TheViews.{out-Statement}
 use Rattle.vs_flatcode.specs.declared.gait.Gait.{Gait}
 use Rattle.vs_flatcode.specs.declared.gait.Gait.TheVariants.{Woken}
-use Rattle.vs_process.specs.declared.effect.Effect.{Effect}
-use Rattle.vs_process.specs.declared.effect.Effect.TheVariants as e
-use Rattle.vs_process.specs.Effects.{Stepped, out_of}
+use Rattle.vs_flatcode.specs.declared.made.Effect.{Effect}
+use Rattle.vs_flatcode.specs.declared.made.Effect.TheVariants as e
+use Rattle.vs_flatcode.specs.Landings.{out_of}
+use Rattle.vs_process.specs.Effects.{Stepped}
 use Rattle.vs_process.specs.States.{State, AssignState, Update, Called, terms_of, triggered, touched, wakened, written, written_behind, performed, stepped, place_behind}
 use Rattle.vs_process.proofs.Waking.{wakened-triggered}
 use Rattle.vs_places.proofs.ChangedLemmas.{changed_behind}

@@ -1,7 +1,7 @@
 -- The line that a move makes at once.
-use Rattle.std.specs.Prelude.{ℕ, Option, Some, None, List, slice_get}
-use Rattle.vs_process.specs.declared.effect.Effect.{Effect}
-use Rattle.vs_process.specs.declared.effect.Effect.TheVariants as e
+use Rattle.std.specs.Prelude.{ℕ, Option, Some, None, List, [], slice_get}
+use Rattle.vs_flatcode.specs.declared.made.Effect.{Effect}
+use Rattle.vs_flatcode.specs.declared.made.Effect.TheVariants as e
 use Rattle.vs_process.specs.declared.moves.Move.{Move}
 use Rattle.vs_process.specs.declared.moves.Move.TheVariants.{Step}
 use Rattle.vs_flatcode.specs.Places.{Place, todo_of}
@@ -22,3 +22,8 @@ stepped_line s (Some place) = (step (todo_of place) s.store s.time).line
 abbrev pub made_line : Move → State → Option (List ℕ)
 made_line (Step i) s = stepped_line s (slice_get s.places i)
 made_line _ s = None
+
+-- the bytes of the line that a move makes at once, where it makes one
+abbrev pub made_text : Option (List ℕ) → List ℕ
+made_text None = []
+made_text (Some text) = text

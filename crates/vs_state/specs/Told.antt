@@ -4,7 +4,8 @@ use Rattle.vs_process.specs.declared.moves.Move.TheVariants.{Step, Evaluate, Pro
 use Rattle.vs_process.specs.States.{State}
 use Rattle.vs_regions.specs.Active.{place_of_active}
 
--- the definition's move that a move of a run stands for: a nonblocking update is told by its number among the activated ones, the oldest being 0
+-- the definition's move that a move of a run stands for: a nonblocking update is told by its number among the activated ones, the oldest
+-- being 0
 abbrev pub told : State → Move → Move
 told s (Step i) = Step i
 told s (Evaluate j) = Evaluate j

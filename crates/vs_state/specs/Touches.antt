@@ -9,8 +9,8 @@ use Rattle.vs_design.specs.Stores.{changed_at}
 use Rattle.vs_design.specs.Uses.{reads}
 use Rattle.vs_edges.specs.Differences.{word_changes}
 use Rattle.vs_flatcode.specs.declared.changes.Change.{Change}
-use Rattle.vs_process.specs.declared.effect.Effect.{Effect}
-use Rattle.vs_process.specs.declared.effect.Effect.TheVariants as e
+use Rattle.vs_flatcode.specs.declared.made.Effect.{Effect}
+use Rattle.vs_flatcode.specs.declared.made.Effect.TheVariants as e
 use Rattle.vs_process.specs.States.{AssignState, State}
 
 -- ---- what is woken

@@ -14,4 +14,3 @@ mod woken;
 
 pub use called::Called;
 pub use state::State;
-pub use vs_regions::Update;

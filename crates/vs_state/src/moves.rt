@@ -1,11 +1,12 @@
 //! The moves of a run: each makes of the state what the definition's move makes of it.
-ghost use Rattle.std.specs.Prelude.{◌≡◌, ◌<◌, ◌^◌, ◌∷◌, [], true, false, Some, None, is_some, slice_get, IfOk, OnOk, MatchOption};
+ghost use Rattle.std.specs.Prelude.{◌≡◌, ◌<◌, ◌^◌, ◌∷◌, [], true, false, is_some, slice_get, OnOk};
 ghost use Rattle.vs_process.specs.Executions as executions;
+ghost use Rattle.vs_flatcode.specs.declared.made.Effect.TheVariants as Effect;
 ghost use Rattle.vs_flatcode.specs.Places.{is_going};
 ghost use Rattle.vs_process.specs.States as states;
 ghost use Rattle.vs_state.specs.Changes.{CoverChanges};
 ghost use Rattle.vs_state.specs.Touches.{HasSources, behind_effect};
-ghost use Rattle.vs_state.specs.Prints.{line_of, made_line};
+ghost use Rattle.vs_state.specs.Prints.{line_of, made_line, made_text};
 ghost use Rattle.vs_state.specs.Told.{told};
 ghost use Rattle.vs_state.specs.Waits.{HasTerms};
 
@@ -13,64 +14,98 @@ use crate::called::Called;
 use crate::changes::follow;
 use crate::state::State;
 use std::alloc::AllocError;
+use std::mem;
 use vs_design::Design;
 use vs_flatcode::{assign, make};
 use vs_process::{Effect, Move};
 use vs_regions::Item;
 use vs_time_wheel::EventQueue;
 
+/// Whether a step does nothing to the rest of the state.
+#[inline(always)]
+fn is_nothing(effect: &Effect) -> bool
+    ensures { result ≡ true → effect.now ≡ Effect.Nothing }
+{
+    match effect {
+        Effect::Nothing => true,
+        _ => false,
+    }
+}
+
+/// Leaves nothing of what an earlier step did to the rest of the state.
+#[inline(always)]
+fn hush(effect: &mut Effect)
+    ensures { effect.new ≡ Effect.Nothing }
+{
+    if !is_nothing(effect) {
+        *effect = Effect::Nothing;
+    }
+}
+
 impl<'a, Q: EventQueue<Item>> State<'a, Q> {
-    /// Does what a step of a process does beyond its place and its write; the answer is the line that it makes.
-    #[inline(always)]
-    fn perform(&mut self, process: usize, effect: Effect<'a>) -> Result<Option<Vec<u8>>, AllocError>
+    /// Does what a step of a process does beyond its place and its write; the line that it makes takes the place of `line`.
+    #[inline(never)]
+    fn perform(
+        &mut self,
+        process: usize,
+        effect: &mut Effect<'a>,
+        line: &mut Vec<u8>,
+    ) -> Result<(), AllocError>
         requires early { self.old.time < 2 ^ 62 }
-        ensures state { OnOk result (self.new ≡ behind_effect self.old process effect.entry) }
-        ensures line { IfOk result (λ line. MatchOption line (line_of effect.entry ≡ None)
-            (λ text. line_of effect.entry ≡ Some text.items)) }
+        requires empty { line.old.items ≡ [] }
+        ensures state { OnOk result (self.new ≡ behind_effect self.old process effect.old) }
+        ensures line { OnOk result (line.new.items ≡ made_text (line_of effect.old)) }
         ensures store { self.new.store ≡ self.old.store }
     {
-        match effect {
-            Effect::Nothing => Ok(None),
+        match mem::replace(effect, Effect::Nothing) {
+            Effect::Nothing => {}
             Effect::Update(ticks, write) => {
                 self.processes.push(process, ticks, write)?;
-                Ok(None)
             }
             Effect::Strobe(format) => {
                 self.calls.push(Called {
                     by: process,
                     format,
                 })?;
-                Ok(None)
             }
-            Effect::Line(text) => Ok(Some(text)),
+            Effect::Line(text) => {
+                *line = text;
+            }
             Effect::Finish => {
                 self.finishing = true;
-                Ok(None)
             }
         }
+        Ok(())
     }
 
-    /// A step of an active process; the answer is the line that it makes.
+    /// A step of an active process; the line that it makes takes the place of `line`.
     #[inline(always)]
     fn step(
         &mut self,
         design: &Design,
         process: usize,
         changed: &mut Vec<usize>,
-    ) -> Result<Option<Vec<u8>>, AllocError>
+        effect: &mut Effect<'a>,
+        line: &mut Vec<u8>,
+    ) -> Result<(), AllocError>
+        requires empty { line.old.items ≡ [] }
         requires active { executions.if_some is_going (slice_get self.old.places process) ≡ true }
         requires early { self.old.time < 2 ^ 62 }
         requires sources { HasSources design.now self.old }
         requires terms { HasTerms design.now self.old }
         ensures state { OnOk result (self.new ≡ states.stepped self.old process (slice_get self.old.places process)) }
-        ensures line { IfOk result (λ line. MatchOption line (made_line (Move.Step process) self.old ≡ None)
-            (λ text. made_line (Move.Step process) self.old ≡ Some text.items)) }
+        ensures line { OnOk result (line.new.items ≡ made_text (made_line (Move.Step process) self.old)) }
         ensures covers { OnOk result (CoverChanges changed.new.items self.old.store self.new.store) }
     {
         self.changes.clear();
-        let effect = self
-            .processes
-            .step(process, self.alloc, &mut self.store, &mut self.changes)?;
+        hush(effect);
+        self.processes.step(
+            process,
+            self.alloc,
+            &mut self.store,
+            &mut self.changes,
+            effect,
+        )?;
         follow(
             &mut self.assigns,
             &mut self.processes,
@@ -79,13 +114,16 @@ impl<'a, Q: EventQueue<Item>> State<'a, Q> {
             &self.changes,
             changed,
         )?;
-        let line = self.perform(process, effect)?;
-        Ok(line)
+        if is_nothing(effect) {
+            return Ok(());
+        }
+        self.perform(process, effect, line)?;
+        Ok(())
     }
 
     /// The evaluation of a continuous assignment.
     #[inline(always)]
-    fn evaluate(&mut self, assign: usize) -> Result<(), AllocError>
+    pub fn evaluate(&mut self, assign: usize) -> Result<(), AllocError>
         ensures made { OnOk result (self.new ≡ states.evaluate self.old assign (slice_get self.old.assigns assign)) }
         ensures store { self.new.store ≡ self.old.store }
     {
@@ -186,8 +224,8 @@ impl<'a, Q: EventQueue<Item>> State<'a, Q> {
         Ok(())
     }
 
-    /// Makes an enabled move, and notes in `changed` the signals that it may change; the answer is the line that it makes at once, with the
-    /// line feed that ends it (IEEE 1364-2005, clause 17.1.1). A move tells a nonblocking update by its number among the activated ones, the
+    /// Makes an enabled move, and notes in `changed` the signals that it may change; the line that it makes at once, with the line feed that
+    /// ends it, takes the place of `line` (IEEE 1364-2005, clause 17.1.1). `effect` is room to work in. A move tells a nonblocking update by its number among the activated ones, the
     /// oldest being 0. The lines of the calls of `$strobe` are the caller's to make before the end of the slot, of `calls`.
     #[inline(always)]
     pub fn make(
@@ -195,20 +233,22 @@ impl<'a, Q: EventQueue<Item>> State<'a, Q> {
         design: &Design,
         choice: Move,
         changed: &mut Vec<usize>,
-    ) -> Result<Option<Vec<u8>>, AllocError>
+        effect: &mut Effect<'a>,
+        line: &mut Vec<u8>,
+    ) -> Result<(), AllocError>
+        requires empty { line.old.items ≡ [] }
         requires going { self.old.over ≡ false }
         requires enabled { executions.is_enabled self.old (told self.old choice) ≡ true }
         requires early { self.old.time < 2 ^ 62 }
         requires sources { HasSources design.now self.old }
         requires terms { HasTerms design.now self.old }
         ensures state { OnOk result (self.new ≡ executions.apply (told self.old choice) self.old) }
-        ensures line { IfOk result (λ line. MatchOption line (made_line choice self.old ≡ None)
-            (λ text. made_line choice self.old ≡ Some text.items)) }
+        ensures line { OnOk result (line.new.items ≡ made_text (made_line choice self.old)) }
         ensures covers { OnOk result (CoverChanges changed.new.items self.old.store self.new.store) }
     {
         self.woken.clear();
         match choice {
-            Move::Step(process) => return self.step(design, process, changed),
+            Move::Step(process) => self.step(design, process, changed, effect, line)?,
             Move::Evaluate(assign) => self.evaluate(assign)?,
             Move::Propagate(assign) => self.propagate(design, assign, changed)?,
             Move::Make(index) => self.update(design, index, changed)?,
@@ -216,6 +256,6 @@ impl<'a, Q: EventQueue<Item>> State<'a, Q> {
             Move::Activate => self.processes.activate(),
             Move::EndSlot => self.end_slot()?,
         }
-        Ok(None)
+        Ok(())
     }
 }

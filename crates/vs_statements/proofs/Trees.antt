@@ -18,10 +18,10 @@ use Rattle.vs_statements.specs.Parts.{headed, boxed_tree, other_tree, labelled_s
 pub tree_Null : stmt_tree v.Null ≡ headed (a_mark m.Semicolon) empty
 tree_Null = ap stmt_tree (sym rolls-Null) ∙ fold-roll-Stmt Tree stmt_step _
 
-pub tree_Assign : (l x : _) → stmt_tree (v.Assign l x) ≡ assigned_tree l (leaf (a_mark m.Assign)) x
+pub tree_Assign : (l x : _) → stmt_tree (v.Assign l x) ≡ assigned_tree l.value (leaf (a_mark m.Assign)) x
 tree_Assign l x = ap stmt_tree (sym (rolls-Assign l x)) ∙ fold-roll-Stmt Tree stmt_step _
 
-pub tree_Later : (l o x : _) → stmt_tree (v.Later l o x) ≡ assigned_tree l (later_tree o) x
+pub tree_Later : (l o x : _) → stmt_tree (v.Later l o x) ≡ assigned_tree l.value (later_tree o) x.value
 tree_Later l o x = ap stmt_tree (sym (rolls-Later l o x)) ∙ fold-roll-Stmt Tree stmt_step _
 
 pub tree_Block : (xs : _) → stmt_tree (v.Block xs) ≡ headed (a_word w.Begin) (both empty (both (row_of (map stmt_tree xs.items)) (leaf (a_word w.End))))
@@ -35,23 +35,23 @@ other_is : (o : Option (Box Stmt Global)) → else_tree (former-Stmt-If-2-at-2.m
 other_is None = refl
 other_is (Some x) = refl
 
-pub tree_If : (c x o : _) → stmt_tree (v.If c x o) ≡ headed (a_word w.If) (guarded_tree (expr_tree c) (both (boxed_tree x) (other_tree o)))
+pub tree_If : (c x o : _) → stmt_tree (v.If c x o) ≡ headed (a_word w.If) (guarded_tree (expr_tree c.value) (both (boxed_tree x) (other_tree o)))
 tree_If c x o =
     ap stmt_tree (sym (rolls-If c x o)) ∙ fold-roll-Stmt Tree stmt_step _
-    ∙ ap (λ u. headed (a_word w.If) (guarded_tree (expr_tree c) (both (boxed_tree x) u))) (other_is o)
+    ∙ ap (λ u. headed (a_word w.If) (guarded_tree (expr_tree c.value) (both (boxed_tree x) u))) (other_is o)
 
 -- the items of a `case` statement
 items_are : (xs : List (CaseLabel × Stmt)) → map case_item_tree (map (λ x. (x.0, stmt_tree x.1)) xs) ≡ map labelled_stmt_tree xs
 items_are [] = refl
 items_are (x ∷ xs) = ap (λ u. labelled_stmt_tree x ∷ u) (items_are xs)
 
-pub tree_Case : (k x is : _) → stmt_tree (v.Case k x is) ≡ headed (a_word (case_word k)) (guarded_tree (expr_tree x) (both (some_tree (map labelled_stmt_tree is.items)) (leaf (a_word w.Endcase))))
+pub tree_Case : (k x is : _) → stmt_tree (v.Case k x is) ≡ headed (a_word (case_word k)) (guarded_tree (expr_tree x.value) (both (some_tree (map labelled_stmt_tree is.items)) (leaf (a_word w.Endcase))))
 tree_Case k x is =
     ap stmt_tree (sym (rolls-Case k x is)) ∙ fold-roll-Stmt Tree stmt_step _
-    ∙ ap (λ u. headed (a_word (case_word k)) (guarded_tree (expr_tree x) (both (some_tree u) (leaf (a_word w.Endcase))))) (items_are is.items)
+    ∙ ap (λ u. headed (a_word (case_word k)) (guarded_tree (expr_tree x.value) (both (some_tree u) (leaf (a_word w.Endcase))))) (items_are is.items)
 
-pub tree_For : (l x c k y b : _) → stmt_tree (v.For l x c k y b) ≡ headed (a_word w.For) (for_tree l x c k y (boxed_tree b))
-tree_For l x c k y b = ap stmt_tree (sym (rolls-For l x c k y b)) ∙ fold-roll-Stmt Tree stmt_step _
+pub tree_For : (k b : _) → stmt_tree (v.For k b) ≡ headed (a_word w.For) (for_tree k.value.first.0 k.value.first.1 k.value.condition k.value.step.0 k.value.step.1 (boxed_tree b))
+tree_For k b = ap stmt_tree (sym (rolls-For k b)) ∙ fold-roll-Stmt Tree stmt_step _
 
 pub tree_While : (c x : _) → stmt_tree (v.While c x) ≡ headed (a_word w.While) (guarded_tree (expr_tree c) (boxed_tree x))
 tree_While c x = ap stmt_tree (sym (rolls-While c x)) ∙ fold-roll-Stmt Tree stmt_step _

@@ -1,5 +1,5 @@
 //! Reading assignments, and expressions before a mark.
-ghost use Rattle.std.specs.Prelude.{◌≡◌, ◌≤◌, true};
+ghost use Rattle.std.specs.Prelude.{◌≡◌, ◌≤◌, true, IfOk};
 ghost use Rattle.vs_tokens.specs.declared.token.Mark.TheVariants as m;
 ghost use Rattle.vs_syntax.specs.Grammar.{Grammar, ◌·◌, part, mark, assignment, guarded, for_parts, late, a_stmt, a_target, an_expr};
 ghost use Rattle.vs_syntax.specs.Tables.{goes};
@@ -10,10 +10,10 @@ ghost use Rattle.vs_statements.specs.Parts.{Leads, marked, sides_tree};
 ghost use Rattle.vs_statements.specs.Tasks.{timing, timing_tree};
 
 use crate::control::delay_value;
-use std::alloc::Global;
+use std::alloc::{AllocError, Global};
 use vs_expressions::{Read, Stop, expect_mark, expr, left, mark_at};
 use vs_lexer::{Mark, Token};
-use vs_syntax::{DelayValue, Expr, Left, Stmt};
+use vs_syntax::{DelayValue, Expr, ForHeader, Left, Stmt};
 
 /// When an assignment as a statement assigns.
 #[derive(Drop)]
@@ -22,17 +22,6 @@ pub(crate) enum Timing {
     Blocking,
     /// `<=`: later, by its delay, where it has one (IEEE 1364-2005, clause 9.2.2).
     Nonblocking(Option<DelayValue>),
-}
-
-/// What stands in the parentheses of a `for` statement.
-#[derive(Drop)]
-pub(crate) struct ForHeader {
-    /// The two sides of the first assignment.
-    pub first: (Left, Expr),
-    /// The condition.
-    pub condition: Expr,
-    /// The two sides of the second assignment.
-    pub step: (Left, Expr),
 }
 
 /// Reads an assignment as a statement, which begins with its left side.
@@ -49,19 +38,18 @@ pub(crate) fn assigned_stmt<'t, 's>(
     let timing = sign(alloc, room - 1, target.rest)?;
     let value = expr(alloc, room - 1, timing.rest)?;
     let rest = expect_mark(value.rest, Mark::Semicolon)?;
-    Ok(Read {
-        tree: assigned(timing.tree, target.tree, value.tree),
-        rest,
-    })
+    let tree = assigned(alloc, timing.tree, target.tree, value.tree)?;
+    Ok(Read { tree, rest })
 }
 
 /// The assignment of a value to a target.
-fn assigned(timing: Timing, target: Left, value: Expr) -> Stmt
-    ensures { stmt_tree result ≡ assigned_tree target (timing_tree timing) value }
+fn assigned(alloc: Global, timing: Timing, target: Left, value: Expr) -> Result<Stmt, AllocError>
+    ensures { IfOk result (λ s. stmt_tree s ≡ assigned_tree target (timing_tree timing) value) }
 {
+    let place = Box::new(alloc, target)?;
     match timing {
-        Timing::Blocking => Stmt::Assign(target, value),
-        Timing::Nonblocking(delay) => Stmt::Later(target, delay, value),
+        Timing::Blocking => Ok(Stmt::Assign(place, value)),
+        Timing::Nonblocking(delay) => Ok(Stmt::Later(place, delay, Box::new(alloc, value)?)),
     }
 }
 

@@ -64,20 +64,18 @@ fn delay_number<'t, 's>(tokens: &'t [Token<'s>]) -> Result<Read<'t, 's, DelayVal
     })
 }
 
-/// Reads an expression and the parenthesis behind it.
+/// Reads an expression into a box, and the parenthesis behind it.
 fn closed<'t, 's>(
     alloc: Global,
     room: u32,
     tokens: &'t [Token<'s>],
-) -> Result<Read<'t, 's, Expr>, Stop<'t, 's>>
-    ensures { Reads (part an_expr · mark m.Close) room tokens.now (λ x. closed_tree (expr_tree x)) result }
+) -> Result<Read<'t, 's, Box<Expr>>, Stop<'t, 's>>
+    ensures { Reads (part an_expr · mark m.Close) room tokens.now (λ x. closed_tree (expr_tree x.value)) result }
 {
     let inner = expr(alloc, room, tokens)?;
     let rest = expect_mark(inner.rest, Mark::Close)?;
-    Ok(Read {
-        tree: inner.tree,
-        rest,
-    })
+    let tree = Box::new(alloc, inner.tree)?;
+    Ok(Read { tree, rest })
 }
 
 /// Reads what an event control waits for.
@@ -140,14 +138,15 @@ fn event_terms<'t, 's>(
     alloc: Global,
     room: u32,
     tokens: &'t [Token<'s>],
-) -> Result<Read<'t, 's, (EventExpr, Vec<(Separator, EventExpr)>)>, Stop<'t, 's>>
+) -> Result<Read<'t, 's, (Box<EventExpr>, Vec<(Separator, EventExpr)>)>, Stop<'t, 's>>
     ensures { Reads event_exprs room tokens.now
-        (λ x. both (event_expr_tree x.0) (row_of (map other_event_tree x.1.items))) result }
+        (λ x. both (event_expr_tree x.0.value) (row_of (map other_event_tree x.1.items))) result }
 {
     let first = event_term(alloc, room, tokens)?;
     let others = other_terms(alloc, room, first.rest)?;
+    let term = Box::new(alloc, first.tree)?;
     Ok(Read {
-        tree: (first.tree, others.tree),
+        tree: (term, others.tree),
         rest: others.rest,
     })
 }

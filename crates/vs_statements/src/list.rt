@@ -68,7 +68,7 @@ pub fn listed<'t, 's, T: Element>(
         (λ xs. listed_tree (map T.tree_of xs.items)) result }
 {
     let first = T::read(alloc, room, tokens)?;
-    let mut tree = Vec::new(alloc);
+    let mut tree = Vec::with_capacity(alloc, 1)?;
     tree.push(first.tree)?;
     let all = others::<T>(alloc, room, first.rest, tree)?;
     let rest = expect_mark(all.rest, Mark::Semicolon)?;

@@ -164,8 +164,9 @@ fn conditional<'t, 's>(
     let condition = guard(alloc, room, tokens)?;
     let inner = boxed(alloc, room, condition.rest)?;
     let other = alternative(alloc, room, inner.rest)?;
+    let test = Box::new(alloc, condition.tree)?;
     Ok(Read {
-        tree: Stmt::If(condition.tree, inner.tree, other.tree),
+        tree: Stmt::If(test, inner.tree, other.tree),
         rest: other.rest,
     })
 }
@@ -208,8 +209,9 @@ fn case_stmt<'t, 's>(
 {
     let subject = guard(alloc, room, tokens)?;
     let items = items(alloc, room, subject.rest)?;
+    let operand = Box::new(alloc, subject.tree)?;
     Ok(Read {
-        tree: Stmt::Case(kind, subject.tree, items.tree),
+        tree: Stmt::Case(kind, operand, items.tree),
         rest: items.rest,
     })
 }
@@ -272,16 +274,9 @@ fn for_stmt<'t, 's>(
 {
     let read = for_header(alloc, room, tokens)?;
     let inner = boxed(alloc, room, read.rest)?;
-    let header = read.tree;
+    let header = Box::new(alloc, read.tree)?;
     Ok(Read {
-        tree: Stmt::For(
-            header.first.0,
-            header.first.1,
-            header.condition,
-            header.step.0,
-            header.step.1,
-            inner.tree,
-        ),
+        tree: Stmt::For(header, inner.tree),
         rest: inner.rest,
     })
 }

@@ -142,8 +142,9 @@ fn dump_argument<'t, 's>(
         });
     }
     let value = expr(alloc, room, tokens)?;
+    let inner = Box::new(alloc, value.tree)?;
     Ok(Read {
-        tree: DumpArgument::Value(value.tree),
+        tree: DumpArgument::Value(inner),
         rest: value.rest,
     })
 }

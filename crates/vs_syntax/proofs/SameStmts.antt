@@ -62,7 +62,7 @@ same_control v.Star v.Star h = same_star
 same_control v.GroupedStar v.GroupedStar h = same_grouped_star
 same_control (v.Name n) (v.Name n') h = same_event_name n n' (cc)
 same_control (v.Terms x xs) (v.Terms x' xs') h =
-    same_terms x x' xs xs' (same_event_expr x x' (cc)) (pairs SameOtherEvent other_event_tree same_other xs.items xs'.items (cc))
+    same_terms x x' xs xs' (same_event_expr x.value x'.value (cc)) (pairs SameOtherEvent other_event_tree same_other xs.items xs'.items (cc))
 same_control _ _ h = cc
 
 same_commas : (xs xs' : List Expr) → commas_tree (map expr_tree xs) ≡ commas_tree (map expr_tree xs') → SameExprs xs xs'
@@ -158,7 +158,7 @@ same_items [] (x' ∷ xs') h = cc
 same_items (x ∷ xs) [] h = cc
 same_items (x ∷ xs) (x' ∷ xs') h = same_item_rows (x ∷ xs) (x' ∷ xs') h
 
-same_kinds : (k k' : CaseKind) (x x' : Expr) (is is' : Vec (CaseLabel × Stmt) Global) → k ≡ k' → SameExpr x x' → SameCaseItems is.items is'.items → SameStmt (s.Case k x is) (s.Case k' x' is')
+same_kinds : (k k' : CaseKind) (x x' : Box Expr Global) (is is' : Vec (CaseLabel × Stmt) Global) → k ≡ k' → SameExpr x.value x'.value → SameCaseItems is.items is'.items → SameStmt (s.Case k x is) (s.Case k' x' is')
 same_kinds k k' x x' is is' h p q = subst (λ (u : CaseKind). SameStmt (s.Case k x is) (s.Case u x' is')) h (same_case k x x' is is' p q)
 
 -- a number for each form of a statement
@@ -170,7 +170,7 @@ form (f.Block xs) = 3
 form (f.Named n ls xs) = 12
 form (f.If c x o) = 4
 form (f.Case k x is) = 5
-form (f.For l x c k y b) = 6
+form (f.For k x) = 6
 form (f.While c x) = 7
 form (f.Repeat c x) = 8
 form (f.Forever x) = 9
@@ -214,8 +214,8 @@ behind_left : (l : Left) (y : Tree) → form_of_tree (down (both (left_tree l) y
 behind_left l y = ap (λ u. form_of_tree (down (both u y))) (left_down l).1
 
 form_of : (x : Stmt-F Stmt) → form_of_tree (layer x) ≡ form x
-form_of (f.Assign l x) = behind_left l _
-form_of (f.Later l v x) = behind_left l _
+form_of (f.Assign l x) = behind_left l.value _
+form_of (f.Later l v x) = behind_left l.value _
 form_of (f.Case h.Case x is) = refl
 form_of (f.Case h.Casez x is) = refl
 form_of (f.Case h.Casex x is) = refl
@@ -248,8 +248,8 @@ same_dump_tasks t t' xs xs' h p = subst (λ (u : DumpTask). SameStmt (s.Dump t x
 -- one layer each
 same_layers : (y : Stmt-F Inner) (x' : Stmt-F Stmt) → layer (bare y) ≡ layer x' → SameStmt (roll-Stmt (bare y)) (roll-Stmt x')
 same_layers f.Null f.Null h = rw rolls-Null same_null
-same_layers (f.Assign n x) (f.Assign n' x') h = rw (rolls-Assign n x, rolls-Assign n' x') (same_assign n n' x x' (same_left n n' (cc)) (same_expr x x' (cc)))
-same_layers (f.Later n v x) (f.Later n' v' x') h = rw (rolls-Later n v x, rolls-Later n' v' x') (same_later n n' v v' x x' (same_left n n' (cc)) (same_late v v' (cc)) (same_expr x x' (cc)))
+same_layers (f.Assign n x) (f.Assign n' x') h = rw (rolls-Assign n x, rolls-Assign n' x') (same_assign n n' x x' (same_left n.value n'.value (cc)) (same_expr x x' (cc)))
+same_layers (f.Later n v x) (f.Later n' v' x') h = rw (rolls-Later n v x, rolls-Later n' v' x') (same_later n n' v v' x x' (same_left n.value n'.value (cc)) (same_late v v' (cc)) (same_expr x.value x'.value (cc)))
 same_layers (f.Block xs) (f.Block xs') h = rw (rolls-Block _, rolls-Block xs') (same_block _ xs' (same_rows xs.items xs'.items (two _ _ _ _ (two _ _ _ _ (headed _ _ _ _ h).1).1).0))
 same_layers (f.Named n ls xs) (f.Named n' ls' xs') h =
     let b = two _ _ _ _ (headed _ _ _ _ h).1 in
@@ -260,15 +260,17 @@ same_layers (f.Named n ls xs) (f.Named n' ls' xs') h =
 same_layers (f.If c x o) (f.If c' x' o') h =
     let g = guarded _ _ _ _ _ _ h in
     let b = two _ _ _ _ g.2 in
-    rw (rolls-If c _ _, rolls-If c' x' o') (same_if c c' _ x' _ o' (same_expr c c' g.1) (x.value.1 x'.value b.0) (same_elses o o' b.1))
+    rw (rolls-If c _ _, rolls-If c' x' o') (same_if c c' _ x' _ o' (same_expr c.value c'.value g.1) (x.value.1 x'.value b.0) (same_elses o o' b.1))
 same_layers (f.Case k x is) (f.Case k' x' is') h =
     let g = guarded _ _ _ _ _ _ h in
     let p : a_word (case_word k) ≡ a_word (case_word k') = g.0 in
     rw (rolls-Case k x _, rolls-Case k' x' is')
-    (same_kinds k k' x x' _ is' (kind_by k k' (cc)) (same_expr x x' g.1) (same_items is.items is'.items (two _ _ _ _ g.2).0))
-same_layers (f.For l x c k y b) (f.For l' x' c' k' y' b') h =
-    rw (rolls-For l x c k y _, rolls-For l' x' c' k' y' b')
-    (same_for l l' x x' c c' k k' y y' _ b' (same_left l l' (cc)) (same_expr x x' (cc)) (same_expr c c' (cc)) (same_left k k' (cc)) (same_expr y y' (cc)) (b.value.1 b'.value (cc)))
+    (same_kinds k k' x x' _ is' (kind_by k k' (cc)) (same_expr x.value x'.value g.1) (same_items is.items is'.items (two _ _ _ _ g.2).0))
+same_layers (f.For k x) (f.For k' x') h =
+    rw (rolls-For k _, rolls-For k' x')
+    (same_for k k' _ x' (same_left k.value.first.0 k'.value.first.0 (cc)) (same_expr k.value.first.1 k'.value.first.1 (cc))
+    (same_expr k.value.condition k'.value.condition (cc)) (same_left k.value.step.0 k'.value.step.0 (cc)) (same_expr k.value.step.1 k'.value.step.1 (cc))
+    (x.value.1 x'.value (cc)))
 same_layers (f.While c x) (f.While c' x') h = let g = guarded _ _ _ _ _ _ h in rw (rolls-While c _, rolls-While c' x') (same_while c c' _ x' (same_expr c c' g.1) (x.value.1 x'.value g.2))
 same_layers (f.Repeat c x) (f.Repeat c' x') h = let g = guarded _ _ _ _ _ _ h in rw (rolls-Repeat c _, rolls-Repeat c' x') (same_repeated c c' _ x' (same_expr c c' g.1) (x.value.1 x'.value g.2))
 same_layers (f.Forever x) (f.Forever x') h = rw (rolls-Forever _, rolls-Forever x') (same_forever _ x' (x.value.1 x'.value (cc)))

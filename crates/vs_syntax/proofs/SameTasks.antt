@@ -24,7 +24,7 @@ same_numbers l l' h = subst (λ (k : Literal). SameDelay (d.Number l) (d.Number 
 pub same_value : (x x' : DelayValue) → delay_tree x ≡ delay_tree x' → SameDelay x x'
 same_value (d.Number l) (d.Number l') h = same_numbers l l' (cc)
 same_value (d.Name n) (d.Name n') h = same_delay_name n n' (cc)
-same_value (d.Group x) (d.Group x') h = same_delay_group x x' (same_expr x x' (cc))
+same_value (d.Group x) (d.Group x') h = same_delay_group x x' (same_expr x.value x'.value (cc))
 same_value _ _ h = cc
 
 pub same_late : (v v' : Option DelayValue) → late_tree v ≡ late_tree v' → SameOption SameDelay v v'
@@ -55,9 +55,9 @@ same_number (Some l) (Some l') h = let e : l ≡ l' = cc in ap Some e
 
 same_dump_argument : (x x' : DumpArgument) → dump_argument_tree x ≡ dump_argument_tree x' → SameDumpArgument x x'
 same_dump_argument (u.Text n) (u.Text n') h = same_dump_text n n' (cc)
-same_dump_argument (u.Value x) (u.Value x') h = same_dump_value x x' (same_expr x x' h)
-same_dump_argument (u.Text n) (u.Value x') h = absurd (expr_no_leaf x' (a_text n.items) refl (cc))
-same_dump_argument (u.Value x) (u.Text n') h = absurd (expr_no_leaf x (a_text n'.items) refl h)
+same_dump_argument (u.Value x) (u.Value x') h = same_dump_value x x' (same_expr x.value x'.value h)
+same_dump_argument (u.Text n) (u.Value x') h = absurd (expr_no_leaf x'.value (a_text n.items) refl (cc))
+same_dump_argument (u.Value x) (u.Text n') h = absurd (expr_no_leaf x.value (a_text n'.items) refl h)
 
 -- Arguments of `$dumpfile` or `$dumpvars` of one tree say the same.
 pub same_dumps : (xs xs' : Option (DumpArgument × Vec DumpArgument Global)) → dump_tree xs ≡ dump_tree xs' → SameOption SameDump xs xs'

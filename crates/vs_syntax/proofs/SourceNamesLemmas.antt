@@ -236,7 +236,7 @@ layer_holds p (f.If e x o) h =
     (else_holds p o (within (in_down (in_right (in_right (in_right (in_right (in_right itself)))))) h))
 layer_holds p (f.Case k e xs) h =
     case_items_hold p xs.items (within (in_down (in_right (in_right (in_right (in_right (in_left itself)))))) h)
-layer_holds p (f.For l a c m b x) h =
+layer_holds p (f.For k x) h =
     x.value.1 (within (in_down (in_right (in_right (in_right (in_right (in_right (in_right (in_right (in_right itself))))))))) h)
 layer_holds p (f.While e x) h = x.value.1 (within (in_down (in_right (in_right (in_right (in_right itself))))) h)
 layer_holds p (f.Repeat e x) h = x.value.1 (within (in_down (in_right (in_right (in_right (in_right itself))))) h)

@@ -42,6 +42,7 @@ use Rattle.vs_syntax.specs.declared.tree.EventControl.{EventControl}
 use Rattle.vs_syntax.specs.declared.tree.EventControl.TheVariants as v
 use Rattle.vs_syntax.specs.declared.tree.CaseLabel.{CaseLabel}
 use Rattle.vs_syntax.specs.declared.tree.CaseLabel.TheVariants as n
+use Rattle.vs_syntax.specs.declared.tree.ForHeader.{ForHeader}
 use Rattle.vs_syntax.specs.declared.tree.Stmt.{Stmt}
 use Rattle.vs_syntax.specs.declared.tree.Stmt.TheVariants as s
 use Rattle.vs_syntax.specs.declared.tree.Local.{Local}
@@ -124,7 +125,7 @@ pub data Pairwise {A : Type 0} (R : A → A → Type 0) : List A → List A → 
 pub data SameDelay : DelayValue → DelayValue → Type 0 where
   same_delay_number : (l : Literal) → SameDelay (d.Number l) (d.Number l)
   same_delay_name : (n n' : Vec ℕ Global) → n.items ≡ n'.items → SameDelay (d.Name n) (d.Name n')
-  same_delay_group : (x x' : Expr) → SameExpr x x' → SameDelay (d.Group x) (d.Group x')
+  same_delay_group : (x x' : Box Expr Global) → SameExpr x.value x'.value → SameDelay (d.Group x) (d.Group x')
 
 -- The terms of event controls say the same (profile).
 pub record SameEventExpr (x x' : EventExpr) : Type 0 where
@@ -142,8 +143,8 @@ pub data SameEvent : EventControl → EventControl → Type 0 where
   same_star : SameEvent v.Star v.Star
   same_grouped_star : SameEvent v.GroupedStar v.GroupedStar
   same_event_name : (n n' : Vec ℕ Global) → n.items ≡ n'.items → SameEvent (v.Name n) (v.Name n')
-  same_terms : (x x' : EventExpr) (xs xs' : Vec (Separator × EventExpr) Global) →
-      SameEventExpr x x' → Pairwise SameOtherEvent xs.items xs'.items → SameEvent (v.Terms x xs) (v.Terms x' xs')
+  same_terms : (x x' : Box EventExpr Global) (xs xs' : Vec (Separator × EventExpr) Global) →
+      SameEventExpr x.value x'.value → Pairwise SameOtherEvent xs.items xs'.items → SameEvent (v.Terms x xs) (v.Terms x' xs')
 
 -- What stands before the statements of `case` items is the same (profile).
 pub data SameLabel : CaseLabel → CaseLabel → Type 0 where
@@ -171,7 +172,7 @@ pub data SamePrint : PrintArguments → PrintArguments → Type 0 where
 -- The arguments of `$dumpfile` or `$dumpvars` say the same (profile).
 pub data SameDumpArgument : DumpArgument → DumpArgument → Type 0 where
   same_dump_text : (n n' : Vec ℕ Global) → n.items ≡ n'.items → SameDumpArgument (u.Text n) (u.Text n')
-  same_dump_value : (x x' : Expr) → SameExpr x x' → SameDumpArgument (u.Value x) (u.Value x')
+  same_dump_value : (x x' : Box Expr Global) → SameExpr x.value x'.value → SameDumpArgument (u.Value x) (u.Value x')
 
 -- The same of the first argument and the others (profile).
 pub record SameDump (xs xs' : DumpArgument × Vec DumpArgument Global) : Type 0 where
@@ -212,19 +213,21 @@ mutual
   -- The statements say the same (profile).
   pub data SameStmt : Stmt → Stmt → Type 0 where
     same_null : SameStmt s.Null s.Null
-    same_assign : (l l' : Left) (x x' : Expr) → SameLeft l l' → SameExpr x x' → SameStmt (s.Assign l x) (s.Assign l' x')
-    same_later : (l l' : Left) (v v' : Option DelayValue) (x x' : Expr) → SameLeft l l' → SameOption SameDelay v v' → SameExpr x x' →
-        SameStmt (s.Later l v x) (s.Later l' v' x')
+    same_assign : (l l' : Box Left Global) (x x' : Expr) → SameLeft l.value l'.value → SameExpr x x' →
+        SameStmt (s.Assign l x) (s.Assign l' x')
+    same_later : (l l' : Box Left Global) (v v' : Option DelayValue) (x x' : Box Expr Global) → SameLeft l.value l'.value →
+        SameOption SameDelay v v' → SameExpr x.value x'.value → SameStmt (s.Later l v x) (s.Later l' v' x')
     same_block : (xs xs' : Vec Stmt Global) → SameStmts xs.items xs'.items → SameStmt (s.Block xs) (s.Block xs')
     same_named_block : (n n' : Vec ℕ Global) (ls ls' : Vec LocalDeclaration Global) (xs xs' : Vec Stmt Global) → n.items ≡ n'.items →
         Pairwise SameLocals ls.items ls'.items → SameStmts xs.items xs'.items → SameStmt (s.Named n ls xs) (s.Named n' ls' xs')
-    same_if : (c c' : Expr) (x x' : Box Stmt Global) (o o' : Option (Box Stmt Global)) →
-        SameExpr c c' → SameStmt x.value x'.value → SameElse o o' → SameStmt (s.If c x o) (s.If c' x' o')
-    same_case : (kind : CaseKind) (x x' : Expr) (is is' : Vec (CaseLabel × Stmt) Global) →
-        SameExpr x x' → SameCaseItems is.items is'.items → SameStmt (s.Case kind x is) (s.Case kind x' is')
-    same_for : (l l' : Left) (x x' c c' : Expr) (k k' : Left) (y y' : Expr) (b b' : Box Stmt Global) →
-        SameLeft l l' → SameExpr x x' → SameExpr c c' → SameLeft k k' → SameExpr y y' → SameStmt b.value b'.value →
-        SameStmt (s.For l x c k y b) (s.For l' x' c' k' y' b')
+    same_if : (c c' : Box Expr Global) (x x' : Box Stmt Global) (o o' : Option (Box Stmt Global)) →
+        SameExpr c.value c'.value → SameStmt x.value x'.value → SameElse o o' → SameStmt (s.If c x o) (s.If c' x' o')
+    same_case : (kind : CaseKind) (x x' : Box Expr Global) (is is' : Vec (CaseLabel × Stmt) Global) →
+        SameExpr x.value x'.value → SameCaseItems is.items is'.items → SameStmt (s.Case kind x is) (s.Case kind x' is')
+    same_for : (h h' : Box ForHeader Global) (b b' : Box Stmt Global) →
+        SameLeft h.value.first.0 h'.value.first.0 → SameExpr h.value.first.1 h'.value.first.1 →
+        SameExpr h.value.condition h'.value.condition → SameLeft h.value.step.0 h'.value.step.0 →
+        SameExpr h.value.step.1 h'.value.step.1 → SameStmt b.value b'.value → SameStmt (s.For h b) (s.For h' b')
     same_while : (c c' : Expr) (x x' : Box Stmt Global) →
         SameExpr c c' → SameStmt x.value x'.value → SameStmt (s.While c x) (s.While c' x')
     same_repeated : (c c' : Expr) (x x' : Box Stmt Global) →

@@ -313,7 +313,7 @@ for_tree l x c k y body = both (leaf (a_mark m.Open))
 abbrev pub delay_tree : DelayValue → Tree
 delay_tree (d.Number l) = leaf (a_number l)
 delay_tree (d.Name n) = name_tree n.items
-delay_tree (d.Group x) = both (leaf (a_mark m.Open)) (closed_tree (expr_tree x))
+delay_tree (d.Group x) = both (leaf (a_mark m.Open)) (closed_tree (expr_tree x.value))
 
 -- the delay of a nonblocking assignment, where it has one
 abbrev pub late_tree : Option DelayValue → Tree
@@ -343,7 +343,7 @@ finish_tree (Some l) = both (leaf (a_mark m.Open)) (both (leaf (a_number l)) (le
 -- an argument of `$dumpfile` or `$dumpvars`
 abbrev pub dump_argument_tree : DumpArgument → Tree
 dump_argument_tree (x.Text n) = leaf (a_text n.items)
-dump_argument_tree (x.Value e) = expr_tree e
+dump_argument_tree (x.Value e) = expr_tree e.value
 
 -- what stands behind `$dumpfile` or `$dumpvars`
 abbrev pub dump_tree : Option (DumpArgument × Vec DumpArgument Global) → Tree
@@ -379,7 +379,7 @@ event_tree v.Star = leaf (a_mark m.Star)
 event_tree v.GroupedStar = both (leaf (a_mark m.Open)) (closed_tree (leaf (a_mark m.Star)))
 event_tree (v.Name n) = name_tree n.items
 event_tree (v.Terms x xs) =
-    both (leaf (a_mark m.Open)) (closed_tree (both (event_expr_tree x) (row_of (map other_event_tree xs.items))))
+    both (leaf (a_mark m.Open)) (closed_tree (both (event_expr_tree x.value) (row_of (map other_event_tree xs.items))))
 
 -- a name of a declaration of a named block
 abbrev pub local_tree : Local → Tree
@@ -401,14 +401,15 @@ block_tree x xs = down (both (leaf (a_word w.Begin)) (both x (both (row_of xs) (
 -- a statement, where the trees of the inner ones stand in their place
 abbrev pub stmt_step : Stmt-F Tree → Tree
 stmt_step s.Null = down (both (leaf (a_mark m.Semicolon)) empty)
-stmt_step (s.Assign l x) = assigned_tree l (leaf (a_mark m.Assign)) x
-stmt_step (s.Later l v x) = assigned_tree l (later_tree v) x
+stmt_step (s.Assign l x) = assigned_tree l.value (leaf (a_mark m.Assign)) x
+stmt_step (s.Later l v x) = assigned_tree l.value (later_tree v) x.value
 stmt_step (s.Block xs) = block_tree empty xs.items
 stmt_step (s.Named n ds xs) = block_tree (block_head_tree n.items ds.items) xs.items
-stmt_step (s.If c x o) = down (both (leaf (a_word w.If)) (guarded_tree (expr_tree c) (both x.value (else_tree o))))
+stmt_step (s.If c x o) = down (both (leaf (a_word w.If)) (guarded_tree (expr_tree c.value) (both x.value (else_tree o))))
 stmt_step (s.Case kind x items) =
-    down (both (leaf (a_word (case_word kind))) (guarded_tree (expr_tree x) (case_items_tree items.items)))
-stmt_step (s.For l x c k y body) = down (both (leaf (a_word w.For)) (for_tree l x c k y body.value))
+    down (both (leaf (a_word (case_word kind))) (guarded_tree (expr_tree x.value) (case_items_tree items.items)))
+stmt_step (s.For f body) = down (both (leaf (a_word w.For))
+    (for_tree f.value.first.0 f.value.first.1 f.value.condition f.value.step.0 f.value.step.1 body.value))
 stmt_step (s.While c x) = down (both (leaf (a_word w.While)) (guarded_tree (expr_tree c) x.value))
 stmt_step (s.Repeat c x) = down (both (leaf (a_word w.Repeat)) (guarded_tree (expr_tree c) x.value))
 stmt_step (s.Forever x) = down (both (leaf (a_word w.Forever)) x.value)

@@ -7,8 +7,8 @@ mod tree;
 pub use law::{names_are_tokens, one_source, one_tree, plain_reading, tables_agree};
 pub use tree::{
     Argument, CaseLabel, Connection, Connections, Constant, Declarator, DelayValue, Direction,
-    DumpArgument, DumpTask, EventControl, EventExpr, Expr, Form, HeaderParameter, Instance, Item,
-    Left, Local, LocalDeclaration, LoopHeader, Module, ModuleItem, NetAssignment, ParameterForm,
-    PartSelect, Port, PortForm, PortKind, PrintArguments, PrintTask, Range, Separator, Source,
-    Stmt,
+    DumpArgument, DumpTask, EventControl, EventExpr, Expr, ForHeader, Form, HeaderParameter,
+    Instance, Item, Left, Local, LocalDeclaration, LoopHeader, Module, ModuleItem, NetAssignment,
+    ParameterForm, PartSelect, Port, PortForm, PortKind, PrintArguments, PrintTask, Range,
+    Separator, Source, Stmt,
 };

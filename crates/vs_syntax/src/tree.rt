@@ -230,7 +230,7 @@ pub enum DelayValue {
     /// A name.
     Name(Vec<u8>),
     /// An expression in parentheses.
-    Group(Expr),
+    Group(Box<Expr>),
 }
 
 /// A term of an event control (IEEE 1364-2005, clause 9.7.2).
@@ -263,7 +263,7 @@ pub enum EventControl {
     /// A name.
     Name(Vec<u8>),
     /// Terms in parentheses: the first, and each other one with what stands before it.
-    Terms(EventExpr, Vec<(Separator, EventExpr)>),
+    Terms(Box<EventExpr>, Vec<(Separator, EventExpr)>),
 }
 
 /// What stands before the statement of a `case` item (IEEE 1364-2005, clause 9.5).
@@ -337,28 +337,40 @@ pub enum DumpArgument {
     /// A text, by its own bytes.
     Text(Vec<u8>),
     /// An expression; its names aren't looked up.
-    Value(Expr),
+    Value(Box<Expr>),
 }
 
-/// A statement (IEEE 1364-2005, clause A.6.4).
+/// What stands in the parentheses of a `for` statement, `(first; condition; step)` (IEEE 1364-2005, clause 9.6).
+#[derive(Drop)]
+pub struct ForHeader {
+    /// The two sides of the first assignment.
+    pub first: (Left, Expr),
+    /// The condition.
+    pub condition: Expr,
+    /// The two sides of the second assignment.
+    pub step: (Left, Expr),
+}
+
+/// A statement (IEEE 1364-2005, clause A.6.4). What is large in one form of it stands in a box: each takes 80 bytes, and a block is a
+/// list of them.
 #[derive(Drop)]
 pub enum Stmt {
     /// `;` alone.
     Null,
     /// A blocking assignment: its two sides (clause 9.2.1).
-    Assign(Left, Expr),
+    Assign(Box<Left>, Expr),
     /// A nonblocking assignment: its left side, its delay, where it has one, and its right side (clause 9.2.2).
-    Later(Left, Option<DelayValue>, Expr),
+    Later(Box<Left>, Option<DelayValue>, Box<Expr>),
     /// `begin`, statements and `end` (clause 9.8.1).
     Block(Vec<Stmt>),
     /// `begin`, a colon and the bytes of a name, declarations, statements and `end` (clause 9.8.3).
     Named(Vec<u8>, Vec<LocalDeclaration>, Vec<Stmt>),
     /// `if`: the condition, the statement behind it, and that behind `else`, where there is one (clause 9.4).
-    If(Expr, Box<Stmt>, Option<Box<Stmt>>),
+    If(Box<Expr>, Box<Stmt>, Option<Box<Stmt>>),
     /// `case`, `casez` or `casex`: the expression, and the items in the order of the text, of which there is at least one (clause 9.5).
-    Case(CaseKind, Expr, Vec<(CaseLabel, Stmt)>),
-    /// `for`: the two sides of the first assignment, the condition, the two sides of the second assignment, and the statement (clause 9.6).
-    For(Left, Expr, Expr, Left, Expr, Box<Stmt>),
+    Case(CaseKind, Box<Expr>, Vec<(CaseLabel, Stmt)>),
+    /// `for`: what stands in its parentheses, and the statement (clause 9.6).
+    For(Box<ForHeader>, Box<Stmt>),
     /// `while`: the condition and the statement (clause 9.6).
     While(Expr, Box<Stmt>),
     /// `repeat`: the count and the statement (clause 9.6).

@@ -20,6 +20,3 @@ pub use law::EventQueue;
 pub use list::ListQueue;
 pub use timing::{Full, Memory, Timed};
 pub use wheel_queue::Wheel;
-
-#[cfg(test)]
-mod tests;

@@ -1,5 +1,5 @@
 //! Sinks: what a text is written to.
-ghost use Rattle.std.specs.Prelude.{◌≡◌, ℕ, List, Option, OnOk, OnErr, is_err};
+ghost use Rattle.std.specs.Prelude.{◌≡◌, ℕ, List, None, Option, OnOk, OnErr, is_err, true};
 ghost use Rattle.std.specs.Io.{WritesAtMost};
 ghost use Rattle.std.specs.Io.KnownBytes.{Appends, WriteAppends};
 ghost use Rattle.vs_vcd.specs.Sinks.{one_more, is_failure, failed_after, AppendsPart};
@@ -28,6 +28,13 @@ pub trait Sink {
     /// How many writes failed, or took no byte of a piece that wasn't empty. It stays at `u64::MAX`.
     fn failures(&self) -> u64
         ensures { result ≡ failed self.now };
+
+    /// Whether it is known to keep nothing: then it stands for no known bytes, and nothing need be written to it.
+    fn keeps_nothing(&self) -> bool
+        ensures { result ≡ true → bytes self.now ≡ None }
+    {
+        false
+    }
 }
 
 /// A writer whose failed writes are counted. It stands for the bytes that the writer holds, where the writer tells them.

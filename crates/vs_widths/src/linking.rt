@@ -186,7 +186,7 @@ fn first_tested(
     ensures { IfOk result (λ y. IsTested left shape link right y) }
 {
     let first = Form::Own(shape, Box::new(alloc, left)?);
-    let mut links = Vec::new(alloc);
+    let mut links = Vec::with_capacity(alloc, 1)?;
     links.push((link, right))?;
     Ok(Form::Tests(Box::new(alloc, first)?, links))
 }

@@ -29,7 +29,7 @@ use Rattle.vs_elaborate.specs.declared.frames.Frame.{Frame}
 use Rattle.vs_elaborate.specs.Drivers.{driver_fault, port_driver_fault}
 use Rattle.vs_elaborate.specs.Faults.{HasFault, HasPortFault}
 use Rattle.vs_elaborate.specs.DesignOf.{PartOf, port_part, parts_from, assigns_of, processes_of, IsProcess, IsAssign}
-use Rattle.vs_elaborate.specs.passes.Marks.{SharesBit}
+use Rattle.vs_marks.specs.Marks.{SharesBit}
 
 -- ---- frames
 

@@ -5,11 +5,11 @@ use Rattle.vs_bodies.proofs.CallLemmas.{arguments_none, arguments_more, argument
 use Rattle.vs_bodies.proofs.calls.arguments.Goals as goal
 
 pub loop-one-init : goal.loop-one-init
-loop-one-init c = arguments_none (meaning_of c.args.names.now) c.new-done.result.items c.new-done.ensures.items
+loop-one-init c = arguments_none (meaning_of c.args.names.now) c.in_ok-done.done.items c.in_ok-done.ensures.items
 
 pub returns-in_err-value : goal.returns-in_err-value
 returns-in_err-value c =
-    let p = err_from_is_err_and c.from_residual.result c.from_residual.ensures.1 in
+    let p = err_from_is_err_and c.from_residual-in_err-value.result c.from_residual-in_err-value.ensures.1 in
     rw (p.1, p.2) (argument_refused (meaning_of c.args.names.now) c.args.all.now c.loop-one.one-index c.one-item.result c.in_err-value.field-0.0 (omega arith) c.one-item.is c.in_err-value.ensures)
 
 pub loop-one-preserved : goal.loop-one-preserved

@@ -6,7 +6,7 @@ use Rattle.vs_bodies.proofs.cases.values.Goals as goal
 
 pub loop-e-init : goal.loop-e-init
 loop-e-init c =
-    values_first (meaning_of c.args.names.now) c.args.shape.width c.args.shape.signed c.args.first.now c.args.others.now c.in_ok-one.one c.new-done.result.items _ c.new-done.ensures.items c.in_ok-push.ensures.items c.in_ok-one.ensures.typed
+    values_first (meaning_of c.args.names.now) c.args.shape.width c.args.shape.signed c.args.first.now c.args.others.now c.in_ok-one.one c.in_ok-done.done.items _ c.in_ok-done.ensures.items c.in_ok-push.ensures.items c.in_ok-one.ensures.typed
 
 pub returns-in_err-one-2 : goal.returns-in_err-one-2
 returns-in_err-one-2 c =

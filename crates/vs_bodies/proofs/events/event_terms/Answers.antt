@@ -11,8 +11,8 @@ returns-in_ok-level_terms-in-GroupedStar c =
 
 pub returns-in_ok-push-in-Name : goal.returns-in_ok-push-in-Name
 returns-in_ok-push-in-Name c =
-    rw c.in-Name.is (events_name (meaning_of c.args.names.now) c.args.body.now c.in-Name.name c.deref.result.now c.in_ok-one-in-Name.one c.new-done.result.items c.push.new.self.items c.deref.ensures.value c.new-done.ensures.items c.in_ok-push-in-Name.ensures.items c.in_ok-one-in-Name.ensures)
+    rw c.in-Name.is (events_name (meaning_of c.args.names.now) c.args.body.now c.in-Name.name c.deref.result.now c.in_ok-one-in-Name.one c.in_ok-done-in-Name.done.items c.push.new.self.items c.deref.ensures.value c.in_ok-done-in-Name.ensures.items c.in_ok-push-in-Name.ensures.items c.in_ok-one-in-Name.ensures)
 
 pub returns-in-Terms : goal.returns-in-Terms
 returns-in-Terms c =
-    rw c.in-Terms.is (events_terms (meaning_of c.args.names.now) c.args.body.now c.in-Terms.first c.in-Terms.others c.deref-in-Terms.result.now c.terms.result c.deref-in-Terms.ensures.value c.terms.ensures)
+    rw c.in-Terms.is (events_terms (meaning_of c.args.names.now) c.args.body.now c.in-Terms.first c.in-Terms.others c.deref-in-Terms-2.result.now c.terms.result c.deref-in-Terms-2.ensures.value (rw c.deref-in-Terms.ensures at c.terms.ensures))

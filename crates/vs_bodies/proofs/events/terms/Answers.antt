@@ -5,7 +5,7 @@ use Rattle.vs_bodies.proofs.EventLemmas.{terms_first, terms_more, terms_all, ter
 use Rattle.vs_bodies.proofs.events.terms.Goals as goal
 
 pub loop-t-init : goal.loop-t-init
-loop-t-init c = terms_first (meaning_of c.args.names.now) c.args.first.now c.args.others.now c.in_ok-one.one c.new-done.result.items _ c.new-done.ensures.items c.in_ok-push.ensures.items c.in_ok-one.ensures
+loop-t-init c = terms_first (meaning_of c.args.names.now) c.args.first.now c.args.others.now c.in_ok-one.one c.in_ok-done.done.items _ c.in_ok-done.ensures.items c.in_ok-push.ensures.items c.in_ok-one.ensures
 
 pub returns-in_err-one-2 : goal.returns-in_err-one-2
 returns-in_err-one-2 c =

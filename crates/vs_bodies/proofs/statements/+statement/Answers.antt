@@ -5,7 +5,7 @@ use Rattle.vs_syntax.specs.declared.tree.Stmt.{size-Stmt}
 use Rattle.vs_syntax.specs.declared.tree.Stmt.TheVariants as s
 use Rattle.vs_scopes.specs.Printed.{plainly}
 use Rattle.vs_bodies.proofs.BlockLemmas.{got, placed_inside, site_inside, ratio_inside, names_at, inside_free, inside_fails, below_deeper}
-use Rattle.vs_bodies.proofs.DepthLemmas.{items_depth, items_falls}
+use Rattle.vs_bodies.proofs.DepthLemmas.{items_depth, items_falls, item_within}
 use Rattle.vs_bodies.proofs.StatementLemmas.{assign_refused, begin_refused, behind_overfull, behind_refused, block_refused, case_overfull, case_refused_by, delay_inner, delay_refused, dump_refused, else_refused, event_inner, event_refused, finish_refused, forever_inner, if_refused, item_refused, items_refused, label_refused, listed_all, listed_more, listed_none, named_refused, null_refused, otherwise_none, otherwise_some, repeat_inner, repeat_refused, stated_all, stated_more, stated_none, statement_refused, states_Assign, states_Block, states_Case, states_Delay, states_Dump, states_Event, states_Finish, states_For, states_Forever, states_If, states_Named, states_Null, states_Repeat, states_While, states_behind, step_refused, test_refused, then_refused, turn_refused, while_inner, while_refused}
 use Rattle.vs_bodies.proofs.statements.+statement.Goals as goal
 
@@ -20,12 +20,12 @@ statement-returns-in_err-number-in-Null-clause-answer t c envs p v =
 
 pub statement-returns-in_ok-number-in-Assign-clause-answer : goal.statement-returns-in_ok-number-in-Assign-clause-answer
 statement-returns-in_ok-number-in-Assign-clause-answer t c envs p v =
-    rw c.in-Assign.is (states_Assign c.args.view.now.list.now envs p c.args.next.now c.in_ok-number-in-Assign.number _ c.in-Assign.left c.in-Assign.e c.in_ok-number-in-Assign.target c.in_ok-number-in-Assign.source (c.in_ok-number-in-Assign.ensures.answer envs p v))
+    rw c.in-Assign.is (states_Assign c.args.view.now.list.now envs p c.args.next.now c.in_ok-number-in-Assign.number _ c.in-Assign.left c.in-Assign.e c.in_ok-number-in-Assign.target c.in_ok-number-in-Assign.source (rw c.deref.ensures at (c.in_ok-number-in-Assign.ensures.answer envs p v)))
 
 pub statement-returns-in_err-number-in-Assign-clause-answer : goal.statement-returns-in_err-number-in-Assign-clause-answer
 statement-returns-in_err-number-in-Assign-clause-answer t c envs p v =
     let q = err_from_is_err_and c.from_residual-in_err-number-in-Assign.result c.from_residual-in_err-number-in-Assign.ensures.1 in
-    rw (q.1, q.2, c.in-Assign.is) (assign_refused c.args.view.now.list.now envs p c.args.next.now c.in-Assign.left c.in-Assign.e c.in_err-number-in-Assign.field-0.0 (c.in_err-number-in-Assign.ensures.answer envs p v))
+    rw (q.1, q.2, c.in-Assign.is) (assign_refused c.args.view.now.list.now envs p c.args.next.now c.in-Assign.left c.in-Assign.e c.in_err-number-in-Assign.field-0.0 (rw c.deref.ensures at (c.in_err-number-in-Assign.ensures.answer envs p v)))
 
 pub statement-returns-in-Later-clause-answer : goal.statement-returns-in-Later-clause-answer
 statement-returns-in-Later-clause-answer t c envs p v = rw c.in-Later.is (c.later.ensures.answer envs p v)
@@ -53,12 +53,12 @@ statement-returns-in_err-number-in-Dump-clause-answer t c envs p v =
 
 pub statement-returns-in_ok-inner-in-Block-clause-answer : goal.statement-returns-in_ok-inner-in-Block-clause-answer
 statement-returns-in_ok-inner-in-Block-clause-answer t c envs p v =
-    rw c.in-Block.is (states_Block c.args.view.now.list.now envs p c.args.next.now _ c.in-Block.inner _ c.in_ok-inner-in-Block.inner c.deref.ensures.value (c.in_ok-inner-in-Block.ensures.answer envs p v))
+    rw c.in-Block.is (states_Block c.args.view.now.list.now envs p c.args.next.now _ c.in-Block.inner _ c.in_ok-inner-in-Block.inner c.deref-in-Block.ensures.value (c.in_ok-inner-in-Block.ensures.answer envs p v))
 
 pub statement-returns-in_err-inner-in-Block-clause-answer : goal.statement-returns-in_err-inner-in-Block-clause-answer
 statement-returns-in_err-inner-in-Block-clause-answer t c envs p v =
     let q = err_from_is_err_and c.from_residual-in_err-inner-in-Block.result c.from_residual-in_err-inner-in-Block.ensures.1 in
-    rw (q.1, q.2, c.in-Block.is) (block_refused c.args.view.now.list.now envs p c.args.next.now c.in-Block.inner _ c.in_err-inner-in-Block.field-0.0 c.deref.ensures.value (c.in_err-inner-in-Block.ensures.answer envs p v))
+    rw (q.1, q.2, c.in-Block.is) (block_refused c.args.view.now.list.now envs p c.args.next.now c.in-Block.inner _ c.in_err-inner-in-Block.field-0.0 c.deref-in-Block.ensures.value (c.in_err-inner-in-Block.ensures.answer envs p v))
 
 pub statement-returns-in_ok-inner-in-Named-clause-answer : goal.statement-returns-in_ok-inner-in-Named-clause-answer
 statement-returns-in_ok-inner-in-Named-clause-answer t c envs p v =
@@ -82,11 +82,11 @@ statement-returns-in_err-other-in-If-clause-answer t c envs p v =
 pub statement-returns-in_err-condition-in-If-clause-answer : goal.statement-returns-in_err-condition-in-If-clause-answer
 statement-returns-in_err-condition-in-If-clause-answer t c envs p v =
     let q = err_from_is_err_and c.from_residual-in_err-condition-in-If.result c.from_residual-in_err-condition-in-If.ensures.1 in
-    rw (q.1, q.2, c.in-If.is) (if_refused c.args.view.now.list.now envs p c.args.next.now c.in-If.e c.in-If.x c.in-If.other c.in_err-condition-in-If.field-0.0 (rw v.names at c.in_err-condition-in-If.ensures))
+    rw (q.1, q.2, c.in-If.is) (if_refused c.args.view.now.list.now envs p c.args.next.now c.in-If.e c.in-If.x c.in-If.other c.in_err-condition-in-If.field-0.0 (rw (v.names, c.deref-in-If-2.ensures) at c.in_err-condition-in-If.ensures))
 
 pub statement-returns-in_ok-second-in-If-clause-answer : goal.statement-returns-in_ok-second-in-If-clause-answer
 statement-returns-in_ok-second-in-If-clause-answer t c envs p v =
-    rw c.in-If.is (states_If c.args.view.now.list.now envs p c.args.next.now c.in_ok-number-in-If.number _ _ c.in-If.e _ c.in_ok-condition-in-If.condition c.in-If.x c.in-If.other c.in_ok-first-in-If.first c.in_ok-second-in-If.second _ c.in_ok-number-in-If.then c.in_ok-other-in-If.other (c.in_ok-number-in-If.ensures.answer envs p v) (c.in_ok-other-in-If.ensures.answer envs p v) (rw v.names at c.in_ok-condition-in-If.ensures) c.deref-in-If.ensures c.in_ok-first-in-If.ensures.ok c.in_ok-second-in-If.ensures.ok)
+    rw c.in-If.is (states_If c.args.view.now.list.now envs p c.args.next.now c.in_ok-number-in-If.number _ _ c.in-If.e _ c.in_ok-condition-in-If.condition c.in-If.x c.in-If.other c.in_ok-first-in-If.first c.in_ok-second-in-If.second _ c.in_ok-number-in-If.then c.in_ok-other-in-If.other (c.in_ok-number-in-If.ensures.answer envs p v) (c.in_ok-other-in-If.ensures.answer envs p v) (rw (v.names, c.deref-in-If-2.ensures) at c.in_ok-condition-in-If.ensures) c.deref-in-If.ensures c.in_ok-first-in-If.ensures.ok c.in_ok-second-in-If.ensures.ok)
 
 pub statement-returns-in_err-number-in-While-clause-answer : goal.statement-returns-in_err-number-in-While-clause-answer
 statement-returns-in_err-number-in-While-clause-answer t c envs p v =
@@ -172,7 +172,7 @@ case_statement-returns-in_err-number-clause-answer t c envs p v same seen =
 pub case_statement-returns-in_err-shape-clause-answer : goal.case_statement-returns-in_err-shape-clause-answer
 case_statement-returns-in_err-shape-clause-answer t c envs p v same seen =
     let q = err_from_is_err_and c.from_residual-in_err-shape.result c.from_residual-in_err-shape.ensures.1 in
-    rw (q.1, q.2) (case_refused_by c.args.view.now.list.now envs p c.args.next.now c.args.kind c.args.e.now v _ c.in_err-shape.field-0.0 (sym same) (rw seen.names at c.in_err-shape.ensures))
+    rw (q.1, q.2) (case_refused_by c.args.view.now.list.now envs p c.args.next.now c.args.kind c.args.e.now v _ c.in_err-shape.field-0.0 (sym same) (rw (seen.names, c.deref.ensures) at c.in_err-shape.ensures))
 
 pub case_statement-returns-in_err-done-clause-answer : goal.case_statement-returns-in_err-done-clause-answer
 case_statement-returns-in_err-done-clause-answer t c envs p v same seen =
@@ -181,31 +181,31 @@ case_statement-returns-in_err-done-clause-answer t c envs p v same seen =
 
 pub case_statement-returns-clause-answer : goal.case_statement-returns-clause-answer
 case_statement-returns-clause-answer t c envs p v same seen =
-    states_Case c.args.view.now.list.now envs p c.args.next.now c.in_ok-number.number _ _ c.args.kind c.args.e.now v c.in_ok-shape.shape c.in_ok-shape.selector c.in_ok-done.done _ _ c.in_ok-number.ensures (rw seen.names at c.in_ok-shape.ensures) (c.in_ok-done.ensures.answer envs p seen) (sym same) (sym same)
+    states_Case c.args.view.now.list.now envs p c.args.next.now c.in_ok-number.number _ _ c.args.kind c.args.e.now v c.in_ok-shape.shape c.in_ok-shape.selector c.in_ok-done.done _ _ c.in_ok-number.ensures (rw (seen.names, c.deref.ensures) at c.in_ok-shape.ensures) (c.in_ok-done.ensures.answer envs p seen) (sym same) (sym same)
 
 pub statement-returns-in_err-number-in-For-clause-answer : goal.statement-returns-in_err-number-in-For-clause-answer
 statement-returns-in_err-number-in-For-clause-answer t c envs p v =
     let q = err_from_is_err_and c.from_residual-in_err-number-in-For.result c.from_residual-in_err-number-in-For.ensures.1 in
-    rw (q.1, q.2, c.in-For.is) (begin_refused c.args.view.now.list.now envs p c.args.next.now c.in-For.left c.in-For.other c.in-For.first c.in-For.e c.in-For.step c.in-For.x c.in_err-number-in-For.field-0.0 (c.in_err-number-in-For.ensures.answer envs p v))
+    rw (q.1, q.2, c.in-For.is) (begin_refused c.args.view.now.list.now envs p c.args.next.now c.in-For.head c.in-For.x c.in_err-number-in-For.field-0.0 (rw (c.deref-in-For.ensures, c.deref-in-For-2.ensures) at (c.in_err-number-in-For.ensures.answer envs p v)))
 
 pub statement-returns-in_err-number-in-For-2-clause-answer : goal.statement-returns-in_err-number-in-For-2-clause-answer
 statement-returns-in_err-number-in-For-2-clause-answer t c envs p v =
     let q = err_from_is_err_and c.from_residual-in_err-number-in-For-2.result c.from_residual-in_err-number-in-For-2.ensures.1 in
-    rw (q.1, q.2, c.in-For.is) (turn_refused c.args.view.now.list.now envs p c.args.next.now c.in-For.left c.in-For.other c.in-For.first c.in-For.e c.in-For.step c.in-For.x _ _ c.in_err-number-in-For-2.field-0.0 (c.in_ok-number-in-For.ensures.answer envs p v).1.next_is c.deref-in-For.ensures (c.in_err-number-in-For-2.ensures.answer envs p v))
+    rw (q.1, q.2, c.in-For.is) (turn_refused c.args.view.now.list.now envs p c.args.next.now c.in-For.head c.in-For.x _ _ c.in_err-number-in-For-2.field-0.0 (c.in_ok-number-in-For.ensures.answer envs p v).1.next_is c.deref-in-For-3.ensures (c.in_err-number-in-For-2.ensures.answer envs p v))
 
 pub statement-returns-in_err-condition-in-For-clause-answer : goal.statement-returns-in_err-condition-in-For-clause-answer
 statement-returns-in_err-condition-in-For-clause-answer t c envs p v =
     let q = err_from_is_err_and c.from_residual-in_err-condition-in-For.result c.from_residual-in_err-condition-in-For.ensures.1 in
-    rw (q.1, q.2, c.in-For.is) (test_refused c.args.view.now.list.now envs p c.args.next.now c.in-For.left c.in-For.other c.in-For.first c.in-For.e c.in-For.step c.in-For.x c.in_err-condition-in-For.field-0.0 (rw v.names at c.in_err-condition-in-For.ensures))
+    rw (q.1, q.2, c.in-For.is) (test_refused c.args.view.now.list.now envs p c.args.next.now c.in-For.head c.in-For.x c.in_err-condition-in-For.field-0.0 (rw (v.names, c.deref-in-For-4.ensures) at c.in_err-condition-in-For.ensures))
 
 pub statement-returns-in_err-last-in-For-clause-answer : goal.statement-returns-in_err-last-in-For-clause-answer
 statement-returns-in_err-last-in-For-clause-answer t c envs p v =
     let q = err_from_is_err_and c.from_residual-in_err-last-in-For.result c.from_residual-in_err-last-in-For.ensures.1 in
-    rw (q.1, q.2, c.in-For.is) (step_refused c.args.view.now.list.now envs p c.args.next.now c.in-For.left c.in-For.other c.in-For.first c.in-For.e c.in-For.step c.in-For.x _ _ _ c.in_err-last-in-For.field-0.0 (c.in_ok-number-in-For.ensures.answer envs p v).1.next_is (c.in_ok-number-in-For-2.ensures.answer envs p v).1.1.next_is c.deref-in-For.ensures (c.in_err-last-in-For.ensures.answer envs p v))
+    rw (q.1, q.2, c.in-For.is) (step_refused c.args.view.now.list.now envs p c.args.next.now c.in-For.head c.in-For.x _ _ _ c.in_err-last-in-For.field-0.0 (c.in_ok-number-in-For.ensures.answer envs p v).1.next_is (c.in_ok-number-in-For-2.ensures.answer envs p v).1.1.next_is c.deref-in-For-3.ensures (rw (c.deref-in-For-5.ensures, c.deref-in-For-6.ensures) at (c.in_err-last-in-For.ensures.answer envs p v)))
 
 pub statement-returns-in_ok-repeated-in-For-clause-answer : goal.statement-returns-in_ok-repeated-in-For-clause-answer
 statement-returns-in_ok-repeated-in-For-clause-answer t c envs p v =
-    rw c.in-For.is (states_For c.args.view.now.list.now envs p c.args.next.now _ _ _ _ _ _ c.in-For.left c.in-For.other c.in-For.first c.in-For.e c.in-For.step c.in-For.x _ _ _ _ _ _ _ _ c.in_ok-repeated-in-For.field-0 (c.in_ok-number-in-For.ensures.answer envs p v) (c.in_ok-number-in-For-2.ensures.answer envs p v) (rw v.names at c.in_ok-condition-in-For.ensures) (c.in_ok-last-in-For.ensures.answer envs p v) c.deref-in-For.ensures c.in_ok-repeated-in-For.ensures)
+    rw c.in-For.is (states_For c.args.view.now.list.now envs p c.args.next.now _ _ _ _ _ _ c.in-For.head c.in-For.x _ _ _ _ _ _ _ _ c.in_ok-repeated-in-For.field-0 (rw (c.deref-in-For.ensures, c.deref-in-For-2.ensures) at (c.in_ok-number-in-For.ensures.answer envs p v)) (c.in_ok-number-in-For-2.ensures.answer envs p v) (rw (v.names, c.deref-in-For-4.ensures) at c.in_ok-condition-in-For.ensures) (rw (c.deref-in-For-5.ensures, c.deref-in-For-6.ensures) at (c.in_ok-last-in-For.ensures.answer envs p v)) c.deref-in-For-3.ensures c.in_ok-repeated-in-For.ensures)
 
 pub behind-returns-clause-answer : goal.behind-returns-clause-answer
 behind-returns-clause-answer t c envs p v = states_behind c.args.view.now.list.now envs p c.args.next.now c.in_ok-number.number _ _ c.args.s.now c.in_ok-inner.inner c.in_ok-number.ensures (c.in_ok-inner.ensures.answer envs p v)
@@ -227,11 +227,11 @@ pub otherwise-returns-in-None-clause-answer : goal.otherwise-returns-in-None-cla
 otherwise-returns-in-None-clause-answer t c envs p v = rw c.in-None.is (otherwise_none c.args.view.now.list.now envs p c.args.next.now c.new.result (omega arith) c.new.ensures.items)
 
 pub statements-loop-s-init : goal.statements-loop-s-init
-statements-loop-s-init t c = λ envs p v. stated_none c.args.view.now.list.now envs p c.args.next.now c.new-done.result.items c.new-done.ensures.items
+statements-loop-s-init t c = λ envs p v. stated_none c.args.view.now.list.now envs p c.args.next.now c.in_ok-done.done.items c.in_ok-done.ensures.items
 
 pub statements-returns-in_err-one-clause-answer : goal.statements-returns-in_err-one-clause-answer
 statements-returns-in_err-one-clause-answer t c envs p v =
-    let q = err_from_is_err_and c.from_residual.result c.from_residual.ensures.1 in
+    let q = err_from_is_err_and c.from_residual-in_err-one.result c.from_residual-in_err-one.ensures.1 in
     rw (q.1, q.2) (statement_refused c.args.view.now.list.now envs p c.args.next.now _ c.args.all.now c.loop-s.s-index c.s-item.result c.in_err-one.field-0.0 (omega arith) c.s-item.is (c.loop-s.invariant envs p v).means.next_is (c.in_err-one.ensures.answer envs p v))
 
 pub statements-loop-s-preserved : goal.statements-loop-s-preserved
@@ -242,11 +242,11 @@ pub statements-returns-clause-answer : goal.statements-returns-clause-answer
 statements-returns-clause-answer t c envs p v = stated_all c.args.view.now.list.now envs p c.args.next.now _ c.args.all.now c.loop-s.s-index _ (omega arith) (omega arith) (c.loop-s.invariant envs p v)
 
 pub items-loop-label-init : goal.items-loop-label-init
-items-loop-label-init t c = λ envs p v. listed_none c.args.view.now.list.now envs p c.args.shape c.args.next.now c.new-done.result.items c.new-done.ensures.items
+items-loop-label-init t c = λ envs p v. listed_none c.args.view.now.list.now envs p c.args.shape c.args.next.now c.in_ok-done.done.items c.in_ok-done.ensures.items
 
 pub items-returns-in_err-values-clause-answer : goal.items-returns-in_err-values-clause-answer
 items-returns-in_err-values-clause-answer t c envs p v =
-    let q = err_from_is_err_and c.from_residual.result c.from_residual.ensures.1 in
+    let q = err_from_is_err_and c.from_residual-in_err-values.result c.from_residual-in_err-values.ensures.1 in
     rw (q.1, q.2) (label_refused c.args.view.now.list.now envs p c.args.next.now c.args.all.now c.loop-label.label-index c.loop-label-item.result c.in_err-values.field-0.0 (omega arith) c.loop-label-item.is (rw v.names at c.in_err-values.ensures))
 
 pub items-returns-in_err-one-clause-answer : goal.items-returns-in_err-one-clause-answer
@@ -310,3 +310,8 @@ block-returns-clause-below t c =
     let found = sym c.in-Some.ensures in
     let placed = placed_inside list here outer c.args.name.now place c.requires at found in
     rw c.deeper.ensures (below_deeper (length list) place c.in-Err.fault placed.within c.in-Err.ensures.below)
+
+pub items-statement-requires : goal.items-statement-requires
+items-statement-requires t c =
+    let below = item_within c.args.all.now c.loop-label.label-index c.loop-label-item.result (omega arith) c.loop-label-item.is in
+    (omega arith, c.requires)

@@ -10,7 +10,7 @@ returns c = record {
   inner = c.push-2.new.self;
   body = c.in_ok-body.body;
   whole = refl;
-  parts = two_pushed _ _ _ _ _ c.new-all.ensures.items c.in_ok-push-3.ensures.items c.in_ok-push-4.ensures.items;
+  parts = two_pushed _ _ _ _ _ c.in_ok-all.ensures.items c.in_ok-push-3.ensures.items c.in_ok-push-4.ensures.items;
   turn = c.in_ok-body.ensures.ok;
-  turns = two_pushed _ _ _ _ _ c.new-inner.ensures.items c.in_ok-push.ensures.items c.in_ok-push-2.ensures.items;
+  turns = two_pushed _ _ _ _ _ c.in_ok-inner.ensures.items c.in_ok-push.ensures.items c.in_ok-push-2.ensures.items;
 }

@@ -1,6 +1,7 @@
-use Rattle.std.proofs.Common.{ap, ◌∙◌, ◌∷◌, [], length, arith, refl, slice_get, List, None}
+use Rattle.std.proofs.Common.{ap, ◌∙◌, ◌∷◌, [], length, arith, refl, slice_get, List}
 use Rattle.std.proofs.lemmas.List.{length-append}
 use Rattle.vs_flatcode.specs.declared.draft.Op.{Op}
+use Rattle.vs_flatcode.specs.declared.draft.Extra.TheVariants.{Nothing}
 use Rattle.vs_flatcode.proofs.Lists.{at_seam}
 use Rattle.vs_flatcode.proofs.Drafts.{longer_put}
 use Rattle.vs_flatcode.proofs.Numbers.{adds_put}
@@ -8,7 +9,7 @@ use Rattle.vs_flatcode.proofs.draft.put_head.Goals as goal
 
 pub returns-clause-head : goal.returns-clause-head
 returns-clause-head c =
-    let op : Op = record { task = c.args.task; behind = c.args.next; first = c.args.next; second = c.args.next; starts = c.new.result; counter = c.args.depth; format = None } in
+    let op : Op = record { task = c.args.task; behind = c.args.next; first = c.args.next; second = c.args.next; counter = c.args.depth; extra = Nothing } in
     record {
       more = longer_put c.args.draft.now c.put.new.draft op c.requires.ready.linked c.in_ok-place.ensures.ops (omega (arith, c.in_ok-place.ensures.counters)) c.requires.ready.within;
       counters = c.in_ok-place.ensures.counters;
@@ -23,5 +24,5 @@ returns-clause-head c =
 
 pub returns-clause-number : goal.returns-clause-number
 returns-clause-number c =
-    let op : Op = record { task = c.args.task; behind = c.args.next; first = c.args.next; second = c.args.next; starts = c.new.result; counter = c.args.depth; format = None } in
+    let op : Op = record { task = c.args.task; behind = c.args.next; first = c.args.next; second = c.args.next; counter = c.args.depth; extra = Nothing } in
     adds_put c.args.draft.now c.put.new.draft op c.in_ok-place.ensures.ops

@@ -1,16 +1,14 @@
 use Rattle.std.proofs.Common.{subst}
 use Rattle.std.specs.Io.KnownBytes.{Appends}
 use Rattle.vs_process.specs.States.{State}
-use Rattle.vs_state.specs.Prints.{made_line}
+use Rattle.vs_state.specs.Prints.{made_line, made_text}
 use Rattle.vs_state.specs.Sources.{has_sources}
 use Rattle.vs_state.specs.Touches.{HasSources}
 use Rattle.vs_state.specs.Waits.{HasTerms}
 use Rattle.vs_state.proofs.TermsLemmas.{has_terms}
 use Rattle.vs_vcd.specs.Sinks.{AppendsPart}
 use Rattle.vs_kernel.specs.Marking.{AreMarked}
-use Rattle.vs_kernel.specs.Prints.{made_text}
 use Rattle.vs_kernel.proofs.MarkingLemmas.{mark_changes}
-use Rattle.vs_kernel.proofs.PrintsLemmas.{given_made}
 use Rattle.vs_kernel.proofs.RunsLemmas.{append_none, on_err}
 use Rattle.vs_kernel.proofs.moves.advance.Goals as goal
 
@@ -23,15 +21,13 @@ make-requires-clause-terms g c = subst (λ (s : State). HasTerms c.args.design.n
 pub returns-clause-marked : goal.returns-clause-marked
 returns-clause-marked g c =
     mark_changes c.args.marks.now.items c.mark_all.new.marks.items c.make.new.changed.items c.args.state.now.store c.make.new.self.store
-    (subst (AreMarked c.args.marks.now.items c.mark_all.new.marks.items) c.deref.ensures.value c.mark_all.ensures.marked) c.in_ok-line.ensures.covers
+    (subst (AreMarked c.args.marks.now.items c.mark_all.new.marks.items) c.deref.ensures.value c.mark_all.ensures.marked) c.in_ok-make.ensures.covers
 
 pub returns-clause-printed : goal.returns-clause-printed
-returns-clause-printed g c =
-    subst (Appends (g.L.Sink.bytes c.args.lines.now) (g.L.Sink.bytes c.print.new.lines))
-    (given_made c.in_ok-line.line (made_line c.args.choice c.args.state.now) c.in_ok-line.ensures.line) c.in_ok-print.ensures.ok
+returns-clause-printed g c = subst (Appends (g.L.Sink.bytes c.args.lines.now) (g.L.Sink.bytes c.print.new.lines)) c.in_ok-make.ensures.line c.in_ok-print.ensures.ok
 
-pub returns-in_err-line-clause-part : goal.returns-in_err-line-clause-part
-returns-in_err-line-clause-part g c =
+pub returns-in_err-make-clause-part : goal.returns-in_err-make-clause-part
+returns-in_err-make-clause-part g c =
     let none : AppendsPart (g.L.Sink.bytes c.args.lines.now) (g.L.Sink.bytes c.args.lines.now) (made_text (made_line c.args.choice c.args.state.now)) =
     (0, append_none (g.L.Sink.bytes c.args.lines.now))
     in
@@ -39,6 +35,4 @@ returns-in_err-line-clause-part g c =
 
 pub returns-in_err-print-clause-part : goal.returns-in_err-print-clause-part
 returns-in_err-print-clause-part g c =
-    on_err _
-    (subst (AppendsPart (g.L.Sink.bytes c.args.lines.now) (g.L.Sink.bytes c.print.new.lines))
-    (given_made c.in_ok-line.line (made_line c.args.choice c.args.state.now) c.in_ok-line.ensures.line) c.in_err-print.ensures.err)
+    on_err _ (subst (AppendsPart (g.L.Sink.bytes c.args.lines.now) (g.L.Sink.bytes c.print.new.lines)) c.in_ok-make.ensures.line c.in_err-print.ensures.err)

@@ -14,6 +14,16 @@ returns-in-Make-clause-covers g c = λ d slots h room.
     covers_on c.args.marks.now.items c.run_updates.new.marks.items c.args.state.now.store c.run_updates.new.state.store h room c.requires.covers
     c.in_ok-taken-in-Make.ensures.marked
 
+pub returns-in-Evaluate-clause-covers : goal.returns-in-Evaluate-clause-covers
+returns-in-Evaluate-clause-covers g c = λ d slots h room.
+    covers_on c.args.marks.now.items c.run_assigns.new.marks.items c.args.state.now.store c.run_assigns.new.state.store h room c.requires.covers
+    c.in_ok-taken-in-Evaluate.ensures.marked
+
+pub returns-in-Propagate-clause-covers : goal.returns-in-Propagate-clause-covers
+returns-in-Propagate-clause-covers g c = λ d slots h room.
+    covers_on c.args.marks.now.items c.run_assigns-in-Propagate.new.marks.items c.args.state.now.store c.run_assigns-in-Propagate.new.state.store h room c.requires.covers
+    c.in_ok-taken-in-Propagate.ensures.marked
+
 pub returns-in_err-inside-clause-err : goal.returns-in_err-inside-clause-err
 returns-in_err-inside-clause-err g c =
     on_err _

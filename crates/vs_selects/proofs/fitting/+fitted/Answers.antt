@@ -9,8 +9,8 @@ fitted-returns-in-Slice t c = rw c.in-Slice.is (fits_Slice c.in-Slice.slice c.ar
 
 pub fitted-returns-in_ok-low-in-Select : goal.fitted-returns-in_ok-low-in-Select
 fitted-returns-in_ok-low-in-Select t c =
-    rw c.in-Select.is (fits_Select c.in-Select.selection c.in-Select.word c.in-Select.low _ _ c.in_ok-word-in-Select.word c.in_ok-low-in-Select.low c.args.shape.width c.args.shape.signed
-    c.deref.ensures c.deref-in-Select.ensures c.in_ok-word-in-Select.ensures c.in_ok-low-in-Select.ensures)
+    rw c.in-Select.is (fits_Select c.in-Select.selection _ c.in-Select.word c.in-Select.low _ _ c.in_ok-word-in-Select.word c.in_ok-low-in-Select.low c.args.shape.width c.args.shape.signed
+    c.deref-in-Select-2.ensures c.deref.ensures c.deref-in-Select.ensures c.in_ok-word-in-Select.ensures c.in_ok-low-in-Select.ensures)
 
 pub fitted-returns-in_ok-links-in-Chain : goal.fitted-returns-in_ok-links-in-Chain
 fitted-returns-in_ok-links-in-Chain t c =

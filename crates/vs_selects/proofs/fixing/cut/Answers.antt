@@ -14,7 +14,8 @@ returns-in-Some c =
     cut_fixed c.args.digits c.select.result c.in-Some.low e z (subst (StandsAlone e.index) c.in-Some.is c.in_ok-low.ensures) c.place_of-place.ensures
     (c.select.ensures ∙ ap (λ y. selected y e.shape.width c.args.digits) (to_z-of_z w64 z z64))
 
-pub returns-in_ok-low-in-None : goal.returns-in_ok-low-in-None
-returns-in_ok-low-in-None c =
+pub returns-in_ok-excerpt-in-None : goal.returns-in_ok-excerpt-in-None
+returns-in_ok-excerpt-in-None c =
     let e = c.args.extent in
-    cut_chosen c.args.digits e _ c.in_ok-low-in-None.low c.in_ok-low-in-None.ensures refl refl refl
+    let o = c.in_ok-excerpt-in-None.ensures.ok in
+    cut_chosen c.args.digits e c.in_ok-excerpt-in-None.excerpt c.in_ok-low-in-None.low c.in_ok-low-in-None.ensures (ap (λ z. z.digits) o) (ap (λ z. z.bits) o) (ap (λ z. z.width) o)

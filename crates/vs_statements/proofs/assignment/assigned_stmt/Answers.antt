@@ -45,4 +45,4 @@ returns-in_err-rest c =
 pub returns : goal.returns
 returns c =
     let h : 2 ≤ c.args.room = c.requires.room in
-    rw c.assigned.ensures (assign_read c.args.room _ _ _ h c.requires.first (gets_seq c.in_ok-target.ensures (gets_seq c.in_ok-timing.ensures (gets_seq c.in_ok-value.ensures (c.in_ok-rest.ensures (c.args.room - 1))))))
+    rw c.in_ok-tree.ensures (assign_read c.args.room _ _ _ h c.requires.first (gets_seq c.in_ok-target.ensures (gets_seq c.in_ok-timing.ensures (gets_seq c.in_ok-value.ensures (c.in_ok-rest.ensures (c.args.room - 1))))))

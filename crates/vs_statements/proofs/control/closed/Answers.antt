@@ -22,4 +22,4 @@ returns-in_err-rest c =
     c.in_err-rest.field-0.0 (c.in_err-rest.ensures c.args.room))
 
 pub returns : goal.returns
-returns c = gets_seq c.in_ok-inner.ensures (c.in_ok-rest.ensures c.args.room)
+returns c = rw c.in_ok-tree.ensures.ok (gets_seq c.in_ok-inner.ensures (c.in_ok-rest.ensures c.args.room))

@@ -22,4 +22,4 @@ returns-in_err-others c =
     c.in_err-others.field-0.0 c.in_err-others.ensures)
 
 pub returns : goal.returns
-returns c = gets_seq c.in_ok-first.ensures c.in_ok-others.ensures
+returns c = rw c.in_ok-term.ensures.ok (gets_seq c.in_ok-first.ensures c.in_ok-others.ensures)

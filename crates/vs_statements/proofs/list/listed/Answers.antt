@@ -30,4 +30,4 @@ returns-in_err-rest g c =
     c.in_err-rest.field-0.0 (c.in_err-rest.ensures c.args.room))
 
 pub returns : goal.returns
-returns g c = listed_read g.T.Element.grammar c.args.room g.T.Element.tree_of _ _ _ _ _ _ _ c.in_ok-first.ensures c.in_ok-all.ensures (pushed_one _ _ _ c.in_ok-push.ensures.items c.new-tree.ensures.items) (c.in_ok-rest.ensures c.args.room)
+returns g c = listed_read g.T.Element.grammar c.args.room g.T.Element.tree_of _ _ _ _ _ _ _ c.in_ok-first.ensures c.in_ok-all.ensures (pushed_one _ _ _ c.in_ok-push.ensures.items c.in_ok-tree.ensures.items) (c.in_ok-rest.ensures c.args.room)

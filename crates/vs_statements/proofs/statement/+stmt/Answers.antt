@@ -122,7 +122,7 @@ conditional-returns-in_err-other t c =
     c.in_err-other.field-0.0 c.in_err-other.ensures)
 
 pub conditional-returns : goal.conditional-returns
-conditional-returns t c = record { inner = _; whole = tree_If _ _ _; gets = (c.in_ok-condition.ensures branches).reads _ _ (gets_seq c.in_ok-inner.ensures c.in_ok-other.ensures) }
+conditional-returns t c = record { inner = _; whole = tree_If _ _ _; gets = rw c.in_ok-test.ensures.ok ((c.in_ok-condition.ensures branches).reads _ _ (gets_seq c.in_ok-inner.ensures c.in_ok-other.ensures)) }
 
 pub alternative-returns-in_default : goal.alternative-returns-in_default
 alternative-returns-in_default t c = gets_absent c.in_default.ensures
@@ -150,7 +150,7 @@ case_stmt-returns-in_err-items t c =
     c.in_err-items.field-0.0 c.in_err-items.ensures)
 
 pub case_stmt-returns : goal.case_stmt-returns
-case_stmt-returns t c = record { inner = _; whole = tree_Case _ _ _; gets = (c.in_ok-subject.ensures case_items).reads _ _ c.in_ok-items.ensures }
+case_stmt-returns t c = record { inner = _; whole = tree_Case _ _ _; gets = rw c.in_ok-operand.ensures.ok ((c.in_ok-subject.ensures case_items).reads _ _ c.in_ok-items.ensures) }
 
 pub case_item-returns-in_err-label : goal.case_item-returns-in_err-label
 case_item-returns-in_err-label t c =
@@ -180,7 +180,7 @@ for_stmt-returns-in_err-inner t c =
     c.in_err-inner.field-0.0 c.in_err-inner.ensures)
 
 pub for_stmt-returns : goal.for_stmt-returns
-for_stmt-returns t c = record { inner = _; whole = tree_For _ _ _ _ _ _; gets = c.in_ok-read.ensures.reads _ _ c.in_ok-inner.ensures }
+for_stmt-returns t c = record { inner = _; whole = tree_For _ _; gets = rw c.in_ok-header.ensures.ok (c.in_ok-read.ensures.reads _ _ c.in_ok-inner.ensures) }
 
 pub guarded_stmt-returns-in_err-condition : goal.guarded_stmt-returns-in_err-condition
 guarded_stmt-returns-in_err-condition t c =

@@ -27,4 +27,4 @@ returns-in_err-value c =
     c.in_err-value.field-0.0 c.in_err-value.ensures)
 
 pub returns : goal.returns
-returns c = dumped_read c.args.room _ _ _ (sym c.begins_text.ensures ∙ c.if-begins_text.false) c.in_ok-value.ensures
+returns c = rw c.in_ok-inner.ensures.ok (dumped_read c.args.room _ _ _ (sym c.begins_text.ensures ∙ c.if-begins_text.false) c.in_ok-value.ensures)

@@ -41,7 +41,7 @@ returns-clause-ok c =
       from = x;
       to = c.step.new.self;
       here = sym (ap (λ (l : List Place). slice_get l c.args.process) c.self.view_is) ∙ here;
-      stepped = c.in_ok-effect.ensures.ok;
+      stepped = c.in_ok-step.ensures.ok;
       set = ap (λ (l : List Place). slice_set l c.args.process c.step.new.self) c.self.view_is;
     }
 
@@ -54,7 +54,7 @@ returns-clause-store c =
     let within : c.args.process < length xs = omega (arith, c.self.inside.items.ok.0, below) in
     let here : slice_get xs c.args.process ≡ Some x = slice_get_read xs (length xs) c.args.process x refl within c.in-Some.ensures.value in
     let found : slice_get c.args.self.now c.args.process ≡ Some x = sym (ap (λ (l : List Place). slice_get l c.args.process) c.self.view_is) ∙ here in
-    c.in_ok-effect.ensures.store ∙ sym (ap (λ (o : Option Place). store_behind store (step_write o store c.args.time)) found)
+    c.in_ok-step.ensures.store ∙ sym (ap (λ (o : Option Place). store_behind store (step_write o store c.args.time)) found)
 
 pub returns-clause-changes : goal.returns-clause-changes
 returns-clause-changes c =
@@ -65,4 +65,4 @@ returns-clause-changes c =
     let within : c.args.process < length xs = omega (arith, c.self.inside.items.ok.0, below) in
     let here : slice_get xs c.args.process ≡ Some x = slice_get_read xs (length xs) c.args.process x refl within c.in-Some.ensures.value in
     let found : slice_get c.args.self.now c.args.process ≡ Some x = sym (ap (λ (l : List Place). slice_get l c.args.process) c.self.view_is) ∙ here in
-    c.in_ok-effect.ensures.changes ∙ sym (ap (λ (o : Option Place). c.args.changes.now.items ++ changes_of store (step_write o store c.args.time)) found)
+    c.in_ok-step.ensures.changes ∙ sym (ap (λ (o : Option Place). c.args.changes.now.items ++ changes_of store (step_write o store c.args.time)) found)

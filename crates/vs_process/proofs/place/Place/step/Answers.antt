@@ -9,21 +9,21 @@ use Rattle.vs_process.proofs.place.Place.step.Goals as goal
 pub returns-clause-ok : goal.returns-clause-ok
 returns-clause-ok c =
     let w : Option Write = (step c.self.inside.cursor c.args.store.now c.args.time).write in
-    place_steps c.in-Nothing.gait c.self.inside.cursor c.step.new.self c.args.store.now c.args.time c.in_ok-made.made w c.args.self.now
-    (place_of c.behind-effect.result.0 c.step.new.self) c.behind-effect.result.1
-    (ap (λ w. place_of w c.self.inside.cursor) (sym c.in-Nothing.is) ∙ c.self.view_is) c.requires.active c.in_ok-made.ensures.ok
-    (c.behind-effect.ensures c.self.inside.cursor c.step.new.self w)
+    place_steps c.in-Nothing.gait c.self.inside.cursor c.step.new.self c.args.store.now c.args.time c.in_ok-halt.halt w c.args.self.now
+    (place_of c.behind-self-inside.result c.step.new.self) c.step.new.effect
+    (ap (λ w. place_of w c.self.inside.cursor) (sym c.in-Nothing.is) ∙ c.self.view_is) c.requires.active c.in_ok-halt.ensures.ok
+    (c.behind-self-inside.ensures c.self.inside.cursor c.step.new.self)
 
 pub returns-clause-store : goal.returns-clause-store
 returns-clause-store c =
-    c.in_ok-made.ensures.store
+    c.in_ok-halt.ensures.store
     ∙ ap (store_behind c.args.store.now)
     (place_writes c.in-Nothing.gait c.self.inside.cursor c.args.store.now c.args.time c.args.self.now
     (ap (λ w. place_of w c.self.inside.cursor) (sym c.in-Nothing.is) ∙ c.self.view_is))
 
 pub returns-clause-changes : goal.returns-clause-changes
 returns-clause-changes c =
-    c.in_ok-made.ensures.changes
+    c.in_ok-halt.ensures.changes
     ∙ ap (λ (v : Option Write). c.args.changes.now.items ++ changes_of c.args.store.now v)
     (place_writes c.in-Nothing.gait c.self.inside.cursor c.args.store.now c.args.time c.args.self.now
     (ap (λ w. place_of w c.self.inside.cursor) (sym c.in-Nothing.is) ∙ c.self.view_is))

@@ -1,4 +1,4 @@
-use Rattle.std.proofs.Common.{◌≡◌, ◌<◌, ◌∙◌, List, None, length, slice_get, refl, ap, sym, subst, arith}
+use Rattle.std.proofs.Common.{◌≡◌, ◌<◌, ◌∙◌, List, None, length, slice_get, refl, ap, sym, subst}
 use Rattle.std.proofs.lemmas.Bool.{false≢true}
 use Rattle.vs_process.specs.States.{Update}
 use Rattle.vs_regions.specs.Active.{place_of_active}
@@ -12,26 +12,25 @@ returns-in_default-clause-taken g c =
     let active = c.self.inside.active in
     sym (subst (λ (w : Waiting). slice_get w.updates (place_of_active c.args.index w.updates) ≡ None) c.self.view_is
     (none_at c.self.inside.updates.items active.items c.args.index c.self.invariant.active_ones
-    (λ h. let below : c.args.index < active.len = omega (arith, active.ok.0, h) in false≢true (c.in_default.ensures.variant.1 below))))
+    (λ h. false≢true (c.in_default.ensures.variant.1 h))))
 
 pub returns-in_default-clause-rest : goal.returns-in_default-clause-rest
 returns-in_default-clause-rest g c =
     let active = c.self.inside.active in
     let none = subst (λ (w : Waiting). slice_get w.updates (place_of_active c.args.index w.updates) ≡ None) c.self.view_is
     (none_at c.self.inside.updates.items active.items c.args.index c.self.invariant.active_ones
-    (λ h. let below : c.args.index < active.len = omega (arith, active.ok.0, h) in false≢true (c.in_default.ensures.variant.1 below))) in
+    (λ h. false≢true (c.in_default.ensures.variant.1 h))) in
     c.self.view_is
     ∙ sym (ap (λ (us : List Update). record c.args.self.now { updates = us }) (none_without c.args.self.now.updates (place_of_active c.args.index c.args.self.now.updates) none))
 
 pub invariant_of-self-2 : goal.invariant_of-self-2
 invariant_of-self-2 g c =
-    subst (λ (us : List Update). AreKept us c.remove.new.self.items c.self.inside.due.items (g.Q.EventQueue.bag c.self.inside.queue) (g.Q.EventQueue.clock c.self.inside.queue))
+    subst (λ (us : List Update). AreKept us c.take_at.new.updates.items c.self.inside.due.items (g.Q.EventQueue.bag c.self.inside.queue) (g.Q.EventQueue.clock c.self.inside.queue))
     (sym c.next-self-inside.ensures) (kept_taken c.args.index c.self.invariant c.in-Some.ensures.items)
 
 pub returns-clause-taken : goal.returns-clause-taken
 returns-clause-taken g c =
     let active = c.self.inside.active in
-    let below : c.args.index < active.len = c.in-Some.ensures.variant.0 refl in
-    let within : c.args.index < length active.items = omega (arith, active.ok.0, below) in
+    let within : c.args.index < length active.items = c.in-Some.ensures.variant.0 refl in
     some_at c.self.inside.updates.items active.items c.args.index c.in-Some.update c.self.invariant.active_ones within c.in-Some.ensures.value
     ∙ ap (λ (w : Waiting). slice_get w.updates (place_of_active c.args.index w.updates)) c.self.view_is

@@ -1,10 +1,12 @@
-use Rattle.std.proofs.Common.{◌≡◌, ◌++◌, ◌∙◌, ℕ, None, Option, Some, List, sym, ap, subst}
-use Rattle.std.specs.Prelude.{MatchOption, slice_get}
+use Rattle.std.proofs.Common.{◌≡◌, ◌++◌, ◌∙◌, Option, List, sym, ap, subst}
+use Rattle.std.specs.Prelude.{slice_get}
 use Rattle.vs_design.specs.Writes.{Write}
 use Rattle.vs_flatcode.specs.declared.changes.Change.{Change}
 use Rattle.vs_flatcode.specs.Changes.{changes_of}
 use Rattle.vs_flatcode.specs.Steps.{has_nothing}
-use Rattle.vs_places.specs.Timelines.{step_write}
+use Rattle.vs_flatcode.specs.declared.made.Effect.TheVariants as e
+use Rattle.vs_places.specs.Timelines.{StepsAt, step_write}
+use Rattle.vs_state.specs.Prints.{made_text}
 use Rattle.vs_state.specs.Touches.{HasSources}
 use Rattle.vs_state.specs.Waits.{HasTerms}
 use Rattle.vs_state.proofs.ChangesLemmas.{sizes_behind, covers_behind, covers_seen}
@@ -17,34 +19,63 @@ follow-requires g c =
     let s = c.self.inside in
     let time = s.processes.time in
     let w : Option Write = step_write (slice_get s.processes.places c.args.process) s.store time in
-    let words : c.step.new.changes.items ≡ changes_of s.store w = c.in_ok-effect.ensures.changes ∙ ap (λ (l : List Change). l ++ changes_of s.store w) c.clear.ensures.items in
+    let words : c.step.new.changes.items ≡ changes_of s.store w = c.in_ok-step.ensures.changes ∙ ap (λ (l : List Change). l ++ changes_of s.store w) c.clear.ensures.items in
     record {
       sizes = sizes_behind w s.store c.step.new.changes.items words;
       sources = subst (HasSources c.args.design.now) (sym c.self.view_is) c.requires.sources;
       terms = λ some.
-          within_step c.args.design.now.processes s.processes.places c.step.new.self.places c.args.process s.store time c.in_ok-effect.effect c.in_ok-effect.ensures.ok
+          within_step c.args.design.now.processes s.processes.places c.step.new.self.places c.args.process s.store time c.step.new.effect c.in_ok-step.ensures.ok
           (sym (ap (λ (l : List Change). has_nothing l) words) ∙ some) (subst (HasTerms c.args.design.now) (sym c.self.view_is) c.requires.terms);
     }
+
+pub returns-then-is_nothing-clause-state : goal.returns-then-is_nothing-clause-state
+returns-then-is_nothing-clause-state g c =
+    let s = c.self.inside in
+    let w : Option Write = step_write (slice_get s.processes.places c.args.process) s.store s.processes.time in
+    let words : c.step.new.changes.items ≡ changes_of s.store w = c.in_ok-step.ensures.changes ∙ ap (λ (l : List Change). l ++ changes_of s.store w) c.clear.ensures.items in
+    let none : c.step.new.effect ≡ e.Nothing = c.is_nothing.ensures c.if-is_nothing.true in
+    let stepped : StepsAt s.processes.places c.args.process s.store s.processes.time c.step.new.self.places e.Nothing =
+    subst (StepsAt s.processes.places c.args.process s.store s.processes.time c.step.new.self.places) none c.in_ok-step.ensures.ok
+    in
+    stepped_by c.self.view_is c.args.process c.follow.new.processes.time c.step.new.store c.step.new.changes.items c.step.new.self.places c.follow.new.processes.places c.follow.new.assigns
+    c.follow.new.processes.updates e.Nothing stepped c.in_ok-step.ensures.store words c.in_ok-follow.ensures.assigns c.in_ok-follow.ensures.places
+    (c.follow.ensures.time ∙ c.step.ensures.time) (c.follow.ensures.updates ∙ c.step.ensures.updates)
+
+pub returns-then-is_nothing-clause-line : goal.returns-then-is_nothing-clause-line
+returns-then-is_nothing-clause-line g c =
+    let s = c.self.inside in
+    let none : c.step.new.effect ≡ e.Nothing = c.is_nothing.ensures c.if-is_nothing.true in
+    let stepped : StepsAt s.processes.places c.args.process s.store s.processes.time c.step.new.self.places e.Nothing =
+    subst (StepsAt s.processes.places c.args.process s.store s.processes.time c.step.new.self.places) none c.in_ok-step.ensures.ok
+    in
+    c.requires.empty ∙ sym (ap made_text (step_line c.self.view_is c.args.process c.step.new.self.places e.Nothing stepped))
+
+pub returns-then-is_nothing-clause-covers : goal.returns-then-is_nothing-clause-covers
+returns-then-is_nothing-clause-covers g c =
+    let s = c.self.inside in
+    let w : Option Write = step_write (slice_get s.processes.places c.args.process) s.store s.processes.time in
+    let words : c.step.new.changes.items ≡ changes_of s.store w = c.in_ok-step.ensures.changes ∙ ap (λ (l : List Change). l ++ changes_of s.store w) c.clear.ensures.items in
+    covers_seen c.follow.new.changed.items c.step.new.store c.self.view_is
+    (covers_behind c.follow.new.changed.items w s.store c.step.new.store c.step.new.changes.items c.in_ok-follow.ensures.covers words c.in_ok-step.ensures.store)
 
 pub returns-clause-state : goal.returns-clause-state
 returns-clause-state g c =
     let s = c.self.inside in
     let w : Option Write = step_write (slice_get s.processes.places c.args.process) s.store s.processes.time in
-    let words : c.step.new.changes.items ≡ changes_of s.store w = c.in_ok-effect.ensures.changes ∙ ap (λ (l : List Change). l ++ changes_of s.store w) c.clear.ensures.items in
-    c.in_ok-line.ensures.state
+    let words : c.step.new.changes.items ≡ changes_of s.store w = c.in_ok-step.ensures.changes ∙ ap (λ (l : List Change). l ++ changes_of s.store w) c.clear.ensures.items in
+    c.in_ok-perform.ensures.state
     ∙ stepped_by c.self.view_is c.args.process c.follow.new.processes.time c.step.new.store c.step.new.changes.items c.step.new.self.places c.follow.new.processes.places c.follow.new.assigns
-    c.follow.new.processes.updates c.in_ok-effect.effect c.in_ok-effect.ensures.ok c.in_ok-effect.ensures.store words c.in_ok-follow.ensures.assigns c.in_ok-follow.ensures.places
+    c.follow.new.processes.updates c.step.new.effect c.in_ok-step.ensures.ok c.in_ok-step.ensures.store words c.in_ok-follow.ensures.assigns c.in_ok-follow.ensures.places
     (c.follow.ensures.time ∙ c.step.ensures.time) (c.follow.ensures.updates ∙ c.step.ensures.updates)
 
 pub returns-clause-line : goal.returns-clause-line
 returns-clause-line g c =
-    subst (λ (made : Option (List ℕ)). MatchOption c.in_ok-line.line (made ≡ None) (λ text. made ≡ Some text.items))
-    (sym (step_line c.self.view_is c.args.process c.step.new.self.places c.in_ok-effect.effect c.in_ok-effect.ensures.ok)) c.in_ok-line.ensures.line
+    c.in_ok-perform.ensures.line ∙ sym (ap made_text (step_line c.self.view_is c.args.process c.step.new.self.places c.step.new.effect c.in_ok-step.ensures.ok))
 
 pub returns-clause-covers : goal.returns-clause-covers
 returns-clause-covers g c =
     let s = c.self.inside in
     let w : Option Write = step_write (slice_get s.processes.places c.args.process) s.store s.processes.time in
-    let words : c.step.new.changes.items ≡ changes_of s.store w = c.in_ok-effect.ensures.changes ∙ ap (λ (l : List Change). l ++ changes_of s.store w) c.clear.ensures.items in
+    let words : c.step.new.changes.items ≡ changes_of s.store w = c.in_ok-step.ensures.changes ∙ ap (λ (l : List Change). l ++ changes_of s.store w) c.clear.ensures.items in
     covers_seen c.follow.new.changed.items c.perform.new.self.store c.self.view_is
-    (covers_behind c.follow.new.changed.items w s.store c.perform.new.self.store c.step.new.changes.items c.in_ok-follow.ensures.covers words (c.perform.ensures.store ∙ c.in_ok-effect.ensures.store))
+    (covers_behind c.follow.new.changed.items w s.store c.perform.new.self.store c.step.new.changes.items c.in_ok-follow.ensures.covers words (c.perform.ensures.store ∙ c.in_ok-step.ensures.store))
