@@ -1,5 +1,5 @@
 -- Lemmas on the numbers of the statements in a code.
-use Rattle.std.proofs.Common.{Global, ◌≡◌, ◌≢◌, ℕ, zero, suc, ◌+◌, ◌<◌, ◌≤◌, ◌==◌, Bool, true, false, ◌&&◌, Option, Some, None, List, [], ◌∷◌, ◌++◌, map, drop, get_or, length, refl, rules, sym, ◌∙◌, ap, subst, arith, ◌⊎◌, ⊎_elim}
+use Rattle.std.proofs.Common.{Global, ◌≡◌, ◌≢◌, ℕ, zero, suc, ◌+◌, ◌<◌, ◌≤◌, ◌==◌, Bool, true, false, ◌&&◌, Option, Some, None, List, [], ◌∷◌, ◌++◌, map, drop, get_or, length, refl, rules, sym, ◌∙◌, ap, arith, ⊎_elim}
 use Rattle.std.specs.Prelude.{slice_get, Vec, IfOk, Result, Ok, Err}
 use Rattle.std.specs.declared.boxed.Box.{Box}
 use Rattle.std.specs.declared.alloc.AllocError.{AllocError}
@@ -21,7 +21,7 @@ use Rattle.vs_design.specs.declared.statement.Statement.TheFolds.{fold-roll-Stat
 use Rattle.vs_flatcode.specs.declared.draft.Op.{Op}
 use Rattle.vs_flatcode.specs.declared.draft.Draft.{Draft}
 use Rattle.vs_flatcode.specs.Places.{Todo}
-use Rattle.vs_flatcode.specs.Links.{Link, Job, performs, tests, item_of, todo_from, todo_within, todo_at}
+use Rattle.vs_flatcode.specs.Links.{Link, Job, performs, tests, item_of, todo_from, todo_within}
 use Rattle.vs_flatcode.specs.Codes.{links_of, link_of, IsCodeOf}
 use Rattle.vs_flatcode.specs.Ways.{point_at}
 use Rattle.vs_flatcode.specs.Numbers.{number_of, number_next, number_at, once_where, times_here, times_in, times_stands, AllStand}

@@ -1,5 +1,5 @@
 -- Lemmas on the ways of a code.
-use Rattle.std.proofs.Common.{Global, ◌≡◌, ℕ, zero, suc, ◌<◌, Bool, true, false, Option, Some, None, List, [], ◌∷◌, ◌++◌, map, length, get_or, refl, sym, ◌∙◌, ap, ap₂, arith}
+use Rattle.std.proofs.Common.{Global, ◌≡◌, ℕ, zero, suc, Bool, true, false, Option, Some, None, List, [], ◌∷◌, ◌++◌, map, length, get_or, refl, sym, ◌∙◌, ap, ap₂, arith}
 use Rattle.std.specs.Prelude.{slice_get, slice_set, Vec, option_map}
 use Rattle.std.specs.List.{list_any}
 use Rattle.std.proofs.lemmas.List.{map-append}
@@ -14,10 +14,10 @@ use Rattle.vs_flatcode.specs.declared.draft.Task.TheVariants.{Perform, Turns}
 use Rattle.vs_flatcode.specs.Extras.{starts_in}
 use Rattle.vs_flatcode.specs.Places.{Item, Todo, flat, perform, turns}
 use Rattle.vs_flatcode.specs.Steps.{Next, on, after, wait, is_default}
-use Rattle.vs_flatcode.specs.Nexts.{erased_item, erased, past, case_nexts, statement_nexts, nexts}
+use Rattle.vs_flatcode.specs.Nexts.{erased_item, erased, past, statement_nexts, nexts}
 use Rattle.vs_flatcode.specs.Links.{Link, Job, performs, tests, item_of, todo_from, todo_within, todo_at}
 use Rattle.vs_flatcode.specs.Codes.{Layout, IsCode, IsCodeOf, IsTurn, LeadAll, FitsStatement, FitsTask, links_of, link_of, layout_of, job_of}
-use Rattle.vs_flatcode.specs.Ways.{Way, way_on, past_ways, statement_ways, task_ways, op_ways, ways, point_at, next_at, HasWays}
+use Rattle.vs_flatcode.specs.Ways.{way_on, past_ways, statement_ways, task_ways, op_ways, ways, point_at, next_at, HasWays}
 use Rattle.vs_flatcode.proofs.Links.{todo_here}
 use Rattle.vs_flatcode.proofs.Drafts.{link_here}
 use Rattle.vs_flatcode.proofs.Codes.{todo_start}

@@ -1,5 +1,5 @@
 //! Where a process stands in its flat code.
-ghost use Rattle.std.specs.Prelude.{◌≡◌, ◌++◌, slice_set, IfOk, OnOk, OnErr, MatchOption};
+ghost use Rattle.std.specs.Prelude.{◌≡◌, ◌++◌, slice_set, IfOk, OnOk, OnErr, MatchOption, true};
 ghost use Rattle.vs_design.specs.declared.statement.Statement.TheViews.{out-Statement};
 ghost use Rattle.vs_flatcode.specs.declared.made.Effect.TheVariants as Effect;
 ghost use Rattle.vs_flatcode.specs.Changes.{store_behind, changes_of};
@@ -113,6 +113,27 @@ fn call_made<'a>(
     match kind {
         CallKind::Display => Ok(Effect::Line(full_line(alloc, format, store, time)?)),
         CallKind::Strobe => Ok(Effect::Strobe(format)),
+    }
+}
+
+/// Whether a step does nothing beyond the process.
+#[inline(always)]
+pub fn is_nothing(effect: &Effect) -> bool
+    ensures { result ≡ true → effect.now ≡ Effect.Nothing }
+{
+    match effect {
+        Effect::Nothing => true,
+        _ => false,
+    }
+}
+
+// Leaves nothing of what an earlier step did.
+#[inline(always)]
+fn hush(effect: &mut Effect)
+    ensures { effect.new ≡ Effect.Nothing }
+{
+    if !is_nothing(effect) {
+        *effect = Effect::Nothing;
     }
 }
 
@@ -262,8 +283,8 @@ impl<'a> Cursor<'a> {
     }
 
     /// One step of the process (IEEE 1364-2005, clauses 9.2 and 9.4 to 9.7) at `time`, in ticks: the timing control that it meets, and in
-    /// `effect` what it makes beside what the process still has to do. The write of a blocking assignment is made in the store, and the words that it changes go to `changes`. Without memory the
-    /// process stands where it stood, and the store is as it was.
+    /// `effect` what it makes beside what the process still has to do. The write of a blocking assignment is made in the store, and the words
+    /// that it changes go to `changes`. Without memory the process stands where it stood, and the store is as it was.
     #[inline(always)]
     pub fn step(
         &mut self,
@@ -273,7 +294,6 @@ impl<'a> Cursor<'a> {
         changes: &mut Vec<Change>,
         effect: &mut Effect<'a>,
     ) -> Result<Halt<'a>, AllocError>
-        requires quiet { effect.old ≡ Effect.Nothing }
         ensures ok { IfOk result (λ halt. step self.old store.old time
             ≡ made_out halt effect.new (step self.old store.old time).write self.new) }
         ensures store { OnOk result (store.new ≡ store_behind store.old (step self.old store.old time).write) }
@@ -282,6 +302,7 @@ impl<'a> Cursor<'a> {
         ensures process_kept { OnErr result (self.new ≡ self.old) }
         ensures store_kept { OnErr result (store.new ≡ store.old) }
     {
+        hush(effect);
         let Some(op) = op_at(self.ops, self.place) else {
             return Ok(Halt::Nothing);
         };

@@ -13,7 +13,7 @@ mod made;
 pub use changes::{Change, assign, holds, make};
 pub use choices::cut_value;
 pub use code::{Code, compile};
-pub use cursor::Cursor;
+pub use cursor::{Cursor, is_nothing};
 pub use gait::Gait;
 pub use laws::{one_place, ways_are};
 pub use made::{Effect, Halt};

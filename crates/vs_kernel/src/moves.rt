@@ -66,7 +66,6 @@ pub(crate) fn advance<'a, Q: EventQueue<Item>, L: Sink>(
     ensures failures { L.failed lines.new ≡ failed_after (is_write_fault result) (L.failed lines.old) }
 {
     room.changed.clear();
-    room.line.clear();
     state.make(
         design,
         choice,
@@ -199,8 +198,8 @@ fn advance_assign<'a, Q: EventQueue<Item>, L: Sink>(
     Ok(())
 }
 
-/// Makes moves of continuous assignments, one after another as they stand at the front of the list, until another event stands there or so many
-/// are made; this is the first of them, and its index in the list. The answer is how many were made.
+/// Makes moves of continuous assignments, one after another as they stand at the front of the list, until another event stands there or so
+/// many are made; this is the first of them, and its index in the list. The answer is how many were made.
 #[inline(never)]
 pub(crate) fn run_assigns<'a, Q: EventQueue<Item>, L: Sink>(
     state: &mut State<'a, Q>,

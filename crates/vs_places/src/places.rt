@@ -2,7 +2,6 @@
 ghost use Rattle.std.specs.Prelude.{◌≡◌, ◌++◌, ◌<◌, ◌^◌, Some, None, true, false, length, map, slice_get, IfOk, OnOk, OnErr, MatchOption};
 ghost use Rattle.std.specs.List.{list_any};
 ghost use Rattle.vs_design.specs.Stores.{changed_at};
-ghost use Rattle.vs_flatcode.specs.declared.made.Effect.TheVariants as Effect;
 ghost use Rattle.vs_flatcode.specs.Changes.{store_behind, changes_of};
 ghost use Rattle.vs_flatcode.specs.Places.{is_going, start_place};
 ghost use Rattle.vs_process.specs.Executions as executions;
@@ -139,7 +138,6 @@ impl<'a> Places<'a> {
         changes: &mut Vec<Change>,
         effect: &mut Effect<'a>,
     ) -> Result<(), AllocError>
-        requires quiet { effect.old ≡ Effect.Nothing }
         requires active { executions.if_some is_going (slice_get self.old process) ≡ true }
         requires early { time < 2 ^ 62 }
         ensures ok { OnOk result (StepsAt self.old process store.old time self.new effect.new) }

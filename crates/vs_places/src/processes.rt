@@ -4,7 +4,6 @@ ghost use Rattle.std.specs.List.{list_any};
 ghost use Rattle.std.specs.Option.{ForSome};
 ghost use Rattle.vs_time_wheel.specs.Bag.{SameBag};
 ghost use Rattle.vs_design.specs.Stores.{changed_at};
-ghost use Rattle.vs_flatcode.specs.declared.made.Effect.TheVariants as Effect;
 ghost use Rattle.vs_flatcode.specs.Changes.{store_behind, changes_of};
 ghost use Rattle.vs_flatcode.specs.Places.{is_going, is_inactive, start_place};
 ghost use Rattle.vs_process.specs.Executions as executions;
@@ -225,7 +224,6 @@ impl<'a, Q: EventQueue<Item>> Processes<'a, Q> {
         changes: &mut Vec<Change>,
         effect: &mut Effect<'a>,
     ) -> Result<(), AllocError>
-        requires quiet { effect.old ≡ Effect.Nothing }
         requires active { executions.if_some is_going (slice_get self.old.places process) ≡ true }
         requires early { self.old.time < 2 ^ 62 }
         ensures ok { OnOk result (StepsAt self.old.places process store.old self.old.time self.new.places effect.new) }

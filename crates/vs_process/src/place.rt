@@ -1,6 +1,5 @@
 //! Where a process is.
 ghost use Rattle.std.specs.Prelude.{◌≡◌, ◌++◌, ◌<◌, ◌^◌, IfOk, OnOk, OnErr, true};
-ghost use Rattle.vs_flatcode.specs.declared.made.Effect.TheVariants as Effect;
 ghost use Rattle.vs_flatcode.specs.Changes.{store_behind, changes_of};
 ghost use Rattle.vs_flatcode.specs.Landings.{next_of};
 ghost use Rattle.vs_flatcode.specs.Places.{Todo, going, start_place, is_going, is_inactive, is_inside, stepped_gait, todo_of};
@@ -189,9 +188,9 @@ impl<'a> Place<'a> {
         }
     }
 
-    /// One step of an active process (IEEE 1364-2005, clauses 9.2 and 9.7) at `time`, in ticks: where it goes from there, and in `effect` what the step
-    /// does to the rest of the state. The write of a blocking assignment is made in the store, and the words that it changes go to `changes`. Without memory
-    /// the place and the store are as they were.
+    /// One step of an active process (IEEE 1364-2005, clauses 9.2 and 9.7) at `time`, in ticks: where it goes from there, and in `effect` what
+    /// the step does to the rest of the state. The write of a blocking assignment is made in the store, and the words that it changes go to
+    /// `changes`. Without memory the place and the store are as they were.
     #[inline(always)]
     pub fn step(
         &mut self,
@@ -201,7 +200,6 @@ impl<'a> Place<'a> {
         changes: &mut Vec<Change>,
         effect: &mut Effect<'a>,
     ) -> Result<(), AllocError>
-        requires quiet { effect.old ≡ Effect.Nothing }
         requires active { is_going self.old ≡ true }
         requires early { time < 2 ^ 62 }
         ensures ok { OnOk result (Stepped self.old store.old time self.new effect.new) }

@@ -1,7 +1,6 @@
 //! The moves of a run: each makes of the state what the definition's move makes of it.
 ghost use Rattle.std.specs.Prelude.{◌≡◌, ◌<◌, ◌^◌, ◌∷◌, [], true, false, is_some, slice_get, OnOk};
 ghost use Rattle.vs_process.specs.Executions as executions;
-ghost use Rattle.vs_flatcode.specs.declared.made.Effect.TheVariants as Effect;
 ghost use Rattle.vs_flatcode.specs.Places.{is_going};
 ghost use Rattle.vs_process.specs.States as states;
 ghost use Rattle.vs_state.specs.Changes.{CoverChanges};
@@ -16,31 +15,10 @@ use crate::state::State;
 use std::alloc::AllocError;
 use std::mem;
 use vs_design::Design;
-use vs_flatcode::{assign, make};
+use vs_flatcode::{assign, is_nothing, make};
 use vs_process::{Effect, Move};
 use vs_regions::Item;
 use vs_time_wheel::EventQueue;
-
-/// Whether a step does nothing to the rest of the state.
-#[inline(always)]
-fn is_nothing(effect: &Effect) -> bool
-    ensures { result ≡ true → effect.now ≡ Effect.Nothing }
-{
-    match effect {
-        Effect::Nothing => true,
-        _ => false,
-    }
-}
-
-/// Leaves nothing of what an earlier step did to the rest of the state.
-#[inline(always)]
-fn hush(effect: &mut Effect)
-    ensures { effect.new ≡ Effect.Nothing }
-{
-    if !is_nothing(effect) {
-        *effect = Effect::Nothing;
-    }
-}
 
 impl<'a, Q: EventQueue<Item>> State<'a, Q> {
     /// Does what a step of a process does beyond its place and its write; the line that it makes takes the place of `line`.
@@ -98,7 +76,6 @@ impl<'a, Q: EventQueue<Item>> State<'a, Q> {
         ensures covers { OnOk result (CoverChanges changed.new.items self.old.store self.new.store) }
     {
         self.changes.clear();
-        hush(effect);
         self.processes.step(
             process,
             self.alloc,
@@ -225,8 +202,9 @@ impl<'a, Q: EventQueue<Item>> State<'a, Q> {
     }
 
     /// Makes an enabled move, and notes in `changed` the signals that it may change; the line that it makes at once, with the line feed that
-    /// ends it, takes the place of `line` (IEEE 1364-2005, clause 17.1.1). `effect` is room to work in. A move tells a nonblocking update by its number among the activated ones, the
-    /// oldest being 0. The lines of the calls of `$strobe` are the caller's to make before the end of the slot, of `calls`.
+    /// ends it, takes the place of `line` (IEEE 1364-2005, clause 17.1.1). `effect` is room to work in. A move tells a nonblocking update by its
+    /// number among the activated ones, the oldest being 0. The lines of the calls of `$strobe` are the caller's to make before the end of the
+    /// slot, of `calls`.
     #[inline(always)]
     pub fn make(
         &mut self,
@@ -236,7 +214,6 @@ impl<'a, Q: EventQueue<Item>> State<'a, Q> {
         effect: &mut Effect<'a>,
         line: &mut Vec<u8>,
     ) -> Result<(), AllocError>
-        requires empty { line.old.items ≡ [] }
         requires going { self.old.over ≡ false }
         requires enabled { executions.is_enabled self.old (told self.old choice) ≡ true }
         requires early { self.old.time < 2 ^ 62 }
@@ -246,6 +223,7 @@ impl<'a, Q: EventQueue<Item>> State<'a, Q> {
         ensures line { OnOk result (line.new.items ≡ made_text (made_line choice self.old)) }
         ensures covers { OnOk result (CoverChanges changed.new.items self.old.store self.new.store) }
     {
+        line.clear();
         self.woken.clear();
         match choice {
             Move::Step(process) => self.step(design, process, changed, effect, line)?,

@@ -66,6 +66,6 @@ returns-clause-changes c =
 
 pub run-requires : goal.run-requires
 run-requires c = record {
-  quiet = c.requires.quiet;
+  quiet = c.hush.ensures;
   format = has_format c.self.inside.ops.now (length c.self.inside.counters.items) c.in-Some.ensures.0 c.in-Some.op.now c.self.invariant c.in-Some.ensures.2;
 }
