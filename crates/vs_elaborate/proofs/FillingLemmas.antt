@@ -44,10 +44,10 @@ use Rattle.vs_bodies.specs.Members.{Assignment, named_signal, assignment_of, Por
 use Rattle.vs_bodies.specs.Processes.{kind_of, statements_of, HasBehaviorFault}
 use Rattle.vs_bodies.specs.Surroundings.{Surroundings}
 use Rattle.vs_bodies.specs.passes.Bodies.{counting, MeansBody}
-use Rattle.vs_elaborate.specs.declared.contents.Contents.{Contents}
+use Rattle.vs_contents.specs.declared.contents.Contents.{Contents}
 use Rattle.vs_elaborate.specs.Drivers.{IsPortAssign}
 use Rattle.vs_elaborate.specs.DesignOf.{PartOf, port_part, parts_from, assigns_of, processes_of, IsProcess, IsAssign}
-use Rattle.vs_elaborate.specs.passes.Filling.{Adds, AreSound, AddsNot, port_faults, text_faults, Connects, ConnectsNot, text_parts, Drives, DrivesNot, RunSoundly, Runs, RunsNot, HasMembers, FillsNot, FillsScope, Fills, FillsOneNot}
+use Rattle.vs_elaborate.specs.passes.Filling.{Adds, AreSound, AddsNot, port_faults, text_faults, Connects, ConnectsNot, text_parts, Drives, DrivesNot, RunSoundly, Runs, RunsNot, HasMembers, FillsNot, DrivesScope, FillsScope, Fills, FillsOneNot}
 
 -- ---- parts with their names
 
@@ -105,6 +105,10 @@ module _ {A B P : Type 0} (Sound : List A → Type 0) (R : P → PartOf B → Ty
   adds_none : (all : List P) → parts [] ≡ [] → Sound [] → length all ≡ first → Adds Sound R parts first all all []
   adds_none all e s h = record { begun = h; sound = s; added = []; grown = sym (append-nil all); means = subst (AllZip R []) (sym e) tt }
 
+  -- all that was added from nothing on
+  adds_all : (all : List P) (done : List A) → Adds Sound R parts first all [] done → AllZip R all (parts done)
+  adds_all all done r = subst (λ z. AllZip R z (parts done)) (sym r.grown) r.means
+
 sound_push : {A : Type 0} (fault : Reason → A → Bool) (xs : List A) (x : A) → ((r : Reason) → fault r x ≡ false) → AreSound fault xs → AreSound fault (xs ++ x ∷ [])
 sound_push fault xs x one all r = any_push (fault r) xs x (all r) (one r)
 
@@ -132,41 +136,29 @@ runs_push envs s first number contents new start done x p h a n text kind body r
       assigns = a ∙ r.assigns;
     }
 
-pub drives_push : (s : Scope) (first number : ℕ) (contents new start : Contents) (done : List Assignment) (x : Assignment) (p : Assign) → new.assigns.items ≡ contents.assigns.items ++ p ∷ [] → new.processes.items ≡ contents.processes.items → number ≡ length contents.assigns.items - first → p.name.items ≡ part_name s.path (own_name 97 number) →
-    ((r : Reason) → text_faults s r x ≡ false) × IsAssignment Continuous (environment s) x.target x.value p.target p.source → Drives s first contents start done → Drives s first new start (done ++ x ∷ [])
-drives_push s first number contents new start done x p h a n text body r =
-    let count = adds_count (AreSound (text_faults s)) IsAssign (text_parts s) first contents.assigns.items start.assigns.items done number (length_texts s done) n r.adds in
+pub drives_push : (s : Scope) (number : ℕ) (assigns new start : List Assign) (done : List Assignment) (x : Assignment) (p : Assign) → new ≡ assigns ++ p ∷ [] → number ≡ length assigns - 0 → p.name.items ≡ part_name s.path (own_name 97 number) →
+    ((r : Reason) → text_faults s r x ≡ false) × IsAssignment Continuous (environment s) x.target x.value p.target p.source → Drives s assigns start done → Drives s new start (done ++ x ∷ [])
+drives_push s number assigns new start done x p h n text body r =
+    let count = adds_count (AreSound (text_faults s)) IsAssign (text_parts s) 0 assigns start done number (length_texts s done) n r in
     let one : IsAssign p (record { scope = s; name = own_name 97 number; part = of_text x }) = record { name = text; sides = body.1 } in
-    record {
-      adds = adds_push (AreSound (text_faults s)) IsAssign (text_parts s) first contents.assigns.items new.assigns.items start.assigns.items done x p _ h (sound_push (text_faults s) done x body.0) (text_push s done x number count) one r.adds;
-      processes = a ∙ r.processes;
-    }
+    adds_push (AreSound (text_faults s)) IsAssign (text_parts s) 0 assigns new start done x p _ h (sound_push (text_faults s) done x body.0) (text_push s done x number count) one r
 
 pub port_of_connected : (d : Direction) (n : List ℕ) (e : Expr) → port_of (connected d n e) ≡ n
 port_of_connected Input n e = refl
 port_of_connected Output n e = refl
 
-pub connects_push : (s : Scope) (contents new start : Contents) (done : List PortDriver) (x : PortDriver) (n : List ℕ) (p : Assign) → new.assigns.items ≡ contents.assigns.items ++ p ∷ [] → new.processes.items ≡ contents.processes.items → port_of x ≡ n → p.name.items ≡ part_name s.path (port_assign_name n) →
-    ((r : Reason) → port_faults s r x ≡ false) × IsPortAssign (environment s) s.outer x p.target p.source → Connects s contents start done → Connects s new start (done ++ x ∷ [])
-connects_push s contents new start done x n p h a k text body r =
+pub connects_push : (s : Scope) (assigns new start : List Assign) (done : List PortDriver) (x : PortDriver) (n : List ℕ) (p : Assign) → new ≡ assigns ++ p ∷ [] → port_of x ≡ n → p.name.items ≡ part_name s.path (port_assign_name n) →
+    ((r : Reason) → port_faults s r x ≡ false) × IsPortAssign (environment s) s.outer x p.target p.source → Connects s assigns start done → Connects s new start (done ++ x ∷ [])
+connects_push s assigns new start done x n p h k text body r =
     let one : IsAssign p (port_part s x) = record { name = text ∙ ap (λ z. part_name s.path (port_assign_name z)) (sym k); sides = body.1 } in
-    record {
-      adds = adds_push (AreSound (port_faults s)) IsAssign (map (port_part s)) (length start.assigns.items) contents.assigns.items new.assigns.items start.assigns.items done x p _ h (sound_push (port_faults s) done x body.0) (map-append (port_part s) done (x ∷ [])) one r.adds;
-      processes = a ∙ r.processes;
-    }
+    adds_push (AreSound (port_faults s)) IsAssign (map (port_part s)) (length start) assigns new start done x p _ h (sound_push (port_faults s) done x body.0) (map-append (port_part s) done (x ∷ [])) one r
 
 -- before a pass
-pub connects_none : (s : Scope) (contents : Contents) → Connects s contents contents []
-connects_none s contents = record {
-  adds = adds_none (AreSound (port_faults s)) IsAssign (map (port_part s)) (length contents.assigns.items) contents.assigns.items refl (λ r. refl) refl;
-  processes = refl;
-}
+pub connects_none : (s : Scope) → Connects s [] [] []
+connects_none s = adds_none (AreSound (port_faults s)) IsAssign (map (port_part s)) 0 [] refl (λ r. refl) refl
 
-pub drives_none : (s : Scope) (first : ℕ) (contents : Contents) → length contents.assigns.items ≡ first → Drives s first contents contents []
-drives_none s first contents h = record {
-  adds = adds_none (AreSound (text_faults s)) IsAssign (text_parts s) first contents.assigns.items refl (λ r. refl) h;
-  processes = refl;
-}
+pub drives_none : (s : Scope) → Drives s [] [] []
+drives_none s = adds_none (AreSound (text_faults s)) IsAssign (text_parts s) 0 [] refl (λ r. refl) refl
 
 pub runs_none : (envs : Path → Surroundings) (s : Scope) (first : ℕ) (contents : Contents) → length contents.processes.items ≡ first → Runs envs s first contents contents []
 runs_none envs s first contents h = record {
@@ -190,10 +182,10 @@ at_first (y ∷ ys) rest (suc i) x h = at_first ys rest i x h
 pub runs_not_more : (envs : Path → Surroundings) (s : Scope) (start : Contents) (xs ys : List Behavior) (r : Reason) (p : Path) → RunsNot envs s start xs r p → RunsNot envs s start (xs ++ ys) r p
 runs_not_more envs s start xs ys r p h = record { place = h.place; behavior = h.behavior; stands = at_first xs ys h.place h.behavior h.stands; fault = h.fault }
 
-pub drives_not_more : (s : Scope) (start : Contents) (xs ys : List Assignment) (r : Reason) (p : Path) → DrivesNot s start xs r p → DrivesNot s start (xs ++ ys) r p
+pub drives_not_more : (s : Scope) (start : List Assign) (xs ys : List Assignment) (r : Reason) (p : Path) → DrivesNot s start xs r p → DrivesNot s start (xs ++ ys) r p
 drives_not_more s start = adds_not_more (text_faults s) s.path
 
-pub connects_not_more : (s : Scope) (start : Contents) (xs ys : List PortDriver) (r : Reason) (p : Path) → ConnectsNot s start xs r p → ConnectsNot s start (xs ++ ys) r p
+pub connects_not_more : (s : Scope) (start : List Assign) (xs ys : List PortDriver) (r : Reason) (p : Path) → ConnectsNot s start xs r p → ConnectsNot s start (xs ++ ys) r p
 connects_not_more s start = adds_not_more (port_faults s) s.around
 
 -- a fault of the last one
@@ -223,29 +215,30 @@ zipped_append R [] (y ∷ ys) us vs h k = absurd h
 zipped_append R (x ∷ xs) [] us vs h k = absurd h
 zipped_append R (x ∷ xs) (y ∷ ys) us vs h k = (h.0, zipped_append R xs ys us vs h.1 k)
 
-pub fills : (envs : Path → Surroundings) (s : Scope) (m n : ℕ) (a b c d : Contents) → Connects s b a (port_drivers_of s) → Drives s m c b (drivers_of s) → Runs envs s n d c (behaviors_of s) → FillsScope envs s a d
-fills envs s m n a b c d p q r = record {
+pub fills : (envs : Path → Surroundings) (s : Scope) (n : ℕ) (a c d : Contents) → DrivesScope s a c → Runs envs s n d c (behaviors_of s) → FillsScope envs s a d
+fills envs s n a c d p r = record {
   sound = sound;
-  assigns_added = p.adds.added ++ q.adds.added;
-  assigns = r.assigns ∙ q.adds.grown ∙ ap (λ z. z ++ q.adds.added) p.adds.grown ∙ append_assoc a.assigns.items p.adds.added q.adds.added;
-  drivers_mean = zipped_append IsAssign p.adds.added (map (port_part s) (port_drivers_of s)) q.adds.added (text_parts s (drivers_of s)) p.adds.means q.adds.means;
+  assigns_added = p.ports ++ p.text;
+  assigns = r.assigns ∙ p.assigns;
+  drivers_mean = zipped_append IsAssign p.ports (map (port_part s) (port_drivers_of s)) p.text (text_parts s (drivers_of s)) (adds_all (AreSound (port_faults s)) IsAssign (map (port_part s)) 0 p.ports (port_drivers_of s) p.ports_added) (adds_all (AreSound (text_faults s)) IsAssign (text_parts s) 0 p.text (drivers_of s) p.text_added);
   processes_added = r.adds.added;
-  processes = r.adds.grown ∙ ap (λ z. z ++ r.adds.added) (q.processes ∙ p.processes);
+  processes = r.adds.grown ∙ ap (λ (z : Vec Process Global). z.items ++ r.adds.added) p.processes;
   behaviors_mean = r.adds.means;
 }
   where
     sound : (w : Reason) (at : Path) → FillsNot envs s w at → ⊥
-    sound w at (inl h) = true≢false (sym h.0 ∙ p.adds.sound w)
+    sound w at (inl h) = true≢false (sym h.0 ∙ p.ports_added.sound w)
     sound w at (inr (inl h)) = r.adds.sound w at (record { place = h.place; behavior = h.behavior; stands = h.stands; fault = h.fault })
-    sound w at (inr (inr h)) = true≢false (sym h.0 ∙ q.adds.sound w)
+    sound w at (inr (inr h)) = true≢false (sym h.0 ∙ p.text_added.sound w)
 
-module _ (envs : Path → Surroundings) (s : Scope) (start : Contents) (e : ElabFault) where
+module _ (envs : Path → Surroundings) (s : Scope) (start : List Assign) (e : ElabFault) where
   pub connects_told : Told (ConnectsNot s start (port_drivers_of s)) e → Told (FillsNot envs s) e
   connects_told h = told_by (ConnectsNot s start (port_drivers_of s)) (FillsNot envs s) e (λ r p k. inl k) h
 
   pub drives_told : Told (DrivesNot s start (drivers_of s)) e → Told (FillsNot envs s) e
   drives_told h = told_by (DrivesNot s start (drivers_of s)) (FillsNot envs s) e (λ r p k. inr (inr k)) h
 
+module _ (envs : Path → Surroundings) (s : Scope) (start : Contents) (e : ElabFault) where
   pub runs_told : Told (RunsNot envs s start (behaviors_of s)) e → Told (FillsNot envs s) e
   runs_told h = told_by (RunsNot envs s start (behaviors_of s)) (FillsNot envs s) e (λ r p k. inr (inl (record { place = k.place; behavior = k.behavior; stands = k.stands; fault = k.fault }))) h
 
@@ -306,10 +299,10 @@ module _ (envs : Path → Surroundings) (s : Scope) (o : FoundScope) (m : HasMem
   pub runs_are : flat_map (λ (x : FoundPort). port_setting (read_port x)) o.ports.items ++ flat_map (λ (x : FoundPiece). behaviors_in (read_piece x)) o.pieces.items ≡ behaviors_of s
   runs_are = ap₂ (λ x y. x ++ y) (flat_read port_setting read_port o.ports.items s.ports m.ports) (flat_read behaviors_in read_piece o.pieces.items s.pieces m.pieces)
 
-  pub fills_ports_not : (start : Contents) (e : ElabFault) → Told (ConnectsNot s start (port_drivers (map read_port o.ports.items) (read_ends o.ends.items))) e → Told (FillsNot envs s) e
+  pub fills_ports_not : (start : List Assign) (e : ElabFault) → Told (ConnectsNot s start (port_drivers (map read_port o.ports.items) (read_ends o.ends.items))) e → Told (FillsNot envs s) e
   fills_ports_not start e h = connects_told envs s start e (subst (λ z. Told (ConnectsNot s start z) e) ports_are h)
 
-  pub fills_texts_not : (start : Contents) (e : ElabFault) → Told (DrivesNot s start (flat_map (λ (x : FoundPiece). drivers_in (read_piece x)) o.pieces.items)) e → Told (FillsNot envs s) e
+  pub fills_texts_not : (start : List Assign) (e : ElabFault) → Told (DrivesNot s start (flat_map (λ (x : FoundPiece). drivers_in (read_piece x)) o.pieces.items)) e → Told (FillsNot envs s) e
   fills_texts_not start e h = drives_told envs s start e (subst (λ z. Told (DrivesNot s start z) e) texts_are h)
 
   pub fills_settings_not : (start : Contents) (e : ElabFault) → Told (RunsNot envs s start (flat_map (λ (x : FoundPort). port_setting (read_port x)) o.ports.items)) e → Told (FillsNot envs s) e
@@ -319,13 +312,24 @@ module _ (envs : Path → Surroundings) (s : Scope) (o : FoundScope) (m : HasMem
       let all : Told (RunsNot envs s start (front ++ rest)) e = told_by (RunsNot envs s start front) (RunsNot envs s start (front ++ rest)) e (λ r p k. runs_not_more envs s start front rest r p k) h in
       runs_told envs s start e (subst (λ z. Told (RunsNot envs s start z) e) runs_are all)
 
-  pub fills_all : (n k : ℕ) (a b c d : Contents) (r : Result Unit ElabFault) → Connects s b a (port_drivers (map read_port o.ports.items) (read_ends o.ends.items)) → Drives s n c b (flat_map (λ (x : FoundPiece). drivers_in (read_piece x)) o.pieces.items) →
+  pub drives_scope : (a c : Contents) (ports text : List Assign) → c.assigns.items ≡ a.assigns.items ++ (ports ++ text) → c.processes ≡ a.processes → Connects s ports [] (port_drivers (map read_port o.ports.items) (read_ends o.ends.items)) →
+      Drives s text [] (flat_map (λ (x : FoundPiece). drivers_in (read_piece x)) o.pieces.items) → DrivesScope s a c
+  drives_scope a c ports text h k p q = record {
+    ports = ports;
+    text = text;
+    ports_added = subst (Connects s ports []) ports_are p;
+    text_added = subst (Drives s text []) texts_are q;
+    assigns = h;
+    processes = k;
+  }
+
+  pub fills_all : (k : ℕ) (a c d : Contents) (r : Result Unit ElabFault) → DrivesScope s a c →
       MatchResult r
       (λ _. Runs envs s k d c (flat_map (λ (x : FoundPort). port_setting (read_port x)) o.ports.items ++ flat_map (λ (x : FoundPiece). behaviors_in (read_piece x)) o.pieces.items))
       (Told (RunsNot envs s c (flat_map (λ (x : FoundPort). port_setting (read_port x)) o.ports.items ++ flat_map (λ (x : FoundPiece). behaviors_in (read_piece x)) o.pieces.items))) →
       MatchResult r (λ _. FillsScope envs s a d) (Told (FillsNot envs s))
-  fills_all n k a b c d (Ok u) p q h = fills envs s n k a b c d (subst (Connects s b a) ports_are p) (subst (Drives s n c b) texts_are q) (subst (Runs envs s k d c) runs_are h)
-  fills_all n k a b c d (Err e) p q h = runs_told envs s c e (subst (λ z. Told (RunsNot envs s c z) e) runs_are h)
+  fills_all k a c d (Ok u) p h = fills envs s k a c d p (subst (Runs envs s k d c) runs_are h)
+  fills_all k a c d (Err e) p h = runs_told envs s c e (subst (λ z. Told (RunsNot envs s c z) e) runs_are h)
 
 -- one of several scopes has a fault
 pub fills_one_not : (envs : Path → Surroundings) (ss : List Scope) (k : ℕ) (s : Scope) (e : ElabFault) → slice_get ss k ≡ Some s → Told (FillsNot envs s) e → Told (FillsOneNot envs ss) e

@@ -42,7 +42,7 @@ use Rattle.vs_bodies.specs.passes.Bodies.{counting}
 use Rattle.vs_bodies.specs.passes.Views.{AreSites, IsPlaced}
 use Rattle.vs_bodies.proofs.BlockLemmas.{zip_at, zip_other}
 use Rattle.vs_bodies.proofs.WellFormedLemmas.{IsGood}
-use Rattle.vs_elaborate.specs.declared.contents.Contents.{Contents}
+use Rattle.vs_contents.specs.declared.contents.Contents.{Contents}
 use Rattle.vs_elaborate.specs.Timescales.{timescale_of, has_other_timescale}
 use Rattle.vs_elaborate.specs.Faults.{Faults, DrivesTwice, surroundings_of}
 use Rattle.vs_elaborate.specs.DesignOf.{DesignOf}

@@ -11,7 +11,6 @@ ghost use Rattle.vs_bodies.specs.Members.{into, out_of, connected, port_drivers}
 ghost use Rattle.vs_elaborate.specs.Drivers.{IsPortAssign, port_driver_fault};
 ghost use Rattle.vs_elaborate.specs.passes.Filling.{IsFrame, IsLeftEnd, Connects, ConnectsNot};
 
-use crate::contents::Contents;
 use crate::frames::{Frame, outer_fault};
 use std::alloc::Global;
 use vs_bodies::{name_source, source};
@@ -84,17 +83,17 @@ fn drive_port(
     outer: &Levels,
     port: &ModulePort,
     e: &Expr,
-    contents: &mut Contents,
+    assigns: &mut Vec<Assign>,
 ) -> Result<(), ElabFault>
     requires { IsLeftEnd (read_port port.now) e.now }
     ensures { (envs : Path → Surroundings) (s : Scope) → IsFrame frame.now envs s → meaning_of outer.now ≡ s.outer →
-        Grows (Connects s contents.old) (Connects s contents.new) (ConnectsNot s)
+        Grows (Connects s assigns.old.items) (Connects s assigns.new.items) (ConnectsNot s)
         (connected port.now.direction port.now.name.now e.now ∷ []) result }
 {
     match port_sides(alloc, frame.view.names, outer, port, e) {
         Ok((target, source)) => {
             let name = print_port_part(alloc, &frame.path, port.name)?;
-            contents.assigns.push(Assign {
+            assigns.push(Assign {
                 name,
                 target,
                 source,
@@ -112,17 +111,17 @@ pub fn drive_ports(
     outer: &Levels,
     ports: &[ModulePort],
     ends: &[Option<&Expr>],
-    contents: &mut Contents,
+    assigns: &mut Vec<Assign>,
 ) -> Result<(), ElabFault>
     requires { has_wrong_end (map read_port ports.now) (read_ends ends.now) ≡ false }
     ensures { (envs : Path → Surroundings) (s : Scope) → IsFrame frame.now envs s → meaning_of outer.now ≡ s.outer →
-        Grows (Connects s contents.old) (Connects s contents.new) (ConnectsNot s)
+        Grows (Connects s assigns.old.items) (Connects s assigns.new.items) (ConnectsNot s)
         (port_drivers (map read_port ports.now) (read_ends ends.now)) result }
 {
     let count = ports.len().min(ends.len());
     for place in 0..count {
         if let Some(e) = ends[place] {
-            drive_port(alloc, frame, outer, &ports[place], e, contents)?;
+            drive_port(alloc, frame, outer, &ports[place], e, assigns)?;
         }
     }
     Ok(())

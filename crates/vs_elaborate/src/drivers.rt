@@ -11,7 +11,6 @@ ghost use Rattle.vs_bodies.specs.Statements.{IsAssignment};
 ghost use Rattle.vs_bodies.specs.Members.{Assignment, values_of, net_assignment, drivers_by_item, drivers_in};
 ghost use Rattle.vs_elaborate.specs.passes.Filling.{IsFrame, text_faults, Drives, DrivesNot};
 
-use crate::contents::Contents;
 use crate::frames::{Frame, part_fault};
 use std::alloc::Global;
 use vs_bodies::{assignment, declared_assignment};
@@ -24,24 +23,23 @@ use vs_widths::AssignmentKind;
 /// The kind of an assignment that drives a net.
 const CONTINUOUS: AssignmentKind = AssignmentKind::Continuous;
 
-/// Adds a continuous assignment with these sides to a scope whose first one has this number in the design.
+/// Adds a continuous assignment with these sides to those of the text of a scope.
 fn drive(
     alloc: Global,
     frame: &Frame,
-    first: usize,
     sides: Result<(Target, Typed), BodyFault>,
-    contents: &mut Contents,
+    assigns: &mut Vec<Assign>,
 ) -> Result<(), ElabFault>
     ensures { (envs : Path → Surroundings) (s : Scope) (a : Assignment) → IsFrame frame.now envs s →
         Elaborates (λ r. text_faults s r a)
         (λ p. IsAssignment Continuous (environment s) a.target a.value p.0 p.1) sides →
-        Grows (Drives s first contents.old) (Drives s first contents.new) (DrivesNot s) (a ∷ []) result }
+        Grows (Drives s assigns.old.items) (Drives s assigns.new.items) (DrivesNot s) (a ∷ []) result }
 {
     match sides {
         Ok((target, source)) => {
-            let number = contents.assigns.len().saturating_sub(first);
+            let number = assigns.len();
             let name = print_part(alloc, &frame.path, b'a', number)?;
-            contents.assigns.push(Assign {
+            assigns.push(Assign {
                 name,
                 target,
                 source,
@@ -56,12 +54,11 @@ fn drive(
 fn drive_declared(
     alloc: Global,
     frame: &Frame,
-    first: usize,
     declarators: &[Declarator],
-    contents: &mut Contents,
+    assigns: &mut Vec<Assign>,
 ) -> Result<(), ElabFault>
     ensures { (envs : Path → Surroundings) (s : Scope) → IsFrame frame.now envs s →
-        Grows (Drives s first contents.old) (Drives s first contents.new) (DrivesNot s) (values_of declarators.now) result }
+        Grows (Drives s assigns.old.items) (Drives s assigns.new.items) (DrivesNot s) (values_of declarators.now) result }
 {
     for declarator in declarators {
         if let Some(value) = &declarator.value {
@@ -72,7 +69,7 @@ fn drive_declared(
                 &declarator.name,
                 value,
             );
-            drive(alloc, frame, first, sides, contents)?;
+            drive(alloc, frame, sides, assigns)?;
         }
     }
     Ok(())
@@ -82,16 +79,15 @@ fn drive_declared(
 fn drive_assigned(
     alloc: Global,
     frame: &Frame,
-    first: usize,
     list: &[NetAssignment],
-    contents: &mut Contents,
+    assigns: &mut Vec<Assign>,
 ) -> Result<(), ElabFault>
     ensures { (envs : Path → Surroundings) (s : Scope) → IsFrame frame.now envs s →
-        Grows (Drives s first contents.old) (Drives s first contents.new) (DrivesNot s) (map net_assignment list.now) result }
+        Grows (Drives s assigns.old.items) (Drives s assigns.new.items) (DrivesNot s) (map net_assignment list.now) result }
 {
     for one in list {
         let sides = assignment(alloc, frame.view.names, CONTINUOUS, &one.target, &one.value);
-        drive(alloc, frame, first, sides, contents)?;
+        drive(alloc, frame, sides, assigns)?;
     }
     Ok(())
 }
@@ -100,16 +96,15 @@ fn drive_assigned(
 fn drive_item(
     alloc: Global,
     frame: &Frame,
-    first: usize,
     item: &Item,
-    contents: &mut Contents,
+    assigns: &mut Vec<Assign>,
 ) -> Result<(), ElabFault>
     ensures { (envs : Path → Surroundings) (s : Scope) → IsFrame frame.now envs s →
-        Grows (Drives s first contents.old) (Drives s first contents.new) (DrivesNot s) (drivers_by_item item.now) result }
+        Grows (Drives s assigns.old.items) (Drives s assigns.new.items) (DrivesNot s) (drivers_by_item item.now) result }
 {
     match item {
-        Item::Wire(_, list) => drive_declared(alloc, frame, first, list, contents),
-        Item::Assign(list) => drive_assigned(alloc, frame, first, list, contents),
+        Item::Wire(_, list) => drive_declared(alloc, frame, list, assigns),
+        Item::Assign(list) => drive_assigned(alloc, frame, list, assigns),
         _ => Ok(()),
     }
 }
@@ -118,15 +113,14 @@ fn drive_item(
 fn drive_piece(
     alloc: Global,
     frame: &Frame,
-    first: usize,
     piece: &Piece,
-    contents: &mut Contents,
+    assigns: &mut Vec<Assign>,
 ) -> Result<(), ElabFault>
     ensures { (envs : Path → Surroundings) (s : Scope) → IsFrame frame.now envs s →
-        Grows (Drives s first contents.old) (Drives s first contents.new) (DrivesNot s) (drivers_in (read_piece piece.now)) result }
+        Grows (Drives s assigns.old.items) (Drives s assigns.new.items) (DrivesNot s) (drivers_in (read_piece piece.now)) result }
 {
     match piece {
-        Piece::Plain(item) => drive_item(alloc, frame, first, item, contents),
+        Piece::Plain(item) => drive_item(alloc, frame, item, assigns),
         _ => Ok(()),
     }
 }
@@ -135,16 +129,15 @@ fn drive_piece(
 pub fn drive_pieces(
     alloc: Global,
     frame: &Frame,
-    first: usize,
     pieces: &[Piece],
-    contents: &mut Contents,
+    assigns: &mut Vec<Assign>,
 ) -> Result<(), ElabFault>
     ensures { (envs : Path → Surroundings) (s : Scope) → IsFrame frame.now envs s →
-        Grows (Drives s first contents.old) (Drives s first contents.new) (DrivesNot s)
+        Grows (Drives s assigns.old.items) (Drives s assigns.new.items) (DrivesNot s)
         (flat_map (λ x. drivers_in (read_piece x)) pieces.now) result }
 {
     for piece in pieces {
-        drive_piece(alloc, frame, first, piece, contents)?;
+        drive_piece(alloc, frame, piece, assigns)?;
     }
     Ok(())
 }

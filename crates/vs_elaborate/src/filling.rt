@@ -10,15 +10,15 @@ ghost use Rattle.vs_opened.specs.declared.opened.Opened.{Opened as FoundScope};
 ghost use Rattle.vs_opened.specs.Opened.{AreOpened, AreSeated, StandsAround};
 ghost use Rattle.vs_bodies.specs.Surroundings.{Surroundings, surroundings_at};
 ghost use Rattle.vs_bodies.specs.passes.Views.{AreSites, IsPlaced};
-ghost use Rattle.vs_elaborate.specs.passes.Filling.{IsFrame, HasMembers, AreLefts, Fills, FillsNot, FillsOneNot, FillsScope};
+ghost use Rattle.vs_elaborate.specs.passes.Filling.{IsFrame, HasMembers, AreLefts, Fills, FillsNot, FillsOneNot, DrivesScope, FillsScope};
 
 use crate::connecting::drive_ports;
-use crate::contents::Contents;
 use crate::drivers::drive_pieces;
 use crate::frames::Frame;
 use crate::processes::{run_pieces, run_ports};
 use std::alloc::{AllocError, Global};
 use vs_bodies::{Ratio, View};
+use vs_contents::Contents;
 use vs_opened::{Opened, names_around, names_outward, path};
 use vs_scopes::ElabFault;
 use vs_selects::Binding;
@@ -41,6 +41,27 @@ fn names_outside<'s, 'o>(
     }
 }
 
+/// Adds the continuous assignments of a scope in a frame: those of its ports, and behind them those of its text
+/// (IEEE 1364-2005, clause 12.3.10).
+fn drive_frame(
+    alloc: Global,
+    frame: &Frame,
+    scope: &Opened,
+    outer: &Levels,
+    contents: &mut Contents,
+) -> Result<(), ElabFault>
+    requires { AreLefts scope.now }
+    ensures { (envs : Path → Surroundings) (s : Scope) → IsFrame frame.now envs s → HasMembers scope.now s
+        → meaning_of outer.now ≡ s.outer → MatchResult result (λ _. DrivesScope s contents.old contents.new) (Told (FillsNot envs s)) }
+{
+    let mut ports = Vec::new(alloc);
+    drive_ports(alloc, frame, outer, &scope.ports, &scope.ends, &mut ports)?;
+    let mut text = Vec::new(alloc);
+    drive_pieces(alloc, frame, &scope.pieces, &mut text)?;
+    contents.add_assigns(&mut ports, &mut text)?;
+    Ok(())
+}
+
 /// Adds the continuous assignments and the processes of a scope in a frame.
 fn fill_frame(
     alloc: Global,
@@ -54,9 +75,7 @@ fn fill_frame(
     ensures { (envs : Path → Surroundings) (s : Scope) → IsFrame frame.now envs s → HasMembers scope.now s
         → meaning_of outer.now ≡ s.outer → MatchResult result (λ _. FillsScope envs s contents.old contents.new) (Told (FillsNot envs s)) }
 {
-    drive_ports(alloc, frame, outer, &scope.ports, &scope.ends, contents)?;
-    let first = contents.assigns.len();
-    drive_pieces(alloc, frame, first, &scope.pieces, contents)?;
+    drive_frame(alloc, frame, scope, outer, contents)?;
     let first = contents.processes.len();
     run_ports(alloc, frame, first, &scope.ports, contents)?;
     run_pieces(alloc, frame, first, &scope.pieces, contents)

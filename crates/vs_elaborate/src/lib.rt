@@ -2,7 +2,6 @@
 #![tactic(auto)]
 
 mod connecting;
-mod contents;
 mod drivers;
 mod filling;
 mod frames;

@@ -14,10 +14,10 @@ ghost use Rattle.vs_bodies.specs.passes.Faults.{IsBelow};
 ghost use Rattle.vs_bodies.specs.passes.Views.{IsPlaced};
 ghost use Rattle.vs_elaborate.specs.passes.Filling.{IsFrame, Runs, RunsNot};
 
-use crate::contents::Contents;
 use crate::frames::{Frame, process_fault};
 use std::alloc::Global;
 use vs_bodies::{StatementFault, repeat_body, run_body, set_body};
+use vs_contents::Contents;
 use vs_design::{Process, ProcessKind, Statement};
 use vs_pieces::Piece;
 use vs_scopes::{ElabFault, ModulePort, print_part};

@@ -8,9 +8,9 @@ use Rattle.vs_process.specs.Blocks.{is_step_of_any}
 use Rattle.vs_process.specs.Executions.{apply, is_enabled}
 use Rattle.vs_process.specs.States.{State, AssignState, evaluate, propagate, propagate_value}
 use Rattle.std.specs.Prelude.{slice_get}
-use Rattle.vs_kernel.specs.declared.entries.AssignEvent.{AssignEvent}
-use Rattle.vs_kernel.specs.declared.entries.AssignEvent.TheVariants as e
-use Rattle.vs_kernel.specs.AssignEvents.{move_of}
+use Rattle.vs_agenda.specs.declared.entries.AssignEvent.{AssignEvent}
+use Rattle.vs_agenda.specs.declared.entries.AssignEvent.TheVariants as e
+use Rattle.vs_agenda.specs.AssignEvents.{move_of}
 use Rattle.vs_kernel.specs.Insides.{inside_told}
 use Rattle.vs_kernel.proofs.RunsLemmas.{evaluate_over, propagate_over}
 use Rattle.vs_kernel.proofs.TurnsLemmas.{Along, along_first}

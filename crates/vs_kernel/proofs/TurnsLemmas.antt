@@ -1,8 +1,11 @@
 -- Steps of a run, one after another.
-use Rattle.std.proofs.Common.{◌≡◌, ℕ, zero, suc, ◌+◌, ◌<◌, ◌≤◌, Bool, true, false, if◌then◌else◌, Option, Some, None, List, [], ◌∷◌, ◌++◌, map, slice_get, refl, sym, ◌∙◌, ap, subst, arith, eq-eqb}
+use Rattle.std.proofs.Common.{◌≡◌, ℕ, zero, suc, ◌+◌, ◌*◌, ◌<◌, ◌≤◌, Bool, true, false, if◌then◌else◌, Option, Some, None, List, [], ◌∷◌, ◌++◌, map, length, slice_get, refl, sym, ◌∙◌, ap, subst, arith, eq-eqb}
 use Rattle.std.specs.Io.KnownBytes.{Appends}
+use Rattle.std.specs.Prelude.{Result, IfOk, OnOk, OnErr}
 use Rattle.std.proofs.lemmas.List.{append-nil}
+use Rattle.std.proofs.lemmas.Result.{IfOk-weaker, on_err_weaker, on_ok_weaker}
 use Rattle.vs_design.specs.Parts.{Parts}
+use Rattle.vs_design.specs.Stores.{Store}
 use Rattle.vs_design.specs.Traces.{Line, Slot}
 use Rattle.vs_process.specs.declared.moves.Move.{Move}
 use Rattle.vs_process.specs.declared.moves.Move.TheVariants.{Step, Evaluate, Propagate, Make, Rouse, Activate, EndSlot}
@@ -15,14 +18,17 @@ use Rattle.vs_process.specs.States.{State, Update, make, stepped, written_behind
 use Rattle.vs_regions.specs.Active.{place_of_active}
 use Rattle.vs_state.specs.Prints.{made_line, made_text}
 use Rattle.vs_state.specs.Told.{told}
-use Rattle.vs_vcd.specs.Progress.{HasWritten, Progress}
+use Rattle.vs_vcd.specs.declared.fault.VcdFault.{VcdFault}
+use Rattle.vs_vcd.specs.Progress.{Covers, HasWritten, Progress}
 use Rattle.vs_vcd.specs.Sinks.{AppendsPart}
 use Rattle.vs_vcd.specs.Text.{vcd_slots}
 use Rattle.vs_kernel.specs.Insides.{inside_told, is_told}
 use Rattle.vs_kernel.specs.Points.{Point, point}
 use Rattle.vs_kernel.specs.Prints.{lines_text}
 use Rattle.vs_kernel.specs.Runs.{AppendsSlots, AppendsSlotsPart, HasBegun}
-use Rattle.vs_kernel.specs.Turns.{AllTurned, AllTurnedPart, Batch, BatchPart, IsReached, Turned, TurnedPart}
+use Rattle.vs_kernel.specs.Marking.{MarkChanges}
+use Rattle.vs_kernel.specs.Turns.{AllTurned, AllTurnedPart, Batch, BatchPart, IsReached, Took, TookPart, Turned, TurnedPart}
+use Rattle.vs_kernel.proofs.MarkingLemmas.{covers_on}
 use Rattle.vs_kernel.proofs.PrintsLemmas.{move_prints}
 use Rattle.vs_kernel.proofs.RunsLemmas.{HasRun, append_none, goes_on, incomplete, inside_next, make_over, move_failed, none_ended, not_ended, part_all, permitted, permitted_block, stepped_over}
 
@@ -284,3 +290,41 @@ all_failed {d} {until} {steps} {taken} {budget} {p} {old} {lold} {vcd} {lines} r
     let by : q.state.time ≤ until = omega (arith, t.time, early) in
     move_failed here.run f.choice (permitted d q.state f.choice t.going f.enabled) (permitted_block here.run exclude q.inside f.choice here.inside t.going f.enabled f.free)
     (incomplete until q.state t.going by) (omega (arith, within, t.within)) (f.text d) f.lines
+
+-- ---- steps from a move on
+
+-- a batch, whatever was written of the dump
+pub took_batch : (r : Result ℕ VcdFault) (m first : Move) (s t : State) (writer : Progress) (vcd old new : Option (List ℕ)) → first ≡ m →
+    IfOk r (λ taken. Batch taken m s t old new) → IfOk r (λ taken. Took taken first s t writer writer vcd vcd old new)
+took_batch r m first s t writer vcd old new is h =
+    subst (λ (n : Move). IfOk r (λ taken. Took taken n s t writer writer vcd vcd old new)) (sym is)
+    (IfOk-weaker r (λ taken. Batch taken m s t old new) (λ taken. Took taken m s t writer writer vcd vcd old new) (λ taken b blocks inside free. b blocks inside writer vcd free) h)
+
+-- one that failed
+pub took_batch_part : (r : Result ℕ VcdFault) (steps : ℕ) (m first : Move) (s : State) (writer : Progress) (vcd old new : Option (List ℕ)) → first ≡ m →
+    OnErr r (BatchPart steps m s old new) → OnErr r (TookPart steps first s writer vcd vcd old new)
+took_batch_part r steps m first s writer vcd old new is h =
+    let part : BatchPart steps m s old new → TookPart steps m s writer vcd vcd old new = λ b blocks inside free. b blocks inside writer vcd free in
+    subst (λ (n : Move). OnErr r (TookPart steps n s writer vcd vcd old new)) (sym is) (on_err_weaker r part h)
+
+-- a step that failed
+pub took_once : (r : Result ℕ VcdFault) (steps : ℕ) (first : Move) (s : State) (writer : Progress) (vcd vcd' lines lines' : Option (List ℕ)) → 0 < steps → s.over ≡ false →
+    OnErr r ((inside : Option ℕ) → is_step_of_any inside first ≡ true → TurnedPart (point inside s writer vcd lines) vcd' lines') → OnErr r (TookPart steps first s writer vcd vcd' lines lines')
+took_once r steps first s writer vcd vcd' lines lines' some going h =
+    let part : ((inside : Option ℕ) → is_step_of_any inside first ≡ true → TurnedPart (point inside s writer vcd lines) vcd' lines') → TookPart steps first s writer vcd vcd' lines lines' =
+    λ t blocks inside free. once_part steps blocks (point inside s writer vcd lines) vcd' lines' some going (t inside free)
+    in
+    on_err_weaker r part h
+
+-- what holds of one holds of how many one step is
+pub one_step : (r : Result ℕ VcdFault) (P : ℕ → Type 0) → P 1 → IfOk r (λ n. n ≡ 1) → IfOk r P
+one_step r P one h = IfOk-weaker r (λ n. n ≡ 1) P (λ n is. subst P (sym is) one) h
+
+-- the marks cover what steps change
+pub took_marked : (r : Result ℕ VcdFault) (writer : Progress) (old new : List ℕ) (s t : Store) → Covers old writer s → OnOk r (MarkChanges old new s t) →
+    OnOk r ((d : Parts) (slots : List Slot) → HasWritten writer d slots → length d.signals < 512 * length old → Covers new writer t)
+took_marked r writer old new s t covers h =
+    let on : MarkChanges old new s t → (d : Parts) (slots : List Slot) → HasWritten writer d slots → length d.signals < 512 * length old → Covers new writer t =
+    λ changes d slots written room. covers_on old new s t written room covers changes
+    in
+    on_ok_weaker r on h

@@ -1,10 +1,9 @@
-pub mod AssignEvents
 pub mod Ends
 pub mod Faults
 pub mod Insides
 pub mod Marking
 pub mod Points
-pub mod Policies
+pub use Rattle.vs_agenda.specs.Policies
 pub mod Prints
 pub mod Runs
 pub mod Shows

@@ -65,3 +65,14 @@ abbrev pub BatchPart : ℕ → Move → State → Option (List ℕ) → Option (
 BatchPart steps first s old new =
     (blocks : List Bool) (inside : Option ℕ) (writer : Progress) (vcd : Option (List ℕ)) → is_step_of_any inside first ≡ true →
     AllTurnedPart steps blocks (point inside s writer vcd old) vcd new
+
+-- so many steps in a slot; this move is the first, whatever the number of its update
+abbrev pub Took : ℕ → Move → State → State → Progress → Progress → Option (List ℕ) → Option (List ℕ) → Option (List ℕ) → Option (List ℕ) → Type 0
+Took taken first s t writer writer' vcd vcd' lines lines' =
+    (blocks : List Bool) (inside : Option ℕ) → is_step_of_any inside first ≡ true →
+    AllTurned taken blocks (point inside s writer vcd lines) (point (inside_told blocks t.places first) t writer' vcd' lines')
+
+-- fewer than so many steps, and then one that failed; this move is the first, whatever the number of its update
+abbrev pub TookPart : ℕ → Move → State → Progress → Option (List ℕ) → Option (List ℕ) → Option (List ℕ) → Option (List ℕ) → Type 0
+TookPart steps first s writer vcd vcd' lines lines' =
+    (blocks : List Bool) (inside : Option ℕ) → is_step_of_any inside first ≡ true → AllTurnedPart steps blocks (point inside s writer vcd lines) vcd' lines'

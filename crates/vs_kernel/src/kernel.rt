@@ -6,10 +6,10 @@ ghost use Rattle.vs_kernel.specs.declared.kernel.Status.TheVariants as statuses;
 ghost use Rattle.vs_process.specs.Permitted.{NeverStuck};
 
 use crate::outcome::{Outcome, RunFault};
-use crate::policy::Pick;
 use crate::run::launch;
 use std::alloc::{AllocError, Global};
 use std::marker::Model;
+use vs_agenda::Pick;
 use vs_design::Design;
 use vs_process::never_stuck;
 use vs_regions::Item;

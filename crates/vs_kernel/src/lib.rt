@@ -4,17 +4,14 @@
 //! steps are used up, and writes the value change dump of its trace, and the lines that its steps make, while it runs.
 #![tactic(auto)]
 
-mod agenda;
-mod entries;
 mod kernel;
 mod laws;
 mod marks;
 mod moves;
 mod outcome;
-mod policy;
 mod run;
 
 pub use kernel::{Kernel, Status};
 pub use laws::dumps_show_slot_ends;
 pub use outcome::{Outcome, RunFault};
-pub use policy::{Fifo, Lifo, Listed, Pick};
+pub use vs_agenda::{Fifo, Lifo, Listed, Pick};

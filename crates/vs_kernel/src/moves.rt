@@ -1,7 +1,7 @@
 //! Moves that are made: one, and one after another where none is chosen between them.
 ghost use Rattle.std.specs.Prelude.{◌≡◌, ◌<◌, ◌≤◌, ◌^◌, false, true, length, IfOk, OnOk, OnErr};
 ghost use Rattle.std.specs.Io.KnownBytes.{Appends};
-ghost use Rattle.vs_kernel.specs.AssignEvents.{move_of};
+ghost use Rattle.vs_agenda.specs.AssignEvents.{move_of};
 ghost use Rattle.vs_kernel.specs.Marking.{MarkChanges};
 ghost use Rattle.vs_kernel.specs.Turns.{Batch, BatchPart, IsReached};
 ghost use Rattle.vs_state.specs.Prints.{made_line, made_text};
@@ -10,9 +10,8 @@ ghost use Rattle.vs_process.specs.Executions as executions;
 ghost use Rattle.vs_vcd.specs.Progress.{is_write_fault};
 ghost use Rattle.vs_vcd.specs.Sinks.{AppendsPart, failed_after};
 
-use crate::agenda::{Agenda, Choice};
-use crate::entries::AssignEvent;
 use crate::marks::mark_all;
+use vs_agenda::{Agenda, AssignEvent, Choice};
 use vs_design::Design;
 use vs_process::{Effect, Move};
 use vs_regions::Item;

@@ -9,7 +9,7 @@ ghost use Rattle.vs_kernel.specs.Prints.{lines_text, slot_lines};
 ghost use Rattle.vs_kernel.specs.Runs.{RanTo, HasBegun, AppendsSlots, AppendsSlotsPart};
 ghost use Rattle.vs_kernel.specs.Insides.{inside_told};
 ghost use Rattle.vs_kernel.specs.Points.{point};
-ghost use Rattle.vs_kernel.specs.Turns.{AllTurned, AllTurnedPart, IsReached, Turned, TurnedPart};
+ghost use Rattle.vs_kernel.specs.Turns.{AllTurned, AllTurnedPart, IsReached, Took, TookPart, TurnedPart};
 ghost use Rattle.vs_process.specs.Blocks.{is_step_of_any};
 ghost use Rattle.vs_process.specs.Executions as executions;
 ghost use Rattle.vs_process.specs.States as states;
@@ -17,13 +17,11 @@ ghost use Rattle.vs_state.specs.Told.{told};
 ghost use Rattle.vs_vcd.specs.Progress.{Covers, HasWritten, is_write_fault};
 ghost use Rattle.vs_vcd.specs.Sinks.{AppendsPart, failed_after};
 
-use crate::agenda::{Agenda, Choice};
-use crate::entries::AssignEvent;
 use crate::marks::{clear, no_marks};
 use crate::moves::{Room, advance, run_assigns, run_process, run_updates};
 use crate::outcome::Outcome;
-use crate::policy::Pick;
 use std::alloc::{AllocError, Global};
+use vs_agenda::{Agenda, AssignEvent, Choice, Pick};
 use vs_design::{Design, Process};
 use vs_process::{
     Code, Effect, Move, blocks_exclude, compile, inside_follows, inside_goes_on, is_combinational,
@@ -204,12 +202,12 @@ struct Taken {
     inside: Option<usize>,
 }
 
-/// Takes a step: writes the slot that a chosen move ends, if it ends one, makes it, and writes the line that it makes.
+/// Takes a step: writes the slot that a chosen move ends, if it ends one, makes it, and writes the line that it makes. The answer is how many steps
+/// were taken: one.
 #[inline(always)]
 fn take_one<'a, Q: EventQueue<Item>, V: Sink, L: Sink>(
     alloc: Global,
     design: &Design,
-    blocks: &[bool],
     state: &mut State<'a, Q>,
     agenda: &mut Agenda,
     writer: &mut Writer,
@@ -218,7 +216,7 @@ fn take_one<'a, Q: EventQueue<Item>, V: Sink, L: Sink>(
     next: Choice,
     vcd: &mut V,
     lines: &mut L,
-) -> Result<Option<usize>, VcdFault>
+) -> Result<u64, VcdFault>
     requires enabled { executions.is_enabled state.old (told state.old next.choice) ≡ true }
     requires going { state.old.over ≡ false }
     requires early { state.old.time < 2 ^ 62 }
@@ -228,9 +226,9 @@ fn take_one<'a, Q: EventQueue<Item>, V: Sink, L: Sink>(
     ensures covers { OnOk result ((d : Parts) (slots : List Slot) → HasWritten writer.new d slots
         → length d.signals < 512 * length marks.old.items → Covers marks.new.items writer.new state.new.store) }
     ensures len { length marks.new.items ≡ length marks.old.items }
-    ensures ok { IfOk result (λ behind. (inside : Option ℕ) → is_step_of_any inside next.choice ≡ true → Turned blocks.now
-        (point inside state.old writer.old (V.bytes vcd.old) (L.bytes lines.old))
-        (point behind state.new writer.new (V.bytes vcd.new) (L.bytes lines.new))) }
+    ensures one { IfOk result (λ taken. taken ≡ 1) }
+    ensures ok { IfOk result (λ taken. Took taken next.choice state.old state.new writer.old writer.new
+        (V.bytes vcd.old) (V.bytes vcd.new) (L.bytes lines.old) (L.bytes lines.new)) }
     ensures err { OnErr result ((inside : Option ℕ) → is_step_of_any inside next.choice ≡ true
         → TurnedPart (point inside state.old writer.old (V.bytes vcd.old) (L.bytes lines.old)) (V.bytes vcd.new) (L.bytes lines.new)) }
     ensures failures { OneFailed (is_write_fault result) (V.failed vcd.old) (V.failed vcd.new) (L.failed lines.old) (L.failed lines.new) }
@@ -238,11 +236,77 @@ fn take_one<'a, Q: EventQueue<Item>, V: Sink, L: Sink>(
     note(alloc, writer, vcd, lines, marks, state, next.choice)?;
     advance(state, design, marks, room, lines, next.choice)?;
     agenda.follow(next, state)?;
-    Ok(inside_behind(blocks, state, next.choice))
+    Ok(1)
 }
 
-/// Takes the next steps, at least one and at most so many: chooses a move and makes it. Where the first event is always chosen, the steps of
-/// a process go on until it waits, and the activated updates until none is left.
+/// Takes the next steps, at least one and at most so many, this one first. In batches the steps of a process go on until it waits, the activated
+/// updates until none is left, and the moves of continuous assignments while they stand at the front of the list. The answer is how many were taken.
+#[inline(always)]
+fn take<'a, Q: EventQueue<Item>, V: Sink, L: Sink>(
+    alloc: Global,
+    design: &Design,
+    state: &mut State<'a, Q>,
+    agenda: &mut Agenda,
+    writer: &mut Writer,
+    marks: &mut Vec<u64>,
+    room: &mut Room<'a>,
+    next: Choice,
+    in_batches: bool,
+    steps: u64,
+    vcd: &mut V,
+    lines: &mut L,
+) -> Result<u64, VcdFault>
+    requires steps { 0 < steps }
+    requires enabled { executions.is_enabled state.old (told state.old next.choice) ≡ true }
+    requires going { state.old.over ≡ false }
+    requires early { state.old.time < 2 ^ 62 }
+    requires reached { IsReached design.now state.old }
+    requires few { length marks.old.items ≤ 2 ^ 57 }
+    requires covers { Covers marks.old.items writer.old state.old.store }
+    ensures covers { OnOk result ((d : Parts) (slots : List Slot) → HasWritten writer.new d slots
+        → length d.signals < 512 * length marks.old.items → Covers marks.new.items writer.new state.new.store) }
+    ensures len { length marks.new.items ≡ length marks.old.items }
+    ensures some { IfOk result (λ taken. 0 < taken) }
+    ensures within { IfOk result (λ taken. taken ≤ steps) }
+    ensures ok { IfOk result (λ taken. Took taken next.choice state.old state.new writer.old writer.new
+        (V.bytes vcd.old) (V.bytes vcd.new) (L.bytes lines.old) (L.bytes lines.new)) }
+    ensures err { OnErr result (TookPart steps next.choice state.old writer.old
+        (V.bytes vcd.old) (V.bytes vcd.new) (L.bytes lines.old) (L.bytes lines.new)) }
+    ensures failures { OneFailed (is_write_fault result) (V.failed vcd.old) (V.failed vcd.new) (L.failed lines.old) (L.failed lines.new) }
+{
+    if !in_batches {
+        return take_one(
+            alloc, design, state, agenda, writer, marks, room, next, vcd, lines,
+        );
+    }
+    let index = next.index;
+    match next.choice {
+        Move::Step(process) => {
+            run_process(
+                state, design, agenda, marks, room, lines, process, index, steps,
+            )
+        }
+        Move::Make(first) => run_updates(state, design, agenda, marks, room, lines, first, steps),
+        Move::Evaluate(assign) => {
+            let first = AssignEvent::Evaluate(assign);
+            run_assigns(
+                state, design, agenda, marks, room, lines, first, index, steps,
+            )
+        }
+        Move::Propagate(assign) => {
+            let first = AssignEvent::Propagate(assign);
+            run_assigns(
+                state, design, agenda, marks, room, lines, first, index, steps,
+            )
+        }
+        _ => take_one(
+            alloc, design, state, agenda, writer, marks, room, next, vcd, lines,
+        ),
+    }
+}
+
+/// Takes the next steps, at least one and at most so many: chooses a move and makes it, and where the first event is always chosen what goes on
+/// from it.
 #[inline(always)]
 fn turn<'a, Q: EventQueue<Item>, P: Pick, V: Sink, L: Sink>(
     alloc: Global,
@@ -279,52 +343,25 @@ fn turn<'a, Q: EventQueue<Item>, P: Pick, V: Sink, L: Sink>(
     ensures failures { OneFailed (is_write_fault result) (V.failed vcd.old) (V.failed vcd.new) (L.failed lines.old) (L.failed lines.new) }
 {
     let next = choose(state, inside, agenda, policy);
-    if P::FIRST {
-        match next.choice {
-            Move::Step(process) => {
-                let taken = run_process(
-                    state, design, agenda, marks, room, lines, process, next.index, steps,
-                )?;
-                let inside = inside_behind(blocks, state, next.choice);
-                return Ok(Taken {
-                    steps: taken,
-                    inside,
-                });
-            }
-            Move::Make(first) => {
-                let taken = run_updates(state, design, agenda, marks, room, lines, first, steps)?;
-                return Ok(Taken {
-                    steps: taken,
-                    inside: None,
-                });
-            }
-            Move::Evaluate(assign) => {
-                let first = AssignEvent::Evaluate(assign);
-                let taken = run_assigns(
-                    state, design, agenda, marks, room, lines, first, next.index, steps,
-                )?;
-                return Ok(Taken {
-                    steps: taken,
-                    inside: None,
-                });
-            }
-            Move::Propagate(assign) => {
-                let first = AssignEvent::Propagate(assign);
-                let taken = run_assigns(
-                    state, design, agenda, marks, room, lines, first, next.index, steps,
-                )?;
-                return Ok(Taken {
-                    steps: taken,
-                    inside: None,
-                });
-            }
-            _ => {}
-        }
-    }
-    let inside = take_one(
-        alloc, design, blocks, state, agenda, writer, marks, room, next, vcd, lines,
+    let taken = take(
+        alloc,
+        design,
+        state,
+        agenda,
+        writer,
+        marks,
+        room,
+        next,
+        P::FIRST,
+        steps,
+        vcd,
+        lines,
     )?;
-    Ok(Taken { steps: 1, inside })
+    let inside = inside_behind(blocks, state, next.choice);
+    Ok(Taken {
+        steps: taken,
+        inside,
+    })
 }
 
 /// Runs a design from its start.

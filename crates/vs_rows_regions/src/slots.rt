@@ -56,41 +56,58 @@ fn end_slot<Q: EventQueue<Item>>(
     Ok(true)
 }
 
-// Two updates of the first slot around late ones, a process that sleeps, and one that is inactive: what is made and woken, slot by slot.
+// Two updates of the first slot around late ones, a process that sleeps, and one that is inactive.
+fn begin<Q: EventQueue<Item>>(alloc: Global, regions: &mut Regions<Q>) -> Result<(), AllocError> {
+    push(alloc, regions, 1, 0)?;
+    push(alloc, regions, 2, 300)?;
+    push(alloc, regions, 3, 0)?;
+    push(alloc, regions, 4, 44)?;
+    push(alloc, regions, 5, 300)?;
+    let until = regions.time().saturating_add(44);
+    regions.sleep(6, until)?;
+    regions.wait(7)
+}
+
+// Three ends of slots, with an update that is due 256 ticks later behind each.
+fn end_slots<Q: EventQueue<Item>>(
+    alloc: Global,
+    regions: &mut Regions<Q>,
+    made: &mut Vec<u64>,
+    woken: &mut Vec<usize>,
+) -> Result<(), AllocError> {
+    for _ in 0..3 {
+        if end_slot(regions, woken)? {
+            push(alloc, regions, 8, 256)?;
+            make_due(regions, made)?;
+        }
+    }
+    Ok(())
+}
+
+// What is made and woken, slot by slot.
 fn some_slots<Q: EventQueue<Item> + Drop>(
     alloc: Global,
     queue: Q,
-) -> Result<(Vec<u64>, Vec<usize>), AllocError>
+    made: &mut Vec<u64>,
+    woken: &mut Vec<usize>,
+) -> Result<(), AllocError>
     requires empty { Q.bag queue ≡ [] }
     requires at_zero { Q.clock queue ≡ 0 }
 {
     let mut regions = Regions::start(alloc, queue);
-    let mut made = Vec::new(alloc);
-    let mut woken = Vec::new(alloc);
-    push(alloc, &mut regions, 1, 0)?;
-    push(alloc, &mut regions, 2, 300)?;
-    push(alloc, &mut regions, 3, 0)?;
-    push(alloc, &mut regions, 4, 44)?;
-    push(alloc, &mut regions, 5, 300)?;
-    let until = regions.time().saturating_add(44);
-    regions.sleep(6, until)?;
-    regions.wait(7)?;
+    begin(alloc, &mut regions)?;
     if regions.has_inactive() {
-        regions.rouse(&mut woken);
+        regions.rouse(woken);
     }
-    make_due(&mut regions, &mut made)?;
-    for _ in 0..3 {
-        if end_slot(&mut regions, &mut woken)? {
-            push(alloc, &mut regions, 8, 256)?;
-            make_due(&mut regions, &mut made)?;
-        }
-    }
-    Ok((made, woken))
+    make_due(&mut regions, made)?;
+    end_slots(alloc, &mut regions, made, woken)
 }
 
 #[test]
 fn slots_of_a_list(rt: HostRuntime) -> Result<(), Fail> {
-    let (made, woken) = some_slots(rt.alloc(), ListQueue::new(rt.alloc()))?;
+    let (mut made, mut woken) = (Vec::new(rt.alloc()), Vec::new(rt.alloc()));
+    let queue = ListQueue::new(rt.alloc());
+    some_slots(rt.alloc(), queue, &mut made, &mut woken)?;
     assert_eq!(rt; made.as_slice(), [0, 2, 3, 1, 4, 5, 6].as_slice());
     assert_eq!(rt; woken.as_slice(), [7, 6].as_slice());
     Ok(())
@@ -98,8 +115,9 @@ fn slots_of_a_list(rt: HostRuntime) -> Result<(), Fail> {
 
 #[test]
 fn slots_of_a_wheel(rt: HostRuntime) -> Result<(), Fail> {
+    let (mut made, mut woken) = (Vec::new(rt.alloc()), Vec::new(rt.alloc()));
     let queue = Wheel::new(rt.alloc()).ok().ok_or("memory")?;
-    let (made, woken) = some_slots(rt.alloc(), queue)?;
+    some_slots(rt.alloc(), queue, &mut made, &mut woken)?;
     assert_eq!(rt; made.as_slice(), [0, 2, 3, 1, 4, 5, 6].as_slice());
     assert_eq!(rt; woken.as_slice(), [7, 6].as_slice());
     Ok(())

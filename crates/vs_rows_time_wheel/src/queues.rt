@@ -2,6 +2,7 @@
 ghost use Rattle.std.specs.Prelude.{◌≡◌, ◌<◌, ◌≤◌, []};
 
 use std::alloc::{AllocError, Global};
+use std::process::Abort;
 use std::test::Fail;
 use vs_time_wheel::{Answer, Call, EventQueue, ListQueue, Wheel, replay, same_answers};
 
@@ -19,6 +20,27 @@ fn take_next<Q: EventQueue<u64>>(queue: &mut Q) -> Option<(u64, u64)> {
     Some((time, event))
 }
 
+// Schedules an event, or takes one, as a random number says.
+fn drive_once<Q: EventQueue<u64>>(
+    queue: &mut Q,
+    taken: &mut Vec<(u64, u64)>,
+    number: u64,
+    random: u64,
+    delays: u64,
+) -> Result<(), AllocError>
+    requires { 0 < delays }
+{
+    if random >> 60 < 9 {
+        let time = queue.now().saturating_add((random >> 8) % delays);
+        if let Err(_) = queue.schedule(time, number) {
+            return Err(AllocError);
+        }
+    } else if let Some(next) = take_next(queue) {
+        taken.push(next)?;
+    }
+    Ok(())
+}
+
 // Schedules and takes events in a mixed order, and then takes the rest. The events, with their times, as they were taken.
 fn drive<Q: EventQueue<u64>>(
     alloc: Global,
@@ -32,14 +54,7 @@ fn drive<Q: EventQueue<u64>>(
     let mut random = 1;
     for number in 0..calls {
         random = next_random(random);
-        if random >> 60 < 9 {
-            let time = queue.now().saturating_add((random >> 8) % delays);
-            if let Err(_) = queue.schedule(time, number) {
-                return Err(AllocError);
-            }
-        } else if let Some(next) = take_next(queue) {
-            taken.push(next)?;
-        }
+        drive_once(queue, &mut taken, number, random, delays)?;
     }
     for _ in 0..calls {
         if let Some(next) = take_next(queue) {
@@ -63,27 +78,31 @@ fn driven(alloc: Global, calls: u64, delays: u64) -> Result<[Vec<(u64, u64)>; 2]
     Ok([plain, fast])
 }
 
-#[test]
-fn times_wrap_the_wheel(rt: HostRuntime) -> Result<(), Fail> {
-    let [plain, fast] = driven(rt.alloc(), 3000, 300)?;
+// Compares the events of a list and of a wheel, driven alike: more than 1000 are taken.
+fn compare(rt: &impl Abort, alloc: Global, delays: u64) -> Result<(), AllocError>
+    requires { 0 < delays }
+{
+    let [plain, fast] = driven(alloc, 3000, delays)?;
     assert!(rt; plain.len() > 1000);
     assert_eq!(rt; plain.as_slice(), fast.as_slice());
+    Ok(())
+}
+
+#[test]
+fn times_wrap_the_wheel(rt: HostRuntime) -> Result<(), Fail> {
+    compare(&rt, rt.alloc(), 300)?;
     Ok(())
 }
 
 #[test]
 fn times_jump_far(rt: HostRuntime) -> Result<(), Fail> {
-    let [plain, fast] = driven(rt.alloc(), 3000, 0x4000_0000_0000)?;
-    assert!(rt; plain.len() > 1000);
-    assert_eq!(rt; plain.as_slice(), fast.as_slice());
+    compare(&rt, rt.alloc(), 0x4000_0000_0000)?;
     Ok(())
 }
 
 #[test]
 fn times_jump_a_little(rt: HostRuntime) -> Result<(), Fail> {
-    let [plain, fast] = driven(rt.alloc(), 3000, 3000)?;
-    assert!(rt; plain.len() > 1000);
-    assert_eq!(rt; plain.as_slice(), fast.as_slice());
+    compare(&rt, rt.alloc(), 3000)?;
     Ok(())
 }
 
@@ -124,40 +143,34 @@ fn answers_to_calls<Q: EventQueue<u8>>(
 }
 
 // What the law says of those calls.
-fn answers_by_the_law(alloc: Global) -> Result<Vec<Answer<u8>>, AllocError> {
-    let answers = vec![in alloc;
-        Answer::Next(None),
-        Answer::Scheduled,
-        Answer::Scheduled,
-        Answer::Scheduled,
-        Answer::Scheduled,
-        Answer::Next(Some(5)),
-        Answer::Due(None),
-        Answer::Due(Some(1)),
-        Answer::Clock(5),
-        Answer::Due(Some(3)),
-        Answer::Due(None),
-        Answer::Next(Some(261)),
-        Answer::Scheduled,
-        Answer::Due(Some(2)),
-        Answer::Due(Some(5)),
-        Answer::Next(Some(1000)),
-        Answer::Due(Some(4)),
-        Answer::Next(None),
-        Answer::Due(None),
-        Answer::Clock(5000),
-    ]?;
-    Ok(answers)
-}
+const ANSWERS: [Answer<u8>; 20] = [
+    Answer::Next(None),
+    Answer::Scheduled,
+    Answer::Scheduled,
+    Answer::Scheduled,
+    Answer::Scheduled,
+    Answer::Next(Some(5)),
+    Answer::Due(None),
+    Answer::Due(Some(1)),
+    Answer::Clock(5),
+    Answer::Due(Some(3)),
+    Answer::Due(None),
+    Answer::Next(Some(261)),
+    Answer::Scheduled,
+    Answer::Due(Some(2)),
+    Answer::Due(Some(5)),
+    Answer::Next(Some(1000)),
+    Answer::Due(Some(4)),
+    Answer::Next(None),
+    Answer::Due(None),
+    Answer::Clock(5000),
+];
 
 #[test]
 fn the_list_answers_by_the_law(rt: HostRuntime) -> Result<(), Fail> {
     let mut queue = ListQueue::new(rt.alloc());
     let answers = answers_to_calls(rt.alloc(), &mut queue)?;
-    assert_eq!(rt;
-        answers.as_slice(),
-        answers_by_the_law(rt.alloc())?.as_slice()
-    );
+    assert_eq!(rt; answers.as_slice(), ANSWERS.as_slice());
     Ok(())
 }
 
@@ -165,10 +178,7 @@ fn the_list_answers_by_the_law(rt: HostRuntime) -> Result<(), Fail> {
 fn the_wheel_answers_by_the_law(rt: HostRuntime) -> Result<(), Fail> {
     let mut queue = Wheel::new(rt.alloc()).ok().ok_or("memory")?;
     let answers = answers_to_calls(rt.alloc(), &mut queue)?;
-    assert_eq!(rt;
-        answers.as_slice(),
-        answers_by_the_law(rt.alloc())?.as_slice()
-    );
+    assert_eq!(rt; answers.as_slice(), ANSWERS.as_slice());
     Ok(())
 }
 

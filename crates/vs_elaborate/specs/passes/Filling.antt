@@ -1,5 +1,5 @@
 -- What is added to a design, a scope at a time.
-use Rattle.std.specs.Prelude.{◌≡◌, ℕ, ◌-◌, ◌++◌, ◌⊎◌, Bool, true, false, List, Some, length, map, take, slice_get}
+use Rattle.std.specs.Prelude.{◌≡◌, ℕ, ◌-◌, ◌++◌, ◌⊎◌, Bool, true, false, List, [], Some, length, map, take, slice_get}
 use Rattle.std.specs.List.{list_any, flat_map, AllZip}
 use Rattle.vs_design.specs.declared.signal.Signal.{Signal}
 use Rattle.vs_design.specs.declared.design.Assign.{Assign}
@@ -18,13 +18,13 @@ use Rattle.vs_scopes.specs.passes.Answers.{IsFaultAt, Told}
 use Rattle.vs_scopes.specs.passes.Names.{read_path}
 use Rattle.vs_scopes.specs.passes.Parts.{read_port, read_ends}
 use Rattle.vs_opened.specs.declared.opened.Opened.{Opened as FoundScope}
+use Rattle.vs_contents.specs.declared.contents.Contents.{Contents}
 use Rattle.vs_bodies.specs.declared.faults.StatementFault.{StatementFault}
-use Rattle.vs_bodies.specs.Members.{Assignment, PortDriver, Driver, of_text, Behavior}
+use Rattle.vs_bodies.specs.Members.{Assignment, PortDriver, Driver, of_text, Behavior, drivers_of, port_drivers_of}
 use Rattle.vs_bodies.specs.Processes.{HasBehaviorFault}
 use Rattle.vs_bodies.specs.Surroundings.{Surroundings}
 use Rattle.vs_bodies.specs.passes.Views.{IsView, IsSite}
 use Rattle.vs_bodies.specs.passes.Bodies.{BodyFails}
-use Rattle.vs_elaborate.specs.declared.contents.Contents.{Contents}
 use Rattle.vs_elaborate.specs.declared.frames.Frame.{Frame}
 use Rattle.vs_elaborate.specs.Drivers.{driver_fault, port_driver_fault}
 use Rattle.vs_elaborate.specs.Faults.{HasFault, HasPortFault}
@@ -73,25 +73,23 @@ abbrev pub text_faults : Scope → Reason → Assignment → Bool
 text_faults s r = driver_fault r (environment s)
 
 -- continuous assignments of the ports of a scope that were added, from a start on
-pub record Connects (s : Scope) (contents start : Contents) (done : List PortDriver) : Type 0 where
-  pub adds : Adds (AreSound (port_faults s)) IsAssign (map (port_part s)) (length start.assigns.items) contents.assigns.items start.assigns.items done
-  pub processes : contents.processes.items ≡ start.processes.items
+abbrev pub Connects : Scope → List Assign → List Assign → List PortDriver → Type 0
+Connects s assigns start = Adds (AreSound (port_faults s)) IsAssign (map (port_part s)) (length start) assigns start
 
 -- why they weren't: one has a fault
-abbrev pub ConnectsNot : Scope → Contents → List PortDriver → Reason → Path → Type 0
+abbrev pub ConnectsNot : Scope → List Assign → List PortDriver → Reason → Path → Type 0
 ConnectsNot s start = AddsNot (port_faults s) s.around
 
 -- the continuous assignments of a text, as parts
 abbrev pub text_parts : Scope → List Assignment → List (PartOf Driver)
 text_parts s xs = parts_from 97 s 0 (map of_text xs)
 
--- continuous assignments of the text of a scope that were added, from a start on
-pub record Drives (s : Scope) (first : ℕ) (contents start : Contents) (done : List Assignment) : Type 0 where
-  pub adds : Adds (AreSound (text_faults s)) IsAssign (text_parts s) first contents.assigns.items start.assigns.items done
-  pub processes : contents.processes.items ≡ start.processes.items
+-- continuous assignments of the text of a scope that were added, from the first one on
+abbrev pub Drives : Scope → List Assign → List Assign → List Assignment → Type 0
+Drives s = Adds (AreSound (text_faults s)) IsAssign (text_parts s) 0
 
 -- why they weren't: one has a fault
-abbrev pub DrivesNot : Scope → Contents → List Assignment → Reason → Path → Type 0
+abbrev pub DrivesNot : Scope → List Assign → List Assignment → Reason → Path → Type 0
 DrivesNot s start = AddsNot (text_faults s) s.path
 
 -- one of these processes of a scope has the fault, by the path of the innermost scope where it stands
@@ -125,6 +123,15 @@ pub record HasMembers (o : FoundScope) (s : Scope) : Type 0 where
 -- a fault of the continuous assignments and the processes of a scope
 abbrev pub FillsNot : (Path → Surroundings) → Scope → Reason → Path → Type 0
 FillsNot envs s r p = HasPortFault s r p ⊎ HasFault envs s r p
+
+-- the continuous assignments of a scope that were added: those of its ports, and those of its text
+pub record DrivesScope (s : Scope) (old new : Contents) : Type 0 where
+  pub ports : List Assign
+  pub text : List Assign
+  pub ports_added : Connects s ports [] (port_drivers_of s)
+  pub text_added : Drives s text [] (drivers_of s)
+  pub assigns : new.assigns.items ≡ old.assigns.items ++ (ports ++ text)
+  pub processes : new.processes ≡ old.processes
 
 -- the continuous assignments and processes of a scope that were added: they have no faults
 pub record FillsScope (envs : Path → Surroundings) (s : Scope) (old new : Contents) : Type 0 where

@@ -9,7 +9,7 @@ use Rattle.vs_elaborate.proofs.connecting.drive_port.Goals as goal
 pub returns-in_ok-push-in-Ok : goal.returns-in_ok-push-in-Ok
 returns-in_ok-push-in-Ok c envs s f o start done r =
     let p = c.args.port.now in
-    connects_push s c.args.contents.now _ start done (connected p.direction p.name.now c.args.e.now) p.name.now _ c.in_ok-push-in-Ok.ensures.items refl (port_of_connected p.direction p.name.now c.args.e.now) (rw (c.deref.ensures.value, f.path) at c.in_ok-name-in-Ok.ensures) (rw (f.view.names, f.names, o) at c.in-Ok.ensures) r
+    connects_push s c.args.assigns.now.items _ start done (connected p.direction p.name.now c.args.e.now) p.name.now _ c.in_ok-push-in-Ok.ensures.items (port_of_connected p.direction p.name.now c.args.e.now) (rw (c.deref.ensures.value, f.path) at c.in_ok-name-in-Ok.ensures) (rw (f.view.names, f.names, o) at c.in-Ok.ensures) r
 
 pub returns-in-Err : goal.returns-in-Err
 returns-in-Err c envs s f o start done r =

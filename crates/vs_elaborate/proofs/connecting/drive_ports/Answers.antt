@@ -11,7 +11,7 @@ use Rattle.vs_elaborate.proofs.connecting.drive_ports.Goals as goal
 use Rattle.vs_elaborate.proofs.connecting.drive_ports.Goals.{in-Some+in_ok-drive_port, in_default}
 
 pub loop-place-init : goal.loop-place-init
-loop-place-init c = λ envs s f o. ([], refl, kept_none (Connects s c.args.contents.now))
+loop-place-init c = λ envs s f o. ([], refl, kept_none (Connects s c.args.assigns.now.items))
 
 pub drive_port-requires : goal.drive_port-requires
 drive_port-requires c =
@@ -30,7 +30,7 @@ returns-in_err-drive_port c envs s f o =
     let all = port_drivers (map read_port ps) (map read_end es) in
     let port : c.loop-place.place < length ps = omega (arith, c.loop-place-test.true, c.min-count.ensures) in
     let end : c.loop-place.place < length es = omega (arith, c.loop-place-test.true, c.min-count.ensures) in
-    rw (p.1, p.2) (kept_to_fault read_port read_end all ps es (Connects s c.args.contents.now) (Connects s c.loop-place.contents) (ConnectsNot s) c.loop-place.place c.index-ports-place.result _ _ c.in_err-drive_port.field-0.0 port end c.index-ports-place.is (again es c.loop-place.place _ end)
+    rw (p.1, p.2) (kept_to_fault read_port read_end all ps es (Connects s c.args.assigns.now.items) (Connects s c.loop-place.assigns.items) (ConnectsNot s) c.loop-place.place c.index-ports-place.result _ _ c.in_err-drive_port.field-0.0 port end c.index-ports-place.is (again es c.loop-place.place _ end)
     (ap (λ z. port_driver (read_port c.index-ports-place.result) (read_end z)) c.in-Some.is) (connects_not_more s) (c.loop-place.invariant envs s f o) (c.in_err-drive_port.ensures envs s f o))
 
 pub loop-place-preserved : goal.loop-place-preserved
@@ -41,9 +41,9 @@ loop-place-preserved c = λ envs s f o.
     let port : c.loop-place.place < length ps = omega (arith, c.loop-place-test.true, c.min-count.ensures) in
     let end : c.loop-place.place < length es = omega (arith, c.loop-place-test.true, c.min-count.ensures) in
     elim c.match-ends-place.branch [
-      | in-Some+in_ok-drive_port w ↦ rw w.contents-is (kept_to_more read_port read_end all ps es (Connects s c.args.contents.now) (Connects s c.loop-place.contents) (Connects s w.drive_port.new.contents) c.loop-place.place w.index-ports-place.result _ _ port end w.index-ports-place.is (again es c.loop-place.place _ end)
+      | in-Some+in_ok-drive_port w ↦ rw w.assigns-is (kept_to_more read_port read_end all ps es (Connects s c.args.assigns.now.items) (Connects s c.loop-place.assigns.items) (Connects s w.drive_port.new.assigns.items) c.loop-place.place w.index-ports-place.result _ _ port end w.index-ports-place.is (again es c.loop-place.place _ end)
           (ap (λ z. port_driver (read_port w.index-ports-place.result) (read_end z)) w.in-Some.is) (c.loop-place.invariant envs s f o) (w.in_ok-drive_port.ensures envs s f o))
-      | in_default w ↦ rw w.contents-is (kept_to_skip read_port read_end all ps es (Connects s c.args.contents.now) (Connects s c.loop-place.contents) c.loop-place.place _ port end (again es c.loop-place.place _ end)
+      | in_default w ↦ rw w.assigns-is (kept_to_skip read_port read_end all ps es (Connects s c.args.assigns.now.items) (Connects s c.loop-place.assigns.items) c.loop-place.place _ port end (again es c.loop-place.place _ end)
           (λ q. ap (λ z. port_driver (read_port q) (read_end z)) w.in_default.is) (c.loop-place.invariant envs s f o))
     ]
 
@@ -51,4 +51,4 @@ pub returns : goal.returns
 returns c envs s f o =
     let ps = c.args.ports.now in
     let es = c.args.ends.now in
-    kept_to_end read_port read_end (port_drivers (map read_port ps) (map read_end es)) ps es (Connects s c.args.contents.now) (Connects s c.loop-place.contents) c.loop-place.place (omega (arith, c.loop-place-test.false, c.min-count.ensures)) (c.loop-place.invariant envs s f o)
+    kept_to_end read_port read_end (port_drivers (map read_port ps) (map read_end es)) ps es (Connects s c.args.assigns.now.items) (Connects s c.loop-place.assigns.items) c.loop-place.place (omega (arith, c.loop-place-test.false, c.min-count.ensures)) (c.loop-place.invariant envs s f o)

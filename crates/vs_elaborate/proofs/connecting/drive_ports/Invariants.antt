@@ -11,4 +11,4 @@ use Rattle.vs_elaborate.proofs.connecting.drive_ports.Given as goal
 
 abbrev pub invariant-loop-place : goal.invariant-loop-place
 invariant-loop-place l = (envs : Path → Surroundings) (s : Scope) → IsFrame l.frame envs s → meaning_of l.outer ≡ s.outer →
-    KeptTo read_port read_end (port_drivers (map read_port l.ports) (map read_end l.ends)) l.ports l.ends (Connects s l.fn.contents) (Connects s l.contents) l.place
+    KeptTo read_port read_end (port_drivers (map read_port l.ports) (map read_end l.ends)) l.ports l.ends (Connects s l.fn.assigns.items) (Connects s l.assigns.items) l.place

@@ -6,7 +6,7 @@ use Rattle.vs_elaborate.proofs.drivers.drive.Goals as goal
 
 pub returns-in_ok-push-in-Ok : goal.returns-in_ok-push-in-Ok
 returns-in_ok-push-in-Ok c envs s a f e start done r =
-    drives_push s c.args.first c.saturating_sub-number.result c.args.contents.now _ start done a _ c.in_ok-push-in-Ok.ensures.items refl (omega (arith, c.saturating_sub-number.ensures, c.len.ensures, c.args.contents.now.assigns.ok.0)) (rw (c.deref.ensures.value, f.path) at c.in_ok-name-in-Ok.ensures) (rw c.in-Ok.is at e) r
+    drives_push s c.len-number.result c.args.assigns.now.items _ start done a _ c.in_ok-push-in-Ok.ensures.items (omega (arith, c.len-number.ensures, c.args.assigns.now.ok.0)) (rw (c.deref.ensures.value, f.path) at c.in_ok-name-in-Ok.ensures) (rw c.in-Ok.is at e) r
 
 pub returns-in-Err : goal.returns-in-Err
 returns-in-Err c envs s a f e start done r =

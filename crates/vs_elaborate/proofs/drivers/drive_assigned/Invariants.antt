@@ -8,4 +8,4 @@ use Rattle.vs_elaborate.specs.passes.Filling.{IsFrame, Drives}
 use Rattle.vs_elaborate.proofs.drivers.drive_assigned.Given as goal
 
 abbrev pub invariant-loop-one : goal.invariant-loop-one
-invariant-loop-one l = (envs : Path → Surroundings) (s : Scope) → IsFrame l.frame envs s → Kept (Drives s l.first l.fn.contents) (Drives s l.first l.contents) (map net_assignment (take l.one-index l.list))
+invariant-loop-one l = (envs : Path → Surroundings) (s : Scope) → IsFrame l.frame envs s → Kept (Drives s l.fn.assigns.items) (Drives s l.assigns.items) (map net_assignment (take l.one-index l.list))

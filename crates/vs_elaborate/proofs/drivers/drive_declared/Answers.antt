@@ -13,20 +13,20 @@ use Rattle.vs_elaborate.proofs.drivers.drive_declared.Goals.{in-Some+in_ok-drive
 pub returns-in_err-drive : goal.returns-in_err-drive
 returns-in_err-drive c envs s f =
     let p = err_from_is_err_and c.from_residual.result c.from_residual.ensures.1 in
-    rw (p.1, p.2) (kept_fault (λ (d : Declarator). assignment_of d.name.items d.value) (Drives s c.args.first c.args.contents.now) (Drives s c.args.first c.loop-declarator.contents) (DrivesNot s) c.args.declarators.now c.loop-declarator.declarator-index c.declarator-item.result c.in_err-drive.field-0.0 (omega arith) c.declarator-item.is (drives_not_more s) (c.loop-declarator.invariant envs s f)
+    rw (p.1, p.2) (kept_fault (λ (d : Declarator). assignment_of d.name.items d.value) (Drives s c.args.assigns.now.items) (Drives s c.loop-declarator.assigns.items) (DrivesNot s) c.args.declarators.now c.loop-declarator.declarator-index c.declarator-item.result c.in_err-drive.field-0.0 (omega arith) c.declarator-item.is (drives_not_more s) (c.loop-declarator.invariant envs s f)
     (λ start done h. subst (λ z. Told (DrivesNot s start (done ++ z)) c.in_err-drive.field-0.0) (assignment_some c.declarator-item.result.name.items _ c.declarator-item.result.value c.in-Some.value c.deref.ensures.value c.in-Some.is)
     (c.in_err-drive.ensures envs s (record { target = named_signal c.deref.result.now; value = c.in-Some.value }) f (rw (f.view.names, f.names) at c.declared_assignment-sides.ensures) start done h)))
 
 pub returns : goal.returns
 returns c envs s f =
-    kept_all (λ (d : Declarator). assignment_of d.name.items d.value) (Drives s c.args.first c.args.contents.now) (Drives s c.args.first c.loop-declarator.contents) c.args.declarators.now c.loop-declarator.declarator-index (omega arith) (c.loop-declarator.invariant envs s f)
+    kept_all (λ (d : Declarator). assignment_of d.name.items d.value) (Drives s c.args.assigns.now.items) (Drives s c.loop-declarator.assigns.items) c.args.declarators.now c.loop-declarator.declarator-index (omega arith) (c.loop-declarator.invariant envs s f)
 
 pub loop-declarator-preserved : goal.loop-declarator-preserved
 loop-declarator-preserved c envs s f =
     let d = c.declarator-item.result in
-    kept_more (λ (d : Declarator). assignment_of d.name.items d.value) (Drives s c.args.first c.args.contents.now) (Drives s c.args.first c.loop-declarator.contents) (Drives s c.args.first c.match-declarator.contents) c.args.declarators.now c.loop-declarator.declarator-index d (omega arith) c.declarator-item.is (c.loop-declarator.invariant envs s f)
+    kept_more (λ (d : Declarator). assignment_of d.name.items d.value) (Drives s c.args.assigns.now.items) (Drives s c.loop-declarator.assigns.items) (Drives s c.match-declarator.assigns.items) c.args.declarators.now c.loop-declarator.declarator-index d (omega arith) c.declarator-item.is (c.loop-declarator.invariant envs s f)
     (elim c.match-declarator.branch [
-      | in-Some+in_ok-drive w ↦ λ start done h. rw w.contents-is (subst (λ z. Drives s c.args.first w.drive.new.contents start (done ++ z)) (assignment_some d.name.items _ d.value w.in-Some.value w.deref.ensures.value w.in-Some.is)
+      | in-Some+in_ok-drive w ↦ λ start done h. rw w.assigns-is (subst (λ z. Drives s w.drive.new.assigns.items start (done ++ z)) (assignment_some d.name.items _ d.value w.in-Some.value w.deref.ensures.value w.in-Some.is)
           (w.in_ok-drive.ensures envs s (record { target = named_signal w.deref.result.now; value = w.in-Some.value }) f (rw (f.view.names, f.names) at w.declared_assignment-sides.ensures) start done h))
-      | in_default w ↦ λ start done h. rw (w.contents-is, w.in_default.is, append-nil) h
+      | in_default w ↦ λ start done h. rw (w.assigns-is, w.in_default.is, append-nil) h
     ])

@@ -9,4 +9,4 @@ use Rattle.vs_elaborate.specs.passes.Filling.{IsFrame, Drives}
 use Rattle.vs_elaborate.proofs.drivers.drive_declared.Given as goal
 
 abbrev pub invariant-loop-declarator : goal.invariant-loop-declarator
-invariant-loop-declarator l = (envs : Path → Surroundings) (s : Scope) → IsFrame l.frame envs s → Kept (Drives s l.first l.fn.contents) (Drives s l.first l.contents) (flat_map (λ d. assignment_of d.name.items d.value) (take l.declarator-index l.declarators))
+invariant-loop-declarator l = (envs : Path → Surroundings) (s : Scope) → IsFrame l.frame envs s → Kept (Drives s l.fn.assigns.items) (Drives s l.assigns.items) (flat_map (λ d. assignment_of d.name.items d.value) (take l.declarator-index l.declarators))

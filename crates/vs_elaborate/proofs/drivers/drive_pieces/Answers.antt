@@ -11,12 +11,12 @@ use Rattle.vs_elaborate.proofs.drivers.drive_pieces.Goals as goal
 pub returns-in_err-drive_piece : goal.returns-in_err-drive_piece
 returns-in_err-drive_piece c envs s f =
     let p = err_from_is_err_and c.from_residual.result c.from_residual.ensures.1 in
-    rw (p.1, p.2) (kept_fault (λ (x : FoundPiece). drivers_in (read_piece x)) (Drives s c.args.first c.args.contents.now) (Drives s c.args.first c.loop-piece.contents) (DrivesNot s) c.args.pieces.now c.loop-piece.piece-index c.piece-item.result c.in_err-drive_piece.field-0.0 (omega arith) c.piece-item.is (drives_not_more s) (c.loop-piece.invariant envs s f) (c.in_err-drive_piece.ensures envs s f))
+    rw (p.1, p.2) (kept_fault (λ (x : FoundPiece). drivers_in (read_piece x)) (Drives s c.args.assigns.now.items) (Drives s c.loop-piece.assigns.items) (DrivesNot s) c.args.pieces.now c.loop-piece.piece-index c.piece-item.result c.in_err-drive_piece.field-0.0 (omega arith) c.piece-item.is (drives_not_more s) (c.loop-piece.invariant envs s f) (c.in_err-drive_piece.ensures envs s f))
 
 pub returns : goal.returns
 returns c envs s f =
-    kept_all (λ (x : FoundPiece). drivers_in (read_piece x)) (Drives s c.args.first c.args.contents.now) (Drives s c.args.first c.loop-piece.contents) c.args.pieces.now c.loop-piece.piece-index (omega arith) (c.loop-piece.invariant envs s f)
+    kept_all (λ (x : FoundPiece). drivers_in (read_piece x)) (Drives s c.args.assigns.now.items) (Drives s c.loop-piece.assigns.items) c.args.pieces.now c.loop-piece.piece-index (omega arith) (c.loop-piece.invariant envs s f)
 
 pub loop-piece-preserved : goal.loop-piece-preserved
 loop-piece-preserved c envs s f =
-    kept_more (λ (x : FoundPiece). drivers_in (read_piece x)) (Drives s c.args.first c.args.contents.now) (Drives s c.args.first c.loop-piece.contents) (Drives s c.args.first c.drive_piece.new.contents) c.args.pieces.now c.loop-piece.piece-index c.piece-item.result (omega arith) c.piece-item.is (c.loop-piece.invariant envs s f) (c.in_ok-drive_piece.ensures envs s f)
+    kept_more (λ (x : FoundPiece). drivers_in (read_piece x)) (Drives s c.args.assigns.now.items) (Drives s c.loop-piece.assigns.items) (Drives s c.drive_piece.new.assigns.items) c.args.pieces.now c.loop-piece.piece-index c.piece-item.result (omega arith) c.piece-item.is (c.loop-piece.invariant envs s f) (c.in_ok-drive_piece.ensures envs s f)

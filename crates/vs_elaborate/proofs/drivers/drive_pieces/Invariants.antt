@@ -10,4 +10,4 @@ use Rattle.vs_elaborate.specs.passes.Filling.{IsFrame, Drives}
 use Rattle.vs_elaborate.proofs.drivers.drive_pieces.Given as goal
 
 abbrev pub invariant-loop-piece : goal.invariant-loop-piece
-invariant-loop-piece l = (envs : Path → Surroundings) (s : Scope) → IsFrame l.frame envs s → Kept (Drives s l.first l.fn.contents) (Drives s l.first l.contents) (flat_map (λ x. drivers_in (read_piece x)) (take l.piece-index l.pieces))
+invariant-loop-piece l = (envs : Path → Surroundings) (s : Scope) → IsFrame l.frame envs s → Kept (Drives s l.fn.assigns.items) (Drives s l.assigns.items) (flat_map (λ x. drivers_in (read_piece x)) (take l.piece-index l.pieces))

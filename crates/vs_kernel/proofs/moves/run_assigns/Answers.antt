@@ -1,5 +1,5 @@
 use Rattle.std.proofs.Common.{◌∙◌, refl, arith}
-use Rattle.vs_kernel.specs.AssignEvents.{move_of}
+use Rattle.vs_agenda.specs.AssignEvents.{move_of}
 use Rattle.vs_kernel.proofs.AssignsLemmas.{along_assign, assign_free, assign_inner, assign_over, assign_same, assign_time}
 use Rattle.vs_kernel.proofs.MarkingLemmas.{changes_more, changes_none}
 use Rattle.vs_kernel.proofs.RunsLemmas.{on_err}

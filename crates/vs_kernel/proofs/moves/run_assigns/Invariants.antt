@@ -1,5 +1,5 @@
 use Rattle.std.proofs.Common.{◌≡◌, ◌-◌, ◌<◌, length}
-use Rattle.vs_kernel.specs.AssignEvents.{move_of}
+use Rattle.vs_agenda.specs.AssignEvents.{move_of}
 use Rattle.vs_kernel.specs.Marking.{MarkChanges}
 use Rattle.vs_kernel.specs.Turns.{IsReached}
 use Rattle.vs_kernel.proofs.TurnsLemmas.{Along}

@@ -1,17 +1,26 @@
-use Rattle.std.proofs.Common.{◌≡◌, ◌∙◌, Bool, false, rules, ap, sym, subst, arith}
+use Rattle.std.proofs.Common.{◌≡◌, ◌∙◌, ℕ, Option, Bool, false, rules, refl, ap, sym, subst, arith}
 use Rattle.vs_vcd.specs.Progress.{is_write_fault}
 use Rattle.vs_vcd.specs.Sinks.{failed_after}
 use Rattle.vs_kernel.specs.Faults.{OneFailed}
+use Rattle.vs_kernel.specs.Insides.{inside_told}
+use Rattle.vs_kernel.specs.Points.{Point, point}
+use Rattle.vs_kernel.specs.Turns.{Turned}
 use Rattle.vs_kernel.proofs.MarkingLemmas.{covers_on}
 use Rattle.vs_kernel.proofs.RunsLemmas.{part_all, slots_whole, step_printed, slot_printed, line_printed, failed_as, second_failed, on_err}
-use Rattle.vs_kernel.proofs.TurnsLemmas.{part_at, turned_told}
+use Rattle.vs_kernel.proofs.TurnsLemmas.{once, part_at, turned_told}
 use Rattle.vs_kernel.proofs.run.take_one.Goals as goal
 
 pub returns-clause-ok : goal.returns-clause-ok
-returns-clause-ok g c = λ inside free.
-    turned_told c.args.blocks.now inside c.inside_behind.result c.args.state.now c.advance.new.state c.args.writer.now c.note.new.writer _ _ _ _ c.args.next.choice c.requires.enabled free
-    c.in_ok-advance.ensures.state c.inside_behind.ensures c.in_ok-note.ensures.written c.in_ok-note.ensures.bytes
-    (step_printed _ _ _ c.args.next.choice c.args.state.now c.in_ok-note.ensures.lines c.in_ok-advance.ensures.printed)
+returns-clause-ok g c = λ blocks inside free.
+    let behind : Option ℕ = inside_told blocks c.advance.new.state.places c.args.next.choice in
+    let p : Point = point inside c.args.state.now c.args.writer.now (g.V.Sink.bytes c.args.vcd.now) (g.L.Sink.bytes c.args.lines.now) in
+    let q : Point = point behind c.advance.new.state c.note.new.writer (g.V.Sink.bytes c.note.new.vcd) (g.L.Sink.bytes c.advance.new.lines) in
+    let turned : Turned blocks p q =
+    turned_told blocks inside behind c.args.state.now c.advance.new.state c.args.writer.now c.note.new.writer (g.V.Sink.bytes c.args.vcd.now) (g.V.Sink.bytes c.note.new.vcd)
+    (g.L.Sink.bytes c.args.lines.now) (g.L.Sink.bytes c.advance.new.lines) c.args.next.choice c.requires.enabled free c.in_ok-advance.ensures.state refl c.in_ok-note.ensures.written
+    c.in_ok-note.ensures.bytes (step_printed _ _ _ c.args.next.choice c.args.state.now c.in_ok-note.ensures.lines c.in_ok-advance.ensures.printed)
+    in
+    once blocks p q c.requires.going turned
 
 pub returns-clause-failures : goal.returns-clause-failures
 returns-clause-failures g c = (c.in_ok-note.ensures.failures.0, c.in_ok-advance.ensures.failures ∙ c.in_ok-note.ensures.failures.1)

@@ -1,0 +1,2 @@
+pub mod AssignEvents
+pub mod Policies

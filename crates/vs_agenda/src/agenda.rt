@@ -1,0 +1,461 @@
+//! The list of enabled events, in the order in which the kernel offers them to its policy.
+//!
+//! It is a hint: what stands in it is tested before it is made, so that nothing of a run's contract rests on it.
+ghost use Rattle.std.specs.Prelude.{◌≡◌, true, IfSome};
+ghost use Rattle.vs_process.specs.Executions as executions;
+ghost use Rattle.vs_agenda.specs.AssignEvents.{move_of};
+
+use crate::entries::{AssignEvent, Entries, Entry, Event};
+use crate::policy::Pick;
+use std::alloc::{AllocError, Global};
+use vs_design::Write;
+use vs_process::Move;
+use vs_regions::Item;
+use vs_state::State;
+use vs_time_wheel::EventQueue;
+
+/// A move and the index of its event in the list, where it stands in it.
+#[derive(Clone, Copy)]
+pub struct Choice {
+    pub choice: Move,
+    pub index: Option<usize>,
+}
+
+/// An activated update: its number in the order of execution, and where the signals that its parts name begin and end.
+#[derive(Clone, Copy)]
+struct Activated {
+    serial: u64,
+    from: usize,
+    to: usize,
+}
+
+/// The enabled events in the order in which they came.
+///
+/// Events are taken from either end in constant time. One that leaves from within leaves a gap, which goes as soon as it stands at an end. An
+/// update that uncovers another one of one of its signals costs a scan of the list. Where the first event is always chosen, the list holds no
+/// updates: the oldest activated one comes before all that is listed.
+#[derive(Drop)]
+pub struct Agenda {
+    entries: Entries,
+    /// Whether the first event is always chosen.
+    first: bool,
+    /// How many entries have left at the front, modulo 2^64.
+    passed: usize,
+    /// How many entries are hidden.
+    hidden: usize,
+    /// How many entries are gaps.
+    gaps: usize,
+    /// For each signal, how many parts of listed updates name it.
+    claims: Vec<usize>,
+    /// The updates that were activated last, and the signals that they name.
+    activated: Vec<Activated>,
+    signals: Vec<usize>,
+    /// For each continuous assignment whose update is listed, the number of its entry among all that have entered at the end.
+    proposed: Vec<Option<usize>>,
+    /// The index of the last move's event, where it stood in the list.
+    last: Option<usize>,
+}
+
+impl Agenda {
+    /// The list at the start of a run: every continuous assignment, then every active process, in design order.
+    pub fn start<Q: EventQueue<Item>>(
+        alloc: Global,
+        first: bool,
+        signals: usize,
+        state: &State<Q>,
+    ) -> Result<Self, AllocError> {
+        let mut agenda = Agenda {
+            entries: Entries {
+                items: Vec::new(alloc),
+                from: 0,
+            },
+            first,
+            passed: 0,
+            hidden: 0,
+            gaps: 0,
+            claims: vec![in alloc; 0; signals]?,
+            activated: Vec::new(alloc),
+            signals: Vec::new(alloc),
+            proposed: vec![in alloc; None; state.assign_count()]?,
+            last: None,
+        };
+        for assign in 0..state.assign_count() {
+            agenda.add(Event::Evaluate(assign))?;
+        }
+        for process in 0..state.process_count() {
+            agenda.add_step(process, state)?;
+        }
+        Ok(agenda)
+    }
+
+    /// Puts an event at the end.
+    #[inline(always)]
+    fn add(&mut self, event: Event) -> Result<(), AllocError> {
+        self.entries.push_back(Entry {
+            event,
+            hidden: false,
+        })?;
+        Ok(())
+    }
+
+    /// Puts a process at the end if it is active.
+    #[inline(always)]
+    fn add_step<Q: EventQueue<Item>>(
+        &mut self,
+        process: usize,
+        state: &State<Q>,
+    ) -> Result<(), AllocError> {
+        if state.is_going(process) {
+            self.add(Event::Step(process))?;
+        }
+        Ok(())
+    }
+
+    /// Puts an activated update at the end; it is hidden where an older one which names one of its signals is listed.
+    fn add_update(&mut self, serial: u64, what: &Write) -> Result<(), AllocError> {
+        let from = self.signals.len();
+        let mut hidden = false;
+        for part in what.parts() {
+            if let Some(count) = self.claims.get(part.signal)
+                && *count > 0
+            {
+                hidden = true;
+            }
+            self.signals.push(part.signal)?;
+        }
+        for part in what.parts() {
+            if let Some(count) = self.claims.get_mut(part.signal) {
+                *count = count.saturating_add(1);
+            }
+        }
+        let event = Event::Make(self.activated.len());
+        let to = self.signals.len();
+        self.activated.push(Activated { serial, from, to })?;
+        self.entries.push_back(Entry { event, hidden })?;
+        if hidden {
+            self.hidden = self.hidden.saturating_add(1);
+        }
+        Ok(())
+    }
+
+    /// The signals that an event names, if it is an update.
+    #[inline(always)]
+    fn signals_of(&self, event: Event) -> &[usize] {
+        let Event::Make(number) = event else {
+            return &[];
+        };
+        let Some(update) = self.activated.get(number) else {
+            return &[];
+        };
+        match self.signals.get(update.from..update.to) {
+            Some(signals) => signals,
+            None => &[],
+        }
+    }
+
+    /// The index of the event that the policy chooses among those that aren't hidden.
+    #[inline(always)]
+    pub fn pick<P: Pick>(&self, policy: &mut P) -> Option<usize> {
+        if self.first {
+            return if self.entries.len() == 0 {
+                None
+            } else {
+                Some(0)
+            };
+        }
+        let others = self.hidden.saturating_add(self.gaps);
+        let count = self.entries.len().saturating_sub(others);
+        if count == 0 {
+            return None;
+        }
+        let number = policy.pick(count);
+        if others == 0 {
+            return Some(number);
+        }
+        self.index_of(number)
+    }
+
+    /// The index of an event by its number among those that aren't hidden.
+    fn index_of(&self, number: usize) -> Option<usize> {
+        let mut left = number;
+        for index in 0..self.entries.len() {
+            if let Some(entry) = self.entries.get(index)
+                && !entry.hidden
+                && !matches!(entry.event, Event::Gone)
+            {
+                if left == 0 {
+                    return Some(index);
+                }
+                left -= 1;
+            }
+        }
+        None
+    }
+
+    /// The next step of the process whose step was the last move. Its event is where it was: behind a step the list only grows at its end.
+    #[inline(always)]
+    pub fn again(&self, process: usize) -> Choice
+        ensures { result.choice ≡ Move.Step process }
+    {
+        Choice {
+            choice: Move::Step(process),
+            index: self.last,
+        }
+    }
+
+    /// The move of the event at an index of the list.
+    #[inline(always)]
+    pub fn move_at<Q: EventQueue<Item>>(&self, index: usize, state: &State<Q>) -> Option<Move> {
+        match self.entries.get(index)?.event {
+            Event::Evaluate(assign) => Some(Move::Evaluate(assign)),
+            Event::Propagate(assign) => Some(Move::Propagate(assign)),
+            Event::Step(process) => Some(Move::Step(process)),
+            Event::Make(number) => {
+                let serial = self.activated.get(number)?.serial;
+                let mut updates = state.activated().iter();
+                Some(Move::Make(updates.position(|u| u.serial() == serial)?))
+            }
+            Event::Gone => None,
+        }
+    }
+
+    /// The first event, where it is one of a continuous assignment and enabled.
+    #[inline(always)]
+    pub fn next_assign<Q: EventQueue<Item>>(&self, state: &State<Q>) -> Option<AssignEvent>
+        ensures { IfSome result (λ event. executions.is_enabled state.now (move_of event) ≡ true) }
+    {
+        match self.entries.get(0)?.event {
+            Event::Evaluate(assign) if state.needs(assign) => Some(AssignEvent::Evaluate(assign)),
+            Event::Propagate(assign) if state.is_pending(assign) => {
+                Some(AssignEvent::Propagate(assign))
+            }
+            _ => None,
+        }
+    }
+
+    /// Takes the event at an index out of the list.
+    #[inline(always)]
+    pub fn remove(&mut self, index: Option<usize>) {
+        let Some(index) = index else {
+            return;
+        };
+        if self.first && index == 0 {
+            self.remove_first();
+            return;
+        }
+        let Some(entry) = self.entries.get_mut(index) else {
+            return;
+        };
+        let left = *entry;
+        entry.event = Event::Gone;
+        entry.hidden = false;
+        if !matches!(left.event, Event::Gone) {
+            self.gaps = self.gaps.saturating_add(1);
+        }
+        if left.hidden {
+            self.hidden = self.hidden.saturating_sub(1);
+        }
+        self.trim_front();
+        self.trim_back();
+        self.release_all(left.event);
+    }
+
+    /// Takes the first event out of a list without updates, of which none is hidden.
+    #[inline(always)]
+    fn remove_first(&mut self) {
+        if self.entries.pop_front() {
+            self.passed = self.passed.wrapping_add(1);
+        }
+        self.trim_front();
+    }
+
+    /// Takes the gaps at the front away.
+    #[inline(always)]
+    fn trim_front(&mut self) {
+        for _ in 0..self.entries.len() {
+            match self.entries.get(0) {
+                Some(entry) if matches!(entry.event, Event::Gone) => {}
+                _ => return,
+            }
+            self.entries.pop_front();
+            self.passed = self.passed.wrapping_add(1);
+            self.gaps = self.gaps.saturating_sub(1);
+        }
+    }
+
+    /// Takes the gaps at the end away.
+    #[inline(always)]
+    fn trim_back(&mut self) {
+        for _ in 0..self.entries.len() {
+            match self.entries.get(self.entries.len().wrapping_sub(1)) {
+                Some(entry) if matches!(entry.event, Event::Gone) => {}
+                _ => return,
+            }
+            let _ = self.entries.items.pop();
+            self.gaps = self.gaps.saturating_sub(1);
+        }
+    }
+
+    /// An event has left the list: where it is an update, its parts no longer hide others.
+    #[inline(always)]
+    fn release_all(&mut self, event: Event) {
+        for i in 0..self.signals_of(event).len() {
+            if let Some(signal) = self.signals_of(event).get(i) {
+                let signal = *signal;
+                self.release(signal);
+            }
+        }
+    }
+
+    /// A part of an update that names this signal has left the list: the oldest of the other updates that name it is no longer hidden,
+    /// unless it waits for another signal.
+    fn release(&mut self, signal: usize) {
+        let Some(count) = self.claims.get_mut(signal) else {
+            return;
+        };
+        *count = count.saturating_sub(1);
+        if *count == 0 {
+            return;
+        }
+        for index in 0..self.entries.len() {
+            if let Some(entry) = self.entries.get(index)
+                && self.signals_of(entry.event).contains(&signal)
+            {
+                self.show(index);
+                return;
+            }
+        }
+    }
+
+    /// An update is no longer hidden, unless it waits for another one.
+    fn show(&mut self, index: usize) {
+        if self.waits(index) {
+            return;
+        }
+        if let Some(entry) = self.entries.get_mut(index)
+            && entry.hidden
+        {
+            entry.hidden = false;
+            self.hidden = self.hidden.saturating_sub(1);
+        }
+    }
+
+    /// Whether an older update than the one at an index names one of its signals, where it has several parts.
+    fn waits(&self, index: usize) -> bool {
+        let Some(update) = self.entries.get(index) else {
+            return false;
+        };
+        let signals = self.signals_of(update.event);
+        if signals.len() < 2 {
+            return false;
+        }
+        for older in 0..index {
+            if let Some(entry) = self.entries.get(older)
+                && self.shares(entry.event, signals)
+            {
+                return true;
+            }
+        }
+        false
+    }
+
+    /// Whether an event is an update that names one of these signals.
+    fn shares(&self, event: Event, signals: &[usize]) -> bool {
+        let named = self.signals_of(event);
+        signals.iter().any(|signal| named.contains(signal))
+    }
+
+    /// Brings the list up to date behind a move: an event that is no longer enabled leaves it, and what has become
+    /// enabled enters at its end.
+    #[inline(always)]
+    pub fn follow<Q: EventQueue<Item>>(
+        &mut self,
+        made: Choice,
+        state: &State<Q>,
+    ) -> Result<(), AllocError> {
+        self.last = made.index;
+        self.add_woken(state)?;
+        match made.choice {
+            Move::Step(process) => {
+                if !state.is_going(process) {
+                    self.remove(made.index);
+                }
+                Ok(())
+            }
+            Move::Evaluate(assign) => self.follow_evaluation(assign, made.index, state),
+            Move::Propagate(assign) => {
+                self.remove(made.index);
+                self.set_proposed(assign, None);
+                Ok(())
+            }
+            Move::Make(_) => {
+                self.remove(made.index);
+                Ok(())
+            }
+            Move::Activate => self.follow_activation(state),
+            Move::Rouse | Move::EndSlot => Ok(()),
+        }
+    }
+
+    /// Puts what the last move has woken at the end: the continuous assignments, then the processes.
+    #[inline(always)]
+    pub fn add_woken<Q: EventQueue<Item>>(&mut self, state: &State<Q>) -> Result<(), AllocError> {
+        for assign in state.woken() {
+            self.add(Event::Evaluate(*assign))?;
+        }
+        for process in state.woken_processes() {
+            self.add_step(*process, state)?;
+        }
+        Ok(())
+    }
+
+    #[inline(always)]
+    pub fn follow_evaluation<Q: EventQueue<Item>>(
+        &mut self,
+        assign: usize,
+        index: Option<usize>,
+        state: &State<Q>,
+    ) -> Result<(), AllocError> {
+        self.remove(index);
+        let listed = self.proposed.get(assign).copied().unwrap_or(None);
+        if state.is_pending(assign) {
+            if listed.is_none() {
+                let place = self.passed.wrapping_add(self.entries.len());
+                self.add(Event::Propagate(assign))?;
+                self.set_proposed(assign, Some(place));
+            }
+            return Ok(());
+        }
+        if let Some(place) = listed {
+            self.remove(Some(place.wrapping_sub(self.passed)));
+            self.set_proposed(assign, None);
+        }
+        Ok(())
+    }
+
+    /// Notes where the update of a continuous assignment is listed.
+    #[inline(always)]
+    fn set_proposed(&mut self, assign: usize, place: Option<usize>) {
+        if let Some(proposed) = self.proposed.get_mut(assign) {
+            *proposed = place;
+        }
+    }
+
+    /// Lists the updates that were activated, unless the first event is always chosen.
+    fn follow_activation<Q: EventQueue<Item>>(
+        &mut self,
+        state: &State<Q>,
+    ) -> Result<(), AllocError> {
+        if self.first {
+            return Ok(());
+        }
+        self.activated.clear();
+        self.signals.clear();
+        for number in 0..state.activated().len() {
+            if let Some(update) = state.activated().get(number) {
+                self.add_update(update.serial(), update.what())?;
+            }
+        }
+        Ok(())
+    }
+}

@@ -1,0 +1,43 @@
+//! A writer that fails.
+
+use std::alloc::Global;
+use std::io::{self, ErrorKind, Write};
+
+/// A writer that takes `left` bytes, one at a time, and behind these fails, or takes none.
+#[derive(Drop)]
+pub struct Short {
+    pub taken: Vec<u8>,
+    left: usize,
+    fails: bool,
+}
+
+impl Short {
+    pub fn new(alloc: Global, left: usize, fails: bool) -> Self {
+        Short {
+            taken: Vec::new(alloc),
+            left,
+            fails,
+        }
+    }
+}
+
+impl Write for Short {
+    fn write(&mut self, buf: &[u8]) -> io::Result<usize> {
+        let Some(byte) = buf.first() else {
+            return Ok(0);
+        };
+        if self.left == 0 && self.fails {
+            return Err(io::Error::from(ErrorKind::BrokenPipe));
+        }
+        if self.left == 0 {
+            return Ok(0);
+        }
+        self.left -= 1;
+        self.taken.push(*byte)?;
+        Ok(1)
+    }
+
+    fn flush(&mut self) -> io::Result<()> {
+        Ok(())
+    }
+}
