@@ -3,6 +3,7 @@ use crate::designs::{
     DUMP, HEADER, WIDE_HEADER, three_signals, three_signals_of, whole, write_dump,
 };
 use std::alloc::Global;
+use std::process::Abort;
 use std::test::Fail;
 use vs_design::{Bounds, Store};
 use vs_logic4::{Digit, Vec4};
@@ -42,6 +43,21 @@ fn a_dump_without_slots_has_its_end(rt: HostRuntime) -> Result<(), Fail> {
     Ok(())
 }
 
+// The dump of these digits, as they are written, ends with a text behind its header.
+fn digits_are_shown(
+    rt: &impl Abort,
+    alloc: Global,
+    digits: [Digit; 4],
+    text: &[u8],
+) -> Result<(), Fail> {
+    let [a, b, c, d] = digits;
+    let mut sink = Counted::new(Vec::new(alloc));
+    write_digits(alloc, &mut sink, &[d, c, b, a])?;
+    let bytes = sink.into_inner();
+    assert!(rt; bytes.strip_prefix(HEADER) == Some(text));
+    Ok(())
+}
+
 #[test]
 fn left_digits_are_dropped(rt: HostRuntime) -> Result<(), Fail> {
     let (o, i, x, z) = (Digit::Zero, Digit::One, Digit::X, Digit::Z);
@@ -56,13 +72,7 @@ fn left_digits_are_dropped(rt: HostRuntime) -> Result<(), Fail> {
         ([i, i, i, i], b"#3\n$dumpvars\nx!\nb1111 \"\n$end\n"),
     ];
     for (digits, text) in rows {
-        let [a, b, c, d] = digits;
-        let mut sink = Counted::new(Vec::new(rt.alloc()));
-        write_digits(rt.alloc(), &mut sink, &[d, c, b, a])?;
-        let bytes = sink.into_inner();
-        assert!(rt; bytes.starts_with(HEADER));
-        assert!(rt; bytes.ends_with(text));
-        assert_eq!(rt; bytes.len(), HEADER.len() + text.len());
+        digits_are_shown(&rt, rt.alloc(), digits, text)?;
     }
     Ok(())
 }
@@ -81,6 +91,28 @@ fn write_planes<S: Sink>(
     let mut writer = Writer::header(alloc, sink, &design)?;
     writer.slot(alloc, sink, 0, &store)?;
     writer.finish(sink, 0)
+}
+
+// What a dump of one slot at 0 says of `b`.
+fn value_of_b(dump: &[u8]) -> Option<&[u8]> {
+    let slot = dump.strip_prefix(WIDE_HEADER)?;
+    slot.strip_prefix(b"#0\n$dumpvars\nx!\n")?
+        .strip_suffix(b" \"\n$end\n")
+}
+
+// The digits of two planes are written as a text.
+fn planes_are_shown(
+    rt: &impl Abort,
+    alloc: Global,
+    value: u64,
+    unknown: u64,
+    text: &[u8],
+) -> Result<(), Fail> {
+    let mut sink = Counted::new(Vec::new(alloc));
+    write_planes(alloc, &mut sink, value, unknown)?;
+    let bytes = sink.into_inner();
+    assert!(rt; value_of_b(&bytes) == Some(text));
+    Ok(())
 }
 
 #[test]
@@ -123,14 +155,7 @@ fn sixty_four_digits_are_written(rt: HostRuntime) -> Result<(), Fail> {
         ),
     ];
     for (value, unknown, text) in rows {
-        let mut sink = Counted::new(Vec::new(rt.alloc()));
-        write_planes(rt.alloc(), &mut sink, value, unknown)?;
-        let bytes = sink.into_inner();
-        let mut wanted = Vec::from_slice(rt.alloc(), WIDE_HEADER)?;
-        wanted.extend_from_slice(b"#0\n$dumpvars\nx!\n")?;
-        wanted.extend_from_slice(text)?;
-        wanted.extend_from_slice(b" \"\n$end\n")?;
-        assert_eq!(rt; bytes.as_slice(), wanted.as_slice());
+        planes_are_shown(&rt, rt.alloc(), value, unknown, text)?;
     }
     Ok(())
 }

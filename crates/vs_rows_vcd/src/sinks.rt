@@ -1,7 +1,9 @@
 //! Sinks that fail, and sinks that take little.
 use crate::designs::{DUMP, write_dump};
+use std::alloc::Global;
 use std::io;
 use std::io::{ErrorKind, Write};
+use std::process::Abort;
 use std::test::Fail;
 use vs_vcd::{Counted, Sink, VcdFault, write_all};
 
@@ -32,16 +34,27 @@ impl Write for Narrow {
     }
 }
 
+// A sink with room for so many bytes fails and holds a beginning of the dump.
+fn holds_a_beginning(
+    rt: &impl Abort,
+    alloc: Global,
+    room: usize,
+    full: Option<ErrorKind>,
+) -> Result<(), Fail> {
+    let got = Vec::new(alloc);
+    let mut sink = Counted::new(Narrow { got, room, full });
+    let result = write_dump(alloc, &mut sink);
+    assert_eq!(rt; result, Err(VcdFault::Write), "at {room}");
+    assert_eq!(rt; sink.failures(), 1, "at {room}");
+    assert!(rt; DUMP.starts_with(&sink.into_inner().got), "at {room}");
+    Ok(())
+}
+
 #[test]
 fn a_failing_sink_holds_a_beginning(rt: HostRuntime) -> Result<(), Fail> {
     for room in [0, 1, 20, 21, 124, 125, 126, 153, 170] {
         for full in [None, Some(ErrorKind::Other)] {
-            let got = Vec::new(rt.alloc());
-            let mut sink = Counted::new(Narrow { got, room, full });
-            let result = write_dump(rt.alloc(), &mut sink);
-            assert_eq!(rt; result, Err(VcdFault::Write), "at {room}");
-            assert_eq!(rt; sink.failures(), 1, "at {room}");
-            assert!(rt; DUMP.starts_with(&sink.into_inner().got), "at {room}");
+            holds_a_beginning(&rt, rt.alloc(), room, full)?;
         }
     }
     Ok(())
