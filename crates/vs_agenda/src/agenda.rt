@@ -34,7 +34,6 @@ struct Activated {
 /// Events are taken from either end in constant time. One that leaves from within leaves a gap, which goes as soon as it stands at an end. An
 /// update that uncovers another one of one of its signals costs a scan of the list. Where the first event is always chosen, the list holds no
 /// updates: the oldest activated one comes before all that is listed.
-#[derive(Drop)]
 pub struct Agenda {
     entries: Entries,
     /// Whether the first event is always chosen.
@@ -54,6 +53,23 @@ pub struct Agenda {
     proposed: Vec<Option<usize>>,
     /// The index of the last move's event, where it stood in the list.
     last: Option<usize>,
+}
+
+impl Drop for Agenda {
+    fn drop(self) {
+        let Self {
+            entries: _,
+            first: _,
+            passed: _,
+            hidden: _,
+            gaps: _,
+            claims: _,
+            activated: _,
+            signals: _,
+            proposed: _,
+            last: _,
+        } = self;
+    }
 }
 
 impl Agenda {

@@ -4,7 +4,6 @@ ghost use Rattle.std.specs.Prelude.{◌≡◌};
 ghost use Rattle.vs_certificate.specs.JsonValue.{grain_word, kind_word, start_word, mode_word};
 
 /// A claim about a design, by which a checker can tell that no choice of the simulator matters.
-#[derive(Drop)]
 pub struct Certificate {
     /// How finely processes may be interleaved.
     pub grain: Grain,
@@ -20,6 +19,19 @@ pub struct Certificate {
     pub signals: Vec<SignalEntry>,
 }
 
+impl Drop for Certificate {
+    fn drop(self) {
+        let Self {
+            grain: _,
+            modulus: _,
+            edges: _,
+            order: _,
+            processes: _,
+            signals: _,
+        } = self;
+    }
+}
+
 /// How finely processes may be interleaved.
 #[derive(Clone, Copy, Debug, PartialEq, Eq)]
 pub enum Grain {
@@ -30,7 +42,6 @@ pub enum Grain {
 }
 
 /// A signal of an edge term, and the variable that it copies.
-#[derive(Drop)]
 pub struct EdgeSignal {
     /// The variable's name. It is the signal itself, or what the signal copies by way of assigns.
     pub root: String,
@@ -38,8 +49,13 @@ pub struct EdgeSignal {
     pub signal: String,
 }
 
+impl Drop for EdgeSignal {
+    fn drop(self) {
+        let Self { root: _, signal: _ } = self;
+    }
+}
+
 /// A process of the design.
-#[derive(Drop)]
 pub struct ProcessEntry {
     /// What runs it.
     pub kind: ProcessKind,
@@ -47,8 +63,13 @@ pub struct ProcessEntry {
     pub name: String,
 }
 
+impl Drop for ProcessEntry {
+    fn drop(self) {
+        let Self { kind: _, name: _ } = self;
+    }
+}
+
 /// What runs a process, and what is claimed of it.
-#[derive(Drop)]
 pub enum ProcessKind {
     /// A combinational block, and how its first outputs are explained.
     Combinational(Start),
@@ -57,6 +78,14 @@ pub enum ProcessKind {
     /// A process that waits for times alone. For each of its delay controls in the order of the text, the residues by
     /// the modulus of the times above 0 at which that delay can end: rising, at most 64. At most 65,536 controls.
     Delay(Vec<Vec<u64>>),
+}
+
+impl Drop for ProcessKind {
+    fn drop(self) {
+        match self {
+            Self::Combinational(_) | Self::Edge | Self::Delay(_) => {}
+        }
+    }
 }
 
 /// Why a combinational block that never ran has the outputs that a run would give it.
@@ -69,7 +98,6 @@ pub enum Start {
 }
 
 /// A signal of the design, and the processes that write it.
-#[derive(Drop)]
 pub struct SignalEntry {
     /// How the signal is written.
     pub mode: SignalMode,
@@ -79,6 +107,17 @@ pub struct SignalEntry {
     pub second: String,
     /// The name of the process that writes it; empty where there is none.
     pub writer: String,
+}
+
+impl Drop for SignalEntry {
+    fn drop(self) {
+        let Self {
+            mode: _,
+            name: _,
+            second: _,
+            writer: _,
+        } = self;
+    }
 }
 
 /// How a signal is written.

@@ -16,7 +16,6 @@ use std::alloc::{AllocError, Global};
 use std::marker::Model;
 
 /// A continuous assignment (IEEE 1364-2005, clause 6.1).
-#[derive(Drop)]
 pub struct Assign {
     /// The path and the number within its scope, as it is printed: `t#a0`.
     pub name: Vec<u8>,
@@ -24,6 +23,16 @@ pub struct Assign {
     pub target: Target,
     /// What it evaluates.
     pub source: Typed,
+}
+
+impl Drop for Assign {
+    fn drop(self) {
+        let Self {
+            name: _,
+            target: _,
+            source: _,
+        } = self;
+    }
 }
 
 /// Whether a process runs once or for ever (IEEE 1364-2005, clause 9.9).
@@ -36,7 +45,6 @@ pub enum ProcessKind {
 }
 
 /// A process.
-#[derive(Drop)]
 pub struct Process {
     /// The path and the number within its scope, as it is printed: `t#p0`.
     pub name: Vec<u8>,
@@ -44,6 +52,16 @@ pub struct Process {
     pub kind: ProcessKind,
     /// What it does.
     pub body: Statement,
+}
+
+impl Drop for Process {
+    fn drop(self) {
+        let Self {
+            name: _,
+            kind: _,
+            body: _,
+        } = self;
+    }
 }
 
 /// What opened a scope.
@@ -56,7 +74,6 @@ pub enum ScopeKind {
 }
 
 /// One line of a design's outline: its scopes and signals in the order in which a value change dump declares them.
-#[derive(Drop)]
 pub enum Entry {
     /// A scope opens, with its name as it is printed.
     Enter(ScopeKind, Vec<u8>),
@@ -66,8 +83,15 @@ pub enum Entry {
     Leave,
 }
 
+impl Drop for Entry {
+    fn drop(self) {
+        match self {
+            Self::Enter(_, _) | Self::Declare(_) | Self::Leave => {}
+        }
+    }
+}
+
 /// A design. A contract sees it as what it consists of. Every design is well formed.
-#[derive(Drop)]
 pub struct Design {
     timescale: Timescale,
     signals: Vec<Signal>,
@@ -80,6 +104,21 @@ pub struct Design {
     listeners: Vec<Vec<usize>>,
     // For each signal, where a store has its words.
     extents: Vec<Extent>,
+}
+
+impl Drop for Design {
+    fn drop(self) {
+        let Self {
+            timescale: _,
+            signals: _,
+            assigns: _,
+            processes: _,
+            outline: _,
+            readers: _,
+            listeners: _,
+            extents: _,
+        } = self;
+    }
 }
 
 impl Model for Design {

@@ -104,7 +104,6 @@ pub struct Count {
 }
 
 /// An expression whose parts have the size and sign of their context.
-#[derive(Drop)]
 pub enum Typed {
     /// A literal at the size of its context.
     Number(Vec4),
@@ -129,4 +128,22 @@ pub enum Typed {
     Repeat(Count, Box<Typed>),
     /// An operand with a size of its own, brought to that of its context.
     Resized(Extension, Box<Typed>),
+}
+
+impl Drop for Typed {
+    fn drop(self) {
+        match self {
+            Self::Number(_)
+            | Self::Signal(_)
+            | Self::Slice(_)
+            | Self::Select(_, _, _)
+            | Self::Excerpt(_, _)
+            | Self::Unary(_, _)
+            | Self::Chain(_, _)
+            | Self::Choice(_, _)
+            | Self::Concat(_, _)
+            | Self::Repeat(_, _)
+            | Self::Resized(_, _) => {}
+        }
+    }
 }

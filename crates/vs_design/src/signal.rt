@@ -22,7 +22,6 @@ pub struct Bounds {
 }
 
 /// A variable or a net.
-#[derive(Drop)]
 pub struct Signal {
     /// The name as it is printed: an escaped name that isn't a simple one has its backslash and one space after it.
     pub name: Vec<u8>,
@@ -42,4 +41,19 @@ pub struct Signal {
     pub count: u32,
     pub ghost sized: { (0 < width) × (width ≤ 64) },
     pub ghost counted: { (0 < count) × (count ≤ 2 ^ 16) },
+}
+
+impl Drop for Signal {
+    fn drop(self) {
+        let Self {
+            name: _,
+            path: _,
+            kind: _,
+            width: _,
+            signed: _,
+            range: _,
+            words: _,
+            count: _,
+        } = self;
+    }
 }

@@ -15,12 +15,19 @@ pub struct Ticks {
 }
 
 /// One of the places that an assignment writes (IEEE 1364-2005, clauses 6.1 and 9.2).
-#[derive(Drop)]
 pub enum Aim {
     /// Bits of a word by constant indices; a whole signal that is no array too.
     Fixed(Slice),
     /// Bits of a word by the values of two indices, the word's and the lowest bit's, in the store before.
     Chosen(Selection, Typed, Typed),
+}
+
+impl Drop for Aim {
+    fn drop(self) {
+        match self {
+            Self::Fixed(_) | Self::Chosen(_, _, _) => {}
+        }
+    }
 }
 
 /// The left side of an assignment: one place, or those of a concatenation.
@@ -43,12 +50,19 @@ pub struct EventTerm {
 }
 
 /// An argument of a `$display` or a `$strobe` behind the text (IEEE 1364-2005, clause 17.1).
-#[derive(Drop)]
 pub enum FormatArg {
     /// Whether the value is a signed number, and an expression at its own size.
     Value(bool, Typed),
     /// `$time`: the time in units, 64 bits without a sign (clause 17.7.1).
     Time,
+}
+
+impl Drop for FormatArg {
+    fn drop(self) {
+        match self {
+            Self::Value(_, _) | Self::Time => {}
+        }
+    }
 }
 
 /// When the line of a call is made (IEEE 1364-2005, clauses 17.1.1 and 17.1.2).
@@ -61,7 +75,6 @@ pub enum CallKind {
 }
 
 /// A call of `$display` or `$strobe` (IEEE 1364-2005, clause 17.1).
-#[derive(Drop)]
 pub struct Call {
     /// When its line is made.
     pub kind: CallKind,
@@ -76,10 +89,21 @@ pub struct Call {
     pub ghost scaled: { (0 < ratio) × (ratio ≤ 10 ^ 17) },
 }
 
+impl Drop for Call {
+    fn drop(self) {
+        let Self {
+            kind: _,
+            text: _,
+            args: _,
+            path: _,
+            ratio: _,
+        } = self;
+    }
+}
+
 /// A statement (IEEE 1364-2005, clause 9), whose names are numbers of signals and whose delays are ticks. Each but a block has its number among
 /// the statements of its process that are no blocks, from 0 on, each before those in it: so equal texts at two places are two statements.
 /// A `for` is its first assignment and then a `while`, whose body ends with its second assignment (clause 9.6).
-#[derive(Drop)]
 pub enum Statement {
     /// `;`
     Null(u32),
@@ -107,4 +131,24 @@ pub enum Statement {
     Repeat(u32, bool, Typed, Box<Statement>),
     /// `forever`; the body of an `always` too.
     Forever(u32, Box<Statement>),
+}
+
+impl Drop for Statement {
+    fn drop(self) {
+        match self {
+            Self::Null(_)
+            | Self::Assign(_, _, _)
+            | Self::Later(_, _, _, _)
+            | Self::Call(_, _)
+            | Self::Finish(_)
+            | Self::Block(_)
+            | Self::Delay(_, _, _)
+            | Self::Event(_, _, _)
+            | Self::If(_, _, _, _)
+            | Self::Case(_, _, _, _)
+            | Self::While(_, _, _)
+            | Self::Repeat(_, _, _, _)
+            | Self::Forever(_, _) => {}
+        }
+    }
 }

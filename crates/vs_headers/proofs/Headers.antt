@@ -25,9 +25,9 @@ use Rattle.vs_expressions.specs.declared.reading.Stop.{Stop}
 use Rattle.vs_expressions.specs.Answers.{seen, Fails, Reads}
 use Rattle.vs_expressions.proofs.Exits.{fails_by, goes_at}
 use Rattle.vs_headers.specs.Ports.{port_kind, kind_word, told_ports, named_ports, ports_within}
-use Rattle.vs_statements.specs.Lists.{behind_commas, Grown}
-use Rattle.vs_statements.proofs.Forms.{present_read}
-use Rattle.vs_statements.proofs.Lists.{grown_one}
+use Rattle.vs_forms.specs.Lists.{behind_commas, Grown}
+use Rattle.vs_forms.proofs.Forms.{present_read}
+use Rattle.vs_forms.proofs.Lists.{grown_one}
 
 -- neither of two parts
 either_false : (a b : Grammar) (ts : List Symbol) → goes (either a b) ts ≡ false → (goes a ts ≡ false) × (goes b ts ≡ false)

@@ -7,8 +7,8 @@ ghost use Rattle.vs_expressions.specs.Answers.{Reads};
 
 use std::alloc::Global;
 use vs_expressions::{Read, Stop, expect_mark, expect_name, expr, left, mark_at};
+use vs_forms::{Element, declared_range};
 use vs_lexer::{Mark, Token};
-use vs_statements::{Element, declared_range};
 use vs_syntax::{Declarator, Expr, NetAssignment, Range};
 
 /// A name of a declaration of nets.

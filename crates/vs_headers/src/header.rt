@@ -20,8 +20,8 @@ use crate::head::{begins_name, direction_at, kind_at};
 use crate::parameter;
 use std::alloc::Global;
 use vs_expressions::{Read, Stop, expect_mark, expect_name, expect_word, mark_at, word_at};
+use vs_forms::{Element, declared, declared_form, others};
 use vs_lexer::{Mark, Token, Word};
-use vs_statements::{Element, declared, declared_form, others};
 use vs_syntax::{Direction, HeaderParameter, ParameterForm, Port, PortForm, PortKind};
 
 /// A parameter in the header of a module behind the first one.

@@ -7,8 +7,8 @@ ghost use Rattle.vs_expressions.specs.Answers.{Reads};
 
 use std::alloc::Global;
 use vs_expressions::{Read, Stop, expect_mark, expect_name, expr, word_at};
+use vs_forms::{Element, declared_form, listed};
 use vs_lexer::{Mark, Token, Word};
-use vs_statements::{Element, declared_form, listed};
 use vs_syntax::{Constant, ParameterForm};
 
 /// A name of a declaration of parameters.

@@ -17,7 +17,7 @@ use Rattle.vs_expressions.specs.declared.reading.Read.{Read}
 use Rattle.vs_expressions.specs.declared.reading.Stop.{Stop}
 use Rattle.vs_expressions.specs.Answers.{seen, Reads}
 use Rattle.vs_expressions.proofs.Exits.{fails_by}
-use Rattle.vs_statements.specs.Parts.{ReadsWithin, headed}
+use Rattle.vs_forms.specs.Parts.{ReadsWithin, headed}
 use Rattle.vs_items.specs.declared.head.GenerateWord.{GenerateWord}
 use Rattle.vs_items.specs.Heads.{generate_word, construct_of}
 use Rattle.vs_items.specs.Generated.{begun, block_rest}

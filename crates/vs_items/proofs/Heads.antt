@@ -26,7 +26,7 @@ use Rattle.vs_items.specs.declared.head.DeclarationWord.TheVariants as d
 use Rattle.vs_expressions.specs.declared.reading.Read.{Read}
 use Rattle.vs_expressions.specs.declared.reading.Stop.{Stop}
 use Rattle.vs_expressions.specs.Answers.{seen, Reads}
-use Rattle.vs_statements.specs.Parts.{Within, ReadsWithin, headed}
+use Rattle.vs_forms.specs.Parts.{Within, ReadsWithin, headed}
 use Rattle.vs_items.specs.Heads.{word_of, generate_word, plain_symbol, symbol_of, declaration_of, construct_of, plain_body, body_of}
 use Rattle.vs_expressions.proofs.Exits.{deep_at, fails_by, goes_at}
 use Rattle.vs_expressions.proofs.Choices.{branch, choice_read, choice_stuck}

@@ -1,4 +1,3 @@
-pub mod Instances
 pub mod Trees
 pub mod Heads
 pub mod Generated

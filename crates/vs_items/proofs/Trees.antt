@@ -12,7 +12,7 @@ use Rattle.vs_syntax.specs.declared.tree.ModuleItem.{ModuleItem, fold-roll-Modul
 use Rattle.vs_syntax.specs.declared.tree.ModuleItem.TheShapes.{former-ModuleItem-If-2-at-2}
 use Rattle.vs_syntax.specs.declared.tree.ModuleItem.TheVariants as v
 use Rattle.vs_syntax.specs.declared.tree.ModuleItem.TheVariants.{rolls-Plain, rolls-Region, rolls-For, rolls-If, rolls-Null, rolls-Block}
-use Rattle.vs_statements.specs.Parts.{headed}
+use Rattle.vs_forms.specs.Parts.{headed}
 use Rattle.vs_items.specs.Generated.{boxed_item_tree, other_item_tree, begun}
 
 pub tree_Plain : (x : _) → module_item_tree (v.Plain x) ≡ item_tree x

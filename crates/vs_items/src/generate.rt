@@ -9,7 +9,7 @@ ghost use Rattle.vs_syntax.specs.Tables.{goes};
 ghost use Rattle.vs_syntax.specs.Derivation.{both};
 ghost use Rattle.vs_syntax.specs.Views.{row_of, constant_tree, loop_tree, block_name_tree, module_item_tree};
 ghost use Rattle.vs_expressions.specs.Answers.{seen, Reads};
-ghost use Rattle.vs_statements.specs.Parts.{ReadsWithin, Leads, headed, marked};
+ghost use Rattle.vs_forms.specs.Parts.{ReadsWithin, Leads, headed, marked};
 ghost use Rattle.vs_items.specs.Heads.{BeginsItem, generate_word, construct_of};
 ghost use Rattle.vs_items.specs.Generated.{boxed_item_tree, other_item_tree, begun, block_rest};
 

@@ -4,16 +4,16 @@ ghost use Rattle.vs_syntax.specs.Symbols.{a_word};
 ghost use Rattle.vs_syntax.specs.Tables.{low};
 ghost use Rattle.vs_syntax.specs.Views.{item_symbol, body_tree, module_item_tree};
 ghost use Rattle.vs_expressions.specs.Answers.{Reads};
-ghost use Rattle.vs_statements.specs.Parts.{ReadsWithin, headed};
+ghost use Rattle.vs_forms.specs.Parts.{ReadsWithin, headed};
 ghost use Rattle.vs_items.specs.Heads.{word_of, plain_symbol, declaration_of, plain_body};
 
 use crate::head::{DeclarationWord, PlainHead};
-use crate::instance::instances;
 use std::alloc::Global;
 use vs_expressions::{Read, Stop};
-use vs_headers::{Assignment, BareName, Net, Variable, declared_ports, parameters};
+use vs_forms::{declared, listed};
+use vs_headers::{Assignment, BareName, Net, Variable, declared_ports, instances, parameters};
 use vs_lexer::Token;
-use vs_statements::{declared, listed, stmt};
+use vs_statements::stmt;
 use vs_syntax::{Item, ModuleItem};
 
 /// Reads what stands behind the first token of an item that is no generate construct, into an item of a module.

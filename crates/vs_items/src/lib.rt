@@ -3,7 +3,6 @@
 
 mod generate;
 mod head;
-mod instance;
 mod item;
 
 pub use generate::items;

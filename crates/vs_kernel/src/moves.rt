@@ -20,7 +20,6 @@ use vs_time_wheel::EventQueue;
 use vs_vcd::{Sink, VcdFault, write_all};
 
 /// Room to work in, kept from move to move.
-#[derive(Drop)]
 pub(crate) struct Room<'a> {
     /// The signals that a move may have changed.
     pub(crate) changed: Vec<usize>,
@@ -28,6 +27,16 @@ pub(crate) struct Room<'a> {
     pub(crate) effect: Effect<'a>,
     /// The line that a move has made.
     pub(crate) line: Vec<u8>,
+}
+
+impl Drop for Room<'_> {
+    fn drop(self) {
+        let Self {
+            changed: _,
+            effect: _,
+            line: _,
+        } = self;
+    }
 }
 
 /// Writes a line, where there is one.

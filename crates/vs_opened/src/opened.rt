@@ -12,7 +12,6 @@ use vs_widths::Names;
 /// A scope of a source: the top, an instance, a generate block or a named block (IEEE 1364-2005, clause 12.1).
 ///
 /// Other scopes are told by their places in the list, so that none holds what another has: the path and the names outward are found by `around`.
-#[derive(Drop)]
 pub struct Opened<'s> {
     /// Its own name in its path.
     pub title: PathName<'s>,
@@ -56,6 +55,34 @@ pub struct Opened<'s> {
     pub ends: Vec<Option<&'s Expr>>,
     /// The places of the scopes in it that are no turns of loops, by their names.
     pub blocks: Names<'s, usize>,
+}
+
+impl Drop for Opened<'_> {
+    fn drop(self) {
+        let Self {
+            title: _,
+            kind: _,
+            number: _,
+            base: _,
+            instances: _,
+            turns: _,
+            depth: _,
+            nets: _,
+            text: _,
+            told: _,
+            ports: _,
+            pieces: _,
+            constants: _,
+            known: _,
+            names: _,
+            within: _,
+            home: _,
+            around: _,
+            piece: _,
+            ends: _,
+            blocks: _,
+        } = self;
+    }
 }
 
 /// The scopes of a source in design order, with their signals and their outline.

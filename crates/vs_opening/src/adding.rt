@@ -10,6 +10,7 @@ ghost use Rattle.vs_opening.specs.passes.Opens.{with_names, IsPlanned, IsNext, I
 use crate::entering::{Listed, enter};
 use crate::own::open_own;
 use std::alloc::Global;
+use std::mem;
 use vs_design::ScopeKind;
 use vs_generate::Inner;
 use vs_opened::{Opened, Plan, path_inside};
@@ -34,52 +35,9 @@ fn count(kind: ScopeKind, turn: Option<i64>, plan: &mut Plan)
 fn with_names<'s>(scope: Opened<'s>, names: Names<'s, Binding>) -> Opened<'s>
     ensures { result ≡ with_names scope.entry names.entry }
 {
-    let Opened {
-        title,
-        kind,
-        number,
-        base,
-        instances,
-        turns,
-        depth,
-        nets,
-        text,
-        told,
-        ports,
-        pieces,
-        constants,
-        known,
-        names: _nothing,
-        within,
-        home,
-        around,
-        piece,
-        ends,
-        blocks,
-    } = scope;
-    Opened {
-        title,
-        kind,
-        number,
-        base,
-        instances,
-        turns,
-        depth,
-        nets,
-        text,
-        told,
-        ports,
-        pieces,
-        constants,
-        known,
-        names,
-        within,
-        home,
-        around,
-        piece,
-        ends,
-        blocks,
-    }
+    let mut scope = scope;
+    let _nothing = mem::replace(&mut scope.names, names);
+    scope
 }
 
 /// Lists a scope, with its own members.

@@ -1,4 +1,4 @@
--- A process that is a combinational block, and one that isn't.
+-- A process that is a combinational block, and some that aren't.
 use Rattle.std.specs.Prelude.{ℕ, pos, Vec, ◌≡◌, true, false, [], ◌∷◌}
 use Rattle.std.specs.declared.alloc.Global.{Global}
 use Rattle.std.specs.declared.boxed.Box.{Box}
@@ -8,8 +8,9 @@ use Rattle.vs_logic4.specs.declared.edge.Edge.{Edge}
 use Rattle.vs_logic4.specs.declared.edge.Edge.TheVariants.{Any, Posedge}
 use Rattle.vs_logic4.specs.declared.operators.Binary.{Binary}
 use Rattle.vs_logic4.specs.declared.operators.Binary.TheVariants.{And, Or}
+use Rattle.vs_logic4.specs.declared.operators.Unary.TheVariants.{Not}
 use Rattle.vs_design.specs.declared.design.Process.{Process}
-use Rattle.vs_design.specs.declared.design.ProcessKind.TheVariants.{Always}
+use Rattle.vs_design.specs.declared.design.ProcessKind.TheVariants.{Always, Initial}
 use Rattle.vs_design.specs.declared.expression.Typed.{Typed}
 use Rattle.vs_design.specs.declared.expression.Typed.TheVariants as e
 use Rattle.vs_design.specs.declared.statement.Aim.TheVariants.{Fixed}
@@ -61,6 +62,10 @@ term edge signal = record { edge = edge; range = whole signal }
 abbrev pub no_ticks : Ticks
 no_ticks = record { count = 0; short = lit< tt }
 
+-- a delay of 5 ticks
+abbrev pub five_ticks : Ticks
+five_ticks = record { count = 5; short = lit< tt }
+
 -- `t#p0`
 abbrev pub name : Global → Vec ℕ Global
 name g = four_of g 116 35 112 48
@@ -74,14 +79,27 @@ mixer g = record {
       (boxed g (y.Block (two_of g (y.Assign 2 (target g 3) (between g And 0 1)) (y.Assign 3 (target g 4) (between g Or 3 2)))))));
 }
 
--- `always @(posedge clk) a <= b;`, where a, b, clk are the signals 0 to 2
-abbrev pub register : Global → Process
-register g = record {
+-- `always @(posedge clk) target <= source;`, where clk is the signal 2
+abbrev pub register : Global → ℕ → ℕ → Process
+register g to from = record {
   name = name g;
   kind = Always;
-  body = y.Forever 0 (boxed g (y.Event 1 (one_of g (term Posedge 2)) (boxed g (y.Later 2 no_ticks (target g 0) (operand 1)))));
+  body = y.Forever 0 (boxed g (y.Event 1 (one_of g (term Posedge 2)) (boxed g (y.Later 2 no_ticks (target g to) (operand from)))));
 }
 
--- the first is a combinational block, and the second isn't
+-- `always #5 clk = ~clk;`, where clk is the signal 2
+abbrev pub toggler : Global → Process
+toggler g = record {
+  name = name g;
+  kind = Always;
+  body = y.Forever 0 (boxed g (y.Delay 1 five_ticks (boxed g (y.Assign 2 (target g 2) (e.Unary Not (boxed g (operand 2)))))));
+}
+
+-- `always @* begin t = a & b; y = t | c; end` is a combinational block; of `reg clk = 0; reg a = 0, b = 1; always #5 clk = ~clk;
+-- always @(posedge clk) a <= b; always @(posedge clk) b <= a;`, where a, b, clk are the signals 0 to 2, none is
 abbrev pub BlocksAreTold : Type 0
-BlocksAreTold = (g : Global) → (is_combinational (mixer g) ≡ true) × (is_combinational (register g) ≡ false)
+BlocksAreTold = (g : Global) → (is_combinational (mixer g) ≡ true)
+    × (is_combinational (toggler g) ≡ false)
+    × (is_combinational (register g 0 1) ≡ false)
+    × (is_combinational (register g 1 0) ≡ false)
+    × ((p : Process) → p.kind ≡ Initial → is_combinational p ≡ false)

@@ -47,7 +47,8 @@ pub fn inside_goes_on()
     ensures { InsideGoesOn }
 {}
 
-/// The process of `always @* begin t = a & b; y = t | c; end` is a combinational block, and that of `always @(posedge clk) a <= b;` isn't.
+/// The process of `always @* begin t = a & b; y = t | c; end` is a combinational block. None of `reg clk = 0; reg a = 0, b = 1;
+/// always #5 clk = ~clk; always @(posedge clk) a <= b; always @(posedge clk) b <= a;` is: an edge, a delay and an `initial` make none.
 pub fn blocks_are_told()
     ensures { BlocksAreTold }
 {}

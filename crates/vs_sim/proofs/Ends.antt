@@ -2,14 +2,14 @@
 use Rattle.std.proofs.Common.{◌≡◌, ◌⊎◌, inl, inr, ℕ, List, subst}
 use Rattle.std.specs.Prelude.{Option, Some, None, Result, Ok, Err, IfOk, IfErr}
 use Rattle.vs_kernel.specs.declared.outcome.Outcome.{Outcome}
-use Rattle.vs_sim.specs.declared.fault.SimFault.{SimFault}
+use Rattle.vs_simulation.specs.declared.fault.SimFault.{SimFault}
 use Rattle.vs_sim.specs.declared.words.Request.{Request}
 use Rattle.vs_sim.specs.declared.words.Text.{Text}
 use Rattle.vs_sim.specs.declared.words.Text.TheVariants.{Lines, Dump}
 use Rattle.vs_sim.specs.declared.words.Call.{Call}
 use Rattle.vs_sim.specs.declared.words.Call.TheVariants.{Run, Elab}
 use Rattle.vs_sim.specs.Ends.{HasRun, HasDone, HasWritten, Wrote, EndsCall, by_doing, by_fault, by_device, top_of, done_status}
-use Rattle.vs_sim.specs.Honesty.{Fails}
+use Rattle.vs_simulation.specs.Honesty.{Fails}
 use Rattle.vs_sim.specs.Inputs.{IsKept}
 use Rattle.vs_sim.specs.Statuses.{fault_status}
 

@@ -1,16 +1,16 @@
 -- How the program ends: its exit status (profile).
 use Rattle.std.specs.Prelude.{ℕ, ◌≡◌, ◌⊎◌, Option, None, Some, List}
 use Rattle.vs_kernel.specs.declared.outcome.Outcome.{Outcome}
-use Rattle.vs_sim.specs.declared.fault.SimFault.{SimFault}
+use Rattle.vs_simulation.specs.declared.fault.SimFault.{SimFault}
 use Rattle.vs_sim.specs.declared.words.Request.{Request}
 use Rattle.vs_sim.specs.declared.words.Call.{Call}
 use Rattle.vs_sim.specs.declared.words.Call.TheVariants.{Run, Elab}
 use Rattle.vs_sim.specs.declared.words.Text.{Text}
 use Rattle.vs_sim.specs.declared.words.Text.TheVariants.{Lines, Dump}
 use Rattle.vs_sim.specs.Asks.{WordsAsk}
-use Rattle.vs_sim.specs.Honesty.{IsRun, Fails}
+use Rattle.vs_simulation.specs.Honesty.{IsRun, Fails}
 use Rattle.vs_sim.specs.Inputs.{IsKept}
-use Rattle.vs_sim.specs.Listing.{IsListed}
+use Rattle.vs_simulation.specs.Listing.{IsListed}
 use Rattle.vs_sim.specs.Statuses.{outcome_status, fault_status}
 
 -- a run of these bytes, as it was asked for, gave this outcome

@@ -1,7 +1,5 @@
 pub mod Asks
 pub mod Ends
-pub mod Honesty
 pub mod Inputs
-pub mod Listing
 pub mod Statuses
 pub mod Texts

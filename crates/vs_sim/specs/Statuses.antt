@@ -8,8 +8,8 @@ use Rattle.vs_scopes.specs.declared.faults.ElabFault.{ElabFault}
 use Rattle.vs_scopes.specs.declared.faults.ElabFault.TheVariants as elab
 use Rattle.vs_kernel.specs.declared.outcome.Outcome.{Outcome}
 use Rattle.vs_kernel.specs.declared.outcome.Outcome.TheVariants as o
-use Rattle.vs_sim.specs.declared.fault.SimFault.{SimFault}
-use Rattle.vs_sim.specs.declared.fault.SimFault.TheVariants.{Lex, Parse, Elab, Run, Memory}
+use Rattle.vs_simulation.specs.declared.fault.SimFault.{SimFault}
+use Rattle.vs_simulation.specs.declared.fault.SimFault.TheVariants.{Lex, Parse, Elab, Run, Memory}
 
 -- whether a number is a status: 0 done, 1 refused, 2 step limit, 3 memory or a device's fault, 64 command line
 abbrev pub is_status : ℕ → Bool

@@ -4,8 +4,8 @@ use Rattle.vs_lexer.specs.Faults as lexer
 use Rattle.vs_parser.specs.Faults as parser
 use Rattle.vs_scopes.specs.Texts as elaborate
 use Rattle.vs_kernel.specs.declared.outcome.RunFault.TheVariants as run
-use Rattle.vs_sim.specs.declared.fault.SimFault.{SimFault}
-use Rattle.vs_sim.specs.declared.fault.SimFault.TheVariants.{Lex, Parse, Elab, Run, Memory}
+use Rattle.vs_simulation.specs.declared.fault.SimFault.{SimFault}
+use Rattle.vs_simulation.specs.declared.fault.SimFault.TheVariants.{Lex, Parse, Elab, Run, Memory}
 
 -- the text of a fault: its number and its place, or what failed
 abbrev pub fault_text : SimFault → List ℕ

@@ -2,20 +2,18 @@
 ghost use Rattle.std.specs.Prelude.{◌≡◌, ◌⊎◌, map, IfOk, IfErr};
 ghost use Rattle.vs_sim.specs.Asks.{WordsAsk};
 ghost use Rattle.vs_sim.specs.Ends.{Ends, EndsCall, HasWritten, Wrote, IsWordsStatus, done_status, top_of};
-ghost use Rattle.vs_sim.specs.Honesty.{Fails};
+ghost use Rattle.vs_simulation.specs.Honesty.{Fails};
 ghost use Rattle.vs_sim.specs.Statuses.{fault_status};
 
 use crate::dropped::Dropped;
-use crate::fault::SimFault;
 use crate::input::{InputFault, read_source};
-use crate::listing::list_design;
-use crate::simulation::{Policy, simulate};
 use crate::texts::{fault_status, fault_text};
 use crate::words::{Call, Order, Request, Text, is_help, is_memory, read_words};
 use clap::Error;
 use std::alloc::Global;
 use std::io::{self, BufWriter, ErrorKind, Read, Write};
 use vs_kernel::Outcome;
+use vs_simulation::{Policy, SimFault, list_design, simulate};
 use vs_vcd::Counted;
 
 /// Done, or help.

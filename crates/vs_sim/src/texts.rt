@@ -3,12 +3,12 @@ ghost use Rattle.std.specs.Prelude.{◌≡◌, IfOk};
 ghost use Rattle.vs_sim.specs.Statuses.{fault_status};
 ghost use Rattle.vs_sim.specs.Texts.{fault_text};
 
-use crate::fault::SimFault;
 use std::alloc::{AllocError, Global};
 use vs_elaborate::ElabFault;
 use vs_kernel::RunFault;
 use vs_lexer::LexFault;
 use vs_parser::ParseFault;
+use vs_simulation::SimFault;
 
 /// The text that the program prints of a fault, behind `vsim: `: its number and its place, or what failed.
 pub fn fault_text(alloc: Global, fault: &SimFault) -> Result<Vec<u8>, AllocError>

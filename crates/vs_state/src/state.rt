@@ -19,7 +19,6 @@ use vs_regions::{Item, Update};
 use vs_time_wheel::EventQueue;
 
 /// The state of a run. A contract sees it as a state of the definition.
-#[derive(Drop)]
 pub struct State<'a, Q: EventQueue<Item>> {
     pub(crate) alloc: Global,
     pub(crate) store: Store<'a>,
@@ -34,6 +33,22 @@ pub struct State<'a, Q: EventQueue<Item>> {
     pub(crate) changes: Vec<Change>,
     /// What the last move has woken; no part of the definition's state.
     pub(crate) woken: Woken,
+}
+
+impl<'a, Q: EventQueue<Item> + Drop> Drop for State<'a, Q> {
+    fn drop(self) {
+        let Self {
+            alloc: _,
+            store: _,
+            processes: _,
+            assigns: _,
+            calls: _,
+            finishing: _,
+            over: _,
+            changes: _,
+            woken: _,
+        } = self;
+    }
 }
 
 impl<'a, Q: EventQueue<Item>> Model for State<'a, Q> {

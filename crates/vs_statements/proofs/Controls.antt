@@ -17,7 +17,7 @@ use Rattle.vs_syntax.proofs.Gets.{gets_token, gets_seq, gets_left, gets_right}
 use Rattle.vs_statements.specs.declared.head.DelayHead.{DelayHead}
 use Rattle.vs_statements.specs.declared.head.EventHead.{EventHead}
 use Rattle.vs_statements.specs.Heads.{BeginsDelay, BeginsEvent, separator_symbol, edge_word}
-use Rattle.vs_statements.specs.Parts.{ReadsWithin, marked}
+use Rattle.vs_forms.specs.Parts.{ReadsWithin, marked}
 use Rattle.vs_expressions.specs.declared.reading.Read.{Read}
 use Rattle.vs_expressions.specs.declared.reading.Stop.{Stop}
 use Rattle.vs_expressions.specs.Answers.{seen, Reads}

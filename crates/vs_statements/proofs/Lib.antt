@@ -1,11 +1,5 @@
-pub mod Parts
-pub mod Lists
-pub mod Forms
-pub mod Blocks
-pub mod Trees
 pub mod Heads
 pub mod Assignments
 pub mod Controls
-pub mod Labels
 pub mod Statements
-pub mod Tasks
+pub mod Timings

@@ -19,10 +19,10 @@ use Rattle.vs_statements.specs.declared.head.StatementWord.TheVariants as s
 use Rattle.vs_statements.specs.declared.head.StatementHead.{StatementHead}
 use Rattle.vs_statements.specs.declared.head.StatementHead.TheVariants as h
 use Rattle.vs_statements.specs.Heads.{symbol_of, behind_of, BeginsStatement, class_of_statement}
-use Rattle.vs_statements.specs.Tasks.{timing}
-use Rattle.vs_statements.specs.Parts.{Within, ReadsWithin, headed}
+use Rattle.vs_statements.specs.Timings.{timing}
+use Rattle.vs_forms.specs.Parts.{Within, ReadsWithin, headed}
 use Rattle.vs_statements.proofs.Heads.{word_branch, word_need}
-use Rattle.vs_statements.proofs.Trees.{tree_Null}
+use Rattle.vs_forms.proofs.Trees.{tree_Null}
 use Rattle.vs_expressions.specs.declared.reading.Read.{Read}
 use Rattle.vs_expressions.specs.declared.reading.Stop.{Stop}
 use Rattle.vs_expressions.specs.Answers.{seen, Reads}

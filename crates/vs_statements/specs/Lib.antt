@@ -1,5 +1,2 @@
 pub mod Heads
-pub mod Lists
-pub mod Parts
-pub mod Blocks
-pub mod Tasks
+pub mod Timings

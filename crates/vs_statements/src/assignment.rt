@@ -6,8 +6,8 @@ ghost use Rattle.vs_syntax.specs.Tables.{goes};
 ghost use Rattle.vs_syntax.specs.Derivation.{both};
 ghost use Rattle.vs_syntax.specs.Views.{expr_tree, left_tree, late_tree, assigned_tree, guarded_tree, for_tree, stmt_tree};
 ghost use Rattle.vs_expressions.specs.Answers.{seen, Reads};
-ghost use Rattle.vs_statements.specs.Parts.{Leads, marked, sides_tree};
-ghost use Rattle.vs_statements.specs.Tasks.{timing, timing_tree};
+ghost use Rattle.vs_forms.specs.Parts.{Leads, marked, sides_tree};
+ghost use Rattle.vs_statements.specs.Timings.{timing, timing_tree};
 
 use crate::control::delay_value;
 use std::alloc::{AllocError, Global};

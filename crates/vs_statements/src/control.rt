@@ -7,7 +7,7 @@ ghost use Rattle.vs_syntax.specs.Grammar.{◌·◌, ◌or◌, many, part, mark, 
 ghost use Rattle.vs_syntax.specs.Derivation.{both};
 ghost use Rattle.vs_syntax.specs.Views.{row_of, closed_tree, expr_tree, delay_tree, event_expr_tree, other_event_tree, event_tree};
 ghost use Rattle.vs_expressions.specs.Answers.{seen, Reads};
-ghost use Rattle.vs_statements.specs.Parts.{ReadsWithin, marked};
+ghost use Rattle.vs_forms.specs.Parts.{ReadsWithin, marked};
 
 use crate::head::{DelayHead, EventHead, delay_head, edge_at, event_head, separator_at};
 use std::alloc::Global;

@@ -8,20 +8,18 @@ ghost use Rattle.vs_syntax.specs.Tables.{low};
 ghost use Rattle.vs_syntax.specs.Derivation.{leaf, both};
 ghost use Rattle.vs_syntax.specs.Views.{row_of, some_tree, case_word, expr_tree, guarded_tree, stmt_tree};
 ghost use Rattle.vs_expressions.specs.Answers.{seen, Reads};
-ghost use Rattle.vs_statements.specs.Blocks.{naming_tree};
+ghost use Rattle.vs_forms.specs.Blocks.{naming_tree};
 ghost use Rattle.vs_statements.specs.Heads.{BeginsStatement, symbol_of, behind_of};
-ghost use Rattle.vs_statements.specs.Parts.{ReadsWithin, headed, boxed_tree, other_tree, labelled_stmt_tree};
+ghost use Rattle.vs_forms.specs.Parts.{ReadsWithin, headed, boxed_tree, other_tree, labelled_stmt_tree};
 
 use crate::assignment::{assigned_stmt, for_header, guard};
 use crate::control::{delay_value, event_control};
 use crate::head::{
     StatementHead, StatementWord, begins_case_item, least_statement, statement_head,
 };
-use crate::label::case_label;
-use crate::local::{BlockName, naming};
-use crate::task::{dump_stmt, finish_stmt, print_stmt};
 use std::alloc::Global;
 use vs_expressions::{Read, Stop, expect_word, word_at};
+use vs_forms::{BlockName, case_label, dump_stmt, finish_stmt, naming, print_stmt};
 use vs_lexer::{Token, Word};
 use vs_logic4::CaseKind;
 use vs_syntax::{CaseLabel, Expr, Stmt};

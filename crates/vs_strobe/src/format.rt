@@ -10,7 +10,6 @@ use std::marker::Model;
 use vs_design::{Call, FormatArg};
 
 /// What a `$display` or `$strobe` prints: its text, read once, and its arguments.
-#[derive(Drop)]
 pub struct Format<'a> {
     pub(crate) pieces: Vec<Piece>,
     pub(crate) args: &'a [FormatArg],
@@ -18,6 +17,17 @@ pub struct Format<'a> {
     /// How many ticks a unit of time is.
     pub(crate) ratio: u64,
     pub(crate) ghost scaled: { (0 < ratio) × (ratio ≤ 10 ^ 17) },
+}
+
+impl Drop for Format<'_> {
+    fn drop(self) {
+        let Self {
+            pieces: _,
+            args: _,
+            path: _,
+            ratio: _,
+        } = self;
+    }
 }
 
 impl<'a> Model for Format<'a> {

@@ -3,7 +3,6 @@ use vs_lexer::{Directive, Literal};
 use vs_logic4::{Binary, CaseKind, Edge, Unary};
 
 /// A source text: its modules and the directives between them, in the order of the text (IEEE 1364-2005, clauses A.1.2 and 19.2).
-#[derive(Drop)]
 pub struct Source {
     /// The modules.
     pub modules: Vec<Module>,
@@ -11,8 +10,16 @@ pub struct Source {
     pub directives: Vec<Directive>,
 }
 
+impl Drop for Source {
+    fn drop(self) {
+        let Self {
+            modules: _,
+            directives: _,
+        } = self;
+    }
+}
+
 /// A module (IEEE 1364-2005, clause 12.1).
-#[derive(Drop)]
 pub struct Module {
     /// The directives between it and the module before it.
     pub directives: Vec<Directive>,
@@ -26,8 +33,19 @@ pub struct Module {
     pub items: Vec<ModuleItem>,
 }
 
+impl Drop for Module {
+    fn drop(self) {
+        let Self {
+            directives: _,
+            name: _,
+            parameters: _,
+            ports: _,
+            items: _,
+        } = self;
+    }
+}
+
 /// What a declaration of parameters says of them (IEEE 1364-2005, clauses 4.10.1 and 12.2).
-#[derive(Drop)]
 pub enum ParameterForm {
     /// `integer`
     Integer,
@@ -35,8 +53,15 @@ pub enum ParameterForm {
     Vector(Form),
 }
 
+impl Drop for ParameterForm {
+    fn drop(self) {
+        match self {
+            Self::Integer | Self::Vector(_) => {}
+        }
+    }
+}
+
 /// A parameter in the header of a module (IEEE 1364-2005, clause 12.2).
-#[derive(Drop)]
 pub struct HeaderParameter {
     /// What stands behind the word `parameter`; without that word, what is said of the one before holds.
     pub form: Option<ParameterForm>,
@@ -44,6 +69,16 @@ pub struct HeaderParameter {
     pub name: Vec<u8>,
     /// Its value where nothing overrides it.
     pub value: Expr,
+}
+
+impl Drop for HeaderParameter {
+    fn drop(self) {
+        let Self {
+            form: _,
+            name: _,
+            value: _,
+        } = self;
+    }
 }
 
 /// A name that a declaration of parameters gives a value (IEEE 1364-2005, clause 4.10).
@@ -76,7 +111,6 @@ pub enum PortKind {
 }
 
 /// What stands before the name of a port (IEEE 1364-2005, clause 12.3.4).
-#[derive(Drop)]
 pub struct PortForm {
     /// Its direction.
     pub direction: Direction,
@@ -86,8 +120,17 @@ pub struct PortForm {
     pub form: Form,
 }
 
+impl Drop for PortForm {
+    fn drop(self) {
+        let Self {
+            direction: _,
+            kind: _,
+            form: _,
+        } = self;
+    }
+}
+
 /// A port in the header of a module (IEEE 1364-2005, clauses 12.3.2 to 12.3.4).
-#[derive(Drop)]
 pub struct Port {
     /// What stands before its name; without that, what is said of the one before holds. Where nothing is said of the first, the list is
     /// one of names alone, and items of the module declare them.
@@ -98,8 +141,17 @@ pub struct Port {
     pub value: Option<Expr>,
 }
 
+impl Drop for Port {
+    fn drop(self) {
+        let Self {
+            form: _,
+            name: _,
+            value: _,
+        } = self;
+    }
+}
+
 /// A connection by name (IEEE 1364-2005, clauses 12.2.2.2 and 12.3.6).
-#[derive(Drop)]
 pub struct Connection {
     /// The bytes of the name of the port or of the parameter.
     pub name: Vec<u8>,
@@ -107,8 +159,13 @@ pub struct Connection {
     pub value: Option<Expr>,
 }
 
+impl Drop for Connection {
+    fn drop(self) {
+        let Self { name: _, value: _ } = self;
+    }
+}
+
 /// What stands in the parentheses of an instance, or in those of the values of its parameters (IEEE 1364-2005, clauses 12.2.2 and 12.3).
-#[derive(Drop)]
 pub enum Connections {
     /// In the order of the ports or of the parameters: the first, and the others. Each may be left out. `()` holds nothing.
     Ordered(Option<Expr>, Vec<Option<Expr>>),
@@ -116,8 +173,15 @@ pub enum Connections {
     Named(Connection, Vec<Connection>),
 }
 
+impl Drop for Connections {
+    fn drop(self) {
+        match self {
+            Self::Ordered(_, _) | Self::Named(_, _) => {}
+        }
+    }
+}
+
 /// An instance of a module (IEEE 1364-2005, clause 12.1.2).
-#[derive(Drop)]
 pub struct Instance {
     /// The bytes of its name.
     pub name: Vec<u8>,
@@ -125,8 +189,13 @@ pub struct Instance {
     pub ports: Connections,
 }
 
+impl Drop for Instance {
+    fn drop(self) {
+        let Self { name: _, ports: _ } = self;
+    }
+}
+
 /// A name that a declaration declares (IEEE 1364-2005, clauses 6.1.1 and 6.2.1).
-#[derive(Drop)]
 pub struct Declarator {
     /// The bytes of the name.
     pub name: Vec<u8>,
@@ -136,8 +205,17 @@ pub struct Declarator {
     pub value: Option<Expr>,
 }
 
+impl Drop for Declarator {
+    fn drop(self) {
+        let Self {
+            name: _,
+            words: _,
+            value: _,
+        } = self;
+    }
+}
+
 /// The range of a vector, `[left:right]` (IEEE 1364-2005, clause 4.3).
-#[derive(Drop)]
 pub struct Range {
     /// The number of the highest bit.
     pub left: Expr,
@@ -145,8 +223,13 @@ pub struct Range {
     pub right: Expr,
 }
 
+impl Drop for Range {
+    fn drop(self) {
+        let Self { left: _, right: _ } = self;
+    }
+}
+
 /// What a declaration says of its names before them (IEEE 1364-2005, clauses 4.2.1, 4.2.2 and 4.3).
-#[derive(Drop)]
 pub struct Form {
     /// Whether it has the word `signed`.
     pub signed: bool,
@@ -154,8 +237,16 @@ pub struct Form {
     pub range: Option<Range>,
 }
 
+impl Drop for Form {
+    fn drop(self) {
+        let Self {
+            signed: _,
+            range: _,
+        } = self;
+    }
+}
+
 /// One assignment of an `assign` item (IEEE 1364-2005, clause 6.1.2).
-#[derive(Drop)]
 pub struct NetAssignment {
     /// The left side.
     pub target: Left,
@@ -163,8 +254,16 @@ pub struct NetAssignment {
     pub value: Expr,
 }
 
+impl Drop for NetAssignment {
+    fn drop(self) {
+        let Self {
+            target: _,
+            value: _,
+        } = self;
+    }
+}
+
 /// An item of a module, or what a generate construct generates (IEEE 1364-2005, clauses 12.4 and A.1.4).
-#[derive(Drop)]
 pub enum ModuleItem {
     /// An item that is no generate construct.
     Plain(Item),
@@ -180,8 +279,20 @@ pub enum ModuleItem {
     Block(Option<Vec<u8>>, Vec<ModuleItem>),
 }
 
+impl Drop for ModuleItem {
+    fn drop(self) {
+        match self {
+            Self::Plain(_)
+            | Self::Region(_)
+            | Self::For(_, _)
+            | Self::If(_, _, _)
+            | Self::Null
+            | Self::Block(_, _) => {}
+        }
+    }
+}
+
 /// The header of a generate loop, `(name = first; condition; name = step)` (IEEE 1364-2005, clause 12.4.1).
-#[derive(Drop)]
 pub struct LoopHeader {
     /// The bytes of the name that is given the first value.
     pub name: Vec<u8>,
@@ -195,8 +306,19 @@ pub struct LoopHeader {
     pub step: Expr,
 }
 
+impl Drop for LoopHeader {
+    fn drop(self) {
+        let Self {
+            name: _,
+            first: _,
+            condition: _,
+            next: _,
+            step: _,
+        } = self;
+    }
+}
+
 /// An item of a module that is no generate construct (IEEE 1364-2005, clause A.1.4).
-#[derive(Drop)]
 pub enum Item {
     /// `input` or `output`, what it says of the ports that it declares, and the bytes of their names, in the order of the text (clause 12.3.3).
     Port(PortForm, Vec<Vec<u8>>),
@@ -222,8 +344,25 @@ pub enum Item {
     Always(Stmt),
 }
 
+impl Drop for Item {
+    fn drop(self) {
+        match self {
+            Self::Port(_, _)
+            | Self::Genvar(_)
+            | Self::Wire(_, _)
+            | Self::Reg(_, _)
+            | Self::Integer(_)
+            | Self::Parameter(_, _)
+            | Self::Localparam(_, _)
+            | Self::Instances(_, _, _)
+            | Self::Assign(_)
+            | Self::Initial(_)
+            | Self::Always(_) => {}
+        }
+    }
+}
+
 /// A delay, in units of time (IEEE 1364-2005, clauses 9.7.1 and A.2.2.3).
-#[derive(Drop)]
 pub enum DelayValue {
     /// A number.
     Number(Literal),
@@ -233,8 +372,15 @@ pub enum DelayValue {
     Group(Box<Expr>),
 }
 
+impl Drop for DelayValue {
+    fn drop(self) {
+        match self {
+            Self::Number(_) | Self::Name(_) | Self::Group(_) => {}
+        }
+    }
+}
+
 /// A term of an event control (IEEE 1364-2005, clause 9.7.2).
-#[derive(Drop)]
 pub struct EventExpr {
     /// `posedge` or `negedge`; of neither any change.
     pub edge: Edge,
@@ -242,6 +388,16 @@ pub struct EventExpr {
     pub name: Vec<u8>,
     /// Its selects, of which there may be none.
     pub selects: Vec<(Expr, Option<(PartSelect, Expr)>)>,
+}
+
+impl Drop for EventExpr {
+    fn drop(self) {
+        let Self {
+            edge: _,
+            name: _,
+            selects: _,
+        } = self;
+    }
 }
 
 /// What stands between two terms of an event control (IEEE 1364-2005, clauses 9.7.3 and 9.7.4).
@@ -254,7 +410,6 @@ pub enum Separator {
 }
 
 /// What stands behind the `@` of an event control (IEEE 1364-2005, clauses 9.7.2 to 9.7.5).
-#[derive(Drop)]
 pub enum EventControl {
     /// `*`
     Star,
@@ -266,8 +421,15 @@ pub enum EventControl {
     Terms(Box<EventExpr>, Vec<(Separator, EventExpr)>),
 }
 
+impl Drop for EventControl {
+    fn drop(self) {
+        match self {
+            Self::Star | Self::GroupedStar | Self::Name(_) | Self::Terms(_, _) => {}
+        }
+    }
+}
+
 /// What stands before the statement of a `case` item (IEEE 1364-2005, clause 9.5).
-#[derive(Drop)]
 pub enum CaseLabel {
     /// Expressions: the first, and the others.
     Expressions(Expr, Vec<Expr>),
@@ -275,8 +437,15 @@ pub enum CaseLabel {
     Default(bool),
 }
 
+impl Drop for CaseLabel {
+    fn drop(self) {
+        match self {
+            Self::Expressions(_, _) | Self::Default(_) => {}
+        }
+    }
+}
+
 /// A declaration of variables of a named block (IEEE 1364-2005, clauses 9.8.3 and A.2.8).
-#[derive(Drop)]
 pub enum LocalDeclaration {
     /// `reg`, what it says of its names, and they, in the order of the text.
     Reg(Form, Vec<Local>),
@@ -284,13 +453,26 @@ pub enum LocalDeclaration {
     Integer(Vec<Local>),
 }
 
+impl Drop for LocalDeclaration {
+    fn drop(self) {
+        match self {
+            Self::Reg(_, _) | Self::Integer(_) => {}
+        }
+    }
+}
+
 /// A name that a declaration of a named block declares (IEEE 1364-2005, clause A.2.8).
-#[derive(Drop)]
 pub struct Local {
     /// The bytes of the name.
     pub name: Vec<u8>,
     /// The range of its words, where it is an array.
     pub words: Option<Range>,
+}
+
+impl Drop for Local {
+    fn drop(self) {
+        let Self { name: _, words: _ } = self;
+    }
 }
 
 /// A system task that prints (IEEE 1364-2005, clause 17.1).
@@ -303,7 +485,6 @@ pub enum PrintTask {
 }
 
 /// An argument of `$display` or `$strobe` behind the text (IEEE 1364-2005, clause 17.1.1).
-#[derive(Drop)]
 pub enum Argument {
     /// An expression.
     Value(Expr),
@@ -311,8 +492,15 @@ pub enum Argument {
     Time,
 }
 
+impl Drop for Argument {
+    fn drop(self) {
+        match self {
+            Self::Value(_) | Self::Time => {}
+        }
+    }
+}
+
 /// What stands behind `$display` or `$strobe` (IEEE 1364-2005, clause 17.1.1).
-#[derive(Drop)]
 pub enum PrintArguments {
     /// Nothing.
     Missing,
@@ -320,6 +508,14 @@ pub enum PrintArguments {
     Empty,
     /// In parentheses a text, by its own bytes, and what it prints.
     Text(Vec<u8>, Vec<Argument>),
+}
+
+impl Drop for PrintArguments {
+    fn drop(self) {
+        match self {
+            Self::Missing | Self::Empty | Self::Text(_, _) => {}
+        }
+    }
 }
 
 /// A system task that says what is dumped (IEEE 1364-2005, clause 18.1).
@@ -332,7 +528,6 @@ pub enum DumpTask {
 }
 
 /// An argument of `$dumpfile` or `$dumpvars` (IEEE 1364-2005, clauses 18.1.1 and 18.1.2).
-#[derive(Drop)]
 pub enum DumpArgument {
     /// A text, by its own bytes.
     Text(Vec<u8>),
@@ -340,8 +535,15 @@ pub enum DumpArgument {
     Value(Box<Expr>),
 }
 
+impl Drop for DumpArgument {
+    fn drop(self) {
+        match self {
+            Self::Text(_) | Self::Value(_) => {}
+        }
+    }
+}
+
 /// What stands in the parentheses of a `for` statement, `(first; condition; step)` (IEEE 1364-2005, clause 9.6).
-#[derive(Drop)]
 pub struct ForHeader {
     /// The two sides of the first assignment.
     pub first: (Left, Expr),
@@ -351,9 +553,18 @@ pub struct ForHeader {
     pub step: (Left, Expr),
 }
 
+impl Drop for ForHeader {
+    fn drop(self) {
+        let Self {
+            first: _,
+            condition: _,
+            step: _,
+        } = self;
+    }
+}
+
 /// A statement (IEEE 1364-2005, clause A.6.4). What is large in one form of it stands in a box: each takes 80 bytes, and a block is a
 /// list of them.
-#[derive(Drop)]
 pub enum Stmt {
     /// `;` alone.
     Null,
@@ -389,13 +600,43 @@ pub enum Stmt {
     Dump(DumpTask, Option<(DumpArgument, Vec<DumpArgument>)>),
 }
 
+impl Drop for Stmt {
+    fn drop(self) {
+        match self {
+            Self::Null
+            | Self::Assign(_, _)
+            | Self::Later(_, _, _)
+            | Self::Block(_)
+            | Self::Named(_, _, _)
+            | Self::If(_, _, _)
+            | Self::Case(_, _, _)
+            | Self::For(_, _)
+            | Self::While(_, _)
+            | Self::Repeat(_, _)
+            | Self::Forever(_)
+            | Self::Delay(_, _)
+            | Self::Event(_, _)
+            | Self::Print(_, _)
+            | Self::Finish(_)
+            | Self::Dump(_, _) => {}
+        }
+    }
+}
+
 /// The left side of an assignment (IEEE 1364-2005, clauses 6.1.2 and 9.2).
-#[derive(Drop)]
 pub enum Left {
     /// A name, and its selects, of which there may be none.
     Name(Vec<u8>, Vec<(Expr, Option<(PartSelect, Expr)>)>),
     /// `{a, b, ..}`: the first part, which is the highest, and the others.
     Concat(Box<Left>, Vec<Left>),
+}
+
+impl Drop for Left {
+    fn drop(self) {
+        match self {
+            Self::Name(_, _) | Self::Concat(_, _) => {}
+        }
+    }
 }
 
 /// What stands between the two expressions of a part-select (IEEE 1364-2005, clause 5.2.1).
@@ -410,7 +651,6 @@ pub enum PartSelect {
 }
 
 /// An expression (IEEE 1364-2005, clause 5).
-#[derive(Drop)]
 pub enum Expr {
     /// A number (clause 3.5.1).
     Number(Literal),
@@ -435,4 +675,21 @@ pub enum Expr {
     Repeat(Box<Expr>, Box<Expr>, Vec<Expr>),
     /// `$signed(e)`, or `$unsigned(e)` (clause 5.5): whether the first, and its operand.
     Cast(bool, Box<Expr>),
+}
+
+impl Drop for Expr {
+    fn drop(self) {
+        match self {
+            Self::Number(_)
+            | Self::Name(_)
+            | Self::Select(_, _)
+            | Self::Group(_)
+            | Self::Unary(_, _)
+            | Self::Chain(_, _)
+            | Self::Choice(_, _)
+            | Self::Concat(_, _)
+            | Self::Repeat(_, _, _)
+            | Self::Cast(_, _) => {}
+        }
+    }
 }

@@ -115,7 +115,6 @@ fn write_end<S: Sink>(
 }
 
 /// The writer of a design's value change dump, slot by slot. A contract sees how far it has come.
-#[derive(Drop)]
 pub struct Writer {
     // Of each signal of the design the number of its code and the value written last.
     kept: Vec<Kept>,
@@ -124,6 +123,17 @@ pub struct Writer {
     // Room to work in: the text of a slot, and its changes.
     text: Vec<u8>,
     changes: Vec<Change>,
+}
+
+impl Drop for Writer {
+    fn drop(self) {
+        let Self {
+            kept: _,
+            last: _,
+            text: _,
+            changes: _,
+        } = self;
+    }
 }
 
 impl Model for Writer {

@@ -134,13 +134,13 @@ fn combined(
 fn operated(alloc: Global, left: Form, operator: Binary, right: Form) -> Result<Form, AllocError>
     ensures { IfOk result (λ y. IsOperated left operator right y) }
 {
-    match left {
-        Form::Chain(first, others) => {
+    match left.into_chain() {
+        Ok((first, others)) => {
             let mut links = others;
             links.push((operator, right))?;
             Ok(Form::Chain(first, links))
         }
-        left => {
+        Err(left) => {
             let mut links = Vec::with_capacity(alloc, 1)?;
             links.push((operator, right))?;
             Ok(Form::Chain(Box::new(alloc, left)?, links))
@@ -160,8 +160,8 @@ fn tested(
     requires test { IsTestLink shape.width link ((sense right).size link.width) }
     ensures { IfOk result (λ y. IsTested left shape link right y) }
 {
-    match left {
-        Form::Tests(first, others) => {
+    match left.into_tests() {
+        Ok((first, others)) => {
             if continues(shape, link.width, &others) {
                 let mut links = others;
                 links.push((link, right))?;
@@ -169,7 +169,7 @@ fn tested(
             }
             first_tested(alloc, Form::Tests(first, others), shape, link, right)
         }
-        left => first_tested(alloc, left, shape, link, right),
+        Err(left) => first_tested(alloc, left, shape, link, right),
     }
 }
 

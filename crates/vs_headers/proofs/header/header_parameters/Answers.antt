@@ -6,10 +6,10 @@ use Rattle.vs_syntax.specs.Grammar.{◌or◌, nothing, part, mark, header_parame
 use Rattle.vs_syntax.specs.Reading.{stuck_first, stuck_second}
 use Rattle.vs_expressions.specs.Answers.{seen}
 use Rattle.vs_expressions.proofs.Exits.{fails_by}
-use Rattle.vs_statements.specs.Lists.{behind_commas}
-use Rattle.vs_statements.proofs.Forms.{present_stuck}
+use Rattle.vs_forms.specs.Lists.{behind_commas}
+use Rattle.vs_forms.proofs.Forms.{present_stuck}
 use Rattle.vs_headers.proofs.Headers as h
-use Rattle.vs_statements.proofs.Lists.{pushed_one}
+use Rattle.vs_forms.proofs.Lists.{pushed_one}
 use Rattle.vs_headers.proofs.header.header_parameters.Goals as goal
 
 pub returns-in_default : goal.returns-in_default

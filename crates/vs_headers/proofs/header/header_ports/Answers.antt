@@ -8,7 +8,7 @@ use Rattle.vs_syntax.proofs.Gets.{gets_seq}
 use Rattle.vs_expressions.specs.Answers.{seen}
 use Rattle.vs_expressions.proofs.Exits.{fails_by}
 use Rattle.vs_headers.specs.Ports.{ports_within}
-use Rattle.vs_statements.proofs.Forms.{absent, present_stuck, present_read}
+use Rattle.vs_forms.proofs.Forms.{absent, present_stuck, present_read}
 use Rattle.vs_headers.proofs.header.header_ports.Goals as goal
 
 pub returns-in_default : goal.returns-in_default

@@ -5,7 +5,7 @@ use Rattle.vs_syntax.specs.Reading.{stuck_first}
 use Rattle.vs_expressions.specs.Answers.{seen}
 use Rattle.vs_expressions.proofs.Exits.{fails_by}
 use Rattle.vs_headers.specs.Ports.{named_ports}
-use Rattle.vs_statements.proofs.Lists.{pushed_one}
+use Rattle.vs_forms.proofs.Lists.{pushed_one}
 use Rattle.vs_headers.proofs.Headers.{more_ports, no_ports, names_stuck, names_answers}
 use Rattle.vs_headers.proofs.header.named_ports.Goals as goal
 

@@ -5,7 +5,7 @@ use Rattle.vs_syntax.specs.Symbols.{a_word, the_word}
 use Rattle.vs_syntax.specs.Grammar.{◌·◌, ◌or◌, nothing, word, parameter_form}
 use Rattle.vs_expressions.specs.Answers.{seen}
 use Rattle.vs_expressions.proofs.Exits.{fails_by}
-use Rattle.vs_statements.proofs.Forms.{absent, present_stuck, present_read}
+use Rattle.vs_forms.proofs.Forms.{absent, present_stuck, present_read}
 use Rattle.vs_headers.proofs.header.worded_form.Goals as goal
 
 pub returns-in_default : goal.returns-in_default

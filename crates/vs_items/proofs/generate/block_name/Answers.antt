@@ -5,7 +5,7 @@ use Rattle.vs_syntax.specs.Symbols.{a_mark, the_mark}
 use Rattle.vs_syntax.specs.Grammar.{name, block_name}
 use Rattle.vs_expressions.specs.Answers.{seen}
 use Rattle.vs_expressions.proofs.Exits.{fails_by}
-use Rattle.vs_statements.proofs.Forms.{absent, present_stuck, present_read}
+use Rattle.vs_forms.proofs.Forms.{absent, present_stuck, present_read}
 use Rattle.vs_items.proofs.generate.block_name.Goals as goal
 
 pub returns-in_default : goal.returns-in_default

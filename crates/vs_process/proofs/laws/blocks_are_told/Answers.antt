@@ -1,7 +1,9 @@
-use Rattle.std.proofs.Common.{◌≡◌, ℕ, Bool, ◌||◌, true, false, List, [], ◌∷◌, map, refl, sym, ◌∙◌, ap}
+use Rattle.std.proofs.Common.{◌≡◌, ℕ, Bool, ◌||◌, ◌&&◌, true, false, List, [], ◌∷◌, map, refl, sym, ◌∙◌, ap}
 use Rattle.std.specs.List.{list_any}
 use Rattle.std.specs.declared.alloc.Global.{Global}
 use Rattle.std.specs.declared.vec.Vec.{Vec}
+use Rattle.vs_design.specs.declared.design.Process.{Process}
+use Rattle.vs_design.specs.declared.design.ProcessKind.TheVariants.{Initial}
 use Rattle.vs_design.specs.declared.expression.Typed.{Typed}
 use Rattle.vs_design.specs.declared.statement.Statement.{Statement}
 use Rattle.vs_design.specs.declared.statement.Statement.TheFolds.{fold-roll-Statement}
@@ -10,8 +12,8 @@ use Rattle.vs_design.specs.declared.statement.Statement.TheVariants.{Assign, Blo
 use Rattle.vs_design.specs.declared.statement.Statement.TheViews.{out-Statement}
 use Rattle.vs_design.specs.declared.statement.Target.{Target}
 use Rattle.vs_design.specs.Statements.{has_control, has_control_step}
-use Rattle.vs_process.specs.Examples.{mixer, register}
-use Rattle.vs_process.specs.Executions.{is_combinational}
+use Rattle.vs_process.specs.Examples.{mixer, register, toggler}
+use Rattle.vs_process.specs.Executions.{is_combinational, is_always, is_block_body}
 use Rattle.vs_process.proofs.laws.blocks_are_told.Goals as goal
 
 any_each : {A B : Type 0} (p : B → Bool) (f : A → B) (xs : List A) → list_any p (map f xs) ≡ list_any (λ x. p (f x)) xs
@@ -29,9 +31,16 @@ mixer_is : (g : Global) → is_combinational (mixer g) ≡ true
 unfolding out-Statement denote.Hole.Carrier.out
 mixer_is g = simp (control_block, control_assign)
 
-register_is_not : (g : Global) → is_combinational (register g) ≡ false
+register_is_not : (g : Global) (to from : ℕ) → is_combinational (register g to from) ≡ false
 unfolding out-Statement denote.Hole.Carrier.out
-register_is_not g = refl
+register_is_not g to from = refl
+
+toggler_is_not : (g : Global) → is_combinational (toggler g) ≡ false
+unfolding out-Statement denote.Hole.Carrier.out
+toggler_is_not g = refl
+
+initial_is_not : (p : Process) → p.kind ≡ Initial → is_combinational p ≡ false
+initial_is_not p k = ap (λ z. is_always z && is_block_body (out-Statement p.body)) k
 
 pub returns : goal.returns
-returns c = λ g. (mixer_is g, register_is_not g)
+returns c = λ g. (mixer_is g, toggler_is_not g, register_is_not g 0 1, register_is_not g 1 0, initial_is_not)

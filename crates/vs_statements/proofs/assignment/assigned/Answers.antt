@@ -1,5 +1,5 @@
 use Rattle.std.proofs.Common.{sym}
-use Rattle.vs_statements.proofs.Trees.{tree_Assign, tree_Later}
+use Rattle.vs_forms.proofs.Trees.{tree_Assign, tree_Later}
 use Rattle.vs_statements.proofs.assignment.assigned.Goals as goal
 
 pub returns-in-Blocking : goal.returns-in-Blocking

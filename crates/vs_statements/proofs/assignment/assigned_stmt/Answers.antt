@@ -6,7 +6,7 @@ use Rattle.vs_syntax.specs.Reading.{stuck_first, stuck_second}
 use Rattle.vs_syntax.proofs.Gets.{gets_seq}
 use Rattle.vs_expressions.specs.Answers.{seen}
 use Rattle.vs_expressions.proofs.Exits.{fails_by}
-use Rattle.vs_statements.specs.Tasks.{timing}
+use Rattle.vs_statements.specs.Timings.{timing}
 use Rattle.vs_statements.proofs.Statements.{assign_stuck, assign_read}
 use Rattle.vs_statements.proofs.assignment.assigned_stmt.Goals as goal
 

@@ -3,7 +3,7 @@ use Rattle.vs_syntax.specs.Grammar.{◌·◌, part, mark, an_expr}
 use Rattle.vs_syntax.specs.Reading.{stuck_first, stuck_second}
 use Rattle.vs_expressions.specs.Answers.{seen}
 use Rattle.vs_expressions.proofs.Exits.{fails_by}
-use Rattle.vs_statements.proofs.Parts.{beyond_part, beyond_behind}
+use Rattle.vs_forms.proofs.Parts.{beyond_part, beyond_behind}
 use Rattle.vs_statements.proofs.assignment.expr_until.Goals as goal
 
 pub returns-in_err-value : goal.returns-in_err-value

@@ -4,7 +4,7 @@ use Rattle.vs_syntax.specs.Grammar.{part, mark, for_parts, a_stmt}
 use Rattle.vs_syntax.specs.Reading.{stuck_first}
 use Rattle.vs_expressions.specs.Answers.{seen}
 use Rattle.vs_expressions.proofs.Exits.{fails_by}
-use Rattle.vs_statements.proofs.Parts.{beyond_part, beyond_behind, beyond_fails}
+use Rattle.vs_forms.proofs.Parts.{beyond_part, beyond_behind, beyond_fails}
 use Rattle.vs_statements.proofs.Assignments.{from_step, from_test, from_first}
 use Rattle.vs_statements.proofs.assignment.for_header.Goals as goal
 

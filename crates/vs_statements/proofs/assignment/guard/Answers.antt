@@ -4,7 +4,7 @@ use Rattle.vs_syntax.specs.Grammar.{◌·◌, part, mark, guarded, an_expr}
 use Rattle.vs_syntax.specs.Reading.{stuck_first}
 use Rattle.vs_expressions.specs.Answers.{seen}
 use Rattle.vs_expressions.proofs.Exits.{fails_by}
-use Rattle.vs_statements.proofs.Parts.{beyond_part, leads_on}
+use Rattle.vs_forms.proofs.Parts.{beyond_part, leads_on}
 use Rattle.vs_statements.proofs.assignment.guard.Goals as goal
 
 pub returns-in_err-inside : goal.returns-in_err-inside

@@ -5,7 +5,7 @@ use Rattle.vs_syntax.specs.Reading.{stuck_first, stuck_second}
 use Rattle.vs_syntax.proofs.Gets.{gets_seq}
 use Rattle.vs_expressions.specs.Answers.{seen}
 use Rattle.vs_expressions.proofs.Exits.{fails_by}
-use Rattle.vs_statements.proofs.Parts.{beyond_part, beyond_behind}
+use Rattle.vs_forms.proofs.Parts.{beyond_part, beyond_behind}
 use Rattle.vs_statements.proofs.assignment.sides_until.Goals as goal
 
 pub returns-in_err-target : goal.returns-in_err-target

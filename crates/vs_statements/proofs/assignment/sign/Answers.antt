@@ -5,8 +5,8 @@ use Rattle.vs_syntax.specs.Grammar.{mark, late}
 use Rattle.vs_syntax.specs.Reading.{stuck_first, stuck_second}
 use Rattle.vs_expressions.specs.Answers.{seen}
 use Rattle.vs_expressions.proofs.Exits.{fails_by}
-use Rattle.vs_statements.specs.Tasks.{timing}
-use Rattle.vs_statements.proofs.Tasks.{at_once, later_stuck, later_read}
+use Rattle.vs_statements.specs.Timings.{timing}
+use Rattle.vs_statements.proofs.Timings.{at_once, later_stuck, later_read}
 use Rattle.vs_statements.proofs.assignment.sign.Goals as goal
 
 pub returns-in-Some : goal.returns-in-Some

@@ -8,10 +8,10 @@ use Rattle.vs_syntax.proofs.Gets.{gets_seq, gets_stop, gets_absent}
 use Rattle.vs_expressions.specs.Answers.{seen}
 use Rattle.vs_expressions.proofs.Exits.{fails_by}
 use Rattle.vs_expressions.proofs.Rows.{along_push, shorter, all_read}
-use Rattle.vs_statements.specs.Parts.{labelled_stmt_tree}
+use Rattle.vs_forms.specs.Parts.{labelled_stmt_tree}
 use Rattle.vs_statements.proofs.Heads.{head_goes, head_deep}
 use Rattle.vs_statements.proofs.Statements.{null_read, word_stmt, word_is, word_room, begins_of, block_body, row_stuck, otherwise, else_stuck, else_read, items_none, item_stuck, items_read}
-use Rattle.vs_statements.proofs.Trees.{tree_If, tree_Case, tree_For, tree_While, tree_Repeat, tree_Forever, tree_Delay, tree_Event}
+use Rattle.vs_forms.proofs.Trees.{tree_If, tree_Case, tree_For, tree_While, tree_Repeat, tree_Forever, tree_Delay, tree_Event}
 use Rattle.vs_statements.proofs.statement.+stmt.Goals as goal
 
 pub stmt-returns-in_default : goal.stmt-returns-in_default

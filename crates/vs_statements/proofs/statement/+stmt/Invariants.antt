@@ -3,7 +3,7 @@ use Rattle.vs_syntax.specs.Grammar.{part, a_stmt, a_case_item}
 use Rattle.vs_syntax.specs.Views.{stmt_tree}
 use Rattle.vs_expressions.specs.Answers.{seen}
 use Rattle.vs_expressions.proofs.Rows.{Along}
-use Rattle.vs_statements.specs.Parts.{labelled_stmt_tree}
+use Rattle.vs_forms.specs.Parts.{labelled_stmt_tree}
 use Rattle.vs_statements.proofs.statement.+stmt.Given as goal
 
 abbrev pub decreases-stmt : goal.decreases-stmt

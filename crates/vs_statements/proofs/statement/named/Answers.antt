@@ -1,4 +1,4 @@
-use Rattle.vs_statements.proofs.Trees.{tree_Block, tree_Named}
+use Rattle.vs_forms.proofs.Trees.{tree_Block, tree_Named}
 use Rattle.vs_statements.proofs.statement.named.Goals as goal
 
 pub returns-in-None : goal.returns-in-None

@@ -1,0 +1,84 @@
+-- Lists with commas.
+use Rattle.std.specs.Prelude.{◌≡◌, ℕ, ◌≤◌, Bool, true, false, List, [], ◌∷◌, ◌++◌, map, drop, refl}
+use Rattle.std.proofs.Common.{sym, ◌∙◌, ap, subst, append_assoc, arith}
+use Rattle.std.proofs.lemmas.List.{append-nil, map-append}
+use Rattle.vs_tokens.specs.declared.token.Mark.TheVariants as m
+use Rattle.vs_syntax.specs.Symbols.{Symbol, a_mark, class_of}
+use Rattle.vs_syntax.specs.Grammar.{Grammar, ◌·◌, mark}
+use Rattle.vs_syntax.specs.Tables.{low, goes}
+use Rattle.vs_syntax.specs.Derivation.{Tree, leaf, both}
+use Rattle.vs_syntax.specs.Reading.{Gets, Stuck, stuck_second, stuck_many}
+use Rattle.vs_syntax.specs.Views.{commas_tree, listed_tree}
+use Rattle.vs_syntax.proofs.Fronts.{or_left, same_class-refl}
+use Rattle.vs_syntax.proofs.Gets.{gets_token, gets_seq, gets_stop}
+use Rattle.vs_tokens.specs.declared.token.Token.{Token}
+use Rattle.vs_expressions.specs.Answers.{seen}
+use Rattle.vs_expressions.proofs.Rows.{Along, along_none, along_push, all_read}
+use Rattle.vs_forms.specs.Lists.{behind_commas, Grown}
+
+-- a tree behind its comma
+abbrev pub comma_before : Tree → Tree
+comma_before x = both (leaf (a_mark m.Comma)) x
+
+-- To the elements `xs` those were added that stand from the start to the rest, each behind its comma.
+pub record Adding {X : Type 0} (g : Grammar) (room : ℕ) (tree : X → Tree) (start rest : List Symbol) (xs ys : List X) : Type 0 where
+  pub others : List X
+  pub all : ys ≡ xs ++ others
+  pub along : Along (mark m.Comma · g) room start rest (map comma_before (map tree others))
+
+pub adding_none : {X : Type 0} (g : Grammar) (room : ℕ) (tree : X → Tree) (ts : List Symbol) (xs : List X) → Adding g room tree ts ts xs xs
+adding_none g room tree ts xs = record { others = []; all = sym (append-nil xs); along = along_none (mark m.Comma · g) room ts }
+
+goes_comma : (g : Grammar) (ts after : List Symbol) → ts ≡ a_mark m.Comma ∷ after → goes (mark m.Comma · g) ts ≡ true
+goes_comma g ts after e = ap (goes (mark m.Comma · g)) e ∙ or_left _ false (same_class-refl (class_of (a_mark m.Comma)))
+
+comma_read : (g : Grammar) (room : ℕ) (ts after rest : List Symbol) (x : Tree) → ts ≡ a_mark m.Comma ∷ after → Gets g room after x rest → Gets (mark m.Comma · g) room ts (comma_before x) rest
+comma_read g room ts after rest x e q = rw e (gets_seq (gets_token refl) q)
+
+-- one more
+pub adding_push : {X : Type 0} (g : Grammar) (room : ℕ) (tree : X → Tree) (start rest after behind : List Symbol) (xs ys zs : List X) (x : X) → zs ≡ ys ++ x ∷ [] → Adding g room tree start rest xs ys → rest ≡ a_mark m.Comma ∷ after → Gets g room after (tree x) behind → Adding g room tree start behind xs zs
+adding_push g room tree start rest after behind xs ys zs x e l f q = record {
+  others = l.others ++ x ∷ [];
+  all = e ∙ ap (λ u. u ++ x ∷ []) l.all ∙ append_assoc xs l.others (x ∷ []);
+  along = along_push (mark m.Comma · g) room start rest behind comma_before (map tree l.others) _ (tree x) (map-append tree l.others (x ∷ [])) l.along (goes_comma g rest after f) (comma_read g room rest after behind (tree x) f q);
+}
+
+-- what stops one of them behind its comma
+pub adding_stuck : {X : Type 0} (g : Grammar) (room : ℕ) (deep : Bool) (tree : X → Tree) (start rest after at : List Symbol) (xs ys : List X) → low g ≤ room → Adding g room tree start rest xs ys → rest ≡ a_mark m.Comma ∷ after → Stuck g room deep after at → Stuck (behind_commas g) room deep start at
+adding_stuck g room deep tree start rest after at xs ys n l e s =
+    let k : low (mark m.Comma · g) ≤ room = omega (arith, n) in
+    l.along.stops deep at (stuck_many (goes_comma g rest after e) k (subst (λ (u : List Symbol). Stuck (mark m.Comma · g) room deep u at) (sym e) (stuck_second (gets_token refl) s)))
+
+-- all of them
+pub all_added : {X : Type 0} (g : Grammar) (room : ℕ) (tree : X → Tree) (start rest : List Symbol) (xs ys : List X) → Adding g room tree start rest xs ys → goes (mark m.Comma) rest ≡ false → Grown g room tree start rest xs ys
+all_added g room tree start rest xs ys l h = record {
+  others = l.others;
+  all = l.all;
+  gets = all_read (mark m.Comma · g) room start rest rest (map comma_before (map tree l.others)) l.along (gets_stop h);
+}
+
+-- what was added to nothing
+pub grown_none : {X : Type 0} (g : Grammar) (room : ℕ) (tree : X → Tree) (ts rest : List Symbol) (xs ys : List X) → Grown g room tree ts rest xs ys → xs ≡ [] → Gets (behind_commas g) room ts (commas_tree (map tree ys)) rest
+grown_none g room tree ts rest xs ys l e =
+    let i : ys ≡ l.others = l.all ∙ ap (λ u. u ++ l.others) e in
+    subst (λ u. Gets (behind_commas g) room ts (commas_tree (map tree u)) rest) (sym i) l.gets
+
+-- what was added to one
+pub grown_one : {X : Type 0} (g : Grammar) (room : ℕ) (tree : X → Tree) (ts rest : List Symbol) (x : X) (xs ys : List X) (P : List X → Type 0) → (l : Grown g room tree ts rest xs ys) → xs ≡ x ∷ [] → P (x ∷ l.others) → P ys
+grown_one g room tree ts rest x xs ys P l e p =
+    let i : ys ≡ x ∷ l.others = l.all ∙ ap (λ u. u ++ l.others) e in
+    subst P (sym i) p
+
+-- a list with its end: the first, the others and what stands behind them
+pub listed_read : {X : Type 0} (g : Grammar) (room : ℕ) (tree : X → Tree) (ts start rest at : List Symbol) (x : X) (xs ys : List X) → Gets g room ts (tree x) start → Grown g room tree start rest xs ys → xs ≡ x ∷ [] → Gets (mark m.Semicolon) room rest (leaf (a_mark m.Semicolon)) at → Gets (g · behind_commas g · mark m.Semicolon) room ts (listed_tree (map tree ys)) at
+listed_read g room tree ts start rest at x xs ys q l e r =
+    grown_one g room tree start rest x xs ys (λ u. Gets (g · behind_commas g · mark m.Semicolon) room ts (listed_tree (map tree u)) at) l e
+    (gets_seq q (gets_seq l.gets r))
+
+-- the first of a list
+pub pushed_one : {X : Type 0} (xs ys : List X) (x : X) → ys ≡ xs ++ x ∷ [] → xs ≡ [] → ys ≡ x ∷ []
+pushed_one xs ys x e f = e ∙ ap (λ u. u ++ x ∷ []) f
+
+-- before the first one
+pub adding_start : {X : Type 0} (g : Grammar) (room : ℕ) (tree : X → Tree) (ts us : List Token) (xs : List X) → us ≡ drop 0 ts → Adding g room tree (seen ts) (seen us) xs xs
+adding_start g room tree ts us xs e = subst (λ (u : List Token). Adding g room tree (seen ts) (seen u) xs xs) (sym e) (adding_none g room tree (seen ts) xs)

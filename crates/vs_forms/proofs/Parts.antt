@@ -1,0 +1,32 @@
+-- How what was read makes what stands before a part.
+use Rattle.std.specs.Prelude.{ℕ, true, false, List, Result, Ok, Err}
+use Rattle.vs_tokens.specs.declared.token.Token.{Token}
+use Rattle.vs_syntax.specs.Symbols.{Symbol}
+use Rattle.vs_syntax.specs.Grammar.{Grammar, ◌·◌}
+use Rattle.vs_syntax.specs.Derivation.{Tree, both}
+use Rattle.vs_syntax.specs.Reading.{Gets, stuck_second}
+use Rattle.vs_syntax.proofs.Gets.{gets_seq}
+use Rattle.vs_expressions.specs.declared.reading.Read.{Read}
+use Rattle.vs_expressions.specs.declared.reading.Stop.{Stop}
+use Rattle.vs_expressions.specs.declared.reading.Stop.TheVariants as stop
+use Rattle.vs_expressions.specs.Answers.{seen, Fails}
+use Rattle.vs_forms.specs.Parts.{Beyond, Leads}
+
+-- a part, and what stands behind it
+pub beyond_part : (a c : Grammar) (room : ℕ) (ts mid : List Symbol) (x : Tree) → Gets a room ts x mid → Beyond c (a · c) (both x) room ts mid
+beyond_part a c room ts mid x p = record { reads = λ y at q. gets_seq p q; stops = λ deep at s. stuck_second p s }
+
+-- one behind the other
+pub beyond_behind : (a b g : Grammar) (v w : Tree → Tree) (room : ℕ) (ts mid rest : List Symbol) → Beyond b g w room ts mid → Beyond a b v room mid rest → Beyond a g (λ y. w (v y)) room ts rest
+beyond_behind a b g v w room ts mid rest p q = record { reads = λ y at r. p.reads (v y) at (q.reads y at r); stops = λ deep at s. p.stops deep at (q.stops deep at s) }
+
+-- where what stands behind fails, the whole fails
+pub beyond_fails : (a g : Grammar) (w : Tree → Tree) (room : ℕ) (ts mid : List Symbol) (e : Stop) → Beyond a g w room ts mid → Fails a room mid e → Fails g room ts e
+beyond_fails a g w room ts mid stop.Memory p f = tt
+beyond_fails a g w room ts mid (stop.Unexpected at) p f = p.stops false (seen at.now) f
+beyond_fails a g w room ts mid (stop.TooDeep at) p f = p.stops true (seen at.now) f
+
+-- what leads on from there leads on from the start
+pub leads_on : {X : Type 0} (a b g : Grammar) (v : X → Tree → Tree) (w : Tree → Tree) (room : ℕ) (ts : List Token) (mid : List Token) (r : Result (Read X) Stop) → Beyond b g w room (seen ts) (seen mid) → Leads a b v room mid r → Leads a g (λ x y. w (v x y)) room ts r
+leads_on a b g v w room ts mid (Ok x) p q = beyond_behind a b g (v x.tree) w room (seen ts) (seen mid) (seen x.rest.now) p q
+leads_on a b g v w room ts mid (Err e) p q = beyond_fails b g w room (seen ts) (seen mid) e p q

@@ -1,0 +1,27 @@
+use Rattle.std.proofs.Common.{◌≤◌, arith}
+use Rattle.std.proofs.lemmas.Result.{err_from_is_err_and}
+use Rattle.vs_syntax.specs.Grammar.{many, local_declaration}
+use Rattle.vs_syntax.specs.Views.{local_declaration_tree}
+use Rattle.vs_syntax.specs.Reading.{stuck_many}
+use Rattle.vs_syntax.proofs.Gets.{gets_stop}
+use Rattle.vs_expressions.specs.Answers.{seen}
+use Rattle.vs_expressions.proofs.Exits.{fails_by}
+use Rattle.vs_expressions.proofs.Rows.{along_push, all_read}
+use Rattle.vs_forms.proofs.Blocks.{local_goes}
+use Rattle.vs_forms.proofs.local.locals.Goals as goal
+
+pub returns-in_err-declaration : goal.returns-in_err-declaration
+returns-in_err-declaration c =
+    let p = err_from_is_err_and c.from_residual.result c.from_residual.ensures.1 in
+    let none : 0 ≤ c.args.room = omega arith in
+    rw (p.1, p.2) (fails_by local_declaration (many local_declaration) c.args.room c.args.room (seen c.loop-word.rest.now) (seen c.args.tokens.now)
+    (λ deep at s. c.loop-word.invariant.along.stops deep at (stuck_many (local_goes _ _ _ c.in-Some.ensures) none s))
+    c.in_err-declaration.field-0.0 c.in_err-declaration.ensures)
+
+pub loop-word-preserved : goal.loop-word-preserved
+loop-word-preserved c = record {
+  along = along_push local_declaration c.args.room _ _ _ local_declaration_tree _ _ _ c.in_ok-push.ensures.items c.loop-word.invariant.along (local_goes _ _ _ c.in-Some.ensures) c.in_ok-declaration.ensures;
+}
+
+pub returns : goal.returns
+returns c = all_read local_declaration c.args.room _ _ _ _ c.loop-word.invariant.along (gets_stop c.in_default.ensures)

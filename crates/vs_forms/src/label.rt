@@ -1,0 +1,86 @@
+//! Reading what stands before the statements of `case` items.
+ghost use Rattle.std.specs.Prelude.{◌≡◌, ◌≤◌, ◌∷◌, ℕ, false};
+ghost use Rattle.vs_tokens.specs.declared.token.Word.TheVariants as w;
+ghost use Rattle.vs_syntax.specs.Symbols.{a_word};
+ghost use Rattle.vs_syntax.specs.Grammar.{part, word, a_stmt, a_case_item, an_expr};
+ghost use Rattle.vs_syntax.specs.Tables.{goes};
+ghost use Rattle.vs_syntax.specs.Views.{expr_tree, labelled_tree};
+ghost use Rattle.vs_expressions.specs.Answers.{seen, Reads};
+ghost use Rattle.vs_forms.specs.Parts.{Beyond, Leads};
+
+use crate::list::{Element, others};
+use std::alloc::Global;
+use vs_expressions::{Read, Stop, expect_mark, expr, mark_at, word_at};
+use vs_lexer::{Mark, Token, Word};
+use vs_syntax::{CaseLabel, Expr};
+
+/// An expression in a list of them.
+struct Choice;
+
+impl Element for Choice {
+    type Syntax = Expr;
+
+    ghost grammar = { part an_expr };
+
+    ghost tree_of = { expr_tree };
+
+    fn read<'t, 's>(
+        alloc: Global,
+        room: u32,
+        tokens: &'t [Token<'s>],
+    ) -> Result<Read<'t, 's, Expr>, Stop<'t, 's>> {
+        expr(alloc, room, tokens)
+    }
+}
+
+/// Reads what stands before the statement of a `case` item.
+pub fn case_label<'t, 's>(
+    alloc: Global,
+    room: u32,
+    tokens: &'t [Token<'s>],
+) -> Result<Read<'t, 's, CaseLabel>, Stop<'t, 's>>
+    requires { 1 ≤ room }
+    ensures { Leads (part a_stmt) (part a_case_item) labelled_tree room tokens.now result }
+{
+    match word_at(tokens, Word::Default) {
+        Some(after) => Ok(default_label(tokens, after)),
+        None => choices(alloc, room, tokens),
+    }
+}
+
+/// The label `default`, behind whose word `after` stands, with its colon, where that is next.
+fn default_label<'t, 's>(tokens: &'t [Token<'s>], after: &'t [Token<'s>]) -> Read<'t, 's, CaseLabel>
+    requires { seen tokens.now ≡ a_word w.Default ∷ seen after.now }
+    ensures { (room : ℕ) → 1 ≤ room → Beyond (part a_stmt) (part a_case_item) (labelled_tree result.tree) room
+        (seen tokens.now) (seen result.rest.now) }
+{
+    match mark_at(after, Mark::Colon) {
+        Some(rest) => Read {
+            tree: CaseLabel::Default(true),
+            rest,
+        },
+        None => Read {
+            tree: CaseLabel::Default(false),
+            rest: after,
+        },
+    }
+}
+
+/// Reads the expressions before the statement of a `case` item, and the colon behind them.
+fn choices<'t, 's>(
+    alloc: Global,
+    room: u32,
+    tokens: &'t [Token<'s>],
+) -> Result<Read<'t, 's, CaseLabel>, Stop<'t, 's>>
+    requires room { 1 ≤ room }
+    requires first { goes (word w.Default) (seen tokens.now) ≡ false }
+    ensures { Leads (part a_stmt) (part a_case_item) labelled_tree room tokens.now result }
+{
+    let first = expr(alloc, room, tokens)?;
+    let all = others::<Choice>(alloc, room, first.rest, Vec::new(alloc))?;
+    let rest = expect_mark(all.rest, Mark::Colon)?;
+    Ok(Read {
+        tree: CaseLabel::Expressions(first.tree, all.tree),
+        rest,
+    })
+}

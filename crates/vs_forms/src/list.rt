@@ -1,0 +1,79 @@
+//! Reading lists with commas.
+ghost use Rattle.std.specs.Prelude.{◌≡◌, ◌≤◌, map, MatchResult};
+ghost use Rattle.vs_tokens.specs.declared.token.Mark.TheVariants as m;
+ghost use Rattle.vs_syntax.specs.Grammar.{Grammar, ◌·◌, mark};
+ghost use Rattle.vs_syntax.specs.Tables.{low};
+ghost use Rattle.vs_syntax.specs.Derivation.{Tree};
+ghost use Rattle.vs_syntax.specs.Views.{listed_tree};
+ghost use Rattle.vs_expressions.specs.Answers.{seen, Fails, Reads};
+ghost use Rattle.vs_forms.specs.Lists.{behind_commas, Grown};
+
+use std::alloc::Global;
+use vs_expressions::{Read, Stop, expect_mark, mark_at};
+use vs_lexer::{Mark, Token};
+
+/// What stands in a list with commas.
+pub trait Element {
+    /// What one of them is read as.
+    type Syntax: Drop;
+
+    /// The grammar of one of them.
+    ghost grammar: { Grammar };
+
+    /// The tree of one of them.
+    ghost tree_of: { Self.Syntax → Tree };
+
+    /// Reads one of them, in at most `room` nodes below one another.
+    fn read<'t, 's>(
+        alloc: Global,
+        room: u32,
+        tokens: &'t [Token<'s>],
+    ) -> Result<Read<'t, 's, Self::Syntax>, Stop<'t, 's>>
+        requires { low grammar ≤ room }
+        ensures { Reads grammar room tokens.now tree_of result };
+}
+
+/// Reads those that stand behind a comma each, in at most `room` nodes below one another, and adds
+/// them to `tree`.
+pub fn others<'t, 's, T: Element>(
+    alloc: Global,
+    room: u32,
+    tokens: &'t [Token<'s>],
+    mut tree: Vec<T::Syntax>,
+) -> Result<Read<'t, 's, Vec<T::Syntax>>, Stop<'t, 's>>
+    requires { low T.grammar ≤ room }
+    ensures { MatchResult result
+        (λ r. Grown T.grammar room T.tree_of (seen tokens.now) (seen r.rest.now) tree.items r.tree.items)
+        (λ e. Fails (behind_commas T.grammar) room (seen tokens.now) e) }
+{
+    // All of them, but from a call: so the borrow checker can join it with what the loop sets.
+    let (_none, mut rest) = tokens.split_at(0);
+    while let Some(after) = mark_at(rest, Mark::Comma) {
+        let other = T::read(alloc, room, after)?;
+        rest = other.rest;
+        tree.push(other.tree)?;
+    }
+    Ok(Read { tree, rest })
+}
+
+/// Reads one or more with commas between them, and the semicolon behind them, in at most `room`
+/// nodes below one another.
+pub fn listed<'t, 's, T: Element>(
+    alloc: Global,
+    room: u32,
+    tokens: &'t [Token<'s>],
+) -> Result<Read<'t, 's, Vec<T::Syntax>>, Stop<'t, 's>>
+    requires { low T.grammar ≤ room }
+    ensures { Reads (T.grammar · behind_commas T.grammar · mark m.Semicolon) room tokens.now
+        (λ xs. listed_tree (map T.tree_of xs.items)) result }
+{
+    let first = T::read(alloc, room, tokens)?;
+    let mut tree = Vec::with_capacity(alloc, 1)?;
+    tree.push(first.tree)?;
+    let all = others::<T>(alloc, room, first.rest, tree)?;
+    let rest = expect_mark(all.rest, Mark::Semicolon)?;
+    Ok(Read {
+        tree: all.tree,
+        rest,
+    })
+}

@@ -1,0 +1,241 @@
+//! Reading instances of modules.
+ghost use Rattle.std.specs.Prelude.{map};
+ghost use Rattle.vs_tokens.specs.declared.token.Mark.TheVariants as m;
+ghost use Rattle.vs_syntax.specs.Symbols.{a_mark};
+ghost use Rattle.vs_syntax.specs.Grammar.{◌·◌, ◌or◌, nothing, part, mark, an_end, connections, a_connection, an_instance};
+ghost use Rattle.vs_syntax.specs.Grammar as g;
+ghost use Rattle.vs_syntax.specs.Derivation.{leaf, both};
+ghost use Rattle.vs_syntax.specs.Views.{listed_tree, end_tree, connection_tree, connections_tree, overrides_tree, instance_tree};
+ghost use Rattle.vs_expressions.specs.Answers.{Reads};
+ghost use Rattle.vs_forms.specs.Lists.{behind_commas};
+
+use std::alloc::Global;
+use vs_expressions::{Read, Stop, begins_expr, expect_mark, expect_name, expr, mark_at};
+use vs_forms::{Element, listed, others};
+use vs_lexer::{Mark, Token};
+use vs_syntax::{Connection, Connections, Expr, Instance};
+
+/// A connection by name.
+struct Named;
+
+/// A connection in the order of the ports or of the parameters.
+struct Ordered;
+
+/// An instance of a module.
+struct Placed;
+
+impl Element for Named {
+    type Syntax = Connection;
+
+    ghost grammar = { part a_connection };
+
+    ghost tree_of = { connection_tree };
+
+    fn read<'t, 's>(
+        alloc: Global,
+        room: u32,
+        tokens: &'t [Token<'s>],
+    ) -> Result<Read<'t, 's, Connection>, Stop<'t, 's>> {
+        connection(alloc, room, tokens)
+    }
+}
+
+impl Element for Ordered {
+    type Syntax = Option<Expr>;
+
+    ghost grammar = { an_end };
+
+    ghost tree_of = { end_tree };
+
+    fn read<'t, 's>(
+        alloc: Global,
+        room: u32,
+        tokens: &'t [Token<'s>],
+    ) -> Result<Read<'t, 's, Option<Expr>>, Stop<'t, 's>> {
+        end(alloc, room, tokens)
+    }
+}
+
+impl Element for Placed {
+    type Syntax = Instance;
+
+    ghost grammar = { part an_instance };
+
+    ghost tree_of = { instance_tree };
+
+    fn read<'t, 's>(
+        alloc: Global,
+        room: u32,
+        tokens: &'t [Token<'s>],
+    ) -> Result<Read<'t, 's, Instance>, Stop<'t, 's>> {
+        instance(alloc, room, tokens)
+    }
+}
+
+/// Reads the values of the parameters of instances, if they are next, and the instances, and the
+/// semicolon behind them.
+pub fn instances<'t, 's>(
+    alloc: Global,
+    room: u32,
+    tokens: &'t [Token<'s>],
+) -> Result<Read<'t, 's, (Option<Connections>, Vec<Instance>)>, Stop<'t, 's>>
+    ensures { Reads g.instances room tokens.now
+        (λ x. both (overrides_tree x.0) (listed_tree (map instance_tree x.1.items))) result }
+{
+    let values = overrides(alloc, room, tokens)?;
+    let placed = listed::<Placed>(alloc, room, values.rest)?;
+    Ok(Read {
+        tree: (values.tree, placed.tree),
+        rest: placed.rest,
+    })
+}
+
+/// Reads the values of the parameters of instances, if they are next.
+fn overrides<'t, 's>(
+    alloc: Global,
+    room: u32,
+    tokens: &'t [Token<'s>],
+) -> Result<Read<'t, 's, Option<Connections>>, Stop<'t, 's>>
+    ensures { Reads (mark m.Hash · mark m.Open · connections · mark m.Close or nothing) room tokens.now
+        overrides_tree result }
+{
+    let Some(after) = mark_at(tokens, Mark::Hash) else {
+        return Ok(Read {
+            tree: None,
+            rest: tokens,
+        });
+    };
+    let values = enclosed(alloc, room, after)?;
+    Ok(Read {
+        tree: Some(values.tree),
+        rest: values.rest,
+    })
+}
+
+/// Reads an instance: its name, and what its ports are connected to.
+fn instance<'t, 's>(
+    alloc: Global,
+    room: u32,
+    tokens: &'t [Token<'s>],
+) -> Result<Read<'t, 's, Instance>, Stop<'t, 's>>
+    ensures { Reads (part an_instance) room tokens.now instance_tree result }
+{
+    let (name, after_name) = expect_name(alloc, tokens)?;
+    let ports = enclosed(alloc, room, after_name)?;
+    Ok(Read {
+        tree: Instance {
+            name,
+            ports: ports.tree,
+        },
+        rest: ports.rest,
+    })
+}
+
+/// Reads connections in parentheses.
+fn enclosed<'t, 's>(
+    alloc: Global,
+    room: u32,
+    tokens: &'t [Token<'s>],
+) -> Result<Read<'t, 's, Connections>, Stop<'t, 's>>
+    ensures { Reads (mark m.Open · connections · mark m.Close) room tokens.now
+        (λ x. both (leaf (a_mark m.Open)) (both (connections_tree x) (leaf (a_mark m.Close)))) result }
+{
+    let after = expect_mark(tokens, Mark::Open)?;
+    let inside = connected(alloc, room, after)?;
+    let rest = expect_mark(inside.rest, Mark::Close)?;
+    Ok(Read {
+        tree: inside.tree,
+        rest,
+    })
+}
+
+/// Reads what ports are connected to, or the values of parameters: by name, or in order.
+fn connected<'t, 's>(
+    alloc: Global,
+    room: u32,
+    tokens: &'t [Token<'s>],
+) -> Result<Read<'t, 's, Connections>, Stop<'t, 's>>
+    ensures { Reads connections room tokens.now connections_tree result }
+{
+    match mark_at(tokens, Mark::Dot) {
+        Some(_) => by_name(alloc, room, tokens),
+        None => in_order(alloc, room, tokens),
+    }
+}
+
+/// Reads connections by name.
+fn by_name<'t, 's>(
+    alloc: Global,
+    room: u32,
+    tokens: &'t [Token<'s>],
+) -> Result<Read<'t, 's, Connections>, Stop<'t, 's>>
+    ensures { Reads (part a_connection · behind_commas (part a_connection)) room tokens.now
+        connections_tree result }
+{
+    let first = connection(alloc, room, tokens)?;
+    let behind = others::<Named>(alloc, room, first.rest, Vec::new(alloc))?;
+    Ok(Read {
+        tree: Connections::Named(first.tree, behind.tree),
+        rest: behind.rest,
+    })
+}
+
+/// Reads connections in order.
+fn in_order<'t, 's>(
+    alloc: Global,
+    room: u32,
+    tokens: &'t [Token<'s>],
+) -> Result<Read<'t, 's, Connections>, Stop<'t, 's>>
+    ensures { Reads (an_end · behind_commas an_end) room tokens.now connections_tree result }
+{
+    let first = end(alloc, room, tokens)?;
+    let behind = others::<Ordered>(alloc, room, first.rest, Vec::new(alloc))?;
+    Ok(Read {
+        tree: Connections::Ordered(first.tree, behind.tree),
+        rest: behind.rest,
+    })
+}
+
+/// Reads a connection by name.
+fn connection<'t, 's>(
+    alloc: Global,
+    room: u32,
+    tokens: &'t [Token<'s>],
+) -> Result<Read<'t, 's, Connection>, Stop<'t, 's>>
+    ensures { Reads (part a_connection) room tokens.now connection_tree result }
+{
+    let after_dot = expect_mark(tokens, Mark::Dot)?;
+    let (name, after_name) = expect_name(alloc, after_dot)?;
+    let after_open = expect_mark(after_name, Mark::Open)?;
+    let value = end(alloc, room, after_open)?;
+    let rest = expect_mark(value.rest, Mark::Close)?;
+    Ok(Read {
+        tree: Connection {
+            name,
+            value: value.tree,
+        },
+        rest,
+    })
+}
+
+/// Reads the expression that is next, if one is.
+fn end<'t, 's>(
+    alloc: Global,
+    room: u32,
+    tokens: &'t [Token<'s>],
+) -> Result<Read<'t, 's, Option<Expr>>, Stop<'t, 's>>
+    ensures { Reads an_end room tokens.now end_tree result }
+{
+    if begins_expr(tokens) {
+        let value = expr(alloc, room, tokens)?;
+        Ok(Read {
+            tree: Some(value.tree),
+            rest: value.rest,
+        })
+    } else {
+        Ok(Read {
+            tree: None,
+            rest: tokens,
+        })
+    }
+}

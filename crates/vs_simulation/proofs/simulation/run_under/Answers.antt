@@ -1,0 +1,8 @@
+use Rattle.vs_kernel.proofs.RunsLemmas.{append_none, header_failed, on_err}
+use Rattle.vs_simulation.proofs.simulation.run_under.Goals as goal
+
+pub returns-in_err-kernel-clause-begun : goal.returns-in_err-kernel-clause-begun
+returns-in_err-kernel-clause-begun g c = on_err _ (header_failed (0, append_none _))
+
+pub returns-in_default-clause-begun : goal.returns-in_default-clause-begun
+returns-in_default-clause-begun g c = header_failed (0, append_none _)

@@ -1,0 +1,2 @@
+pub mod Honesty
+pub mod Listing

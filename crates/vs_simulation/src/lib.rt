@@ -1,0 +1,10 @@
+//! One simulation: from the bytes of a source to the text of a value change dump, and to the lines that its steps make.
+#![tactic(auto)]
+
+mod fault;
+mod listing;
+mod simulation;
+
+pub use fault::SimFault;
+pub use listing::list_design;
+pub use simulation::{Policy, simulate};
