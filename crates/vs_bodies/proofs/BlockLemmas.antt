@@ -41,13 +41,13 @@ use Rattle.vs_opened.specs.Opened.{IsOpened, AreOpened, StandsAround, HasBlocks}
 use Rattle.vs_opened.specs.passes.Sites.{outward_place}
 use Rattle.vs_design.specs.declared.design.ScopeKind.{ScopeKind}
 use Rattle.vs_design.specs.declared.design.ScopeKind.TheVariants as opened_by
-use Rattle.vs_bodies.specs.declared.faults.StatementFault.{StatementFault}
-use Rattle.vs_bodies.specs.declared.faults.StatementFault.TheVariants.{Memory, Overfull, Refused, Inside}
-use Rattle.vs_bodies.specs.Surroundings.{Surroundings}
-use Rattle.vs_bodies.specs.Statements.{has_fault, HasFaultAt, in_statement, in_block}
-use Rattle.vs_bodies.specs.passes.Faults.{as_statement_fault, deeper, IsBelow}
-use Rattle.vs_bodies.specs.passes.Views.{IsSite, IsPlaced}
-use Rattle.vs_bodies.specs.passes.Bodies.{Burden, statements_burden, named_burden, HasInnerFault, IsFree, Fails}
+use Rattle.vs_operands.specs.declared.faults.StatementFault.{StatementFault}
+use Rattle.vs_operands.specs.declared.faults.StatementFault.TheVariants.{Memory, Overfull, Refused, Inside}
+use Rattle.vs_operands.specs.Surroundings.{Surroundings}
+use Rattle.vs_operands.specs.Statements.{has_fault, HasFaultAt, in_statement, in_block}
+use Rattle.vs_operands.specs.passes.Faults.{as_statement_fault, deeper, IsBelow}
+use Rattle.vs_operands.specs.passes.Views.{IsSite, IsPlaced}
+use Rattle.vs_operands.specs.passes.Bodies.{Burden, statements_burden, named_burden, HasInnerFault, IsFree, Fails}
 
 -- ---- named blocks, by form
 

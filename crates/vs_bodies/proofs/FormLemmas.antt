@@ -37,10 +37,10 @@ use Rattle.vs_design.specs.declared.statement.Statement.TheOpen as g
 use Rattle.vs_design.specs.declared.statement.Statement.TheFolds.{fold-roll-Statement}
 use Rattle.vs_widths.specs.declared.kinds.AssignmentKind.TheVariants.{Procedural}
 use Rattle.vs_scopes.specs.declared.faults.Reason.{Reason}
-use Rattle.vs_bodies.specs.Statements.{assign_fault, operand_fault, delay_fault, due_fault, print_fault, event_fault, case_fault, fault_step, has_fault, count_step, count_of, total}
-use Rattle.vs_bodies.specs.Members.{places}
-use Rattle.vs_bodies.specs.Surroundings.{Surroundings}
-use Rattle.vs_bodies.specs.passes.Bodies.{counting, else_list}
+use Rattle.vs_operands.specs.Statements.{assign_fault, operand_fault, delay_fault, due_fault, print_fault, event_fault, case_fault, fault_step, has_fault, count_step, count_of, total}
+use Rattle.vs_operands.specs.Members.{places}
+use Rattle.vs_operands.specs.Surroundings.{Surroundings}
+use Rattle.vs_operands.specs.passes.Bodies.{counting, else_list}
 use Rattle.vs_scopes.proofs.Folds.{any_of_map}
 
 -- ---- faults, by form

@@ -1,8 +1,4 @@
-pub mod AssignmentLemmas
-pub mod CaseLemmas
-pub mod CallLemmas
 pub mod DepthLemmas
-pub mod EventLemmas
 pub mod BlockLemmas
 pub mod FormLemmas
 pub mod PartLemmas

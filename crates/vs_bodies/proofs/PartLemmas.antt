@@ -24,16 +24,16 @@ use Rattle.vs_scopes.specs.declared.faults.Reason.TheVariants.{NoModule, Inside,
 use Rattle.vs_selects.specs.Environment.{Environment}
 use Rattle.vs_selects.specs.Findings.{stands}
 use Rattle.vs_widths.specs.Expressions.{meant}
-use Rattle.vs_bodies.proofs.CaseLemmas.{exprs_in, exprs_of, stands_common}
+use Rattle.vs_operands.proofs.CaseLemmas.{exprs_in, exprs_of, stands_common}
 use Rattle.std.proofs.lemmas.List.Folds.{list_any-append}
 use Rattle.vs_pieces.specs.Pieces.{NamedBlock, blocks_in, blocks_among}
 use Rattle.vs_pieces.specs.passes.Parts.{blocks_behind}
 use Rattle.vs_pieces.proofs.PiecesLemmas.{blocks_Block, blocks_If, blocks_Case}
-use Rattle.vs_bodies.specs.Statements.{assign_fault, operand_fault, delay_fault, event_fault, case_fault, label_exprs, has_fault, count_of, total, is_overfull}
-use Rattle.vs_bodies.specs.Members.{places}
-use Rattle.vs_bodies.specs.Surroundings.{Surroundings}
+use Rattle.vs_operands.specs.Statements.{assign_fault, operand_fault, delay_fault, event_fault, case_fault, label_exprs, has_fault, count_of, total, is_overfull}
+use Rattle.vs_operands.specs.Members.{places}
+use Rattle.vs_operands.specs.Surroundings.{Surroundings}
 use Rattle.vs_scopes.specs.Printed.{Path}
-use Rattle.vs_bodies.specs.passes.Bodies.{counting, statement_burden, statements_burden, numbered_burden, named_burden, items_burden, MeansStatements, else_list, MeansItems, item_fault}
+use Rattle.vs_operands.specs.passes.Bodies.{counting, statement_burden, statements_burden, numbered_burden, named_burden, items_burden, MeansStatements, else_list, MeansItems, item_fault}
 use Rattle.vs_bodies.proofs.BlockLemmas.{blocks_Named, blocks_For, blocks_While, blocks_Repeat, blocks_Forever, blocks_Delay, blocks_Event, IsPart, AreFree}
 use Rattle.vs_scopes.proofs.Folds.{left_true, right_true}
 use Rattle.vs_bodies.proofs.FormLemmas.{count_Block, count_Case, count_Delay, count_Event, count_For, count_Forever, count_If, count_Named, count_Repeat, count_While, counts, fault_Block, fault_Case, fault_Delay, fault_Event, fault_For, fault_Forever, fault_If, fault_Repeat, fault_While, item_count, labels_of}

@@ -37,20 +37,20 @@ use Rattle.vs_scopes.specs.declared.faults.Reason.{Reason}
 use Rattle.vs_scopes.specs.declared.faults.Reason.TheVariants.{Limit}
 use Rattle.vs_scopes.specs.declared.faults.BodyFault.{BodyFault}
 use Rattle.vs_scopes.specs.declared.faults.BodyFault.TheVariants as b
-use Rattle.vs_bodies.proofs.CaseLemmas.{exprs_in}
+use Rattle.vs_operands.proofs.CaseLemmas.{exprs_in}
 use Rattle.vs_pieces.specs.Pieces.{NamedBlock, blocks_in, blocks_among}
 use Rattle.vs_pieces.proofs.PiecesLemmas.{blocks_Block, blocks_Case}
-use Rattle.vs_bodies.specs.Statements.{IsAssignment, IsOperand, IsStatement, is_null, is_assign, is_later, is_block, is_named, is_if, is_case, is_for, is_while, is_repeat, is_forever, is_delay, is_event, is_print, is_finish, is_dump, IsElse, no_else, an_else, AreItems, no_items, more_items, AreTypedAt, AreEvents, AreStatements, are_none, are_more, assign_fault, operand_fault, delay_of, delay_fault, due_of, due_fault, IsCall, print_fault, event_fault, case_fault, label_exprs, has_fault, HasFaultAt, in_statement, in_block, count_of, total, is_overfull}
-use Rattle.vs_bodies.specs.Members.{Assignment, places, sets, runs, repeats}
-use Rattle.vs_bodies.specs.Surroundings.{Surroundings}
-use Rattle.vs_bodies.specs.Processes.{is_set, is_run, is_repeat, HasBehaviorFault}
+use Rattle.vs_operands.specs.Statements.{IsAssignment, IsOperand, IsStatement, is_null, is_assign, is_later, is_block, is_named, is_if, is_case, is_for, is_while, is_repeat, is_forever, is_delay, is_event, is_print, is_finish, is_dump, IsElse, no_else, an_else, AreItems, no_items, more_items, AreTypedAt, AreEvents, AreStatements, are_none, are_more, assign_fault, operand_fault, delay_of, delay_fault, due_of, due_fault, IsCall, print_fault, event_fault, case_fault, label_exprs, has_fault, HasFaultAt, in_statement, in_block, count_of, total, is_overfull}
+use Rattle.vs_operands.specs.Members.{Assignment, places, sets, runs, repeats}
+use Rattle.vs_operands.specs.Surroundings.{Surroundings}
+use Rattle.vs_operands.specs.Processes.{is_set, is_run, is_repeat, HasBehaviorFault}
 use Rattle.vs_scopes.specs.Printed.{plainly, Path}
 use Rattle.vs_scopes.specs.passes.Answers.{Refuses}
 use Rattle.vs_opened.specs.declared.opened.Opened.{Opened as FoundScope}
-use Rattle.vs_bodies.specs.declared.faults.StatementFault.{StatementFault}
-use Rattle.vs_bodies.specs.declared.faults.StatementFault.TheVariants as t
-use Rattle.vs_bodies.specs.passes.Faults.{as_statement_fault}
-use Rattle.vs_bodies.specs.passes.Bodies.{counting, statement_burden, statements_burden, numbered_burden, named_burden, items_burden, IsFree, Fails, Answers, MeansStatement, MeansStatements, MeansBody, IsCase, IsNumbered, IsRepeated, else_list, MeansElse, MeansItems, item_fault, BodyFails, Embodies}
+use Rattle.vs_operands.specs.declared.faults.StatementFault.{StatementFault}
+use Rattle.vs_operands.specs.declared.faults.StatementFault.TheVariants as t
+use Rattle.vs_operands.specs.passes.Faults.{as_statement_fault}
+use Rattle.vs_operands.specs.passes.Bodies.{counting, statement_burden, statements_burden, numbered_burden, named_burden, items_burden, IsFree, Fails, Answers, MeansStatement, MeansStatements, MeansBody, IsCase, IsNumbered, IsRepeated, else_list, MeansElse, MeansItems, item_fault, BodyFails, Embodies}
 use Rattle.vs_bodies.proofs.BlockLemmas.{blocks_Null, blocks_Assign, blocks_Later, blocks_Named, blocks_For, blocks_Print, blocks_Finish, blocks_Dump, IsPart, fails_part, fails_by, fails_overfull, AreFree, free_none, free_same, free_both}
 use Rattle.vs_scopes.proofs.Folds.{both_false, left_true, right_true, any_push, any_at, take_push}
 use Rattle.vs_bodies.proofs.FormLemmas.{count_Assign, count_Block, count_Case, count_Dump, count_Finish, count_For, count_If, count_Later, count_Named, count_Null, count_Print, counting_more, counts, fault_Assign, fault_Block, fault_Case, fault_Dump, fault_Finish, fault_For, fault_If, fault_Later, fault_Named, fault_Null, fault_Print, item_count, item_numbers, joined_push, labels_of, numbers_Assign, numbers_Block, numbers_Call, numbers_Case, numbers_Delay, numbers_Event, numbers_Finish, numbers_Forever, numbers_If, numbers_Later, numbers_Null, numbers_Repeat, numbers_While, total_push, total_within}

@@ -55,11 +55,11 @@ use Rattle.vs_widths.specs.Typing.{HoldsOfSignals, IsTypedAs}
 use Rattle.vs_widths.specs.Lefts.{Aimed, name_aimed, takes_reads}
 use Rattle.vs_widths.specs.Aiming.{is_none_read, IsPlace, IsTarget}
 use Rattle.vs_widths.proofs.ReadLemmas.{reads_within}
-use Rattle.vs_bodies.specs.Statements.{assigned_to, IsSource, IsAssignment, IsStatement, is_null, is_assign, is_later, is_block, is_named, is_if, is_case, is_for, is_while, is_repeat, is_forever as repeats_forever, is_delay, is_event, is_print, is_finish, is_dump, print_values, IsArgument, IsElse, no_else, an_else, AreItems, no_items, more_items, AreTypedAt, no_typed, more_typed, label_exprs, IsTerm, AreTerms, no_terms, more_terms, AreEvents, are_star, are_grouped, are_name, are_terms, event_aimed, level_term, AreStatements, are_none, are_more}
+use Rattle.vs_operands.specs.Statements.{assigned_to, IsSource, IsAssignment, IsStatement, is_null, is_assign, is_later, is_block, is_named, is_if, is_case, is_for, is_while, is_repeat, is_forever as repeats_forever, is_delay, is_event, is_print, is_finish, is_dump, print_values, IsArgument, IsElse, no_else, an_else, AreItems, no_items, more_items, AreTypedAt, no_typed, more_typed, label_exprs, IsTerm, AreTerms, no_terms, more_terms, AreEvents, are_star, are_grouped, are_name, are_terms, event_aimed, level_term, AreStatements, are_none, are_more}
 use Rattle.vs_scopes.specs.Printed.{Path}
-use Rattle.vs_bodies.specs.Surroundings.{Surroundings}
-use Rattle.vs_bodies.specs.Members.{Assignee, places, Behavior}
-use Rattle.vs_bodies.specs.Processes.{IsBody, is_set, is_run, is_repeat, kind_of}
+use Rattle.vs_operands.specs.Surroundings.{Surroundings}
+use Rattle.vs_operands.specs.Members.{Assignee, places, Behavior}
+use Rattle.vs_operands.specs.Processes.{IsBody, is_set, is_run, is_repeat, kind_of}
 use Rattle.vs_scopes.proofs.Folds.{all_of_map, both_true}
 
 -- ---- statements

@@ -1,18 +1,16 @@
 //! The bodies of processes (IEEE 1364-2005, clauses 6.2.1 and 9.9).
 ghost use Rattle.std.specs.Prelude.{length, IfErr};
 ghost use Rattle.vs_scopes.specs.Printed.{Path};
-ghost use Rattle.vs_bodies.specs.Members.{named_signal, sets, runs, repeats};
-ghost use Rattle.vs_bodies.specs.Surroundings.{Surroundings};
-ghost use Rattle.vs_bodies.specs.passes.Faults.{IsBelow};
-ghost use Rattle.vs_bodies.specs.passes.Views.{IsView, IsPlaced};
-ghost use Rattle.vs_bodies.specs.passes.Bodies.{Embodies};
+ghost use Rattle.vs_operands.specs.Members.{named_signal, sets, runs, repeats};
+ghost use Rattle.vs_operands.specs.Surroundings.{Surroundings};
+ghost use Rattle.vs_operands.specs.passes.Faults.{IsBelow};
+ghost use Rattle.vs_operands.specs.passes.Views.{IsView, IsPlaced};
+ghost use Rattle.vs_operands.specs.passes.Bodies.{Embodies};
 
-use crate::assignments::declared_assignment;
-use crate::faults::StatementFault;
 use crate::statements::{PROCEDURAL, statement, take_number};
-use crate::views::View;
 use std::alloc::Global;
 use vs_design::Statement;
+use vs_operands::{StatementFault, View, declared_assignment};
 use vs_syntax::{Expr, Stmt};
 
 /// The body of a process that sets a variable to the value in its declaration.

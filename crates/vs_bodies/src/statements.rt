@@ -7,23 +7,20 @@ ghost use Rattle.vs_syntax.specs.declared.tree.LocalDeclaration.{LocalDeclaratio
 ghost use Rattle.vs_syntax.specs.declared.tree.Stmt.{Stmt};
 ghost use Rattle.vs_syntax.specs.declared.tree.Stmt.TheVariants as form;
 ghost use Rattle.vs_scopes.specs.Printed.{plainly, Path};
-ghost use Rattle.vs_bodies.specs.declared.faults.StatementFault.TheVariants.{Overfull};
-ghost use Rattle.vs_bodies.specs.Surroundings.{Surroundings};
-ghost use Rattle.vs_bodies.specs.passes.Faults.{IsBelow};
-ghost use Rattle.vs_bodies.specs.passes.Views.{IsView, IsPlaced};
-ghost use Rattle.vs_bodies.specs.passes.Bodies.{Answers, MeansStatement, MeansStatements, MeansElse, MeansItems, IsNumbered, IsRepeated, numbered_burden, statement_burden, statements_burden, items_burden, named_burden, else_list};
+ghost use Rattle.vs_operands.specs.declared.faults.StatementFault.TheVariants.{Overfull};
+ghost use Rattle.vs_operands.specs.Surroundings.{Surroundings};
+ghost use Rattle.vs_operands.specs.passes.Faults.{IsBelow};
+ghost use Rattle.vs_operands.specs.passes.Views.{IsView, IsPlaced};
+ghost use Rattle.vs_operands.specs.passes.Bodies.{Answers, MeansStatement, MeansStatements, MeansElse, MeansItems, IsNumbered, IsRepeated, numbered_burden, statement_burden, statements_burden, items_burden, named_burden, else_list};
 
-use crate::assignments::assignment;
-use crate::calls::call;
-use crate::cases::{case_operand, label_values};
-use crate::events::event_terms;
-use crate::faults::{StatementFault, deeper};
-use crate::operands::{delay, due, operand};
-use crate::views::View;
 use std::alloc::{AllocError, Global};
 use vs_design::{Statement, Target, Typed};
 use vs_logic4::CaseKind;
 use vs_opened::names_around;
+use vs_operands::{
+    StatementFault, View, assignment, call, case_operand, deeper, delay, due, event_terms,
+    label_values, operand,
+};
 use vs_selects::Shape;
 use vs_syntax::{CaseLabel, DelayValue, Expr, Left, PrintArguments, PrintTask, Stmt};
 use vs_widths::{AssignmentKind, Levels};

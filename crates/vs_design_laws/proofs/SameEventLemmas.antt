@@ -29,7 +29,7 @@ use Rattle.vs_eval.specs.Targets.{parts_from}
 use Rattle.vs_selects.specs.Environment.{Environment}
 use Rattle.vs_widths.specs.declared.kinds.AssignmentKind.TheVariants.{Event}
 use Rattle.vs_widths.specs.Lefts.{Aimed, name_aimed}
-use Rattle.vs_bodies.specs.Statements.{event_aimed, watched, watched_width, IsTerm, AreTerms, no_terms, more_terms, AreEvents, are_star, are_grouped, are_name, are_terms, level_term}
+use Rattle.vs_operands.specs.Statements.{event_aimed, watched, watched_width, IsTerm, AreTerms, no_terms, more_terms, AreEvents, are_star, are_grouped, are_name, are_terms, level_term}
 use Rattle.vs_design_laws.specs.Same.{SameTyped, SameFormatArg, SameSides, SameStatement, null_same, assign_same, later_same, call_same, finish_same, block_same, delay_same, event_same, if_same, case_same, while_same, repeat_same, forever_same, SameItems, items_end, item_same, SameStatements, statements_end, statement_same}
 use Rattle.vs_design_laws.proofs.PairLemmas.{pair_map}
 use Rattle.vs_design_laws.proofs.SameTargetLemmas.{one_target}

@@ -21,8 +21,8 @@ use Rattle.vs_widths.specs.Aiming.{IsPlace, IsTarget}
 use Rattle.vs_widths.specs.Lefts.{Aimed, name_aimed}
 use Rattle.vs_widths.specs.Expressions.{meant}
 use Rattle.vs_widths.specs.Typing.{IsTypedAs}
-use Rattle.vs_bodies.specs.Members.{Assignee, places, named_signal}
-use Rattle.vs_bodies.specs.Statements.{assigned_to, IsSource, IsAssignment}
+use Rattle.vs_operands.specs.Members.{Assignee, places, named_signal}
+use Rattle.vs_operands.specs.Statements.{assigned_to, IsSource, IsAssignment}
 use Rattle.vs_design_laws.specs.Same.{SameTyped, SameTarget, SameSides}
 use Rattle.vs_design_laws.proofs.SameTypedLemmas.{same_meant, same_aimed, one_typed}
 

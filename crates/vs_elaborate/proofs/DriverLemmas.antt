@@ -17,7 +17,7 @@ use Rattle.vs_scopes.specs.Printed.{Path, printed}
 use Rattle.vs_scopes.specs.Declarations.{DeclaredName}
 use Rattle.vs_scopes.specs.Scopes.{Scope, declarations_of, environment, signal_count, signal_paths, named}
 use Rattle.vs_opened.specs.Outlines.{Declared, declared, signal_of, signals_of}
-use Rattle.vs_bodies.specs.Members.{PortDriver, Driver, of_port, of_text, drivers_of, port_drivers_of}
+use Rattle.vs_operands.specs.Members.{PortDriver, Driver, of_port, of_text, drivers_of, port_drivers_of}
 use Rattle.vs_elaborate.specs.Drivers.{IsDriver}
 use Rattle.vs_elaborate.specs.Faults.{aimed_at, ranges_driven, share_bits, DrivesTwice}
 use Rattle.vs_elaborate.specs.DesignOf.{PartOf, parts_from, port_part, assigns_of, IsAssign}

@@ -39,11 +39,11 @@ use Rattle.vs_scopes.specs.Scopes.{Scope, environment}
 use Rattle.vs_scopes.specs.passes.Answers.{Told}
 use Rattle.vs_scopes.proofs.Folds.{any_push, left_true, right_true, take_push}
 use Rattle.vs_scopes.proofs.AnswerLemmas.{told_by}
-use Rattle.vs_bodies.specs.Statements.{IsAssignment}
-use Rattle.vs_bodies.specs.Members.{Assignment, named_signal, assignment_of, PortDriver, connected, port_of, of_text, Behavior, setting, port_drivers, drivers_in, behaviors_by_item, behaviors_in, port_setting, drivers_of, port_drivers_of, behaviors_of}
-use Rattle.vs_bodies.specs.Processes.{kind_of, statements_of, HasBehaviorFault}
-use Rattle.vs_bodies.specs.Surroundings.{Surroundings}
-use Rattle.vs_bodies.specs.passes.Bodies.{counting, MeansBody}
+use Rattle.vs_operands.specs.Statements.{IsAssignment}
+use Rattle.vs_operands.specs.Members.{Assignment, named_signal, assignment_of, PortDriver, connected, port_of, of_text, Behavior, setting, port_drivers, drivers_in, behaviors_by_item, behaviors_in, port_setting, drivers_of, port_drivers_of, behaviors_of}
+use Rattle.vs_operands.specs.Processes.{kind_of, statements_of, HasBehaviorFault}
+use Rattle.vs_operands.specs.Surroundings.{Surroundings}
+use Rattle.vs_operands.specs.passes.Bodies.{counting, MeansBody}
 use Rattle.vs_contents.specs.declared.contents.Contents.{Contents}
 use Rattle.vs_elaborate.specs.Drivers.{IsPortAssign}
 use Rattle.vs_elaborate.specs.DesignOf.{PartOf, port_part, parts_from, assigns_of, processes_of, IsProcess, IsAssign}

@@ -37,9 +37,9 @@ use Rattle.vs_opened.specs.declared.opened.Opening.{Opening}
 use Rattle.vs_opened.specs.Opened.{IsWithin, IsOutermost, StandsAround, IsOpened, AreSeated, HasBlocks, OpensAll}
 use Rattle.vs_opened.specs.Outlines.{Declared, declared, signal_of, signals_of}
 use Rattle.vs_opened.specs.ScopeFaults.{Repeated, HoldsOpening}
-use Rattle.vs_bodies.specs.Surroundings.{surroundings_at}
-use Rattle.vs_bodies.specs.passes.Bodies.{counting}
-use Rattle.vs_bodies.specs.passes.Views.{AreSites, IsPlaced}
+use Rattle.vs_operands.specs.Surroundings.{surroundings_at}
+use Rattle.vs_operands.specs.passes.Bodies.{counting}
+use Rattle.vs_operands.specs.passes.Views.{AreSites, IsPlaced}
 use Rattle.vs_bodies.proofs.BlockLemmas.{zip_at, zip_other}
 use Rattle.vs_bodies.proofs.WellFormedLemmas.{IsGood}
 use Rattle.vs_contents.specs.declared.contents.Contents.{Contents}

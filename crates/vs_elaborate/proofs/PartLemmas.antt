@@ -24,8 +24,8 @@ use Rattle.vs_paths.proofs.PathsLists.{each_append, distinct_append, distinct_le
 use Rattle.vs_paths.proofs.PathsParts.{IsPartAt, parts_differ}
 use Rattle.vs_paths.proofs.PathsPrinted.{name_same}
 use Rattle.vs_paths.proofs.TitleLemmas.{signals_differ}
-use Rattle.vs_bodies.specs.Members.{PortDriver, connected, port_drivers, port_drivers_of, port_of, Driver, of_text, drivers_of, behaviors_of}
-use Rattle.vs_bodies.specs.Surroundings.{Surroundings}
+use Rattle.vs_operands.specs.Members.{PortDriver, connected, port_drivers, port_drivers_of, port_of, Driver, of_text, drivers_of, behaviors_of}
+use Rattle.vs_operands.specs.Surroundings.{Surroundings}
 use Rattle.vs_elaborate.specs.DesignOf.{PartOf, parts_from, port_part, processes_of, assigns_of, IsProcess, IsAssign}
 
 not_same : (xs ys : List ℕ) → (xs ≡ ys → ⊥) → bytes_eq xs ys ≡ false

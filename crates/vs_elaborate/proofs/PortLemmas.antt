@@ -11,7 +11,7 @@ use Rattle.vs_scopes.specs.Ports.{ModulePort}
 use Rattle.vs_scopes.specs.Scopes.{Scope, is_wrong_end, has_wrong_end}
 use Rattle.vs_scopes.specs.passes.Answers.{Told}
 use Rattle.vs_scopes.proofs.AnswerLemmas.{Kept, Grown, told_by}
-use Rattle.vs_bodies.specs.Members.{PortDriver, port_driver, port_drivers}
+use Rattle.vs_operands.specs.Members.{PortDriver, port_driver, port_drivers}
 use Rattle.vs_scopes.specs.passes.Names.{read_title, read_path}
 use Rattle.vs_scopes.specs.declared.printed.PathName.{PathName as FoundName}
 use Rattle.vs_opened.specs.Opened.{StandsAround}

@@ -25,10 +25,10 @@ use Rattle.vs_scopes.specs.passes.Answers.{IsFaultAt, Told}
 use Rattle.vs_scopes.proofs.Folds.{both_false}
 use Rattle.vs_scopes.proofs.AnswerLemmas.{told_at, told_by}
 use Rattle.vs_opened.specs.ScopeFaults.{HoldsOpening, HoldsOpeningIn, HoldsOpeningAbove, StandsOpening}
-use Rattle.vs_bodies.specs.Statements.{assign_fault, operand_fault, case_fault, delay_fault, due_fault, print_fault, event_fault, fault_step, has_fault, is_overfull, HasFaultAt, in_statement, in_block}
-use Rattle.vs_bodies.specs.Surroundings.{Surroundings}
-use Rattle.vs_bodies.specs.Members.{Assignee, places, Assignment, PortDriver, Behavior, sets, runs, repeats, drivers_of, port_drivers_of}
-use Rattle.vs_bodies.specs.Processes.{statements_of, HasBehaviorFault}
+use Rattle.vs_operands.specs.Statements.{assign_fault, operand_fault, case_fault, delay_fault, due_fault, print_fault, event_fault, fault_step, has_fault, is_overfull, HasFaultAt, in_statement, in_block}
+use Rattle.vs_operands.specs.Surroundings.{Surroundings}
+use Rattle.vs_operands.specs.Members.{Assignee, places, Assignment, PortDriver, Behavior, sets, runs, repeats, drivers_of, port_drivers_of}
+use Rattle.vs_operands.specs.Processes.{statements_of, HasBehaviorFault}
 use Rattle.vs_elaborate.specs.Drivers.{driver_fault, port_driver_fault}
 use Rattle.vs_elaborate.specs.Timescales.{has_other_timescale}
 use Rattle.vs_elaborate.specs.Faults.{Holds, HoldsIn, HoldsAbove, surroundings_of, Stands, DrivesTwice, Faults}

@@ -16,9 +16,9 @@ use Rattle.vs_widths.specs.declared.kinds.AssignmentKind.TheVariants.{Continuous
 use Rattle.vs_selects.specs.Environment.{Environment}
 use Rattle.vs_widths.specs.Expressions.{meant, name_meant}
 use Rattle.vs_widths.proofs.ReadLemmas.{reads_within}
-use Rattle.vs_bodies.specs.Statements.{assigned_to}
-use Rattle.vs_bodies.specs.Members.{Behavior, drivers_of, port_drivers_of, PortDriver, into, out_of, Driver, of_port, of_text}
-use Rattle.vs_bodies.specs.Surroundings.{Surroundings}
+use Rattle.vs_operands.specs.Statements.{assigned_to}
+use Rattle.vs_operands.specs.Members.{Behavior, drivers_of, port_drivers_of, PortDriver, into, out_of, Driver, of_port, of_text}
+use Rattle.vs_operands.specs.Surroundings.{Surroundings}
 use Rattle.vs_elaborate.specs.Drivers.{port_target, IsDriver}
 use Rattle.vs_elaborate.specs.DesignOf.{PartOf, parts_from, port_part, processes_of, assigns_of, IsProcess, IsAssign}
 use Rattle.vs_scopes.specs.Printed.{Path}

@@ -11,8 +11,8 @@ use Rattle.vs_widths.specs.Lefts.{Aimed, name_aimed, expr_aimed}
 use Rattle.vs_widths.specs.Aiming.{IsTarget}
 use Rattle.vs_scopes.specs.declared.faults.Reason.{Reason}
 use Rattle.vs_scopes.specs.declared.faults.Reason.TheVariants.{Width}
-use Rattle.vs_bodies.specs.Members.{Assignment, PortDriver, into, out_of, Driver, of_port, of_text}
-use Rattle.vs_bodies.specs.Statements.{IsSource, IsAssignment, assign_fault}
+use Rattle.vs_operands.specs.Members.{Assignment, PortDriver, into, out_of, Driver, of_port, of_text}
+use Rattle.vs_operands.specs.Statements.{IsSource, IsAssignment, assign_fault}
 
 -- In what follows names are bound in a scope, and in the scope around it, as the two environments say.
 

@@ -18,12 +18,12 @@ use Rattle.vs_scopes.specs.Parameters.{is_override_mismatch}
 use Rattle.vs_scopes.specs.Declarations.{DeclaredName}
 use Rattle.vs_scopes.specs.Scopes.{Scope, module_named, scopes_of, declarations_of, environment, signal_paths, is_inside, is_port_mismatch}
 use Rattle.vs_opened.specs.ScopeFaults.{of_module, AtInstance, HasNoModule, parameter_fault, HasOverrideFault, DeclaresTwice, HasWrongPort, HasUnlikePort, HasStrayPort, HasBlockParameter, HasConstructFault, HasBlockFault, HasLateNet, HasBlockOfNet, HasRangeFault, PassesLimit, PassesTurns, NamesTwice, top_fault}
-use Rattle.vs_bodies.specs.Statements.{assigned_to}
-use Rattle.vs_bodies.specs.Surroundings.{Surroundings, surroundings_at}
-use Rattle.vs_bodies.specs.Members.{Behavior, Driver, of_port, of_text, drivers_of, port_drivers_of, behaviors_of}
+use Rattle.vs_operands.specs.Statements.{assigned_to}
+use Rattle.vs_operands.specs.Surroundings.{Surroundings, surroundings_at}
+use Rattle.vs_operands.specs.Members.{Behavior, Driver, of_port, of_text, drivers_of, port_drivers_of, behaviors_of}
 use Rattle.vs_elaborate.specs.Timescales.{timescale_of, has_other_timescale, ratio_of}
 use Rattle.vs_elaborate.specs.Drivers.{port_target, driver_fault, port_driver_fault}
-use Rattle.vs_bodies.specs.Processes.{HasBehaviorFault}
+use Rattle.vs_operands.specs.Processes.{HasBehaviorFault}
 
 -- a process of a scope that has the fault, with these surroundings in the scope of each path, by the path of the innermost scope where it stands
 pub record HasProcessFault (envs : Path → Surroundings) (s : Scope) (r : Reason) (p : Path) : Type 0 where

@@ -6,12 +6,12 @@ pub use Rattle.vs_scopes.specs.Scopes
 pub use Rattle.vs_scopes.specs.Texts
 pub use Rattle.vs_opened.specs.Outlines
 pub use Rattle.vs_opened.specs.ScopeFaults
-pub use Rattle.vs_bodies.specs.Members
-pub use Rattle.vs_bodies.specs.Statements
-pub use Rattle.vs_bodies.specs.Surroundings
+pub use Rattle.vs_operands.specs.Members
+pub use Rattle.vs_operands.specs.Statements
+pub use Rattle.vs_operands.specs.Surroundings
 pub mod Timescales
 pub mod Drivers
-pub use Rattle.vs_bodies.specs.Processes
+pub use Rattle.vs_operands.specs.Processes
 pub mod Faults
 pub mod DesignOf
 pub mod passes

@@ -4,9 +4,9 @@ ghost use Rattle.std.specs.List.{list_any};
 ghost use Rattle.vs_elaborate.specs.Timescales.{magnitude_of, unit_of, span_of, span_exponent, ratio_of, scale_in, scales_in, timescale_of, same_timescale, has_other_timescale};
 ghost use Rattle.vs_elaborate.specs.passes.Scales.{listed, first_of};
 
-use vs_bodies::Ratio;
 use vs_design::{DEFAULT_TIMESCALE, Magnitude, TimeSpan, TimeUnit, Timescale};
 use vs_lexer::{Directive, Magnitude as TextMagnitude, Time, TimeUnit as TextUnit};
+use vs_operands::Ratio;
 use vs_syntax::Source;
 
 /// The number of a time of a text.

@@ -18,10 +18,10 @@ use Rattle.vs_opened.specs.declared.opened.Opening.{Opening}
 use Rattle.vs_opened.specs.declared.opened.Plan.{Plan}
 use Rattle.vs_opened.specs.Opened.{StandsAround, IsEntered, IsOpened, AreOpened, AreSeated, HasBlocks, OpensAll}
 use Rattle.vs_opened.specs.Outlines.{declared, IsEntry, outline_of}
-use Rattle.vs_opening.specs.passes.Blocks.{named_text, text_name, HasIndex, HasNoBlocks, with_blocks, IsIndexed, AreIndexedUpTo, AddsBlock, AreIndexed, HasInside, AreNamed}
+use Rattle.vs_entering.specs.passes.Blocks.{named_text, text_name, HasIndex, HasNoBlocks, with_blocks, IsIndexed, AreIndexedUpTo, AddsBlock, AreIndexed, HasInside, AreNamed}
 use Rattle.vs_opening.specs.passes.Opens.{Made}
-use Rattle.vs_opening.proofs.ListLemmas.{same_at, all_at, zip_by}
-use Rattle.vs_opening.proofs.SeatLemmas.{opened_many, opened_here, scope_at}
+use Rattle.vs_entering.proofs.ListLemmas.{same_at, all_at, zip_by}
+use Rattle.vs_entering.proofs.SeatLemmas.{opened_many, opened_here, scope_at}
 use Rattle.vs_opening.proofs.SourceLemmas.{none_stands}
 
 -- ---- one element that is set

@@ -25,12 +25,12 @@ use Rattle.vs_opened.specs.declared.opened.Plan.{Plan}
 use Rattle.vs_opened.specs.Opened.{IsOpened}
 use Rattle.vs_opened.specs.ScopeFaults.{HasConstructFault, HoldsOpeningIn}
 use Rattle.vs_opened.proofs.BindLemmas.{is_key}
-use Rattle.vs_opening.specs.declared.entering.Listed.{Listed}
-use Rattle.vs_opening.specs.passes.Entering.{before_next, IsShallow, EntersNot}
+use Rattle.vs_entering.specs.declared.entering.Listed.{Listed}
+use Rattle.vs_entering.specs.passes.Entering.{before_next, IsShallow, EntersNot}
 use Rattle.vs_opening.specs.passes.Opens.{IsSoundOwn, HoldsOwn, IsPlanned, AddsInnerAt, AddsInnerNot, FindsInner, HasInner, IsReady, IsHolding, OpensInside, HoldsInner, OpensInsideNot}
-use Rattle.vs_opening.proofs.ListLemmas.{slice_front, slice_end, all_at}
-use Rattle.vs_opening.proofs.SeatLemmas.{opened_here}
-use Rattle.vs_opening.proofs.EnterLemmas.{known_levels}
+use Rattle.vs_entering.proofs.ListLemmas.{slice_front, slice_end, all_at}
+use Rattle.vs_entering.proofs.SeatLemmas.{opened_here}
+use Rattle.vs_entering.proofs.EnterLemmas.{known_levels}
 use Rattle.vs_opening.proofs.OwnLemmas.{is_shallow, is_deep}
 use Rattle.vs_opening.proofs.OpenLemmas.{opened_before, holding_none, holding_more, holding_all, planned_behind}
 use Rattle.vs_opening.proofs.FaultLemmas.{construct_told, adds_told, inner_told}

@@ -1,6 +1,3 @@
-pub mod ListLemmas
-pub mod SeatLemmas
-pub mod EnterLemmas
 pub mod OwnLemmas
 pub mod OpenLemmas
 pub mod FaultLemmas
@@ -8,4 +5,3 @@ pub mod InsideLemmas
 pub mod SourceLemmas
 pub mod BlockLemmas
 pub mod TopLemmas
-pub mod EnteringLemmas

@@ -21,11 +21,11 @@ use Rattle.vs_opened.specs.declared.opened.Opened.{Opened as FoundScope}
 use Rattle.vs_opened.specs.declared.opened.Plan.{Plan}
 use Rattle.vs_opened.specs.Opened.{IsEntered}
 use Rattle.vs_opened.specs.Outlines.{declared, signal_of, signals_of, Line, leave, outline_within, outline_below, IsEntry}
-use Rattle.vs_opening.specs.passes.Blocks.{text_name, IsTitled, HasInside, HasEachNamed, AreNamed, Extends}
-use Rattle.vs_opening.specs.passes.Entering.{before_next, IsSoundInner, Enters}
+use Rattle.vs_entering.specs.passes.Blocks.{text_name, IsTitled, HasInside, HasEachNamed, AreNamed, Extends}
+use Rattle.vs_entering.specs.passes.Entering.{before_next, IsSoundInner, Enters}
 use Rattle.vs_opening.specs.passes.Opens.{with_names, IsSoundOwn, own_lines, AddsLines, OpensOwn, IsPlanned, IsNext, CountsOne, AddsScope, AddsInner, HasInner, IsSoundInside, scopes_inside, lines_inside, OpensInside, HoldsInner}
-use Rattle.vs_opening.proofs.ListLemmas.{slice_front, slice_end, slice_push, slice_either, zip_append, count_append}
-use Rattle.vs_opening.proofs.SeatLemmas.{opened_many, opened_push, seated_push, entered_around, entered_home}
+use Rattle.vs_entering.proofs.ListLemmas.{slice_front, slice_end, slice_push, slice_either, zip_append, count_append}
+use Rattle.vs_entering.proofs.SeatLemmas.{opened_many, opened_push, seated_push, entered_around, entered_home}
 use Rattle.vs_opening.proofs.OwnLemmas.{is_few}
 
 -- ---- what stands before scopes

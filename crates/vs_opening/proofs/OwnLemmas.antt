@@ -50,8 +50,8 @@ use Rattle.vs_opened.specs.passes.Naming.{Bound, BoundNot}
 use Rattle.vs_opened.specs.passes.Declaring.{Keeps, KeepsNot, DeclaresPorts, DeclaresPortsNot, Declares, DeclaresNot, joined_names}
 use Rattle.vs_opened.proofs.BindLemmas.{place_of_any, repeated_more, numbered_keys}
 use Rattle.vs_opening.specs.passes.Opens.{AreAlike, is_late_turn, OpensNames, HoldsOwn, IsFitting, HasFittingPieces, IsAgainNot, DeclaresAll, DeclaresAllNot, Binds, BindsNot, OpensOwn, EntersLast}
-use Rattle.vs_opening.proofs.SeatLemmas.{within_front}
-use Rattle.vs_opening.proofs.ListLemmas.{slice_front, slice_back, slice_push, any_append, any_left, any_right, any_none_map, any_either}
+use Rattle.vs_entering.proofs.SeatLemmas.{within_front}
+use Rattle.vs_entering.proofs.ListLemmas.{slice_front, slice_back, slice_push, any_append, any_left, any_right, any_none_map, any_either}
 
 -- ---- limits
 

@@ -44,12 +44,12 @@ use Rattle.vs_opened.specs.ScopeFaults.{Repeated, of_module, top_fault, HoldsOpe
 use Rattle.vs_opened.proofs.BindLemmas.{bytes_eq_equiv, place_of_any, left_false, right_false}
 use Rattle.vs_nets.specs.declared.members.Members.{Members}
 use Rattle.vs_nets.specs.passes.Nets.{AreMembers}
-use Rattle.vs_opening.specs.declared.entering.Listed.{Listed}
-use Rattle.vs_opening.specs.passes.Blocks.{AreNamed}
-use Rattle.vs_opening.specs.passes.Entering.{module_names, Lists, ListsNot}
+use Rattle.vs_entering.specs.declared.entering.Listed.{Listed}
+use Rattle.vs_entering.specs.passes.Blocks.{AreNamed}
+use Rattle.vs_entering.specs.passes.Entering.{module_names, Lists, ListsNot}
 use Rattle.vs_opening.specs.passes.Opens.{IsSoundOwn, HoldsOwn, own_lines, IsPlanned, IsNext, AddsScope, IsReady, IsSoundInside, scopes_inside, lines_inside, OpensInside, IsTop, TopNot, Made}
-use Rattle.vs_opening.proofs.SeatLemmas.{seated_none}
-use Rattle.vs_opening.proofs.EnterLemmas.{said_none}
+use Rattle.vs_entering.proofs.SeatLemmas.{seated_none}
+use Rattle.vs_entering.proofs.EnterLemmas.{said_none}
 use Rattle.vs_opening.proofs.OpenLemmas.{within_inside, outline_inside, lines_join}
 use Rattle.vs_opening.proofs.FaultLemmas.{own_told, none_in, not_repeated}
 

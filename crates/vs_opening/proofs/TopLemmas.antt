@@ -21,9 +21,9 @@ use Rattle.vs_opened.specs.declared.opened.Opened.{Opened as FoundScope}
 use Rattle.vs_opened.specs.declared.opened.Plan.{Plan}
 use Rattle.vs_opened.specs.Opened.{AreSeated}
 use Rattle.vs_opened.specs.ScopeFaults.{top_fault, StandsOpening}
-use Rattle.vs_opening.specs.declared.entering.Listed.{Listed}
-use Rattle.vs_opening.specs.passes.Blocks.{text_name, HasIndex, with_blocks, AddsBlock, AreIndexedUpTo, AreIndexed}
-use Rattle.vs_opening.specs.passes.Entering.{Lists}
+use Rattle.vs_entering.specs.declared.entering.Listed.{Listed}
+use Rattle.vs_entering.specs.passes.Blocks.{text_name, HasIndex, with_blocks, AddsBlock, AreIndexedUpTo, AreIndexed}
+use Rattle.vs_entering.specs.passes.Entering.{Lists}
 use Rattle.vs_opening.specs.passes.Opens.{IsReady, AddsScope, OpensInside, OpensInsideNot, HoldsOwn, TopNot, Made}
 use Rattle.vs_opening.proofs.FaultLemmas.{own_told}
 use Rattle.vs_opening.proofs.SourceLemmas.{top_ready, top_made, opening_told}

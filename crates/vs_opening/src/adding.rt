@@ -4,14 +4,14 @@ ghost use Rattle.vs_syntax.specs.declared.tree.Module.{Module as Tree};
 ghost use Rattle.vs_generate.specs.Reads.{read_inner};
 ghost use Rattle.vs_scopes.specs.Scopes.{Scope};
 ghost use Rattle.vs_scopes.specs.passes.Answers.{Told};
-ghost use Rattle.vs_opening.specs.passes.Entering.{before_next};
+ghost use Rattle.vs_entering.specs.passes.Entering.{before_next};
 ghost use Rattle.vs_opening.specs.passes.Opens.{with_names, IsPlanned, IsNext, IsHolding, HoldsOwn, AddsScope, AddsInnerAt, AddsInnerNot, HasRoomToCount, CountsOne};
 
-use crate::entering::{Listed, enter};
 use crate::own::open_own;
 use std::alloc::Global;
 use std::mem;
 use vs_design::ScopeKind;
+use vs_entering::{Listed, enter};
 use vs_generate::Inner;
 use vs_opened::{Opened, Plan, path_inside};
 use vs_scopes::ElabFault;

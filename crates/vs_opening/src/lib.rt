@@ -2,7 +2,6 @@
 #![tactic(auto)]
 
 mod adding;
-mod entering;
 mod opening;
 mod own;
 mod source;

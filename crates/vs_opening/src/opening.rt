@@ -9,9 +9,9 @@ ghost use Rattle.vs_opened.specs.ScopeFaults.{HasConstructFault};
 ghost use Rattle.vs_opening.specs.passes.Opens.{FindsInner, HasInner, HasInnerNot, IsReady, OpensInside, OpensInsideNot};
 
 use crate::adding::add;
-use crate::entering::Listed;
 use std::alloc::Global;
 use vs_design::Entry;
+use vs_entering::Listed;
 use vs_generate::{Inner, inners};
 use vs_nets::check_blocks;
 use vs_opened::{Opened, Plan, names_around, scope_fault};

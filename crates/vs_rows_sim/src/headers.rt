@@ -15,7 +15,3 @@ pub const SIX: &str =
 /// `reg a, b, c, d, e; wire x, y, z`
 pub const EIGHT: &str =
     "$timescale 1 ns $end\n$scope module t $end\n$var reg 1 ! a $end\n$var reg 1 \" b $end\n$var reg 1 # c $end\n$var reg 1 $ d $end\n$var reg 1 % e $end\n$var wire 1 & x $end\n$var wire 1 ' y $end\n$var wire 1 ( z $end\n$upscope $end\n$enddefinitions $end\n";
-
-/// The dump of `reg a` that is 0 at 0 and 1 from 5, to 10.
-pub const ONE: &str =
-    "$timescale 1 ns $end\n$scope module t $end\n$var reg 1 ! a $end\n$upscope $end\n$enddefinitions $end\n#0\n$dumpvars\n0!\n$end\n#5\n1!\n#10\n";

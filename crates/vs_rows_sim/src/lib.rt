@@ -1,8 +1,6 @@
-//! Calls of the program and of its parts that no file of rows can ask: sinks and readers that fail, large sources, several policies and queues.
+//! Runs that no file of rows can ask: their outcomes, several policies, other permitted orders and other queues.
 #![tactic(auto)]
 
-#[cfg(test)]
-mod devices;
 #[cfg(test)]
 mod headers;
 #[cfg(test)]
@@ -15,9 +13,3 @@ mod queues;
 mod running;
 #[cfg(test)]
 mod runs;
-#[cfg(test)]
-mod short;
-#[cfg(test)]
-mod sinks;
-#[cfg(test)]
-mod words;

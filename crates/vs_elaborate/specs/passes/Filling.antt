@@ -19,12 +19,12 @@ use Rattle.vs_scopes.specs.passes.Names.{read_path}
 use Rattle.vs_scopes.specs.passes.Parts.{read_port, read_ends}
 use Rattle.vs_opened.specs.declared.opened.Opened.{Opened as FoundScope}
 use Rattle.vs_contents.specs.declared.contents.Contents.{Contents}
-use Rattle.vs_bodies.specs.declared.faults.StatementFault.{StatementFault}
-use Rattle.vs_bodies.specs.Members.{Assignment, PortDriver, Driver, of_text, Behavior, drivers_of, port_drivers_of}
-use Rattle.vs_bodies.specs.Processes.{HasBehaviorFault}
-use Rattle.vs_bodies.specs.Surroundings.{Surroundings}
-use Rattle.vs_bodies.specs.passes.Views.{IsView, IsSite}
-use Rattle.vs_bodies.specs.passes.Bodies.{BodyFails}
+use Rattle.vs_operands.specs.declared.faults.StatementFault.{StatementFault}
+use Rattle.vs_operands.specs.Members.{Assignment, PortDriver, Driver, of_text, Behavior, drivers_of, port_drivers_of}
+use Rattle.vs_operands.specs.Processes.{HasBehaviorFault}
+use Rattle.vs_operands.specs.Surroundings.{Surroundings}
+use Rattle.vs_operands.specs.passes.Views.{IsView, IsSite}
+use Rattle.vs_operands.specs.passes.Bodies.{BodyFails}
 use Rattle.vs_elaborate.specs.declared.frames.Frame.{Frame}
 use Rattle.vs_elaborate.specs.Drivers.{driver_fault, port_driver_fault}
 use Rattle.vs_elaborate.specs.Faults.{HasFault, HasPortFault}

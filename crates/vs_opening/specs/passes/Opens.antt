@@ -23,9 +23,9 @@ use Rattle.vs_opened.specs.passes.Sites.{passes_limit}
 use Rattle.vs_opened.specs.passes.Naming.{Bound}
 use Rattle.vs_opened.specs.passes.Declaring.{SameCounts, Keeps}
 use Rattle.vs_nets.specs.passes.Nets.{IsNamedAsNet}
-use Rattle.vs_opening.specs.declared.entering.Listed.{Listed}
-use Rattle.vs_opening.specs.passes.Blocks.{IsTitled, HasEachNamed, AreNamed, Extends}
-use Rattle.vs_opening.specs.passes.Entering.{Lists, before_next, EntersNot, IsSoundInner, module_names}
+use Rattle.vs_entering.specs.declared.entering.Listed.{Listed}
+use Rattle.vs_entering.specs.passes.Blocks.{IsTitled, HasEachNamed, AreNamed, Extends}
+use Rattle.vs_entering.specs.passes.Entering.{Lists, before_next, EntersNot, IsSoundInner, module_names}
 
 -- ---- a scope's own members
 

@@ -1,5 +1,5 @@
 use Rattle.std.proofs.lemmas.Result.{err_from_is_err_and}
-use Rattle.vs_bodies.specs.Members.{named_signal}
+use Rattle.vs_operands.specs.Members.{named_signal}
 use Rattle.vs_bodies.proofs.StatementLemmas.{means_set, set_refused}
 use Rattle.vs_bodies.proofs.bodies.set_body.Goals as goal
 

@@ -1,7 +1,7 @@
 use Rattle.std.proofs.Common.{take}
 use Rattle.vs_scopes.specs.Printed.{Path}
-use Rattle.vs_bodies.specs.Surroundings.{Surroundings}
-use Rattle.vs_bodies.specs.passes.Views.{IsView}
+use Rattle.vs_operands.specs.Surroundings.{Surroundings}
+use Rattle.vs_operands.specs.passes.Views.{IsView}
 use Rattle.vs_bodies.proofs.PartLemmas.{Stated, Listed}
 use Rattle.vs_bodies.proofs.statements.+statement.Given as goal
 

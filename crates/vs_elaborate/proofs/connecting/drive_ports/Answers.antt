@@ -3,7 +3,7 @@ use Rattle.std.proofs.lemmas.Result.{err_from_is_err_and}
 use Rattle.vs_scopes.specs.Scopes.{is_wrong_end}
 use Rattle.vs_scopes.specs.passes.Parts.{read_port, read_end}
 use Rattle.vs_scopes.proofs.AnswerLemmas.{kept_none}
-use Rattle.vs_bodies.specs.Members.{port_driver, port_drivers}
+use Rattle.vs_operands.specs.Members.{port_driver, port_drivers}
 use Rattle.vs_elaborate.specs.passes.Filling.{Connects, ConnectsNot}
 use Rattle.vs_elaborate.proofs.FillingLemmas.{connects_not_more}
 use Rattle.vs_elaborate.proofs.PortLemmas.{again, left_at, kept_to_more, kept_to_skip, kept_to_end, kept_to_fault}

@@ -3,7 +3,7 @@ use Rattle.std.proofs.lemmas.List.{take_all}
 use Rattle.std.proofs.lemmas.Slice.Zip.{AllZip-long}
 use Rattle.std.proofs.lemmas.Result.{err_from_is_err_and}
 use Rattle.vs_opened.specs.Opened.{IsOpened}
-use Rattle.vs_bodies.specs.Surroundings.{surroundings_at}
+use Rattle.vs_operands.specs.Surroundings.{surroundings_at}
 use Rattle.vs_elaborate.specs.passes.Filling.{Fills}
 use Rattle.vs_elaborate.proofs.FillingLemmas.{fills_none, fills_more, fills_one_not, take_next, there}
 use Rattle.vs_elaborate.proofs.filling.fill_all.Goals as goal

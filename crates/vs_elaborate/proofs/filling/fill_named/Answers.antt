@@ -1,8 +1,8 @@
 use Rattle.std.proofs.Common.{◌≡◌, ℕ, List, sym, subst, refl}
 use Rattle.vs_widths.specs.Names.{meaning_of, nested_names}
 use Rattle.vs_scopes.specs.Scopes.{seen_from}
-use Rattle.vs_bodies.specs.Surroundings.{surroundings_at}
-use Rattle.vs_bodies.specs.passes.Views.{IsSite}
+use Rattle.vs_operands.specs.Surroundings.{surroundings_at}
+use Rattle.vs_operands.specs.passes.Views.{IsSite}
 use Rattle.vs_bodies.proofs.BlockLemmas.{got, outward_within, zip_at, site_names}
 use Rattle.vs_opened.specs.Opened.{IsOpened}
 use Rattle.vs_elaborate.proofs.PortLemmas.{path_around}

@@ -2,8 +2,8 @@ use Rattle.std.proofs.Common.{◌≡◌, ◌<◌, length, sym, subst, arith}
 use Rattle.std.proofs.lemmas.Result.{err_from_is_err_and}
 use Rattle.vs_generate.specs.Reads.{read_inner}
 use Rattle.vs_opened.specs.Opened.{AreOpened, AreSeated}
-use Rattle.vs_opening.specs.passes.Entering.{before_next, IsShallow, Enters}
-use Rattle.vs_opening.proofs.SeatLemmas.{opened_many, opened_place}
+use Rattle.vs_entering.specs.passes.Entering.{before_next, IsShallow, Enters}
+use Rattle.vs_entering.proofs.SeatLemmas.{opened_many, opened_place}
 use Rattle.vs_opening.proofs.OpenLemmas.{enters_next, adds_inner}
 use Rattle.vs_opening.proofs.InsideLemmas.{shallow, enters_told, added_told}
 use Rattle.vs_opening.proofs.adding.add.Goals as goal

@@ -3,7 +3,7 @@ use Rattle.std.proofs.lemmas.Result.{err_from_is_err_and}
 use Rattle.vs_scopes.specs.passes.Names.{read_path}
 use Rattle.vs_opened.specs.Opened.{AreOpened}
 use Rattle.vs_opening.specs.passes.Opens.{AddsScope}
-use Rattle.vs_opening.proofs.SeatLemmas.{opened_many, around_front, entered_around}
+use Rattle.vs_entering.proofs.SeatLemmas.{opened_many, around_front, entered_around}
 use Rattle.vs_opening.proofs.OpenLemmas.{adds_scope}
 use Rattle.vs_opening.proofs.adding.list_scope.Goals as goal
 

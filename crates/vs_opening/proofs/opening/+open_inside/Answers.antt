@@ -3,7 +3,7 @@ use Rattle.std.proofs.lemmas.Result.{err_from_is_err_and}
 use Rattle.vs_generate.specs.Reads.{read_inner}
 use Rattle.vs_opened.specs.Opened.{AreOpened, AreSeated}
 use Rattle.vs_opening.specs.passes.Opens.{HasInner}
-use Rattle.vs_opening.proofs.SeatLemmas.{opened_place}
+use Rattle.vs_entering.proofs.SeatLemmas.{opened_place}
 use Rattle.vs_opening.proofs.FaultLemmas.{inner_not_told}
 use Rattle.vs_opening.proofs.InsideLemmas.{so_far, holding_start, holding_end, holding_here, add_told, room_inside, ready_inside, inside_told, holding_next}
 use Rattle.vs_opening.proofs.opening.+open_inside.Goals as goal

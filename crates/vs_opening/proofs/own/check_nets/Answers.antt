@@ -6,7 +6,7 @@ use Rattle.vs_scopes.specs.Scopes.{Scope, late_nets}
 use Rattle.vs_scopes.specs.passes.Answers.{Told}
 use Rattle.vs_nets.specs.passes.Nets.{IsLate}
 use Rattle.vs_opening.specs.passes.Opens.{HoldsOwn, HasTimelyNets}
-use Rattle.vs_opening.proofs.SeatLemmas.{sight_front}
+use Rattle.vs_entering.proofs.SeatLemmas.{sight_front}
 use Rattle.vs_opening.proofs.OwnLemmas.{nets_told}
 use Rattle.vs_opening.proofs.own.check_nets.Goals as goal
 

@@ -1,6 +1,6 @@
 use Rattle.std.proofs.Common.{◌<◌, ◌≤◌, length, sym, subst, ◌∙◌, arith}
 use Rattle.vs_scopes.specs.passes.Answers.{IsFaultAt}
-use Rattle.vs_opening.proofs.SeatLemmas.{opened_many}
+use Rattle.vs_entering.proofs.SeatLemmas.{opened_many}
 use Rattle.vs_opening.proofs.OwnLemmas.{home_before, home_itself}
 use Rattle.vs_opening.proofs.own.home_fault.Goals as goal
 

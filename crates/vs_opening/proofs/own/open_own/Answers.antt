@@ -7,8 +7,8 @@ use Rattle.vs_scopes.specs.passes.Answers.{Told}
 use Rattle.vs_scopes.specs.passes.Names.{read_path}
 use Rattle.vs_opened.specs.passes.Sites.{IsSite}
 use Rattle.vs_opening.specs.passes.Opens.{HoldsOwn, OpensNames, OpensOwn}
-use Rattle.vs_opening.proofs.SeatLemmas.{around_front}
-use Rattle.vs_opening.proofs.EnterLemmas.{known_levels}
+use Rattle.vs_entering.proofs.SeatLemmas.{around_front}
+use Rattle.vs_entering.proofs.EnterLemmas.{known_levels}
 use Rattle.vs_opening.proofs.OwnLemmas.{opens_names}
 use Rattle.vs_opening.proofs.own.open_own.Goals as goal
 

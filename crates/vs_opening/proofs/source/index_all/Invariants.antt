@@ -1,4 +1,4 @@
-use Rattle.vs_opening.specs.passes.Blocks.{AreIndexedUpTo}
+use Rattle.vs_entering.specs.passes.Blocks.{AreIndexedUpTo}
 use Rattle.vs_opening.proofs.source.index_all.Given as goal
 
 abbrev pub invariant-loop-place : goal.invariant-loop-place

@@ -1,5 +1,5 @@
 use Rattle.std.proofs.Common.{◌≡◌, true, take}
-use Rattle.vs_opening.specs.passes.Entering.{Lists}
+use Rattle.vs_entering.specs.passes.Entering.{Lists}
 use Rattle.vs_opening.proofs.SourceLemmas.{permits_all}
 use Rattle.vs_opening.proofs.source.list_modules.Given as goal
 

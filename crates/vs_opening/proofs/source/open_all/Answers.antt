@@ -2,7 +2,7 @@ use Rattle.std.proofs.Common.{◌≡◌, All, refl, sym, subst, ◌∙◌}
 use Rattle.std.specs.Vec.{with_items}
 use Rattle.std.proofs.lemmas.List.{with_items_is}
 use Rattle.vs_opened.specs.Opened.{AreSeated}
-use Rattle.vs_opening.specs.passes.Blocks.{HasNoBlocks, AreIndexed}
+use Rattle.vs_entering.specs.passes.Blocks.{HasNoBlocks, AreIndexed}
 use Rattle.vs_opening.specs.passes.Opens.{Made}
 use Rattle.vs_opening.proofs.SourceLemmas.{planned_none}
 use Rattle.vs_opening.proofs.BlockLemmas.{indexed_seated, opens_all}

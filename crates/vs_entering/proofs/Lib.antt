@@ -1,0 +1,4 @@
+pub mod ListLemmas
+pub mod SeatLemmas
+pub mod EnterLemmas
+pub mod EnteringLemmas

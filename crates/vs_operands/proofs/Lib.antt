@@ -1,0 +1,4 @@
+pub mod AssignmentLemmas
+pub mod CaseLemmas
+pub mod CallLemmas
+pub mod EventLemmas

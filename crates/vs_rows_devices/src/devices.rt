@@ -1,0 +1,123 @@
+//! Readers and writers that fail, and an input that is longer than a source may be.
+
+use crate::calling::{Input, call};
+use crate::short::Short;
+use std::alloc::{AllocError, Global};
+use std::process::Abort;
+use std::test::Fail;
+use vs_design::Design;
+use vs_elaborate::elaborate;
+use vs_kernel::{Fifo, Kernel, Outcome, RunFault};
+use vs_lexer::lex;
+use vs_parser::parse;
+use vs_regions::Item;
+use vs_sim::Dropped;
+use vs_time_wheel::ListQueue;
+use vs_vcd::Counted;
+
+/// The dump of `reg a` that is 0 at 0 and 1 from 5, to 10.
+const ONE: &str =
+    "$timescale 1 ns $end\n$scope module t $end\n$var reg 1 ! a $end\n$upscope $end\n$enddefinitions $end\n#0\n$dumpvars\n0!\n$end\n#5\n1!\n#10\n";
+
+const WORDS: &str = "vsim run --top t --until 10 --out vcd";
+
+const SOURCE: &str = "module t; reg a; initial begin a = 0; #5 a = 1; end endmodule";
+
+// The reader gives this input and fails, or ends: what the program answers, and that the input was read to its end.
+fn is_read(
+    rt: &impl Abort,
+    alloc: Global,
+    source: &[u8],
+    fails: bool,
+    status: u8,
+    told: &str,
+) -> Result<(), AllocError> {
+    let mut input = Input::new(source);
+    input.fails = fails;
+    let mut out = Vec::new(alloc);
+    let (answered, err) = call(alloc, WORDS, &mut input, &mut out)?;
+    assert_eq!(rt; err.as_slice(), told.as_bytes());
+    assert_eq!(rt; answered, status);
+    assert_eq!(rt; out.len(), 0);
+    assert_eq!(rt; input.given, source.len());
+    Ok(())
+}
+
+/// So many spaces.
+fn spaces(alloc: Global, count: usize) -> Result<Vec<u8>, AllocError> {
+    let mut text = Vec::new(alloc);
+    for _ in 0..count {
+        text.push(b' ')?;
+    }
+    Ok(text)
+}
+
+// A reader that fails at once, behind a source, and behind more than a source may have; and an input of 5,000,000 bytes, of which all are read.
+#[test]
+fn readers(rt: HostRuntime) -> Result<(), Fail> {
+    let spaces = spaces(rt.alloc(), 5000000)?;
+    for source in [b"".as_slice(), SOURCE.as_bytes(), spaces.as_slice()] {
+        is_read(&rt, rt.alloc(), source, true, 3, "vsim: read\n")?;
+    }
+    is_read(&rt, rt.alloc(), &spaces, false, 1, "vsim: L6 at 4194304\n")?;
+    Ok(())
+}
+
+// Of the dump's 128 bytes the writer holds as many as it took.
+fn is_written(rt: &impl Abort, alloc: Global, left: usize, fails: bool) -> Result<(), AllocError> {
+    let mut out = Short::new(alloc, left, fails);
+    let (status, err) = call(alloc, WORDS, Input::new(SOURCE.as_bytes()), &mut out)?;
+    let (wanted, told) = if left < 128 {
+        (3, "vsim: write\n")
+    } else {
+        (0, "")
+    };
+    assert_eq!(rt; err.as_slice(), told.as_bytes(), "{left} bytes");
+    assert_eq!(rt; status, wanted, "{left} bytes");
+    assert_eq!(rt; out.taken.len(), left);
+    assert!(rt; ONE.as_bytes().starts_with(&out.taken), "{left} bytes");
+    Ok(())
+}
+
+// A run whose sink fails has failed for good; one with an outcome is done.
+fn is_failed(
+    rt: &impl Abort,
+    alloc: Global,
+    design: &Design,
+    left: usize,
+) -> Result<(), AllocError> {
+    let mut kernel = Kernel::new(alloc, design, ListQueue::<Item>::new(alloc), Fifo)?;
+    let mut vcd = Counted::new(Short::new(alloc, left, true));
+    let first = kernel.run(10, 100, &mut vcd, &mut Dropped);
+    let second = kernel.run(10, 100, &mut vcd, &mut Dropped);
+    let wanted = if left < 128 {
+        (Err(RunFault::Write), Err(RunFault::Failed))
+    } else {
+        (Ok(Outcome::Quiet), Err(RunFault::Done))
+    };
+    assert_eq!(rt; (first, second), wanted, "{left} bytes");
+    let out = vcd.into_inner();
+    assert_eq!(rt; out.taken.len(), left);
+    assert!(rt; ONE.as_bytes().starts_with(&out.taken), "{left} bytes");
+    Ok(())
+}
+
+/// The design of a source with the top `t`.
+fn design_of(alloc: Global, source: &str) -> Result<Design, Fail> {
+    let tokens = lex(alloc, source.as_bytes()).ok().ok_or("lex")?;
+    let tree = parse(alloc, &tokens).ok().ok_or("parse")?;
+    let design = elaborate(alloc, &tree, b"t").ok().ok_or("elaborate")?;
+    Ok(design)
+}
+
+#[test]
+fn writers(rt: HostRuntime) -> Result<(), Fail> {
+    let alloc = rt.alloc();
+    let design = design_of(alloc, SOURCE)?;
+    for left in 0..129 {
+        is_written(&rt, alloc, left, false)?;
+        is_written(&rt, alloc, left, true)?;
+        is_failed(&rt, alloc, &design, left)?;
+    }
+    Ok(())
+}
