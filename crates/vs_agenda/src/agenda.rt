@@ -282,7 +282,9 @@ impl Agenda {
         if self.entries.pop_front() {
             self.passed = self.passed.wrapping_add(1);
         }
-        self.trim_front();
+        if self.gaps > 0 {
+            self.trim_front();
+        }
     }
 
     /// Takes the gaps at the front away.

@@ -47,7 +47,7 @@ use Rattle.vs_operands.specs.Surroundings.{Surroundings}
 use Rattle.vs_operands.specs.Statements.{has_fault, HasFaultAt, in_statement, in_block}
 use Rattle.vs_operands.specs.passes.Faults.{as_statement_fault, deeper, IsBelow}
 use Rattle.vs_operands.specs.passes.Views.{IsSite, IsPlaced}
-use Rattle.vs_operands.specs.passes.Bodies.{Burden, statements_burden, named_burden, HasInnerFault, IsFree, Fails}
+use Rattle.vs_operands.specs.passes.Bodies.{Burden, statements_burden, named_burden, HasInnerFault, IsFree, BurdenFails}
 
 -- ---- named blocks, by form
 
@@ -186,20 +186,20 @@ module _ (list : List FoundScope) (envs : Path → Surroundings) (p : Path) wher
       }
 
   -- a fault of a part
-  pub fails_part : (a whole : Burden) (e : StatementFault) → IsPart a whole → Fails list envs p a e → Fails list envs p whole e
+  pub fails_part : (a whole : Burden) (e : StatementFault) → IsPart a whole → BurdenFails list envs p a e → BurdenFails list envs p whole e
   fails_part a whole Memory q h = tt
   fails_part a whole Overfull q h = let k = q.last in omega (arith, k, h)
   fails_part a whole (Refused r) q h = q.own r h
   fails_part a whole (Inside k r) q h = (h.0, (h.1.0, inner_more a.blocks whole.blocks q.before q.behind r h.0 q.blocks h.1.1))
 
   -- a fault of an expression
-  pub fails_by : (own : Reason → Bool) (whole : Burden) (fault : BodyFault) → ((r : Reason) → own r ≡ true → whole.own r ≡ true) → Refuses own fault → Fails list envs p whole (as_statement_fault fault)
+  pub fails_by : (own : Reason → Bool) (whole : Burden) (fault : BodyFault) → ((r : Reason) → own r ≡ true → whole.own r ≡ true) → Refuses own fault → BurdenFails list envs p whole (as_statement_fault fault)
   fails_by own whole b.Memory g h = tt
   fails_by own whole (b.Refused r) g h = g r h
 
   -- too many statements
-  pub fails_overfull : (whole : Burden) (n : ℕ) (e : StatementFault) → n ≤ whole.last → (e ≡ Overfull) × (2 ^ 32 ≤ n) → Fails list envs p whole e
-  fails_overfull whole n e m h = let k : 2 ^ 32 ≤ n = h.1 in let g : 2 ^ 32 ≤ whole.last = omega arith in subst (λ z. Fails list envs p whole z) (sym h.0) g
+  pub fails_overfull : (whole : Burden) (n : ℕ) (e : StatementFault) → n ≤ whole.last → (e ≡ Overfull) × (2 ^ 32 ≤ n) → BurdenFails list envs p whole e
+  fails_overfull whole n e m h = let k : 2 ^ 32 ≤ n = h.1 in let g : 2 ^ 32 ≤ whole.last = omega arith in subst (λ z. BurdenFails list envs p whole z) (sym h.0) g
 
 -- no fault in any of these named blocks
 abbrev pub AreFree : (Path → Surroundings) → Path → List NamedBlock → Type 0
@@ -225,8 +225,8 @@ abbrev pub inside_path : Path → NamedBlock → Path
 inside_path p x = p ++ plainly x.name ∷ []
 
 module _ (list : List FoundScope) (envs : Path → Surroundings) (p : Path) (first place : ℕ) (x : NamedBlock) where
-  pub inside_fails : (e : StatementFault) → IsSite list envs place (inside_path p x) → Fails list envs (inside_path p x) (statements_burden (envs (inside_path p x)) first x.statements) e →
-      Fails list envs p (named_burden first x) (deeper place e)
+  pub inside_fails : (e : StatementFault) → IsSite list envs place (inside_path p x) → BurdenFails list envs (inside_path p x) (statements_burden (envs (inside_path p x)) first x.statements) e →
+      BurdenFails list envs p (named_burden first x) (deeper place e)
   inside_fails Memory site h = tt
   inside_fails Overfull site h = h
   inside_fails (Refused r) site h =

@@ -50,7 +50,7 @@ use Rattle.vs_opened.specs.declared.opened.Opened.{Opened as FoundScope}
 use Rattle.vs_operands.specs.declared.faults.StatementFault.{StatementFault}
 use Rattle.vs_operands.specs.declared.faults.StatementFault.TheVariants as t
 use Rattle.vs_operands.specs.passes.Faults.{as_statement_fault}
-use Rattle.vs_operands.specs.passes.Bodies.{counting, statement_burden, statements_burden, numbered_burden, named_burden, items_burden, IsFree, Fails, Answers, MeansStatement, MeansStatements, MeansBody, IsCase, IsNumbered, IsRepeated, else_list, MeansElse, MeansItems, item_fault, BodyFails, Embodies}
+use Rattle.vs_operands.specs.passes.Bodies.{counting, statement_burden, statements_burden, numbered_burden, named_burden, items_burden, IsFree, BurdenFails, Answers, MeansStatement, MeansStatements, MeansBody, IsCase, IsNumbered, IsRepeated, else_list, MeansElse, MeansItems, item_fault, BodyFails, Embodies}
 use Rattle.vs_bodies.proofs.BlockLemmas.{blocks_Null, blocks_Assign, blocks_Later, blocks_Named, blocks_For, blocks_Print, blocks_Finish, blocks_Dump, IsPart, fails_part, fails_by, fails_overfull, AreFree, free_none, free_same, free_both}
 use Rattle.vs_scopes.proofs.Folds.{both_false, left_true, right_true, any_push, any_at, take_push}
 use Rattle.vs_bodies.proofs.FormLemmas.{count_Assign, count_Block, count_Case, count_Dump, count_Finish, count_For, count_If, count_Later, count_Named, count_Null, count_Print, counting_more, counts, fault_Assign, fault_Block, fault_Case, fault_Dump, fault_Finish, fault_For, fault_If, fault_Later, fault_Named, fault_Null, fault_Print, item_count, item_numbers, joined_push, labels_of, numbers_Assign, numbers_Block, numbers_Call, numbers_Case, numbers_Delay, numbers_Event, numbers_Finish, numbers_Forever, numbers_If, numbers_Later, numbers_Null, numbers_Repeat, numbers_While, total_push, total_within}
@@ -64,7 +64,7 @@ module _ (list : List FoundScope) (envs : Path → Surroundings) (p : Path) wher
   States first x y next = IsFree envs p (statement_burden (envs p) first x) × MeansStatement envs p first x y next
 
   abbrev pub FailsIn : ℕ → Stmt → StatementFault → Type 0
-  FailsIn first x e = Fails list envs p (statement_burden (envs p) first x) e
+  FailsIn first x e = BurdenFails list envs p (statement_burden (envs p) first x) e
 
   -- named blocks of one more element
   pushed_free : {A : Type 0} (f : A → List NamedBlock) (xs : List A) (x : A) → AreFree envs p (flat_map f xs) → AreFree envs p (f x) → AreFree envs p (flat_map f (xs ++ x ∷ []))
@@ -89,7 +89,7 @@ module _ (list : List FoundScope) (envs : Path → Surroundings) (p : Path) wher
   Numbers first l e k t x next = IsFree envs p (numbered_burden (envs p) first l e) × IsNumbered (envs p) first l e k t x next
 
   abbrev pub FailsNumbered : ℕ → Left → Expr → StatementFault → Type 0
-  FailsNumbered first l e f = Fails list envs p (numbered_burden (envs p) first l e) f
+  FailsNumbered first l e f = BurdenFails list envs p (numbered_burden (envs p) first l e) f
 
   pub states_numbered : (first k mid : ℕ) (l : Left) (e : Expr) (t : Target) (x : Typed) → Takes first k mid → ((r : Reason) → assign_fault r Procedural (envs p).names (places l) e ≡ false) × IsAssignment Procedural (envs p).names (places l) e t x → Numbers first l e k t x mid
   states_numbered first k mid l e t x h q = (record { own = q.0; room = h.1.1; blocks = free_none envs p [] refl }, record { number = h.0; next_is = h.1.0; sides = q.1 })
@@ -176,9 +176,9 @@ module _ (list : List FoundScope) (envs : Path → Surroundings) (p : Path) wher
         },
       )
 
-  pub block_refused : (first : ℕ) (xs : Vec Stmt Global) (ks : List Stmt) (e : StatementFault) → ks ≡ xs.items → Fails list envs p (statements_burden (envs p) first ks) e → FailsIn first (s.Block xs) e
+  pub block_refused : (first : ℕ) (xs : Vec Stmt Global) (ks : List Stmt) (e : StatementFault) → ks ≡ xs.items → BurdenFails list envs p (statements_burden (envs p) first ks) e → FailsIn first (s.Block xs) e
   block_refused first xs ks e k h =
-      fails_part list envs p (statements_burden (envs p) first xs.items) (statement_burden (envs p) first (s.Block xs)) e (block_part (envs p) first xs) (subst (λ z. Fails list envs p (statements_burden (envs p) first z) e) k h)
+      fails_part list envs p (statements_burden (envs p) first xs.items) (statement_burden (envs p) first (s.Block xs)) e (block_part (envs p) first xs) (subst (λ z. BurdenFails list envs p (statements_burden (envs p) first z) e) k h)
 
   -- ---- named blocks
 
@@ -203,11 +203,11 @@ module _ (list : List FoundScope) (envs : Path → Surroundings) (p : Path) wher
       )
 
   pub named_refused : (first : ℕ) (n : Vec ℕ Global) (ls : Vec LocalDeclaration Global) (xs : Vec Stmt Global) (name : List ℕ) (ks : List Stmt) (e : StatementFault) → name ≡ n.items → ks ≡ xs.items →
-      Fails list envs p (named_burden first (record { name = name; locals = ls.items; statements = ks })) e → FailsIn first (s.Named n ls xs) e
+      BurdenFails list envs p (named_burden first (record { name = name; locals = ls.items; statements = ks })) e → FailsIn first (s.Named n ls xs) e
   named_refused first n ls xs name ks e i k h =
-      let g = subst (λ z. Fails list envs p (named_burden first (record { name = name; locals = ls.items; statements = z })) e) k h in
+      let g = subst (λ z. BurdenFails list envs p (named_burden first (record { name = name; locals = ls.items; statements = z })) e) k h in
       fails_part list envs p (named_burden first (record { name = n.items; locals = ls.items; statements = xs.items })) (statement_burden (envs p) first (s.Named n ls xs)) e (named_part (envs p) first n ls xs)
-      (subst (λ z. Fails list envs p (named_burden first (record { name = z; locals = ls.items; statements = xs.items })) e) i g)
+      (subst (λ z. BurdenFails list envs p (named_burden first (record { name = z; locals = ls.items; statements = xs.items })) e) i g)
 
   -- ---- a statement in another
 
@@ -347,7 +347,7 @@ module _ (list : List FoundScope) (envs : Path → Surroundings) (p : Path) wher
         record { means = an_else p x y q.1.means; next_is = q.1.next_is ∙ ap (λ n. first + n) one; numbered = q.1.numbered ∙ ap (counting first) one },
       )
 
-  pub otherwise_fails : (first : ℕ) (x : Box Stmt Global) (a : Stmt) (e : StatementFault) → a ≡ x.value → FailsIn first a e → Fails list envs p (statements_burden (envs p) first (else_list (Some x))) e
+  pub otherwise_fails : (first : ℕ) (x : Box Stmt Global) (a : Stmt) (e : StatementFault) → a ≡ x.value → FailsIn first a e → BurdenFails list envs p (statements_burden (envs p) first (else_list (Some x))) e
   otherwise_fails first x a e i h =
       fails_part list envs p (statement_burden (envs p) first x.value) (statements_burden (envs p) first (x.value ∷ [])) e (one_part first x.value) (subst (λ z. FailsIn first z e) i h)
 
@@ -375,7 +375,7 @@ module _ (list : List FoundScope) (envs : Path → Surroundings) (p : Path) wher
       fails_part list envs p (statement_burden (envs p) (first + 1) x.value) (statement_burden (envs p) first (s.If e x o)) f (then_part (envs p) first e x o) (subst (λ z. FailsIn (first + 1) z f) i h)
 
   -- a fault of the statement behind `else`
-  pub else_refused : (first mid : ℕ) (e : Box Expr Global) (x : Box Stmt Global) (o : Option (Box Stmt Global)) (a : Stmt) (f : StatementFault) → a ≡ x.value → mid ≡ first + 1 + count_of a → Fails list envs p (statements_burden (envs p) mid (else_list o)) f → FailsIn first (s.If e x o) f
+  pub else_refused : (first mid : ℕ) (e : Box Expr Global) (x : Box Stmt Global) (o : Option (Box Stmt Global)) (a : Stmt) (f : StatementFault) → a ≡ x.value → mid ≡ first + 1 + count_of a → BurdenFails list envs p (statements_burden (envs p) mid (else_list o)) f → FailsIn first (s.If e x o) f
   else_refused first mid e x o a f i m h =
       fails_part list envs p (statements_burden (envs p) mid (else_list o)) (statement_burden (envs p) first (s.If e x o)) f (else_part (envs p) first mid e x o (m ∙ ap (λ z. first + 1 + count_of z) i)) h
 
@@ -475,9 +475,9 @@ module _ (list : List FoundScope) (envs : Path → Surroundings) (p : Path) wher
   case_overfull first kind e v f h = fails_overfull list envs p (statement_burden (envs p) first (s.Case kind e v)) (first + 1) f (let n = count_Case kind e v in omega (arith, n)) h
 
   -- a fault of the items of a `case`
-  pub items_refused : (first mid : ℕ) (kind : CaseKind) (e : Box Expr Global) (v : Vec (CaseLabel × Stmt) Global) (xs : List (CaseLabel × Stmt)) (f : StatementFault) → mid ≡ first + 1 → xs ≡ v.items → Fails list envs p (items_burden (envs p) mid xs) f → FailsIn first (s.Case kind e v) f
+  pub items_refused : (first mid : ℕ) (kind : CaseKind) (e : Box Expr Global) (v : Vec (CaseLabel × Stmt) Global) (xs : List (CaseLabel × Stmt)) (f : StatementFault) → mid ≡ first + 1 → xs ≡ v.items → BurdenFails list envs p (items_burden (envs p) mid xs) f → FailsIn first (s.Case kind e v) f
   items_refused first mid kind e v xs f m i h =
-      fails_part list envs p (items_burden (envs p) mid v.items) (statement_burden (envs p) first (s.Case kind e v)) f (items_part (envs p) first mid kind e v m) (subst (λ z. Fails list envs p (items_burden (envs p) mid z) f) i h)
+      fails_part list envs p (items_burden (envs p) mid v.items) (statement_burden (envs p) first (s.Case kind e v)) f (items_part (envs p) first mid kind e v m) (subst (λ z. BurdenFails list envs p (items_burden (envs p) mid z) f) i h)
 
   -- the items of a `case`, of which none has a fault
   abbrev pub Lists : Shape → ℕ → List (CaseLabel × Stmt) → List (Vec Typed Global × Statement) → ℕ → Type 0
@@ -544,13 +544,13 @@ module _ (list : List FoundScope) (envs : Path → Surroundings) (p : Path) wher
       (record { own = q.sound; room = subst (λ z. z < 2 ^ 32) q.means.next_is small; blocks = q.free }, q.means)
 
   -- a fault of the labels of an item
-  pub label_refused : (first : ℕ) (xs : List (CaseLabel × Stmt)) (i : ℕ) (x : CaseLabel × Stmt) (f : BodyFault) → i < length xs → x ≡ get_or xs i x → Refuses (λ r. list_any (operand_fault r (envs p).names) (label_exprs x.0)) f → Fails list envs p (items_burden (envs p) first xs) (as_statement_fault f)
+  pub label_refused : (first : ℕ) (xs : List (CaseLabel × Stmt)) (i : ℕ) (x : CaseLabel × Stmt) (f : BodyFault) → i < length xs → x ≡ get_or xs i x → Refuses (λ r. list_any (operand_fault r (envs p).names) (label_exprs x.0)) f → BurdenFails list envs p (items_burden (envs p) first xs) (as_statement_fault f)
   label_refused first xs i x f h k g =
       fails_by list envs p (λ r. list_any (operand_fault r (envs p).names) (label_exprs x.0)) (items_burden (envs p) first xs) f
       (λ r u. any_at (item_fault (envs p) r) xs i x h k (left_true _ (has_fault r (envs p) x.1) u)) g
 
   -- a fault of the statement of an item
-  pub item_refused : (first mid : ℕ) (xs : List (CaseLabel × Stmt)) (i : ℕ) (x : CaseLabel × Stmt) (f : StatementFault) → i < length xs → x ≡ get_or xs i x → mid ≡ first + total (map item_count (take i xs)) → FailsIn mid x.1 f → Fails list envs p (items_burden (envs p) first xs) f
+  pub item_refused : (first mid : ℕ) (xs : List (CaseLabel × Stmt)) (i : ℕ) (x : CaseLabel × Stmt) (f : StatementFault) → i < length xs → x ≡ get_or xs i x → mid ≡ first + total (map item_count (take i xs)) → FailsIn mid x.1 f → BurdenFails list envs p (items_burden (envs p) first xs) f
   item_refused first mid xs i x f h k m g =
       let parts = flat_parts (λ (x : CaseLabel × Stmt). blocks_in x.1) xs i x h k in
       let within : total (map item_count (take i xs)) + item_count x ≤ total (map item_count xs) = total_within item_count xs i x h k in
@@ -569,7 +569,7 @@ module _ (list : List FoundScope) (envs : Path → Surroundings) (p : Path) wher
   are_push _ _ _ x y (are_none q) h = are_more q x y [] [] h (are_none q)
   are_push _ _ _ x y (are_more q a b us vs g gs) h = are_more q a b _ _ g (are_push q us vs x y gs h)
 
-  pub statement_refused : (first mid : ℕ) (xs : List Stmt) (i : ℕ) (x : Stmt) (e : StatementFault) → i < length xs → x ≡ get_or xs i x → mid ≡ first + counts (take i xs) → FailsIn mid x e → Fails list envs p (statements_burden (envs p) first xs) e
+  pub statement_refused : (first mid : ℕ) (xs : List Stmt) (i : ℕ) (x : Stmt) (e : StatementFault) → i < length xs → x ≡ get_or xs i x → mid ≡ first + counts (take i xs) → FailsIn mid x e → BurdenFails list envs p (statements_burden (envs p) first xs) e
   statement_refused first mid xs i x e h k m g =
       let parts = flat_parts blocks_in xs i x h k in
       let within : counts (take i xs) + count_of x ≤ counts xs = total_within count_of xs i x h k in

@@ -27,17 +27,17 @@ abbrev pub max_len : ℕ
 max_len = 16777216
 
 -- the bytes are a JSON text of this value
-abbrev pub Reads : List ℕ → Data → Type 0
-Reads bytes d = IsUtf8 bytes × (read bytes ≡ Some d)
+abbrev pub IsReadAs : List ℕ → Data → Type 0
+IsReadAs bytes d = IsUtf8 bytes × (read bytes ≡ Some d)
 
 -- C1 fails: too long, or no JSON text
 abbrev pub IsNotJson : List ℕ → Type 0
-IsNotJson bytes = (max_len < length bytes) ⊎ ((d : Data) → ¬ Reads bytes d)
+IsNotJson bytes = (max_len < length bytes) ⊎ ((d : Data) → ¬ IsReadAs bytes d)
 
 -- C1 passes: a JSON text of this value, and not too long
 pub record IsJson (bytes : List ℕ) (d : Data) : Type 0 where
   pub short : length bytes ≤ max_len
-  pub reads : Reads bytes d
+  pub reads : IsReadAs bytes d
 
 -- C3 fails: the version is a whole number of 64 bits other than 1
 abbrev pub is_other_version : Data → Bool

@@ -5,4 +5,4 @@ mod PlanesLemmas
 mod StatementLemmas
 mod Stores
 mod Tables
-mod UsesLemmas
+pub mod UsesLemmas

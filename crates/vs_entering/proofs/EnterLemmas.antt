@@ -35,7 +35,7 @@ use Rattle.vs_scopes.specs.Parameters.{said, given_from, parameters_among, is_ov
 use Rattle.vs_scopes.specs.Ports.{ports_of}
 use Rattle.vs_scopes.specs.Declarations.{Use, Bindings, early_names}
 use Rattle.vs_scopes.specs.Nets.{nothing_seen, permits_nets}
-use Rattle.vs_scopes.specs.Generate.{Inner, instance, generated}
+use Rattle.vs_scopes.specs.Generate.{instance, generated}
 use Rattle.vs_scopes.specs.Generate as g
 use Rattle.vs_scopes.specs.Scopes.{Scope, Before, nowhere, outward, environment, named, named_at, module_named, instance_scope, block_scope, early_block, text_of, block_text, sight_in, block_given, with_constants, has_no_values, is_inside, is_port_mismatch, block_fault, opened_instance, opened_block}
 use Rattle.vs_scopes.specs.passes.Answers.{borrowed, Told, IsFaultAt}
@@ -55,7 +55,8 @@ use Rattle.vs_entering.specs.passes.Blocks.{text_name}
 use Rattle.vs_entering.specs.declared.entering.Listed.{Listed}
 use Rattle.vs_entering.specs.passes.Entering.{Lists, IsParameterFault, EntersInstance, EntersInstanceNot, IsBlockRefusal, EntersBlock, EntersBlockNot, Enters, EntersNot}
 use Rattle.vs_entering.proofs.ListLemmas.{slice_front, slice_end}
-use Rattle.vs_entering.proofs.SeatLemmas.{opened_here, home_more}
+use Rattle.vs_opened.proofs.SiteLemmas.{home_more}
+use Rattle.vs_entering.proofs.SeatLemmas.{opened_here}
 
 -- what was read stands at its place
 pub got : {A : Type 0} (xs : List A) (i : ℕ) (x : A) → i < length xs → x ≡ get_or xs i x → slice_get xs i ≡ Some x

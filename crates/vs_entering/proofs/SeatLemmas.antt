@@ -4,61 +4,9 @@ use Rattle.std.specs.List.{slice_get}
 use Rattle.std.proofs.lemmas.Option.{none-some, slice_get_within, same_Some}
 use Rattle.vs_scopes.specs.Scopes.{Scope}
 use Rattle.vs_opened.specs.declared.opened.Opened.{Opened as FoundScope}
-use Rattle.vs_opened.specs.Opened.{IsWithin, StandsAround, HasSight, IsHome, IsEntered, IsOpened, AreOpened, AreSeated}
-use Rattle.vs_opened.proofs.SiteLemmas.{sight_more}
-use Rattle.vs_entering.proofs.ListLemmas.{slice_front, slice_push, same_at, zip_length, zip_right, zip_left, zip_append, zip_map}
-
--- ---- more scopes behind those
-
-pub within_more : (ss more : List Scope) (k : ℕ) (s : Scope) → IsWithin ss k s → IsWithin (ss ++ more) k s
-within_more ss more k s h = record {
-  outer_scope = h.outer_scope;
-  stands = slice_front ss more k h.outer_scope h.stands;
-  before = h.before;
-  path = h.path;
-  around = h.around;
-  outer = h.outer;
-}
-
-pub around_more : (ss more : List Scope) (o : Option ℕ) (s : Scope) → StandsAround ss o s → StandsAround (ss ++ more) o s
-around_more ss more None s h = h
-around_more ss more (Some k) s h = within_more ss more k s h
-
-pub home_more : (ss more : List Scope) (k : ℕ) (s : Scope) → IsHome ss k s → IsHome (ss ++ more) k s
-home_more ss more k s h = record {
-  home_scope = h.home_scope;
-  stands = slice_front ss more k h.home_scope h.stands;
-  kind = h.kind;
-  path = h.path;
-  within = h.within;
-}
-
-pub entered_more : (ss more : List Scope) (o : FoundScope) (s : Scope) → IsEntered ss o s → IsEntered (ss ++ more) o s
-entered_more ss more o s h = record {
-  title = h.title;
-  kind = h.kind;
-  number = h.number;
-  base = h.base;
-  instances = h.instances;
-  turns = h.turns;
-  depth = h.depth;
-  nets = h.nets;
-  text = h.text;
-  told = h.told;
-  ports = h.ports;
-  pieces = h.pieces;
-  constants = h.constants;
-  known = h.known;
-  within = h.within;
-  home = home_more ss more o.home s h.home;
-  around = around_more ss more o.around s h.around;
-  sight = sight_more ss more o.around o.piece s h.sight;
-  ends = h.ends;
-  lefts = h.lefts;
-}
-
-pub opened_more : (ss more : List Scope) (o : FoundScope) (s : Scope) → IsOpened ss o s → IsOpened (ss ++ more) o s
-opened_more ss more o s h = record { entered = entered_more ss more o s h.entered; names = h.names }
+use Rattle.vs_opened.specs.Opened.{IsWithin, StandsAround, HasSight, IsEntered, IsOpened, AreOpened, AreSeated}
+use Rattle.vs_opened.proofs.SiteLemmas.{opened_more}
+use Rattle.vs_entering.proofs.ListLemmas.{slice_push, same_at, zip_length, zip_right, zip_left, zip_append, zip_map}
 
 -- ---- a list that stands for scopes
 

@@ -2,21 +2,21 @@
 use Rattle.std.specs.Prelude.{◌≡◌, ℕ, ◌<◌, true, false, Bool, List}
 use Rattle.std.proofs.Common.{ap, sym, ◌∙◌, subst}
 use Rattle.vs_syntax.specs.Symbols.{Symbol, Class, first}
-use Rattle.vs_syntax.specs.Grammar.{Part, Grammar, part}
+use Rattle.vs_syntax.specs.Grammar.{Nonterminal, Grammar, part}
 use Rattle.vs_syntax.specs.Tables.{fronts, fronts_of, among, need, goes}
 use Rattle.vs_syntax.specs.Reading.{Stuck, stuck_deep}
 use Rattle.vs_expressions.specs.declared.reading.Stop.{Stop}
 use Rattle.vs_expressions.specs.declared.reading.Stop.TheVariants as stop
-use Rattle.vs_expressions.specs.Answers.{seen, Fails}
+use Rattle.vs_expressions.specs.Answers.{seen, FailsToRead}
 
 -- an inner part stopped, so the outer one does
-pub fails_by : (a b : Grammar) (r r' : ℕ) (ts ts' : List Symbol) → ((deep : Bool) (at : List Symbol) → Stuck a r deep ts at → Stuck b r' deep ts' at) → (e : Stop) → Fails a r ts e → Fails b r' ts' e
+pub fails_by : (a b : Grammar) (r r' : ℕ) (ts ts' : List Symbol) → ((deep : Bool) (at : List Symbol) → Stuck a r deep ts at → Stuck b r' deep ts' at) → (e : Stop) → FailsToRead a r ts e → FailsToRead b r' ts' e
 fails_by a b r r' ts ts' f stop.Memory p = tt
 fails_by a b r r' ts ts' f (stop.Unexpected at) p = f false (seen at.now) p
 fails_by a b r r' ts ts' f (stop.TooDeep at) p = f true (seen at.now) p
 
 -- a part whose first token has no room
-pub deep_at : (p : Part) (room : ℕ) (ts : List Symbol) (c : Class) → first ts ≡ c → among c (fronts_of p) ≡ true → room < need c (fronts_of p) → Stuck (part p) room true ts ts
+pub deep_at : (p : Nonterminal) (room : ℕ) (ts : List Symbol) (c : Class) → first ts ≡ c → among c (fronts_of p) ≡ true → room < need c (fronts_of p) → Stuck (part p) room true ts ts
 deep_at p room ts c e h n = stuck_deep (ap (λ u. among u (fronts_of p)) e ∙ h) (subst (λ (u : Class). room < need u (fronts_of p)) (sym e) n)
 
 -- whether the next token can begin the part, by its class

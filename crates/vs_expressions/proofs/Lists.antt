@@ -4,7 +4,7 @@ use Rattle.std.proofs.Common.{sym, ◌∙◌, ap, subst, arith}
 use Rattle.vs_syntax.specs.Symbols.{Symbol, a_mark, class_of}
 use Rattle.vs_tokens.specs.declared.token.Mark.{Mark}
 use Rattle.vs_tokens.specs.declared.token.Mark.TheVariants as m
-use Rattle.vs_syntax.specs.Grammar.{Part, Grammar, ◌·◌, part, mark, other_parts}
+use Rattle.vs_syntax.specs.Grammar.{Nonterminal, Grammar, ◌·◌, part, mark, other_parts}
 use Rattle.vs_syntax.specs.Tables.{low, low_of, goes}
 use Rattle.vs_syntax.specs.Derivation.{Tree, leaf, both, height}
 use Rattle.vs_syntax.specs.Reading.{Gets, Stuck, stuck_first, stuck_second, stuck_many}
@@ -14,13 +14,13 @@ use Rattle.vs_syntax.proofs.Gets.{gets_token, gets_seq, gets_stop}
 use Rattle.vs_expressions.proofs.Rows.{Along, all_read}
 
 -- a part behind its separator
-abbrev pub another : Mark → Part → Grammar
+abbrev pub another : Mark → Nonterminal → Grammar
 another sign p = mark sign · part p
 
-pub goes_another : (sign : Mark) (p : Part) (ts after : List Symbol) → ts ≡ a_mark sign ∷ after → goes (another sign p) ts ≡ true
+pub goes_another : (sign : Mark) (p : Nonterminal) (ts after : List Symbol) → ts ≡ a_mark sign ∷ after → goes (another sign p) ts ≡ true
 goes_another sign p ts after e = ap (goes (another sign p)) e ∙ or_left _ false (same_class-refl (class_of (a_mark sign)))
 
-pub another_read : (sign : Mark) (p : Part) (room : ℕ) (ts after rest : List Symbol) (x : Tree) → ts ≡ a_mark sign ∷ after → Gets (part p) room after x rest → Gets (another sign p) room ts (both (leaf (a_mark sign)) x) rest
+pub another_read : (sign : Mark) (p : Nonterminal) (room : ℕ) (ts after rest : List Symbol) (x : Tree) → ts ≡ a_mark sign ∷ after → Gets (part p) room after x rest → Gets (another sign p) room ts (both (leaf (a_mark sign)) x) rest
 another_read sign p room ts after rest x e q = rw e (gets_seq (gets_token refl) q)
 
 -- a part of a concatenation behind its comma
@@ -34,15 +34,15 @@ commas_are tree (x ∷ xs) = ap (both (comma_by tree x)) (commas_are tree xs)
 pub parts_height : {X : Type 0} (tree : X → Tree) (xs : List X) → height (others_tree (map tree xs)) ≡ height (row_of (map (comma_by tree) xs))
 parts_height tree xs = let e : height (commas_tree (map tree xs)) ≡ height (row_of (map (comma_by tree) xs)) = ap height (commas_are tree xs) in omega (arith, e)
 
-pub parts_read : {X : Type 0} (p : Part) (tree : X → Tree) (room : ℕ) (start rest at : List Symbol) (xs : List X) → Along (another m.Comma p) room start rest (map (comma_by tree) xs) → goes (mark m.Comma) rest ≡ false → Gets (mark m.CloseBrace) room rest (leaf (a_mark m.CloseBrace)) at → Gets (other_parts p) room start (others_tree (map tree xs)) at
+pub parts_read : {X : Type 0} (p : Nonterminal) (tree : X → Tree) (room : ℕ) (start rest at : List Symbol) (xs : List X) → Along (another m.Comma p) room start rest (map (comma_by tree) xs) → goes (mark m.Comma) rest ≡ false → Gets (mark m.CloseBrace) room rest (leaf (a_mark m.CloseBrace)) at → Gets (other_parts p) room start (others_tree (map tree xs)) at
 parts_read p tree room start rest at xs l h q =
     subst (λ (u : Tree). Gets (other_parts p) room start (both u (leaf (a_mark m.CloseBrace))) at) (sym (commas_are tree xs))
     (gets_seq (all_read (another m.Comma p) room start rest rest (map (comma_by tree) xs) l (gets_stop h)) q)
 
-pub part_stuck : (p : Part) (room : ℕ) (deep : Bool) (start rest after at : List Symbol) (xs : List Tree) → low_of p ≤ room → Along (another m.Comma p) room start rest xs → rest ≡ a_mark m.Comma ∷ after → Stuck (part p) room deep after at → Stuck (other_parts p) room deep start at
+pub part_stuck : (p : Nonterminal) (room : ℕ) (deep : Bool) (start rest after at : List Symbol) (xs : List Tree) → low_of p ≤ room → Along (another m.Comma p) room start rest xs → rest ≡ a_mark m.Comma ∷ after → Stuck (part p) room deep after at → Stuck (other_parts p) room deep start at
 part_stuck p room deep start rest after at xs n l e s =
     let k : low (another m.Comma p) ≤ room = omega (arith, n) in
     stuck_first (l.stops deep at (stuck_many (goes_another m.Comma p rest after e) k (subst (λ (u : List Symbol). Stuck (another m.Comma p) room deep u at) (sym e) (stuck_second (gets_token refl) s))))
 
-pub end_of_parts : (p : Part) (room : ℕ) (deep : Bool) (start rest at : List Symbol) (xs : List Tree) → Along (another m.Comma p) room start rest xs → goes (mark m.Comma) rest ≡ false → Stuck (mark m.CloseBrace) room deep rest at → Stuck (other_parts p) room deep start at
+pub end_of_parts : (p : Nonterminal) (room : ℕ) (deep : Bool) (start rest at : List Symbol) (xs : List Tree) → Along (another m.Comma p) room start rest xs → goes (mark m.Comma) rest ≡ false → Stuck (mark m.CloseBrace) room deep rest at → Stuck (other_parts p) room deep start at
 end_of_parts p room deep start rest at xs l h s = stuck_second (all_read (another m.Comma p) room start rest rest xs l (gets_stop h)) s

@@ -17,19 +17,19 @@ abbrev pub seen : List Token → List Symbol
 seen ts = symbols (lexemes ts)
 
 -- why and where reading stopped at these symbols, unless memory ran out
-abbrev pub Fails : Grammar → ℕ → List Symbol → Stop → Type 0
-Fails a room ts stop.Memory = Unit {0}
-Fails a room ts (stop.Unexpected at) = Stuck a room false ts (seen at.now)
-Fails a room ts (stop.TooDeep at) = Stuck a room true ts (seen at.now)
+abbrev pub FailsToRead : Grammar → ℕ → List Symbol → Stop → Type 0
+FailsToRead a room ts stop.Memory = Unit {0}
+FailsToRead a room ts (stop.Unexpected at) = Stuck a room false ts (seen at.now)
+FailsToRead a room ts (stop.TooDeep at) = Stuck a room true ts (seen at.now)
 
 -- a tree of the part and the symbols behind it, or why and where reading stopped
 abbrev pub Answers : {X : Type 0} → Grammar → ℕ → List Symbol → (X → Tree) → (X → List Symbol) → Result X Stop → Type 0
 Answers a room ts tree rest (Ok x) = Gets a room ts (tree x) (rest x)
-Answers a room ts tree rest (Err e) = Fails a room ts e
+Answers a room ts tree rest (Err e) = FailsToRead a room ts e
 
 -- the same of what is read of tokens
-abbrev pub Reads : {X : Type 0} → Grammar → ℕ → List Token → (X → Tree) → Result (Read X) Stop → Type 0
-Reads a room ts tree r = Answers a room (seen ts) (λ x. tree x.tree) (λ x. seen x.rest.now) r
+abbrev pub ReadsTree : {X : Type 0} → Grammar → ℕ → List Token → (X → Tree) → Result (Read X) Stop → Type 0
+ReadsTree a room ts tree r = Answers a room (seen ts) (λ x. tree x.tree) (λ x. seen x.rest.now) r
 
 -- the same of an expression with its nesting
 abbrev pub Nests : Grammar → ℕ → List Symbol → Result Nested Stop → Type 0

@@ -6,7 +6,7 @@ ghost use Rattle.vs_syntax.specs.Grammar.{◌·◌, part, many, mark, a_level, a
 ghost use Rattle.vs_syntax.specs.Derivation.{leaf, both, height};
 ghost use Rattle.vs_syntax.specs.Views.{row_of, unary_mark, others_tree, repeated_tree, closed_tree, second_tree, second_trees, chosen_tree, expr_tree};
 ghost use Rattle.vs_syntax.specs.Reading.{Gets};
-ghost use Rattle.vs_expressions.specs.Answers.{seen, Answers, Reads, Nests};
+ghost use Rattle.vs_expressions.specs.Answers.{seen, Answers, ReadsTree, Nests};
 
 use crate::head::{OperandHead, operand_head};
 use crate::operator::{LEVELS, binary_at};
@@ -86,7 +86,7 @@ pub fn expr<'t, 's>(
     room: u32,
     tokens: &'t [Token<'s>],
 ) -> Result<Read<'t, 's, Expr>, Stop<'t, 's>>
-    ensures { Reads (part an_expr) room tokens.now expr_tree result }
+    ensures { ReadsTree (part an_expr) room tokens.now expr_tree result }
 {
     let read = nested_expr(alloc, room, tokens)?;
     Ok(Read {

@@ -5,7 +5,7 @@ ghost use Rattle.vs_syntax.specs.Symbols.{a_mark, any_name, first};
 ghost use Rattle.vs_syntax.specs.Grammar.{part, many, select, other_parts, a_target};
 ghost use Rattle.vs_syntax.specs.Tables.{low_of};
 ghost use Rattle.vs_syntax.specs.Views.{row_of, chosen_tree, others_tree, left_tree};
-ghost use Rattle.vs_expressions.specs.Answers.{seen, Reads};
+ghost use Rattle.vs_expressions.specs.Answers.{seen, ReadsTree};
 
 use crate::expression::selects;
 use crate::head::{LeftHead, left_head};
@@ -22,7 +22,7 @@ pub fn left<'t, 's>(
     room: u32,
     tokens: &'t [Token<'s>],
 ) -> Result<Read<'t, 's, Left>, Stop<'t, 's>>
-    ensures { Reads (part a_target) room tokens.now left_tree result }
+    ensures { ReadsTree (part a_target) room tokens.now left_tree result }
 {
     let Some(head) = left_head(tokens) else {
         return Err(Stop::Unexpected(tokens));
@@ -40,7 +40,7 @@ fn place<'t, 's>(
     tokens: &'t [Token<'s>],
 ) -> Result<Read<'t, 's, Left>, Stop<'t, 's>>
     requires { first (seen tokens.now) ≡ any_name }
-    ensures { Reads (part a_target) room tokens.now left_tree result }
+    ensures { ReadsTree (part a_target) room tokens.now left_tree result }
 {
     if room == 0 {
         return Err(Stop::TooDeep(tokens));
@@ -59,7 +59,7 @@ pub fn name_selects<'t, 's>(
     room: u32,
     tokens: &'t [Token<'s>],
 ) -> Result<Read<'t, 's, Vec<(Expr, Option<(PartSelect, Expr)>)>>, Stop<'t, 's>>
-    ensures { Reads (many select) room tokens.now (λ xs. row_of (map chosen_tree xs.items)) result }
+    ensures { ReadsTree (many select) room tokens.now (λ xs. row_of (map chosen_tree xs.items)) result }
 {
     let read = selects(alloc, room, tokens)?;
     Ok(Read {
@@ -77,7 +77,7 @@ fn places<'t, 's>(
     after: &'t [Token<'s>],
 ) -> Result<Read<'t, 's, Left>, Stop<'t, 's>>
     requires { seen tokens.now ≡ a_mark m.OpenBrace ∷ seen after.now }
-    ensures { Reads (part a_target) room tokens.now left_tree result }
+    ensures { ReadsTree (part a_target) room tokens.now left_tree result }
 {
     if room < 2 {
         return Err(Stop::TooDeep(tokens));
@@ -98,7 +98,7 @@ fn other_places<'t, 's>(
     tokens: &'t [Token<'s>],
 ) -> Result<Read<'t, 's, Vec<Left>>, Stop<'t, 's>>
     requires { low_of a_target ≤ room }
-    ensures { Reads (other_parts a_target) room tokens.now
+    ensures { ReadsTree (other_parts a_target) room tokens.now
         (λ xs. others_tree (map left_tree xs.items)) result }
 {
     // All of them, but from a call: so the borrow checker can join it with what the loop sets.

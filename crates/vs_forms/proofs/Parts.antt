@@ -9,7 +9,7 @@ use Rattle.vs_syntax.proofs.Gets.{gets_seq}
 use Rattle.vs_expressions.specs.declared.reading.Read.{Read}
 use Rattle.vs_expressions.specs.declared.reading.Stop.{Stop}
 use Rattle.vs_expressions.specs.declared.reading.Stop.TheVariants as stop
-use Rattle.vs_expressions.specs.Answers.{seen, Fails}
+use Rattle.vs_expressions.specs.Answers.{seen, FailsToRead}
 use Rattle.vs_forms.specs.Parts.{Beyond, Leads}
 
 -- a part, and what stands behind it
@@ -21,7 +21,7 @@ pub beyond_behind : (a b g : Grammar) (v w : Tree → Tree) (room : ℕ) (ts mid
 beyond_behind a b g v w room ts mid rest p q = record { reads = λ y at r. p.reads (v y) at (q.reads y at r); stops = λ deep at s. p.stops deep at (q.stops deep at s) }
 
 -- where what stands behind fails, the whole fails
-pub beyond_fails : (a g : Grammar) (w : Tree → Tree) (room : ℕ) (ts mid : List Symbol) (e : Stop) → Beyond a g w room ts mid → Fails a room mid e → Fails g room ts e
+pub beyond_fails : (a g : Grammar) (w : Tree → Tree) (room : ℕ) (ts mid : List Symbol) (e : Stop) → Beyond a g w room ts mid → FailsToRead a room mid e → FailsToRead g room ts e
 beyond_fails a g w room ts mid stop.Memory p f = tt
 beyond_fails a g w room ts mid (stop.Unexpected at) p f = p.stops false (seen at.now) f
 beyond_fails a g w room ts mid (stop.TooDeep at) p f = p.stops true (seen at.now) f

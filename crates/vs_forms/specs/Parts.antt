@@ -17,7 +17,7 @@ use Rattle.vs_syntax.specs.declared.tree.Left.{Left}
 use Rattle.vs_syntax.specs.declared.tree.Stmt.{Stmt}
 use Rattle.vs_expressions.specs.declared.reading.Read.{Read}
 use Rattle.vs_expressions.specs.declared.reading.Stop.{Stop}
-use Rattle.vs_expressions.specs.Answers.{seen, Fails}
+use Rattle.vs_expressions.specs.Answers.{seen, FailsToRead}
 
 -- A part's tree is made of what was read behind its first symbol.
 pub record Within {X : Type 0} (tree : X → Tree) (wrap : Tree → Tree) (g : Grammar) (room : ℕ) (ts : List Symbol) (x : X)
@@ -29,7 +29,7 @@ pub record Within {X : Type 0} (tree : X → Tree) (wrap : Tree → Tree) (g : G
 -- what stands behind the first symbol of a part, or why and where reading it stopped
 abbrev pub ReadsWithin : {X : Type 0} → (X → Tree) → (Tree → Tree) → Grammar → ℕ → List Token → Result (Read X) Stop → Type 0
 ReadsWithin tree wrap g room ts (Ok r) = Within tree wrap g room (seen ts) r.tree (seen r.rest.now)
-ReadsWithin tree wrap g room ts (Err e) = Fails g room (seen ts) e
+ReadsWithin tree wrap g room ts (Err e) = FailsToRead g room (seen ts) e
 
 -- The symbols up to the rest were read, so a part that is read next makes the whole.
 pub record Beyond (a g : Grammar) (wrap : Tree → Tree) (room : ℕ) (ts rest : List Symbol) : Type 0 where
@@ -39,7 +39,7 @@ pub record Beyond (a g : Grammar) (wrap : Tree → Tree) (room : ℕ) (ts rest :
 -- what stands before a part, or why and where reading it stopped
 abbrev pub Leads : {X : Type 0} → Grammar → Grammar → (X → Tree → Tree) → ℕ → List Token → Result (Read X) Stop → Type 0
 Leads a g wrap room ts (Ok r) = Beyond a g (wrap r.tree) room (seen ts) (seen r.rest.now)
-Leads a g wrap room ts (Err e) = Fails g room (seen ts) e
+Leads a g wrap room ts (Err e) = FailsToRead g room (seen ts) e
 
 -- a statement behind its first symbol
 abbrev pub headed : Symbol → Tree → Tree

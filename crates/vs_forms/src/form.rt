@@ -7,7 +7,7 @@ ghost use Rattle.vs_syntax.specs.Tables.{low};
 ghost use Rattle.vs_syntax.specs.Derivation.{both};
 ghost use Rattle.vs_syntax.specs.Views.{listed_tree, signed_tree, range_tree, form_tree};
 ghost use Rattle.vs_syntax.specs.Reading.{Gets};
-ghost use Rattle.vs_expressions.specs.Answers.{seen, Reads};
+ghost use Rattle.vs_expressions.specs.Answers.{seen, ReadsTree};
 ghost use Rattle.vs_forms.specs.Lists.{behind_commas};
 
 use crate::list::{Element, listed};
@@ -24,7 +24,7 @@ pub fn declared<'t, 's, T: Element>(
     tokens: &'t [Token<'s>],
 ) -> Result<Read<'t, 's, (Form, Vec<T::Syntax>)>, Stop<'t, 's>>
     requires { low T.grammar ≤ room }
-    ensures { Reads (form · T.grammar · behind_commas T.grammar · mark m.Semicolon) room tokens.now
+    ensures { ReadsTree (form · T.grammar · behind_commas T.grammar · mark m.Semicolon) room tokens.now
         (λ x. both (form_tree x.0) (listed_tree (map T.tree_of x.1.items))) result }
 {
     let said = declared_form(alloc, room, tokens)?;
@@ -41,7 +41,7 @@ pub fn declared_form<'t, 's>(
     room: u32,
     tokens: &'t [Token<'s>],
 ) -> Result<Read<'t, 's, Form>, Stop<'t, 's>>
-    ensures { Reads form room tokens.now form_tree result }
+    ensures { ReadsTree form room tokens.now form_tree result }
 {
     let (signed, after) = signed_at(tokens);
     let range = declared_range(alloc, room, after)?;
@@ -71,7 +71,7 @@ pub fn declared_range<'t, 's>(
     room: u32,
     tokens: &'t [Token<'s>],
 ) -> Result<Read<'t, 's, Option<Range>>, Stop<'t, 's>>
-    ensures { Reads (range or nothing) room tokens.now range_tree result }
+    ensures { ReadsTree (range or nothing) room tokens.now range_tree result }
 {
     let Some(after) = mark_at(tokens, Mark::OpenBracket) else {
         return Ok(Read {

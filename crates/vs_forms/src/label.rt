@@ -5,7 +5,7 @@ ghost use Rattle.vs_syntax.specs.Symbols.{a_word};
 ghost use Rattle.vs_syntax.specs.Grammar.{part, word, a_stmt, a_case_item, an_expr};
 ghost use Rattle.vs_syntax.specs.Tables.{goes};
 ghost use Rattle.vs_syntax.specs.Views.{expr_tree, labelled_tree};
-ghost use Rattle.vs_expressions.specs.Answers.{seen, Reads};
+ghost use Rattle.vs_expressions.specs.Answers.{seen, ReadsTree};
 ghost use Rattle.vs_forms.specs.Parts.{Beyond, Leads};
 
 use crate::list::{Element, others};

@@ -5,7 +5,7 @@ ghost use Rattle.vs_syntax.specs.Grammar.{Grammar, ◌·◌, mark};
 ghost use Rattle.vs_syntax.specs.Tables.{low};
 ghost use Rattle.vs_syntax.specs.Derivation.{Tree};
 ghost use Rattle.vs_syntax.specs.Views.{listed_tree};
-ghost use Rattle.vs_expressions.specs.Answers.{seen, Fails, Reads};
+ghost use Rattle.vs_expressions.specs.Answers.{seen, FailsToRead, ReadsTree};
 ghost use Rattle.vs_forms.specs.Lists.{behind_commas, Grown};
 
 use std::alloc::Global;
@@ -30,7 +30,7 @@ pub trait Element {
         tokens: &'t [Token<'s>],
     ) -> Result<Read<'t, 's, Self::Syntax>, Stop<'t, 's>>
         requires { low grammar ≤ room }
-        ensures { Reads grammar room tokens.now tree_of result };
+        ensures { ReadsTree grammar room tokens.now tree_of result };
 }
 
 /// Reads those that stand behind a comma each, in at most `room` nodes below one another, and adds
@@ -44,7 +44,7 @@ pub fn others<'t, 's, T: Element>(
     requires { low T.grammar ≤ room }
     ensures { MatchResult result
         (λ r. Grown T.grammar room T.tree_of (seen tokens.now) (seen r.rest.now) tree.items r.tree.items)
-        (λ e. Fails (behind_commas T.grammar) room (seen tokens.now) e) }
+        (λ e. FailsToRead (behind_commas T.grammar) room (seen tokens.now) e) }
 {
     // All of them, but from a call: so the borrow checker can join it with what the loop sets.
     let (_none, mut rest) = tokens.split_at(0);
@@ -64,7 +64,7 @@ pub fn listed<'t, 's, T: Element>(
     tokens: &'t [Token<'s>],
 ) -> Result<Read<'t, 's, Vec<T::Syntax>>, Stop<'t, 's>>
     requires { low T.grammar ≤ room }
-    ensures { Reads (T.grammar · behind_commas T.grammar · mark m.Semicolon) room tokens.now
+    ensures { ReadsTree (T.grammar · behind_commas T.grammar · mark m.Semicolon) room tokens.now
         (λ xs. listed_tree (map T.tree_of xs.items)) result }
 {
     let first = T::read(alloc, room, tokens)?;

@@ -5,7 +5,7 @@ ghost use Rattle.vs_syntax.specs.Symbols.{a_mark, a_word};
 ghost use Rattle.vs_syntax.specs.Grammar.{◌·◌, many, part, name, local_declaration, block_head, a_local};
 ghost use Rattle.vs_syntax.specs.Tables.{goes};
 ghost use Rattle.vs_syntax.specs.Views.{row_of, local_tree, local_declaration_tree};
-ghost use Rattle.vs_expressions.specs.Answers.{seen, Reads};
+ghost use Rattle.vs_expressions.specs.Answers.{seen, ReadsTree};
 ghost use Rattle.vs_forms.specs.Blocks.{local_word, named_tree, naming_tree};
 
 use crate::form::{declared, declared_range};
@@ -59,7 +59,7 @@ pub fn naming<'t, 's>(
     room: u32,
     tokens: &'t [Token<'s>],
 ) -> Result<Read<'t, 's, Option<BlockName>>, Stop<'t, 's>>
-    ensures { Reads block_head room tokens.now naming_tree result }
+    ensures { ReadsTree block_head room tokens.now naming_tree result }
 {
     let Some(after) = mark_at(tokens, Mark::Colon) else {
         return Ok(Read {
@@ -80,7 +80,7 @@ fn named<'t, 's>(
     room: u32,
     tokens: &'t [Token<'s>],
 ) -> Result<Read<'t, 's, BlockName>, Stop<'t, 's>>
-    ensures { Reads (name · many local_declaration) room tokens.now named_tree result }
+    ensures { ReadsTree (name · many local_declaration) room tokens.now named_tree result }
 {
     let (name, after_name) = expect_name(alloc, tokens)?;
     let locals = locals(alloc, room, after_name)?;
@@ -99,7 +99,7 @@ fn locals<'t, 's>(
     room: u32,
     tokens: &'t [Token<'s>],
 ) -> Result<Read<'t, 's, Vec<LocalDeclaration>>, Stop<'t, 's>>
-    ensures { Reads (many local_declaration) room tokens.now
+    ensures { ReadsTree (many local_declaration) room tokens.now
         (λ xs. row_of (map local_declaration_tree xs.items)) result }
 {
     let mut tree = Vec::new(alloc);
@@ -138,7 +138,7 @@ fn declaration<'t, 's>(
     after: &'t [Token<'s>],
 ) -> Result<Read<'t, 's, LocalDeclaration>, Stop<'t, 's>>
     requires { seen tokens.now ≡ a_word (local_word word) ∷ seen after.now }
-    ensures { Reads local_declaration room tokens.now local_declaration_tree result }
+    ensures { ReadsTree local_declaration room tokens.now local_declaration_tree result }
 {
     match word {
         LocalWord::Reg => {
@@ -164,7 +164,7 @@ fn local<'t, 's>(
     room: u32,
     tokens: &'t [Token<'s>],
 ) -> Result<Read<'t, 's, Local>, Stop<'t, 's>>
-    ensures { Reads (part a_local) room tokens.now local_tree result }
+    ensures { ReadsTree (part a_local) room tokens.now local_tree result }
 {
     let (name, after_name) = expect_name(alloc, tokens)?;
     let words = declared_range(alloc, room, after_name)?;

@@ -9,7 +9,7 @@ ghost use Rattle.vs_syntax.specs.Grammar.{Grammar, ◌·◌, token, part, mark, 
 ghost use Rattle.vs_syntax.specs.Tables.{goes};
 ghost use Rattle.vs_syntax.specs.Derivation.{both, leaf};
 ghost use Rattle.vs_syntax.specs.Views.{argument_tree, print_tree, finish_tree, dump_argument_tree, dump_tree, stmt_tree};
-ghost use Rattle.vs_expressions.specs.Answers.{seen, Answers, Reads};
+ghost use Rattle.vs_expressions.specs.Answers.{seen, Answers, ReadsTree};
 ghost use Rattle.vs_forms.specs.Parts.{ReadsWithin, headed, marked};
 ghost use Rattle.vs_forms.specs.Tasks.{printed, dumped};
 
@@ -109,7 +109,7 @@ fn argument<'t, 's>(
     room: u32,
     tokens: &'t [Token<'s>],
 ) -> Result<Read<'t, 's, Argument>, Stop<'t, 's>>
-    ensures { Reads (part an_argument) room tokens.now argument_tree result }
+    ensures { ReadsTree (part an_argument) room tokens.now argument_tree result }
 {
     match time_at(tokens) {
         Some(rest) => Ok(Read {
@@ -132,7 +132,7 @@ fn dump_argument<'t, 's>(
     room: u32,
     tokens: &'t [Token<'s>],
 ) -> Result<Read<'t, 's, DumpArgument>, Stop<'t, 's>>
-    ensures { Reads (part a_dump_argument) room tokens.now dump_argument_tree result }
+    ensures { ReadsTree (part a_dump_argument) room tokens.now dump_argument_tree result }
 {
     if begins_text(tokens) {
         let (text, rest) = expect_text(alloc, tokens)?;
@@ -179,7 +179,7 @@ fn print_arguments<'t, 's>(
     room: u32,
     tokens: &'t [Token<'s>],
 ) -> Result<Read<'t, 's, PrintArguments>, Stop<'t, 's>>
-    ensures { Reads print_arguments room tokens.now print_tree result }
+    ensures { ReadsTree print_arguments room tokens.now print_tree result }
 {
     let Some(inside) = mark_at(tokens, Mark::Open) else {
         return Ok(Read {
@@ -269,7 +269,7 @@ fn dump_arguments<'t, 's>(
     room: u32,
     tokens: &'t [Token<'s>],
 ) -> Result<Read<'t, 's, Option<(DumpArgument, Vec<DumpArgument>)>>, Stop<'t, 's>>
-    ensures { Reads dump_arguments room tokens.now dump_tree result }
+    ensures { ReadsTree dump_arguments room tokens.now dump_tree result }
 {
     let Some(inside) = mark_at(tokens, Mark::Open) else {
         return Ok(Read {

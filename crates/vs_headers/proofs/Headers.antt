@@ -7,7 +7,7 @@ use Rattle.vs_tokens.specs.declared.token.Mark.TheVariants as m
 use Rattle.vs_tokens.specs.declared.token.Word.TheVariants as w
 use Rattle.vs_tokens.specs.declared.token.Token.{Token}
 use Rattle.vs_syntax.specs.Symbols.{Symbol, a_mark, a_word, the_word, first}
-use Rattle.vs_syntax.specs.Grammar.{Part, Grammar, nothing, either, ◌·◌, ◌or◌, part, mark, word, name, form, parameter_form, port_form, header_parameters, a_constant, a_header_parameter, a_port_name}
+use Rattle.vs_syntax.specs.Grammar.{Nonterminal, Grammar, nothing, either, ◌·◌, ◌or◌, part, mark, word, name, form, parameter_form, port_form, header_parameters, a_constant, a_header_parameter, a_port_name}
 use Rattle.vs_syntax.specs.Tables.{among, fronts, goes}
 use Rattle.vs_syntax.specs.Derivation.{Tree, empty, leaf, both}
 use Rattle.vs_syntax.specs.Reading.{Gets, Stuck, stuck_second, stuck_left, stuck_right}
@@ -22,7 +22,7 @@ use Rattle.vs_syntax.proofs.Fronts.{or_false, goes-either}
 use Rattle.vs_syntax.proofs.Gets.{gets_nothing, gets_token, gets_seq, gets_left, gets_right}
 use Rattle.vs_expressions.specs.declared.reading.Read.{Read}
 use Rattle.vs_expressions.specs.declared.reading.Stop.{Stop}
-use Rattle.vs_expressions.specs.Answers.{seen, Fails, Reads}
+use Rattle.vs_expressions.specs.Answers.{seen, FailsToRead, ReadsTree}
 use Rattle.vs_expressions.proofs.Exits.{fails_by, goes_at}
 use Rattle.vs_headers.specs.Ports.{port_kind, kind_word, told_ports, named_ports, ports_within}
 use Rattle.vs_forms.specs.Lists.{behind_commas, Grown}
@@ -73,8 +73,8 @@ told_goes : (d : Direction) (ts after : List Symbol) → ts ≡ a_word (directio
 told_goes d ts after e = direction_goes d ts after e
 
 -- the ports behind the first one, by what reading them answers
-pub more_ports : (room : ℕ) (a : Grammar) (p : Part) (ts us : List Token) (x : Port) (xs : List Port) (r : Result (Read (Vec Port Global)) Stop) → Gets a room (seen ts) (port_tree x) (seen us) → xs ≡ x ∷ [] →
-    MatchResult r (λ y. Grown (part p) room port_tree (seen us) (seen y.rest.now) xs y.tree.items) (λ e. Fails (behind_commas (part p)) room (seen us) e) → Reads (a · behind_commas (part p)) room ts (λ ps. ports_tree (map port_tree ps.items)) r
+pub more_ports : (room : ℕ) (a : Grammar) (p : Nonterminal) (ts us : List Token) (x : Port) (xs : List Port) (r : Result (Read (Vec Port Global)) Stop) → Gets a room (seen ts) (port_tree x) (seen us) → xs ≡ x ∷ [] →
+    MatchResult r (λ y. Grown (part p) room port_tree (seen us) (seen y.rest.now) xs y.tree.items) (λ e. FailsToRead (behind_commas (part p)) room (seen us) e) → ReadsTree (a · behind_commas (part p)) room ts (λ ps. ports_tree (map port_tree ps.items)) r
 more_ports room a p ts us x xs (Ok y) q h g =
     grown_one (part p) room port_tree (seen us) (seen y.rest.now) x xs y.tree.items (λ u. Gets (a · behind_commas (part p)) room (seen ts) (ports_tree (map port_tree u)) (seen y.rest.now)) g h
     (gets_seq q g.gets)
@@ -82,13 +82,13 @@ more_ports room a p ts us x xs (Err s) q h g =
     fails_by (behind_commas (part p)) (a · behind_commas (part p)) room room (seen us) (seen ts) (λ deep at t. stuck_second q t) s g
 
 -- either list, by what reading it answers
-pub told_answers : (room : ℕ) (d : Direction) (ts : List Token) (after : List Symbol) (r : Result (Read (Vec Port Global)) Stop) → seen ts ≡ a_word (direction_word d) ∷ after → Reads told_ports room ts (λ ps. ports_tree (map port_tree ps.items)) r → Reads ports_within room ts (λ ps. ports_tree (map port_tree ps.items)) r
+pub told_answers : (room : ℕ) (d : Direction) (ts : List Token) (after : List Symbol) (r : Result (Read (Vec Port Global)) Stop) → seen ts ≡ a_word (direction_word d) ∷ after → ReadsTree told_ports room ts (λ ps. ports_tree (map port_tree ps.items)) r → ReadsTree ports_within room ts (λ ps. ports_tree (map port_tree ps.items)) r
 told_answers room d ts after (Ok y) e q = gets_left (told_goes d (seen ts) after e) q
 told_answers room d ts after (Err s) e q =
     let none : 0 ≤ room = omega arith in
     fails_by told_ports ports_within room room (seen ts) (seen ts) (λ deep at t. stuck_left (told_goes d (seen ts) after e) none t) s q
 
-pub named_answers : (room : ℕ) (ts : List Token) (r : Result (Read (Vec Port Global)) Stop) → goes direction (seen ts) ≡ false → Reads named_ports room ts (λ ps. ports_tree (map port_tree ps.items)) r → Reads ports_within room ts (λ ps. ports_tree (map port_tree ps.items)) r
+pub named_answers : (room : ℕ) (ts : List Token) (r : Result (Read (Vec Port Global)) Stop) → goes direction (seen ts) ≡ false → ReadsTree named_ports room ts (λ ps. ports_tree (map port_tree ps.items)) r → ReadsTree ports_within room ts (λ ps. ports_tree (map port_tree ps.items)) r
 named_answers room ts (Ok y) h q = gets_right h q
 named_answers room ts (Err s) h q =
     let none : 0 ≤ room = omega arith in
@@ -106,7 +106,7 @@ names_stuck room deep ts at h s =
     let none : 0 ≤ room = omega arith in
     stuck_left h none s
 
-pub names_answers : (room : ℕ) (ts : List Token) (r : Result (Read (Vec Port Global)) Stop) → goes name (seen ts) ≡ true → Reads some_names room ts (λ ps. ports_tree (map port_tree ps.items)) r → Reads named_ports room ts (λ ps. ports_tree (map port_tree ps.items)) r
+pub names_answers : (room : ℕ) (ts : List Token) (r : Result (Read (Vec Port Global)) Stop) → goes name (seen ts) ≡ true → ReadsTree some_names room ts (λ ps. ports_tree (map port_tree ps.items)) r → ReadsTree named_ports room ts (λ ps. ports_tree (map port_tree ps.items)) r
 names_answers room ts (Ok y) h q = gets_left h q
 names_answers room ts (Err s) h q = fails_by some_names named_ports room room (seen ts) (seen ts) (λ deep at t. names_stuck room deep (seen ts) at h t) s q
 

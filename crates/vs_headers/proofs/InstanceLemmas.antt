@@ -13,7 +13,7 @@ use Rattle.vs_syntax.specs.declared.tree.Connections.{Connections}
 use Rattle.vs_syntax.proofs.Gets.{gets_nothing, gets_left, gets_right}
 use Rattle.vs_expressions.specs.declared.reading.Read.{Read}
 use Rattle.vs_expressions.specs.declared.reading.Stop.{Stop}
-use Rattle.vs_expressions.specs.Answers.{seen, Reads}
+use Rattle.vs_expressions.specs.Answers.{seen, ReadsTree}
 use Rattle.vs_expressions.proofs.Exits.{fails_by, goes_at}
 use Rattle.vs_forms.specs.Lists.{behind_commas}
 
@@ -32,14 +32,14 @@ named_goes : (ts after : List Symbol) → ts ≡ a_mark m.Dot ∷ after → goes
 named_goes ts after e = goes_at named ts (the_mark m.Dot) true (ap first e) refl
 
 -- connections, by what reading them by name answers
-pub named_answers : (room : ℕ) (ts : List Token) (after : List Symbol) (r : Result (Read Connections) Stop) → seen ts ≡ a_mark m.Dot ∷ after → Reads named room ts connections_tree r → Reads connections room ts connections_tree r
+pub named_answers : (room : ℕ) (ts : List Token) (after : List Symbol) (r : Result (Read Connections) Stop) → seen ts ≡ a_mark m.Dot ∷ after → ReadsTree named room ts connections_tree r → ReadsTree connections room ts connections_tree r
 named_answers room ts after (Ok x) e p = gets_left (named_goes (seen ts) after e) p
 named_answers room ts after (Err s) e p =
     let none : 0 ≤ room = omega arith in
     fails_by named connections room room (seen ts) (seen ts) (λ deep at t. stuck_left (named_goes (seen ts) after e) none t) s p
 
 -- the same in order
-pub ordered_answers : (room : ℕ) (ts : List Token) (r : Result (Read Connections) Stop) → goes (mark m.Dot) (seen ts) ≡ false → Reads ordered room ts connections_tree r → Reads connections room ts connections_tree r
+pub ordered_answers : (room : ℕ) (ts : List Token) (r : Result (Read Connections) Stop) → goes (mark m.Dot) (seen ts) ≡ false → ReadsTree ordered room ts connections_tree r → ReadsTree connections room ts connections_tree r
 ordered_answers room ts (Ok x) h p = gets_right h p
 ordered_answers room ts (Err s) h p =
     let none : 0 ≤ room = omega arith in

@@ -3,7 +3,7 @@ ghost use Rattle.std.specs.Prelude.{ℕ};
 ghost use Rattle.vs_tokens.specs.declared.token.Mark.TheVariants as m;
 ghost use Rattle.vs_syntax.specs.Grammar.{nothing, part, mark, ◌·◌, ◌or◌, range, a_net, a_variable, a_bare_name, an_assignment, an_expr};
 ghost use Rattle.vs_syntax.specs.Views.{value_tree, told_tree, declarator_tree, net_assignment_tree, bare_name_tree};
-ghost use Rattle.vs_expressions.specs.Answers.{Reads};
+ghost use Rattle.vs_expressions.specs.Answers.{ReadsTree};
 
 use std::alloc::Global;
 use vs_expressions::{Read, Stop, expect_mark, expect_name, expr, left, mark_at};
@@ -93,7 +93,7 @@ fn declared_net<'t, 's>(
     room: u32,
     tokens: &'t [Token<'s>],
 ) -> Result<Read<'t, 's, Declarator>, Stop<'t, 's>>
-    ensures { Reads (part a_net) room tokens.now declarator_tree result }
+    ensures { ReadsTree (part a_net) room tokens.now declarator_tree result }
 {
     let (name, after_name) = expect_name(alloc, tokens)?;
     let value = declared_value(alloc, room, after_name)?;
@@ -114,7 +114,7 @@ fn declared_variable<'t, 's>(
     room: u32,
     tokens: &'t [Token<'s>],
 ) -> Result<Read<'t, 's, Declarator>, Stop<'t, 's>>
-    ensures { Reads (part a_variable) room tokens.now declarator_tree result }
+    ensures { ReadsTree (part a_variable) room tokens.now declarator_tree result }
 {
     let (name, after_name) = expect_name(alloc, tokens)?;
     let said = told(alloc, room, after_name)?;
@@ -134,7 +134,7 @@ fn told<'t, 's>(
     room: u32,
     tokens: &'t [Token<'s>],
 ) -> Result<Read<'t, 's, (Option<Range>, Option<Expr>)>, Stop<'t, 's>>
-    ensures { Reads (mark m.Assign · part an_expr or range or nothing) room tokens.now
+    ensures { ReadsTree (mark m.Assign · part an_expr or range or nothing) room tokens.now
         (λ x. told_tree x.0 x.1) result }
 {
     let Some(after) = mark_at(tokens, Mark::Assign) else {
@@ -157,7 +157,7 @@ pub(crate) fn declared_value<'t, 's>(
     room: u32,
     tokens: &'t [Token<'s>],
 ) -> Result<Read<'t, 's, Option<Expr>>, Stop<'t, 's>>
-    ensures { Reads (mark m.Assign · part an_expr or nothing) room tokens.now value_tree result }
+    ensures { ReadsTree (mark m.Assign · part an_expr or nothing) room tokens.now value_tree result }
 {
     let Some(after) = mark_at(tokens, Mark::Assign) else {
         return Ok(Read {
@@ -177,7 +177,7 @@ fn bare_name<'t, 's>(
     alloc: Global,
     tokens: &'t [Token<'s>],
 ) -> Result<Read<'t, 's, Vec<u8>>, Stop<'t, 's>>
-    ensures { (room : ℕ) → Reads (part a_bare_name) room tokens.now bare_name_tree result }
+    ensures { (room : ℕ) → ReadsTree (part a_bare_name) room tokens.now bare_name_tree result }
 {
     let (name, rest) = expect_name(alloc, tokens)?;
     Ok(Read { tree: name, rest })
@@ -189,7 +189,7 @@ fn net_assignment<'t, 's>(
     room: u32,
     tokens: &'t [Token<'s>],
 ) -> Result<Read<'t, 's, NetAssignment>, Stop<'t, 's>>
-    ensures { Reads (part an_assignment) room tokens.now net_assignment_tree result }
+    ensures { ReadsTree (part an_assignment) room tokens.now net_assignment_tree result }
 {
     let target = left(alloc, room, tokens)?;
     let after_sign = expect_mark(target.rest, Mark::Assign)?;

@@ -12,7 +12,7 @@ ghost use Rattle.vs_syntax.specs.declared.tree.Port.{Port};
 ghost use Rattle.vs_syntax.specs.Reading.{Gets};
 ghost use Rattle.vs_syntax.specs.Views.{form_tree, listed_tree, bare_name_tree, parameter_word_tree, header_parameter_tree, header_parameters_tree};
 ghost use Rattle.vs_syntax.specs.Views.{direction_word, kind_tree, port_form_tree, port_tree, ports_tree, header_ports_tree};
-ghost use Rattle.vs_expressions.specs.Answers.{seen, Reads};
+ghost use Rattle.vs_expressions.specs.Answers.{seen, ReadsTree};
 ghost use Rattle.vs_headers.specs.Ports.{port_kind, behind_direction, first_port, told_ports, named_ports, ports_within};
 
 use crate::declaration::{BareName, declared_value};
@@ -87,7 +87,7 @@ pub fn header_parameters<'t, 's>(
     room: u32,
     tokens: &'t [Token<'s>],
 ) -> Result<Read<'t, 's, Vec<HeaderParameter>>, Stop<'t, 's>>
-    ensures { Reads (g.header_parameters or nothing) room tokens.now
+    ensures { ReadsTree (g.header_parameters or nothing) room tokens.now
         (λ xs. header_parameters_tree (map header_parameter_tree xs.items)) result }
 {
     let Some(after) = mark_at(tokens, Mark::Hash) else {
@@ -114,7 +114,7 @@ fn first_parameter<'t, 's>(
     room: u32,
     tokens: &'t [Token<'s>],
 ) -> Result<Read<'t, 's, HeaderParameter>, Stop<'t, 's>>
-    ensures { Reads ((word w.Parameter · parameter_form) · part a_constant) room tokens.now
+    ensures { ReadsTree ((word w.Parameter · parameter_form) · part a_constant) room tokens.now
         header_parameter_tree result }
 {
     let after_word = expect_word(tokens, Word::Parameter)?;
@@ -136,7 +136,7 @@ fn other_parameter<'t, 's>(
     room: u32,
     tokens: &'t [Token<'s>],
 ) -> Result<Read<'t, 's, HeaderParameter>, Stop<'t, 's>>
-    ensures { Reads (part a_header_parameter) room tokens.now header_parameter_tree result }
+    ensures { ReadsTree (part a_header_parameter) room tokens.now header_parameter_tree result }
 {
     let form = worded_form(alloc, room, tokens)?;
     let constant = parameter::constant(alloc, room, form.rest)?;
@@ -156,7 +156,7 @@ fn worded_form<'t, 's>(
     room: u32,
     tokens: &'t [Token<'s>],
 ) -> Result<Read<'t, 's, Option<ParameterForm>>, Stop<'t, 's>>
-    ensures { Reads (word w.Parameter · parameter_form or nothing) room tokens.now
+    ensures { ReadsTree (word w.Parameter · parameter_form or nothing) room tokens.now
         parameter_word_tree result }
 {
     let Some(after) = word_at(tokens, Word::Parameter) else {
@@ -178,7 +178,7 @@ pub fn header_ports<'t, 's>(
     room: u32,
     tokens: &'t [Token<'s>],
 ) -> Result<Read<'t, 's, Option<Vec<Port>>>, Stop<'t, 's>>
-    ensures { Reads (g.header_ports or nothing) room tokens.now
+    ensures { ReadsTree (g.header_ports or nothing) room tokens.now
         (λ o. header_ports_tree (option_map (λ (ps : Vec Port Global). map port_tree ps.items) o)) result }
 {
     let Some(after) = mark_at(tokens, Mark::Open) else {
@@ -201,7 +201,7 @@ fn ports<'t, 's>(
     room: u32,
     tokens: &'t [Token<'s>],
 ) -> Result<Read<'t, 's, Vec<Port>>, Stop<'t, 's>>
-    ensures { Reads ports_within room tokens.now (λ ps. ports_tree (map port_tree ps.items)) result }
+    ensures { ReadsTree ports_within room tokens.now (λ ps. ports_tree (map port_tree ps.items)) result }
 {
     match direction_at(tokens) {
         Some((direction, after)) => told_ports(alloc, room, tokens, direction, after),
@@ -218,7 +218,7 @@ fn told_ports<'t, 's>(
     after: &'t [Token<'s>],
 ) -> Result<Read<'t, 's, Vec<Port>>, Stop<'t, 's>>
     requires { seen tokens.now ≡ a_word (direction_word direction) ∷ seen after.now }
-    ensures { Reads told_ports room tokens.now (λ ps. ports_tree (map port_tree ps.items)) result }
+    ensures { ReadsTree told_ports room tokens.now (λ ps. ports_tree (map port_tree ps.items)) result }
 {
     let first = first_port(alloc, room, tokens, direction, after)?;
     let mut tree = Vec::new(alloc);
@@ -232,7 +232,7 @@ fn named_ports<'t, 's>(
     room: u32,
     tokens: &'t [Token<'s>],
 ) -> Result<Read<'t, 's, Vec<Port>>, Stop<'t, 's>>
-    ensures { Reads named_ports room tokens.now (λ ps. ports_tree (map port_tree ps.items)) result }
+    ensures { ReadsTree named_ports room tokens.now (λ ps. ports_tree (map port_tree ps.items)) result }
 {
     let mut tree = Vec::new(alloc);
     if !begins_name(tokens) {
@@ -252,7 +252,7 @@ fn first_port<'t, 's>(
     after: &'t [Token<'s>],
 ) -> Result<Read<'t, 's, Port>, Stop<'t, 's>>
     requires { seen tokens.now ≡ a_word (direction_word direction) ∷ seen after.now }
-    ensures { Reads first_port room tokens.now port_tree result }
+    ensures { ReadsTree first_port room tokens.now port_tree result }
 {
     let said = port_form(alloc, room, tokens, direction, after)?;
     let (name, after_name) = expect_name(alloc, said.rest)?;
@@ -273,7 +273,7 @@ fn other_port<'t, 's>(
     room: u32,
     tokens: &'t [Token<'s>],
 ) -> Result<Read<'t, 's, Port>, Stop<'t, 's>>
-    ensures { Reads (part a_port) room tokens.now port_tree result }
+    ensures { ReadsTree (part a_port) room tokens.now port_tree result }
 {
     let said = told_form(alloc, room, tokens)?;
     let (name, after_name) = expect_name(alloc, said.rest)?;
@@ -293,7 +293,7 @@ fn port_name<'t, 's>(
     alloc: Global,
     tokens: &'t [Token<'s>],
 ) -> Result<Read<'t, 's, Port>, Stop<'t, 's>>
-    ensures { (room : ℕ) → Reads (part a_port_name) room tokens.now port_tree result }
+    ensures { (room : ℕ) → ReadsTree (part a_port_name) room tokens.now port_tree result }
 {
     let (name, rest) = expect_name(alloc, tokens)?;
     Ok(Read {
@@ -312,7 +312,7 @@ fn told_form<'t, 's>(
     room: u32,
     tokens: &'t [Token<'s>],
 ) -> Result<Read<'t, 's, Option<PortForm>>, Stop<'t, 's>>
-    ensures { Reads (g.port_form or nothing) room tokens.now port_form_tree result }
+    ensures { ReadsTree (g.port_form or nothing) room tokens.now port_form_tree result }
 {
     let Some((direction, after)) = direction_at(tokens) else {
         return Ok(Read {
@@ -337,7 +337,7 @@ fn port_form<'t, 's>(
     after: &'t [Token<'s>],
 ) -> Result<Read<'t, 's, PortForm>, Stop<'t, 's>>
     requires { seen tokens.now ≡ a_word (direction_word direction) ∷ seen after.now }
-    ensures { Reads g.port_form room tokens.now (λ f. port_form_tree (Some f)) result }
+    ensures { ReadsTree g.port_form room tokens.now (λ f. port_form_tree (Some f)) result }
 {
     let (kind, behind) = told_kind(after);
     let form = declared_form(alloc, room, behind)?;
@@ -368,7 +368,7 @@ pub fn declared_ports<'t, 's>(
     tokens: &'t [Token<'s>],
     direction: Direction,
 ) -> Result<Read<'t, 's, (PortForm, Vec<Vec<u8>>)>, Stop<'t, 's>>
-    ensures reads { Reads behind_direction room tokens.now
+    ensures reads { ReadsTree behind_direction room tokens.now
         (λ x. both (kind_tree x.0.kind) (both (form_tree x.0.form) (listed_tree (map bare_name_tree x.1.items)))) result }
     ensures direction { IfOk result (λ x. x.tree.0.direction ≡ direction) }
 {

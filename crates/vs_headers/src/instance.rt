@@ -6,7 +6,7 @@ ghost use Rattle.vs_syntax.specs.Grammar.{◌·◌, ◌or◌, nothing, part, mar
 ghost use Rattle.vs_syntax.specs.Grammar as g;
 ghost use Rattle.vs_syntax.specs.Derivation.{leaf, both};
 ghost use Rattle.vs_syntax.specs.Views.{listed_tree, end_tree, connection_tree, connections_tree, overrides_tree, instance_tree};
-ghost use Rattle.vs_expressions.specs.Answers.{Reads};
+ghost use Rattle.vs_expressions.specs.Answers.{ReadsTree};
 ghost use Rattle.vs_forms.specs.Lists.{behind_commas};
 
 use std::alloc::Global;
@@ -79,7 +79,7 @@ pub fn instances<'t, 's>(
     room: u32,
     tokens: &'t [Token<'s>],
 ) -> Result<Read<'t, 's, (Option<Connections>, Vec<Instance>)>, Stop<'t, 's>>
-    ensures { Reads g.instances room tokens.now
+    ensures { ReadsTree g.instances room tokens.now
         (λ x. both (overrides_tree x.0) (listed_tree (map instance_tree x.1.items))) result }
 {
     let values = overrides(alloc, room, tokens)?;
@@ -96,7 +96,7 @@ fn overrides<'t, 's>(
     room: u32,
     tokens: &'t [Token<'s>],
 ) -> Result<Read<'t, 's, Option<Connections>>, Stop<'t, 's>>
-    ensures { Reads (mark m.Hash · mark m.Open · connections · mark m.Close or nothing) room tokens.now
+    ensures { ReadsTree (mark m.Hash · mark m.Open · connections · mark m.Close or nothing) room tokens.now
         overrides_tree result }
 {
     let Some(after) = mark_at(tokens, Mark::Hash) else {
@@ -118,7 +118,7 @@ fn instance<'t, 's>(
     room: u32,
     tokens: &'t [Token<'s>],
 ) -> Result<Read<'t, 's, Instance>, Stop<'t, 's>>
-    ensures { Reads (part an_instance) room tokens.now instance_tree result }
+    ensures { ReadsTree (part an_instance) room tokens.now instance_tree result }
 {
     let (name, after_name) = expect_name(alloc, tokens)?;
     let ports = enclosed(alloc, room, after_name)?;
@@ -137,7 +137,7 @@ fn enclosed<'t, 's>(
     room: u32,
     tokens: &'t [Token<'s>],
 ) -> Result<Read<'t, 's, Connections>, Stop<'t, 's>>
-    ensures { Reads (mark m.Open · connections · mark m.Close) room tokens.now
+    ensures { ReadsTree (mark m.Open · connections · mark m.Close) room tokens.now
         (λ x. both (leaf (a_mark m.Open)) (both (connections_tree x) (leaf (a_mark m.Close)))) result }
 {
     let after = expect_mark(tokens, Mark::Open)?;
@@ -155,7 +155,7 @@ fn connected<'t, 's>(
     room: u32,
     tokens: &'t [Token<'s>],
 ) -> Result<Read<'t, 's, Connections>, Stop<'t, 's>>
-    ensures { Reads connections room tokens.now connections_tree result }
+    ensures { ReadsTree connections room tokens.now connections_tree result }
 {
     match mark_at(tokens, Mark::Dot) {
         Some(_) => by_name(alloc, room, tokens),
@@ -169,7 +169,7 @@ fn by_name<'t, 's>(
     room: u32,
     tokens: &'t [Token<'s>],
 ) -> Result<Read<'t, 's, Connections>, Stop<'t, 's>>
-    ensures { Reads (part a_connection · behind_commas (part a_connection)) room tokens.now
+    ensures { ReadsTree (part a_connection · behind_commas (part a_connection)) room tokens.now
         connections_tree result }
 {
     let first = connection(alloc, room, tokens)?;
@@ -186,7 +186,7 @@ fn in_order<'t, 's>(
     room: u32,
     tokens: &'t [Token<'s>],
 ) -> Result<Read<'t, 's, Connections>, Stop<'t, 's>>
-    ensures { Reads (an_end · behind_commas an_end) room tokens.now connections_tree result }
+    ensures { ReadsTree (an_end · behind_commas an_end) room tokens.now connections_tree result }
 {
     let first = end(alloc, room, tokens)?;
     let behind = others::<Ordered>(alloc, room, first.rest, Vec::new(alloc))?;
@@ -202,7 +202,7 @@ fn connection<'t, 's>(
     room: u32,
     tokens: &'t [Token<'s>],
 ) -> Result<Read<'t, 's, Connection>, Stop<'t, 's>>
-    ensures { Reads (part a_connection) room tokens.now connection_tree result }
+    ensures { ReadsTree (part a_connection) room tokens.now connection_tree result }
 {
     let after_dot = expect_mark(tokens, Mark::Dot)?;
     let (name, after_name) = expect_name(alloc, after_dot)?;
@@ -224,7 +224,7 @@ fn end<'t, 's>(
     room: u32,
     tokens: &'t [Token<'s>],
 ) -> Result<Read<'t, 's, Option<Expr>>, Stop<'t, 's>>
-    ensures { Reads an_end room tokens.now end_tree result }
+    ensures { ReadsTree an_end room tokens.now end_tree result }
 {
     if begins_expr(tokens) {
         let value = expr(alloc, room, tokens)?;

@@ -3,7 +3,7 @@ ghost use Rattle.std.specs.Prelude.{map};
 ghost use Rattle.vs_syntax.specs.Grammar.{◌·◌, part, a_constant};
 ghost use Rattle.vs_syntax.specs.Grammar as g;
 ghost use Rattle.vs_syntax.specs.Views.{constant_tree, constants_tree, parameter_form_tree};
-ghost use Rattle.vs_expressions.specs.Answers.{Reads};
+ghost use Rattle.vs_expressions.specs.Answers.{ReadsTree};
 
 use std::alloc::Global;
 use vs_expressions::{Read, Stop, expect_mark, expect_name, expr, word_at};
@@ -36,7 +36,7 @@ pub fn parameters<'t, 's>(
     room: u32,
     tokens: &'t [Token<'s>],
 ) -> Result<Read<'t, 's, (ParameterForm, Vec<Constant>)>, Stop<'t, 's>>
-    ensures { Reads (g.parameter_form · g.listed a_constant) room tokens.now
+    ensures { ReadsTree (g.parameter_form · g.listed a_constant) room tokens.now
         (λ x. constants_tree x.0 x.1.items) result }
 {
     let said = parameter_form(alloc, room, tokens)?;
@@ -53,7 +53,7 @@ pub(crate) fn parameter_form<'t, 's>(
     room: u32,
     tokens: &'t [Token<'s>],
 ) -> Result<Read<'t, 's, ParameterForm>, Stop<'t, 's>>
-    ensures { Reads g.parameter_form room tokens.now parameter_form_tree result }
+    ensures { ReadsTree g.parameter_form room tokens.now parameter_form_tree result }
 {
     let Some(behind) = word_at(tokens, Word::Integer) else {
         let form = declared_form(alloc, room, tokens)?;
@@ -74,7 +74,7 @@ pub(crate) fn constant<'t, 's>(
     room: u32,
     tokens: &'t [Token<'s>],
 ) -> Result<Read<'t, 's, Constant>, Stop<'t, 's>>
-    ensures { Reads (part a_constant) room tokens.now constant_tree result }
+    ensures { ReadsTree (part a_constant) room tokens.now constant_tree result }
 {
     let (name, after_name) = expect_name(alloc, tokens)?;
     let after_sign = expect_mark(after_name, Mark::Assign)?;

@@ -22,7 +22,7 @@ use Rattle.vs_design.specs.Stores.{put}
 use Rattle.vs_eval.specs.Targets.{assigned}
 use Rattle.vs_process.specs.Executions.{after, ends, next_time, places_at}
 use Rattle.vs_independence.specs.Carry.{ACarryIsDisciplined, carried, carrying, first_assign, low_bit, second_assign}
-use Rattle.vs_independence.specs.Discipline.{Begins, IsOrdered, KeepsApart}
+use Rattle.vs_independence.specs.Discipline.{BeginsSlot, IsOrdered, KeepsApart}
 use Rattle.vs_independence.specs.Feeds.{feeds, writes_into}
 use Rattle.vs_independence.specs.Threads.{IsThread, Thread, any_names, iterate, opening, place_reads, turn, turn_at, writes}
 use Rattle.vs_independence.proofs.Race.{reads_operand, size_operand}
@@ -136,12 +136,12 @@ stays_open : (b : State) (i n : ℕ) → get_or b.places i ended ≡ ended → i
 stays_open b i zero h = refl
 stays_open b i (suc n) h = ap (turn b.time i) (stays_open b i n h) ∙ ap (λ p. turn_at b.time i p (opening b i)) h
 
-no_thread : (g : Global) (grain : Grain) (b : State) → Begins grain (carrying g) b → (i : ℕ) (th : Thread) → IsThread b i th → opening b i ≡ th × (get_or b.places i ended ≡ ended)
+no_thread : (g : Global) (grain : Grain) (b : State) → BeginsSlot grain (carrying g) b → (i : ℕ) (th : Thread) → IsThread b i th → opening b i ≡ th × (get_or b.places i ended ≡ ended)
 no_thread g grain b begins i th is =
     let none : get_or b.places i ended ≡ ended = ap (λ l. get_or l i ended) (ap (λ (s : State). s.places) (sym begins.is) ∙ nowhere g begins.moves) in
     (sym (stays_open b i is.count none) ∙ is.is, none)
 
-apart : (g : Global) (grain : Grain) (b : State) → Begins grain (carrying g) b → KeepsApart (carrying g) b
+apart : (g : Global) (grain : Grain) (b : State) → BeginsSlot grain (carrying g) b → KeepsApart (carrying g) b
 apart g grain b begins = record {
   only = λ i k v th other is that wrote by. absurd (silent i v th is wrote);
   only_later = λ i k v th other is that made by. absurd (quiet i v th is made);

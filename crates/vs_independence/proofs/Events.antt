@@ -34,7 +34,8 @@ use Rattle.vs_process.proofs.Lists.{all_slice}
 use Rattle.vs_independence.specs.Discipline.{HasNoEvents}
 use Rattle.vs_independence.specs.Threads.{store_behind}
 use Rattle.vs_independence.proofs.Assigns.{assigns_behind}
-use Rattle.vs_independence.proofs.Todos.{flat_each, branch_each, taken_each}
+use Rattle.vs_process.proofs.WellFormed.{branch_each}
+use Rattle.vs_independence.proofs.Todos.{flat_each, taken_each}
 
 -- ---- terms
 

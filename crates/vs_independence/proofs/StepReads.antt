@@ -1,10 +1,10 @@
 -- A step depends on what it reads.
-use Rattle.std.proofs.Common.{◌≡◌, ℕ, ◌<◌, ◌==◌, ◌||◌, ◌++◌, true, false, cond, Option, Some, None, List, [], ◌∷◌, map, sum, refl, sym, ◌∙◌, ap, ap₂, arith, eqb-true}
+use Rattle.std.proofs.Common.{◌≡◌, ℕ, ◌||◌, ◌++◌, true, false, cond, Option, Some, None, List, [], ◌∷◌, map, refl, sym, ◌∙◌, ap, ap₂}
 use Rattle.std.specs.Prelude.{find}
 use Rattle.std.specs.declared.vec.Vec.{Vec}
 use Rattle.std.specs.declared.alloc.Global.{Global}
-use Rattle.std.specs.List.{list_any, list_all}
-use Rattle.std.proofs.lemmas.Bool.{and_parts, or_parts}
+use Rattle.std.specs.List.{list_any}
+use Rattle.std.proofs.lemmas.Bool.{or_parts}
 use Rattle.std.proofs.lemmas.List.Folds.{list_any-append}
 use Rattle.vs_logic4.specs.declared.digit.Digit.{Digit}
 use Rattle.vs_logic4.specs.declared.case.CaseKind.{CaseKind}
@@ -12,7 +12,6 @@ use Rattle.vs_logic4.specs.Cases.{matches}
 use Rattle.vs_logic4.specs.Comparisons.{truth}
 use Rattle.vs_design.specs.declared.expression.Typed.{Typed}
 use Rattle.vs_design.specs.declared.signal.Signal.{Signal}
-use Rattle.vs_design.specs.declared.statement.Aim.{Aim}
 use Rattle.vs_design.specs.declared.statement.Statement.{Statement}
 use Rattle.vs_design.specs.declared.statement.Statement.TheOpen.{Statement-F}
 use Rattle.vs_design.specs.declared.statement.Statement.TheViews.{out-Statement}
@@ -20,15 +19,16 @@ use Rattle.vs_design.specs.declared.statement.Target.{Target}
 use Rattle.vs_design.specs.Stores.{Store, is_changed}
 use Rattle.vs_design.specs.Statements.{all_reads, assignment_reads}
 use Rattle.vs_design.specs.Uses.{joined, reads, target_reads}
-use Rattle.vs_design.specs.WellFormed.{aim_width, is_sound_assignment, is_sound_statement, is_sound_target, is_source, is_variable_aim}
 use Rattle.vs_design.specs.Writes.{Write}
-use Rattle.vs_eval.specs.Targets.{assigned, parts_from}
+use Rattle.vs_eval.specs.Targets.{assigned}
 use Rattle.vs_eval.specs.Values.{target_value, value_of}
 use Rattle.vs_eval.proofs.WritesHold.{parts_same}
 use Rattle.vs_flatcode.specs.Places.{perform, turns, Todo, flat}
 use Rattle.vs_flatcode.specs.Steps.{Out, assignment, step, statement_step, goes, on, branch, item_matches, is_default, first_of, flat_item, taken, turns_for, repeated}
 use Rattle.vs_process.proofs.Values.{target_value_unchanged, value_unchanged}
-use Rattle.vs_process.proofs.WellFormed.{is_sound_todo, opened, sound_out}
+use Rattle.vs_process.proofs.WellFormed.{is_sound_todo}
+use Rattle.vs_writes.specs.Laws.{HasPart}
+use Rattle.vs_writes.proofs.Filled.{step_filled}
 use Rattle.vs_independence.specs.Threads.{item_reads, own_reads, todo_reads}
 use Rattle.vs_independence.proofs.Stores.{names_some}
 
@@ -93,39 +93,9 @@ step_reads a b (turns n s ∷ rest) time h = refl
 pub record IsPlain (out : Out) : Type 0 where
   pub update : (w : ℕ × Write) → out.update ≡ Some w → names_some w.1 ≡ true
 
--- the write of a sound assignment has a part
-some_parts : (place : ℕ) (aims : List Aim) (digits : List Digit) (store : Store) (time : ℕ) → (aims ≡ [] → ⊥) → names_some (parts_from place aims digits store time) ≡ true
-some_parts place [] digits store time h = absurd (h refl)
-some_parts place (x ∷ aims) digits store time h = refl
-
-assigned_some : (ss : List Signal) (t : Target) (e : Typed) (digits : List Digit) (store : Store) (time : ℕ) → is_sound_assignment ss t e ≡ true → names_some (assigned t digits store time) ≡ true
-assigned_some ss t e digits store time h =
-    let target = (and_parts (is_sound_target (is_variable_aim ss) t) (is_source ss t e) h).0 in
-    let size : sum (map aim_width t.parts.items) ≡ t.width =
-    eqb-true (sum (map aim_width t.parts.items)) t.width (and_parts (list_all (is_variable_aim ss) t.parts.items) (sum (map aim_width t.parts.items) == t.width) target).1 in
-    some_parts 0 t.parts.items digits store time (λ none.
-    let width : 0 ≡ t.width = ap (λ aims. sum (map aim_width aims)) (sym none) ∙ size in
-    let up : 0 < t.width = t.sized.0 in
-    omega (arith, width, up))
-
-statement_plain : (ss : List Signal) (s : Statement) (f : Statement-F Statement) (rest : Todo) (store : Store) (time : ℕ) → sound_out ss f ≡ true → IsPlain (statement_step s f rest store time)
-statement_plain ss s (Statement-F.Null n) rest store time h = record { update = λ w h. cc }
-statement_plain ss s (Statement-F.Assign n t e) rest store time h = record { update = λ w h. cc }
-statement_plain ss s (Statement-F.Call n c) rest store time h = record { update = λ w h. cc }
-statement_plain ss s (Statement-F.Finish n) rest store time h = record { update = λ w h. cc }
-statement_plain ss s (Statement-F.Later n ticks t e) rest store time h = record {
-  update = λ w is. let p : (ticks.count, assignment t e store time) ≡ w = cc in ap (λ (x : ℕ × Write). names_some x.1) (sym p) ∙ assigned_some ss t e (target_value t e store time) store time h;
-}
-statement_plain ss s (Statement-F.Block all) rest store time h = record { update = λ w h. cc }
-statement_plain ss s (Statement-F.Delay n ticks body) rest store time h = record { update = λ w h. cc }
-statement_plain ss s (Statement-F.Event n terms body) rest store time h = record { update = λ w h. cc }
-statement_plain ss s (Statement-F.If n e a b) rest store time h = record { update = λ w h. cc }
-statement_plain ss s (Statement-F.Case n kind x items) rest store time h = record { update = λ w h. cc }
-statement_plain ss s (Statement-F.While n e body) rest store time h = record { update = λ w h. cc }
-statement_plain ss s (Statement-F.Repeat n signed e body) rest store time h = record { update = λ w h. cc }
-statement_plain ss s (Statement-F.Forever n body) rest store time h = record { update = λ w h. cc }
+names_from : (w : Write) → HasPart w → names_some w ≡ true
+names_from [] h = absurd (h refl)
+names_from (p ∷ ps) h = refl
 
 pub step_plain : (ss : List Signal) (todo : Todo) (store : Store) (time : ℕ) → is_sound_todo ss todo ≡ true → IsPlain (step todo store time)
-step_plain ss [] store time h = record { update = λ w h. cc }
-step_plain ss (perform s ∷ rest) store time h = statement_plain ss s (out-Statement s) rest store time (opened ss s (and_parts (is_sound_statement ss s) (is_sound_todo ss rest) h).0)
-step_plain ss (turns n s ∷ rest) store time h = record { update = λ w h. cc }
+step_plain ss todo store time h = record { update = λ w is. names_from w.1 ((step_filled ss todo store time h).update w is) }

@@ -18,7 +18,7 @@ use Rattle.vs_process.proofs.Assigns.{sound_start}
 use Rattle.vs_process.proofs.WellFormed.{variable_undriven}
 use Rattle.vs_process.proofs.Idle.{IsSound, after_sound}
 use Rattle.vs_independence.specs.Threads.{opening}
-use Rattle.vs_independence.specs.Discipline.{Independent, HasNoEvents, here, IsAtStart, Begins, KeepsApart, Disciplined}
+use Rattle.vs_independence.specs.Discipline.{Independent, HasNoEvents, here, IsAtStart, BeginsSlot, KeepsApart, Disciplined}
 use Rattle.vs_independence.proofs.Threads.{thread_opens}
 use Rattle.vs_independence.proofs.Running.{WithinSlot, Apart, is_waiting, by_start}
 use Rattle.vs_independence.proofs.Moves.{Runs}
@@ -77,7 +77,7 @@ cut_starts (EndSlot ∷ moves) = tt
 pub record Fits (grain : Grain) (d : Parts) : Type 0 where
   pub formed : WellFormed d
   pub drives : DrivesWell d
-  pub apart : (b : State) → Begins grain d b → KeepsApart d b
+  pub apart : (b : State) → BeginsSlot grain d b → KeepsApart d b
   pub no_events : HasNoEvents d
 
 -- the state at the beginning of all runs

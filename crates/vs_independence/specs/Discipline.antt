@@ -41,7 +41,7 @@ IsAtStart (EndSlot ∷ moves) = Unit {0}
 IsAtStart (_ ∷ moves) = ⊥
 
 -- an execution begins a slot with this state
-pub record Begins (grain : Grain) (d : Parts) (b : State) : Type 0 where
+pub record BeginsSlot (grain : Grain) (d : Parts) (b : State) : Type 0 where
   pub moves : List Move
   pub legal : Legal grain d moves
   pub at_start : IsAtStart moves
@@ -74,7 +74,7 @@ pub record KeepsApart (d : Parts) (b : State) : Type 0 where
 -- a disciplined design: its continuous assignments have an order, and in each slot that an execution begins its processes keep apart
 pub record Disciplined (grain : Grain) (d : Parts) : Type 0 where
   pub ordered : IsOrdered d
-  pub apart : (b : State) → Begins grain d b → KeepsApart d b
+  pub apart : (b : State) → BeginsSlot grain d b → KeepsApart d b
 
 -- the traces of a disciplined design without event controls do not depend on the order in which its permitted steps are taken
 abbrev pub DisciplineMakesIndependent : Type 0

@@ -15,7 +15,7 @@ use Rattle.vs_syntax.proofs.Fronts.{clash, or_false}
 use Rattle.vs_syntax.proofs.Gets.{gets_token, gets_seq, gets_left, gets_right, gets_part, gets_present}
 use Rattle.vs_expressions.specs.declared.reading.Read.{Read}
 use Rattle.vs_expressions.specs.declared.reading.Stop.{Stop}
-use Rattle.vs_expressions.specs.Answers.{seen, Reads}
+use Rattle.vs_expressions.specs.Answers.{seen, ReadsTree}
 use Rattle.vs_expressions.proofs.Exits.{fails_by}
 use Rattle.vs_forms.specs.Parts.{ReadsWithin, headed}
 use Rattle.vs_items.specs.declared.head.GenerateWord.{GenerateWord}
@@ -63,7 +63,7 @@ block_stuck room deep ts after at e s =
     let none : 0 ≤ room = omega arith in
     rw e (stuck_part (stuck_right refl none (stuck_left refl none (stuck_second (gets_token refl) s))))
 
-pub block_answers : (room : ℕ) (ts us : List Token) (r : Result (Read ModuleItem) Stop) → seen ts ≡ a_word w.Begin ∷ seen us → ReadsWithin module_item_tree begun block_rest room us r → Reads (part a_generate_block) room ts module_item_tree r
+pub block_answers : (room : ℕ) (ts us : List Token) (r : Result (Read ModuleItem) Stop) → seen ts ≡ a_word w.Begin ∷ seen us → ReadsWithin module_item_tree begun block_rest room us r → ReadsTree (part a_generate_block) room ts module_item_tree r
 block_answers room ts us (Ok x) e p = rw p.whole (block_read room (seen ts) (seen us) (seen x.rest.now) p.inner e p.gets)
 block_answers room ts us (Err f) e p =
     fails_by block_rest (part a_generate_block) room room (seen us) (seen ts) (λ deep at s. block_stuck room deep (seen ts) (seen us) at e s) f p
@@ -88,7 +88,7 @@ item_stuck room deep ts at h i (stuck_part (stuck_node n s)) =
     let none : 0 ≤ room = omega arith in
     stuck_part (stuck_right h none (stuck_right i (omega (arith, n)) (stuck_part (stuck_node n s))))
 
-pub item_answers : (room : ℕ) (ts : List Token) (r : Result (Read ModuleItem) Stop) → goes (mark m.Semicolon) (seen ts) ≡ false → goes (word w.Begin) (seen ts) ≡ false → Reads (part an_item) room ts module_item_tree r → Reads (part a_generate_block) room ts module_item_tree r
+pub item_answers : (room : ℕ) (ts : List Token) (r : Result (Read ModuleItem) Stop) → goes (mark m.Semicolon) (seen ts) ≡ false → goes (word w.Begin) (seen ts) ≡ false → ReadsTree (part an_item) room ts module_item_tree r → ReadsTree (part a_generate_block) room ts module_item_tree r
 item_answers room ts (Ok x) h i p = gets_part (gets_right h (gets_right i p))
 item_answers room ts (Err f) h i p =
     fails_by (part an_item) (part a_generate_block) room room (seen ts) (seen ts) (λ deep at s. item_stuck room deep (seen ts) at h i s) f p

@@ -25,7 +25,7 @@ use Rattle.vs_items.specs.declared.head.DeclarationWord.{DeclarationWord}
 use Rattle.vs_items.specs.declared.head.DeclarationWord.TheVariants as d
 use Rattle.vs_expressions.specs.declared.reading.Read.{Read}
 use Rattle.vs_expressions.specs.declared.reading.Stop.{Stop}
-use Rattle.vs_expressions.specs.Answers.{seen, Reads}
+use Rattle.vs_expressions.specs.Answers.{seen, ReadsTree}
 use Rattle.vs_forms.specs.Parts.{Within, ReadsWithin, headed}
 use Rattle.vs_items.specs.Heads.{word_of, generate_word, plain_symbol, symbol_of, declaration_of, construct_of, plain_body, body_of}
 use Rattle.vs_expressions.proofs.Exits.{deep_at, fails_by, goes_at}
@@ -113,7 +113,7 @@ item_stuck room deep ts after at (i.Plain p.Always) h n e s = word_stuck (plain_
 item_stuck room deep ts after at (i.Generate k) h n e s = word_stuck (construct_of k) room deep (generate_word k) ts after at h n e (construct_branch k) s
 
 -- an item, by what was read behind its first symbol
-pub item_answers : (room : ℕ) (ts us : List Token) (k : ItemHead) (r : Result (Read ModuleItem) Stop) → seen ts ≡ symbol_of k ∷ seen us → need (class_of (symbol_of k)) (fronts_of an_item) ≤ room → ReadsWithin module_item_tree (headed (symbol_of k)) (body_of k) (room - 1) us r → Reads (part an_item) room ts module_item_tree r
+pub item_answers : (room : ℕ) (ts us : List Token) (k : ItemHead) (r : Result (Read ModuleItem) Stop) → seen ts ≡ symbol_of k ∷ seen us → need (class_of (symbol_of k)) (fronts_of an_item) ≤ room → ReadsWithin module_item_tree (headed (symbol_of k)) (body_of k) (room - 1) us r → ReadsTree (part an_item) room ts module_item_tree r
 item_answers room ts us k (Ok x) e h q =
     let n : low (body_of k) < room = body_low room k h in
     rw q.whole (item_read room (seen ts) (seen us) (seen x.rest.now) k q.inner (omega (arith, n)) e q.gets)

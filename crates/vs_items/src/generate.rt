@@ -8,7 +8,7 @@ ghost use Rattle.vs_syntax.specs.Grammar.{Grammar, ◌·◌, many, part, mark, w
 ghost use Rattle.vs_syntax.specs.Tables.{goes};
 ghost use Rattle.vs_syntax.specs.Derivation.{both};
 ghost use Rattle.vs_syntax.specs.Views.{row_of, constant_tree, loop_tree, block_name_tree, module_item_tree};
-ghost use Rattle.vs_expressions.specs.Answers.{seen, Reads};
+ghost use Rattle.vs_expressions.specs.Answers.{seen, ReadsTree};
 ghost use Rattle.vs_forms.specs.Parts.{ReadsWithin, Leads, headed, marked};
 ghost use Rattle.vs_items.specs.Heads.{BeginsItem, generate_word, construct_of};
 ghost use Rattle.vs_items.specs.Generated.{boxed_item_tree, other_item_tree, begun, block_rest};
@@ -31,7 +31,7 @@ fn item<'t, 's>(
     after: &'t [Token<'s>],
 ) -> Result<Read<'t, 's, ModuleItem>, Stop<'t, 's>>
     requires { BeginsItem (seen tokens.now) head (seen after.now) }
-    ensures { Reads (part an_item) room tokens.now module_item_tree result }
+    ensures { ReadsTree (part an_item) room tokens.now module_item_tree result }
 {
     if room < least_item(head) {
         return Err(Stop::TooDeep(tokens));
@@ -67,7 +67,7 @@ pub fn items<'t, 's>(
     room: u32,
     tokens: &'t [Token<'s>],
 ) -> Result<Read<'t, 's, Vec<ModuleItem>>, Stop<'t, 's>>
-    ensures { Reads (many (part an_item)) room tokens.now (λ xs. row_of (map module_item_tree xs.items)) result }
+    ensures { ReadsTree (many (part an_item)) room tokens.now (λ xs. row_of (map module_item_tree xs.items)) result }
 {
     let mut tree = Vec::new(alloc);
     // All of them, but from a call: so the borrow checker can join it with what the loop sets.
@@ -144,7 +144,7 @@ fn alternative<'t, 's>(
     room: u32,
     tokens: &'t [Token<'s>],
 ) -> Result<Read<'t, 's, Option<Box<ModuleItem>>>, Stop<'t, 's>>
-    ensures { Reads (optional (the_word w.Else) (part a_generate_block)) room tokens.now other_item_tree result }
+    ensures { ReadsTree (optional (the_word w.Else) (part a_generate_block)) room tokens.now other_item_tree result }
 {
     let Some(after) = word_at(tokens, Word::Else) else {
         return Ok(Read {
@@ -167,7 +167,7 @@ fn boxed<'t, 's>(
     room: u32,
     tokens: &'t [Token<'s>],
 ) -> Result<Read<'t, 's, Box<ModuleItem>>, Stop<'t, 's>>
-    ensures { Reads (part a_generate_block) room tokens.now boxed_item_tree result }
+    ensures { ReadsTree (part a_generate_block) room tokens.now boxed_item_tree result }
 {
     let inner = generated(alloc, room, tokens)?;
     let rest = inner.rest;
@@ -182,7 +182,7 @@ fn generated<'t, 's>(
     room: u32,
     tokens: &'t [Token<'s>],
 ) -> Result<Read<'t, 's, ModuleItem>, Stop<'t, 's>>
-    ensures { Reads (part a_generate_block) room tokens.now module_item_tree result }
+    ensures { ReadsTree (part a_generate_block) room tokens.now module_item_tree result }
 {
     let Some(rest) = mark_at(tokens, Mark::Semicolon) else {
         return block_or_item(alloc, room, tokens);
@@ -201,7 +201,7 @@ fn block_or_item<'t, 's>(
     tokens: &'t [Token<'s>],
 ) -> Result<Read<'t, 's, ModuleItem>, Stop<'t, 's>>
     requires { goes (mark m.Semicolon) (seen tokens.now) ≡ false }
-    ensures { Reads (part a_generate_block) room tokens.now module_item_tree result }
+    ensures { ReadsTree (part a_generate_block) room tokens.now module_item_tree result }
 {
     let Some(after) = word_at(tokens, Word::Begin) else {
         return one_item(alloc, room, tokens);
@@ -216,7 +216,7 @@ fn one_item<'t, 's>(
     room: u32,
     tokens: &'t [Token<'s>],
 ) -> Result<Read<'t, 's, ModuleItem>, Stop<'t, 's>>
-    ensures { Reads (part an_item) room tokens.now module_item_tree result }
+    ensures { ReadsTree (part an_item) room tokens.now module_item_tree result }
 {
     let Some((head, after)) = item_head(tokens) else {
         return Err(Stop::Unexpected(tokens));
@@ -248,7 +248,7 @@ fn block_name<'t, 's>(
     alloc: Global,
     tokens: &'t [Token<'s>],
 ) -> Result<Read<'t, 's, Option<Vec<u8>>>, Stop<'t, 's>>
-    ensures { (room : ℕ) → Reads block_name room tokens.now block_name_tree result }
+    ensures { (room : ℕ) → ReadsTree block_name room tokens.now block_name_tree result }
 {
     let Some(after) = mark_at(tokens, Mark::Colon) else {
         return Ok(Read {
@@ -269,7 +269,7 @@ fn named_value<'t, 's>(
     room: u32,
     tokens: &'t [Token<'s>],
 ) -> Result<Read<'t, 's, Constant>, Stop<'t, 's>>
-    ensures { Reads named_value room tokens.now constant_tree result }
+    ensures { ReadsTree named_value room tokens.now constant_tree result }
 {
     let (name, after_name) = expect_name(alloc, tokens)?;
     let after_sign = expect_mark(after_name, Mark::Assign)?;

@@ -3,7 +3,7 @@ ghost use Rattle.std.specs.Prelude.{◌≡◌, ◌≤◌, IfOk};
 ghost use Rattle.vs_syntax.specs.Symbols.{a_word};
 ghost use Rattle.vs_syntax.specs.Tables.{low};
 ghost use Rattle.vs_syntax.specs.Views.{item_symbol, body_tree, module_item_tree};
-ghost use Rattle.vs_expressions.specs.Answers.{Reads};
+ghost use Rattle.vs_expressions.specs.Answers.{ReadsTree};
 ghost use Rattle.vs_forms.specs.Parts.{ReadsWithin, headed};
 ghost use Rattle.vs_items.specs.Heads.{word_of, plain_symbol, declaration_of, plain_body};
 
@@ -42,7 +42,7 @@ fn body<'t, 's>(
     head: PlainHead<'s>,
 ) -> Result<Read<'t, 's, Item>, Stop<'t, 's>>
     requires { low (plain_body head) ≤ room }
-    ensures reads { Reads (plain_body head.entry) room tokens.now body_tree result }
+    ensures reads { ReadsTree (plain_body head.entry) room tokens.now body_tree result }
     ensures symbol { IfOk result (λ x. item_symbol x.tree ≡ plain_symbol head.entry) }
 {
     let (tree, rest) = match head {
@@ -81,7 +81,7 @@ fn declared_item<'t, 's>(
     tokens: &'t [Token<'s>],
     word: DeclarationWord,
 ) -> Result<Read<'t, 's, Item>, Stop<'t, 's>>
-    ensures reads { Reads (declaration_of word) room tokens.now body_tree result }
+    ensures reads { ReadsTree (declaration_of word) room tokens.now body_tree result }
     ensures symbol { IfOk result (λ x. item_symbol x.tree ≡ a_word (word_of word)) }
 {
     let (tree, rest) = match word {

@@ -1,5 +1,2 @@
-pub mod AssignsLemmas
-pub mod MarkingLemmas
-pub mod PrintsLemmas
 pub mod RunsLemmas
-pub mod TurnsLemmas
+pub mod StandsLemmas

@@ -1,27 +1,23 @@
 -- A run that goes on, and where it ends.
-use Rattle.std.proofs.Common.{◌≡◌, ℕ, ◌+◌, ◌<◌, ◌≤◌, ◌&&◌, not, cond, Bool, true, false, Option, Some, None, List, [], ◌∷◌, ◌++◌, Result, Ok, Err, take, slice_get, zero, zero-add, map, length, refl, sym, ◌∙◌, ap, subst, arith, leb, append_assoc, suc, inl, inr}
-use Rattle.std.specs.Prelude.{filter, unwrap_or, OnErr, ◌||◌, nat_lt, if◌then◌else◌}
+use Rattle.std.proofs.Common.{◌≡◌, ℕ, ◌+◌, ◌<◌, ◌≤◌, ◌&&◌, not, cond, Bool, true, false, Option, Some, None, List, [], ◌∷◌, ◌++◌, Result, Err, slice_get, zero, map, length, refl, sym, ◌∙◌, ap, subst, arith, leb, append_assoc, suc, inl, inr}
+use Rattle.std.specs.Prelude.{filter, unwrap_or, ◌||◌, nat_lt, if◌then◌else◌}
 use Rattle.std.specs.Io.KnownBytes.{Appends}
 use Rattle.std.proofs.lemmas.Bool.{le-leb, le-ltb, lt-ltb, ltb-false}
 use Rattle.std.proofs.lemmas.List.{append-nil}
 use Rattle.std.proofs.lemmas.List.Elements.{filter-append}
-use Rattle.vs_logic4.specs.declared.digit.Digit.{Digit}
 use Rattle.vs_design.specs.declared.design.Process.{Process}
 use Rattle.vs_design.specs.Parts.{Parts}
 use Rattle.vs_design.specs.Stores.{Store}
 use Rattle.vs_design.specs.Traces.{Slot}
-use Rattle.vs_design.specs.Writes.{Write}
 use Rattle.vs_process.specs.declared.moves.Grain.TheVariants.{Statement, Block}
 use Rattle.vs_process.specs.declared.moves.Move.{Move}
 use Rattle.vs_process.specs.declared.moves.Move.TheVariants.{Step, Evaluate, Propagate, Make, Rouse, Activate, EndSlot}
 use Rattle.vs_process.specs.Executions.{after, Legal, slots, trace, is_by, is_combinational, is_enabled, is_free, allowed, apply, ended_slot, finish_time, lines_of, move_lines, strobe_line, is_complete, next_time, time_at}
 use Rattle.vs_flatcode.specs.Places.{Place}
 use Rattle.vs_process.specs.Blocks.{BlocksExclude, InsideFollows, inside_behind, inside_block, is_inside_at, is_inside_number, is_step_of_any}
-use Rattle.vs_kernel.specs.Insides.{inside_told, is_told}
-use Rattle.vs_process.specs.States.{State, AssignState, Update, start, stepped, evaluate, propagate, propagate_value, make, written_behind}
-use Rattle.vs_flatcode.specs.Places.{todo_of}
-use Rattle.vs_flatcode.specs.Steps.{step}
-use Rattle.vs_vcd.specs.Progress.{Progress, HasWritten, is_write_fault, IsSlotAt, WritesPiece, vcd_slot}
+use Rattle.vs_turns.specs.Insides.{inside_told, is_told}
+use Rattle.vs_process.specs.States.{State, start}
+use Rattle.vs_vcd.specs.Progress.{Progress, is_write_fault, IsSlotAt, WritesPiece, vcd_slot}
 use Rattle.vs_vcd.specs.Sinks.{AppendsPart, failed_after}
 use Rattle.vs_vcd.specs.declared.fault.VcdFault.{VcdFault}
 use Rattle.vs_vcd.specs.declared.fault.VcdFault.TheVariants as fault
@@ -29,14 +25,18 @@ use Rattle.vs_vcd.specs.Text.{vcd_header, vcd_slots, vcd_end, vcd_text}
 use Rattle.vs_state.specs.Prints.{made_line, made_text}
 use Rattle.vs_kernel.specs.Ends.{end_in, outcome_in}
 use Rattle.vs_kernel.specs.Faults.{OneFailed}
-use Rattle.vs_kernel.specs.Prints.{lines_text, slot_lines}
-use Rattle.vs_kernel.proofs.PrintsLemmas.{lines_behind, move_prints}
-use Rattle.vs_kernel.specs.Runs.{RanTo, HasBegun, EndsAs, StopsAt, text_so_far, AppendsSlots, AppendsSlotsPart}
+use Rattle.vs_turns.specs.Recording.{HasNoted}
+use Rattle.vs_turns.specs.Prints.{lines_text, slot_lines}
+use Rattle.vs_turns.proofs.Appending.{append_more, append_none, part_all, part_front, part_more}
+use Rattle.vs_turns.proofs.MoveLemmas.{evaluate_over, make_over, propagate_over, stepped_over}
+use Rattle.vs_turns.proofs.PrintsLemmas.{lines_behind, move_prints}
+use Rattle.vs_turns.specs.Slots.{AppendsSlots, AppendsSlotsPart}
+use Rattle.vs_kernel.specs.Runs.{RanTo, HasBegun, EndsAs, StopsAt, text_so_far}
 use Rattle.vs_kernel.specs.declared.outcome.Outcome.{Outcome}
 use Rattle.vs_kernel.specs.declared.outcome.Outcome.TheVariants.{Reached, Quiet, Finished, StepLimit}
 
 -- a run of so many steps that isn't at its end: the execution so far, whose slots a writer has written and a sink has, and whose lines another one has
-pub record HasRun (d : Parts) (until steps taken : ℕ) (now : State) (writer : Progress) (old new lold lnew : Option (List ℕ)) : Type 0 where
+pub record HasRun (d : Parts) (until steps taken : ℕ) (now : State) (writer : Option Progress) (old new lold lnew : Option (List ℕ)) : Type 0 where
   pub moves : List Move
   pub statement : Legal Statement d moves
   pub block : Legal Block d moves
@@ -44,7 +44,7 @@ pub record HasRun (d : Parts) (until steps taken : ℕ) (now : State) (writer : 
   pub count : length moves ≡ taken
   pub within : taken ≤ steps
   pub state : after d moves ≡ now
-  pub written : HasWritten writer d (slots d moves)
+  pub written : HasNoted writer new d (slots d moves)
   pub text : Appends old new (vcd_header d ++ vcd_slots d (slots d moves))
   pub lines : Appends lold lnew (lines_text (lines_of d moves))
 
@@ -57,7 +57,7 @@ pub permitted : (d : Parts) (s : State) (m : Move) → s.over ≡ false → is_e
 permitted d s m over enabled = three s.over (is_enabled s m) true over enabled refl
 
 -- at grain block it is allowed where no combinational block has left its control, or where it is a step of the one that has
-pub permitted_block : {d : Parts} {until steps taken : ℕ} {now : State} {writer : Progress} {old new lold lnew : Option (List ℕ)} →
+pub permitted_block : {d : Parts} {until steps taken : ℕ} {now : State} {writer : Option Progress} {old new lold lnew : Option (List ℕ)} →
     (r : HasRun d until steps taken now writer old new lold lnew) → BlocksExclude → (inside : Option ℕ) (m : Move) → inside ≡ inside_block d.processes now.places →
     now.over ≡ false → is_enabled now m ≡ true → is_step_of_any inside m ≡ true → allowed Block d now m ≡ true
 permitted_block {d} {until} {steps} {taken} {now} {writer} {old} {new} {lold} {lnew} r exclude inside m here over enabled free =
@@ -93,36 +93,6 @@ pub inside_next : (d : Parts) (s t : State) (m : Move) (blocks : List Bool) (ins
 inside_next d s t m blocks inside follows told block next is =
     is ∙ ap (λ (l : List Bool). inside_told l t.places m) told ∙ told_behind d.processes t.places m
     ∙ subst (λ (r : State). inside_behind d.processes r.places m ≡ inside_block d.processes r.places) (sym next) (sym (follows d s m block))
-
-pub append_none : (old : Option (List ℕ)) → Appends old old []
-append_none None = tt
-append_none (Some xs) = sym (append-nil xs)
-
-pub append_more : (old mid new : Option (List ℕ)) (xs ys : List ℕ) → Appends old mid xs → Appends mid new ys → Appends old new (xs ++ ys)
-append_more None mid new xs ys h k = tt
-append_more (Some a) None new xs ys h k = absurd h
-append_more (Some a) (Some b) None xs ys h k = absurd k
-append_more (Some a) (Some b) (Some c) xs ys h k = k ∙ ap (λ (l : List ℕ). l ++ ys) h ∙ append_assoc a xs ys
-
--- only the end of a slot ends one
-pub not_ended : (m : Move) (s : State) → (m ≡ EndSlot → ⊥) → ended_slot m s ≡ []
-not_ended EndSlot s h = absurd (h refl)
-not_ended (Step i) s h = refl
-not_ended (Evaluate j) s h = refl
-not_ended (Propagate j) s h = refl
-not_ended (Make i) s h = refl
-not_ended Rouse s h = refl
-not_ended Activate s h = refl
-
--- and only that prints the lines of one
-pub none_ended : (m : Move) (s : State) → (m ≡ EndSlot → ⊥) → slot_lines m s ≡ []
-none_ended EndSlot s h = absurd (h refl)
-none_ended (Step i) s h = refl
-none_ended (Evaluate j) s h = refl
-none_ended (Propagate j) s h = refl
-none_ended (Make i) s h = refl
-none_ended Rouse s h = refl
-none_ended Activate s h = refl
 
 -- the slot that a state ends
 abbrev pub ended_here : State → Slot
@@ -164,7 +134,7 @@ all_kept until d (m ∷ before) h =
     kept_more (is_by until) (slots d before) (ended_slot m (after d before)) (all_kept until d before h.0) (ended_kept until m (after d before) (by_then until (after d before) h.1))
 
 -- before the first move
-pub begins : {d : Parts} {until steps : ℕ} {now : State} {writer : Progress} {old new lines : Option (List ℕ)} → now ≡ start d → HasWritten writer d [] → Appends old new (vcd_header d) →
+pub begins : {d : Parts} {until steps : ℕ} {now : State} {writer : Option Progress} {old new lines : Option (List ℕ)} → now ≡ start d → HasNoted writer new d [] → Appends old new (vcd_header d) →
     HasRun d until steps 0 now writer old new lines lines
 begins {d} {until} {steps} {now} {writer} {old} {new} {lines} here written text = record {
   moves = [];
@@ -186,10 +156,10 @@ more_text d before more more' piece same is =
     append_assoc (vcd_header d) (vcd_slots d before) piece ∙ ap (λ (l : List ℕ). vcd_header d ++ l) (sym is) ∙ ap (λ (l : List Slot). vcd_header d ++ vcd_slots d (before ++ l)) same
 
 -- behind one more move
-pub goes_on : {d : Parts} {until steps taken : ℕ} {now now' : State} {writer writer' : Progress} {old new new' lold lnew lnew' : Option (List ℕ)} →
+pub goes_on : {d : Parts} {until steps taken : ℕ} {now now' : State} {writer writer' : Option Progress} {old new new' lold lnew lnew' : Option (List ℕ)} →
     (r : HasRun d until steps taken now writer old new lold lnew) (m : Move) → allowed Statement d now m ≡ true → allowed Block d now m ≡ true → is_complete until now ≡ false → (taken ≡ steps → ⊥) → now' ≡ apply m now →
-    ((before : List Slot) → HasWritten writer d before → HasWritten writer' d (before ++ ended_slot m now)) →
-    ((before : List Slot) → HasWritten writer d before → AppendsSlots new new' d before (ended_slot m now)) →
+    ((before : List Slot) → HasNoted writer new d before → HasNoted writer' new' d (before ++ ended_slot m now)) →
+    ((before : List Slot) → HasNoted writer new d before → AppendsSlots new new' d before (ended_slot m now)) →
     Appends lnew lnew' (lines_text (move_lines m now)) →
     HasRun d until steps (taken + 1) now' writer' old new' lold lnew'
 goes_on {d} {until} {steps} {taken} {now} {now'} {writer} {writer'} {old} {new} {new'} {lold} {lnew} {lnew'} r m statement block going more next written appended printed =
@@ -204,7 +174,7 @@ goes_on {d} {until} {steps} {taken} {now} {now'} {writer} {writer'} {old} {new} 
       count = omega (arith, r.count);
       within = omega (arith, r.within, more);
       state = ap (apply m) r.state ∙ sym next;
-      written = subst (λ (l : List Slot). HasWritten writer' d (slots d r.moves ++ l)) slot (written (slots d r.moves) r.written);
+      written = subst (λ (l : List Slot). HasNoted writer' new' d (slots d r.moves ++ l)) slot (written (slots d r.moves) r.written);
       text =
           subst (Appends old new') (more_text d (slots d r.moves) (ended_slot m now) (ended_slot m s) piece.0 slot piece.1)
           (append_more old new new' (vcd_header d ++ vcd_slots d (slots d r.moves)) piece.0 r.text piece.2);
@@ -236,7 +206,7 @@ so_far : (d : Parts) (moves : List Move) (until : ℕ) (b : Bool) → is_complet
 so_far d moves until b h = ap (λ (c : Bool). if c then vcd_text d (trace d moves until) until else vcd_header d ++ vcd_slots d (slots d moves)) h
 
 -- at the step limit
-pub limited : {d : Parts} {until steps taken : ℕ} {now : State} {writer : Progress} {old new lold lnew : Option (List ℕ)} (time : ℕ) →
+pub limited : {d : Parts} {until steps taken : ℕ} {now : State} {writer : Option Progress} {old new lold lnew : Option (List ℕ)} (time : ℕ) →
     (r : HasRun d until steps taken now writer old new lold lnew) → is_complete until now ≡ false → time ≡ now.time → taken ≡ steps →
     RanTo d until steps (StepLimit time) old new lold lnew
 limited {d} {until} {steps} {taken} {now} {writer} {old} {new} {lold} {lnew} time r going here all =
@@ -256,30 +226,6 @@ complete_past until s over late = ap (λ b. b || nat_lt until s.time) over ∙ l
 
 pub complete_over : (until : ℕ) (s : State) → s.over ≡ true → is_complete until s ≡ true
 complete_over until s over = ap (λ b. b || nat_lt until s.time) over
-
-pub behind_over : (s : State) (w : Option Write) → (written_behind s w).over ≡ s.over
-behind_over s None = refl
-behind_over s (Some w) = refl
-
-pub stepped_over : (s : State) (i : ℕ) (o : Option Place) → (stepped s i o).over ≡ s.over
-stepped_over s i None = refl
-stepped_over s i (Some x) = behind_over s (step (todo_of x) s.store s.time).write
-
-pub evaluate_over : (s : State) (j : ℕ) (o : Option AssignState) → (evaluate s j o).over ≡ s.over
-evaluate_over s j None = refl
-evaluate_over s j (Some x) = refl
-
-value_over : (s : State) (j : ℕ) (x : AssignState) (o : Option (List Digit)) → (propagate_value s j x o).over ≡ s.over
-value_over s j x None = refl
-value_over s j x (Some v) = refl
-
-pub propagate_over : (s : State) (j : ℕ) (o : Option AssignState) → (propagate s j o).over ≡ s.over
-propagate_over s j None = refl
-propagate_over s j (Some x) = value_over s j x x.pending
-
-pub make_over : (s : State) (i : ℕ) (o : Option Update) → (make s i o).over ≡ s.over
-make_over s i None = refl
-make_over s i (Some u) = refl
 
 not_over : (a : Bool) {P : Type 0} → a ≡ true → a ≡ false → P
 not_over true h k = cc
@@ -306,13 +252,13 @@ over_by until d (m ∷ before) stops over =
     over_behind until m (after d before) (or_false_left (after d before).over (nat_lt until (after d before).time) stops.1) (by_then until (after d before) stops.1) over
 
 -- the moment at which the dump of a run ends
-run_end : {d : Parts} {until steps taken : ℕ} {now : State} {writer : Progress} {old new lold lnew : Option (List ℕ)} →
+run_end : {d : Parts} {until steps taken : ℕ} {now : State} {writer : Option Progress} {old new lold lnew : Option (List ℕ)} →
     (r : HasRun d until steps taken now writer old new lold lnew) → end_in until now ≡ unwrap_or (finish_time until (after d r.moves)) until
 run_end {d} {until} {steps} {taken} {now} {writer} {old} {new} {lold} {lnew} r =
     ap (end_in until) (sym r.state) ∙ end_here until (after d r.moves) (over_by until d r.moves r.stops)
 
 -- the whole text of a run is that of its trace
-run_text : {d : Parts} {until steps taken : ℕ} {now : State} {writer : Progress} {old new lold lnew : Option (List ℕ)} (end : ℕ) →
+run_text : {d : Parts} {until steps taken : ℕ} {now : State} {writer : Option Progress} {old new lold lnew : Option (List ℕ)} (end : ℕ) →
     (r : HasRun d until steps taken now writer old new lold lnew) → is_complete until now ≡ true → end ≡ end_in until now →
     (vcd_header d ++ vcd_slots d (slots d r.moves)) ++ vcd_end d (slots d r.moves) end ≡ text_so_far d r.moves until
 run_text {d} {until} {steps} {taken} {now} {writer} {old} {new} {lold} {lnew} end r complete is =
@@ -327,9 +273,9 @@ ends_as true false until steps taken s is finish complete by within = (is, finis
 ends_as false finishing until steps taken s is finish complete by within = (is, complete, within)
 
 -- a complete run
-pub ended_run : {d : Parts} {until steps taken : ℕ} {now : State} {writer : Progress} {old new new' lold lnew : Option (List ℕ)} (outcome : Outcome) (end : ℕ) →
+pub ended_run : {d : Parts} {until steps taken : ℕ} {now : State} {writer : Option Progress} {old new new' lold lnew : Option (List ℕ)} (outcome : Outcome) (end : ℕ) →
     (r : HasRun d until steps taken now writer old new lold lnew) → is_complete until now ≡ true → outcome ≡ outcome_in now → end ≡ end_in until now →
-    ((before : List Slot) → HasWritten writer d before → Appends new new' (vcd_end d before end)) → RanTo d until steps outcome old new' lold lnew
+    ((before : List Slot) → HasNoted writer new d before → Appends new new' (vcd_end d before end)) → RanTo d until steps outcome old new' lold lnew
 ended_run {d} {until} {steps} {taken} {now} {writer} {old} {new} {new'} {lold} {lnew} outcome end r complete out is ends =
     let s = after d r.moves in
     let whole : is_complete until s ≡ true = ap (is_complete until) r.state ∙ complete in
@@ -347,34 +293,6 @@ ended_run {d} {until} {steps} {taken} {now} {writer} {old} {new} {new'} {lold} {
           (append_more old new new' (vcd_header d ++ vcd_slots d (slots d r.moves)) (vcd_end d (slots d r.moves) end) r.text (ends (slots d r.moves) r.written));
       lines = r.lines;
     }
-
-take_whole : (xs ys : List ℕ) → take (length xs) (xs ++ ys) ≡ xs
-take_whole [] ys = refl
-take_whole (x ∷ xs) ys = ap (λ (l : List ℕ). x ∷ l) (take_whole xs ys)
-
-take_front : (xs ys : List ℕ) (n : ℕ) → take (length (take n xs)) (xs ++ ys) ≡ take n xs
-take_front [] ys zero = refl
-take_front [] ys (suc n) = refl
-take_front (x ∷ xs) ys zero = refl
-take_front (x ∷ xs) ys (suc n) = ap (λ (l : List ℕ). x ∷ l) (take_front xs ys n)
-
-take_past : (xs ys : List ℕ) (n : ℕ) → take (length xs + n) (xs ++ ys) ≡ xs ++ take n ys
-take_past [] ys n = ap (λ (k : ℕ). take k ys) (zero-add n)
-take_past (x ∷ xs) ys n =
-    let e : suc (length xs) + n ≡ suc (length xs + n) = omega arith in
-    ap (λ (k : ℕ). take k (x ∷ (xs ++ ys))) e ∙ ap (λ (l : List ℕ). x ∷ l) (take_past xs ys n)
-
--- a beginning of a text is one of a longer text
-pub part_front : (old new : Option (List ℕ)) (xs ys : List ℕ) → AppendsPart old new xs → AppendsPart old new (xs ++ ys)
-part_front old new xs ys h = (length (take h.0 xs), subst (Appends old new) (sym (take_front xs ys h.0)) h.1)
-
--- a text, and then a beginning of another one
-pub part_more : (old mid new : Option (List ℕ)) (xs ys : List ℕ) → Appends old mid xs → AppendsPart mid new ys → AppendsPart old new (xs ++ ys)
-part_more old mid new xs ys h k = (length xs + k.0, subst (Appends old new) (sym (take_past xs ys k.0)) (append_more old mid new xs (take k.0 ys) h k.1))
-
--- a text is a beginning of itself
-pub part_all : (old new : Option (List ℕ)) (xs : List ℕ) → Appends old new xs → AppendsPart old new xs
-part_all old new xs h = (length xs, subst (Appends old new) (sym (ap (take (length xs)) (sym (append-nil xs)) ∙ take_whole xs [])) h)
 
 -- a piece that wasn't written whole
 pub part_failed : (cause : VcdFault) (old new : Option (List ℕ)) (piece : List ℕ) → WritesPiece {A = ℕ} (Err cause) old new piece → AppendsPart old new piece
@@ -405,9 +323,9 @@ header_failed {d} {until} {steps} {old} {new} {lines} h = record {
 }
 
 -- a move wasn't made, or what it prints not written whole
-pub move_failed : {d : Parts} {until steps taken : ℕ} {now : State} {writer : Progress} {old new new' lold lnew lnew' : Option (List ℕ)} →
+pub move_failed : {d : Parts} {until steps taken : ℕ} {now : State} {writer : Option Progress} {old new new' lold lnew lnew' : Option (List ℕ)} →
     (r : HasRun d until steps taken now writer old new lold lnew) (m : Move) → allowed Statement d now m ≡ true → allowed Block d now m ≡ true → is_complete until now ≡ false → (taken ≡ steps → ⊥) →
-    ((before : List Slot) → HasWritten writer d before → AppendsSlotsPart new new' d before (ended_slot m now)) →
+    ((before : List Slot) → HasNoted writer new d before → AppendsSlotsPart new new' d before (ended_slot m now)) →
     AppendsPart lnew lnew' (lines_text (move_lines m now)) → HasBegun d until steps old new' lold lnew'
 move_failed {d} {until} {steps} {taken} {now} {writer} {old} {new} {new'} {lold} {lnew} {lnew'} r m statement block going more appended printed =
     let s = after d r.moves in
@@ -452,10 +370,10 @@ line_printed old mid new m s ended h =
     subst (AppendsPart old new) (sym (move_prints m s)) (part_more old mid new (lines_text (slot_lines m s)) (made_text (made_line m s)) ended h)
 
 -- a slot that wasn't written whole
-pub slot_failed : (fault : VcdFault) (writer : Progress) (old new : Option (List ℕ)) (now : State) (m : Move) (time : ℕ) (store : Store) → m ≡ EndSlot → time ≡ now.time → store ≡ now.store →
-    ((d : Parts) (before : List Slot) (s : Slot) → HasWritten writer d before → IsSlotAt s time store → WritesPiece {A = ℕ} (Err fault) old new (vcd_slot d before s)) →
+pub slot_failed : (fault : VcdFault) (writer : Option Progress) (old new : Option (List ℕ)) (now : State) (m : Move) (time : ℕ) (store : Store) → m ≡ EndSlot → time ≡ now.time → store ≡ now.store →
+    ((d : Parts) (before : List Slot) (s : Slot) → HasNoted writer old d before → IsSlotAt s time store → WritesPiece {A = ℕ} (Err fault) old new (vcd_slot d before s)) →
     ((d : Parts) (before : List Slot) (s : Slot) → vcd_slots d (before ++ s ∷ []) ≡ vcd_slots d before ++ vcd_slot d before s) →
-    (d : Parts) (before : List Slot) → HasWritten writer d before → AppendsSlotsPart old new d before (ended_slot m now)
+    (d : Parts) (before : List Slot) → HasNoted writer old d before → AppendsSlotsPart old new d before (ended_slot m now)
 slot_failed fault writer old new now m time store ends here values bytes pieces d before h = (
   vcd_slot d before (ended_here now),
   ap (λ (l : Move). vcd_slots d (before ++ ended_slot l now)) ends ∙ pieces d before (ended_here now),
@@ -463,9 +381,9 @@ slot_failed fault writer old new now m time store ends here values bytes pieces 
 )
 
 -- the end wasn't written whole
-pub end_failed : {d : Parts} {until steps taken : ℕ} {now : State} {writer : Progress} {old new new' lold lnew : Option (List ℕ)} (end : ℕ) →
+pub end_failed : {d : Parts} {until steps taken : ℕ} {now : State} {writer : Option Progress} {old new new' lold lnew : Option (List ℕ)} (end : ℕ) →
     (r : HasRun d until steps taken now writer old new lold lnew) → is_complete until now ≡ true → end ≡ end_in until now →
-    ((before : List Slot) → HasWritten writer d before → AppendsPart new new' (vcd_end d before end)) → HasBegun d until steps old new' lold lnew
+    ((before : List Slot) → HasNoted writer new d before → AppendsPart new new' (vcd_end d before end)) → HasBegun d until steps old new' lold lnew
 end_failed {d} {until} {steps} {taken} {now} {writer} {old} {new} {new'} {lold} {lnew} end r complete is ends = record {
   moves = r.moves;
   statement = r.statement;
@@ -499,7 +417,3 @@ failed_as {A} r fault.Write old new lold lnew is h = subst (λ (q : Result A Vcd
 -- none failed before
 pub failed_from : (b : Bool) (old mid new lold lmid lnew : ℕ) → mid ≡ old → lmid ≡ lold → OneFailed b mid new lmid lnew → OneFailed b old new lold lnew
 failed_from b old mid new lold lmid lnew e f h = subst (λ (k : ℕ). OneFailed b k new lold lnew) e (subst (λ (k : ℕ). OneFailed b mid new k lnew) f h)
-
-pub on_err : {T E P : Type 0} (r : Result T E) → P → OnErr r P
-on_err (Ok x) p = tt
-on_err (Err e) p = p

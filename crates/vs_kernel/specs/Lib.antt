@@ -1,12 +1,8 @@
 pub mod Ends
 pub mod Faults
-pub mod Insides
-pub mod Marking
-pub mod Points
 pub use Rattle.vs_agenda.specs.Policies
-pub mod Prints
+pub use Rattle.vs_turns.specs.Prints
 pub mod Runs
 pub mod Shows
 pub mod Stages
-pub mod Turns
 pub mod VcdFaults

@@ -2,14 +2,13 @@
 use Rattle.std.specs.Prelude.{ℕ, ◌≡◌, ◌≤◌, true, false, Option, List, [], ◌∷◌, ◌++◌, length, if◌then◌else◌}
 use Rattle.std.specs.Io.KnownBytes.{Appends}
 use Rattle.vs_design.specs.Parts.{Parts}
-use Rattle.vs_design.specs.Traces.{Slot}
 use Rattle.vs_process.specs.declared.moves.Grain.TheVariants.{Statement, Block}
 use Rattle.vs_process.specs.declared.moves.Move.{Move}
 use Rattle.vs_process.specs.Executions.{after, Legal, lines_of, slots, trace, is_complete}
 use Rattle.vs_process.specs.States.{State}
 use Rattle.vs_vcd.specs.Sinks.{AppendsPart}
 use Rattle.vs_vcd.specs.Text.{vcd_header, vcd_slots, vcd_text}
-use Rattle.vs_kernel.specs.Prints.{lines_text}
+use Rattle.vs_turns.specs.Prints.{lines_text}
 use Rattle.vs_kernel.specs.declared.outcome.Outcome.{Outcome}
 use Rattle.vs_kernel.specs.declared.outcome.Outcome.TheVariants.{Reached, Quiet, Finished, StepLimit}
 
@@ -52,13 +51,3 @@ pub record HasBegun (d : Parts) (until steps : ℕ) (old new lines_old lines_new
   pub within : length moves ≤ steps
   pub text : AppendsPart old new (text_so_far d moves until)
   pub lines : AppendsPart lines_old lines_new (lines_text (lines_of d moves))
-
--- what slots add to a value change dump was appended to the known bytes
-abbrev pub AppendsSlots : Option (List ℕ) → Option (List ℕ) → Parts → List Slot → List Slot → Type 0
-AppendsSlots old new d before more =
-    (piece : List ℕ) × (vcd_slots d (before ++ more) ≡ vcd_slots d before ++ piece) × Appends old new piece
-
--- a beginning of what slots add to a value change dump was appended to the known bytes
-abbrev pub AppendsSlotsPart : Option (List ℕ) → Option (List ℕ) → Parts → List Slot → List Slot → Type 0
-AppendsSlotsPart old new d before more =
-    (piece : List ℕ) × (vcd_slots d (before ++ more) ≡ vcd_slots d before ++ piece) × AppendsPart old new piece

@@ -6,8 +6,6 @@
 
 mod kernel;
 mod laws;
-mod marks;
-mod moves;
 mod outcome;
 mod run;
 

@@ -5,20 +5,20 @@ ghost use Rattle.vs_design.specs.Parts.{Parts};
 ghost use Rattle.vs_design.specs.Traces.{Slot};
 ghost use Rattle.vs_kernel.specs.Ends.{end_in, outcome_in};
 ghost use Rattle.vs_kernel.specs.Faults.{OneFailed};
-ghost use Rattle.vs_kernel.specs.Prints.{lines_text, slot_lines};
-ghost use Rattle.vs_kernel.specs.Runs.{RanTo, HasBegun, AppendsSlots, AppendsSlotsPart};
-ghost use Rattle.vs_kernel.specs.Insides.{inside_told};
-ghost use Rattle.vs_kernel.specs.Points.{point};
-ghost use Rattle.vs_kernel.specs.Turns.{AllTurned, AllTurnedPart, IsReached, Took, TookPart, TurnedPart};
+ghost use Rattle.vs_turns.specs.Prints.{lines_text, slot_lines};
+ghost use Rattle.vs_turns.specs.Slots.{AppendsSlots, AppendsSlotsPart};
+ghost use Rattle.vs_kernel.specs.Runs.{RanTo, HasBegun};
+ghost use Rattle.vs_turns.specs.Insides.{inside_told};
+ghost use Rattle.vs_turns.specs.Points.{point};
+ghost use Rattle.vs_turns.specs.Recording.{CoversNoted, HasNoted};
+ghost use Rattle.vs_turns.specs.Turns.{AllTurned, AllTurnedPart, IsReached, Took, TookPart, TurnedPart};
 ghost use Rattle.vs_process.specs.Blocks.{is_step_of_any};
 ghost use Rattle.vs_process.specs.Executions as executions;
 ghost use Rattle.vs_process.specs.States as states;
 ghost use Rattle.vs_state.specs.Told.{told};
-ghost use Rattle.vs_vcd.specs.Progress.{Covers, HasWritten, is_write_fault};
+ghost use Rattle.vs_vcd.specs.Progress.{is_write_fault};
 ghost use Rattle.vs_vcd.specs.Sinks.{AppendsPart, failed_after};
 
-use crate::marks::{clear, no_marks};
-use crate::moves::{Room, advance, run_assigns, run_process, run_updates};
 use crate::outcome::Outcome;
 use std::alloc::{AllocError, Global};
 use vs_agenda::{Agenda, AssignEvent, Choice, Pick};
@@ -31,7 +31,8 @@ use vs_regions::Item;
 use vs_state::State;
 use vs_strobe::full_line;
 use vs_time_wheel::EventQueue;
-use vs_vcd::{Sink, VcdFault, Writer, write_all};
+use vs_turns::{Recorder, Room, advance, clear, no_marks, run_assigns, run_process, run_updates};
+use vs_vcd::{Sink, VcdFault, write_all};
 
 /// For each process whether it is a combinational block.
 fn blocks_of(alloc: Global, processes: &[Process]) -> Result<Vec<bool>, AllocError>
@@ -140,7 +141,7 @@ fn print_calls<Q: EventQueue<Item>, L: Sink>(
 #[inline(always)]
 fn note<Q: EventQueue<Item>, V: Sink, L: Sink>(
     alloc: Global,
-    writer: &mut Writer,
+    writer: &mut Recorder,
     vcd: &mut V,
     lines: &mut L,
     marks: &mut Vec<u64>,
@@ -148,14 +149,14 @@ fn note<Q: EventQueue<Item>, V: Sink, L: Sink>(
     choice: Move,
 ) -> Result<(), VcdFault>
     requires few { length marks.old.items ≤ 2 ^ 57 }
-    requires covers { Covers marks.old.items writer.old state.now.store }
-    ensures covers { OnOk result (Covers marks.new.items writer.new state.now.store) }
+    requires covers { CoversNoted marks.old.items writer.old state.now.store }
+    ensures covers { OnOk result (CoversNoted marks.new.items writer.new state.now.store) }
     ensures len { length marks.new.items ≡ length marks.old.items }
-    ensures written { OnOk result ((d : Parts) (before : List Slot) → HasWritten writer.old d before
-        → HasWritten writer.new d (before ++ executions.ended_slot choice state.now)) }
-    ensures bytes { OnOk result ((d : Parts) (before : List Slot) → HasWritten writer.old d before
+    ensures written { OnOk result ((d : Parts) (before : List Slot) → HasNoted writer.old (V.bytes vcd.old) d before
+        → HasNoted writer.new (V.bytes vcd.new) d (before ++ executions.ended_slot choice state.now)) }
+    ensures bytes { OnOk result ((d : Parts) (before : List Slot) → HasNoted writer.old (V.bytes vcd.old) d before
         → AppendsSlots (V.bytes vcd.old) (V.bytes vcd.new) d before (executions.ended_slot choice state.now)) }
-    ensures part { OnErr result ((d : Parts) (before : List Slot) → HasWritten writer.old d before
+    ensures part { OnErr result ((d : Parts) (before : List Slot) → HasNoted writer.old (V.bytes vcd.old) d before
         → AppendsSlotsPart (V.bytes vcd.old) (V.bytes vcd.new) d before (executions.ended_slot choice state.now)) }
     ensures lines { OnOk result (Appends (L.bytes lines.old) (L.bytes lines.new) (lines_text (slot_lines choice state.now))) }
     ensures lines_part { OnErr result (AppendsPart (L.bytes lines.old) (L.bytes lines.new) (lines_text (slot_lines choice state.now))) }
@@ -164,7 +165,7 @@ fn note<Q: EventQueue<Item>, V: Sink, L: Sink>(
     let Move::EndSlot = choice else {
         return Ok(());
     };
-    writer.slot_marked(vcd, state.time(), state.store(), marks)?;
+    writer.slot(vcd, state.time(), state.store(), marks)?;
     clear(marks);
     print_calls(alloc, lines, state)?;
     Ok(())
@@ -210,7 +211,7 @@ fn take_one<'a, Q: EventQueue<Item>, V: Sink, L: Sink>(
     design: &Design,
     state: &mut State<'a, Q>,
     agenda: &mut Agenda,
-    writer: &mut Writer,
+    writer: &mut Recorder,
     marks: &mut Vec<u64>,
     room: &mut Room<'a>,
     next: Choice,
@@ -222,9 +223,9 @@ fn take_one<'a, Q: EventQueue<Item>, V: Sink, L: Sink>(
     requires early { state.old.time < 2 ^ 62 }
     requires reached { IsReached design.now state.old }
     requires few { length marks.old.items ≤ 2 ^ 57 }
-    requires covers { Covers marks.old.items writer.old state.old.store }
-    ensures covers { OnOk result ((d : Parts) (slots : List Slot) → HasWritten writer.new d slots
-        → length d.signals < 512 * length marks.old.items → Covers marks.new.items writer.new state.new.store) }
+    requires covers { CoversNoted marks.old.items writer.old state.old.store }
+    ensures covers { OnOk result ((d : Parts) (slots : List Slot) → HasNoted writer.new (V.bytes vcd.new) d slots
+        → length d.signals < 512 * length marks.old.items → CoversNoted marks.new.items writer.new state.new.store) }
     ensures len { length marks.new.items ≡ length marks.old.items }
     ensures one { IfOk result (λ taken. taken ≡ 1) }
     ensures ok { IfOk result (λ taken. Took taken next.choice state.old state.new writer.old writer.new
@@ -247,7 +248,7 @@ fn take<'a, Q: EventQueue<Item>, V: Sink, L: Sink>(
     design: &Design,
     state: &mut State<'a, Q>,
     agenda: &mut Agenda,
-    writer: &mut Writer,
+    writer: &mut Recorder,
     marks: &mut Vec<u64>,
     room: &mut Room<'a>,
     next: Choice,
@@ -262,9 +263,9 @@ fn take<'a, Q: EventQueue<Item>, V: Sink, L: Sink>(
     requires early { state.old.time < 2 ^ 62 }
     requires reached { IsReached design.now state.old }
     requires few { length marks.old.items ≤ 2 ^ 57 }
-    requires covers { Covers marks.old.items writer.old state.old.store }
-    ensures covers { OnOk result ((d : Parts) (slots : List Slot) → HasWritten writer.new d slots
-        → length d.signals < 512 * length marks.old.items → Covers marks.new.items writer.new state.new.store) }
+    requires covers { CoversNoted marks.old.items writer.old state.old.store }
+    ensures covers { OnOk result ((d : Parts) (slots : List Slot) → HasNoted writer.new (V.bytes vcd.new) d slots
+        → length d.signals < 512 * length marks.old.items → CoversNoted marks.new.items writer.new state.new.store) }
     ensures len { length marks.new.items ≡ length marks.old.items }
     ensures some { IfOk result (λ taken. 0 < taken) }
     ensures within { IfOk result (λ taken. taken ≤ steps) }
@@ -315,7 +316,7 @@ fn turn<'a, Q: EventQueue<Item>, P: Pick, V: Sink, L: Sink>(
     state: &mut State<'a, Q>,
     agenda: &mut Agenda,
     inside: Option<usize>,
-    writer: &mut Writer,
+    writer: &mut Recorder,
     marks: &mut Vec<u64>,
     room: &mut Room<'a>,
     policy: &mut P,
@@ -329,9 +330,9 @@ fn turn<'a, Q: EventQueue<Item>, P: Pick, V: Sink, L: Sink>(
     requires early { state.old.time < 2 ^ 62 }
     requires reached { IsReached design.now state.old }
     requires few { length marks.old.items ≤ 2 ^ 57 }
-    requires covers { Covers marks.old.items writer.old state.old.store }
-    ensures covers { OnOk result ((d : Parts) (slots : List Slot) → HasWritten writer.new d slots
-        → length d.signals < 512 * length marks.old.items → Covers marks.new.items writer.new state.new.store) }
+    requires covers { CoversNoted marks.old.items writer.old state.old.store }
+    ensures covers { OnOk result ((d : Parts) (slots : List Slot) → HasNoted writer.new (V.bytes vcd.new) d slots
+        → length d.signals < 512 * length marks.old.items → CoversNoted marks.new.items writer.new state.new.store) }
     ensures len { length marks.new.items ≡ length marks.old.items }
     ensures some { IfOk result (λ taken. 0 < taken.steps) }
     ensures within { IfOk result (λ taken. taken.steps ≤ steps) }
@@ -395,7 +396,7 @@ fn execute<'a, Q: EventQueue<Item>, P: Pick, V: Sink, L: Sink>(
         effect: Effect::Nothing,
         line: Vec::new(alloc),
     };
-    let mut writer = Writer::header(alloc, vcd, design)?;
+    let mut writer = Recorder::start(alloc, vcd, design)?;
     let mut inside = None;
     let mut count = 0;
     while !state.is_over() && state.time() <= until {

@@ -8,7 +8,7 @@ use Rattle.vs_syntax.specs.Symbols.{Symbol, a_mark, a_word, a_name, a_number, a_
 use Rattle.vs_syntax.specs.Grammar.{part, a_source}
 use Rattle.vs_syntax.specs.Derivation.{Tree, empty, tokens, Is, is_part, is_stop}
 use Rattle.vs_syntax.specs.Reading.{Gets, Stuck}
-use Rattle.vs_syntax.specs.Derives.{IsSource, Derives, Begins}
+use Rattle.vs_syntax.specs.Derives.{IsSource, Derives, BeginsSource}
 use Rattle.vs_syntax.specs.Views.{source_tree}
 use Rattle.vs_syntax.specs.declared.tree.Source.{Source}
 use Rattle.vs_syntax.proofs.Fronts.{clash}
@@ -20,7 +20,7 @@ use Rattle.vs_syntax.proofs.Beginnings.{stuck_there}
 use Rattle.vs_syntax.proofs.Deeper.{deeper}
 use Rattle.vs_expressions.specs.declared.reading.Stop.{Stop}
 use Rattle.vs_expressions.specs.declared.reading.Stop.TheVariants as stop
-use Rattle.vs_expressions.specs.Answers.{seen, Fails}
+use Rattle.vs_expressions.specs.Answers.{seen, FailsToRead}
 use Rattle.vs_parser.specs.declared.fault.ParseFault.{ParseFault}
 use Rattle.vs_parser.specs.declared.fault.ParseFault.TheVariants as f
 use Rattle.vs_parser.specs.Faults.{Halts, StopsAt, IsWrong, IsTooDeep, IsUnfinished, IsRefused}
@@ -56,7 +56,7 @@ halts deep ts rest s =
           (b.room, record { tree = v.tree; tail = v.tail; source = record { is = v.is; nesting = v.fits }; text = v.text });
     }
 
-pub halts_by : (ts : List Symbol) (e : Stop) → Fails (part a_source) 256 ts e → StopsAt ts e
+pub halts_by : (ts : List Symbol) (e : Stop) → FailsToRead (part a_source) 256 ts e → StopsAt ts e
 halts_by ts stop.Memory p = tt
 halts_by ts (stop.Unexpected at) p = halts false ts (seen at.now) p
 halts_by ts (stop.TooDeep at) p = halts true ts (seen at.now) p
@@ -142,7 +142,7 @@ wrong ts before after others t h e f = record {
   front = lexemes before;
   after = lexemes others;
   text = split_text ts before after others t e f;
-  begins = subst (λ (u : List Symbol). Begins 256 u) (sym (front_there false ts before after h e h)) h.begins;
+  begins = subst (λ (u : List Symbol). BeginsSource 256 u) (sym (front_there false ts before after h e h)) h.begins;
   ends = λ most b. h.ends b.tree (symbol (lexeme t) ∷ b.tail) b.source.is (λ k. absurd (clash k refl))
       (up_to (lexemes before) (lexeme t) (tokens b.tree) b.tail b.text ∙ ap (λ u. u ++ (symbol (lexeme t) ∷ b.tail)) (front_there false ts before after h e h))
       (sym (first_there after others t f));
@@ -153,14 +153,14 @@ too_deep ts before after others t h e f = record {
   front = lexemes before;
   after = lexemes others;
   text = split_text ts before after others t e f;
-  begins = subst (λ (u : List Symbol). Begins 256 u) (sym (front_there true ts before after h e h)) h.begins;
+  begins = subst (λ (u : List Symbol). BeginsSource 256 u) (sym (front_there true ts before after h e h)) h.begins;
   ends = λ b. h.ends b.tree (symbol (lexeme t) ∷ b.tail) b.source.is (λ k. b.source.nesting)
       (up_to (lexemes before) (lexeme t) (tokens b.tree) b.tail b.text ∙ ap (λ u. u ++ (symbol (lexeme t) ∷ b.tail)) (front_there true ts before after h e h))
       (sym (first_there after others t f));
   deeper =
       let b = h.deeper refl (symbol (lexeme t)) (seen others) (ap seen f) in
       let e' : h.front ++ symbol (lexeme t) ∷ [] ≡ symbols (lexemes before ++ lexeme t ∷ []) = ap (λ u. u ++ symbol (lexeme t) ∷ []) (sym (front_there true ts before after h e h)) ∙ sym (symbols-append (lexemes before) (lexeme t ∷ [])) in
-      (b.0, subst (λ (u : List Symbol). Begins b.0 u) e' b.1);
+      (b.0, subst (λ (u : List Symbol). BeginsSource b.0 u) e' b.1);
 }
 
 -- at the end a place that isn't there
@@ -177,7 +177,7 @@ at_the_end ts after h e = subst (λ (u : List Token). Halts false (seen ts) (see
 
 pub is_unfinished : (ts before : List Token) (last : Token) (place : ℕ) → Halts false (seen ts) [] → ts ≡ before ++ last ∷ [] → (last.place + length last.bytes.now < 2 ^ 64 → place ≡ last.place + length last.bytes.now) → IsUnfinished (lexemes ts) place
 is_unfinished ts before last place h e f = record {
-  begins = subst (λ (u : List Symbol). Begins 256 u) (sym (h.text ∙ append-nil h.front)) h.begins;
+  begins = subst (λ (u : List Symbol). BeginsSource 256 u) (sym (h.text ∙ append-nil h.front)) h.begins;
   ends = λ most x s t. h.ends x [] s.is (λ k. absurd (clash k refl)) (t ∙ h.text) refl;
   front = lexemes before;
   last = lexeme last;
@@ -190,7 +190,7 @@ pub cut : (ts before after : List Token) (n : ℕ) → before ≡ take n ts → 
 cut ts before after n e f = sym (take-append-drop n ts) ∙ ap (λ u. u ++ drop n ts) (sym e) ∙ ap (λ u. before ++ u) (sym f)
 
 -- a source goes on behind each of its tokens
-goes_through : (ts front after : List Lexeme) (t : Lexeme) (x : Tree) → ts ≡ front ++ t ∷ after → IsSource 256 x → symbols ts ≡ tokens x → Begins 256 (symbols (front ++ t ∷ []))
+goes_through : (ts front after : List Lexeme) (t : Lexeme) (x : Tree) → ts ≡ front ++ t ∷ after → IsSource 256 x → symbols ts ≡ tokens x → BeginsSource 256 (symbols (front ++ t ∷ []))
 goes_through ts front after t x e s h = record {
   tree = x;
   tail = symbols after;

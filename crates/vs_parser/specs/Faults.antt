@@ -4,7 +4,7 @@ use Rattle.vs_lexer.specs.Tokens.{Lexeme}
 use Rattle.vs_syntax.specs.Symbols.{Symbol, no_token, first, symbols}
 use Rattle.vs_syntax.specs.Grammar.{part, a_source}
 use Rattle.vs_syntax.specs.Derivation.{Tree, tokens, height, Is}
-use Rattle.vs_syntax.specs.Derives.{IsSource, Begins}
+use Rattle.vs_syntax.specs.Derives.{IsSource, BeginsSource}
 use Rattle.vs_parser.specs.declared.fault.ParseFault.{ParseFault}
 use Rattle.vs_parser.specs.declared.fault.ParseFault.TheVariants as f
 use Rattle.vs_expressions.specs.declared.reading.Stop.{Stop}
@@ -17,22 +17,22 @@ pub record IsWrong (ts : List Lexeme) (x : Lexeme) : Type 0 where
   pub front : List Lexeme
   pub after : List Lexeme
   pub text : ts ≡ front ++ x ∷ after
-  pub begins : Begins 256 (symbols front)
-  pub ends : (most : ℕ) → Begins most (symbols (front ++ x ∷ [])) → ⊥
+  pub begins : BeginsSource 256 (symbols front)
+  pub ends : (most : ℕ) → BeginsSource most (symbols (front ++ x ∷ [])) → ⊥
 
 -- The token is the first one with which the tokens begin no source of a nesting of at most 256, but one of a deeper nesting.
 pub record IsTooDeep (ts : List Lexeme) (x : Lexeme) : Type 0 where
   pub front : List Lexeme
   pub after : List Lexeme
   pub text : ts ≡ front ++ x ∷ after
-  pub begins : Begins 256 (symbols front)
-  pub ends : Begins 256 (symbols (front ++ x ∷ [])) → ⊥
-  pub deeper : (most : ℕ) × Begins most (symbols (front ++ x ∷ []))
+  pub begins : BeginsSource 256 (symbols front)
+  pub ends : BeginsSource 256 (symbols (front ++ x ∷ [])) → ⊥
+  pub deeper : (most : ℕ) × BeginsSource most (symbols (front ++ x ∷ []))
 
 -- The tokens begin a source of a nesting of at most 256 and are none, and this is where the last of them ends, where that is
 -- a number of 64 bits.
 pub record IsUnfinished (ts : List Lexeme) (place : ℕ) : Type 0 where
-  pub begins : Begins 256 (symbols ts)
+  pub begins : BeginsSource 256 (symbols ts)
   pub ends : (most : ℕ) (x : Tree) → IsSource most x → tokens x ≡ symbols ts → ⊥
   pub front : List Lexeme
   pub last : Lexeme
@@ -57,11 +57,11 @@ pub record IsTreeOf (ts : List Lexeme) (x : Tree) : Type 0 where
 pub record Halts (deep : Bool) (ts rest : List Symbol) : Type 0 where
   pub front : List Symbol
   pub text : ts ≡ front ++ rest
-  pub begins : Begins 256 front
+  pub begins : BeginsSource 256 front
   pub ends : (x : Tree) (r : List Symbol) → Is (part a_source) x [] → (deep ≡ true → height x ≤ 256) →
       tokens x ≡ front ++ r → first r ≡ first rest → ⊥
   pub there : deep ≡ true → first rest ≡ no_token → ⊥
-  pub deeper : deep ≡ true → (s : Symbol) (ss : List Symbol) → rest ≡ s ∷ ss → (most : ℕ) × Begins most (front ++ s ∷ [])
+  pub deeper : deep ≡ true → (s : Symbol) (ss : List Symbol) → rest ≡ s ∷ ss → (most : ℕ) × BeginsSource most (front ++ s ∷ [])
 
 -- why and where reading a whole source stopped
 abbrev pub StopsAt : List Symbol → Stop → Type 0

@@ -4,7 +4,7 @@ ghost use Rattle.vs_tokens.specs.declared.token.Word.TheVariants as w;
 ghost use Rattle.vs_syntax.specs.Symbols.{a_word};
 ghost use Rattle.vs_syntax.specs.Grammar.{part, a_source, a_module};
 ghost use Rattle.vs_syntax.specs.Views.{module_tree, source_tree};
-ghost use Rattle.vs_expressions.specs.Answers.{seen, Reads};
+ghost use Rattle.vs_expressions.specs.Answers.{seen, ReadsTree};
 
 use crate::head::{SourceHead, source_head};
 use std::alloc::Global;
@@ -23,7 +23,7 @@ fn module<'t, 's>(
     directives: Vec<Directive>,
 ) -> Result<Read<'t, 's, Module>, Stop<'t, 's>>
     requires { seen tokens.now ≡ a_word w.Module ∷ seen after.now }
-    ensures reads { Reads (part a_module) room tokens.now module_tree result }
+    ensures reads { ReadsTree (part a_module) room tokens.now module_tree result }
     ensures directives { IfOk result (λ x. x.tree.directives ≡ directives) }
 {
     let (name, after_name) = expect_name(alloc, after)?;
@@ -50,7 +50,7 @@ pub(crate) fn source<'t, 's>(
     room: u32,
     tokens: &'t [Token<'s>],
 ) -> Result<Read<'t, 's, Source>, Stop<'t, 's>>
-    ensures { Reads (part a_source) room tokens.now source_tree result }
+    ensures { ReadsTree (part a_source) room tokens.now source_tree result }
 {
     let mut modules = Vec::new(alloc);
     let mut directives = Vec::new(alloc);

@@ -1,6 +1,6 @@
 //! Ports that two items declare, not alike.
 ghost use Rattle.std.specs.Prelude.{◌≡◌, List, Some, IfOk, OnOk};
-ghost use Rattle.vs_pieces.specs.Pieces.{Piece as Part};
+ghost use Rattle.vs_pieces.specs.Pieces.{Piece as GivenPiece};
 ghost use Rattle.vs_widths.specs.Names.{meaning_of};
 ghost use Rattle.vs_scopes.specs.Ranges.{range_bounds};
 ghost use Rattle.vs_scopes.specs.Ports.{is_joined};
@@ -80,7 +80,7 @@ pub fn is_unlike(
     kinds: &Names<KindSaid>,
     port: &ModulePort,
 ) -> Result<bool, AllocError>
-    ensures { (ps : List Part) → AreKinds ps kinds.now
+    ensures { (ps : List GivenPiece) → AreKinds ps kinds.now
         → IfOk result (λ b. b ≡ is_unlike (meaning_of names.now) ps (read_port port.now)) }
 {
     if !is_joined(port.source) {

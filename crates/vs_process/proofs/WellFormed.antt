@@ -192,7 +192,7 @@ abbrev pub sound_out : List Signal → Statement-F Statement → Bool
 sound_out ss f = sound_step ss (map-Statement Statement Bool (is_sound_statement ss) f)
 
 -- one of the two that a condition chooses
-branch_each : {A : Type 0} (P : A → Type 0) (d : Digit) (a b : A) → P a → P b → P (branch d a b)
+pub branch_each : {A : Type 0} (P : A → Type 0) (d : Digit) (a b : A) → P a → P b → P (branch d a b)
 branch_each P Zero a b x y = y
 branch_each P One a b x y = x
 branch_each P X a b x y = y
@@ -207,7 +207,7 @@ first_each P None b x y = y
 first_each P (Some a) b x y = x
 
 -- the item that a `case` takes is one of its items
-taken_each : (P : Option (Vec Typed Global × Statement) → Type 0) (kind : CaseKind) (digits : List Digit) (store : Store) (time : ℕ) (items : List (Vec Typed Global × Statement)) →
+pub taken_each : (P : Option (Vec Typed Global × Statement) → Type 0) (kind : CaseKind) (digits : List Digit) (store : Store) (time : ℕ) (items : List (Vec Typed Global × Statement)) →
     P None → ((i : ℕ) (x : Vec Typed Global × Statement) → slice_get items i ≡ Some x → P (Some x)) → P (taken kind digits store time items)
 taken_each P kind digits store time items none some =
     first_each P (find (item_matches kind digits store time) items) (find is_default items) (find_each P (item_matches kind digits store time) items none some) (find_each P is_default items none some)

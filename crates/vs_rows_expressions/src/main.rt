@@ -1,4 +1,5 @@
-//! Rows of expressions and assignments: the digits of their values, which were worked out by another simulator, or by hand from the standard.
+//! Rows of expressions and assignments: the digits of their values, and what directives show of them, which were worked out by another simulator, or by
+//! hand from the standard.
 #![tactic(auto)]
 
 mod signals;
@@ -51,6 +52,18 @@ fn source_of_statements(
     )
 }
 
+/// A module that prints what directives show, each of the same expression.
+fn source_of_line(alloc: Global, directives: &str, expression: &str) -> Result<String, AllocError> {
+    let mut args = String::new(alloc);
+    for byte in directives.bytes() {
+        if byte == b'%' {
+            args.push_str(", ")?;
+            args.push_str(expression)?;
+        }
+    }
+    format!(in alloc; "module t;\ninitial $display(\"{directives}\"{args});\nendmodule\n")
+}
+
 /// Whether 64 digits are some digits behind zeros.
 fn is_extended(all: &[u8], digits: &[u8]) -> bool {
     match all.strip_suffix(digits) {
@@ -59,12 +72,15 @@ fn is_extended(all: &[u8], digits: &[u8]) -> bool {
     }
 }
 
-/// The digits that two lines print, where the second has those of the first behind zeros; else both lines.
-fn digits_of(printed: &[u8]) -> &[u8] {
+/// One line that is printed; of two the digits of the first, where the second has them behind zeros; else both lines.
+fn line_of(printed: &[u8]) -> &[u8] {
     let Some(end) = printed.iter().position(|byte| *byte == b'\n') else {
         return printed;
     };
     let (first, second) = (&printed[..end], &printed[end + 1..]);
+    if second.is_empty() {
+        return first;
+    }
     match second.strip_suffix(b"\n") {
         Some(all) if is_extended(all, first) => first,
         _ => printed,
@@ -75,14 +91,15 @@ impl Answers for Values {
     fn answer(&self, words: &str, question: &str, text: &mut Vec<u8>) -> Result<(), AllocError> {
         let alloc = self.alloc;
         let (before, expression) = question.rsplit_once(" => ").unwrap_or(("", question));
-        let source = match words {
-            "expression" => source_of_items(alloc, "\n", before, expression)?,
-            "items" => source_of_items(alloc, SIGNALS, before, expression)?,
+        let source = match (words, words.strip_prefix("shown by ")) {
+            ("expression", _) => source_of_items(alloc, "\n", before, expression)?,
+            ("items", _) => source_of_items(alloc, SIGNALS, before, expression)?,
+            (_, Some(directives)) => source_of_line(alloc, directives, expression)?,
             _ => source_of_statements(alloc, before, expression)?,
         };
         let mut printed = Vec::new(alloc);
         print(alloc, &source, &mut printed);
-        text.extend_from_slice(digits_of(&printed))?;
+        text.extend_from_slice(line_of(&printed))?;
         text.push(b'\n')?;
         Ok(())
     }

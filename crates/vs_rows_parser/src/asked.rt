@@ -3,6 +3,7 @@
 use crate::generated::source_shown;
 use crate::instances::header_shown;
 use crate::statements::{DEPTH, stmt_within};
+use crate::text::Text;
 use crate::trees::item_shown;
 use std::alloc::{AllocError, Global};
 use vs_lexer::lex;
@@ -25,29 +26,24 @@ pub(crate) enum Asked {
 }
 
 /// The only item of a source, or its only statement.
-fn item_asked(asked: Asked, items: &[ModuleItem], text: &mut Vec<u8>) -> Result<(), AllocError> {
+fn item_asked(asked: Asked, items: &[ModuleItem], text: &mut Text) {
     match (asked, items) {
         (Asked::Statement, [ModuleItem::Plain(Item::Initial(statement))]) => {
             stmt_within(DEPTH, statement, text)
         }
         (Asked::Item, [ModuleItem::Plain(item)]) => item_shown(item, text),
-        _ => text.extend_from_slice(b"another item"),
+        _ => text.put(b"another item"),
     }
 }
 
 /// What is asked of a tree.
-fn tree_asked(
-    alloc: Global,
-    asked: Asked,
-    tree: &Source,
-    text: &mut Vec<u8>,
-) -> Result<(), AllocError> {
+fn tree_asked(alloc: Global, asked: Asked, tree: &Source, text: &mut Text) {
     match (asked, tree.modules.as_slice()) {
-        (Asked::Fault, _) => text.extend_from_slice(b"read"),
+        (Asked::Fault, _) => text.put(b"read"),
         (Asked::Source, _) => source_shown(alloc, tree, text),
         (Asked::Header, [module]) => header_shown(module, text),
         (_, [module]) => item_asked(asked, module.items.as_slice(), text),
-        _ => text.extend_from_slice(b"several modules"),
+        _ => text.put(b"several modules"),
     }
 }
 
@@ -63,7 +59,11 @@ pub(crate) fn answer_of(
         Err(fault) => return text.extend_from_slice(&fault.text(alloc)?),
     };
     match parse(alloc, &tokens) {
-        Ok(tree) => tree_asked(alloc, asked, &tree, text),
+        Ok(tree) => {
+            let mut shown = Text::new(alloc);
+            tree_asked(alloc, asked, &tree, &mut shown);
+            text.extend_from_slice(shown.whole()?)
+        }
         Err(fault) => text.extend_from_slice(&fault.text(alloc)?),
     }
 }

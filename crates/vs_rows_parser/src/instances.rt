@@ -1,111 +1,99 @@
 //! Headers and instances as text.
+use crate::text::Text;
 use crate::trees::{form_shown, shown};
-use std::alloc::AllocError;
 use vs_syntax::{
     Connection, Connections, Constant, Direction, Expr, HeaderParameter, Instance, Module,
     ParameterForm, Port, PortForm, PortKind,
 };
 
 /// What is said of parameters.
-fn parameter_form_shown(form: &ParameterForm, text: &mut Vec<u8>) -> Result<(), AllocError> {
+fn parameter_form_shown(form: &ParameterForm, text: &mut Text) {
     match form {
-        ParameterForm::Integer => text.extend_from_slice(b" integer"),
+        ParameterForm::Integer => text.put(b" integer"),
         ParameterForm::Vector(form) => form_shown(form, text),
     }
 }
 
 /// Parameters of an item, with what is said of them.
-pub(crate) fn constants_shown(
-    form: &ParameterForm,
-    constants: &[Constant],
-    text: &mut Vec<u8>,
-) -> Result<(), AllocError> {
-    parameter_form_shown(form, text)?;
+pub(crate) fn constants_shown(form: &ParameterForm, constants: &[Constant], text: &mut Text) {
+    parameter_form_shown(form, text);
     for constant in constants {
-        text.extend_from_slice(b" ")?;
-        text.extend_from_slice(&constant.name)?;
-        text.extend_from_slice(b" = ")?;
-        shown(&constant.value, text)?;
+        text.put(b" ");
+        text.put(&constant.name);
+        text.put(b" = ");
+        shown(&constant.value, text);
     }
-    Ok(())
 }
 
 /// What stands at the end of a connection; a bar where there is nothing.
-fn end_shown(end: &Option<Expr>, text: &mut Vec<u8>) -> Result<(), AllocError> {
+fn end_shown(end: &Option<Expr>, text: &mut Text) {
     match end {
         Some(e) => shown(e, text),
-        None => text.extend_from_slice(b"|"),
+        None => text.put(b"|"),
     }
 }
 
 /// A connection by name.
-fn connection_shown(connection: &Connection, text: &mut Vec<u8>) -> Result<(), AllocError> {
-    text.extend_from_slice(b" .")?;
-    text.extend_from_slice(&connection.name)?;
-    text.extend_from_slice(b" ")?;
-    end_shown(&connection.value, text)?;
-    Ok(())
+fn connection_shown(connection: &Connection, text: &mut Text) {
+    text.put(b" .");
+    text.put(&connection.name);
+    text.put(b" ");
+    end_shown(&connection.value, text);
 }
 
 /// Connections in parentheses.
-fn connections_shown(connections: &Connections, text: &mut Vec<u8>) -> Result<(), AllocError> {
-    text.extend_from_slice(b" (")?;
+fn connections_shown(connections: &Connections, text: &mut Text) {
+    text.put(b" (");
     match connections {
         Connections::Ordered(first, rest) => {
-            end_shown(first, text)?;
+            end_shown(first, text);
             for end in rest {
-                text.extend_from_slice(b" ")?;
-                end_shown(end, text)?;
+                text.put(b" ");
+                end_shown(end, text);
             }
         }
         Connections::Named(first, rest) => {
-            connection_shown(first, text)?;
+            connection_shown(first, text);
             for connection in rest {
-                connection_shown(connection, text)?;
+                connection_shown(connection, text);
             }
         }
     }
-    text.push(b')')?;
-    Ok(())
+    text.put(b")");
 }
 
 /// Instances of a module, with what overrides its parameters.
 pub(crate) fn instances_shown(
     overrides: &Option<Connections>,
     instances: &[Instance],
-    text: &mut Vec<u8>,
-) -> Result<(), AllocError> {
+    text: &mut Text,
+) {
     if let Some(connections) = overrides {
-        text.extend_from_slice(b" #")?;
-        connections_shown(connections, text)?;
+        text.put(b" #");
+        connections_shown(connections, text);
     }
     for instance in instances {
-        text.extend_from_slice(b" ")?;
-        text.extend_from_slice(&instance.name)?;
-        connections_shown(&instance.ports, text)?;
+        text.put(b" ");
+        text.put(&instance.name);
+        connections_shown(&instance.ports, text);
     }
-    Ok(())
 }
 
 /// A parameter of a header.
-fn header_parameter_shown(
-    parameter: &HeaderParameter,
-    text: &mut Vec<u8>,
-) -> Result<(), AllocError> {
-    text.extend_from_slice(b" #")?;
+fn header_parameter_shown(parameter: &HeaderParameter, text: &mut Text) {
+    text.put(b" #");
     if let Some(form) = &parameter.form {
-        text.extend_from_slice(b"parameter")?;
-        parameter_form_shown(form, text)?;
-        text.push(b' ')?;
+        text.put(b"parameter");
+        parameter_form_shown(form, text);
+        text.put(b" ");
     }
-    text.extend_from_slice(&parameter.name)?;
-    text.extend_from_slice(b" = ")?;
-    shown(&parameter.value, text)?;
-    Ok(())
+    text.put(&parameter.name);
+    text.put(b" = ");
+    shown(&parameter.value, text);
 }
 
 /// What stands before the names of ports.
-pub(crate) fn port_form_shown(form: &PortForm, text: &mut Vec<u8>) -> Result<(), AllocError> {
+pub(crate) fn port_form_shown(form: &PortForm, text: &mut Text) {
     let direction: &[u8] = match form.direction {
         Direction::Input => b"input",
         Direction::Output => b"output",
@@ -116,38 +104,35 @@ pub(crate) fn port_form_shown(form: &PortForm, text: &mut Vec<u8>) -> Result<(),
         Some(PortKind::Reg) => b" reg",
         Some(PortKind::Integer) => b" integer",
     };
-    text.extend_from_slice(direction)?;
-    text.extend_from_slice(kind)?;
-    form_shown(&form.form, text)?;
-    Ok(())
+    text.put(direction);
+    text.put(kind);
+    form_shown(&form.form, text);
 }
 
 /// A port of a header.
-fn port_shown(port: &Port, text: &mut Vec<u8>) -> Result<(), AllocError> {
-    text.extend_from_slice(b" ,")?;
+fn port_shown(port: &Port, text: &mut Text) {
+    text.put(b" ,");
     if let Some(form) = &port.form {
-        port_form_shown(form, text)?;
-        text.push(b' ')?;
+        port_form_shown(form, text);
+        text.put(b" ");
     }
-    text.extend_from_slice(&port.name)?;
+    text.put(&port.name);
     if let Some(value) = &port.value {
-        text.extend_from_slice(b" = ")?;
-        shown(value, text)?;
+        text.put(b" = ");
+        shown(value, text);
     }
-    Ok(())
 }
 
 /// The name and the header of a module in one line.
-pub(crate) fn header_shown(module: &Module, text: &mut Vec<u8>) -> Result<(), AllocError> {
-    text.extend_from_slice(&module.name)?;
+pub(crate) fn header_shown(module: &Module, text: &mut Text) {
+    text.put(&module.name);
     for parameter in &module.parameters {
-        header_parameter_shown(parameter, text)?;
+        header_parameter_shown(parameter, text);
     }
     if let Some(ports) = &module.ports {
-        text.extend_from_slice(b" ports")?;
+        text.put(b" ports");
         for port in ports {
-            port_shown(port, text)?;
+            port_shown(port, text);
         }
     }
-    Ok(())
 }

@@ -6,6 +6,7 @@ mod generated;
 mod instances;
 mod statements;
 mod tasks;
+mod text;
 mod trees;
 
 use crate::asked::{Asked, answer_of};

@@ -23,7 +23,8 @@ pub struct Run {
     lines: &'static str,
 }
 
-const RUNS: &[Run] = &[
+/// Runs of a source with `$finish`.
+const FINISHES: &[Run] = &[
     // The process that calls `$finish` goes on, and the run ends with the slot.
     Run {
         policy: Policy::Fifo,
@@ -81,6 +82,10 @@ const RUNS: &[Run] = &[
         body: "#0\n$dumpvars\nx!\n$end\n#20\n",
         lines: "",
     },
+];
+
+/// Updates that are due later.
+const UPDATES: &[Run] = &[
     // An update that is due later: the moment before it, behind it, and at it.
     Run {
         policy: Policy::Fifo,
@@ -175,6 +180,10 @@ const RUNS: &[Run] = &[
         body: "#0\n$dumpvars\nx!\n$end\n#20\n0!\n#40\n1!\n#90\n",
         lines: "",
     },
+];
+
+/// Several enabled events.
+const CHOICES: &[Run] = &[
     // Two processes are due at one time; the one that went to sleep first enters the list first, whichever wheel's turn it was.
     Run {
         policy: Policy::Fifo,
@@ -223,6 +232,16 @@ const RUNS: &[Run] = &[
         body: "#0\n$dumpvars\nb1 !\n1\"\n$end\n",
         lines: "a\nb\n",
     },
+    // Two registers that exchange their values at each edge of a clock that never stops.
+    Run {
+        policy: Policy::Fifo,
+        until: 20,
+        steps: 1000,
+        source: "module t; reg clk = 0; reg a = 0, b = 1; always #5 clk = ~clk; always @(posedge clk) a <= b; always @(posedge clk) b <= a; endmodule",
+        outcome: Outcome::Reached,
+        body: "#0\n$dumpvars\n0!\n0\"\n1#\n$end\n#5\n1!\n1\"\n0#\n#10\n0!\n#15\n1!\n0\"\n1#\n#20\n0!\n",
+        lines: "",
+    },
     // A nonblocking assignment with a delay is no timing control: behind the fifth choice the block runs to its control, and `a = 0` waits. The fourth choice
     // is one of one.
     Run {
@@ -234,6 +253,10 @@ const RUNS: &[Run] = &[
         body: "#0\n$dumpvars\nx!\nx\"\n$end\n#1\n0!\n#2\n0\"\n#5\n",
         lines: "1\n0\n",
     },
+];
+
+/// Runs that are cut off by the step limit, or nearly.
+const LIMITS: &[Run] = &[
     // A loop of assignments that never settles.
     Run {
         policy: Policy::Fifo,
@@ -341,10 +364,18 @@ fn compare(rt: &impl Abort, alloc: Global, run: &Run) -> Result<(), Fail> {
     Ok(())
 }
 
-#[test]
-fn runs(rt: HostRuntime) -> Result<(), Fail> {
-    for run in RUNS {
-        compare(&rt, rt.alloc(), run)?;
+// Compares each run of a table.
+fn compare_all(rt: &impl Abort, alloc: Global, runs: &[Run]) -> Result<(), Fail> {
+    for run in runs {
+        compare(rt, alloc, run)?;
     }
     Ok(())
+}
+
+#[test]
+fn runs(rt: HostRuntime) -> Result<(), Fail> {
+    compare_all(&rt, rt.alloc(), FINISHES)?;
+    compare_all(&rt, rt.alloc(), UPDATES)?;
+    compare_all(&rt, rt.alloc(), CHOICES)?;
+    compare_all(&rt, rt.alloc(), LIMITS)
 }

@@ -11,5 +11,3 @@ mod refusals;
 mod rows;
 #[cfg(test)]
 mod showing;
-#[cfg(test)]
-mod values;

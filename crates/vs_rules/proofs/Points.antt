@@ -16,7 +16,8 @@ use Rattle.vs_flatcode.specs.Steps.{Next, on, after, wait, Out, step}
 use Rattle.vs_process.specs.States.{State, Update, place_behind, paused, updates_behind, roused}
 use Rattle.vs_flatcode.specs.Drafts.{flat_all}
 use Rattle.vs_independence.specs.Threads.{Thread, IsThread, log_behind, turn_at, turn, iterate, opening, writes, any_names, todo_reads}
-use Rattle.vs_independence.proofs.Todos.{flat_each, branch_each, taken_each}
+use Rattle.vs_process.proofs.WellFormed.{branch_each}
+use Rattle.vs_independence.proofs.Todos.{flat_each, taken_each}
 use Rattle.vs_logic4.specs.declared.case.CaseKind.{CaseKind}
 use Rattle.vs_logic4.specs.declared.digit.Digit.{Digit}
 use Rattle.vs_logic4.specs.Comparisons.{truth}

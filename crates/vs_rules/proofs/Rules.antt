@@ -33,7 +33,7 @@ use Rattle.vs_process.proofs.Assigns.{links, link_of, driven, links_touched, lin
 use Rattle.vs_process.proofs.WellFormed.{variable_undriven}
 use Rattle.vs_process.proofs.Times.{enabled_of}
 use Rattle.vs_independence.specs.Threads.{Thread, IsThread, place_reads}
-use Rattle.vs_independence.specs.Discipline.{HasNoEvents, Reaches, here, through, IsAtStart, Begins, IsOrdered, KeepsApart, Disciplined}
+use Rattle.vs_independence.specs.Discipline.{HasNoEvents, Reaches, here, through, IsAtStart, BeginsSlot, IsOrdered, KeepsApart, Disciplined}
 use Rattle.vs_independence.proofs.Events.{IsSilent, after_silent, written_silent}
 use Rattle.vs_independence.proofs.Feeds.{into_named}
 use Rattle.vs_independence.proofs.Settle.{AllIdle}
@@ -220,7 +220,7 @@ idle_at_start grain d (Rouse ∷ moves) l a up = absurd a
 idle_at_start grain d (Activate ∷ moves) l a up = absurd a
 idle_at_start grain d (EndSlot ∷ moves) l a up = all_idle (after d moves).assigns (at_end (after d moves) (enabled_of grain d (after d moves) EndSlot l.1).1).quiet.assigns
 
-beginning : (grain : Grain) (d : Parts) (c : Claims) → HasNoEvents d → Ruled d c → (b : State) → Begins grain d b → Beginning d c b
+beginning : (grain : Grain) (d : Parts) (c : Claims) → HasNoEvents d → Ruled d c → (b : State) → BeginsSlot grain d b → Beginning d c b
 beginning grain d c none r b h =
     subst (Beginning d c) h.is (record { stand = all_stand grain d c none r h.moves h.legal; links = linked d h.moves; idle = idle_at_start grain d h.moves h.legal h.at_start })
 
@@ -328,7 +328,7 @@ settled_at d c formed r b beg i j u q k x (at_zero z s) reads is needs named rea
     true≢false (sym (driven d.assigns j a.0 u a.1 (ap (λ (t : Target). writes_signal t u) a.2 ∙ named)) ∙ ap (is_driven d.assigns) same ∙ undriven)
 
 -- the processes of each slot keep apart
-pub keeps_apart : (grain : Grain) (d : Parts) (c : Claims) → WellFormed d → HasNoEvents d → Ruled d c → (b : State) → Begins grain d b → KeepsApart d b
+pub keeps_apart : (grain : Grain) (d : Parts) (c : Claims) → WellFormed d → HasNoEvents d → Ruled d c → (b : State) → BeginsSlot grain d b → KeepsApart d b
 keeps_apart grain d c formed none r b h = record {
   only = λ i j v th other is that x y.
       let wx = (walk i th is).wrote v x in let wy = (walk j other that).wrote v y in

@@ -46,8 +46,8 @@ pub data Writes (d : Parts) (i v : ℕ) : Type 0 where
   later : (k : Todo) → IsPoint d i k → WritesLater k v → Writes d i v
 
 -- the text of a process reads the signal
-pub data Reads (d : Parts) (i v : ℕ) : Type 0 where
-  reads_at : (k : Todo) (r : BitRange) → IsPoint d i k → ReadsNow k r → r.signal ≡ v → Reads d i v
+pub data ReadsSignal (d : Parts) (i v : ℕ) : Type 0 where
+  reads_at : (k : Todo) (r : BitRange) → IsPoint d i k → ReadsNow k r → r.signal ≡ v → ReadsSignal d i v
 
 -- a blocking source: the text of some process has a write of it by `=` (so it is a variable, which no continuous assignment drives)
 pub data IsBlocking (d : Parts) (v : ℕ) : Type 0 where
@@ -129,7 +129,7 @@ IsUnread d v = (j : ℕ) (a : Assign) → slice_get d.assigns j ≡ Some a → r
 
 -- it has a writer, and no other process and no continuous assignment reads it
 abbrev pub ReadsAlone : Parts → Claims → ℕ → Type 0
-ReadsAlone d c v = (i : ℕ) × IsWriter d c v i × ((j : ℕ) → Reads d j v → j ≡ i) × IsUnread d v
+ReadsAlone d c v = (i : ℕ) × IsWriter d c v i × ((j : ℕ) → ReadsSignal d j v → j ≡ i) × IsUnread d v
 
 abbrev pub HasMode : Parts → Claims → ℕ → Mode → Type 0
 HasMode d c v net = HasKind false d v

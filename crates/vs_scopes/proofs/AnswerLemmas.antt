@@ -9,7 +9,7 @@ use Rattle.vs_scopes.specs.declared.faults.ElabFault.{ElabFault}
 use Rattle.vs_scopes.specs.declared.faults.ElabFault.TheVariants.{Memory, At}
 use Rattle.vs_scopes.specs.Printed.{Path}
 use Rattle.vs_scopes.specs.passes.Answers.{Refuses, Elaborates, Told, IsFaultAt, IsRefusal, Grows}
-use Rattle.vs_scopes.proofs.Folds.{flat_more}
+use Rattle.vs_connections.proofs.Folds.{flat_more}
 
 -- a fault of a part is one of the whole
 pub refused_by : (stands also : Reason → Bool) (e : BodyFault) → ((q : Reason) → stands q ≡ true → also q ≡ true) → Refuses stands e → Refuses also e

@@ -16,15 +16,8 @@ use Rattle.vs_scopes.specs.Ports.{is_among, said_in, port_said, KindSaid, kind_a
 use Rattle.vs_scopes.specs.declared.declared.KindSaid.{KindSaid as FoundSaid}
 use Rattle.vs_scopes.specs.passes.Parts.{read_end}
 use Rattle.vs_scopes.specs.passes.Declared.{first_of, AddsNames, said_by, read_kind, read_said}
-use Rattle.vs_scopes.proofs.Folds.{take_push}
-
-pub bytes_eq-sym : (x y : List ℕ) → bytes_eq x y ≡ bytes_eq y x
-bytes_eq-sym x y = by (bytes_eq x y) (bytes_eq y x) refl refl
-  where
-    by : (a b : Bool) → bytes_eq x y ≡ a → bytes_eq y x ≡ b → bytes_eq x y ≡ bytes_eq y x
-    by true b h k = h ∙ sym ((bytes_eq-Decides y x).1 (sym ((bytes_eq-Decides x y).0 h)))
-    by false true h k = absurd (true≢false (sym ((bytes_eq-Decides x y).1 (sym ((bytes_eq-Decides y x).0 k))) ∙ h))
-    by false false h k = h ∙ sym k
+use Rattle.vs_connections.proofs.Folds.{take_push}
+pub use Rattle.vs_connections.proofs.ConnectionLemmas.{bytes_eq-sym}
 
 pub first_none : {A : Type 0} (o : Option A) → first_of o None ≡ o
 first_none None = refl

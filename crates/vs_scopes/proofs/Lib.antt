@@ -1,7 +1,8 @@
 pub mod AnswerLemmas
-pub mod Folds
+pub use Rattle.vs_connections.proofs.Folds
 pub mod PrintedLemmas
 pub mod SizeLemmas
-pub mod PassLemmas
-pub mod ConnectionLemmas
+pub use Rattle.vs_connections.proofs.PassLemmas
+pub mod PortLemmas
+pub use Rattle.vs_connections.proofs.ConnectionLemmas
 pub mod DeclaredLemmas

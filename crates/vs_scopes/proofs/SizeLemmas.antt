@@ -21,7 +21,7 @@ use Rattle.vs_scopes.specs.Ranges.{range_bounds, distance, bounds_fault, range_f
 use Rattle.vs_scopes.specs.passes.Answers.{Refuses}
 use Rattle.vs_scopes.specs.passes.Sizes.{width_faults, IsSize, AreWords, IsRange}
 use Rattle.vs_scopes.proofs.AnswerLemmas.{refused_by}
-use Rattle.vs_scopes.proofs.Folds.{both_false, left_true, right_true}
+use Rattle.vs_connections.proofs.Folds.{both_false, left_true, right_true}
 
 -- ---- shapes
 

@@ -1,6 +1,7 @@
 pub mod Printed
 pub mod Ranges
-pub mod Connections
+pub use Rattle.vs_connections.specs.Connections
+pub use Rattle.vs_connections.specs.Overrides
 pub mod Parameters
 pub mod Ports
 pub mod Declarations

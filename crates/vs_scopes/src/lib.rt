@@ -1,25 +1,18 @@
 //! The scopes of a source: names and paths, sizes of declarations, parameters, connections (IEEE 1364-2005, clause 12).
 #![tactic(auto)]
 
-mod connections;
 mod declared;
 mod faults;
-mod forms;
 mod modules;
-mod parameters;
 mod ports;
 mod printed;
 mod sizes;
 mod texts;
 mod words;
 
-pub use connections::ends;
 pub use declared::{KindSaid, add_first, kinds_said};
 pub use faults::{BodyFault, ElabFault, ParameterRefusal, Reason};
 pub use modules::with_first;
-pub use parameters::{
-    Given, Parameter, block_parameters, given_alone, given_to, module_parameters,
-};
 pub use ports::{ModulePort, PortSource, module_ports};
 pub use printed::{
     PartName, PathName, numbered_name, print_member, print_name, print_part, print_path,
@@ -27,4 +20,7 @@ pub use printed::{
 };
 pub use sizes::{INTEGER, Size, declared_bounds, declared_size, declared_words, port_size};
 pub use texts::fault_text;
+pub use vs_connections::{
+    Given, Parameter, block_parameters, ends, given_alone, given_to, module_parameters,
+};
 pub use words::WordCount;

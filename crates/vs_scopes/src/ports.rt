@@ -1,14 +1,14 @@
 //! The ports of a module.
 ghost use Rattle.std.specs.Prelude.{◌≡◌, ℕ, List, map, Some, None, IfOk};
-ghost use Rattle.vs_pieces.specs.Pieces.{Piece as Part};
+ghost use Rattle.vs_pieces.specs.Pieces.{Piece as GivenPiece};
 ghost use Rattle.vs_pieces.specs.Reads.{read_piece};
 ghost use Rattle.vs_scopes.specs.Ports.{kind_of_port, port_as, ports_from, port_said, kind_said, is_name_list, port_of_items, port_by_items, listed_ports};
 ghost use Rattle.vs_scopes.specs.passes.Parts.{read_end, read_port};
 ghost use Rattle.vs_scopes.specs.passes.Declared.{read_said, ArePortForms, AreKinds};
 
 use crate::declared::{KindSaid, kinds_said, port_forms};
-use crate::forms::said;
 use std::alloc::{AllocError, Global};
+use vs_connections::said;
 use vs_design::SignalKind;
 use vs_pieces::Piece;
 use vs_syntax::{Direction, Expr, Module, Port, PortForm, PortKind, Range};
@@ -139,7 +139,7 @@ fn port_by_name<'s>(
     kinds: &Names<'s, KindSaid<'s>>,
     name: &'s [u8],
 ) -> ModulePort<'s>
-    ensures { (ps : List Part) → ArePortForms ps forms.now → AreKinds ps kinds.now
+    ensures { (ps : List GivenPiece) → ArePortForms ps forms.now → AreKinds ps kinds.now
         → read_port result ≡ port_of_items (port_said ps name.entry.now) name.entry.now (kind_said ps name.entry.now) }
 {
     match forms.find(name) {

@@ -23,7 +23,7 @@ use Rattle.vs_selects.specs.declared.forms.Form.TheVariants as v
 use Rattle.vs_selects.specs.declared.forms.Form.TheOpen as f
 use Rattle.vs_selects.specs.Senses.{sense}
 use Rattle.vs_selects.proofs.FittingLemmas.{layer}
-use Rattle.vs_selects.specs.declared.places.Place.{Place}
+use Rattle.vs_selects.specs.declared.places.ChosenBits.{ChosenBits}
 use Rattle.vs_selects.specs.Findings.{Has, at_found}
 use Rattle.vs_selects.specs.Meants.{Meant}
 use Rattle.vs_selects.specs.Selects.{Named, size_found, range_by, named_range, named_reads, named_value, operand_meant}
@@ -84,7 +84,7 @@ cast_fits z a s digits h =
 
 -- ---- places
 
-pub fixed_as : (p : Place) (s : Slice) (u w : List Digit) → IsAlone p.word u → IsAlone p.extent.index w → s.signal ≡ p.signal → s.width ≡ p.extent.shape.width →
+pub fixed_as : (p : ChosenBits) (s : Slice) (u w : List Digit) → IsAlone p.word u → IsAlone p.extent.index w → s.signal ≡ p.signal → s.width ≡ p.extent.shape.width →
     s.word ≡ word_place p.words u → s.low ≡ place_of p.extent.axis p.extent.shape.width w → IsFixed p s
 fixed_as p s u w h k e d i j = record {
   word_ranges = h.ranges;
@@ -115,21 +115,21 @@ valued : (n : Named) (w : ℕ) (s : Bool) (store : Store) (time : ℕ) → n.fin
 valued n w s store time h = ap (λ z. at_found z (λ width signed. bits_value (n.low store time) width (word_of store n.signal (n.word store time)))) h
 
 -- the range of what has constant indices
-pub fixed_range : (p : Place) (s : Slice) → IsFixed p s → (n : Named) → IsPlaced n p → slice_range s ≡ named_range n
+pub fixed_range : (p : ChosenBits) (s : Slice) → IsFixed p s → (n : Named) → IsPlaced n p → slice_range s ≡ named_range n
 fixed_range p s q n h =
     let none : n.reads ≡ [] = h.ranges ∙ ap₂ (λ a b. a ++ b) q.word_ranges q.ranges in
     range_none n.reads n s none (q.signal ∙ sym h.signal) (sym (h.word [] 0 ∙ q.word [] 0)) (sym (h.low [] 0 ∙ q.low [] 0))
     (q.width ∙ sym (sized n p.extent.shape.width p.extent.shape.signed h.found))
 
-pub fixed_reads : (p : Place) (s : Slice) → IsFixed p s → (n : Named) → IsPlaced n p → n.reads ≡ []
+pub fixed_reads : (p : ChosenBits) (s : Slice) → IsFixed p s → (n : Named) → IsPlaced n p → n.reads ≡ []
 fixed_reads p s q n h = h.ranges ∙ ap₂ (λ a b. a ++ b) q.word_ranges q.ranges
 
 -- the range of what has others
-pub chosen_range : (p : Place) → ((sense p.word.form).reads ≡ [] → (sense p.extent.index.form).reads ≡ [] → ⊥) → (n : Named) → IsPlaced n p → all_words p.signal ≡ named_range n
+pub chosen_range : (p : ChosenBits) → ((sense p.word.form).reads ≡ [] → (sense p.extent.index.form).reads ≡ [] → ⊥) → (n : Named) → IsPlaced n p → all_words p.signal ≡ named_range n
 chosen_range p q n h =
     ap all_words (sym h.signal) ∙ range_some n.reads n (λ k. both_empty (sense p.word.form).reads (sense p.extent.index.form).reads q (sym h.ranges ∙ k))
 
-pub fixed_chosen : (p : Place) (s : Slice) → IsFixed p s → (n : Named) → IsPlaced n p → IsChosen n (v.Slice s)
+pub fixed_chosen : (p : ChosenBits) (s : Slice) → IsFixed p s → (n : Named) → IsPlaced n p → IsChosen n (v.Slice s)
 fixed_chosen p s q n h =
     let same = layer (f.Slice s) (v.Slice s) (v.rolls-Slice s) in
     let w = p.extent.shape.width in
@@ -143,7 +143,7 @@ fixed_chosen p s q n h =
           ∙ sym (valued n w p.extent.shape.signed store time h.found);
     }
 
-pub select_chosen : (p : Place) (s : Box Selection Global) (b d : Box Form Global) → IsOwnPart p.word b.value → IsOwnPart p.extent.index d.value → s.value.signal ≡ p.signal → s.value.words ≡ p.words → s.value.bits ≡ p.extent.axis → s.value.width ≡ p.extent.shape.width →
+pub select_chosen : (p : ChosenBits) (s : Box Selection Global) (b d : Box Form Global) → IsOwnPart p.word b.value → IsOwnPart p.extent.index d.value → s.value.signal ≡ p.signal → s.value.words ≡ p.words → s.value.bits ≡ p.extent.axis → s.value.width ≡ p.extent.shape.width →
     ((sense p.word.form).reads ≡ [] → (sense p.extent.index.form).reads ≡ [] → ⊥) → (n : Named) → IsPlaced n p → IsChosen n (v.Select s b d)
 select_chosen p s b d k l e i j w q n h =
     let same = layer (f.Select s b d) (v.Select s b d) (v.rolls-Select s b d) in
@@ -171,7 +171,7 @@ select_chosen p s b d k l e i j w q n h =
 pub meant_same : (a b : Meant) → a.finding ≡ b.finding → a.reads ≡ b.reads → ((store : Store) (time width : ℕ) (signed : Bool) → a.at store time width signed ≡ b.at store time width signed) → a ≡ b
 meant_same a b p q h = λ i. record { finding = p i; reads = q i; at = λ store time width signed. h store time width signed i }
 
-pub operand_as : (p : Place) (y : Form) (b : Box Form Global) → b.value ≡ y → ((n : Named) → IsPlaced n p → IsChosen n y) → (n : Named) → IsPlaced n p →
+pub operand_as : (p : ChosenBits) (y : Form) (b : Box Form Global) → b.value ≡ y → ((n : Named) → IsPlaced n p → IsChosen n y) → (n : Named) → IsPlaced n p →
     IsMeasured (operand_meant n) (record { shape = p.extent.shape; form = v.Closed p.extent.shape b })
 operand_as p y b e k n h =
     let shape = p.extent.shape in

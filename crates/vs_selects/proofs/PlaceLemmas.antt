@@ -22,7 +22,7 @@ use Rattle.vs_selects.specs.declared.faults.WidthFault.{WidthFault}
 use Rattle.vs_selects.specs.declared.faults.WidthFault.TheVariants.{Memory, Refused}
 use Rattle.vs_selects.specs.declared.bindings.Meaning.{Meaning}
 use Rattle.vs_selects.specs.declared.places.Extent.{Extent}
-use Rattle.vs_selects.specs.declared.places.Place.{Place}
+use Rattle.vs_selects.specs.declared.places.ChosenBits.{ChosenBits}
 use Rattle.vs_selects.specs.Findings.{Finding, Has, Lacks, stands, together, alone, second, Refuses}
 use Rattle.vs_selects.specs.Meants.{own}
 use Rattle.vs_selects.specs.Constants.{where_none, where_some, whole_of, natural_of, positive, constant_finding, whole_finding, count_finding}
@@ -173,5 +173,5 @@ array_placed b x signal (y ∷ ys) rest i None a e h k r n m l g p =
     let flexible : IsFlexibleSelect (i, None) = subst IsFlexibleSelect (sym k) (m 0 (i, None) (omega arith)) in
     array_placed_by b x signal y ys i a e (sym k) l g flexible (subst (λ z. IsExtent (span_of x.bits x.shape (selects_meaning z)) e) r p)
 
-pub words_placed : (o : Option Bounds) (m : Meaning) (signal : ℕ) (ss : List Select) (p : Place) → o ≡ None → IsPlaced (in_signal signal (span_of m.bits m.shape ss)) p → IsPlaced (of_words o m signal ss) p
+pub words_placed : (o : Option Bounds) (m : Meaning) (signal : ℕ) (ss : List Select) (p : ChosenBits) → o ≡ None → IsPlaced (in_signal signal (span_of m.bits m.shape ss)) p → IsPlaced (of_words o m signal ss) p
 words_placed o m signal ss p h q = rw h q

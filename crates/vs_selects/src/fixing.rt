@@ -7,7 +7,7 @@ ghost use Rattle.vs_selects.specs.passes.Places.{Fixes, IsExtent, IsPlaced, IsCh
 use crate::constants::{reads_nothing, value_alone};
 use crate::fitting::fitted;
 use crate::forms::{Form, Measured};
-use crate::places::{Extent, Place};
+use crate::places::{ChosenBits, Extent};
 use std::alloc::{AllocError, Global};
 use vs_design::{Excerpt, Selection, Slice};
 use vs_eval::{place_of, reads_hold, word_place};
@@ -28,7 +28,7 @@ fn alone(alloc: Global, x: &Measured) -> Result<Option<Vec4>, AllocError>
 }
 
 /// The bits of a place whose indices read nothing.
-pub fn fixed(alloc: Global, place: &Place) -> Result<Option<Slice>, AllocError>
+pub fn fixed(alloc: Global, place: &ChosenBits) -> Result<Option<Slice>, AllocError>
     ensures { IfOk result (λ s. Fixes place.now s) }
 {
     let extent = &place.extent;
@@ -48,7 +48,7 @@ pub fn fixed(alloc: Global, place: &Place) -> Result<Option<Slice>, AllocError>
 }
 
 /// The bits of a place whose indices aren't constant.
-pub fn selection(place: &Place) -> Selection
+pub fn selection(place: &ChosenBits) -> Selection
     ensures signal { result.signal ≡ place.now.signal }
     ensures words { result.words ≡ place.now.words }
     ensures bits { result.bits ≡ place.now.extent.axis }
@@ -71,7 +71,7 @@ fn own(alloc: Global, x: Measured) -> Result<Box<Form>, AllocError>
 }
 
 /// The bits of a place, before they are brought to a context.
-fn chosen(alloc: Global, place: Place) -> Result<Form, AllocError>
+fn chosen(alloc: Global, place: ChosenBits) -> Result<Form, AllocError>
     ensures { IfOk result (λ y. (n : Named) → IsPlaced n place → IsChosen n y) }
 {
     match fixed(alloc, &place)? {
@@ -87,7 +87,7 @@ fn chosen(alloc: Global, place: Place) -> Result<Form, AllocError>
 }
 
 /// The bits of a place as an operand.
-pub fn operand(alloc: Global, place: Place) -> Result<Measured, AllocError>
+pub fn operand(alloc: Global, place: ChosenBits) -> Result<Measured, AllocError>
     ensures { IfOk result (λ y. (n : Named) → IsPlaced n place → IsMeasured (operand_meant n) y) }
 {
     let shape = place.extent.shape;

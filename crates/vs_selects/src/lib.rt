@@ -17,5 +17,5 @@ pub use faults::{WidthFault, WidthReason};
 pub use fitting::fitted;
 pub use fixing::{excerpt, fixed, operand, selection};
 pub use forms::{Form, Measured};
-pub use places::{Extent, Place, bits_of_constant, named};
+pub use places::{ChosenBits, Extent, bits_of_constant, named};
 pub use shape::{BIT, Shape};

@@ -31,7 +31,7 @@ pub struct Extent {
 
 /// Bits of a signal: the index that chooses the word, and the bits of it.
 #[derive(Drop)]
-pub struct Place {
+pub struct ChosenBits {
     /// The signal's number in design order.
     pub signal: usize,
     /// How the index of the word chooses.
@@ -234,10 +234,10 @@ fn bits_of(
 }
 
 /// Bits of a signal that is no array.
-fn in_signal(signal: usize, extent: Extent) -> Place
+fn in_signal(signal: usize, extent: Extent) -> ChosenBits
     ensures { (s : Span) → IsExtent s extent → IsPlaced (in_signal signal s) result }
 {
-    Place {
+    ChosenBits {
         signal,
         words: ORIGIN,
         word: zero(),
@@ -252,7 +252,7 @@ fn in_array(
     meaning: Meaning,
     signal: usize,
     selects: Vec<(Measured, Option<(PartSelect, Measured)>)>,
-) -> Result<Place, WidthFault>
+) -> Result<ChosenBits, WidthFault>
     requires flexible { All IsFlexibleSelect selects.items }
     ensures { Places (in_array words meaning signal (selects_meaning selects.items)) result }
 {
@@ -265,7 +265,7 @@ fn in_array(
         return Err(WRONG_KIND);
     }
     let extent = bits_of(alloc, meaning.bits, meaning.shape, selects)?;
-    Ok(Place {
+    Ok(ChosenBits {
         signal,
         words: axis(words, meaning.count, 0, index.shape.signed),
         word: index,
@@ -279,7 +279,7 @@ fn of_words(
     meaning: Meaning,
     signal: usize,
     selects: Vec<(Measured, Option<(PartSelect, Measured)>)>,
-) -> Result<Place, WidthFault>
+) -> Result<ChosenBits, WidthFault>
     requires flexible { All IsFlexibleSelect selects.items }
     ensures { Places (of_words meaning.words meaning signal (selects_meaning selects.items)) result }
 {
@@ -297,7 +297,7 @@ pub fn named(
     alloc: Global,
     binding: Option<Binding>,
     selects: Vec<(Measured, Option<(PartSelect, Measured)>)>,
-) -> Result<Place, WidthFault>
+) -> Result<ChosenBits, WidthFault>
     requires flexible { All IsFlexibleSelect selects.items }
     ensures { Places (named binding (selects_meaning selects.items)) result }
 {

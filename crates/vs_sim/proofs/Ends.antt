@@ -9,7 +9,7 @@ use Rattle.vs_sim.specs.declared.words.Text.TheVariants.{Lines, Dump}
 use Rattle.vs_sim.specs.declared.words.Call.{Call}
 use Rattle.vs_sim.specs.declared.words.Call.TheVariants.{Run, Elab}
 use Rattle.vs_sim.specs.Ends.{HasRun, HasDone, HasWritten, Wrote, EndsCall, by_doing, by_fault, by_device, top_of, done_status}
-use Rattle.vs_simulation.specs.Honesty.{Fails}
+use Rattle.vs_simulation.specs.Honesty.{SimulationFails}
 use Rattle.vs_sim.specs.Inputs.{IsKept}
 use Rattle.vs_sim.specs.Statuses.{fault_status}
 
@@ -31,7 +31,7 @@ ends_by_doing old new {input} {call} {kept} {seen} {o} {r} k same is ok told =
 
 -- a call that gave a fault
 pub ends_by_fault : {input : Option (List ℕ)} {call : Call} {kept seen : List ℕ} {f : SimFault} {r : Result (Option Outcome) SimFault} {status : ℕ} →
-    IsKept input kept → seen ≡ kept → r ≡ Err f → IfErr r (λ f. Fails seen (top_of call) f) → (status ≡ fault_status f) ⊎ (status ≡ 3) → EndsCall input call status
+    IsKept input kept → seen ≡ kept → r ≡ Err f → IfErr r (λ f. SimulationFails seen (top_of call) f) → (status ≡ fault_status f) ⊎ (status ≡ 3) → EndsCall input call status
 ends_by_fault {input} {call} {kept} {seen} {f} {r} k same is err (inl told) =
-    by_fault kept f k (subst (λ bytes. Fails bytes (top_of call) f) same (rw is at err)) told
+    by_fault kept f k (subst (λ bytes. SimulationFails bytes (top_of call) f) same (rw is at err)) told
 ends_by_fault {input} {call} {kept} {seen} {f} {r} k same is err (inr told) = by_device told

@@ -8,7 +8,7 @@ use Rattle.vs_sim.specs.declared.words.Call.TheVariants.{Run, Elab}
 use Rattle.vs_sim.specs.declared.words.Text.{Text}
 use Rattle.vs_sim.specs.declared.words.Text.TheVariants.{Lines, Dump}
 use Rattle.vs_sim.specs.Asks.{WordsAsk}
-use Rattle.vs_simulation.specs.Honesty.{IsRun, Fails}
+use Rattle.vs_simulation.specs.Honesty.{IsRun, SimulationFails}
 use Rattle.vs_sim.specs.Inputs.{IsKept}
 use Rattle.vs_simulation.specs.Listing.{IsListed}
 use Rattle.vs_sim.specs.Statuses.{outcome_status, fault_status}
@@ -57,7 +57,7 @@ done_status (Some outcome) = outcome_status outcome
 -- how a call that was asked for ends, with the bytes kept of the input: by what it did, by its fault, or with 3 where a device or memory failed
 pub data EndsCall (input : Option (List ℕ)) (call : Call) (status : ℕ) : Type 0 where
   by_doing : (bytes : List ℕ) (done : Option Outcome) → IsKept input bytes → HasDone bytes call done → status ≡ done_status done → EndsCall input call status
-  by_fault : (bytes : List ℕ) (fault : SimFault) → IsKept input bytes → Fails bytes (top_of call) fault → status ≡ fault_status fault →
+  by_fault : (bytes : List ℕ) (fault : SimFault) → IsKept input bytes → SimulationFails bytes (top_of call) fault → status ≡ fault_status fault →
       EndsCall input call status
   by_device : status ≡ 3 → EndsCall input call status
 

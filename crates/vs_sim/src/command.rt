@@ -2,7 +2,7 @@
 ghost use Rattle.std.specs.Prelude.{◌≡◌, ◌⊎◌, map, IfOk, IfErr};
 ghost use Rattle.vs_sim.specs.Asks.{WordsAsk};
 ghost use Rattle.vs_sim.specs.Ends.{Ends, EndsCall, HasWritten, Wrote, IsWordsStatus, done_status, top_of};
-ghost use Rattle.vs_simulation.specs.Honesty.{Fails};
+ghost use Rattle.vs_simulation.specs.Honesty.{SimulationFails};
 ghost use Rattle.vs_sim.specs.Statuses.{fault_status};
 
 use crate::dropped::Dropped;
@@ -126,7 +126,7 @@ fn run_source<'s, W: Write>(
 ) -> (Result<Outcome, SimFault<'s>>, W)
     ensures ok { IfOk result.0 (λ outcome. Wrote request.entry.text source.entry.now request.entry
         outcome (W.contents writer) (W.contents result.1)) }
-    ensures err { IfErr result.0 (λ fault. Fails source.entry.now request.entry.top.now fault) }
+    ensures err { IfErr result.0 (λ fault. SimulationFails source.entry.now request.entry.top.now fault) }
 {
     let mut shown = Counted::new(writer);
     let mut dropped = Dropped;
@@ -166,7 +166,7 @@ fn do_call<'s, W: Write>(
     writer: W,
 ) -> (Result<Option<Outcome>, SimFault<'s>>, W)
     ensures ok { IfOk result.0 (λ done. HasWritten source.entry.now call.entry done (W.contents writer) (W.contents result.1)) }
-    ensures err { IfErr result.0 (λ fault. Fails source.entry.now (top_of call.entry) fault) }
+    ensures err { IfErr result.0 (λ fault. SimulationFails source.entry.now (top_of call.entry) fault) }
 {
     match call {
         Call::Run(request) => {

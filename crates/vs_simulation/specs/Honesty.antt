@@ -19,7 +19,7 @@ use Rattle.vs_simulation.specs.declared.fault.SimFault.{SimFault}
 use Rattle.vs_simulation.specs.declared.fault.SimFault.TheVariants.{Lex, Parse, Elab, Run, Memory}
 
 -- the bytes spell tokens, these derive a source (clause 3, annex A)
-pub record Reads (bytes : List ℕ) (source : Source) : Type 0 where
+pub record ReadsSource (bytes : List ℕ) (source : Source) : Type 0 where
   pub tokens : List Lexeme
   pub spelled : IsSpelled bytes tokens
   pub derived : Derives (symbols tokens) source
@@ -27,7 +27,7 @@ pub record Reads (bytes : List ℕ) (source : Source) : Type 0 where
 -- the bytes and the name of a top module define a design (clause 12)
 pub record Defines (bytes top : List ℕ) (d : Parts) : Type 0 where
   pub source : Source
-  pub read : Reads bytes source
+  pub read : ReadsSource bytes source
   pub defined : DesignOf source top d
 
 -- the bytes spell tokens that derive no source, as the fault says
@@ -39,7 +39,7 @@ pub record DerivesNone (bytes : List ℕ) (fault : ParseFault) : Type 0 where
 -- the bytes spell tokens that derive a source, which with this top defines no design, as the fault says
 pub record ElaboratesToNone (bytes top : List ℕ) (fault : ElabFault) : Type 0 where
   pub source : Source
-  pub read : Reads bytes source
+  pub read : ReadsSource bytes source
   pub refused : Faults source top fault
 
 -- what a fault before the run says of the bytes and the top
@@ -51,12 +51,12 @@ DefinesNone bytes top (Run fault) = ⊥
 DefinesNone bytes top Memory = ⊥
 
 -- what a fault says of the bytes and the top: a refusal stands, and a run fails for memory or a write alone
-abbrev pub Fails : List ℕ → List ℕ → SimFault → Type 0
-Fails bytes top (Lex fault) = LexFails bytes fault
-Fails bytes top (Parse fault) = DerivesNone bytes fault
-Fails bytes top (Elab fault) = ElaboratesToNone bytes top fault
-Fails bytes top (Run fault) = ((d : Parts) × Defines bytes top d) × ((fault ≡ run.Memory) ⊎ (fault ≡ run.Write))
-Fails bytes top Memory = Unit {0}
+abbrev pub SimulationFails : List ℕ → List ℕ → SimFault → Type 0
+SimulationFails bytes top (Lex fault) = LexFails bytes fault
+SimulationFails bytes top (Parse fault) = DerivesNone bytes fault
+SimulationFails bytes top (Elab fault) = ElaboratesToNone bytes top fault
+SimulationFails bytes top (Run fault) = ((d : Parts) × Defines bytes top d) × ((fault ≡ run.Memory) ⊎ (fault ≡ run.Write))
+SimulationFails bytes top Memory = Unit {0}
 
 -- whether a fault is told before the run
 abbrev pub is_refusal : SimFault → Bool

@@ -1,7 +1,7 @@
 //! The listing of a design.
 ghost use Rattle.std.specs.Prelude.{◌≡◌, ◌++◌, ◌∷◌, [], IfOk, IfErr, OnOk};
 ghost use Rattle.std.specs.List.{flat_map};
-ghost use Rattle.vs_simulation.specs.Honesty.{Fails};
+ghost use Rattle.vs_simulation.specs.Honesty.{SimulationFails};
 ghost use Rattle.vs_simulation.specs.Listing.{kind_word, sign_word, process_word, spaced, signal_line, assign_line, process_line, listing, IsListed};
 
 use crate::fault::SimFault;
@@ -116,7 +116,7 @@ pub fn list_design<'s, W: Write>(
     writer: &mut W,
 ) -> Result<(), SimFault<'s>>
     ensures listed { IfOk result (λ _. IsListed source.entry.now top.now (W.contents writer.old) (W.contents writer.new)) }
-    ensures fault { IfErr result (λ fault. Fails source.entry.now top.now fault) }
+    ensures fault { IfErr result (λ fault. SimulationFails source.entry.now top.now fault) }
 {
     let design = design_of(alloc, source, top)?;
     let text = design_text(alloc, &design)?;

@@ -4,7 +4,7 @@ ghost use Rattle.vs_kernel.specs.Faults.{FaultAt, OneFailed, is_write as is_run_
 ghost use Rattle.vs_kernel.specs.Runs.{RanTo, HasBegun};
 ghost use Rattle.vs_kernel.specs.declared.kernel.Status.TheVariants.{Ready};
 ghost use Rattle.vs_process.specs.Permitted.{NeverStuck};
-ghost use Rattle.vs_simulation.specs.Honesty.{Defines, DefinesNone, IsRun, HasBegunRun, Fails, is_refusal, is_write};
+ghost use Rattle.vs_simulation.specs.Honesty.{Defines, DefinesNone, IsRun, HasBegunRun, SimulationFails, is_refusal, is_write};
 
 use crate::fault::SimFault;
 use std::alloc::Global;
@@ -125,7 +125,7 @@ pub fn simulate<'s, V: Sink, L: Sink>(
     requires steps { steps < 2 ^ 62 }
     ensures honest { IfOk result (λ outcome.
         IsRun source.entry.now top.now until steps outcome (V.bytes vcd.old) (V.bytes vcd.new) (L.bytes lines.old) (L.bytes lines.new)) }
-    ensures fault { IfErr result (λ fault. Fails source.entry.now top.now fault) }
+    ensures fault { IfErr result (λ fault. SimulationFails source.entry.now top.now fault) }
     ensures refused { IfErr result (λ fault. is_refusal fault ≡ true → (vcd.new ≡ vcd.old) × (lines.new ≡ lines.old)) }
     ensures begun { IfErr result (λ fault. is_refusal fault ≡ false →
         HasBegunRun source.entry.now top.now until steps (V.bytes vcd.old) (V.bytes vcd.new) (L.bytes lines.old) (L.bytes lines.new)) }

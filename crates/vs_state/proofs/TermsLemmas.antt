@@ -1,14 +1,11 @@
 -- The processes of a state that an execution reaches wait for changes of signals that the event controls of their texts name.
 use Rattle.std.proofs.Common.{◌≡◌, ℕ, zero, suc, ◌+◌, ◌==◌, Bool, true, false, Option, Some, None, List, [], ◌∷◌, ◌++◌, map, slice_get, slice_set, inl, inr, refl, sym, ◌∙◌, ap, subst}
-use Rattle.std.specs.Prelude.{find}
 use Rattle.std.specs.declared.vec.Vec.{Vec}
 use Rattle.std.specs.declared.alloc.Global.{Global}
 use Rattle.std.specs.List.{list_any}
 use Rattle.std.proofs.lemmas.Bool.{or_parts, or_from, cases_Bool, cond_both, false≢true}
 use Rattle.std.proofs.lemmas.List.Folds.{list_any-append}
 use Rattle.vs_logic4.specs.declared.digit.Digit.{Digit}
-use Rattle.vs_logic4.specs.declared.digit.Digit.TheVariants.{Zero, One, X, Z}
-use Rattle.vs_logic4.specs.declared.case.CaseKind.{CaseKind}
 use Rattle.vs_logic4.specs.Comparisons.{truth}
 use Rattle.vs_design.specs.declared.design.Process.{Process}
 use Rattle.vs_design.specs.declared.expression.Typed.{Typed}
@@ -28,12 +25,13 @@ use Rattle.vs_eval.specs.Values.{value_of}
 use Rattle.vs_flatcode.specs.declared.gait.Gait.{Gait}
 use Rattle.vs_flatcode.specs.declared.gait.Gait.TheVariants.{Fresh, Woken}
 use Rattle.vs_flatcode.specs.Places.{Item, perform, turns, Todo, Place, going, sleeping, inactive, waiting, ended, active_at, stepped_gait, start_place, todo_of, flat}
-use Rattle.vs_flatcode.specs.Steps.{Next, on, after, wait, step, statement_step, branch, item_matches, is_default, first_of, flat_item, taken, turns_for, repeated}
+use Rattle.vs_flatcode.specs.Steps.{Next, on, after, wait, step, statement_step, flat_item, turns_for, repeated}
 use Rattle.vs_process.specs.declared.moves.Move.{Move}
 use Rattle.vs_process.specs.declared.moves.Move.TheVariants.{Step, Evaluate, Propagate, Make, Rouse, Activate, EndSlot}
 use Rattle.vs_process.specs.Executions as executions
 use Rattle.vs_flatcode.specs.Drafts.{flat_all}
 use Rattle.vs_process.specs.States.{State, AssignState, Update, terms_of, wakened, written_behind, stepped, place_behind, paused, evaluate, propagate, propagate_value, make, roused, woken_at}
+use Rattle.vs_process.proofs.WellFormed.{branch_each, taken_each}
 use Rattle.vs_flatcode.proofs.Shapes.{flat-Block}
 use Rattle.vs_state.specs.Waits.{name_signal, WaitsWithin, WaitWithin, HasTerms}
 
@@ -123,25 +121,6 @@ terms_behind _ = []
 -- neither what a step leaves to be done nor what it waits for names a signal
 abbrev QuietNext : ℕ → Next → Type 0
 QuietNext v n = (hears_todo v (todo_behind n) ≡ false) × (name_signal v (terms_behind n) ≡ false)
-
-branch_each : {A : Type 0} (P : A → Type 0) (d : Digit) (a b : A) → P a → P b → P (branch d a b)
-branch_each P Zero a b x y = y
-branch_each P One a b x y = x
-branch_each P X a b x y = y
-branch_each P Z a b x y = y
-
-find_each : {A : Type 0} (P : Option A → Type 0) (p : A → Bool) (xs : List A) → P None → ((i : ℕ) (x : A) → slice_get xs i ≡ Some x → P (Some x)) → P (find p xs)
-find_each P p [] none some = none
-find_each P p (x ∷ xs) none some = cond_both (p x) (Some x) (find p xs) P (λ e. some 0 x refl) (λ e. find_each P p xs none (λ i. some (suc i)))
-
-first_each : {A : Type 0} (P : Option A → Type 0) (a b : Option A) → P a → P b → P (first_of a b)
-first_each P None b x y = y
-first_each P (Some a) b x y = x
-
-taken_each : (P : Option (Vec Typed Global × Statement) → Type 0) (kind : CaseKind) (digits : List Digit) (store : Store) (time : ℕ) (items : List (Vec Typed Global × Statement)) →
-    P None → ((i : ℕ) (x : Vec Typed Global × Statement) → slice_get items i ≡ Some x → P (Some x)) → P (taken kind digits store time items)
-taken_each P kind digits store time items none some =
-    first_each P (find (item_matches kind digits store time) items) (find is_default items) (find_each P (item_matches kind digits store time) items none some) (find_each P is_default items none some)
 
 -- the items of a `case` name what the `case` names
 quiet_items : (v : ℕ) (items : List (Vec Typed Global × Statement)) →

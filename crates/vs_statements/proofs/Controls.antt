@@ -20,7 +20,7 @@ use Rattle.vs_statements.specs.Heads.{BeginsDelay, BeginsEvent, separator_symbol
 use Rattle.vs_forms.specs.Parts.{ReadsWithin, marked}
 use Rattle.vs_expressions.specs.declared.reading.Read.{Read}
 use Rattle.vs_expressions.specs.declared.reading.Stop.{Stop}
-use Rattle.vs_expressions.specs.Answers.{seen, Reads}
+use Rattle.vs_expressions.specs.Answers.{seen, ReadsTree}
 use Rattle.vs_expressions.proofs.Exits.{fails_by, goes_at}
 
 -- the words of edges
@@ -89,7 +89,7 @@ event_group_stuck room deep ts after at e s =
 event_group_read : (room : ℕ) (ts after rest : List Symbol) (x : Tree) → ts ≡ a_mark m.Open ∷ after → Gets grouped room after x rest → Gets event room ts (marked m.Open x) rest
 event_group_read room ts after rest x e p = rw e (gets_right refl (gets_right refl (gets_seq (gets_token refl) p)))
 
-pub event_group : (room : ℕ) (ts after : List Token) (r : Result (Read EventControl) Stop) → seen ts ≡ a_mark m.Open ∷ seen after → ReadsWithin event_tree (marked m.Open) grouped room after r → Reads event room ts event_tree r
+pub event_group : (room : ℕ) (ts after : List Token) (r : Result (Read EventControl) Stop) → seen ts ≡ a_mark m.Open ∷ seen after → ReadsWithin event_tree (marked m.Open) grouped room after r → ReadsTree event room ts event_tree r
 event_group room ts after (Ok x) e p = rw p.whole (event_group_read room (seen ts) (seen after) (seen x.rest.now) p.inner e p.gets)
 event_group room ts after (Err f) e p =
     fails_by grouped event room room (seen after) (seen ts) (λ deep at s. event_group_stuck room deep (seen ts) (seen after) at e s) f p

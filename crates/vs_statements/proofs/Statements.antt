@@ -25,7 +25,7 @@ use Rattle.vs_statements.proofs.Heads.{word_branch, word_need}
 use Rattle.vs_forms.proofs.Trees.{tree_Null}
 use Rattle.vs_expressions.specs.declared.reading.Read.{Read}
 use Rattle.vs_expressions.specs.declared.reading.Stop.{Stop}
-use Rattle.vs_expressions.specs.Answers.{seen, Reads}
+use Rattle.vs_expressions.specs.Answers.{seen, ReadsTree}
 use Rattle.vs_expressions.proofs.Exits.{fails_by}
 use Rattle.vs_expressions.proofs.Choices.{choice_read, choice_stuck}
 use Rattle.vs_expressions.proofs.Rows.{Along, all_read, more_read, more_stuck, some_there}
@@ -52,7 +52,7 @@ word_stuck k room deep ts after at e h l p =
     rw e (stuck_part (stuck_node h (stuck_right (word_apart k after) none (choice_stuck statements (behind_of k) (room - 1) deep (symbol_of k) after at (word_branch k) l p))))
 
 -- what was read behind the first symbol makes the statement
-pub word_stmt : (k : StatementWord) (room : ℕ) (ts after : List Token) (r : Result (Read Stmt) Stop) → seen ts ≡ symbol_of k ∷ seen after → low (behind_of k) < room → ReadsWithin stmt_tree (headed (symbol_of k)) (behind_of k) (room - 1) after r → Reads (part a_stmt) room ts stmt_tree r
+pub word_stmt : (k : StatementWord) (room : ℕ) (ts after : List Token) (r : Result (Read Stmt) Stop) → seen ts ≡ symbol_of k ∷ seen after → low (behind_of k) < room → ReadsWithin stmt_tree (headed (symbol_of k)) (behind_of k) (room - 1) after r → ReadsTree (part a_stmt) room ts stmt_tree r
 word_stmt k room ts after (Ok x) e h p = rw p.whole (word_read k room (seen ts) (seen after) (seen x.rest.now) p.inner e (omega (arith, h)) p.gets)
 word_stmt k room ts after (Err f) e h p =
     fails_by (behind_of k) (part a_stmt) (room - 1) room (seen after) (seen ts)

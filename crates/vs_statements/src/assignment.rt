@@ -5,7 +5,7 @@ ghost use Rattle.vs_syntax.specs.Grammar.{Grammar, ◌·◌, part, mark, assignm
 ghost use Rattle.vs_syntax.specs.Tables.{goes};
 ghost use Rattle.vs_syntax.specs.Derivation.{both};
 ghost use Rattle.vs_syntax.specs.Views.{expr_tree, left_tree, late_tree, assigned_tree, guarded_tree, for_tree, stmt_tree};
-ghost use Rattle.vs_expressions.specs.Answers.{seen, Reads};
+ghost use Rattle.vs_expressions.specs.Answers.{seen, ReadsTree};
 ghost use Rattle.vs_forms.specs.Parts.{Leads, marked, sides_tree};
 ghost use Rattle.vs_statements.specs.Timings.{timing, timing_tree};
 
@@ -32,7 +32,7 @@ pub(crate) fn assigned_stmt<'t, 's>(
 ) -> Result<Read<'t, 's, Stmt>, Stop<'t, 's>>
     requires room { 2 ≤ room }
     requires first { goes (part a_target) (seen tokens.now) ≡ true }
-    ensures { Reads (part a_stmt) room tokens.now stmt_tree result }
+    ensures { ReadsTree (part a_stmt) room tokens.now stmt_tree result }
 {
     let target = left(alloc, room - 1, tokens)?;
     let timing = sign(alloc, room - 1, target.rest)?;
@@ -59,7 +59,7 @@ fn sign<'t, 's>(
     room: u32,
     tokens: &'t [Token<'s>],
 ) -> Result<Read<'t, 's, Timing>, Stop<'t, 's>>
-    ensures { Reads timing room tokens.now timing_tree result }
+    ensures { ReadsTree timing room tokens.now timing_tree result }
 {
     match mark_at(tokens, Mark::Assign) {
         Some(rest) => Ok(Read {
@@ -83,7 +83,7 @@ fn late<'t, 's>(
     room: u32,
     tokens: &'t [Token<'s>],
 ) -> Result<Read<'t, 's, Option<DelayValue>>, Stop<'t, 's>>
-    ensures { Reads late room tokens.now late_tree result }
+    ensures { ReadsTree late room tokens.now late_tree result }
 {
     let Some(after) = mark_at(tokens, Mark::Hash) else {
         return Ok(Read {

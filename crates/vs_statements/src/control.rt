@@ -6,7 +6,7 @@ ghost use Rattle.vs_syntax.specs.Symbols.{any_number, first};
 ghost use Rattle.vs_syntax.specs.Grammar.{◌·◌, ◌or◌, many, part, mark, word, delay, event, event_exprs, an_expr, an_event_expr};
 ghost use Rattle.vs_syntax.specs.Derivation.{both};
 ghost use Rattle.vs_syntax.specs.Views.{row_of, closed_tree, expr_tree, delay_tree, event_expr_tree, other_event_tree, event_tree};
-ghost use Rattle.vs_expressions.specs.Answers.{seen, Reads};
+ghost use Rattle.vs_expressions.specs.Answers.{seen, ReadsTree};
 ghost use Rattle.vs_forms.specs.Parts.{ReadsWithin, marked};
 
 use crate::head::{DelayHead, EventHead, delay_head, edge_at, event_head, separator_at};
@@ -23,7 +23,7 @@ pub(crate) fn delay_value<'t, 's>(
     room: u32,
     tokens: &'t [Token<'s>],
 ) -> Result<Read<'t, 's, DelayValue>, Stop<'t, 's>>
-    ensures { Reads delay room tokens.now delay_tree result }
+    ensures { ReadsTree delay room tokens.now delay_tree result }
 {
     let Some((head, after)) = delay_head(tokens) else {
         return Err(Stop::Unexpected(tokens));
@@ -50,7 +50,7 @@ pub(crate) fn delay_value<'t, 's>(
 /// Reads a delay that is a number.
 fn delay_number<'t, 's>(tokens: &'t [Token<'s>]) -> Result<Read<'t, 's, DelayValue>, Stop<'t, 's>>
     requires { first (seen tokens.now) ≡ any_number }
-    ensures { (room : ℕ) → Reads delay room tokens.now delay_tree result }
+    ensures { (room : ℕ) → ReadsTree delay room tokens.now delay_tree result }
 {
     let Some((first, rest)) = next(tokens) else {
         return Err(Stop::Unexpected(tokens));
@@ -70,7 +70,7 @@ fn closed<'t, 's>(
     room: u32,
     tokens: &'t [Token<'s>],
 ) -> Result<Read<'t, 's, Box<Expr>>, Stop<'t, 's>>
-    ensures { Reads (part an_expr · mark m.Close) room tokens.now (λ x. closed_tree (expr_tree x.value)) result }
+    ensures { ReadsTree (part an_expr · mark m.Close) room tokens.now (λ x. closed_tree (expr_tree x.value)) result }
 {
     let inner = expr(alloc, room, tokens)?;
     let rest = expect_mark(inner.rest, Mark::Close)?;
@@ -84,7 +84,7 @@ pub(crate) fn event_control<'t, 's>(
     room: u32,
     tokens: &'t [Token<'s>],
 ) -> Result<Read<'t, 's, EventControl>, Stop<'t, 's>>
-    ensures { Reads event room tokens.now event_tree result }
+    ensures { ReadsTree event room tokens.now event_tree result }
 {
     let Some((head, after)) = event_head(tokens) else {
         return Err(Stop::Unexpected(tokens));
@@ -139,7 +139,7 @@ fn event_terms<'t, 's>(
     room: u32,
     tokens: &'t [Token<'s>],
 ) -> Result<Read<'t, 's, (Box<EventExpr>, Vec<(Separator, EventExpr)>)>, Stop<'t, 's>>
-    ensures { Reads event_exprs room tokens.now
+    ensures { ReadsTree event_exprs room tokens.now
         (λ x. both (event_expr_tree x.0.value) (row_of (map other_event_tree x.1.items))) result }
 {
     let first = event_term(alloc, room, tokens)?;
@@ -157,7 +157,7 @@ fn other_terms<'t, 's>(
     room: u32,
     tokens: &'t [Token<'s>],
 ) -> Result<Read<'t, 's, Vec<(Separator, EventExpr)>>, Stop<'t, 's>>
-    ensures { Reads (many ((word w.Or or mark m.Comma) · part an_event_expr)) room tokens.now
+    ensures { ReadsTree (many ((word w.Or or mark m.Comma) · part an_event_expr)) room tokens.now
         (λ xs. row_of (map other_event_tree xs.items)) result }
 {
     let mut tree = Vec::new(alloc);
@@ -177,7 +177,7 @@ fn event_term<'t, 's>(
     room: u32,
     tokens: &'t [Token<'s>],
 ) -> Result<Read<'t, 's, EventExpr>, Stop<'t, 's>>
-    ensures { Reads (part an_event_expr) room tokens.now event_expr_tree result }
+    ensures { ReadsTree (part an_event_expr) room tokens.now event_expr_tree result }
 {
     let (edge, after_edge) = edge_at(tokens);
     let (name, after_name) = expect_name(alloc, after_edge)?;

@@ -7,7 +7,7 @@ ghost use Rattle.vs_syntax.specs.Grammar.{◌·◌, part, many, word, optional, 
 ghost use Rattle.vs_syntax.specs.Tables.{low};
 ghost use Rattle.vs_syntax.specs.Derivation.{leaf, both};
 ghost use Rattle.vs_syntax.specs.Views.{row_of, some_tree, case_word, expr_tree, guarded_tree, stmt_tree};
-ghost use Rattle.vs_expressions.specs.Answers.{seen, Reads};
+ghost use Rattle.vs_expressions.specs.Answers.{seen, ReadsTree};
 ghost use Rattle.vs_forms.specs.Blocks.{naming_tree};
 ghost use Rattle.vs_statements.specs.Heads.{BeginsStatement, symbol_of, behind_of};
 ghost use Rattle.vs_forms.specs.Parts.{ReadsWithin, headed, boxed_tree, other_tree, labelled_stmt_tree};
@@ -31,7 +31,7 @@ pub fn stmt<'t, 's>(
     room: u32,
     tokens: &'t [Token<'s>],
 ) -> Result<Read<'t, 's, Stmt>, Stop<'t, 's>>
-    ensures { Reads (part a_stmt) room tokens.now stmt_tree result }
+    ensures { ReadsTree (part a_stmt) room tokens.now stmt_tree result }
 {
     let Some((head, after)) = statement_head(tokens) else {
         return Err(Stop::Unexpected(tokens));
@@ -49,7 +49,7 @@ fn headed<'t, 's>(
     after: &'t [Token<'s>],
 ) -> Result<Read<'t, 's, Stmt>, Stop<'t, 's>>
     requires { BeginsStatement (seen tokens.now) head (seen after.now) }
-    ensures { Reads (part a_stmt) room tokens.now stmt_tree result }
+    ensures { ReadsTree (part a_stmt) room tokens.now stmt_tree result }
 {
     if room < least_statement(head) {
         return Err(Stop::TooDeep(tokens));
@@ -102,7 +102,7 @@ fn boxed<'t, 's>(
     room: u32,
     tokens: &'t [Token<'s>],
 ) -> Result<Read<'t, 's, Box<Stmt>>, Stop<'t, 's>>
-    ensures { Reads (part a_stmt) room tokens.now boxed_tree result }
+    ensures { ReadsTree (part a_stmt) room tokens.now boxed_tree result }
 {
     let inner = stmt(alloc, room, tokens)?;
     let rest = inner.rest;
@@ -178,7 +178,7 @@ fn alternative<'t, 's>(
     tokens: &'t [Token<'s>],
 ) -> Result<Read<'t, 's, Option<Box<Stmt>>>, Stop<'t, 's>>
     requires { 1 ≤ room }
-    ensures { Reads (optional (the_word w.Else) (part a_stmt)) room tokens.now other_tree result }
+    ensures { ReadsTree (optional (the_word w.Else) (part a_stmt)) room tokens.now other_tree result }
 {
     let Some(after) = word_at(tokens, Word::Else) else {
         return Ok(Read {
@@ -223,7 +223,7 @@ fn items<'t, 's>(
     tokens: &'t [Token<'s>],
 ) -> Result<Read<'t, 's, Vec<(CaseLabel, Stmt)>>, Stop<'t, 's>>
     requires { 1 ≤ room }
-    ensures { Reads case_items room tokens.now
+    ensures { ReadsTree case_items room tokens.now
         (λ xs. both (some_tree (map labelled_stmt_tree xs.items)) (leaf (a_word w.Endcase))) result }
 {
     if !begins_case_item(tokens) {
@@ -250,7 +250,7 @@ fn case_item<'t, 's>(
     tokens: &'t [Token<'s>],
 ) -> Result<Read<'t, 's, (CaseLabel, Stmt)>, Stop<'t, 's>>
     requires { 1 ≤ room }
-    ensures { Reads (part a_case_item) room tokens.now labelled_stmt_tree result }
+    ensures { ReadsTree (part a_case_item) room tokens.now labelled_stmt_tree result }
 {
     let label = case_label(alloc, room, tokens)?;
     let inner = stmt(alloc, room, label.rest)?;
@@ -286,7 +286,7 @@ fn guarded_stmt<'t, 's>(
     room: u32,
     tokens: &'t [Token<'s>],
 ) -> Result<Read<'t, 's, (Expr, Box<Stmt>)>, Stop<'t, 's>>
-    ensures { Reads (guarded (part a_stmt)) room tokens.now
+    ensures { ReadsTree (guarded (part a_stmt)) room tokens.now
         (λ x. guarded_tree (expr_tree x.0) (boxed_tree x.1)) result }
 {
     let condition = guard(alloc, room, tokens)?;

@@ -1,14 +1,14 @@
 -- The tables are those of the rules.
 use Rattle.std.specs.Prelude.{◌≡◌, ℕ, zero, suc, List, [], ◌∷◌, refl}
 use Rattle.vs_tokens.specs.declared.token.Mark.{Mark}
-use Rattle.vs_syntax.specs.Grammar.{Part, a_source, a_module, a_header_parameter, a_port, a_port_name, a_bare_name, a_generate_block, a_local, an_item, a_constant, an_instance, a_connection, a_net, a_variable, an_assignment, a_stmt, an_argument, a_dump_argument, a_case_item, an_event_expr, a_target, an_expr, a_level, operands, levels, level_at, rule}
+use Rattle.vs_syntax.specs.Grammar.{Nonterminal, a_source, a_module, a_header_parameter, a_port, a_port_name, a_bare_name, a_generate_block, a_local, an_item, a_constant, an_instance, a_connection, a_net, a_variable, an_assignment, a_stmt, an_argument, a_dump_argument, a_case_item, an_event_expr, a_target, an_expr, a_level, operands, levels, level_at, rule}
 use Rattle.vs_syntax.specs.Tables.{null_of, low_of, operand_fronts, fronts_of, null, low, fronts}
 
-operands_null : (p : Part) (ops : List Mark) → null (operands p ops) ≡ null_of p
+operands_null : (p : Nonterminal) (ops : List Mark) → null (operands p ops) ≡ null_of p
 operands_null p [] = refl
 operands_null p (op ∷ ops) = refl
 
-operands_low : (p : Part) (ops : List Mark) → low (operands p ops) ≡ low_of p
+operands_low : (p : Nonterminal) (ops : List Mark) → low (operands p ops) ≡ low_of p
 operands_low p [] = refl
 operands_low p (op ∷ ops) = refl
 
@@ -16,7 +16,7 @@ operands_fronts : (n : ℕ) (ops : List Mark) → fronts (operands (a_level n) o
 operands_fronts n [] = refl
 operands_fronts n (op ∷ ops) = refl
 
-pub rule_null : (p : Part) → null (rule p) ≡ null_of p
+pub rule_null : (p : Nonterminal) → null (rule p) ≡ null_of p
 rule_null a_source = refl
 rule_null a_module = refl
 rule_null a_header_parameter = refl
@@ -42,7 +42,7 @@ rule_null an_expr = refl
 rule_null (a_level zero) = refl
 rule_null (a_level (suc n)) = operands_null (a_level n) (level_at levels n)
 
-pub rule_low : (p : Part) → low (rule p) ≡ low_of p
+pub rule_low : (p : Nonterminal) → low (rule p) ≡ low_of p
 rule_low a_source = refl
 rule_low a_module = refl
 rule_low a_header_parameter = refl
@@ -68,7 +68,7 @@ rule_low an_expr = refl
 rule_low (a_level zero) = refl
 rule_low (a_level (suc n)) = operands_low (a_level n) (level_at levels n)
 
-pub rule_fronts : (p : Part) → fronts (rule p) ≡ fronts_of p
+pub rule_fronts : (p : Nonterminal) → fronts (rule p) ≡ fronts_of p
 rule_fronts a_source = refl
 rule_fronts a_module = refl
 rule_fronts a_header_parameter = refl

@@ -3,7 +3,7 @@ use Rattle.std.specs.Prelude.{◌≡◌, ℕ, zero, suc, max, ◌-◌, ◌<◌, 
 use Rattle.std.proofs.Common.{sym, ◌∙◌, ap, subst, inl, inr, append_assoc, arith}
 use Rattle.vs_tokens.specs.declared.token.Mark.{Mark}
 use Rattle.vs_syntax.specs.Symbols.{Symbol, Class, class_of, first, same_class}
-use Rattle.vs_syntax.specs.Grammar.{Part, a_source, a_module, a_header_parameter, a_port, a_port_name, a_bare_name, a_generate_block, a_local, an_item, a_constant, an_instance, a_connection, a_net, a_variable, an_assignment, a_stmt, an_argument, a_dump_argument, a_case_item, an_event_expr, a_target, an_expr, a_level, Grammar, nothing, token, seq, either, many, part, node, chain, optional, operands, levels, level_at, rule}
+use Rattle.vs_syntax.specs.Grammar.{Nonterminal, a_source, a_module, a_header_parameter, a_port, a_port_name, a_bare_name, a_generate_block, a_local, an_item, a_constant, an_instance, a_connection, a_net, a_variable, an_assignment, a_stmt, an_argument, a_dump_argument, a_case_item, an_event_expr, a_target, an_expr, a_level, Grammar, nothing, token, seq, either, many, part, node, chain, optional, operands, levels, level_at, rule}
 use Rattle.vs_syntax.specs.Tables.{Front, null_of, operand_fronts, fronts_of, null, low, fronts, among, goes}
 use Rattle.vs_syntax.specs.Derivation.{Tree, empty, leaf, both, down, tokens, height, Is, is_nothing, is_token, is_seq, is_right, is_stop, is_part, is_node, is_one, is_present, is_absent}
 use Rattle.vs_syntax.specs.Reading.{Gets, Stuck, stuck_here, stuck_deep, stuck_first, stuck_second, stuck_left, stuck_right, stuck_many, stuck_more, stuck_part, stuck_node, stuck_one, stuck_link, stuck_high, stuck_behind}
@@ -54,7 +54,7 @@ begun_more a r ts mid w rest x h i p t v =
     let n = max r v.room in
     record { room = n; viable = viable_more a n ts mid w rest x h i (raise_gets a r n ts mid x p (omega arith)) t (raise (many a) v.room n w v.viable (omega arith)) }
 
-begun_part : (p : Part) (w : List Symbol) → Begun (rule p) w → Begun (part p) w
+begun_part : (p : Nonterminal) (w : List Symbol) → Begun (rule p) w → Begun (part p) w
 begun_part p w v = let u = v.viable in record { room = v.room; viable = record { tree = u.tree; tail = u.tail; is = is_part u.is; fits = u.fits; text = u.text } }
 
 begun_node : (a : Grammar) (w : List Symbol) → Begun a w → Begun (node a) w
@@ -82,7 +82,7 @@ record Nothing (g : Grammar) (m : List Symbol) : Type 0 where
   is : Is g tree m
   none : tokens tree ≡ []
 
-part_nothing : (p : Part) → null_of p ≡ true → (m : List Symbol) → goes (part p) m ≡ false → Nothing (part p) m
+part_nothing : (p : Nonterminal) → null_of p ≡ true → (m : List Symbol) → goes (part p) m ≡ false → Nothing (part p) m
 part_nothing a_source n m h = record { tree = empty; is = is_part (is_stop h); none = refl }
 part_nothing a_module n m h = absurd (clash n refl)
 part_nothing a_header_parameter n m h = absurd (clash n refl)
@@ -136,7 +136,7 @@ null_tree (chain a b) s n m h = absurd (clash n (sound_chain a b s).5)
 null_tree (optional c a) s n m h = record { tree = empty; is = is_absent h; none = refl }
 
 -- whether a part of the grammar can begin with the class, where r says so of the parts that have a rule
-abbrev pub reach_in : (Part → Bool) → Grammar → Class → Bool
+abbrev pub reach_in : (Nonterminal → Bool) → Grammar → Class → Bool
 reach_in r nothing c = false
 reach_in r (token k) c = same_class c k
 reach_in r (seq a b) c = reach_in r a c || (not (among c (fronts a)) && (null a && reach_in r b c))
@@ -148,12 +148,12 @@ reach_in r (chain a b) c = reach_in r a c
 reach_in r (optional k a) c = same_class c k
 
 -- whether the part is operands that the class can begin
-abbrev pub reach_level : Class → Part → Bool
+abbrev pub reach_level : Class → Nonterminal → Bool
 reach_level c (a_level n) = among c operand_fronts
 reach_level c _ = false
 
 -- the same by rules within one another, at most so many
-abbrev pub reach : ℕ → Class → Part → Bool
+abbrev pub reach : ℕ → Class → Nonterminal → Bool
 reach zero c p = reach_level c p
 reach (suc n) c p = reach_level c p || reach_in (reach n c) (rule p) c
 
@@ -182,7 +182,7 @@ grown_seq a b s h n i v =
     (begun_second a b (height x.tree) (s ∷ []) (s ∷ []) (s ∷ []) [] x.tree h (record { is = x.is; text = t; fits = omega arith }) refl v)
 
 -- A symbol that the grammar can begin with begins a part of it.
-grown_in : (r : Part → Bool) (s : Symbol) → ((q : Part) → r q ≡ true → Begun (part q) (s ∷ [])) → (g : Grammar) → sound g ≡ true → reach_in r g (class_of s) ≡ true → Begun g (s ∷ [])
+grown_in : (r : Nonterminal → Bool) (s : Symbol) → ((q : Nonterminal) → r q ≡ true → Begun (part q) (s ∷ [])) → (g : Grammar) → sound g ≡ true → reach_in r g (class_of s) ≡ true → Begun g (s ∷ [])
 grown_in r s f nothing h k = absurd (clash k refl)
 grown_in r s f (token c) h k = record { room = 0; viable = record { tree = leaf s; tail = []; is = is_token (same_class-true (class_of s) c k); fits = omega arith; text = refl } }
 grown_in r s f (seq a b) h k =
@@ -239,11 +239,11 @@ level_grown zero s h = begun_part (a_level zero) (s ∷ [])
     (all_pass-among (λ c. reach_in (λ q. false) (rule (a_level zero)) c) (class_of s) operand_fronts operand_reach h))
 level_grown (suc n) s h = begun_part (a_level (suc n)) (s ∷ []) (operands_grown n (level_at levels n) s (rule_sound (a_level (suc n))) (level_grown n s h))
 
-level_reached : (p : Part) (s : Symbol) → reach_level (class_of s) p ≡ true → Begun (part p) (s ∷ [])
+level_reached : (p : Nonterminal) (s : Symbol) → reach_level (class_of s) p ≡ true → Begun (part p) (s ∷ [])
 level_reached (a_level n) s h = level_grown n s h
 level_reached _ s h = absurd (clash h refl)
 
-part_grown : (n : ℕ) (p : Part) (s : Symbol) → reach n (class_of s) p ≡ true → Begun (part p) (s ∷ [])
+part_grown : (n : ℕ) (p : Nonterminal) (s : Symbol) → reach n (class_of s) p ≡ true → Begun (part p) (s ∷ [])
 part_grown zero p s h = level_reached p s h
 part_grown (suc n) p s h =
     elim (or_cases (reach_level (class_of s) p) (reach_in (reach n (class_of s)) (rule p) (class_of s)) h) as (λ _. Begun (part p) (s ∷ [])) [
@@ -252,7 +252,7 @@ part_grown (suc n) p s h =
     ]
 
 -- each class that can begin a part is reached in it
-rule_reach : (p : Part) → all_pass (λ c. reach 4 c p) (fronts_of p) ≡ true
+rule_reach : (p : Nonterminal) → all_pass (λ c. reach 4 c p) (fronts_of p) ≡ true
 rule_reach a_source = refl
 rule_reach a_module = refl
 rule_reach a_header_parameter = refl

@@ -5,7 +5,7 @@ use Rattle.vs_tokens.specs.declared.token.Mark.{Mark}
 use Rattle.vs_tokens.specs.declared.token.Mark.TheVariants as m
 use Rattle.vs_tokens.specs.declared.token.Word.TheVariants as w
 use Rattle.vs_syntax.specs.Symbols.{Symbol, Class, the_mark, the_word, the_directive, same_class, first}
-use Rattle.vs_syntax.specs.Grammar.{Part, a_source, a_module, a_header_parameter, a_port, a_port_name, a_bare_name, a_generate_block, a_local, an_item, a_constant, an_instance, a_connection, a_net, a_variable, an_assignment, a_stmt, an_argument, a_dump_argument, a_case_item, an_event_expr, a_target, an_expr, a_level, Grammar, nothing, token, seq, either, many, part, node, chain, optional, ◌·◌, one_or_more, one_mark, operands, a_condition, arm, levels, level_at, rule}
+use Rattle.vs_syntax.specs.Grammar.{Nonterminal, a_source, a_module, a_header_parameter, a_port, a_port_name, a_bare_name, a_generate_block, a_local, an_item, a_constant, an_instance, a_connection, a_net, a_variable, an_assignment, a_stmt, an_argument, a_dump_argument, a_case_item, an_event_expr, a_target, an_expr, a_level, Grammar, nothing, token, seq, either, many, part, node, chain, optional, ◌·◌, one_or_more, one_mark, operands, a_condition, arm, levels, level_at, rule}
 use Rattle.vs_syntax.specs.Tables.{Front, at_least, mark_fronts, null, fronts, among, goes}
 use Rattle.vs_syntax.specs.Derivation.{Tree, tokens, Is, is_nothing, is_token, is_seq, is_left, is_right, is_stop, is_more, is_part, is_node, is_one, is_chain, is_present, is_absent}
 use Rattle.vs_syntax.proofs.Fronts.{clash, or_false, goes_same, among-append, among-seq}
@@ -27,7 +27,7 @@ stmt_lasts false = at_least (the_word w.Else) 0 ∷ []
 
 -- With what a part can go on behind its last token; in the plain reading without the classes of optional parts at its end,
 -- since that reading says itself that no such token stands behind.
-abbrev pub lasts_of : Bool → Part → List Front
+abbrev pub lasts_of : Bool → Nonterminal → List Front
 lasts_of plain a_source = at_least (the_word w.Module) 0 ∷ at_least the_directive 0 ∷ []
 lasts_of plain a_header_parameter = expr_lasts
 lasts_of plain a_constant = expr_lasts
@@ -131,7 +131,7 @@ variable_goes_on _ _ _ h = cc
 operand_goes_on : (plain : Bool) (c : Class) → same_class c (the_mark m.OpenBracket) ≡ false → goes_on plain (rule (a_level zero)) c ≡ false
 operand_goes_on plain c h = rw h refl
 
-pub rule_goes_on : (plain : Bool) (p : Part) (c : Class) → among c (lasts_of plain p) ≡ false → goes_on plain (rule p) c ≡ false
+pub rule_goes_on : (plain : Bool) (p : Nonterminal) (c : Class) → among c (lasts_of plain p) ≡ false → goes_on plain (rule p) c ≡ false
 rule_goes_on plain a_source c h = h
 rule_goes_on plain a_module c h = refl
 rule_goes_on plain a_header_parameter c h = kept_one (among c expr_lasts) h

@@ -2,7 +2,7 @@
 use Rattle.std.specs.Prelude.{◌≡◌, ℕ, ◌-◌, ◌<◌, ◌≤◌, true, false, List, ◌∷◌, ◌++◌, refl}
 use Rattle.std.proofs.Common.{sym, ◌∙◌, ap, subst, append_assoc, arith}
 use Rattle.vs_syntax.specs.Symbols.{Symbol, Class, class_of}
-use Rattle.vs_syntax.specs.Grammar.{Part, Grammar, nothing, token, seq, either, many, part, node, chain, optional, rule}
+use Rattle.vs_syntax.specs.Grammar.{Nonterminal, Grammar, nothing, token, seq, either, many, part, node, chain, optional, rule}
 use Rattle.vs_syntax.specs.Tables.{goes}
 use Rattle.vs_syntax.specs.Derivation.{Tree, empty, leaf, both, down, tokens, height, Is, is_nothing, is_token, is_seq, is_left, is_right, is_stop, is_more, is_part, is_node, is_one, is_chain, is_present, is_absent}
 use Rattle.vs_syntax.specs.Reading.{Gets}
@@ -42,7 +42,7 @@ gets_more {a} {room} {ts} {mid} {rest} {x} {y} h p q =
     let k : height y ≤ room = q.fits in
     record { is = is_more (ap (goes a) (ap (λ u. tokens x ++ u) (sym q.text) ∙ sym p.text) ∙ h) (ahead a x y mid rest q.text p.is) q.is; text = along x y ts mid rest p.text q.text; fits = omega (arith, i, k) }
 
-pub gets_part : {p : Part} {room : ℕ} {ts rest : List Symbol} {x : Tree} → Gets (rule p) room ts x rest → Gets (part p) room ts x rest
+pub gets_part : {p : Nonterminal} {room : ℕ} {ts rest : List Symbol} {x : Tree} → Gets (rule p) room ts x rest → Gets (part p) room ts x rest
 gets_part p = record { is = is_part p.is; text = p.text; fits = p.fits }
 
 pub gets_node : {a : Grammar} {room : ℕ} {ts rest : List Symbol} {x : Tree} → 0 < room → Gets a (room - 1) ts x rest → Gets (node a) room ts (down x) rest

@@ -14,7 +14,7 @@ use Rattle.vs_tokens.specs.declared.token.Mark.{Mark}
 use Rattle.vs_tokens.specs.declared.token.Mark.TheVariants as m
 use Rattle.vs_tokens.specs.declared.token.Word.TheVariants as w
 use Rattle.vs_syntax.specs.Symbols.{Symbol, a_mark, a_word, a_name, a_number, a_cast, a_text, a_print, a_finish, a_dump, a_time, a_directive, another, Class, no_token, the_mark, the_word, any_name, any_number, the_cast, any_text, the_print, the_finish, the_dump, the_time, the_directive, any_other, class_of, same_class, first}
-use Rattle.vs_syntax.specs.Grammar.{Part, a_source, a_module, a_header_parameter, a_port, a_port_name, a_bare_name, a_generate_block, a_local, an_item, a_constant, an_instance, a_connection, a_net, a_variable, an_assignment, a_stmt, an_argument, a_dump_argument, a_case_item, an_event_expr, a_target, an_expr, a_level, Grammar, nothing, token, seq, either, many, part, node, chain, optional, select, operands, levels, level_at, rule}
+use Rattle.vs_syntax.specs.Grammar.{Nonterminal, a_source, a_module, a_header_parameter, a_port, a_port_name, a_bare_name, a_generate_block, a_local, an_item, a_constant, an_instance, a_connection, a_net, a_variable, an_assignment, a_stmt, an_argument, a_dump_argument, a_case_item, an_event_expr, a_target, an_expr, a_level, Grammar, nothing, token, seq, either, many, part, node, chain, optional, select, operands, levels, level_at, rule}
 use Rattle.vs_syntax.specs.Tables.{low_of, mark_fronts, null, low, fronts, among, goes}
 use Rattle.vs_syntax.specs.Derivation.{Tree, empty, leaf, both, down, tokens, height, Is, is_nothing, is_token, is_seq, is_left, is_right, is_stop, is_part, is_node, is_one, is_absent}
 use Rattle.vs_syntax.proofs.Ends.{goes_on, again, level_lasts, link_fronts}
@@ -68,7 +68,7 @@ abbrev pub least_stmt : Tree
 least_stmt = down (both (leaf (a_mark m.Semicolon)) empty)
 
 -- a least tree of each part
-abbrev pub least_of : Part → Tree
+abbrev pub least_of : Nonterminal → Tree
 least_of a_source = empty
 least_of a_module = both (leaf (a_word w.Module)) (both (leaf (sample any_name)) (both empty (both empty (both (leaf (a_mark m.Semicolon)) (both empty (leaf (a_word w.Endmodule)))))))
 least_of a_header_parameter = both empty least_constant
@@ -125,7 +125,7 @@ constant_least = is_part (is_seq (is_token refl) (is_seq (is_token refl) expr_le
 stmt_least : Is (part a_stmt) least_stmt []
 stmt_least = is_part (is_node (is_right refl (is_left refl (is_seq (is_token refl) is_nothing))))
 
-pub rule_least : (p : Part) → Is (part p) (least_of p) []
+pub rule_least : (p : Nonterminal) → Is (part p) (least_of p) []
 rule_least a_source = is_part (is_stop refl)
 rule_least a_module = is_part (is_seq (is_token refl) (is_seq (is_token refl) (is_seq (is_right refl is_nothing) (is_seq (is_right refl is_nothing)
     (is_seq (is_token refl) (is_seq (is_stop refl) (is_token refl)))))))
@@ -152,7 +152,7 @@ rule_least a_target = target_least refl
 rule_least an_expr = expr_least
 rule_least (a_level n) = level_least n [] (level_end n)
 
-least_of-height : (p : Part) → height (least_of p) ≡ low_of p
+least_of-height : (p : Nonterminal) → height (least_of p) ≡ low_of p
 least_of-height a_source = refl
 least_of-height a_module = refl
 least_of-height a_header_parameter = refl
@@ -220,7 +220,7 @@ row_passes p f [] h n = f n
 row_passes p f (ops ∷ ls) h zero = and_left (p zero ops) (rows_pass (λ n. p (suc n)) ls) h
 row_passes p f (ops ∷ ls) h (suc n) = row_passes (λ k. p (suc k)) (λ k. f (suc k)) ls (and_right (p zero ops) (rows_pass (λ n. p (suc n)) ls) h) n
 
-pub rule_sound : (p : Part) → sound (rule p) ≡ true
+pub rule_sound : (p : Nonterminal) → sound (rule p) ≡ true
 rule_sound a_source = refl
 rule_sound a_module = refl
 rule_sound a_header_parameter = refl

@@ -5,7 +5,7 @@ use denote.Enum.Bare.{same_true}
 use Rattle.vs_tokens.specs.contracts.token.Mark as marks
 use Rattle.vs_tokens.specs.contracts.token.Word as words
 use Rattle.vs_syntax.specs.Symbols.{Symbol, Class, no_token, the_mark, the_word, any_name, any_number, the_cast, any_text, the_print, the_finish, the_dump, the_time, the_directive, any_other, class_of, first, same_class}
-use Rattle.vs_syntax.specs.Grammar.{Part, a_source, a_module, a_header_parameter, a_port, a_port_name, a_bare_name, a_generate_block, a_local, an_item, a_constant, an_instance, a_connection, a_net, a_variable, an_assignment, a_stmt, an_argument, a_dump_argument, a_case_item, an_event_expr, a_target, an_expr, a_level, Grammar, nothing, token, seq, either, many, part, node, chain, optional, operands, levels, rule}
+use Rattle.vs_syntax.specs.Grammar.{Nonterminal, a_source, a_module, a_header_parameter, a_port, a_port_name, a_bare_name, a_generate_block, a_local, an_item, a_constant, an_instance, a_connection, a_net, a_variable, an_assignment, a_stmt, an_argument, a_dump_argument, a_case_item, an_event_expr, a_target, an_expr, a_level, Grammar, nothing, token, seq, either, many, part, node, chain, optional, operands, levels, rule}
 use Rattle.vs_syntax.specs.Tables.{Front, null, fronts, among, goes}
 use Rattle.vs_syntax.specs.Derivation.{Tree, down, tokens, Is, is_nothing, is_token, is_seq, is_left, is_right, is_stop, is_more, is_part, is_node, is_one, is_chain, is_present, is_absent}
 use Rattle.vs_syntax.specs.Plain.{IsPlain, plain_nothing, plain_token, plain_seq, plain_left, plain_right, plain_stop, plain_more, plain_part, plain_node, plain_one, plain_chain, plain_present, plain_absent}
@@ -73,7 +73,7 @@ decided (node a) = decided a
 decided (chain a b) = decided a && (decided b && (not (null b) && none_pass (goes_on true a) (fronts b)))
 decided (optional c a) = decided a
 
-pub rule_decided : (p : Part) → decided (rule p) ≡ true
+pub rule_decided : (p : Nonterminal) → decided (rule p) ≡ true
 rule_decided a_source = refl
 rule_decided a_module = refl
 rule_decided a_header_parameter = refl

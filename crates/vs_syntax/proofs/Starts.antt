@@ -2,7 +2,7 @@
 use Rattle.std.specs.Prelude.{◌≡◌, ℕ, suc, max, ◌≤◌, Bool, true, false, cond, ◌&&◌, ◌||◌, List, [], ◌∷◌, ◌++◌, refl}
 use Rattle.std.proofs.Common.{sym, ◌∙◌, ap, subst, append_assoc, arith}
 use Rattle.vs_syntax.specs.Symbols.{Symbol, Class, class_of, same_class, first}
-use Rattle.vs_syntax.specs.Grammar.{Part, Grammar, seq, part, chain, optional, rule}
+use Rattle.vs_syntax.specs.Grammar.{Nonterminal, Grammar, seq, part, chain, optional, rule}
 use Rattle.vs_syntax.specs.Tables.{Front, null, low, beside, above, fronts, among, need, goes}
 use Rattle.vs_syntax.specs.Derivation.{Tree, tokens, height, Is, is_nothing, is_token, is_seq, is_left, is_right, is_stop, is_more, is_part, is_node, is_one, is_chain, is_present, is_absent}
 use Rattle.vs_syntax.proofs.Checks.{rule_null, rule_low, rule_fronts}
@@ -28,7 +28,7 @@ seq_none a b ts p q = goes-seq a b ts ∙ rw p (and_false (null a) (goes b ts) q
 chain_none : (a b : Grammar) (ts : List Symbol) → goes a ts ≡ false → goes b ts ≡ false → goes (chain a b) ts ≡ false
 chain_none a b ts p q = goes-chain a b ts ∙ rw p (and_false (null a) (goes b ts) q)
 
-pub goes-part : (p : Part) (ts : List Symbol) → goes (rule p) ts ≡ goes (part p) ts
+pub goes-part : (p : Nonterminal) (ts : List Symbol) → goes (rule p) ts ≡ goes (part p) ts
 goes-part p ts = ap (among (first ts)) (rule_fronts p)
 
 -- A tree without tokens stands only where what comes next can't begin it.

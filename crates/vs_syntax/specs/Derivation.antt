@@ -1,7 +1,7 @@
 -- Derivations of the grammar.
 use Rattle.std.specs.Prelude.{◌≡◌, ℕ, suc, max, true, false, List, [], ◌∷◌, ◌++◌}
 use Rattle.vs_syntax.specs.Symbols.{Symbol, Class, class_of}
-use Rattle.vs_syntax.specs.Grammar.{Part, Grammar, nothing, token, seq, either, many, part, node, chain, optional, rule}
+use Rattle.vs_syntax.specs.Grammar.{Nonterminal, Grammar, nothing, token, seq, either, many, part, node, chain, optional, rule}
 use Rattle.vs_syntax.specs.Tables.{goes}
 
 -- a tree over symbols
@@ -36,7 +36,7 @@ pub data Is : Grammar → Tree → List Symbol → Type 0 where
   is_stop : {a : Grammar} {more : List Symbol} → goes a more ≡ false → Is (many a) empty more
   is_more : {a : Grammar} {x y : Tree} {more : List Symbol} → goes a (tokens x ++ (tokens y ++ more)) ≡ true →
       Is a x (tokens y ++ more) → Is (many a) y more → Is (many a) (both x y) more
-  is_part : {p : Part} {x : Tree} {more : List Symbol} → Is (rule p) x more → Is (part p) x more
+  is_part : {p : Nonterminal} {x : Tree} {more : List Symbol} → Is (rule p) x more → Is (part p) x more
   is_node : {a : Grammar} {x : Tree} {more : List Symbol} → Is a x more → Is (node a) (down x) more
   is_one : {a b : Grammar} {x : Tree} {more : List Symbol} → goes b more ≡ false → Is a x more → Is (chain a b) x more
   is_chain : {a b : Grammar} {x y : Tree} {more : List Symbol} → goes b (tokens y ++ more) ≡ true →

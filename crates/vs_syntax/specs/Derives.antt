@@ -17,7 +17,7 @@ pub record Derives (ts : List Symbol) (s : Source) : Type 0 where
   pub text : ts ≡ tokens (source_tree s)
 
 -- The symbols begin a source of at most this nesting.
-pub record Begins (most : ℕ) (ts : List Symbol) : Type 0 where
+pub record BeginsSource (most : ℕ) (ts : List Symbol) : Type 0 where
   pub tree : Tree
   pub tail : List Symbol
   pub source : IsSource most tree

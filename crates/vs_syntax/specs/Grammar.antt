@@ -7,52 +7,52 @@ use Rattle.vs_tokens.specs.declared.token.Word.TheVariants as w
 use Rattle.vs_syntax.specs.Symbols.{Class, the_mark, the_word, any_name, any_number, the_cast, any_text, the_print, the_finish, the_dump, the_time, the_directive}
 
 -- the parts of a source that have a rule
-pub data Part : Type 0 where
+pub data Nonterminal : Type 0 where
   -- the text of a source (clause A.1.2)
-  a_source : Part
-  a_module : Part
+  a_source : Nonterminal
+  a_module : Nonterminal
   -- a parameter in the header of a module, with the word or without (clauses A.1.3 and A.2.4)
-  a_header_parameter : Part
+  a_header_parameter : Nonterminal
   -- a port in the header of a module, with its direction or without (clause A.1.3)
-  a_port : Part
+  a_port : Nonterminal
   -- a port in the header of a module, of which the header says nothing but the name (clause A.1.3)
-  a_port_name : Part
+  a_port_name : Nonterminal
   -- a name of a declaration that says nothing of it but that (clauses A.2.1.2 and A.2.1.3)
-  a_bare_name : Part
+  a_bare_name : Nonterminal
   -- what stands behind a generate `for`, `if` or `else` (clause A.4.2)
-  a_generate_block : Part
+  a_generate_block : Nonterminal
   -- a name of a declaration of a named block, with the range of its words or without (clause A.2.8)
-  a_local : Part
+  a_local : Nonterminal
   -- an item of a module (clause A.1.4)
-  an_item : Part
+  an_item : Nonterminal
   -- a name of a declaration of parameters, with its value (clause A.2.4)
-  a_constant : Part
+  a_constant : Nonterminal
   -- an instance of a module (clause A.4.1)
-  an_instance : Part
+  an_instance : Nonterminal
   -- a connection by name (clause A.4.1)
-  a_connection : Part
+  a_connection : Nonterminal
   -- a name of a declaration of nets, with a declaration assignment or without (clauses A.2.3 and A.2.4)
-  a_net : Part
+  a_net : Nonterminal
   -- a name of a declaration of variables, with a declaration assignment, with the range of its words, or alone (clauses A.2.2.1 and A.2.5)
-  a_variable : Part
+  a_variable : Nonterminal
   -- an assignment of an `assign` item (clause A.6.1)
-  an_assignment : Part
+  an_assignment : Nonterminal
   -- a statement (clause A.6.4)
-  a_stmt : Part
+  a_stmt : Nonterminal
   -- an argument of `$display` or `$strobe` behind the text (clause A.6.9)
-  an_argument : Part
+  an_argument : Nonterminal
   -- an argument of `$dumpfile` or `$dumpvars` (clause A.6.9)
-  a_dump_argument : Part
+  a_dump_argument : Nonterminal
   -- an item of a `case` statement (clause A.6.7)
-  a_case_item : Part
+  a_case_item : Nonterminal
   -- a term of an event control (clause A.6.5)
-  an_event_expr : Part
+  an_event_expr : Nonterminal
   -- the left side of an assignment (clause A.8.5)
-  a_target : Part
+  a_target : Nonterminal
   -- an expression (clause A.8.3)
-  an_expr : Part
+  an_expr : Nonterminal
   -- operands with operators of so many levels between them, the tightest ones; of none, one operand (clauses A.8.3 and 5.1.2)
-  a_level : ℕ → Part
+  a_level : ℕ → Nonterminal
 
 pub data Grammar : Type 0 where
   -- no token
@@ -66,7 +66,7 @@ pub data Grammar : Type 0 where
   -- as many as the next token can begin
   many : Grammar → Grammar
   -- what the part's rule says
-  part : Part → Grammar
+  part : Nonterminal → Grammar
   -- a node of the tree, which counts for the nesting (profile)
   node : Grammar → Grammar
   -- the first alone, or a node of the first and the second where the next token can begin the second
@@ -103,7 +103,7 @@ abbrev pub one_or_more : Grammar → Grammar
 one_or_more a = a · many a
 
 -- one or more, with commas between, and the semicolon behind them
-abbrev pub listed : Part → Grammar
+abbrev pub listed : Nonterminal → Grammar
 listed p = part p · many (mark m.Comma · part p) · mark m.Semicolon
 
 -- one of these marks
@@ -116,7 +116,7 @@ abbrev pub prefixes : List Mark
 prefixes = m.Plus ∷ m.Minus ∷ m.Not ∷ m.Tilde ∷ m.And ∷ m.Nand ∷ m.Or ∷ m.Nor ∷ m.Xor ∷ m.Xnor ∷ []
 
 -- operands with one of these operators between each two of them: one alone, or a node of all of them (clause 5.1.2)
-abbrev pub operands : Part → List Mark → Grammar
+abbrev pub operands : Nonterminal → List Mark → Grammar
 operands p [] = part p
 operands p (op ∷ ops) = chain (part p) (one_or_more (one_mark op ops · part p))
 
@@ -141,7 +141,7 @@ level_at (ops ∷ ls) zero = ops
 level_at (ops ∷ ls) (suc n) = level_at ls n
 
 -- a condition, or an operand of a condition: operands with operators of all levels between them (clause A.8.3)
-abbrev pub a_condition : Part
+abbrev pub a_condition : Nonterminal
 a_condition = a_level (length levels)
 
 -- what stands behind a condition: the operand for it, and the next condition or the last operand (clause 5.1.13)
@@ -149,7 +149,7 @@ abbrev pub arm : Grammar
 arm = mark m.Question · part an_expr · mark m.Colon · part a_condition
 
 -- an operand: a primary, or an operator and its operand (clauses A.8.3 and A.8.4)
-abbrev pub an_operand : Part
+abbrev pub an_operand : Nonterminal
 an_operand = a_level 0
 
 -- one of the parts, each of them behind a token of its class
@@ -162,7 +162,7 @@ one_of [] = nothing
 one_of (x ∷ xs) = one_or x xs
 
 -- the parts of a concatenation behind the first one, and the brace behind them (clause 5.1.14)
-abbrev pub other_parts : Part → Grammar
+abbrev pub other_parts : Nonterminal → Grammar
 other_parts p = many (mark m.Comma · part p) · mark m.CloseBrace
 
 -- the operands that are nodes, each by its first token: an operator and its operand, an expression in parentheses, a
@@ -346,7 +346,7 @@ statements = (the_mark m.Semicolon, nothing)
 
 -- The rules of the grammar. A target is a node, though it be a name alone; the number of an expression is none, and a name only with its
 -- selects.
-abbrev pub rule : Part → Grammar
+abbrev pub rule : Nonterminal → Grammar
 rule a_source = many (part a_module or token the_directive)
 rule a_module = word w.Module · name · (header_parameters or nothing) · (header_ports or nothing) · mark m.Semicolon
     · many (part an_item) · word w.Endmodule

@@ -1,7 +1,7 @@
 -- The plain reading of the grammar: it looks at the next token only where a part is left out whose first token could stand there.
 use Rattle.std.specs.Prelude.{◌≡◌, List, ◌++◌}
 use Rattle.vs_syntax.specs.Symbols.{Symbol, Class, class_of, first}
-use Rattle.vs_syntax.specs.Grammar.{Part, Grammar, nothing, token, seq, either, many, part, node, chain, optional, rule}
+use Rattle.vs_syntax.specs.Grammar.{Nonterminal, Grammar, nothing, token, seq, either, many, part, node, chain, optional, rule}
 use Rattle.vs_syntax.specs.Derivation.{Tree, empty, leaf, both, down, tokens}
 
 -- The tree is one of the grammar, where these symbols follow it. An optional part is left out only where a symbol of its
@@ -16,7 +16,7 @@ pub data IsPlain : Grammar → Tree → List Symbol → Type 0 where
   plain_stop : {a : Grammar} {more : List Symbol} → IsPlain (many a) empty more
   plain_more : {a : Grammar} {x y : Tree} {more : List Symbol} → IsPlain a x (tokens y ++ more) →
       IsPlain (many a) y more → IsPlain (many a) (both x y) more
-  plain_part : {p : Part} {x : Tree} {more : List Symbol} → IsPlain (rule p) x more → IsPlain (part p) x more
+  plain_part : {p : Nonterminal} {x : Tree} {more : List Symbol} → IsPlain (rule p) x more → IsPlain (part p) x more
   plain_node : {a : Grammar} {x : Tree} {more : List Symbol} → IsPlain a x more → IsPlain (node a) (down x) more
   plain_one : {a b : Grammar} {x : Tree} {more : List Symbol} → IsPlain a x more → IsPlain (chain a b) x more
   plain_chain : {a b : Grammar} {x y : Tree} {more : List Symbol} → IsPlain a x (tokens y ++ more) → IsPlain b y more →

@@ -1,7 +1,7 @@
 -- What reading a part of a source answers: a tree of it, or why and where no tree goes on.
 use Rattle.std.specs.Prelude.{◌≡◌, ℕ, ◌-◌, ◌<◌, ◌≤◌, Bool, true, false, List, ◌∷◌, ◌++◌}
 use Rattle.vs_syntax.specs.Symbols.{Symbol, Class, class_of, first}
-use Rattle.vs_syntax.specs.Grammar.{Part, Grammar, seq, either, many, part, node, chain, optional, rule}
+use Rattle.vs_syntax.specs.Grammar.{Nonterminal, Grammar, seq, either, many, part, node, chain, optional, rule}
 use Rattle.vs_syntax.specs.Tables.{null, low, fronts, need, goes}
 use Rattle.vs_syntax.specs.Derivation.{Tree, tokens, height, Is}
 
@@ -28,7 +28,7 @@ pub data Stuck : Grammar → ℕ → Bool → List Symbol → List Symbol → Ty
       Stuck a room deep ts rest → Stuck (many a) room deep ts rest
   stuck_more : {a : Grammar} {room : ℕ} {deep : Bool} {ts mid rest : List Symbol} {x : Tree} → goes a ts ≡ true →
       Gets a room ts x mid → Stuck (many a) room deep mid rest → Stuck (many a) room deep ts rest
-  stuck_part : {p : Part} {room : ℕ} {deep : Bool} {ts rest : List Symbol} → Stuck (rule p) room deep ts rest →
+  stuck_part : {p : Nonterminal} {room : ℕ} {deep : Bool} {ts rest : List Symbol} → Stuck (rule p) room deep ts rest →
       Stuck (part p) room deep ts rest
   stuck_node : {a : Grammar} {room : ℕ} {deep : Bool} {ts rest : List Symbol} → 0 < room →
       Stuck a (room - 1) deep ts rest → Stuck (node a) room deep ts rest

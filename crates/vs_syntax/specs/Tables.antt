@@ -4,7 +4,7 @@ use Rattle.vs_tokens.specs.declared.token.Mark.{Mark}
 use Rattle.vs_tokens.specs.declared.token.Mark.TheVariants as m
 use Rattle.vs_tokens.specs.declared.token.Word.TheVariants as w
 use Rattle.vs_syntax.specs.Symbols.{Symbol, Class, the_mark, the_word, any_name, any_number, the_cast, any_text, the_print, the_finish, the_dump, the_time, the_directive, same_class, first}
-use Rattle.vs_syntax.specs.Grammar.{Part, a_source, a_module, a_header_parameter, a_port, a_port_name, a_bare_name, a_generate_block, a_local, an_item, a_constant, an_instance, a_connection, a_net, a_variable, an_assignment, a_stmt, an_argument, a_dump_argument, a_case_item, an_event_expr, a_target, an_expr, a_level, Grammar, nothing, token, seq, either, many, part, node, chain, optional, prefixes}
+use Rattle.vs_syntax.specs.Grammar.{Nonterminal, a_source, a_module, a_header_parameter, a_port, a_port_name, a_bare_name, a_generate_block, a_local, an_item, a_constant, an_instance, a_connection, a_net, a_variable, an_assignment, a_stmt, an_argument, a_dump_argument, a_case_item, an_event_expr, a_target, an_expr, a_level, Grammar, nothing, token, seq, either, many, part, node, chain, optional, prefixes}
 
 -- a class that can begin a part, and the least nesting of a part that it begins
 pub record Front : Type 0 where
@@ -16,12 +16,12 @@ abbrev pub at_least : Class → ℕ → Front
 at_least c n = record { class = c; need = n }
 
 -- whether a part can be without tokens
-abbrev pub null_of : Part → Bool
+abbrev pub null_of : Nonterminal → Bool
 null_of a_source = true
 null_of _ = false
 
 -- the least nesting of a part
-abbrev pub low_of : Part → ℕ
+abbrev pub low_of : Nonterminal → ℕ
 low_of a_source = 0
 low_of a_module = 0
 low_of a_header_parameter = 0
@@ -82,7 +82,7 @@ item_fronts = at_least any_name 1
     ∷ []
 
 -- what can begin a part
-abbrev pub fronts_of : Part → List Front
+abbrev pub fronts_of : Nonterminal → List Front
 fronts_of a_source = at_least (the_word w.Module) 0 ∷ at_least the_directive 0 ∷ []
 fronts_of a_module = at_least (the_word w.Module) 0 ∷ []
 fronts_of a_header_parameter = at_least (the_word w.Parameter) 0 ∷ at_least any_name 0 ∷ []

@@ -1,7 +1,7 @@
 //! Laws of the grammar: each is the contract of a function that does nothing.
 ghost use Rattle.std.specs.Prelude.{◌≡◌, List, []};
 ghost use Rattle.vs_syntax.specs.Symbols.{Symbol};
-ghost use Rattle.vs_syntax.specs.Grammar.{Part, part, a_source, rule};
+ghost use Rattle.vs_syntax.specs.Grammar.{Nonterminal, part, a_source, rule};
 ghost use Rattle.vs_syntax.specs.Tables.{null, null_of, low, low_of, fronts, fronts_of};
 ghost use Rattle.vs_syntax.specs.Derivation.{Tree, tokens, Is};
 ghost use Rattle.vs_syntax.specs.Plain.{IsPlain};
@@ -22,9 +22,9 @@ pub fn one_source()
 
 /// What the tables say of each part is what its rule gives.
 pub fn tables_agree()
-    ensures without_tokens { (p : Part) → null (rule p) ≡ null_of p }
-    ensures least_nesting { (p : Part) → low (rule p) ≡ low_of p }
-    ensures beginnings { (p : Part) → fronts (rule p) ≡ fronts_of p }
+    ensures without_tokens { (p : Nonterminal) → null (rule p) ≡ null_of p }
+    ensures least_nesting { (p : Nonterminal) → low (rule p) ≡ low_of p }
+    ensures beginnings { (p : Nonterminal) → fronts (rule p) ≡ fronts_of p }
 {}
 
 /// A source derives exactly where the rules alone allow it, without a look at the next token but where an optional part is left out.

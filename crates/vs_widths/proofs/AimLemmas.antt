@@ -26,7 +26,7 @@ use Rattle.vs_selects.specs.declared.faults.WidthReason.{WidthReason}
 use Rattle.vs_selects.specs.declared.faults.WidthReason.TheVariants.{Unknown, NotConstant, WrongKind}
 use Rattle.vs_selects.specs.declared.faults.WidthFault.{WidthFault}
 use Rattle.vs_selects.specs.declared.faults.WidthFault.TheVariants.{Memory, Refused}
-use Rattle.vs_selects.specs.declared.places.Place.{Place}
+use Rattle.vs_selects.specs.declared.places.ChosenBits.{ChosenBits}
 use Rattle.vs_selects.specs.Environment.{Environment}
 use Rattle.vs_selects.specs.Findings.{Finding, Has, Lacks, stands, unknown, wrong_kind, not_constant, together, alone, second, Refuses}
 use Rattle.vs_selects.specs.Meants.{Meant, own}
@@ -158,7 +158,7 @@ part_from signal word low digits = record { signal = signal; word = word; low = 
 part_same : (s s' w w' : ℕ) (l l' : ℤ) (ds : List Digit) → s ≡ s' → w ≡ w' → l ≡ l' → part_from s w l ds ≡ part_from s' w' l' ds
 part_same s s' w w' l l' ds h k e = rw (h, k, e) refl
 
-pub fixed_aim : (p : Place) (s : Slice) → IsFixed p s → (n : Named) → IsPlaced n p → IsAim n (a.Fixed s)
+pub fixed_aim : (p : ChosenBits) (s : Slice) → IsFixed p s → (n : Named) → IsPlaced n p → IsAim n (a.Fixed s)
 fixed_aim p s q n h =
     let none : n.reads ≡ [] = fixed_reads p s q n h in
     record {
@@ -179,7 +179,7 @@ both_empty : (xs ys : List BitRange) → (xs ≡ [] → ys ≡ [] → ⊥) → x
 both_empty [] ys h e = h refl e
 both_empty (x ∷ xs) ys h e = cc
 
-pub chosen_aim : (p : Place) (s : Selection) (word low : Typed) → IsFitted (sense p.word.form) p.word.shape.width p.word.shape.signed word →
+pub chosen_aim : (p : ChosenBits) (s : Selection) (word low : Typed) → IsFitted (sense p.word.form) p.word.shape.width p.word.shape.signed word →
     IsFitted (sense p.extent.index.form) p.extent.index.shape.width p.extent.index.shape.signed low →
     s.signal ≡ p.signal → s.words ≡ p.words → s.bits ≡ p.extent.axis → s.width ≡ p.extent.shape.width →
     ((sense p.word.form).reads ≡ [] → (sense p.extent.index.form).reads ≡ [] → ⊥) → (n : Named) → IsPlaced n p → IsAim n (a.Chosen s word low)

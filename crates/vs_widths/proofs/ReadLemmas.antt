@@ -86,14 +86,14 @@ module _ (test : ℕ → Bool) where
   operand_within n (Lacks faults) h = refl
 
   module _ (env : Environment) (good : HoldsOfSignals env test) where
-    abbrev Reads : Expr → Type 0
-    Reads e = Within (meant env e).reads
+    abbrev StaysWithin : Expr → Type 0
+    StaysWithin e = Within (meant env e).reads
 
-    abbrev bare : (e : Expr) × Reads e → Expr
+    abbrev bare : (e : Expr) × StaysWithin e → Expr
     bare e = e.0
 
     abbrev ReadLink : Type 0
-    ReadLink = Binary × ((e : Expr) × Reads e)
+    ReadLink = Binary × ((e : Expr) × StaysWithin e)
 
     abbrev link_meant : ReadLink → Binary × Meant
     link_meant l = (l.0, meant env l.1.0)
@@ -111,19 +111,19 @@ module _ (test : ℕ → Bool) where
     chain_within first (l ∷ ls) h = chain_within (linked_meant first (link_meant l)) ls (both_within first.reads (meant env l.1.0).reads h l.1.1)
 
     -- the parts behind the first one of a concatenation
-    parts_within : (parts : List ((e : Expr) × Reads e)) → Within (joined (map (λ (m : Meant). m.reads) (map (meant env) (map bare parts))))
+    parts_within : (parts : List ((e : Expr) × StaysWithin e)) → Within (joined (map (λ (m : Meant). m.reads) (map (meant env) (map bare parts))))
     parts_within parts =
         subst (λ z. Within (joined z)) (sym (ap (map (λ (m : Meant). m.reads)) (map_map (meant env) bare parts) ∙ map_map (λ (m : Meant). m.reads) (λ e. meant env (bare e)) parts))
-        (all_within (λ (e : (e : Expr) × Reads e). (meant env e.0).reads) (λ e. e.1) parts)
+        (all_within (λ (e : (e : Expr) × StaysWithin e). (meant env e.0).reads) (λ e. e.1) parts)
 
-    abbrev bare_pair : ((e : Expr) × Reads e) × ((e : Expr) × Reads e) → Expr × Expr
+    abbrev bare_pair : ((e : Expr) × StaysWithin e) × ((e : Expr) × StaysWithin e) → Expr × Expr
     bare_pair p = (p.0.0, p.1.0)
 
     abbrev pair_meant : Expr × Expr → Meant × Meant
     pair_meant p = (meant env p.0, meant env p.1)
 
     -- the conditions and operands of a `?:`
-    pairs_within : (pairs : List (((e : Expr) × Reads e) × ((e : Expr) × Reads e))) →
+    pairs_within : (pairs : List (((e : Expr) × StaysWithin e) × ((e : Expr) × StaysWithin e))) →
         Within (joined (map (λ (p : Meant × Meant). p.0.reads ++ p.1.reads) (map pair_meant (map bare_pair pairs))))
     pairs_within pairs =
         subst (λ z. Within (joined z)) (sym (ap (map (λ (p : Meant × Meant). p.0.reads ++ p.1.reads)) (map_map pair_meant bare_pair pairs) ∙ map_map (λ (p : Meant × Meant). p.0.reads ++ p.1.reads) (λ p. pair_meant (bare_pair p)) pairs))
@@ -133,10 +133,10 @@ module _ (test : ℕ → Bool) where
     bare_link l = (l.0, l.1.0)
 
     abbrev Selected : Type 0
-    Selected = ((e : Expr) × Reads e) × Option (PartSelect × ((e : Expr) × Reads e))
+    Selected = ((e : Expr) × StaysWithin e) × Option (PartSelect × ((e : Expr) × StaysWithin e))
 
     abbrev meanings : List Selected → List Select
-    meanings xs = map (λ x. former-Expr-Select-1-at-5.map Expr Meant (meant env) x) (map (λ x. former-Expr-Select-1-at-5.map ((e : Expr) × Reads e) Expr bare x) xs)
+    meanings xs = map (λ x. former-Expr-Select-1-at-5.map Expr Meant (meant env) x) (map (λ x. former-Expr-Select-1-at-5.map ((e : Expr) × StaysWithin e) Expr bare x) xs)
 
     meanings_within : (xs : List Selected) → AllWithin (meanings xs)
     meanings_within [] = tt
@@ -150,7 +150,7 @@ module _ (test : ℕ → Bool) where
     select_within m (Some Other) xs h k = refl
     select_within m (Some Genvar) xs h k = refl
 
-    inner : (y : Expr-F ((e : Expr) × Reads e)) → Within (meant_step env (map-Expr Expr Meant (meant env) (map-Expr ((e : Expr) × Reads e) Expr bare y))).reads
+    inner : (y : Expr-F ((e : Expr) × StaysWithin e)) → Within (meant_step env (map-Expr Expr Meant (meant env) (map-Expr ((e : Expr) × StaysWithin e) Expr bare y))).reads
     inner (f.Number l) = refl
     inner (f.Name m) = name_within m.items (env m.items) refl
     inner (f.Select m ss) = select_within m.items (env m.items) (meanings ss.items) refl (meanings_within ss.items)
@@ -166,12 +166,12 @@ module _ (test : ℕ → Bool) where
         both_within (meant env x.value.0).reads (joined (map (λ (m : Meant). m.reads) (map (meant env) (map bare parts.items)))) x.value.1 (parts_within parts.items)
     inner (f.Cast sign x) = x.value.1
 
-    layer : (y : Expr-F ((e : Expr) × Reads e)) → Reads (roll-Expr (map-Expr ((e : Expr) × Reads e) Expr bare y))
+    layer : (y : Expr-F ((e : Expr) × StaysWithin e)) → StaysWithin (roll-Expr (map-Expr ((e : Expr) × StaysWithin e) Expr bare y))
     layer y =
-        subst (λ (m : Meant). Within m.reads) (sym (fold-roll-Expr Meant (meant_step env) (map-Expr ((e : Expr) × Reads e) Expr bare y))) (inner y)
+        subst (λ (m : Meant). Within m.reads) (sym (fold-roll-Expr Meant (meant_step env) (map-Expr ((e : Expr) × StaysWithin e) Expr bare y))) (inner y)
 
     each_within : (e : Expr) → Within (meant env e).reads
-    each_within e = ind-Expr Reads (λ x y is. subst (λ z. Reads (roll-Expr z)) is (layer y)) e
+    each_within e = ind-Expr StaysWithin (λ x y is. subst (λ z. StaysWithin (roll-Expr z)) is (layer y)) e
 
 -- what an expression reads are signals of its names
 pub reads_within : ReadsNamed

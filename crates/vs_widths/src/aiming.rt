@@ -13,12 +13,12 @@ use crate::levels::Levels;
 use std::alloc::{AllocError, Global};
 use vs_design::{Aim, Target};
 use vs_selects::{
-    Binding, Measured, Place, WidthFault, WidthReason, fitted, fixed, named, selection,
+    Binding, ChosenBits, Measured, WidthFault, WidthReason, fitted, fixed, named, selection,
 };
 use vs_syntax::PartSelect;
 
 /// What a name with its selects names, as a place of a target.
-fn aim(alloc: Global, place: &Place) -> Result<Aim, AllocError>
+fn aim(alloc: Global, place: &ChosenBits) -> Result<Aim, AllocError>
     ensures { IfOk result (λ a. (n : Named) → IsPlaced n place.now → IsAim n a) }
 {
     match fixed(alloc, place)? {

@@ -1,3 +1,4 @@
+pub mod Filled
 mod Named
 mod Todos
 mod Writes

@@ -7,8 +7,6 @@ use Rattle.std.specs.declared.alloc.Global.{Global}
 use Rattle.std.proofs.lemmas.Bool.{cond_both}
 use Rattle.std.proofs.lemmas.List.{append-nil}
 use Rattle.std.proofs.lemmas.List.Elements.{Contains-append_left, Contains-append_right, Contains-append_cases}
-use Rattle.vs_logic4.specs.declared.digit.Digit.{Digit}
-use Rattle.vs_logic4.specs.declared.digit.Digit.TheVariants.{One}
 use Rattle.vs_logic4.specs.Comparisons.{truth}
 use Rattle.vs_design.specs.declared.expression.Typed.{Typed}
 use Rattle.vs_design.specs.declared.range.BitRange.{BitRange}
@@ -23,8 +21,9 @@ use Rattle.vs_eval.specs.Values.{value_of}
 use Rattle.vs_flatcode.specs.Drafts.{flat_all, is_block}
 use Rattle.vs_flatcode.specs.Landings.{todo_behind}
 use Rattle.vs_flatcode.specs.Places.{perform, turns, Todo, flat}
-use Rattle.vs_flatcode.specs.Steps.{step, statement_step, branch, first_of, flat_item, is_default, item_matches, repeated, turns_for}
+use Rattle.vs_flatcode.specs.Steps.{step, statement_step, first_of, flat_item, is_default, item_matches, repeated, turns_for}
 use Rattle.vs_flatcode.proofs.Shapes.{flat-Block, flat-rolled}
+use Rattle.vs_process.proofs.WellFormed.{branch_each}
 use Rattle.vs_writes.specs.Writes.{item_writes, statement_writes, statement_writes_step, todo_writes}
 
 -- ---- a statement, blocks opened
@@ -92,11 +91,6 @@ flat_among all s rest h r =
 repeated_among : (all : List BitRange) (n : ℕ) (s : Statement) (rest : Todo) → Among (statement_writes s) all → Among (todo_writes rest) all → Among (todo_writes (repeated n s rest)) all
 repeated_among all zero s rest h r = r
 repeated_among all (suc n) s rest h r = flat_among all s (turns n s ∷ rest) h (both_among (statement_writes s) (todo_writes rest) all h r)
-
--- one of the two that a condition chooses
-branch_each : {A : Type 0} (P : A → Type 0) (d : Digit) (a b : A) → P a → P b → P (branch d a b)
-branch_each P One a b x y = x
-branch_each P _ a b x y = y
 
 -- the statement of an item in front of what else is to be done
 abbrev ItemAmong : List BitRange → Todo → Option (Vec Typed Global × Statement) → Type 0

@@ -1,5 +1,5 @@
 -- Lemmas on what statements and what is to be done can write.
-use Rattle.std.proofs.Common.{◌≡◌, ℕ, List, [], ◌∷◌, ◌++◌, map, refl, sym, ◌∙◌, ap}
+use Rattle.std.proofs.Common.{◌≡◌, ℕ, List, map, sym, ◌∙◌, ap}
 use Rattle.std.specs.declared.vec.Vec.{Vec}
 use Rattle.std.specs.declared.alloc.Global.{Global}
 use Rattle.vs_logic4.specs.declared.case.CaseKind.{CaseKind}
@@ -7,16 +7,12 @@ use Rattle.vs_design.specs.declared.expression.Typed.{Typed}
 use Rattle.vs_design.specs.declared.range.BitRange.{BitRange}
 use Rattle.vs_design.specs.declared.statement.Statement.{Statement}
 use Rattle.vs_design.specs.declared.statement.Statement.TheVariants as y
-use Rattle.vs_design.specs.declared.statement.Statement.TheVariants.{rolls-Block, rolls-Case}
+use Rattle.vs_design.specs.declared.statement.Statement.TheVariants.{rolls-Case}
 use Rattle.vs_design.specs.declared.statement.Statement.TheOpen as f
 use Rattle.vs_design.specs.declared.statement.Statement.TheFolds.{fold-roll-Statement}
 use Rattle.vs_design.specs.Uses.{joined}
+use Rattle.vs_design.proofs.UsesLemmas.{joined_each}
 use Rattle.vs_writes.specs.Writes.{statement_writes, statement_writes_step}
-
--- lists of images, joined
-pub joined_each : {A B C : Type 0} (f : B → List C) (g : A → B) (xs : List A) → joined (map f (map g xs)) ≡ joined (map (λ x. f (g x)) xs)
-joined_each f g [] = refl
-joined_each f g (x ∷ xs) = ap (λ rs. f (g x) ++ rs) (joined_each f g xs)
 
 -- the items of a `case`: each with its expressions and its statement
 abbrev pub Items : Type 0

@@ -1,12 +1,18 @@
 -- That a process writes what its statements name.
-use Rattle.std.specs.Prelude.{ℕ, ◌≡◌, false, Some, List}
+use Rattle.std.specs.Prelude.{ℕ, ◌≡◌, false, Some, List, [], slice_get}
 use Rattle.std.specs.List.{All, Contains, list_any}
+use Rattle.vs_logic4.specs.declared.digit.Digit.{Digit}
+use Rattle.vs_design.specs.declared.design.Assign.{Assign}
+use Rattle.vs_design.specs.declared.design.Process.{Process}
 use Rattle.vs_design.specs.declared.range.BitRange.{BitRange}
 use Rattle.vs_design.specs.declared.statement.Statement.{Statement}
+use Rattle.vs_design.specs.Parts.{Parts}
 use Rattle.vs_design.specs.Stores.{Store, put}
 use Rattle.vs_design.specs.Uses.{covers, is_of}
+use Rattle.vs_design.specs.WellFormed.{WellFormed}
 use Rattle.vs_design.specs.Writes.{Write, names}
 use Rattle.vs_eval.specs.Laws.{digit_of}
+use Rattle.vs_eval.specs.Targets.{assigned}
 use Rattle.vs_flatcode.specs.Landings.{todo_behind}
 use Rattle.vs_flatcode.specs.Places.{Item, Todo, flat}
 use Rattle.vs_flatcode.specs.Steps.{step}
@@ -53,3 +59,17 @@ pub record ProcessesWriteWhatIsNamed : Type 0 where
       (step todo store time).write ≡ Some w → LiesIn (statement_writes body) w
   pub updated : (body : Statement) (todo : Todo) (store : Store) (time : ℕ) (u : ℕ × Write) → IsLeft body todo →
       (step todo store time).update ≡ Some u → LiesIn (statement_writes body) u.1
+
+-- a write has a part
+abbrev pub HasPart : Write → Type 0
+HasPart w = w ≡ [] → ⊥
+
+-- no write of a well-formed design is empty: not what a step of a process writes at once, not what its update carries, and not what a continuous
+-- assignment drives (clauses 6.1 and 9.2)
+pub record WritesHaveParts : Type 0 where
+  pub written : (d : Parts) → WellFormed d → (i : ℕ) (p : Process) (todo : Todo) (store : Store) (time : ℕ) (w : Write) → slice_get d.processes i ≡ Some p →
+      IsLeft p.body todo → (step todo store time).write ≡ Some w → HasPart w
+  pub updated : (d : Parts) → WellFormed d → (i : ℕ) (p : Process) (todo : Todo) (store : Store) (time : ℕ) (u : ℕ × Write) → slice_get d.processes i ≡ Some p →
+      IsLeft p.body todo → (step todo store time).update ≡ Some u → HasPart u.1
+  pub driven : (d : Parts) → WellFormed d → (j : ℕ) (a : Assign) (digits : List Digit) (store : Store) (time : ℕ) → slice_get d.assigns j ≡ Some a →
+      HasPart (assigned a.target digits store time)

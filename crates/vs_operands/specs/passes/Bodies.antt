@@ -88,15 +88,15 @@ pub record IsFree (envs : Path → Surroundings) (p : Path) (b : Burden) : Type 
   pub blocks : (r : Reason) (at : Path) → HasInnerFault envs p b.blocks r at → ⊥
 
 -- what a fault says of that, where the scopes of a list stand for those of paths
-abbrev pub Fails : List FoundScope → (Path → Surroundings) → Path → Burden → StatementFault → Type 0
-Fails list envs p b Memory = Unit {0}
-Fails list envs p b Overfull = 2 ^ 32 ≤ b.last
-Fails list envs p b (Refused r) = b.own r ≡ true
-Fails list envs p b (Inside k r) = (at : Path) × (IsSite list envs k at × HasInnerFault envs p b.blocks r at)
+abbrev pub BurdenFails : List FoundScope → (Path → Surroundings) → Path → Burden → StatementFault → Type 0
+BurdenFails list envs p b Memory = Unit {0}
+BurdenFails list envs p b Overfull = 2 ^ 32 ≤ b.last
+BurdenFails list envs p b (Refused r) = b.own r ≡ true
+BurdenFails list envs p b (Inside k r) = (at : Path) × (IsSite list envs k at × HasInnerFault envs p b.blocks r at)
 
 -- what a call on statements answers
 abbrev pub Answers : {A : Type 0} → List FoundScope → (Path → Surroundings) → Path → Burden → (A → Type 0) → Result A StatementFault → Type 0
-Answers list envs p b P result = MatchResult result (λ x. IsFree envs p b × P x) (Fails list envs p b)
+Answers list envs p b P result = MatchResult result (λ x. IsFree envs p b × P x) (BurdenFails list envs p b)
 
 -- ---- statements
 

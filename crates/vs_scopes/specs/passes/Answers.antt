@@ -1,7 +1,5 @@
 -- What a pass answers.
 use Rattle.std.specs.Prelude.{◌≡◌, ℕ, Bool, true, false, List, ◌++◌, Result, Ok, Err, MatchResult}
-use Rattle.std.specs.Borrow.{Bor}
-use Rattle.std.specs.Prelude.{map}
 use Rattle.vs_selects.specs.declared.faults.WidthFault.{WidthFault}
 use Rattle.vs_selects.specs.declared.faults.WidthFault.TheVariants as width
 use Rattle.vs_scopes.specs.declared.faults.Reason.{Reason}
@@ -11,6 +9,7 @@ use Rattle.vs_scopes.specs.declared.faults.BodyFault.TheVariants as b
 use Rattle.vs_scopes.specs.declared.faults.ElabFault.{ElabFault}
 use Rattle.vs_scopes.specs.declared.faults.ElabFault.TheVariants.{Memory, At}
 use Rattle.vs_scopes.specs.Printed.{Path, printed}
+pub use Rattle.vs_connections.specs.passes.Ends.{borrowed}
 
 -- a fault of an expression as one of a part of a scope
 abbrev pub body_fault : WidthFault → BodyFault
@@ -47,7 +46,3 @@ IsRefusal p (b.Refused r) e = IsFaultAt r p e
 abbrev pub Grows : {A B C : Type 0} → (C → List A → Type 0) → (C → List A → Type 0) → (C → List A → Reason → Path → Type 0) → List A → Result B ElabFault → Type 0
 Grows {A} {B} {C} Old New Stands xs r =
     (start : C) (done : List A) → Old start done → MatchResult r (λ _. New start (done ++ xs)) (Told (Stands start (done ++ xs)))
-
--- borrowed names, by their bytes
-abbrev pub borrowed : List (Bor (List ℕ)) → List (List ℕ)
-borrowed names = map (λ n. n.now) names

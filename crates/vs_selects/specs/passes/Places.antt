@@ -14,7 +14,7 @@ use Rattle.vs_selects.specs.declared.forms.Measured.{Measured}
 use Rattle.vs_selects.specs.Senses.{sense}
 use Rattle.vs_selects.specs.declared.faults.WidthFault.{WidthFault}
 use Rattle.vs_selects.specs.declared.places.Extent.{Extent}
-use Rattle.vs_selects.specs.declared.places.Place.{Place}
+use Rattle.vs_selects.specs.declared.places.ChosenBits.{ChosenBits}
 use Rattle.vs_selects.specs.Findings.{Has, Refuses}
 use Rattle.vs_selects.specs.Meants.{own}
 use Rattle.vs_selects.specs.Selects.{Select, Span, Named, ascends, size_found, named_range, named_value, span_value}
@@ -60,7 +60,7 @@ Extends s (Ok x) = IsExtent s x
 Extends s (Err e) = Refuses s.finding e
 
 -- bits of a signal, with the indices that choose the word and them
-pub record IsPlaced (n : Named) (p : Place) : Type 0 where
+pub record IsPlaced (n : Named) (p : ChosenBits) : Type 0 where
   pub found : n.finding ≡ Has p.extent.shape.width p.extent.shape.signed
   pub signal : n.signal ≡ p.signal
   pub ranges : n.reads ≡ (sense p.word.form).reads ++ (sense p.extent.index.form).reads
@@ -71,7 +71,7 @@ pub record IsPlaced (n : Named) (p : Place) : Type 0 where
   pub flexible : IsFlexible p.extent.index.form
 
 -- bits of a signal, or their faults
-abbrev pub Places : Named → Result Place WidthFault → Type 0
+abbrev pub Places : Named → Result ChosenBits WidthFault → Type 0
 Places n (Ok p) = IsPlaced n p
 Places n (Err e) = Refuses n.finding e
 
@@ -86,7 +86,7 @@ StandsAlone x (Some v) = IsAlone x v
 StandsAlone x None = (sense x.form).reads ≡ [] → ⊥
 
 -- bits at places that no store changes
-pub record IsFixed (p : Place) (s : Slice) : Type 0 where
+pub record IsFixed (p : ChosenBits) (s : Slice) : Type 0 where
   pub word_ranges : (sense p.word.form).reads ≡ []
   pub ranges : (sense p.extent.index.form).reads ≡ []
   pub signal : s.signal ≡ p.signal
@@ -95,7 +95,7 @@ pub record IsFixed (p : Place) (s : Slice) : Type 0 where
   pub low : (store : Store) (time : ℕ) → place_of p.extent.axis p.extent.shape.width (own (meaning p.extent.index) store time) ≡ s.low
 
 -- bits at places that no store changes, where the indices read nothing
-abbrev pub Fixes : Place → Option Slice → Type 0
+abbrev pub Fixes : ChosenBits → Option Slice → Type 0
 Fixes p (Some s) = IsFixed p s
 Fixes p None = (sense p.word.form).reads ≡ [] → (sense p.extent.index.form).reads ≡ [] → ⊥
 

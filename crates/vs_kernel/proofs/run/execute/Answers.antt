@@ -2,10 +2,11 @@ use Rattle.std.proofs.Common.{◌≡◌, ◌∙◌, ◌+◌, ◌-◌, ◌≤◌,
 use Rattle.vs_process.specs.Executions.{is_combinational, is_complete}
 use Rattle.vs_process.specs.States.{State}
 use Rattle.vs_process.specs.Blocks.{inside_block}
-use Rattle.vs_kernel.proofs.MarkingLemmas.{covers_first}
-use Rattle.vs_kernel.proofs.RunsLemmas.{append_none, begins, limited, incomplete, complete_past, complete_over, ended_run, header_failed, end_failed, part_failed, first_failed, failed_as, failed_from, on_err}
-use Rattle.vs_kernel.specs.Points.{Point, point}
-use Rattle.vs_kernel.proofs.TurnsLemmas.{StandsAt, all_failed, all_on}
+use Rattle.vs_turns.proofs.MarkingLemmas.{noted_first}
+use Rattle.vs_turns.proofs.Appending.{append_none, on_err}
+use Rattle.vs_kernel.proofs.RunsLemmas.{begins, limited, incomplete, complete_past, complete_over, ended_run, header_failed, end_failed, part_failed, first_failed, failed_as, failed_from}
+use Rattle.vs_turns.specs.Points.{Point, point}
+use Rattle.vs_kernel.proofs.StandsLemmas.{StandsAt, all_failed, all_on}
 use Rattle.vs_kernel.proofs.run.execute.Goals as goal
 use Rattle.vs_kernel.proofs.run.execute.Goals.{then-loop-state-test+else-time-until, else-loop-state-test}
 
@@ -13,7 +14,7 @@ pub loop-state-init : goal.loop-state-init
 loop-state-init g c = record {
   run = begins c.requires.start c.in_ok-writer.ensures.written c.in_ok-writer.ensures.bytes;
   inside = sym (ap (λ (s : State). inside_block c.args.design.now.processes s.places) c.requires.start ∙ c.none_inside_first.ensures c.args.design.now);
-  covers = covers_first c.in_ok-marks.marks.items c.args.state.now.store c.in_ok-writer.ensures.written;
+  covers = noted_first c.args.design.now _ _ c.in_ok-marks.marks.items c.args.state.now.store c.in_ok-writer.ensures.written;
   room = omega (arith, c.in_ok-marks.ensures.room, ap length c.signals.ensures);
   few = c.in_ok-marks.ensures.few;
   failures = c.in_ok-writer.ensures.failures;

@@ -1,7 +1,7 @@
 use Rattle.std.proofs.Common.{◌≡◌, map, take}
 use Rattle.std.specs.Io.KnownBytes.{Appends}
 use Rattle.vs_process.specs.Executions.{strobe_line}
-use Rattle.vs_kernel.specs.Prints.{lines_text}
+use Rattle.vs_turns.specs.Prints.{lines_text}
 use Rattle.vs_kernel.proofs.run.print_calls.Given as goal
 
 abbrev pub invariant-loop-call : goal.invariant-loop-call

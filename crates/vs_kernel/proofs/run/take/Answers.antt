@@ -1,7 +1,7 @@
 use Rattle.std.proofs.Common.{◌<◌, ◌≤◌, arith, refl}
 use Rattle.vs_process.specs.declared.moves.Move.TheVariants.{Step, Evaluate, Propagate, Make}
 use Rattle.vs_kernel.proofs.RunsLemmas.{second_failed}
-use Rattle.vs_kernel.proofs.TurnsLemmas.{one_step, took_batch, took_batch_part, took_marked, took_once}
+use Rattle.vs_turns.proofs.TurnsLemmas.{one_step, took_batch, took_batch_part, took_marked, took_once}
 use Rattle.vs_kernel.proofs.run.take.Goals as goal
 
 pub returns-then-not-in_batches-clause-some : goal.returns-then-not-in_batches-clause-some
@@ -28,7 +28,7 @@ returns-in_default-clause-err g c =
 
 pub returns-in-Step-clause-covers : goal.returns-in-Step-clause-covers
 returns-in-Step-clause-covers g c =
-    took_marked c.run_process.result c.args.writer.now c.args.marks.now.items c.run_process.new.marks.items c.args.state.now.store c.run_process.new.state.store c.requires.covers c.run_process.ensures.marked
+    took_marked c.run_process.result c.args.writer.now (g.V.Sink.bytes c.args.vcd.now) c.args.marks.now.items c.run_process.new.marks.items c.args.state.now.store c.run_process.new.state.store c.requires.covers c.run_process.ensures.marked
 
 pub returns-in-Step-clause-ok : goal.returns-in-Step-clause-ok
 returns-in-Step-clause-ok g c =
@@ -45,7 +45,7 @@ returns-in-Step-clause-failures g c = second_failed _ _ _ _ _ refl c.run_process
 
 pub returns-in-Make-clause-covers : goal.returns-in-Make-clause-covers
 returns-in-Make-clause-covers g c =
-    took_marked c.run_updates.result c.args.writer.now c.args.marks.now.items c.run_updates.new.marks.items c.args.state.now.store c.run_updates.new.state.store c.requires.covers c.run_updates.ensures.marked
+    took_marked c.run_updates.result c.args.writer.now (g.V.Sink.bytes c.args.vcd.now) c.args.marks.now.items c.run_updates.new.marks.items c.args.state.now.store c.run_updates.new.state.store c.requires.covers c.run_updates.ensures.marked
 
 pub returns-in-Make-clause-ok : goal.returns-in-Make-clause-ok
 returns-in-Make-clause-ok g c =
@@ -62,7 +62,7 @@ returns-in-Make-clause-failures g c = second_failed _ _ _ _ _ refl c.run_updates
 
 pub returns-in-Evaluate-clause-covers : goal.returns-in-Evaluate-clause-covers
 returns-in-Evaluate-clause-covers g c =
-    took_marked c.run_assigns.result c.args.writer.now c.args.marks.now.items c.run_assigns.new.marks.items c.args.state.now.store c.run_assigns.new.state.store c.requires.covers c.run_assigns.ensures.marked
+    took_marked c.run_assigns.result c.args.writer.now (g.V.Sink.bytes c.args.vcd.now) c.args.marks.now.items c.run_assigns.new.marks.items c.args.state.now.store c.run_assigns.new.state.store c.requires.covers c.run_assigns.ensures.marked
 
 pub returns-in-Evaluate-clause-ok : goal.returns-in-Evaluate-clause-ok
 returns-in-Evaluate-clause-ok g c =
@@ -79,7 +79,7 @@ returns-in-Evaluate-clause-failures g c = second_failed _ _ _ _ _ refl c.run_ass
 
 pub returns-in-Propagate-clause-covers : goal.returns-in-Propagate-clause-covers
 returns-in-Propagate-clause-covers g c =
-    took_marked c.run_assigns-in-Propagate.result c.args.writer.now c.args.marks.now.items c.run_assigns-in-Propagate.new.marks.items c.args.state.now.store c.run_assigns-in-Propagate.new.state.store c.requires.covers c.run_assigns-in-Propagate.ensures.marked
+    took_marked c.run_assigns-in-Propagate.result c.args.writer.now (g.V.Sink.bytes c.args.vcd.now) c.args.marks.now.items c.run_assigns-in-Propagate.new.marks.items c.args.state.now.store c.run_assigns-in-Propagate.new.state.store c.requires.covers c.run_assigns-in-Propagate.ensures.marked
 
 pub returns-in-Propagate-clause-ok : goal.returns-in-Propagate-clause-ok
 returns-in-Propagate-clause-ok g c =

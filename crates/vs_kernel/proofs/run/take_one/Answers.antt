@@ -2,12 +2,13 @@ use Rattle.std.proofs.Common.{◌≡◌, ◌∙◌, ℕ, Option, Bool, false, ru
 use Rattle.vs_vcd.specs.Progress.{is_write_fault}
 use Rattle.vs_vcd.specs.Sinks.{failed_after}
 use Rattle.vs_kernel.specs.Faults.{OneFailed}
-use Rattle.vs_kernel.specs.Insides.{inside_told}
-use Rattle.vs_kernel.specs.Points.{Point, point}
-use Rattle.vs_kernel.specs.Turns.{Turned}
-use Rattle.vs_kernel.proofs.MarkingLemmas.{covers_on}
-use Rattle.vs_kernel.proofs.RunsLemmas.{part_all, slots_whole, step_printed, slot_printed, line_printed, failed_as, second_failed, on_err}
-use Rattle.vs_kernel.proofs.TurnsLemmas.{once, part_at, turned_told}
+use Rattle.vs_turns.specs.Insides.{inside_told}
+use Rattle.vs_turns.specs.Points.{Point, point}
+use Rattle.vs_turns.specs.Turns.{Turned}
+use Rattle.vs_turns.proofs.MarkingLemmas.{noted_on}
+use Rattle.vs_turns.proofs.Appending.{part_all, on_err}
+use Rattle.vs_kernel.proofs.RunsLemmas.{slots_whole, step_printed, slot_printed, line_printed, failed_as, second_failed}
+use Rattle.vs_turns.proofs.TurnsLemmas.{once, part_at, turned_told}
 use Rattle.vs_kernel.proofs.run.take_one.Goals as goal
 
 pub returns-clause-ok : goal.returns-clause-ok
@@ -27,7 +28,7 @@ returns-clause-failures g c = (c.in_ok-note.ensures.failures.0, c.in_ok-advance.
 
 pub returns-clause-covers : goal.returns-clause-covers
 returns-clause-covers g c = λ d slots h room.
-    covers_on c.note.new.marks.items c.advance.new.marks.items c.args.state.now.store c.advance.new.state.store h (omega (arith, room, c.note.ensures.len)) c.in_ok-note.ensures.covers
+    noted_on c.note.new.writer _ c.note.new.marks.items c.advance.new.marks.items c.args.state.now.store c.advance.new.state.store d slots h (omega (arith, room, c.note.ensures.len)) c.in_ok-note.ensures.covers
     c.in_ok-advance.ensures.marked
 
 pub returns-in_err-note-clause-err : goal.returns-in_err-note-clause-err

@@ -2,7 +2,7 @@ use Rattle.std.proofs.Common.{◌∙◌, ap, map, arith}
 use Rattle.vs_pieces.specs.Reads.{read_piece}
 use Rattle.vs_scopes.specs.Ports.{port_by_items, port_of_items, port_said, kind_said}
 use Rattle.vs_scopes.specs.passes.Parts.{read_port}
-use Rattle.vs_scopes.proofs.PassLemmas.{moved, map_at}
+use Rattle.vs_connections.proofs.PassLemmas.{moved, map_at}
 use Rattle.vs_scopes.proofs.ports.ports_by_name.Goals as goal
 
 pub loop-port-preserved : goal.loop-port-preserved

@@ -1,8 +1,0 @@
-use Rattle.std.proofs.Common.{◌≡◌, ◌++◌, map, drop}
-use Rattle.vs_scopes.specs.Parameters.{overridable}
-use Rattle.vs_scopes.specs.passes.Answers.{borrowed}
-use Rattle.vs_scopes.specs.passes.Parts.{read_parameter}
-use Rattle.vs_scopes.proofs.parameters.overridable_names.Given as goal
-
-abbrev pub invariant-loop-parameter : goal.invariant-loop-parameter
-invariant-loop-parameter l = borrowed l.names.items ++ overridable (map read_parameter (drop l.parameter-index l.parameters)) ≡ overridable (map read_parameter l.parameters)

@@ -1,0 +1,6 @@
+pub mod Appending
+pub mod AssignsLemmas
+pub mod MarkingLemmas
+pub mod MoveLemmas
+pub mod PrintsLemmas
+pub mod TurnsLemmas

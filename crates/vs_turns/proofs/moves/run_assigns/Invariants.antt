@@ -1,0 +1,19 @@
+use Rattle.std.proofs.Common.{◌≡◌, ◌-◌, ◌<◌, length}
+use Rattle.vs_agenda.specs.AssignEvents.{move_of}
+use Rattle.vs_turns.specs.Marking.{MarkChanges}
+use Rattle.vs_turns.specs.Turns.{IsReached}
+use Rattle.vs_turns.proofs.TurnsLemmas.{Along}
+use Rattle.vs_turns.proofs.moves.run_assigns.Given as goal
+
+abbrev pub invariant-loop-made : goal.invariant-loop-made
+invariant-loop-made g l = record {
+  run : Along l.made (move_of l.initial.event) (move_of l.event) l.fn.state l.state (g.L.Sink.bytes l.fn.lines) (g.L.Sink.bytes l.lines);
+  reached : IsReached l.design l.state;
+  within : l.made < l.steps;
+  marked : MarkChanges l.fn.marks.items l.marks.items l.fn.state.store l.state.store;
+  len : length l.marks.items ≡ length l.fn.marks.items;
+  failures : g.L.Sink.failed l.lines ≡ g.L.Sink.failed l.fn.lines;
+}
+
+abbrev pub decreases-loop-made : goal.decreases-loop-made
+decreases-loop-made g l = l.steps - l.made

@@ -1,0 +1,19 @@
+use Rattle.std.proofs.Common.{◌≡◌, ◌-◌, ◌<◌, length}
+use Rattle.vs_process.specs.declared.moves.Move.TheVariants.{Step}
+use Rattle.vs_turns.specs.Marking.{MarkChanges}
+use Rattle.vs_turns.specs.Turns.{IsReached}
+use Rattle.vs_turns.proofs.TurnsLemmas.{Along}
+use Rattle.vs_turns.proofs.moves.run_process.Given as goal
+
+abbrev pub invariant-loop-agenda : goal.invariant-loop-agenda
+invariant-loop-agenda g l = record {
+  run : Along l.taken (Step l.process) (Step l.process) l.fn.state l.state (g.L.Sink.bytes l.fn.lines) (g.L.Sink.bytes l.lines);
+  reached : IsReached l.design l.state;
+  within : l.taken < l.steps;
+  marked : MarkChanges l.fn.marks.items l.marks.items l.fn.state.store l.state.store;
+  len : length l.marks.items ≡ length l.fn.marks.items;
+  failures : g.L.Sink.failed l.lines ≡ g.L.Sink.failed l.fn.lines;
+}
+
+abbrev pub decreases-loop-agenda : goal.decreases-loop-agenda
+decreases-loop-agenda g l = l.steps - l.taken

@@ -1,0 +1,7 @@
+pub mod Insides
+pub mod Marking
+pub mod Points
+pub mod Prints
+pub mod Recording
+pub mod Slots
+pub mod Turns

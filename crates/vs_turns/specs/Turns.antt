@@ -1,0 +1,79 @@
+-- The steps of a run, one by one, and one after another in a slot.
+use Rattle.std.specs.Prelude.{ℕ, zero, suc, ◌≡◌, ◌<◌, Bool, true, false, Option, List, ◌++◌}
+use Rattle.std.specs.Io.KnownBytes.{Appends}
+use Rattle.vs_design.specs.Parts.{Parts}
+use Rattle.vs_design.specs.Traces.{Slot}
+use Rattle.vs_process.specs.declared.moves.Move.{Move}
+use Rattle.vs_process.specs.Blocks.{is_step_of_any}
+use Rattle.vs_process.specs.Executions.{after, apply, ended_slot, is_enabled, move_lines}
+use Rattle.vs_process.specs.States.{State}
+use Rattle.vs_vcd.specs.Progress.{Progress}
+use Rattle.vs_vcd.specs.Sinks.{AppendsPart}
+use Rattle.vs_turns.specs.Insides.{inside_told}
+use Rattle.vs_turns.specs.Points.{Point, point}
+use Rattle.vs_turns.specs.Prints.{lines_text}
+use Rattle.vs_turns.specs.Recording.{HasNoted}
+use Rattle.vs_turns.specs.Slots.{AppendsSlots, AppendsSlotsPart}
+
+-- a state to which moves of a design lead
+abbrev pub IsReached : Parts → State → Type 0
+IsReached d s = (moves : List Move) × (after d moves ≡ s)
+
+-- a step: an enabled move, of the combinational block that has left its control where there is one, is made, and the slot that it ends and the lines
+-- that it makes are written
+pub record Turned (blocks : List Bool) (old new : Point) : Type 0 where
+  pub choice : Move
+  pub enabled : is_enabled old.state choice ≡ true
+  pub free : is_step_of_any old.inside choice ≡ true
+  pub made : new.state ≡ apply choice old.state
+  pub told : new.inside ≡ inside_told blocks new.state.places choice
+  pub written : (d : Parts) (before : List Slot) → HasNoted old.writer old.vcd d before → HasNoted new.writer new.vcd d (before ++ ended_slot choice old.state)
+  pub text : (d : Parts) (before : List Slot) → HasNoted old.writer old.vcd d before → AppendsSlots old.vcd new.vcd d before (ended_slot choice old.state)
+  pub lines : Appends old.lines new.lines (lines_text (move_lines choice old.state))
+
+-- a step that failed: of the slot that the chosen move ends a beginning is written, and one of the lines that it makes
+pub record TurnedPart (old : Point) (sink lines_sink : Option (List ℕ)) : Type 0 where
+  pub choice : Move
+  pub enabled : is_enabled old.state choice ≡ true
+  pub free : is_step_of_any old.inside choice ≡ true
+  pub text : (d : Parts) (before : List Slot) → HasNoted old.writer old.vcd d before → AppendsSlotsPart old.vcd sink d before (ended_slot choice old.state)
+  pub lines : AppendsPart old.lines lines_sink (lines_text (move_lines choice old.state))
+
+-- so many steps, one after another, each in the slot of the first one and before the end
+abbrev pub AllTurned : ℕ → List Bool → Point → Point → Type 0
+AllTurned zero blocks old new = new ≡ old
+AllTurned (suc n) blocks old new =
+    (mid : Point) × AllTurned n blocks old mid × (mid.state.over ≡ false) × (mid.state.time ≡ old.state.time) × Turned blocks mid new
+
+-- fewer than so many steps, and then one that failed, each in the slot of the first one and before the end
+pub record AllTurnedPart (steps : ℕ) (blocks : List Bool) (old : Point) (sink lines_sink : Option (List ℕ)) : Type 0 where
+  pub taken : ℕ
+  pub last : Point
+  pub within : taken < steps
+  pub turned : AllTurned taken blocks old last
+  pub going : last.state.over ≡ false
+  pub time : last.state.time ≡ old.state.time
+  pub failed : TurnedPart last sink lines_sink
+
+-- so many steps of which none ends a slot; this move is the first, whatever the number of its update
+abbrev pub Batch : ℕ → Move → State → State → Option (List ℕ) → Option (List ℕ) → Type 0
+Batch taken first s t old new =
+    (blocks : List Bool) (inside : Option ℕ) (writer : Option Progress) (vcd : Option (List ℕ)) → is_step_of_any inside first ≡ true →
+    AllTurned taken blocks (point inside s writer vcd old) (point (inside_told blocks t.places first) t writer vcd new)
+
+-- fewer than so many steps of which none ends a slot, and then one that failed; this move is the first, whatever the number of its update
+abbrev pub BatchPart : ℕ → Move → State → Option (List ℕ) → Option (List ℕ) → Type 0
+BatchPart steps first s old new =
+    (blocks : List Bool) (inside : Option ℕ) (writer : Option Progress) (vcd : Option (List ℕ)) → is_step_of_any inside first ≡ true →
+    AllTurnedPart steps blocks (point inside s writer vcd old) vcd new
+
+-- so many steps in a slot; this move is the first, whatever the number of its update
+abbrev pub Took : ℕ → Move → State → State → Option Progress → Option Progress → Option (List ℕ) → Option (List ℕ) → Option (List ℕ) → Option (List ℕ) → Type 0
+Took taken first s t writer writer' vcd vcd' lines lines' =
+    (blocks : List Bool) (inside : Option ℕ) → is_step_of_any inside first ≡ true →
+    AllTurned taken blocks (point inside s writer vcd lines) (point (inside_told blocks t.places first) t writer' vcd' lines')
+
+-- fewer than so many steps, and then one that failed; this move is the first, whatever the number of its update
+abbrev pub TookPart : ℕ → Move → State → Option Progress → Option (List ℕ) → Option (List ℕ) → Option (List ℕ) → Option (List ℕ) → Type 0
+TookPart steps first s writer vcd vcd' lines lines' =
+    (blocks : List Bool) (inside : Option ℕ) → is_step_of_any inside first ≡ true → AllTurnedPart steps blocks (point inside s writer vcd lines) vcd' lines'

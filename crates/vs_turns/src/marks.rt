@@ -1,0 +1,53 @@
+//! The marks of the blocks of signals that were written since the last slot of the value change dump.
+ghost use Rattle.std.specs.Prelude.{◌≡◌, ◌<◌, ◌≤◌, ◌*◌, ◌^◌, ℕ, true, false, length, IfOk};
+ghost use Rattle.vs_turns.specs.Marking.{AreMarked};
+ghost use Rattle.vs_vcd.specs.Marks.{is_marked};
+
+use std::alloc::{AllocError, Global};
+use vs_vcd::BLOCK;
+
+/// Marks for so many signals; none is set.
+pub fn no_marks(alloc: Global, signals: usize) -> Result<Vec<u64>, AllocError>
+    requires { signals < 2 ^ 63 }
+    ensures none { IfOk result (λ marks. (signal : ℕ) → is_marked marks.items signal ≡ false) }
+    ensures room { IfOk result (λ marks. signals < 512 * length marks.items) }
+    ensures few { IfOk result (λ marks. length marks.items ≤ 2 ^ 57) }
+{
+    let words = signals / BLOCK / 64 + 1;
+    let marks = vec![in alloc; 0; words]?;
+    Ok(marks)
+}
+
+/// Marks the block of a signal; one past the marks has none.
+#[inline(always)]
+fn mark(marks: &mut Vec<u64>, signal: usize)
+    ensures len { length marks.new.items ≡ length marks.old.items }
+    ensures set { signal < 512 * length marks.old.items → is_marked marks.new.items signal ≡ true }
+    ensures others { (other : ℕ) → is_marked marks.new.items other ≡ false → is_marked marks.old.items other ≡ false }
+{
+    let block = signal / BLOCK;
+    if let Some(bits) = marks.get_mut(block / 64) {
+        *bits |= 1 << (block % 64);
+    }
+}
+
+/// Marks the blocks of signals.
+#[inline(always)]
+pub fn mark_all(marks: &mut Vec<u64>, signals: &[usize])
+    ensures len { length marks.new.items ≡ length marks.old.items }
+    ensures marked { AreMarked marks.old.items marks.new.items signals.now }
+{
+    for signal in signals {
+        mark(marks, *signal);
+    }
+}
+
+/// Takes all marks away.
+pub fn clear(marks: &mut Vec<u64>)
+    ensures len { length marks.new.items ≡ length marks.old.items }
+    ensures none { (signal : ℕ) → is_marked marks.new.items signal ≡ false }
+{
+    for word in 0..marks.len() {
+        marks[word] = 0;
+    }
+}
