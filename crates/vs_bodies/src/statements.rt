@@ -22,7 +22,7 @@ use vs_operands::{
     label_values, operand,
 };
 use vs_selects::Shape;
-use vs_syntax::{CaseLabel, DelayValue, Expr, Left, PrintArguments, PrintTask, Stmt};
+use vs_syntax::{CaseLabel, DelayValue, Expr, ForHeader, Left, PrintArguments, PrintTask, Stmt};
 use vs_widths::{AssignmentKind, Levels};
 
 /// The kind of an assignment that is a statement.
@@ -165,21 +165,7 @@ pub fn statement(
             Ok(Statement::If(number, condition, first, second))
         }
         Stmt::Case(kind, e, all) => case_statement(alloc, view, next, all, *kind, e),
-        Stmt::For(head, x) => {
-            let (number, target, source) = numbered(
-                alloc,
-                view,
-                next,
-                &head.first.0,
-                &head.first.1,
-            )?;
-            let begin = Statement::Assign(number, target, source);
-            let (number, body) = behind(alloc, view, next, x)?;
-            let (_, condition) = operand(alloc, view.names, &head.condition)?;
-            let (last, target, source) = numbered(alloc, view, next, &head.step.0, &head.step.1)?;
-            let step = Statement::Assign(last, target, source);
-            Ok(repeated(alloc, begin, number, condition, body, step)?)
-        }
+        Stmt::For(head, x) => for_statement(alloc, view, next, x, head),
         Stmt::While(e, x) => {
             let (number, body) = behind(alloc, view, next, x)?;
             let (_, condition) = operand(alloc, view.names, e)?;
@@ -214,6 +200,30 @@ pub fn statement(
             Ok(Statement::Null(number))
         }
     }
+}
+
+/// A `for`: its first assignment, its body, its condition and its second assignment, in this order (IEEE 1364-2005, clause 9.6).
+#[cycle(statement)]
+fn for_statement(
+    alloc: Global,
+    view: &View,
+    next: &mut u32,
+    x: &Box<Stmt>,
+    head: &Box<ForHeader>,
+) -> Result<Statement, StatementFault>
+    requires { IsPlaced view.now.list.now view.now.place }
+    ensures answer { (envs : Path → Surroundings) (p : Path) → IsView view.now envs p →
+        Answers view.now.list.now envs p (statement_burden (envs p) next.old (form.For head.now x.now))
+        (λ d. MeansStatement envs p next.old (form.For head.now x.now) d next.new) result }
+    ensures below { IfErr result (IsBelow (length view.now.list.now)) }
+{
+    let (number, target, source) = numbered(alloc, view, next, &head.first.0, &head.first.1)?;
+    let begin = Statement::Assign(number, target, source);
+    let (number, body) = behind(alloc, view, next, x)?;
+    let (_, condition) = operand(alloc, view.names, &head.condition)?;
+    let (last, target, source) = numbered(alloc, view, next, &head.step.0, &head.step.1)?;
+    let step = Statement::Assign(last, target, source);
+    Ok(repeated(alloc, begin, number, condition, body, step)?)
 }
 
 /// Statements one after another.

@@ -7,6 +7,7 @@ use vs_design::{Bits, EventTerm};
 use vs_logic4::{Digit, Edge, Vec4};
 
 /// The lowest of those of a word's digits that a range of bits has, where there is one.
+#[inline(always)]
 fn edge_digit(bits: Option<Bits>, word: Vec4) -> Option<Digit>
     ensures { result ≡ edge_digit bits (Some word) }
 {
@@ -21,6 +22,7 @@ fn edge_digit(bits: Option<Bits>, word: Vec4) -> Option<Digit>
 }
 
 /// Whether the change of a word is such an edge of the lowest bit of a range.
+#[inline(always)]
 fn is_edge_in(edge: Edge, bits: Option<Bits>, before: Vec4, behind: Vec4) -> bool
     ensures { result ≡ is_edge_of edge (edge_digit bits (Some before)) (edge_digit bits (Some behind)) }
 {
@@ -31,6 +33,7 @@ fn is_edge_in(edge: Edge, bits: Option<Bits>, before: Vec4, behind: Vec4) -> boo
 }
 
 /// Whether this word is the first of those that a range has.
+#[inline(always)]
 fn is_edge_word(only: Option<usize>, word: usize) -> bool
     ensures { result ≡ (edge_word only == word) }
 {
@@ -41,6 +44,7 @@ fn is_edge_word(only: Option<usize>, word: usize) -> bool
 }
 
 /// Whether the change of one word of a signal wakes a term.
+#[inline(always)]
 fn wakes(term: EventTerm, signal: usize, word: usize, before: Vec4, behind: Vec4) -> bool
     requires { length before ≡ length behind }
     ensures { result ≡ term_wakes signal word (Some before) (Some behind) term }
@@ -58,6 +62,7 @@ fn wakes(term: EventTerm, signal: usize, word: usize, before: Vec4, behind: Vec4
 
 /// Whether the change of one word of a signal from `before` to `behind`, which are of one size, wakes one of these terms
 /// (IEEE 1364-2005, clause 9.7.2).
+#[inline(always)]
 pub fn woken(terms: &[EventTerm], signal: usize, word: usize, before: Vec4, behind: Vec4) -> bool
     requires { length before ≡ length behind }
     ensures { result ≡ word_wakes terms.now signal word (Some before) (Some behind) }

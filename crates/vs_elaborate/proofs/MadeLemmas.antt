@@ -40,8 +40,8 @@ use Rattle.vs_opened.specs.ScopeFaults.{Repeated, HoldsOpening}
 use Rattle.vs_operands.specs.Surroundings.{surroundings_at}
 use Rattle.vs_operands.specs.passes.Bodies.{counting}
 use Rattle.vs_operands.specs.passes.Views.{AreSites, IsPlaced}
-use Rattle.vs_bodies.proofs.BlockLemmas.{zip_at, zip_other}
-use Rattle.vs_bodies.proofs.WellFormedLemmas.{IsGood}
+use Rattle.vs_operands.proofs.BlockLemmas.{zip_at, zip_other}
+use Rattle.vs_operands.proofs.WellFormedLemmas.{IsGood}
 use Rattle.vs_contents.specs.declared.contents.Contents.{Contents}
 use Rattle.vs_elaborate.specs.Timescales.{timescale_of, has_other_timescale}
 use Rattle.vs_elaborate.specs.Faults.{Faults, DrivesTwice, surroundings_of}

@@ -35,7 +35,7 @@ use Rattle.vs_scopes.proofs.Folds.{any_false_at}
 use Rattle.vs_paths.proofs.PathsLists.{each_append}
 use Rattle.vs_opened.specs.Outlines.{Declared, declared, signal_of, signals_of}
 use Rattle.vs_opened.specs.Opened.{IsWithin, IsOutermost}
-use Rattle.vs_bodies.proofs.WellFormedLemmas.{IsMeant, IsGood}
+use Rattle.vs_operands.proofs.WellFormedLemmas.{IsMeant, IsGood}
 
 right_false : (a b : Bool) → (a || b) ≡ false → b ≡ false
 right_false true b h = absurd (true≢false h)

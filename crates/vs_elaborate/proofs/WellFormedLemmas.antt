@@ -25,7 +25,7 @@ use Rattle.vs_scopes.specs.Printed.{Path}
 use Rattle.vs_scopes.specs.Scopes.{Scope, environment}
 use Rattle.vs_scopes.proofs.Folds.{both_true}
 use Rattle.vs_paths.proofs.PathsLists.{each_append}
-use Rattle.vs_bodies.proofs.WellFormedLemmas.{IsGood, in_design, name_within, net_target, source_sound, body_sound}
+use Rattle.vs_operands.proofs.WellFormedLemmas.{IsGood, in_design, name_within, net_target, source_sound, body_sound}
 
 driver_sound : (ss : List Signal) (own outer : Environment) → IsGood ss own → IsGood ss outer → (d : Driver) (a : Assign) → IsDriver own outer d a.target a.source → is_sound_assign ss a ≡ true
 driver_sound ss own outer g h (of_port (into n e)) a k =

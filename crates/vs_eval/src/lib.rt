@@ -1,9 +1,10 @@
 //! The values of expressions in a store (IEEE 1364-2005, clause 5), and the writes of assignments.
 #![tactic(auto)]
 
-ghost use Rattle.std.specs.Prelude.{◌≡◌, ◌<◌, ◌≤◌, map};
+ghost use Rattle.std.specs.Prelude.{◌≡◌, ◌<◌, ◌≤◌, map, IfSome};
 ghost use Rattle.vs_logic4.specs.Comparisons.{truth};
 ghost use Rattle.vs_logic4.specs.Operators.{sizing_of};
+ghost use Rattle.vs_logic4.specs.Vectors.{resized};
 ghost use Rattle.vs_eval.specs.Laws.{ReadsHold, IndicesHold, WritesHold, SizesHold};
 ghost use Rattle.vs_eval.specs.Values.{value_of, operand_value, bits_value, selection_value, excerpt_value, left_side, right_side, linked, chained, picked, chosen, concatenated};
 ghost use Rattle.vs_design.specs.Stores.{word_of};
@@ -29,14 +30,57 @@ pub fn value(e: &Typed, store: &Store, time: u64) -> Vec4
             selection(*s, store, value(word, store, time), value(low, store, time))
         }
         Typed::Excerpt(s, low) => excerpt(*s, value(low, store, time)),
-        Typed::Unary(operator, x) => operator.of(value(x, store, time)),
-        Typed::Chain(first, links) => chain(value(first, store, time), links, store, time),
+        Typed::Unary(operator, x) => match leaf(x, store, time) {
+            Some(digits) => operator.of(digits),
+            None => operator.of(value(x, store, time)),
+        },
+        Typed::Chain(first, links) => match leaf(first, store, time) {
+            Some(digits) => chain(digits, links, store, time),
+            None => chain(value(first, store, time), links, store, time),
+        },
         Typed::Choice(pairs, last) => choice(pairs, value(last, store, time), store, time),
         Typed::Concat(first, others) => {
             concatenation(value(first, store, time), others, store, time)
         }
         Typed::Repeat(count, x) => value(x, store, time).repeated(count.times),
         Typed::Resized(size, x) => value(x, store, time).resize(size.width, size.signed),
+    }
+}
+
+/// The value of a number, or of a whole signal; other expressions are none of these.
+#[inline(always)]
+fn leaf(e: &Typed, store: &Store, _time: u64) -> Option<Vec4>
+    ensures { IfSome result (λ digits. digits ≡ value_of e.now store.now _time) }
+{
+    match e {
+        Typed::Number(digits) => Some(*digits),
+        Typed::Signal(o) => Some(operand(*o, store)),
+        _ => None,
+    }
+}
+
+/// The value of an expression, as `value` answers it; that of a number or a whole signal is read at once.
+#[inline(always)]
+pub fn quick_value(e: &Typed, store: &Store, time: u64) -> Vec4
+    ensures { result ≡ value_of e.now store.now time }
+{
+    match leaf(e, store, time) {
+        Some(digits) => digits,
+        None => value(e, store, time),
+    }
+}
+
+/// A vector at a size; one that has the size is taken as it is.
+#[inline(always)]
+fn fitted(digits: Vec4, width: u32, signed: bool) -> Vec4
+    requires some { 0 < width }
+    requires most { width ≤ 64 }
+    ensures { result ≡ resized signed width digits }
+{
+    if digits.width() == width {
+        digits
+    } else {
+        digits.resize(width, signed)
     }
 }
 
@@ -47,7 +91,10 @@ fn chain(first: Vec4, links: &[(Link, Typed)], store: &Store, time: u64) -> Vec4
 {
     let mut all = first;
     for (link, e) in links {
-        all = combined(all, *link, value(e, store, time));
+        match leaf(e, store, time) {
+            Some(digits) => all = combined(all, *link, digits),
+            None => all = combined(all, *link, value(e, store, time)),
+        }
     }
     all
 }
@@ -92,6 +139,7 @@ fn concatenation(first: Vec4, others: &[Typed], store: &Store, time: u64) -> Vec
 }
 
 /// What the operator of a link gives of the values on its two sides.
+#[inline(always)]
 fn combined(left: Vec4, link: Link, right: Vec4) -> Vec4
     ensures { result ≡ linked left (link, right) }
 {
@@ -99,31 +147,34 @@ fn combined(left: Vec4, link: Link, right: Vec4) -> Vec4
 }
 
 /// The value on the left of a link at the size at which its operator takes it.
+#[inline(always)]
 fn left_side(link: Link, left: Vec4) -> Vec4
     ensures { result ≡ left_side (sizing_of link.operator) link.width left }
 {
     match link.operator.sizing() {
-        Sizing::Alike | Sizing::Shift | Sizing::Comparison => left.resize(link.width, false),
+        Sizing::Alike | Sizing::Shift | Sizing::Comparison => fitted(left, link.width, false),
         Sizing::Logical => left,
     }
 }
 
 /// The value on the right of a link at the size at which its operator takes it.
+#[inline(always)]
 fn right_side(link: Link, right: Vec4) -> Vec4
     ensures { result ≡ right_side (sizing_of link.operator) link.width right }
 {
     match link.operator.sizing() {
-        Sizing::Alike | Sizing::Comparison => right.resize(link.width, false),
+        Sizing::Alike | Sizing::Comparison => fitted(right, link.width, false),
         Sizing::Shift | Sizing::Logical => right,
     }
 }
 
 /// The value of a signal where it stands in an expression.
+#[inline(always)]
 fn operand(o: Operand, store: &Store) -> Vec4
     ensures { result ≡ operand_value o.signed o.width (word_of store.now o.signal 0) }
 {
     match store.word(o.signal, 0) {
-        Some(word) => word.resize(o.width, o.signed),
+        Some(word) => fitted(word, o.width, o.signed),
         None => Vec4::unknown(o.width),
     }
 }

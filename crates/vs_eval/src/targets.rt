@@ -6,16 +6,17 @@ ghost use Rattle.vs_eval.specs.Targets.{assigned, part_at};
 ghost use Rattle.vs_eval.specs.Values.{target_value};
 
 use crate::indices::{place_of, word_place};
-use crate::value;
+use crate::{fitted, quick_value, value};
 use std::alloc::{AllocError, Global};
 use vs_design::{Aim, Part, Store, Target, Typed, Write};
 use vs_logic4::Vec4;
 
 /// What a target gets of an expression in a store at a time in ticks: the value, cut to the target's size (IEEE 1364-2005, clause 5.4.1).
+#[inline(always)]
 pub fn cut_value(target: &Target, e: &Typed, store: &Store, time: u64) -> Vec4
     ensures { result ≡ target_value target.now e.now store.now time }
 {
-    value(e, store, time).resize(target.width, false)
+    fitted(quick_value(e, store, time), target.width, false)
 }
 
 /// How many bits a place has.

@@ -129,7 +129,7 @@ fn lowest(digits: Vec4, width: u32) -> Vec4
 
 /// The one part of the write that gives a target these digits, where the target is one fixed place.
 #[inline(always)]
-pub(crate) fn only_part(target: &Target, digits: Vec4) -> Option<Part>
+pub fn only_part(target: &Target, digits: Vec4) -> Option<Part>
     ensures { IfSome result (λ part. (store : Store) (time : ℕ) → assigned target.now digits store time ≡ part ∷ []) }
 {
     if target.parts.len() == 1

@@ -1,46 +1,15 @@
 //! What conditions, `case` items and counts choose (IEEE 1364-2005, clauses 9.4 to 9.6).
 ghost use Rattle.std.specs.Prelude.{◌≡◌, IfOk};
 ghost use Rattle.vs_logic4.specs.Comparisons.{truth};
-ghost use Rattle.vs_eval.specs.Values.{value_of, target_value};
+ghost use Rattle.vs_eval.specs.Values.{value_of};
 ghost use Rattle.vs_flatcode.specs.Steps.{assignment, branch, item_matches, is_default, turns_for};
 ghost use Rattle.vs_flatcode.specs.Landings.{start_where, start_taken};
 
 use crate::changes::only_part;
 use std::alloc::{AllocError, Global};
 use vs_design::{Statement, Store, Target, Typed, Write};
-use vs_eval::{value, write_of};
+use vs_eval::{cut_value, quick_value, value, write_of};
 use vs_logic4::{CaseKind, Digit, Vec4};
-
-/// The value of an expression in a store at a time in ticks; a whole signal's is read at once.
-#[inline(always)]
-pub(crate) fn quick_value(e: &Typed, store: &Store, time: u64) -> Vec4
-    ensures { result ≡ value_of e.now store.now time }
-{
-    let Typed::Signal(o) = e else {
-        return value(e, store, time);
-    };
-    let Some(word) = store.word(o.signal, 0) else {
-        return Vec4::unknown(o.width);
-    };
-    if word.width() == o.width {
-        word
-    } else {
-        word.resize(o.width, o.signed)
-    }
-}
-
-/// What a target gets of an expression in a store at a time in ticks: the value, cut to the target's size (IEEE 1364-2005, clause 5.4.1).
-#[inline(always)]
-pub fn cut_value(target: &Target, e: &Typed, store: &Store, time: u64) -> Vec4
-    ensures { result ≡ target_value target.now e.now store.now time }
-{
-    let digits = quick_value(e, store, time);
-    if digits.width() == target.width {
-        digits
-    } else {
-        digits.resize(target.width, false)
-    }
-}
 
 /// The write of an assignment.
 #[inline(always)]

@@ -11,13 +11,14 @@ ghost use Rattle.vs_flatcode.specs.Codes.{job_of, StandsAt, IsEnd, IsFormatOf, I
 ghost use Rattle.vs_flatcode.specs.Landings.{landing, turned, statement_lands, lands, made_out, item_write, IsMade, IsCallMade};
 
 use crate::changes::{Change, assign};
-use crate::choices::{assignment, branch, cut_value, quick_value, start_taken, turns_for};
+use crate::choices::{assignment, branch, start_taken, turns_for};
 use crate::code::Code;
 use crate::draft::{Extra, Op, Task};
 use crate::made::{Effect, Halt};
 use std::alloc::{AllocError, Global};
 use std::marker::Model;
 use vs_design::{CallKind, Statement, Store, Target, Ticks, Typed};
+use vs_eval::{cut_value, quick_value};
 use vs_strobe::full_line;
 
 /// Where a process stands in its code, with the counters of its statements `repeat`. A contract sees it as what the process still
@@ -93,7 +94,7 @@ fn starts_of<'a>(extra: &'a Extra<'a>) -> &'a [usize]
     }
 }
 
-// What a call makes, by the format that its instruction has.
+// What a call makes, by the format that its instruction has, in place of nothing.
 #[inline(never)]
 fn call_made<'a>(
     alloc: Global,
@@ -101,19 +102,22 @@ fn call_made<'a>(
     kind: CallKind,
     store: &Store,
     time: u64,
-) -> Result<Effect<'a>, AllocError>
-    ensures { IfOk result (λ effect. IsCallMade (format_of extra.entry.now) kind store.now time effect) }
+    effect: &mut Effect<'a>,
+) -> Result<(), AllocError>
+    requires quiet { effect.old ≡ Effect.Nothing }
+    ensures { OnOk result (IsCallMade (format_of extra.entry.now) kind store.now time effect.new) }
 {
     let Extra::Formats(formats) = extra else {
-        return Ok(Effect::Nothing);
+        return Ok(());
     };
     let Some(format) = formats.get(0) else {
-        return Ok(Effect::Nothing);
+        return Ok(());
     };
     match kind {
-        CallKind::Display => Ok(Effect::Line(full_line(alloc, format, store, time)?)),
-        CallKind::Strobe => Ok(Effect::Strobe(format)),
+        CallKind::Display => *effect = Effect::Line(full_line(alloc, format, store, time)?),
+        CallKind::Strobe => *effect = Effect::Strobe(format),
     }
+    Ok(())
 }
 
 /// Whether a step does nothing beyond the process.
@@ -190,7 +194,7 @@ fn perform<'a>(
             Ok((Halt::Nothing, op.behind))
         }
         Statement::Call(_, call) => {
-            *effect = call_made(alloc, &op.extra, call.kind, store, time)?;
+            call_made(alloc, &op.extra, call.kind, store, time, effect)?;
             Ok((Halt::Nothing, op.behind))
         }
         Statement::Finish(_) => {

@@ -10,8 +10,7 @@ mod gait;
 mod laws;
 mod made;
 
-pub use changes::{Change, assign, holds, make};
-pub use choices::cut_value;
+pub use changes::{Change, assign, holds, make, only_part};
 pub use code::{Code, compile};
 pub use cursor::{Cursor, is_nothing};
 pub use gait::Gait;

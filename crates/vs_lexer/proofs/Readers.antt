@@ -26,14 +26,14 @@ use Rattle.vs_tokens.proofs.LongestRuns.{after_all}
 use Rattle.vs_lexer.proofs.Openings.{alone_reads}
 
 -- the bytes that were read, which are read so whatever follows them
-record Part {A : Type 0} (p : Reader A) (xs : List ℕ) (v : A) (rest : List ℕ) : Type 0 where
+record ReadFront {A : Type 0} (p : Reader A) (xs : List ℕ) (v : A) (rest : List ℕ) : Type 0 where
   front : List ℕ
   splits : xs ≡ front ++ rest
   again : (others : List ℕ) → p (front ++ others) ≡ Some (v, others)
 
 -- whatever is read is read so whatever follows
 record Strong {A : Type 0} (p : Reader A) : Type 0 where
-  part : (xs : List ℕ) (v : A) (rest : List ℕ) → p xs ≡ Some (v, rest) → Part p xs v rest
+  part : (xs : List ℕ) (v : A) (rest : List ℕ) → p xs ≡ Some (v, rest) → ReadFront p xs v rest
 
 -- something is read
 record Firm {A : Type 0} (p : Reader A) : Type 0 where
@@ -71,7 +71,7 @@ module _ {A : Type 0} where
   strong_text : (cs : List ℕ) (p : Reader A) → Strong p → Strong (text cs p)
   strong_text cs p strong = record { part = λ xs v rest e. at xs v rest (behind cs xs) refl e }
     where
-      at : (xs : List ℕ) (v : A) (rest : List ℕ) (o : Option (List ℕ)) → behind cs xs ≡ o → with_rest o p ≡ Some (v, rest) → Part (text cs p) xs v rest
+      at : (xs : List ℕ) (v : A) (rest : List ℕ) (o : Option (List ℕ)) → behind cs xs ≡ o → with_rest o p ≡ Some (v, rest) → ReadFront (text cs p) xs v rest
       at xs v rest None h e = absurd cc
       at xs v rest (Some mid) h e =
           let inner = strong.part mid v rest e in
@@ -97,18 +97,18 @@ module _ {A : Type 0} where
     strong_by_next : Strong p → Strong q → Strong (by_next test p q)
     strong_by_next strong_p strong_q = record { part = at }
       where
-        same_front : (r : Reader A) (firm : Firm r) (xs : List ℕ) (v : A) (rest : List ℕ) (t : Bool) → ((ys : List ℕ) → test ys ≡ t → by_next test p q ys ≡ r ys) → test xs ≡ t → Part r xs v rest → Part (by_next test p q) xs v rest
+        same_front : (r : Reader A) (firm : Firm r) (xs : List ℕ) (v : A) (rest : List ℕ) (t : Bool) → ((ys : List ℕ) → test ys ≡ t → by_next test p q ys ≡ r ys) → test xs ≡ t → ReadFront r xs v rest → ReadFront (by_next test p q) xs v rest
         same_front r firm xs v rest t pick h inner = record { front = inner.front; splits = inner.splits; again = λ others. pick (inner.front ++ others) (same inner.front inner.splits inner.again others) ∙ inner.again others }
           where
             same : (front : List ℕ) → xs ≡ front ++ rest → ((others : List ℕ) → r (front ++ others) ≡ Some (v, others)) → (others : List ℕ) → test (front ++ others) ≡ t
             same [] e again others = let some = again [] in let none = firm.none in absurd (cc (some, none))
             same (b ∷ front) e again others = local b (front ++ others) (front ++ rest) ∙ ap test (sym e) ∙ h
 
-        choose : (xs : List ℕ) (v : A) (rest : List ℕ) (t : Bool) → test xs ≡ t → by_next test p q xs ≡ Some (v, rest) → Part (by_next test p q) xs v rest
+        choose : (xs : List ℕ) (v : A) (rest : List ℕ) (t : Bool) → test xs ≡ t → by_next test p q xs ≡ Some (v, rest) → ReadFront (by_next test p q) xs v rest
         choose xs v rest true h e = same_front p firm_p xs v rest true (λ ys f. rw f refl) h (strong_p.part xs v rest (rw h at e))
         choose xs v rest false h e = same_front q firm_q xs v rest false (λ ys f. rw f refl) h (strong_q.part xs v rest (rw h at e))
 
-        at : (xs : List ℕ) (v : A) (rest : List ℕ) → by_next test p q xs ≡ Some (v, rest) → Part (by_next test p q) xs v rest
+        at : (xs : List ℕ) (v : A) (rest : List ℕ) → by_next test p q xs ≡ Some (v, rest) → ReadFront (by_next test p q) xs v rest
         at xs v rest e = choose xs v rest (test xs) refl e
 
 next_is_local : (c b : ℕ) (xs ys : List ℕ) → next_is c (b ∷ xs) ≡ next_is c (b ∷ ys)
@@ -144,7 +144,7 @@ module _ {A : Type 0} (p : Reader A) (firm : Firm p) (strong : Strong p) where
   unfolding behind_white
   strong_white = record { part = λ xs v rest e. at xs v rest (after_run is_white xs) refl e }
     where
-      inside : (xs : List ℕ) (v : A) (rest : List ℕ) (y : ℕ) (ys : List ℕ) (w : Whites xs y ys) (front : List ℕ) → y ∷ ys ≡ front ++ rest → ((others : List ℕ) → p (front ++ others) ≡ Some (v, others)) → Part (white p) xs v rest
+      inside : (xs : List ℕ) (v : A) (rest : List ℕ) (y : ℕ) (ys : List ℕ) (w : Whites xs y ys) (front : List ℕ) → y ∷ ys ≡ front ++ rest → ((others : List ℕ) → p (front ++ others) ≡ Some (v, others)) → ReadFront (white p) xs v rest
       inside xs v rest y ys w [] e again = let some = again [] in let none = firm.none in absurd (cc (some, none))
       inside xs v rest y ys w (z ∷ front) e again =
           let heads : y ≡ z = cc in
@@ -155,7 +155,7 @@ module _ {A : Type 0} (p : Reader A) (firm : Firm p) (strong : Strong p) where
             again = λ others. ap p (ap (after_run is_white) (append_assoc w.whites (z ∷ front) others) ∙ after_all is_white w.whites (z ∷ (front ++ others)) w.all black) ∙ again others;
           }
 
-      at : (xs : List ℕ) (v : A) (rest : List ℕ) (mid : List ℕ) → after_run is_white xs ≡ mid → p mid ≡ Some (v, rest) → Part (white p) xs v rest
+      at : (xs : List ℕ) (v : A) (rest : List ℕ) (mid : List ℕ) → after_run is_white xs ≡ mid → p mid ≡ Some (v, rest) → ReadFront (white p) xs v rest
       at xs v rest [] h e = let none = firm.none in absurd (cc (none, e))
       at xs v rest (y ∷ ys) h e = let inner = strong.part (y ∷ ys) v rest e in inside xs v rest y ys (whites xs y ys h) inner.front inner.splits inner.again
 
@@ -163,7 +163,7 @@ module _ {A B : Type 0} (p : Reader A) (q : A → Reader B) where
   strong_then : Strong p → ((a : A) → Strong (q a)) → Strong (p then q)
   strong_then strong each = record { part = λ xs v rest e. at xs v rest (p xs) refl e }
     where
-      at : (xs : List ℕ) (v : B) (rest : List ℕ) (o : Option (A × List ℕ)) → p xs ≡ o → follow o q ≡ Some (v, rest) → Part (p then q) xs v rest
+      at : (xs : List ℕ) (v : B) (rest : List ℕ) (o : Option (A × List ℕ)) → p xs ≡ o → follow o q ≡ Some (v, rest) → ReadFront (p then q) xs v rest
       at xs v rest None h e = absurd cc
       at xs v rest (Some x) h e =
           let first = strong.part xs x.0 x.1 h in
@@ -178,13 +178,13 @@ module _ {A B : Type 0} (p : Reader A) (q : A → Reader B) where
   firm_then firm = record { none = ap (λ (o : Option (A × List ℕ)). follow o q) firm.none }
 
 -- the bytes that were read, which are read so where the next byte is the same
-record WeakPart {A : Type 0} (p : Reader A) (xs : List ℕ) (v : A) (y : ℕ) (rest : List ℕ) : Type 0 where
+record WeakReadFront {A : Type 0} (p : Reader A) (xs : List ℕ) (v : A) (y : ℕ) (rest : List ℕ) : Type 0 where
   front : List ℕ
   splits : xs ≡ front ++ y ∷ rest
   again : (others : List ℕ) → p (front ++ y ∷ others) ≡ Some (v, y ∷ others)
 
 record Weak {A : Type 0} (p : Reader A) : Type 0 where
-  part : (xs : List ℕ) (v : A) (y : ℕ) (rest : List ℕ) → p xs ≡ Some (v, y ∷ rest) → WeakPart p xs v y rest
+  part : (xs : List ℕ) (v : A) (y : ℕ) (rest : List ℕ) → p xs ≡ Some (v, y ∷ rest) → WeakReadFront p xs v y rest
 
 weak_done : {A : Type 0} (x : A) → Weak (done x)
 weak_done {A} x = record {
@@ -197,7 +197,7 @@ module _ {A : Type 0} where
   weak_text : (cs : List ℕ) (p : Reader A) → Weak p → Weak (text cs p)
   weak_text cs p weak = record { part = λ xs v y rest e. at xs v y rest (behind cs xs) refl e }
     where
-      at : (xs : List ℕ) (v : A) (y : ℕ) (rest : List ℕ) (o : Option (List ℕ)) → behind cs xs ≡ o → with_rest o p ≡ Some (v, y ∷ rest) → WeakPart (text cs p) xs v y rest
+      at : (xs : List ℕ) (v : A) (y : ℕ) (rest : List ℕ) (o : Option (List ℕ)) → behind cs xs ≡ o → with_rest o p ≡ Some (v, y ∷ rest) → WeakReadFront (text cs p) xs v y rest
       at xs v y rest None h e = absurd cc
       at xs v y rest (Some mid) h e =
           let inner = weak.part mid v y rest e in
@@ -215,14 +215,14 @@ module _ {A : Type 0} where
         same xs [] y rest others e = local y others rest ∙ ap test (sym e)
         same xs (b ∷ front) y rest others e = local b (front ++ y ∷ others) (front ++ y ∷ rest) ∙ ap test (sym e)
 
-        same_front : (r : Reader A) (xs : List ℕ) (v : A) (y : ℕ) (rest : List ℕ) (t : Bool) → ((ys : List ℕ) → test ys ≡ t → by_next test p q ys ≡ r ys) → test xs ≡ t → WeakPart r xs v y rest → WeakPart (by_next test p q) xs v y rest
+        same_front : (r : Reader A) (xs : List ℕ) (v : A) (y : ℕ) (rest : List ℕ) (t : Bool) → ((ys : List ℕ) → test ys ≡ t → by_next test p q ys ≡ r ys) → test xs ≡ t → WeakReadFront r xs v y rest → WeakReadFront (by_next test p q) xs v y rest
         same_front r xs v y rest t pick h inner = record {
           front = inner.front;
           splits = inner.splits;
           again = λ others. pick (inner.front ++ y ∷ others) (same xs inner.front y rest others inner.splits ∙ h) ∙ inner.again others;
         }
 
-        choose : (xs : List ℕ) (v : A) (y : ℕ) (rest : List ℕ) (t : Bool) → test xs ≡ t → by_next test p q xs ≡ Some (v, y ∷ rest) → WeakPart (by_next test p q) xs v y rest
+        choose : (xs : List ℕ) (v : A) (y : ℕ) (rest : List ℕ) (t : Bool) → test xs ≡ t → by_next test p q xs ≡ Some (v, y ∷ rest) → WeakReadFront (by_next test p q) xs v y rest
         choose xs v y rest true h e = same_front p xs v y rest true (λ ys f. rw f refl) h (weak_p.part xs v y rest (rw h at e))
         choose xs v y rest false h e = same_front q xs v y rest false (λ ys f. rw f refl) h (weak_q.part xs v y rest (rw h at e))
 
@@ -230,7 +230,7 @@ module _ {A B : Type 0} (p : Reader A) (q : A → Reader B) (weak : Weak p) (eac
   weak_then : Strong (p then q)
   weak_then = record { part = λ xs v rest e. at xs v rest (p xs) refl e }
     where
-      join : (xs : List ℕ) (v : B) (rest : List ℕ) (a : A) (y : ℕ) (ys : List ℕ) → WeakPart p xs a y ys → (front : List ℕ) → y ∷ ys ≡ front ++ rest → ((others : List ℕ) → q a (front ++ others) ≡ Some (v, others)) → Part (p then q) xs v rest
+      join : (xs : List ℕ) (v : B) (rest : List ℕ) (a : A) (y : ℕ) (ys : List ℕ) → WeakReadFront p xs a y ys → (front : List ℕ) → y ∷ ys ≡ front ++ rest → ((others : List ℕ) → q a (front ++ others) ≡ Some (v, others)) → ReadFront (p then q) xs v rest
       join xs v rest a y ys first [] e again = let some = again [] in let none = (firm a).none in absurd (cc (some, none))
       join xs v rest a y ys first (z ∷ front) e again =
           let heads : y ≡ z = cc in
@@ -242,13 +242,13 @@ module _ {A B : Type 0} (p : Reader A) (q : A → Reader B) (weak : Weak p) (eac
                 ap (λ (u : List ℕ). follow (p u) q) (append_assoc first.front (z ∷ front) others) ∙ ap (λ (o : Option (A × List ℕ)). follow o q) here ∙ again others;
           }
 
-      behind_first : (xs : List ℕ) (v : B) (rest : List ℕ) (a : A) (mid : List ℕ) → p xs ≡ Some (a, mid) → q a mid ≡ Some (v, rest) → Part (p then q) xs v rest
+      behind_first : (xs : List ℕ) (v : B) (rest : List ℕ) (a : A) (mid : List ℕ) → p xs ≡ Some (a, mid) → q a mid ≡ Some (v, rest) → ReadFront (p then q) xs v rest
       behind_first xs v rest a [] h e = let none = (firm a).none in absurd (cc (none, e))
       behind_first xs v rest a (y ∷ ys) h e =
           let second = (each a).part (y ∷ ys) v rest e in
           join xs v rest a y ys (weak.part xs a y ys h) second.front second.splits second.again
 
-      at : (xs : List ℕ) (v : B) (rest : List ℕ) (o : Option (A × List ℕ)) → p xs ≡ o → follow o q ≡ Some (v, rest) → Part (p then q) xs v rest
+      at : (xs : List ℕ) (v : B) (rest : List ℕ) (o : Option (A × List ℕ)) → p xs ≡ o → follow o q ≡ Some (v, rest) → ReadFront (p then q) xs v rest
       at xs v rest None h e = absurd cc
       at xs v rest (Some x) h e = behind_first xs v rest x.0 x.1 h e
 
@@ -344,7 +344,7 @@ firm_time = firm_then number_at unit_behind firm_number
 strong_timescale_of : (unit precision : Time) → Strong (timescale_of unit precision)
 strong_timescale_of unit precision = record { part = λ xs v rest e. at xs v rest (nat_lt (exponent unit) (exponent precision)) refl e }
   where
-    at : (xs : List ℕ) (v : Directive) (rest : List ℕ) (t : Bool) → nat_lt (exponent unit) (exponent precision) ≡ t → timescale_of unit precision xs ≡ Some (v, rest) → Part (timescale_of unit precision) xs v rest
+    at : (xs : List ℕ) (v : Directive) (rest : List ℕ) (t : Bool) → nat_lt (exponent unit) (exponent precision) ≡ t → timescale_of unit precision xs ≡ Some (v, rest) → ReadFront (timescale_of unit precision) xs v rest
     at xs v rest true h e = let none : ◌≡◌ {A = Option (Directive × List ℕ)} None (Some (v, rest)) = rw h at e in absurd cc
     at xs v rest false h e =
         let inner = (strong_done (d.Timescale unit precision)).part xs v rest (rw h at e) in

@@ -2,3 +2,10 @@ pub mod AssignmentLemmas
 pub mod CaseLemmas
 pub mod CallLemmas
 pub mod EventLemmas
+pub mod DepthLemmas
+pub mod BlockLemmas
+pub mod FormLemmas
+pub mod PartLemmas
+pub mod ReadsLemmas
+pub mod WellFormedLemmas
+pub mod StatementLemmas

@@ -1,11 +1,12 @@
 -- What the words of a command line ask for.
-use Rattle.std.specs.Prelude.{ℕ, ◌≡◌, Bool, true, false, Option, Some, None, List, codes, option_map, if◌then◌else◌}
+use Rattle.std.specs.Prelude.{ℕ, ◌≡◌, ◌⊎◌, Bool, true, false, Option, Some, None, List, [], codes, if◌then◌else◌}
 use Rattle.std.specs.Str.{bytes_eq}
 use Rattle.std.specs.Str.Parse.{IsNumeral, digits_value, without_leading_plus}
-use Rattle.clap.specs.Words.{App, HasMatchesOf, first_value, one_text, subcommand_name_of, subcommand_rows_of}
-use Rattle.clap.specs.Walk.{rows_of}
-use Rattle.clap.specs.declared.parser.matches.ArgMatches.{ArgMatches}
-use Rattle.clap.specs.declared.parser.matches.Found.{Found}
+use Rattle.clap.specs.Words.{App, IsAmong, Row, first_of, kind_of, one_of, subcommand_of, fault_of}
+use Rattle.clap.specs.declared.error.Error.{Error}
+use Rattle.clap.specs.declared.error.kind.ErrorKind.{ErrorKind}
+use Rattle.clap.specs.declared.error.kind.ErrorKind.TheVariants.{OutOfMemory}
+use Rattle.vs_sim.specs.Options.{AreOptions}
 use Rattle.vs_sim.specs.declared.words.Request.{Request}
 use Rattle.vs_sim.specs.declared.words.Call.{Call}
 use Rattle.vs_sim.specs.declared.words.Call.TheVariants.{Run, Elab}
@@ -29,31 +30,50 @@ abbrev pub order_named : Option (List ℕ) → Order
 order_named None = Fifo
 order_named (Some word) = if bytes_eq word (codes "lifo") then Lifo else Fifo
 
--- what was found among the words of `vsim run` asks for this
-pub record Asks (f : Found) (q : Request) : Type 0 where
-  pub top : first_value f (codes "top") ≡ Some q.top.now
-  pub until : IsNumber (one_text f (codes "until")) q.until.count
-  pub steps : IsNumber (one_text f (codes "steps")) q.steps.count
-  pub order : q.order ≡ order_named (first_value f (codes "policy"))
-  pub text : q.text ≡ text_named (first_value f (codes "out"))
+-- the value of an option by its name, where it has one
+abbrev pub Values : Type 0
+Values = List ℕ → Option (List ℕ)
+
+-- the words and the numbers of the options of `vsim run` ask for this
+pub record Asks (words numbers : Values) (q : Request) : Type 0 where
+  pub top : words (codes "top") ≡ Some q.top.now
+  pub until : IsNumber (numbers (codes "until")) q.until.count
+  pub steps : IsNumber (numbers (codes "steps")) q.steps.count
+  pub order : q.order ≡ order_named (words (codes "policy"))
+  pub text : q.text ≡ text_named (words (codes "out"))
 
 -- whether a subcommand is `elab`; the other one is `run`
 abbrev pub is_elab : List ℕ → Bool
 is_elab name = bytes_eq name (codes "elab")
 
--- what was found among the words of a subcommand, of `elab` or of `run`, asks for this
-abbrev pub AsksAs : Bool → Found → Call → Type 0
-AsksAs true f (Elab top) = first_value f (codes "top") ≡ Some top.now
-AsksAs false f (Run q) = Asks f q
-AsksAs _ f _ = ⊥
+-- the values of the options of a subcommand, of `elab` or of `run`, ask for this
+abbrev pub AsksAs : Bool → Values → Values → Call → Type 0
+AsksAs true words numbers (Elab top) = words (codes "top") ≡ Some top.now
+AsksAs false words numbers (Run q) = Asks words numbers q
+AsksAs _ words numbers _ = ⊥
 
--- the words, read as those of a command with a subcommand, ask for this
+-- the words, which have no fault by the table of options, ask for this: so the values of the subcommand that they name do
 pub record WordsAsk (words : List (List ℕ)) (call : Call) : Type 0 where
-  pub command : App
-  pub matches : ArgMatches
+  pub app : App
+  pub options : AreOptions app
+  pub taken : fault_of app words ≡ []
   pub name : List ℕ
-  pub found : Found
-  pub read : HasMatchesOf command words matches
-  pub named : subcommand_name_of matches ≡ Some name
-  pub rows : option_map (λ p. p.1) (subcommand_rows_of matches) ≡ Some (rows_of found)
-  pub asks : AsksAs (is_elab name) found call
+  pub rows : List Row
+  pub found : subcommand_of app words ≡ Some (name, rows)
+  pub asks : AsksAs (is_elab name) (λ option. first_of option rows) (λ option. one_of option rows) call
+
+-- the words have no fault by the table of options
+pub record AreTaken (words : List (List ℕ)) : Type 0 where
+  pub app : App
+  pub options : AreOptions app
+  pub taken : fault_of app words ≡ []
+
+-- the words have a fault of this kind by the table of options; a call for help counts among them
+pub record HaveFault (words : List (List ℕ)) (k : ErrorKind) : Type 0 where
+  pub app : App
+  pub options : AreOptions app
+  pub kind : IsAmong k (fault_of app words)
+
+-- an error tells of such a fault, or that memory ran out
+abbrev pub WordsFail : List (List ℕ) → Error → Type 0
+WordsFail words e = (kind_of e ≡ OutOfMemory) ⊎ HaveFault words (kind_of e)

@@ -1,5 +1,5 @@
 -- How the program ends: its exit status (profile).
-use Rattle.std.specs.Prelude.{ℕ, ◌≡◌, ◌⊎◌, Option, None, Some, List}
+use Rattle.std.specs.Prelude.{ℕ, ◌≡◌, Option, None, Some, List}
 use Rattle.vs_kernel.specs.declared.outcome.Outcome.{Outcome}
 use Rattle.vs_simulation.specs.declared.fault.SimFault.{SimFault}
 use Rattle.vs_sim.specs.declared.words.Request.{Request}
@@ -7,11 +7,12 @@ use Rattle.vs_sim.specs.declared.words.Call.{Call}
 use Rattle.vs_sim.specs.declared.words.Call.TheVariants.{Run, Elab}
 use Rattle.vs_sim.specs.declared.words.Text.{Text}
 use Rattle.vs_sim.specs.declared.words.Text.TheVariants.{Lines, Dump}
-use Rattle.vs_sim.specs.Asks.{WordsAsk}
+use Rattle.clap.specs.declared.error.kind.ErrorKind.{ErrorKind}
+use Rattle.vs_sim.specs.Asks.{AreTaken, HaveFault, WordsAsk}
 use Rattle.vs_simulation.specs.Honesty.{IsRun, SimulationFails}
 use Rattle.vs_sim.specs.Inputs.{IsKept}
 use Rattle.vs_simulation.specs.Listing.{IsListed}
-use Rattle.vs_sim.specs.Statuses.{outcome_status, fault_status}
+use Rattle.vs_sim.specs.Statuses.{outcome_status, fault_status, words_status}
 
 -- a run of these bytes, as it was asked for, gave this outcome
 pub record HasRun (bytes : List ℕ) (q : Request) (outcome : Outcome) : Type 0 where
@@ -61,11 +62,14 @@ pub data EndsCall (input : Option (List ℕ)) (call : Call) (status : ℕ) : Typ
       EndsCall input call status
   by_device : status ≡ 3 → EndsCall input call status
 
--- the status where the words ask for nothing: 0 for help, 3 for want of memory or a device, 64 for a fault of the words
-abbrev pub IsWordsStatus : ℕ → Type 0
-IsWordsStatus status = (status ≡ 0) ⊎ ((status ≡ 3) ⊎ (status ≡ 64))
+-- how the program ends where the words ask for nothing: by the fault that they have, a call for help among them; with 64 where they have none, and the
+-- value of an option can't be read all the same; with 3 where a device or memory failed
+pub data EndsWords (words : List (List ℕ)) (status : ℕ) : Type 0 where
+  by_kind : (k : ErrorKind) → HaveFault words k → status ≡ words_status k → EndsWords words status
+  unread : AreTaken words → status ≡ 64 → EndsWords words status
+  unheard : status ≡ 3 → EndsWords words status
 
 -- how the program ends, with these words and this input
 pub data Ends (words : List (List ℕ)) (input : Option (List ℕ)) (status : ℕ) : Type 0 where
-  without_call : IsWordsStatus status → Ends words input status
+  without_call : EndsWords words status → Ends words input status
   with_call : (call : Call) → WordsAsk words call → EndsCall input call status → Ends words input status

@@ -1,5 +1,6 @@
 pub mod Asks
 pub mod Ends
 pub mod Inputs
+pub mod Options
 pub mod Statuses
 pub mod Texts

@@ -1,5 +1,7 @@
 -- Exit statuses of the program (profile).
 use Rattle.std.specs.Prelude.{ℕ, Bool, ◌||◌, ◌==◌}
+use Rattle.clap.specs.declared.error.kind.ErrorKind.{ErrorKind}
+use Rattle.clap.specs.declared.error.kind.ErrorKind.TheVariants as words
 use Rattle.vs_lexer.specs.declared.fault.LexFault.{LexFault}
 use Rattle.vs_lexer.specs.declared.fault.LexFault.TheVariants as lex
 use Rattle.vs_parser.specs.declared.fault.ParseFault.{ParseFault}
@@ -19,6 +21,13 @@ is_status n = n == 0 || (n == 1 || (n == 2 || (n == 3 || n == 64)))
 abbrev pub outcome_status : Outcome → ℕ
 outcome_status (o.StepLimit time) = 2
 outcome_status _ = 0
+
+-- the status of an error of the words: help, want of memory, or a fault
+abbrev pub words_status : ErrorKind → ℕ
+words_status words.DisplayHelp = 0
+words_status words.DisplayVersion = 0
+words_status words.OutOfMemory = 3
+words_status _ = 64
 
 -- the status of a fault of the tokens
 abbrev pub lex_status : LexFault → ℕ

@@ -1,14 +1,15 @@
 //! The program: words, a reader and two writers in, an exit status out.
 ghost use Rattle.std.specs.Prelude.{◌≡◌, ◌⊎◌, map, IfOk, IfErr};
 ghost use Rattle.vs_sim.specs.Asks.{WordsAsk};
-ghost use Rattle.vs_sim.specs.Ends.{Ends, EndsCall, HasWritten, Wrote, IsWordsStatus, done_status, top_of};
+ghost use Rattle.vs_sim.specs.Ends.{Ends, EndsCall, HasWritten, Wrote, done_status, top_of};
 ghost use Rattle.vs_simulation.specs.Honesty.{SimulationFails};
-ghost use Rattle.vs_sim.specs.Statuses.{fault_status};
+ghost use Rattle.vs_sim.specs.Statuses.{fault_status, words_status};
+ghost use Rattle.clap.specs.Words.{kind_of};
 
 use crate::dropped::Dropped;
 use crate::input::{InputFault, read_source};
 use crate::texts::{fault_status, fault_text};
-use crate::words::{Call, Order, Request, Text, is_help, is_memory, read_words};
+use crate::words::{Call, Order, Request, Text, read_words, words_status};
 use clap::Error;
 use std::alloc::Global;
 use std::io::{self, BufWriter, ErrorKind, Read, Write};
@@ -54,21 +55,22 @@ pub fn refuse_start<E: Write + Drop>(error: &io::Error, err: E) -> u8
     }
 }
 
-// Prints what `clap` says of the words.
+// Prints what `clap` says of the words: help on `out`, anything else on `err`.
 fn tell_words<O: Write + Drop, E: Write + Drop>(error: &Error, mut out: O, mut err: E) -> u8
-    ensures { IsWordsStatus result }
+    ensures { (result ≡ 3) ⊎ (result ≡ words_status (kind_of error.now)) }
 {
-    if is_memory(error) {
+    let status = words_status(error);
+    if status == FAILED {
         return tell(err, b"memory", FAILED);
     }
-    if is_help(error) {
+    if status == DONE {
         return match write!(out, "{error}") {
-            Ok(()) => DONE,
+            Ok(()) => status,
             Err(_) => tell(err, b"write", FAILED),
         };
     }
     let _ = write!(err, "{error}");
-    MISUSED
+    status
 }
 
 // One line on standard error, and the exit status that goes with it.

@@ -11,4 +11,4 @@ pub use command::{program, refuse_start};
 pub use dropped::Dropped;
 pub use texts::fault_text;
 pub use vs_simulation::{Policy, SimFault, list_design, simulate};
-pub use words::{Call, Request, Text, is_help, is_memory, read_words};
+pub use words::{Call, Request, Text, read_words, words_status};

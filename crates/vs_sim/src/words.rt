@@ -1,11 +1,13 @@
 //! The words of a command line.
-ghost use Rattle.std.specs.Prelude.{◌≡◌, IfOk, IfSome, map};
-ghost use Rattle.clap.specs.Words.{found_of};
-ghost use Rattle.vs_sim.specs.Asks.{Asks, AsksAs, WordsAsk, is_elab};
+ghost use Rattle.std.specs.Prelude.{◌≡◌, IfErr, IfOk, IfSome, MatchOption, false, map};
+ghost use Rattle.clap.specs.Words.{app_of, first_value, found_of, kind_of, one_text, rule_of, shape_of};
+ghost use Rattle.vs_sim.specs.Options.{option_of, top_option, number_option, until_option, steps_option, choice_option, run_options, elab_options, AreOptions};
+ghost use Rattle.vs_sim.specs.Statuses.{words_status};
+ghost use Rattle.vs_sim.specs.Asks.{AreTaken, Asks, AsksAs, WordsAsk, WordsFail, is_elab};
 
 use clap::error::ErrorKind;
 use clap::{Arg, ArgAction, ArgMatches, Command, Error};
-use std::alloc::Global;
+use std::alloc::{AllocError, Global};
 use vs_design::Ticks;
 
 /// Which text goes to standard output.
@@ -50,62 +52,118 @@ pub enum Call<'a> {
     Elab(&'a str),
 }
 
-// An option with a number from 0 to 2^62 - 1.
-fn number<'a>(alloc: Global, name: &'a str, help: &'a str) -> Arg<'a> {
+// An option `--name` with one value.
+fn option<'a>(alloc: Global, name: &'a str, help: &'a str) -> Arg<'a>
+    ensures option { rule_of result ≡ option_of name.entry.now }
+    ensures local { result.global ≡ false }
+{
     Arg::new(alloc, name)
         .long(name)
-        .value_name("N")
         .help(help)
         .action(ArgAction::Set)
+}
+
+// An option with a number from 0 to 2^62 - 1.
+fn number<'a>(alloc: Global, name: &'a str, help: &'a str) -> Arg<'a>
+    ensures option { rule_of result ≡ number_option name.entry.now }
+    ensures local { result.global ≡ false }
+{
+    option(alloc, name, help)
+        .value_name("N")
         .value_parser(clap::value_parser!(u64).range(0..=4611686018427387903))
 }
 
+// The option with the moment.
+fn until<'a>(alloc: Global) -> Arg<'a>
+    ensures option { rule_of result ≡ until_option }
+    ensures local { result.global ≡ false }
+{
+    number(alloc, "until", "The moment up to which it runs, in ticks").required(true)
+}
+
+// The option with the step limit.
+fn steps<'a>(alloc: Global) -> Arg<'a>
+    ensures option { rule_of result ≡ steps_option }
+    ensures local { result.global ≡ false }
+{
+    number(alloc, "steps", "The most steps that the run may take").default_value("10000000")
+}
+
+// An option whose value is one of some words, and one of them where it is left out.
+fn choice<'a>(
+    alloc: Global,
+    name: &'a str,
+    help: &'a str,
+    words: &'a [&'a str],
+    default: &'a str,
+) -> Arg<'a>
+    ensures option { rule_of result ≡ choice_option name.entry.now words.entry default.entry.now }
+    ensures local { result.global ≡ false }
+{
+    option(alloc, name, help)
+        .value_parser(words)
+        .default_value(default)
+}
+
 // The option with the name of the top module.
-fn top<'a>(alloc: Global) -> Arg<'a> {
-    Arg::new(alloc, "top")
-        .long("top")
+fn top<'a>(alloc: Global) -> Arg<'a>
+    ensures option { rule_of result ≡ top_option }
+    ensures local { result.global ≡ false }
+{
+    option(alloc, "top", "The top module")
         .value_name("NAME")
-        .help("The top module")
-        .action(ArgAction::Set)
         .required(true)
 }
 
-fn elab_command<'a>(alloc: Global) -> Result<Command<'a>, Error> {
-    Ok(
-        Command::new(alloc, "elab")
-            .about(
-                "Lists the signals, assignments and processes of a design that standard input has",
-            )
-            .arg(top(alloc))?,
-    )
+// `elab`.
+fn elab_command<'a>(alloc: Global) -> Result<Command<'a>, AllocError>
+    ensures { IfOk result (λ c. shape_of c ≡ elab_options) }
+{
+    Command::new(alloc, "elab")
+        .about("Lists the signals, assignments and processes of a design that standard input has")
+        .arg(top(alloc))
 }
 
-fn run_command<'a>(alloc: Global) -> Result<Command<'a>, Error> {
-    let until = number(alloc, "until", "The moment up to which it runs, in ticks").required(true);
-    let steps = number(alloc, "steps", "The most steps that the run may take").default_value(
-        "10000000",
+static ORDERS: [&str; 2] = ["fifo", "lifo"];
+
+static TEXTS: [&str; 2] = ["lines", "vcd"];
+
+// `run`, with the words that its options take.
+fn run_command<'a>(
+    alloc: Global,
+    orders: &'a [&'a str],
+    texts: &'a [&'a str],
+) -> Result<Command<'a>, AllocError>
+    ensures { IfOk result (λ c. shape_of c ≡ run_options orders.entry texts.entry) }
+{
+    let policy = choice(
+        alloc,
+        "policy",
+        "Which enabled item is next",
+        orders,
+        "fifo",
     );
-    let policy = Arg::new(alloc, "policy")
-        .long("policy")
-        .help("Which enabled item is next")
-        .action(ArgAction::Set)
-        .value_parser(["fifo", "lifo"].as_slice())
-        .default_value("fifo");
-    let out = Arg::new(alloc, "out")
-        .long("out")
-        .help("The text to write")
-        .action(ArgAction::Set)
-        .value_parser(["lines", "vcd"].as_slice())
-        .default_value("lines");
-    Ok(
-        Command::new(alloc, "run")
-            .about("Runs a design that standard input has")
-            .arg(top(alloc))?
-            .arg(until)?
-            .arg(steps)?
-            .arg(policy)?
-            .arg(out)?,
-    )
+    let out = choice(alloc, "out", "The text to write", texts, "lines");
+    Command::new(alloc, "run")
+        .about("Runs a design that standard input has")
+        .arg(top(alloc))?
+        .arg(until(alloc))?
+        .arg(steps(alloc))?
+        .arg(policy)?
+        .arg(out)
+}
+
+// The program, with its subcommands.
+fn vsim_command<'a>(alloc: Global) -> Result<Command<'a>, AllocError>
+    ensures { IfOk result (λ c. AreOptions (app_of c)) }
+{
+    let run = run_command(alloc, ORDERS.as_slice(), TEXTS.as_slice())?;
+    let elab = elab_command(alloc)?;
+    Command::new(alloc, "vsim")
+        .about("Simulates a Verilog design")
+        .subcommand_required(true)
+        .subcommand(run)?
+        .subcommand(elab)
 }
 
 // A number below 2^62.
@@ -121,7 +179,7 @@ fn below_limit(count: u64) -> Option<Ticks>
 
 // What the matches of `run` ask for.
 fn asked<'a>(matches: &ArgMatches<'a>) -> Option<Request<'a>>
-    ensures { IfSome result (λ q. Asks (found_of matches.now) q) }
+    ensures { IfSome result (λ q. Asks (first_value (found_of matches.now)) (one_text (found_of matches.now)) q) }
 {
     let top = matches.get_str("top")?;
     let until = below_limit(matches.get_one::<u64>("until")?)?;
@@ -145,7 +203,8 @@ fn asked<'a>(matches: &ArgMatches<'a>) -> Option<Request<'a>>
 
 // What the matches of a subcommand ask for.
 fn call_of<'a>(name: &str, matches: &ArgMatches<'a>) -> Option<Call<'a>>
-    ensures { IfSome result (λ call. AsksAs (is_elab name.now) (found_of matches.now) call) }
+    ensures { IfSome result (λ call.
+        AsksAs (is_elab name.now) (first_value (found_of matches.now)) (one_text (found_of matches.now)) call) }
 {
     if name == "elab" {
         Some(Call::Elab(matches.get_str("top")?))
@@ -157,26 +216,24 @@ fn call_of<'a>(name: &str, matches: &ArgMatches<'a>) -> Option<Call<'a>>
 /// What the words ask for; they begin with the program's own name. A fault of the words, and a call for help, is `clap`'s error, whose text is to
 /// be printed.
 pub fn read_words<'a>(alloc: Global, words: &'a [&'a str]) -> Result<Option<Call<'a>>, Error>
-    ensures { IfOk result (λ call. IfSome call (λ q. WordsAsk (map (λ w. w.now) words.entry.now) q)) }
+    ensures ok { IfOk result (λ call. MatchOption call (AreTaken (map (λ w. w.now) words.entry.now))
+        (λ q. WordsAsk (map (λ w. w.now) words.entry.now) q)) }
+    ensures err { IfErr result (λ e. WordsFail (map (λ w. w.now) words.entry.now) e) }
 {
-    let command = Command::new(alloc, "vsim")
-        .about("Simulates a Verilog design")
-        .subcommand_required(true)
-        .subcommand(run_command(alloc)?)?
-        .subcommand(elab_command(alloc)?)?;
-    let matches = command.try_get_matches_from(words)?;
+    let matches = vsim_command(alloc)?.try_get_matches_from(words)?;
     match matches.subcommand() {
         Some((name, matches)) => Ok(call_of(name, matches)),
         None => Ok(None),
     }
 }
 
-/// Whether the error is a call for help, whose text goes to standard output.
-pub fn is_help(error: &Error) -> bool {
-    !error.use_stderr()
-}
-
-/// Whether the error is that memory ran out.
-pub fn is_memory(error: &Error) -> bool {
-    error.kind() == ErrorKind::OutOfMemory
+/// The exit status that an error of the words ends with: 0 for a call for help, 3 where memory ran out, 64 for a fault of the words.
+pub fn words_status(error: &Error) -> u8
+    ensures { result ≡ words_status (kind_of error.now) }
+{
+    match error.kind() {
+        ErrorKind::DisplayHelp | ErrorKind::DisplayVersion => 0,
+        ErrorKind::OutOfMemory => 3,
+        _ => 64,
+    }
 }

@@ -1,12 +1,14 @@
 -- Which words and signals a move may change.
-use Rattle.std.proofs.Common.{◌≡◌, ℕ, ◌<◌, ◌==◌, ◌||◌, ◌&&◌, Bool, true, false, Option, Some, None, List, [], ◌∷◌, ◌++◌, length, slice_get, if◌then◌else◌, refl, sym, ◌∙◌, ap, subst, arith}
+use Rattle.std.proofs.Common.{◌≡◌, ℕ, ◌<◌, ◌==◌, ◌||◌, ◌&&◌, Bool, true, false, Option, Some, None, List, [], ◌∷◌, ◌++◌, length, slice_get, if◌then◌else◌, refl, sym, ◌∙◌, ap, ap₂, subst, arith}
 use Rattle.std.specs.List.{list_any}
 use Rattle.std.proofs.lemmas.Bool.{ne_eqb, eqb-false, or_parts, or_from, false≢true}
 use Rattle.std.proofs.lemmas.List.Folds.{list_any-append}
+use Rattle.std.proofs.lemmas.Option.{same_Some}
 use Rattle.vs_logic4.specs.declared.digit.Digit.{Digit}
 use Rattle.vs_logic4.specs.Sameness.{same_digits-true}
 use Rattle.vs_logic4.specs.Vectors.{same_digits}
-use Rattle.vs_design.specs.Stores.{Store, word_of, put}
+use Rattle.vs_design.specs.declared.write.Part.{Part}
+use Rattle.vs_design.specs.Stores.{Store, word_of, put, put_part}
 use Rattle.vs_design.specs.Uses.{all_words, has_word}
 use Rattle.vs_design.specs.Writes.{Write}
 use Rattle.vs_edges.specs.Differences.{HaveOneSize, bits_differ, word_changes, part_changes}
@@ -116,3 +118,47 @@ covers_none signals old new same = λ v none. ap (λ (s : Store). slice_get s v)
 -- as a contract sees the state before
 pub covers_seen : {s now : State} (signals : List ℕ) (new : Store) → s ≡ now → CoverChanges signals s.store new → CoverChanges signals now.store new
 covers_seen signals new same h = subst (λ (t : State). CoverChanges signals t.store new) same h
+
+-- ---- a write of one part
+
+-- the word that it names has one size before and behind
+pub part_size : (store new : Store) (p : Part) (before behind : List Digit) → new ≡ put_part store p → word_of store p.signal p.word ≡ Some before → word_of new p.signal p.word ≡ Some behind →
+    length before ≡ length behind
+part_size store new p before behind is a b =
+    let size : HaveOneSize (word_of store p.signal p.word) (word_of new p.signal p.word) =
+    subst (λ (s : Store). HaveOneSize (word_of store p.signal p.word) (word_of s p.signal p.word)) (sym is) (put_size (p ∷ []) store p.signal p.word)
+    in
+    let one : HaveOneSize (Some before) (Some behind) =
+    subst (λ (o : Option (List Digit)). HaveOneSize o (Some behind)) a (subst (HaveOneSize (word_of store p.signal p.word)) b size)
+    in
+    same_Some (length before) (length behind) one
+
+pub part_words : (store new : Store) (p : Part) (before behind : List Digit) → word_of store p.signal p.word ≡ Some before → word_of new p.signal p.word ≡ Some behind →
+    changed_part store new p ≡ changed_word p.signal p.word (Some before) (Some behind)
+part_words store new p before behind a b = ap₂ (changed_word p.signal p.word) a b
+
+-- without such a word nothing is changed
+pub part_none : (store new : Store) (p : Part) → word_of store p.signal p.word ≡ None → changed_part store new p ≡ []
+part_none store new p a = ap (λ (o : Option (List Digit)). changed_word p.signal p.word o (word_of new p.signal p.word)) a ∙ none (word_of new p.signal p.word)
+  where
+    none : (o : Option (List Digit)) → changed_word p.signal p.word None o ≡ []
+    none None = refl
+    none (Some ds) = refl
+
+-- a word that is as it was, and one that isn't
+pub word_kept : (signal word : ℕ) (before behind : List Digit) → same_digits before behind ≡ true → changed_word signal word (Some before) (Some behind) ≡ []
+word_kept signal word before behind h = ap (λ (b : Bool). if b then [] else record { signal = signal; word = word; before = before; behind = behind } ∷ []) h
+
+pub word_other : (signal word : ℕ) (before behind : List Digit) → same_digits before behind ≡ false →
+    changed_word signal word (Some before) (Some behind) ≡ record { signal = signal; word = word; before = before; behind = behind } ∷ []
+word_other signal word before behind h = ap (λ (b : Bool). if b then [] else record { signal = signal; word = word; before = before; behind = behind } ∷ []) h
+
+-- its signal is noted
+pub covers_word : (signals more : List ℕ) (signal word : ℕ) (before behind : List Digit) → more ≡ signals ++ signal ∷ [] → CoverWords more (changed_word signal word (Some before) (Some behind))
+covers_word signals more signal word before behind is = λ v none. by_test v none (same_digits before behind)
+  where
+    by_test : (v : ℕ) → names more v ≡ false → (b : Bool) → is_among (if b then [] else record { signal = signal; word = word; before = before; behind = behind } ∷ []) v ≡ false
+    by_test v none true = refl
+    by_test v none false =
+        let c : Change = record { signal = signal; word = word; before = before; behind = behind } in
+        sym (noted signals more c (c ∷ []) [] v is refl none).1

@@ -6,7 +6,8 @@ ghost use Rattle.vs_process.specs.States as states;
 use std::alloc::{AllocError, Global};
 use std::marker::Model;
 use vs_design::{Assign, Store, Target, Typed};
-use vs_flatcode::{cut_value, holds};
+use vs_eval::cut_value;
+use vs_flatcode::holds;
 use vs_logic4::Vec4;
 
 /// A continuous assignment: what it drives and evaluates, whether it has to be evaluated, and the value that waits to be

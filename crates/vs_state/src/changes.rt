@@ -1,6 +1,8 @@
 //! Changes of assignments and places.
-ghost use Rattle.std.specs.Prelude.{◌≡◌, Some, false, length, map, OnOk};
+ghost use Rattle.std.specs.Prelude.{◌≡◌, ◌∷◌, [], Some, false, length, map, IfSome, OnOk};
+ghost use Rattle.vs_design.specs.Stores.{put_part};
 ghost use Rattle.vs_edges.specs.Differences.{sees, word_changes};
+ghost use Rattle.vs_flatcode.specs.Changes.{changed_part, changed_word};
 ghost use Rattle.vs_flatcode.specs.Steps.{has_nothing};
 ghost use Rattle.vs_state.specs.Changes.{CoverWords, HaveSizes};
 ghost use Rattle.vs_state.specs.Touches.{AreOf, all_woken, woken_by, woken_changes};
@@ -10,7 +12,7 @@ ghost use Rattle.vs_places.specs.Triggers.{changed_all, triggered_by};
 use crate::assigns::Assigns;
 use crate::woken::Woken;
 use std::alloc::AllocError;
-use vs_design::{Design, Reader};
+use vs_design::{Design, Part, Reader, Store, Write};
 use vs_edges::{Sensitivity, difference, sees};
 use vs_flatcode::Change;
 use vs_logic4::Vec4;
@@ -169,4 +171,80 @@ pub(crate) fn follow<Q: EventQueue<Item>>(
         woken.sort();
     }
     Ok(())
+}
+
+/// What follows from a word that a write of one part may have changed, as from a list of it.
+#[inline(always)]
+fn follow_word<Q: EventQueue<Item>>(
+    assigns: &mut Assigns,
+    processes: &mut Processes<Q>,
+    woken: &mut Woken,
+    design: &Design,
+    signal: usize,
+    word: usize,
+    before: Vec4,
+    behind: Vec4,
+    changed: &mut Vec<usize>,
+) -> Result<(), AllocError>
+    requires size { length before ≡ length behind }
+    requires sources { AreOf design.now assigns.old }
+    requires terms { WaitWithin design.now.processes processes.old.places }
+    ensures assigns { OnOk result (assigns.new
+        ≡ woken_changes (changed_word signal word (Some before) (Some behind)) assigns.old) }
+    ensures places { OnOk result (processes.new.places
+        ≡ triggered_changes (changed_word signal word (Some before) (Some behind)) processes.old.places) }
+    ensures time { processes.new.time ≡ processes.old.time }
+    ensures updates { processes.new.updates ≡ processes.old.updates }
+    ensures covers { OnOk result (CoverWords changed.new.items (changed_word signal word (Some before) (Some behind))) }
+{
+    if before == behind {
+        return Ok(());
+    }
+    changed.push(signal)?;
+    wake_word(
+        assigns, processes, woken, design, signal, word, before, behind,
+    )
+}
+
+/// Makes a write of one part, and what follows from it, as `follow` does of the word that it changes.
+#[inline(always)]
+pub(crate) fn write_part<Q: EventQueue<Item>>(
+    store: &mut Store,
+    assigns: &mut Assigns,
+    processes: &mut Processes<Q>,
+    woken: &mut Woken,
+    design: &Design,
+    part: Part,
+    changed: &mut Vec<usize>,
+) -> Result<(), AllocError>
+    requires sources { AreOf design.now assigns.old }
+    requires terms { WaitWithin design.now.processes processes.old.places }
+    ensures store { store.new ≡ put_part store.old part }
+    ensures assigns { OnOk result (assigns.new ≡ woken_changes (changed_part store.old store.new part) assigns.old) }
+    ensures places { OnOk result (processes.new.places ≡ triggered_changes (changed_part store.old store.new part) processes.old.places) }
+    ensures time { processes.new.time ≡ processes.old.time }
+    ensures updates { processes.new.updates ≡ processes.old.updates }
+    ensures covers { OnOk result (CoverWords changed.new.items (changed_part store.old store.new part)) }
+{
+    let signal = part.signal;
+    let word = part.word;
+    if let Some(words) = store.put_part(part) {
+        let (before, behind) = words;
+        follow_word(
+            assigns, processes, woken, design, signal, word, before, behind, changed,
+        )?;
+    }
+    Ok(())
+}
+
+/// The part of a write that has no other one.
+#[inline(always)]
+pub(crate) fn single(write: &Write) -> Option<Part>
+    ensures { IfSome result (λ part. write.now ≡ part ∷ []) }
+{
+    let parts = write.parts();
+    if parts.len() == 1 {
+        return Some(parts[0]);
+    }
+    None
 }

@@ -10,12 +10,12 @@ ghost use Rattle.vs_state.specs.Told.{told};
 ghost use Rattle.vs_state.specs.Waits.{HasTerms};
 
 use crate::called::Called;
-use crate::changes::follow;
+use crate::changes::{follow, single, write_part};
 use crate::state::State;
 use std::alloc::AllocError;
 use std::mem;
 use vs_design::Design;
-use vs_flatcode::{assign, is_nothing, make};
+use vs_flatcode::{assign, is_nothing, make, only_part};
 use vs_process::{Effect, Move};
 use vs_regions::Item;
 use vs_time_wheel::EventQueue;
@@ -131,6 +131,19 @@ impl<'a, Q: EventQueue<Item>> State<'a, Q> {
             return Ok(());
         };
         let target = x.target();
+        if let Some(part) = only_part(target, digits) {
+            self.assigns.settle(number);
+            write_part(
+                &mut self.store,
+                &mut self.assigns,
+                &mut self.processes,
+                &mut self.woken,
+                design,
+                part,
+                changed,
+            )?;
+            return Ok(());
+        }
         let time = self.processes.time();
         self.changes.clear();
         assign(
@@ -169,6 +182,18 @@ impl<'a, Q: EventQueue<Item>> State<'a, Q> {
         let Some(update) = self.processes.take(index) else {
             return Ok(());
         };
+        if let Some(part) = single(update.what()) {
+            write_part(
+                &mut self.store,
+                &mut self.assigns,
+                &mut self.processes,
+                &mut self.woken,
+                design,
+                part,
+                changed,
+            )?;
+            return Ok(());
+        }
         self.changes.clear();
         make(&mut self.store, update.what(), &mut self.changes)?;
         follow(

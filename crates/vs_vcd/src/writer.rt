@@ -39,19 +39,6 @@ fn push_slot(
     Ok(time)
 }
 
-/// The last time written behind a slot with these changes.
-fn time_behind(changes: &[Change], last: Option<u64>, time: u64) -> u64
-    ensures { result ≡ slot_time last time (change_texts changes.now) }
-{
-    let Some(before) = last else {
-        return time;
-    };
-    if !changes.is_empty() {
-        return time;
-    }
-    before
-}
-
 /// Appends the line of the end, unless its time is the last one written.
 fn push_end(text: &mut Vec<u8>, last: Option<u64>, time: u64) -> Result<(), AllocError>
     ensures { OnOk result (text.new.items ≡ text.old.items ++ text_of (end_lines last time)) }
@@ -89,9 +76,6 @@ fn write_slot<S: Sink>(
     ensures failures { S.failed sink.new ≡ failed_after (is_write_fault result) (S.failed sink.old) }
 {
     list_changes(changes, store, kept, last, all, marks)?;
-    if sink.keeps_nothing() {
-        return Ok(time_behind(changes, last, time));
-    }
     text.clear();
     let written = push_slot(text, changes, last, time)?;
     write_all(sink, text)?;

@@ -60,29 +60,7 @@ HasNoBlocks o = o.blocks ≡ []
 
 -- a scope with other blocks
 abbrev pub with_blocks : FoundScope → List (List ℕ × ℕ) → FoundScope
-with_blocks o bs = record {
-  title = o.title;
-  kind = o.kind;
-  number = o.number;
-  base = o.base;
-  instances = o.instances;
-  turns = o.turns;
-  depth = o.depth;
-  nets = o.nets;
-  text = o.text;
-  told = o.told;
-  ports = o.ports;
-  pieces = o.pieces;
-  constants = o.constants;
-  known = o.known;
-  names = o.names;
-  within = o.within;
-  home = o.home;
-  around = o.around;
-  piece = o.piece;
-  ends = o.ends;
-  blocks = bs;
-}
+with_blocks o bs = record o { blocks = bs }
 
 -- a scope that differs in its blocks alone
 pub record IsSameBut (o new : FoundScope) : Type 0 where

@@ -187,29 +187,7 @@ pub record CountsOne (kind : ScopeKind) (turn : Option ℤ) (old new : Plan) : T
 
 -- a scope with its names
 abbrev pub with_names : FoundScope → Bindings → FoundScope
-with_names o ns = record {
-  title = o.title;
-  kind = o.kind;
-  number = o.number;
-  base = o.base;
-  instances = o.instances;
-  turns = o.turns;
-  depth = o.depth;
-  nets = o.nets;
-  text = o.text;
-  told = o.told;
-  ports = o.ports;
-  pieces = o.pieces;
-  constants = o.constants;
-  known = o.known;
-  names = ns;
-  within = o.within;
-  home = o.home;
-  around = o.around;
-  piece = o.piece;
-  ends = o.ends;
-  blocks = o.blocks;
-}
+with_names o ns = record o { names = ns }
 
 -- a scope that was listed behind these, with its names
 pub record AddsScope (ss : List Scope) (s : Scope) (o : FoundScope) (start list : List FoundScope) (old new : Plan) : Type 0 where

@@ -1,4 +1,4 @@
-use Rattle.vs_bodies.proofs.StatementLemmas.{means_run_all}
+use Rattle.vs_operands.proofs.StatementLemmas.{means_run_all}
 use Rattle.vs_bodies.proofs.bodies.run_body.Goals as goal
 
 pub returns-clause-answer : goal.returns-clause-answer

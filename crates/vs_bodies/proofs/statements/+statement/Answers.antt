@@ -4,9 +4,9 @@ use Rattle.vs_pieces.specs.Pieces.{NamedBlock}
 use Rattle.vs_syntax.specs.declared.tree.Stmt.{size-Stmt}
 use Rattle.vs_syntax.specs.declared.tree.Stmt.TheVariants as s
 use Rattle.vs_scopes.specs.Printed.{plainly}
-use Rattle.vs_bodies.proofs.BlockLemmas.{got, placed_inside, site_inside, ratio_inside, names_at, inside_free, inside_fails, below_deeper}
-use Rattle.vs_bodies.proofs.DepthLemmas.{items_depth, items_falls, item_within}
-use Rattle.vs_bodies.proofs.StatementLemmas.{assign_refused, begin_refused, behind_overfull, behind_refused, block_refused, case_overfull, case_refused_by, delay_inner, delay_refused, dump_refused, else_refused, event_inner, event_refused, finish_refused, forever_inner, if_refused, item_refused, items_refused, label_refused, listed_all, listed_more, listed_none, named_refused, null_refused, otherwise_none, otherwise_some, repeat_inner, repeat_refused, stated_all, stated_more, stated_none, statement_refused, states_Assign, states_Block, states_Case, states_Delay, states_Dump, states_Event, states_Finish, states_For, states_Forever, states_If, states_Named, states_Null, states_Repeat, states_While, states_behind, step_refused, test_refused, then_refused, turn_refused, while_inner, while_refused}
+use Rattle.vs_operands.proofs.BlockLemmas.{got, placed_inside, site_inside, ratio_inside, names_at, inside_free, inside_fails, below_deeper}
+use Rattle.vs_operands.proofs.DepthLemmas.{items_depth, items_falls, item_within}
+use Rattle.vs_operands.proofs.StatementLemmas.{assign_refused, begin_refused, behind_overfull, behind_refused, block_refused, case_overfull, case_refused_by, delay_inner, delay_refused, dump_refused, else_refused, event_inner, event_refused, finish_refused, forever_inner, if_refused, item_refused, items_refused, label_refused, listed_all, listed_more, listed_none, named_refused, null_refused, otherwise_none, otherwise_some, repeat_inner, repeat_refused, stated_all, stated_more, stated_none, statement_refused, states_Assign, states_Block, states_Case, states_Delay, states_Dump, states_Event, states_Finish, states_For, states_Forever, states_If, states_Named, states_Null, states_Repeat, states_While, states_behind, step_refused, test_refused, then_refused, turn_refused, while_inner, while_refused}
 use Rattle.vs_bodies.proofs.statements.+statement.Goals as goal
 
 pub statement-returns-in_ok-number-in-Null-clause-answer : goal.statement-returns-in_ok-number-in-Null-clause-answer
@@ -183,29 +183,29 @@ pub case_statement-returns-clause-answer : goal.case_statement-returns-clause-an
 case_statement-returns-clause-answer t c envs p v same seen =
     states_Case c.args.view.now.list.now envs p c.args.next.now c.in_ok-number.number _ _ c.args.kind c.args.e.now v c.in_ok-shape.shape c.in_ok-shape.selector c.in_ok-done.done _ _ c.in_ok-number.ensures (rw (seen.names, c.deref.ensures) at c.in_ok-shape.ensures) (c.in_ok-done.ensures.answer envs p seen) (sym same) (sym same)
 
-pub statement-returns-in_err-number-in-For-clause-answer : goal.statement-returns-in_err-number-in-For-clause-answer
-statement-returns-in_err-number-in-For-clause-answer t c envs p v =
-    let q = err_from_is_err_and c.from_residual-in_err-number-in-For.result c.from_residual-in_err-number-in-For.ensures.1 in
-    rw (q.1, q.2, c.in-For.is) (begin_refused c.args.view.now.list.now envs p c.args.next.now c.in-For.head c.in-For.x c.in_err-number-in-For.field-0.0 (rw (c.deref-in-For.ensures, c.deref-in-For-2.ensures) at (c.in_err-number-in-For.ensures.answer envs p v)))
+pub for_statement-returns-in_err-number-clause-answer : goal.for_statement-returns-in_err-number-clause-answer
+for_statement-returns-in_err-number-clause-answer t c envs p v =
+    let q = err_from_is_err_and c.from_residual.result c.from_residual.ensures.1 in
+    rw (q.1, q.2) (begin_refused c.args.view.now.list.now envs p c.args.next.now c.args.head.now c.args.x.now c.in_err-number.field-0.0 (rw (c.deref.ensures, c.deref-2.ensures) at (c.in_err-number.ensures.answer envs p v)))
 
-pub statement-returns-in_err-number-in-For-2-clause-answer : goal.statement-returns-in_err-number-in-For-2-clause-answer
-statement-returns-in_err-number-in-For-2-clause-answer t c envs p v =
-    let q = err_from_is_err_and c.from_residual-in_err-number-in-For-2.result c.from_residual-in_err-number-in-For-2.ensures.1 in
-    rw (q.1, q.2, c.in-For.is) (turn_refused c.args.view.now.list.now envs p c.args.next.now c.in-For.head c.in-For.x _ _ c.in_err-number-in-For-2.field-0.0 (c.in_ok-number-in-For.ensures.answer envs p v).1.next_is c.deref-in-For-3.ensures (c.in_err-number-in-For-2.ensures.answer envs p v))
+pub for_statement-returns-in_err-number-2-clause-answer : goal.for_statement-returns-in_err-number-2-clause-answer
+for_statement-returns-in_err-number-2-clause-answer t c envs p v =
+    let q = err_from_is_err_and c.from_residual-in_err-number-2.result c.from_residual-in_err-number-2.ensures.1 in
+    rw (q.1, q.2) (turn_refused c.args.view.now.list.now envs p c.args.next.now c.args.head.now c.args.x.now _ _ c.in_err-number-2.field-0.0 (c.in_ok-number.ensures.answer envs p v).1.next_is c.deref-3.ensures (c.in_err-number-2.ensures.answer envs p v))
 
-pub statement-returns-in_err-condition-in-For-clause-answer : goal.statement-returns-in_err-condition-in-For-clause-answer
-statement-returns-in_err-condition-in-For-clause-answer t c envs p v =
-    let q = err_from_is_err_and c.from_residual-in_err-condition-in-For.result c.from_residual-in_err-condition-in-For.ensures.1 in
-    rw (q.1, q.2, c.in-For.is) (test_refused c.args.view.now.list.now envs p c.args.next.now c.in-For.head c.in-For.x c.in_err-condition-in-For.field-0.0 (rw (v.names, c.deref-in-For-4.ensures) at c.in_err-condition-in-For.ensures))
+pub for_statement-returns-in_err-condition-clause-answer : goal.for_statement-returns-in_err-condition-clause-answer
+for_statement-returns-in_err-condition-clause-answer t c envs p v =
+    let q = err_from_is_err_and c.from_residual-in_err-condition.result c.from_residual-in_err-condition.ensures.1 in
+    rw (q.1, q.2) (test_refused c.args.view.now.list.now envs p c.args.next.now c.args.head.now c.args.x.now c.in_err-condition.field-0.0 (rw (v.names, c.deref-4.ensures) at c.in_err-condition.ensures))
 
-pub statement-returns-in_err-last-in-For-clause-answer : goal.statement-returns-in_err-last-in-For-clause-answer
-statement-returns-in_err-last-in-For-clause-answer t c envs p v =
-    let q = err_from_is_err_and c.from_residual-in_err-last-in-For.result c.from_residual-in_err-last-in-For.ensures.1 in
-    rw (q.1, q.2, c.in-For.is) (step_refused c.args.view.now.list.now envs p c.args.next.now c.in-For.head c.in-For.x _ _ _ c.in_err-last-in-For.field-0.0 (c.in_ok-number-in-For.ensures.answer envs p v).1.next_is (c.in_ok-number-in-For-2.ensures.answer envs p v).1.1.next_is c.deref-in-For-3.ensures (rw (c.deref-in-For-5.ensures, c.deref-in-For-6.ensures) at (c.in_err-last-in-For.ensures.answer envs p v)))
+pub for_statement-returns-in_err-last-clause-answer : goal.for_statement-returns-in_err-last-clause-answer
+for_statement-returns-in_err-last-clause-answer t c envs p v =
+    let q = err_from_is_err_and c.from_residual-in_err-last.result c.from_residual-in_err-last.ensures.1 in
+    rw (q.1, q.2) (step_refused c.args.view.now.list.now envs p c.args.next.now c.args.head.now c.args.x.now _ _ _ c.in_err-last.field-0.0 (c.in_ok-number.ensures.answer envs p v).1.next_is (c.in_ok-number-2.ensures.answer envs p v).1.1.next_is c.deref-3.ensures (rw (c.deref-5.ensures, c.deref-6.ensures) at (c.in_err-last.ensures.answer envs p v)))
 
-pub statement-returns-in_ok-repeated-in-For-clause-answer : goal.statement-returns-in_ok-repeated-in-For-clause-answer
-statement-returns-in_ok-repeated-in-For-clause-answer t c envs p v =
-    rw c.in-For.is (states_For c.args.view.now.list.now envs p c.args.next.now _ _ _ _ _ _ c.in-For.head c.in-For.x _ _ _ _ _ _ _ _ c.in_ok-repeated-in-For.field-0 (rw (c.deref-in-For.ensures, c.deref-in-For-2.ensures) at (c.in_ok-number-in-For.ensures.answer envs p v)) (c.in_ok-number-in-For-2.ensures.answer envs p v) (rw (v.names, c.deref-in-For-4.ensures) at c.in_ok-condition-in-For.ensures) (rw (c.deref-in-For-5.ensures, c.deref-in-For-6.ensures) at (c.in_ok-last-in-For.ensures.answer envs p v)) c.deref-in-For-3.ensures c.in_ok-repeated-in-For.ensures)
+pub for_statement-returns-clause-answer : goal.for_statement-returns-clause-answer
+for_statement-returns-clause-answer t c envs p v =
+    (states_For c.args.view.now.list.now envs p c.args.next.now _ _ _ _ _ _ c.args.head.now c.args.x.now _ _ _ _ _ _ _ _ c.in_ok-repeated.field-0 (rw (c.deref.ensures, c.deref-2.ensures) at (c.in_ok-number.ensures.answer envs p v)) (c.in_ok-number-2.ensures.answer envs p v) (rw (v.names, c.deref-4.ensures) at c.in_ok-condition.ensures) (rw (c.deref-5.ensures, c.deref-6.ensures) at (c.in_ok-last.ensures.answer envs p v)) c.deref-3.ensures c.in_ok-repeated.ensures)
 
 pub behind-returns-clause-answer : goal.behind-returns-clause-answer
 behind-returns-clause-answer t c envs p v = states_behind c.args.view.now.list.now envs p c.args.next.now c.in_ok-number.number _ _ c.args.s.now c.in_ok-inner.inner c.in_ok-number.ensures (c.in_ok-inner.ensures.answer envs p v)
@@ -315,3 +315,6 @@ pub items-statement-requires : goal.items-statement-requires
 items-statement-requires t c =
     let below = item_within c.args.all.now c.loop-label.label-index c.loop-label-item.result (omega arith) c.loop-label-item.is in
     (omega arith, c.requires)
+
+pub statement-returns-in-For-clause-answer : goal.statement-returns-in-For-clause-answer
+statement-returns-in-For-clause-answer t c envs p v = rw c.in-For.is (c.for_statement.ensures.answer envs p v)

@@ -2,7 +2,7 @@ use Rattle.std.proofs.Common.{take}
 use Rattle.vs_scopes.specs.Printed.{Path}
 use Rattle.vs_operands.specs.Surroundings.{Surroundings}
 use Rattle.vs_operands.specs.passes.Views.{IsView}
-use Rattle.vs_bodies.proofs.PartLemmas.{Stated, Listed}
+use Rattle.vs_operands.proofs.PartLemmas.{Stated, Listed}
 use Rattle.vs_bodies.proofs.statements.+statement.Given as goal
 
 abbrev pub invariant-statements-loop-s : goal.invariant-statements-loop-s

@@ -1,5 +1,5 @@
 use Rattle.std.proofs.lemmas.Result.{err_from_is_err_and}
-use Rattle.vs_bodies.proofs.StatementLemmas.{states_Later, later_refused, due_refused}
+use Rattle.vs_operands.proofs.StatementLemmas.{states_Later, later_refused, due_refused}
 use Rattle.vs_bodies.proofs.statements.later.Goals as goal
 
 pub returns-clause-answer : goal.returns-clause-answer

@@ -1,5 +1,5 @@
 use Rattle.std.proofs.lemmas.Result.{err_from_is_err_and}
-use Rattle.vs_bodies.proofs.StatementLemmas.{states_numbered, numbered_refused, sides_refused}
+use Rattle.vs_operands.proofs.StatementLemmas.{states_numbered, numbered_refused, sides_refused}
 use Rattle.vs_bodies.proofs.statements.numbered.Goals as goal
 
 pub returns-clause-answer : goal.returns-clause-answer

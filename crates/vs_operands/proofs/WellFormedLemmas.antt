@@ -17,7 +17,7 @@ use Rattle.vs_logic4.specs.declared.edge.Edge.TheVariants.{Any}
 use Rattle.vs_design.specs.declared.expression.Slice.{Slice}
 use Rattle.vs_design.specs.declared.statement.EventTerm.{EventTerm}
 use Rattle.vs_design.specs.Statements.{statement_reads}
-use Rattle.vs_bodies.proofs.ReadsLemmas.{statement_within}
+use Rattle.vs_operands.proofs.ReadsLemmas.{statement_within}
 use Rattle.vs_design.specs.declared.range.BitRange.{BitRange}
 use Rattle.vs_design.specs.Kinds.{is_variable}
 use Rattle.vs_design.specs.Uses.{reads}

@@ -34,9 +34,9 @@ use Rattle.vs_operands.specs.Members.{places}
 use Rattle.vs_operands.specs.Surroundings.{Surroundings}
 use Rattle.vs_scopes.specs.Printed.{Path}
 use Rattle.vs_operands.specs.passes.Bodies.{counting, statement_burden, statements_burden, numbered_burden, named_burden, items_burden, MeansStatements, else_list, MeansItems, item_fault}
-use Rattle.vs_bodies.proofs.BlockLemmas.{blocks_Named, blocks_For, blocks_While, blocks_Repeat, blocks_Forever, blocks_Delay, blocks_Event, IsPart, AreFree}
+use Rattle.vs_operands.proofs.BlockLemmas.{blocks_Named, blocks_For, blocks_While, blocks_Repeat, blocks_Forever, blocks_Delay, blocks_Event, IsPart, AreFree}
 use Rattle.vs_scopes.proofs.Folds.{left_true, right_true}
-use Rattle.vs_bodies.proofs.FormLemmas.{count_Block, count_Case, count_Delay, count_Event, count_For, count_Forever, count_If, count_Named, count_Repeat, count_While, counts, fault_Block, fault_Case, fault_Delay, fault_Event, fault_For, fault_Forever, fault_If, fault_Repeat, fault_While, item_count, labels_of}
+use Rattle.vs_operands.proofs.FormLemmas.{count_Block, count_Case, count_Delay, count_Event, count_For, count_Forever, count_If, count_Named, count_Repeat, count_While, counts, fault_Block, fault_Case, fault_Delay, fault_Event, fault_For, fault_Forever, fault_If, fault_Repeat, fault_While, item_count, labels_of}
 
 -- ---- too many statements
 

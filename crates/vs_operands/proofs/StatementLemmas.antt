@@ -51,10 +51,10 @@ use Rattle.vs_operands.specs.declared.faults.StatementFault.{StatementFault}
 use Rattle.vs_operands.specs.declared.faults.StatementFault.TheVariants as t
 use Rattle.vs_operands.specs.passes.Faults.{as_statement_fault}
 use Rattle.vs_operands.specs.passes.Bodies.{counting, statement_burden, statements_burden, numbered_burden, named_burden, items_burden, IsFree, BurdenFails, Answers, MeansStatement, MeansStatements, MeansBody, IsCase, IsNumbered, IsRepeated, else_list, MeansElse, MeansItems, item_fault, BodyFails, Embodies}
-use Rattle.vs_bodies.proofs.BlockLemmas.{blocks_Null, blocks_Assign, blocks_Later, blocks_Named, blocks_For, blocks_Print, blocks_Finish, blocks_Dump, IsPart, fails_part, fails_by, fails_overfull, AreFree, free_none, free_same, free_both}
+use Rattle.vs_operands.proofs.BlockLemmas.{blocks_Null, blocks_Assign, blocks_Later, blocks_Named, blocks_For, blocks_Print, blocks_Finish, blocks_Dump, IsPart, fails_part, fails_by, fails_overfull, AreFree, free_none, free_same, free_both}
 use Rattle.vs_scopes.proofs.Folds.{both_false, left_true, right_true, any_push, any_at, take_push}
-use Rattle.vs_bodies.proofs.FormLemmas.{count_Assign, count_Block, count_Case, count_Dump, count_Finish, count_For, count_If, count_Later, count_Named, count_Null, count_Print, counting_more, counts, fault_Assign, fault_Block, fault_Case, fault_Dump, fault_Finish, fault_For, fault_If, fault_Later, fault_Named, fault_Null, fault_Print, item_count, item_numbers, joined_push, labels_of, numbers_Assign, numbers_Block, numbers_Call, numbers_Case, numbers_Delay, numbers_Event, numbers_Finish, numbers_Forever, numbers_If, numbers_Later, numbers_Null, numbers_Repeat, numbers_While, total_push, total_within}
-use Rattle.vs_bodies.proofs.PartLemmas.{IsAround, Listed, Stated, Takes, around_Delay, around_Event, around_Forever, around_Repeat, around_While, around_part, begin_part, behind_count, block_part, counting_one, else_part, flat_parts, if_blocks, items_part, items_parts, named_part, not_overfull, right_false, step_part, then_part, turn_part}
+use Rattle.vs_operands.proofs.FormLemmas.{count_Assign, count_Block, count_Case, count_Dump, count_Finish, count_For, count_If, count_Later, count_Named, count_Null, count_Print, counting_more, counts, fault_Assign, fault_Block, fault_Case, fault_Dump, fault_Finish, fault_For, fault_If, fault_Later, fault_Named, fault_Null, fault_Print, item_count, item_numbers, joined_push, labels_of, numbers_Assign, numbers_Block, numbers_Call, numbers_Case, numbers_Delay, numbers_Event, numbers_Finish, numbers_Forever, numbers_If, numbers_Later, numbers_Null, numbers_Repeat, numbers_While, total_push, total_within}
+use Rattle.vs_operands.proofs.PartLemmas.{IsAround, Listed, Stated, Takes, around_Delay, around_Event, around_Forever, around_Repeat, around_While, around_part, begin_part, behind_count, block_part, counting_one, else_part, flat_parts, if_blocks, items_part, items_parts, named_part, not_overfull, right_false, step_part, then_part, turn_part}
 
 -- ---- statements
 
