@@ -5,7 +5,7 @@ ghost use Rattle.std.specs.Prelude.{◌≡◌, true, IfSome};
 ghost use Rattle.vs_process.specs.Executions as executions;
 ghost use Rattle.vs_agenda.specs.AssignEvents.{move_of};
 
-use crate::entries::{AssignEvent, Entries, Entry, Event};
+use crate::entries::{AssignEvent, AssignNext, Entries, Entry, Event};
 use crate::policy::Pick;
 use std::alloc::{AllocError, Global};
 use vs_design::Write;
@@ -19,6 +19,20 @@ use vs_time_wheel::EventQueue;
 pub struct Choice {
     pub choice: Move,
     pub index: Option<usize>,
+}
+
+impl Choice {
+    /// The event of a continuous assignment that the move is, if it is one.
+    #[inline(always)]
+    pub fn assign_event(&self) -> Option<AssignEvent>
+        ensures { IfSome result (λ event. self.now.choice ≡ move_of event) }
+    {
+        match self.choice {
+            Move::Evaluate(assign) => Some(AssignEvent::Evaluate(assign)),
+            Move::Propagate(assign) => Some(AssignEvent::Propagate(assign)),
+            _ => None,
+        }
+    }
 }
 
 /// An activated update: its number in the order of execution, and where the signals that its parts name begin and end.
@@ -235,18 +249,33 @@ impl Agenda {
         }
     }
 
-    /// The first event, where it is one of a continuous assignment and enabled.
+    /// The next event, where it is one of a continuous assignment and enabled: the update of this one, which isn't listed, or else the first
+    /// of the list.
     #[inline(always)]
-    pub fn next_assign<Q: EventQueue<Item>>(&self, state: &State<Q>) -> Option<AssignEvent>
-        ensures { IfSome result (λ event. executions.is_enabled state.now (move_of event) ≡ true) }
+    pub fn next_assign<Q: EventQueue<Item>>(
+        &self,
+        unlisted: Option<usize>,
+        state: &State<Q>,
+    ) -> Option<AssignNext>
+        ensures { IfSome result (λ next. executions.is_enabled state.now (move_of next.event) ≡ true) }
     {
-        match self.entries.get(0)?.event {
-            Event::Evaluate(assign) if state.needs(assign) => Some(AssignEvent::Evaluate(assign)),
-            Event::Propagate(assign) if state.is_pending(assign) => {
-                Some(AssignEvent::Propagate(assign))
-            }
-            _ => None,
+        if let Some(assign) = unlisted
+            && state.is_pending(assign)
+        {
+            return Some(AssignNext {
+                event: AssignEvent::Propagate(assign),
+                index: None,
+            });
         }
+        let event = match self.entries.get(0)?.event {
+            Event::Evaluate(assign) if state.needs(assign) => AssignEvent::Evaluate(assign),
+            Event::Propagate(assign) if state.is_pending(assign) => AssignEvent::Propagate(assign),
+            _ => return None,
+        };
+        Some(AssignNext {
+            event,
+            index: Some(0),
+        })
     }
 
     /// Takes the event at an index out of the list.
@@ -257,8 +286,14 @@ impl Agenda {
         };
         if self.first && index == 0 {
             self.remove_first();
-            return;
+        } else {
+            self.remove_within(index);
         }
+    }
+
+    /// Takes the event at an index out of a list that may have updates; within the list it leaves a gap.
+    #[inline(never)]
+    fn remove_within(&mut self, index: usize) {
         let Some(entry) = self.entries.get_mut(index) else {
             return;
         };
@@ -288,7 +323,7 @@ impl Agenda {
     }
 
     /// Takes the gaps at the front away.
-    #[inline(always)]
+    #[inline(never)]
     fn trim_front(&mut self) {
         for _ in 0..self.entries.len() {
             match self.entries.get(0) {
@@ -302,7 +337,6 @@ impl Agenda {
     }
 
     /// Takes the gaps at the end away.
-    #[inline(always)]
     fn trim_back(&mut self) {
         for _ in 0..self.entries.len() {
             match self.entries.get(self.entries.len().wrapping_sub(1)) {
@@ -315,7 +349,6 @@ impl Agenda {
     }
 
     /// An event has left the list: where it is an update, its parts no longer hide others.
-    #[inline(always)]
     fn release_all(&mut self, event: Event) {
         for i in 0..self.signals_of(event).len() {
             if let Some(signal) = self.signals_of(event).get(i) {
@@ -427,8 +460,35 @@ impl Agenda {
         Ok(())
     }
 
+    /// Brings the list up to date behind an evaluation of a continuous assignment, where its event stood at an index. Its update isn't listed
+    /// where it is next, and the answer is then the assignment.
     #[inline(always)]
-    pub fn follow_evaluation<Q: EventQueue<Item>>(
+    pub fn follow_first<Q: EventQueue<Item>>(
+        &mut self,
+        assign: usize,
+        index: Option<usize>,
+        state: &State<Q>,
+    ) -> Result<Option<usize>, AllocError> {
+        if self.is_alone(index) && state.is_pending(assign) {
+            self.remove(index);
+            return Ok(Some(assign));
+        }
+        self.follow_evaluation(assign, index, state)?;
+        Ok(None)
+    }
+
+    /// Whether the event at an index, where it stands in the list, is the only one.
+    #[inline(always)]
+    fn is_alone(&self, index: Option<usize>) -> bool {
+        match index {
+            Some(_) => self.entries.len() == 1,
+            None => self.entries.len() == 0,
+        }
+    }
+
+    /// Brings the list up to date behind an evaluation: its event leaves, and the update enters at the end, or leaves, with the value that waits.
+    #[inline(always)]
+    fn follow_evaluation<Q: EventQueue<Item>>(
         &mut self,
         assign: usize,
         index: Option<usize>,

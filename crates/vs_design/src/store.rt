@@ -69,6 +69,7 @@ impl<'a> Store<'a> {
     }
 
     /// A word of a signal, where there is one. A signal that isn't an array has the word 0 alone.
+    #[inline(always)]
     pub fn word(&self, signal: usize, word: usize) -> Option<Vec4>
         ensures { result ≡ word_of self.now signal word }
     {
@@ -88,6 +89,7 @@ impl<'a> Store<'a> {
     }
 
     /// Makes one part of a write; the answer is the word that it names before and behind it, where there is one.
+    #[inline(always)]
     pub fn put_part(&mut self, part: Part) -> Option<(Vec4, Vec4)>
         ensures put { self.new ≡ put_part self.old part }
         ensures before { MatchOption result (word_of self.old part.signal part.word ≡ None)

@@ -58,6 +58,7 @@ impl Write {
     }
 
     /// Adds a part above the others.
+    #[inline(always)]
     pub fn push(&mut self, part: Part) -> Result<(), AllocError>
         ensures { OnOk result (self.new ≡ self.old ++ part ∷ []) }
     {

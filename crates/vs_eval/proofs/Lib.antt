@@ -1,3 +1,4 @@
+pub mod DepthLemmas
 pub mod Digits
 pub mod Places
 pub mod ReadsHold

@@ -1,5 +1,5 @@
 -- The values of expressions.
-use Rattle.std.specs.Prelude.{ℕ, ℤ, Bool, false, Option, Some, None, List, [], ◌∷◌, length, take}
+use Rattle.std.specs.Prelude.{ℕ, ℤ, Bool, true, false, Option, Some, None, List, [], ◌∷◌, length, take}
 use Rattle.vs_logic4.specs.declared.digit.Digit.{Digit}
 use Rattle.vs_logic4.specs.declared.digit.Digit.TheVariants.{Zero, One, X, Z}
 use Rattle.vs_logic4.specs.declared.operators.Sizing.{Sizing}
@@ -95,6 +95,14 @@ value_step store time (t.Resized size x) = resized size.signed size.width x.valu
 -- the value of an expression in a store at a time in ticks (clause 5)
 abbrev pub value_of : Typed → Store → ℕ → List Digit
 value_of e store time = fold-Typed (List Digit) (value_step store time) e
+
+-- whether an expression is none of a number, a signal, an operator with its operand, and a chain
+abbrev pub is_other : Typed-F Typed → Bool
+is_other (t.Number digits) = false
+is_other (t.Signal o) = false
+is_other (t.Unary operator x) = false
+is_other (t.Chain first links) = false
+is_other _ = true
 
 -- what a target gets of an expression: its value, cut to the target's size (clauses 5.4.1 and 6)
 abbrev pub target_value : Target → Typed → Store → ℕ → List Digit

@@ -1,12 +1,13 @@
 //! The values of expressions in a store (IEEE 1364-2005, clause 5), and the writes of assignments.
 #![tactic(auto)]
 
-ghost use Rattle.std.specs.Prelude.{◌≡◌, ◌<◌, ◌≤◌, map, IfSome};
+ghost use Rattle.std.specs.Prelude.{◌≡◌, ◌<◌, ◌≤◌, map, true};
+ghost use Rattle.vs_design.specs.declared.expression.Typed.TheViews.{out-Typed};
 ghost use Rattle.vs_logic4.specs.Comparisons.{truth};
 ghost use Rattle.vs_logic4.specs.Operators.{sizing_of};
 ghost use Rattle.vs_logic4.specs.Vectors.{resized};
 ghost use Rattle.vs_eval.specs.Laws.{ReadsHold, IndicesHold, WritesHold, SizesHold};
-ghost use Rattle.vs_eval.specs.Values.{value_of, operand_value, bits_value, selection_value, excerpt_value, left_side, right_side, linked, chained, picked, chosen, concatenated};
+ghost use Rattle.vs_eval.specs.Values.{is_other, value_of, operand_value, bits_value, selection_value, excerpt_value, left_side, right_side, linked, chained, picked, chosen, concatenated};
 ghost use Rattle.vs_design.specs.Stores.{word_of};
 
 mod indices;
@@ -25,48 +26,49 @@ pub fn value(e: &Typed, store: &Store, time: u64) -> Vec4
     match e {
         Typed::Number(digits) => *digits,
         Typed::Signal(o) => operand(*o, store),
-        Typed::Slice(s) => slice(*s, store),
-        Typed::Select(s, word, low) => {
-            selection(*s, store, value(word, store, time), value(low, store, time))
-        }
-        Typed::Excerpt(s, low) => excerpt(*s, value(low, store, time)),
-        Typed::Unary(operator, x) => match leaf(x, store, time) {
-            Some(digits) => operator.of(digits),
-            None => operator.of(value(x, store, time)),
-        },
-        Typed::Chain(first, links) => match leaf(first, store, time) {
-            Some(digits) => chain(digits, links, store, time),
-            None => chain(value(first, store, time), links, store, time),
-        },
-        Typed::Choice(pairs, last) => choice(pairs, value(last, store, time), store, time),
-        Typed::Concat(first, others) => {
-            concatenation(value(first, store, time), others, store, time)
-        }
-        Typed::Repeat(count, x) => value(x, store, time).repeated(count.times),
-        Typed::Resized(size, x) => value(x, store, time).resize(size.width, size.signed),
+        Typed::Unary(operator, x) => operator.of(quick_value(x, store, time)),
+        Typed::Chain(first, links) => chain(quick_value(first, store, time), links, store, time),
+        _ => other_value(e, store, time),
     }
 }
 
-/// The value of a number, or of a whole signal; other expressions are none of these.
-#[inline(always)]
-fn leaf(e: &Typed, store: &Store, _time: u64) -> Option<Vec4>
-    ensures { IfSome result (λ digits. digits ≡ value_of e.now store.now _time) }
+/// The value of an expression that is none of a number, a signal, an operator with its operand, and a chain. It stands apart so that these
+/// don't take the room that it works in.
+#[cycle(value)]
+#[inline(never)]
+fn other_value(e: &Typed, store: &Store, time: u64) -> Vec4
+    requires { is_other (out-Typed e.now) ≡ true }
+    ensures { result ≡ value_of e.now store.now time }
 {
     match e {
-        Typed::Number(digits) => Some(*digits),
-        Typed::Signal(o) => Some(operand(*o, store)),
-        _ => None,
+        Typed::Slice(s) => slice(*s, store),
+        Typed::Select(s, word, low) => {
+            let word = quick_value(word, store, time);
+            selection(*s, store, word, quick_value(low, store, time))
+        }
+        Typed::Excerpt(s, low) => excerpt(*s, quick_value(low, store, time)),
+        Typed::Choice(pairs, last) => choice(pairs, quick_value(last, store, time), store, time),
+        Typed::Concat(first, others) => {
+            concatenation(quick_value(first, store, time), others, store, time)
+        }
+        Typed::Repeat(count, x) => quick_value(x, store, time).repeated(count.times),
+        Typed::Resized(size, x) => quick_value(x, store, time).resize(size.width, size.signed),
+        Typed::Number(_) | Typed::Signal(_) | Typed::Unary(_, _) | Typed::Chain(_, _) => {
+            unreachable!()
+        }
     }
 }
 
 /// The value of an expression, as `value` answers it; that of a number or a whole signal is read at once.
+#[cycle(value)]
 #[inline(always)]
 pub fn quick_value(e: &Typed, store: &Store, time: u64) -> Vec4
     ensures { result ≡ value_of e.now store.now time }
 {
-    match leaf(e, store, time) {
-        Some(digits) => digits,
-        None => value(e, store, time),
+    match e {
+        Typed::Number(digits) => *digits,
+        Typed::Signal(o) => operand(*o, store),
+        _ => value(e, store, time),
     }
 }
 
@@ -91,10 +93,7 @@ fn chain(first: Vec4, links: &[(Link, Typed)], store: &Store, time: u64) -> Vec4
 {
     let mut all = first;
     for (link, e) in links {
-        match leaf(e, store, time) {
-            Some(digits) => all = combined(all, *link, digits),
-            None => all = combined(all, *link, value(e, store, time)),
-        }
+        all = combined(all, *link, quick_value(e, store, time));
     }
     all
 }

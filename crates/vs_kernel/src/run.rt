@@ -1,4 +1,7 @@
 //! The loop of a run.
+//!
+//! What a turn calls in one place alone has no hint: the compiler inlines it by itself into the loop, and it heeds the hints of `turn` and `take`
+//! only while these are small with all that is hinted in them.
 ghost use Rattle.std.specs.Prelude.{◌≡◌, [], ◌<◌, ◌≤◌, ◌*◌, ◌^◌, ◌++◌, ℕ, false, true, Some, None, List, Option, length, map, IfOk, OnOk, OnErr, MatchOption};
 ghost use Rattle.std.specs.Io.KnownBytes.{Appends};
 ghost use Rattle.vs_design.specs.Parts.{Parts};
@@ -21,7 +24,7 @@ ghost use Rattle.vs_vcd.specs.Sinks.{AppendsPart, failed_after};
 
 use crate::outcome::Outcome;
 use std::alloc::{AllocError, Global};
-use vs_agenda::{Agenda, AssignEvent, Choice, Pick};
+use vs_agenda::{Agenda, Choice, Pick};
 use vs_design::{Design, Process};
 use vs_process::{
     Code, Effect, Move, blocks_exclude, compile, inside_follows, inside_goes_on, is_combinational,
@@ -120,6 +123,7 @@ pub(crate) fn choose<Q: EventQueue<Item>, P: Pick>(
 }
 
 /// Writes the lines of the calls of `$strobe` of a slot at its end, in the order of the calls (IEEE 1364-2005, clause 17.1.2).
+#[inline(always)]
 fn print_calls<Q: EventQueue<Item>, L: Sink>(
     alloc: Global,
     lines: &mut L,
@@ -137,7 +141,7 @@ fn print_calls<Q: EventQueue<Item>, L: Sink>(
     Ok(())
 }
 
-/// Writes the slot that a move ends, if it ends one: the slot of the dump, behind which nothing is marked, then its lines.
+/// Writes the slot that a move ends, if it ends one: the slot of the dump, behind which nothing is marked where slots are written, then its lines.
 #[inline(always)]
 fn note<Q: EventQueue<Item>, V: Sink, L: Sink>(
     alloc: Global,
@@ -166,7 +170,9 @@ fn note<Q: EventQueue<Item>, V: Sink, L: Sink>(
         return Ok(());
     };
     writer.slot(vcd, state.time(), state.store(), marks)?;
-    clear(marks);
+    if writer.is_writing() {
+        clear(marks);
+    }
     print_calls(alloc, lines, state)?;
     Ok(())
 }
@@ -205,7 +211,6 @@ struct Taken {
 
 /// Takes a step: writes the slot that a chosen move ends, if it ends one, makes it, and writes the line that it makes. The answer is how many steps
 /// were taken: one.
-#[inline(always)]
 fn take_one<'a, Q: EventQueue<Item>, V: Sink, L: Sink>(
     alloc: Global,
     design: &Design,
@@ -275,35 +280,28 @@ fn take<'a, Q: EventQueue<Item>, V: Sink, L: Sink>(
         (V.bytes vcd.old) (V.bytes vcd.new) (L.bytes lines.old) (L.bytes lines.new)) }
     ensures failures { OneFailed (is_write_fault result) (V.failed vcd.old) (V.failed vcd.new) (L.failed lines.old) (L.failed lines.new) }
 {
-    if !in_batches {
-        return take_one(
-            alloc, design, state, agenda, writer, marks, room, next, vcd, lines,
-        );
-    }
-    let index = next.index;
-    match next.choice {
-        Move::Step(process) => {
-            run_process(
-                state, design, agenda, marks, room, lines, process, index, steps,
-            )
-        }
-        Move::Make(first) => run_updates(state, design, agenda, marks, room, lines, first, steps),
-        Move::Evaluate(assign) => {
-            let first = AssignEvent::Evaluate(assign);
-            run_assigns(
+    if in_batches {
+        let index = next.index;
+        if let Some(first) = next.assign_event() {
+            return run_assigns(
                 state, design, agenda, marks, room, lines, first, index, steps,
-            )
+            );
         }
-        Move::Propagate(assign) => {
-            let first = AssignEvent::Propagate(assign);
-            run_assigns(
-                state, design, agenda, marks, room, lines, first, index, steps,
-            )
+        match next.choice {
+            Move::Step(process) => {
+                return run_process(
+                    state, design, agenda, marks, room, lines, process, index, steps,
+                );
+            }
+            Move::Make(first) => {
+                return run_updates(state, design, agenda, marks, room, lines, first, steps);
+            }
+            _ => {}
         }
-        _ => take_one(
-            alloc, design, state, agenda, writer, marks, room, next, vcd, lines,
-        ),
     }
+    take_one(
+        alloc, design, state, agenda, writer, marks, room, next, vcd, lines,
+    )
 }
 
 /// Takes the next steps, at least one and at most so many: chooses a move and makes it, and where the first event is always chosen what goes on

@@ -1,2 +1,4 @@
 mod Ends
+mod Given
 mod Inputs
+mod Rows

@@ -62,12 +62,6 @@ pub record WordsAsk (words : List (List ℕ)) (call : Call) : Type 0 where
   pub found : subcommand_of app words ≡ Some (name, rows)
   pub asks : AsksAs (is_elab name) (λ option. first_of option rows) (λ option. one_of option rows) call
 
--- the words have no fault by the table of options
-pub record AreTaken (words : List (List ℕ)) : Type 0 where
-  pub app : App
-  pub options : AreOptions app
-  pub taken : fault_of app words ≡ []
-
 -- the words have a fault of this kind by the table of options; a call for help counts among them
 pub record HaveFault (words : List (List ℕ)) (k : ErrorKind) : Type 0 where
   pub app : App

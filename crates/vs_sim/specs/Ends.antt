@@ -8,7 +8,7 @@ use Rattle.vs_sim.specs.declared.words.Call.TheVariants.{Run, Elab}
 use Rattle.vs_sim.specs.declared.words.Text.{Text}
 use Rattle.vs_sim.specs.declared.words.Text.TheVariants.{Lines, Dump}
 use Rattle.clap.specs.declared.error.kind.ErrorKind.{ErrorKind}
-use Rattle.vs_sim.specs.Asks.{AreTaken, HaveFault, WordsAsk}
+use Rattle.vs_sim.specs.Asks.{HaveFault, WordsAsk}
 use Rattle.vs_simulation.specs.Honesty.{IsRun, SimulationFails}
 use Rattle.vs_sim.specs.Inputs.{IsKept}
 use Rattle.vs_simulation.specs.Listing.{IsListed}
@@ -62,11 +62,9 @@ pub data EndsCall (input : Option (List ℕ)) (call : Call) (status : ℕ) : Typ
       EndsCall input call status
   by_device : status ≡ 3 → EndsCall input call status
 
--- how the program ends where the words ask for nothing: by the fault that they have, a call for help among them; with 64 where they have none, and the
--- value of an option can't be read all the same; with 3 where a device or memory failed
+-- how the program ends where the words ask for nothing: by the fault that they have, a call for help among them, or with 3 where a device or memory failed
 pub data EndsWords (words : List (List ℕ)) (status : ℕ) : Type 0 where
   by_kind : (k : ErrorKind) → HaveFault words k → status ≡ words_status k → EndsWords words status
-  unread : AreTaken words → status ≡ 64 → EndsWords words status
   unheard : status ≡ 3 → EndsWords words status
 
 -- how the program ends, with these words and this input

@@ -1,5 +1,6 @@
 pub mod Asks
 pub mod Ends
+pub mod Given
 pub mod Inputs
 pub mod Options
 pub mod Statuses

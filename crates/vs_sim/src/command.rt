@@ -8,23 +8,14 @@ ghost use Rattle.clap.specs.Words.{kind_of};
 
 use crate::dropped::Dropped;
 use crate::input::{InputFault, read_source};
-use crate::texts::{fault_status, fault_text};
-use crate::words::{Call, Order, Request, Text, read_words, words_status};
+use crate::texts::{DONE, FAILED, LIMITED, MISUSED, fault_status, fault_text, words_status};
+use crate::words::{Call, Order, Request, Text, read_words};
 use clap::Error;
 use std::alloc::Global;
 use std::io::{self, BufWriter, ErrorKind, Read, Write};
 use vs_kernel::Outcome;
 use vs_simulation::{Policy, SimFault, list_design, simulate};
 use vs_vcd::Counted;
-
-/// Done, or help.
-const DONE: u8 = 0;
-/// The step limit.
-const LIMITED: u8 = 2;
-/// Memory ran out, or a device failed.
-const FAILED: u8 = 3;
-/// A fault of the command line.
-const MISUSED: u8 = 64;
 
 /// Does what the words ask for; they begin with the program's own name. The source is read from `input`, the text that was asked for goes to `out`, and
 /// a refusal to `err`. The answer is the exit status: 0 done, 1 refused, 2 step limit, 3 memory or a device's fault, 64 command line.
@@ -38,8 +29,7 @@ pub fn program<R: Read + Drop, O: Write + Drop, E: Write + Drop>(
     ensures { Ends (map (λ w. w.now) words.entry.now) (R.remaining input) result }
 {
     match read_words(alloc, words) {
-        Ok(Some(call)) => answer(alloc, call, input, out, err),
-        Ok(None) => MISUSED,
+        Ok(call) => answer(alloc, call, input, out, err),
         Err(error) => tell_words(&error, out, err),
     }
 }

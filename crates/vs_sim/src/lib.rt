@@ -9,6 +9,6 @@ mod words;
 
 pub use command::{program, refuse_start};
 pub use dropped::Dropped;
-pub use texts::fault_text;
+pub use texts::{fault_text, words_status};
 pub use vs_simulation::{Policy, SimFault, list_design, simulate};
-pub use words::{Call, Request, Text, read_words, words_status};
+pub use words::{Call, Request, Text, read_words};

@@ -1,14 +1,28 @@
-//! What the program prints of a fault.
+//! What the program tells of a fault: a text and an exit status.
 ghost use Rattle.std.specs.Prelude.{◌≡◌, IfOk};
-ghost use Rattle.vs_sim.specs.Statuses.{fault_status};
+ghost use Rattle.clap.specs.Words.{kind_of};
+ghost use Rattle.vs_sim.specs.Statuses.{fault_status, words_status};
 ghost use Rattle.vs_sim.specs.Texts.{fault_text};
 
+use clap::Error;
+use clap::error::ErrorKind;
 use std::alloc::{AllocError, Global};
 use vs_elaborate::ElabFault;
 use vs_kernel::RunFault;
 use vs_lexer::LexFault;
 use vs_parser::ParseFault;
 use vs_simulation::SimFault;
+
+/// Done, or help.
+pub(crate) const DONE: u8 = 0;
+/// A refusal of the source.
+const REFUSED: u8 = 1;
+/// The step limit.
+pub(crate) const LIMITED: u8 = 2;
+/// Memory ran out, or a device failed.
+pub(crate) const FAILED: u8 = 3;
+/// A fault of the command line.
+pub(crate) const MISUSED: u8 = 64;
 
 /// The text that the program prints of a fault, behind `vsim: `: its number and its place, or what failed.
 pub fn fault_text(alloc: Global, fault: &SimFault) -> Result<Vec<u8>, AllocError>
@@ -29,13 +43,24 @@ pub(crate) fn fault_status(fault: &SimFault) -> u8
     ensures { result ≡ fault_status fault.now }
 {
     match fault {
-        SimFault::Lex(LexFault::Memory) => 3,
-        SimFault::Lex(_) => 1,
-        SimFault::Parse(ParseFault::Memory) => 3,
-        SimFault::Parse(_) => 1,
-        SimFault::Elab(ElabFault::Memory) => 3,
-        SimFault::Elab(_) => 1,
-        SimFault::Run(_) => 3,
-        SimFault::Memory => 3,
+        SimFault::Lex(LexFault::Memory) => FAILED,
+        SimFault::Lex(_) => REFUSED,
+        SimFault::Parse(ParseFault::Memory) => FAILED,
+        SimFault::Parse(_) => REFUSED,
+        SimFault::Elab(ElabFault::Memory) => FAILED,
+        SimFault::Elab(_) => REFUSED,
+        SimFault::Run(_) => FAILED,
+        SimFault::Memory => FAILED,
+    }
+}
+
+/// The exit status that an error of the words ends with: 0 for a call for help, 3 where memory ran out, 64 for a fault of the words.
+pub fn words_status(error: &Error) -> u8
+    ensures { result ≡ words_status (kind_of error.now) }
+{
+    match error.kind() {
+        ErrorKind::DisplayHelp | ErrorKind::DisplayVersion => DONE,
+        ErrorKind::OutOfMemory => FAILED,
+        _ => MISUSED,
     }
 }

@@ -1,11 +1,10 @@
 //! The words of a command line.
-ghost use Rattle.std.specs.Prelude.{◌≡◌, IfErr, IfOk, IfSome, MatchOption, false, map};
-ghost use Rattle.clap.specs.Words.{app_of, first_value, found_of, kind_of, one_text, rule_of, shape_of};
+ghost use Rattle.std.specs.Prelude.{◌≡◌, IfErr, IfOk, false, map};
+ghost use Rattle.clap.specs.Words.{app_of, first_value, found_of, one_text, rule_of, shape_of};
 ghost use Rattle.vs_sim.specs.Options.{option_of, top_option, number_option, until_option, steps_option, choice_option, run_options, elab_options, AreOptions};
-ghost use Rattle.vs_sim.specs.Statuses.{words_status};
-ghost use Rattle.vs_sim.specs.Asks.{AreTaken, Asks, AsksAs, WordsAsk, WordsFail, is_elab};
+ghost use Rattle.vs_sim.specs.Asks.{Asks, AsksAs, IsNumber, WordsAsk, WordsFail, is_elab};
+ghost use Rattle.vs_sim.specs.Given.{AreGiven, AreGivenAs, IsCount};
 
-use clap::error::ErrorKind;
 use clap::{Arg, ArgAction, ArgMatches, Command, Error};
 use std::alloc::{AllocError, Global};
 use vs_design::Ticks;
@@ -166,74 +165,57 @@ fn vsim_command<'a>(alloc: Global) -> Result<Command<'a>, AllocError>
         .subcommand(elab)
 }
 
-// A number below 2^62.
-fn below_limit(count: u64) -> Option<Ticks>
-    ensures { IfSome result (λ ticks. ticks.count ≡ count) }
+// The number of an option.
+fn number_of(matches: &ArgMatches, name: &str) -> Ticks
+    requires { IsCount (one_text (found_of matches.now) name.now) }
+    ensures { IsNumber (one_text (found_of matches.now) name.now) result.count }
 {
-    if count < 1 << 62 {
-        Some(Ticks { count })
-    } else {
-        None
+    Ticks {
+        count: matches.get_one::<u64>(name).unwrap(),
     }
 }
 
 // What the matches of `run` ask for.
-fn asked<'a>(matches: &ArgMatches<'a>) -> Option<Request<'a>>
-    ensures { IfSome result (λ q. Asks (first_value (found_of matches.now)) (one_text (found_of matches.now)) q) }
+fn asked<'a>(matches: &ArgMatches<'a>) -> Request<'a>
+    requires { AreGiven (first_value (found_of matches.now)) (one_text (found_of matches.now)) }
+    ensures { Asks (first_value (found_of matches.now)) (one_text (found_of matches.now)) result }
 {
-    let top = matches.get_str("top")?;
-    let until = below_limit(matches.get_one::<u64>("until")?)?;
-    let steps = below_limit(matches.get_one::<u64>("steps")?)?;
-    let order = match matches.get_str("policy")? {
+    let order = match matches.get_str("policy").unwrap() {
         "lifo" => Order::Lifo,
         _ => Order::Fifo,
     };
-    let text = match matches.get_str("out")? {
+    let text = match matches.get_str("out").unwrap() {
         "vcd" => Text::Dump,
         _ => Text::Lines,
     };
-    Some(Request {
-        top,
-        until,
-        steps,
+    Request {
+        top: matches.get_str("top").unwrap(),
+        until: number_of(matches, "until"),
+        steps: number_of(matches, "steps"),
         order,
         text,
-    })
+    }
 }
 
 // What the matches of a subcommand ask for.
-fn call_of<'a>(name: &str, matches: &ArgMatches<'a>) -> Option<Call<'a>>
-    ensures { IfSome result (λ call.
-        AsksAs (is_elab name.now) (first_value (found_of matches.now)) (one_text (found_of matches.now)) call) }
+fn call_of<'a>(name: &str, matches: &ArgMatches<'a>) -> Call<'a>
+    requires { AreGivenAs (is_elab name.now) (first_value (found_of matches.now)) (one_text (found_of matches.now)) }
+    ensures { AsksAs (is_elab name.now) (first_value (found_of matches.now)) (one_text (found_of matches.now)) result }
 {
     if name == "elab" {
-        Some(Call::Elab(matches.get_str("top")?))
+        Call::Elab(matches.get_str("top").unwrap())
     } else {
-        Some(Call::Run(asked(matches)?))
+        Call::Run(asked(matches))
     }
 }
 
-/// What the words ask for; they begin with the program's own name. A fault of the words, and a call for help, is `clap`'s error, whose text is to
-/// be printed.
-pub fn read_words<'a>(alloc: Global, words: &'a [&'a str]) -> Result<Option<Call<'a>>, Error>
-    ensures ok { IfOk result (λ call. MatchOption call (AreTaken (map (λ w. w.now) words.entry.now))
-        (λ q. WordsAsk (map (λ w. w.now) words.entry.now) q)) }
+/// What the words ask for, which is always something where they have no fault; they begin with the program's own name. A fault of the words, and a
+/// call for help, is `clap`'s error, whose text is to be printed.
+pub fn read_words<'a>(alloc: Global, words: &'a [&'a str]) -> Result<Call<'a>, Error>
+    ensures ok { IfOk result (λ call. WordsAsk (map (λ w. w.now) words.entry.now) call) }
     ensures err { IfErr result (λ e. WordsFail (map (λ w. w.now) words.entry.now) e) }
 {
     let matches = vsim_command(alloc)?.try_get_matches_from(words)?;
-    match matches.subcommand() {
-        Some((name, matches)) => Ok(call_of(name, matches)),
-        None => Ok(None),
-    }
-}
-
-/// The exit status that an error of the words ends with: 0 for a call for help, 3 where memory ran out, 64 for a fault of the words.
-pub fn words_status(error: &Error) -> u8
-    ensures { result ≡ words_status (kind_of error.now) }
-{
-    match error.kind() {
-        ErrorKind::DisplayHelp | ErrorKind::DisplayVersion => 0,
-        ErrorKind::OutOfMemory => 3,
-        _ => 64,
-    }
+    let (name, matches) = matches.subcommand().unwrap();
+    Ok(call_of(name, matches))
 }

@@ -144,11 +144,9 @@ fn note_signals(changed: &mut Vec<usize>, changes: &Vec<Change>) -> Result<(), A
     Ok(())
 }
 
-/// What follows from the words that a write has changed: their signals are noted in `changed`, the continuous assignments that read a bit
-/// of them which differs have to be evaluated, and the processes that wait for such a change become active. Each kind is noted in design
-/// order.
-#[inline(always)]
-pub(crate) fn follow<Q: EventQueue<Item>>(
+/// What follows from the words that a write has changed, of which there are some.
+#[inline(never)]
+fn follow_each<Q: EventQueue<Item>>(
     assigns: &mut Assigns,
     processes: &mut Processes<Q>,
     woken: &mut Woken,
@@ -171,6 +169,33 @@ pub(crate) fn follow<Q: EventQueue<Item>>(
         woken.sort();
     }
     Ok(())
+}
+
+/// What follows from the words that a write has changed: their signals are noted in `changed`, the continuous assignments that read a bit
+/// of them which differs have to be evaluated, and the processes that wait for such a change become active. Each kind is noted in design
+/// order.
+#[inline(always)]
+pub(crate) fn follow<Q: EventQueue<Item>>(
+    assigns: &mut Assigns,
+    processes: &mut Processes<Q>,
+    woken: &mut Woken,
+    design: &Design,
+    changes: &Vec<Change>,
+    changed: &mut Vec<usize>,
+) -> Result<(), AllocError>
+    requires sizes { HaveSizes changes.now.items }
+    requires sources { AreOf design.now assigns.old }
+    requires terms { has_nothing changes.now.items ≡ false → WaitWithin design.now.processes processes.old.places }
+    ensures assigns { OnOk result (assigns.new ≡ woken_changes changes.now.items assigns.old) }
+    ensures places { OnOk result (processes.new.places ≡ triggered_changes changes.now.items processes.old.places) }
+    ensures time { processes.new.time ≡ processes.old.time }
+    ensures updates { processes.new.updates ≡ processes.old.updates }
+    ensures covers { OnOk result (CoverWords changed.new.items changes.now.items) }
+{
+    if changes.is_empty() {
+        return Ok(());
+    }
+    follow_each(assigns, processes, woken, design, changes, changed)
 }
 
 /// What follows from a word that a write of one part may have changed, as from a list of it.

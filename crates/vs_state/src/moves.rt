@@ -1,4 +1,7 @@
 //! The moves of a run: each makes of the state what the definition's move makes of it.
+//!
+//! `make` is inlined into the loops of a run, which the compiler does only while it is small with all that is inlined into it. So the updates
+//! of continuous assignments and the nonblocking ones stand apart from it.
 ghost use Rattle.std.specs.Prelude.{◌≡◌, ◌<◌, ◌^◌, ◌∷◌, [], true, false, is_some, slice_get, OnOk};
 ghost use Rattle.vs_process.specs.Executions as executions;
 ghost use Rattle.vs_flatcode.specs.Places.{is_going};
@@ -14,7 +17,7 @@ use crate::changes::{follow, single, write_part};
 use crate::state::State;
 use std::alloc::AllocError;
 use std::mem;
-use vs_design::Design;
+use vs_design::{Design, Part};
 use vs_flatcode::{assign, is_nothing, make, only_part};
 use vs_process::{Effect, Move};
 use vs_regions::Item;
@@ -110,8 +113,33 @@ impl<'a, Q: EventQueue<Item>> State<'a, Q> {
         Ok(())
     }
 
-    /// The update of a continuous assignment.
+    /// A write of one part, and what follows from it.
     #[inline(always)]
+    fn write(
+        &mut self,
+        design: &Design,
+        part: Part,
+        changed: &mut Vec<usize>,
+    ) -> Result<(), AllocError>
+        requires sources { HasSources design.now self.old }
+        requires terms { HasTerms design.now self.old }
+        ensures made { OnOk result (self.new ≡ states.written self.old (part ∷ [])) }
+        ensures covers { OnOk result (CoverChanges changed.new.items self.old.store self.new.store) }
+    {
+        write_part(
+            &mut self.store,
+            &mut self.assigns,
+            &mut self.processes,
+            &mut self.woken,
+            design,
+            part,
+            changed,
+        )?;
+        Ok(())
+    }
+
+    /// The update of a continuous assignment.
+    #[inline(never)]
     fn propagate(
         &mut self,
         design: &Design,
@@ -133,15 +161,7 @@ impl<'a, Q: EventQueue<Item>> State<'a, Q> {
         let target = x.target();
         if let Some(part) = only_part(target, digits) {
             self.assigns.settle(number);
-            write_part(
-                &mut self.store,
-                &mut self.assigns,
-                &mut self.processes,
-                &mut self.woken,
-                design,
-                part,
-                changed,
-            )?;
+            self.write(design, part, changed)?;
             return Ok(());
         }
         let time = self.processes.time();
@@ -167,7 +187,7 @@ impl<'a, Q: EventQueue<Item>> State<'a, Q> {
     }
 
     /// A nonblocking update, by its number among the activated ones.
-    #[inline(always)]
+    #[inline(never)]
     fn update(
         &mut self,
         design: &Design,
@@ -183,15 +203,7 @@ impl<'a, Q: EventQueue<Item>> State<'a, Q> {
             return Ok(());
         };
         if let Some(part) = single(update.what()) {
-            write_part(
-                &mut self.store,
-                &mut self.assigns,
-                &mut self.processes,
-                &mut self.woken,
-                design,
-                part,
-                changed,
-            )?;
+            self.write(design, part, changed)?;
             return Ok(());
         }
         self.changes.clear();

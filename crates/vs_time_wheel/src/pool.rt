@@ -125,6 +125,7 @@ impl<E> Pool<E> {
     }
 
     /// Takes a node for the event, and links it at the end. It is refused only where memory ran out.
+    #[inline(always)]
     pub fn push(&mut self, chain: &mut Chain<E>, event: E) -> Result<(), Full<E>>
         ensures linked { OnOk result (chain.new ≡ chain.old ++ event ∷ []) }
         ensures handed_back { IfErr result (λ full. full.event ≡ event) }

@@ -123,6 +123,7 @@ impl<E: Drop> EventQueue<E> for Wheel<E> {
 
     ghost clock = { λ w. w.clock };
 
+    #[inline(always)]
     fn schedule(&mut self, time: u64, event: E) -> Result<(), Full<E>> {
         if time - self.now < SLOTS as u64 {
             return self.turn.push(&mut self.pool, (time % 256) as usize, event);

@@ -4,7 +4,7 @@ use Rattle.std.specs.Prelude.{replicate, slice_index, unwrap_or}
 use Rattle.std.specs.Int.{bit_at}
 use Rattle.std.specs.Int.Bits.{bit_or}
 use Rattle.std.proofs.lemmas.Bool.{cases_Bool, cases_eq, eq-eqb, ne_eqb, eqb-false, false≢true}
-use Rattle.std.proofs.lemmas.List.{get_or-set_same, get_or-set_other, get_or_read_under}
+use Rattle.std.proofs.lemmas.List.{get_or-set_same, get_or-set_other, get_or_read_under, length-map}
 use Rattle.std.proofs.lemmas.Nat.{one_shl}
 use Rattle.std.proofs.lemmas.Nat.Bits.{bit_at_or, bit_at-zero, bit_at-lt, bit_at-pow_same}
 use Rattle.std.proofs.lemmas.Option.{slice_get_within}
@@ -16,10 +16,8 @@ use Rattle.vs_design.specs.Stores.{Store, word_in}
 use Rattle.vs_design.specs.Traces.{Slot}
 use Rattle.vs_places.specs.Listed.{is_number, names}
 use Rattle.vs_state.specs.Changes.{CoverChanges}
-use Rattle.vs_vcd.specs.declared.kept.Kept.{Kept}
 use Rattle.vs_vcd.specs.Codes.{is_array}
 use Rattle.vs_vcd.specs.CodeTables.{code_table}
-use Rattle.vs_vcd.specs.Kept.{codes_of}
 use Rattle.vs_vcd.specs.Marks.{is_block_marked, is_marked}
 use Rattle.vs_vcd.specs.Progress.{Covers, HasWritten, Progress}
 use Rattle.vs_turns.specs.Marking.{AreMarked, MarkChanges}
@@ -124,10 +122,6 @@ length-codes first [] = refl
 length-codes first (s ∷ ss) =
     one_code (is_array s) first (length ss) (code_table first ss) (code_table (suc first) ss) (length-codes first ss) (length-codes (suc first) ss)
 
-length-codes_of : (ks : List Kept) → length (codes_of ks) ≡ length ks
-length-codes_of [] = refl
-length-codes_of (k ∷ ks) = ap suc (length-codes_of ks)
-
 -- before the first slot nothing need be marked
 covers_first : {d : Parts} {writer : Progress} (marks : List ℕ) (s : Store) → HasWritten writer d [] → Covers marks writer s
 covers_first marks s h = λ t i n k last here code off. absurd (none_some t (sym h.last ∙ last))
@@ -143,7 +137,7 @@ covers_clear marks writer s h = λ t i n k last here code off. h t i n k last he
 covers_on : {d : Parts} {slots : List Slot} {writer : Progress} (old new : List ℕ) (s t : Store) → HasWritten writer d slots → length d.signals < 512 * length old → Covers old writer s → MarkChanges old new s t →
     Covers new writer t
 covers_on {d} {slots} {writer} old new s t h room covers changes = λ time i n k last here code off.
-    let size : length writer.kept ≡ length d.signals = sym (length-codes_of writer.kept) ∙ ap length h.codes ∙ length-codes 0 d.signals in
+    let size : length writer.kept ≡ length d.signals = sym (length-map writer.kept (λ k. k.code)) ∙ ap length h.codes ∙ length-codes 0 d.signals in
     let m = changes i off (omega (arith, slice_get_within writer.kept i k here, size, room)) in
     covers time i n k last here code m.0 ∙ ap (λ (o : Option (List (List Digit))). unwrap_or (word_in o 0) (X ∷ [])) (sym m.1)
 

@@ -87,7 +87,6 @@ pub fn advance<'a, Q: EventQueue<Item>, L: Sink>(
 }
 
 /// Takes the steps of a process, one after another, until it is no longer active or so many are taken. The answer is how many were taken.
-#[inline(always)]
 pub fn run_process<'a, Q: EventQueue<Item>, L: Sink>(
     state: &mut State<'a, Q>,
     design: &Design,
@@ -129,7 +128,6 @@ pub fn run_process<'a, Q: EventQueue<Item>, L: Sink>(
 
 /// Makes the activated updates, one after another, until none is left or so many are made; this is the number of the first among them. The
 /// answer is how many were made.
-#[inline(always)]
 pub fn run_updates<'a, Q: EventQueue<Item>, L: Sink>(
     state: &mut State<'a, Q>,
     design: &Design,
@@ -169,8 +167,8 @@ pub fn run_updates<'a, Q: EventQueue<Item>, L: Sink>(
     }
 }
 
-/// Makes a move of a continuous assignment, and brings the list up to date behind it.
-#[inline(always)]
+/// Makes a move of a continuous assignment, and brings the list up to date behind it. The answer is the assignment where its update is next and isn't
+/// listed.
 fn advance_assign<'a, Q: EventQueue<Item>, L: Sink>(
     state: &mut State<'a, Q>,
     design: &Design,
@@ -180,7 +178,7 @@ fn advance_assign<'a, Q: EventQueue<Item>, L: Sink>(
     lines: &mut L,
     next: AssignEvent,
     index: Option<usize>,
-) -> Result<(), VcdFault>
+) -> Result<Option<usize>, VcdFault>
     requires going { state.old.over ≡ false }
     requires enabled { executions.is_enabled state.old (move_of next) ≡ true }
     requires early { state.old.time < 2 ^ 62 }
@@ -195,20 +193,19 @@ fn advance_assign<'a, Q: EventQueue<Item>, L: Sink>(
     match next {
         AssignEvent::Evaluate(assign) => {
             state.evaluate(assign)?;
-            agenda.follow_evaluation(assign, index, state)?;
+            Ok(agenda.follow_first(assign, index, state)?)
         }
         AssignEvent::Propagate(assign) => {
             let choice = Move::Propagate(assign);
             advance(state, design, marks, room, lines, choice)?;
             agenda.follow(Choice { choice, index }, state)?;
+            Ok(None)
         }
     }
-    Ok(())
 }
 
 /// Makes moves of continuous assignments, one after another as they stand at the front of the list, until another event stands there or so
 /// many are made; this is the first of them, and its index in the list. The answer is how many were made.
-#[inline(never)]
 pub fn run_assigns<'a, Q: EventQueue<Item>, L: Sink>(
     state: &mut State<'a, Q>,
     design: &Design,
@@ -237,15 +234,15 @@ pub fn run_assigns<'a, Q: EventQueue<Item>, L: Sink>(
     let mut event = first;
     let mut index = from;
     loop {
-        advance_assign(state, design, agenda, marks, room, lines, event, index)?;
+        let unlisted = advance_assign(state, design, agenda, marks, room, lines, event, index)?;
         made += 1;
         if made == steps {
             return Ok(made);
         }
-        match agenda.next_assign(state) {
+        match agenda.next_assign(unlisted, state) {
             Some(next) => {
-                event = next;
-                index = Some(0);
+                event = next.event;
+                index = next.index;
             }
             None => return Ok(made),
         }

@@ -48,6 +48,12 @@ impl Recorder {
         })
     }
 
+    /// Whether slots are written.
+    #[inline(always)]
+    pub fn is_writing(&self) -> bool {
+        self.writer.is_some()
+    }
+
     /// Writes the next slot, of which only the signals whose blocks are marked need be looked at.
     #[inline(always)]
     pub fn slot<S: Sink>(

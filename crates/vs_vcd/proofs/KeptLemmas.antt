@@ -1,7 +1,8 @@
 -- What the writer keeps, and the changes that it makes of it.
-use Rattle.std.proofs.Common.{◌≡◌, ℕ, zero, suc, ◌+◌, ◌*◌, ◌<◌, ◌≤◌, ◌⊎◌, min, Bool, true, false, Option, Some, None, List, [], ◌∷◌, ◌++◌, length, take, drop, get_or, set, refl, sym, ap, subst, ◌∙◌, append_assoc, append-nil, length-append, add-one, arith, inl, inr}
+use Rattle.std.proofs.Common.{◌≡◌, ℕ, zero, suc, ◌+◌, ◌*◌, ◌<◌, ◌≤◌, ◌⊎◌, min, Bool, true, false, Option, Some, None, List, [], ◌∷◌, ◌++◌, length, take, drop, get_or, refl, sym, ap, subst, ◌∙◌, append_assoc, append-nil, length-append, add-one, arith, inl, inr}
 use Rattle.std.proofs.lemmas.Bool.{cases_lt, cond-true, cond-false}
 use Rattle.std.proofs.lemmas.List.{take_all, drop_more}
+use Rattle.std.proofs.lemmas.Option.{none-some, same_Some}
 use Rattle.std.proofs.lemmas.List.Elements.{All-nil, All-cons, All-append}
 use Rattle.std.specs.Prelude.{slice_get, if◌then◌else◌}
 use Rattle.std.specs.List.{All}
@@ -24,22 +25,22 @@ By = ℕ → Kept → List Change
 -- ---- changes one after another
 
 -- the changes of one signal more
-kept_more : (by : By) (first n i : ℕ) (xs : List Kept) (x d : Kept) → n ≡ first + i → i < length xs → x ≡ get_or xs i d
+kept_more : (by : By) (first n i : ℕ) (xs : List Kept) (x : Kept) → n ≡ first + i → slice_get xs i ≡ Some x
     → kept_changes by first (take (suc i) xs) ≡ kept_changes by first (take i xs) ++ by n x
-kept_more by first n i [] x d e h item = absurd (omega (arith, h))
-kept_more by first n zero (y ∷ ys) x d e h item =
+kept_more by first n i [] x e get = absurd (none-some x get)
+kept_more by first n zero (y ∷ ys) x e get =
     let same : first ≡ n = omega (arith, e) in
-    append-nil (by first y) ∙ ap (λ k. by k y) same ∙ ap (by n) (sym item)
-kept_more by first n (suc i) (y ∷ ys) x d e h item =
-    ap (λ l. by first y ++ l) (kept_more by (suc first) n i ys x d (omega (arith, e)) (omega (arith, h)) item)
+    append-nil (by first y) ∙ ap (λ k. by k y) same ∙ ap (by n) (same_Some y x get)
+kept_more by first n (suc i) (y ∷ ys) x e get =
+    ap (λ l. by first y ++ l) (kept_more by (suc first) n i ys x (omega (arith, e)) get)
     ∙ sym (append_assoc (by first y) (kept_changes by (suc first) (take i ys)) (by n x))
 
 -- the changes of one signal more are listed
-pub signals_more : (old mid new : List Change) (by : By) (xs : List Kept) (i : ℕ) (x d : Kept) → i < length xs → x ≡ get_or xs i d
+pub signals_more : (old mid new : List Change) (by : By) (xs : List Kept) (i : ℕ) (x : Kept) → slice_get xs i ≡ Some x
     → mid ≡ old ++ kept_changes by 0 (take i xs) → new ≡ mid ++ by i x → new ≡ old ++ kept_changes by 0 (take (i + 1) xs)
-signals_more old mid new by xs i x d h item first second =
+signals_more old mid new by xs i x get first second =
     second ∙ ap (λ l. l ++ by i x) first ∙ append_assoc old (kept_changes by 0 (take i xs)) (by i x)
-    ∙ ap (λ l. old ++ l) (sym (kept_more by 0 i i xs x d (omega arith) h item) ∙ ap (λ k. kept_changes by 0 (take k xs)) (sym (add-one i)))
+    ∙ ap (λ l. old ++ l) (sym (kept_more by 0 i i xs x (omega arith) get) ∙ ap (λ k. kept_changes by 0 (take k xs)) (sym (add-one i)))
 
 -- signals without changes add nothing
 skipped : (by : By) (k a b : ℕ) (xs : List Kept) → a ≤ b → ((i : ℕ) (e : Kept) → k + a ≤ i → i < k + b → by i e ≡ [])
@@ -113,15 +114,20 @@ none_within marks store from block old new xs next past so_far =
 
 -- ---- what is kept
 
-with_value-set : (xs : List Kept) (i : ℕ) (k d : Kept) (value : List Digit) → i < length xs → k ≡ get_or xs i d → set xs i (record k { value = value }) ≡ with_value xs i value
-with_value-set [] i k d value h is = absurd (omega arith)
-with_value-set (x ∷ xs) zero k d value h is = ap (λ (e : Kept). record e { value = value } ∷ xs) is
-with_value-set (x ∷ xs) (suc i) k d value h is = ap (λ l. x ∷ l) (with_value-set xs i k d value (omega arith) is)
-
 codes_of-with_value : (xs : List Kept) (i : ℕ) (value : List Digit) → codes_of (with_value xs i value) ≡ codes_of xs
 codes_of-with_value [] i value = refl
 codes_of-with_value (x ∷ xs) zero value = refl
 codes_of-with_value (x ∷ xs) (suc i) value = ap (λ l. x.code ∷ l) (codes_of-with_value xs i value)
+
+length-with_value : (xs : List Kept) (i : ℕ) (value : List Digit) → length (with_value xs i value) ≡ length xs
+length-with_value [] i value = refl
+length-with_value (x ∷ xs) zero value = refl
+length-with_value (x ∷ xs) (suc i) value = ap suc (length-with_value xs i value)
+
+-- changes leave the number of signals
+pub length-behind : (xs : List Kept) (cs : List Change) → length (kept_behind xs cs) ≡ length xs
+length-behind xs [] = refl
+length-behind xs (c ∷ cs) = length-behind (with_value xs c.signal c.value) cs ∙ length-with_value xs c.signal c.value
 
 -- changes leave the codes
 codes_of-behind : (xs : List Kept) (cs : List Change) → codes_of (kept_behind xs cs) ≡ codes_of xs
@@ -129,11 +135,10 @@ codes_of-behind xs [] = refl
 codes_of-behind xs (c ∷ cs) = codes_of-behind (with_value xs c.signal c.value) cs ∙ codes_of-with_value xs c.signal c.value
 
 -- one change more is kept
-pub keep_more : (first xs : List Kept) (cs : List Change) (i : ℕ) (c d : Change) (k e : Kept) → i < length cs → c ≡ get_or cs i d → c.signal < length xs → k ≡ get_or xs c.signal e
-    → kept_behind xs (drop i cs) ≡ kept_behind first cs → kept_behind (set xs c.signal (record k { value = c.value })) (drop (i + 1) cs) ≡ kept_behind first cs
-keep_more first xs cs i c d k e lt at h is so_far =
-    ap (λ l. kept_behind l (drop (i + 1) cs)) (with_value-set xs c.signal k e c.value h is)
-    ∙ ap (λ (x : Change). kept_behind (with_value xs x.signal x.value) (drop (i + 1) cs)) at
+pub keep_more : (first xs : List Kept) (cs : List Change) (i : ℕ) (c d : Change) → i < length cs → c ≡ get_or cs i d
+    → kept_behind xs (drop i cs) ≡ kept_behind first cs → kept_behind (with_value xs c.signal c.value) (drop (i + 1) cs) ≡ kept_behind first cs
+keep_more first xs cs i c d lt at so_far =
+    ap (λ (x : Change). kept_behind (with_value xs x.signal x.value) (drop (i + 1) cs)) at
     ∙ sym (ap (kept_behind xs) (drop_more cs i d lt)) ∙ so_far
 
 -- ---- what is kept behind the changes of a slot

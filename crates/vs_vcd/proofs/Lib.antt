@@ -9,6 +9,9 @@ pub mod LawLemmas
 pub mod LineLemmas
 pub mod MarkLemmas
 pub mod OneLineLemmas
+pub mod PlanesLemmas
 pub mod ProgressLemmas
+pub mod RoomLemmas
 pub mod Sinking
 pub mod ValueLemmas
+pub mod WordLemmas

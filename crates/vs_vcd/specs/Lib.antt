@@ -6,4 +6,7 @@ pub mod Text
 pub mod Shown
 pub mod Marks
 pub mod Kept
+pub mod Words
+pub mod Planes
+pub mod Rooms
 pub mod Progress

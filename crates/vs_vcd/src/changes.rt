@@ -1,9 +1,13 @@
 //! The changes of a slot.
-ghost use Rattle.std.specs.Prelude.{◌≡◌, ◌≤◌, ◌++◌, ℕ, List, ◌^◌, false, OnOk, length, take};
+ghost use Rattle.std.specs.Prelude.{◌≡◌, ◌≤◌, ◌<◌, ◌++◌, ℕ, List, ◌^◌, false, OnOk, length, take};
+ghost use Rattle.vs_design.specs.Stores.{Store};
+ghost use Rattle.vs_vcd.specs.Values.{shown_value};
 ghost use Rattle.vs_vcd.specs.Kept.{kept_changes, first_change, later_change, chosen_change, next_changes, AreLater};
+ghost use Rattle.vs_vcd.specs.Rooms.{IsRoom, IsCompared, AreCompared};
 
-use crate::kept::{Change, Kept, shown};
+use crate::kept::{Change, Kept, Written};
 use crate::marks::{BLOCK, block_range, next_mark};
+use crate::room::{Room, shown};
 use std::alloc::AllocError;
 use vs_design::Store;
 
@@ -31,19 +35,22 @@ fn list_value(
 /// Lists the change of a signal that has a code, where its value isn't the one kept.
 fn list_change(
     changes: &mut Vec<Change>,
-    store: &Store,
+    room: &Room,
     signal: usize,
     kept: Kept,
 ) -> Result<(), AllocError>
-    ensures { OnOk result (changes.new.items ≡ changes.old.items ++ later_change store.now signal kept) }
+    requires within { signal < length room.now.words }
+    requires room { IsRoom room.now (length room.now.words) }
+    ensures { OnOk result ((store : Store) → IsCompared room.now signal kept.value (shown_value store signal)
+        → changes.new.items ≡ changes.old.items ++ later_change store signal kept) }
 {
+    if room.is_same(signal) {
+        return Ok(());
+    }
     let Some(number) = kept.code else {
         return Ok(());
     };
-    let value = shown(store, signal);
-    if kept.value == value {
-        return Ok(());
-    }
+    let value = room.words.word(signal);
     changes.push(Change {
         signal,
         number,
@@ -53,11 +60,33 @@ fn list_change(
 }
 
 /// Lists the values of the signals.
-fn list_values(changes: &mut Vec<Change>, store: &Store, kept: &[Kept]) -> Result<(), AllocError>
+fn list_values(changes: &mut Vec<Change>, store: &Store, kept: &Written) -> Result<(), AllocError>
     ensures { OnOk result (changes.new.items ≡ changes.old.items ++ kept_changes (first_change store.now) 0 kept.now) }
 {
     for signal in 0..kept.len() {
-        list_value(changes, store, signal, kept[signal])?;
+        list_value(changes, store, signal, kept.at(signal))?;
+    }
+    Ok(())
+}
+
+/// Lists the changes of the signals from one number on, below another, that were compared.
+fn list_compared(
+    changes: &mut Vec<Change>,
+    room: &Room,
+    kept: &Written,
+    from: usize,
+    to: usize,
+) -> Result<(), AllocError>
+    requires order { from ≤ to }
+    requires within { to ≤ length kept.now }
+    requires room { IsRoom room.now (length kept.now) }
+    ensures { OnOk result ((start : List Change) (by : ℕ → Kept → List Change) (store : Store)
+        → AreCompared room.now kept.now store from to → AreLater by store from to
+        → changes.old.items ≡ start ++ kept_changes by 0 (take from kept.now)
+        → changes.new.items ≡ start ++ kept_changes by 0 (take to kept.now)) }
+{
+    for signal in from..to {
+        list_change(changes, room, signal, kept.at(signal))?;
     }
     Ok(())
 }
@@ -65,32 +94,36 @@ fn list_values(changes: &mut Vec<Change>, store: &Store, kept: &[Kept]) -> Resul
 /// Lists the changes of the signals from one number on, below another.
 fn list_range(
     changes: &mut Vec<Change>,
+    room: &mut Room,
     store: &Store,
-    kept: &[Kept],
+    kept: &Written,
     from: usize,
     to: usize,
 ) -> Result<(), AllocError>
     requires order { from ≤ to }
     requires within { to ≤ length kept.now }
-    ensures { OnOk result ((start : List Change) (by : ℕ → Kept → List Change) → AreLater by store.now from to
+    requires room { IsRoom room.old (length kept.now) }
+    ensures room { IsRoom room.new (length kept.now) }
+    ensures changes { OnOk result ((start : List Change) (by : ℕ → Kept → List Change) → AreLater by store.now from to
         → changes.old.items ≡ start ++ kept_changes by 0 (take from kept.now)
         → changes.new.items ≡ start ++ kept_changes by 0 (take to kept.now)) }
 {
-    for signal in from..to {
-        list_change(changes, store, signal, kept[signal])?;
-    }
-    Ok(())
+    kept.compare(room, store, from, to);
+    list_compared(changes, room, kept, from, to)
 }
 
 /// Lists the changes of the signals whose blocks are marked. It looks at these alone.
 fn list_marked(
     changes: &mut Vec<Change>,
+    room: &mut Room,
     store: &Store,
-    kept: &[Kept],
+    kept: &Written,
     marks: &[u64],
 ) -> Result<(), AllocError>
     requires few { length marks.now ≤ 2 ^ 57 }
-    ensures { OnOk result (changes.new.items
+    requires room { IsRoom room.old (length kept.now) }
+    ensures room { IsRoom room.new (length kept.now) }
+    ensures changes { OnOk result (changes.new.items
         ≡ changes.old.items ++ kept_changes (chosen_change false marks.now store.now) 0 kept.now) }
 {
     let mut from = 0;
@@ -101,7 +134,7 @@ fn list_marked(
         let Some(range) = block_range(block, kept.len()) else {
             return Ok(());
         };
-        list_range(changes, store, kept, range.from, range.to)?;
+        list_range(changes, room, store, kept, range.from, range.to)?;
         from = block + 1;
     }
     Ok(())
@@ -110,19 +143,22 @@ fn list_marked(
 /// Lists the changes of the signals: of all, or of those whose blocks are marked.
 fn list_later(
     changes: &mut Vec<Change>,
+    room: &mut Room,
     store: &Store,
-    kept: &[Kept],
+    kept: &Written,
     all: bool,
     marks: &[u64],
 ) -> Result<(), AllocError>
     requires few { length marks.now ≤ 2 ^ 57 }
-    ensures { OnOk result (changes.new.items
+    requires room { IsRoom room.old (length kept.now) }
+    ensures room { IsRoom room.new (length kept.now) }
+    ensures changes { OnOk result (changes.new.items
         ≡ changes.old.items ++ kept_changes (chosen_change all marks.now store.now) 0 kept.now) }
 {
     if all {
-        list_range(changes, store, kept, 0, kept.len())
+        list_range(changes, room, store, kept, 0, kept.len())
     } else {
-        list_marked(changes, store, kept, marks)
+        list_marked(changes, room, store, kept, marks)
     }
 }
 
@@ -130,18 +166,21 @@ fn list_later(
 /// all, or of those whose blocks are marked.
 pub(crate) fn list_changes(
     changes: &mut Vec<Change>,
+    room: &mut Room,
     store: &Store,
-    kept: &[Kept],
+    kept: &Written,
     last: Option<u64>,
     all: bool,
     marks: &[u64],
 ) -> Result<(), AllocError>
     requires few { length marks.now ≤ 2 ^ 57 }
-    ensures { OnOk result (changes.new.items ≡ next_changes kept.now last all marks.now store.now) }
+    requires room { IsRoom room.old (length kept.now) }
+    ensures room { IsRoom room.new (length kept.now) }
+    ensures changes { OnOk result (changes.new.items ≡ next_changes kept.now last all marks.now store.now) }
 {
     changes.clear();
     match last {
         None => list_values(changes, store, kept),
-        Some(_) => list_later(changes, store, kept, all, marks),
+        Some(_) => list_later(changes, room, store, kept, all, marks),
     }
 }

@@ -9,6 +9,8 @@ mod kept;
 mod law;
 mod lines;
 mod marks;
+mod planes;
+mod room;
 mod sink;
 mod value;
 mod writer;

@@ -4,6 +4,7 @@ ghost use Rattle.vs_design.specs.Parts.{Parts};
 ghost use Rattle.vs_design.specs.Traces.{Slot};
 ghost use Rattle.vs_vcd.specs.Sinks.{failed_after};
 ghost use Rattle.vs_vcd.specs.Kept.{next_changes, change_texts, slot_lines, slot_time, next_kept, time_kept};
+ghost use Rattle.vs_vcd.specs.Rooms.{IsRoom};
 ghost use Rattle.vs_vcd.specs.Text.{text_of, end_lines, vcd_header, vcd_slots, vcd_end};
 ghost use Rattle.vs_vcd.specs.Progress.{vcd_slot, HasWritten, Covers, Follows, IsSlotAt, is_write_fault, WritesPiece};
 
@@ -11,8 +12,9 @@ use crate::changes::list_changes;
 use crate::codes::code_numbers;
 use crate::fault::VcdFault;
 use crate::header::push_header;
-use crate::kept::{Change, Kept, keep, unwritten};
+use crate::kept::{Change, Written};
 use crate::lines::{push_first, push_later, push_time};
+use crate::room::Room;
 use crate::sink::{Sink, write_all};
 use std::alloc::{AllocError, Global};
 use std::marker::Model;
@@ -55,13 +57,14 @@ fn push_end(text: &mut Vec<u8>, last: Option<u64>, time: u64) -> Result<(), Allo
     }
 }
 
-/// Writes the lines of the next slot, and answers the last time written. `text` is room to work in, and `changes` has the
-/// slot's changes behind it.
+/// Writes the lines of the next slot, and answers the last time written. `text` and `room` are room to work in, and
+/// `changes` has the slot's changes behind it.
 fn write_slot<S: Sink>(
     sink: &mut S,
     text: &mut Vec<u8>,
     changes: &mut Vec<Change>,
-    kept: &[Kept],
+    room: &mut Room,
+    kept: &Written,
     last: Option<u64>,
     all: bool,
     marks: &[u64],
@@ -69,13 +72,15 @@ fn write_slot<S: Sink>(
     store: &Store,
 ) -> Result<u64, VcdFault>
     requires few { length marks.now ≤ 2 ^ 57 }
+    requires room { IsRoom room.old (length kept.now) }
+    ensures room { IsRoom room.new (length kept.now) }
     ensures changes { OnOk result (changes.new.items ≡ next_changes kept.now last all marks.now store.now) }
     ensures time { IfOk result (λ written. written ≡ time_kept kept.now last all marks.now time store.now) }
     ensures bytes { WritesPiece result (S.bytes sink.old) (S.bytes sink.new)
         (text_of (next_kept kept.now last all marks.now time store.now)) }
     ensures failures { S.failed sink.new ≡ failed_after (is_write_fault result) (S.failed sink.old) }
 {
-    list_changes(changes, store, kept, last, all, marks)?;
+    list_changes(changes, room, store, kept, last, all, marks)?;
     text.clear();
     let written = push_slot(text, changes, last, time)?;
     write_all(sink, text)?;
@@ -100,13 +105,14 @@ fn write_end<S: Sink>(
 
 /// The writer of a design's value change dump, slot by slot. A contract sees how far it has come.
 pub struct Writer {
-    // Of each signal of the design the number of its code and the value written last.
-    kept: Vec<Kept>,
+    // Of each signal of the design the number of its code and the value written last, in flat planes.
+    kept: Written,
     // The last time written.
     last: Option<u64>,
-    // Room to work in: the text of a slot, and its changes.
+    // Room to work in: the text of a slot, its changes, and the values to compare.
     text: Vec<u8>,
     changes: Vec<Change>,
+    room: Room,
 }
 
 impl Drop for Writer {
@@ -116,16 +122,21 @@ impl Drop for Writer {
             last: _,
             text: _,
             changes: _,
+            room: _,
         } = self;
     }
 }
 
 impl Model for Writer {
+    ghost use Rattle.std.specs.Prelude.{length};
     ghost use Rattle.vs_vcd.specs.Progress.{Progress};
+    ghost use Rattle.vs_vcd.specs.Rooms.{IsRoom};
 
     ghost Value = { Progress };
 
-    ghost view = { λ w. record { kept = w.kept.items; last = w.last } };
+    ghost view = { λ w. record { kept = w.kept; last = w.last } };
+
+    ghost invariant = { λ w. IsRoom w.room (length w.kept) };
 }
 
 impl Writer {
@@ -136,15 +147,17 @@ impl Writer {
         ensures failures { S.failed sink.new ≡ failed_after (is_write_fault result) (S.failed sink.old) }
     {
         let table = code_numbers(alloc, design.signals())?;
-        let kept = unwritten(alloc, &table)?;
         let mut text = Vec::new(alloc);
         push_header(&mut text, design, &table)?;
+        let room = Room::new(alloc, table.len())?;
+        let kept = Written::new(alloc, table)?;
         write_all(sink, &text)?;
         Ok(Writer {
             kept,
             last: None,
             text,
             changes: Vec::new(alloc),
+            room,
         })
     }
 
@@ -175,6 +188,7 @@ impl Writer {
             sink,
             &mut self.text,
             &mut self.changes,
+            &mut self.room,
             &self.kept,
             self.last,
             all,
@@ -182,14 +196,15 @@ impl Writer {
             time,
             store,
         )?;
-        keep(&mut self.kept, &self.changes);
+        self.kept.keep(&self.changes);
         self.last = Some(written);
         Ok(())
     }
 
     /// Writes a slot that ended at a time in ticks with a store. On an error the writer is as before.
     ///
-    /// It looks at every signal, and takes memory for nothing but the text and the list of what changed.
+    /// It compares the words of all signals with those that were written last, plane by plane, and takes memory for nothing but the text and the
+    /// list of what changed.
     pub fn slot<S: Sink>(
         &mut self,
         _alloc: Global,

@@ -101,4 +101,4 @@ returns-in_err-print_calls-clause-failures g c =
     second_failed _ _ _ _ _ c.in_ok-slot.ensures.failures told
 
 pub returns-clause-covers : goal.returns-clause-covers
-returns-clause-covers g c = noted_clear c.clear.new.marks.items c.slot.new.self c.args.state.now.store (subst (CoversNoted [] c.slot.new.self) c.store.ensures c.in_ok-slot.ensures.covered)
+returns-clause-covers g c = noted_clear _ c.slot.new.self c.args.state.now.store (subst (CoversNoted [] c.slot.new.self) c.store.ensures c.in_ok-slot.ensures.covered)

@@ -1,30 +1,26 @@
-use Rattle.std.proofs.Common.{◌<◌, ◌≤◌, arith, refl}
-use Rattle.vs_process.specs.declared.moves.Move.TheVariants.{Step, Evaluate, Propagate, Make}
+use Rattle.std.proofs.Common.{◌≡◌, ◌<◌, ◌≤◌, ◌∙◌, true, arith, refl, ap, subst}
+use Rattle.vs_process.specs.declared.moves.Move.{Move}
+use Rattle.vs_process.specs.declared.moves.Move.TheVariants.{Step, Make}
+use Rattle.vs_process.specs.Executions.{is_enabled}
+use Rattle.vs_process.specs.States.{State}
+use Rattle.vs_state.specs.Told.{told}
+use Rattle.vs_agenda.specs.declared.entries.AssignEvent.{AssignEvent}
+use Rattle.vs_agenda.specs.declared.entries.AssignEvent.TheVariants.{Evaluate, Propagate}
+use Rattle.vs_agenda.specs.AssignEvents.{move_of}
 use Rattle.vs_kernel.proofs.RunsLemmas.{second_failed}
 use Rattle.vs_turns.proofs.TurnsLemmas.{one_step, took_batch, took_batch_part, took_marked, took_once}
 use Rattle.vs_kernel.proofs.run.take.Goals as goal
 
-pub returns-then-not-in_batches-clause-some : goal.returns-then-not-in_batches-clause-some
-returns-then-not-in_batches-clause-some g c = one_step c.take_one.result (λ n. 0 < n) (omega arith) c.take_one.ensures.one
+pub returns-clause-some : goal.returns-clause-some
+returns-clause-some g c = one_step c.take_one.result (λ n. 0 < n) (omega arith) c.take_one.ensures.one
 
-pub returns-then-not-in_batches-clause-within : goal.returns-then-not-in_batches-clause-within
-returns-then-not-in_batches-clause-within g c = one_step c.take_one.result (λ n. n ≤ c.args.steps) (omega (arith, c.requires.steps)) c.take_one.ensures.one
+pub returns-clause-within : goal.returns-clause-within
+returns-clause-within g c = one_step c.take_one.result (λ n. n ≤ c.args.steps) (omega (arith, c.requires.steps)) c.take_one.ensures.one
 
-pub returns-then-not-in_batches-clause-err : goal.returns-then-not-in_batches-clause-err
-returns-then-not-in_batches-clause-err g c =
+pub returns-clause-err : goal.returns-clause-err
+returns-clause-err g c =
     took_once c.take_one.result c.args.steps c.args.next.choice c.args.state.now c.args.writer.now (g.V.Sink.bytes c.args.vcd.now) (g.V.Sink.bytes c.take_one.new.vcd)
     (g.L.Sink.bytes c.args.lines.now) (g.L.Sink.bytes c.take_one.new.lines) c.requires.steps c.requires.going c.take_one.ensures.err
-
-pub returns-in_default-clause-some : goal.returns-in_default-clause-some
-returns-in_default-clause-some g c = one_step c.take_one-in_default.result (λ n. 0 < n) (omega arith) c.take_one-in_default.ensures.one
-
-pub returns-in_default-clause-within : goal.returns-in_default-clause-within
-returns-in_default-clause-within g c = one_step c.take_one-in_default.result (λ n. n ≤ c.args.steps) (omega (arith, c.requires.steps)) c.take_one-in_default.ensures.one
-
-pub returns-in_default-clause-err : goal.returns-in_default-clause-err
-returns-in_default-clause-err g c =
-    took_once c.take_one-in_default.result c.args.steps c.args.next.choice c.args.state.now c.args.writer.now (g.V.Sink.bytes c.args.vcd.now) (g.V.Sink.bytes c.take_one-in_default.new.vcd)
-    (g.L.Sink.bytes c.args.lines.now) (g.L.Sink.bytes c.take_one-in_default.new.lines) c.requires.steps c.requires.going c.take_one-in_default.ensures.err
 
 pub returns-in-Step-clause-covers : goal.returns-in-Step-clause-covers
 returns-in-Step-clause-covers g c =
@@ -60,36 +56,29 @@ returns-in-Make-clause-err g c =
 pub returns-in-Make-clause-failures : goal.returns-in-Make-clause-failures
 returns-in-Make-clause-failures g c = second_failed _ _ _ _ _ refl c.run_updates.ensures.failures
 
-pub returns-in-Evaluate-clause-covers : goal.returns-in-Evaluate-clause-covers
-returns-in-Evaluate-clause-covers g c =
+-- the move of an event of a continuous assignment stands for itself
+told_assign : (s : State) (e : AssignEvent) → told s (move_of e) ≡ move_of e
+told_assign s (Evaluate j) = refl
+told_assign s (Propagate j) = refl
+
+pub run_assigns-requires-clause-enabled : goal.run_assigns-requires-clause-enabled
+run_assigns-requires-clause-enabled g c =
+    let s : State = c.args.state.now in
+    subst (λ (m : Move). is_enabled s m ≡ true) (ap (told s) c.in-Some.ensures ∙ told_assign s c.in-Some.first) c.requires.enabled
+
+pub returns-in-Some-clause-covers : goal.returns-in-Some-clause-covers
+returns-in-Some-clause-covers g c =
     took_marked c.run_assigns.result c.args.writer.now (g.V.Sink.bytes c.args.vcd.now) c.args.marks.now.items c.run_assigns.new.marks.items c.args.state.now.store c.run_assigns.new.state.store c.requires.covers c.run_assigns.ensures.marked
 
-pub returns-in-Evaluate-clause-ok : goal.returns-in-Evaluate-clause-ok
-returns-in-Evaluate-clause-ok g c =
-    took_batch c.run_assigns.result (Evaluate c.in-Evaluate.assign) c.args.next.choice c.args.state.now c.run_assigns.new.state c.args.writer.now (g.V.Sink.bytes c.args.vcd.now) (g.L.Sink.bytes c.args.lines.now)
-    (g.L.Sink.bytes c.run_assigns.new.lines) c.in-Evaluate.is c.run_assigns.ensures.ok
+pub returns-in-Some-clause-ok : goal.returns-in-Some-clause-ok
+returns-in-Some-clause-ok g c =
+    took_batch c.run_assigns.result (move_of c.in-Some.first) c.args.next.choice c.args.state.now c.run_assigns.new.state c.args.writer.now (g.V.Sink.bytes c.args.vcd.now) (g.L.Sink.bytes c.args.lines.now)
+    (g.L.Sink.bytes c.run_assigns.new.lines) c.in-Some.ensures c.run_assigns.ensures.ok
 
-pub returns-in-Evaluate-clause-err : goal.returns-in-Evaluate-clause-err
-returns-in-Evaluate-clause-err g c =
-    took_batch_part c.run_assigns.result c.args.steps (Evaluate c.in-Evaluate.assign) c.args.next.choice c.args.state.now c.args.writer.now (g.V.Sink.bytes c.args.vcd.now) (g.L.Sink.bytes c.args.lines.now)
-    (g.L.Sink.bytes c.run_assigns.new.lines) c.in-Evaluate.is c.run_assigns.ensures.err
+pub returns-in-Some-clause-err : goal.returns-in-Some-clause-err
+returns-in-Some-clause-err g c =
+    took_batch_part c.run_assigns.result c.args.steps (move_of c.in-Some.first) c.args.next.choice c.args.state.now c.args.writer.now (g.V.Sink.bytes c.args.vcd.now) (g.L.Sink.bytes c.args.lines.now)
+    (g.L.Sink.bytes c.run_assigns.new.lines) c.in-Some.ensures c.run_assigns.ensures.err
 
-pub returns-in-Evaluate-clause-failures : goal.returns-in-Evaluate-clause-failures
-returns-in-Evaluate-clause-failures g c = second_failed _ _ _ _ _ refl c.run_assigns.ensures.failures
-
-pub returns-in-Propagate-clause-covers : goal.returns-in-Propagate-clause-covers
-returns-in-Propagate-clause-covers g c =
-    took_marked c.run_assigns-in-Propagate.result c.args.writer.now (g.V.Sink.bytes c.args.vcd.now) c.args.marks.now.items c.run_assigns-in-Propagate.new.marks.items c.args.state.now.store c.run_assigns-in-Propagate.new.state.store c.requires.covers c.run_assigns-in-Propagate.ensures.marked
-
-pub returns-in-Propagate-clause-ok : goal.returns-in-Propagate-clause-ok
-returns-in-Propagate-clause-ok g c =
-    took_batch c.run_assigns-in-Propagate.result (Propagate c.in-Propagate.assign) c.args.next.choice c.args.state.now c.run_assigns-in-Propagate.new.state c.args.writer.now (g.V.Sink.bytes c.args.vcd.now) (g.L.Sink.bytes c.args.lines.now)
-    (g.L.Sink.bytes c.run_assigns-in-Propagate.new.lines) c.in-Propagate.is c.run_assigns-in-Propagate.ensures.ok
-
-pub returns-in-Propagate-clause-err : goal.returns-in-Propagate-clause-err
-returns-in-Propagate-clause-err g c =
-    took_batch_part c.run_assigns-in-Propagate.result c.args.steps (Propagate c.in-Propagate.assign) c.args.next.choice c.args.state.now c.args.writer.now (g.V.Sink.bytes c.args.vcd.now) (g.L.Sink.bytes c.args.lines.now)
-    (g.L.Sink.bytes c.run_assigns-in-Propagate.new.lines) c.in-Propagate.is c.run_assigns-in-Propagate.ensures.err
-
-pub returns-in-Propagate-clause-failures : goal.returns-in-Propagate-clause-failures
-returns-in-Propagate-clause-failures g c = second_failed _ _ _ _ _ refl c.run_assigns-in-Propagate.ensures.failures
+pub returns-in-Some-clause-failures : goal.returns-in-Some-clause-failures
+returns-in-Some-clause-failures g c = second_failed _ _ _ _ _ refl c.run_assigns.ensures.failures

@@ -12,8 +12,8 @@ told_fault words e status fails (inl device) = unheard device
 told_fault words e status (inl memory) (inr is) = unheard (is ∙ ap words_status memory)
 told_fault words e status (inr fault) (inr is) = by_kind (kind_of e) fault is
 
-pub returns-in-Ok-Some : goal.returns-in-Ok-Some
-returns-in-Ok-Some g c = with_call c.in-Ok-Some.call (rw c.in-Ok-Some.field-0-is at c.in-Ok-Some.ensures.ok) c.answer.ensures
+pub returns-in-Ok : goal.returns-in-Ok
+returns-in-Ok g c = with_call c.in-Ok.call c.in-Ok.ensures.ok c.answer.ensures
 
 pub returns-in-Err : goal.returns-in-Err
 returns-in-Err g c = without_call (told_fault _ c.in-Err.error c.tell_words.result c.in-Err.ensures.err c.tell_words.ensures)

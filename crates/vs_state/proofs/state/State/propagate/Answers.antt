@@ -1,10 +1,8 @@
 use Rattle.std.proofs.Common.{◌≡◌, ◌++◌, ◌∙◌, List, [], ◌∷◌, refl, sym, ap, subst}
-use Rattle.std.proofs.lemmas.List.{append-nil}
-use Rattle.vs_design.specs.declared.write.Part.{Part}
 use Rattle.vs_design.specs.Writes.{Write}
 use Rattle.vs_eval.specs.Targets.{assigned}
 use Rattle.vs_flatcode.specs.declared.changes.Change.{Change}
-use Rattle.vs_flatcode.specs.Changes.{changed_part, changed_words}
+use Rattle.vs_flatcode.specs.Changes.{changed_words}
 use Rattle.vs_process.specs.States.{State}
 use Rattle.vs_state.specs.Touches.{HasSources}
 use Rattle.vs_state.specs.Waits.{HasTerms}
@@ -60,39 +58,17 @@ returns-clause-covers g c =
 
 -- ---- a target of one fixed place
 
-pub write_part-requires-clause-sources : goal.write_part-requires-clause-sources
-write_part-requires-clause-sources g c =
+pub write-requires-clause-sources : goal.write-requires-clause-sources
+write-requires-clause-sources g c =
     settled_sources c.args.design.now c.self.inside.assigns c.settle.new.self c.args.number c.settle.ensures
     (subst (λ (s : State). HasSources c.args.design.now s) (sym c.self.view_is) c.requires.sources)
 
 pub returns-in-Some-only_part-clause-made : goal.returns-in-Some-only_part-clause-made
 returns-in-Some-only_part-clause-made g c =
     let s = c.self.inside in
-    let part : Part = c.in-Some-only_part.part in
-    let w : Write = part ∷ [] in
-    let cs : List Change = changed_part s.store c.write_part.new.store part in
-    let words : cs ≡ changed_words s.store c.write_part.new.store w = sym (append-nil cs) in
-    let before : State = record {
-      store = s.store;
-      places = s.processes.places;
-      assigns = c.settle.new.self;
-      updates = s.processes.updates;
-      calls = s.calls.items;
-      time = s.processes.time;
-      finishing = s.finishing;
-      over = s.over;
-    } in
-    written_by before w c.write_part.new.processes.time c.write_part.new.store cs c.write_part.new.processes.places c.write_part.new.assigns c.write_part.new.processes.updates
-    c.write_part.ensures.store words c.in_ok-write_part.ensures.assigns c.in_ok-write_part.ensures.places c.write_part.ensures.time c.write_part.ensures.updates
-    ∙ propagate_at c.self.view_is c.args.number s.processes.time c.in-Some.x.now c.settle.new.self c.target-target.result.now c.in-Some-pending.digits w c.in-Some.ensures
+    c.in_ok-write.ensures.made
+    ∙ propagate_at c.self.view_is c.args.number s.processes.time c.in-Some.x.now c.settle.new.self c.target-target.result.now c.in-Some-pending.digits (c.in-Some-only_part.part ∷ []) c.in-Some.ensures
     (sym c.pending.ensures ∙ c.in-Some-pending.is) c.settle.ensures c.target-target.ensures refl (sym (c.in-Some-only_part.ensures s.store s.processes.time))
 
 pub returns-in-Some-only_part-clause-covers : goal.returns-in-Some-only_part-clause-covers
-returns-in-Some-only_part-clause-covers g c =
-    let s = c.self.inside in
-    let part : Part = c.in-Some-only_part.part in
-    let w : Write = part ∷ [] in
-    let cs : List Change = changed_part s.store c.write_part.new.store part in
-    let words : cs ≡ changed_words s.store c.write_part.new.store w = sym (append-nil cs) in
-    covers_seen c.write_part.new.changed.items c.write_part.new.store c.self.view_is
-    (covers_put c.write_part.new.changed.items w s.store c.write_part.new.store cs c.in_ok-write_part.ensures.covers words c.write_part.ensures.store)
+returns-in-Some-only_part-clause-covers g c = covers_seen c.write.new.changed.items c.write.new.self.store c.self.view_is c.in_ok-write.ensures.covers

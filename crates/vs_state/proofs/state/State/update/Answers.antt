@@ -1,9 +1,7 @@
 use Rattle.std.proofs.Common.{◌≡◌, ◌++◌, ◌∙◌, List, [], ◌∷◌, sym, ap, subst}
-use Rattle.std.proofs.lemmas.List.{append-nil}
-use Rattle.vs_design.specs.declared.write.Part.{Part}
 use Rattle.vs_design.specs.Writes.{Write}
 use Rattle.vs_flatcode.specs.declared.changes.Change.{Change}
-use Rattle.vs_flatcode.specs.Changes.{changed_part, changed_words}
+use Rattle.vs_flatcode.specs.Changes.{changed_words}
 use Rattle.vs_flatcode.specs.Places.{Place}
 use Rattle.vs_process.specs.States.{State}
 use Rattle.vs_state.specs.Touches.{HasSources}
@@ -69,32 +67,9 @@ returns-clause-covers g c =
 
 pub returns-in-Some-single-clause-made : goal.returns-in-Some-single-clause-made
 returns-in-Some-single-clause-made g c =
-    let s = c.self.inside in
-    let part : Part = c.in-Some-single.part in
-    let w : Write = part ∷ [] in
-    let cs : List Change = changed_part s.store c.write_part.new.store part in
-    let words : cs ≡ changed_words s.store c.write_part.new.store w = sym (append-nil cs) in
-    let before : State = record {
-      store = s.store;
-      places = c.take.new.self.places;
-      assigns = s.assigns;
-      updates = c.take.new.self.updates;
-      calls = s.calls.items;
-      time = c.take.new.self.time;
-      finishing = s.finishing;
-      over = s.over;
-    } in
-    written_by before w c.write_part.new.processes.time c.write_part.new.store cs c.write_part.new.processes.places c.write_part.new.assigns c.write_part.new.processes.updates
-    c.write_part.ensures.store words c.in_ok-write_part.ensures.assigns c.in_ok-write_part.ensures.places c.write_part.ensures.time c.write_part.ensures.updates
-    ∙ make_at c.self.view_is c.args.index c.take.new.self.time c.in-Some.update c.take.new.self.places c.take.new.self.updates w (sym c.take.ensures.taken ∙ c.in-Some.is) c.take.ensures.places
-    c.take.ensures.time c.take.ensures.rest (sym c.what.ensures ∙ c.in-Some-single.ensures)
+    c.in_ok-write.ensures.made
+    ∙ make_at c.self.view_is c.args.index c.take.new.self.time c.in-Some.update c.take.new.self.places c.take.new.self.updates (c.in-Some-single.part ∷ []) (sym c.take.ensures.taken ∙ c.in-Some.is)
+    c.take.ensures.places c.take.ensures.time c.take.ensures.rest (sym c.what.ensures ∙ c.in-Some-single.ensures)
 
 pub returns-in-Some-single-clause-covers : goal.returns-in-Some-single-clause-covers
-returns-in-Some-single-clause-covers g c =
-    let s = c.self.inside in
-    let part : Part = c.in-Some-single.part in
-    let w : Write = part ∷ [] in
-    let cs : List Change = changed_part s.store c.write_part.new.store part in
-    let words : cs ≡ changed_words s.store c.write_part.new.store w = sym (append-nil cs) in
-    covers_seen c.write_part.new.changed.items c.write_part.new.store c.self.view_is
-    (covers_put c.write_part.new.changed.items w s.store c.write_part.new.store cs c.in_ok-write_part.ensures.covers words c.write_part.ensures.store)
+returns-in-Some-single-clause-covers g c = covers_seen c.write.new.changed.items c.write.new.self.store c.self.view_is c.in_ok-write.ensures.covers
