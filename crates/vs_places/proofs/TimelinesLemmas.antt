@@ -250,6 +250,28 @@ pub kept_other : {ps : List Place} {ns : List ℕ} {bag : List (Timed ℕ)} (p :
 kept_other {ps} p y h here awake none =
     kept_as (set_back ps p h.old y here) (kept_set h.kept p h.old y (set_there ps p h.old y here) h.active awake (none_sleeps y none))
 
+-- it is active
+pub kept_going : {ps : List Place} {ns : List ℕ} {bag : List (Timed ℕ)} (p : ℕ) → AreKeptBut ps ns bag p → if_some is_going (slice_get ps p) ≡ true → AreKept ps ns bag
+kept_going {ps} {ns} {bag} p h active = by_place (slice_get ps p) refl active
+  where
+    awake : (y : Place) → is_going y ≡ true → is_inactive y ≡ false
+    awake (going gait todo) e = refl
+    awake (sleeping due todo) e = refl
+    awake (inactive todo) e = cc
+    awake (waiting terms todo) e = refl
+    awake ended e = refl
+
+    no_delay : (y : Place) → is_going y ≡ true → due_of y ≡ None
+    no_delay (going gait todo) e = refl
+    no_delay (sleeping due todo) e = cc
+    no_delay (inactive todo) e = refl
+    no_delay (waiting terms todo) e = refl
+    no_delay ended e = refl
+
+    by_place : (o : Option Place) → slice_get ps p ≡ o → if_some is_going o ≡ true → AreKept ps ns bag
+    by_place None here e = cc
+    by_place (Some y) here e = kept_other p y h here (awake y e) (no_delay y e)
+
 -- it becomes active again
 pub kept_roused : {ps qs : List Place} {ns ms : List ℕ} {bag : List (Timed ℕ)} (p : ℕ) (y : Place) → AreKeptBut ps ns bag p → slice_get ps p ≡ Some y → is_inactive y ≡ true → qs ≡ changed_at roused p ps → ms ≡ ns → AreKept qs ms bag
 kept_roused {ps} {qs} {ns} {ms} {bag} p y h here is changed same =

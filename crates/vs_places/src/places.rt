@@ -126,7 +126,8 @@ impl<'a> Places<'a> {
         active_process(&self.items)
     }
 
-    /// A step of an active process at `time`, in ticks: its write is made in the store, and the words that it changes go to `changes`.
+    /// A step of an active process at `time`, in ticks: its write is made in the store, and the words that it changes go to `changes`. The answer is
+    /// whether the process is active behind it.
     /// Without memory the places and the store are as they were.
     #[inline(always)]
     pub(crate) fn step(
@@ -137,9 +138,10 @@ impl<'a> Places<'a> {
         time: u64,
         changes: &mut Vec<Change>,
         effect: &mut Effect<'a>,
-    ) -> Result<(), AllocError>
+    ) -> Result<bool, AllocError>
         requires active { executions.if_some is_going (slice_get self.old process) ≡ true }
         requires early { time < 2 ^ 62 }
+        ensures going { IfOk result (λ going. going ≡ executions.if_some is_going (slice_get self.new process)) }
         ensures ok { OnOk result (StepsAt self.old process store.old time self.new effect.new) }
         ensures store { OnOk result (store.new ≡ store_behind store.old (step_write (slice_get self.old process) store.old time)) }
         ensures changes { OnOk result (changes.new.items
@@ -148,11 +150,12 @@ impl<'a> Places<'a> {
         ensures store_kept { OnErr result (store.new ≡ store.old) }
     {
         let Some(place) = self.items.get_mut(process) else {
-            return Ok(());
+            return Ok(false);
         };
         place.step(alloc, store, time, changes, effect)?;
-        self.going = recount(self.going, true, place.is_going());
-        Ok(())
+        let going = place.is_going();
+        self.going = recount(self.going, true, going);
+        Ok(going)
     }
 
     /// A process becomes active where the change of one word of a signal wakes a term that it waits for, and the answer is whether it does;

@@ -214,7 +214,8 @@ impl<'a, Q: EventQueue<Item>> Processes<'a, Q> {
         self.regions.next_time()
     }
 
-    /// A step of an active process: its write is made in the store, and the words that it changes go to `changes`.
+    /// A step of an active process: its write is made in the store, and the words that it changes go to `changes`. The answer is whether the process
+    /// is active behind it.
     #[inline(always)]
     pub fn step(
         &mut self,
@@ -223,9 +224,10 @@ impl<'a, Q: EventQueue<Item>> Processes<'a, Q> {
         store: &mut Store,
         changes: &mut Vec<Change>,
         effect: &mut Effect<'a>,
-    ) -> Result<(), AllocError>
+    ) -> Result<bool, AllocError>
         requires active { executions.if_some is_going (slice_get self.old.places process) ≡ true }
         requires early { self.old.time < 2 ^ 62 }
+        ensures going { IfOk result (λ going. going ≡ true → executions.if_some is_going (slice_get self.new.places process) ≡ true) }
         ensures ok { OnOk result (StepsAt self.old.places process store.old self.old.time self.new.places effect.new) }
         ensures store { OnOk result (store.new
             ≡ store_behind store.old (step_write (slice_get self.old.places process) store.old self.old.time)) }
@@ -235,10 +237,13 @@ impl<'a, Q: EventQueue<Item>> Processes<'a, Q> {
         ensures updates { self.new.updates ≡ self.old.updates }
     {
         let time = self.regions.time();
-        self.places
+        let going = self
+            .places
             .step(process, alloc, store, time, changes, effect)?;
-        keep(&mut self.places, &mut self.regions, process)?;
-        Ok(())
+        if !going {
+            keep(&mut self.places, &mut self.regions, process)?;
+        }
+        Ok(going)
     }
 
     /// A process becomes active where the change of one word of a signal wakes a term that it waits for, and the answer is whether it does;

@@ -22,7 +22,7 @@ use Rattle.vs_edges.specs.Differences.{HaveOneSize}
 use Rattle.vs_edges.specs.Waking.{range_wakes, word_wakes, part_wakes, wake_any}
 use Rattle.vs_edges.proofs.StoresLemmas.{put_size}
 use Rattle.vs_edges.proofs.WakingLemmas.{same_wakes_none, waking_by_parts}
-use Rattle.vs_flatcode.specs.Places.{perform, turns, Todo, Place, going, sleeping, inactive, waiting, ended, active_at, stepped_gait, todo_of}
+use Rattle.vs_flatcode.specs.Places.{perform, turns, Todo, Place, going, sleeping, inactive, waiting, ended, active_at, stepped_gait, todo_of, is_going}
 use Rattle.vs_flatcode.specs.declared.changes.Change.{Change}
 use Rattle.vs_flatcode.specs.Changes.{changed_word, changed_words, store_behind, changes_of}
 use Rattle.vs_flatcode.specs.Steps.{Next, on, Out, step, statement_step, has_nothing}
@@ -35,6 +35,7 @@ use Rattle.vs_flatcode.specs.declared.made.Effect.{Effect}
 use Rattle.vs_flatcode.specs.declared.made.Effect.TheVariants as e
 use Rattle.vs_flatcode.specs.Landings.{out_of}
 use Rattle.vs_process.specs.Effects.{Stepped}
+use Rattle.vs_process.specs.Executions.{if_some}
 use Rattle.vs_process.specs.States.{State, AssignState, Update, Called, terms_of, triggered, touched, wakened, written, written_behind, performed, stepped, place_behind}
 use Rattle.vs_process.proofs.Waking.{wakened-triggered}
 use Rattle.vs_places.proofs.ChangedLemmas.{changed_behind}
@@ -356,3 +357,29 @@ written_by s w time store cs places assigns updates wrote changed woken triggere
     let b : assigns ≡ map (touched s.store (put s.store w)) s.assigns = woken ∙ ap (λ (l : List Change). woken_changes l s.assigns) words ∙ changes_touch w s.store s.assigns in
     let c : places ≡ map (wakened s.store (put s.store w)) s.places = triggered ∙ ap (λ (l : List Change). triggered_changes l s.places) words ∙ changes_wake_places w s.store s.places in
     rw (wrote, b, c, still, kept) refl
+
+-- ---- active processes
+
+-- a change leaves an active one active
+still_going : (signal word : ℕ) (before behind : Option (List Digit)) (x : Place) → is_going x ≡ true → is_going (triggered_by signal word before behind x) ≡ true
+still_going signal word before behind (going gait todo) h = by_test (word_wakes [] signal word before behind)
+  where
+    by_test : (b : Bool) → is_going (if b then triggered (going gait todo) else going gait todo) ≡ true
+    by_test true = refl
+    by_test false = refl
+still_going signal word before behind (sleeping due todo) h = cc
+still_going signal word before behind (inactive todo) h = cc
+still_going signal word before behind (waiting terms todo) h = cc
+still_going signal word before behind ended h = cc
+
+going_mapped : (f : Place → Place) → ((x : Place) → is_going x ≡ true → is_going (f x) ≡ true) → (xs : List Place) (i : ℕ) → if_some is_going (slice_get xs i) ≡ true →
+    if_some is_going (slice_get (map f xs) i) ≡ true
+going_mapped f keeps [] i h = cc
+going_mapped f keeps (x ∷ xs) zero h = keeps x h
+going_mapped f keeps (x ∷ xs) (suc i) h = going_mapped f keeps xs i h
+
+pub going_behind : (cs : List Change) (xs : List Place) (i : ℕ) → if_some is_going (slice_get xs i) ≡ true → if_some is_going (slice_get (triggered_changes cs xs) i) ≡ true
+going_behind [] xs i h = h
+going_behind (c ∷ cs) xs i h =
+    going_behind cs (map (triggered_by c.signal c.word (Some c.before) (Some c.behind)) xs) i
+    (going_mapped (triggered_by c.signal c.word (Some c.before) (Some c.behind)) (still_going c.signal c.word (Some c.before) (Some c.behind)) xs i h)

@@ -2,7 +2,7 @@
 //!
 //! `make` is inlined into the loops of a run, which the compiler does only while it is small with all that is inlined into it. So the updates
 //! of continuous assignments and the nonblocking ones stand apart from it.
-ghost use Rattle.std.specs.Prelude.{◌≡◌, ◌<◌, ◌^◌, ◌∷◌, [], true, false, is_some, slice_get, OnOk};
+ghost use Rattle.std.specs.Prelude.{◌≡◌, ◌<◌, ◌^◌, ◌∷◌, [], true, false, is_some, slice_get, IfOk, OnOk};
 ghost use Rattle.vs_process.specs.Executions as executions;
 ghost use Rattle.vs_flatcode.specs.Places.{is_going};
 ghost use Rattle.vs_process.specs.States as states;
@@ -37,6 +37,7 @@ impl<'a, Q: EventQueue<Item>> State<'a, Q> {
         ensures state { OnOk result (self.new ≡ behind_effect self.old process effect.old) }
         ensures line { OnOk result (line.new.items ≡ made_text (line_of effect.old)) }
         ensures store { self.new.store ≡ self.old.store }
+        ensures places { self.new.places ≡ self.old.places }
     {
         match mem::replace(effect, Effect::Nothing) {
             Effect::Nothing => {}
@@ -59,27 +60,29 @@ impl<'a, Q: EventQueue<Item>> State<'a, Q> {
         Ok(())
     }
 
-    /// A step of an active process; the line that it makes takes the place of `line`.
+    /// Makes a step of an active process, as `make` does. The answer is whether the process is still active; an active one may be told as another.
     #[inline(always)]
-    fn step(
+    pub fn step(
         &mut self,
         design: &Design,
         process: usize,
         changed: &mut Vec<usize>,
         effect: &mut Effect<'a>,
         line: &mut Vec<u8>,
-    ) -> Result<(), AllocError>
-        requires empty { line.old.items ≡ [] }
+    ) -> Result<bool, AllocError>
         requires active { executions.if_some is_going (slice_get self.old.places process) ≡ true }
         requires early { self.old.time < 2 ^ 62 }
         requires sources { HasSources design.now self.old }
         requires terms { HasTerms design.now self.old }
+        ensures going { IfOk result (λ going. going ≡ true → executions.is_enabled self.new (Move.Step process) ≡ true) }
         ensures state { OnOk result (self.new ≡ states.stepped self.old process (slice_get self.old.places process)) }
         ensures line { OnOk result (line.new.items ≡ made_text (made_line (Move.Step process) self.old)) }
         ensures covers { OnOk result (CoverChanges changed.new.items self.old.store self.new.store) }
     {
+        line.clear();
+        self.woken.clear();
         self.changes.clear();
-        self.processes.step(
+        let going = self.processes.step(
             process,
             self.alloc,
             &mut self.store,
@@ -95,10 +98,10 @@ impl<'a, Q: EventQueue<Item>> State<'a, Q> {
             changed,
         )?;
         if is_nothing(effect) {
-            return Ok(());
+            return Ok(going);
         }
         self.perform(process, effect, line)?;
-        Ok(())
+        Ok(going)
     }
 
     /// The evaluation of a continuous assignment.
@@ -263,7 +266,9 @@ impl<'a, Q: EventQueue<Item>> State<'a, Q> {
         line.clear();
         self.woken.clear();
         match choice {
-            Move::Step(process) => self.step(design, process, changed, effect, line)?,
+            Move::Step(process) => {
+                self.step(design, process, changed, effect, line)?;
+            }
             Move::Evaluate(assign) => self.evaluate(assign)?,
             Move::Propagate(assign) => self.propagate(design, assign, changed)?,
             Move::Make(index) => self.update(design, index, changed)?,

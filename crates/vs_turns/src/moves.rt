@@ -86,6 +86,40 @@ pub fn advance<'a, Q: EventQueue<Item>, L: Sink>(
     Ok(())
 }
 
+/// Takes a step of an active process, as `advance` does. The answer is whether the process is still active; an active one may be told as another.
+#[inline(always)]
+fn advance_step<'a, Q: EventQueue<Item>, L: Sink>(
+    state: &mut State<'a, Q>,
+    design: &Design,
+    marks: &mut Vec<u64>,
+    room: &mut Room<'a>,
+    lines: &mut L,
+    process: usize,
+) -> Result<bool, VcdFault>
+    requires enabled { executions.is_enabled state.old (Move.Step process) ≡ true }
+    requires early { state.old.time < 2 ^ 62 }
+    requires reached { IsReached design.now state.old }
+    ensures going { IfOk result (λ going. going ≡ true → executions.is_enabled state.new (Move.Step process) ≡ true) }
+    ensures state { OnOk result (state.new ≡ executions.apply (Move.Step process) state.old) }
+    ensures marked { OnOk result (MarkChanges marks.old.items marks.new.items state.old.store state.new.store) }
+    ensures len { length marks.new.items ≡ length marks.old.items }
+    ensures printed { OnOk result (Appends (L.bytes lines.old) (L.bytes lines.new) (made_text (made_line (Move.Step process) state.old))) }
+    ensures part { OnErr result (AppendsPart (L.bytes lines.old) (L.bytes lines.new) (made_text (made_line (Move.Step process) state.old))) }
+    ensures failures { L.failed lines.new ≡ failed_after (is_write_fault result) (L.failed lines.old) }
+{
+    room.changed.clear();
+    let going = state.step(
+        design,
+        process,
+        &mut room.changed,
+        &mut room.effect,
+        &mut room.line,
+    )?;
+    mark_all(marks, &room.changed);
+    print(lines, &room.line)?;
+    Ok(going)
+}
+
 /// Takes the steps of a process, one after another, until it is no longer active or so many are taken. The answer is how many were taken.
 pub fn run_process<'a, Q: EventQueue<Item>, L: Sink>(
     state: &mut State<'a, Q>,
@@ -113,10 +147,10 @@ pub fn run_process<'a, Q: EventQueue<Item>, L: Sink>(
 {
     let mut taken = 0;
     loop {
-        advance(state, design, marks, room, lines, Move::Step(process))?;
+        let going = advance_step(state, design, marks, room, lines, process)?;
         agenda.add_woken(state)?;
         taken += 1;
-        if !state.is_going(process) {
+        if !going {
             agenda.remove(index);
             return Ok(taken);
         }

@@ -28,7 +28,7 @@ invariant_of-self-2 c =
     let within : c.args.process < length xs = omega (arith, c.self.inside.items.ok.0, below) in
     let here : slice_get xs c.args.process ≡ Some x = slice_get_read xs (length xs) c.args.process x refl within c.in-Some.ensures.value in
     let active : is_going x ≡ true = sym (ap (if_some is_going) here) ∙ ap (λ (l : List Place). if_some is_going (slice_get l c.args.process)) c.self.view_is ∙ c.requires.active in
-    recounted is_going xs c.self.inside.going c.self.invariant c.recount-self-inside.result c.args.process x c.step.new.self true c.is_going.result here (sym active) c.is_going.ensures c.recount-self-inside.ensures
+    recounted is_going xs c.self.inside.going c.self.invariant c.recount-self-inside.result c.args.process x c.step.new.self true c.is_going-going.result here (sym active) c.is_going-going.ensures c.recount-self-inside.ensures
 
 pub returns-clause-ok : goal.returns-clause-ok
 returns-clause-ok c =
