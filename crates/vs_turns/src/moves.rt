@@ -104,7 +104,8 @@ fn advance_step<'a, Q: EventQueue<Item>, L: Sink>(
     ensures marked { OnOk result (MarkChanges marks.old.items marks.new.items state.old.store state.new.store) }
     ensures len { length marks.new.items ≡ length marks.old.items }
     ensures printed { OnOk result (Appends (L.bytes lines.old) (L.bytes lines.new) (made_text (made_line (Move.Step process) state.old))) }
-    ensures part { OnErr result (AppendsPart (L.bytes lines.old) (L.bytes lines.new) (made_text (made_line (Move.Step process) state.old))) }
+    ensures part { OnErr result
+        (AppendsPart (L.bytes lines.old) (L.bytes lines.new) (made_text (made_line (Move.Step process) state.old))) }
     ensures failures { L.failed lines.new ≡ failed_after (is_write_fault result) (L.failed lines.old) }
 {
     room.changed.clear();
