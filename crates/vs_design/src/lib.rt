@@ -29,7 +29,7 @@ pub use readers::Reader;
 pub use signal::{Bounds, Signal, SignalKind};
 pub use statement::{Aim, Call, CallKind, EventTerm, FormatArg, Statement, Target, Ticks};
 pub use statement_uses::{event_terms, has_control, statement_reads};
-pub use store::Store;
+pub use store::{Store, over};
 pub use timescale::{DEFAULT_TIMESCALE, Magnitude, TimeSpan, TimeUnit, Timescale};
 pub use uses::{bits_from, reads, writes};
 pub use write::{Part, Write};

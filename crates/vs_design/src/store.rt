@@ -149,11 +149,24 @@ impl<'a> Store<'a> {
     }
 }
 
+/// A word with digits laid over it from a place on: those digits, where they are as many.
+#[inline(always)]
+fn laid(word: Vec4, low: i64, digits: Vec4) -> Vec4
+    ensures { result ≡ overlaid low digits word }
+{
+    if low == 0 && digits.width() == word.width() {
+        digits
+    } else {
+        word.put(low, digits)
+    }
+}
+
 /// A word with the digits of a part laid over it; those out of range are dropped (IEEE 1364-2005, clause 5.2.1).
-fn over(word: Vec4, part: Part) -> Vec4
+#[inline(always)]
+pub fn over(word: Vec4, part: Part) -> Vec4
     ensures { result ≡ overlaid part.low part.digits word }
 {
-    word.put(part.low, part.digits)
+    laid(word, part.low, part.digits)
 }
 
 /// A word of a signal behind parts of a write.

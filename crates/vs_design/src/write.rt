@@ -57,6 +57,16 @@ impl Write {
         }
     }
 
+    /// A write of one part. It takes no memory.
+    #[inline(always)]
+    pub fn one(alloc: Global, part: Part) -> Self
+        ensures { result ≡ part ∷ [] }
+    {
+        Write {
+            parts: SmallVec::from_buf(alloc, [part]),
+        }
+    }
+
     /// Adds a part above the others.
     #[inline(always)]
     pub fn push(&mut self, part: Part) -> Result<(), AllocError>

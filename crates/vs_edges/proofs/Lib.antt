@@ -1,3 +1,4 @@
 pub mod DifferencesLemmas
+mod Edges
 pub mod StoresLemmas
 pub mod WakingLemmas

@@ -1,5 +1,5 @@
 -- What wakes an event control, word by word.
-use Rattle.std.proofs.Common.{◌≡◌, ℕ, zero, suc, ◌==◌, ◌||◌, ◌&&◌, ◌<◌, Bool, true, false, Option, Some, None, List, [], ◌∷◌, map, length, take, drop, slice_get, inl, inr, refl, sym, ◌∙◌, ap, ap₂, arith}
+use Rattle.std.proofs.Common.{◌≡◌, ℕ, ◌==◌, ◌||◌, ◌&&◌, Bool, true, false, Option, Some, None, List, [], ◌∷◌, map, length, slice_get, inl, inr, refl, sym, ◌∙◌, ap, ap₂}
 use Rattle.std.specs.List.{list_any}
 use Rattle.std.proofs.lemmas.Bool.{cases_Bool, eqb-true, eq-eqb, false≢true, false_from_ne_true}
 use Rattle.vs_logic4.specs.declared.digit.Digit.{Digit}
@@ -69,14 +69,6 @@ level_wakes signal word before behind t n b size here level differing seen =
     ∙ ap (λ c. has_word r.word word && c) (sees_difference r.bits (Some before) (Some behind) (ap Some size))
     ∙ sym (ap (λ c. c && (has_word r.word word && bits)) (eq-eqb r.signal signal here))
     ∙ sym (ap (λ e. range_wakes e signal word (Some before) (Some behind) r) level)
-
--- the lowest of so many digits from a place on
-pub first_taken : (low width : ℕ) (word : List Digit) (d : Digit) → 0 < width → slice_get word low ≡ Some d → Some d ≡ first_digit (take width (drop low word))
-first_taken low zero word d h here = absurd (omega arith)
-first_taken zero (suc width) [] d h here = cc
-first_taken zero (suc width) (e ∷ es) d h here = sym here
-first_taken (suc low) (suc width) [] d h here = cc
-first_taken (suc low) (suc width) (e ∷ es) d h here = first_taken low (suc width) es d h here
 
 -- ---- an edge
 

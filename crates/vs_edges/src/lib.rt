@@ -3,6 +3,7 @@
 //! A change is judged word by word: a write wakes what the words that its parts name wake, each compared before and behind the whole write.
 #![tactic(auto)]
 
+mod bits;
 mod differences;
 mod laws;
 mod sensitivity;

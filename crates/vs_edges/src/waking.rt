@@ -2,34 +2,24 @@
 ghost use Rattle.std.specs.Prelude.{◌≡◌, ◌==◌, length, Some};
 ghost use Rattle.vs_edges.specs.Waking.{edge_digit, edge_word, is_edge_of, term_wakes, word_wakes};
 
+use crate::bits::is_edge_at;
 use crate::differences::{difference, sees};
 use vs_design::{Bits, EventTerm};
-use vs_logic4::{Digit, Edge, Vec4};
-
-/// The lowest of those of a word's digits that a range of bits has, where there is one.
-#[inline(always)]
-fn edge_digit(bits: Option<Bits>, word: Vec4) -> Option<Digit>
-    ensures { result ≡ edge_digit bits (Some word) }
-{
-    let Some(b) = bits else {
-        return Some(word.digit(0));
-    };
-    if b.width > 0 && b.low < word.width() {
-        Some(word.digit(b.low))
-    } else {
-        None
-    }
-}
+use vs_logic4::{Edge, Vec4};
 
 /// Whether the change of a word is such an edge of the lowest bit of a range.
 #[inline(always)]
 fn is_edge_in(edge: Edge, bits: Option<Bits>, before: Vec4, behind: Vec4) -> bool
+    requires { length before ≡ length behind }
     ensures { result ≡ is_edge_of edge (edge_digit bits (Some before)) (edge_digit bits (Some behind)) }
 {
-    match (edge_digit(bits, before), edge_digit(bits, behind)) {
-        (Some(before), Some(behind)) => edge.is_between(before, behind),
-        _ => false,
+    let Some(b) = bits else {
+        return is_edge_at(edge, before, behind, 0);
+    };
+    if b.width == 0 || b.low >= before.width() {
+        return false;
     }
+    is_edge_at(edge, before, behind, b.low)
 }
 
 /// Whether this word is the first of those that a range has.

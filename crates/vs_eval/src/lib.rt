@@ -68,7 +68,8 @@ pub fn quick_value(e: &Typed, store: &Store, time: u64) -> Vec4
     match e {
         Typed::Number(digits) => *digits,
         Typed::Signal(o) => operand(*o, store),
-        _ => value(e, store, time),
+        Typed::Unary(_, _) | Typed::Chain(_, _) => value(e, store, time),
+        _ => other_value(e, store, time),
     }
 }
 

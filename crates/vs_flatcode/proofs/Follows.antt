@@ -125,6 +125,7 @@ stepped ops cs place i x store time halt effect next counters h at e l m =
 -- a step that makes this writes what it is said to write
 pub made_write : (next : Next) (effect : Effect) (w : Option Write) → (out_of next w effect).write ≡ w
 made_write next e.Nothing w = refl
+made_write next (e.Part ticks p) w = refl
 made_write next (e.Update ticks u) w = refl
 made_write next (e.Strobe f) w = refl
 made_write next (e.Line text) w = refl

@@ -7,6 +7,7 @@ use Rattle.vs_logic4.specs.declared.digit.Digit.{Digit}
 use Rattle.vs_logic4.specs.Comparisons.{truth}
 use Rattle.vs_design.specs.declared.expression.Typed.{Typed}
 use Rattle.vs_design.specs.declared.statement.CallKind.{CallKind}
+use Rattle.vs_design.specs.declared.statement.Ticks.{Ticks}
 use Rattle.vs_design.specs.declared.statement.Statement.{Statement}
 use Rattle.vs_design.specs.declared.statement.Statement.TheOpen.{Statement-F}
 use Rattle.vs_design.specs.declared.statement.Statement.TheViews.{out-Statement}
@@ -89,10 +90,15 @@ todo_behind (wait n terms todo) = todo
 -- a step that leads there, may write, and has this effect
 abbrev pub out_of : Next → Option Write → Effect → Out
 out_of next w e.Nothing = record (goes next) { write = w }
+out_of next w (e.Part ticks p) = record (goes next) { write = w; update = Some (ticks.count, p ∷ []) }
 out_of next w (e.Update ticks u) = record (goes next) { write = w; update = Some (ticks.count, u) }
 out_of next w (e.Strobe f) = record (goes next) { write = w; call = Some f.now }
 out_of next w (e.Line text) = record (goes next) { write = w; line = Some text.items }
 out_of next w e.Finish = record (goes next) { write = w; finish = true }
+
+-- a step with this effect makes a nonblocking update of this write, due in so many ticks, and nothing else beside its own write
+abbrev pub MakesUpdate : Ticks → Write → Effect → Type 0
+MakesUpdate ticks u effect = (next : Next) (w : Option Write) → out_of next w effect ≡ record (goes next) { write = w; update = Some (ticks.count, u) }
 
 -- where a step leads that meets this, behind which a process still has this to do
 abbrev pub next_of : Halt → Todo → Next

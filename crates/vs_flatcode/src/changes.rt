@@ -1,12 +1,12 @@
 //! Writes that are made in a store, and the words that they change (IEEE 1364-2005, clauses 6, 9.2 and 9.7.2).
 ghost use Rattle.std.specs.Prelude.{◌≡◌, ◌++◌, ◌∷◌, [], ◌<◌, ◌≤◌, ℕ, pos, Some, vec_len, vec_capacity, IfOk, IfSome, OnOk, OnErr};
 ghost use Rattle.vs_logic4.specs.Parts.{selected};
-ghost use Rattle.vs_design.specs.Stores.{Store, put, put_part, overlaid, changes_nothing};
+ghost use Rattle.vs_design.specs.Stores.{Store, put, put_part, changes_nothing};
 ghost use Rattle.vs_eval.specs.Targets.{assigned};
 ghost use Rattle.vs_flatcode.specs.Changes.{changed_word, changed_part, changed_words};
 
 use std::alloc::{AllocError, Global};
-use vs_design::{Aim, Part, Store, Target, Write};
+use vs_design::{Aim, Part, Store, Target, Write, over};
 use vs_eval::write_of;
 use vs_logic4::Vec4;
 
@@ -184,26 +184,6 @@ pub fn assign(
         return make_part(store, part, changes);
     }
     assign_any(alloc, target, digits, store, time, changes)
-}
-
-/// A word with digits laid over it from a place on: those digits, where they are as many.
-#[inline(always)]
-fn laid(word: Vec4, low: i64, digits: Vec4) -> Vec4
-    ensures { result ≡ overlaid low digits word }
-{
-    if low == 0 && digits.width() == word.width() {
-        digits
-    } else {
-        word.put(low, digits)
-    }
-}
-
-/// A word behind a part of a write that names it.
-#[inline(always)]
-fn over(word: Vec4, part: Part) -> Vec4
-    ensures { result ≡ overlaid part.low part.digits word }
-{
-    laid(word, part.low, part.digits)
 }
 
 /// Whether a write of one part would change nothing.

@@ -1,35 +1,13 @@
 //! What conditions, `case` items and counts choose (IEEE 1364-2005, clauses 9.4 to 9.6).
-ghost use Rattle.std.specs.Prelude.{◌≡◌, IfOk};
+ghost use Rattle.std.specs.Prelude.{◌≡◌};
 ghost use Rattle.vs_logic4.specs.Comparisons.{truth};
 ghost use Rattle.vs_eval.specs.Values.{value_of};
-ghost use Rattle.vs_flatcode.specs.Steps.{assignment, branch, item_matches, is_default, turns_for};
+ghost use Rattle.vs_flatcode.specs.Steps.{branch, item_matches, is_default, turns_for};
 ghost use Rattle.vs_flatcode.specs.Landings.{start_where, start_taken};
 
-use crate::changes::only_part;
-use std::alloc::{AllocError, Global};
-use vs_design::{Statement, Store, Target, Typed, Write};
-use vs_eval::{cut_value, quick_value, value, write_of};
+use vs_design::{Statement, Store, Typed};
+use vs_eval::{quick_value, value};
 use vs_logic4::{CaseKind, Digit, Vec4};
-
-/// The write of an assignment.
-#[inline(always)]
-pub(crate) fn assignment(
-    alloc: Global,
-    target: &Target,
-    e: &Typed,
-    store: &Store,
-    time: u64,
-) -> Result<Write, AllocError>
-    ensures { IfOk result (λ w. w ≡ assignment target.now e.now store.now time) }
-{
-    let digits = cut_value(target, e, store, time);
-    if let Some(part) = only_part(target, digits) {
-        let mut write = Write::new(alloc);
-        write.push(part)?;
-        return Ok(write);
-    }
-    write_of(alloc, target, digits, store, time)
-}
 
 /// The first of two places where a condition is true, else the second; x and z count as false.
 #[inline(always)]
@@ -40,6 +18,15 @@ pub(crate) fn branch(e: &Typed, store: &Store, time: u64, first: usize, second: 
         Digit::One => first,
         _ => second,
     }
+}
+
+/// The same for a loop. It stands apart, as what an instruction of a loop or a `case` does, so that the step of an instruction is small enough to be
+/// inlined into the loop of a run.
+#[inline(never)]
+pub(crate) fn loop_branch(e: &Typed, store: &Store, time: u64, first: usize, second: usize) -> usize
+    ensures { result ≡ branch (truth (value_of e.now store.now time)) first second }
+{
+    branch(e, store, time, first, second)
 }
 
 /// Whether a `case` item has an expression that matches.
@@ -100,7 +87,7 @@ fn start_matching(
 }
 
 /// The start of the item of a `case` that is taken, or what is behind the `case`.
-pub(crate) fn start_taken(
+fn start_taken(
     kind: CaseKind,
     digits: Vec4,
     store: &Store,
@@ -120,8 +107,32 @@ pub(crate) fn start_taken(
     }
 }
 
+/// Where a `case` on the value of an expression goes on, as `start_taken` of the value.
+#[inline(never)]
+pub(crate) fn start_chosen(
+    kind: CaseKind,
+    e: &Typed,
+    store: &Store,
+    time: u64,
+    items: &[(Vec<Typed>, Statement)],
+    starts: &[usize],
+    behind: usize,
+) -> usize
+    ensures { result ≡ start_taken kind (value_of e.now store.now time) store.now time items.now starts.now behind }
+{
+    start_taken(
+        kind,
+        quick_value(e, store, time),
+        store,
+        time,
+        items,
+        starts,
+        behind,
+    )
+}
+
 /// How many turns a count of a `repeat` stands for: none where it is negative, or has a digit x or z.
-pub(crate) fn turns_for(signed: bool, digits: Vec4) -> u64
+fn turns_for(signed: bool, digits: Vec4) -> u64
     ensures { result ≡ turns_for signed digits }
 {
     if signed {
@@ -132,4 +143,12 @@ pub(crate) fn turns_for(signed: bool, digits: Vec4) -> u64
     } else {
         digits.to_number().unwrap_or(0)
     }
+}
+
+/// How often a `repeat` on the value of an expression is run, as `turns_for` of the value.
+#[inline(never)]
+pub(crate) fn turns_of(signed: bool, e: &Typed, store: &Store, time: u64) -> u64
+    ensures { result ≡ turns_for signed (value_of e.now store.now time) }
+{
+    turns_for(signed, quick_value(e, store, time))
 }

@@ -2,23 +2,25 @@
 ghost use Rattle.std.specs.Prelude.{◌≡◌, ◌++◌, slice_set, IfOk, OnOk, OnErr, MatchOption, true};
 ghost use Rattle.vs_design.specs.declared.statement.Statement.TheViews.{out-Statement};
 ghost use Rattle.vs_flatcode.specs.declared.made.Effect.TheVariants as Effect;
+ghost use Rattle.vs_eval.specs.Targets.{assigned};
 ghost use Rattle.vs_flatcode.specs.Changes.{store_behind, changes_of};
 ghost use Rattle.vs_flatcode.specs.Places.{perform, flat};
 ghost use Rattle.vs_flatcode.specs.Steps.{assignment, step, has_nothing};
 ghost use Rattle.vs_flatcode.specs.Links.{item_of};
 ghost use Rattle.vs_flatcode.specs.Extras.{format_of, starts_of, format_in};
 ghost use Rattle.vs_flatcode.specs.Codes.{job_of, StandsAt, IsEnd, IsFormatOf, IsFormatFor};
-ghost use Rattle.vs_flatcode.specs.Landings.{landing, turned, statement_lands, lands, made_out, item_write, IsMade, IsCallMade};
+ghost use Rattle.vs_flatcode.specs.Landings.{landing, turned, statement_lands, lands, made_out, item_write, IsMade, IsCallMade, MakesUpdate};
 
-use crate::changes::{Change, assign};
-use crate::choices::{assignment, branch, start_taken, turns_for};
+use crate::changes::{Change, assign, only_part};
+use crate::choices::{branch, loop_branch, start_chosen, turns_of};
 use crate::code::Code;
 use crate::draft::{Extra, Op, Task};
 use crate::made::{Effect, Halt};
 use std::alloc::{AllocError, Global};
 use std::marker::Model;
 use vs_design::{CallKind, Statement, Store, Target, Ticks, Typed};
-use vs_eval::{cut_value, quick_value};
+use vs_eval::{cut_value, write_of};
+use vs_logic4::Vec4;
 use vs_strobe::full_line;
 
 /// Where a process stands in its code, with the counters of its statements `repeat`. A contract sees it as what the process still
@@ -141,8 +143,26 @@ fn hush(effect: &mut Effect)
     }
 }
 
-// The nonblocking update of an assignment, due in so many ticks.
+// The nonblocking update of an assignment to any target, due in so many ticks.
 #[inline(never)]
+fn update_any<'a>(
+    alloc: Global,
+    ticks: Ticks,
+    target: &Target,
+    digits: Vec4,
+    store: &Store,
+    time: u64,
+    effect: &mut Effect<'a>,
+) -> Result<(), AllocError>
+    ensures { OnOk result (effect.new ≡ Effect.Update ticks (assigned target.now digits store.now time)) }
+{
+    let write = write_of(alloc, target, digits, store, time)?;
+    *effect = Effect::Update(ticks, write);
+    Ok(())
+}
+
+// The nonblocking update of an assignment, due in so many ticks. A target of one fixed place takes no memory.
+#[inline(always)]
 fn update<'a>(
     alloc: Global,
     ticks: Ticks,
@@ -152,11 +172,14 @@ fn update<'a>(
     time: u64,
     effect: &mut Effect<'a>,
 ) -> Result<(), AllocError>
-    ensures { OnOk result (effect.new ≡ Effect.Update ticks (assignment target.now e.now store.now time)) }
+    ensures { OnOk result (MakesUpdate ticks (assignment target.now e.now store.now time) effect.new) }
 {
-    let write = assignment(alloc, target, e, store, time)?;
-    *effect = Effect::Update(ticks, write);
-    Ok(())
+    let digits = cut_value(target, e, store, time);
+    if let Some(part) = only_part(target, digits) {
+        *effect = Effect::Part(ticks, part);
+        return Ok(());
+    }
+    update_any(alloc, ticks, target, digits, store, time, effect)
 }
 
 // The step of a statement: the timing control that it meets, and where it leads.
@@ -209,17 +232,16 @@ fn perform<'a>(
             Ok((Halt::Nothing, place))
         }
         Statement::Case(_, kind, e, items) => {
-            let digits = quick_value(e, store, time);
             let starts = starts_of(&op.extra);
-            let place = start_taken(*kind, digits, store, time, items, starts, op.behind);
+            let place = start_chosen(*kind, e, store, time, items, starts, op.behind);
             Ok((Halt::Nothing, place))
         }
         Statement::While(_, e, _) => {
-            let place = branch(e, store, time, op.first, op.behind);
+            let place = loop_branch(e, store, time, op.first, op.behind);
             Ok((Halt::Nothing, place))
         }
         Statement::Repeat(_, signed, e, _) => {
-            let left = turns_for(*signed, quick_value(e, store, time));
+            let left = turns_of(*signed, e, store, time);
             let place = turn(op, counters, left);
             Ok((Halt::Nothing, place))
         }

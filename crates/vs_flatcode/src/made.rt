@@ -1,6 +1,6 @@
 //! What a step of a process makes.
 
-use vs_design::{EventTerm, Ticks, Write};
+use vs_design::{EventTerm, Part, Ticks, Write};
 use vs_strobe::Format;
 
 /// The timing control that a step of a process meets, if it meets one.
@@ -20,7 +20,9 @@ pub enum Halt<'a> {
 pub enum Effect<'a> {
     /// Nothing, or a write.
     Nothing,
-    /// A nonblocking update, due in so many ticks (IEEE 1364-2005, clause 9.2.2).
+    /// A nonblocking update of one part, due in so many ticks (IEEE 1364-2005, clause 9.2.2).
+    Part(Ticks, Part),
+    /// Any other nonblocking update, due in so many ticks.
     Update(Ticks, Write),
     /// A call of `$strobe`, by its format: its line is made at the end of the slot (clause 17.1.2).
     Strobe(&'a Format<'a>),

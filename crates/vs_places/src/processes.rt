@@ -1,5 +1,5 @@
 //! The processes of a run by what they wait for, and the nonblocking updates.
-ghost use Rattle.std.specs.Prelude.{ℕ, ◌≡◌, ◌++◌, ◌∷◌, [], ◌<◌, ◌≤◌, ◌+◌, ◌^◌, Some, None, true, false, length, map, slice_get, IfOk, IfSome, OnOk, OnErr, MatchOption};
+ghost use Rattle.std.specs.Prelude.{ℕ, ◌≡◌, ◌++◌, ◌∷◌, [], ◌<◌, ◌≤◌, ◌+◌, ◌^◌, Some, None, true, false, length, map, option_map, slice_get, IfNone, IfOk, IfSome, OnSome, OnOk, OnErr, MatchOption};
 ghost use Rattle.std.specs.List.{list_any};
 ghost use Rattle.std.specs.Option.{ForSome};
 ghost use Rattle.vs_time_wheel.specs.Bag.{SameBag};
@@ -15,7 +15,7 @@ ghost use Rattle.vs_places.specs.Triggers.{changed_all, triggered_by};
 use crate::places::Places;
 use std::alloc::{AllocError, Global};
 use std::marker::Model;
-use vs_design::{Store, Ticks, Write};
+use vs_design::{Part, Store, Ticks, Write};
 use vs_logic4::Vec4;
 use vs_process::{Change, Code, Effect, Place};
 use vs_regions::{Item, Regions, Update};
@@ -87,7 +87,7 @@ fn postpone<Q: EventQueue<Item>>(
 
 /// A process that was active before its step enters the list or the queue where it is inactive or sleeps behind it; where it finds no
 /// room it becomes active again.
-#[inline(always)]
+#[inline(never)]
 fn keep<Q: EventQueue<Item>>(
     places: &mut Places,
     regions: &mut Regions<Q>,
@@ -287,6 +287,19 @@ impl<'a, Q: EventQueue<Item>> Processes<'a, Q> {
         ensures time { self.new.time ≡ self.old.time }
     {
         self.regions.take(index)
+    }
+
+    /// Takes out the activated update of this number among these where it writes one part, and answers that part; another one stays.
+    #[inline(always)]
+    pub fn take_part(&mut self, index: usize) -> Option<Part>
+        ensures taken { IfSome result (λ part. option_map (λ u. u.what)
+            (slice_get self.old.updates (place_of_active index self.old.updates)) ≡ Some (part ∷ [])) }
+        ensures rest { OnSome result (self.new.updates ≡ states.without (place_of_active index self.old.updates) self.old.updates) }
+        ensures kept { IfNone result (self.new.updates ≡ self.old.updates) }
+        ensures places { self.new.places ≡ self.old.places }
+        ensures time { self.new.time ≡ self.old.time }
+    {
+        self.regions.take_part(index)
     }
 
     /// The updates that are due in this slot are activated.

@@ -15,6 +15,7 @@ use Rattle.vs_process.specs.States.{place_behind}
 -- a step that leads somewhere with an effect leads there
 leads_there : (old new : Place) (time : ℕ) (next : Next) (w : Option Write) (effect : Effect) → new ≡ place_behind old time next → Leads (out_of next w effect) old time new effect
 leads_there old new time next w e.Nothing is = (refl, is)
+leads_there old new time next w (e.Part ticks p) is = (refl, is)
 leads_there old new time next w (e.Update ticks u) is = (refl, is)
 leads_there old new time next w (e.Strobe f) is = (refl, is)
 leads_there old new time next w (e.Line text) is = (refl, is)

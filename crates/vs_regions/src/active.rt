@@ -1,11 +1,12 @@
 //! Activated updates.
-ghost use Rattle.std.specs.Prelude.{◌≡◌, ◌<◌, ◌↔◌, map, length, slice_get, slice_index_or, IsSome, IfSome, MatchOption};
+ghost use Rattle.std.specs.Prelude.{◌≡◌, ◌<◌, ◌↔◌, ◌∷◌, [], Some, map, length, option_map, slice_get, slice_index_or, IsSome, IfSome, MatchOption};
 ghost use Rattle.std.specs.List.{remove};
 ghost use Rattle.vs_process.specs.Executions as executions;
 ghost use Rattle.vs_process.specs.States as states;
 
 use crate::update::Update;
 use std::collections::VecDeque;
+use vs_design::Part;
 
 /// Whether an update is activated and no older activated one names a signal that it names.
 #[inline(always)]
@@ -36,6 +37,17 @@ pub(crate) fn activate_each(updates: &mut VecDeque<Update>, time: u64)
     }
 }
 
+/// What the update of this number among these writes, where that is one part.
+#[inline(always)]
+pub(crate) fn part_at(updates: &VecDeque<Update>, index: usize) -> Option<Part>
+    ensures { IfSome result (λ part. option_map (λ u. u.what) (slice_get updates.now.items index) ≡ Some (part ∷ [])) }
+{
+    let Some(update) = updates.get(index) else {
+        return None;
+    };
+    update.part()
+}
+
 /// Takes out the update of this number among these; the oldest one, whose number is 0, in constant time.
 #[inline(always)]
 pub(crate) fn take_at(updates: &mut VecDeque<Update>, index: usize) -> Option<Update>
@@ -47,4 +59,24 @@ pub(crate) fn take_at(updates: &mut VecDeque<Update>, index: usize) -> Option<Up
         return updates.pop_front();
     }
     updates.remove(index)
+}
+
+/// Takes away the update of this number among these, where it isn't the oldest one.
+#[inline(never)]
+fn drop_within(updates: &mut VecDeque<Update>, index: usize)
+    ensures { updates.new.items ≡ remove updates.old.items index }
+{
+    let _ = updates.remove(index);
+}
+
+/// Takes away the update of this number among these, as `take_at` does, without a copy of it.
+#[inline(always)]
+pub(crate) fn drop_at(updates: &mut VecDeque<Update>, index: usize)
+    ensures { updates.new.items ≡ remove updates.old.items index }
+{
+    if index == 0 {
+        let _ = updates.pop_front();
+    } else {
+        drop_within(updates, index);
+    }
 }

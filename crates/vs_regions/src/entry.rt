@@ -1,6 +1,7 @@
 //! How updates and ends of delays enter the event queue and leave it.
 ghost use Rattle.std.specs.Prelude.{ℕ, ◌≡◌, ◌≢◌, ◌++◌, ◌∷◌, [], ◌≤◌, true, OnOk, OnErr};
 ghost use Rattle.vs_time_wheel.specs.Bag.{IsFrom, SameBag, events_at};
+ghost use Rattle.vs_regions.specs.declared.item.Item.TheVariants as Item;
 ghost use Rattle.vs_regions.specs.Entries.{HasEntered};
 ghost use Rattle.vs_regions.specs.Items.{wakes, lates};
 
@@ -9,6 +10,21 @@ use crate::update::Update;
 use std::alloc::AllocError;
 use std::collections::VecDeque;
 use vs_time_wheel::EventQueue;
+
+/// An update of a later slot enters the queue; without room it doesn't. It stands apart, as the result of the queue would be cleared for the others too.
+#[inline(never)]
+fn enter_queue<Q: EventQueue<Item>>(queue: &mut Q, update: Update) -> Result<(), AllocError>
+    requires { Q.clock queue.old ≤ update.due }
+    ensures queued { OnOk result
+        (SameBag (Q.bag queue.new) (Q.bag queue.old ++ record { time = update.due; event = Item.Late update } ∷ [])) }
+    ensures unqueued { OnErr result (SameBag (Q.bag queue.new) (Q.bag queue.old)) }
+    ensures clock { Q.clock queue.new ≡ Q.clock queue.old }
+{
+    if let Err(_) = queue.schedule(update.due(), Item::Late(update)) {
+        return Err(AllocError);
+    }
+    Ok(())
+}
 
 /// An update enters the list of those due in the slot, or the queue; without room it enters none.
 #[inline(always)]
@@ -23,15 +39,12 @@ pub(crate) fn enter<Q: EventQueue<Item>>(
     ensures unqueued { OnErr result (SameBag (Q.bag queue.new) (Q.bag queue.old)) }
     ensures clock { Q.clock queue.new ≡ Q.clock queue.old }
 {
-    let time = update.due();
-    if time == queue.now() {
-        due.push_back(update)?;
+    if update.due() == queue.now() {
+        due.reserve(1)?;
+        due.push_back_reserved(update);
         return Ok(());
     }
-    if let Err(_) = queue.schedule(time, Item::Late(update)) {
-        return Err(AllocError);
-    }
-    Ok(())
+    enter_queue(queue, update)
 }
 
 /// A process whose delay is over, or an update that is due, goes to its list; the answer is whether it found room there.

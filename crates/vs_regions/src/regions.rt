@@ -1,5 +1,5 @@
 //! What waits in a slot and behind it.
-ghost use Rattle.std.specs.Prelude.{ℕ, ◌≡◌, ◌≢◌, ◌++◌, ◌∷◌, [], ◌<◌, ◌≤◌, ◌+◌, ◌^◌, ◌↔◌, true, false, length, filter, map, slice_get, IsTrue, IfSome, OnOk, OnErr, MatchOption};
+ghost use Rattle.std.specs.Prelude.{ℕ, ◌≡◌, ◌≢◌, ◌++◌, ◌∷◌, [], ◌<◌, ◌≤◌, ◌+◌, ◌^◌, ◌↔◌, true, false, length, filter, map, slice_get, option_map, Some, IsTrue, IfNone, IfSome, OnSome, OnOk, OnErr, MatchOption};
 ghost use Rattle.std.specs.List.{list_any};
 ghost use Rattle.std.specs.Option.{ForSome};
 ghost use Rattle.vs_time_wheel.specs.Bag.{SameBag, events_at, least_time};
@@ -7,7 +7,7 @@ ghost use Rattle.vs_process.specs.Executions as executions;
 ghost use Rattle.vs_process.specs.States as states;
 ghost use Rattle.vs_regions.specs.Active.{is_active, not_due, place_of_active};
 
-use crate::active::{activate_each, is_first, take_at};
+use crate::active::{activate_each, drop_at, is_first, part_at, take_at};
 use crate::entry::{enter, take_due};
 use crate::item::Item;
 use crate::listed::Listed;
@@ -16,7 +16,7 @@ use std::alloc::{AllocError, Global};
 use std::collections::VecDeque;
 use std::marker::Model;
 use std::mem;
-use vs_design::{Ticks, Write};
+use vs_design::{Part, Ticks, Write};
 use vs_time_wheel::EventQueue;
 
 /// What waits in a slot and behind it: the inactive processes in the order of their arrival, the nonblocking updates, and the ends of delays.
@@ -155,6 +155,23 @@ impl<Q: EventQueue<Item>> Regions<Q> {
         };
         self.updates = self.updates.next(&index);
         Some(update)
+    }
+
+    /// Takes out the activated update of this number among these where it writes one part, and answers that part; another one stays.
+    #[inline(always)]
+    pub fn take_part(&mut self, index: usize) -> Option<Part>
+        ensures taken { IfSome result (λ part. option_map (λ u. u.what)
+            (slice_get self.old.updates (place_of_active index self.old.updates)) ≡ Some (part ∷ [])) }
+        ensures rest { OnSome result
+            (self.new ≡ record self.old { updates = states.without (place_of_active index self.old.updates) self.old.updates }) }
+        ensures kept { IfNone result (self.new ≡ self.old) }
+    {
+        let Some(part) = part_at(&self.active, index) else {
+            return None;
+        };
+        drop_at(&mut self.active, index);
+        self.updates = self.updates.next(&index);
+        Some(part)
     }
 
     /// The updates that are due in this slot are activated.

@@ -1,10 +1,10 @@
 //! Nonblocking updates in a run.
-ghost use Rattle.std.specs.Prelude.{◌≡◌, ◌&&◌, ◌||◌, ◌==◌, false};
+ghost use Rattle.std.specs.Prelude.{◌≡◌, ◌&&◌, ◌||◌, ◌==◌, ◌∷◌, [], false, IfSome};
 ghost use Rattle.vs_design.specs.Writes.{shares};
 ghost use Rattle.vs_process.specs.States as states;
 
 use std::marker::Model;
-use vs_design::Write;
+use vs_design::{Part, Write};
 
 /// A nonblocking update that waits (IEEE 1364-2005, clause 9.2.2).
 #[derive(Drop)]
@@ -75,6 +75,18 @@ impl Update {
         ensures { result ≡ (self.now.active && shares self.now.what newer.now.what) }
     {
         self.active && self.what.shares(&newer.what)
+    }
+
+    /// What it writes, where that is one part.
+    #[inline(always)]
+    pub(crate) fn part(&self) -> Option<Part>
+        ensures { IfSome result (λ part. self.now.what ≡ part ∷ []) }
+    {
+        let parts = self.what.parts();
+        if parts.len() == 1 {
+            return Some(parts[0]);
+        }
+        None
     }
 
     /// What it writes.

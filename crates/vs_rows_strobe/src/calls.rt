@@ -105,7 +105,7 @@ fn tell(
 ) -> Result<(), AllocError> {
     match effect {
         Effect::Nothing => out.push(b'n')?,
-        Effect::Update(ticks, _) => {
+        Effect::Update(ticks, _) | Effect::Part(ticks, _) => {
             out.push(b'u')?;
             out.push(b'0' + (ticks.count % 10) as u8)?;
         }

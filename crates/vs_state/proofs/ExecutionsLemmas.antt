@@ -1,5 +1,5 @@
 -- Moves of assignments and updates, and the ends of regions.
-use Rattle.std.proofs.Common.{◌≡◌, ℕ, zero, suc, ◌≤◌, ◌||◌, ◌&&◌, not, Bool, true, false, Option, Some, None, List, [], ◌∷◌, map, slice_get, slice_set, refl, sym, ◌∙◌, ap, ap₂, subst, arith}
+use Rattle.std.proofs.Common.{◌≡◌, ℕ, zero, suc, ◌≤◌, ◌||◌, ◌&&◌, not, Bool, true, false, Option, Some, None, List, [], ◌∷◌, map, option_map, slice_get, slice_set, refl, sym, ◌∙◌, ap, ap₂, subst, arith}
 use Rattle.std.specs.List.{list_any}
 use Rattle.std.specs.Option.{ForSome}
 use Rattle.std.proofs.lemmas.Bool.{and_parts, or_parts}
@@ -48,14 +48,24 @@ least_next next time h = λ due e. let same : due ≡ time = cc in omega arith
 
 -- ---- moves
 
+-- a nonblocking update, where there is one of this write
+made_of : (s : State) (i : ℕ) (o : Option Update) (w : Write) → option_map (λ (u : Update). u.what) o ≡ Some w → written (record s { updates = without i s.updates }) w ≡ make s i o
+made_of s i None w h = cc
+made_of s i (Some u) w h = ap (λ (o : Option Write). written (record s { updates = without i s.updates }) (inner o)) (sym h)
+  where
+    inner : Option Write → Write
+    inner None = w
+    inner (Some v) = v
+
 -- a nonblocking update that is taken out of the list and written
-pub make_at : {s now : State} (e : s ≡ now) (k time : ℕ) (u : Update) (places : List Place) (us : List Update) (w : Write) → slice_get s.updates (place_of_active k s.updates) ≡ Some u →
-    places ≡ s.places → time ≡ s.time → us ≡ without (place_of_active k s.updates) s.updates → u.what ≡ w → written (record s { places = places; time = time; updates = us }) w ≡ apply (told now (Make k)) now
-make_at {s} {now} e k time u places us w here still same gone what =
+pub make_at : {s now : State} (e : s ≡ now) (k time : ℕ) (places : List Place) (us : List Update) (w : Write) →
+    option_map (λ (u : Update). u.what) (slice_get s.updates (place_of_active k s.updates)) ≡ Some w → places ≡ s.places → time ≡ s.time →
+    us ≡ without (place_of_active k s.updates) s.updates → written (record s { places = places; time = time; updates = us }) w ≡ apply (told now (Make k)) now
+make_at {s} {now} e k time places us w here still same gone =
     let i = place_of_active k s.updates in
     subst (λ (t : State). written (record s { places = places; time = time; updates = us }) w ≡ apply (told t (Make k)) t) e
     (ap₂ (λ (ps : List Place) (n : ℕ). written (record s { places = ps; time = n; updates = us }) w) still same
-    ∙ ap (written (record s { updates = us })) (sym what) ∙ ap (λ (l : List Update). written (record s { updates = l }) u.what) gone ∙ sym (ap (make s i) here))
+    ∙ ap (λ (l : List Update). written (record s { updates = l }) w) gone ∙ made_of s i (slice_get s.updates i) w here)
 
 -- no nonblocking update
 pub make_past : {s now : State} (e : s ≡ now) (k time : ℕ) (places : List Place) (us : List Update) → slice_get s.updates (place_of_active k s.updates) ≡ None →

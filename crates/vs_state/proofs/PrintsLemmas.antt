@@ -13,6 +13,7 @@ use Rattle.vs_state.specs.Prints.{line_of, stepped_line, made_line}
 
 line_is : (next : Next) (w : Option Write) (effect : Effect) → (out_of next w effect).line ≡ line_of effect
 line_is next w e.Nothing = refl
+line_is next w (e.Part ticks p) = refl
 line_is next w (e.Update ticks u) = refl
 line_is next w (e.Strobe f) = refl
 line_is next w (e.Line text) = refl

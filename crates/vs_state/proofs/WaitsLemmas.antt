@@ -296,6 +296,10 @@ effect_at : (s : State) (i : ℕ) (x y : Place) (next : Next) (w : Option Write)
 effect_at s i x y next w e.Nothing store places assigns h over =
     ap₂ (λ (z : Place) (f : Bool). record s { store = store; places = slice_set places i z; assigns = assigns; finishing = f }) h (sym (or-false s.finishing))
     ∙ sym (ap (λ (t : State). record t { places = slice_set t.places i (place_behind x s.time next); updates = s.updates; calls = s.calls; finishing = s.finishing || false }) over)
+effect_at s i x y next w (e.Part ticks p) store places assigns h over =
+    let made : List Update = s.updates ++ record { by = i; due = s.time + ticks.count; active = false; what = p ∷ [] } ∷ [] in
+    ap₂ (λ (z : Place) (f : Bool). record s { store = store; places = slice_set places i z; assigns = assigns; updates = made; finishing = f }) h (sym (or-false s.finishing))
+    ∙ sym (ap (λ (t : State). record t { places = slice_set t.places i (place_behind x s.time next); updates = made; calls = s.calls; finishing = s.finishing || false }) over)
 effect_at s i x y next w (e.Update ticks u) store places assigns h over =
     let made : List Update = s.updates ++ record { by = i; due = s.time + ticks.count; active = false; what = u } ∷ [] in
     ap₂ (λ (z : Place) (f : Bool). record s { store = store; places = slice_set places i z; assigns = assigns; updates = made; finishing = f }) h (sym (or-false s.finishing))

@@ -54,6 +54,8 @@ HasSources d s = AreOf d s.assigns
 -- the state behind what a step of a process does beyond its place and its write
 abbrev pub behind_effect : State → ℕ → Effect → State
 behind_effect s process e.Nothing = s
+behind_effect s process (e.Part ticks p) =
+    record s { updates = s.updates ++ record { by = process; due = s.time + ticks.count; active = false; what = p ∷ [] } ∷ [] }
 behind_effect s process (e.Update ticks w) =
     record s { updates = s.updates ++ record { by = process; due = s.time + ticks.count; active = false; what = w } ∷ [] }
 behind_effect s process (e.Strobe f) = record s { calls = s.calls ++ record { by = process; call = f.now } ∷ [] }

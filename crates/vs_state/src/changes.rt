@@ -1,5 +1,5 @@
 //! Changes of assignments and places.
-ghost use Rattle.std.specs.Prelude.{◌≡◌, ◌∷◌, [], Some, false, length, map, IfSome, OnOk};
+ghost use Rattle.std.specs.Prelude.{◌≡◌, Some, false, length, map, OnOk};
 ghost use Rattle.vs_design.specs.Stores.{put_part};
 ghost use Rattle.vs_edges.specs.Differences.{sees, word_changes};
 ghost use Rattle.vs_flatcode.specs.Changes.{changed_part, changed_word};
@@ -12,7 +12,7 @@ ghost use Rattle.vs_places.specs.Triggers.{changed_all, triggered_by};
 use crate::assigns::Assigns;
 use crate::woken::Woken;
 use std::alloc::AllocError;
-use vs_design::{Design, Part, Reader, Store, Write};
+use vs_design::{Design, Part, Reader, Store};
 use vs_edges::{Sensitivity, difference, sees};
 use vs_flatcode::Change;
 use vs_logic4::Vec4;
@@ -260,16 +260,4 @@ pub(crate) fn write_part<Q: EventQueue<Item>>(
         )?;
     }
     Ok(())
-}
-
-/// The part of a write that has no other one.
-#[inline(always)]
-pub(crate) fn single(write: &Write) -> Option<Part>
-    ensures { IfSome result (λ part. write.now ≡ part ∷ []) }
-{
-    let parts = write.parts();
-    if parts.len() == 1 {
-        return Some(parts[0]);
-    }
-    None
 }

@@ -13,4 +13,5 @@ mod state;
 mod woken;
 
 pub use called::Called;
+pub use moves::Made;
 pub use state::State;

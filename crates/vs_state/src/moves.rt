@@ -1,7 +1,7 @@
 //! The moves of a run: each makes of the state what the definition's move makes of it.
 //!
-//! `make` is inlined into the loops of a run, which the compiler does only while it is small with all that is inlined into it. So the updates
-//! of continuous assignments and the nonblocking ones stand apart from it.
+//! `make` is inlined into the loops of a run, which the compiler does only while it is small with all that is inlined into it. So what a step of a
+//! process doesn't need stands apart from it.
 ghost use Rattle.std.specs.Prelude.{◌≡◌, ◌<◌, ◌^◌, ◌∷◌, [], true, false, is_some, slice_get, IfOk, OnOk};
 ghost use Rattle.vs_process.specs.Executions as executions;
 ghost use Rattle.vs_flatcode.specs.Places.{is_going};
@@ -13,19 +13,27 @@ ghost use Rattle.vs_state.specs.Told.{told};
 ghost use Rattle.vs_state.specs.Waits.{HasTerms};
 
 use crate::called::Called;
-use crate::changes::{follow, single, write_part};
+use crate::changes::{follow, write_part};
 use crate::state::State;
 use std::alloc::AllocError;
 use std::mem;
-use vs_design::{Design, Part};
+use vs_design::{Design, Part, Write};
 use vs_flatcode::{assign, is_nothing, make, only_part};
 use vs_process::{Effect, Move};
 use vs_regions::Item;
 use vs_time_wheel::EventQueue;
 
+/// What is known of the state behind a move.
+#[derive(Clone, Copy)]
+pub struct Made {
+    /// Whether the same move is enabled once more, as far as this is known: that of a process that goes on.
+    pub again: bool,
+    /// Whether the move has changed no word, made no line and woken nothing, as far as this is known.
+    pub quiet: bool,
+}
+
 impl<'a, Q: EventQueue<Item>> State<'a, Q> {
     /// Does what a step of a process does beyond its place and its write; the line that it makes takes the place of `line`.
-    #[inline(never)]
     fn perform(
         &mut self,
         process: usize,
@@ -39,19 +47,24 @@ impl<'a, Q: EventQueue<Item>> State<'a, Q> {
         ensures store { self.new.store ≡ self.old.store }
         ensures places { self.new.places ≡ self.old.places }
     {
-        match mem::replace(effect, Effect::Nothing) {
+        match effect {
             Effect::Nothing => {}
+            Effect::Part(ticks, part) => {
+                let write = Write::one(self.alloc, *part);
+                self.processes.push(process, *ticks, write)?;
+            }
             Effect::Update(ticks, write) => {
-                self.processes.push(process, ticks, write)?;
+                let write = mem::replace(write, Write::new(self.alloc));
+                self.processes.push(process, *ticks, write)?;
             }
             Effect::Strobe(format) => {
                 self.calls.push(Called {
                     by: process,
-                    format,
+                    format: *format,
                 })?;
             }
             Effect::Line(text) => {
-                *line = text;
+                mem::swap(line, text);
             }
             Effect::Finish => {
                 self.finishing = true;
@@ -60,35 +73,39 @@ impl<'a, Q: EventQueue<Item>> State<'a, Q> {
         Ok(())
     }
 
-    /// Makes a step of an active process, as `make` does. The answer is whether the process is still active; an active one may be told as another.
+    /// Makes a step of an active process, as `make` does.
     #[inline(always)]
-    pub fn step(
+    fn step(
         &mut self,
         design: &Design,
         process: usize,
         changed: &mut Vec<usize>,
         effect: &mut Effect<'a>,
         line: &mut Vec<u8>,
-    ) -> Result<bool, AllocError>
+    ) -> Result<Made, AllocError>
         requires active { executions.if_some is_going (slice_get self.old.places process) ≡ true }
         requires early { self.old.time < 2 ^ 62 }
         requires sources { HasSources design.now self.old }
         requires terms { HasTerms design.now self.old }
-        ensures going { IfOk result (λ going. going ≡ true → executions.is_enabled self.new (Move.Step process) ≡ true) }
+        requires empty { line.old.items ≡ [] }
+        ensures again { IfOk result (λ made. made.again ≡ true → executions.is_enabled self.new (Move.Step process) ≡ true) }
+        ensures quiet { IfOk result (λ made. made.quiet ≡ true
+            → CoverChanges [] self.old.store self.new.store × (line.new.items ≡ [])) }
         ensures state { OnOk result (self.new ≡ states.stepped self.old process (slice_get self.old.places process)) }
         ensures line { OnOk result (line.new.items ≡ made_text (made_line (Move.Step process) self.old)) }
         ensures covers { OnOk result (CoverChanges changed.new.items self.old.store self.new.store) }
     {
-        line.clear();
-        self.woken.clear();
         self.changes.clear();
-        let going = self.processes.step(
+        let again = self.processes.step(
             process,
             self.alloc,
             &mut self.store,
             &mut self.changes,
             effect,
         )?;
+        if self.changes.is_empty() && is_nothing(effect) {
+            return Ok(Made { again, quiet: true });
+        }
         follow(
             &mut self.assigns,
             &mut self.processes,
@@ -97,11 +114,11 @@ impl<'a, Q: EventQueue<Item>> State<'a, Q> {
             &self.changes,
             changed,
         )?;
-        if is_nothing(effect) {
-            return Ok(going);
-        }
         self.perform(process, effect, line)?;
-        Ok(going)
+        Ok(Made {
+            again,
+            quiet: false,
+        })
     }
 
     /// The evaluation of a continuous assignment.
@@ -114,6 +131,15 @@ impl<'a, Q: EventQueue<Item>> State<'a, Q> {
         self.assigns
             .evaluate(assign, self.alloc, &self.store, time)?;
         Ok(())
+    }
+
+    /// The same, apart from the loops of a run.
+    #[inline(never)]
+    fn evaluate_apart(&mut self, assign: usize) -> Result<(), AllocError>
+        ensures made { OnOk result (self.new ≡ states.evaluate self.old assign (slice_get self.old.assigns assign)) }
+        ensures store { self.new.store ≡ self.old.store }
+    {
+        self.evaluate(assign)
     }
 
     /// A write of one part, and what follows from it.
@@ -189,9 +215,9 @@ impl<'a, Q: EventQueue<Item>> State<'a, Q> {
         Ok(())
     }
 
-    /// A nonblocking update, by its number among the activated ones.
+    /// A nonblocking update of any number of parts, by its number among the activated ones.
     #[inline(never)]
-    fn update(
+    fn update_parts(
         &mut self,
         design: &Design,
         index: usize,
@@ -205,10 +231,6 @@ impl<'a, Q: EventQueue<Item>> State<'a, Q> {
         let Some(update) = self.processes.take(index) else {
             return Ok(());
         };
-        if let Some(part) = single(update.what()) {
-            self.write(design, part, changed)?;
-            return Ok(());
-        }
         self.changes.clear();
         make(&mut self.store, update.what(), &mut self.changes)?;
         follow(
@@ -220,6 +242,26 @@ impl<'a, Q: EventQueue<Item>> State<'a, Q> {
             changed,
         )?;
         Ok(())
+    }
+
+    /// A nonblocking update, by its number among the activated ones. One of one part stays where it is until it is written, and isn't copied.
+    #[inline(never)]
+    fn update(
+        &mut self,
+        design: &Design,
+        index: usize,
+        changed: &mut Vec<usize>,
+    ) -> Result<(), AllocError>
+        requires sources { HasSources design.now self.old }
+        requires terms { HasTerms design.now self.old }
+        ensures made { OnOk result (self.new ≡ executions.apply (told self.old (Move.Make index)) self.old) }
+        ensures covers { OnOk result (CoverChanges changed.new.items self.old.store self.new.store) }
+    {
+        if let Some(part) = self.processes.take_part(index) {
+            self.write(design, part, changed)?;
+            return Ok(());
+        }
+        self.update_parts(design, index, changed)
     }
 
     /// The slot ends: time goes to the least due time, or the execution is over.
@@ -244,7 +286,7 @@ impl<'a, Q: EventQueue<Item>> State<'a, Q> {
     /// Makes an enabled move, and notes in `changed` the signals that it may change; the line that it makes at once, with the line feed that
     /// ends it, takes the place of `line` (IEEE 1364-2005, clause 17.1.1). `effect` is room to work in. A move tells a nonblocking update by its
     /// number among the activated ones, the oldest being 0. The lines of the calls of `$strobe` are the caller's to make before the end of the
-    /// slot, of `calls`.
+    /// slot, of `calls`. An enabled move may be told as another.
     #[inline(always)]
     pub fn make(
         &mut self,
@@ -253,12 +295,15 @@ impl<'a, Q: EventQueue<Item>> State<'a, Q> {
         changed: &mut Vec<usize>,
         effect: &mut Effect<'a>,
         line: &mut Vec<u8>,
-    ) -> Result<(), AllocError>
+    ) -> Result<Made, AllocError>
         requires going { self.old.over ≡ false }
         requires enabled { executions.is_enabled self.old (told self.old choice) ≡ true }
         requires early { self.old.time < 2 ^ 62 }
         requires sources { HasSources design.now self.old }
         requires terms { HasTerms design.now self.old }
+        ensures again { IfOk result (λ made. made.again ≡ true → executions.is_enabled self.new (told self.new choice) ≡ true) }
+        ensures quiet { IfOk result (λ made. made.quiet ≡ true
+            → CoverChanges [] self.old.store self.new.store × (line.new.items ≡ [])) }
         ensures state { OnOk result (self.new ≡ executions.apply (told self.old choice) self.old) }
         ensures line { OnOk result (line.new.items ≡ made_text (made_line choice self.old)) }
         ensures covers { OnOk result (CoverChanges changed.new.items self.old.store self.new.store) }
@@ -266,16 +311,17 @@ impl<'a, Q: EventQueue<Item>> State<'a, Q> {
         line.clear();
         self.woken.clear();
         match choice {
-            Move::Step(process) => {
-                self.step(design, process, changed, effect, line)?;
-            }
-            Move::Evaluate(assign) => self.evaluate(assign)?,
+            Move::Step(process) => return self.step(design, process, changed, effect, line),
+            Move::Evaluate(assign) => self.evaluate_apart(assign)?,
             Move::Propagate(assign) => self.propagate(design, assign, changed)?,
             Move::Make(index) => self.update(design, index, changed)?,
             Move::Rouse => self.processes.rouse_all(&mut self.woken.processes),
             Move::Activate => self.processes.activate(),
             Move::EndSlot => self.end_slot()?,
         }
-        Ok(())
+        Ok(Made {
+            again: false,
+            quiet: false,
+        })
     }
 }

@@ -15,13 +15,13 @@ use vs_agenda::{Agenda, AssignEvent, Choice};
 use vs_design::Design;
 use vs_process::{Effect, Move};
 use vs_regions::Item;
-use vs_state::State;
+use vs_state::{Made, State};
 use vs_time_wheel::EventQueue;
 use vs_vcd::{Sink, VcdFault, write_all};
 
 /// Room to work in, kept from move to move.
 pub struct Room<'a> {
-    /// The signals that a move may have changed.
+    /// The signals that the moves since the last mark may have changed.
     pub changed: Vec<usize>,
     /// What a step does to the rest of the state.
     pub effect: Effect<'a>,
@@ -61,11 +61,12 @@ pub fn advance<'a, Q: EventQueue<Item>, L: Sink>(
     room: &mut Room<'a>,
     lines: &mut L,
     choice: Move,
-) -> Result<(), VcdFault>
+) -> Result<Made, VcdFault>
     requires going { state.old.over ≡ false }
     requires enabled { executions.is_enabled state.old (told state.old choice) ≡ true }
     requires early { state.old.time < 2 ^ 62 }
     requires reached { IsReached design.now state.old }
+    ensures again { IfOk result (λ made. made.again ≡ true → executions.is_enabled state.new (told state.new choice) ≡ true) }
     ensures state { OnOk result (state.new ≡ executions.apply (told state.old choice) state.old) }
     ensures marked { OnOk result (MarkChanges marks.old.items marks.new.items state.old.store state.new.store) }
     ensures len { length marks.new.items ≡ length marks.old.items }
@@ -73,52 +74,20 @@ pub fn advance<'a, Q: EventQueue<Item>, L: Sink>(
     ensures part { OnErr result (AppendsPart (L.bytes lines.old) (L.bytes lines.new) (made_text (made_line choice state.old))) }
     ensures failures { L.failed lines.new ≡ failed_after (is_write_fault result) (L.failed lines.old) }
 {
-    room.changed.clear();
-    state.make(
+    let made = state.make(
         design,
         choice,
         &mut room.changed,
         &mut room.effect,
         &mut room.line,
     )?;
+    if made.quiet {
+        return Ok(made);
+    }
     mark_all(marks, &room.changed);
-    print(lines, &room.line)?;
-    Ok(())
-}
-
-/// Takes a step of an active process, as `advance` does. The answer is whether the process is still active; an active one may be told as another.
-#[inline(always)]
-fn advance_step<'a, Q: EventQueue<Item>, L: Sink>(
-    state: &mut State<'a, Q>,
-    design: &Design,
-    marks: &mut Vec<u64>,
-    room: &mut Room<'a>,
-    lines: &mut L,
-    process: usize,
-) -> Result<bool, VcdFault>
-    requires enabled { executions.is_enabled state.old (Move.Step process) ≡ true }
-    requires early { state.old.time < 2 ^ 62 }
-    requires reached { IsReached design.now state.old }
-    ensures going { IfOk result (λ going. going ≡ true → executions.is_enabled state.new (Move.Step process) ≡ true) }
-    ensures state { OnOk result (state.new ≡ executions.apply (Move.Step process) state.old) }
-    ensures marked { OnOk result (MarkChanges marks.old.items marks.new.items state.old.store state.new.store) }
-    ensures len { length marks.new.items ≡ length marks.old.items }
-    ensures printed { OnOk result (Appends (L.bytes lines.old) (L.bytes lines.new) (made_text (made_line (Move.Step process) state.old))) }
-    ensures part { OnErr result
-        (AppendsPart (L.bytes lines.old) (L.bytes lines.new) (made_text (made_line (Move.Step process) state.old))) }
-    ensures failures { L.failed lines.new ≡ failed_after (is_write_fault result) (L.failed lines.old) }
-{
     room.changed.clear();
-    let going = state.step(
-        design,
-        process,
-        &mut room.changed,
-        &mut room.effect,
-        &mut room.line,
-    )?;
-    mark_all(marks, &room.changed);
     print(lines, &room.line)?;
-    Ok(going)
+    Ok(made)
 }
 
 /// Takes the steps of a process, one after another, until it is no longer active or so many are taken. The answer is how many were taken.
@@ -148,10 +117,12 @@ pub fn run_process<'a, Q: EventQueue<Item>, L: Sink>(
 {
     let mut taken = 0;
     loop {
-        let going = advance_step(state, design, marks, room, lines, process)?;
-        agenda.add_woken(state)?;
+        let made = advance(state, design, marks, room, lines, Move::Step(process))?;
+        if !made.quiet {
+            agenda.add_woken(state)?;
+        }
         taken += 1;
-        if !going {
+        if !made.again {
             agenda.remove(index);
             return Ok(taken);
         }

@@ -1,4 +1,4 @@
-use Rattle.std.proofs.Common.{subst}
+use Rattle.std.proofs.Common.{[], refl, sym, ◌∙◌, subst}
 use Rattle.std.specs.Io.KnownBytes.{Appends}
 use Rattle.vs_process.specs.States.{State}
 use Rattle.vs_state.specs.Prints.{made_line, made_text}
@@ -21,13 +21,25 @@ make-requires-clause-terms g c = subst (λ (s : State). HasTerms c.args.design.n
 pub returns-clause-marked : goal.returns-clause-marked
 returns-clause-marked g c =
     mark_changes c.args.marks.now.items c.mark_all.new.marks.items c.make.new.changed.items c.args.state.now.store c.make.new.self.store
-    (subst (AreMarked c.args.marks.now.items c.mark_all.new.marks.items) c.deref.ensures.value c.mark_all.ensures.marked) c.in_ok-make.ensures.covers
+    (subst (AreMarked c.args.marks.now.items c.mark_all.new.marks.items) c.deref.ensures.value c.mark_all.ensures.marked) c.in_ok-made.ensures.covers
+
+-- ---- a move that changes no word and makes no line
+
+pub returns-then-made-clause-marked : goal.returns-then-made-clause-marked
+returns-then-made-clause-marked g c =
+    mark_changes c.args.marks.now.items c.args.marks.now.items [] c.args.state.now.store c.make.new.self.store (λ v off. (off, λ within. refl)) (c.in_ok-made.ensures.quiet c.if-made.true).0
+
+pub returns-then-made-clause-printed : goal.returns-then-made-clause-printed
+returns-then-made-clause-printed g c =
+    subst (Appends (g.L.Sink.bytes c.args.lines.now) (g.L.Sink.bytes c.args.lines.now)) (sym (c.in_ok-made.ensures.quiet c.if-made.true).1 ∙ c.in_ok-made.ensures.line) (append_none (g.L.Sink.bytes c.args.lines.now))
+
+-- ---- another one
 
 pub returns-clause-printed : goal.returns-clause-printed
-returns-clause-printed g c = subst (Appends (g.L.Sink.bytes c.args.lines.now) (g.L.Sink.bytes c.print.new.lines)) c.in_ok-make.ensures.line c.in_ok-print.ensures.ok
+returns-clause-printed g c = subst (Appends (g.L.Sink.bytes c.args.lines.now) (g.L.Sink.bytes c.print.new.lines)) c.in_ok-made.ensures.line c.in_ok-print.ensures.ok
 
-pub returns-in_err-make-clause-part : goal.returns-in_err-make-clause-part
-returns-in_err-make-clause-part g c =
+pub returns-in_err-made-clause-part : goal.returns-in_err-made-clause-part
+returns-in_err-made-clause-part g c =
     let none : AppendsPart (g.L.Sink.bytes c.args.lines.now) (g.L.Sink.bytes c.args.lines.now) (made_text (made_line c.args.choice c.args.state.now)) =
     (0, append_none (g.L.Sink.bytes c.args.lines.now))
     in
@@ -35,4 +47,4 @@ returns-in_err-make-clause-part g c =
 
 pub returns-in_err-print-clause-part : goal.returns-in_err-print-clause-part
 returns-in_err-print-clause-part g c =
-    on_err _ (subst (AppendsPart (g.L.Sink.bytes c.args.lines.now) (g.L.Sink.bytes c.print.new.lines)) c.in_ok-make.ensures.line c.in_err-print.ensures.err)
+    on_err _ (subst (AppendsPart (g.L.Sink.bytes c.args.lines.now) (g.L.Sink.bytes c.print.new.lines)) c.in_ok-made.ensures.line c.in_err-print.ensures.err)

@@ -5,8 +5,8 @@ use Rattle.vs_turns.specs.Turns.{IsReached}
 use Rattle.vs_turns.proofs.TurnsLemmas.{Along}
 use Rattle.vs_turns.proofs.moves.run_process.Given as goal
 
-abbrev pub invariant-loop-going : goal.invariant-loop-going
-invariant-loop-going g l = record {
+abbrev pub invariant-loop-made : goal.invariant-loop-made
+invariant-loop-made g l = record {
   run : Along l.taken (Step l.process) (Step l.process) l.fn.state l.state (g.L.Sink.bytes l.fn.lines) (g.L.Sink.bytes l.lines);
   reached : IsReached l.design l.state;
   within : l.taken < l.steps;
@@ -15,5 +15,5 @@ invariant-loop-going g l = record {
   failures : g.L.Sink.failed l.lines ≡ g.L.Sink.failed l.fn.lines;
 }
 
-abbrev pub decreases-loop-going : goal.decreases-loop-going
-decreases-loop-going g l = l.steps - l.taken
+abbrev pub decreases-loop-made : goal.decreases-loop-made
+decreases-loop-made g l = l.steps - l.taken

@@ -1,8 +1,8 @@
 use Rattle.std.proofs.Common.{◌≡◌, ℤ, pos, w64, to_z, sym, ap, ◌∙◌, arith}
 use Rattle.std.proofs.lemmas.Int.{to_z-of_z, to_z_pos}
 use Rattle.vs_logic4.specs.Parts.{with_part}
-use Rattle.vs_flatcode.proofs.Quick.{put_whole}
-use Rattle.vs_flatcode.proofs.changes.laid.Goals as goal
+use Rattle.vs_design.proofs.Quick.{put_whole}
+use Rattle.vs_design.proofs.store.laid.Goals as goal
 
 pub returns-then-width : goal.returns-then-width
 returns-then-width c =
