@@ -5,7 +5,7 @@ ghost use Rattle.std.specs.Prelude.{◌≡◌, true, IfSome};
 ghost use Rattle.vs_process.specs.Executions as executions;
 ghost use Rattle.vs_agenda.specs.AssignEvents.{move_of};
 
-use crate::entries::{AssignEvent, AssignNext, Entries, Entry, Event};
+use crate::entries::{AssignEvent, Entries, Entry, Event};
 use crate::policy::Pick;
 use std::alloc::{AllocError, Global};
 use vs_design::Write;
@@ -249,33 +249,18 @@ impl Agenda {
         }
     }
 
-    /// The next event, where it is one of a continuous assignment and enabled: the update of this one, which isn't listed, or else the first
-    /// of the list.
+    /// The first event, where it is one of a continuous assignment and enabled.
     #[inline(always)]
-    pub fn next_assign<Q: EventQueue<Item>>(
-        &self,
-        unlisted: Option<usize>,
-        state: &State<Q>,
-    ) -> Option<AssignNext>
-        ensures { IfSome result (λ next. executions.is_enabled state.now (move_of next.event) ≡ true) }
+    pub fn first_assign<Q: EventQueue<Item>>(&self, state: &State<Q>) -> Option<AssignEvent>
+        ensures { IfSome result (λ next. executions.is_enabled state.now (move_of next) ≡ true) }
     {
-        if let Some(assign) = unlisted
-            && state.is_pending(assign)
-        {
-            return Some(AssignNext {
-                event: AssignEvent::Propagate(assign),
-                index: None,
-            });
+        match self.entries.get(0)?.event {
+            Event::Evaluate(assign) if state.needs(assign) => Some(AssignEvent::Evaluate(assign)),
+            Event::Propagate(assign) if state.is_pending(assign) => {
+                Some(AssignEvent::Propagate(assign))
+            }
+            _ => None,
         }
-        let event = match self.entries.get(0)?.event {
-            Event::Evaluate(assign) if state.needs(assign) => AssignEvent::Evaluate(assign),
-            Event::Propagate(assign) if state.is_pending(assign) => AssignEvent::Propagate(assign),
-            _ => return None,
-        };
-        Some(AssignNext {
-            event,
-            index: Some(0),
-        })
     }
 
     /// Takes the event at an index out of the list.
@@ -435,8 +420,7 @@ impl Agenda {
             }
             Move::Evaluate(assign) => self.follow_evaluation(assign, made.index, state),
             Move::Propagate(assign) => {
-                self.remove(made.index);
-                self.set_proposed(assign, None);
+                self.remove_update(assign, made.index);
                 Ok(())
             }
             Move::Make(_) => {
@@ -460,26 +444,9 @@ impl Agenda {
         Ok(())
     }
 
-    /// Brings the list up to date behind an evaluation of a continuous assignment, where its event stood at an index. Its update isn't listed
-    /// where it is next, and the answer is then the assignment.
-    #[inline(always)]
-    pub fn follow_first<Q: EventQueue<Item>>(
-        &mut self,
-        assign: usize,
-        index: Option<usize>,
-        state: &State<Q>,
-    ) -> Result<Option<usize>, AllocError> {
-        if self.is_alone(index) && state.is_pending(assign) {
-            self.remove(index);
-            return Ok(Some(assign));
-        }
-        self.follow_evaluation(assign, index, state)?;
-        Ok(None)
-    }
-
     /// Whether the event at an index, where it stands in the list, is the only one.
     #[inline(always)]
-    fn is_alone(&self, index: Option<usize>) -> bool {
+    pub fn is_alone(&self, index: Option<usize>) -> bool {
         match index {
             Some(_) => self.entries.len() == 1,
             None => self.entries.len() == 0,
@@ -488,7 +455,7 @@ impl Agenda {
 
     /// Brings the list up to date behind an evaluation: its event leaves, and the update enters at the end, or leaves, with the value that waits.
     #[inline(always)]
-    fn follow_evaluation<Q: EventQueue<Item>>(
+    pub fn follow_evaluation<Q: EventQueue<Item>>(
         &mut self,
         assign: usize,
         index: Option<usize>,
@@ -509,6 +476,26 @@ impl Agenda {
             self.set_proposed(assign, None);
         }
         Ok(())
+    }
+
+    /// Brings the list up to date behind the update of a continuous assignment, where its event stood at an index.
+    #[inline(always)]
+    pub fn follow_propagation<Q: EventQueue<Item>>(
+        &mut self,
+        assign: usize,
+        index: Option<usize>,
+        state: &State<Q>,
+    ) -> Result<(), AllocError> {
+        self.add_woken(state)?;
+        self.remove_update(assign, index);
+        Ok(())
+    }
+
+    /// Takes the update of a continuous assignment, which stands at an index, out of the list.
+    #[inline(always)]
+    fn remove_update(&mut self, assign: usize, index: Option<usize>) {
+        self.remove(index);
+        self.set_proposed(assign, None);
     }
 
     /// Notes where the update of a continuous assignment is listed.

@@ -26,13 +26,6 @@ pub enum AssignEvent {
     Propagate(usize),
 }
 
-/// An event of a continuous assignment and its index in the list, where it stands in it.
-#[derive(Clone, Copy)]
-pub struct AssignNext {
-    pub event: AssignEvent,
-    pub index: Option<usize>,
-}
-
 /// An event in the list.
 #[derive(Clone, Copy)]
 pub(crate) struct Entry {

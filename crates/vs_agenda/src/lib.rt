@@ -6,5 +6,5 @@ mod entries;
 mod policy;
 
 pub use agenda::{Agenda, Choice};
-pub use entries::{AssignEvent, AssignNext};
+pub use entries::AssignEvent;
 pub use policy::{Fifo, Lifo, Listed, Pick};

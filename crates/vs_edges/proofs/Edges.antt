@@ -1,7 +1,8 @@
 -- Edges by the planes of words.
 use Rattle.std.proofs.Common.{◌≡◌, ℕ, zero, suc, ◌+◌, ◌-◌, ◌*◌, ◌/◌, ◌%◌, ◌^◌, ◌<◌, ◌≤◌, ◌==◌, min, max, Bool, true, false, Option, None, List, [], ◌∷◌, length, take, drop, get_or, bit_and, bit_or, w64, refl, sym, ◌∙◌, ap, ap₂, arith}
 use Rattle.std.specs.Int.{bit_at, bit_not}
-use Rattle.std.proofs.lemmas.Nat.Bits.{bit_at_and, bit_at_or, bit_at_not}
+use Rattle.std.specs.Int.Bits.{bit_xor}
+use Rattle.std.proofs.lemmas.Nat.Bits.{bit_at_and, bit_at_or, bit_at_xor, bit_at_not}
 use Rattle.std.proofs.lemmas.List.{drop_all}
 use Rattle.std.specs.Bool.{beq}
 use Rattle.std.proofs.Math.Nat.{pow-succ', div-div-eq-div-mul, zero-div}
@@ -11,7 +12,7 @@ use Rattle.vs_logic4.specs.declared.edge.Edge.{Edge}
 use Rattle.vs_logic4.specs.declared.edge.Edge.TheVariants.{Any, Posedge, Negedge}
 use Rattle.vs_logic4.specs.Edges.{is_edge}
 use Rattle.vs_logic4.specs.Planes.{digit_of_bits, value_bit, unknown_bit, value_plane, unknown_plane}
-use Rattle.vs_logic4.specs.PlaneLaws.{value_bit-lt, unknown_bit-lt}
+use Rattle.vs_logic4.specs.PlaneLaws.{value_bit-lt, unknown_bit-lt, digit_of_bits-of}
 use Rattle.vs_logic4.proofs.Bits.{holds4, tests4_at}
 use Rattle.vs_edges.specs.Waking.{first_digit, is_edge_of}
 
@@ -40,15 +41,9 @@ unknown_at (d ∷ ds) (suc i) = bit_above (unknown_bit d) (unknown_plane ds) i (
 
 -- ---- edges
 
-digit_of : (d : Digit) → digit_of_bits (value_bit d) (unknown_bit d) ≡ d
-digit_of Zero = refl
-digit_of One = refl
-digit_of X = refl
-digit_of Z = refl
-
 -- an edge by the bits of the digits before and behind
 pub edge_bits : Edge → ℕ → ℕ → ℕ → ℕ → ℕ
-edge_bits Any a b c d = max (max (min a (1 - c)) (min (1 - a) c)) (max (min b (1 - d)) (min (1 - b) d))
+edge_bits Any a b c d = max ((a + c) % 2) ((b + d) % 2)
 edge_bits Posedge a b c d = max (min (min (1 - a) (1 - b)) (max c d)) (min (min b c) (1 - d))
 edge_bits Negedge a b c d = max (min (min a (1 - b)) (max (1 - c) d)) (min (min b (1 - c)) (1 - d))
 
@@ -69,7 +64,7 @@ unfolding is_listed by_digits
 edge_by_bits edge d e =
     tests4_at (is_listed edge) (by_digits edge) (all_listed edge) (value_bit d) (unknown_bit d) (value_bit e) (unknown_bit e)
     (value_bit-lt d) (unknown_bit-lt d) (value_bit-lt e) (unknown_bit-lt e)
-    ∙ ap₂ (is_edge edge) (digit_of d) (digit_of e)
+    ∙ ap₂ (is_edge edge) (digit_of_bits-of d) (digit_of_bits-of e)
 
 -- ---- edges by the planes
 
@@ -91,16 +86,9 @@ negedge_at v u w t i hu hw ht h =
     (bit_at_and _ _ i ∙ ap₂ min (bit_at_and _ _ i ∙ ap (min (bit_at v i)) (bit_at_not w64 u i hu h)) (bit_at_or _ t i ∙ ap (λ (n : ℕ). max n (bit_at t i)) (bit_at_not w64 w i hw h)))
     (bit_at_and _ _ i ∙ ap₂ min (bit_at_and u _ i ∙ ap (min (bit_at u i)) (bit_at_not w64 w i hw h)) (bit_at_not w64 t i ht h))
 
-one_differs : (p q i : ℕ) → p < 2 ^ 64 → q < 2 ^ 64 → i < 64 →
-    bit_at (bit_or (bit_and p (bit_not w64 q)) (bit_and (bit_not w64 p) q)) i ≡ max (min (bit_at p i) (1 - bit_at q i)) (min (1 - bit_at p i) (bit_at q i))
-one_differs p q i hp hq h =
-    bit_at_or _ _ i
-    ∙ ap₂ max (bit_at_and p _ i ∙ ap (min (bit_at p i)) (bit_at_not w64 q i hq h)) (bit_at_and _ q i ∙ ap (λ (n : ℕ). min n (bit_at q i)) (bit_at_not w64 p i hp h))
-
-pub any_at : (v u w t i : ℕ) → v < 2 ^ 64 → u < 2 ^ 64 → w < 2 ^ 64 → t < 2 ^ 64 → i < 64 →
-    bit_at (bit_or (bit_or (bit_and v (bit_not w64 w)) (bit_and (bit_not w64 v) w)) (bit_or (bit_and u (bit_not w64 t)) (bit_and (bit_not w64 u) t))) i ≡ edge_bits Any (bit_at v i) (bit_at u i) (bit_at w i) (bit_at t i)
+pub any_at : (v u w t i : ℕ) → bit_at (bit_or (bit_xor v w) (bit_xor u t)) i ≡ edge_bits Any (bit_at v i) (bit_at u i) (bit_at w i) (bit_at t i)
 unfolding edge_bits
-any_at v u w t i hv hu hw ht h = bit_at_or _ _ i ∙ ap₂ max (one_differs v w i hv hw h) (one_differs u t i hu ht h)
+any_at v u w t i = bit_at_or _ _ i ∙ ap₂ max (bit_at_xor v w i) (bit_at_xor u t i)
 
 -- a number of which the bit at a place is this one of the bits of the planes there has the edge of the digits
 pub edge_at_place : (edge : Edge) (ds es : List Digit) {v u w t : ℕ} (number place : ℕ) → v ≡ value_plane ds → u ≡ unknown_plane ds → w ≡ value_plane es → t ≡ unknown_plane es →

@@ -16,10 +16,7 @@ fn edges(edge: Edge, before: Vec4, behind: Vec4) -> u64
     let value_behind = behind.value_plane();
     let unknown_behind = behind.unknown_plane();
     match edge {
-        Edge::Any => {
-            (value & !value_behind | !value & value_behind)
-                | (unknown & !unknown_behind | !unknown & unknown_behind)
-        }
+        Edge::Any => value ^ value_behind | unknown ^ unknown_behind,
         Edge::Posedge => {
             !value & !unknown & (value_behind | unknown_behind)
                 | unknown & value_behind & !unknown_behind

@@ -86,30 +86,9 @@ fn start_matching(
     None
 }
 
-/// The start of the item of a `case` that is taken, or what is behind the `case`.
-fn start_taken(
-    kind: CaseKind,
-    digits: Vec4,
-    store: &Store,
-    time: u64,
-    items: &[(Vec<Typed>, Statement)],
-    starts: &[usize],
-    behind: usize,
-) -> usize
-    ensures { result ≡ start_taken kind digits store.now time items.now starts.now behind }
-{
-    match start_matching(kind, digits, store, time, items, starts) {
-        Some(start) => start,
-        None => match start_default(items, starts) {
-            Some(start) => start,
-            None => behind,
-        },
-    }
-}
-
-/// Where a `case` on the value of an expression goes on, as `start_taken` of the value.
+/// Where a `case` on the value of an expression goes on: at the item that is taken, or behind the `case`.
 #[inline(never)]
-pub(crate) fn start_chosen(
+pub(crate) fn start_taken(
     kind: CaseKind,
     e: &Typed,
     store: &Store,
@@ -120,21 +99,22 @@ pub(crate) fn start_chosen(
 ) -> usize
     ensures { result ≡ start_taken kind (value_of e.now store.now time) store.now time items.now starts.now behind }
 {
-    start_taken(
-        kind,
-        quick_value(e, store, time),
-        store,
-        time,
-        items,
-        starts,
-        behind,
-    )
+    let digits = quick_value(e, store, time);
+    match start_matching(kind, digits, store, time, items, starts) {
+        Some(start) => start,
+        None => match start_default(items, starts) {
+            Some(start) => start,
+            None => behind,
+        },
+    }
 }
 
-/// How many turns a count of a `repeat` stands for: none where it is negative, or has a digit x or z.
-fn turns_for(signed: bool, digits: Vec4) -> u64
-    ensures { result ≡ turns_for signed digits }
+/// How often a `repeat` on the value of an expression is run: never where it is negative, or has a digit x or z.
+#[inline(never)]
+pub(crate) fn turns_for(signed: bool, e: &Typed, store: &Store, time: u64) -> u64
+    ensures { result ≡ turns_for signed (value_of e.now store.now time) }
 {
+    let digits = quick_value(e, store, time);
     if signed {
         match digits.to_signed() {
             Some(n) => if n < 0 { 0 } else { n as u64 },
@@ -143,12 +123,4 @@ fn turns_for(signed: bool, digits: Vec4) -> u64
     } else {
         digits.to_number().unwrap_or(0)
     }
-}
-
-/// How often a `repeat` on the value of an expression is run, as `turns_for` of the value.
-#[inline(never)]
-pub(crate) fn turns_of(signed: bool, e: &Typed, store: &Store, time: u64) -> u64
-    ensures { result ≡ turns_for signed (value_of e.now store.now time) }
-{
-    turns_for(signed, quick_value(e, store, time))
 }

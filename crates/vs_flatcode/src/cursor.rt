@@ -12,7 +12,7 @@ ghost use Rattle.vs_flatcode.specs.Codes.{job_of, StandsAt, IsEnd, IsFormatOf, I
 ghost use Rattle.vs_flatcode.specs.Landings.{landing, turned, statement_lands, lands, made_out, item_write, IsMade, IsCallMade, MakesUpdate};
 
 use crate::changes::{Change, assign, only_part};
-use crate::choices::{branch, loop_branch, start_chosen, turns_of};
+use crate::choices::{branch, loop_branch, start_taken, turns_for};
 use crate::code::Code;
 use crate::draft::{Extra, Op, Task};
 use crate::made::{Effect, Halt};
@@ -233,7 +233,7 @@ fn perform<'a>(
         }
         Statement::Case(_, kind, e, items) => {
             let starts = starts_of(&op.extra);
-            let place = start_chosen(*kind, e, store, time, items, starts, op.behind);
+            let place = start_taken(*kind, e, store, time, items, starts, op.behind);
             Ok((Halt::Nothing, place))
         }
         Statement::While(_, e, _) => {
@@ -241,7 +241,7 @@ fn perform<'a>(
             Ok((Halt::Nothing, place))
         }
         Statement::Repeat(_, signed, e, _) => {
-            let left = turns_of(*signed, e, store, time);
+            let left = turns_for(*signed, e, store, time);
             let place = turn(op, counters, left);
             Ok((Halt::Nothing, place))
         }

@@ -71,7 +71,7 @@ pub unknown_plane-lt : (ds : List Digit) → unknown_plane ds < 2 ^ length ds
 unknown_plane-lt [] = omega arith
 unknown_plane-lt (d ∷ ds) = omega (arith, unknown_bit-lt d, unknown_plane-lt ds, pow-succ' 2 (length ds))
 
-digit_of_bits-of : (d : Digit) → digit_of_bits (value_bit d) (unknown_bit d) ≡ d
+pub digit_of_bits-of : (d : Digit) → digit_of_bits (value_bit d) (unknown_bit d) ≡ d
 digit_of_bits-of Zero = refl
 digit_of_bits-of One = refl
 digit_of_bits-of X = refl

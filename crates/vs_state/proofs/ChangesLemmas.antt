@@ -1,22 +1,25 @@
 -- Which words and signals a move may change.
-use Rattle.std.proofs.Common.{◌≡◌, ℕ, ◌<◌, ◌==◌, ◌||◌, ◌&&◌, Bool, true, false, Option, Some, None, List, [], ◌∷◌, ◌++◌, length, slice_get, if◌then◌else◌, refl, sym, ◌∙◌, ap, ap₂, subst, arith}
+use Rattle.std.proofs.Common.{◌≡◌, ℕ, ◌<◌, ◌==◌, ◌||◌, ◌&&◌, not, Bool, true, false, Option, Some, None, option_map, List, [], ◌∷◌, ◌++◌, length, slice_get, if◌then◌else◌, refl, sym, ◌∙◌, ap, ap₂, subst, arith}
 use Rattle.std.specs.List.{list_any}
 use Rattle.std.proofs.lemmas.Bool.{ne_eqb, eqb-false, or_parts, or_from, false≢true}
 use Rattle.std.proofs.lemmas.List.Folds.{list_any-append}
 use Rattle.std.proofs.lemmas.Option.{same_Some}
 use Rattle.vs_logic4.specs.declared.digit.Digit.{Digit}
-use Rattle.vs_logic4.specs.Sameness.{same_digits-true}
+use Rattle.vs_logic4.specs.Sameness.{same_digits-true, same_digits_self}
 use Rattle.vs_logic4.specs.Vectors.{same_digits}
 use Rattle.vs_design.specs.declared.write.Part.{Part}
-use Rattle.vs_design.specs.Stores.{Store, word_of, put, put_part}
+use Rattle.vs_design.specs.Behind.{is_kept}
+use Rattle.vs_design.specs.Stores.{Store, changed_at, overlaid, word_in, word_of, put, put_part, changes_nothing}
 use Rattle.vs_design.specs.Uses.{all_words, has_word}
 use Rattle.vs_design.specs.Writes.{Write}
 use Rattle.vs_edges.specs.Differences.{HaveOneSize, bits_differ, word_changes, part_changes}
 use Rattle.vs_edges.proofs.StoresLemmas.{changed_by_parts, put_size}
+use Rattle.vs_flatcode.proofs.Holding.{holds_one}
 use Rattle.vs_flatcode.specs.declared.changes.Change.{Change}
 use Rattle.vs_flatcode.specs.Changes.{changed_word, changed_part, changed_words, store_behind, changes_of}
 use Rattle.vs_flatcode.specs.Steps.{has_nothing}
 use Rattle.vs_process.proofs.Assigns.{signal_kept}
+use Rattle.vs_process.proofs.Stores.{changed_same}
 use Rattle.vs_process.specs.States.{State}
 use Rattle.vs_places.specs.Listed.{is_number, names}
 use Rattle.vs_places.proofs.ListedLemmas.{is_itself, names-push}
@@ -162,3 +165,29 @@ covers_word signals more signal word before behind is = λ v none. by_test v non
     by_test v none false =
         let c : Change = record { signal = signal; word = word; before = before; behind = behind } in
         sym (noted signals more c (c ∷ []) [] v is refl none).1
+
+-- whether it is as it was
+pub part_told : (store new : Store) (p : Part) (before behind : List Digit) → new ≡ put_part store p → word_of store p.signal p.word ≡ Some before → word_of new p.signal p.word ≡ Some behind →
+    not (same_digits before behind) ≡ not (changes_nothing store (p ∷ []))
+part_told store new p before behind is a b =
+    let f : List Digit → List Digit = overlaid p.low p.digits in
+    let here : word_of (put_part store p) p.signal p.word ≡ option_map f (word_of store p.signal p.word) =
+    ap (λ (o : Option (List (List Digit))). word_in o p.word) (changed_same (changed_at f p.word) p.signal store) ∙ within f (slice_get store p.signal)
+    in
+    let there : Some behind ≡ Some (f before) = sym b ∙ ap (λ (s : Store). word_of s p.signal p.word) is ∙ here ∙ ap (option_map f) a in
+    ap not (ap (same_digits before) (same_Some behind (f before) there) ∙ sym (ap (is_kept f) a) ∙ holds_one store p)
+  where
+    within : (f : List Digit → List Digit) (o : Option (List (List Digit))) → word_in (option_map (changed_at f p.word) o) p.word ≡ option_map f (word_in o p.word)
+    within f None = refl
+    within f (Some words) = changed_same f p.word words
+
+pub part_missing : (store : Store) (p : Part) → word_of store p.signal p.word ≡ None → false ≡ not (changes_nothing store (p ∷ []))
+part_missing store p a = ap not (sym (ap (is_kept (overlaid p.low p.digits)) a) ∙ holds_one store p)
+
+-- a write that changes nothing changes no word
+pub nothing_words : (store : Store) (p : Part) → changed_words store store (p ∷ []) ≡ []
+nothing_words store p = ap (λ (l : List Change). l ++ []) (kept (word_of store p.signal p.word))
+  where
+    kept : (o : Option (List Digit)) → changed_word p.signal p.word o o ≡ []
+    kept None = refl
+    kept (Some ds) = word_kept p.signal p.word ds ds (same_digits_self ds)

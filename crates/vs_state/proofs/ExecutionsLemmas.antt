@@ -1,5 +1,5 @@
 -- Moves of assignments and updates, and the ends of regions.
-use Rattle.std.proofs.Common.{◌≡◌, ℕ, zero, suc, ◌≤◌, ◌||◌, ◌&&◌, not, Bool, true, false, Option, Some, None, List, [], ◌∷◌, map, option_map, slice_get, slice_set, refl, sym, ◌∙◌, ap, ap₂, subst, arith}
+use Rattle.std.proofs.Common.{◌≡◌, ℕ, zero, suc, ◌≤◌, ◌||◌, ◌&&◌, not, Bool, true, false, if◌then◌else◌, is_some, Option, Some, None, List, [], ◌∷◌, map, option_map, slice_get, slice_set, refl, sym, ◌∙◌, ap, ap₂, subst, arith}
 use Rattle.std.specs.List.{list_any}
 use Rattle.std.specs.Option.{ForSome}
 use Rattle.std.proofs.lemmas.Bool.{and_parts, or_parts}
@@ -7,17 +7,19 @@ use Rattle.vs_logic4.specs.declared.digit.Digit.{Digit}
 use Rattle.vs_design.specs.declared.statement.Target.{Target}
 use Rattle.vs_design.specs.declared.expression.Typed.{Typed}
 use Rattle.vs_design.specs.Parts.{Parts}
-use Rattle.vs_design.specs.Stores.{changed_at}
+use Rattle.vs_design.specs.Stores.{changed_at, changes_nothing}
 use Rattle.vs_design.specs.Writes.{Write}
 use Rattle.vs_eval.specs.Targets.{assigned}
-use Rattle.vs_process.specs.declared.moves.Move.TheVariants.{Make, Activate, EndSlot}
-use Rattle.vs_process.specs.Executions.{is_enabled, is_busy, has_inactive, has_due, apply}
+use Rattle.vs_eval.specs.Values.{target_value}
+use Rattle.vs_process.specs.declared.moves.Move.TheVariants.{Evaluate, Propagate, Make, Activate, EndSlot}
+use Rattle.vs_process.specs.Executions.{if_some, is_enabled, is_busy, has_inactive, has_due, apply}
 use Rattle.vs_process.specs.States.{State, AssignState, Update, without, written, evaluated, evaluate, propagate, propagate_value, settled, make, is_due}
 use Rattle.vs_flatcode.specs.Places.{Place, is_going}
 use Rattle.vs_places.proofs.ChangedLemmas.{changed_there}
 use Rattle.vs_regions.specs.Active.{is_active, place_of_active}
 use Rattle.vs_state.specs.Told.{told}
-use Rattle.vs_state.specs.Touches.{AreOf, is_left}
+use Rattle.vs_state.specs.Driven.{IsDriven}
+use Rattle.vs_state.specs.Touches.{AreOf, is_left, rested}
 
 -- ---- ends of regions
 
@@ -107,11 +109,69 @@ propagate_at {s} {now} e j time x xs t v w here waits after target same what =
     ∙ ap (written (record s { assigns = slice_set s.assigns j (settled x) })) (what ∙ ap (assigned t v s.store) same ∙ ap (λ (r : Target). assigned r v s.store s.time) target)
     ∙ sym (ap (propagate s j) here ∙ ap (propagate_value s j x) waits))
 
+-- an assignment that is changed and evaluates the same
+kept_sources : (f : AssignState → AssignState) → ((x : AssignState) → (f x).source ≡ x.source) → (d : Parts) (xs ys : List AssignState) (j : ℕ) → ys ≡ changed_at f j xs → AreOf d xs → AreOf d ys
+kept_sources f keeps d xs ys j after h = ap (map (λ (x : AssignState). x.source)) after ∙ same xs j ∙ h
+  where
+    same : (xs : List AssignState) (j : ℕ) → map (λ (x : AssignState). x.source) (changed_at f j xs) ≡ map (λ (x : AssignState). x.source) xs
+    same [] j = refl
+    same (x ∷ xs) zero = ap (λ (e : Typed). e ∷ map (λ (x : AssignState). x.source) xs) (keeps x)
+    same (x ∷ xs) (suc j) = ap (λ (l : List Typed). x.source ∷ l) (same xs j)
+
 -- an assignment that is settled evaluates the same
 pub settled_sources : (d : Parts) (xs ys : List AssignState) (j : ℕ) → ys ≡ changed_at settled j xs → AreOf d xs → AreOf d ys
-settled_sources d xs ys j after h = ap (map (λ (x : AssignState). x.source)) after ∙ same xs j ∙ h
-  where
-    same : (xs : List AssignState) (j : ℕ) → map (λ (x : AssignState). x.source) (changed_at settled j xs) ≡ map (λ (x : AssignState). x.source) xs
-    same [] j = refl
-    same (x ∷ xs) zero = refl
-    same (x ∷ xs) (suc j) = ap (λ (l : List Typed). x.source ∷ l) (same xs j)
+settled_sources d xs ys j after h = kept_sources settled (λ (x : AssignState). refl) d xs ys j after h
+
+-- ---- an evaluation and the update behind it
+
+changed_set : {A : Type 0} (f : A → A) (xs : List A) (j : ℕ) (y : A) → changed_at f j (slice_set xs j y) ≡ slice_set xs j (f y)
+changed_set f [] j y = refl
+changed_set f (x ∷ xs) zero y = refl
+changed_set {A} f (x ∷ xs) (suc j) y = ap (λ (l : List A). x ∷ l) (changed_set f xs j y)
+
+set_there : {A : Type 0} (xs : List A) (j : ℕ) (x y : A) → slice_get xs j ≡ Some x → slice_get (slice_set xs j y) j ≡ Some y
+set_there [] j x y h = cc
+set_there (z ∷ zs) zero x y h = refl
+set_there (z ∷ zs) (suc j) x y h = set_there zs j x y h
+
+-- an assignment whose value would change nothing
+pub rested_at : {s now : State} (e : s ≡ now) (j time : ℕ) (x : AssignState) (xs : List AssignState) (v : List Digit) (w : Write) → slice_get s.assigns j ≡ Some x → time ≡ s.time →
+    v ≡ target_value x.target x.source s.store time → w ≡ assigned x.target v s.store time → changes_nothing s.store w ≡ true → xs ≡ changed_at rested j s.assigns →
+    record s { assigns = xs } ≡ apply (Evaluate j) now
+rested_at {s} {now} e j time x xs v w here same value what held after =
+    let holds : changes_nothing s.store (assigned x.target (target_value x.target x.source s.store s.time) s.store s.time) ≡ true =
+    sym (ap (changes_nothing s.store) (what ∙ ap₂ (λ (d : List Digit) (n : ℕ). assigned x.target d s.store n) (value ∙ ap (target_value x.target x.source s.store) same) same)) ∙ held
+    in
+    let idle : evaluated s.store s.time x ≡ rested x =
+    ap (λ (b : Bool). record x { needs = false; pending = if b then None else Some (target_value x.target x.source s.store s.time) }) holds
+    in
+    let at : changed_at rested j s.assigns ≡ changed_at (evaluated s.store s.time) j s.assigns =
+    sym (changed_there rested s.assigns j x (rested x) here refl) ∙ changed_there (evaluated s.store s.time) s.assigns j x (rested x) here (sym idle)
+    in
+    evaluate_at e j s.time xs refl (after ∙ at)
+
+-- an assignment whose value is written at once
+pub driven_at : {s now : State} (e : s ≡ now) (j time : ℕ) (x : AssignState) (xs : List AssignState) (v : List Digit) (w : Write) (t : State) → slice_get s.assigns j ≡ Some x → time ≡ s.time →
+    v ≡ target_value x.target x.source s.store time → w ≡ assigned x.target v s.store time → changes_nothing s.store w ≡ false → xs ≡ changed_at rested j s.assigns →
+    t ≡ written (record s { assigns = xs }) w → IsDriven j now t
+driven_at {s} {now} e j time x xs v w t here same value what held after wrote =
+    let d : List Digit = target_value x.target x.source s.store s.time in
+    let is : v ≡ d = value ∙ ap (target_value x.target x.source s.store) same in
+    let that : w ≡ assigned x.target d s.store s.time = what ∙ ap₂ (λ (d : List Digit) (n : ℕ). assigned x.target d s.store n) is same in
+    let y : AssignState = evaluated s.store s.time x in
+    let waits : y.pending ≡ Some d = ap (λ (b : Bool). if b then None else Some d) (sym (ap (changes_nothing s.store) that) ∙ held) in
+    let m : State = record s { assigns = slice_set s.assigns j y } in
+    let moved : m ≡ apply (Evaluate j) now = sym (ap (evaluate s j) here) ∙ ap (apply (Evaluate j)) e in
+    let there : slice_get m.assigns j ≡ Some y = set_there s.assigns j x y here in
+    let left : xs ≡ changed_at settled j m.assigns =
+    after ∙ sym (changed_there rested s.assigns j x (rested x) here refl) ∙ sym (changed_set settled s.assigns j y)
+    in
+    record {
+      waits =
+          ap (λ (r : State). is_enabled r (Propagate j)) (sym moved) ∙ ap (if_some (λ (x : AssignState). is_some x.pending)) there ∙ ap is_some waits;
+      updated = wrote ∙ propagate_at moved j s.time y xs x.target d w there waits left refl refl that;
+    }
+
+-- an assignment of which nothing is left to do evaluates the same
+pub rested_sources : (d : Parts) (xs ys : List AssignState) (j : ℕ) → ys ≡ changed_at rested j xs → AreOf d xs → AreOf d ys
+rested_sources d xs ys j after h = kept_sources rested (λ (x : AssignState). refl) d xs ys j after h

@@ -15,7 +15,7 @@ use Rattle.vs_design.specs.declared.statement.EventTerm.{EventTerm}
 use Rattle.vs_design.specs.Listeners.{listeners, listeners_from}
 use Rattle.vs_design.specs.Statements.{listens}
 use Rattle.vs_design.specs.declared.write.Part.{Part}
-use Rattle.vs_design.specs.Stores.{Store, word_of, put}
+use Rattle.vs_design.specs.Stores.{Store, word_of, put, changes_nothing}
 use Rattle.vs_design.specs.Uses.{is_of}
 use Rattle.vs_design.specs.Writes.{Write}
 use Rattle.vs_edges.specs.Differences.{HaveOneSize}
@@ -37,12 +37,14 @@ use Rattle.vs_flatcode.specs.Landings.{out_of}
 use Rattle.vs_process.specs.Effects.{Stepped}
 use Rattle.vs_process.specs.Executions.{if_some}
 use Rattle.vs_process.specs.States.{State, AssignState, Update, Called, terms_of, triggered, touched, wakened, written, written_behind, performed, stepped, place_behind}
+use Rattle.vs_process.proofs.Assigns.{nothing_changed}
 use Rattle.vs_process.proofs.Waking.{wakened-triggered}
 use Rattle.vs_places.proofs.ChangedLemmas.{changed_behind}
 use Rattle.vs_places.specs.Timelines.{StepsAt, step_write}
 use Rattle.vs_state.specs.Touches.{behind_effect, woken_changes}
 use Rattle.vs_places.specs.Triggers.{triggered_by, changed_all}
 use Rattle.vs_state.specs.Waits.{triggered_changes, name_signal, WaitsWithin, WaitWithin}
+use Rattle.vs_state.proofs.ChangesLemmas.{nothing_words}
 use Rattle.vs_state.proofs.TouchesLemmas.{changes_touch}
 
 -- ---- the listeners of a signal
@@ -361,6 +363,13 @@ written_by s w time store cs places assigns updates wrote changed woken triggere
     let b : assigns ≡ map (touched s.store (put s.store w)) s.assigns = woken ∙ ap (λ (l : List Change). woken_changes l s.assigns) words ∙ changes_touch w s.store s.assigns in
     let c : places ≡ map (wakened s.store (put s.store w)) s.places = triggered ∙ ap (λ (l : List Change). triggered_changes l s.places) words ∙ changes_wake_places w s.store s.places in
     rw (wrote, b, c, still, kept) refl
+
+-- a write of one part that changes nothing leaves the state
+pub written_none : (s : State) (p : Part) → changes_nothing s.store (p ∷ []) ≡ true → written s (p ∷ []) ≡ s
+written_none s p h =
+    let w : Write = p ∷ [] in
+    let same : put s.store w ≡ s.store = nothing_changed s.store w h in
+    sym (written_by s w s.time s.store [] s.places s.assigns s.updates (sym same) (sym (nothing_words s.store p)) refl refl refl refl)
 
 -- ---- active processes
 

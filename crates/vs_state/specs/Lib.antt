@@ -1,4 +1,5 @@
 pub mod Changes
+pub mod Driven
 pub mod Prints
 pub mod Sources
 pub mod Told

@@ -69,7 +69,11 @@ sources-start : (as' : List Assign) → sources (map start_assign as') ≡ map (
 sources-start [] = refl
 sources-start (a ∷ rest) = ap (λ (l : List Typed). a.source ∷ l) (sources-start rest)
 
+-- a move keeps them
+pub sources_kept : (d : Parts) (m : Move) (s : State) → HasSources d s → HasSources d (apply m s)
+sources_kept d m s h = sources-apply m s ∙ h
+
 -- the states of an execution have the design's continuous assignments
 pub has_sources : (d : Parts) (moves : List Move) → HasSources d (after d moves)
 has_sources d [] = sources-start d.assigns
-has_sources d (m ∷ before) = sources-apply m (after d before) ∙ has_sources d before
+has_sources d (m ∷ before) = sources_kept d m (after d before) (has_sources d before)

@@ -1,5 +1,5 @@
 -- Which continuous assignments changes of words wake, and what a step of a process does beyond its place.
-use Rattle.std.specs.Prelude.{ℕ, ◌≡◌, ◌+◌, ◌||◌, Bool, true, false, Some, is_some, List, [], ◌∷◌, ◌++◌, map, if◌then◌else◌}
+use Rattle.std.specs.Prelude.{ℕ, ◌≡◌, ◌+◌, ◌||◌, Bool, true, false, Some, None, is_some, List, [], ◌∷◌, ◌++◌, map, if◌then◌else◌}
 use Rattle.std.specs.List.{list_any}
 use Rattle.vs_design.specs.declared.design.Assign.{Assign}
 use Rattle.vs_design.specs.declared.range.BitRange.{BitRange}
@@ -22,6 +22,10 @@ is_left x = x.needs || is_some x.pending
 -- a continuous assignment that has to be evaluated
 abbrev pub woken : AssignState → AssignState
 woken x = record x { needs = true }
+
+-- a continuous assignment of which nothing is left to do
+abbrev pub rested : AssignState → AssignState
+rested x = record x { needs = false; pending = None }
 
 -- continuous assignments of which one has to be evaluated
 abbrev pub woken_in : ℕ → List AssignState → List AssignState

@@ -1,6 +1,6 @@
 //! Continuous assignments in a run.
 ghost use Rattle.std.specs.Prelude.{◌≡◌, not, OnErr, OnOk};
-ghost use Rattle.vs_state.specs.Touches.{is_left, woken};
+ghost use Rattle.vs_state.specs.Touches.{is_left, rested, woken};
 ghost use Rattle.vs_process.specs.States as states;
 
 use std::alloc::{AllocError, Global};
@@ -69,6 +69,14 @@ impl<'a> AssignState<'a> {
         self.target
     }
 
+    /// What it evaluates.
+    #[inline(always)]
+    pub(crate) fn source(&self) -> &'a Typed
+        ensures { result.now ≡ self.now.source }
+    {
+        self.source
+    }
+
     /// Evaluates it at a time in ticks: a value that would change nothing leaves nothing pending, another one takes the place
     /// of an older one. Without memory it is as it was.
     #[inline(always)]
@@ -101,6 +109,15 @@ impl<'a> AssignState<'a> {
     pub(crate) fn settle(&mut self)
         ensures { self.new ≡ states.settled self.old }
     {
+        self.pending = None;
+    }
+
+    /// Leaves nothing pending and nothing to evaluate.
+    #[inline(always)]
+    pub(crate) fn rest(&mut self)
+        ensures { self.new ≡ rested self.old }
+    {
+        self.needs = false;
         self.pending = None;
     }
 

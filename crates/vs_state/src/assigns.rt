@@ -4,7 +4,7 @@ ghost use Rattle.std.specs.List.{list_any};
 ghost use Rattle.vs_design.specs.Stores.{changed_at};
 ghost use Rattle.vs_process.specs.Executions as executions;
 ghost use Rattle.vs_process.specs.States as states;
-ghost use Rattle.vs_state.specs.Touches.{is_left, woken_in};
+ghost use Rattle.vs_state.specs.Touches.{is_left, rested, woken_in};
 
 use crate::assign::AssignState;
 use crate::search::busy_assign;
@@ -134,6 +134,19 @@ impl<'a> Assigns<'a> {
         };
         let was = x.is_left();
         x.settle();
+        self.left = recount(self.left, was, x.is_left());
+    }
+
+    /// Leaves nothing pending and nothing to evaluate of one; one past the end is none.
+    #[inline(always)]
+    pub(crate) fn rest(&mut self, assign: usize)
+        ensures { self.new ≡ changed_at rested assign self.old }
+    {
+        let Some(x) = self.items.get_mut(assign) else {
+            return;
+        };
+        let was = x.is_left();
+        x.rest();
         self.left = recount(self.left, was, x.is_left());
     }
 }

@@ -1,6 +1,7 @@
 //! Changes of assignments and places.
-ghost use Rattle.std.specs.Prelude.{◌≡◌, Some, false, length, map, OnOk};
-ghost use Rattle.vs_design.specs.Stores.{put_part};
+ghost use Rattle.std.specs.Prelude.{◌≡◌, ◌∷◌, [], Some, not, false, length, map, IfOk, OnOk};
+ghost use Rattle.vs_logic4.specs.Vectors.{same_digits};
+ghost use Rattle.vs_design.specs.Stores.{changes_nothing, put_part};
 ghost use Rattle.vs_edges.specs.Differences.{sees, word_changes};
 ghost use Rattle.vs_flatcode.specs.Changes.{changed_part, changed_word};
 ghost use Rattle.vs_flatcode.specs.Steps.{has_nothing};
@@ -198,7 +199,7 @@ pub(crate) fn follow<Q: EventQueue<Item>>(
     follow_each(assigns, processes, woken, design, changes, changed)
 }
 
-/// What follows from a word that a write of one part may have changed, as from a list of it.
+/// What follows from a word that a write of one part may have changed, as from a list of it; the answer is whether it has.
 #[inline(always)]
 fn follow_word<Q: EventQueue<Item>>(
     assigns: &mut Assigns,
@@ -210,10 +211,11 @@ fn follow_word<Q: EventQueue<Item>>(
     before: Vec4,
     behind: Vec4,
     changed: &mut Vec<usize>,
-) -> Result<(), AllocError>
+) -> Result<bool, AllocError>
     requires size { length before ≡ length behind }
     requires sources { AreOf design.now assigns.old }
     requires terms { WaitWithin design.now.processes processes.old.places }
+    ensures told { IfOk result (λ changes. changes ≡ not (same_digits before behind)) }
     ensures assigns { OnOk result (assigns.new
         ≡ woken_changes (changed_word signal word (Some before) (Some behind)) assigns.old) }
     ensures places { OnOk result (processes.new.places
@@ -223,15 +225,16 @@ fn follow_word<Q: EventQueue<Item>>(
     ensures covers { OnOk result (CoverWords changed.new.items (changed_word signal word (Some before) (Some behind))) }
 {
     if before == behind {
-        return Ok(());
+        return Ok(false);
     }
     changed.push(signal)?;
     wake_word(
         assigns, processes, woken, design, signal, word, before, behind,
-    )
+    )?;
+    Ok(true)
 }
 
-/// Makes a write of one part, and what follows from it, as `follow` does of the word that it changes.
+/// Makes a write of one part, and what follows from it, as `follow` does of the word that it changes; the answer is whether it changes one.
 #[inline(always)]
 pub(crate) fn write_part<Q: EventQueue<Item>>(
     store: &mut Store,
@@ -241,9 +244,10 @@ pub(crate) fn write_part<Q: EventQueue<Item>>(
     design: &Design,
     part: Part,
     changed: &mut Vec<usize>,
-) -> Result<(), AllocError>
+) -> Result<bool, AllocError>
     requires sources { AreOf design.now assigns.old }
     requires terms { WaitWithin design.now.processes processes.old.places }
+    ensures told { IfOk result (λ changes. changes ≡ not (changes_nothing store.old (part ∷ []))) }
     ensures store { store.new ≡ put_part store.old part }
     ensures assigns { OnOk result (assigns.new ≡ woken_changes (changed_part store.old store.new part) assigns.old) }
     ensures places { OnOk result (processes.new.places ≡ triggered_changes (changed_part store.old store.new part) processes.old.places) }
@@ -253,11 +257,14 @@ pub(crate) fn write_part<Q: EventQueue<Item>>(
 {
     let signal = part.signal;
     let word = part.word;
-    if let Some(words) = store.put_part(part) {
-        let (before, behind) = words;
-        follow_word(
-            assigns, processes, woken, design, signal, word, before, behind, changed,
-        )?;
+    match store.put_part(part) {
+        Some(words) => {
+            let (before, behind) = words;
+            let changes = follow_word(
+                assigns, processes, woken, design, signal, word, before, behind, changed,
+            )?;
+            Ok(changes)
+        }
+        None => Ok(false),
     }
-    Ok(())
 }

@@ -2,11 +2,13 @@
 //!
 //! `make` is inlined into the loops of a run, which the compiler does only while it is small with all that is inlined into it. So what a step of a
 //! process doesn't need stands apart from it.
-ghost use Rattle.std.specs.Prelude.{◌≡◌, ◌<◌, ◌^◌, ◌∷◌, [], true, false, is_some, slice_get, IfOk, OnOk};
+ghost use Rattle.std.specs.Prelude.{◌≡◌, ◌<◌, ◌^◌, ◌∷◌, [], not, true, false, is_some, slice_get, IfOk, OnOk};
 ghost use Rattle.vs_process.specs.Executions as executions;
 ghost use Rattle.vs_flatcode.specs.Places.{is_going};
 ghost use Rattle.vs_process.specs.States as states;
+ghost use Rattle.vs_design.specs.Stores.{changes_nothing};
 ghost use Rattle.vs_state.specs.Changes.{CoverChanges};
+ghost use Rattle.vs_state.specs.Driven.{IsDriven};
 ghost use Rattle.vs_state.specs.Touches.{HasSources, behind_effect};
 ghost use Rattle.vs_state.specs.Prints.{line_of, made_line, made_text};
 ghost use Rattle.vs_state.specs.Told.{told};
@@ -18,6 +20,7 @@ use crate::state::State;
 use std::alloc::AllocError;
 use std::mem;
 use vs_design::{Design, Part, Write};
+use vs_eval::cut_value;
 use vs_flatcode::{assign, is_nothing, make, only_part};
 use vs_process::{Effect, Move};
 use vs_regions::Item;
@@ -30,6 +33,19 @@ pub struct Made {
     pub again: bool,
     /// Whether the move has changed no word, made no line and woken nothing, as far as this is known.
     pub quiet: bool,
+}
+
+impl Made {
+    /// Of a move that isn't known to be enabled once more, nor to be quiet.
+    #[inline(always)]
+    fn loud() -> Self
+        ensures { result ≡ record { again = false; quiet = false } }
+    {
+        Made {
+            again: false,
+            quiet: false,
+        }
+    }
 }
 
 impl<'a, Q: EventQueue<Item>> State<'a, Q> {
@@ -142,20 +158,21 @@ impl<'a, Q: EventQueue<Item>> State<'a, Q> {
         self.evaluate(assign)
     }
 
-    /// A write of one part, and what follows from it.
+    /// A write of one part, and what follows from it; the answer is whether it changes anything.
     #[inline(always)]
     fn write(
         &mut self,
         design: &Design,
         part: Part,
         changed: &mut Vec<usize>,
-    ) -> Result<(), AllocError>
+    ) -> Result<bool, AllocError>
         requires sources { HasSources design.now self.old }
         requires terms { HasTerms design.now self.old }
+        ensures told { IfOk result (λ changes. changes ≡ not (changes_nothing self.old.store (part ∷ []))) }
         ensures made { OnOk result (self.new ≡ states.written self.old (part ∷ [])) }
         ensures covers { OnOk result (CoverChanges changed.new.items self.old.store self.new.store) }
     {
-        write_part(
+        let changes = write_part(
             &mut self.store,
             &mut self.assigns,
             &mut self.processes,
@@ -164,12 +181,12 @@ impl<'a, Q: EventQueue<Item>> State<'a, Q> {
             part,
             changed,
         )?;
-        Ok(())
+        Ok(changes)
     }
 
-    /// The update of a continuous assignment.
+    /// The update of a continuous assignment. What it wakes and changes is noted as `make` does.
     #[inline(never)]
-    fn propagate(
+    pub fn propagate(
         &mut self,
         design: &Design,
         number: usize,
@@ -181,6 +198,7 @@ impl<'a, Q: EventQueue<Item>> State<'a, Q> {
         ensures made { OnOk result (self.new ≡ states.propagate self.old number (slice_get self.old.assigns number)) }
         ensures covers { OnOk result (CoverChanges changed.new.items self.old.store self.new.store) }
     {
+        self.woken.clear();
         let Some(x) = self.assigns.get(number) else {
             return Ok(());
         };
@@ -213,6 +231,37 @@ impl<'a, Q: EventQueue<Item>> State<'a, Q> {
             changed,
         )?;
         Ok(())
+    }
+
+    /// The evaluation of a continuous assignment and then its update, where it has one and its target is one fixed place: as one call, since the update
+    /// often is the only event that is left. The answer is whether the update was made. What it wakes and changes is noted as `make` does.
+    #[inline(never)]
+    pub fn drive(
+        &mut self,
+        design: &Design,
+        number: usize,
+        changed: &mut Vec<usize>,
+    ) -> Result<bool, AllocError>
+        requires sources { HasSources design.now self.old }
+        requires terms { HasTerms design.now self.old }
+        ensures evaluated { IfOk result (λ updated. updated ≡ false → self.new ≡ executions.apply (Move.Evaluate number) self.old) }
+        ensures updated { IfOk result (λ updated. updated ≡ true → IsDriven number self.old self.new) }
+        ensures covers { OnOk result (CoverChanges changed.new.items self.old.store self.new.store) }
+    {
+        self.woken.clear();
+        let Some(x) = self.assigns.get(number) else {
+            return Ok(false);
+        };
+        let target = x.target();
+        let time = self.processes.time();
+        let digits = cut_value(target, x.source(), &self.store, time);
+        let Some(part) = only_part(target, digits) else {
+            self.evaluate_apart(number)?;
+            return Ok(false);
+        };
+        self.assigns.rest(number);
+        let updated = self.write(design, part, changed)?;
+        Ok(updated)
     }
 
     /// A nonblocking update of any number of parts, by its number among the activated ones.
@@ -313,15 +362,21 @@ impl<'a, Q: EventQueue<Item>> State<'a, Q> {
         match choice {
             Move::Step(process) => return self.step(design, process, changed, effect, line),
             Move::Evaluate(assign) => self.evaluate_apart(assign)?,
-            Move::Propagate(assign) => self.propagate(design, assign, changed)?,
-            Move::Make(index) => self.update(design, index, changed)?,
+            Move::Propagate(assign) => {
+                self.propagate(design, assign, changed)?;
+                return Ok(Made::loud());
+            }
+            Move::Make(index) => {
+                self.update(design, index, changed)?;
+                return Ok(Made::loud());
+            }
             Move::Rouse => self.processes.rouse_all(&mut self.woken.processes),
             Move::Activate => self.processes.activate(),
             Move::EndSlot => self.end_slot()?,
         }
         Ok(Made {
             again: false,
-            quiet: false,
+            quiet: true,
         })
     }
 }

@@ -1,4 +1,5 @@
 pub mod Bags
+pub mod Fronts
 pub mod Replayed
 pub mod Flags
 pub mod Slots

@@ -1,4 +1,4 @@
--- The slots of a wheel and their flags.
+-- The slots of a calendar and their flags.
 use Rattle.std.proofs.Common.{◌≡◌, ℕ, zero, suc, ◌/◌, ◌%◌, ◌^◌, List, [], ◌∷◌, ◌++◌, length, get_or, refl, sym, ap, ◌∙◌}
 use Rattle.std.proofs.lemmas.Nat.Bits.{bit_at-zero}
 use Rattle.vs_time_wheel.specs.Turn.{slot_at, flag_of, IsFlagged}

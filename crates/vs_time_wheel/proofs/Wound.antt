@@ -1,4 +1,4 @@
--- What each call does to a wheel.
+-- What each call does to a calendar.
 use Rattle.std.proofs.Common.{◌≡◌, ℕ, zero, suc, ◌+◌, ◌-◌, ◌%◌, ◌^◌, ◌<◌, ◌≤◌, ◌≢◌, List, [], ◌∷◌, ◌++◌, length, slice_set, drop, Option, None, Some, refl, sym, ap, ◌∙◌, subst, inl, inr, arith, append-nil, length-set}
 use Rattle.std.specs.Option.{unwrap_or, MatchOption}
 use Rattle.std.specs.Ordering.{nat_cmp}
@@ -10,7 +10,7 @@ use Rattle.std.proofs.lemmas.List.{get_or-set_same, get_or-set_other}
 use Rattle.vs_time_wheel.specs.declared.timing.Timed.{Timed}
 use Rattle.vs_time_wheel.specs.Bag.{IsFrom, events_at, least_time, SameBag, oldest_at, without_oldest}
 use Rattle.vs_time_wheel.specs.Turn.{slot_at, first_of, AllFree}
-use Rattle.vs_time_wheel.specs.Window.{due_at, turn_bag, later_bag, wheel_bag, IsWound, IsLoose, later_at, Postpones, Loses, NoneBefore}
+use Rattle.vs_time_wheel.specs.Window.{due_at, turn_bag, later_bag, calendar_bag, IsWound, IsLoose, later_at, Postpones, Loses, NoneBefore}
 use Rattle.vs_time_wheel.proofs.Bags.{events_at-append, events_at-here, events_at-apart, events_at-without_oldest, events_at-without_other, oldest_at-first, least_time-from}
 use Rattle.vs_time_wheel.proofs.Windows.{turn_before, turn_within, turn_past, events_at-later}
 
@@ -35,44 +35,44 @@ IsLoose-from_wound w = record {
   free = λ t from to some. absurd (some (w.behind t to));
 }
 
--- where no time of the map is near, the wheel is in order
+-- where no time of the map is near, the calendar is in order
 pub IsWound-from_loose : {E : Type 0} {slots : List (List E)} {later : BTreeMap ℕ (List E)} {now : ℕ} → IsLoose slots later now → ((t : ℕ) → t < now + 256 → get nat_cmp later t ≡ None) → IsWound slots later now
 IsWound-from_loose l behind = record { count = l.count; fits = l.fits; ordered = l.ordered; filled = l.filled; behind = behind }
 
 -- ---- the events of each time
-pub events_over : {E : Type 0} (slots : List (List E)) (later : BTreeMap ℕ (List E)) (now t : ℕ) → IsLoose slots later now → t < now → events_at t (wheel_bag slots later now) ≡ []
-unfolding wheel_bag
+pub events_over : {E : Type 0} (slots : List (List E)) (later : BTreeMap ℕ (List E)) (now t : ℕ) → IsLoose slots later now → t < now → events_at t (calendar_bag slots later now) ≡ []
+unfolding calendar_bag
 events_over slots later now t l h =
     events_at-append t (turn_bag slots now 256) (later_bag later.entries) ∙ ap (λ xs. xs ++ events_at t (later_bag later.entries)) (turn_before slots now 256 t h)
     ∙ events_at-later t later.entries l.ordered ∙ ap (λ o. unwrap_or o []) (l.not_over t h)
 
-pub events_near : {E : Type 0} (slots : List (List E)) (later : BTreeMap ℕ (List E)) (now t : ℕ) → IsLoose slots later now → now ≤ t → t < now + 256 → events_at t (wheel_bag slots later now) ≡ slot_at slots (t % 256) ++ later_at later t
-unfolding wheel_bag
+pub events_near : {E : Type 0} (slots : List (List E)) (later : BTreeMap ℕ (List E)) (now t : ℕ) → IsLoose slots later now → now ≤ t → t < now + 256 → events_at t (calendar_bag slots later now) ≡ slot_at slots (t % 256) ++ later_at later t
+unfolding calendar_bag
 events_near slots later now t l from to =
     events_at-append t (turn_bag slots now 256) (later_bag later.entries) ∙ ap (λ xs. xs ++ events_at t (later_bag later.entries)) (turn_within slots now 256 t from to)
     ∙ ap (λ xs. slot_at slots (t % 256) ++ xs) (events_at-later t later.entries l.ordered)
 
-pub events_late : {E : Type 0} (slots : List (List E)) (later : BTreeMap ℕ (List E)) (now t : ℕ) → IsLoose slots later now → now + 256 ≤ t → events_at t (wheel_bag slots later now) ≡ later_at later t
-unfolding wheel_bag
+pub events_late : {E : Type 0} (slots : List (List E)) (later : BTreeMap ℕ (List E)) (now t : ℕ) → IsLoose slots later now → now + 256 ≤ t → events_at t (calendar_bag slots later now) ≡ later_at later t
+unfolding calendar_bag
 events_late slots later now t l past =
     events_at-append t (turn_bag slots now 256) (later_bag later.entries) ∙ ap (λ xs. xs ++ events_at t (later_bag later.entries)) (turn_past slots now 256 t past)
     ∙ events_at-later t later.entries l.ordered
 
-pub events_slot : {E : Type 0} (slots : List (List E)) (later : BTreeMap ℕ (List E)) (now t : ℕ) → IsWound slots later now → now ≤ t → t < now + 256 → events_at t (wheel_bag slots later now) ≡ slot_at slots (t % 256)
+pub events_slot : {E : Type 0} (slots : List (List E)) (later : BTreeMap ℕ (List E)) (now t : ℕ) → IsWound slots later now → now ≤ t → t < now + 256 → events_at t (calendar_bag slots later now) ≡ slot_at slots (t % 256)
 events_slot slots later now t w from to = events_near slots later now t (IsLoose-from_wound w) from to ∙ ap (λ o. slot_at slots (t % 256) ++ unwrap_or o []) (w.behind t to) ∙ append-nil (slot_at slots (t % 256))
 
--- a wheel in order, and then one with some events behind, are one bag where they are at each time
+-- a calendar in order, and then one with some events behind, are one bag where they are at each time
 by_times : {E : Type 0} (slots slots' : List (List E)) (later later' : BTreeMap ℕ (List E)) (now : ℕ) (more : List (Timed E)) → IsWound slots later now → IsWound slots' later' now →
     ((t : ℕ) → t < now → events_at t more ≡ []) →
     ((t : ℕ) → now ≤ t → t < now + 256 → slot_at slots' (t % 256) ≡ slot_at slots (t % 256) ++ events_at t more) →
     ((t : ℕ) → now + 256 ≤ t → later_at later' t ≡ later_at later t ++ events_at t more) →
-    SameBag (wheel_bag slots' later' now) (wheel_bag slots later now ++ more)
+    SameBag (calendar_bag slots' later' now) (calendar_bag slots later now ++ more)
 by_times slots slots' later later' now more w w' over near late = record {
   at_each = λ t. elim (cases_lt t now) [
-    | inl h ↦ events_over slots' later' now t (IsLoose-from_wound w') h ∙ sym (events_at-append t (wheel_bag slots later now) more ∙ ap (λ xs. xs ++ events_at t more) (events_over slots later now t (IsLoose-from_wound w) h) ∙ over t h)
+    | inl h ↦ events_over slots' later' now t (IsLoose-from_wound w') h ∙ sym (events_at-append t (calendar_bag slots later now) more ∙ ap (λ xs. xs ++ events_at t more) (events_over slots later now t (IsLoose-from_wound w) h) ∙ over t h)
     | inr from ↦ elim (cases_lt t (now + 256)) [
-      | inl to ↦ events_slot slots' later' now t w' from to ∙ near t from to ∙ sym (events_at-append t (wheel_bag slots later now) more ∙ ap (λ xs. xs ++ events_at t more) (events_slot slots later now t w from to))
-      | inr past ↦ events_late slots' later' now t (IsLoose-from_wound w') past ∙ late t past ∙ sym (events_at-append t (wheel_bag slots later now) more ∙ ap (λ xs. xs ++ events_at t more) (events_late slots later now t (IsLoose-from_wound w) past))
+      | inl to ↦ events_slot slots' later' now t w' from to ∙ near t from to ∙ sym (events_at-append t (calendar_bag slots later now) more ∙ ap (λ xs. xs ++ events_at t more) (events_slot slots later now t w from to))
+      | inr past ↦ events_late slots' later' now t (IsLoose-from_wound w') past ∙ late t past ∙ sym (events_at-append t (calendar_bag slots later now) more ∙ ap (λ xs. xs ++ events_at t more) (events_late slots later now t (IsLoose-from_wound w) past))
     ]
   ];
 }
@@ -102,7 +102,7 @@ wound_near slots later now time x w from to low = record {
 }
 
 pub bag_near : {E : Type 0} (slots : List (List E)) (later : BTreeMap ℕ (List E)) (now time : ℕ) (x : E) → IsWound slots later now → now ≤ time → time < now + 256 → time < 2 ^ 64 →
-    SameBag (wheel_bag (slice_set slots (time % 256) (slot_at slots (time % 256) ++ x ∷ [])) later now) (wheel_bag slots later now ++ one time x)
+    SameBag (calendar_bag (slice_set slots (time % 256) (slot_at slots (time % 256) ++ x ∷ [])) later now) (calendar_bag slots later now ++ one time x)
 bag_near slots later now time x w from to low =
     let xs = slot_at slots (time % 256) ++ x ∷ [] in
     by_times slots (slice_set slots (time % 256) xs) later later now (one time x) w (wound_near slots later now time x w from to low)
@@ -131,7 +131,7 @@ wound_late slots later later' now time x w past p = record {
 }
 
 pub bag_late : {E : Type 0} (slots : List (List E)) (later later' : BTreeMap ℕ (List E)) (now time : ℕ) (x : E) → IsWound slots later now → now + 256 ≤ time → Postpones later later' time x →
-    SameBag (wheel_bag slots later' now) (wheel_bag slots later now ++ one time x)
+    SameBag (calendar_bag slots later' now) (calendar_bag slots later now ++ one time x)
 bag_late slots later later' now time x w past p =
     by_times slots slots later later' now (one time x) w (wound_late slots later later' now time x w past p)
     (λ t h. one_apart time t x (λ e. omega arith))
@@ -170,7 +170,7 @@ loose_on slots later now time w on none = record {
 }
 
 pub bag_on : {E : Type 0} (slots : List (List E)) (later : BTreeMap ℕ (List E)) (now time : ℕ) → IsWound slots later now → now ≤ time → NoneBefore slots later now time →
-    SameBag (wheel_bag slots later time) (wheel_bag slots later now)
+    SameBag (calendar_bag slots later time) (calendar_bag slots later now)
 bag_on slots later now time w on none = let l = loose_on slots later now time w on none in record {
   at_each = λ t. elim (cases_lt t time) [
     | inl before ↦ events_over slots later time t l before ∙ sym (none t before)
@@ -203,7 +203,7 @@ loose_moved slots later later' now time xs l from to low is p = record {
 }
 
 pub bag_moved : {E : Type 0} (slots : List (List E)) (later later' : BTreeMap ℕ (List E)) (now time : ℕ) (xs : List E) → IsLoose slots later now → now ≤ time → time < now + 256 → time < 2 ^ 64 → get nat_cmp later time ≡ Some xs → Loses later later' time →
-    SameBag (wheel_bag (slice_set slots (time % 256) xs) later' now) (wheel_bag slots later now)
+    SameBag (calendar_bag (slice_set slots (time % 256) xs) later' now) (calendar_bag slots later now)
 bag_moved slots later later' now time xs l from to low is p = let l' = loose_moved slots later later' now time xs l from to low is p in let slots' = slice_set slots (time % 256) xs in record {
   at_each = λ t. elim (cases_lt t now) [
     | inl before ↦ events_over slots' later' now t l' before ∙ sym (events_over slots later now t l before)
@@ -239,11 +239,11 @@ wound_taken slots later now w = record {
 }
 
 pub bag_taken : {E : Type 0} (slots : List (List E)) (later : BTreeMap ℕ (List E)) (now : ℕ) → IsWound slots later now →
-    SameBag (wheel_bag (slice_set slots (now % 256) (drop 1 (slot_at slots (now % 256)))) later now) (without_oldest now (wheel_bag slots later now))
-bag_taken slots later now w = let w' = wound_taken slots later now w in let bag = wheel_bag slots later now in let slots' = slice_set slots (now % 256) (drop 1 (slot_at slots (now % 256))) in record {
+    SameBag (calendar_bag (slice_set slots (now % 256) (drop 1 (slot_at slots (now % 256)))) later now) (without_oldest now (calendar_bag slots later now))
+bag_taken slots later now w = let w' = wound_taken slots later now w in let bag = calendar_bag slots later now in let slots' = slice_set slots (now % 256) (drop 1 (slot_at slots (now % 256))) in record {
   at_each = λ t. elim (cases_eq now t) [
     | inl e ↦
-        subst (λ u. events_at u (wheel_bag slots' later now) ≡ events_at u (without_oldest now bag)) e
+        subst (λ u. events_at u (calendar_bag slots' later now) ≡ events_at u (without_oldest now bag)) e
         (events_slot slots' later now now w' (omega arith) (omega arith) ∙ slot_at-set_same slots (now % 256) (now % 256) _ w.count refl (omega arith)
         ∙ ap (drop 1) (sym (events_slot slots later now now w (omega arith) (omega arith))) ∙ sym (events_at-without_oldest now bag))
     | inr apart ↦ elim (cases_lt t now) [
@@ -257,8 +257,8 @@ bag_taken slots later now w = let w' = wound_taken slots later now w in let bag 
   ];
 }
 
-pub oldest_taken : {E : Type 0} (slots : List (List E)) (later : BTreeMap ℕ (List E)) (now : ℕ) → IsWound slots later now → first_of (slot_at slots (now % 256)) ≡ oldest_at now (wheel_bag slots later now)
-oldest_taken slots later now w = ap first_of (sym (events_slot slots later now now w (omega arith) (omega arith))) ∙ sym (oldest_at-first now (wheel_bag slots later now))
+pub oldest_taken : {E : Type 0} (slots : List (List E)) (later : BTreeMap ℕ (List E)) (now : ℕ) → IsWound slots later now → first_of (slot_at slots (now % 256)) ≡ oldest_at now (calendar_bag slots later now)
+oldest_taken slots later now w = ap first_of (sym (events_slot slots later now now w (omega arith) (omega arith))) ∙ sym (oldest_at-first now (calendar_bag slots later now))
 
 -- ---- the next time
 round : (now k : ℕ) → (now % 256 + k) % 256 ≡ (now + k) % 256
@@ -266,9 +266,9 @@ round now k = omega arith
 
 -- the first busy slot, k times on, is that of the least time
 pub next_in_slots : {E : Type 0} (slots : List (List E)) (later : BTreeMap ℕ (List E)) (now k : ℕ) → IsWound slots later now → k < 256 → slot_at slots ((now % 256 + k) % 256) ≢ [] →
-    ((j : ℕ) → j < k → slot_at slots ((now % 256 + j) % 256) ≡ []) → least_time (wheel_bag slots later now) ≡ Some (now + k)
+    ((j : ℕ) → j < k → slot_at slots ((now % 256 + j) % 256) ≡ []) → least_time (calendar_bag slots later now) ≡ Some (now + k)
 next_in_slots slots later now k w low some none =
-    least_time-from (Some (now + k)) (wheel_bag slots later now) (record {
+    least_time-from (Some (now + k)) (calendar_bag slots later now) (record {
       something = λ h. some (ap (λ i. slot_at slots i) (round now k) ∙ sym (events_slot slots later now (now + k) w (omega arith) (omega arith)) ∙ h);
       nothing_before = λ t before. elim (cases_lt t now) [
         | inl over ↦ events_over slots later now t (IsLoose-from_wound w) over
@@ -281,7 +281,7 @@ pub fits_in_slots : {E : Type 0} (slots : List (List E)) (later : BTreeMap ℕ (
 fits_in_slots slots later now k w low some = elim (cases_lt (now + k) (2 ^ 64)) [ inl h ↦ h | inr big ↦ absurd (some (ap (λ i. slot_at slots i) (round now k) ∙ w.fits (now + k) (omega arith) (omega arith) big)) ]
 
 -- where no slot is busy, the first time of the map is the least
-free_slots : {E : Type 0} (slots : List (List E)) (later : BTreeMap ℕ (List E)) (now t : ℕ) → IsWound slots later now → ((j : ℕ) → j < 256 → slot_at slots ((now % 256 + j) % 256) ≡ []) → t < now + 256 → events_at t (wheel_bag slots later now) ≡ []
+free_slots : {E : Type 0} (slots : List (List E)) (later : BTreeMap ℕ (List E)) (now t : ℕ) → IsWound slots later now → ((j : ℕ) → j < 256 → slot_at slots ((now % 256 + j) % 256) ≡ []) → t < now + 256 → events_at t (calendar_bag slots later now) ≡ []
 free_slots slots later now t w none to = elim (cases_lt t now) [
   | inl over ↦ events_over slots later now t (IsLoose-from_wound w) over
   | inr from ↦ let on : now + (t - now) ≡ t = omega arith in
@@ -289,10 +289,10 @@ free_slots slots later now t w none to = elim (cases_lt t now) [
 ]
 
 pub next_in_map : {E : Type 0} (slots : List (List E)) (later : BTreeMap ℕ (List E)) (now time : ℕ) → IsWound slots later now → ((j : ℕ) → j < 256 → slot_at slots ((now % 256 + j) % 256) ≡ []) →
-    get nat_cmp later time ≢ None → ((t : ℕ) → t < time → get nat_cmp later t ≡ None) → least_time (wheel_bag slots later now) ≡ Some time
+    get nat_cmp later time ≢ None → ((t : ℕ) → t < time → get nat_cmp later t ≡ None) → least_time (calendar_bag slots later now) ≡ Some time
 next_in_map slots later now time w none some first =
     let far : now + 256 ≤ time = elim (cases_lt time (now + 256)) [ inl h ↦ absurd (some (w.behind time h)) | inr h ↦ h ] in
-    least_time-from (Some time) (wheel_bag slots later now) (record {
+    least_time-from (Some time) (calendar_bag slots later now) (record {
       something = λ h. some (nothing_there (get nat_cmp later time) (w.filled time) (sym (events_late slots later now time (IsLoose-from_wound w) far) ∙ h));
       nothing_before = λ t before. elim (cases_lt t (now + 256)) [
         | inl near ↦ free_slots slots later now t w none near
@@ -301,16 +301,16 @@ next_in_map slots later now time w none some first =
     })
 
 pub next_nowhere : {E : Type 0} (slots : List (List E)) (later : BTreeMap ℕ (List E)) (now : ℕ) → IsWound slots later now → ((j : ℕ) → j < 256 → slot_at slots ((now % 256 + j) % 256) ≡ []) →
-    ((t : ℕ) → get nat_cmp later t ≡ None) → least_time (wheel_bag slots later now) ≡ None
+    ((t : ℕ) → get nat_cmp later t ≡ None) → least_time (calendar_bag slots later now) ≡ None
 next_nowhere slots later now w none empty =
-    least_time-from None (wheel_bag slots later now) (record {
+    least_time-from None (calendar_bag slots later now) (record {
       nothing_at = λ t. elim (cases_lt t (now + 256)) [
         | inl near ↦ free_slots slots later now t w none near
         | inr past ↦ events_late slots later now t (IsLoose-from_wound w) past ∙ ap (λ o. unwrap_or o []) (empty t)
       ];
     })
 
--- ---- a new wheel
+-- ---- a new calendar
 pub wound_empty : {E : Type 0} (slots : List (List E)) (later : BTreeMap ℕ (List E)) → AllFree slots → later.entries ≡ [] → IsOrdered nat_cmp later → IsWound slots later 0
 wound_empty slots later free empty ordered =
     let gone : (t : ℕ) → get nat_cmp later t ≡ None = λ t. ap (lookup (is_at (nat_cmp t))) empty in
@@ -327,8 +327,8 @@ unfolding turn_bag
 turn_empty slots lo zero free = refl
 turn_empty slots lo (suc n) free = ap (λ xs. due_at lo xs ++ turn_bag slots (suc lo) n) (free (lo % 256)) ∙ turn_empty slots (suc lo) n free
 
-pub bag_empty : {E : Type 0} (slots : List (List E)) (later : BTreeMap ℕ (List E)) → AllFree slots → later.entries ≡ [] → wheel_bag slots later 0 ≡ []
-unfolding wheel_bag
+pub bag_empty : {E : Type 0} (slots : List (List E)) (later : BTreeMap ℕ (List E)) → AllFree slots → later.entries ≡ [] → calendar_bag slots later 0 ≡ []
+unfolding calendar_bag
 bag_empty slots later free empty = ap (λ xs. xs ++ later_bag later.entries) (turn_empty slots 0 256 free.free) ∙ ap later_bag empty
 
 -- ---- the map stays as it was
@@ -341,15 +341,15 @@ wound_unchanged slots later later' now e w = record {
   behind = λ t h. ap (lookup (is_at (nat_cmp t))) e ∙ w.behind t h;
 }
 
-pub bag_unchanged : {E : Type 0} (slots : List (List E)) (later later' : BTreeMap ℕ (List E)) (now : ℕ) → later'.entries ≡ later.entries → wheel_bag slots later' now ≡ wheel_bag slots later now
-unfolding wheel_bag
+pub bag_unchanged : {E : Type 0} (slots : List (List E)) (later later' : BTreeMap ℕ (List E)) (now : ℕ) → later'.entries ≡ later.entries → calendar_bag slots later' now ≡ calendar_bag slots later now
+unfolding calendar_bag
 bag_unchanged slots later later' now e = ap (λ es. turn_bag slots now 256 ++ later_bag es) e
 
 -- what the first of the later times says, where no slot is busy
 pub next_from_map : {E : Type 0} (slots : List (List E)) (later : BTreeMap ℕ (List E)) (now : ℕ) → IsWound slots later now → ((j : ℕ) → j < 256 → slot_at slots ((now % 256 + j) % 256) ≡ []) → (first : Option ℕ) →
-    MatchOption first ((t : ℕ) → get nat_cmp later t ≡ None) (λ time. (get nat_cmp later time ≢ None) × ((t : ℕ) → t < time → get nat_cmp later t ≡ None)) → first ≡ least_time (wheel_bag slots later now)
+    MatchOption first ((t : ℕ) → get nat_cmp later t ≡ None) (λ time. (get nat_cmp later time ≢ None) × ((t : ℕ) → t < time → get nat_cmp later t ≡ None)) → first ≡ least_time (calendar_bag slots later now)
 next_from_map slots later now w none None h = sym (next_nowhere slots later now w none h)
 next_from_map slots later now w none (Some time) h = sym (next_in_map slots later now time w none h.0 h.1)
 
-pub wheel_bag-from : {E : Type 0} (slots : List (List E)) (later : BTreeMap ℕ (List E)) (now : ℕ) → IsWound slots later now → IsFrom now (wheel_bag slots later now)
-wheel_bag-from slots later now w = record { none_before = λ t h. events_over slots later now t (IsLoose-from_wound w) h }
+pub calendar_bag-from : {E : Type 0} (slots : List (List E)) (later : BTreeMap ℕ (List E)) (now : ℕ) → IsWound slots later now → IsFrom now (calendar_bag slots later now)
+calendar_bag-from slots later now w = record { none_before = λ t h. events_over slots later now t (IsLoose-from_wound w) h }

@@ -4,5 +4,6 @@ pub mod Calls
 pub mod Busy
 pub mod Turn
 pub mod Window
+pub mod Front
 pub mod Links
 pub mod Ownership

@@ -1,4 +1,4 @@
--- The slots of a wheel, as lists of events.
+-- The slots of a calendar, as lists of events.
 use Rattle.std.specs.Prelude.{◌≡◌, ℕ, ◌<◌, List, [], ◌∷◌, length, slice_index_or, Option, None, Some}
 use Rattle.vs_time_wheel.specs.Busy.{flag_at}
 

@@ -1,4 +1,4 @@
--- A wheel: the events of the 256 times from now on lie in slots, those of later times in an ordered map.
+-- A calendar: the events of the 256 times from now on lie in slots, those of later times in an ordered map.
 use Rattle.std.specs.Prelude.{◌≡◌, ◌≢◌, ℕ, zero, suc, ◌+◌, ◌%◌, ◌^◌, ◌<◌, ◌≤◌, List, [], ◌∷◌, ◌++◌, length, None, Some}
 use Rattle.std.specs.BTreeMap.{BTreeMap, get, IsOrdered}
 use Rattle.std.specs.Option.{unwrap_or}
@@ -22,11 +22,11 @@ abbrev pub later_bag : {E : Type 0} → List (ℕ × List E) → List (Timed E)
 later_bag [] = []
 later_bag (e ∷ es) = due_at e.0 e.1 ++ later_bag es
 
--- all events of a wheel
-unfoldable pub wheel_bag : {E : Type 0} → List (List E) → BTreeMap ℕ (List E) → ℕ → List (Timed E)
-wheel_bag slots later now = turn_bag slots now 256 ++ later_bag later.entries
+-- all events of a calendar
+unfoldable pub calendar_bag : {E : Type 0} → List (List E) → BTreeMap ℕ (List E) → ℕ → List (Timed E)
+calendar_bag slots later now = turn_bag slots now 256 ++ later_bag later.entries
 
--- a wheel is in order: 256 slots, times of 64 bits, and in the map the times behind the slots alone, each with an event
+-- a calendar is in order: 256 slots, times of 64 bits, and in the map the times behind the slots alone, each with an event
 pub record IsWound {E : Type 0} (slots : List (List E)) (later : BTreeMap ℕ (List E)) (now : ℕ) : Type 0 where
   pub count : length slots ≡ 256
   pub fits : (t : ℕ) → now ≤ t → t < now + 256 → 2 ^ 64 ≤ t → slot_at slots (t % 256) ≡ []
@@ -61,4 +61,4 @@ pub record Loses {E : Type 0} (later later' : BTreeMap ℕ (List E)) (time : ℕ
 
 -- no event is due before a time
 abbrev pub NoneBefore : {E : Type 0} → List (List E) → BTreeMap ℕ (List E) → ℕ → ℕ → Type 0
-NoneBefore slots later now time = (t : ℕ) → t < time → events_at t (wheel_bag slots later now) ≡ []
+NoneBefore slots later now time = (t : ℕ) → t < time → events_at t (calendar_bag slots later now) ≡ []

@@ -1,11 +1,13 @@
 //! Event queues: bags of timed events, the oldest first at equal times.
 //!
 //! `EventQueue` is the law, which code above is proved against once. `ListQueue` is a plain list in the order
-//! of scheduling. `Wheel` has 256 slots of linked nodes for the times from now on, and an ordered map for the later ones.
+//! of scheduling. `Wheel` has one event in front, and for the others 256 slots of linked nodes for the times from now on
+//! and an ordered map for the later ones.
 #![tactic(auto)]
 
 mod blocks;
 mod busy;
+mod calendar;
 mod calls;
 mod law;
 mod list;

@@ -1,4 +1,4 @@
-// One turn of the wheel: 256 slots, and which of them are busy.
+// One turn of the calendar: 256 slots, and which of them are busy.
 ghost use Rattle.std.specs.Prelude.{◌≡◌, ◌≢◌, ℕ, ◌+◌, ◌%◌, ◌<◌, List, [], ◌∷◌, ◌++◌, drop, slice_set, length, MatchOption, IfErr, IfOk, OnOk, OnErr};
 ghost use Rattle.vs_time_wheel.specs.Turn.{slot_at, AllFree, first_of, IsFlagged};
 

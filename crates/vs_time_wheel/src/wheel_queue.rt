@@ -1,40 +1,35 @@
-// The wheel: the times near now in slots, the later ones in an ordered map.
-ghost use Rattle.std.specs.Prelude.{◌≡◌, ◌≢◌, ℕ, ◌+◌, ◌^◌, ◌<◌, ◌≤◌, [], None, Some, IfErr, IfOk, OnOk, OnErr, IfSome, OnSome, MatchOption};
-ghost use Rattle.std.specs.Ordering.{nat_cmp};
-ghost use Rattle.std.specs.BTreeMap.{get, IsUnchanged, btree_map_len};
-ghost use Rattle.vs_time_wheel.specs.Bag.{SameBag};
+// The wheel: an event in front, and a calendar for the others.
+ghost use Rattle.std.specs.Prelude.{◌≡◌, ◌↔◌, ◌<◌, ◌≤◌, IsTrue, [], ◌∷◌, ◌++◌, None, Some, IfSome, IfErr, IfOk, OnOk, OnErr};
+ghost use Rattle.std.specs.Option.{ForSome};
+ghost use Rattle.vs_time_wheel.specs.Bag.{SameBag, least_time, oldest_at, sooner, without_oldest};
+ghost use Rattle.vs_time_wheel.specs.Front.{front, IsAhead, IsDue, IsInFront, MakesWay, Adds};
 ghost use Rattle.vs_time_wheel.specs.Queue.{Queue};
-ghost use Rattle.vs_time_wheel.specs.Window.{wheel_bag, IsWound, IsLoose, NoneBefore, Postpones, Loses};
 
-use crate::busy::SLOTS;
+use crate::calendar::Calendar;
 use crate::law::EventQueue;
-use crate::pool::{Chain, Pool};
-use crate::timing::{Full, Memory};
-use crate::turn::Turn;
+use crate::timing::{Full, Memory, Timed};
 use std::alloc::Global;
-use std::collections::BTreeMap;
 use std::marker::Model;
+use std::mem;
 
-/// The events of times that are 256 ticks and more behind now.
-type Later<E> = BTreeMap<u64, Chain<E>>;
-
-/// An event queue in 256 slots, one for each time from now to now + 255, and an ordered map for the later times.
-/// No call looks at more than the slots' flags, one slot and the first of the later times;
-/// each event moves at most once from the map to its slot.
+/// An event queue: one event in front, and the others in 256 slots and an ordered map.
+/// An event that is due before all others takes no memory, and is found without a look at the slots.
 #[derive(Drop)]
 pub struct Wheel<E> {
-    turn: Turn<E>,
-    later: Later<E>,
-    pool: Pool<E>,
+    // An event that came in front when every other one was due later.
+    first: Option<Timed<E>>,
+    // The least time of the others.
+    least: Option<u64>,
+    others: Calendar<E>,
     now: u64,
 }
 
 impl<E> Model for Wheel<E> {
     ghost Value = { Queue E };
 
-    ghost view = { λ w. record { bag = wheel_bag w.turn w.later w.now; clock = w.now } };
+    ghost view = { λ w. record { bag = front w.first ++ w.others.bag; clock = w.now } };
 
-    ghost invariant = { λ w. IsWound w.turn w.later w.now };
+    ghost invariant = { λ w. IsInFront w.first w.least w.others w.now };
 }
 
 impl<E: Drop> Wheel<E> {
@@ -43,78 +38,167 @@ impl<E: Drop> Wheel<E> {
         ensures empty { IfOk result (λ wheel. wheel.bag ≡ []) }
         ensures at_zero { IfOk result (λ wheel. wheel.clock ≡ 0) }
     {
-        let turn = Turn::new(alloc)?;
+        let others = Calendar::new(alloc)?;
         Ok(Wheel {
-            turn,
-            later: BTreeMap::new(alloc),
-            pool: Pool::new(alloc),
+            first: None,
+            least: None,
+            others,
             now: 0,
         })
     }
 }
 
-// Adds an event to those of a later time.
-fn postpone<E: Drop>(
-    later: &mut Later<E>,
-    pool: &mut Pool<E>,
+// Whether a time is before the least time of a bag.
+#[inline(always)]
+fn is_before(time: u64, least: Option<u64>) -> bool
+    ensures { IsTrue result ↔ IsAhead time least }
+{
+    match least {
+        Some(next) => time < next,
+        None => true,
+    }
+}
+
+// The sooner of a time and the least time of a bag.
+#[inline(always)]
+fn sooner_of(time: u64, least: Option<u64>) -> Option<u64>
+    ensures { result ≡ sooner time least }
+{
+    match least {
+        Some(next) => Some(time.min(next)),
+        None => Some(time),
+    }
+}
+
+// Moves the others on to the time now, where they are all due later. No event is taken.
+#[inline(never)]
+fn catch_up<E: Drop>(others: &mut Calendar<E>, least: Option<u64>, now: u64)
+    requires not_over { others.old.clock ≤ now }
+    requires least { least ≡ least_time others.old.bag }
+    ensures same_bag { SameBag others.new.bag others.old.bag }
+    ensures not_over { others.new.clock ≤ now }
+{
+    if others.now() < now && is_before(now, least) {
+        others.take_due(now);
+    }
+}
+
+// Adds an event to the others.
+fn add_other<E: Drop>(
+    others: &mut Calendar<E>,
+    least: &mut Option<u64>,
+    now: u64,
     time: u64,
     event: E,
 ) -> Result<(), Full<E>>
-    ensures added { OnOk result (Postpones later.old later.new time event) }
+    requires not_over { others.old.clock ≤ now }
+    requires from_now { now ≤ time }
+    requires least { least.old ≡ least_time others.old.bag }
+    ensures added { OnOk result (SameBag others.new.bag (others.old.bag ++ record { time = time; event = event } ∷ [])) }
     ensures handed_back { IfErr result (λ full. full.event ≡ event) }
-    ensures unchanged { OnErr result (IsUnchanged later.old later.new) }
+    ensures unchanged { OnErr result (SameBag others.new.bag others.old.bag) }
+    ensures not_over { others.new.clock ≤ now }
+    ensures least { least.new ≡ least_time others.new.bag }
 {
-    if let Some(chain) = later.get_mut(&time) {
-        return pool.push(chain, event);
+    catch_up(others, *least, now);
+    others.schedule(time, event)?;
+    *least = sooner_of(time, *least);
+    Ok(())
+}
+
+// Whether the event in front is due after a time, and before all others.
+#[inline(always)]
+fn makes_way<E>(first: &Option<Timed<E>>, least: Option<u64>, time: u64) -> bool
+    ensures { IsTrue result → MakesWay time first.now least }
+{
+    match first {
+        Some(held) => time < held.time && is_before(held.time, least),
+        None => false,
     }
-    let mut chain = Chain::new();
-    pool.push(&mut chain, event)?;
-    match later.insert(time, chain) {
-        Ok(_) => Ok(()),
-        Err(refused) => {
-            let (_, mut chain) = refused.value;
-            match pool.pop(&mut chain) {
-                Some(event) => Err(Full { event }),
+}
+
+// Puts an event in front; the one that was there, which is due later, goes to the others.
+fn displace<E: Drop>(
+    first: &mut Option<Timed<E>>,
+    others: &mut Calendar<E>,
+    least: &mut Option<u64>,
+    now: u64,
+    time: u64,
+    event: E,
+) -> Result<(), Full<E>>
+    requires in_front { IsInFront first.old least.old others.old now }
+    requires from_now { now ≤ time }
+    requires makes_way { MakesWay time first.old least.old }
+    ensures added { OnOk result (Adds first.old others.old.bag first.new others.new.bag time event) }
+    ensures handed_back { IfErr result (λ full. full.event ≡ event) }
+    ensures unchanged { OnErr result (SameBag (front first.new ++ others.new.bag) (front first.old ++ others.old.bag)) }
+    ensures in_front { IsInFront first.new least.new others.new now }
+{
+    let Some(held) = mem::replace(first, Some(Timed { time, event })) else {
+        unreachable!()
+    };
+    let until = held.time;
+    match add_other(others, least, now, until, held.event) {
+        Ok(()) => Ok(()),
+        Err(full) => {
+            let held = Timed {
+                time: until,
+                event: full.event,
+            };
+            match mem::replace(first, Some(held)) {
+                Some(new) => Err(Full { event: new.event }),
                 None => unreachable!(),
             }
         }
     }
 }
 
-// The first of the later times.
-fn first_time<E>(later: &Later<E>) -> Option<u64>
-    ensures { MatchOption result ((t : ℕ) → get nat_cmp later.now t ≡ None)
-        (λ time. (get nat_cmp later.now time ≢ None) × ((t : ℕ) → t < time → get nat_cmp later.now t ≡ None)) }
+// Adds an event that doesn't go in front at once.
+#[inline(never)]
+fn add<E: Drop>(
+    first: &mut Option<Timed<E>>,
+    others: &mut Calendar<E>,
+    least: &mut Option<u64>,
+    now: u64,
+    time: u64,
+    event: E,
+) -> Result<(), Full<E>>
+    requires in_front { IsInFront first.old least.old others.old now }
+    requires from_now { now ≤ time }
+    ensures added { OnOk result (Adds first.old others.old.bag first.new others.new.bag time event) }
+    ensures handed_back { IfErr result (λ full. full.event ≡ event) }
+    ensures unchanged { OnErr result (SameBag (front first.new ++ others.new.bag) (front first.old ++ others.old.bag)) }
+    ensures in_front { IsInFront first.new least.new others.new now }
 {
-    let (time, _) = later.first_key_value()?;
-    Some(*time)
-}
-
-// Takes the events of the first of the later times, where that time is near.
-fn take_near<E>(later: &mut Later<E>, now: u64) -> Option<(u64, Chain<E>)>
-    requires { (t : ℕ) → t < now → get nat_cmp later.old t ≡ None }
-    ensures first { MatchOption result
-        (((t : ℕ) → t < now + 256 → get nat_cmp later.old t ≡ None) × IsUnchanged later.old later.new)
-        (λ first. (now ≤ first.0) × (first.0 < now + 256) × (get nat_cmp later.old first.0 ≡ Some first.1)
-        × Loses later.old later.new first.0) }
-    ensures small { IfSome result (λ first. first.0 < 2 ^ 64) }
-    ensures fewer { OnSome result (btree_map_len later.new + 1 ≡ btree_map_len later.old) }
-{
-    let time = first_time(later)?;
-    if time - now >= SLOTS as u64 {
-        return None;
+    if makes_way(first, *least, time) {
+        return displace(first, others, least, now, time, event);
     }
-    later.pop_first()
+    add_other(others, least, now, time, event)
 }
 
-// Moves the events of the times that have come near to their slots.
-fn bring_near<E: Drop>(turn: &mut Turn<E>, later: &mut Later<E>, now: u64)
-    requires { IsLoose turn.old later.old now }
-    ensures wound { IsWound turn.new later.new now }
-    ensures same_bag { SameBag (wheel_bag turn.new later.new now) (wheel_bag turn.old later.old now) }
+// Takes the oldest of the others that is due at a time.
+#[inline(never)]
+fn take<E: Drop>(others: &mut Calendar<E>, least: &mut Option<u64>, time: u64) -> Option<E>
+    requires not_over { others.old.clock ≤ time }
+    requires none_before { ForSome (least_time others.old.bag) (λ next. time ≤ next) }
+    ensures oldest { result ≡ oldest_at time others.old.bag }
+    ensures rest { SameBag others.new.bag (without_oldest time others.old.bag) }
+    ensures moved_on { others.new.clock ≡ time }
+    ensures least { least.new ≡ least_time others.new.bag }
 {
-    while let Some((time, chain)) = take_near(later, now) {
-        turn.put((time % 256) as usize, chain);
+    let event = others.take_due(time);
+    *least = others.next_time();
+    event
+}
+
+// Whether the event in front is due at a time.
+#[inline(always)]
+fn is_due<E>(first: &Option<Timed<E>>, time: u64) -> bool
+    ensures { IsTrue result ↔ IsDue time first.now }
+{
+    match first {
+        Some(event) => event.time == time,
+        None => false,
     }
 }
 
@@ -125,25 +209,42 @@ impl<E: Drop> EventQueue<E> for Wheel<E> {
 
     #[inline(always)]
     fn schedule(&mut self, time: u64, event: E) -> Result<(), Full<E>> {
-        if time - self.now < SLOTS as u64 {
-            return self.turn.push(&mut self.pool, (time % 256) as usize, event);
+        if self.first.is_none() && is_before(time, self.least) {
+            self.first = Some(Timed { time, event });
+            return Ok(());
         }
-        postpone(&mut self.later, &mut self.pool, time, event)
+        add(
+            &mut self.first,
+            &mut self.others,
+            &mut self.least,
+            self.now,
+            time,
+            event,
+        )
     }
 
+    #[inline(always)]
     fn next_time(&self) -> Option<u64> {
-        match self.turn.next((self.now % 256) as usize) {
-            Some(ahead) => Some(self.now + ahead as u64),
-            None => first_time(&self.later),
+        match &self.first {
+            Some(first) => sooner_of(first.time, self.least),
+            None => self.least,
         }
     }
 
+    #[inline(always)]
     fn take_due(&mut self, time: u64) -> Option<E> {
         self.now = time;
-        bring_near(&mut self.turn, &mut self.later, time);
-        self.turn.pop(&mut self.pool, (time % 256) as usize)
+        if is_due(&self.first, time) {
+            let Timed { time: _, event } = self.first.take()?;
+            return Some(event);
+        }
+        if self.least == Some(time) {
+            return take(&mut self.others, &mut self.least, time);
+        }
+        None
     }
 
+    #[inline(always)]
     fn now(&self) -> u64 {
         self.now
     }

@@ -17,7 +17,11 @@ use Rattle.vs_design.specs.Writes.{Write}
 use Rattle.vs_process.specs.States.{State, Update, make, stepped, written_behind}
 use Rattle.vs_regions.specs.Active.{place_of_active}
 use Rattle.vs_state.specs.Prints.{made_line, made_text}
+use Rattle.vs_state.specs.Sources.{has_sources}
 use Rattle.vs_state.specs.Told.{told}
+use Rattle.vs_state.specs.Touches.{HasSources}
+use Rattle.vs_state.specs.Waits.{HasTerms}
+use Rattle.vs_state.proofs.TermsLemmas.{has_terms}
 use Rattle.vs_vcd.specs.declared.fault.VcdFault.{VcdFault}
 use Rattle.vs_vcd.specs.Progress.{Progress}
 use Rattle.vs_vcd.specs.Sinks.{AppendsPart}
@@ -81,6 +85,13 @@ turned_told blocks inside behind s t writer writer' vcd vcd' lines lines' m enab
 -- behind one more move
 pub reached_on : (d : Parts) (s t : State) (m : Move) → IsReached d s → t ≡ apply m s → IsReached d t
 reached_on d s t m h next = (m ∷ h.0, ap (apply m) h.1 ∙ sym next)
+
+-- a reached state has the design's continuous assignments, and its processes wait for what their texts name
+pub reached_sources : (d : Parts) (s : State) → IsReached d s → HasSources d s
+reached_sources d s h = subst (HasSources d) h.1 (has_sources d h.0)
+
+pub reached_terms : (d : Parts) (s : State) → IsReached d s → HasTerms d s
+reached_terms d s h = subst (HasTerms d) h.1 (has_terms d h.0)
 
 -- no slot ends
 pub no_slot : (old : Option (List ℕ)) (m : Move) (s : State) → (m ≡ EndSlot → ⊥) → (d : Parts) (before : List Slot) → AppendsSlots old old d before (ended_slot m s)

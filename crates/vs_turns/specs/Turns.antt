@@ -7,6 +7,10 @@ use Rattle.vs_process.specs.declared.moves.Move.{Move}
 use Rattle.vs_process.specs.Blocks.{is_step_of_any}
 use Rattle.vs_process.specs.Executions.{after, apply, ended_slot, is_enabled, move_lines}
 use Rattle.vs_process.specs.States.{State}
+use Rattle.vs_state.specs.Driven.{IsDriven}
+use Rattle.vs_agenda.specs.declared.entries.AssignEvent.{AssignEvent}
+use Rattle.vs_agenda.specs.declared.entries.AssignEvent.TheVariants as e
+use Rattle.vs_agenda.specs.AssignEvents.{move_of}
 use Rattle.vs_vcd.specs.Progress.{Progress}
 use Rattle.vs_vcd.specs.Sinks.{AppendsPart}
 use Rattle.vs_turns.specs.Insides.{inside_told}
@@ -18,6 +22,12 @@ use Rattle.vs_turns.specs.Slots.{AppendsSlots, AppendsSlotsPart}
 -- a state to which moves of a design lead
 abbrev pub IsReached : Parts → State → Type 0
 IsReached d s = (moves : List Move) × (after d moves ≡ s)
+
+-- so many moves of a continuous assignment: one, or an evaluation and the update that it has behind it
+abbrev pub MovesOn : ℕ → AssignEvent → State → State → Type 0
+MovesOn (suc zero) event s t = t ≡ apply (move_of event) s
+MovesOn (suc (suc zero)) (e.Evaluate j) s t = IsDriven j s t
+MovesOn _ _ s t = ⊥
 
 -- a step: an enabled move, of the combinational block that has left its control where there is one, is made, and the slot that it ends and the lines
 -- that it makes are written

@@ -1,9 +1,9 @@
 //! Moves that are made: one, and one after another where none is chosen between them.
-ghost use Rattle.std.specs.Prelude.{◌≡◌, ◌<◌, ◌≤◌, ◌^◌, false, true, length, IfOk, OnOk, OnErr};
+ghost use Rattle.std.specs.Prelude.{◌≡◌, ◌<◌, ◌≤◌, ◌^◌, [], false, true, length, IfOk, OnOk, OnErr};
 ghost use Rattle.std.specs.Io.KnownBytes.{Appends};
 ghost use Rattle.vs_agenda.specs.AssignEvents.{move_of};
 ghost use Rattle.vs_turns.specs.Marking.{MarkChanges};
-ghost use Rattle.vs_turns.specs.Turns.{Batch, BatchPart, IsReached};
+ghost use Rattle.vs_turns.specs.Turns.{Batch, BatchPart, IsReached, MovesOn};
 ghost use Rattle.vs_state.specs.Prints.{made_line, made_text};
 ghost use Rattle.vs_state.specs.Told.{told};
 ghost use Rattle.vs_process.specs.Executions as executions;
@@ -11,7 +11,7 @@ ghost use Rattle.vs_vcd.specs.Progress.{is_write_fault};
 ghost use Rattle.vs_vcd.specs.Sinks.{AppendsPart, failed_after};
 
 use crate::marks::mark_all;
-use vs_agenda::{Agenda, AssignEvent, Choice};
+use vs_agenda::{Agenda, AssignEvent};
 use vs_design::Design;
 use vs_process::{Effect, Move};
 use vs_regions::Item;
@@ -173,8 +173,8 @@ pub fn run_updates<'a, Q: EventQueue<Item>, L: Sink>(
     }
 }
 
-/// Makes a move of a continuous assignment, and brings the list up to date behind it. The answer is the assignment where its update is next and isn't
-/// listed.
+/// Makes a move of a continuous assignment, and brings the list up to date behind it. Behind an evaluation whose event was the only one of the list the
+/// update is the next event, and is made too. At most so many moves are made; the answer is how many were.
 fn advance_assign<'a, Q: EventQueue<Item>, L: Sink>(
     state: &mut State<'a, Q>,
     design: &Design,
@@ -184,28 +184,44 @@ fn advance_assign<'a, Q: EventQueue<Item>, L: Sink>(
     lines: &mut L,
     next: AssignEvent,
     index: Option<usize>,
-) -> Result<Option<usize>, VcdFault>
+    steps: u64,
+) -> Result<u64, VcdFault>
+    requires steps { 0 < steps }
     requires going { state.old.over ≡ false }
     requires enabled { executions.is_enabled state.old (move_of next) ≡ true }
     requires early { state.old.time < 2 ^ 62 }
     requires reached { IsReached design.now state.old }
-    ensures state { OnOk result (state.new ≡ executions.apply (move_of next) state.old) }
+    ensures within { IfOk result (λ made. made ≤ steps) }
+    ensures made { IfOk result (λ made. MovesOn made next state.old state.new) }
     ensures marked { OnOk result (MarkChanges marks.old.items marks.new.items state.old.store state.new.store) }
     ensures len { length marks.new.items ≡ length marks.old.items }
-    ensures printed { OnOk result (Appends (L.bytes lines.old) (L.bytes lines.new) (made_text (made_line (move_of next) state.old))) }
-    ensures part { OnErr result (AppendsPart (L.bytes lines.old) (L.bytes lines.new) (made_text (made_line (move_of next) state.old))) }
+    ensures printed { OnOk result (Appends (L.bytes lines.old) (L.bytes lines.new) []) }
+    ensures part { OnErr result (AppendsPart (L.bytes lines.old) (L.bytes lines.new) []) }
     ensures failures { L.failed lines.new ≡ failed_after (is_write_fault result) (L.failed lines.old) }
 {
     match next {
         AssignEvent::Evaluate(assign) => {
-            state.evaluate(assign)?;
-            Ok(agenda.follow_first(assign, index, state)?)
+            if steps > 1 && agenda.is_alone(index) {
+                let updated = state.drive(design, assign, &mut room.changed)?;
+                if updated {
+                    mark_all(marks, &room.changed);
+                    room.changed.clear();
+                    agenda.remove(index);
+                    agenda.add_woken(state)?;
+                    return Ok(2);
+                }
+            } else {
+                state.evaluate(assign)?;
+            }
+            agenda.follow_evaluation(assign, index, state)?;
+            Ok(1)
         }
         AssignEvent::Propagate(assign) => {
-            let choice = Move::Propagate(assign);
-            advance(state, design, marks, room, lines, choice)?;
-            agenda.follow(Choice { choice, index }, state)?;
-            Ok(None)
+            state.propagate(design, assign, &mut room.changed)?;
+            mark_all(marks, &room.changed);
+            room.changed.clear();
+            agenda.follow_propagation(assign, index, state)?;
+            Ok(1)
         }
     }
 }
@@ -240,15 +256,18 @@ pub fn run_assigns<'a, Q: EventQueue<Item>, L: Sink>(
     let mut event = first;
     let mut index = from;
     loop {
-        let unlisted = advance_assign(state, design, agenda, marks, room, lines, event, index)?;
-        made += 1;
+        let left = steps - made;
+        let moved = advance_assign(
+            state, design, agenda, marks, room, lines, event, index, left,
+        )?;
+        made += moved;
         if made == steps {
             return Ok(made);
         }
-        match agenda.next_assign(unlisted, state) {
+        match agenda.first_assign(state) {
             Some(next) => {
-                event = next.event;
-                index = next.index;
+                event = next;
+                index = Some(0);
             }
             None => return Ok(made),
         }

@@ -9,7 +9,7 @@ use Rattle.vs_edges.proofs.bits.edges.Goals as goal
 pub returns-in-Any : goal.returns-in-Any
 returns-in-Any c = λ place within.
     edge_at_place Any _ _ _ place c.value_plane-value.ensures c.unknown_plane-unknown.ensures c.value_plane-value_behind.ensures c.unknown_plane-unknown_behind.ensures
-    (any_at _ _ _ _ place (omega (arith, c.value_plane-value.type_inv)) (omega (arith, c.unknown_plane-unknown.type_inv)) (omega (arith, c.value_plane-value_behind.type_inv)) (omega (arith, c.unknown_plane-unknown_behind.type_inv)) within)
+    (any_at _ _ _ _ place)
     ∙ sym (ap (λ (edge : Edge). is_edge edge (get_or c.args.before place Zero) (get_or c.args.behind place Zero)) c.in-Any.is)
 
 pub returns-in-Posedge : goal.returns-in-Posedge

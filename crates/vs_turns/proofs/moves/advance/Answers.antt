@@ -1,22 +1,18 @@
 use Rattle.std.proofs.Common.{[], refl, sym, ◌∙◌, subst}
 use Rattle.std.specs.Io.KnownBytes.{Appends}
-use Rattle.vs_process.specs.States.{State}
 use Rattle.vs_state.specs.Prints.{made_line, made_text}
-use Rattle.vs_state.specs.Sources.{has_sources}
-use Rattle.vs_state.specs.Touches.{HasSources}
-use Rattle.vs_state.specs.Waits.{HasTerms}
-use Rattle.vs_state.proofs.TermsLemmas.{has_terms}
 use Rattle.vs_vcd.specs.Sinks.{AppendsPart}
 use Rattle.vs_turns.specs.Marking.{AreMarked}
 use Rattle.vs_turns.proofs.MarkingLemmas.{mark_changes}
 use Rattle.vs_turns.proofs.Appending.{append_none, on_err}
+use Rattle.vs_turns.proofs.TurnsLemmas.{reached_sources, reached_terms}
 use Rattle.vs_turns.proofs.moves.advance.Goals as goal
 
 pub make-requires-clause-sources : goal.make-requires-clause-sources
-make-requires-clause-sources g c = subst (λ (s : State). HasSources c.args.design.now s) c.requires.reached.1 (has_sources c.args.design.now c.requires.reached.0)
+make-requires-clause-sources g c = reached_sources c.args.design.now c.args.state.now c.requires.reached
 
 pub make-requires-clause-terms : goal.make-requires-clause-terms
-make-requires-clause-terms g c = subst (λ (s : State). HasTerms c.args.design.now s) c.requires.reached.1 (has_terms c.args.design.now c.requires.reached.0)
+make-requires-clause-terms g c = reached_terms c.args.design.now c.args.state.now c.requires.reached
 
 pub returns-clause-marked : goal.returns-clause-marked
 returns-clause-marked g c =

@@ -5,8 +5,8 @@ use Rattle.vs_turns.specs.Turns.{IsReached}
 use Rattle.vs_turns.proofs.TurnsLemmas.{Along}
 use Rattle.vs_turns.proofs.moves.run_assigns.Given as goal
 
-abbrev pub invariant-loop-unlisted : goal.invariant-loop-unlisted
-invariant-loop-unlisted g l = record {
+abbrev pub invariant-loop-moved : goal.invariant-loop-moved
+invariant-loop-moved g l = record {
   run : Along l.made (move_of l.initial.event) (move_of l.event) l.fn.state l.state (g.L.Sink.bytes l.fn.lines) (g.L.Sink.bytes l.lines);
   reached : IsReached l.design l.state;
   within : l.made < l.steps;
@@ -15,5 +15,5 @@ invariant-loop-unlisted g l = record {
   failures : g.L.Sink.failed l.lines ≡ g.L.Sink.failed l.fn.lines;
 }
 
-abbrev pub decreases-loop-unlisted : goal.decreases-loop-unlisted
-decreases-loop-unlisted g l = l.steps - l.made
+abbrev pub decreases-loop-moved : goal.decreases-loop-moved
+decreases-loop-moved g l = l.steps - l.made

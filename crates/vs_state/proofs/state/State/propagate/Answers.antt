@@ -16,7 +16,7 @@ follow-requires g c =
     let s = c.self.inside in
     let w : Write = assigned c.target-target.result.now c.in-Some-pending.digits s.store c.time-time.result in
     let words : c.assign.new.changes.items ≡ changed_words s.store c.assign.new.store w =
-    c.in_ok-assign.ensures.changes ∙ ap (λ (l : List Change). l ++ changed_words s.store c.assign.new.store w) c.clear.ensures.items
+    c.in_ok-assign.ensures.changes ∙ ap (λ (l : List Change). l ++ changed_words s.store c.assign.new.store w) c.clear-2.ensures.items
     in
     record {
       sizes = sizes_put w s.store c.assign.new.store c.assign.new.changes.items c.in_ok-assign.ensures.store words;
@@ -29,7 +29,7 @@ returns-clause-made g c =
     let s = c.self.inside in
     let w : Write = assigned c.target-target.result.now c.in-Some-pending.digits s.store c.time-time.result in
     let words : c.assign.new.changes.items ≡ changed_words s.store c.assign.new.store w =
-    c.in_ok-assign.ensures.changes ∙ ap (λ (l : List Change). l ++ changed_words s.store c.assign.new.store w) c.clear.ensures.items
+    c.in_ok-assign.ensures.changes ∙ ap (λ (l : List Change). l ++ changed_words s.store c.assign.new.store w) c.clear-2.ensures.items
     in
     let before : State = record {
       store = s.store;
@@ -51,7 +51,7 @@ returns-clause-covers g c =
     let s = c.self.inside in
     let w : Write = assigned c.target-target.result.now c.in-Some-pending.digits s.store c.time-time.result in
     let words : c.assign.new.changes.items ≡ changed_words s.store c.assign.new.store w =
-    c.in_ok-assign.ensures.changes ∙ ap (λ (l : List Change). l ++ changed_words s.store c.assign.new.store w) c.clear.ensures.items
+    c.in_ok-assign.ensures.changes ∙ ap (λ (l : List Change). l ++ changed_words s.store c.assign.new.store w) c.clear-2.ensures.items
     in
     covers_seen c.follow.new.changed.items c.assign.new.store c.self.view_is
     (covers_put c.follow.new.changed.items w s.store c.assign.new.store c.assign.new.changes.items c.in_ok-follow.ensures.covers words c.in_ok-assign.ensures.store)

@@ -25,7 +25,7 @@ returns-clause-made g c =
       over = s.over;
     } in
     written_by before w c.write_part.new.processes.time c.write_part.new.store cs c.write_part.new.processes.places c.write_part.new.assigns c.write_part.new.processes.updates
-    c.write_part.ensures.store words c.in_ok-write_part.ensures.assigns c.in_ok-write_part.ensures.places c.write_part.ensures.time c.write_part.ensures.updates
+    c.write_part.ensures.store words c.in_ok-changes.ensures.assigns c.in_ok-changes.ensures.places c.write_part.ensures.time c.write_part.ensures.updates
     ∙ ap (λ (t : State). written t w) c.self.view_is
 
 pub returns-clause-covers : goal.returns-clause-covers
@@ -35,4 +35,4 @@ returns-clause-covers g c =
     let cs : List Change = changed_part s.store c.write_part.new.store c.args.part in
     let words : cs ≡ changed_words s.store c.write_part.new.store w = sym (append-nil cs) in
     covers_seen c.write_part.new.changed.items c.write_part.new.store c.self.view_is
-    (covers_put c.write_part.new.changed.items w s.store c.write_part.new.store cs c.in_ok-write_part.ensures.covers words c.write_part.ensures.store)
+    (covers_put c.write_part.new.changed.items w s.store c.write_part.new.store cs c.in_ok-changes.ensures.covers words c.write_part.ensures.store)

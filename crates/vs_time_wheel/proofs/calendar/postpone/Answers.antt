@@ -3,7 +3,7 @@ use Rattle.std.specs.BTreeMap.{is_at}
 use Rattle.std.specs.Map.{set_value}
 use Rattle.std.proofs.lemmas.Map.Steps.{set_value_same}
 use Rattle.vs_time_wheel.proofs.Outcomes.{OnErr-map}
-use Rattle.vs_time_wheel.proofs.wheel_queue.postpone.Goals as goal
+use Rattle.vs_time_wheel.proofs.calendar.postpone.Goals as goal
 
 pub returns-in-Some-clause-unchanged : goal.returns-in-Some-clause-unchanged
 returns-in-Some-clause-unchanged g c =

@@ -1,13 +1,13 @@
 use Rattle.std.specs.BTreeMap.{btree_map_len}
 use Rattle.vs_time_wheel.specs.Bag.{SameBag}
-use Rattle.vs_time_wheel.specs.Window.{wheel_bag, IsLoose}
-use Rattle.vs_time_wheel.proofs.wheel_queue.bring_near.Given as goal
+use Rattle.vs_time_wheel.specs.Window.{calendar_bag, IsLoose}
+use Rattle.vs_time_wheel.proofs.calendar.bring_near.Given as goal
 
 -- events only move
 abbrev pub invariant-loop-time : goal.invariant-loop-time
 invariant-loop-time g l = record {
   loose : IsLoose l.turn l.later l.now;
-  same_bag : SameBag (wheel_bag l.turn l.later l.now) (wheel_bag l.fn.turn l.fn.later l.now);
+  same_bag : SameBag (calendar_bag l.turn l.later l.now) (calendar_bag l.fn.turn l.fn.later l.now);
 }
 
 abbrev pub decreases-loop-time : goal.decreases-loop-time

@@ -1,5 +1,5 @@
 use Rattle.vs_time_wheel.proofs.Wound.{bag_empty}
-use Rattle.vs_time_wheel.proofs.wheel_queue.Wheel.new.Goals as goal
+use Rattle.vs_time_wheel.proofs.calendar.Calendar.new.Goals as goal
 
 pub returns-clause-empty : goal.returns-clause-empty
 returns-clause-empty g c = bag_empty c.in_ok-turn.turn c.new-2.result c.in_ok-turn.ensures c.new-2.ensures.empty

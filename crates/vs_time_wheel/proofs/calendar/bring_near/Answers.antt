@@ -1,6 +1,6 @@
 use Rattle.vs_time_wheel.proofs.Bags.{SameBag-trans, SameBag-from_eq}
 use Rattle.vs_time_wheel.proofs.Wound.{loose_moved, bag_moved, bag_unchanged}
-use Rattle.vs_time_wheel.proofs.wheel_queue.bring_near.Goals as goal
+use Rattle.vs_time_wheel.proofs.calendar.bring_near.Goals as goal
 
 pub loop-time-preserved : goal.loop-time-preserved
 loop-time-preserved g c =
