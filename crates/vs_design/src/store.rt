@@ -157,7 +157,10 @@ fn laid(word: Vec4, low: i64, digits: Vec4) -> Vec4
     if low == 0 && digits.width() == word.width() {
         digits
     } else {
-        word.put(low, digits)
+        let other = word;
+        let over = digits;
+        let made = other.put(low, over);
+        made
     }
 }
 

@@ -28,7 +28,10 @@ pub fn value(e: &Typed, store: &Store, time: u64) -> Vec4
         Typed::Signal(o) => operand(*o, store),
         Typed::Unary(operator, x) => operator.of(quick_value(x, store, time)),
         Typed::Chain(first, links) => chain(quick_value(first, store, time), links, store, time),
-        _ => other_value(e, store, time),
+        _ => {
+            let made = other_value(e, store, time);
+            made
+        }
     }
 }
 
@@ -68,8 +71,14 @@ pub fn quick_value(e: &Typed, store: &Store, time: u64) -> Vec4
     match e {
         Typed::Number(digits) => *digits,
         Typed::Signal(o) => operand(*o, store),
-        Typed::Unary(_, _) | Typed::Chain(_, _) => value(e, store, time),
-        _ => other_value(e, store, time),
+        Typed::Unary(_, _) | Typed::Chain(_, _) => {
+            let made = value(e, store, time);
+            made
+        }
+        _ => {
+            let made = other_value(e, store, time);
+            made
+        }
     }
 }
 
@@ -83,7 +92,9 @@ fn fitted(digits: Vec4, width: u32, signed: bool) -> Vec4
     if digits.width() == width {
         digits
     } else {
-        digits.resize(width, signed)
+        let other = digits;
+        let made = other.resize(width, signed);
+        made
     }
 }
 

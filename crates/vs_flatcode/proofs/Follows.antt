@@ -1,6 +1,7 @@
 -- The code of a process does what the process does.
 use Rattle.std.proofs.Common.{Global, ◌≡◌, ℕ, zero, suc, ◌<◌, Bool, true, false, Option, Some, None, List, [], ◌∷◌, ◌++◌, length, refl, sym, ◌∙◌, ap, subst, arith}
 use Rattle.std.specs.Prelude.{slice_get, Vec, find, if◌then◌else◌}
+use Rattle.std.proofs.lemmas.List.{length-set}
 use Rattle.vs_logic4.specs.declared.digit.Digit.{Digit}
 use Rattle.vs_logic4.specs.declared.digit.Digit.TheVariants.{Zero, One, X, Z}
 use Rattle.vs_logic4.specs.Comparisons.{truth}
@@ -121,6 +122,34 @@ stepped ops cs place i x store time halt effect next counters h at e l m =
     ap (λ (p : ℕ). step (todo_at (links_of ops) cs p) store time) at
     ∙ subst (λ (t : Todo). step t store time ≡ made_out halt effect w (todo_behind (step t store time).next)) (sym f.0) (m (todo_at (links_of ops) cs x.behind))
     ∙ ap (made_out halt effect w) (f.1 ∙ ap (λ (k : Landing). todo_at (links_of ops) k.counters k.place) (sym l))
+
+-- a step leaves the number of counters
+turned_length : (left : ℕ) (x : Op) (cs : List ℕ) → length (turned left x cs).counters ≡ length cs
+turned_length zero x cs = refl
+turned_length (suc left) x cs = length-set cs x.counter left
+
+layer_length : (x : Op) (f : Statement-F Statement) (cs : List ℕ) (store : Store) (time : ℕ) → length (layer_lands x f cs store time).counters ≡ length cs
+layer_length x (Statement-F.Null n) cs store time = refl
+layer_length x (Statement-F.Assign n t v) cs store time = refl
+layer_length x (Statement-F.Later n ticks t v) cs store time = refl
+layer_length x (Statement-F.Call n call) cs store time = refl
+layer_length x (Statement-F.Finish n) cs store time = refl
+layer_length x (Statement-F.Block all) cs store time = refl
+layer_length x (Statement-F.Delay n ticks body) cs store time = refl
+layer_length x (Statement-F.Event n terms body) cs store time = refl
+layer_length x (Statement-F.If n v a b) cs store time = refl
+layer_length x (Statement-F.Case n kind v items) cs store time = refl
+layer_length x (Statement-F.While n v body) cs store time = refl
+layer_length x (Statement-F.Repeat n signed v body) cs store time = turned_length (turns_for signed (value_of v store time)) x cs
+layer_length x (Statement-F.Forever n body) cs store time = refl
+
+task_length : (x : Op) (task : Task) (cs : List ℕ) (store : Store) (time : ℕ) → length (lands x task cs store time).counters ≡ length cs
+task_length x (Perform s) cs store time = layer_length x (out-Statement s.now) cs store time
+task_length x (Turns s) cs store time = turned_length (Rattle.std.proofs.Common.get_or cs x.counter 0) x cs
+
+pub still_code : (ops : List Op) (x : Op) (cs counters : List ℕ) (place : ℕ) (store : Store) (time : ℕ) → IsCode ops (length cs) → landing place counters ≡ lands x x.task cs store time → IsCode ops (length counters)
+still_code ops x cs counters place store time h is =
+    subst (IsCode ops) (sym (ap (λ (l : Landing). length l.counters) is ∙ task_length x x.task cs store time)) h
 
 -- a step that makes this writes what it is said to write
 pub made_write : (next : Next) (effect : Effect) (w : Option Write) → (out_of next w effect).write ≡ w

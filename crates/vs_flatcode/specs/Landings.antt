@@ -100,15 +100,27 @@ out_of next w e.Finish = record (goes next) { write = w; finish = true }
 abbrev pub MakesUpdate : Ticks → Write → Effect → Type 0
 MakesUpdate ticks u effect = (next : Next) (w : Option Write) → out_of next w effect ≡ record (goes next) { write = w; update = Some (ticks.count, u) }
 
--- where a step leads that meets this, behind which a process still has this to do
+-- where a step leads that ends so, behind which a process still has this to do
 abbrev pub next_of : Halt → Todo → Next
 next_of h.Nothing todo = on todo
+next_of h.Wrote todo = on todo
+next_of h.Made todo = on todo
 next_of (h.Delay n ticks) todo = after n ticks.count todo
 next_of (h.Wait n terms) todo = wait n terms.now todo
 
--- a step that meets this, has this effect and may write, behind which a process still has this to do
+-- the effect of a step that ends so, where it has one
+abbrev pub effect_in : Halt → Effect → Effect
+effect_in h.Made effect = effect
+effect_in _ effect = e.Nothing
+
+-- a step that ends so, may have this effect and may write, behind which a process still has this to do
 abbrev pub made_out : Halt → Effect → Option Write → Todo → Out
-made_out halt effect w todo = out_of (next_of halt todo) w effect
+made_out halt effect w todo = out_of (next_of halt todo) w (effect_in halt effect)
+
+-- a step that has done nothing beyond the process has written nothing
+abbrev pub IsStill : Halt → Option Write → Type 0
+IsStill h.Nothing w = w ≡ None
+IsStill _ w = Unit {0}
 
 -- what the step of a statement writes, by its outermost layer: a blocking assignment writes (clause 9.2.1)
 abbrev pub layer_write : Statement-F Statement → Store → ℕ → Option Write
@@ -120,7 +132,7 @@ abbrev pub item_write : Item → Store → ℕ → Option Write
 item_write (perform s) store time = layer_write (out-Statement s) store time
 item_write (turns n s) store time = None
 
--- a process with this to do first took its step: it met this and has this effect
+-- a process with this to do first took its step, which ended so, with this effect where it has one
 abbrev pub IsMade : Item → Store → ℕ → Halt → Effect → Type 0
 IsMade i store time halt effect =
     (rest : Todo) → let out = step (i ∷ rest) store time in out ≡ made_out halt effect (item_write i store time) (todo_behind out.next)
@@ -128,4 +140,4 @@ IsMade i store time halt effect =
 -- a call of this kind took its step, where it has a format: it has this effect
 abbrev pub IsCallMade : Option Format → CallKind → Store → ℕ → Effect → Type 0
 IsCallMade None kind store time effect = Unit {0}
-IsCallMade (Some f) kind store time effect = (rest : Todo) → called kind f rest store time ≡ made_out h.Nothing effect None rest
+IsCallMade (Some f) kind store time effect = (rest : Todo) → called kind f rest store time ≡ made_out h.Made effect None rest

@@ -9,7 +9,7 @@ ghost use Rattle.vs_flatcode.specs.Steps.{assignment, step, has_nothing};
 ghost use Rattle.vs_flatcode.specs.Links.{item_of};
 ghost use Rattle.vs_flatcode.specs.Extras.{format_of, starts_of, format_in};
 ghost use Rattle.vs_flatcode.specs.Codes.{job_of, StandsAt, IsEnd, IsFormatOf, IsFormatFor};
-ghost use Rattle.vs_flatcode.specs.Landings.{landing, turned, statement_lands, lands, made_out, item_write, IsMade, IsCallMade, MakesUpdate};
+ghost use Rattle.vs_flatcode.specs.Landings.{landing, turned, statement_lands, lands, made_out, item_write, IsMade, IsStill, IsCallMade, MakesUpdate};
 
 use crate::changes::{Change, assign, only_part};
 use crate::choices::{branch, loop_branch, start_taken, turns_for};
@@ -106,7 +106,6 @@ fn call_made<'a>(
     time: u64,
     effect: &mut Effect<'a>,
 ) -> Result<(), AllocError>
-    requires quiet { effect.old ≡ Effect.Nothing }
     ensures { OnOk result (IsCallMade (format_of extra.entry.now) kind store.now time effect.new) }
 {
     let Extra::Formats(formats) = extra else {
@@ -120,27 +119,6 @@ fn call_made<'a>(
         CallKind::Strobe => *effect = Effect::Strobe(format),
     }
     Ok(())
-}
-
-/// Whether a step does nothing beyond the process.
-#[inline(always)]
-pub fn is_nothing(effect: &Effect) -> bool
-    ensures { result ≡ true → effect.now ≡ Effect.Nothing }
-{
-    match effect {
-        Effect::Nothing => true,
-        _ => false,
-    }
-}
-
-// Leaves nothing of what an earlier step did.
-#[inline(always)]
-fn hush(effect: &mut Effect)
-    ensures { effect.new ≡ Effect.Nothing }
-{
-    if !is_nothing(effect) {
-        *effect = Effect::Nothing;
-    }
 }
 
 // The nonblocking update of an assignment to any target, due in so many ticks.
@@ -182,7 +160,7 @@ fn update<'a>(
     update_any(alloc, ticks, target, digits, store, time, effect)
 }
 
-// The step of a statement: the timing control that it meets, and where it leads.
+// The step of a statement: how it ends, and where it leads.
 #[inline(always)]
 fn perform<'a>(
     alloc: Global,
@@ -194,11 +172,11 @@ fn perform<'a>(
     changes: &mut Vec<Change>,
     effect: &mut Effect<'a>,
 ) -> Result<(Halt<'a>, usize), AllocError>
-    requires quiet { effect.old ≡ Effect.Nothing }
     requires format { IsFormatOf (format_in op.now) (out-Statement s.now) }
     ensures lands { IfOk result (λ r. landing r.1 counters.new.items
         ≡ statement_lands op.entry.now s.entry.now counters.old.items store.old time) }
     ensures made { IfOk result (λ r. IsMade (perform s.entry.now) store.old time r.0 effect.new) }
+    ensures still { IfOk result (λ r. IsStill r.0 (item_write (perform s.entry.now) store.old time)) }
     ensures store { OnOk result (store.new ≡ store_behind store.old (item_write (perform s.entry.now) store.old time)) }
     ensures changes { OnOk result (changes.new.items
         ≡ changes.old.items ++ changes_of store.old (item_write (perform s.entry.now) store.old time)) }
@@ -210,19 +188,19 @@ fn perform<'a>(
         Statement::Assign(_, target, e) => {
             let digits = cut_value(target, e, store, time);
             assign(alloc, target, digits, store, time, changes)?;
-            Ok((Halt::Nothing, op.behind))
+            Ok((Halt::Wrote, op.behind))
         }
         Statement::Later(_, ticks, target, e) => {
             update(alloc, *ticks, target, e, store, time, effect)?;
-            Ok((Halt::Nothing, op.behind))
+            Ok((Halt::Made, op.behind))
         }
         Statement::Call(_, call) => {
             call_made(alloc, &op.extra, call.kind, store, time, effect)?;
-            Ok((Halt::Nothing, op.behind))
+            Ok((Halt::Made, op.behind))
         }
         Statement::Finish(_) => {
             *effect = Effect::Finish;
-            Ok((Halt::Nothing, op.behind))
+            Ok((Halt::Made, op.behind))
         }
         Statement::Block(_) => Ok((Halt::Nothing, op.first)),
         Statement::Delay(n, ticks, _) => Ok((Halt::Delay(*n, *ticks), op.first)),
@@ -249,7 +227,7 @@ fn perform<'a>(
     }
 }
 
-// The step of an instruction: the timing control that it meets, and where it leads.
+// The step of an instruction: how it ends, and where it leads.
 #[inline(always)]
 fn run<'a>(
     alloc: Global,
@@ -260,12 +238,13 @@ fn run<'a>(
     changes: &mut Vec<Change>,
     effect: &mut Effect<'a>,
 ) -> Result<(Halt<'a>, usize), AllocError>
-    requires quiet { effect.old ≡ Effect.Nothing }
     requires format { IsFormatFor (format_in op.now) op.now.task }
     ensures lands { IfOk result (λ r. landing r.1 counters.new.items
         ≡ lands op.entry.now op.entry.now.task counters.old.items store.old time) }
     ensures made { IfOk result (λ r.
         IsMade (item_of counters.old.items (job_of op.entry.now.counter op.entry.now.task)) store.old time r.0 effect.new) }
+    ensures still { IfOk result (λ r.
+        IsStill r.0 (item_write (item_of counters.old.items (job_of op.entry.now.counter op.entry.now.task)) store.old time)) }
     ensures store { OnOk result (store.new ≡ store_behind store.old
         (item_write (item_of counters.old.items (job_of op.entry.now.counter op.entry.now.task)) store.old time)) }
     ensures changes { OnOk result (changes.new.items ≡ changes.old.items ++ changes_of store.old
@@ -308,9 +287,9 @@ impl<'a> Cursor<'a> {
         }
     }
 
-    /// One step of the process (IEEE 1364-2005, clauses 9.2 and 9.4 to 9.7) at `time`, in ticks: the timing control that it meets, and in
-    /// `effect` what it makes beside what the process still has to do. The write of a blocking assignment is made in the store, and the words
-    /// that it changes go to `changes`. Without memory the process stands where it stood, and the store is as it was.
+    /// One step of the process (IEEE 1364-2005, clauses 9.2 and 9.4 to 9.7) at `time`, in ticks: how it ends, and where it has an effect, this in
+    /// `effect`, which otherwise may hold any. The write of a blocking assignment is made in the store, and the words that it changes go to
+    /// `changes`. Without memory the process stands where it stood, and the store is as it was.
     #[inline(always)]
     pub fn step(
         &mut self,
@@ -322,13 +301,13 @@ impl<'a> Cursor<'a> {
     ) -> Result<Halt<'a>, AllocError>
         ensures ok { IfOk result (λ halt. step self.old store.old time
             ≡ made_out halt effect.new (step self.old store.old time).write self.new) }
+        ensures still { IfOk result (λ halt. IsStill halt (step self.old store.old time).write) }
         ensures store { OnOk result (store.new ≡ store_behind store.old (step self.old store.old time).write) }
         ensures changes { OnOk result (changes.new.items
             ≡ changes.old.items ++ changes_of store.old (step self.old store.old time).write) }
         ensures process_kept { OnErr result (self.new ≡ self.old) }
         ensures store_kept { OnErr result (store.new ≡ store.old) }
     {
-        hush(effect);
         let Some(op) = op_at(self.ops, self.place) else {
             return Ok(Halt::Nothing);
         };

@@ -12,7 +12,7 @@ mod made;
 
 pub use changes::{Change, assign, holds, make, only_part};
 pub use code::{Code, compile};
-pub use cursor::{Cursor, is_nothing};
+pub use cursor::Cursor;
 pub use gait::Gait;
 pub use laws::{one_place, ways_are};
 pub use made::{Effect, Halt};

@@ -3,19 +3,23 @@
 use vs_design::{EventTerm, Part, Ticks, Write};
 use vs_strobe::Format;
 
-/// The timing control that a step of a process meets, if it meets one.
+/// What a step of a process has done beyond the process, or the timing control that it meets.
 #[derive(Clone, Copy)]
 pub enum Halt<'a> {
-    /// None: the process goes on.
+    /// Nothing: the process goes on.
     Nothing,
-    /// A delay of so many ticks, by the delay control of this number in the process's text (IEEE 1364-2005, clause 9.7.1).
+    /// It has made a write in the store: the process goes on (IEEE 1364-2005, clause 9.2.1).
+    Wrote,
+    /// It has an effect: the process goes on.
+    Made,
+    /// It meets a delay of so many ticks, by the delay control of this number in the process's text (IEEE 1364-2005, clause 9.7.1).
     Delay(u32, Ticks),
-    /// A wait for one of these terms, by the event control of this number in the process's text (clause 9.7.2).
+    /// It meets a wait for one of these terms, by the event control of this number in the process's text (clause 9.7.2).
     Wait(u32, &'a [EventTerm]),
 }
 
-/// What a step of a process does beyond the process, and what it prints. The write of a blocking assignment is none of it: the step makes it in
-/// the store, and the words that it changes go to the caller's list (IEEE 1364-2005, clause 9.2.1).
+/// What a step of a process does beyond the process and its write, and what it prints. The write of a blocking assignment is none of it: the step makes
+/// it in the store, and the words that it changes go to the caller's list (IEEE 1364-2005, clause 9.2.1).
 #[derive(Drop)]
 pub enum Effect<'a> {
     /// Nothing, or a write.

@@ -14,10 +14,11 @@ ghost use Rattle.vs_kernel.specs.Runs.{RanTo, HasBegun};
 ghost use Rattle.vs_turns.specs.Insides.{inside_told};
 ghost use Rattle.vs_turns.specs.Points.{point};
 ghost use Rattle.vs_turns.specs.Recording.{CoversNoted, HasNoted};
-ghost use Rattle.vs_turns.specs.Turns.{AllTurned, AllTurnedPart, IsReached, Took, TookPart, TurnedPart};
+ghost use Rattle.vs_turns.specs.Turns.{AllTurned, AllTurnedPart, Took, TookPart, TurnedPart};
 ghost use Rattle.vs_process.specs.Blocks.{is_step_of_any};
 ghost use Rattle.vs_process.specs.Executions as executions;
 ghost use Rattle.vs_process.specs.States as states;
+ghost use Rattle.vs_state.specs.Silent.{IsReached};
 ghost use Rattle.vs_state.specs.Told.{told};
 ghost use Rattle.vs_vcd.specs.Progress.{is_write_fault};
 ghost use Rattle.vs_vcd.specs.Sinks.{AppendsPart, failed_after};
@@ -31,10 +32,10 @@ use vs_process::{
     none_inside_first,
 };
 use vs_regions::Item;
-use vs_state::State;
+use vs_state::{State, clear, no_marks};
 use vs_strobe::full_line;
 use vs_time_wheel::EventQueue;
-use vs_turns::{Recorder, Room, advance, clear, no_marks, run_assigns, run_process, run_updates};
+use vs_turns::{Recorder, Room, advance, run_assigns, run_process, run_updates};
 use vs_vcd::{Sink, VcdFault, write_all};
 
 /// For each process whether it is a combinational block.
@@ -390,7 +391,6 @@ fn execute<'a, Q: EventQueue<Item>, P: Pick, V: Sink, L: Sink>(
     let blocks = blocks_of(alloc, design.processes())?;
     let mut marks = no_marks(alloc, design.signals().len())?;
     let mut room = Room {
-        changed: Vec::new(alloc),
         effect: Effect::Nothing,
         line: Vec::new(alloc),
     };

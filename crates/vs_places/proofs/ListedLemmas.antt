@@ -4,9 +4,24 @@ use Rattle.std.specs.List.{list_any, remove}
 use Rattle.std.proofs.Math.Bool.{or-false}
 use Rattle.vs_design.specs.Stores.{changed_at}
 use Rattle.vs_process.specs.Executions.{if_some}
-use Rattle.vs_flatcode.specs.Places.{Place}
+use Rattle.vs_flatcode.specs.Places.{Place, is_going}
 use Rattle.vs_places.specs.Triggers.{changed_all}
 use Rattle.vs_places.specs.Listed.{is_number, names, Lists, count}
+
+-- the process at a number is active
+pub active_there : {xs ys : List Place} (same : xs ≡ ys) (p : ℕ) (x : Place) → slice_get xs p ≡ Some x → if_some is_going (slice_get ys p) ≡ true → is_going x ≡ true
+active_there same p x here active = sym (ap (if_some is_going) here) ∙ ap (λ (l : List Place). if_some is_going (slice_get l p)) same ∙ active
+
+-- an element that is set twice, and one that is set to what it is
+pub set_twice : {A : Type 0} (xs : List A) (i : ℕ) (x y : A) → slice_set (slice_set xs i x) i y ≡ slice_set xs i y
+set_twice [] i x y = refl
+set_twice (z ∷ zs) zero x y = refl
+set_twice {A} (z ∷ zs) (suc i) x y = ap (λ (l : List A). z ∷ l) (set_twice zs i x y)
+
+pub set_itself : {A : Type 0} (xs : List A) (i : ℕ) (x : A) → slice_get xs i ≡ Some x → slice_set xs i x ≡ xs
+set_itself [] i x h = refl
+set_itself {A} (z ∷ zs) zero x h = let e : z ≡ x = cc in ap (λ (v : A). v ∷ zs) (sym e)
+set_itself {A} (z ∷ zs) (suc i) x h = ap (λ (l : List A). z ∷ l) (set_itself zs i x h)
 
 or_true : (b : Bool) → (b || true) ≡ true
 or_true true = refl

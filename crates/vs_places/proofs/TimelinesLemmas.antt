@@ -13,15 +13,17 @@ use Rattle.vs_flatcode.specs.declared.gait.Gait.{Gait}
 use Rattle.vs_flatcode.specs.declared.gait.Gait.TheVariants.{Fresh, Woken}
 use Rattle.vs_flatcode.specs.Places.{Place, Todo, going, sleeping, inactive, waiting, ended, active_at, stepped_gait, is_going, is_inactive, start_place, todo_of, flat}
 use Rattle.vs_flatcode.specs.Steps.{Next, on, after, wait, step}
+use Rattle.vs_flatcode.specs.declared.changes.Change.{Change}
 use Rattle.vs_flatcode.specs.declared.made.Effect.{Effect}
 use Rattle.vs_process.specs.Effects.{Stepped}
+use Rattle.vs_process.proofs.Lists.{set_same}
 use Rattle.vs_process.specs.Executions.{if_some, earlier, next_wake}
 use Rattle.vs_process.specs.States.{roused, woken_at, due_of, place_behind, paused, triggered}
 use Rattle.vs_places.specs.Listed.{is_number, names, Lists}
-use Rattle.vs_places.specs.Timelines.{sleeps_until, AreKept, AreKeptBut, StepsAt}
+use Rattle.vs_places.specs.Timelines.{sleeps_until, AreKept, AreKeptBut, WentAt}
 use Rattle.vs_places.specs.Triggers.{triggered_by, changed_all}
 use Rattle.vs_places.proofs.ChangedLemmas.{changed_there}
-use Rattle.vs_places.proofs.ListedLemmas.{is_itself, lists_same, lists_new, lists_map, lists_none, lists_changed, visited}
+use Rattle.vs_places.proofs.ListedLemmas.{set_twice, set_itself, is_itself, lists_same, lists_new, lists_map, lists_none, lists_changed, visited}
 
 -- ---- what a place waits for
 
@@ -194,20 +196,10 @@ kept_set h p x y here active awake none = record {
   sleeping_ones = λ t. lists_same (h.sleeping_ones t) p x y here (none t ∙ sym (going_sleeps x active t));
 }
 
-set_there : {A : Type 0} (xs : List A) (p : ℕ) (x y : A) → slice_get xs p ≡ Some y → slice_get (slice_set xs p x) p ≡ Some x
-set_there [] p x y h = cc
-set_there (z ∷ zs) zero x y h = refl
-set_there (z ∷ zs) (suc p) x y h = set_there zs p x y h
-
 set_back : {A : Type 0} (xs : List A) (p : ℕ) (x y : A) → slice_get xs p ≡ Some y → slice_set (slice_set xs p x) p y ≡ xs
 set_back [] p x y h = cc
 set_back {A} (z ∷ zs) zero x y h = let e : z ≡ y = cc in ap (λ (v : A). v ∷ zs) (sym e)
 set_back {A} (z ∷ zs) (suc p) x y h = ap (λ (l : List A). z ∷ l) (set_back zs p x y h)
-
-set_twice : {A : Type 0} (xs : List A) (p : ℕ) (x y : A) → slice_set (slice_set xs p x) p y ≡ slice_set xs p y
-set_twice [] p x y = refl
-set_twice (z ∷ zs) zero x y = refl
-set_twice {A} (z ∷ zs) (suc p) x y = ap (λ (l : List A). z ∷ l) (set_twice zs p x y)
 
 set_none : {A : Type 0} (xs : List A) (p : ℕ) (x : A) → slice_get xs p ≡ None → slice_set xs p x ≡ xs
 set_none [] p x h = refl
@@ -218,26 +210,23 @@ pub kept_but : {ps qs : List Place} {ns : List ℕ} {bag : List (Timed ℕ)} →
 kept_but {ps} {qs} {ns} {bag} h p x y here active set = record {
   old = x;
   active = active;
-  kept = kept_as (sym (ap (λ (l : List Place). slice_set l p x) set ∙ set_twice ps p y x ∙ twice_same)) h;
+  kept = kept_as (sym (ap (λ (l : List Place). slice_set l p x) set ∙ set_twice ps p y x ∙ set_itself ps p x here)) h;
 }
+
+-- a process that was active may stand anywhere
+pub kept_behind : {ps qs : List Place} {ns : List ℕ} {bag : List (Timed ℕ)} → AreKept ps ns bag → (p : ℕ) (to : Place) → if_some is_going (slice_get ps p) ≡ true → qs ≡ slice_set ps p to → AreKeptBut qs ns bag p
+kept_behind {ps} {qs} {ns} {bag} h p to active set = by_place (slice_get ps p) refl active
   where
-    same : (xs : List Place) (p : ℕ) (x : Place) → slice_get xs p ≡ Some x → slice_set xs p x ≡ xs
-    same [] p x h = refl
-    same (z ∷ zs) zero x h = let e : z ≡ x = cc in ap (λ (v : Place). v ∷ zs) (sym e)
-    same (z ∷ zs) (suc p) x h = ap (λ (l : List Place). z ∷ l) (same zs p x h)
+    by_place : (o : Option Place) → slice_get ps p ≡ o → if_some is_going o ≡ true → AreKeptBut qs ns bag p
+    by_place None here e = cc
+    by_place (Some x) here e = kept_but h p x to here e set
 
-    twice_same : slice_set ps p x ≡ ps
-    twice_same = same ps p x here
-
--- a step leaves the places kept but for its process
-pub kept_behind : {ps qs : List Place} {ns : List ℕ} {bag : List (Timed ℕ)} → AreKept ps ns bag → (p : ℕ) (store : Store) (time : ℕ) (e : Effect) → if_some is_going (slice_get ps p) ≡ true → StepsAt ps p store time qs e → AreKeptBut qs ns bag p
-kept_behind h p store time e active steps = kept_but h p steps.from steps.to steps.here (sym (ap (if_some is_going) steps.here) ∙ active) steps.set
-
-pub late_behind : (ps qs : List Place) (p : ℕ) (store : Store) (time : ℕ) (e : Effect) → StepsAt ps p store time qs e → ForSome (slice_get qs p) (λ place. ForSome (due_of place) (λ due. time ≤ due))
-late_behind ps qs p store time e steps place is due h =
-    let there : slice_get qs p ≡ Some steps.to = ap (λ (l : List Place). slice_get l p) steps.set ∙ set_there ps p steps.to steps.from steps.here in
-    let same : place ≡ steps.to = some_place place steps.to (sym is ∙ there) in
-    stepped_due steps.from steps.to store time e steps.stepped due (ap due_of (sym same) ∙ h)
+pub late_behind : {steps : ℕ} {effect : Effect} {behind : Store} {changes all : List Change} (ps qs : List Place) (p : ℕ) (store : Store) (time : ℕ) → WentAt steps ps p store time qs effect behind changes all →
+    ForSome (slice_get qs p) (λ place. ForSome (due_of place) (λ due. time ≤ due))
+late_behind {steps} {effect} ps qs p store time h place is due e =
+    let there : slice_get qs p ≡ Some h.to = ap (λ (l : List Place). slice_get l p) h.set ∙ set_same ps p h.from h.to h.here in
+    let same : place ≡ h.to = some_place place h.to (sym is ∙ there) in
+    stepped_due h.went.mid h.to store time effect h.went.stepped due (ap due_of (sym same) ∙ e)
   where
     some_place : (x y : Place) → Some x ≡ Some y → x ≡ y
     some_place x y e = cc
@@ -248,7 +237,7 @@ kept_none {ps} p h none = kept_as (set_none ps p h.old none) h.kept
 -- it neither is inactive nor sleeps
 pub kept_other : {ps : List Place} {ns : List ℕ} {bag : List (Timed ℕ)} (p : ℕ) (y : Place) → AreKeptBut ps ns bag p → slice_get ps p ≡ Some y → is_inactive y ≡ false → due_of y ≡ None → AreKept ps ns bag
 kept_other {ps} p y h here awake none =
-    kept_as (set_back ps p h.old y here) (kept_set h.kept p h.old y (set_there ps p h.old y here) h.active awake (none_sleeps y none))
+    kept_as (set_back ps p h.old y here) (kept_set h.kept p h.old y (set_same ps p y h.old here) h.active awake (none_sleeps y none))
 
 -- it is active
 pub kept_going : {ps : List Place} {ns : List ℕ} {bag : List (Timed ℕ)} (p : ℕ) → AreKeptBut ps ns bag p → if_some is_going (slice_get ps p) ≡ true → AreKept ps ns bag
@@ -277,7 +266,7 @@ pub kept_roused : {ps qs : List Place} {ns ms : List ℕ} {bag : List (Timed ℕ
 kept_roused {ps} {qs} {ns} {ms} {bag} p y h here is changed same =
     subst (λ (l : List ℕ). AreKept qs l bag) (sym same)
     (kept_as (set_twice ps p h.old (roused y) ∙ changed_there roused ps p y (roused y) here refl ∙ sym changed)
-    (kept_set h.kept p h.old (roused y) (set_there ps p h.old y here) h.active (roused_inactive y) (λ t. roused_sleeps t y ∙ inactive_sleeps y is t)))
+    (kept_set h.kept p h.old (roused y) (set_same ps p y h.old here) h.active (roused_inactive y) (λ t. roused_sleeps t y ∙ inactive_sleeps y is t)))
 
 same_bag : {ps : List Place} {ns : List ℕ} {bag bag' : List (Timed ℕ)} → SameBag bag' bag → AreKept ps ns bag → AreKept ps ns bag'
 same_bag {ps} same h = record {
@@ -289,7 +278,7 @@ pub kept_woken : {ps qs : List Place} {ns : List ℕ} {bag bag' : List (Timed �
 kept_woken {ps} p due y h here is changed same =
     same_bag same
     (kept_as (set_twice ps p h.old (woken_at due y) ∙ changed_there (woken_at due) ps p y (woken_at due y) here refl ∙ sym changed)
-    (kept_set h.kept p h.old (woken_at due y) (set_there ps p h.old y here) h.active (woken_inactive due y ∙ due_inactive y due is) (λ t. by_time t (cases_eq due t))))
+    (kept_set h.kept p h.old (woken_at due y) (set_same ps p y h.old here) h.active (woken_inactive due y ∙ due_inactive y due is) (λ t. by_time t (cases_eq due t))))
   where
     by_time : (t : ℕ) → (due ≡ t) ⊎ (due ≢ t) → sleeps_until t (woken_at due y) ≡ false
     by_time t (inl e) = subst (λ (v : ℕ). sleeps_until v (woken_at due y) ≡ false) e (woken_sleeps due y)
@@ -298,7 +287,7 @@ kept_woken {ps} p due y h here is changed same =
 -- it is inactive, and stands in the list
 pub kept_inactive : {ps qs : List Place} {ns ms : List ℕ} {bag : List (Timed ℕ)} (p : ℕ) (y : Place) → AreKeptBut ps ns bag p → slice_get ps p ≡ Some y → is_inactive y ≡ true → qs ≡ ps → ms ≡ ns ++ p ∷ [] → AreKept qs ms bag
 kept_inactive {ps} {qs} {ns} {ms} {bag} p y h here is same more =
-    let there = set_there ps p h.old y here in
+    let there = set_same ps p y h.old here in
     subst (λ (l : List ℕ). AreKept qs l bag) (sym more)
     (kept_as (set_back ps p h.old y here ∙ sym same)
     (record {
@@ -322,7 +311,7 @@ kept_sleeping {ps} {qs} {ns} {bag} p due y h here is same more =
     }))
   where
     there : slice_get (slice_set ps p h.old) p ≡ Some h.old
-    there = set_there ps p h.old y here
+    there = set_same ps p y h.old here
 
     by_time : (t : ℕ) → (due ≡ t) ⊎ (due ≢ t) → Lists (sleeps_until t) (slice_set (slice_set ps p h.old) p y) (events_at t bag ++ events_at t (record { time = due; event = p } ∷ []))
     by_time t (inl e) =

@@ -6,8 +6,9 @@ use Rattle.vs_time_wheel.specs.declared.timing.Timed.{Timed}
 use Rattle.vs_time_wheel.specs.Bag.{events_at}
 use Rattle.vs_flatcode.specs.Places.{Place, sleeping, is_going, is_inactive, todo_of}
 use Rattle.vs_flatcode.specs.Steps.{step}
+use Rattle.vs_flatcode.specs.declared.changes.Change.{Change}
 use Rattle.vs_flatcode.specs.declared.made.Effect.{Effect}
-use Rattle.vs_process.specs.Effects.{Stepped}
+use Rattle.vs_process.specs.Effects.{Stepped, Went}
 use Rattle.vs_process.specs.States.{Update}
 use Rattle.vs_places.specs.Listed.{Lists}
 
@@ -39,6 +40,14 @@ pub record StepsAt (old : List Place) (process : ℕ) (store : Store) (time : �
   pub to : Place
   pub here : slice_get old process ≡ Some from
   pub stepped : Stepped from store time to effect
+  pub set : new ≡ slice_set old process to
+
+-- an active process took so many steps, of which all but the last do nothing beyond it
+pub record WentAt (steps : ℕ) (old : List Place) (process : ℕ) (store : Store) (time : ℕ) (new : List Place) (effect : Effect) (behind : Store) (changes all : List Change) : Type 0 where
+  pub from : Place
+  pub to : Place
+  pub here : slice_get old process ≡ Some from
+  pub went : Went steps from store time to effect behind changes all
   pub set : new ≡ slice_set old process to
 
 -- what the step of a process at a place writes, where there is one (clause 9.2.1)

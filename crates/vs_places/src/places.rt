@@ -1,13 +1,13 @@
 //! The places of the processes of a run.
-ghost use Rattle.std.specs.Prelude.{◌≡◌, ◌++◌, ◌<◌, ◌^◌, Some, None, true, false, length, map, slice_get, IfOk, OnOk, OnErr, MatchOption};
+ghost use Rattle.std.specs.Prelude.{◌≡◌, ◌<◌, ◌≤◌, ◌^◌, Some, None, true, false, length, map, slice_get, slice_set, IfOk, OnErr, MatchOption};
 ghost use Rattle.std.specs.List.{list_any};
 ghost use Rattle.vs_design.specs.Stores.{changed_at};
-ghost use Rattle.vs_flatcode.specs.Changes.{store_behind, changes_of};
-ghost use Rattle.vs_flatcode.specs.Places.{is_going, start_place};
+ghost use Rattle.vs_flatcode.specs.Places.{Place, is_going, start_place};
+ghost use Rattle.vs_process.specs.Effects.{effect_if};
 ghost use Rattle.vs_process.specs.Executions as executions;
 ghost use Rattle.vs_process.specs.States as states;
 ghost use Rattle.vs_places.specs.Listed.{count};
-ghost use Rattle.vs_places.specs.Timelines.{StepsAt, step_write};
+ghost use Rattle.vs_places.specs.Timelines.{WentAt};
 ghost use Rattle.vs_places.specs.Triggers.{triggered_by};
 
 use crate::counts::recount;
@@ -16,7 +16,7 @@ use std::marker::Model;
 use vs_design::Store;
 use vs_edges::woken;
 use vs_logic4::Vec4;
-use vs_process::{Change, Code, Effect, Place};
+use vs_process::{Change, Code, Effect, Place, Went};
 
 /// The places of the processes, and how many of these are active. A contract sees the places.
 #[derive(Drop)]
@@ -126,11 +126,11 @@ impl<'a> Places<'a> {
         active_process(&self.items)
     }
 
-    /// A step of an active process at `time`, in ticks: its write is made in the store, and the words that it changes go to `changes`. The answer is
-    /// whether the process is active behind it.
-    /// Without memory the places and the store are as they were.
+    /// Steps of an active process at `time`, in ticks, one after another while they do nothing beyond it and it stays active, at most so many: the write
+    /// of the last one is made in the store, and the words that it changes go to `changes`. Without memory the process is still active, and the store is
+    /// as it was.
     #[inline(always)]
-    pub(crate) fn step(
+    pub(crate) fn steps(
         &mut self,
         process: usize,
         alloc: Global,
@@ -138,24 +138,28 @@ impl<'a> Places<'a> {
         time: u64,
         changes: &mut Vec<Change>,
         effect: &mut Effect<'a>,
-    ) -> Result<bool, AllocError>
+        limit: u64,
+    ) -> Result<Went, AllocError>
         requires active { executions.if_some is_going (slice_get self.old process) ≡ true }
         requires early { time < 2 ^ 62 }
-        ensures going { IfOk result (λ going. going ≡ executions.if_some is_going (slice_get self.new process)) }
-        ensures ok { OnOk result (StepsAt self.old process store.old time self.new effect.new) }
-        ensures store { OnOk result (store.new ≡ store_behind store.old (step_write (slice_get self.old process) store.old time)) }
-        ensures changes { OnOk result (changes.new.items
-            ≡ changes.old.items ++ changes_of store.old (step_write (slice_get self.old process) store.old time)) }
-        ensures places_kept { OnErr result (self.new ≡ self.old) }
+        requires limit { 0 < limit }
+        ensures within { IfOk result (λ went. went.steps ≤ limit) }
+        ensures going { IfOk result (λ went. went.going ≡ executions.if_some is_going (slice_get self.new process)) }
+        ensures ok { IfOk result (λ went. WentAt went.steps self.old process store.old time self.new
+            (effect_if went.made effect.new) store.new changes.old.items changes.new.items) }
+        ensures active { OnErr result ((p : Place) × (is_going p ≡ true) × (self.new ≡ slice_set self.old process p)) }
         ensures store_kept { OnErr result (store.new ≡ store.old) }
     {
         let Some(place) = self.items.get_mut(process) else {
-            return Ok(false);
+            return Ok(Went {
+                steps: 0,
+                made: false,
+                going: false,
+            });
         };
-        place.step(alloc, store, time, changes, effect)?;
-        let going = place.is_going();
-        self.going = recount(self.going, true, going);
-        Ok(going)
+        let went = place.steps(alloc, store, time, changes, effect, limit)?;
+        self.going = recount(self.going, true, went.going);
+        Ok(went)
     }
 
     /// A process becomes active where the change of one word of a signal wakes a term that it waits for, and the answer is whether it does;

@@ -4,12 +4,12 @@ ghost use Rattle.std.specs.List.{list_any};
 ghost use Rattle.std.specs.Option.{ForSome};
 ghost use Rattle.vs_time_wheel.specs.Bag.{SameBag};
 ghost use Rattle.vs_design.specs.Stores.{changed_at};
-ghost use Rattle.vs_flatcode.specs.Changes.{store_behind, changes_of};
 ghost use Rattle.vs_flatcode.specs.Places.{is_going, is_inactive, start_place};
+ghost use Rattle.vs_process.specs.Effects.{effect_if};
 ghost use Rattle.vs_process.specs.Executions as executions;
 ghost use Rattle.vs_process.specs.States as states;
 ghost use Rattle.vs_regions.specs.Active.{is_active, place_of_active};
-ghost use Rattle.vs_places.specs.Timelines.{AreKept, AreKeptBut, StepsAt, step_write};
+ghost use Rattle.vs_places.specs.Timelines.{AreKept, AreKeptBut, WentAt};
 ghost use Rattle.vs_places.specs.Triggers.{changed_all, triggered_by};
 
 use crate::places::Places;
@@ -17,7 +17,7 @@ use std::alloc::{AllocError, Global};
 use std::marker::Model;
 use vs_design::{Part, Store, Ticks, Write};
 use vs_logic4::Vec4;
-use vs_process::{Change, Code, Effect, Place};
+use vs_process::{Change, Code, Effect, Place, Went};
 use vs_regions::{Item, Regions, Update};
 use vs_time_wheel::EventQueue;
 
@@ -214,36 +214,36 @@ impl<'a, Q: EventQueue<Item>> Processes<'a, Q> {
         self.regions.next_time()
     }
 
-    /// A step of an active process: its write is made in the store, and the words that it changes go to `changes`. The answer is whether the process
-    /// is active behind it.
+    /// Steps of an active process, one after another while they do nothing beyond it and it stays active, at most so many: the write of the last one is
+    /// made in the store, and the words that it changes go to `changes`.
     #[inline(always)]
-    pub fn step(
+    pub fn steps(
         &mut self,
         process: usize,
         alloc: Global,
         store: &mut Store,
         changes: &mut Vec<Change>,
         effect: &mut Effect<'a>,
-    ) -> Result<bool, AllocError>
+        limit: u64,
+    ) -> Result<Went, AllocError>
         requires active { executions.if_some is_going (slice_get self.old.places process) ≡ true }
         requires early { self.old.time < 2 ^ 62 }
-        ensures going { IfOk result (λ going. going ≡ true → executions.if_some is_going (slice_get self.new.places process) ≡ true) }
-        ensures ok { OnOk result (StepsAt self.old.places process store.old self.old.time self.new.places effect.new) }
-        ensures store { OnOk result (store.new
-            ≡ store_behind store.old (step_write (slice_get self.old.places process) store.old self.old.time)) }
-        ensures changes { OnOk result (changes.new.items
-            ≡ changes.old.items ++ changes_of store.old (step_write (slice_get self.old.places process) store.old self.old.time)) }
+        requires limit { 0 < limit }
+        ensures within { IfOk result (λ went. went.steps ≤ limit) }
+        ensures going { IfOk result (λ went. went.going ≡ true → executions.if_some is_going (slice_get self.new.places process) ≡ true) }
+        ensures ok { IfOk result (λ went. WentAt went.steps self.old.places process store.old self.old.time self.new.places
+            (effect_if went.made effect.new) store.new changes.old.items changes.new.items) }
         ensures time { self.new.time ≡ self.old.time }
         ensures updates { self.new.updates ≡ self.old.updates }
     {
         let time = self.regions.time();
-        let going = self
+        let went = self
             .places
-            .step(process, alloc, store, time, changes, effect)?;
-        if !going {
+            .steps(process, alloc, store, time, changes, effect, limit)?;
+        if !went.going {
             keep(&mut self.places, &mut self.regions, process)?;
         }
-        Ok(going)
+        Ok(went)
     }
 
     /// A process becomes active where the change of one word of a signal wakes a term that it waits for, and the answer is whether it does;

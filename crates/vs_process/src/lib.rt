@@ -12,5 +12,5 @@ pub use laws::{
     moves_are_permitted, never_stuck, none_inside_first, times_rise,
 };
 pub use moves::{Grain, Move};
-pub use place::Place;
+pub use place::{Place, Went};
 pub use vs_flatcode::{Change, Code, Effect, Gait, compile};

@@ -132,7 +132,7 @@ fn step_told<'a>(
     if place.is_going() {
         let mut changes = Vec::new(alloc);
         let mut effect = Effect::Nothing;
-        place.step(alloc, store, 0, &mut changes, &mut effect)?;
+        place.steps(alloc, store, 0, &mut changes, &mut effect, 1)?;
         out.resize(out.len() + changes.len(), b'w')?;
         tell(alloc, out, effect, store)?;
     }

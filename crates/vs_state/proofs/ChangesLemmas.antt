@@ -1,7 +1,7 @@
 -- Which words and signals a move may change.
-use Rattle.std.proofs.Common.{◌≡◌, ℕ, ◌<◌, ◌==◌, ◌||◌, ◌&&◌, not, Bool, true, false, Option, Some, None, option_map, List, [], ◌∷◌, ◌++◌, length, slice_get, if◌then◌else◌, refl, sym, ◌∙◌, ap, ap₂, subst, arith}
+use Rattle.std.proofs.Common.{◌≡◌, ℕ, ◌<◌, ◌==◌, ◌&&◌, not, Bool, true, false, Option, Some, None, option_map, List, [], ◌∷◌, ◌++◌, length, slice_get, if◌then◌else◌, refl, sym, ◌∙◌, ap, ap₂, subst, arith}
 use Rattle.std.specs.List.{list_any}
-use Rattle.std.proofs.lemmas.Bool.{ne_eqb, eqb-false, or_parts, or_from, false≢true}
+use Rattle.std.proofs.lemmas.Bool.{ne_eqb, eqb-false, or_parts, or_from}
 use Rattle.std.proofs.lemmas.List.Folds.{list_any-append}
 use Rattle.std.proofs.lemmas.Option.{same_Some}
 use Rattle.vs_logic4.specs.declared.digit.Digit.{Digit}
@@ -21,22 +21,12 @@ use Rattle.vs_flatcode.specs.Steps.{has_nothing}
 use Rattle.vs_process.proofs.Assigns.{signal_kept}
 use Rattle.vs_process.proofs.Stores.{changed_same}
 use Rattle.vs_process.specs.States.{State}
-use Rattle.vs_places.specs.Listed.{is_number, names}
-use Rattle.vs_places.proofs.ListedLemmas.{is_itself, names-push}
-use Rattle.vs_state.specs.Changes.{HaveSizes, CoverWords, CoverChanges}
+use Rattle.vs_state.specs.Changes.{HaveSizes, MarkChanges, MarkWords}
 use Rattle.vs_state.proofs.TouchesLemmas.{same_bits}
 
 -- whether one of some words is of a signal
 abbrev pub is_among : List Change → ℕ → Bool
 is_among cs v = list_any (λ (c : Change). c.signal == v) cs
-
--- one more signal is noted
-pub noted : (signals more : List ℕ) (c : Change) (cs rest : List Change) (v : ℕ) → more ≡ signals ++ c.signal ∷ [] → cs ≡ c ∷ rest → names more v ≡ false →
-    (names signals v ≡ false) × (is_among rest v ≡ is_among cs v)
-noted signals more c cs rest v is next none =
-    let parts = or_parts (names signals v) (is_number c.signal v) (sym (ap (λ (l : List ℕ). names l v) is ∙ names-push signals c.signal v) ∙ none) in
-    let apart : c.signal ≡ v → ⊥ = λ e. false≢true (sym parts.1 ∙ subst (λ (u : ℕ). is_number c.signal u ≡ true) e (is_itself c.signal)) in
-    (parts.0, sym (ap (λ (l : List Change). is_among l v) next ∙ ap (λ (b : Bool). b || is_among rest v) (ne_eqb c.signal v apart)))
 
 -- a list with an element has some
 pub some_there : {A : Type 0} (xs : List A) (i : ℕ) → i < length xs → has_nothing xs ≡ false
@@ -99,28 +89,28 @@ quiet_parts old new (p ∷ ps) v size h =
     (quiet_word p.signal p.word (word_of old p.signal p.word) (word_of new p.signal p.word) v (size p.signal p.word) parts.0)
     (quiet_parts old new ps v size parts.1)
 
--- a write of whose changed words the signals are noted
-pub covers_put : (signals : List ℕ) (w : Write) (old new : Store) (cs : List Change) → CoverWords signals cs → cs ≡ changed_words old new w → new ≡ put old w → CoverChanges signals old new
-covers_put signals w old new cs all words is = λ v none.
-    let quiet : is_among (changed_words old (put old w) w) v ≡ false =
-    ap (λ (l : List Change). is_among l v) (sym (words ∙ ap (λ (s : Store). changed_words old s w) is)) ∙ all v none
-    in
+-- a signal of which a write changes no word
+kept_put : (w : Write) (old new : Store) (cs : List Change) (v : ℕ) → is_among cs v ≡ false → cs ≡ changed_words old new w → new ≡ put old w → slice_get new v ≡ slice_get old v
+kept_put w old new cs v none words is =
+    let quiet : is_among (changed_words old (put old w) w) v ≡ false = ap (λ (l : List Change). is_among l v) (sym (words ∙ ap (λ (s : Store). changed_words old s w) is)) ∙ none in
     ap (λ (s : Store). slice_get s v) is
     ∙ signal_kept old w v (changed_by_parts w old (all_words v) ∙ quiet_parts old (put old w) w v (put_size w old) quiet)
 
--- the same of a step that may write
-pub covers_behind : (signals : List ℕ) (w : Option Write) (old new : Store) (cs : List Change) → CoverWords signals cs → cs ≡ changes_of old w → new ≡ store_behind old w →
-    CoverChanges signals old new
-covers_behind signals None old new cs all words is = λ v none. ap (λ (s : Store). slice_get s v) is
-covers_behind signals (Some w) old new cs all words is = covers_put signals w old new cs all (words ∙ ap (λ (s : Store). changed_words old s w) (sym is)) is
+-- a write of whose changed words the signals are marked
+pub marks_put : (marks later : List ℕ) (w : Write) (old new : Store) (cs : List Change) → MarkWords marks later cs → cs ≡ changed_words old new w → new ≡ put old w → MarkChanges marks later old new
+marks_put marks later w old new cs marked words is = λ v off within.
+    let m = marked v off in
+    (m.0, kept_put w old new cs v (m.1 within) words is)
 
--- a store that stays
-pub covers_none : (signals : List ℕ) (old new : Store) → new ≡ old → CoverChanges signals old new
-covers_none signals old new same = λ v none. ap (λ (s : Store). slice_get s v) same
+-- the same of a step that may write
+pub marks_behind : (marks later : List ℕ) (w : Option Write) (old new : Store) (cs : List Change) → MarkWords marks later cs → cs ≡ changes_of old w → new ≡ store_behind old w →
+    MarkChanges marks later old new
+marks_behind marks later None old new cs marked words is = λ v off within. ((marked v off).0, ap (λ (s : Store). slice_get s v) is)
+marks_behind marks later (Some w) old new cs marked words is = marks_put marks later w old new cs marked (words ∙ ap (λ (s : Store). changed_words old s w) (sym is)) is
 
 -- as a contract sees the state before
-pub covers_seen : {s now : State} (signals : List ℕ) (new : Store) → s ≡ now → CoverChanges signals s.store new → CoverChanges signals now.store new
-covers_seen signals new same h = subst (λ (t : State). CoverChanges signals t.store new) same h
+pub marks_seen : {s now : State} (marks later : List ℕ) (new : Store) → s ≡ now → MarkChanges marks later s.store new → MarkChanges marks later now.store new
+marks_seen marks later new same h = subst (λ (t : State). MarkChanges marks later t.store new) same h
 
 -- ---- a write of one part
 
@@ -155,16 +145,6 @@ word_kept signal word before behind h = ap (λ (b : Bool). if b then [] else rec
 pub word_other : (signal word : ℕ) (before behind : List Digit) → same_digits before behind ≡ false →
     changed_word signal word (Some before) (Some behind) ≡ record { signal = signal; word = word; before = before; behind = behind } ∷ []
 word_other signal word before behind h = ap (λ (b : Bool). if b then [] else record { signal = signal; word = word; before = before; behind = behind } ∷ []) h
-
--- its signal is noted
-pub covers_word : (signals more : List ℕ) (signal word : ℕ) (before behind : List Digit) → more ≡ signals ++ signal ∷ [] → CoverWords more (changed_word signal word (Some before) (Some behind))
-covers_word signals more signal word before behind is = λ v none. by_test v none (same_digits before behind)
-  where
-    by_test : (v : ℕ) → names more v ≡ false → (b : Bool) → is_among (if b then [] else record { signal = signal; word = word; before = before; behind = behind } ∷ []) v ≡ false
-    by_test v none true = refl
-    by_test v none false =
-        let c : Change = record { signal = signal; word = word; before = before; behind = behind } in
-        sym (noted signals more c (c ∷ []) [] v is refl none).1
 
 -- whether it is as it was
 pub part_told : (store new : Store) (p : Part) (before behind : List Digit) → new ≡ put_part store p → word_of store p.signal p.word ≡ Some before → word_of new p.signal p.word ≡ Some behind →

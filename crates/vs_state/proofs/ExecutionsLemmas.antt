@@ -11,6 +11,7 @@ use Rattle.vs_design.specs.Stores.{changed_at, changes_nothing}
 use Rattle.vs_design.specs.Writes.{Write}
 use Rattle.vs_eval.specs.Targets.{assigned}
 use Rattle.vs_eval.specs.Values.{target_value}
+use Rattle.vs_process.proofs.Lists.{set_same}
 use Rattle.vs_process.specs.declared.moves.Move.TheVariants.{Evaluate, Propagate, Make, Activate, EndSlot}
 use Rattle.vs_process.specs.Executions.{if_some, is_enabled, is_busy, has_inactive, has_due, apply}
 use Rattle.vs_process.specs.States.{State, AssignState, Update, without, written, evaluated, evaluate, propagate, propagate_value, settled, make, is_due}
@@ -129,11 +130,6 @@ changed_set f [] j y = refl
 changed_set f (x ∷ xs) zero y = refl
 changed_set {A} f (x ∷ xs) (suc j) y = ap (λ (l : List A). x ∷ l) (changed_set f xs j y)
 
-set_there : {A : Type 0} (xs : List A) (j : ℕ) (x y : A) → slice_get xs j ≡ Some x → slice_get (slice_set xs j y) j ≡ Some y
-set_there [] j x y h = cc
-set_there (z ∷ zs) zero x y h = refl
-set_there (z ∷ zs) (suc j) x y h = set_there zs j x y h
-
 -- an assignment whose value would change nothing
 pub rested_at : {s now : State} (e : s ≡ now) (j time : ℕ) (x : AssignState) (xs : List AssignState) (v : List Digit) (w : Write) → slice_get s.assigns j ≡ Some x → time ≡ s.time →
     v ≡ target_value x.target x.source s.store time → w ≡ assigned x.target v s.store time → changes_nothing s.store w ≡ true → xs ≡ changed_at rested j s.assigns →
@@ -162,7 +158,7 @@ driven_at {s} {now} e j time x xs v w t here same value what held after wrote =
     let waits : y.pending ≡ Some d = ap (λ (b : Bool). if b then None else Some d) (sym (ap (changes_nothing s.store) that) ∙ held) in
     let m : State = record s { assigns = slice_set s.assigns j y } in
     let moved : m ≡ apply (Evaluate j) now = sym (ap (evaluate s j) here) ∙ ap (apply (Evaluate j)) e in
-    let there : slice_get m.assigns j ≡ Some y = set_there s.assigns j x y here in
+    let there : slice_get m.assigns j ≡ Some y = set_same s.assigns j x y here in
     let left : xs ≡ changed_at settled j m.assigns =
     after ∙ sym (changed_there rested s.assigns j x (rested x) here refl) ∙ sym (changed_set settled s.assigns j y)
     in

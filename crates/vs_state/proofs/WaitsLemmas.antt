@@ -262,7 +262,7 @@ written_terms x y store time w effect h is =
     ap terms_of (h.1 ∙ ap (place_behind x time) found.1) ∙ on_terms x time found.0
 
 -- a process that waits for nothing in the place of another
-within_set : (ps : List Process) (xs : List Place) (i : ℕ) (y : Place) → terms_of y ≡ [] → WaitWithin ps xs → WaitWithin ps (slice_set xs i y)
+pub within_set : (ps : List Process) (xs : List Place) (i : ℕ) (y : Place) → terms_of y ≡ [] → WaitWithin ps xs → WaitWithin ps (slice_set xs i y)
 within_set [] [] i y none h = h
 within_set [] (x ∷ xs) i y none h = absurd h
 within_set (p ∷ ps) [] i y none h = absurd h

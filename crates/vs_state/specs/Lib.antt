@@ -1,6 +1,7 @@
 pub mod Changes
 pub mod Driven
 pub mod Prints
+pub mod Silent
 pub mod Sources
 pub mod Told
 pub mod Touches

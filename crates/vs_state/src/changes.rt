@@ -5,12 +5,13 @@ ghost use Rattle.vs_design.specs.Stores.{changes_nothing, put_part};
 ghost use Rattle.vs_edges.specs.Differences.{sees, word_changes};
 ghost use Rattle.vs_flatcode.specs.Changes.{changed_part, changed_word};
 ghost use Rattle.vs_flatcode.specs.Steps.{has_nothing};
-ghost use Rattle.vs_state.specs.Changes.{CoverWords, HaveSizes};
+ghost use Rattle.vs_state.specs.Changes.{HaveSizes, MarkWords};
 ghost use Rattle.vs_state.specs.Touches.{AreOf, all_woken, woken_by, woken_changes};
 ghost use Rattle.vs_state.specs.Waits.{WaitWithin, triggered_changes};
 ghost use Rattle.vs_places.specs.Triggers.{changed_all, triggered_by};
 
 use crate::assigns::Assigns;
+use crate::marks::mark;
 use crate::woken::Woken;
 use std::alloc::AllocError;
 use vs_design::{Design, Part, Reader, Store};
@@ -134,15 +135,15 @@ fn wake_changes<Q: EventQueue<Item>>(
     Ok(())
 }
 
-/// Notes the signals of the words that a write has changed.
+/// Marks the signals of the words that a write has changed.
 #[inline(always)]
-fn note_signals(changed: &mut Vec<usize>, changes: &Vec<Change>) -> Result<(), AllocError>
-    ensures { OnOk result (CoverWords changed.new.items changes.now.items) }
+fn mark_signals(marks: &mut Vec<u64>, changes: &Vec<Change>)
+    ensures len { length marks.new.items ≡ length marks.old.items }
+    ensures marked { MarkWords marks.old.items marks.new.items changes.now.items }
 {
     for change in changes {
-        changed.push(change.signal)?;
+        mark(marks, change.signal);
     }
-    Ok(())
 }
 
 /// What follows from the words that a write has changed, of which there are some.
@@ -153,7 +154,7 @@ fn follow_each<Q: EventQueue<Item>>(
     woken: &mut Woken,
     design: &Design,
     changes: &Vec<Change>,
-    changed: &mut Vec<usize>,
+    marks: &mut Vec<u64>,
 ) -> Result<(), AllocError>
     requires sizes { HaveSizes changes.now.items }
     requires sources { AreOf design.now assigns.old }
@@ -162,9 +163,10 @@ fn follow_each<Q: EventQueue<Item>>(
     ensures places { OnOk result (processes.new.places ≡ triggered_changes changes.now.items processes.old.places) }
     ensures time { processes.new.time ≡ processes.old.time }
     ensures updates { processes.new.updates ≡ processes.old.updates }
-    ensures covers { OnOk result (CoverWords changed.new.items changes.now.items) }
+    ensures len { length marks.new.items ≡ length marks.old.items }
+    ensures marked { MarkWords marks.old.items marks.new.items changes.now.items }
 {
-    note_signals(changed, changes)?;
+    mark_signals(marks, changes);
     wake_changes(assigns, processes, woken, design, changes)?;
     if changes.len() > 1 {
         woken.sort();
@@ -172,7 +174,7 @@ fn follow_each<Q: EventQueue<Item>>(
     Ok(())
 }
 
-/// What follows from the words that a write has changed: their signals are noted in `changed`, the continuous assignments that read a bit
+/// What follows from the words that a write has changed: their signals are marked, the continuous assignments that read a bit
 /// of them which differs have to be evaluated, and the processes that wait for such a change become active. Each kind is noted in design
 /// order.
 #[inline(always)]
@@ -182,7 +184,7 @@ pub(crate) fn follow<Q: EventQueue<Item>>(
     woken: &mut Woken,
     design: &Design,
     changes: &Vec<Change>,
-    changed: &mut Vec<usize>,
+    marks: &mut Vec<u64>,
 ) -> Result<(), AllocError>
     requires sizes { HaveSizes changes.now.items }
     requires sources { AreOf design.now assigns.old }
@@ -191,12 +193,13 @@ pub(crate) fn follow<Q: EventQueue<Item>>(
     ensures places { OnOk result (processes.new.places ≡ triggered_changes changes.now.items processes.old.places) }
     ensures time { processes.new.time ≡ processes.old.time }
     ensures updates { processes.new.updates ≡ processes.old.updates }
-    ensures covers { OnOk result (CoverWords changed.new.items changes.now.items) }
+    ensures len { length marks.new.items ≡ length marks.old.items }
+    ensures marked { MarkWords marks.old.items marks.new.items changes.now.items }
 {
     if changes.is_empty() {
         return Ok(());
     }
-    follow_each(assigns, processes, woken, design, changes, changed)
+    follow_each(assigns, processes, woken, design, changes, marks)
 }
 
 /// What follows from a word that a write of one part may have changed, as from a list of it; the answer is whether it has.
@@ -210,7 +213,7 @@ fn follow_word<Q: EventQueue<Item>>(
     word: usize,
     before: Vec4,
     behind: Vec4,
-    changed: &mut Vec<usize>,
+    marks: &mut Vec<u64>,
 ) -> Result<bool, AllocError>
     requires size { length before ≡ length behind }
     requires sources { AreOf design.now assigns.old }
@@ -222,12 +225,13 @@ fn follow_word<Q: EventQueue<Item>>(
         ≡ triggered_changes (changed_word signal word (Some before) (Some behind)) processes.old.places) }
     ensures time { processes.new.time ≡ processes.old.time }
     ensures updates { processes.new.updates ≡ processes.old.updates }
-    ensures covers { OnOk result (CoverWords changed.new.items (changed_word signal word (Some before) (Some behind))) }
+    ensures len { length marks.new.items ≡ length marks.old.items }
+    ensures marked { MarkWords marks.old.items marks.new.items (changed_word signal word (Some before) (Some behind)) }
 {
     if before == behind {
         return Ok(false);
     }
-    changed.push(signal)?;
+    mark(marks, signal);
     wake_word(
         assigns, processes, woken, design, signal, word, before, behind,
     )?;
@@ -243,7 +247,7 @@ pub(crate) fn write_part<Q: EventQueue<Item>>(
     woken: &mut Woken,
     design: &Design,
     part: Part,
-    changed: &mut Vec<usize>,
+    marks: &mut Vec<u64>,
 ) -> Result<bool, AllocError>
     requires sources { AreOf design.now assigns.old }
     requires terms { WaitWithin design.now.processes processes.old.places }
@@ -253,7 +257,8 @@ pub(crate) fn write_part<Q: EventQueue<Item>>(
     ensures places { OnOk result (processes.new.places ≡ triggered_changes (changed_part store.old store.new part) processes.old.places) }
     ensures time { processes.new.time ≡ processes.old.time }
     ensures updates { processes.new.updates ≡ processes.old.updates }
-    ensures covers { OnOk result (CoverWords changed.new.items (changed_part store.old store.new part)) }
+    ensures len { length marks.new.items ≡ length marks.old.items }
+    ensures marked { MarkWords marks.old.items marks.new.items (changed_part store.old store.new part) }
 {
     let signal = part.signal;
     let word = part.word;
@@ -261,7 +266,7 @@ pub(crate) fn write_part<Q: EventQueue<Item>>(
         Some(words) => {
             let (before, behind) = words;
             let changes = follow_word(
-                assigns, processes, woken, design, signal, word, before, behind, changed,
+                assigns, processes, woken, design, signal, word, before, behind, marks,
             )?;
             Ok(changes)
         }

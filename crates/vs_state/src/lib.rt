@@ -7,11 +7,13 @@ mod assign;
 mod assigns;
 mod called;
 mod changes;
+mod marks;
 mod moves;
 mod search;
 mod state;
 mod woken;
 
 pub use called::Called;
-pub use moves::Made;
+pub use marks::{clear, no_marks};
+pub use moves::{Made, Taken};
 pub use state::State;

@@ -1,16 +1,17 @@
 //! The moves of a run: each makes of the state what the definition's move makes of it.
 //!
-//! `make` is inlined into the loops of a run, which the compiler does only while it is small with all that is inlined into it. So what a step of a
-//! process doesn't need stands apart from it.
-ghost use Rattle.std.specs.Prelude.{◌≡◌, ◌<◌, ◌^◌, ◌∷◌, [], not, true, false, is_some, slice_get, IfOk, OnOk};
+//! `steps` is inlined into the loop of a run, and `make` into another, which the compiler does only while they are small with all that is inlined into
+//! them. So what they don't need often stands apart from them.
+ghost use Rattle.std.specs.Prelude.{◌≡◌, ◌<◌, ◌≤◌, ◌^◌, ◌∷◌, [], not, true, false, is_some, length, slice_get, IfOk, OnOk};
 ghost use Rattle.vs_process.specs.Executions as executions;
 ghost use Rattle.vs_flatcode.specs.Places.{is_going};
 ghost use Rattle.vs_process.specs.States as states;
 ghost use Rattle.vs_design.specs.Stores.{changes_nothing};
-ghost use Rattle.vs_state.specs.Changes.{CoverChanges};
+ghost use Rattle.vs_state.specs.Changes.{MarkChanges};
 ghost use Rattle.vs_state.specs.Driven.{IsDriven};
 ghost use Rattle.vs_state.specs.Touches.{HasSources, behind_effect};
 ghost use Rattle.vs_state.specs.Prints.{line_of, made_line, made_text};
+ghost use Rattle.vs_state.specs.Silent.{Steps};
 ghost use Rattle.vs_state.specs.Told.{told};
 ghost use Rattle.vs_state.specs.Waits.{HasTerms};
 
@@ -21,7 +22,7 @@ use std::alloc::AllocError;
 use std::mem;
 use vs_design::{Design, Part, Write};
 use vs_eval::cut_value;
-use vs_flatcode::{assign, is_nothing, make, only_part};
+use vs_flatcode::{assign, make, only_part};
 use vs_process::{Effect, Move};
 use vs_regions::Item;
 use vs_time_wheel::EventQueue;
@@ -31,7 +32,18 @@ use vs_time_wheel::EventQueue;
 pub struct Made {
     /// Whether the same move is enabled once more, as far as this is known: that of a process that goes on.
     pub again: bool,
-    /// Whether the move has changed no word, made no line and woken nothing, as far as this is known.
+    /// Whether the move has made no line and woken nothing, as far as this is known.
+    pub quiet: bool,
+}
+
+/// What steps of a process have done: how many were taken, and of the last one what `Made` tells.
+#[derive(Clone, Copy)]
+pub struct Taken {
+    /// How many steps were taken.
+    pub steps: u64,
+    /// Whether another one is enabled behind them, as far as this is known.
+    pub again: bool,
+    /// Whether they have made no line and woken nothing, as far as this is known.
     pub quiet: bool,
 }
 
@@ -89,13 +101,72 @@ impl<'a, Q: EventQueue<Item>> State<'a, Q> {
         Ok(())
     }
 
-    /// Makes a step of an active process, as `make` does.
+    /// Takes steps of an active process, one after another while they do nothing beyond it and it stays active, at most so many; each is made as `make`
+    /// makes it. The line that the last one makes takes the place of `line`.
     #[inline(always)]
+    pub fn steps(
+        &mut self,
+        design: &Design,
+        process: usize,
+        marks: &mut Vec<u64>,
+        effect: &mut Effect<'a>,
+        line: &mut Vec<u8>,
+        limit: u64,
+    ) -> Result<Taken, AllocError>
+        requires limit { 0 < limit }
+        requires active { executions.if_some is_going (slice_get self.old.places process) ≡ true }
+        requires early { self.old.time < 2 ^ 62 }
+        requires sources { HasSources design.now self.old }
+        requires terms { HasTerms design.now self.old }
+        ensures within { IfOk result (λ taken. taken.steps ≤ limit) }
+        ensures again { IfOk result (λ taken. taken.again ≡ true → executions.is_enabled self.new (Move.Step process) ≡ true) }
+        ensures quiet { IfOk result (λ taken. taken.quiet ≡ true → line.new.items ≡ []) }
+        ensures state { IfOk result (λ taken. Steps taken.steps process self.old self.new line.new.items) }
+        ensures marked { OnOk result (MarkChanges marks.old.items marks.new.items self.old.store self.new.store) }
+        ensures len { length marks.new.items ≡ length marks.old.items }
+    {
+        line.clear();
+        self.woken.clear();
+        self.changes.clear();
+        let went = self.processes.steps(
+            process,
+            self.alloc,
+            &mut self.store,
+            &mut self.changes,
+            effect,
+            limit,
+        )?;
+        let unchanged = self.changes.is_empty();
+        follow(
+            &mut self.assigns,
+            &mut self.processes,
+            &mut self.woken,
+            design,
+            &self.changes,
+            marks,
+        )?;
+        if !went.made {
+            return Ok(Taken {
+                steps: went.steps,
+                again: went.going,
+                quiet: unchanged,
+            });
+        }
+        self.perform(process, effect, line)?;
+        Ok(Taken {
+            steps: went.steps,
+            again: went.going,
+            quiet: unchanged & line.is_empty(),
+        })
+    }
+
+    /// Makes one step of an active process, as `make` does.
+    #[inline(never)]
     fn step(
         &mut self,
         design: &Design,
         process: usize,
-        changed: &mut Vec<usize>,
+        marks: &mut Vec<u64>,
         effect: &mut Effect<'a>,
         line: &mut Vec<u8>,
     ) -> Result<Made, AllocError>
@@ -103,37 +174,17 @@ impl<'a, Q: EventQueue<Item>> State<'a, Q> {
         requires early { self.old.time < 2 ^ 62 }
         requires sources { HasSources design.now self.old }
         requires terms { HasTerms design.now self.old }
-        requires empty { line.old.items ≡ [] }
         ensures again { IfOk result (λ made. made.again ≡ true → executions.is_enabled self.new (Move.Step process) ≡ true) }
-        ensures quiet { IfOk result (λ made. made.quiet ≡ true
-            → CoverChanges [] self.old.store self.new.store × (line.new.items ≡ [])) }
-        ensures state { OnOk result (self.new ≡ states.stepped self.old process (slice_get self.old.places process)) }
+        ensures quiet { IfOk result (λ made. made.quiet ≡ true → line.new.items ≡ []) }
+        ensures state { OnOk result (self.new ≡ executions.apply (Move.Step process) self.old) }
         ensures line { OnOk result (line.new.items ≡ made_text (made_line (Move.Step process) self.old)) }
-        ensures covers { OnOk result (CoverChanges changed.new.items self.old.store self.new.store) }
+        ensures marked { OnOk result (MarkChanges marks.old.items marks.new.items self.old.store self.new.store) }
+        ensures len { length marks.new.items ≡ length marks.old.items }
     {
-        self.changes.clear();
-        let again = self.processes.step(
-            process,
-            self.alloc,
-            &mut self.store,
-            &mut self.changes,
-            effect,
-        )?;
-        if self.changes.is_empty() && is_nothing(effect) {
-            return Ok(Made { again, quiet: true });
-        }
-        follow(
-            &mut self.assigns,
-            &mut self.processes,
-            &mut self.woken,
-            design,
-            &self.changes,
-            changed,
-        )?;
-        self.perform(process, effect, line)?;
+        let taken = self.steps(design, process, marks, effect, line, 1)?;
         Ok(Made {
-            again,
-            quiet: false,
+            again: taken.again,
+            quiet: taken.quiet,
         })
     }
 
@@ -164,13 +215,14 @@ impl<'a, Q: EventQueue<Item>> State<'a, Q> {
         &mut self,
         design: &Design,
         part: Part,
-        changed: &mut Vec<usize>,
+        marks: &mut Vec<u64>,
     ) -> Result<bool, AllocError>
         requires sources { HasSources design.now self.old }
         requires terms { HasTerms design.now self.old }
         ensures told { IfOk result (λ changes. changes ≡ not (changes_nothing self.old.store (part ∷ []))) }
         ensures made { OnOk result (self.new ≡ states.written self.old (part ∷ [])) }
-        ensures covers { OnOk result (CoverChanges changed.new.items self.old.store self.new.store) }
+        ensures marked { OnOk result (MarkChanges marks.old.items marks.new.items self.old.store self.new.store) }
+        ensures len { length marks.new.items ≡ length marks.old.items }
     {
         let changes = write_part(
             &mut self.store,
@@ -179,24 +231,25 @@ impl<'a, Q: EventQueue<Item>> State<'a, Q> {
             &mut self.woken,
             design,
             part,
-            changed,
+            marks,
         )?;
         Ok(changes)
     }
 
-    /// The update of a continuous assignment. What it wakes and changes is noted as `make` does.
+    /// The update of a continuous assignment. What it wakes is noted, and what it changes marked, as `make` does.
     #[inline(never)]
     pub fn propagate(
         &mut self,
         design: &Design,
         number: usize,
-        changed: &mut Vec<usize>,
+        marks: &mut Vec<u64>,
     ) -> Result<(), AllocError>
         requires waits { executions.if_some (λ x. is_some x.pending) (slice_get self.old.assigns number) ≡ true }
         requires sources { HasSources design.now self.old }
         requires terms { HasTerms design.now self.old }
         ensures made { OnOk result (self.new ≡ states.propagate self.old number (slice_get self.old.assigns number)) }
-        ensures covers { OnOk result (CoverChanges changed.new.items self.old.store self.new.store) }
+        ensures marked { OnOk result (MarkChanges marks.old.items marks.new.items self.old.store self.new.store) }
+        ensures len { length marks.new.items ≡ length marks.old.items }
     {
         self.woken.clear();
         let Some(x) = self.assigns.get(number) else {
@@ -208,7 +261,7 @@ impl<'a, Q: EventQueue<Item>> State<'a, Q> {
         let target = x.target();
         if let Some(part) = only_part(target, digits) {
             self.assigns.settle(number);
-            self.write(design, part, changed)?;
+            self.write(design, part, marks)?;
             return Ok(());
         }
         let time = self.processes.time();
@@ -228,25 +281,26 @@ impl<'a, Q: EventQueue<Item>> State<'a, Q> {
             &mut self.woken,
             design,
             &self.changes,
-            changed,
+            marks,
         )?;
         Ok(())
     }
 
     /// The evaluation of a continuous assignment and then its update, where it has one and its target is one fixed place: as one call, since the update
-    /// often is the only event that is left. The answer is whether the update was made. What it wakes and changes is noted as `make` does.
+    /// often is the only event that is left. The answer is whether the update was made. What it wakes is noted, and what it changes marked, as `make` does.
     #[inline(never)]
     pub fn drive(
         &mut self,
         design: &Design,
         number: usize,
-        changed: &mut Vec<usize>,
+        marks: &mut Vec<u64>,
     ) -> Result<bool, AllocError>
         requires sources { HasSources design.now self.old }
         requires terms { HasTerms design.now self.old }
         ensures evaluated { IfOk result (λ updated. updated ≡ false → self.new ≡ executions.apply (Move.Evaluate number) self.old) }
         ensures updated { IfOk result (λ updated. updated ≡ true → IsDriven number self.old self.new) }
-        ensures covers { OnOk result (CoverChanges changed.new.items self.old.store self.new.store) }
+        ensures marked { OnOk result (MarkChanges marks.old.items marks.new.items self.old.store self.new.store) }
+        ensures len { length marks.new.items ≡ length marks.old.items }
     {
         self.woken.clear();
         let Some(x) = self.assigns.get(number) else {
@@ -260,7 +314,7 @@ impl<'a, Q: EventQueue<Item>> State<'a, Q> {
             return Ok(false);
         };
         self.assigns.rest(number);
-        let updated = self.write(design, part, changed)?;
+        let updated = self.write(design, part, marks)?;
         Ok(updated)
     }
 
@@ -270,12 +324,13 @@ impl<'a, Q: EventQueue<Item>> State<'a, Q> {
         &mut self,
         design: &Design,
         index: usize,
-        changed: &mut Vec<usize>,
+        marks: &mut Vec<u64>,
     ) -> Result<(), AllocError>
         requires sources { HasSources design.now self.old }
         requires terms { HasTerms design.now self.old }
         ensures made { OnOk result (self.new ≡ executions.apply (told self.old (Move.Make index)) self.old) }
-        ensures covers { OnOk result (CoverChanges changed.new.items self.old.store self.new.store) }
+        ensures marked { OnOk result (MarkChanges marks.old.items marks.new.items self.old.store self.new.store) }
+        ensures len { length marks.new.items ≡ length marks.old.items }
     {
         let Some(update) = self.processes.take(index) else {
             return Ok(());
@@ -288,7 +343,7 @@ impl<'a, Q: EventQueue<Item>> State<'a, Q> {
             &mut self.woken,
             design,
             &self.changes,
-            changed,
+            marks,
         )?;
         Ok(())
     }
@@ -299,18 +354,19 @@ impl<'a, Q: EventQueue<Item>> State<'a, Q> {
         &mut self,
         design: &Design,
         index: usize,
-        changed: &mut Vec<usize>,
+        marks: &mut Vec<u64>,
     ) -> Result<(), AllocError>
         requires sources { HasSources design.now self.old }
         requires terms { HasTerms design.now self.old }
         ensures made { OnOk result (self.new ≡ executions.apply (told self.old (Move.Make index)) self.old) }
-        ensures covers { OnOk result (CoverChanges changed.new.items self.old.store self.new.store) }
+        ensures marked { OnOk result (MarkChanges marks.old.items marks.new.items self.old.store self.new.store) }
+        ensures len { length marks.new.items ≡ length marks.old.items }
     {
         if let Some(part) = self.processes.take_part(index) {
-            self.write(design, part, changed)?;
+            self.write(design, part, marks)?;
             return Ok(());
         }
-        self.update_parts(design, index, changed)
+        self.update_parts(design, index, marks)
     }
 
     /// The slot ends: time goes to the least due time, or the execution is over.
@@ -332,7 +388,7 @@ impl<'a, Q: EventQueue<Item>> State<'a, Q> {
         Ok(())
     }
 
-    /// Makes an enabled move, and notes in `changed` the signals that it may change; the line that it makes at once, with the line feed that
+    /// Makes an enabled move, and marks the signals that it may change; the line that it makes at once, with the line feed that
     /// ends it, takes the place of `line` (IEEE 1364-2005, clause 17.1.1). `effect` is room to work in. A move tells a nonblocking update by its
     /// number among the activated ones, the oldest being 0. The lines of the calls of `$strobe` are the caller's to make before the end of the
     /// slot, of `calls`. An enabled move may be told as another.
@@ -341,7 +397,7 @@ impl<'a, Q: EventQueue<Item>> State<'a, Q> {
         &mut self,
         design: &Design,
         choice: Move,
-        changed: &mut Vec<usize>,
+        marks: &mut Vec<u64>,
         effect: &mut Effect<'a>,
         line: &mut Vec<u8>,
     ) -> Result<Made, AllocError>
@@ -351,23 +407,23 @@ impl<'a, Q: EventQueue<Item>> State<'a, Q> {
         requires sources { HasSources design.now self.old }
         requires terms { HasTerms design.now self.old }
         ensures again { IfOk result (λ made. made.again ≡ true → executions.is_enabled self.new (told self.new choice) ≡ true) }
-        ensures quiet { IfOk result (λ made. made.quiet ≡ true
-            → CoverChanges [] self.old.store self.new.store × (line.new.items ≡ [])) }
+        ensures quiet { IfOk result (λ made. made.quiet ≡ true → line.new.items ≡ []) }
         ensures state { OnOk result (self.new ≡ executions.apply (told self.old choice) self.old) }
         ensures line { OnOk result (line.new.items ≡ made_text (made_line choice self.old)) }
-        ensures covers { OnOk result (CoverChanges changed.new.items self.old.store self.new.store) }
+        ensures marked { OnOk result (MarkChanges marks.old.items marks.new.items self.old.store self.new.store) }
+        ensures len { length marks.new.items ≡ length marks.old.items }
     {
         line.clear();
         self.woken.clear();
         match choice {
-            Move::Step(process) => return self.step(design, process, changed, effect, line),
+            Move::Step(process) => return self.step(design, process, marks, effect, line),
             Move::Evaluate(assign) => self.evaluate_apart(assign)?,
             Move::Propagate(assign) => {
-                self.propagate(design, assign, changed)?;
+                self.propagate(design, assign, marks)?;
                 return Ok(Made::loud());
             }
             Move::Make(index) => {
-                self.update(design, index, changed)?;
+                self.update(design, index, marks)?;
                 return Ok(Made::loud());
             }
             Move::Rouse => self.processes.rouse_all(&mut self.woken.processes),

@@ -1,6 +1,5 @@
 -- What was appended to the known bytes of a sink, whole or a beginning of it.
-use Rattle.std.proofs.Common.{◌≡◌, ℕ, ◌+◌, Option, Some, None, List, [], ◌∷◌, ◌++◌, Result, Ok, Err, take, zero, zero-add, length, refl, sym, ◌∙◌, ap, subst, arith, append_assoc, suc}
-use Rattle.std.specs.Prelude.{OnErr}
+use Rattle.std.proofs.Common.{◌≡◌, ℕ, ◌+◌, Option, Some, None, List, [], ◌∷◌, ◌++◌, take, zero, zero-add, length, refl, sym, ◌∙◌, ap, subst, arith, append_assoc, suc}
 use Rattle.std.specs.Io.KnownBytes.{Appends}
 use Rattle.std.proofs.lemmas.List.{append-nil}
 use Rattle.vs_vcd.specs.Sinks.{AppendsPart}
@@ -42,8 +41,3 @@ part_more old mid new xs ys h k = (length xs + k.0, subst (Appends old new) (sym
 -- a text is a beginning of itself
 pub part_all : (old new : Option (List ℕ)) (xs : List ℕ) → Appends old new xs → AppendsPart old new xs
 part_all old new xs h = (length xs, subst (Appends old new) (sym (ap (take (length xs)) (sym (append-nil xs)) ∙ take_whole xs [])) h)
-
--- what holds, holds of a fault
-pub on_err : {T E P : Type 0} (r : Result T E) → P → OnErr r P
-on_err (Ok x) p = tt
-on_err (Err e) p = p

@@ -4,7 +4,8 @@ use Rattle.std.specs.Io.KnownBytes.{Appends}
 use Rattle.vs_design.specs.Parts.{Parts}
 use Rattle.vs_state.specs.Prints.{made_line, made_text}
 use Rattle.vs_vcd.specs.Sinks.{AppendsPart}
-use Rattle.vs_turns.specs.Turns.{Batch, BatchPart, IsReached, MovesOn}
+use Rattle.vs_state.specs.Silent.{IsReached}
+use Rattle.vs_turns.specs.Turns.{Batch, BatchPart, MovesOn}
 use Rattle.vs_turns.proofs.Appending.{append_none}
 use Rattle.vs_logic4.specs.declared.digit.Digit.{Digit}
 use Rattle.vs_flatcode.specs.Places.{Place}
@@ -19,7 +20,8 @@ use Rattle.vs_agenda.specs.declared.entries.AssignEvent.TheVariants as e
 use Rattle.vs_agenda.specs.AssignEvents.{move_of}
 use Rattle.vs_turns.specs.Insides.{inside_told}
 use Rattle.vs_turns.proofs.MoveLemmas.{evaluate_over, propagate_over}
-use Rattle.vs_turns.proofs.TurnsLemmas.{Along, along_first, along_more, batch_all, batch_part, reached_on}
+use Rattle.vs_state.proofs.SilentLemmas.{reached_on}
+use Rattle.vs_turns.proofs.TurnsLemmas.{Along, along_first, along_more, batch_all, batch_part}
 
 pub assign_inner : (event : AssignEvent) → move_of event ≡ EndSlot → ⊥
 assign_inner (e.Evaluate j) h = cc

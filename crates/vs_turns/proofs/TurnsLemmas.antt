@@ -1,5 +1,5 @@
 -- Steps of a run, one after another.
-use Rattle.std.proofs.Common.{◌≡◌, ℕ, suc, ◌+◌, ◌*◌, ◌<◌, Bool, true, false, if◌then◌else◌, Option, Some, None, List, [], ◌∷◌, ◌++◌, length, slice_get, refl, sym, ◌∙◌, ap, subst, arith, eq-eqb}
+use Rattle.std.proofs.Common.{◌≡◌, ℕ, zero, suc, ◌≤◌, ◌+◌, ◌*◌, ◌<◌, Bool, true, false, if◌then◌else◌, Option, Some, None, List, [], ◌++◌, length, slice_get, refl, sym, ◌∙◌, ap, subst, arith, eq-eqb}
 use Rattle.std.specs.Io.KnownBytes.{Appends}
 use Rattle.std.specs.Prelude.{Result, IfOk, OnOk, OnErr}
 use Rattle.std.proofs.lemmas.List.{append-nil}
@@ -11,16 +11,15 @@ use Rattle.vs_process.specs.declared.moves.Move.{Move}
 use Rattle.vs_process.specs.declared.moves.Move.TheVariants.{Step, Evaluate, Propagate, Make, Rouse, Activate, EndSlot}
 use Rattle.vs_process.specs.Executions.{apply, ended_slot, is_enabled, move_lines}
 use Rattle.vs_process.specs.Blocks.{is_step_of_any}
-use Rattle.vs_flatcode.specs.Places.{Place, todo_of}
-use Rattle.vs_flatcode.specs.Steps.{step}
-use Rattle.vs_design.specs.Writes.{Write}
-use Rattle.vs_process.specs.States.{State, Update, make, stepped, written_behind}
+use Rattle.vs_flatcode.specs.Places.{Place}
+use Rattle.vs_process.specs.States.{State, Update, make}
 use Rattle.vs_regions.specs.Active.{place_of_active}
 use Rattle.vs_state.specs.Prints.{made_line, made_text}
 use Rattle.vs_state.specs.Sources.{has_sources}
 use Rattle.vs_state.specs.Told.{told}
 use Rattle.vs_state.specs.Touches.{HasSources}
 use Rattle.vs_state.specs.Waits.{HasTerms}
+use Rattle.vs_state.proofs.SilentLemmas.{reached_on, step_time}
 use Rattle.vs_state.proofs.TermsLemmas.{has_terms}
 use Rattle.vs_vcd.specs.declared.fault.VcdFault.{VcdFault}
 use Rattle.vs_vcd.specs.Progress.{Progress}
@@ -31,8 +30,9 @@ use Rattle.vs_turns.specs.Points.{Point, point}
 use Rattle.vs_turns.specs.Recording.{CoversNoted, HasNoted}
 use Rattle.vs_turns.specs.Prints.{lines_text}
 use Rattle.vs_turns.specs.Slots.{AppendsSlots, AppendsSlotsPart}
-use Rattle.vs_turns.specs.Marking.{MarkChanges}
-use Rattle.vs_turns.specs.Turns.{AllTurned, AllTurnedPart, Batch, BatchPart, IsReached, Took, TookPart, Turned, TurnedPart}
+use Rattle.vs_state.specs.Changes.{MarkChanges}
+use Rattle.vs_state.specs.Silent.{AreSilent, IsReached, IsSilent, Steps}
+use Rattle.vs_turns.specs.Turns.{AllTurned, AllTurnedPart, Batch, BatchPart, StepsPart, StepsPrinted, Took, TookPart, Turned, TurnedPart}
 use Rattle.vs_turns.proofs.MarkingLemmas.{noted_on}
 use Rattle.vs_turns.proofs.PrintsLemmas.{move_prints}
 use Rattle.vs_turns.proofs.Appending.{append_none, part_all}
@@ -81,10 +81,6 @@ turned_told blocks inside behind s t writer writer' vcd vcd' lines lines' m enab
 }
 
 -- ---- a step that ends no slot
-
--- behind one more move
-pub reached_on : (d : Parts) (s t : State) (m : Move) → IsReached d s → t ≡ apply m s → IsReached d t
-reached_on d s t m h next = (m ∷ h.0, ap (apply m) h.1 ∙ sym next)
 
 -- a reached state has the design's continuous assignments, and its processes wait for what their texts name
 pub reached_sources : (d : Parts) (s : State) → IsReached d s → HasSources d s
@@ -226,16 +222,75 @@ step_inner i e = cc
 pub step_over : (s t : State) (i : ℕ) → t ≡ apply (Step i) s → s.over ≡ false → t.over ≡ false
 step_over s t i next going = ap (λ (r : State). r.over) next ∙ stepped_over s i (slice_get s.places i) ∙ going
 
-behind_time : (s : State) (w : Option Write) → (written_behind s w).time ≡ s.time
-behind_time s None = refl
-behind_time s (Some w) = refl
+-- silent steps of a process go on a batch
+along_silent : {taken i : ℕ} {first : Move} {s t : State} {old mid : Option (List ℕ)} → Along taken first (Step i) s t old mid → (n : ℕ) (t' : State) → AreSilent n i t t' →
+    Along (taken + n) first (Step i) s t' old mid
+along_silent {taken} {i} {first} {s} {t} {old} {mid} a zero t' h =
+    let none : taken ≡ taken + 0 = omega arith in
+    subst (λ (r : State). Along (taken + 0) first (Step i) s r old mid) (sym h) (subst (λ (n : ℕ). Along n first (Step i) s t old mid) none a)
+along_silent {taken} {i} {first} {s} {t} {old} {mid} a (suc n) t' h =
+    let one : IsSilent i h.0 t' = h.2 in
+    let b : Along (taken + n) first (Step i) s h.0 old mid = along_silent a n h.0 h.1 in
+    let more : (taken + n) + 1 ≡ taken + suc n = omega arith in
+    subst (λ (k : ℕ). Along k first (Step i) s t' old mid) more
+    (along_more b t' mid (Step i) (step_inner i) one.made (subst (Appends mid mid) (sym one.quiet) (append_none mid)) (step_over h.0 t' i one.made b.going) (step_time h.0 t' i one.made) one.again
+    (own_step i))
 
-stepped_time : (s : State) (i : ℕ) (o : Option Place) → (stepped s i o).time ≡ s.time
-stepped_time s i None = refl
-stepped_time s i (Some x) = behind_time s (step (todo_of x) s.store s.time).write
+-- so do steps of which the last may write a line
+pub along_steps : {taken i : ℕ} {first : Move} {s t : State} {old mid : Option (List ℕ)} → Along taken first (Step i) s t old mid → (n : ℕ) (t' : State) (new : Option (List ℕ)) →
+    StepsPrinted n i t t' mid new → is_enabled t' (Step i) ≡ true → Along (taken + n) first (Step i) s t' old new
+along_steps a zero t' new h enabled = absurd h.1
+along_steps {taken} {i} {first} {s} {t} {old} {mid} a (suc n) t' new h enabled =
+    let r : State = h.1.0 in
+    let b : Along (taken + n) first (Step i) s r old mid = along_silent a n r h.1.1 in
+    let more : (taken + n) + 1 ≡ taken + suc n = omega arith in
+    subst (λ (k : ℕ). Along k first (Step i) s t' old new) more
+    (along_more b t' new (Step i) (step_inner i) h.1.2 (subst (Appends mid new) h.1.3 h.2) (step_over r t' i h.1.2 b.going) (step_time r t' i h.1.2) enabled (own_step i))
 
-pub step_time : (s t : State) (i : ℕ) → t ≡ apply (Step i) s → t.time ≡ s.time
-step_time s t i next = ap (λ (r : State). r.time) next ∙ stepped_time s i (slice_get s.places i)
+-- and they end one
+pub batch_steps : {taken i : ℕ} {s t : State} {old mid : Option (List ℕ)} → Along taken (Step i) (Step i) s t old mid → (n : ℕ) (t' : State) (new : Option (List ℕ)) →
+    StepsPrinted n i t t' mid new → Batch (taken + n) (Step i) s t' old new
+batch_steps a zero t' new h = absurd h.1
+batch_steps {taken} {i} {s} {t} {old} {mid} a (suc n) t' new h =
+    let r : State = h.1.0 in
+    let b : Along (taken + n) (Step i) (Step i) s r old mid = along_silent a n r h.1.1 in
+    let more : (taken + n) + 1 ≡ taken + suc n = omega arith in
+    subst (λ (k : ℕ). Batch k (Step i) s t' old new) more
+    (batch_all b t' new (step_inner i) h.1.2 (subst (Appends mid new) h.1.3 h.2) (λ blocks xs. refl))
+
+-- one that failed
+pub part_steps : {taken i : ℕ} {first : Move} {s t : State} {old mid : Option (List ℕ)} → Along taken first (Step i) s t old mid → (steps limit : ℕ) (new : Option (List ℕ)) → taken + limit ≤ steps →
+    StepsPart limit i t mid new → BatchPart steps first s old new
+part_steps {taken} {i} {first} {s} {t} {old} {mid} a steps limit new within h =
+    batch_part (along_silent a h.taken h.last h.silent) steps new (step_inner i) (omega (arith, within, h.within)) h.printed
+
+-- steps whose line was written in part, or whole
+pub part_of_steps : {old new : Option (List ℕ)} (n i limit : ℕ) (s t : State) (line : List ℕ) → Steps n i s t line → n ≤ limit → AppendsPart old new line → StepsPart limit i s old new
+part_of_steps zero i limit s t line h within printed = absurd h
+part_of_steps {old} {new} (suc n) i limit s t line h within printed = record {
+  taken = n;
+  last = h.0;
+  within = omega (arith, within);
+  silent = h.1;
+  printed = subst (AppendsPart old new) h.3 printed;
+}
+
+pub part_printed : {old new : Option (List ℕ)} (n i limit : ℕ) (s t : State) → StepsPrinted n i s t old new → n ≤ limit → StepsPart limit i s old new
+part_printed {old} {new} n i limit s t h within = part_of_steps n i limit s t h.0 h.1 within (part_all old new h.0 h.2)
+
+-- behind steps a state is reached
+reached_silent : (d : Parts) (n i : ℕ) (s t : State) → IsReached d s → AreSilent n i s t → IsReached d t
+reached_silent d zero i s t h is = subst (IsReached d) (sym is) h
+reached_silent d (suc n) i s t h all = reached_on d all.0 t (Step i) (reached_silent d n i s all.0 h all.1) all.2.made
+
+pub reached_steps : (d : Parts) (n i : ℕ) (s t : State) (line : List ℕ) → IsReached d s → Steps n i s t line → IsReached d t
+reached_steps d zero i s t line h all = absurd all
+reached_steps d (suc n) i s t line h all = reached_on d all.0 t (Step i) (reached_silent d n i s all.0 h all.1) all.2
+
+-- there is one step at least
+pub steps_some : (n i : ℕ) (s t : State) (line : List ℕ) → Steps n i s t line → 0 < n
+steps_some zero i s t line all = absurd all
+steps_some (suc n) i s t line all = omega arith
 
 -- so does an update, by its number among the activated ones
 pub made_inner : (s : State) (k : ℕ) → told s (Make k) ≡ EndSlot → ⊥

@@ -1,5 +1,4 @@
 pub mod Insides
-pub mod Marking
 pub mod Points
 pub mod Prints
 pub mod Recording

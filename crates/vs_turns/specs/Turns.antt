@@ -5,9 +5,12 @@ use Rattle.vs_design.specs.Parts.{Parts}
 use Rattle.vs_design.specs.Traces.{Slot}
 use Rattle.vs_process.specs.declared.moves.Move.{Move}
 use Rattle.vs_process.specs.Blocks.{is_step_of_any}
-use Rattle.vs_process.specs.Executions.{after, apply, ended_slot, is_enabled, move_lines}
+use Rattle.vs_process.specs.Executions.{apply, ended_slot, is_enabled, move_lines}
 use Rattle.vs_process.specs.States.{State}
+use Rattle.vs_process.specs.declared.moves.Move.TheVariants.{Step}
 use Rattle.vs_state.specs.Driven.{IsDriven}
+use Rattle.vs_state.specs.Prints.{made_line, made_text}
+use Rattle.vs_state.specs.Silent.{AreSilent, Steps}
 use Rattle.vs_agenda.specs.declared.entries.AssignEvent.{AssignEvent}
 use Rattle.vs_agenda.specs.declared.entries.AssignEvent.TheVariants as e
 use Rattle.vs_agenda.specs.AssignEvents.{move_of}
@@ -19,15 +22,23 @@ use Rattle.vs_turns.specs.Prints.{lines_text}
 use Rattle.vs_turns.specs.Recording.{HasNoted}
 use Rattle.vs_turns.specs.Slots.{AppendsSlots, AppendsSlotsPart}
 
--- a state to which moves of a design lead
-abbrev pub IsReached : Parts → State → Type 0
-IsReached d s = (moves : List Move) × (after d moves ≡ s)
-
 -- so many moves of a continuous assignment: one, or an evaluation and the update that it has behind it
 abbrev pub MovesOn : ℕ → AssignEvent → State → State → Type 0
 MovesOn (suc zero) event s t = t ≡ apply (move_of event) s
 MovesOn (suc (suc zero)) (e.Evaluate j) s t = IsDriven j s t
 MovesOn _ _ s t = ⊥
+
+-- so many steps of a process, of which the last may have written a line
+abbrev pub StepsPrinted : ℕ → ℕ → State → State → Option (List ℕ) → Option (List ℕ) → Type 0
+StepsPrinted n process s t old new = (line : List ℕ) × Steps n process s t line × Appends old new line
+
+-- fewer than so many silent steps of a process, and one behind them that failed
+pub record StepsPart (steps process : ℕ) (s : State) (old new : Option (List ℕ)) : Type 0 where
+  pub taken : ℕ
+  pub last : State
+  pub within : taken < steps
+  pub silent : AreSilent taken process s last
+  pub printed : AppendsPart old new (made_text (made_line (Step process) last))
 
 -- a step: an enabled move, of the combinational block that has left its control where there is one, is made, and the slot that it ends and the lines
 -- that it makes are written

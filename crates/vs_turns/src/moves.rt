@@ -2,27 +2,25 @@
 ghost use Rattle.std.specs.Prelude.{◌≡◌, ◌<◌, ◌≤◌, ◌^◌, [], false, true, length, IfOk, OnOk, OnErr};
 ghost use Rattle.std.specs.Io.KnownBytes.{Appends};
 ghost use Rattle.vs_agenda.specs.AssignEvents.{move_of};
-ghost use Rattle.vs_turns.specs.Marking.{MarkChanges};
-ghost use Rattle.vs_turns.specs.Turns.{Batch, BatchPart, IsReached, MovesOn};
+ghost use Rattle.vs_turns.specs.Turns.{Batch, BatchPart, MovesOn, StepsPart, StepsPrinted};
+ghost use Rattle.vs_state.specs.Changes.{MarkChanges};
+ghost use Rattle.vs_state.specs.Silent.{IsReached};
 ghost use Rattle.vs_state.specs.Prints.{made_line, made_text};
 ghost use Rattle.vs_state.specs.Told.{told};
 ghost use Rattle.vs_process.specs.Executions as executions;
 ghost use Rattle.vs_vcd.specs.Progress.{is_write_fault};
 ghost use Rattle.vs_vcd.specs.Sinks.{AppendsPart, failed_after};
 
-use crate::marks::mark_all;
 use vs_agenda::{Agenda, AssignEvent};
 use vs_design::Design;
 use vs_process::{Effect, Move};
 use vs_regions::Item;
-use vs_state::{Made, State};
+use vs_state::{Made, State, Taken};
 use vs_time_wheel::EventQueue;
 use vs_vcd::{Sink, VcdFault, write_all};
 
 /// Room to work in, kept from move to move.
 pub struct Room<'a> {
-    /// The signals that the moves since the last mark may have changed.
-    pub changed: Vec<usize>,
     /// What a step does to the rest of the state.
     pub effect: Effect<'a>,
     /// The line that a move has made.
@@ -31,11 +29,7 @@ pub struct Room<'a> {
 
 impl Drop for Room<'_> {
     fn drop(self) {
-        let Self {
-            changed: _,
-            effect: _,
-            line: _,
-        } = self;
+        let Self { effect: _, line: _ } = self;
     }
 }
 
@@ -74,20 +68,51 @@ pub fn advance<'a, Q: EventQueue<Item>, L: Sink>(
     ensures part { OnErr result (AppendsPart (L.bytes lines.old) (L.bytes lines.new) (made_text (made_line choice state.old))) }
     ensures failures { L.failed lines.new ≡ failed_after (is_write_fault result) (L.failed lines.old) }
 {
-    let made = state.make(
-        design,
-        choice,
-        &mut room.changed,
-        &mut room.effect,
-        &mut room.line,
-    )?;
+    let made = state.make(design, choice, marks, &mut room.effect, &mut room.line)?;
     if made.quiet {
         return Ok(made);
     }
-    mark_all(marks, &room.changed);
-    room.changed.clear();
     print(lines, &room.line)?;
     Ok(made)
+}
+
+/// Takes steps of a process, at most so many, until something follows from one of them or the process is no longer active; marks the signals that they
+/// may change, and writes the line that the last one makes.
+#[inline(always)]
+fn advance_steps<'a, Q: EventQueue<Item>, L: Sink>(
+    state: &mut State<'a, Q>,
+    design: &Design,
+    marks: &mut Vec<u64>,
+    room: &mut Room<'a>,
+    lines: &mut L,
+    process: usize,
+    limit: u64,
+) -> Result<Taken, VcdFault>
+    requires limit { 0 < limit }
+    requires enabled { executions.is_enabled state.old (Move.Step process) ≡ true }
+    requires early { state.old.time < 2 ^ 62 }
+    requires reached { IsReached design.now state.old }
+    ensures within { IfOk result (λ taken. taken.steps ≤ limit) }
+    ensures again { IfOk result (λ taken. taken.again ≡ true → executions.is_enabled state.new (Move.Step process) ≡ true) }
+    ensures printed { IfOk result (λ taken. StepsPrinted taken.steps process state.old state.new (L.bytes lines.old) (L.bytes lines.new)) }
+    ensures part { OnErr result (StepsPart limit process state.old (L.bytes lines.old) (L.bytes lines.new)) }
+    ensures marked { OnOk result (MarkChanges marks.old.items marks.new.items state.old.store state.new.store) }
+    ensures len { length marks.new.items ≡ length marks.old.items }
+    ensures failures { L.failed lines.new ≡ failed_after (is_write_fault result) (L.failed lines.old) }
+{
+    let taken = state.steps(
+        design,
+        process,
+        marks,
+        &mut room.effect,
+        &mut room.line,
+        limit,
+    )?;
+    if taken.quiet {
+        return Ok(taken);
+    }
+    print(lines, &room.line)?;
+    Ok(taken)
 }
 
 /// Takes the steps of a process, one after another, until it is no longer active or so many are taken. The answer is how many were taken.
@@ -117,11 +142,12 @@ pub fn run_process<'a, Q: EventQueue<Item>, L: Sink>(
 {
     let mut taken = 0;
     loop {
-        let made = advance(state, design, marks, room, lines, Move::Step(process))?;
+        let left = steps - taken;
+        let made = advance_steps(state, design, marks, room, lines, process, left)?;
         if !made.quiet {
             agenda.add_woken(state)?;
         }
-        taken += 1;
+        taken += made.steps;
         if !made.again {
             agenda.remove(index);
             return Ok(taken);
@@ -202,10 +228,8 @@ fn advance_assign<'a, Q: EventQueue<Item>, L: Sink>(
     match next {
         AssignEvent::Evaluate(assign) => {
             if steps > 1 && agenda.is_alone(index) {
-                let updated = state.drive(design, assign, &mut room.changed)?;
+                let updated = state.drive(design, assign, marks)?;
                 if updated {
-                    mark_all(marks, &room.changed);
-                    room.changed.clear();
                     agenda.remove(index);
                     agenda.add_woken(state)?;
                     return Ok(2);
@@ -217,9 +241,7 @@ fn advance_assign<'a, Q: EventQueue<Item>, L: Sink>(
             Ok(1)
         }
         AssignEvent::Propagate(assign) => {
-            state.propagate(design, assign, &mut room.changed)?;
-            mark_all(marks, &room.changed);
-            room.changed.clear();
+            state.propagate(design, assign, marks)?;
             agenda.follow_propagation(assign, index, state)?;
             Ok(1)
         }

@@ -13,7 +13,8 @@ use Rattle.vs_turns.specs.Slots.{AppendsSlots, AppendsSlotsPart}
 use Rattle.vs_turns.specs.Prints.{lines_text, slot_lines}
 use Rattle.vs_turns.proofs.MarkingLemmas.{noted_clear}
 use Rattle.vs_turns.proofs.MoveLemmas.{not_ended, none_ended}
-use Rattle.vs_turns.proofs.Appending.{append_none, on_err}
+use Rattle.vs_process.proofs.Effects.{on_err}
+use Rattle.vs_turns.proofs.Appending.{append_none}
 use Rattle.vs_kernel.proofs.RunsLemmas.{ended_here, slot_failed, slots_whole, first_failed, second_failed}
 use Rattle.vs_kernel.proofs.run.note.Goals as goal
 

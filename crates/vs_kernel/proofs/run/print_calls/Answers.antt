@@ -9,7 +9,8 @@ use Rattle.vs_strobe.specs.Lines.{Format, full_line}
 use Rattle.vs_vcd.specs.Sinks.{AppendsPart}
 use Rattle.vs_turns.specs.Prints.{lines_text}
 use Rattle.vs_turns.proofs.PrintsLemmas.{calls_more, calls_front}
-use Rattle.vs_turns.proofs.Appending.{append_none, append_more, part_all, part_front, part_more, on_err}
+use Rattle.vs_process.proofs.Effects.{on_err}
+use Rattle.vs_turns.proofs.Appending.{append_none, append_more, part_all, part_front, part_more}
 use Rattle.vs_kernel.proofs.run.print_calls.Goals as goal
 
 pub loop-call-init : goal.loop-call-init

@@ -6,7 +6,8 @@ use Rattle.vs_turns.specs.Insides.{inside_told}
 use Rattle.vs_turns.specs.Points.{Point, point}
 use Rattle.vs_turns.specs.Turns.{Turned}
 use Rattle.vs_turns.proofs.MarkingLemmas.{noted_on}
-use Rattle.vs_turns.proofs.Appending.{part_all, on_err}
+use Rattle.vs_process.proofs.Effects.{on_err}
+use Rattle.vs_turns.proofs.Appending.{part_all}
 use Rattle.vs_kernel.proofs.RunsLemmas.{slots_whole, step_printed, slot_printed, line_printed, failed_as, second_failed}
 use Rattle.vs_turns.proofs.TurnsLemmas.{once, part_at, turned_told}
 use Rattle.vs_kernel.proofs.run.take_one.Goals as goal

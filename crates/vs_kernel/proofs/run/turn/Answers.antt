@@ -1,7 +1,7 @@
 use Rattle.std.proofs.Common.{ℕ, Option, sym, subst}
 use Rattle.vs_turns.specs.Points.{point}
 use Rattle.vs_turns.specs.Turns.{AllTurned}
-use Rattle.vs_turns.proofs.Appending.{on_err}
+use Rattle.vs_process.proofs.Effects.{on_err}
 use Rattle.vs_kernel.proofs.run.turn.Goals as goal
 
 pub returns-clause-ok : goal.returns-clause-ok

@@ -1,10 +1,9 @@
-use Rattle.std.proofs.Common.{[], refl, sym, ◌∙◌, subst}
+use Rattle.std.proofs.Common.{sym, ◌∙◌, subst}
 use Rattle.std.specs.Io.KnownBytes.{Appends}
 use Rattle.vs_state.specs.Prints.{made_line, made_text}
 use Rattle.vs_vcd.specs.Sinks.{AppendsPart}
-use Rattle.vs_turns.specs.Marking.{AreMarked}
-use Rattle.vs_turns.proofs.MarkingLemmas.{mark_changes}
-use Rattle.vs_turns.proofs.Appending.{append_none, on_err}
+use Rattle.vs_process.proofs.Effects.{on_err}
+use Rattle.vs_turns.proofs.Appending.{append_none}
 use Rattle.vs_turns.proofs.TurnsLemmas.{reached_sources, reached_terms}
 use Rattle.vs_turns.proofs.moves.advance.Goals as goal
 
@@ -14,20 +13,11 @@ make-requires-clause-sources g c = reached_sources c.args.design.now c.args.stat
 pub make-requires-clause-terms : goal.make-requires-clause-terms
 make-requires-clause-terms g c = reached_terms c.args.design.now c.args.state.now c.requires.reached
 
-pub returns-clause-marked : goal.returns-clause-marked
-returns-clause-marked g c =
-    mark_changes c.args.marks.now.items c.mark_all.new.marks.items c.make.new.changed.items c.args.state.now.store c.make.new.self.store
-    (subst (AreMarked c.args.marks.now.items c.mark_all.new.marks.items) c.deref.ensures.value c.mark_all.ensures.marked) c.in_ok-made.ensures.covers
-
 -- ---- a move that changes no word and makes no line
-
-pub returns-then-made-clause-marked : goal.returns-then-made-clause-marked
-returns-then-made-clause-marked g c =
-    mark_changes c.args.marks.now.items c.args.marks.now.items [] c.args.state.now.store c.make.new.self.store (λ v off. (off, λ within. refl)) (c.in_ok-made.ensures.quiet c.if-made.true).0
 
 pub returns-then-made-clause-printed : goal.returns-then-made-clause-printed
 returns-then-made-clause-printed g c =
-    subst (Appends (g.L.Sink.bytes c.args.lines.now) (g.L.Sink.bytes c.args.lines.now)) (sym (c.in_ok-made.ensures.quiet c.if-made.true).1 ∙ c.in_ok-made.ensures.line) (append_none (g.L.Sink.bytes c.args.lines.now))
+    subst (Appends (g.L.Sink.bytes c.args.lines.now) (g.L.Sink.bytes c.args.lines.now)) (sym (c.in_ok-made.ensures.quiet c.if-made.true) ∙ c.in_ok-made.ensures.line) (append_none (g.L.Sink.bytes c.args.lines.now))
 
 -- ---- another one
 

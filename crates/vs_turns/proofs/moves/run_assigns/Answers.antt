@@ -1,8 +1,8 @@
 use Rattle.std.proofs.Common.{◌∙◌, refl, arith}
 use Rattle.vs_agenda.specs.AssignEvents.{move_of}
 use Rattle.vs_turns.proofs.AssignsLemmas.{along_assign, along_moved, batch_moved, part_moved, reached_moved}
-use Rattle.vs_turns.proofs.MarkingLemmas.{changes_more, changes_none}
-use Rattle.vs_turns.proofs.Appending.{on_err}
+use Rattle.vs_state.proofs.MarkingLemmas.{changes_more, changes_none}
+use Rattle.vs_process.proofs.Effects.{on_err}
 use Rattle.vs_turns.proofs.moves.run_assigns.Goals as goal
 
 pub advance_assign-requires : goal.advance_assign-requires

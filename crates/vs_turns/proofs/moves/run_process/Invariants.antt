@@ -1,7 +1,7 @@
 use Rattle.std.proofs.Common.{◌≡◌, ◌-◌, ◌<◌, length}
 use Rattle.vs_process.specs.declared.moves.Move.TheVariants.{Step}
-use Rattle.vs_turns.specs.Marking.{MarkChanges}
-use Rattle.vs_turns.specs.Turns.{IsReached}
+use Rattle.vs_state.specs.Changes.{MarkChanges}
+use Rattle.vs_state.specs.Silent.{IsReached}
 use Rattle.vs_turns.proofs.TurnsLemmas.{Along}
 use Rattle.vs_turns.proofs.moves.run_process.Given as goal
 

@@ -1,9 +1,11 @@
 use Rattle.std.proofs.Common.{◌∙◌, refl, arith}
 use Rattle.vs_process.specs.declared.moves.Move.TheVariants.{Make}
 use Rattle.vs_state.specs.Told.{told}
-use Rattle.vs_turns.proofs.MarkingLemmas.{changes_more, changes_none}
-use Rattle.vs_turns.proofs.Appending.{on_err, part_all}
-use Rattle.vs_turns.proofs.TurnsLemmas.{along_first, along_more, batch_all, batch_part, made_inner, reached_on, update_over, update_time}
+use Rattle.vs_state.proofs.MarkingLemmas.{changes_more, changes_none}
+use Rattle.vs_process.proofs.Effects.{on_err}
+use Rattle.vs_turns.proofs.Appending.{part_all}
+use Rattle.vs_state.proofs.SilentLemmas.{reached_on}
+use Rattle.vs_turns.proofs.TurnsLemmas.{along_first, along_more, batch_all, batch_part, made_inner, update_over, update_time}
 use Rattle.vs_turns.proofs.moves.run_updates.Goals as goal
 
 pub advance-requires : goal.advance-requires

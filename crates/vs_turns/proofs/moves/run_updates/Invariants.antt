@@ -1,8 +1,8 @@
 use Rattle.std.proofs.Common.{◌≡◌, ◌-◌, ◌<◌, length}
 use Rattle.vs_process.specs.declared.moves.Move.TheVariants.{Make}
 use Rattle.vs_state.specs.Told.{told}
-use Rattle.vs_turns.specs.Marking.{MarkChanges}
-use Rattle.vs_turns.specs.Turns.{IsReached}
+use Rattle.vs_state.specs.Changes.{MarkChanges}
+use Rattle.vs_state.specs.Silent.{IsReached}
 use Rattle.vs_turns.proofs.TurnsLemmas.{Along}
 use Rattle.vs_turns.proofs.moves.run_updates.Given as goal
 

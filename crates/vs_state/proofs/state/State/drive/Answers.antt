@@ -8,7 +8,7 @@ use Rattle.vs_eval.specs.Targets.{assigned}
 use Rattle.vs_eval.specs.Values.{target_value}
 use Rattle.vs_process.specs.States.{State}
 use Rattle.vs_state.specs.Touches.{HasSources}
-use Rattle.vs_state.proofs.ChangesLemmas.{covers_seen}
+use Rattle.vs_state.proofs.ChangesLemmas.{marks_seen}
 use Rattle.vs_state.proofs.ExecutionsLemmas.{driven_at, rested_at, rested_sources}
 use Rattle.vs_state.proofs.WaitsLemmas.{written_none}
 use Rattle.vs_state.proofs.state.State.drive.Goals as goal
@@ -40,5 +40,5 @@ returns-clause-updated g c = λ made.
     (c.cut_value-digits.ensures ∙ ap₂ (λ (t : Target) (e : Typed). target_value t e s.store time) c.target-target.ensures c.source.ensures)
     (sym (c.in-Some-only_part.ensures s.store time) ∙ ap (λ (t : Target). assigned t v s.store time) c.target-target.ensures) other c.rest.ensures c.in_ok-updated.ensures.made
 
-pub returns-clause-covers : goal.returns-clause-covers
-returns-clause-covers g c = covers_seen c.write.new.changed.items c.write.new.self.store c.self.view_is c.in_ok-updated.ensures.covers
+pub returns-clause-marked : goal.returns-clause-marked
+returns-clause-marked g c = marks_seen c.args.marks.now.items c.write.new.marks.items c.write.new.self.store c.self.view_is c.in_ok-updated.ensures.marked

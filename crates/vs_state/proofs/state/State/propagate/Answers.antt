@@ -6,7 +6,7 @@ use Rattle.vs_flatcode.specs.Changes.{changed_words}
 use Rattle.vs_process.specs.States.{State}
 use Rattle.vs_state.specs.Touches.{HasSources}
 use Rattle.vs_state.specs.Waits.{HasTerms}
-use Rattle.vs_state.proofs.ChangesLemmas.{sizes_put, covers_put, covers_seen}
+use Rattle.vs_state.proofs.ChangesLemmas.{sizes_put, marks_put, marks_seen}
 use Rattle.vs_state.proofs.ExecutionsLemmas.{propagate_at, settled_sources}
 use Rattle.vs_state.proofs.WaitsLemmas.{written_by}
 use Rattle.vs_state.proofs.state.State.propagate.Goals as goal
@@ -46,15 +46,15 @@ returns-clause-made g c =
     ∙ propagate_at c.self.view_is c.args.number c.time-time.result c.in-Some.x.now c.settle-2.new.self c.target-target.result.now c.in-Some-pending.digits w c.in-Some.ensures
     (sym c.pending.ensures ∙ c.in-Some-pending.is) c.settle-2.ensures c.target-target.ensures c.time-time.ensures refl
 
-pub returns-clause-covers : goal.returns-clause-covers
-returns-clause-covers g c =
+pub returns-clause-marked : goal.returns-clause-marked
+returns-clause-marked g c =
     let s = c.self.inside in
     let w : Write = assigned c.target-target.result.now c.in-Some-pending.digits s.store c.time-time.result in
     let words : c.assign.new.changes.items ≡ changed_words s.store c.assign.new.store w =
     c.in_ok-assign.ensures.changes ∙ ap (λ (l : List Change). l ++ changed_words s.store c.assign.new.store w) c.clear-2.ensures.items
     in
-    covers_seen c.follow.new.changed.items c.assign.new.store c.self.view_is
-    (covers_put c.follow.new.changed.items w s.store c.assign.new.store c.assign.new.changes.items c.in_ok-follow.ensures.covers words c.in_ok-assign.ensures.store)
+    marks_seen c.args.marks.now.items c.follow.new.marks.items c.assign.new.store c.self.view_is
+    (marks_put c.args.marks.now.items c.follow.new.marks.items w s.store c.assign.new.store c.assign.new.changes.items c.follow.ensures.marked words c.in_ok-assign.ensures.store)
 
 -- ---- a target of one fixed place
 
@@ -70,5 +70,5 @@ returns-in-Some-only_part-clause-made g c =
     ∙ propagate_at c.self.view_is c.args.number s.processes.time c.in-Some.x.now c.settle.new.self c.target-target.result.now c.in-Some-pending.digits (c.in-Some-only_part.part ∷ []) c.in-Some.ensures
     (sym c.pending.ensures ∙ c.in-Some-pending.is) c.settle.ensures c.target-target.ensures refl (sym (c.in-Some-only_part.ensures s.store s.processes.time))
 
-pub returns-in-Some-only_part-clause-covers : goal.returns-in-Some-only_part-clause-covers
-returns-in-Some-only_part-clause-covers g c = covers_seen c.write.new.changed.items c.write.new.self.store c.self.view_is c.in_ok-write.ensures.covers
+pub returns-in-Some-only_part-clause-marked : goal.returns-in-Some-only_part-clause-marked
+returns-in-Some-only_part-clause-marked g c = marks_seen c.args.marks.now.items c.write.new.marks.items c.write.new.self.store c.self.view_is c.in_ok-write.ensures.marked

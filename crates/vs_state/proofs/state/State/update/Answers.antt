@@ -1,5 +1,5 @@
 use Rattle.std.proofs.Common.{[], ◌∷◌, ◌∙◌}
-use Rattle.vs_state.proofs.ChangesLemmas.{covers_seen}
+use Rattle.vs_state.proofs.ChangesLemmas.{marks_seen}
 use Rattle.vs_state.proofs.ExecutionsLemmas.{make_at}
 use Rattle.vs_state.proofs.state.State.update.Goals as goal
 
@@ -9,5 +9,5 @@ returns-in-Some-clause-made g c =
     ∙ make_at c.self.view_is c.args.index c.take_part.new.self.time c.take_part.new.self.places c.take_part.new.self.updates (c.in-Some.part ∷ []) c.in-Some.ensures.taken
     c.take_part.ensures.places c.take_part.ensures.time c.in-Some.ensures.rest
 
-pub returns-in-Some-clause-covers : goal.returns-in-Some-clause-covers
-returns-in-Some-clause-covers g c = covers_seen c.write.new.changed.items c.write.new.self.store c.self.view_is c.in_ok-write.ensures.covers
+pub returns-in-Some-clause-marked : goal.returns-in-Some-clause-marked
+returns-in-Some-clause-marked g c = marks_seen c.args.marks.now.items c.write.new.marks.items c.write.new.self.store c.self.view_is c.in_ok-write.ensures.marked

@@ -6,7 +6,7 @@ use Rattle.vs_flatcode.specs.Places.{Place}
 use Rattle.vs_process.specs.States.{State, Update}
 use Rattle.vs_state.specs.Touches.{HasSources}
 use Rattle.vs_state.specs.Waits.{HasTerms, WaitWithin}
-use Rattle.vs_state.proofs.ChangesLemmas.{sizes_put, covers_put, covers_seen}
+use Rattle.vs_state.proofs.ChangesLemmas.{sizes_put, marks_put, marks_seen}
 use Rattle.vs_state.proofs.ExecutionsLemmas.{make_at, make_past}
 use Rattle.vs_state.proofs.WaitsLemmas.{written_by}
 use Rattle.vs_state.proofs.state.State.update_parts.Goals as goal
@@ -53,12 +53,12 @@ returns-clause-made g c =
     ∙ make_at c.self.view_is c.args.index c.take.new.self.time c.take.new.self.places c.take.new.self.updates w
     (ap (option_map (λ (u : Update). u.what)) (sym c.take.ensures.taken ∙ c.in-Some.is) ∙ ap Some (sym c.what.ensures)) c.take.ensures.places c.take.ensures.time c.take.ensures.rest
 
-pub returns-clause-covers : goal.returns-clause-covers
-returns-clause-covers g c =
+pub returns-clause-marked : goal.returns-clause-marked
+returns-clause-marked g c =
     let s = c.self.inside in
     let w : Write = c.what.result.now in
     let words : c.make.new.changes.items ≡ changed_words s.store c.make.new.store w =
     c.in_ok-make.ensures.changes ∙ ap (λ (l : List Change). l ++ changed_words s.store c.make.new.store w) c.clear.ensures.items
     in
-    covers_seen c.follow.new.changed.items c.make.new.store c.self.view_is
-    (covers_put c.follow.new.changed.items w s.store c.make.new.store c.make.new.changes.items c.in_ok-follow.ensures.covers words c.in_ok-make.ensures.store)
+    marks_seen c.args.marks.now.items c.follow.new.marks.items c.make.new.store c.self.view_is
+    (marks_put c.args.marks.now.items c.follow.new.marks.items w s.store c.make.new.store c.make.new.changes.items c.follow.ensures.marked words c.in_ok-make.ensures.store)

@@ -4,7 +4,7 @@ use Rattle.vs_design.specs.Writes.{Write}
 use Rattle.vs_flatcode.specs.declared.changes.Change.{Change}
 use Rattle.vs_flatcode.specs.Changes.{changed_part, changed_words}
 use Rattle.vs_process.specs.States.{State, written}
-use Rattle.vs_state.proofs.ChangesLemmas.{covers_put, covers_seen}
+use Rattle.vs_state.proofs.ChangesLemmas.{marks_put, marks_seen}
 use Rattle.vs_state.proofs.WaitsLemmas.{written_by}
 use Rattle.vs_state.proofs.state.State.write.Goals as goal
 
@@ -28,11 +28,11 @@ returns-clause-made g c =
     c.write_part.ensures.store words c.in_ok-changes.ensures.assigns c.in_ok-changes.ensures.places c.write_part.ensures.time c.write_part.ensures.updates
     ∙ ap (λ (t : State). written t w) c.self.view_is
 
-pub returns-clause-covers : goal.returns-clause-covers
-returns-clause-covers g c =
+pub returns-clause-marked : goal.returns-clause-marked
+returns-clause-marked g c =
     let s = c.self.inside in
     let w : Write = c.args.part ∷ [] in
     let cs : List Change = changed_part s.store c.write_part.new.store c.args.part in
     let words : cs ≡ changed_words s.store c.write_part.new.store w = sym (append-nil cs) in
-    covers_seen c.write_part.new.changed.items c.write_part.new.store c.self.view_is
-    (covers_put c.write_part.new.changed.items w s.store c.write_part.new.store cs c.in_ok-changes.ensures.covers words c.write_part.ensures.store)
+    marks_seen c.args.marks.now.items c.write_part.new.marks.items c.write_part.new.store c.self.view_is
+    (marks_put c.args.marks.now.items c.write_part.new.marks.items w s.store c.write_part.new.store cs c.write_part.ensures.marked words c.write_part.ensures.store)

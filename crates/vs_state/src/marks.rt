@@ -1,6 +1,5 @@
 //! The marks of the blocks of signals that were written since the last slot of the value change dump.
 ghost use Rattle.std.specs.Prelude.{◌≡◌, ◌<◌, ◌≤◌, ◌*◌, ◌^◌, ℕ, true, false, length, IfOk};
-ghost use Rattle.vs_turns.specs.Marking.{AreMarked};
 ghost use Rattle.vs_vcd.specs.Marks.{is_marked};
 
 use std::alloc::{AllocError, Global};
@@ -20,7 +19,7 @@ pub fn no_marks(alloc: Global, signals: usize) -> Result<Vec<u64>, AllocError>
 
 /// Marks the block of a signal; one past the marks has none.
 #[inline(always)]
-fn mark(marks: &mut Vec<u64>, signal: usize)
+pub(crate) fn mark(marks: &mut Vec<u64>, signal: usize)
     ensures len { length marks.new.items ≡ length marks.old.items }
     ensures set { signal < 512 * length marks.old.items → is_marked marks.new.items signal ≡ true }
     ensures others { (other : ℕ) → is_marked marks.new.items other ≡ false → is_marked marks.old.items other ≡ false }
@@ -28,17 +27,6 @@ fn mark(marks: &mut Vec<u64>, signal: usize)
     let block = signal / BLOCK;
     if let Some(bits) = marks.get_mut(block / 64) {
         *bits |= 1 << (block % 64);
-    }
-}
-
-/// Marks the blocks of signals.
-#[inline(always)]
-pub fn mark_all(marks: &mut Vec<u64>, signals: &[usize])
-    ensures len { length marks.new.items ≡ length marks.old.items }
-    ensures marked { AreMarked marks.old.items marks.new.items signals.now }
-{
-    for signal in signals {
-        mark(marks, *signal);
     }
 }
 

@@ -1,6 +1,6 @@
 use Rattle.std.proofs.Common.{refl}
-use Rattle.vs_turns.proofs.MarkingLemmas.{marks_set, marks_kept}
-use Rattle.vs_turns.proofs.marks.mark.Goals as goal
+use Rattle.vs_state.proofs.MarkingLemmas.{marks_set, marks_kept}
+use Rattle.vs_state.proofs.marks.mark.Goals as goal
 
 pub returns-in-Some-clause-set : goal.returns-in-Some-clause-set
 returns-in-Some-clause-set c = λ within.

@@ -1,11 +1,11 @@
-use Rattle.std.proofs.Common.{◌≡◌, ◌+◌, List, ◌∷◌, drop, sym, ap, subst, ◌∙◌}
+use Rattle.std.proofs.Common.{◌≡◌, ◌+◌, List, ◌∷◌, drop, sym, ap, subst, ◌∙◌, arith}
 use Rattle.std.proofs.lemmas.List.{drop_more}
 use Rattle.vs_flatcode.specs.declared.changes.Change.{Change}
-use Rattle.vs_state.proofs.ChangesLemmas.{noted}
-use Rattle.vs_state.proofs.changes.note_signals.Goals as goal
+use Rattle.vs_state.proofs.MarkingLemmas.{marked_more}
+use Rattle.vs_state.proofs.changes.mark_signals.Goals as goal
 
 pub loop-change-preserved : goal.loop-change-preserved
-loop-change-preserved c = λ v none.
+loop-change-preserved c =
     let change : Change = c.change-item.result in
     let changes : List Change = c.args.changes.now.items in
     let rest : List Change = drop (c.loop-change.change-index + 1) changes in
@@ -17,5 +17,9 @@ loop-change-preserved c = λ v none.
     let next : drop c.loop-change.change-index changes ≡ change ∷ drop (c.loop-change.change-index + 1) changes =
     subst (λ (l : List Change). drop c.loop-change.change-index l ≡ change ∷ drop (c.loop-change.change-index + 1) l) same first
     in
-    let seen = noted c.loop-change.changed.items c.push.new.self.items change (drop c.loop-change.change-index changes) rest v c.in_ok-push.ensures.items next none in
-    seen.1 ∙ c.loop-change.invariant v seen.0
+    record {
+      len = omega (arith, c.mark.ensures.len, c.loop-change.invariant.len);
+      marked =
+          marked_more c.args.marks.now.items c.loop-change.marks.items c.mark.new.marks.items change (drop c.loop-change.change-index changes) rest changes next c.loop-change.invariant.len
+          c.loop-change.invariant.marked c.mark.ensures.set c.mark.ensures.others;
+    }

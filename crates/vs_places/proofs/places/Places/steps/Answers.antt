@@ -1,11 +1,11 @@
-use Rattle.std.proofs.Common.{◌≡◌, ◌++◌, ◌<◌, true, Option, List, Some, length, slice_get, slice_set, refl, sym, ap, ◌∙◌, arith}
+use Rattle.std.proofs.Common.{◌≡◌, ◌<◌, true, List, Some, length, slice_get, slice_set, refl, sym, ap, ◌∙◌, arith}
 use Rattle.std.proofs.lemmas.Option.{slice_get_read}
-use Rattle.vs_flatcode.specs.Changes.{store_behind, changes_of}
 use Rattle.vs_flatcode.specs.Places.{Place, is_going}
+use Rattle.vs_process.proofs.Effects.{on_err}
+use Rattle.vs_process.proofs.Lists.{set_same}
 use Rattle.vs_process.specs.Executions.{if_some}
-use Rattle.vs_places.specs.Timelines.{step_write}
-use Rattle.vs_places.proofs.ListedLemmas.{counted, fits, recounted}
-use Rattle.vs_places.proofs.places.Places.step.Goals as goal
+use Rattle.vs_places.proofs.ListedLemmas.{active_there, counted, fits, recounted}
+use Rattle.vs_places.proofs.places.Places.steps.Goals as goal
 
 pub recount-self-inside-requires-clause-some : goal.recount-self-inside-requires-clause-some
 recount-self-inside-requires-clause-some c =
@@ -14,8 +14,7 @@ recount-self-inside-requires-clause-some c =
     let below = c.in-Some.ensures.variant.0 refl in
     let within : c.args.process < length xs = omega (arith, c.self.inside.items.ok.0, below) in
     let here : slice_get xs c.args.process ≡ Some x = slice_get_read xs (length xs) c.args.process x refl within c.in-Some.ensures.value in
-    let active : is_going x ≡ true = sym (ap (if_some is_going) here) ∙ ap (λ (l : List Place). if_some is_going (slice_get l c.args.process)) c.self.view_is ∙ c.requires.active in
-    counted is_going xs c.self.inside.going c.self.invariant c.args.process x true here (sym active)
+    counted is_going xs c.self.inside.going c.self.invariant c.args.process x true here (sym (active_there c.self.view_is c.args.process x here c.requires.active))
 
 pub recount-self-inside-requires-clause-room : goal.recount-self-inside-requires-clause-room
 recount-self-inside-requires-clause-room c = fits is_going c.self.inside.items.items c.self.inside.going c.self.invariant (omega (arith, c.self.inside.items.ok))
@@ -27,8 +26,8 @@ invariant_of-self-2 c =
     let below = c.in-Some.ensures.variant.0 refl in
     let within : c.args.process < length xs = omega (arith, c.self.inside.items.ok.0, below) in
     let here : slice_get xs c.args.process ≡ Some x = slice_get_read xs (length xs) c.args.process x refl within c.in-Some.ensures.value in
-    let active : is_going x ≡ true = sym (ap (if_some is_going) here) ∙ ap (λ (l : List Place). if_some is_going (slice_get l c.args.process)) c.self.view_is ∙ c.requires.active in
-    recounted is_going xs c.self.inside.going c.self.invariant c.recount-self-inside.result c.args.process x c.step.new.self true c.is_going-going.result here (sym active) c.is_going-going.ensures c.recount-self-inside.ensures
+    recounted is_going xs c.self.inside.going c.self.invariant c.recount-self-inside.result c.args.process x c.steps.new.self true c.in_ok-went.went.going here
+    (sym (active_there c.self.view_is c.args.process x here c.requires.active)) c.in_ok-went.ensures.going c.recount-self-inside.ensures
 
 pub returns-clause-ok : goal.returns-clause-ok
 returns-clause-ok c =
@@ -39,30 +38,34 @@ returns-clause-ok c =
     let here : slice_get xs c.args.process ≡ Some x = slice_get_read xs (length xs) c.args.process x refl within c.in-Some.ensures.value in
     record {
       from = x;
-      to = c.step.new.self;
+      to = c.steps.new.self;
       here = sym (ap (λ (l : List Place). slice_get l c.args.process) c.self.view_is) ∙ here;
-      stepped = c.in_ok-step.ensures.ok;
-      set = ap (λ (l : List Place). slice_set l c.args.process c.step.new.self) c.self.view_is;
+      went = c.in_ok-went.ensures.ok;
+      set = ap (λ (l : List Place). slice_set l c.args.process c.steps.new.self) c.self.view_is;
     }
 
-pub returns-clause-store : goal.returns-clause-store
-returns-clause-store c =
+pub returns-clause-going : goal.returns-clause-going
+returns-clause-going c =
     let xs = c.self.inside.items.items in
     let x = c.in-Some.place.now in
-    let store = c.args.store.now in
     let below = c.in-Some.ensures.variant.0 refl in
     let within : c.args.process < length xs = omega (arith, c.self.inside.items.ok.0, below) in
     let here : slice_get xs c.args.process ≡ Some x = slice_get_read xs (length xs) c.args.process x refl within c.in-Some.ensures.value in
-    let found : slice_get c.args.self.now c.args.process ≡ Some x = sym (ap (λ (l : List Place). slice_get l c.args.process) c.self.view_is) ∙ here in
-    c.in_ok-step.ensures.store ∙ sym (ap (λ (o : Option Place). store_behind store (step_write o store c.args.time)) found)
+    c.in_ok-went.ensures.going ∙ sym (ap (if_some is_going) (set_same xs c.args.process x c.steps.new.self here))
 
-pub returns-clause-changes : goal.returns-clause-changes
-returns-clause-changes c =
+-- ---- without memory
+
+pub invariant_of-self-in_err-went : goal.invariant_of-self-in_err-went
+invariant_of-self-in_err-went c =
     let xs = c.self.inside.items.items in
     let x = c.in-Some.place.now in
-    let store = c.args.store.now in
     let below = c.in-Some.ensures.variant.0 refl in
     let within : c.args.process < length xs = omega (arith, c.self.inside.items.ok.0, below) in
     let here : slice_get xs c.args.process ≡ Some x = slice_get_read xs (length xs) c.args.process x refl within c.in-Some.ensures.value in
-    let found : slice_get c.args.self.now c.args.process ≡ Some x = sym (ap (λ (l : List Place). slice_get l c.args.process) c.self.view_is) ∙ here in
-    c.in_ok-step.ensures.changes ∙ sym (ap (λ (o : Option Place). c.args.changes.now.items ++ changes_of store (step_write o store c.args.time)) found)
+    recounted is_going xs c.self.inside.going c.self.invariant c.self.inside.going c.args.process x c.steps.new.self true true here
+    (sym (active_there c.self.view_is c.args.process x here c.requires.active)) (sym c.in_err-went.ensures.active) refl
+
+pub returns-in_err-went-clause-active : goal.returns-in_err-went-clause-active
+returns-in_err-went-clause-active c =
+    on_err c.from_residual.result
+    (c.steps.new.self, c.in_err-went.ensures.active, ap (λ (l : List Place). slice_set l c.args.process c.steps.new.self) c.self.view_is)

@@ -1,0 +1,29 @@
+-- Steps of a process, one after another, of which only the last one is seen.
+use Rattle.std.specs.Prelude.{ℕ, zero, suc, ◌≡◌, true, List, []}
+use Rattle.vs_design.specs.Parts.{Parts}
+use Rattle.vs_process.specs.declared.moves.Move.{Move}
+use Rattle.vs_process.specs.declared.moves.Move.TheVariants.{Step}
+use Rattle.vs_process.specs.Executions.{after, apply, is_enabled}
+use Rattle.vs_process.specs.States.{State}
+use Rattle.vs_state.specs.Prints.{made_line, made_text}
+
+-- a state to which moves of a design lead
+abbrev pub IsReached : Parts → State → Type 0
+IsReached d s = (moves : List Move) × (after d moves ≡ s)
+
+-- a step of a process that makes no line, and behind which the process goes on
+pub record IsSilent (process : ℕ) (s t : State) : Type 0 where
+  pub made : t ≡ apply (Step process) s
+  pub quiet : made_text (made_line (Step process) s) ≡ []
+  pub again : is_enabled t (Step process) ≡ true
+
+-- so many of them
+abbrev pub AreSilent : ℕ → ℕ → State → State → Type 0
+AreSilent zero process s t = t ≡ s
+AreSilent (suc n) process s t = (mid : State) × AreSilent n process s mid × IsSilent process mid t
+
+-- so many steps, all silent but the last, which makes this line
+abbrev pub Steps : ℕ → ℕ → State → State → List ℕ → Type 0
+Steps zero process s t line = ⊥
+Steps (suc n) process s t line =
+    (mid : State) × AreSilent n process s mid × (t ≡ apply (Step process) mid) × (line ≡ made_text (made_line (Step process) mid))
