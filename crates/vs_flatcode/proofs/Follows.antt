@@ -1,7 +1,7 @@
 -- The code of a process does what the process does.
-use Rattle.std.proofs.Common.{Global, ◌≡◌, ℕ, zero, suc, ◌<◌, Bool, true, false, Option, Some, None, List, [], ◌∷◌, ◌++◌, length, refl, sym, ◌∙◌, ap, subst, arith}
+use Rattle.std.proofs.Common.{Global, ◌≡◌, ℕ, zero, suc, ◌<◌, ◌+◌, Bool, true, false, Option, Some, None, List, [], ◌∷◌, ◌++◌, length, refl, sym, ◌∙◌, ap, subst, arith}
 use Rattle.std.specs.Prelude.{slice_get, Vec, find, if◌then◌else◌}
-use Rattle.std.proofs.lemmas.List.{length-set}
+use Rattle.std.proofs.lemmas.List.{append-nil, length-set}
 use Rattle.vs_logic4.specs.declared.digit.Digit.{Digit}
 use Rattle.vs_logic4.specs.declared.digit.Digit.TheVariants.{Zero, One, X, Z}
 use Rattle.vs_logic4.specs.Comparisons.{truth}
@@ -17,13 +17,17 @@ use Rattle.vs_flatcode.specs.declared.draft.Task.{Task}
 use Rattle.vs_flatcode.specs.declared.draft.Task.TheVariants.{Perform, Turns}
 use Rattle.vs_flatcode.specs.declared.made.Effect.{Effect}
 use Rattle.vs_flatcode.specs.declared.made.Effect.TheVariants as e
+use Rattle.vs_flatcode.specs.declared.changes.Change.{Change}
 use Rattle.vs_flatcode.specs.declared.made.Halt.{Halt}
+use Rattle.vs_flatcode.specs.declared.made.Halt.TheVariants as h
+use Rattle.vs_flatcode.specs.Changes.{store_behind, changes_of}
 use Rattle.vs_flatcode.specs.Extras.{format_in, starts_in}
 use Rattle.vs_flatcode.specs.Places.{Todo, flat, perform}
-use Rattle.vs_flatcode.specs.Steps.{Next, Out, step, statement_step, branch, first_of, flat_item, repeated, item_matches, is_default, turns_for}
-use Rattle.vs_flatcode.specs.Links.{Link, todo_at, item_of}
-use Rattle.vs_flatcode.specs.Codes.{Layout, IsCode, IsTurn, LeadAll, FitsStatement, FitsTask, IsFormatOf, IsFormatFor, links_of, link_of, layout_of, job_of}
-use Rattle.vs_flatcode.specs.Landings.{Landing, landing, out_of, made_out, item_write, IsMade, turned, start_where, place_or, layer_lands, lands, todo_behind}
+use Rattle.vs_flatcode.specs.Steps.{Next, Out, on, goes, has_nothing, step, statement_step, branch, first_of, flat_item, repeated, item_matches, is_default, turns_for}
+use Rattle.vs_flatcode.specs.Links.{Job, Link, performs, todo_at, todo_from, todo_within, item_of}
+use Rattle.vs_flatcode.specs.Went.{CalmSteps, CalmlyTo, IsCalmStep, QuietSteps, TookStep}
+use Rattle.vs_flatcode.specs.Codes.{Layout, todo_in, IsCode, IsTurn, LeadAll, FitsStatement, FitsTask, IsFormatOf, IsFormatFor, links_of, link_of, layout_of, job_of}
+use Rattle.vs_flatcode.specs.Landings.{Landing, landing, out_of, next_of, effect_in, made_out, item_write, IsMade, IsStill, turned, start_where, place_or, layer_lands, lands, todo_behind}
 use Rattle.vs_flatcode.proofs.Links.{todo_here}
 use Rattle.vs_flatcode.proofs.Drafts.{link_here}
 
@@ -165,6 +169,100 @@ pub own_write : (out : Out) (next : Next) (effect : Effect) (w : Option Write) �
 own_write out next effect w e =
     let same : w ≡ out.write = sym (ap (λ (o : Out). o.write) e ∙ made_write next effect w) in
     (e ∙ ap (λ (v : Option Write). out_of next v effect) same, same)
+
+-- a step of the code at a place took the step of the process there
+pub took_step : (ops : List Op) (cs counters : List ℕ) (place i next : ℕ) (x : Op) (store behind : Store) (time : ℕ) (halt : Halt) (effect : Effect) (changes all : List Change) →
+    IsCode ops (length cs) → place ≡ suc i → slice_get ops i ≡ Some x → landing next counters ≡ lands x x.task cs store time → IsMade (item_of cs (job_of x.counter x.task)) store time halt effect →
+    let w : Option Write = item_write (item_of cs (job_of x.counter x.task)) store time in
+    IsStill halt w → behind ≡ store_behind store w → all ≡ changes ++ changes_of store w →
+    TookStep (todo_in ops cs place) store time halt (todo_in ops counters next) effect behind changes all
+took_step ops cs counters place i next x store behind time halt effect changes all code at e l m still written noted =
+    let here : Todo = todo_in ops cs place in
+    let there : Todo = todo_in ops counters next in
+    let w : Option Write = item_write (item_of cs (job_of x.counter x.task)) store time in
+    let own : (step here store time ≡ made_out halt effect (step here store time).write there) × (w ≡ (step here store time).write) =
+    own_write (step here store time) (next_of halt there) (effect_in halt effect) w (stepped ops cs place i x store time halt effect next counters code at e l m)
+    in
+    record {
+      out = own.0;
+      still = subst (IsStill halt) own.1 still;
+      written = written ∙ ap (store_behind store) own.1;
+      noted = noted ∙ ap (λ (v : Option Write). changes ++ changes_of store v) own.1;
+    }
+
+-- a calm step at a place
+pub calm_there : (ops : List Op) (cs : List ℕ) (place i : ℕ) (x : Op) (task : Task) (s : Statement) (store : Store) (time : ℕ) (halt : Halt) → IsCode ops (length cs) → place ≡ suc i → slice_get ops i ≡ Some x →
+    x.task ≡ task → job_of x.counter task ≡ performs s → lands x task cs store time ≡ landing x.first cs →
+    ((rest : Todo) → let out = step (perform s ∷ rest) store time in out ≡ goes (next_of halt (todo_behind out.next))) → IsCalmStep (todo_in ops cs place) store time halt (todo_in ops cs x.first)
+calm_there ops cs place i x task s store time halt code at e is job leads calm =
+    let f = follows ops cs i x store time code e in
+    let here : todo_in ops cs place ≡ perform s ∷ todo_in ops cs x.behind =
+    ap (todo_in ops cs) at ∙ f.0 ∙ ap (λ (j : Job). item_of cs j ∷ todo_in ops cs x.behind) (ap (job_of x.counter) is ∙ job)
+    in
+    let behind : todo_behind (step (todo_in ops cs place) store time).next ≡ todo_in ops cs x.first =
+    ap (λ (p : ℕ). todo_behind (step (todo_in ops cs p) store time).next) at
+    ∙ f.1 ∙ ap (λ (l : Landing). todo_in ops l.counters l.place) (ap (λ (t : Task). lands x t cs store time) is ∙ leads)
+    in
+    record {
+      some = ap (λ (t : Todo). has_nothing t) here;
+      out =
+          subst (λ (t : Todo). step t store time ≡ goes (next_of halt (todo_behind (step t store time).next))) (sym here) (calm (todo_in ops cs x.behind))
+          ∙ ap (λ (t : Todo). goes (next_of halt t)) behind;
+    }
+
+-- one more calm step
+pub calm_more : (n : ℕ) (old mid new : Todo) (store : Store) (time : ℕ) (halt : Halt) → CalmSteps n old store time mid → IsCalmStep mid store time halt new → halt ≡ h.Nothing →
+    CalmSteps (n + 1) old store time new
+calm_more n old mid new store time halt before calm is =
+    let all : CalmSteps (suc n) old store time new = (mid, before, subst (λ (k : Halt). IsCalmStep mid store time k new) is calm) in
+    let more : suc n ≡ n + 1 = omega arith in
+    subst (λ (k : ℕ). CalmSteps k old store time new) more all
+
+-- calm steps, and one more that ends so
+pub calmly_more : (n : ℕ) (old mid new : Todo) (store : Store) (time : ℕ) (halt : Halt) → CalmSteps n old store time mid → IsCalmStep mid store time halt new →
+    CalmlyTo (n + 1) old store time halt new
+calmly_more n old mid new store time halt before calm =
+    let all : CalmlyTo (suc n) old store time halt new = (mid, before, calm) in
+    let more : suc n ≡ n + 1 = omega arith in
+    subst (λ (k : ℕ). CalmlyTo k old store time halt new) more all
+
+-- calm steps end with nothing
+pub calmly_so : (n : ℕ) (old new : Todo) (store : Store) (time : ℕ) → CalmSteps n old store time new → CalmlyTo n old store time h.Nothing new
+calmly_so zero old new store time is = (refl, is)
+calmly_so (suc n) old new store time steps = steps
+
+left_from : (cs counters : List ℕ) (rest other : ℕ → Todo) (l : Option Link) → has_nothing (todo_from cs rest l) ≡ has_nothing (todo_from counters other l)
+left_from cs counters rest other None = refl
+left_from cs counters rest other (Some l) = refl
+
+-- whether something is left to do at a place is the same whatever the counters are
+pub left_there : (ops : List Op) (cs counters : List ℕ) (place : ℕ) → has_nothing (todo_in ops cs place) ≡ has_nothing (todo_in ops counters place)
+left_there ops cs counters zero = refl
+left_there ops cs counters (suc i) =
+    left_from cs counters (λ p. todo_within i (links_of ops) cs p) (λ p. todo_within i (links_of ops) counters p) (slice_get (links_of ops) i)
+
+-- a step in a store that is another one's, behind changes that are others
+pub took_in : (mid new : Todo) (here store behind : Store) (time : ℕ) (halt : Halt) (effect : Effect) (so changes all : List Change) → here ≡ store → so ≡ changes →
+    TookStep mid here time halt new effect behind so all → TookStep mid store time halt new effect behind changes all
+took_in mid new here store behind time halt effect so changes all same old took =
+    subst (λ (s : Store). TookStep mid s time halt new effect behind changes all) same (subst (λ (l : List Change). TookStep mid here time halt new effect behind l all) old took)
+
+-- one more step that does nothing beyond the process
+pub quiet_more : (n : ℕ) (old mid new : Todo) (store behind : Store) (time : ℕ) (halt : Halt) (effect : Effect) (changes all : List Change) → QuietSteps n old store time mid →
+    TookStep mid store time halt new effect behind changes all → halt ≡ h.Nothing → has_nothing new ≡ false →
+    QuietSteps (n + 1) old store time new × (behind ≡ store) × (all ≡ changes)
+quiet_more n old mid new store behind time halt effect changes all before took is some =
+    let w : Option Write = (step mid store time).write in
+    let none : w ≡ None = subst (λ (k : Halt). IsStill k w) is took.still in
+    let out : step mid store time ≡ goes (on new) =
+    subst (λ (k : Halt). step mid store time ≡ made_out k effect w new) is took.out ∙ ap (λ (v : Option Write). made_out h.Nothing effect v new) none
+    in
+    let steps : QuietSteps (suc n) old store time new = (mid, before, record { out = out; some = some }) in
+    let more : suc n ≡ n + 1 = omega arith in (
+      subst (λ (k : ℕ). QuietSteps k old store time new) more steps,
+      took.written ∙ ap (store_behind store) none,
+      took.noted ∙ ap (λ (v : Option Write). changes ++ changes_of store v) none ∙ append-nil changes,
+    )
 
 format_of_statement : (c : Layout) (x : Op) (here : ℕ) (s : Statement) (f : Statement-F Statement) → FitsStatement c x here s f → IsFormatOf (format_in x) f
 format_of_statement c x here s (Statement-F.Null n) h = tt

@@ -11,7 +11,7 @@ use Rattle.vs_flatcode.specs.declared.draft.Op.{Op}
 use Rattle.vs_flatcode.specs.declared.draft.Task.{Task}
 use Rattle.vs_flatcode.specs.declared.draft.Task.TheVariants as t
 use Rattle.vs_flatcode.specs.Extras.{format_in, starts_in}
-use Rattle.vs_flatcode.specs.Places.{turns, flat}
+use Rattle.vs_flatcode.specs.Places.{Todo, turns, flat}
 use Rattle.vs_flatcode.specs.Links.{Job, performs, tests, Link, todo_at, AreLinked, Leads}
 use Rattle.vs_flatcode.specs.Numbers.{AllStand}
 
@@ -27,6 +27,10 @@ link_of x = record { job = job_of x.counter x.task; behind = x.behind }
 -- the places of a code
 abbrev pub links_of : List Op → List Link
 links_of ops = map link_of ops
+
+-- what a process at a place of a code, with these counters, still has to do
+abbrev pub todo_in : List Op → List ℕ → ℕ → Todo
+todo_in ops counters place = todo_at (links_of ops) counters place
 
 -- the places of a code, and how many counters it has
 pub record Layout : Type 0 where

@@ -117,10 +117,10 @@ effect_in _ effect = e.Nothing
 abbrev pub made_out : Halt → Effect → Option Write → Todo → Out
 made_out halt effect w todo = out_of (next_of halt todo) w (effect_in halt effect)
 
--- a step that has done nothing beyond the process has written nothing
+-- a step that ends otherwise than with a write has written nothing
 abbrev pub IsStill : Halt → Option Write → Type 0
-IsStill h.Nothing w = w ≡ None
-IsStill _ w = Unit {0}
+IsStill h.Wrote w = Unit {0}
+IsStill _ w = w ≡ None
 
 -- what the step of a statement writes, by its outermost layer: a blocking assignment writes (clause 9.2.1)
 abbrev pub layer_write : Statement-F Statement → Store → ℕ → Option Write

@@ -9,3 +9,4 @@ pub mod Numbers
 pub mod Places
 pub mod Steps
 pub mod Ways
+pub mod Went

@@ -1,15 +1,19 @@
 //! Where a process stands in its flat code.
-ghost use Rattle.std.specs.Prelude.{◌≡◌, ◌++◌, slice_set, IfOk, OnOk, OnErr, MatchOption, true};
+ghost use Rattle.std.specs.Prelude.{◌≡◌, ◌<◌, ◌≤◌, ◌++◌, ℕ, List, slice_set, length, IfOk, IfSome, OnOk, OnErr, MatchOption, ◌∷◌, true, false};
 ghost use Rattle.vs_design.specs.declared.statement.Statement.TheViews.{out-Statement};
+ghost use Rattle.vs_flatcode.specs.declared.draft.Op.{Op};
 ghost use Rattle.vs_flatcode.specs.declared.made.Effect.TheVariants as Effect;
+ghost use Rattle.vs_flatcode.specs.declared.made.Halt.TheVariants as h;
 ghost use Rattle.vs_eval.specs.Targets.{assigned};
 ghost use Rattle.vs_flatcode.specs.Changes.{store_behind, changes_of};
-ghost use Rattle.vs_flatcode.specs.Places.{perform, flat};
-ghost use Rattle.vs_flatcode.specs.Steps.{assignment, step, has_nothing};
+ghost use Rattle.vs_flatcode.specs.Places.{Todo, perform, flat};
+ghost use Rattle.vs_flatcode.specs.Steps.{assignment, goes, has_nothing, step};
 ghost use Rattle.vs_flatcode.specs.Links.{item_of};
 ghost use Rattle.vs_flatcode.specs.Extras.{format_of, starts_of, format_in};
-ghost use Rattle.vs_flatcode.specs.Codes.{job_of, StandsAt, IsEnd, IsFormatOf, IsFormatFor};
-ghost use Rattle.vs_flatcode.specs.Landings.{landing, turned, statement_lands, lands, made_out, item_write, IsMade, IsStill, IsCallMade, MakesUpdate};
+ghost use Rattle.vs_flatcode.specs.Codes.{job_of, todo_in, IsCode, StandsAt, IsEnd, IsFormatOf, IsFormatFor};
+ghost use Rattle.vs_flatcode.specs.Went.{CalmlyTo, TookStep, TookSteps};
+ghost use Rattle.vs_design.specs.Stores as stores;
+ghost use Rattle.vs_flatcode.specs.Landings.{landing, next_of, todo_behind, turned, statement_lands, lands, item_write, IsMade, IsStill, IsCallMade, MakesUpdate};
 
 use crate::changes::{Change, assign, only_part};
 use crate::choices::{branch, loop_branch, start_taken, turns_for};
@@ -37,14 +41,13 @@ impl<'a> Model for Cursor<'a> {
     ghost use Rattle.std.specs.Coded.{codes};
     ghost use Rattle.vs_design.specs.contracts.statement.Statement as statement;
     ghost use Rattle.vs_flatcode.specs.Places.{Todo};
-    ghost use Rattle.vs_flatcode.specs.Links.{todo_at};
-    ghost use Rattle.vs_flatcode.specs.Codes.{links_of, IsCode};
+    ghost use Rattle.vs_flatcode.specs.Codes.{todo_in, IsCode};
 
     ghost Value = { Todo };
 
     ghost coded = { Prim.hlevel (codes, statement.the_row.coded) };
 
-    ghost view = { λ c. todo_at (links_of c.ops.now) c.counters.items c.place };
+    ghost view = { λ c. todo_in c.ops.now c.counters.items c.place };
 
     ghost invariant = { λ c. IsCode c.ops.now (length c.counters.items) };
 }
@@ -61,6 +64,28 @@ fn op_at<'a>(ops: &'a [Op<'a>], place: usize) -> Option<&'a Op<'a>>
         return None;
     }
     Some(&ops[place - 1])
+}
+
+// Whether a place is the end.
+#[inline(always)]
+fn is_end<'a>(ops: &'a [Op<'a>], place: usize) -> bool
+    ensures { (counters : List ℕ) → result ≡ has_nothing (todo_in ops.now counters place) }
+{
+    match op_at(ops, place) {
+        Some(_) => false,
+        None => true,
+    }
+}
+
+// Whether a step has done nothing beyond the process.
+#[inline(always)]
+fn is_still(halt: Halt) -> bool
+    ensures { result ≡ true → halt.entry ≡ h.Nothing }
+{
+    match halt {
+        Halt::Nothing => true,
+        _ => false,
+    }
 }
 
 // Sets a counter.
@@ -262,6 +287,127 @@ fn run<'a>(
     }
 }
 
+// The step at a place of a code, which may be its end: how it ends, and where it leads.
+#[inline(always)]
+fn step<'a>(
+    alloc: Global,
+    ops: &'a [Op<'a>],
+    counters: &mut Vec<u64>,
+    place: usize,
+    store: &mut Store,
+    time: u64,
+    changes: &mut Vec<Change>,
+    effect: &mut Effect<'a>,
+) -> Result<(Halt<'a>, usize), AllocError>
+    requires code { IsCode ops.now (length counters.old.items) }
+    ensures code { IsCode ops.entry.now (length counters.new.items) }
+    ensures ok { IfOk result (λ r. TookStep (todo_in ops.entry.now counters.old.items place) store.old time r.0
+        (todo_in ops.entry.now counters.new.items r.1) effect.new store.new changes.old.items changes.new.items) }
+    ensures store_kept { OnErr result (store.new ≡ store.old) }
+{
+    let Some(op) = op_at(ops, place) else {
+        return Ok((Halt::Nothing, place));
+    };
+    let (halt, next) = run(alloc, op, counters, store, time, changes, effect)?;
+    Ok((halt, next))
+}
+
+// Whether a step has an effect.
+#[inline(always)]
+fn is_made(halt: Halt) -> bool
+    ensures { result ≡ true → halt.entry ≡ h.Made }
+{
+    match halt {
+        Halt::Made => true,
+        _ => false,
+    }
+}
+
+// How the step of a statement ends that neither reads nor writes the store, nor has an effect, and leads to the first place of its instruction: of these
+// statements, `forever` and the timing controls.
+#[inline(always)]
+fn calm<'a>(s: &'a Statement) -> Option<Halt<'a>>
+    ensures lands { IfSome result (λ halt. (x : Op) (cs : List ℕ) (store : stores.Store) (time : ℕ)
+        → statement_lands x s.entry.now cs store time ≡ landing x.first cs) }
+    ensures calm { IfSome result (λ halt. (rest : Todo) (store : stores.Store) (time : ℕ)
+        → let out = step (perform s.entry.now ∷ rest) store time in out ≡ goes (next_of halt (todo_behind out.next))) }
+{
+    match s {
+        Statement::Forever(_, _) => Some(Halt::Nothing),
+        Statement::Delay(n, ticks, _) => Some(Halt::Delay(*n, *ticks)),
+        Statement::Event(n, terms, _) => Some(Halt::Wait(*n, terms)),
+        _ => None,
+    }
+}
+
+// Steps from a place of a code on that neither read nor write the store nor have an effect, one after another while the process is active, at most so
+// many, which may be none: how the last one ends, where it leads, and how many they are.
+#[inline(always)]
+fn coast<'a>(ops: &'a [Op<'a>], from: usize, limit: u64) -> (Halt<'a>, usize, u64)
+    ensures within { result.2 ≤ limit }
+    ensures calm { (cs : List ℕ) (store : stores.Store) (time : ℕ) → IsCode ops.entry.now (length cs)
+        → CalmlyTo result.2 (todo_in ops.entry.now cs from) store time result.0 (todo_in ops.entry.now cs result.1) }
+{
+    let mut place = from;
+    let mut steps = 0;
+    while steps < limit {
+        let Some(op) = op_at(ops, place) else {
+            break;
+        };
+        let Task::Perform(s) = op.task else {
+            break;
+        };
+        let Some(halt) = calm(s) else {
+            break;
+        };
+        place = op.first;
+        steps += 1;
+        if !is_still(halt) {
+            return (halt, place, steps);
+        }
+    }
+    (Halt::Nothing, place, steps)
+}
+
+// Steps from a place of a code on, one after another while they do nothing beyond the process and it has something left to do, and where the last of
+// these has an effect, those that `coast` takes behind it, at most so many in all: how that step ends, how the last one ends, where it leads, and how many
+// they are.
+#[inline(always)]
+fn glide<'a>(
+    alloc: Global,
+    ops: &'a [Op<'a>],
+    counters: &mut Vec<u64>,
+    from: usize,
+    store: &mut Store,
+    time: u64,
+    changes: &mut Vec<Change>,
+    effect: &mut Effect<'a>,
+    limit: u64,
+) -> Result<(Halt<'a>, Halt<'a>, usize, u64), AllocError>
+    requires code { IsCode ops.now (length counters.old.items) }
+    requires limit { 0 < limit }
+    ensures code { IsCode ops.entry.now (length counters.new.items) }
+    ensures within { IfOk result (λ r. r.3 ≤ limit) }
+    ensures ok { IfOk result (λ r. TookSteps r.3 (todo_in ops.entry.now counters.old.items from) store.old time r.0 r.1
+        (todo_in ops.entry.now counters.new.items r.2) effect.new store.new changes.old.items changes.new.items) }
+    ensures store_kept { OnErr result (store.new ≡ store.old) }
+{
+    let mut place = from;
+    let mut steps = 0;
+    loop {
+        let (halt, next) = step(alloc, ops, counters, place, store, time, changes, effect)?;
+        place = next;
+        steps += 1;
+        if steps == limit || !is_still(halt) || is_end(ops, place) {
+            if !is_made(halt) {
+                return Ok((halt, halt, place, steps));
+            }
+            let (last, behind, more) = coast(ops, place, limit - steps);
+            return Ok((halt, last, behind, steps + more));
+        }
+    }
+}
+
 impl<'a> Cursor<'a> {
     /// The start of a process with this code.
     pub fn start(alloc: Global, code: &'a Code<'a>) -> Result<Self, AllocError>
@@ -281,38 +427,44 @@ impl<'a> Cursor<'a> {
     pub fn is_empty(&self) -> bool
         ensures { result ≡ has_nothing self.now }
     {
-        match op_at(self.ops, self.place) {
-            Some(_) => false,
-            None => true,
-        }
+        is_end(self.ops, self.place)
     }
 
-    /// One step of the process (IEEE 1364-2005, clauses 9.2 and 9.4 to 9.7) at `time`, in ticks: how it ends, and where it has an effect, this in
-    /// `effect`, which otherwise may hold any. The write of a blocking assignment is made in the store, and the words that it changes go to
-    /// `changes`. Without memory the process stands where it stood, and the store is as it was.
+    /// Steps of the process (IEEE 1364-2005, clauses 9.2 and 9.4 to 9.7) at `time`, in ticks, one after another while they do nothing beyond it and it
+    /// has something left to do, and where the last of these has an effect, the turns of `forever` and the timing control behind it, at most so many in
+    /// all: how that step ends, how the last one ends, and how many they are. Where it has an effect, this stands in `effect`, which otherwise may hold any.
+    /// The write of a blocking assignment is made in the store, and the words that it changes go to `changes`. Without memory the process has something
+    /// left to do still, and the store is as it was.
     #[inline(always)]
-    pub fn step(
+    pub fn steps(
         &mut self,
         alloc: Global,
         store: &mut Store,
         time: u64,
         changes: &mut Vec<Change>,
         effect: &mut Effect<'a>,
-    ) -> Result<Halt<'a>, AllocError>
-        ensures ok { IfOk result (λ halt. step self.old store.old time
-            ≡ made_out halt effect.new (step self.old store.old time).write self.new) }
-        ensures still { IfOk result (λ halt. IsStill halt (step self.old store.old time).write) }
-        ensures store { OnOk result (store.new ≡ store_behind store.old (step self.old store.old time).write) }
-        ensures changes { OnOk result (changes.new.items
-            ≡ changes.old.items ++ changes_of store.old (step self.old store.old time).write) }
-        ensures process_kept { OnErr result (self.new ≡ self.old) }
+        limit: u64,
+    ) -> Result<(Halt<'a>, Halt<'a>, u64), AllocError>
+        requires some { has_nothing self.old ≡ false }
+        requires limit { 0 < limit }
+        ensures within { IfOk result (λ r. r.2 ≤ limit) }
+        ensures ok { IfOk result (λ r. TookSteps r.2 self.old store.old time r.0 r.1 self.new
+            effect.new store.new changes.old.items changes.new.items) }
+        ensures some { OnErr result (has_nothing self.new ≡ false) }
         ensures store_kept { OnErr result (store.new ≡ store.old) }
     {
-        let Some(op) = op_at(self.ops, self.place) else {
-            return Ok(Halt::Nothing);
-        };
-        let (halt, place) = run(alloc, op, &mut self.counters, store, time, changes, effect)?;
+        let (halt, last, place, steps) = glide(
+            alloc,
+            self.ops,
+            &mut self.counters,
+            self.place,
+            store,
+            time,
+            changes,
+            effect,
+            limit,
+        )?;
         self.place = place;
-        Ok(halt)
+        Ok((halt, last, steps))
     }
 }

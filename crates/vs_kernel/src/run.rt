@@ -2,7 +2,7 @@
 //!
 //! What a turn calls in one place alone has no hint: the compiler inlines it by itself into the loop, and it heeds the hints of `turn` and `take`
 //! only while these are small with all that is hinted in them.
-ghost use Rattle.std.specs.Prelude.{◌≡◌, [], ◌<◌, ◌≤◌, ◌*◌, ◌^◌, ◌++◌, ℕ, false, true, Some, None, List, Option, length, map, IfOk, OnOk, OnErr, MatchOption};
+ghost use Rattle.std.specs.Prelude.{◌≡◌, [], ◌<◌, ◌≤◌, ◌*◌, ◌^◌, ◌++◌, ℕ, false, true, Some, None, List, Option, length, map, IfOk, OnOk, OnErr};
 ghost use Rattle.std.specs.Io.KnownBytes.{Appends};
 ghost use Rattle.vs_design.specs.Parts.{Parts};
 ghost use Rattle.vs_design.specs.Traces.{Slot};
@@ -232,7 +232,7 @@ fn take_one<'a, Q: EventQueue<Item>, V: Sink, L: Sink>(
     requires covers { CoversNoted marks.old.items writer.old state.old.store }
     ensures covers { OnOk result ((d : Parts) (slots : List Slot) → HasNoted writer.new (V.bytes vcd.new) d slots
         → length d.signals < 512 * length marks.old.items → CoversNoted marks.new.items writer.new state.new.store) }
-    ensures len { length marks.new.items ≡ length marks.old.items }
+    ensures len { OnOk result (length marks.new.items ≡ length marks.old.items) }
     ensures one { IfOk result (λ taken. taken ≡ 1) }
     ensures ok { IfOk result (λ taken. Took taken next.choice state.old state.new writer.old writer.new
         (V.bytes vcd.old) (V.bytes vcd.new) (L.bytes lines.old) (L.bytes lines.new)) }
@@ -272,7 +272,7 @@ fn take<'a, Q: EventQueue<Item>, V: Sink, L: Sink>(
     requires covers { CoversNoted marks.old.items writer.old state.old.store }
     ensures covers { OnOk result ((d : Parts) (slots : List Slot) → HasNoted writer.new (V.bytes vcd.new) d slots
         → length d.signals < 512 * length marks.old.items → CoversNoted marks.new.items writer.new state.new.store) }
-    ensures len { length marks.new.items ≡ length marks.old.items }
+    ensures len { OnOk result (length marks.new.items ≡ length marks.old.items) }
     ensures some { IfOk result (λ taken. 0 < taken) }
     ensures within { IfOk result (λ taken. taken ≤ steps) }
     ensures ok { IfOk result (λ taken. Took taken next.choice state.old state.new writer.old writer.new
@@ -332,7 +332,7 @@ fn turn<'a, Q: EventQueue<Item>, P: Pick, V: Sink, L: Sink>(
     requires covers { CoversNoted marks.old.items writer.old state.old.store }
     ensures covers { OnOk result ((d : Parts) (slots : List Slot) → HasNoted writer.new (V.bytes vcd.new) d slots
         → length d.signals < 512 * length marks.old.items → CoversNoted marks.new.items writer.new state.new.store) }
-    ensures len { length marks.new.items ≡ length marks.old.items }
+    ensures len { OnOk result (length marks.new.items ≡ length marks.old.items) }
     ensures some { IfOk result (λ taken. 0 < taken.steps) }
     ensures within { IfOk result (λ taken. taken.steps ≤ steps) }
     ensures ok { IfOk result (λ taken. AllTurned taken.steps blocks.now

@@ -15,7 +15,8 @@ use Rattle.vs_flatcode.specs.Places.{Place, Todo, going, sleeping, inactive, wai
 use Rattle.vs_flatcode.specs.Steps.{Next, on, after, wait, step}
 use Rattle.vs_flatcode.specs.declared.changes.Change.{Change}
 use Rattle.vs_flatcode.specs.declared.made.Effect.{Effect}
-use Rattle.vs_process.specs.Effects.{Stepped}
+use Rattle.vs_flatcode.specs.declared.made.Effect.TheVariants.{Nothing}
+use Rattle.vs_process.specs.Effects.{AreCalm, Stepped}
 use Rattle.vs_process.proofs.Lists.{set_same}
 use Rattle.vs_process.specs.Executions.{if_some, earlier, next_wake}
 use Rattle.vs_process.specs.States.{roused, woken_at, due_of, place_behind, paused, triggered}
@@ -221,12 +222,17 @@ kept_behind {ps} {qs} {ns} {bag} h p to active set = by_place (slice_get ps p) r
     by_place None here e = cc
     by_place (Some x) here e = kept_but h p x to here e set
 
+-- the delay that begins in calm steps
+calm_due : (more : ℕ) (next to : Place) (store : Store) (time : ℕ) → AreCalm more next store time to → ((due : ℕ) → due_of next ≡ Some due → time ≤ due) → (due : ℕ) → due_of to ≡ Some due → time ≤ due
+calm_due zero next to store time same before due e = before due (ap due_of (sym same) ∙ e)
+calm_due (suc n) next to store time steps before due e = stepped_due steps.0 to store time Nothing steps.2.stepped due e
+
 pub late_behind : {steps : ℕ} {effect : Effect} {behind : Store} {changes all : List Change} (ps qs : List Place) (p : ℕ) (store : Store) (time : ℕ) → WentAt steps ps p store time qs effect behind changes all →
     ForSome (slice_get qs p) (λ place. ForSome (due_of place) (λ due. time ≤ due))
 late_behind {steps} {effect} ps qs p store time h place is due e =
     let there : slice_get qs p ≡ Some h.to = ap (λ (l : List Place). slice_get l p) h.set ∙ set_same ps p h.from h.to h.here in
     let same : place ≡ h.to = some_place place h.to (sym is ∙ there) in
-    stepped_due h.went.mid h.to store time effect h.went.stepped due (ap due_of (sym same) ∙ e)
+    calm_due h.went.more h.went.next h.to _ time h.went.calm (λ d. stepped_due h.went.mid h.went.next store time effect h.went.stepped d) due (ap due_of (sym same) ∙ e)
   where
     some_place : (x y : Place) → Some x ≡ Some y → x ≡ y
     some_place x y e = cc

@@ -42,7 +42,7 @@ pub record StepsAt (old : List Place) (process : ℕ) (store : Store) (time : �
   pub stepped : Stepped from store time to effect
   pub set : new ≡ slice_set old process to
 
--- an active process took so many steps, of which all but the last do nothing beyond it
+-- an active process took so many steps, of which one may have an effect
 pub record WentAt (steps : ℕ) (old : List Place) (process : ℕ) (store : Store) (time : ℕ) (new : List Place) (effect : Effect) (behind : Store) (changes all : List Change) : Type 0 where
   pub from : Place
   pub to : Place

@@ -126,9 +126,8 @@ impl<'a> Places<'a> {
         active_process(&self.items)
     }
 
-    /// Steps of an active process at `time`, in ticks, one after another while they do nothing beyond it and it stays active, at most so many: the write
-    /// of the last one is made in the store, and the words that it changes go to `changes`. Without memory the process is still active, and the store is
-    /// as it was.
+    /// Steps of an active process at `time`, in ticks, at most so many, as `Place::steps` takes them: the write of a blocking assignment is made in the
+    /// store, and the words that it changes go to `changes`. Without memory the process is still active, and the store is as it was.
     #[inline(always)]
     pub(crate) fn steps(
         &mut self,

@@ -214,8 +214,8 @@ impl<'a, Q: EventQueue<Item>> Processes<'a, Q> {
         self.regions.next_time()
     }
 
-    /// Steps of an active process, one after another while they do nothing beyond it and it stays active, at most so many: the write of the last one is
-    /// made in the store, and the words that it changes go to `changes`.
+    /// Steps of an active process, at most so many, as `Place::steps` takes them: the write of a blocking assignment is made in the store, and the words
+    /// that it changes go to `changes`.
     #[inline(always)]
     pub fn steps(
         &mut self,

@@ -1,10 +1,11 @@
 -- Lemmas on what the code answers of a step, and of steps one after another.
-use Rattle.std.proofs.Common.{◌≡◌, ℕ, suc, ◌+◌, ◌++◌, true, false, Option, None, Result, Ok, Err, List, [], ◌∷◌, refl, sym, subst, ap, ◌∙◌, arith}
+use Rattle.std.proofs.Common.{◌≡◌, ℕ, zero, suc, ◌++◌, true, false, ◌<◌, ◌⊎◌, inl, inr, Option, None, Result, Ok, Err, List, [], ◌∷◌, refl, sym, subst, ap, ◌∙◌, arith}
 use Rattle.std.specs.Result.{OnErr}
 use Rattle.vs_design.specs.Stores.{Store}
 use Rattle.vs_design.specs.Writes.{Write}
 use Rattle.vs_flatcode.specs.declared.changes.Change.{Change}
 use Rattle.vs_flatcode.specs.declared.gait.Gait.{Gait}
+use Rattle.vs_flatcode.specs.declared.gait.Gait.TheVariants.{Fresh, Woken, Inside}
 use Rattle.vs_flatcode.specs.declared.made.Effect.{Effect}
 use Rattle.vs_flatcode.specs.declared.made.Effect.TheVariants as e
 use Rattle.vs_flatcode.specs.declared.made.Halt.{Halt}
@@ -12,8 +13,9 @@ use Rattle.vs_flatcode.specs.declared.made.Halt.TheVariants as h
 use Rattle.vs_flatcode.specs.Changes.{store_behind, changes_of}
 use Rattle.vs_flatcode.specs.Landings.{IsStill, effect_in, out_of, next_of, made_out}
 use Rattle.vs_flatcode.specs.Places.{Todo, Place, active_at, going, is_going, stepped_gait, todo_of}
-use Rattle.vs_flatcode.specs.Steps.{Next, has_nothing, step}
-use Rattle.vs_process.specs.Effects.{Glides, IsStillStep, Leads, Stepped, Went, WentOn}
+use Rattle.vs_flatcode.specs.Steps.{Next, Out, has_nothing, step}
+use Rattle.vs_flatcode.specs.Went.{CalmSteps, CalmlyTo, IsCalmStep, IsQuietStep, QuietSteps, TookSteps}
+use Rattle.vs_process.specs.Effects.{AreCalm, Glides, IsCalm, IsStillStep, Leads, Stepped, Went}
 use Rattle.vs_process.specs.States.{place_behind}
 
 -- a step that leads somewhere with an effect leads there
@@ -61,41 +63,134 @@ pub something_left : (gait : Gait) (todo : Todo) → is_going (active_at gait to
 something_left gait [] active = cc
 something_left gait (i ∷ todo) active = refl
 
--- a step that ends with nothing done beyond the process
-still_step : (gait : Gait) (todo rest : Todo) (store : Store) (time : ℕ) (halt : Halt) (effect : Effect) → halt ≡ h.Nothing → is_going (active_at gait todo) ≡ true →
-    step todo store time ≡ made_out halt effect (step todo store time).write rest → IsStill halt (step todo store time).write → has_nothing rest ≡ false →
+-- a step that does nothing beyond the process and leaves it something to do
+still_step : (gait : Gait) (todo rest : Todo) (store : Store) (time : ℕ) → is_going (active_at gait todo) ≡ true → IsQuietStep todo store time rest →
     IsStillStep (active_at gait todo) store time (active_at (stepped_gait gait) rest)
-still_step gait todo rest store time halt effect is active out still some =
-    let w : Option Write = (step todo store time).write in
-    let nothing : step todo store time ≡ made_out h.Nothing effect w rest = subst (λ (k : Halt). step todo store time ≡ made_out k effect w rest) is out in
-    let none : w ≡ None = subst (λ (k : Halt). IsStill k w) is still in
+still_step gait todo rest store time active quiet = record {
+  stepped = place_steps gait todo rest store time h.Nothing None (active_at (stepped_gait gait) rest) e.Nothing active quiet.out refl;
+  still = sym (place_writes gait todo store time) ∙ ap (λ (o : Out). o.write) quiet.out;
+  going = going_on (stepped_gait gait) rest quiet.some;
+}
+
+-- the gait behind so many steps
+abbrev gait_behind : ℕ → Gait → Gait
+gait_behind zero gait = gait
+gait_behind (suc n) gait = stepped_gait gait
+
+steady : (n : ℕ) (gait : Gait) → stepped_gait (gait_behind n gait) ≡ stepped_gait gait
+steady zero gait = refl
+steady (suc n) Fresh = refl
+steady (suc n) Woken = refl
+steady (suc n) Inside = refl
+
+-- where a step leads, however many were taken before it
+leads_same : (n : ℕ) (gait : Gait) (todo rest : Todo) (time : ℕ) (halt : Halt) →
+    place_behind (going gait todo) time (next_of halt rest) ≡ place_behind (going (gait_behind n gait) todo) time (next_of halt rest)
+leads_same n gait todo rest time h.Nothing = ap (λ (g : Gait). active_at g rest) (sym (steady n gait))
+leads_same n gait todo rest time h.Wrote = ap (λ (g : Gait). active_at g rest) (sym (steady n gait))
+leads_same n gait todo rest time h.Made = ap (λ (g : Gait). active_at g rest) (sym (steady n gait))
+leads_same n gait todo rest time (h.Delay number ticks) = refl
+leads_same n gait todo rest time (h.Wait number terms) = refl
+
+-- steps that do nothing beyond the process, by its places
+glides : (n : ℕ) (gait : Gait) (todo mid : Todo) (store : Store) (time : ℕ) → is_going (active_at gait todo) ≡ true → QuietSteps n todo store time mid →
+    Glides n (active_at gait todo) store time (active_at (gait_behind n gait) mid) × (is_going (active_at (gait_behind n gait) mid) ≡ true)
+glides zero gait todo mid store time active is = (ap (active_at gait) is, subst (λ (t : Todo). is_going (active_at gait t) ≡ true) (sym is) active)
+glides (suc n) gait todo mid store time active (between, before, quiet) =
+    let last : Place = active_at (gait_behind n gait) between in
+    let early : Glides n (active_at gait todo) store time last × (is_going last ≡ true) = glides n gait todo between store time active before in
+    let still : IsStillStep last store time (active_at (stepped_gait (gait_behind n gait)) mid) = still_step (gait_behind n gait) between mid store time early.1 quiet in (
+      (last, early.0, subst (λ (g : Gait). IsStillStep last store time (active_at g mid)) (steady n gait) still),
+      going_on (stepped_gait gait) mid quiet.some,
+    )
+
+-- the write of no step
+no_write : (gait : Gait) (todo : Todo) (store : Store) (time : ℕ) (halt : Halt) (rest : Todo) → IsCalmStep todo store time halt rest → (step (todo_of (active_at gait todo)) store time).write ≡ None
+no_write gait todo store time halt rest calm = sym (place_writes gait todo store time) ∙ ap (λ (o : Out). o.write) calm.out
+
+no_effect : (halt : Halt) → effect_in halt e.Nothing ≡ e.Nothing
+no_effect h.Nothing = refl
+no_effect h.Wrote = refl
+no_effect h.Made = refl
+no_effect (h.Delay number ticks) = refl
+no_effect (h.Wait number terms) = refl
+
+-- a step with no effect by the place of its process
+calm_step : (gait : Gait) (todo rest : Todo) (store : Store) (time : ℕ) (halt : Halt) (new : Place) → IsCalmStep todo store time halt rest → new ≡ place_behind (going gait todo) time (next_of halt rest) →
+    IsCalm (active_at gait todo) store time new
+calm_step gait todo rest store time halt new calm leads = record {
+  going = going_on gait todo calm.some;
+  stepped = subst (Stepped (active_at gait todo) store time new) (no_effect halt)
+      (place_steps gait todo rest store time halt None new e.Nothing (going_on gait todo calm.some) (calm.out ∙ ap (out_of (next_of halt rest) None) (sym (no_effect halt))) leads);
+  still = no_write gait todo store time halt rest calm;
+}
+
+-- calm steps of a process that has taken a step, by its places
+calms : (n : ℕ) (gait : Gait) (todo rest : Todo) (store : Store) (time : ℕ) → CalmSteps n todo store time rest →
+    AreCalm n (active_at (stepped_gait gait) todo) store time (active_at (stepped_gait gait) rest)
+calms zero gait todo rest store time is = ap (active_at (stepped_gait gait)) is
+calms (suc n) gait todo rest store time (mid, before, calm) = (
+  active_at (stepped_gait gait) mid,
+  calms n gait todo mid store time before,
+  calm_step (stepped_gait gait) mid rest store time h.Nothing (active_at (stepped_gait gait) rest) calm (sym (ap (λ (g : Gait). active_at g rest) (steady 1 gait))),
+)
+
+-- the same, where the last one may meet a timing control
+calms_to : (n : ℕ) (gait : Gait) (todo rest : Todo) (store : Store) (time : ℕ) (halt : Halt) (new : Place) → CalmlyTo n todo store time halt rest →
+    ((t : Todo) → new ≡ place_behind (going gait t) time (next_of halt rest)) → AreCalm n (active_at (stepped_gait gait) todo) store time new
+calms_to zero gait todo rest store time halt new (is, same) leads =
+    leads [] ∙ ap (λ (k : Halt). place_behind (going gait []) time (next_of k rest)) is ∙ ap (active_at (stepped_gait gait)) same
+calms_to (suc n) gait todo rest store time halt new (mid, before, calm) leads = (
+  active_at (stepped_gait gait) mid,
+  calms n gait todo mid store time before,
+  calm_step (stepped_gait gait) mid rest store time halt new calm (leads mid ∙ leads_same 1 gait mid rest time halt),
+)
+
+-- steps of a process by its places, of which the one that is seen leads there
+went_by : (steps : ℕ) (gait : Gait) (todo rest : Todo) (store behind : Store) (time : ℕ) (halt last : Halt) (old next new : Place) (effect made : Effect) (changes all : List Change) →
+    active_at gait todo ≡ old → is_going (active_at gait todo) ≡ true → (h : TookSteps steps todo store time halt last rest effect behind changes all) → made ≡ effect_in halt effect →
+    next ≡ place_behind (going (gait_behind h.before gait) h.mid) time (next_of halt h.next) → AreCalm h.more next behind time new → (0 < h.more → (step h.mid store time).write ≡ None) →
+    Went steps old store time new made behind changes all
+went_by steps gait todo rest store behind time halt last old next new effect made changes all here active h is leads calm none =
+    let gait_there : Gait = gait_behind h.before gait in
+    let mid : Place = active_at gait_there h.mid in
+    let early : Glides h.before (active_at gait todo) store time mid × (is_going mid ≡ true) = glides h.before gait todo h.mid store time active h.quiet in
+    let same : (step h.mid store time).write ≡ (step (todo_of mid) store time).write = place_writes gait_there h.mid store time in
     record {
-      stepped = place_steps gait todo rest store time h.Nothing w (active_at (stepped_gait gait) rest) effect active nothing refl;
-      still = sym (place_writes gait todo store time) ∙ none;
-      going = going_on (stepped_gait gait) rest some;
+      before = h.before;
+      more = h.more;
+      count = h.count;
+      mid = mid;
+      next = next;
+      still = subst (λ (p : Place). Glides h.before p store time mid) here early.0;
+      stepped = subst (Stepped mid store time next) (sym is) (place_steps gait_there h.mid h.next store time halt (step h.mid store time).write next effect early.1 h.took.out leads);
+      written = h.took.written ∙ ap (store_behind store) same;
+      noted = h.took.noted ∙ ap (λ (v : Option Write). changes ++ changes_of store v) same;
+      calm = calm;
+      kept = λ some. sym same ∙ none some;
     }
 
--- one more of them
-pub glides_more : (n : ℕ) (old : Place) (gait : Gait) (todo rest : Todo) (store : Store) (time : ℕ) (halt : Halt) (effect : Effect) → Glides n old store time (active_at gait todo) →
-    halt ≡ h.Nothing → is_going (active_at gait todo) ≡ true → step todo store time ≡ made_out halt effect (step todo store time).write rest → IsStill halt (step todo store time).write →
-    has_nothing rest ≡ false → Glides (n + 1) old store time (active_at (stepped_gait gait) rest)
-glides_more n old gait todo rest store time halt effect before is active out still some =
-    let new : Place = active_at (stepped_gait gait) rest in
-    let all : Glides (suc n) old store time new = (active_at gait todo, before, still_step gait todo rest store time halt effect is active out still some) in
-    let more : suc n ≡ n + 1 = omega arith in
-    subst (λ (k : ℕ). Glides k old store time new) more all
-
 -- steps of a process by its places
-pub went_from : (steps : ℕ) (gait last : Gait) (todo rest : Todo) (store behind : Store) (time : ℕ) (halt : Halt) (old new : Place) (effect made : Effect) (changes all : List Change) →
-    active_at gait todo ≡ old → WentOn steps gait last todo store time halt rest effect behind changes all → ((t : Todo) → new ≡ place_behind (going last t) time (next_of halt rest)) →
-    made ≡ effect_in halt effect → Went steps old store time new made behind changes all
-went_from steps gait last todo rest store behind time halt old new effect made changes all here h leads is = record {
-  before = h.before;
-  count = h.count;
-  mid = active_at last h.mid;
-  still = subst (λ (p : Place). Glides h.before p store time (active_at last h.mid)) here h.still;
-  stepped = subst (Stepped (active_at last h.mid) store time new) (sym is)
-      (place_steps last h.mid rest store time halt (step h.mid store time).write new effect h.going h.out (leads h.mid));
-  written = h.written ∙ ap (store_behind store) (place_writes last h.mid store time);
-  noted = h.noted ∙ ap (λ (v : Option Write). changes ++ changes_of store v) (place_writes last h.mid store time);
-}
+pub went_from : (steps : ℕ) (gait : Gait) (todo rest : Todo) (store behind : Store) (time : ℕ) (halt last : Halt) (old new : Place) (effect made : Effect) (changes all : List Change) →
+    active_at gait todo ≡ old → is_going (active_at gait todo) ≡ true → TookSteps steps todo store time halt last rest effect behind changes all →
+    ((t : Todo) → new ≡ place_behind (going gait t) time (next_of last rest)) → made ≡ effect_in halt effect → Went steps old store time new made behind changes all
+went_from steps gait todo rest store behind time halt last old new effect made changes all here active went leads is = by_rest went.rest
+  where
+    there : Place
+    there = going (gait_behind went.before gait) went.mid
+
+    by_rest : ((went.more ≡ 0) × (last ≡ halt) × (rest ≡ went.next)) ⊎ ((halt ≡ h.Made) × CalmlyTo went.more went.next store time last rest) → Went steps old store time new made behind changes all
+    by_rest (inl none) =
+        went_by steps gait todo rest store behind time halt last old new new effect made changes all here active went is
+        (leads went.mid
+        ∙ ap (λ (k : Halt). place_behind (going gait went.mid) time (next_of k rest)) none.1
+        ∙ ap (λ (t : Todo). place_behind (going gait went.mid) time (next_of halt t)) none.2
+        ∙ leads_same went.before gait went.mid went.next time halt)
+        (subst (λ (k : ℕ). AreCalm k new behind time new) (sym none.0) refl) (λ some. absurd (omega (arith, some, none.0)))
+    by_rest (inr on) =
+        let next : Place = active_at (stepped_gait gait) went.next in
+        let none : (step went.mid store time).write ≡ None = subst (λ (k : Halt). IsStill k (step went.mid store time).write) on.0 went.took.still in
+        let same : behind ≡ store = went.took.written ∙ ap (store_behind store) none in
+        went_by steps gait todo rest store behind time halt last old next new effect made changes all here active went is
+        (ap (λ (g : Gait). active_at g went.next) (sym (steady went.before gait)) ∙ ap (λ (k : Halt). place_behind there time (next_of k went.next)) (sym on.0))
+        (subst (λ (s : Store). AreCalm went.more next s time new) (sym same) (calms_to went.more gait went.next rest store time last new on.1 leads)) (λ some. none)

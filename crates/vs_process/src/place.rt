@@ -1,11 +1,10 @@
 //! Where a process is.
 ghost use Rattle.std.specs.Prelude.{◌≡◌, ◌<◌, ◌≤◌, ◌^◌, IfOk, OnErr, true};
 ghost use Rattle.vs_flatcode.specs.declared.made.Effect as made;
-ghost use Rattle.vs_flatcode.specs.declared.made.Halt.TheVariants as h;
 ghost use Rattle.vs_flatcode.specs.Landings.{effect_in, next_of};
-ghost use Rattle.vs_flatcode.specs.Places.{Todo, active_at, going, start_place, is_going, is_inactive, is_inside, stepped_gait};
+ghost use Rattle.vs_flatcode.specs.Places.{Todo, going, start_place, is_going, is_inactive, is_inside, stepped_gait};
 ghost use Rattle.vs_process.specs.Waits.{place_of, paused_wait};
-ghost use Rattle.vs_process.specs.Effects.{Went as WentFrom, WentOn, effect_if};
+ghost use Rattle.vs_process.specs.Effects.{Went as WentFrom, effect_if};
 ghost use Rattle.vs_process.specs.States.{place_behind, roused, woken_at, due_of, terms_of, triggered};
 
 use std::alloc::{AllocError, Global};
@@ -85,17 +84,6 @@ fn behind<'a>(gait: Gait, time: u64, halt: Halt<'a>) -> Wait<'a>
     }
 }
 
-// Whether a step has done nothing beyond the process.
-#[inline(always)]
-fn is_still(halt: Halt) -> bool
-    ensures { result ≡ true → halt.entry ≡ h.Nothing }
-{
-    match halt {
-        Halt::Nothing => true,
-        _ => false,
-    }
-}
-
 // Whether a step has an effect.
 #[inline(always)]
 fn is_made(halt: Halt) -> bool
@@ -107,45 +95,12 @@ fn is_made(halt: Halt) -> bool
     }
 }
 
-// Steps of an active process of this gait, one after another while they do nothing beyond it and it stays active, at most so many: how the last one ends,
-// the gait in which it was taken, and how many they are.
-#[inline(always)]
-fn glide<'a>(
-    cursor: &mut Cursor<'a>,
-    from: Gait,
-    alloc: Global,
-    store: &mut Store,
-    time: u64,
-    changes: &mut Vec<Change>,
-    effect: &mut Effect<'a>,
-    limit: u64,
-) -> Result<(Halt<'a>, Gait, u64), AllocError>
-    requires active { is_going (active_at from cursor.old) ≡ true }
-    requires limit { 0 < limit }
-    ensures within { IfOk result (λ r. r.2 ≤ limit) }
-    ensures ok { IfOk result (λ r. WentOn r.2 from r.1 cursor.old store.old time r.0 cursor.new
-        effect.new store.new changes.old.items changes.new.items) }
-    ensures active { OnErr result (is_going (active_at from cursor.new) ≡ true) }
-    ensures store_kept { OnErr result (store.new ≡ store.old) }
-{
-    let mut gait = from;
-    let mut steps = 0;
-    loop {
-        let halt = cursor.step(alloc, store, time, changes, effect)?;
-        steps += 1;
-        if steps == limit || !is_still(halt) || cursor.is_empty() {
-            return Ok((halt, gait, steps));
-        }
-        gait = gait_behind(gait);
-    }
-}
-
 /// What steps of a process have come to.
 #[derive(Clone, Copy)]
 pub struct Went {
     /// How many they are.
     pub steps: u64,
-    /// Whether the last one has an effect.
+    /// Whether one of them has an effect.
     pub made: bool,
     /// Whether the process is active behind them.
     pub going: bool,
@@ -255,9 +210,9 @@ impl<'a> Place<'a> {
     }
 
     /// Steps of an active process (IEEE 1364-2005, clauses 9.2 and 9.7) at `time`, in ticks, one after another while they do nothing beyond it and it
-    /// stays active, at most so many: where it goes from there, and in `effect` what the last one does to the rest of the state, where it does any. The
-    /// write of a blocking assignment is made in the store, and the words that it changes go to `changes`. Without memory the process is still active,
-    /// and the store is as it was.
+    /// stays active, and where the last of these has an effect, the turns of `forever` and the timing control behind it, at most so many in all: where
+    /// it goes from there, and in `effect` what they do to the rest of the state, where they do any. The write of a blocking assignment is made in the
+    /// store, and the words that it changes go to `changes`. Without memory the process is still active, and the store is as it was.
     #[inline(always)]
     pub fn steps(
         &mut self,
@@ -285,17 +240,10 @@ impl<'a> Place<'a> {
                 going: false,
             });
         };
-        let (halt, gait, steps) = glide(
-            &mut self.cursor,
-            gait,
-            alloc,
-            store,
-            time,
-            changes,
-            effect,
-            limit,
-        )?;
-        self.wait = behind(gait, time, halt);
+        let (halt, last, steps) = self
+            .cursor
+            .steps(alloc, store, time, changes, effect, limit)?;
+        self.wait = behind(gait, time, last);
         Ok(Went {
             steps,
             made: is_made(halt),

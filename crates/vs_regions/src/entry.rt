@@ -6,21 +6,27 @@ ghost use Rattle.vs_regions.specs.Entries.{HasEntered};
 ghost use Rattle.vs_regions.specs.Items.{wakes, lates};
 
 use crate::item::Item;
-use crate::update::Update;
-use std::alloc::AllocError;
+use crate::update::{Held, Update};
+use std::alloc::{AllocError, Global};
 use std::collections::VecDeque;
 use vs_time_wheel::EventQueue;
 
 /// An update of a later slot enters the queue; without room it doesn't. It stands apart, as the result of the queue would be cleared for the others too.
 #[inline(never)]
-fn enter_queue<Q: EventQueue<Item>>(queue: &mut Q, update: Update) -> Result<(), AllocError>
+fn enter_queue<Q: EventQueue<Item>>(
+    alloc: Global,
+    queue: &mut Q,
+    update: Update,
+) -> Result<(), AllocError>
     requires { Q.clock queue.old ≤ update.due }
     ensures queued { OnOk result
         (SameBag (Q.bag queue.new) (Q.bag queue.old ++ record { time = update.due; event = Item.Late update } ∷ [])) }
     ensures unqueued { OnErr result (SameBag (Q.bag queue.new) (Q.bag queue.old)) }
     ensures clock { Q.clock queue.new ≡ Q.clock queue.old }
 {
-    if let Err(_) = queue.schedule(update.due(), Item::Late(update)) {
+    let due = update.due();
+    let held = Held::new(alloc, update)?;
+    if let Err(_) = queue.schedule(due, Item::Late(held)) {
         return Err(AllocError);
     }
     Ok(())
@@ -29,6 +35,7 @@ fn enter_queue<Q: EventQueue<Item>>(queue: &mut Q, update: Update) -> Result<(),
 /// An update enters the list of those due in the slot, or the queue; without room it enters none.
 #[inline(always)]
 pub(crate) fn enter<Q: EventQueue<Item>>(
+    alloc: Global,
     queue: &mut Q,
     due: &mut VecDeque<Update>,
     update: Update,
@@ -44,7 +51,7 @@ pub(crate) fn enter<Q: EventQueue<Item>>(
         due.push_back_reserved(update);
         return Ok(());
     }
-    enter_queue(queue, update)
+    enter_queue(alloc, queue, update)
 }
 
 /// A process whose delay is over, or an update that is due, goes to its list; the answer is whether it found room there.
@@ -55,7 +62,7 @@ fn place(item: Item, due: &mut VecDeque<Update>, woken: &mut Vec<usize>) -> bool
 {
     match item {
         Item::Wake(process) => woken.push(process).is_ok(),
-        Item::Late(update) => due.push_back(update).is_ok(),
+        Item::Late(update) => due.push_back(update.take()).is_ok(),
     }
 }
 

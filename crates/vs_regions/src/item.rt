@@ -1,6 +1,6 @@
 //! What the event queue keeps.
 
-use crate::update::Update;
+use crate::update::Held;
 
 /// An item of the event queue.
 #[derive(Drop)]
@@ -8,5 +8,5 @@ pub enum Item {
     /// The delay of a process ends (IEEE 1364-2005, clause 9.7.1).
     Wake(usize),
     /// A nonblocking update with a delay becomes due (clause 9.2.2).
-    Late(Update),
+    Late(Held),
 }

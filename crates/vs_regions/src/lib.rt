@@ -13,4 +13,4 @@ mod update;
 
 pub use item::Item;
 pub use regions::Regions;
-pub use update::Update;
+pub use update::{Held, Update};

@@ -24,6 +24,7 @@ use vs_time_wheel::EventQueue;
 /// as a bag, and all updates in the order of execution.
 #[derive(Drop)]
 pub struct Regions<Q: EventQueue<Item>> {
+    alloc: Global,
     /// The ends of delays, and the updates of later slots.
     queue: Q,
     inactive: Vec<usize>,
@@ -61,6 +62,7 @@ impl<Q: EventQueue<Item>> Regions<Q> {
         ensures { result ≡ record { time = 0; inactive = []; sleepers = []; updates = [] } }
     {
         Regions {
+            alloc,
             queue,
             inactive: Vec::new(alloc),
             active: VecDeque::new(alloc),
@@ -92,7 +94,7 @@ impl<Q: EventQueue<Item>> Regions<Q> {
         let due = self.queue.now() + ticks.count;
         let update = Update::new(self.serial, by, due, what);
         let updates = self.updates.next(&update);
-        enter(&mut self.queue, &mut self.due, update)?;
+        enter(self.alloc, &mut self.queue, &mut self.due, update)?;
         self.updates = updates;
         self.serial = self.serial.wrapping_add(1);
         Ok(())

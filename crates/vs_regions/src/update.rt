@@ -1,8 +1,9 @@
 //! Nonblocking updates in a run.
-ghost use Rattle.std.specs.Prelude.{◌≡◌, ◌&&◌, ◌||◌, ◌==◌, ◌∷◌, [], false, IfSome};
+ghost use Rattle.std.specs.Prelude.{◌≡◌, ◌&&◌, ◌||◌, ◌==◌, ◌∷◌, [], false, IfOk, IfSome};
 ghost use Rattle.vs_design.specs.Writes.{shares};
 ghost use Rattle.vs_process.specs.States as states;
 
+use std::alloc::{AllocError, Global};
 use std::marker::Model;
 use vs_design::{Part, Write};
 
@@ -95,5 +96,39 @@ impl Update {
         ensures { result.now ≡ self.now.what }
     {
         &self.what
+    }
+}
+
+/// An update in a place of its own, so that the items of the event queue stay small.
+#[derive(Drop)]
+pub struct Held {
+    update: Box<Update>,
+}
+
+impl Model for Held {
+    ghost use Rattle.vs_process.specs.States as states;
+
+    ghost Value = { states.Update };
+
+    ghost view = { λ h. h.update.value };
+}
+
+impl Held {
+    /// Puts an update in a place of its own.
+    #[inline(always)]
+    pub(crate) fn new(alloc: Global, update: Update) -> Result<Self, AllocError>
+        ensures { IfOk result (λ held. held ≡ update) }
+    {
+        Ok(Held {
+            update: Box::new(alloc, update)?,
+        })
+    }
+
+    /// The update, whose place is given back.
+    #[inline(always)]
+    pub(crate) fn take(self) -> Update
+        ensures { result ≡ self }
+    {
+        Box::into_inner(self.update)
     }
 }

@@ -1,7 +1,8 @@
 -- Which words and signals a move may change.
-use Rattle.std.proofs.Common.{◌≡◌, ℕ, ◌<◌, ◌==◌, ◌&&◌, not, Bool, true, false, Option, Some, None, option_map, List, [], ◌∷◌, ◌++◌, length, slice_get, if◌then◌else◌, refl, sym, ◌∙◌, ap, ap₂, subst, arith}
+use Rattle.std.proofs.Common.{◌≡◌, ℕ, ◌+◌, ◌<◌, ◌==◌, ◌&&◌, not, Bool, true, false, Option, Some, None, option_map, List, [], ◌∷◌, ◌++◌, length, drop, get_or, slice_get, if◌then◌else◌, refl, sym, ◌∙◌, ap, ap₂, subst, arith}
 use Rattle.std.specs.List.{list_any}
 use Rattle.std.proofs.lemmas.Bool.{ne_eqb, eqb-false, or_parts, or_from}
+use Rattle.std.proofs.lemmas.List.{drop_more}
 use Rattle.std.proofs.lemmas.List.Folds.{list_any-append}
 use Rattle.std.proofs.lemmas.Option.{same_Some}
 use Rattle.vs_logic4.specs.declared.digit.Digit.{Digit}
@@ -89,6 +90,13 @@ quiet_parts old new (p ∷ ps) v size h =
     (quiet_word p.signal p.word (word_of old p.signal p.word) (word_of new p.signal p.word) v (size p.signal p.word) parts.0)
     (quiet_parts old new ps v size parts.1)
 
+-- the next of some changes stands in front of the others that are left
+pub next_change : (changes items : List Change) (i : ℕ) (change : Change) → items ≡ changes → i < length items → change ≡ get_or items i change →
+    drop i changes ≡ change ∷ drop (i + 1) changes
+next_change changes items i change same below is =
+    subst (λ (l : List Change). drop i l ≡ change ∷ drop (i + 1) l) same
+    (drop_more items i change below ∙ ap (λ (c : Change). c ∷ drop (i + 1) items) (sym is))
+
 -- a signal of which a write changes no word
 kept_put : (w : Write) (old new : Store) (cs : List Change) (v : ℕ) → is_among cs v ≡ false → cs ≡ changed_words old new w → new ≡ put old w → slice_get new v ≡ slice_get old v
 kept_put w old new cs v none words is =
@@ -98,15 +106,18 @@ kept_put w old new cs v none words is =
 
 -- a write of whose changed words the signals are marked
 pub marks_put : (marks later : List ℕ) (w : Write) (old new : Store) (cs : List Change) → MarkWords marks later cs → cs ≡ changed_words old new w → new ≡ put old w → MarkChanges marks later old new
-marks_put marks later w old new cs marked words is = λ v off within.
-    let m = marked v off in
-    (m.0, kept_put w old new cs v (m.1 within) words is)
+marks_put marks later w old new cs h words is = record {
+  len = h.len;
+  marked = λ v off within.
+      let m = h.marked v off in
+      (m.0, kept_put w old new cs v (m.1 within) words is);
+}
 
 -- the same of a step that may write
 pub marks_behind : (marks later : List ℕ) (w : Option Write) (old new : Store) (cs : List Change) → MarkWords marks later cs → cs ≡ changes_of old w → new ≡ store_behind old w →
     MarkChanges marks later old new
-marks_behind marks later None old new cs marked words is = λ v off within. ((marked v off).0, ap (λ (s : Store). slice_get s v) is)
-marks_behind marks later (Some w) old new cs marked words is = marks_put marks later w old new cs marked (words ∙ ap (λ (s : Store). changed_words old s w) (sym is)) is
+marks_behind marks later None old new cs h words is = record { len = h.len; marked = λ v off within. ((h.marked v off).0, ap (λ (s : Store). slice_get s v) is) }
+marks_behind marks later (Some w) old new cs h words is = marks_put marks later w old new cs h (words ∙ ap (λ (s : Store). changed_words old s w) (sym is)) is
 
 -- as a contract sees the state before
 pub marks_seen : {s now : State} (marks later : List ℕ) (new : Store) → s ≡ now → MarkChanges marks later s.store new → MarkChanges marks later now.store new

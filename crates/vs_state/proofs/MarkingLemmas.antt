@@ -1,5 +1,5 @@
 -- Marks of the signals that words are of.
-use Rattle.std.proofs.Common.{◌≡◌, ℕ, zero, suc, ◌*◌, ◌/◌, ◌%◌, ◌^◌, ◌<◌, ◌==◌, ◌||◌, ◌⊎◌, inl, inr, Bool, true, false, if◌then◌else◌, List, [], ◌∷◌, length, get_or, slice_get, slice_set, refl, sym, ◌∙◌, ap, ap₂, subst, arith}
+use Rattle.std.proofs.Common.{◌≡◌, ℕ, zero, suc, ◌*◌, ◌/◌, ◌%◌, ◌^◌, ◌<◌, ◌==◌, ◌||◌, ◌⊎◌, inl, inr, Bool, true, false, if◌then◌else◌, List, [], ◌∷◌, length, get_or, slice_set, refl, sym, ◌∙◌, ap, ap₂, subst, arith}
 use Rattle.std.specs.Prelude.{replicate, slice_index}
 use Rattle.std.specs.Int.{bit_at}
 use Rattle.std.specs.Int.Bits.{bit_or}
@@ -84,14 +84,11 @@ marked_more old mid new c left rest all next size before set others v off =
         absurd (false≢true (sym off ∙ subst (λ (u : ℕ). is_marked new u ≡ true) same (set (omega (arith, same, within, size)))))
     by_number (inr apart) within e = sym (ap (λ (l : List Change). is_among l v) next ∙ ap (λ (t : Bool). t || is_among rest v) apart) ∙ e
 
--- no word is marked
-pub marked_none : (marks : List ℕ) (cs : List Change) → cs ≡ [] → MarkWords marks marks cs
-marked_none marks cs none = λ v off. (off, λ within. ap (λ (l : List Change). is_among l v) none)
-
 -- a word that a write of one part has changed
-pub marked_word : (old new : List ℕ) (signal word : ℕ) (before behind : List Digit) → (signal < 512 * length old → is_marked new signal ≡ true) →
+pub marked_word : (old new : List ℕ) (signal word : ℕ) (before behind : List Digit) → length new ≡ length old → (signal < 512 * length old → is_marked new signal ≡ true) →
     ((v : ℕ) → is_marked new v ≡ false → is_marked old v ≡ false) → MarkWords old new (changed_word signal word (Some before) (Some behind))
-marked_word old new signal word before behind set others = λ v off. (others v off, λ within. by_test v off within (same_digits before behind))
+marked_word old new signal word before behind len set others =
+    record { len = len; marked = λ v off. (others v off, λ within. by_test v off within (same_digits before behind)) }
   where
     by_test : (v : ℕ) → is_marked new v ≡ false → v < 512 * length old → (b : Bool) →
         is_among (if b then [] else record { signal = signal; word = word; before = before; behind = behind } ∷ []) v ≡ false
@@ -106,17 +103,16 @@ marked_word old new signal word before behind set others = λ v off. (others v o
 
 -- ---- moves, one after another
 
--- a store that stays
-pub changes_same : (marks : List ℕ) (old new : Store) → new ≡ old → MarkChanges marks marks old new
-changes_same marks old new same = λ v off within. (off, ap (λ (s : Store). slice_get s v) same)
-
 -- nothing has changed
 pub changes_none : (marks : List ℕ) (s : Store) → MarkChanges marks marks s s
-changes_none marks s = λ v off within. (off, refl)
+changes_none marks s = record { len = refl; marked = λ v off within. (off, refl) }
 
 -- one more move
-pub changes_more : (old mid new : List ℕ) (s t u : Store) → length mid ≡ length old → MarkChanges old mid s t → MarkChanges mid new t u → MarkChanges old new s u
-changes_more old mid new s t u size h k = λ v off within.
-    let later = k v off (omega (arith, within, size)) in
-    let sooner = h v later.0 within in
-    (sooner.0, later.1 ∙ sooner.1)
+pub changes_more : (old mid new : List ℕ) (s t u : Store) → MarkChanges old mid s t → MarkChanges mid new t u → MarkChanges old new s u
+changes_more old mid new s t u h k = record {
+  len = k.len ∙ h.len;
+  marked = λ v off within.
+      let later = k.marked v off (omega (arith, within, h.len)) in
+      let sooner = h.marked v later.0 within in
+      (sooner.0, later.1 ∙ sooner.1);
+}

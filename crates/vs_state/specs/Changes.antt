@@ -10,12 +10,13 @@ abbrev pub HaveSizes : List Change → Type 0
 HaveSizes [] = Unit {0}
 HaveSizes (c ∷ cs) = (length c.before ≡ length c.behind) × HaveSizes cs
 
--- marks behind those of some words: a signal without a mark had none before, and none of these words is of it
-abbrev pub MarkWords : List ℕ → List ℕ → List Change → Type 0
-MarkWords old new changes =
-    (v : ℕ) → is_marked new v ≡ false → (is_marked old v ≡ false) × (v < 512 * length old → list_any (λ (c : Change). c.signal == v) changes ≡ false)
+-- marks behind those of some words: as many, and a signal without a mark had none before, and none of these words is of it
+pub record MarkWords (old new : List ℕ) (changes : List Change) : Type 0 where
+  pub len : length new ≡ length old
+  pub marked : (v : ℕ) → is_marked new v ≡ false →
+      (is_marked old v ≡ false) × (v < 512 * length old → list_any (λ (c : Change). c.signal == v) changes ≡ false)
 
--- marks behind a move: a signal without a mark had none before, and is in the store behind the move as in the one before it
-abbrev pub MarkChanges : List ℕ → List ℕ → Store → Store → Type 0
-MarkChanges old new before behind =
-    (v : ℕ) → is_marked new v ≡ false → v < 512 * length old → (is_marked old v ≡ false) × (slice_get behind v ≡ slice_get before v)
+-- marks behind a move: as many, and a signal without a mark had none before, and is in the store behind the move as in the one before it
+pub record MarkChanges (old new : List ℕ) (before behind : Store) : Type 0 where
+  pub len : length new ≡ length old
+  pub marked : (v : ℕ) → is_marked new v ≡ false → v < 512 * length old → (is_marked old v ≡ false) × (slice_get behind v ≡ slice_get before v)

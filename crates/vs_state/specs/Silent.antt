@@ -1,5 +1,5 @@
--- Steps of a process, one after another, of which only the last one is seen.
-use Rattle.std.specs.Prelude.{ℕ, zero, suc, ◌≡◌, true, List, []}
+-- Steps of a process, one after another, of which only one is seen.
+use Rattle.std.specs.Prelude.{ℕ, zero, suc, ◌≡◌, ◌+◌, true, List, []}
 use Rattle.vs_design.specs.Parts.{Parts}
 use Rattle.vs_process.specs.declared.moves.Move.{Move}
 use Rattle.vs_process.specs.declared.moves.Move.TheVariants.{Step}
@@ -22,8 +22,25 @@ abbrev pub AreSilent : ℕ → ℕ → State → State → Type 0
 AreSilent zero process s t = t ≡ s
 AreSilent (suc n) process s t = (mid : State) × AreSilent n process s mid × IsSilent process mid t
 
--- so many steps, all silent but the last, which makes this line
-abbrev pub Steps : ℕ → ℕ → State → State → List ℕ → Type 0
-Steps zero process s t line = ⊥
-Steps (suc n) process s t line =
-    (mid : State) × AreSilent n process s mid × (t ≡ apply (Step process) mid) × (line ≡ made_text (made_line (Step process) mid))
+-- an enabled step of a process that makes no line, and behind which the process may wait
+pub record IsHushed (process : ℕ) (s t : State) : Type 0 where
+  pub enabled : is_enabled s (Step process) ≡ true
+  pub made : t ≡ apply (Step process) s
+  pub quiet : made_text (made_line (Step process) s) ≡ []
+
+-- so many of them
+abbrev pub AreHushed : ℕ → ℕ → State → State → Type 0
+AreHushed zero process s t = t ≡ s
+AreHushed (suc n) process s t = (mid : State) × AreHushed n process s mid × IsHushed process mid t
+
+-- so many steps of which one makes this line: silent ones before it, and behind it others that make none
+pub record Steps (steps process : ℕ) (s t : State) (line : List ℕ) : Type 0 where
+  pub before : ℕ
+  pub more : ℕ
+  pub count : steps ≡ suc (before + more)
+  pub mid : State
+  pub next : State
+  pub silent : AreSilent before process s mid
+  pub made : next ≡ apply (Step process) mid
+  pub lines : line ≡ made_text (made_line (Step process) mid)
+  pub hushed : AreHushed more process next t

@@ -138,7 +138,6 @@ fn wake_changes<Q: EventQueue<Item>>(
 /// Marks the signals of the words that a write has changed.
 #[inline(always)]
 fn mark_signals(marks: &mut Vec<u64>, changes: &Vec<Change>)
-    ensures len { length marks.new.items ≡ length marks.old.items }
     ensures marked { MarkWords marks.old.items marks.new.items changes.now.items }
 {
     for change in changes {
@@ -163,7 +162,6 @@ fn follow_each<Q: EventQueue<Item>>(
     ensures places { OnOk result (processes.new.places ≡ triggered_changes changes.now.items processes.old.places) }
     ensures time { processes.new.time ≡ processes.old.time }
     ensures updates { processes.new.updates ≡ processes.old.updates }
-    ensures len { length marks.new.items ≡ length marks.old.items }
     ensures marked { MarkWords marks.old.items marks.new.items changes.now.items }
 {
     mark_signals(marks, changes);
@@ -193,7 +191,6 @@ pub(crate) fn follow<Q: EventQueue<Item>>(
     ensures places { OnOk result (processes.new.places ≡ triggered_changes changes.now.items processes.old.places) }
     ensures time { processes.new.time ≡ processes.old.time }
     ensures updates { processes.new.updates ≡ processes.old.updates }
-    ensures len { length marks.new.items ≡ length marks.old.items }
     ensures marked { MarkWords marks.old.items marks.new.items changes.now.items }
 {
     if changes.is_empty() {
@@ -225,7 +222,6 @@ fn follow_word<Q: EventQueue<Item>>(
         ≡ triggered_changes (changed_word signal word (Some before) (Some behind)) processes.old.places) }
     ensures time { processes.new.time ≡ processes.old.time }
     ensures updates { processes.new.updates ≡ processes.old.updates }
-    ensures len { length marks.new.items ≡ length marks.old.items }
     ensures marked { MarkWords marks.old.items marks.new.items (changed_word signal word (Some before) (Some behind)) }
 {
     if before == behind {
@@ -257,7 +253,6 @@ pub(crate) fn write_part<Q: EventQueue<Item>>(
     ensures places { OnOk result (processes.new.places ≡ triggered_changes (changed_part store.old store.new part) processes.old.places) }
     ensures time { processes.new.time ≡ processes.old.time }
     ensures updates { processes.new.updates ≡ processes.old.updates }
-    ensures len { length marks.new.items ≡ length marks.old.items }
     ensures marked { MarkWords marks.old.items marks.new.items (changed_part store.old store.new part) }
 {
     let signal = part.signal;

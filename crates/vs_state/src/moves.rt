@@ -2,7 +2,7 @@
 //!
 //! `steps` is inlined into the loop of a run, and `make` into another, which the compiler does only while they are small with all that is inlined into
 //! them. So what they don't need often stands apart from them.
-ghost use Rattle.std.specs.Prelude.{◌≡◌, ◌<◌, ◌≤◌, ◌^◌, ◌∷◌, [], not, true, false, is_some, length, slice_get, IfOk, OnOk};
+ghost use Rattle.std.specs.Prelude.{◌≡◌, ◌<◌, ◌≤◌, ◌^◌, ◌∷◌, [], not, true, false, is_some, slice_get, IfOk, OnOk};
 ghost use Rattle.vs_process.specs.Executions as executions;
 ghost use Rattle.vs_flatcode.specs.Places.{is_going};
 ghost use Rattle.vs_process.specs.States as states;
@@ -36,7 +36,7 @@ pub struct Made {
     pub quiet: bool,
 }
 
-/// What steps of a process have done: how many were taken, and of the last one what `Made` tells.
+/// What steps of a process have done: how many were taken, and of them what `Made` tells of one move.
 #[derive(Clone, Copy)]
 pub struct Taken {
     /// How many steps were taken.
@@ -101,8 +101,9 @@ impl<'a, Q: EventQueue<Item>> State<'a, Q> {
         Ok(())
     }
 
-    /// Takes steps of an active process, one after another while they do nothing beyond it and it stays active, at most so many; each is made as `make`
-    /// makes it. The line that the last one makes takes the place of `line`.
+    /// Takes steps of an active process, one after another while they do nothing beyond it and it stays active, and where the last of these has an
+    /// effect, the turns of `forever` and the timing control behind it, at most so many in all; each is made as `make` makes it. The line that they make
+    /// takes the place of `line`.
     #[inline(always)]
     pub fn steps(
         &mut self,
@@ -123,7 +124,6 @@ impl<'a, Q: EventQueue<Item>> State<'a, Q> {
         ensures quiet { IfOk result (λ taken. taken.quiet ≡ true → line.new.items ≡ []) }
         ensures state { IfOk result (λ taken. Steps taken.steps process self.old self.new line.new.items) }
         ensures marked { OnOk result (MarkChanges marks.old.items marks.new.items self.old.store self.new.store) }
-        ensures len { length marks.new.items ≡ length marks.old.items }
     {
         line.clear();
         self.woken.clear();
@@ -179,7 +179,6 @@ impl<'a, Q: EventQueue<Item>> State<'a, Q> {
         ensures state { OnOk result (self.new ≡ executions.apply (Move.Step process) self.old) }
         ensures line { OnOk result (line.new.items ≡ made_text (made_line (Move.Step process) self.old)) }
         ensures marked { OnOk result (MarkChanges marks.old.items marks.new.items self.old.store self.new.store) }
-        ensures len { length marks.new.items ≡ length marks.old.items }
     {
         let taken = self.steps(design, process, marks, effect, line, 1)?;
         Ok(Made {
@@ -222,7 +221,6 @@ impl<'a, Q: EventQueue<Item>> State<'a, Q> {
         ensures told { IfOk result (λ changes. changes ≡ not (changes_nothing self.old.store (part ∷ []))) }
         ensures made { OnOk result (self.new ≡ states.written self.old (part ∷ [])) }
         ensures marked { OnOk result (MarkChanges marks.old.items marks.new.items self.old.store self.new.store) }
-        ensures len { length marks.new.items ≡ length marks.old.items }
     {
         let changes = write_part(
             &mut self.store,
@@ -249,7 +247,6 @@ impl<'a, Q: EventQueue<Item>> State<'a, Q> {
         requires terms { HasTerms design.now self.old }
         ensures made { OnOk result (self.new ≡ states.propagate self.old number (slice_get self.old.assigns number)) }
         ensures marked { OnOk result (MarkChanges marks.old.items marks.new.items self.old.store self.new.store) }
-        ensures len { length marks.new.items ≡ length marks.old.items }
     {
         self.woken.clear();
         let Some(x) = self.assigns.get(number) else {
@@ -300,7 +297,6 @@ impl<'a, Q: EventQueue<Item>> State<'a, Q> {
         ensures evaluated { IfOk result (λ updated. updated ≡ false → self.new ≡ executions.apply (Move.Evaluate number) self.old) }
         ensures updated { IfOk result (λ updated. updated ≡ true → IsDriven number self.old self.new) }
         ensures marked { OnOk result (MarkChanges marks.old.items marks.new.items self.old.store self.new.store) }
-        ensures len { length marks.new.items ≡ length marks.old.items }
     {
         self.woken.clear();
         let Some(x) = self.assigns.get(number) else {
@@ -330,7 +326,6 @@ impl<'a, Q: EventQueue<Item>> State<'a, Q> {
         requires terms { HasTerms design.now self.old }
         ensures made { OnOk result (self.new ≡ executions.apply (told self.old (Move.Make index)) self.old) }
         ensures marked { OnOk result (MarkChanges marks.old.items marks.new.items self.old.store self.new.store) }
-        ensures len { length marks.new.items ≡ length marks.old.items }
     {
         let Some(update) = self.processes.take(index) else {
             return Ok(());
@@ -360,7 +355,6 @@ impl<'a, Q: EventQueue<Item>> State<'a, Q> {
         requires terms { HasTerms design.now self.old }
         ensures made { OnOk result (self.new ≡ executions.apply (told self.old (Move.Make index)) self.old) }
         ensures marked { OnOk result (MarkChanges marks.old.items marks.new.items self.old.store self.new.store) }
-        ensures len { length marks.new.items ≡ length marks.old.items }
     {
         if let Some(part) = self.processes.take_part(index) {
             self.write(design, part, marks)?;
@@ -411,7 +405,6 @@ impl<'a, Q: EventQueue<Item>> State<'a, Q> {
         ensures state { OnOk result (self.new ≡ executions.apply (told self.old choice) self.old) }
         ensures line { OnOk result (line.new.items ≡ made_text (made_line choice self.old)) }
         ensures marked { OnOk result (MarkChanges marks.old.items marks.new.items self.old.store self.new.store) }
-        ensures len { length marks.new.items ≡ length marks.old.items }
     {
         line.clear();
         self.woken.clear();

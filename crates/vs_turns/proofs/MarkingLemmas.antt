@@ -43,7 +43,7 @@ covers_on : {d : Parts} {slots : List Slot} {writer : Progress} (old new : List 
     Covers new writer t
 covers_on {d} {slots} {writer} old new s t h room covers changes = λ time i n k last here code off.
     let size : length writer.kept ≡ length d.signals = sym (length-map writer.kept (λ k. k.code)) ∙ ap length h.codes ∙ length-codes 0 d.signals in
-    let m = changes i off (omega (arith, slice_get_within writer.kept i k here, size, room)) in
+    let m = changes.marked i off (omega (arith, slice_get_within writer.kept i k here, size, room)) in
     covers time i n k last here code m.0 ∙ ap (λ (o : Option (List (List Digit))). unwrap_or (word_in o 0) (X ∷ [])) (sym m.1)
 
 -- ---- the same of a run that may record nothing

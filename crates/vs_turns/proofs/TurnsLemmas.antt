@@ -31,7 +31,7 @@ use Rattle.vs_turns.specs.Recording.{CoversNoted, HasNoted}
 use Rattle.vs_turns.specs.Prints.{lines_text}
 use Rattle.vs_turns.specs.Slots.{AppendsSlots, AppendsSlotsPart}
 use Rattle.vs_state.specs.Changes.{MarkChanges}
-use Rattle.vs_state.specs.Silent.{AreSilent, IsReached, IsSilent, Steps}
+use Rattle.vs_state.specs.Silent.{AreHushed, AreSilent, IsHushed, IsReached, IsSilent, Steps}
 use Rattle.vs_turns.specs.Turns.{AllTurned, AllTurnedPart, Batch, BatchPart, StepsPart, StepsPrinted, Took, TookPart, Turned, TurnedPart}
 use Rattle.vs_turns.proofs.MarkingLemmas.{noted_on}
 use Rattle.vs_turns.proofs.PrintsLemmas.{move_prints}
@@ -236,27 +236,64 @@ along_silent {taken} {i} {first} {s} {t} {old} {mid} a (suc n) t' h =
     (along_more b t' mid (Step i) (step_inner i) one.made (subst (Appends mid mid) (sym one.quiet) (append_none mid)) (step_over h.0 t' i one.made b.going) (step_time h.0 t' i one.made) one.again
     (own_step i))
 
--- so do steps of which the last may write a line
+-- a process whose hushed steps end where it is enabled was enabled before them
+enabled_before : (n i : ℕ) (s t : State) → AreHushed n i s t → is_enabled t (Step i) ≡ true → is_enabled s (Step i) ≡ true
+enabled_before zero i s t h enabled = subst (λ (r : State). is_enabled r (Step i) ≡ true) h enabled
+enabled_before (suc n) i s t h enabled = enabled_before n i s h.0 h.1 h.2.enabled
+
+-- hushed steps go on a batch too, where the process is enabled behind them
+along_hushed : {taken i : ℕ} {first : Move} {s t : State} {old mid : Option (List ℕ)} → Along taken first (Step i) s t old mid → (n : ℕ) (t' : State) → AreHushed n i t t' → is_enabled t' (Step i) ≡ true →
+    Along (taken + n) first (Step i) s t' old mid
+along_hushed {taken} {i} {first} {s} {t} {old} {mid} a zero t' h enabled =
+    let none : taken ≡ taken + 0 = omega arith in
+    subst (λ (r : State). Along (taken + 0) first (Step i) s r old mid) (sym h) (subst (λ (n : ℕ). Along n first (Step i) s t old mid) none a)
+along_hushed {taken} {i} {first} {s} {t} {old} {mid} a (suc n) t' h enabled =
+    let one : IsHushed i h.0 t' = h.2 in
+    let b : Along (taken + n) first (Step i) s h.0 old mid = along_hushed a n h.0 h.1 one.enabled in
+    let more : (taken + n) + 1 ≡ taken + suc n = omega arith in
+    subst (λ (k : ℕ). Along k first (Step i) s t' old mid) more
+    (along_more b t' mid (Step i) (step_inner i) one.made (subst (Appends mid mid) (sym one.quiet) (append_none mid)) (step_over h.0 t' i one.made b.going) (step_time h.0 t' i one.made) enabled
+    (own_step i))
+
+-- the step that may write a line, behind silent ones
+along_seen : {taken i : ℕ} {first : Move} {s t : State} {old mid : Option (List ℕ)} → Along taken first (Step i) s t old mid → (n : ℕ) (t' : State) (line : List ℕ) (new : Option (List ℕ)) →
+    (h : Steps n i t t' line) → Appends mid new line → is_enabled h.next (Step i) ≡ true → Along ((taken + h.before) + 1) first (Step i) s h.next old new
+along_seen {taken} {i} {first} {s} {t} {old} {mid} a n t' line new h printed enabled =
+    let b : Along (taken + h.before) first (Step i) s h.mid old mid = along_silent a h.before h.mid h.silent in
+    along_more b h.next new (Step i) (step_inner i) h.made (subst (Appends mid new) h.lines printed) (step_over h.mid h.next i h.made b.going) (step_time h.mid h.next i h.made) enabled (own_step i)
+
+-- so do steps of which one may write a line
 pub along_steps : {taken i : ℕ} {first : Move} {s t : State} {old mid : Option (List ℕ)} → Along taken first (Step i) s t old mid → (n : ℕ) (t' : State) (new : Option (List ℕ)) →
     StepsPrinted n i t t' mid new → is_enabled t' (Step i) ≡ true → Along (taken + n) first (Step i) s t' old new
-along_steps a zero t' new h enabled = absurd h.1
-along_steps {taken} {i} {first} {s} {t} {old} {mid} a (suc n) t' new h enabled =
-    let r : State = h.1.0 in
-    let b : Along (taken + n) first (Step i) s r old mid = along_silent a n r h.1.1 in
-    let more : (taken + n) + 1 ≡ taken + suc n = omega arith in
-    subst (λ (k : ℕ). Along k first (Step i) s t' old new) more
-    (along_more b t' new (Step i) (step_inner i) h.1.2 (subst (Appends mid new) h.1.3 h.2) (step_over r t' i h.1.2 b.going) (step_time r t' i h.1.2) enabled (own_step i))
+along_steps {taken} {i} {first} {s} {t} {old} {mid} a n t' new p enabled =
+    let h : Steps n i t t' p.0 = p.1 in
+    let b : Along ((taken + h.before) + 1) first (Step i) s h.next old new = along_seen a n t' p.0 new h p.2 (enabled_before h.more i h.next t' h.hushed enabled) in
+    let more : ((taken + h.before) + 1) + h.more ≡ taken + n = omega (arith, h.count) in
+    subst (λ (k : ℕ). Along k first (Step i) s t' old new) more (along_hushed b h.more t' h.hushed enabled)
+
+-- the last of them
+batch_seen : {taken i : ℕ} {s t : State} {old mid : Option (List ℕ)} → Along taken (Step i) (Step i) s t old mid → (n : ℕ) (t' : State) (line : List ℕ) (new : Option (List ℕ)) →
+    (h : Steps n i t t' line) → Appends mid new line → (more : ℕ) → AreHushed more i h.next t' → Batch (((taken + h.before) + 1) + more) (Step i) s t' old new
+batch_seen {taken} {i} {s} {t} {old} {mid} a n t' line new h printed zero hushed =
+    let b : Along (taken + h.before) (Step i) (Step i) s h.mid old mid = along_silent a h.before h.mid h.silent in
+    let none : (taken + h.before) + 1 ≡ ((taken + h.before) + 1) + 0 = omega arith in
+    subst (λ (k : ℕ). Batch k (Step i) s t' old new) none
+    (batch_all b t' new (step_inner i) (hushed ∙ h.made) (subst (Appends mid new) h.lines printed) (λ blocks xs. refl))
+batch_seen {taken} {i} {s} {t} {old} {mid} a n t' line new h printed (suc more) hushed =
+    let one : IsHushed i hushed.0 t' = hushed.2 in
+    let b : Along ((taken + h.before) + 1) (Step i) (Step i) s h.next old new = along_seen a n t' line new h printed (enabled_before more i h.next hushed.0 hushed.1 one.enabled) in
+    let c : Along (((taken + h.before) + 1) + more) (Step i) (Step i) s hushed.0 old new = along_hushed b more hushed.0 hushed.1 one.enabled in
+    let count : (((taken + h.before) + 1) + more) + 1 ≡ ((taken + h.before) + 1) + suc more = omega arith in
+    subst (λ (k : ℕ). Batch k (Step i) s t' old new) count
+    (batch_all c t' new (step_inner i) one.made (subst (Appends new new) (sym one.quiet) (append_none new)) (λ blocks xs. refl))
 
 -- and they end one
 pub batch_steps : {taken i : ℕ} {s t : State} {old mid : Option (List ℕ)} → Along taken (Step i) (Step i) s t old mid → (n : ℕ) (t' : State) (new : Option (List ℕ)) →
     StepsPrinted n i t t' mid new → Batch (taken + n) (Step i) s t' old new
-batch_steps a zero t' new h = absurd h.1
-batch_steps {taken} {i} {s} {t} {old} {mid} a (suc n) t' new h =
-    let r : State = h.1.0 in
-    let b : Along (taken + n) (Step i) (Step i) s r old mid = along_silent a n r h.1.1 in
-    let more : (taken + n) + 1 ≡ taken + suc n = omega arith in
-    subst (λ (k : ℕ). Batch k (Step i) s t' old new) more
-    (batch_all b t' new (step_inner i) h.1.2 (subst (Appends mid new) h.1.3 h.2) (λ blocks xs. refl))
+batch_steps {taken} {i} {s} {t} {old} {mid} a n t' new p =
+    let h : Steps n i t t' p.0 = p.1 in
+    let more : ((taken + h.before) + 1) + h.more ≡ taken + n = omega (arith, h.count) in
+    subst (λ (k : ℕ). Batch k (Step i) s t' old new) more (batch_seen a n t' p.0 new h p.2 h.more h.hushed)
 
 -- one that failed
 pub part_steps : {taken i : ℕ} {first : Move} {s t : State} {old mid : Option (List ℕ)} → Along taken first (Step i) s t old mid → (steps limit : ℕ) (new : Option (List ℕ)) → taken + limit ≤ steps →
@@ -266,13 +303,12 @@ part_steps {taken} {i} {first} {s} {t} {old} {mid} a steps limit new within h =
 
 -- steps whose line was written in part, or whole
 pub part_of_steps : {old new : Option (List ℕ)} (n i limit : ℕ) (s t : State) (line : List ℕ) → Steps n i s t line → n ≤ limit → AppendsPart old new line → StepsPart limit i s old new
-part_of_steps zero i limit s t line h within printed = absurd h
-part_of_steps {old} {new} (suc n) i limit s t line h within printed = record {
-  taken = n;
-  last = h.0;
-  within = omega (arith, within);
-  silent = h.1;
-  printed = subst (AppendsPart old new) h.3 printed;
+part_of_steps {old} {new} n i limit s t line h within printed = record {
+  taken = h.before;
+  last = h.mid;
+  within = omega (arith, within, h.count);
+  silent = h.silent;
+  printed = subst (AppendsPart old new) h.lines printed;
 }
 
 pub part_printed : {old new : Option (List ℕ)} (n i limit : ℕ) (s t : State) → StepsPrinted n i s t old new → n ≤ limit → StepsPart limit i s old new
@@ -283,14 +319,17 @@ reached_silent : (d : Parts) (n i : ℕ) (s t : State) → IsReached d s → Are
 reached_silent d zero i s t h is = subst (IsReached d) (sym is) h
 reached_silent d (suc n) i s t h all = reached_on d all.0 t (Step i) (reached_silent d n i s all.0 h all.1) all.2.made
 
+reached_hushed : (d : Parts) (n i : ℕ) (s t : State) → IsReached d s → AreHushed n i s t → IsReached d t
+reached_hushed d zero i s t h is = subst (IsReached d) (sym is) h
+reached_hushed d (suc n) i s t h all = reached_on d all.0 t (Step i) (reached_hushed d n i s all.0 h all.1) all.2.made
+
 pub reached_steps : (d : Parts) (n i : ℕ) (s t : State) (line : List ℕ) → IsReached d s → Steps n i s t line → IsReached d t
-reached_steps d zero i s t line h all = absurd all
-reached_steps d (suc n) i s t line h all = reached_on d all.0 t (Step i) (reached_silent d n i s all.0 h all.1) all.2
+reached_steps d n i s t line h all =
+    reached_hushed d all.more i all.next t (reached_on d all.mid all.next (Step i) (reached_silent d all.before i s all.mid h all.silent) all.made) all.hushed
 
 -- there is one step at least
 pub steps_some : (n i : ℕ) (s t : State) (line : List ℕ) → Steps n i s t line → 0 < n
-steps_some zero i s t line all = absurd all
-steps_some (suc n) i s t line all = omega arith
+steps_some n i s t line all = omega (arith, all.count)
 
 -- so does an update, by its number among the activated ones
 pub made_inner : (s : State) (k : ℕ) → told s (Make k) ≡ EndSlot → ⊥
@@ -348,6 +387,10 @@ took_once r steps first s writer vcd vcd' lines lines' some going h =
 -- what holds of one holds of how many one step is
 pub one_step : (r : Result ℕ VcdFault) (P : ℕ → Type 0) → P 1 → IfOk r (λ n. n ≡ 1) → IfOk r P
 one_step r P one h = IfOk-weaker r (λ n. n ≡ 1) P (λ n is. subst P (sym is) one) h
+
+-- marks behind steps are as many as before them
+pub took_len : (r : Result ℕ VcdFault) (old new : List ℕ) (s t : Store) → OnOk r (MarkChanges old new s t) → OnOk r (length new ≡ length old)
+took_len r old new s t h = on_ok_weaker r (λ (m : MarkChanges old new s t). m.len) h
 
 -- the marks cover what steps change
 pub took_marked : (r : Result ℕ VcdFault) (writer : Option Progress) (known : Option (List ℕ)) (old new : List ℕ) (s t : Store) → CoversNoted old writer s → OnOk r (MarkChanges old new s t) →

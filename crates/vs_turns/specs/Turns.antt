@@ -28,7 +28,7 @@ MovesOn (suc zero) event s t = t ≡ apply (move_of event) s
 MovesOn (suc (suc zero)) (e.Evaluate j) s t = IsDriven j s t
 MovesOn _ _ s t = ⊥
 
--- so many steps of a process, of which the last may have written a line
+-- so many steps of a process, of which one may have written a line
 abbrev pub StepsPrinted : ℕ → ℕ → State → State → Option (List ℕ) → Option (List ℕ) → Type 0
 StepsPrinted n process s t old new = (line : List ℕ) × Steps n process s t line × Appends old new line
 

@@ -1,5 +1,5 @@
 //! Moves that are made: one, and one after another where none is chosen between them.
-ghost use Rattle.std.specs.Prelude.{◌≡◌, ◌<◌, ◌≤◌, ◌^◌, [], false, true, length, IfOk, OnOk, OnErr};
+ghost use Rattle.std.specs.Prelude.{◌≡◌, ◌<◌, ◌≤◌, ◌^◌, [], false, true, IfOk, OnOk, OnErr};
 ghost use Rattle.std.specs.Io.KnownBytes.{Appends};
 ghost use Rattle.vs_agenda.specs.AssignEvents.{move_of};
 ghost use Rattle.vs_turns.specs.Turns.{Batch, BatchPart, MovesOn, StepsPart, StepsPrinted};
@@ -63,7 +63,6 @@ pub fn advance<'a, Q: EventQueue<Item>, L: Sink>(
     ensures again { IfOk result (λ made. made.again ≡ true → executions.is_enabled state.new (told state.new choice) ≡ true) }
     ensures state { OnOk result (state.new ≡ executions.apply (told state.old choice) state.old) }
     ensures marked { OnOk result (MarkChanges marks.old.items marks.new.items state.old.store state.new.store) }
-    ensures len { length marks.new.items ≡ length marks.old.items }
     ensures printed { OnOk result (Appends (L.bytes lines.old) (L.bytes lines.new) (made_text (made_line choice state.old))) }
     ensures part { OnErr result (AppendsPart (L.bytes lines.old) (L.bytes lines.new) (made_text (made_line choice state.old))) }
     ensures failures { L.failed lines.new ≡ failed_after (is_write_fault result) (L.failed lines.old) }
@@ -77,7 +76,7 @@ pub fn advance<'a, Q: EventQueue<Item>, L: Sink>(
 }
 
 /// Takes steps of a process, at most so many, until something follows from one of them or the process is no longer active; marks the signals that they
-/// may change, and writes the line that the last one makes.
+/// may change, and writes the line that they make.
 #[inline(always)]
 fn advance_steps<'a, Q: EventQueue<Item>, L: Sink>(
     state: &mut State<'a, Q>,
@@ -97,7 +96,6 @@ fn advance_steps<'a, Q: EventQueue<Item>, L: Sink>(
     ensures printed { IfOk result (λ taken. StepsPrinted taken.steps process state.old state.new (L.bytes lines.old) (L.bytes lines.new)) }
     ensures part { OnErr result (StepsPart limit process state.old (L.bytes lines.old) (L.bytes lines.new)) }
     ensures marked { OnOk result (MarkChanges marks.old.items marks.new.items state.old.store state.new.store) }
-    ensures len { length marks.new.items ≡ length marks.old.items }
     ensures failures { L.failed lines.new ≡ failed_after (is_write_fault result) (L.failed lines.old) }
 {
     let taken = state.steps(
@@ -137,7 +135,6 @@ pub fn run_process<'a, Q: EventQueue<Item>, L: Sink>(
     ensures ok { IfOk result (λ taken. Batch taken (Move.Step process) state.old state.new (L.bytes lines.old) (L.bytes lines.new)) }
     ensures err { OnErr result (BatchPart steps (Move.Step process) state.old (L.bytes lines.old) (L.bytes lines.new)) }
     ensures marked { OnOk result (MarkChanges marks.old.items marks.new.items state.old.store state.new.store) }
-    ensures len { length marks.new.items ≡ length marks.old.items }
     ensures failures { L.failed lines.new ≡ failed_after (is_write_fault result) (L.failed lines.old) }
 {
     let mut taken = 0;
@@ -180,7 +177,6 @@ pub fn run_updates<'a, Q: EventQueue<Item>, L: Sink>(
     ensures ok { IfOk result (λ made. Batch made (Move.Make first) state.old state.new (L.bytes lines.old) (L.bytes lines.new)) }
     ensures err { OnErr result (BatchPart steps (Move.Make first) state.old (L.bytes lines.old) (L.bytes lines.new)) }
     ensures marked { OnOk result (MarkChanges marks.old.items marks.new.items state.old.store state.new.store) }
-    ensures len { length marks.new.items ≡ length marks.old.items }
     ensures failures { L.failed lines.new ≡ failed_after (is_write_fault result) (L.failed lines.old) }
 {
     let mut made = 0;
@@ -220,7 +216,6 @@ fn advance_assign<'a, Q: EventQueue<Item>, L: Sink>(
     ensures within { IfOk result (λ made. made ≤ steps) }
     ensures made { IfOk result (λ made. MovesOn made next state.old state.new) }
     ensures marked { OnOk result (MarkChanges marks.old.items marks.new.items state.old.store state.new.store) }
-    ensures len { length marks.new.items ≡ length marks.old.items }
     ensures printed { OnOk result (Appends (L.bytes lines.old) (L.bytes lines.new) []) }
     ensures part { OnErr result (AppendsPart (L.bytes lines.old) (L.bytes lines.new) []) }
     ensures failures { L.failed lines.new ≡ failed_after (is_write_fault result) (L.failed lines.old) }
@@ -271,7 +266,6 @@ pub fn run_assigns<'a, Q: EventQueue<Item>, L: Sink>(
     ensures ok { IfOk result (λ made. Batch made (move_of first) state.old state.new (L.bytes lines.old) (L.bytes lines.new)) }
     ensures err { OnErr result (BatchPart steps (move_of first) state.old (L.bytes lines.old) (L.bytes lines.new)) }
     ensures marked { OnOk result (MarkChanges marks.old.items marks.new.items state.old.store state.new.store) }
-    ensures len { length marks.new.items ≡ length marks.old.items }
     ensures failures { L.failed lines.new ≡ failed_after (is_write_fault result) (L.failed lines.old) }
 {
     let mut made = 0;

@@ -53,8 +53,8 @@ loop-state-preserved g c =
       inside = behind.inside;
       run = behind.run;
       covers = c.in_ok-taken.ensures.covers c.args.design.now _ behind.run.written c.loop-state.invariant.room;
-      room = omega (arith, c.loop-state.invariant.room, c.turn.ensures.len);
-      few = omega (arith, c.loop-state.invariant.few, c.turn.ensures.len);
+      room = omega (arith, c.loop-state.invariant.room, c.in_ok-taken.ensures.len);
+      few = omega (arith, c.loop-state.invariant.few, c.in_ok-taken.ensures.len);
       failures = c.in_ok-taken.ensures.failures.0 ∙ c.loop-state.invariant.failures;
       line_failures = c.in_ok-taken.ensures.failures.1 ∙ c.loop-state.invariant.line_failures;
     }

@@ -8,7 +8,7 @@ use Rattle.vs_agenda.specs.declared.entries.AssignEvent.{AssignEvent}
 use Rattle.vs_agenda.specs.declared.entries.AssignEvent.TheVariants.{Evaluate, Propagate}
 use Rattle.vs_agenda.specs.AssignEvents.{move_of}
 use Rattle.vs_kernel.proofs.RunsLemmas.{second_failed}
-use Rattle.vs_turns.proofs.TurnsLemmas.{one_step, took_batch, took_batch_part, took_marked, took_once}
+use Rattle.vs_turns.proofs.TurnsLemmas.{one_step, took_batch, took_batch_part, took_len, took_marked, took_once}
 use Rattle.vs_kernel.proofs.run.take.Goals as goal
 
 pub returns-clause-some : goal.returns-clause-some
@@ -26,6 +26,9 @@ pub returns-in-Step-clause-covers : goal.returns-in-Step-clause-covers
 returns-in-Step-clause-covers g c =
     took_marked c.run_process.result c.args.writer.now (g.V.Sink.bytes c.args.vcd.now) c.args.marks.now.items c.run_process.new.marks.items c.args.state.now.store c.run_process.new.state.store c.requires.covers c.run_process.ensures.marked
 
+pub returns-in-Step-clause-len : goal.returns-in-Step-clause-len
+returns-in-Step-clause-len g c = took_len c.run_process.result c.args.marks.now.items c.run_process.new.marks.items c.args.state.now.store c.run_process.new.state.store c.run_process.ensures.marked
+
 pub returns-in-Step-clause-ok : goal.returns-in-Step-clause-ok
 returns-in-Step-clause-ok g c =
     took_batch c.run_process.result (Step c.in-Step.process) c.args.next.choice c.args.state.now c.run_process.new.state c.args.writer.now (g.V.Sink.bytes c.args.vcd.now) (g.L.Sink.bytes c.args.lines.now)
@@ -42,6 +45,9 @@ returns-in-Step-clause-failures g c = second_failed _ _ _ _ _ refl c.run_process
 pub returns-in-Make-clause-covers : goal.returns-in-Make-clause-covers
 returns-in-Make-clause-covers g c =
     took_marked c.run_updates.result c.args.writer.now (g.V.Sink.bytes c.args.vcd.now) c.args.marks.now.items c.run_updates.new.marks.items c.args.state.now.store c.run_updates.new.state.store c.requires.covers c.run_updates.ensures.marked
+
+pub returns-in-Make-clause-len : goal.returns-in-Make-clause-len
+returns-in-Make-clause-len g c = took_len c.run_updates.result c.args.marks.now.items c.run_updates.new.marks.items c.args.state.now.store c.run_updates.new.state.store c.run_updates.ensures.marked
 
 pub returns-in-Make-clause-ok : goal.returns-in-Make-clause-ok
 returns-in-Make-clause-ok g c =
@@ -69,6 +75,9 @@ run_assigns-requires-clause-enabled g c =
 pub returns-in-Some-clause-covers : goal.returns-in-Some-clause-covers
 returns-in-Some-clause-covers g c =
     took_marked c.run_assigns.result c.args.writer.now (g.V.Sink.bytes c.args.vcd.now) c.args.marks.now.items c.run_assigns.new.marks.items c.args.state.now.store c.run_assigns.new.state.store c.requires.covers c.run_assigns.ensures.marked
+
+pub returns-in-Some-clause-len : goal.returns-in-Some-clause-len
+returns-in-Some-clause-len g c = took_len c.run_assigns.result c.args.marks.now.items c.run_assigns.new.marks.items c.args.state.now.store c.run_assigns.new.state.store c.run_assigns.ensures.marked
 
 pub returns-in-Some-clause-ok : goal.returns-in-Some-clause-ok
 returns-in-Some-clause-ok g c =

@@ -1,6 +1,6 @@
-use Rattle.std.proofs.Common.{◌≡◌, ◌+◌, List, ◌∷◌, drop, sym, ap, subst, ◌∙◌, arith}
-use Rattle.std.proofs.lemmas.List.{drop_more}
+use Rattle.std.proofs.Common.{◌≡◌, ◌+◌, List, ◌∷◌, drop, arith}
 use Rattle.vs_flatcode.specs.declared.changes.Change.{Change}
+use Rattle.vs_state.proofs.ChangesLemmas.{next_change}
 use Rattle.vs_state.proofs.MarkingLemmas.{marked_more}
 use Rattle.vs_state.proofs.changes.mark_signals.Goals as goal
 
@@ -9,13 +9,8 @@ loop-change-preserved c =
     let change : Change = c.change-item.result in
     let changes : List Change = c.args.changes.now.items in
     let rest : List Change = drop (c.loop-change.change-index + 1) changes in
-    let items : List Change = c.deref-change-items.result.now in
-    let same : items ≡ changes = c.deref-change-items.ensures.value in
-    let first : drop c.loop-change.change-index items ≡ change ∷ drop (c.loop-change.change-index + 1) items =
-    drop_more items c.loop-change.change-index change c.loop-change-test.true ∙ ap (λ (p : Change). p ∷ drop (c.loop-change.change-index + 1) items) (sym c.change-item.is)
-    in
     let next : drop c.loop-change.change-index changes ≡ change ∷ drop (c.loop-change.change-index + 1) changes =
-    subst (λ (l : List Change). drop c.loop-change.change-index l ≡ change ∷ drop (c.loop-change.change-index + 1) l) same first
+    next_change changes c.deref-change-items.result.now c.loop-change.change-index change c.deref-change-items.ensures.value c.loop-change-test.true c.change-item.is
     in
     record {
       len = omega (arith, c.mark.ensures.len, c.loop-change.invariant.len);

@@ -1,5 +1,4 @@
 use Rattle.std.proofs.Common.{◌≡◌, ◌∙◌, ◌+◌, Some, List, ◌∷◌, drop, sym, ap, subst, arith}
-use Rattle.std.proofs.lemmas.List.{drop_more}
 use Rattle.vs_edges.specs.Differences.{word_changes}
 use Rattle.vs_flatcode.specs.declared.changes.Change.{Change}
 use Rattle.vs_flatcode.specs.Places.{Place}
@@ -7,7 +6,7 @@ use Rattle.vs_process.specs.States.{AssignState}
 use Rattle.vs_state.specs.Changes.{HaveSizes}
 use Rattle.vs_state.specs.Touches.{AreOf, woken_changes}
 use Rattle.vs_state.specs.Waits.{WaitWithin, triggered_changes}
-use Rattle.vs_state.proofs.ChangesLemmas.{some_there}
+use Rattle.vs_state.proofs.ChangesLemmas.{next_change, some_there}
 use Rattle.vs_state.proofs.TouchesLemmas.{woken_of}
 use Rattle.vs_state.proofs.WaitsLemmas.{within_triggered}
 use Rattle.vs_state.proofs.changes.wake_changes.Goals as goal
@@ -16,13 +15,8 @@ pub wake_word-requires-clause-size : goal.wake_word-requires-clause-size
 wake_word-requires-clause-size g c =
     let change : Change = c.change-item.result in
     let changes : List Change = c.args.changes.now.items in
-    let items : List Change = c.deref-change-items.result.now in
-    let same : items ≡ changes = c.deref-change-items.ensures.value in
-    let first : drop c.loop-change.change-index items ≡ change ∷ drop (c.loop-change.change-index + 1) items =
-    drop_more items c.loop-change.change-index change c.loop-change-test.true ∙ ap (λ (p : Change). p ∷ drop (c.loop-change.change-index + 1) items) (sym c.change-item.is)
-    in
     let next : drop c.loop-change.change-index changes ≡ change ∷ drop (c.loop-change.change-index + 1) changes =
-    subst (λ (l : List Change). drop c.loop-change.change-index l ≡ change ∷ drop (c.loop-change.change-index + 1) l) same first
+    next_change changes c.deref-change-items.result.now c.loop-change.change-index change c.deref-change-items.ensures.value c.loop-change-test.true c.change-item.is
     in
     (subst HaveSizes next c.loop-change.invariant.sizes).0
 
@@ -36,13 +30,8 @@ loop-change-preserved g c =
     let xs : List AssignState = c.loop-change.assigns in
     let ys : List Place = c.loop-change.processes.places in
     let rest : List Change = drop (c.loop-change.change-index + 1) changes in
-    let items : List Change = c.deref-change-items.result.now in
-    let same : items ≡ changes = c.deref-change-items.ensures.value in
-    let first : drop c.loop-change.change-index items ≡ change ∷ drop (c.loop-change.change-index + 1) items =
-    drop_more items c.loop-change.change-index change c.loop-change-test.true ∙ ap (λ (p : Change). p ∷ drop (c.loop-change.change-index + 1) items) (sym c.change-item.is)
-    in
     let next : drop c.loop-change.change-index changes ≡ change ∷ drop (c.loop-change.change-index + 1) changes =
-    subst (λ (l : List Change). drop c.loop-change.change-index l ≡ change ∷ drop (c.loop-change.change-index + 1) l) same first
+    next_change changes c.deref-change-items.result.now c.loop-change.change-index change c.deref-change-items.ensures.value c.loop-change-test.true c.change-item.is
     in
     record {
       assigns = ap (woken_changes rest) c.in_ok-wake_word.ensures.assigns ∙ sym (ap (λ (cs : List Change). woken_changes cs xs) next) ∙ c.loop-change.invariant.assigns;

@@ -20,7 +20,6 @@ loop-moved-init g c = record {
   reached = c.requires.reached;
   within = c.requires.steps;
   marked = changes_none c.args.marks.now.items c.args.state.now.store;
-  len = refl;
   failures = refl;
 }
 
@@ -36,7 +35,7 @@ returns-then-made-steps-clause-ok g c =
 pub returns-then-made-steps-clause-marked : goal.returns-then-made-steps-clause-marked
 returns-then-made-steps-clause-marked g c =
     changes_more c.args.marks.now.items c.loop-moved.marks.items c.advance_assign.new.marks.items c.args.state.now.store c.loop-moved.state.store c.advance_assign.new.state.store
-    c.loop-moved.invariant.len c.loop-moved.invariant.marked c.in_ok-moved.ensures.marked
+    c.loop-moved.invariant.marked c.in_ok-moved.ensures.marked
 
 pub returns-in-None-clause-ok : goal.returns-in-None-clause-ok
 returns-in-None-clause-ok g c =
@@ -46,7 +45,7 @@ returns-in-None-clause-ok g c =
 pub returns-in-None-clause-marked : goal.returns-in-None-clause-marked
 returns-in-None-clause-marked g c =
     changes_more c.args.marks.now.items c.loop-moved.marks.items c.advance_assign.new.marks.items c.args.state.now.store c.loop-moved.state.store c.advance_assign.new.state.store
-    c.loop-moved.invariant.len c.loop-moved.invariant.marked c.in_ok-moved.ensures.marked
+    c.loop-moved.invariant.marked c.in_ok-moved.ensures.marked
 
 pub loop-moved-preserved : goal.loop-moved-preserved
 loop-moved-preserved g c = record {
@@ -57,7 +56,6 @@ loop-moved-preserved g c = record {
   within = omega (arith, c.loop-moved.invariant.within, c.in_ok-moved.ensures.within, c.if-made-steps.false);
   marked =
       changes_more c.args.marks.now.items c.loop-moved.marks.items c.advance_assign.new.marks.items c.args.state.now.store c.loop-moved.state.store c.advance_assign.new.state.store
-      c.loop-moved.invariant.len c.loop-moved.invariant.marked c.in_ok-moved.ensures.marked;
-  len = omega (arith, c.advance_assign.ensures.len, c.loop-moved.invariant.len);
+      c.loop-moved.invariant.marked c.in_ok-moved.ensures.marked;
   failures = c.in_ok-moved.ensures.failures ∙ c.loop-moved.invariant.failures;
 }

@@ -1,4 +1,4 @@
-use Rattle.std.proofs.Common.{◌≡◌, ◌-◌, ◌<◌, length}
+use Rattle.std.proofs.Common.{◌≡◌, ◌-◌, ◌<◌}
 use Rattle.vs_agenda.specs.AssignEvents.{move_of}
 use Rattle.vs_state.specs.Changes.{MarkChanges}
 use Rattle.vs_state.specs.Silent.{IsReached}
@@ -11,7 +11,6 @@ invariant-loop-moved g l = record {
   reached : IsReached l.design l.state;
   within : l.made < l.steps;
   marked : MarkChanges l.fn.marks.items l.marks.items l.fn.state.store l.state.store;
-  len : length l.marks.items ≡ length l.fn.marks.items;
   failures : g.L.Sink.failed l.lines ≡ g.L.Sink.failed l.fn.lines;
 }
 

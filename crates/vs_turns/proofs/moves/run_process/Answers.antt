@@ -20,7 +20,6 @@ loop-made-init g c = record {
   reached = c.requires.reached;
   within = c.requires.steps;
   marked = changes_none c.args.marks.now.items c.args.state.now.store;
-  len = refl;
   failures = refl;
 }
 
@@ -42,7 +41,7 @@ returns-then-taken-steps-clause-ok g c =
 pub returns-then-taken-steps-clause-marked : goal.returns-then-taken-steps-clause-marked
 returns-then-taken-steps-clause-marked g c =
     changes_more c.args.marks.now.items c.loop-made.marks.items c.advance_steps.new.marks.items c.args.state.now.store c.loop-made.state.store c.advance_steps.new.state.store
-    c.loop-made.invariant.len c.loop-made.invariant.marked c.in_ok-made.ensures.marked
+    c.loop-made.invariant.marked c.in_ok-made.ensures.marked
 
 pub returns-then-not-made-2-clause-ok : goal.returns-then-not-made-2-clause-ok
 returns-then-not-made-2-clause-ok g c =
@@ -59,7 +58,6 @@ loop-made-preserved g c =
       within = omega (arith, c.loop-made.invariant.within, c.in_ok-made.ensures.within, c.if-taken-steps.false);
       marked =
           changes_more c.args.marks.now.items c.loop-made.marks.items c.advance_steps.new.marks.items c.args.state.now.store c.loop-made.state.store c.advance_steps.new.state.store
-          c.loop-made.invariant.len c.loop-made.invariant.marked c.in_ok-made.ensures.marked;
-      len = omega (arith, c.advance_steps.ensures.len, c.loop-made.invariant.len);
+          c.loop-made.invariant.marked c.in_ok-made.ensures.marked;
       failures = c.in_ok-made.ensures.failures ∙ c.loop-made.invariant.failures;
     }

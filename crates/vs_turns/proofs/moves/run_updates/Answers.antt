@@ -22,7 +22,6 @@ loop-agenda-init g c = record {
   reached = c.requires.reached;
   within = c.requires.steps;
   marked = changes_none c.args.marks.now.items c.args.state.now.store;
-  len = refl;
   failures = refl;
 }
 
@@ -46,7 +45,7 @@ returns-then-made-steps-clause-ok g c =
 pub returns-then-made-steps-clause-marked : goal.returns-then-made-steps-clause-marked
 returns-then-made-steps-clause-marked g c =
     changes_more c.args.marks.now.items c.loop-agenda.marks.items c.advance.new.marks.items c.args.state.now.store c.loop-agenda.state.store c.advance.new.state.store
-    c.loop-agenda.invariant.len c.loop-agenda.invariant.marked c.in_ok-advance.ensures.marked
+    c.loop-agenda.invariant.marked c.in_ok-advance.ensures.marked
 
 pub returns-in-None-clause-ok : goal.returns-in-None-clause-ok
 returns-in-None-clause-ok g c =
@@ -56,7 +55,7 @@ returns-in-None-clause-ok g c =
 pub returns-in-None-clause-marked : goal.returns-in-None-clause-marked
 returns-in-None-clause-marked g c =
     changes_more c.args.marks.now.items c.loop-agenda.marks.items c.advance.new.marks.items c.args.state.now.store c.loop-agenda.state.store c.advance.new.state.store
-    c.loop-agenda.invariant.len c.loop-agenda.invariant.marked c.in_ok-advance.ensures.marked
+    c.loop-agenda.invariant.marked c.in_ok-advance.ensures.marked
 
 pub loop-agenda-preserved : goal.loop-agenda-preserved
 loop-agenda-preserved g c = record {
@@ -69,7 +68,6 @@ loop-agenda-preserved g c = record {
   within = omega (arith, c.loop-agenda.invariant.within, c.if-made-steps.false);
   marked =
       changes_more c.args.marks.now.items c.loop-agenda.marks.items c.advance.new.marks.items c.args.state.now.store c.loop-agenda.state.store c.advance.new.state.store
-      c.loop-agenda.invariant.len c.loop-agenda.invariant.marked c.in_ok-advance.ensures.marked;
-  len = omega (arith, c.advance.ensures.len, c.loop-agenda.invariant.len);
+      c.loop-agenda.invariant.marked c.in_ok-advance.ensures.marked;
   failures = c.in_ok-advance.ensures.failures ∙ c.loop-agenda.invariant.failures;
 }

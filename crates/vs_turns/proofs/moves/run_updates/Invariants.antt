@@ -1,4 +1,4 @@
-use Rattle.std.proofs.Common.{◌≡◌, ◌-◌, ◌<◌, length}
+use Rattle.std.proofs.Common.{◌≡◌, ◌-◌, ◌<◌}
 use Rattle.vs_process.specs.declared.moves.Move.TheVariants.{Make}
 use Rattle.vs_state.specs.Told.{told}
 use Rattle.vs_state.specs.Changes.{MarkChanges}
@@ -12,7 +12,6 @@ invariant-loop-agenda g l = record {
   reached : IsReached l.design l.state;
   within : l.made < l.steps;
   marked : MarkChanges l.fn.marks.items l.marks.items l.fn.state.store l.state.store;
-  len : length l.marks.items ≡ length l.fn.marks.items;
   failures : g.L.Sink.failed l.lines ≡ g.L.Sink.failed l.fn.lines;
 }
 

@@ -1,4 +1,4 @@
-use Rattle.std.proofs.Common.{◌≡◌, ◌<◌, true, List, Some, length, slice_get, slice_set, refl, sym, ap, ◌∙◌, arith}
+use Rattle.std.proofs.Common.{◌≡◌, true, List, Some, vec_len, slice_get, slice_set, refl, sym, ap, ◌∙◌, arith}
 use Rattle.std.proofs.lemmas.Option.{slice_get_read}
 use Rattle.vs_flatcode.specs.Places.{Place, is_going}
 use Rattle.vs_process.proofs.Effects.{on_err}
@@ -11,9 +11,9 @@ pub recount-self-inside-requires-clause-some : goal.recount-self-inside-requires
 recount-self-inside-requires-clause-some c =
     let xs = c.self.inside.items.items in
     let x = c.in-Some.place.now in
-    let below = c.in-Some.ensures.variant.0 refl in
-    let within : c.args.process < length xs = omega (arith, c.self.inside.items.ok.0, below) in
-    let here : slice_get xs c.args.process ≡ Some x = slice_get_read xs (length xs) c.args.process x refl within c.in-Some.ensures.value in
+    let here : slice_get xs c.args.process ≡ Some x =
+    slice_get_read xs (vec_len c.self.inside.items) c.args.process x c.self.inside.items.ok.0 (c.in-Some.ensures.variant.0 refl) c.in-Some.ensures.value
+    in
     counted is_going xs c.self.inside.going c.self.invariant c.args.process x true here (sym (active_there c.self.view_is c.args.process x here c.requires.active))
 
 pub recount-self-inside-requires-clause-room : goal.recount-self-inside-requires-clause-room
@@ -23,9 +23,9 @@ pub invariant_of-self-2 : goal.invariant_of-self-2
 invariant_of-self-2 c =
     let xs = c.self.inside.items.items in
     let x = c.in-Some.place.now in
-    let below = c.in-Some.ensures.variant.0 refl in
-    let within : c.args.process < length xs = omega (arith, c.self.inside.items.ok.0, below) in
-    let here : slice_get xs c.args.process ≡ Some x = slice_get_read xs (length xs) c.args.process x refl within c.in-Some.ensures.value in
+    let here : slice_get xs c.args.process ≡ Some x =
+    slice_get_read xs (vec_len c.self.inside.items) c.args.process x c.self.inside.items.ok.0 (c.in-Some.ensures.variant.0 refl) c.in-Some.ensures.value
+    in
     recounted is_going xs c.self.inside.going c.self.invariant c.recount-self-inside.result c.args.process x c.steps.new.self true c.in_ok-went.went.going here
     (sym (active_there c.self.view_is c.args.process x here c.requires.active)) c.in_ok-went.ensures.going c.recount-self-inside.ensures
 
@@ -33,9 +33,9 @@ pub returns-clause-ok : goal.returns-clause-ok
 returns-clause-ok c =
     let xs = c.self.inside.items.items in
     let x = c.in-Some.place.now in
-    let below = c.in-Some.ensures.variant.0 refl in
-    let within : c.args.process < length xs = omega (arith, c.self.inside.items.ok.0, below) in
-    let here : slice_get xs c.args.process ≡ Some x = slice_get_read xs (length xs) c.args.process x refl within c.in-Some.ensures.value in
+    let here : slice_get xs c.args.process ≡ Some x =
+    slice_get_read xs (vec_len c.self.inside.items) c.args.process x c.self.inside.items.ok.0 (c.in-Some.ensures.variant.0 refl) c.in-Some.ensures.value
+    in
     record {
       from = x;
       to = c.steps.new.self;
@@ -48,9 +48,9 @@ pub returns-clause-going : goal.returns-clause-going
 returns-clause-going c =
     let xs = c.self.inside.items.items in
     let x = c.in-Some.place.now in
-    let below = c.in-Some.ensures.variant.0 refl in
-    let within : c.args.process < length xs = omega (arith, c.self.inside.items.ok.0, below) in
-    let here : slice_get xs c.args.process ≡ Some x = slice_get_read xs (length xs) c.args.process x refl within c.in-Some.ensures.value in
+    let here : slice_get xs c.args.process ≡ Some x =
+    slice_get_read xs (vec_len c.self.inside.items) c.args.process x c.self.inside.items.ok.0 (c.in-Some.ensures.variant.0 refl) c.in-Some.ensures.value
+    in
     c.in_ok-went.ensures.going ∙ sym (ap (if_some is_going) (set_same xs c.args.process x c.steps.new.self here))
 
 -- ---- without memory
@@ -59,9 +59,9 @@ pub invariant_of-self-in_err-went : goal.invariant_of-self-in_err-went
 invariant_of-self-in_err-went c =
     let xs = c.self.inside.items.items in
     let x = c.in-Some.place.now in
-    let below = c.in-Some.ensures.variant.0 refl in
-    let within : c.args.process < length xs = omega (arith, c.self.inside.items.ok.0, below) in
-    let here : slice_get xs c.args.process ≡ Some x = slice_get_read xs (length xs) c.args.process x refl within c.in-Some.ensures.value in
+    let here : slice_get xs c.args.process ≡ Some x =
+    slice_get_read xs (vec_len c.self.inside.items) c.args.process x c.self.inside.items.ok.0 (c.in-Some.ensures.variant.0 refl) c.in-Some.ensures.value
+    in
     recounted is_going xs c.self.inside.going c.self.invariant c.self.inside.going c.args.process x c.steps.new.self true true here
     (sym (active_there c.self.view_is c.args.process x here c.requires.active)) (sym c.in_err-went.ensures.active) refl
 

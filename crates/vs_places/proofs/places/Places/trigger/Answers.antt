@@ -1,4 +1,4 @@
-use Rattle.std.proofs.Common.{◌≡◌, ◌<◌, ◌∙◌, Some, is_some, length, vec_len, slice_get, refl, sym, ap, arith}
+use Rattle.std.proofs.Common.{◌≡◌, ◌<◌, ◌∙◌, Some, is_some, vec_len, slice_get, refl, sym, ap, arith}
 use Rattle.std.specs.Prelude.{true, false}
 use Rattle.std.proofs.lemmas.Bool.{false≢true}
 use Rattle.std.proofs.lemmas.Option.{slice_get_read}
@@ -23,18 +23,18 @@ pub recount-self-inside-requires-clause-some : goal.recount-self-inside-requires
 recount-self-inside-requires-clause-some c =
     let xs = c.self.inside.items.items in
     let x = c.in-Some.place.now in
-    let below = c.in-Some.ensures.variant.0 refl in
-    let within : c.args.process < length xs = omega (arith, c.self.inside.items.ok.0, below) in
-    let here : slice_get xs c.args.process ≡ Some x = slice_get_read xs (length xs) c.args.process x refl within c.in-Some.ensures.value in
+    let here : slice_get xs c.args.process ≡ Some x =
+    slice_get_read xs (vec_len c.self.inside.items) c.args.process x c.self.inside.items.ok.0 (c.in-Some.ensures.variant.0 refl) c.in-Some.ensures.value
+    in
     counted is_going xs c.self.inside.going c.self.invariant c.args.process x c.is_going-was.result here c.is_going-was.ensures
 
 pub invariant_of-self-then-wakes : goal.invariant_of-self-then-wakes
 invariant_of-self-then-wakes c =
     let xs = c.self.inside.items.items in
     let x = c.in-Some.place.now in
-    let below = c.in-Some.ensures.variant.0 refl in
-    let within : c.args.process < length xs = omega (arith, c.self.inside.items.ok.0, below) in
-    let here : slice_get xs c.args.process ≡ Some x = slice_get_read xs (length xs) c.args.process x refl within c.in-Some.ensures.value in
+    let here : slice_get xs c.args.process ≡ Some x =
+    slice_get_read xs (vec_len c.self.inside.items) c.args.process x c.self.inside.items.ok.0 (c.in-Some.ensures.variant.0 refl) c.in-Some.ensures.value
+    in
     recounted is_going xs c.self.inside.going c.self.invariant c.recount-self-inside.result c.args.process x c.trigger.new.self c.is_going-was.result c.is_going.result here c.is_going-was.ensures
     c.is_going.ensures c.recount-self-inside.ensures
 
@@ -43,9 +43,9 @@ returns-then-wakes c =
     let f = triggered_by c.args.signal c.args.word (Some c.args.before) (Some c.args.behind) in
     let xs = c.self.inside.items.items in
     let x = c.in-Some.place.now in
-    let below = c.in-Some.ensures.variant.0 refl in
-    let within : c.args.process < length xs = omega (arith, c.self.inside.items.ok.0, below) in
-    let here : slice_get xs c.args.process ≡ Some x = slice_get_read xs (length xs) c.args.process x refl within c.in-Some.ensures.value in
+    let here : slice_get xs c.args.process ≡ Some x =
+    slice_get_read xs (vec_len c.self.inside.items) c.args.process x c.self.inside.items.ok.0 (c.in-Some.ensures.variant.0 refl) c.in-Some.ensures.value
+    in
     changed_there f xs c.args.process x c.trigger.new.self here
     (c.trigger.ensures ∙ one_changed x c.args.signal c.args.word (Some c.args.before) (Some c.args.behind) c.terms.result.now c.woken-wakes.result true c.terms.ensures c.woken-wakes.ensures c.if-wakes.true)
     ∙ ap (changed_at f c.args.process) c.self.view_is
@@ -55,9 +55,9 @@ returns-else-wakes c =
     let f = triggered_by c.args.signal c.args.word (Some c.args.before) (Some c.args.behind) in
     let xs = c.self.inside.items.items in
     let x = c.in-Some.place.now in
-    let below = c.in-Some.ensures.variant.0 refl in
-    let within : c.args.process < length xs = omega (arith, c.self.inside.items.ok.0, below) in
-    let here : slice_get xs c.args.process ≡ Some x = slice_get_read xs (length xs) c.args.process x refl within c.in-Some.ensures.value in
+    let here : slice_get xs c.args.process ≡ Some x =
+    slice_get_read xs (vec_len c.self.inside.items) c.args.process x c.self.inside.items.ok.0 (c.in-Some.ensures.variant.0 refl) c.in-Some.ensures.value
+    in
     changed_there f xs c.args.process x x here
     (one_changed x c.args.signal c.args.word (Some c.args.before) (Some c.args.behind) c.terms.result.now c.woken-wakes.result false c.terms.ensures c.woken-wakes.ensures c.if-wakes.false)
     ∙ ap (changed_at f c.args.process) c.self.view_is

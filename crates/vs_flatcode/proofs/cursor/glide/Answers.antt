@@ -1,0 +1,78 @@
+use Rattle.std.proofs.Common.{◌≡◌, ◌+◌, ◌∙◌, List, refl, inl, inr, sym, subst, arith}
+use Rattle.std.proofs.lemmas.Result.{err_from_is_err_and}
+use Rattle.vs_design.specs.Stores.{Store}
+use Rattle.vs_flatcode.specs.declared.changes.Change.{Change}
+use Rattle.vs_flatcode.specs.Codes.{todo_in}
+use Rattle.vs_flatcode.specs.Places.{Todo}
+use Rattle.vs_flatcode.specs.Went.{QuietSteps, TookStep}
+use Rattle.vs_flatcode.proofs.Follows.{quiet_more, took_in}
+use Rattle.vs_flatcode.proofs.cursor.glide.Goals as goal
+
+pub loop-halt-init : goal.loop-halt-init
+loop-halt-init c = record { code = c.requires.code; quiet = refl; store = refl; changes = refl; within = c.requires.limit }
+
+pub step-requires : goal.step-requires
+step-requires c = record { code = c.loop-halt.invariant.code }
+
+pub returns-in_err-halt-clause-store_kept : goal.returns-in_err-halt-clause-store_kept
+returns-in_err-halt-clause-store_kept c =
+    let err = err_from_is_err_and c.from_residual.result c.from_residual.ensures.1 in
+    rw err.1 (c.in_err-halt.ensures.store_kept ∙ c.loop-halt.invariant.store)
+
+pub overflow_add-steps : goal.overflow_add-steps
+overflow_add-steps c = omega (arith, c.loop-halt.invariant.within, c.ranges.limit.fits)
+
+pub returns-then-not-is_made-clause-ok : goal.returns-then-not-is_made-clause-ok
+returns-then-not-is_made-clause-ok c =
+    let mid : Todo = todo_in c.args.ops.now c.loop-halt.counters.items c.loop-halt.place in
+    let new : Todo = todo_in c.args.ops.now c.step.new.counters.items c.in_ok-halt.next in
+    record {
+      before = c.loop-halt.steps;
+      more = 0;
+      count = omega arith;
+      mid = mid;
+      next = new;
+      quiet = c.loop-halt.invariant.quiet;
+      took = took_in mid new c.loop-halt.store c.args.store.now c.step.new.store c.args.time c.in_ok-halt.halt c.step.new.effect c.loop-halt.changes.items c.args.changes.now.items c.step.new.changes.items
+          c.loop-halt.invariant.store c.loop-halt.invariant.changes c.in_ok-halt.ensures.ok;
+      rest = inl (refl, refl, refl);
+    }
+
+pub returns-then-steps-limit-clause-ok : goal.returns-then-steps-limit-clause-ok
+returns-then-steps-limit-clause-ok c =
+    let mid : Todo = todo_in c.args.ops.now c.loop-halt.counters.items c.loop-halt.place in
+    let new : Todo = todo_in c.args.ops.now c.step.new.counters.items c.in_ok-halt.next in
+    record {
+      before = c.loop-halt.steps;
+      more = c.coast-behind.result.2;
+      count = omega arith;
+      mid = mid;
+      next = new;
+      quiet = c.loop-halt.invariant.quiet;
+      took = took_in mid new c.loop-halt.store c.args.store.now c.step.new.store c.args.time c.in_ok-halt.halt c.step.new.effect c.loop-halt.changes.items c.args.changes.now.items c.step.new.changes.items
+          c.loop-halt.invariant.store c.loop-halt.invariant.changes c.in_ok-halt.ensures.ok;
+      rest = inr (c.if-not-is_made.ensures refl, c.coast-behind.ensures.calm c.step.new.counters.items c.args.store.now c.args.time c.in_ok-halt.ensures.code);
+    }
+
+pub loop-halt-smaller : goal.loop-halt-smaller
+loop-halt-smaller c = omega (arith, c.loop-halt.invariant.within)
+
+pub loop-halt-preserved : goal.loop-halt-preserved
+loop-halt-preserved c =
+    let mid : Todo = todo_in c.args.ops.now c.loop-halt.counters.items c.loop-halt.place in
+    let new : Todo = todo_in c.args.ops.now c.step.new.counters.items c.in_ok-halt.next in
+    let took : TookStep mid c.args.store.now c.args.time c.in_ok-halt.halt new c.step.new.effect c.step.new.store c.loop-halt.changes.items c.step.new.changes.items =
+    took_in mid new c.loop-halt.store c.args.store.now c.step.new.store c.args.time c.in_ok-halt.halt c.step.new.effect c.loop-halt.changes.items c.loop-halt.changes.items c.step.new.changes.items
+    c.loop-halt.invariant.store refl c.in_ok-halt.ensures.ok
+    in
+    let more : QuietSteps (c.loop-halt.steps + 1) (todo_in c.args.ops.now c.args.counters.now.items c.args.from) c.args.store.now c.args.time new × (c.step.new.store ≡ c.args.store.now) × (c.step.new.changes.items ≡ c.loop-halt.changes.items) =
+    quiet_more c.loop-halt.steps (todo_in c.args.ops.now c.args.counters.now.items c.args.from) mid new c.args.store.now c.step.new.store c.args.time c.in_ok-halt.halt c.step.new.effect c.loop-halt.changes.items c.step.new.changes.items
+    c.loop-halt.invariant.quiet took (c.if-not-is_still.ensures refl) (sym (c.if-is_end.ensures c.step.new.counters.items))
+    in
+    record {
+      code = c.in_ok-halt.ensures.code;
+      quiet = more.0;
+      store = more.1;
+      changes = more.2 ∙ c.loop-halt.invariant.changes;
+      within = omega (arith, c.loop-halt.invariant.within, c.if-steps-limit.false);
+    }
