@@ -1,2 +1,2 @@
-pub mod AssignEvents
+pub mod ActiveEvents
 pub mod Policies

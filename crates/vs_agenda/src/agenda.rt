@@ -1,11 +1,12 @@
 //! The list of enabled events, in the order in which the kernel offers them to its policy.
 //!
 //! It is a hint: what stands in it is tested before it is made, so that nothing of a run's contract rests on it.
-ghost use Rattle.std.specs.Prelude.{◌≡◌, true, IfSome};
+ghost use Rattle.std.specs.Prelude.{◌≡◌, true, IfOk, IfSome};
 ghost use Rattle.vs_process.specs.Executions as executions;
-ghost use Rattle.vs_agenda.specs.AssignEvents.{move_of};
+ghost use Rattle.vs_agenda.specs.ActiveEvents.{move_of};
+ghost use Rattle.vs_state.specs.Told.{told};
 
-use crate::entries::{AssignEvent, Entries, Entry, Event};
+use crate::entries::{ActiveEvent, Entries, Entry, Event};
 use crate::policy::Pick;
 use std::alloc::{AllocError, Global};
 use vs_design::Write;
@@ -21,17 +22,19 @@ pub struct Choice {
     pub index: Option<usize>,
 }
 
-impl Choice {
-    /// The event of a continuous assignment that the move is, if it is one.
+/// The next event where the first one is always chosen.
+#[derive(Clone, Copy)]
+pub struct Next {
+    pub event: ActiveEvent,
+    /// Whether it stands at the front of the list. One that was woken alone, while no other was listed, is made at once and isn't listed.
+    pub listed: bool,
+}
+
+impl Next {
+    /// Its index in the list, where it stands in it.
     #[inline(always)]
-    pub fn assign_event(&self) -> Option<AssignEvent>
-        ensures { IfSome result (λ event. self.now.choice ≡ move_of event) }
-    {
-        match self.choice {
-            Move::Evaluate(assign) => Some(AssignEvent::Evaluate(assign)),
-            Move::Propagate(assign) => Some(AssignEvent::Propagate(assign)),
-            _ => None,
-        }
+    pub fn index(&self) -> Option<usize> {
+        if self.listed { Some(0) } else { None }
     }
 }
 
@@ -249,17 +252,94 @@ impl Agenda {
         }
     }
 
-    /// The first event, where it is one of a continuous assignment and enabled.
+    /// The first event of a list without updates, where it is enabled.
     #[inline(always)]
-    pub fn first_assign<Q: EventQueue<Item>>(&self, state: &State<Q>) -> Option<AssignEvent>
-        ensures { IfSome result (λ next. executions.is_enabled state.now (move_of next) ≡ true) }
+    fn first<Q: EventQueue<Item>>(&self, state: &State<Q>) -> Option<Next>
+        ensures { IfSome result (λ next. executions.is_enabled state.now (told state.now (move_of next.event)) ≡ true) }
     {
-        match self.entries.get(0)?.event {
-            Event::Evaluate(assign) if state.needs(assign) => Some(AssignEvent::Evaluate(assign)),
-            Event::Propagate(assign) if state.is_pending(assign) => {
-                Some(AssignEvent::Propagate(assign))
+        let event = match self.entries.get(0)?.event {
+            Event::Evaluate(assign) if state.needs(assign) => ActiveEvent::Evaluate(assign),
+            Event::Propagate(assign) if state.is_pending(assign) => ActiveEvent::Propagate(assign),
+            Event::Step(process) if state.is_going(process) => ActiveEvent::Step(process),
+            _ => return None,
+        };
+        Some(Next {
+            event,
+            listed: true,
+        })
+    }
+
+    /// The event that the last move has woken, where it has woken one alone.
+    #[inline(always)]
+    fn alone<Q: EventQueue<Item>>(&self, state: &State<Q>) -> Option<Next>
+        ensures { IfSome result (λ next. executions.is_enabled state.now (told state.now (move_of next.event)) ≡ true) }
+    {
+        let assigns = state.woken();
+        let processes = state.woken_processes();
+        let event = if processes.len() == 0 {
+            if assigns.len() != 1 || !state.needs(assigns[0]) {
+                return None;
             }
-            _ => None,
+            ActiveEvent::Evaluate(assigns[0])
+        } else {
+            if processes.len() != 1 || assigns.len() > 0 || !state.is_going(processes[0]) {
+                return None;
+            }
+            ActiveEvent::Step(processes[0])
+        };
+        Some(Next {
+            event,
+            listed: false,
+        })
+    }
+
+    /// The next event where the first one is always chosen and no update is activated. It is the first of the list; where none is listed, what `list_woken`
+    /// has left alone.
+    #[inline(always)]
+    pub fn next<Q: EventQueue<Item>>(&self, state: &State<Q>) -> Option<Next>
+        ensures { IfSome result (λ next. executions.is_enabled state.now (told state.now (move_of next.event)) ≡ true) }
+    {
+        if self.entries.is_clear() {
+            return self.alone(state);
+        }
+        self.first(state)
+    }
+
+    /// The next event where the first one is always chosen and no update is activated, behind one that has left the list. What the last move has woken is
+    /// listed, but where it is one alone, and no other is listed.
+    #[inline(always)]
+    pub fn go_on<Q: EventQueue<Item>>(
+        &mut self,
+        state: &State<Q>,
+    ) -> Result<Option<Next>, AllocError>
+        ensures { IfOk result (λ all. IfSome all (λ next. executions.is_enabled state.now (told state.now (move_of next.event)) ≡ true)) }
+    {
+        if self.entries.is_clear()
+            && let Some(next) = self.alone(state)
+        {
+            return Ok(Some(next));
+        }
+        self.add_woken(state)?;
+        Ok(self.first(state))
+    }
+
+    /// Lists what the last move has woken, but where it is one process alone, and no other event is listed.
+    #[inline(always)]
+    pub fn list_woken<Q: EventQueue<Item>>(&mut self, state: &State<Q>) -> Result<(), AllocError> {
+        if self.entries.is_clear()
+            && state.woken().len() == 0
+            && state.woken_processes().len() == 1
+        {
+            return Ok(());
+        }
+        self.add_woken(state)
+    }
+
+    /// Takes the first event out of a list without updates, where it stands in it.
+    #[inline(always)]
+    pub fn pass(&mut self, listed: bool) {
+        if listed {
+            self.remove_first();
         }
     }
 
@@ -444,13 +524,10 @@ impl Agenda {
         Ok(())
     }
 
-    /// Whether the event at an index, where it stands in the list, is the only one.
+    /// Whether the next event is the only one.
     #[inline(always)]
-    pub fn is_alone(&self, index: Option<usize>) -> bool {
-        match index {
-            Some(_) => self.entries.len() == 1,
-            None => self.entries.len() == 0,
-        }
+    pub fn is_alone(&self, listed: bool) -> bool {
+        !listed || self.entries.len() == 1
     }
 
     /// Brings the list up to date behind an evaluation: its event leaves, and the update enters at the end, or leaves, with the value that waits.
@@ -478,22 +555,9 @@ impl Agenda {
         Ok(())
     }
 
-    /// Brings the list up to date behind the update of a continuous assignment, where its event stood at an index.
-    #[inline(always)]
-    pub fn follow_propagation<Q: EventQueue<Item>>(
-        &mut self,
-        assign: usize,
-        index: Option<usize>,
-        state: &State<Q>,
-    ) -> Result<(), AllocError> {
-        self.add_woken(state)?;
-        self.remove_update(assign, index);
-        Ok(())
-    }
-
     /// Takes the update of a continuous assignment, which stands at an index, out of the list.
     #[inline(always)]
-    fn remove_update(&mut self, assign: usize, index: Option<usize>) {
+    pub fn remove_update(&mut self, assign: usize, index: Option<usize>) {
         self.remove(index);
         self.set_proposed(assign, None);
     }
@@ -507,13 +571,20 @@ impl Agenda {
     }
 
     /// Lists the updates that were activated, unless the first event is always chosen.
-    fn follow_activation<Q: EventQueue<Item>>(
+    #[inline(always)]
+    pub fn follow_activation<Q: EventQueue<Item>>(
         &mut self,
         state: &State<Q>,
     ) -> Result<(), AllocError> {
         if self.first {
             return Ok(());
         }
+        self.list_updates(state)
+    }
+
+    /// Lists the updates that were activated.
+    #[inline(never)]
+    fn list_updates<Q: EventQueue<Item>>(&mut self, state: &State<Q>) -> Result<(), AllocError> {
         self.activated.clear();
         self.signals.clear();
         for number in 0..state.activated().len() {

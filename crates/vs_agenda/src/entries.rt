@@ -17,13 +17,17 @@ pub(crate) enum Event {
     Gone,
 }
 
-/// An event of a continuous assignment, by its number.
+/// An event of the active region (IEEE 1364-2005, clause 11.3).
 #[derive(Clone, Copy)]
-pub enum AssignEvent {
-    /// Its evaluation.
+pub enum ActiveEvent {
+    /// The evaluation of a continuous assignment, by its number.
     Evaluate(usize),
-    /// Its update.
+    /// The update of a continuous assignment, by its number.
     Propagate(usize),
+    /// A step of a process, by its number.
+    Step(usize),
+    /// A nonblocking update, by its number among the activated ones.
+    Make(usize),
 }
 
 /// An event in the list.
@@ -47,6 +51,12 @@ impl Entries {
     #[inline(always)]
     pub(crate) fn len(&self) -> usize {
         self.items.len().saturating_sub(self.from)
+    }
+
+    /// Whether no entry has left room or stands in it; then there is none.
+    #[inline(always)]
+    pub(crate) fn is_clear(&self) -> bool {
+        self.items.is_empty()
     }
 
     /// The entry at an index.

@@ -5,6 +5,6 @@ mod agenda;
 mod entries;
 mod policy;
 
-pub use agenda::{Agenda, Choice};
-pub use entries::AssignEvent;
+pub use agenda::{Agenda, Choice, Next};
+pub use entries::ActiveEvent;
 pub use policy::{Fifo, Lifo, Listed, Pick};

@@ -25,7 +25,7 @@ use Rattle.vs_flatcode.specs.Extras.{format_in, starts_in}
 use Rattle.vs_flatcode.specs.Places.{Todo, flat, perform}
 use Rattle.vs_flatcode.specs.Steps.{Next, Out, on, goes, has_nothing, step, statement_step, branch, first_of, flat_item, repeated, item_matches, is_default, turns_for}
 use Rattle.vs_flatcode.specs.Links.{Job, Link, performs, todo_at, todo_from, todo_within, item_of}
-use Rattle.vs_flatcode.specs.Went.{CalmSteps, CalmlyTo, IsCalmStep, QuietSteps, TookStep}
+use Rattle.vs_flatcode.specs.Went.{CalmSteps, CalmlyTo, IsCalmStep, IsFollowed, QuietSteps, TookStep, TookSteps}
 use Rattle.vs_flatcode.specs.Codes.{Layout, todo_in, IsCode, IsTurn, LeadAll, FitsStatement, FitsTask, IsFormatOf, IsFormatFor, links_of, link_of, layout_of, job_of}
 use Rattle.vs_flatcode.specs.Landings.{Landing, landing, out_of, next_of, effect_in, made_out, item_write, IsMade, IsStill, turned, start_where, place_or, layer_lands, lands, todo_behind}
 use Rattle.vs_flatcode.proofs.Links.{todo_here}
@@ -286,3 +286,18 @@ format_of_task c x here (Turns s) h = tt
 -- an instruction of a code has the format of its call
 pub has_format : (ops : List Op) (n i : ℕ) (x : Op) → IsCode ops n → slice_get ops i ≡ Some x → IsFormatFor (format_in x) x.task
 has_format ops n i x h e = format_of_task (layout_of ops n) x (suc i) x.task (h.fits i x e)
+
+-- steps that do nothing beyond the process, then one, and what follows it
+pub took_steps : (n more steps : ℕ) (old mid next new : Todo) (here store behind : Store) (time : ℕ) (halt last : Halt) (effect : Effect) (so changes all : List Change) → steps ≡ suc (n + more) →
+    QuietSteps n old store time mid → here ≡ store → so ≡ changes → TookStep mid here time halt next effect behind so all → IsFollowed more next behind time halt last new →
+    TookSteps steps old store time halt last new effect behind changes all
+took_steps n more steps old mid next new here store behind time halt last effect so changes all count quiet same kept took rest = record {
+  before = n;
+  more = more;
+  count = count;
+  mid = mid;
+  next = next;
+  quiet = quiet;
+  took = took_in mid next here store behind time halt effect so changes all same kept took;
+  rest = rest;
+}

@@ -1,10 +1,10 @@
 -- Steps of a process one after another, by what it still has to do.
-use Rattle.std.specs.Prelude.{ℕ, zero, suc, ◌≡◌, ◌+◌, ◌++◌, ◌⊎◌, false, List}
+use Rattle.std.specs.Prelude.{ℕ, zero, suc, ◌≡◌, ◌+◌, ◌++◌, ◌⊎◌, Bool, true, false, List}
 use Rattle.vs_design.specs.Stores.{Store}
 use Rattle.vs_flatcode.specs.declared.changes.Change.{Change}
 use Rattle.vs_flatcode.specs.declared.made.Effect.{Effect}
 use Rattle.vs_flatcode.specs.declared.made.Halt.{Halt}
-use Rattle.vs_flatcode.specs.declared.made.Halt.TheVariants.{Nothing, Made}
+use Rattle.vs_flatcode.specs.declared.made.Halt.TheVariants.{Nothing, Wrote, Made, Wait}
 use Rattle.vs_flatcode.specs.Changes.{store_behind, changes_of}
 use Rattle.vs_flatcode.specs.Landings.{IsStill, made_out, next_of}
 use Rattle.vs_flatcode.specs.Places.{Todo}
@@ -43,8 +43,21 @@ abbrev pub CalmlyTo : ℕ → Todo → Store → ℕ → Halt → Todo → Type 
 CalmlyTo zero old store time halt new = (halt ≡ Nothing) × (new ≡ old)
 CalmlyTo (suc n) old store time halt new = (mid : Todo) × CalmSteps n old store time mid × IsCalmStep mid store time halt new
 
--- a process took so many steps: some that do nothing beyond it, then one that ended so, and where this has an effect, calm ones behind it, the last of
--- which ended so
+-- whether a step ends at an event control (clause 9.7.2)
+abbrev pub awaits : Halt → Bool
+awaits (Wait n terms) = true
+awaits _ = false
+
+-- what follows a step that ended so: nothing; or where it has an effect or writes, so many calm steps, the last of which ended so, behind a write at no event
+-- control
+abbrev pub IsFollowed : ℕ → Todo → Store → ℕ → Halt → Halt → Todo → Type 0
+IsFollowed more next store time halt last new =
+    ((more ≡ 0) × (last ≡ halt) × (new ≡ next))
+    ⊎ ((halt ≡ Made) × CalmlyTo more next store time last new)
+    ⊎ ((halt ≡ Wrote) × (awaits last ≡ false) × CalmlyTo more next store time last new)
+
+-- a process took so many steps: some that do nothing beyond it, then one that ended so, and where this has an effect or writes, calm ones behind it, the
+-- last of which ended so
 pub record TookSteps (steps : ℕ) (old : Todo) (store : Store) (time : ℕ) (halt last : Halt) (new : Todo) (effect : Effect) (behind : Store) (changes all : List Change) : Type 0 where
   pub before : ℕ
   pub more : ℕ
@@ -53,4 +66,4 @@ pub record TookSteps (steps : ℕ) (old : Todo) (store : Store) (time : ℕ) (ha
   pub next : Todo
   pub quiet : QuietSteps before old store time mid
   pub took : TookStep mid store time halt next effect behind changes all
-  pub rest : ((more ≡ 0) × (last ≡ halt) × (new ≡ next)) ⊎ ((halt ≡ Made) × CalmlyTo more next store time last new)
+  pub rest : IsFollowed more next behind time halt last new

@@ -5,14 +5,16 @@ ghost use Rattle.vs_flatcode.specs.declared.draft.Op.{Op};
 ghost use Rattle.vs_flatcode.specs.declared.made.Effect.TheVariants as Effect;
 ghost use Rattle.vs_flatcode.specs.declared.made.Halt.TheVariants as h;
 ghost use Rattle.vs_eval.specs.Targets.{assigned};
-ghost use Rattle.vs_flatcode.specs.Changes.{store_behind, changes_of};
+ghost use Rattle.vs_eval.specs.Values.{target_value};
+ghost use Rattle.vs_flatcode.specs.Changes.{changed_words, store_behind, changes_of};
 ghost use Rattle.vs_flatcode.specs.Places.{Todo, perform, flat};
 ghost use Rattle.vs_flatcode.specs.Steps.{assignment, goes, has_nothing, step};
 ghost use Rattle.vs_flatcode.specs.Links.{item_of};
 ghost use Rattle.vs_flatcode.specs.Extras.{format_of, starts_of, format_in};
 ghost use Rattle.vs_flatcode.specs.Codes.{job_of, todo_in, IsCode, StandsAt, IsEnd, IsFormatOf, IsFormatFor};
-ghost use Rattle.vs_flatcode.specs.Went.{CalmlyTo, TookStep, TookSteps};
+ghost use Rattle.vs_flatcode.specs.Went.{awaits, CalmlyTo, TookStep, TookSteps};
 ghost use Rattle.vs_design.specs.Stores as stores;
+ghost use Rattle.vs_design.specs.Stores.{put};
 ghost use Rattle.vs_flatcode.specs.Landings.{landing, next_of, todo_behind, turned, statement_lands, lands, item_write, IsMade, IsStill, IsCallMade, MakesUpdate};
 
 use crate::changes::{Change, assign, only_part};
@@ -23,8 +25,8 @@ use crate::made::{Effect, Halt};
 use std::alloc::{AllocError, Global};
 use std::marker::Model;
 use vs_design::{CallKind, Statement, Store, Target, Ticks, Typed};
-use vs_eval::{cut_value, write_of};
-use vs_logic4::Vec4;
+use vs_eval::{cut_value, quick_value, write_of};
+use vs_logic4::{Unary, Vec4};
 use vs_strobe::full_line;
 
 /// Where a process stands in its code, with the counters of its statements `repeat`. A contract sees it as what the process still
@@ -185,6 +187,43 @@ fn update<'a>(
     update_any(alloc, ticks, target, digits, store, time, effect)
 }
 
+// What a target gets of an expression, as `cut_value` answers it; the bitwise negation of a whole signal, with which a clock is made, is read at once.
+#[inline(always)]
+fn near_value(target: &Target, e: &Typed, store: &Store, time: u64) -> Vec4
+    ensures { result ≡ target_value target.now e.now store.now time }
+{
+    let Typed::Unary(Unary::Not, x) = e else {
+        return cut_value(target, e, store, time);
+    };
+    let digits = quick_value(x, store, time).not();
+    if digits.width() == target.width {
+        digits
+    } else {
+        let other = digits;
+        let made = other.resize(target.width, false);
+        made
+    }
+}
+
+// The blocking assignment of an expression. It stands apart from the loop over steps, which needs its registers.
+#[inline(never)]
+fn assign_value(
+    alloc: Global,
+    target: &Target,
+    e: &Typed,
+    store: &mut Store,
+    time: u64,
+    changes: &mut Vec<Change>,
+) -> Result<(), AllocError>
+    ensures store { OnOk result (store.new ≡ put store.old (assignment target.now e.now store.old time)) }
+    ensures changes { OnOk result (changes.new.items
+        ≡ changes.old.items ++ changed_words store.old store.new (assignment target.now e.now store.old time)) }
+    ensures store_kept { OnErr result (store.new ≡ store.old) }
+{
+    let digits = near_value(target, e, store, time);
+    assign(alloc, target, digits, store, time, changes)
+}
+
 // The step of a statement: how it ends, and where it leads.
 #[inline(always)]
 fn perform<'a>(
@@ -211,8 +250,7 @@ fn perform<'a>(
     match s {
         Statement::Null(_) => Ok((Halt::Nothing, op.behind)),
         Statement::Assign(_, target, e) => {
-            let digits = cut_value(target, e, store, time);
-            assign(alloc, target, digits, store, time, changes)?;
+            assign_value(alloc, target, e, store, time, changes)?;
             Ok((Halt::Wrote, op.behind))
         }
         Statement::Later(_, ticks, target, e) => {
@@ -323,30 +361,43 @@ fn is_made(halt: Halt) -> bool
     }
 }
 
-// How the step of a statement ends that neither reads nor writes the store, nor has an effect, and leads to the first place of its instruction: of these
-// statements, `forever` and the timing controls.
+// Whether a step has written.
 #[inline(always)]
-fn calm<'a>(s: &'a Statement) -> Option<Halt<'a>>
+fn is_written(halt: Halt) -> bool
+    ensures { result ≡ true → halt.entry ≡ h.Wrote }
+{
+    match halt {
+        Halt::Wrote => true,
+        _ => false,
+    }
+}
+
+// How the step of a statement ends that neither reads nor writes the store, nor has an effect, and leads to the first place of its instruction: of these
+// statements, `forever`, a delay, and where event controls are taken too, such a control.
+#[inline(always)]
+fn calm<'a>(s: &'a Statement, events: bool) -> Option<Halt<'a>>
     ensures lands { IfSome result (λ halt. (x : Op) (cs : List ℕ) (store : stores.Store) (time : ℕ)
         → statement_lands x s.entry.now cs store time ≡ landing x.first cs) }
     ensures calm { IfSome result (λ halt. (rest : Todo) (store : stores.Store) (time : ℕ)
         → let out = step (perform s.entry.now ∷ rest) store time in out ≡ goes (next_of halt (todo_behind out.next))) }
+    ensures unheard { IfSome result (λ halt. events ≡ false → awaits halt ≡ false) }
 {
     match s {
         Statement::Forever(_, _) => Some(Halt::Nothing),
         Statement::Delay(n, ticks, _) => Some(Halt::Delay(*n, *ticks)),
-        Statement::Event(n, terms, _) => Some(Halt::Wait(*n, terms)),
+        Statement::Event(n, terms, _) if events => Some(Halt::Wait(*n, terms)),
         _ => None,
     }
 }
 
 // Steps from a place of a code on that neither read nor write the store nor have an effect, one after another while the process is active, at most so
-// many, which may be none: how the last one ends, where it leads, and how many they are.
+// many, which may be none, with or without event controls: how the last one ends, where it leads, and how many they are.
 #[inline(always)]
-fn coast<'a>(ops: &'a [Op<'a>], from: usize, limit: u64) -> (Halt<'a>, usize, u64)
+fn coast<'a>(ops: &'a [Op<'a>], from: usize, limit: u64, events: bool) -> (Halt<'a>, usize, u64)
     ensures within { result.2 ≤ limit }
     ensures calm { (cs : List ℕ) (store : stores.Store) (time : ℕ) → IsCode ops.entry.now (length cs)
         → CalmlyTo result.2 (todo_in ops.entry.now cs from) store time result.0 (todo_in ops.entry.now cs result.1) }
+    ensures unheard { events ≡ false → awaits result.0 ≡ false }
 {
     let mut place = from;
     let mut steps = 0;
@@ -357,7 +408,7 @@ fn coast<'a>(ops: &'a [Op<'a>], from: usize, limit: u64) -> (Halt<'a>, usize, u6
         let Task::Perform(s) = op.task else {
             break;
         };
-        let Some(halt) = calm(s) else {
+        let Some(halt) = calm(s, events) else {
             break;
         };
         place = op.first;
@@ -370,8 +421,8 @@ fn coast<'a>(ops: &'a [Op<'a>], from: usize, limit: u64) -> (Halt<'a>, usize, u6
 }
 
 // Steps from a place of a code on, one after another while they do nothing beyond the process and it has something left to do, and where the last of
-// these has an effect, those that `coast` takes behind it, at most so many in all: how that step ends, how the last one ends, where it leads, and how many
-// they are.
+// these has an effect or writes, those that `coast` takes behind it, event controls behind an effect alone, at most so many in all: how that step ends,
+// how the last one ends, where it leads, and how many they are.
 #[inline(always)]
 fn glide<'a>(
     alloc: Global,
@@ -399,10 +450,11 @@ fn glide<'a>(
         place = next;
         steps += 1;
         if steps == limit || !is_still(halt) || is_end(ops, place) {
-            if !is_made(halt) {
+            let events = is_made(halt);
+            if !events && !is_written(halt) {
                 return Ok((halt, halt, place, steps));
             }
-            let (last, behind, more) = coast(ops, place, limit - steps);
+            let (last, behind, more) = coast(ops, place, limit - steps, events);
             return Ok((halt, last, behind, steps + more));
         }
     }
@@ -431,10 +483,10 @@ impl<'a> Cursor<'a> {
     }
 
     /// Steps of the process (IEEE 1364-2005, clauses 9.2 and 9.4 to 9.7) at `time`, in ticks, one after another while they do nothing beyond it and it
-    /// has something left to do, and where the last of these has an effect, the turns of `forever` and the timing control behind it, at most so many in
-    /// all: how that step ends, how the last one ends, and how many they are. Where it has an effect, this stands in `effect`, which otherwise may hold any.
-    /// The write of a blocking assignment is made in the store, and the words that it changes go to `changes`. Without memory the process has something
-    /// left to do still, and the store is as it was.
+    /// has something left to do, and where the last of these has an effect, the turns of `forever` and the timing control behind it, or where it writes,
+    /// the turns of `forever` and the delay behind it, at most so many in all: how that step ends, how the last one ends, and how many they are. Where it
+    /// has an effect, this stands in `effect`, which otherwise may hold any. The write of a blocking assignment is made in the store, and the words that it
+    /// changes go to `changes`. Without memory the process has something left to do still, and the store is as it was.
     #[inline(always)]
     pub fn steps(
         &mut self,

@@ -45,6 +45,7 @@ impl<'a, Q: EventQueue<Item>> Model for Processes<'a, Q> {
 }
 
 /// An inactive process enters the list of those; where it finds no room it becomes active.
+#[inline(never)]
 fn enlist<Q: EventQueue<Item>>(
     places: &mut Places,
     regions: &mut Regions<Q>,
@@ -63,6 +64,7 @@ fn enlist<Q: EventQueue<Item>>(
 }
 
 /// A process whose delay ends at a time enters the queue; where it finds no room it becomes active.
+#[inline(never)]
 fn postpone<Q: EventQueue<Item>>(
     places: &mut Places,
     regions: &mut Regions<Q>,
@@ -87,7 +89,7 @@ fn postpone<Q: EventQueue<Item>>(
 
 /// A process that was active before its step enters the list or the queue where it is inactive or sleeps behind it; where it finds no
 /// room it becomes active again.
-#[inline(never)]
+#[inline(always)]
 fn keep<Q: EventQueue<Item>>(
     places: &mut Places,
     regions: &mut Regions<Q>,
@@ -325,6 +327,7 @@ impl<'a, Q: EventQueue<Item>> Processes<'a, Q> {
     /// Time goes to the least at which something is due, in ticks: the processes whose delay ends then become active, and are noted in
     /// `woken` behind what is there, and the updates of that time are due in the slot. Without memory these updates are lost, and `woken`
     /// may lack some of the processes.
+    #[inline(always)]
     pub fn advance(&mut self, time: u64, woken: &mut Vec<usize>) -> Result<(), AllocError>
         requires idle { list_any is_active self.old.updates ≡ false }
         requires done { list_any (states.is_due self.old.time) self.old.updates ≡ false }

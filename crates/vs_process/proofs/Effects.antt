@@ -1,5 +1,6 @@
 -- Lemmas on what the code answers of a step, and of steps one after another.
-use Rattle.std.proofs.Common.{◌≡◌, ℕ, zero, suc, ◌++◌, true, false, ◌<◌, ◌⊎◌, inl, inr, Option, None, Result, Ok, Err, List, [], ◌∷◌, refl, sym, subst, ap, ◌∙◌, arith}
+use Rattle.std.proofs.Common.{◌≡◌, ℕ, zero, suc, ◌++◌, true, false, ◌<◌, ◌+◌, ◌==◌, ◌⊎◌, inl, inr, Option, None, Result, Ok, Err, List, [], ◌∷◌, refl, sym, subst, ap, ◌∙◌, arith}
+use Rattle.std.proofs.lemmas.Bool.{cond_both}
 use Rattle.std.specs.Result.{OnErr}
 use Rattle.vs_design.specs.Stores.{Store}
 use Rattle.vs_design.specs.Writes.{Write}
@@ -12,11 +13,11 @@ use Rattle.vs_flatcode.specs.declared.made.Halt.{Halt}
 use Rattle.vs_flatcode.specs.declared.made.Halt.TheVariants as h
 use Rattle.vs_flatcode.specs.Changes.{store_behind, changes_of}
 use Rattle.vs_flatcode.specs.Landings.{IsStill, effect_in, out_of, next_of, made_out}
-use Rattle.vs_flatcode.specs.Places.{Todo, Place, active_at, going, is_going, stepped_gait, todo_of}
-use Rattle.vs_flatcode.specs.Steps.{Next, Out, has_nothing, step}
-use Rattle.vs_flatcode.specs.Went.{CalmSteps, CalmlyTo, IsCalmStep, IsQuietStep, QuietSteps, TookSteps}
+use Rattle.vs_flatcode.specs.Places.{Todo, Place, active_at, going, sleeping, inactive, is_going, stepped_gait, todo_of}
+use Rattle.vs_flatcode.specs.Steps.{Next, Out, on, has_nothing, step}
+use Rattle.vs_flatcode.specs.Went.{awaits, CalmSteps, CalmlyTo, IsCalmStep, IsFollowed, IsQuietStep, QuietSteps, TookSteps}
 use Rattle.vs_process.specs.Effects.{AreCalm, Glides, IsCalm, IsStillStep, Leads, Stepped, Went}
-use Rattle.vs_process.specs.States.{place_behind}
+use Rattle.vs_process.specs.States.{paused, place_behind, terms_of}
 
 -- a step that leads somewhere with an effect leads there
 leads_there : (old new : Place) (time : ℕ) (next : Next) (w : Option Write) (effect : Effect) → new ≡ place_behind old time next → Leads (out_of next w effect) old time new effect
@@ -149,9 +150,9 @@ calms_to (suc n) gait todo rest store time halt new (mid, before, calm) leads = 
 -- steps of a process by its places, of which the one that is seen leads there
 went_by : (steps : ℕ) (gait : Gait) (todo rest : Todo) (store behind : Store) (time : ℕ) (halt last : Halt) (old next new : Place) (effect made : Effect) (changes all : List Change) →
     active_at gait todo ≡ old → is_going (active_at gait todo) ≡ true → (h : TookSteps steps todo store time halt last rest effect behind changes all) → made ≡ effect_in halt effect →
-    next ≡ place_behind (going (gait_behind h.before gait) h.mid) time (next_of halt h.next) → AreCalm h.more next behind time new → (0 < h.more → (step h.mid store time).write ≡ None) →
-    Went steps old store time new made behind changes all
-went_by steps gait todo rest store behind time halt last old next new effect made changes all here active h is leads calm none =
+    next ≡ place_behind (going (gait_behind h.before gait) h.mid) time (next_of halt h.next) → AreCalm h.more next behind time new →
+    (0 < h.more → ((step h.mid store time).write ≡ None) ⊎ (terms_of new ≡ [])) → Went steps old store time new made behind changes all
+went_by steps gait todo rest store behind time halt last old next new effect made changes all here active h is leads calm kept =
     let gait_there : Gait = gait_behind h.before gait in
     let mid : Place = active_at gait_there h.mid in
     let early : Glides h.before (active_at gait todo) store time mid × (is_going mid ≡ true) = glides h.before gait todo h.mid store time active h.quiet in
@@ -167,8 +168,23 @@ went_by steps gait todo rest store behind time halt last old next new effect mad
       written = h.took.written ∙ ap (store_behind store) same;
       noted = h.took.noted ∙ ap (λ (v : Option Write). changes ++ changes_of store v) same;
       calm = calm;
-      kept = λ some. sym same ∙ none some;
+      kept = λ some. subst (λ (w : Option Write). (w ≡ None) ⊎ (terms_of new ≡ [])) same (kept some);
     }
+
+-- a process that doesn't end at an event control waits for no event
+active_terms : (gait : Gait) (todo : Todo) → terms_of (active_at gait todo) ≡ []
+active_terms gait [] = refl
+active_terms gait (i ∷ todo) = refl
+
+paused_terms : (time ticks : ℕ) (todo : Todo) → terms_of (paused time ticks todo) ≡ []
+paused_terms time ticks todo = cond_both (ticks == 0) (inactive todo) (sleeping (time + ticks) todo) (λ p. terms_of p ≡ []) (λ e. refl) (λ e. refl)
+
+behind_terms : (gait : Gait) (todo rest : Todo) (time : ℕ) (halt : Halt) → awaits halt ≡ false → terms_of (place_behind (going gait todo) time (next_of halt rest)) ≡ []
+behind_terms gait todo rest time h.Nothing unheard = active_terms (stepped_gait gait) rest
+behind_terms gait todo rest time h.Wrote unheard = active_terms (stepped_gait gait) rest
+behind_terms gait todo rest time h.Made unheard = active_terms (stepped_gait gait) rest
+behind_terms gait todo rest time (h.Delay number ticks) unheard = paused_terms time ticks.count rest
+behind_terms gait todo rest time (h.Wait number terms) unheard = cc
 
 -- steps of a process by its places
 pub went_from : (steps : ℕ) (gait : Gait) (todo rest : Todo) (store behind : Store) (time : ℕ) (halt last : Halt) (old new : Place) (effect made : Effect) (changes all : List Change) →
@@ -176,10 +192,15 @@ pub went_from : (steps : ℕ) (gait : Gait) (todo rest : Todo) (store behind : S
     ((t : Todo) → new ≡ place_behind (going gait t) time (next_of last rest)) → made ≡ effect_in halt effect → Went steps old store time new made behind changes all
 went_from steps gait todo rest store behind time halt last old new effect made changes all here active went leads is = by_rest went.rest
   where
-    there : Place
-    there = going (gait_behind went.before gait) went.mid
+    -- behind a step that stays active, calm ones
+    on_from : next_of halt went.next ≡ on went.next → CalmlyTo went.more went.next behind time last rest → ((step went.mid store time).write ≡ None) ⊎ (terms_of new ≡ []) →
+        Went steps old store time new made behind changes all
+    on_from stays calm kept =
+        went_by steps gait todo rest store behind time halt last old (active_at (stepped_gait gait) went.next) new effect made changes all here active went is
+        (ap (λ (g : Gait). active_at g went.next) (sym (steady went.before gait)) ∙ ap (place_behind (going (gait_behind went.before gait) went.mid) time) (sym stays))
+        (calms_to went.more gait went.next rest behind time last new calm leads) (λ some. kept)
 
-    by_rest : ((went.more ≡ 0) × (last ≡ halt) × (rest ≡ went.next)) ⊎ ((halt ≡ h.Made) × CalmlyTo went.more went.next store time last rest) → Went steps old store time new made behind changes all
+    by_rest : IsFollowed went.more went.next behind time halt last rest → Went steps old store time new made behind changes all
     by_rest (inl none) =
         went_by steps gait todo rest store behind time halt last old new new effect made changes all here active went is
         (leads went.mid
@@ -187,10 +208,7 @@ went_from steps gait todo rest store behind time halt last old new effect made c
         ∙ ap (λ (t : Todo). place_behind (going gait went.mid) time (next_of halt t)) none.2
         ∙ leads_same went.before gait went.mid went.next time halt)
         (subst (λ (k : ℕ). AreCalm k new behind time new) (sym none.0) refl) (λ some. absurd (omega (arith, some, none.0)))
-    by_rest (inr on) =
-        let next : Place = active_at (stepped_gait gait) went.next in
-        let none : (step went.mid store time).write ≡ None = subst (λ (k : Halt). IsStill k (step went.mid store time).write) on.0 went.took.still in
-        let same : behind ≡ store = went.took.written ∙ ap (store_behind store) none in
-        went_by steps gait todo rest store behind time halt last old next new effect made changes all here active went is
-        (ap (λ (g : Gait). active_at g went.next) (sym (steady went.before gait)) ∙ ap (λ (k : Halt). place_behind there time (next_of k went.next)) (sym on.0))
-        (subst (λ (s : Store). AreCalm went.more next s time new) (sym same) (calms_to went.more gait went.next rest store time last new on.1 leads)) (λ some. none)
+    by_rest (inr (inl acted)) =
+        on_from (ap (λ (k : Halt). next_of k went.next) acted.0) acted.1 (inl (subst (λ (k : Halt). IsStill k (step went.mid store time).write) acted.0 went.took.still))
+    by_rest (inr (inr wrote)) =
+        on_from (ap (λ (k : Halt). next_of k went.next) wrote.0) wrote.2 (inr (ap terms_of (leads went.mid) ∙ behind_terms gait went.mid rest time last wrote.1))

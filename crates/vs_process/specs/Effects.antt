@@ -1,5 +1,5 @@
 -- What the code answers of a step, and of steps one after another, as the definition's.
-use Rattle.std.specs.Prelude.{ℕ, zero, suc, ◌≡◌, ◌+◌, ◌<◌, ◌++◌, Bool, true, false, None, List}
+use Rattle.std.specs.Prelude.{ℕ, zero, suc, ◌≡◌, ◌+◌, ◌<◌, ◌++◌, ◌⊎◌, Bool, true, false, None, List, []}
 use Rattle.vs_design.specs.Stores.{Store}
 use Rattle.vs_flatcode.specs.declared.changes.Change.{Change}
 use Rattle.vs_flatcode.specs.declared.made.Effect.{Effect}
@@ -8,7 +8,7 @@ use Rattle.vs_flatcode.specs.Changes.{store_behind, changes_of}
 use Rattle.vs_flatcode.specs.Landings.{out_of}
 use Rattle.vs_flatcode.specs.Places.{Place, is_going, todo_of}
 use Rattle.vs_flatcode.specs.Steps.{Out, step}
-use Rattle.vs_process.specs.States.{place_behind}
+use Rattle.vs_process.specs.States.{place_behind, terms_of}
 
 -- an active process at `old`, of whose step this comes at a time, is at `new` behind it, with this effect
 abbrev pub Leads : Out → Place → ℕ → Place → Effect → Type 0
@@ -41,7 +41,8 @@ AreCalm zero old store time new = new ≡ old
 AreCalm (suc n) old store time new = (mid : Place) × AreCalm n old store time mid × IsCalm mid store time new
 
 -- an active process took so many steps: some that do nothing beyond it, then one that has this effect, leaves the store so, and puts the words that it
--- changes behind a list, and where it changes none, some that neither write nor have an effect
+-- changes behind a list, and some that neither write nor have an effect; where there are any of these, that one writes nothing, or the process waits for no
+-- event behind the last
 pub record Went (steps : ℕ) (old : Place) (store : Store) (time : ℕ) (new : Place) (effect : Effect) (behind : Store) (changes all : List Change) : Type 0 where
   pub before : ℕ
   pub more : ℕ
@@ -53,7 +54,7 @@ pub record Went (steps : ℕ) (old : Place) (store : Store) (time : ℕ) (new : 
   pub written : behind ≡ store_behind store (step (todo_of mid) store time).write
   pub noted : all ≡ changes ++ changes_of store (step (todo_of mid) store time).write
   pub calm : AreCalm more next behind time new
-  pub kept : 0 < more → (step (todo_of mid) store time).write ≡ None
+  pub kept : 0 < more → ((step (todo_of mid) store time).write ≡ None) ⊎ (terms_of new ≡ [])
 
 -- the effect of a step, where it has one
 abbrev pub effect_if : Bool → Effect → Effect

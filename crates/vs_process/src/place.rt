@@ -210,9 +210,10 @@ impl<'a> Place<'a> {
     }
 
     /// Steps of an active process (IEEE 1364-2005, clauses 9.2 and 9.7) at `time`, in ticks, one after another while they do nothing beyond it and it
-    /// stays active, and where the last of these has an effect, the turns of `forever` and the timing control behind it, at most so many in all: where
-    /// it goes from there, and in `effect` what they do to the rest of the state, where they do any. The write of a blocking assignment is made in the
-    /// store, and the words that it changes go to `changes`. Without memory the process is still active, and the store is as it was.
+    /// stays active, and where the last of these has an effect, the turns of `forever` and the timing control behind it, or where it writes, the turns of
+    /// `forever` and the delay behind it, at most so many in all: where it goes from there, and in `effect` what they do to the rest of the state, where
+    /// they do any. The write of a blocking assignment is made in the store, and the words that it changes go to `changes`. Without memory the process is
+    /// still active, and the store is as it was.
     #[inline(always)]
     pub fn steps(
         &mut self,

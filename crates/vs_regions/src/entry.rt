@@ -54,6 +54,14 @@ pub(crate) fn enter<Q: EventQueue<Item>>(
     enter_queue(alloc, queue, update)
 }
 
+/// An update that is due goes to its list; the answer is whether it found room there. It stands apart, as the update would be cleared for the processes too.
+#[inline(never)]
+fn place_update(update: Held, due: &mut VecDeque<Update>) -> bool
+    ensures { result ≡ true → due.new.items ≡ due.old.items ++ update ∷ [] }
+{
+    due.push_back(update.take()).is_ok()
+}
+
 /// A process whose delay is over, or an update that is due, goes to its list; the answer is whether it found room there.
 #[inline(always)]
 fn place(item: Item, due: &mut VecDeque<Update>, woken: &mut Vec<usize>) -> bool
@@ -62,11 +70,12 @@ fn place(item: Item, due: &mut VecDeque<Update>, woken: &mut Vec<usize>) -> bool
 {
     match item {
         Item::Wake(process) => woken.push(process).is_ok(),
-        Item::Late(update) => due.push_back(update.take()).is_ok(),
+        Item::Late(update) => place_update(update, due),
     }
 }
 
 /// The items of a time go to their lists; the answer is whether all found room there.
+#[inline(always)]
 pub(crate) fn take_due<Q: EventQueue<Item>>(
     queue: &mut Q,
     due: &mut VecDeque<Update>,

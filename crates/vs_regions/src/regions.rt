@@ -242,6 +242,7 @@ impl<Q: EventQueue<Item>> Regions<Q> {
 
     /// Time goes to the least at which something is due, in ticks: the processes whose delay ends then are noted in `woken`, behind what is there,
     /// and the updates of that time are due in the slot. Without memory these updates are lost, and `woken` may lack some of the processes.
+    #[inline(always)]
     pub fn advance(&mut self, time: u64, woken: &mut Vec<usize>) -> Result<(), AllocError>
         requires idle { list_any is_active self.old.updates ≡ false }
         requires done { list_any (states.is_due self.old.time) self.old.updates ≡ false }

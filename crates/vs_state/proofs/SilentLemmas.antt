@@ -1,5 +1,5 @@
 -- Steps of a process, one after another.
-use Rattle.std.proofs.Common.{◌≡◌, ◌<◌, ◌≤◌, ℕ, zero, suc, true, false, Option, Some, None, List, [], ◌∷◌, slice_get, slice_set, refl, sym, ◌∙◌, ap, subst, arith}
+use Rattle.std.proofs.Common.{◌≡◌, ◌<◌, ◌≤◌, ◌⊎◌, ⊎_elim, inl, inr, ℕ, zero, suc, true, false, Option, Some, None, List, [], ◌∷◌, slice_get, slice_set, refl, sym, ◌∙◌, ap, subst, arith}
 use Rattle.std.proofs.lemmas.Bool.{false≢true}
 use Rattle.vs_design.specs.declared.design.Process.{Process}
 use Rattle.vs_design.specs.Parts.{Parts}
@@ -25,7 +25,7 @@ use Rattle.vs_state.specs.Silent.{AreHushed, AreSilent, IsHushed, IsReached, IsS
 use Rattle.vs_state.specs.Touches.{behind_effect, woken_changes}
 use Rattle.vs_state.specs.Waits.{WaitWithin, triggered_changes}
 use Rattle.vs_state.proofs.PrintsLemmas.{step_line}
-use Rattle.vs_state.proofs.WaitsLemmas.{stepped_by, within_set, within_step}
+use Rattle.vs_state.proofs.WaitsLemmas.{stepped_by, triggered_set, triggered_there, within_set, written_terms}
 
 -- a step leaves the time
 behind_time : (s : State) (w : Option Write) → (written_behind s w).time ≡ s.time
@@ -100,11 +100,7 @@ pub glides_silent : (n : ℕ) (s : State) (i : ℕ) (x y : Place) → slice_get 
 glides_silent zero s i x y here h = stands_there s i x y here h
 glides_silent (suc n) s i x y here h = (standing s i h.0, glides_silent n s i x h.0 here h.1, still_silent s i x h.0 y here h.2)
 
--- and leave the process active
-pub glides_going : (n : ℕ) (x y : Place) (store : Store) (time : ℕ) → is_going x ≡ true → Glides n x store time y → is_going y ≡ true
-glides_going zero x y store time active h = ap is_going h ∙ active
-glides_going (suc n) x y store time active h = h.2.going
-
+-- an active process waits for nothing
 going_terms : (x : Place) → is_going x ≡ true → terms_of x ≡ []
 going_terms (going gait todo) h = refl
 going_terms (sleeping due todo) h = cc
@@ -112,36 +108,21 @@ going_terms (inactive todo) h = refl
 going_terms (waiting terms todo) h = cc
 going_terms ended h = refl
 
--- the process waits within its text where it stands active
-pub within_standing : (ps : List Process) (s : State) (i : ℕ) (y : Place) → is_going y ≡ true → WaitWithin ps s.places → WaitWithin ps (standing s i y).places
-within_standing ps s i y active h = within_set ps s.places i y (going_terms y active) h
+-- and a process that takes a calm step is active
+calm_going : (n : ℕ) (x y : Place) (store : Store) (time : ℕ) → AreCalm (suc n) x store time y → is_going x ≡ true
+calm_going zero x y store time h = sym (ap is_going h.1) ∙ h.2.going
+calm_going (suc n) x y store time h = calm_going n x h.0 store time h.1
 
 -- ---- what is behind the step that is seen
 
 -- an effect leaves the store, the places and the time
-effect_store : (s : State) (i : ℕ) (effect : Effect) → (behind_effect s i effect).store ≡ s.store
-effect_store s i e.Nothing = refl
-effect_store s i (e.Part ticks p) = refl
-effect_store s i (e.Update ticks u) = refl
-effect_store s i (e.Strobe f) = refl
-effect_store s i (e.Line text) = refl
-effect_store s i e.Finish = refl
-
-effect_time : (s : State) (i : ℕ) (effect : Effect) → (behind_effect s i effect).time ≡ s.time
-effect_time s i e.Nothing = refl
-effect_time s i (e.Part ticks p) = refl
-effect_time s i (e.Update ticks u) = refl
-effect_time s i (e.Strobe f) = refl
-effect_time s i (e.Line text) = refl
-effect_time s i e.Finish = refl
-
-effect_places : (s : State) (i : ℕ) (effect : Effect) → (behind_effect s i effect).places ≡ s.places
-effect_places s i e.Nothing = refl
-effect_places s i (e.Part ticks p) = refl
-effect_places s i (e.Update ticks u) = refl
-effect_places s i (e.Strobe f) = refl
-effect_places s i (e.Line text) = refl
-effect_places s i e.Finish = refl
+effect_keeps : (s : State) (i : ℕ) (effect : Effect) → let t : State = behind_effect s i effect in (t.store ≡ s.store) × (t.places ≡ s.places) × (t.time ≡ s.time)
+effect_keeps s i e.Nothing = (refl, refl, refl)
+effect_keeps s i (e.Part ticks p) = (refl, refl, refl)
+effect_keeps s i (e.Update ticks u) = (refl, refl, refl)
+effect_keeps s i (e.Strobe f) = (refl, refl, refl)
+effect_keeps s i (e.Line text) = (refl, refl, refl)
+effect_keeps s i e.Finish = (refl, refl, refl)
 
 -- and a place may be set before it, or behind it
 effect_standing : (s : State) (i : ℕ) (effect : Effect) (x : Place) → standing (behind_effect s i effect) i x ≡ behind_effect (standing s i x) i effect
@@ -157,39 +138,47 @@ abbrev behind_seen : State → ℕ → ℕ → Store → List Place → List Ass
 behind_seen s i time store places assigns updates effect =
     behind_effect (record s { store = store; places = places; assigns = assigns; time = time; updates = updates }) i effect
 
+-- a place may be set behind the words that are changed, where none is or its process waits for nothing
+set_behind : (cs : List Change) (xs : List Place) (i : ℕ) (y : Place) → (cs ≡ []) ⊎ (terms_of y ≡ []) → triggered_changes cs (slice_set xs i y) ≡ slice_set (triggered_changes cs xs) i y
+set_behind cs xs i y (inl none) = ap (λ (c : List Change). triggered_changes c (slice_set xs i y)) none ∙ sym (ap (λ (c : List Change). slice_set (triggered_changes c xs) i y) none)
+set_behind cs xs i y (inr none) = triggered_set cs xs i y none
+
 -- behind it the others are hushed
 rest_hushed : (more i time : ℕ) (s t : State) (store : Store) (cs : List Change) (set places : List Place) (assigns : List AssignState) (updates : List Update) (effect : Effect) (from next to : Place) →
-    slice_get s.places i ≡ Some from → AreCalm more next store s.time to → (0 < more → cs ≡ []) → set ≡ slice_set s.places i to → places ≡ triggered_changes cs set → time ≡ s.time →
+    slice_get s.places i ≡ Some from → AreCalm more next store s.time to → (0 < more → (cs ≡ []) ⊎ (terms_of to ≡ [])) → set ≡ slice_set s.places i to → places ≡ triggered_changes cs set → time ≡ s.time →
     t ≡ behind_seen s i time store places assigns updates effect →
     AreHushed more i (behind_seen s i time store (triggered_changes cs (slice_set s.places i next)) assigns updates effect) t
 rest_hushed zero i time s t store cs set places assigns updates effect from next to here calm kept is triggered still made =
     made ∙ ap (λ (l : List Place). behind_seen s i time store l assigns updates effect) (triggered ∙ ap (triggered_changes cs) (is ∙ ap (slice_set s.places i) calm))
 rest_hushed (suc n) i time s t store cs set places assigns updates effect from next to here calm kept is triggered still made =
-    let none : cs ≡ [] = kept (omega arith) in
-    let there : List Place = slice_set s.places i next in
+    let start : List Place = slice_set s.places i next in
+    let there : List Place = triggered_changes cs start in
     let v : State = behind_seen s i time store there assigns updates effect in
     let r : State = record s { store = store; places = there; assigns = assigns; time = time; updates = updates } in
-    let same : triggered_changes cs there ≡ there = ap (λ (c : List Change). triggered_changes c there) none in
-    let stands : slice_get v.places i ≡ Some next = ap (λ (l : List Place). slice_get l i) (effect_places r i effect) ∙ set_same s.places i from next here in
+    let keeps = effect_keeps r i effect in
+    let stands : slice_get v.places i ≡ Some next =
+    ap (λ (l : List Place). slice_get l i) keeps.1 ∙ triggered_there cs start i next (going_terms next (calm_going n next to store s.time calm)) (set_same s.places i from next here)
+    in
     let calms : AreCalm (suc n) next v.store v.time to =
-    subst (λ (k : ℕ). AreCalm (suc n) next v.store k to) (sym (effect_time r i effect ∙ still)) (subst (λ (b : Store). AreCalm (suc n) next b s.time to) (sym (effect_store r i effect)) calm)
+    subst (λ (k : ℕ). AreCalm (suc n) next v.store k to) (sym (keeps.2 ∙ still)) (subst (λ (b : Store). AreCalm (suc n) next b s.time to) (sym keeps.0) calm)
     in
     let ends : t ≡ standing v i to =
     made
-    ∙ ap (λ (l : List Place). behind_seen s i time store l assigns updates effect) (triggered ∙ ap (λ (c : List Change). triggered_changes c set) none ∙ is ∙ sym (set_twice s.places i next to))
+    ∙ ap (λ (l : List Place). behind_seen s i time store l assigns updates effect)
+    (triggered ∙ ap (triggered_changes cs) (is ∙ sym (set_twice s.places i next to)) ∙ set_behind cs start i to (kept (omega arith)))
     ∙ sym (effect_standing r i effect to)
     in
-    subst (λ (a : State). AreHushed (suc n) i a t) (ap (λ (l : List Place). behind_seen s i time store l assigns updates effect) (sym same))
-    (subst (AreHushed (suc n) i v) (sym ends) (calms_hushed (suc n) v i next to stands calms))
+    subst (AreHushed (suc n) i v) (sym ends) (calms_hushed (suc n) v i next to stands calms)
 
 -- the step that is seen of some, of the process where those before it have led it
 pub seen_at : (s : State) (steps i : ℕ) (set : List Place) (effect : Effect) (store : Store) (cs : List Change) (h : WentAt steps s.places i s.store s.time set effect store [] cs) →
     StepsAt (standing s i h.went.mid).places i s.store s.time (slice_set s.places i h.went.next) effect
 seen_at s steps i set effect store cs h = steps_at s i h.from h.went.mid h.went.next effect h.here h.went.stepped
 
--- where others are behind it, it changes no word
-kept_words : (s : State) (steps i : ℕ) (set : List Place) (effect : Effect) (store : Store) (cs : List Change) (h : WentAt steps s.places i s.store s.time set effect store [] cs) → 0 < h.went.more → cs ≡ []
-kept_words s steps i set effect store cs h some = h.went.noted ∙ ap (changes_of s.store) (h.went.kept some)
+-- where others are behind it, it changes no word, or the process waits for nothing behind the last
+kept_words : (s : State) (steps i : ℕ) (set : List Place) (effect : Effect) (store : Store) (cs : List Change) (h : WentAt steps s.places i s.store s.time set effect store [] cs) → 0 < h.went.more →
+    (cs ≡ []) ⊎ (terms_of h.to ≡ [])
+kept_words s steps i set effect store cs h some = ⊎_elim (λ none. inl (h.went.noted ∙ ap (changes_of s.store) none)) (λ none. inr none) (h.went.kept some)
 
 -- steps of which one is seen: where they lead, and the line
 pub steps_made : {s now : State} (same : s ≡ now) (steps i time : ℕ) (store : Store) (cs : List Change) (set places : List Place) (assigns : List AssignState) (updates : List Update) (effect : Effect)
@@ -218,27 +207,27 @@ steps_made {s} {now} same steps i time store cs set places assigns updates effec
     } in
     subst (λ (r : State). Steps steps i r t line) same all
 
--- where the step that is seen changes a word, no other is behind it
-alone : (s : State) (steps i : ℕ) (set : List Place) (effect : Effect) (store : Store) (cs : List Change) (h : WentAt steps s.places i s.store s.time set effect store [] cs) → has_nothing cs ≡ false →
-    set ≡ slice_set s.places i h.went.next
-alone s steps i set effect store cs h some = h.set ∙ ap (slice_set s.places i) (by_more h.went.more h.went.calm (kept_words s steps i set effect store cs h))
+-- where one of them changes a word, the process waits for nothing behind the last
+waits_for_nothing : (s : State) (steps i : ℕ) (set : List Place) (effect : Effect) (store : Store) (cs : List Change) (h : WentAt steps s.places i s.store s.time set effect store [] cs) → has_nothing cs ≡ false →
+    terms_of h.to ≡ []
+waits_for_nothing s steps i set effect store cs h some = by_more h.went.more h.went.calm (kept_words s steps i set effect store cs h)
   where
-    by_more : (more : ℕ) → AreCalm more h.went.next store s.time h.to → (0 < more → cs ≡ []) → h.to ≡ h.went.next
-    by_more zero calm kept = calm
-    by_more (suc n) calm kept = absurd (false≢true (sym some ∙ ap (λ (l : List Change). has_nothing l) (kept (omega arith))))
+    some_word : cs ≡ [] → ⊥
+    some_word none = false≢true (sym some ∙ ap (λ (l : List Change). has_nothing l) none)
 
--- where one of them changes a word, the processes wait within their texts behind it
+    by_write : (w : Option Write) → (step (todo_of h.went.mid) s.store s.time).write ≡ w → terms_of h.went.next ≡ []
+    by_write None is = absurd (some_word (h.went.noted ∙ ap (changes_of s.store) is))
+    by_write (Some v) is = written_terms h.went.mid h.went.next s.store s.time v effect h.went.stepped is
+
+    by_more : (more : ℕ) → AreCalm more h.went.next store s.time h.to → (0 < more → (cs ≡ []) ⊎ (terms_of h.to ≡ [])) → terms_of h.to ≡ []
+    by_more zero calm kept = ap terms_of calm ∙ by_write (step (todo_of h.went.mid) s.store s.time).write refl
+    by_more (suc n) calm kept = ⊎_elim (λ none. absurd (some_word none)) (λ none. none) (kept (omega arith))
+
+-- so the processes wait within their texts behind it
 pub went_within : {s now : State} (same : s ≡ now) (ps : List Process) (steps i : ℕ) (set : List Place) (effect : Effect) (store : Store) (cs : List Change) →
-    WentAt steps s.places i s.store s.time set effect store [] cs → if_some is_going (slice_get now.places i) ≡ true → has_nothing cs ≡ false → WaitWithin ps now.places → WaitWithin ps set
-went_within {s} {now} same ps steps i set effect store cs h active some within =
-    let mid : Place = h.went.mid in
-    let m : State = standing s i mid in
-    let there : List Place = slice_set s.places i h.went.next in
-    let from_active : is_going h.from ≡ true = sym (ap (if_some is_going) h.here) ∙ ap (λ (r : State). if_some is_going (slice_get r.places i)) same ∙ active in
-    let words : cs ≡ changes_of s.store (step_write (slice_get m.places i) s.store s.time) = h.went.noted ∙ ap (changes_of s.store) (writes_at s i h.from mid h.here) in
-    subst (WaitWithin ps) (sym (alone s steps i set effect store cs h some))
-    (within_step ps m.places there i s.store s.time effect (seen_at s steps i set effect store cs h) (sym (ap (λ (l : List Change). has_nothing l) words) ∙ some)
-    (within_standing ps s i mid (glides_going h.went.before h.from mid s.store s.time from_active h.went.still) (subst (λ (r : State). WaitWithin ps r.places) (sym same) within)))
+    WentAt steps s.places i s.store s.time set effect store [] cs → has_nothing cs ≡ false → WaitWithin ps now.places → WaitWithin ps set
+went_within {s} {now} same ps steps i set effect store cs h some within =
+    subst (WaitWithin ps) (sym h.set) (within_set ps s.places i h.to (waits_for_nothing s steps i set effect store cs h some) (subst (λ (r : State). WaitWithin ps r.places) (sym same) within))
 
 -- one step
 pub one_step : (n i : ℕ) (s t : State) (line : List ℕ) → Steps n i s t line → n ≤ 1 → (t ≡ apply (Step i) s) × (line ≡ made_text (made_line (Step i) s))

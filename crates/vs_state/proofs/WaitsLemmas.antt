@@ -1,5 +1,5 @@
 -- Which processes the words wake that a write changes, and what a step does.
-use Rattle.std.proofs.Common.{◌≡◌, ℕ, zero, suc, ◌+◌, ◌||◌, ◌&&◌, Bool, true, false, Option, Some, None, List, [], ◌∷◌, ◌++◌, map, length, slice_get, slice_set, if◌then◌else◌, refl, sym, ◌∙◌, ap, ap₂, subst, arith, append_assoc}
+use Rattle.std.proofs.Common.{◌≡◌, ℕ, zero, suc, ◌+◌, ◌||◌, ◌&&◌, Bool, true, false, Option, Some, None, List, [], ◌∷◌, ◌++◌, map, length, slice_get, slice_set, if◌then◌else◌, refl, sym, ◌∙◌, ap, ap₂, arith, append_assoc}
 use Rattle.std.specs.List.{list_any}
 use Rattle.std.proofs.lemmas.Bool.{or_parts, false_from_ne_true, false≢true}
 use Rattle.std.proofs.Math.Bool.{or-false}
@@ -25,7 +25,7 @@ use Rattle.vs_edges.proofs.WakingLemmas.{same_wakes_none, waking_by_parts}
 use Rattle.vs_flatcode.specs.Places.{perform, turns, Todo, Place, going, sleeping, inactive, waiting, ended, active_at, stepped_gait, todo_of, is_going}
 use Rattle.vs_flatcode.specs.declared.changes.Change.{Change}
 use Rattle.vs_flatcode.specs.Changes.{changed_word, changed_words, store_behind, changes_of}
-use Rattle.vs_flatcode.specs.Steps.{Next, on, Out, step, statement_step, has_nothing}
+use Rattle.vs_flatcode.specs.Steps.{Next, on, Out, step, statement_step}
 use Rattle.vs_design.specs.declared.statement.Statement.{Statement}
 use Rattle.vs_design.specs.declared.statement.Statement.TheOpen.{Statement-F}
 use Rattle.vs_design.specs.declared.statement.Statement.TheViews.{out-Statement}
@@ -38,6 +38,7 @@ use Rattle.vs_process.specs.Effects.{Stepped}
 use Rattle.vs_process.specs.Executions.{if_some}
 use Rattle.vs_process.specs.States.{State, AssignState, Update, Called, terms_of, triggered, touched, wakened, written, written_behind, performed, stepped, place_behind}
 use Rattle.vs_process.proofs.Assigns.{nothing_changed}
+use Rattle.vs_process.proofs.Lists.{map_at}
 use Rattle.vs_process.proofs.Waking.{wakened-triggered}
 use Rattle.vs_places.proofs.ChangedLemmas.{changed_behind}
 use Rattle.vs_places.specs.Timelines.{StepsAt, step_write}
@@ -256,7 +257,7 @@ on_terms (waiting terms todo) time rest = refl
 on_terms ended time rest = refl
 
 -- where a step writes, the process waits for nothing behind it
-written_terms : (x y : Place) (store : Store) (time : ℕ) (w : Write) (effect : Effect) → Stepped x store time y effect → (step (todo_of x) store time).write ≡ Some w → terms_of y ≡ []
+pub written_terms : (x y : Place) (store : Store) (time : ℕ) (w : Write) (effect : Effect) → Stepped x store time y effect → (step (todo_of x) store time).write ≡ Some w → terms_of y ≡ []
 written_terms x y store time w effect h is =
     let found = step_written (todo_of x) store time w is in
     ap terms_of (h.1 ∙ ap (place_behind x time) found.1) ∙ on_terms x time found.0
@@ -269,23 +270,33 @@ within_set (p ∷ ps) [] i y none h = absurd h
 within_set (p ∷ ps) (x ∷ xs) zero y none h = (waits_for_none p y none, h.1)
 within_set (p ∷ ps) (x ∷ xs) (suc i) y none h = (h.0, within_set ps xs i y none h.1)
 
--- where a step changes a word, the processes wait within their texts behind it
-pub within_step : (ps : List Process) (xs ys : List Place) (i : ℕ) (store : Store) (time : ℕ) (effect : Effect) → StepsAt xs i store time ys effect →
-    has_nothing (changes_of store (step_write (slice_get xs i) store time)) ≡ false → WaitWithin ps xs → WaitWithin ps ys
-within_step ps xs ys i store time effect h some within =
-    by_write (step (todo_of h.from) store time).write refl (sym (ap (λ (o : Option Place). has_nothing (changes_of store (step_write o store time))) h.here) ∙ some)
-  where
-    by_write : (w : Option Write) → (step (todo_of h.from) store time).write ≡ w → has_nothing (changes_of store (step (todo_of h.from) store time).write) ≡ false → WaitWithin ps ys
-    by_write None is more = absurd (false≢true (sym more ∙ ap (λ (o : Option Write). has_nothing (changes_of store o)) is))
-    by_write (Some v) is more = subst (WaitWithin ps) (sym h.set) (within_set ps xs i h.to (written_terms h.from h.to store time v effect h.stepped is) within)
-
 unwakened : (old new : Store) (y : Place) → terms_of y ≡ [] → wakened old new y ≡ y
 unwakened old new y h = wakened-triggered old new y ∙ ap (λ (terms : List EventTerm). if wake_any terms old new then triggered y else y) h
 
-wakened_set : (old new : Store) (xs : List Place) (i : ℕ) (y : Place) → terms_of y ≡ [] → map (wakened old new) (slice_set xs i y) ≡ slice_set (map (wakened old new) xs) i y
-wakened_set old new [] i y none = refl
-wakened_set old new (x ∷ xs) zero y none = ap (λ (z : Place). z ∷ map (wakened old new) xs) (unwakened old new y none)
-wakened_set old new (x ∷ xs) (suc i) y none = ap (λ (l : List Place). wakened old new x ∷ l) (wakened_set old new xs i y none)
+-- what leaves a place may be done before it is set, or behind
+map_set : (f : Place → Place) (xs : List Place) (i : ℕ) (y : Place) → f y ≡ y → map f (slice_set xs i y) ≡ slice_set (map f xs) i y
+map_set f [] i y same = refl
+map_set f (x ∷ xs) zero y same = ap (λ (z : Place). z ∷ map f xs) same
+map_set f (x ∷ xs) (suc i) y same = ap (λ (l : List Place). f x ∷ l) (map_set f xs i y same)
+
+-- changes leave a process that waits for nothing
+untriggered_by : (c : Change) (y : Place) → terms_of y ≡ [] → triggered_by c.signal c.word (Some c.before) (Some c.behind) y ≡ y
+untriggered_by c y none =
+    untriggered c.signal c.word (Some c.before) (Some c.behind) y (ap (λ (terms : List EventTerm). word_wakes terms c.signal c.word (Some c.before) (Some c.behind)) none)
+
+-- so such a process may be set before the changes, or behind them
+pub triggered_set : (cs : List Change) (xs : List Place) (i : ℕ) (y : Place) → terms_of y ≡ [] → triggered_changes cs (slice_set xs i y) ≡ slice_set (triggered_changes cs xs) i y
+triggered_set [] xs i y none = refl
+triggered_set (c ∷ cs) xs i y none =
+    let f : Place → Place = triggered_by c.signal c.word (Some c.before) (Some c.behind) in
+    ap (triggered_changes cs) (map_set f xs i y (untriggered_by c y none)) ∙ triggered_set cs (map f xs) i y none
+
+-- and stands there behind them
+pub triggered_there : (cs : List Change) (xs : List Place) (i : ℕ) (y : Place) → terms_of y ≡ [] → slice_get xs i ≡ Some y → slice_get (triggered_changes cs xs) i ≡ Some y
+triggered_there [] xs i y none here = here
+triggered_there (c ∷ cs) xs i y none here =
+    let f : Place → Place = triggered_by c.signal c.word (Some c.before) (Some c.behind) in
+    triggered_there cs (map f xs) i y none (map_at f xs i y here ∙ ap Some (untriggered_by c y none))
 
 or-true : (b : Bool) → (b || true) ≡ true
 or-true true = refl
@@ -329,7 +340,7 @@ written_parts s i y None none = (refl, refl, refl)
 written_parts s i y (Some v) none = (
   refl,
   changes_touch v s.store s.assigns,
-  changes_wake_places v s.store (slice_set s.places i y) ∙ wakened_set s.store (put s.store v) s.places i y (none v refl),
+  changes_wake_places v s.store (slice_set s.places i y) ∙ map_set (wakened s.store (put s.store v)) s.places i y (unwakened s.store (put s.store v) y (none v refl)),
 )
 
 -- a step of a process: its place, its write, what follows from the words that this changes, and the rest

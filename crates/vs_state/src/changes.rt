@@ -145,6 +145,38 @@ fn mark_signals(marks: &mut Vec<u64>, changes: &Vec<Change>)
     }
 }
 
+/// What follows from a word that a write has changed, as from a list of it.
+#[inline(never)]
+fn follow_one<Q: EventQueue<Item>>(
+    assigns: &mut Assigns,
+    processes: &mut Processes<Q>,
+    woken: &mut Woken,
+    design: &Design,
+    change: &Change,
+    marks: &mut Vec<u64>,
+) -> Result<(), AllocError>
+    requires size { length change.now.before ≡ length change.now.behind }
+    requires sources { AreOf design.now assigns.old }
+    requires terms { WaitWithin design.now.processes processes.old.places }
+    ensures assigns { OnOk result (assigns.new ≡ woken_changes (change.now ∷ []) assigns.old) }
+    ensures places { OnOk result (processes.new.places ≡ triggered_changes (change.now ∷ []) processes.old.places) }
+    ensures time { processes.new.time ≡ processes.old.time }
+    ensures updates { processes.new.updates ≡ processes.old.updates }
+    ensures marked { MarkWords marks.old.items marks.new.items (change.now ∷ []) }
+{
+    mark(marks, change.signal);
+    wake_word(
+        assigns,
+        processes,
+        woken,
+        design,
+        change.signal,
+        change.word,
+        change.before,
+        change.behind,
+    )
+}
+
 /// What follows from the words that a write has changed, of which there are some.
 #[inline(never)]
 fn follow_each<Q: EventQueue<Item>>(
@@ -195,6 +227,9 @@ pub(crate) fn follow<Q: EventQueue<Item>>(
 {
     if changes.is_empty() {
         return Ok(());
+    }
+    if changes.len() == 1 {
+        return follow_one(assigns, processes, woken, design, &changes[0], marks);
     }
     follow_each(assigns, processes, woken, design, changes, marks)
 }

@@ -102,8 +102,8 @@ impl<'a, Q: EventQueue<Item>> State<'a, Q> {
     }
 
     /// Takes steps of an active process, one after another while they do nothing beyond it and it stays active, and where the last of these has an
-    /// effect, the turns of `forever` and the timing control behind it, at most so many in all; each is made as `make` makes it. The line that they make
-    /// takes the place of `line`.
+    /// effect, the turns of `forever` and the timing control behind it, or where it writes, the turns of `forever` and the delay behind it, at most so many
+    /// in all; each is made as `make` makes it. The line that they make takes the place of `line`.
     #[inline(always)]
     pub fn steps(
         &mut self,
@@ -193,6 +193,7 @@ impl<'a, Q: EventQueue<Item>> State<'a, Q> {
         ensures made { OnOk result (self.new ≡ states.evaluate self.old assign (slice_get self.old.assigns assign)) }
         ensures store { self.new.store ≡ self.old.store }
     {
+        self.woken.clear();
         let time = self.processes.time();
         self.assigns
             .evaluate(assign, self.alloc, &self.store, time)?;
@@ -363,13 +364,26 @@ impl<'a, Q: EventQueue<Item>> State<'a, Q> {
         self.update_parts(design, index, marks)
     }
 
-    /// The slot ends: time goes to the least due time, or the execution is over.
-    fn end_slot(&mut self) -> Result<(), AllocError>
+    /// The updates that are due in the slot are activated, as `make` does it.
+    #[inline(always)]
+    pub fn activate(&mut self)
+        requires enabled { executions.is_enabled self.old Move.Activate ≡ true }
+        ensures made { self.new ≡ executions.apply Move.Activate self.old }
+        ensures store { self.new.store ≡ self.old.store }
+    {
+        self.woken.clear();
+        self.processes.activate();
+    }
+
+    /// The slot ends, as `make` ends it: time goes to the least due time, or the execution is over.
+    #[inline(always)]
+    pub fn end_slot(&mut self) -> Result<(), AllocError>
         requires going { self.old.over ≡ false }
         requires enabled { executions.is_enabled self.old Move.EndSlot ≡ true }
         ensures made { OnOk result (self.new ≡ executions.apply Move.EndSlot self.old) }
         ensures store { self.new.store ≡ self.old.store }
     {
+        self.woken.clear();
         self.calls.clear();
         if self.finishing {
             self.over = true;
@@ -380,6 +394,17 @@ impl<'a, Q: EventQueue<Item>> State<'a, Q> {
             Some(time) => self.processes.advance(time, &mut self.woken.processes)?,
         }
         Ok(())
+    }
+
+    /// The same, apart from the loop of a run.
+    #[inline(never)]
+    fn end_slot_apart(&mut self) -> Result<(), AllocError>
+        requires going { self.old.over ≡ false }
+        requires enabled { executions.is_enabled self.old Move.EndSlot ≡ true }
+        ensures made { OnOk result (self.new ≡ executions.apply Move.EndSlot self.old) }
+        ensures store { self.new.store ≡ self.old.store }
+    {
+        self.end_slot()
     }
 
     /// Makes an enabled move, and marks the signals that it may change; the line that it makes at once, with the line feed that
@@ -420,8 +445,8 @@ impl<'a, Q: EventQueue<Item>> State<'a, Q> {
                 return Ok(Made::loud());
             }
             Move::Rouse => self.processes.rouse_all(&mut self.woken.processes),
-            Move::Activate => self.processes.activate(),
-            Move::EndSlot => self.end_slot()?,
+            Move::Activate => self.activate(),
+            Move::EndSlot => self.end_slot_apart()?,
         }
         Ok(Made {
             again: false,

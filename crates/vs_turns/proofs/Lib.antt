@@ -1,5 +1,4 @@
 pub mod Appending
-pub mod AssignsLemmas
 pub mod MarkingLemmas
 pub mod MoveLemmas
 pub mod PrintsLemmas

@@ -1,5 +1,5 @@
 -- Marks behind moves.
-use Rattle.std.proofs.Common.{◌≡◌, ℕ, suc, ◌*◌, ◌<◌, Bool, true, false, if◌then◌else◌, Option, Some, None, List, [], ◌∷◌, length, refl, sym, ◌∙◌, ap, arith}
+use Rattle.std.proofs.Common.{◌≡◌, ℕ, suc, ◌*◌, ◌<◌, Bool, true, false, if◌then◌else◌, Option, Some, None, is_some, true≢false, List, [], ◌∷◌, length, refl, sym, ◌∙◌, ap, arith}
 use Rattle.std.specs.Prelude.{unwrap_or}
 use Rattle.std.proofs.lemmas.List.{length-map}
 use Rattle.std.proofs.lemmas.Option.{slice_get_within}
@@ -14,7 +14,7 @@ use Rattle.vs_vcd.specs.Codes.{is_array}
 use Rattle.vs_vcd.specs.CodeTables.{code_table}
 use Rattle.vs_state.proofs.MarkingLemmas.{unmarked}
 use Rattle.vs_vcd.specs.Progress.{Covers, HasWritten, Progress}
-use Rattle.vs_turns.specs.Recording.{CoversNoted, HasNoted}
+use Rattle.vs_turns.specs.Recording.{CoversNoted, HasNoted, HasRoom, IsRecording}
 
 -- ---- the marks cover what changes
 
@@ -56,7 +56,19 @@ pub noted_clear : (marks : List ℕ) (writer : Option Progress) (s : Store) → 
 noted_clear marks None s h = tt
 noted_clear marks (Some w) s h = covers_clear marks w s h
 
-pub noted_on : (writer : Option Progress) (known : Option (List ℕ)) (old new : List ℕ) (s t : Store) (d : Parts) (slots : List Slot) → HasNoted writer known d slots → length d.signals < 512 * length old →
-    CoversNoted old writer s → MarkChanges old new s t → CoversNoted new writer t
-noted_on None known old new s t d slots h room covers changes = tt
-noted_on (Some w) known old new s t d slots h room covers changes = covers_on old new s t h room covers changes
+-- the marks go on with what changes
+pub recording_on : (d : Parts) (old new : List ℕ) (writer : Option Progress) (known : Option (List ℕ)) (s t : Store) → IsRecording d old writer known s → MarkChanges old new s t → IsRecording d new writer known t
+recording_on d old new None known s t h changes = record { slots = h.slots; noted = h.noted; covers = tt; room = tt; few = omega (arith, h.few, changes.len) }
+recording_on d old new (Some w) known s t h changes = record {
+  slots = h.slots;
+  noted = h.noted;
+  covers = covers_on old new s t h.noted h.room h.covers changes;
+  room = omega (arith, h.room, changes.len);
+  few = omega (arith, h.few, changes.len);
+}
+
+-- there is room where a run that recorded before records still
+pub room_on : (d : Parts) (old new : List ℕ) (writer writer' : Option Progress) → HasRoom d old writer → length new ≡ length old → is_some writer' ≡ is_some writer → HasRoom d new writer'
+room_on d old new writer None h len same = tt
+room_on d old new None (Some w) h len same = absurd (true≢false same)
+room_on d old new (Some v) (Some w) h len same = omega (arith, h, len)

@@ -1,9 +1,7 @@
 -- Steps of a run, one after another.
-use Rattle.std.proofs.Common.{◌≡◌, ℕ, zero, suc, ◌≤◌, ◌+◌, ◌*◌, ◌<◌, Bool, true, false, if◌then◌else◌, Option, Some, None, List, [], ◌++◌, length, slice_get, refl, sym, ◌∙◌, ap, subst, arith, eq-eqb}
+use Rattle.std.proofs.Common.{◌≡◌, ℕ, zero, suc, ◌≤◌, ◌+◌, ◌<◌, Bool, true, false, if◌then◌else◌, Option, Some, None, is_some, true≢false, List, [], ◌++◌, length, slice_get, refl, sym, ◌∙◌, ap, subst, arith, eq-eqb}
 use Rattle.std.specs.Io.KnownBytes.{Appends}
-use Rattle.std.specs.Prelude.{Result, IfOk, OnOk, OnErr}
 use Rattle.std.proofs.lemmas.List.{append-nil}
-use Rattle.std.proofs.lemmas.Result.{IfOk-weaker, on_err_weaker, on_ok_weaker}
 use Rattle.vs_design.specs.Parts.{Parts}
 use Rattle.vs_design.specs.Stores.{Store}
 use Rattle.vs_design.specs.Traces.{Line, Slot}
@@ -12,7 +10,7 @@ use Rattle.vs_process.specs.declared.moves.Move.TheVariants.{Step, Evaluate, Pro
 use Rattle.vs_process.specs.Executions.{apply, ended_slot, is_enabled, move_lines}
 use Rattle.vs_process.specs.Blocks.{is_step_of_any}
 use Rattle.vs_flatcode.specs.Places.{Place}
-use Rattle.vs_process.specs.States.{State, Update, make}
+use Rattle.vs_process.specs.States.{AssignState, State, Update, evaluate, make, propagate, propagate_value}
 use Rattle.vs_regions.specs.Active.{place_of_active}
 use Rattle.vs_state.specs.Prints.{made_line, made_text}
 use Rattle.vs_state.specs.Sources.{has_sources}
@@ -32,11 +30,14 @@ use Rattle.vs_turns.specs.Prints.{lines_text}
 use Rattle.vs_turns.specs.Slots.{AppendsSlots, AppendsSlotsPart}
 use Rattle.vs_state.specs.Changes.{MarkChanges}
 use Rattle.vs_state.specs.Silent.{AreHushed, AreSilent, IsHushed, IsReached, IsSilent, Steps}
-use Rattle.vs_turns.specs.Turns.{AllTurned, AllTurnedPart, Batch, BatchPart, StepsPart, StepsPrinted, Took, TookPart, Turned, TurnedPart}
-use Rattle.vs_turns.proofs.MarkingLemmas.{noted_on}
+use Rattle.vs_turns.specs.Turns.{AllTurned, AllTurnedPart, Batch, BatchPart, Evaluated, StepsPart, StepsPrinted, Turned, TurnedPart, TurnedTo, Turning}
 use Rattle.vs_turns.proofs.PrintsLemmas.{move_prints}
 use Rattle.vs_turns.proofs.Appending.{append_none, part_all}
-use Rattle.vs_turns.proofs.MoveLemmas.{make_over, none_ended, not_ended, stepped_over}
+use Rattle.vs_turns.proofs.MoveLemmas.{evaluate_over, make_over, none_ended, not_ended, propagate_over, stepped_over}
+use Rattle.vs_agenda.specs.declared.entries.ActiveEvent.{ActiveEvent}
+use Rattle.vs_agenda.specs.declared.entries.ActiveEvent.TheVariants as e
+use Rattle.vs_agenda.specs.ActiveEvents.{move_of}
+use Rattle.vs_logic4.specs.declared.digit.Digit.{Digit}
 
 -- ---- updates by their number among the activated ones
 
@@ -105,29 +106,12 @@ made_lines m s inner = sym (move_prints m s ∙ ap (λ (l : List ℕ). l ++ made
     empty_front l = refl
 
 -- such a step
-pub one_turned : (blocks : List Bool) (inside : Option ℕ) (s t : State) (writer : Option Progress) (vcd old new : Option (List ℕ)) (m : Move) → (m ≡ EndSlot → ⊥) → is_enabled s m ≡ true →
-    is_step_of_any inside m ≡ true → t ≡ apply m s → Appends old new (made_text (made_line m s)) → Turned blocks (point inside s writer vcd old) (point (inside_told blocks t.places m) t writer vcd new)
-one_turned blocks inside s t writer vcd old new m inner enabled free made printed = record {
-  choice = m;
-  enabled = enabled;
-  free = free;
-  made = made;
-  told = refl;
-  written = λ d before h. subst (HasNoted writer vcd d) (sym (ap (λ (l : List Slot). before ++ l) (not_ended m s inner) ∙ append-nil before)) h;
-  text = λ d before h. no_slot vcd m s inner d before;
-  lines = subst (Appends old new) (made_lines m s inner) printed;
-}
-
--- and one that failed
-pub one_part : (inside : Option ℕ) (s : State) (writer : Option Progress) (vcd old new : Option (List ℕ)) (m : Move) → (m ≡ EndSlot → ⊥) → is_enabled s m ≡ true → is_step_of_any inside m ≡ true →
-    AppendsPart old new (made_text (made_line m s)) → TurnedPart (point inside s writer vcd old) vcd new
-one_part inside s writer vcd old new m inner enabled free printed = record {
-  choice = m;
-  enabled = enabled;
-  free = free;
-  text = λ d before h. let piece = no_slot vcd m s inner d before in (piece.0, piece.1, part_all vcd vcd piece.0 piece.2);
-  lines = subst (AppendsPart old new) (made_lines m s inner) printed;
-}
+one_turned : (blocks : List Bool) (inside : Option ℕ) (s t : State) (writer : Option Progress) (vcd old new : Option (List ℕ)) (m : Move) → (m ≡ EndSlot → ⊥) → is_enabled s (told s m) ≡ true →
+    is_step_of_any inside m ≡ true → t ≡ apply (told s m) s → Appends old new (made_text (made_line m s)) → Turned blocks (point inside s writer vcd old) (point (inside_told blocks t.places m) t writer vcd new)
+one_turned blocks inside s t writer vcd old new m inner enabled free made printed =
+    turned_told blocks inside (inside_told blocks t.places m) s t writer writer vcd vcd old new m enabled free made refl
+    (λ d before h. subst (HasNoted writer vcd d) (sym (ap (λ (l : List Slot). before ++ l) (not_ended m s inner) ∙ append-nil before)) h) (λ d before h. no_slot vcd m s inner d before)
+    (subst (Appends old new) (made_lines m s inner) printed)
 
 -- a step by a move of a run that failed, of whatever block
 pub part_at : {s : State} {writer : Option Progress} {old new lold lnew : Option (List ℕ)} (m : Move) → is_enabled s (told s m) ≡ true →
@@ -141,32 +125,44 @@ part_at {s} {writer} {old} {new} {lold} {lnew} m enabled text lines inside free 
   lines = subst (λ (l : List Line). AppendsPart lold lnew (lines_text l)) (told_lines s m) lines;
 }
 
+-- and one that ends no slot
+one_part : (inside : Option ℕ) (s : State) (writer : Option Progress) (vcd old new : Option (List ℕ)) (m : Move) → (m ≡ EndSlot → ⊥) → is_enabled s (told s m) ≡ true → is_step_of_any inside m ≡ true →
+    AppendsPart old new (made_text (made_line m s)) → TurnedPart (point inside s writer vcd old) vcd new
+one_part inside s writer vcd old new m inner enabled free printed =
+    part_at m enabled (λ d before h. let piece = no_slot vcd m s inner d before in (piece.0, piece.1, part_all vcd vcd piece.0 piece.2)) (subst (AppendsPart old new) (made_lines m s inner) printed) inside free
+
+-- ---- steps one after another
+
+-- some, and others behind them
+all_then : (n m : ℕ) (blocks : List Bool) (p q r : Point) → AllTurned n blocks p q → q.state.time ≡ p.state.time → AllTurned m blocks q r → AllTurned (n + m) blocks p r
+all_then n zero blocks p q r first time more =
+    let none : n ≡ n + 0 = omega arith in
+    subst (λ (k : ℕ). AllTurned k blocks p r) none (subst (AllTurned n blocks p) (sym more) first)
+all_then n (suc m) blocks p q r first time more =
+    let all : AllTurned (suc (n + m)) blocks p r = (more.0, all_then n m blocks p q more.0 first time more.1, more.2, more.3 ∙ time, more.4) in
+    let count : suc (n + m) ≡ n + suc m = omega arith in
+    subst (λ (k : ℕ). AllTurned k blocks p r) count all
+
 -- ---- a batch
 
 -- so many steps of which none ends a slot, from the first move on, behind which this one is the next
-pub record Along (taken : ℕ) (first next : Move) (s t : State) (old new : Option (List ℕ)) : Type 0 where
+pub record Along (blocks : List Bool) (taken : ℕ) (first next : Move) (s t : State) (old new : Option (List ℕ)) : Type 0 where
   pub going : t.over ≡ false
   pub time : t.time ≡ s.time
-  pub enabled : is_enabled t next ≡ true
+  pub enabled : is_enabled t (told t next) ≡ true
   pub turned :
-      (blocks : List Bool) (inside : Option ℕ) (writer : Option Progress) (vcd : Option (List ℕ)) → is_step_of_any inside first ≡ true →
+      (inside : Option ℕ) (writer : Option Progress) (vcd : Option (List ℕ)) → is_step_of_any inside first ≡ true →
       (now : Option ℕ) × AllTurned taken blocks (point inside s writer vcd old) (point now t writer vcd new) × (is_step_of_any now next ≡ true)
 
-pub along_first : (m : Move) (s : State) (old : Option (List ℕ)) → s.over ≡ false → is_enabled s (told s m) ≡ true → Along 0 m (told s m) s s old old
-along_first m s old going enabled = record {
-  going = going;
-  time = refl;
-  enabled = enabled;
-  turned = λ blocks inside writer vcd free. (inside, refl, told_free inside s m free);
-}
+pub along_first : (blocks : List Bool) (m : Move) (s : State) (old : Option (List ℕ)) → s.over ≡ false → is_enabled s (told s m) ≡ true → Along blocks 0 m m s s old old
+along_first blocks m s old going enabled = record { going = going; time = refl; enabled = enabled; turned = λ inside writer vcd free. (inside, refl, free) }
 
 -- one more step
-all_more : {taken : ℕ} {first m : Move} {s t : State} {old mid : Option (List ℕ)} → Along taken first m s t old mid → (t' : State) (new : Option (List ℕ)) → (m ≡ EndSlot → ⊥) → t' ≡ apply m t →
-    Appends mid new (made_text (made_line m t)) →
-    (blocks : List Bool) (inside : Option ℕ) (writer : Option Progress) (vcd : Option (List ℕ)) → is_step_of_any inside first ≡ true →
+all_more : {blocks : List Bool} {taken : ℕ} {first m : Move} {s t : State} {old mid : Option (List ℕ)} → Along blocks taken first m s t old mid → (t' : State) (new : Option (List ℕ)) → (m ≡ EndSlot → ⊥) →
+    t' ≡ apply (told t m) t → Appends mid new (made_text (made_line m t)) → (inside : Option ℕ) (writer : Option Progress) (vcd : Option (List ℕ)) → is_step_of_any inside first ≡ true →
     AllTurned (taken + 1) blocks (point inside s writer vcd old) (point (inside_told blocks t'.places m) t' writer vcd new)
-all_more {taken} {first} {m} {s} {t} {old} {mid} a t' new inner made printed blocks inside writer vcd free =
-    let h = a.turned blocks inside writer vcd free in
+all_more {blocks} {taken} {first} {m} {s} {t} {old} {mid} a t' new inner made printed inside writer vcd free =
+    let h = a.turned inside writer vcd free in
     let p : Point = point inside s writer vcd old in
     let q : Point = point (inside_told blocks t'.places m) t' writer vcd new in
     let all : AllTurned (suc taken) blocks p q =
@@ -175,28 +171,32 @@ all_more {taken} {first} {m} {s} {t} {old} {mid} a t' new inner made printed blo
     let more : suc taken ≡ taken + 1 = omega arith in
     subst (λ (n : ℕ). AllTurned n blocks p q) more all
 
-pub along_more : {taken : ℕ} {first m : Move} {s t : State} {old mid : Option (List ℕ)} → Along taken first m s t old mid → (t' : State) (new : Option (List ℕ)) (next : Move) → (m ≡ EndSlot → ⊥) →
-    t' ≡ apply m t → Appends mid new (made_text (made_line m t)) → t'.over ≡ false → t'.time ≡ t.time → is_enabled t' next ≡ true →
-    ((blocks : List Bool) (xs : List Place) → is_step_of_any (inside_told blocks xs m) next ≡ true) → Along (taken + 1) first next s t' old new
-along_more {taken} {first} {m} {s} {t} {old} {mid} a t' new next inner made printed going time enabled free = record {
+along_more : {blocks : List Bool} {taken : ℕ} {first m : Move} {s t : State} {old mid : Option (List ℕ)} → Along blocks taken first m s t old mid → (t' : State) (new : Option (List ℕ)) (next : Move) → (m ≡ EndSlot → ⊥) →
+    t' ≡ apply (told t m) t → Appends mid new (made_text (made_line m t)) → t'.over ≡ false → t'.time ≡ t.time → is_enabled t' (told t' next) ≡ true →
+    is_step_of_any (inside_told blocks t'.places m) next ≡ true → Along blocks (taken + 1) first next s t' old new
+along_more {blocks} {taken} {first} {m} {s} {t} {old} {mid} a t' new next inner made printed going time enabled free = record {
   going = going;
   time = time ∙ a.time;
   enabled = enabled;
-  turned = λ blocks inside writer vcd h. (inside_told blocks t'.places m, all_more a t' new inner made printed blocks inside writer vcd h, free blocks t'.places);
+  turned = λ inside writer vcd h. (inside_told blocks t'.places m, all_more a t' new inner made printed inside writer vcd h, free);
 }
 
 -- the last step
-pub batch_all : {taken : ℕ} {first m : Move} {s t : State} {old mid : Option (List ℕ)} → Along taken first m s t old mid → (t' : State) (new : Option (List ℕ)) → (m ≡ EndSlot → ⊥) → t' ≡ apply m t →
-    Appends mid new (made_text (made_line m t)) → ((blocks : List Bool) (xs : List Place) → inside_told blocks xs m ≡ inside_told blocks xs first) → Batch (taken + 1) first s t' old new
-batch_all {taken} {first} {m} {s} {t} {old} {mid} a t' new inner made printed same = λ blocks inside writer vcd free.
-    subst (λ (o : Option ℕ). AllTurned (taken + 1) blocks (point inside s writer vcd old) (point o t' writer vcd new)) (same blocks t'.places)
-    (all_more a t' new inner made printed blocks inside writer vcd free)
+batch_all : {blocks : List Bool} {taken : ℕ} {first m : Move} {s t : State} {old mid : Option (List ℕ)} → Along blocks taken first m s t old mid → (steps left : ℕ) (t' : State) (new : Option (List ℕ)) → (m ≡ EndSlot → ⊥) →
+    t' ≡ apply (told t m) t → Appends mid new (made_text (made_line m t)) → t'.over ≡ false → t'.time ≡ t.time → (taken + 1) + left ≡ steps → Batch steps left blocks first (inside_told blocks t'.places m) s t' old new
+batch_all {blocks} {taken} {first} {m} {s} {t} {old} {mid} a steps left t' new inner made printed going time count = record {
+  taken = taken + 1;
+  count = count;
+  going = going;
+  time = time ∙ a.time;
+  turned = all_more a t' new inner made printed;
+}
 
 -- a step that failed
-pub batch_part : {taken : ℕ} {first m : Move} {s t : State} {old mid : Option (List ℕ)} → Along taken first m s t old mid → (steps : ℕ) (new : Option (List ℕ)) → (m ≡ EndSlot → ⊥) → taken < steps →
-    AppendsPart mid new (made_text (made_line m t)) → BatchPart steps first s old new
-batch_part {taken} {first} {m} {s} {t} {old} {mid} a steps new inner within printed = λ blocks inside writer vcd free.
-    let h = a.turned blocks inside writer vcd free in
+batch_part : {blocks : List Bool} {taken : ℕ} {first m : Move} {s t : State} {old mid : Option (List ℕ)} → Along blocks taken first m s t old mid → (steps : ℕ) (new : Option (List ℕ)) → (m ≡ EndSlot → ⊥) → taken < steps →
+    AppendsPart mid new (made_text (made_line m t)) → BatchPart steps blocks first s old new
+batch_part {blocks} {taken} {first} {m} {s} {t} {old} {mid} a steps new inner within printed = λ inside writer vcd free.
+    let h = a.turned inside writer vcd free in
     record {
       taken = taken;
       last = point h.0 t writer vcd mid;
@@ -206,6 +206,8 @@ batch_part {taken} {first} {m} {s} {t} {old} {mid} a steps new inner within prin
       time = a.time;
       failed = one_part h.0 t writer vcd mid new m inner a.enabled h.2 printed;
     }
+
+-- ---- steps of a process
 
 -- a process's own step is free behind its step
 pub own_step : (i : ℕ) (blocks : List Bool) (xs : List Place) → is_step_of_any (inside_told blocks xs (Step i)) (Step i) ≡ true
@@ -223,18 +225,18 @@ pub step_over : (s t : State) (i : ℕ) → t ≡ apply (Step i) s → s.over �
 step_over s t i next going = ap (λ (r : State). r.over) next ∙ stepped_over s i (slice_get s.places i) ∙ going
 
 -- silent steps of a process go on a batch
-along_silent : {taken i : ℕ} {first : Move} {s t : State} {old mid : Option (List ℕ)} → Along taken first (Step i) s t old mid → (n : ℕ) (t' : State) → AreSilent n i t t' →
-    Along (taken + n) first (Step i) s t' old mid
-along_silent {taken} {i} {first} {s} {t} {old} {mid} a zero t' h =
+along_silent : {blocks : List Bool} {taken i : ℕ} {first : Move} {s t : State} {old mid : Option (List ℕ)} → Along blocks taken first (Step i) s t old mid → (n : ℕ) (t' : State) → AreSilent n i t t' →
+    Along blocks (taken + n) first (Step i) s t' old mid
+along_silent {blocks} {taken} {i} {first} {s} {t} {old} {mid} a zero t' h =
     let none : taken ≡ taken + 0 = omega arith in
-    subst (λ (r : State). Along (taken + 0) first (Step i) s r old mid) (sym h) (subst (λ (n : ℕ). Along n first (Step i) s t old mid) none a)
-along_silent {taken} {i} {first} {s} {t} {old} {mid} a (suc n) t' h =
+    subst (λ (r : State). Along blocks (taken + 0) first (Step i) s r old mid) (sym h) (subst (λ (n : ℕ). Along blocks n first (Step i) s t old mid) none a)
+along_silent {blocks} {taken} {i} {first} {s} {t} {old} {mid} a (suc n) t' h =
     let one : IsSilent i h.0 t' = h.2 in
-    let b : Along (taken + n) first (Step i) s h.0 old mid = along_silent a n h.0 h.1 in
+    let b : Along blocks (taken + n) first (Step i) s h.0 old mid = along_silent a n h.0 h.1 in
     let more : (taken + n) + 1 ≡ taken + suc n = omega arith in
-    subst (λ (k : ℕ). Along k first (Step i) s t' old mid) more
+    subst (λ (k : ℕ). Along blocks k first (Step i) s t' old mid) more
     (along_more b t' mid (Step i) (step_inner i) one.made (subst (Appends mid mid) (sym one.quiet) (append_none mid)) (step_over h.0 t' i one.made b.going) (step_time h.0 t' i one.made) one.again
-    (own_step i))
+    (own_step i blocks t'.places))
 
 -- a process whose hushed steps end where it is enabled was enabled before them
 enabled_before : (n i : ℕ) (s t : State) → AreHushed n i s t → is_enabled t (Step i) ≡ true → is_enabled s (Step i) ≡ true
@@ -242,64 +244,58 @@ enabled_before zero i s t h enabled = subst (λ (r : State). is_enabled r (Step 
 enabled_before (suc n) i s t h enabled = enabled_before n i s h.0 h.1 h.2.enabled
 
 -- hushed steps go on a batch too, where the process is enabled behind them
-along_hushed : {taken i : ℕ} {first : Move} {s t : State} {old mid : Option (List ℕ)} → Along taken first (Step i) s t old mid → (n : ℕ) (t' : State) → AreHushed n i t t' → is_enabled t' (Step i) ≡ true →
-    Along (taken + n) first (Step i) s t' old mid
-along_hushed {taken} {i} {first} {s} {t} {old} {mid} a zero t' h enabled =
+along_hushed : {blocks : List Bool} {taken i : ℕ} {first : Move} {s t : State} {old mid : Option (List ℕ)} → Along blocks taken first (Step i) s t old mid → (n : ℕ) (t' : State) → AreHushed n i t t' →
+    is_enabled t' (Step i) ≡ true → Along blocks (taken + n) first (Step i) s t' old mid
+along_hushed {blocks} {taken} {i} {first} {s} {t} {old} {mid} a zero t' h enabled =
     let none : taken ≡ taken + 0 = omega arith in
-    subst (λ (r : State). Along (taken + 0) first (Step i) s r old mid) (sym h) (subst (λ (n : ℕ). Along n first (Step i) s t old mid) none a)
-along_hushed {taken} {i} {first} {s} {t} {old} {mid} a (suc n) t' h enabled =
+    subst (λ (r : State). Along blocks (taken + 0) first (Step i) s r old mid) (sym h) (subst (λ (n : ℕ). Along blocks n first (Step i) s t old mid) none a)
+along_hushed {blocks} {taken} {i} {first} {s} {t} {old} {mid} a (suc n) t' h enabled =
     let one : IsHushed i h.0 t' = h.2 in
-    let b : Along (taken + n) first (Step i) s h.0 old mid = along_hushed a n h.0 h.1 one.enabled in
+    let b : Along blocks (taken + n) first (Step i) s h.0 old mid = along_hushed a n h.0 h.1 one.enabled in
     let more : (taken + n) + 1 ≡ taken + suc n = omega arith in
-    subst (λ (k : ℕ). Along k first (Step i) s t' old mid) more
+    subst (λ (k : ℕ). Along blocks k first (Step i) s t' old mid) more
     (along_more b t' mid (Step i) (step_inner i) one.made (subst (Appends mid mid) (sym one.quiet) (append_none mid)) (step_over h.0 t' i one.made b.going) (step_time h.0 t' i one.made) enabled
-    (own_step i))
+    (own_step i blocks t'.places))
+
+-- the silent ones from the first step on
+silent_first : (blocks : List Bool) (n i : ℕ) (s t : State) (old : Option (List ℕ)) → s.over ≡ false → is_enabled s (Step i) ≡ true → AreSilent n i s t → Along blocks n (Step i) (Step i) s t old old
+silent_first blocks n i s t old over enabled h =
+    let none : 0 + n ≡ n = omega arith in
+    subst (λ (k : ℕ). Along blocks k (Step i) (Step i) s t old old) none (along_silent (along_first blocks (Step i) s old over enabled) n t h)
 
 -- the step that may write a line, behind silent ones
-along_seen : {taken i : ℕ} {first : Move} {s t : State} {old mid : Option (List ℕ)} → Along taken first (Step i) s t old mid → (n : ℕ) (t' : State) (line : List ℕ) (new : Option (List ℕ)) →
-    (h : Steps n i t t' line) → Appends mid new line → is_enabled h.next (Step i) ≡ true → Along ((taken + h.before) + 1) first (Step i) s h.next old new
-along_seen {taken} {i} {first} {s} {t} {old} {mid} a n t' line new h printed enabled =
-    let b : Along (taken + h.before) first (Step i) s h.mid old mid = along_silent a h.before h.mid h.silent in
-    along_more b h.next new (Step i) (step_inner i) h.made (subst (Appends mid new) h.lines printed) (step_over h.mid h.next i h.made b.going) (step_time h.mid h.next i h.made) enabled (own_step i)
+along_seen : (blocks : List Bool) (n i : ℕ) (s t : State) (line : List ℕ) (old new : Option (List ℕ)) → s.over ≡ false → is_enabled s (Step i) ≡ true → (h : Steps n i s t line) → Appends old new line →
+    is_enabled h.next (Step i) ≡ true → Along blocks (h.before + 1) (Step i) (Step i) s h.next old new
+along_seen blocks n i s t line old new over started h printed enabled =
+    let b : Along blocks h.before (Step i) (Step i) s h.mid old old = silent_first blocks h.before i s h.mid old over started h.silent in
+    along_more b h.next new (Step i) (step_inner i) h.made (subst (Appends old new) h.lines printed) (step_over h.mid h.next i h.made b.going) (step_time h.mid h.next i h.made) enabled (own_step i blocks h.next.places)
 
--- so do steps of which one may write a line
-pub along_steps : {taken i : ℕ} {first : Move} {s t : State} {old mid : Option (List ℕ)} → Along taken first (Step i) s t old mid → (n : ℕ) (t' : State) (new : Option (List ℕ)) →
-    StepsPrinted n i t t' mid new → is_enabled t' (Step i) ≡ true → Along (taken + n) first (Step i) s t' old new
-along_steps {taken} {i} {first} {s} {t} {old} {mid} a n t' new p enabled =
-    let h : Steps n i t t' p.0 = p.1 in
-    let b : Along ((taken + h.before) + 1) first (Step i) s h.next old new = along_seen a n t' p.0 new h p.2 (enabled_before h.more i h.next t' h.hushed enabled) in
-    let more : ((taken + h.before) + 1) + h.more ≡ taken + n = omega (arith, h.count) in
-    subst (λ (k : ℕ). Along k first (Step i) s t' old new) more (along_hushed b h.more t' h.hushed enabled)
+-- they end one, the hushed ones last
+batch_seen : (blocks : List Bool) (steps left n i : ℕ) (s t : State) (line : List ℕ) (old new : Option (List ℕ)) → s.over ≡ false → is_enabled s (Step i) ≡ true → (h : Steps n i s t line) → Appends old new line →
+    (more : ℕ) → AreHushed more i h.next t → ((h.before + 1) + more) + left ≡ steps → Batch steps left blocks (Step i) (inside_told blocks t.places (Step i)) s t old new
+batch_seen blocks steps left n i s t line old new over started h printed zero hushed count =
+    let b : Along blocks h.before (Step i) (Step i) s h.mid old old = silent_first blocks h.before i s h.mid old over started h.silent in
+    let made : t ≡ apply (Step i) h.mid = hushed ∙ h.made in
+    batch_all b steps left t new (step_inner i) made (subst (Appends old new) h.lines printed) (step_over h.mid t i made b.going) (step_time h.mid t i made) (omega (arith, count))
+batch_seen blocks steps left n i s t line old new over started h printed (suc more) hushed count =
+    let one : IsHushed i hushed.0 t = hushed.2 in
+    let b : Along blocks (h.before + 1) (Step i) (Step i) s h.next old new =
+    along_seen blocks n i s t line old new over started h printed (enabled_before more i h.next hushed.0 hushed.1 one.enabled)
+    in
+    let c : Along blocks ((h.before + 1) + more) (Step i) (Step i) s hushed.0 old new = along_hushed b more hushed.0 hushed.1 one.enabled in
+    batch_all c steps left t new (step_inner i) one.made (subst (Appends new new) (sym one.quiet) (append_none new)) (step_over hushed.0 t i one.made c.going) (step_time hushed.0 t i one.made) (omega (arith, count))
 
--- the last of them
-batch_seen : {taken i : ℕ} {s t : State} {old mid : Option (List ℕ)} → Along taken (Step i) (Step i) s t old mid → (n : ℕ) (t' : State) (line : List ℕ) (new : Option (List ℕ)) →
-    (h : Steps n i t t' line) → Appends mid new line → (more : ℕ) → AreHushed more i h.next t' → Batch (((taken + h.before) + 1) + more) (Step i) s t' old new
-batch_seen {taken} {i} {s} {t} {old} {mid} a n t' line new h printed zero hushed =
-    let b : Along (taken + h.before) (Step i) (Step i) s h.mid old mid = along_silent a h.before h.mid h.silent in
-    let none : (taken + h.before) + 1 ≡ ((taken + h.before) + 1) + 0 = omega arith in
-    subst (λ (k : ℕ). Batch k (Step i) s t' old new) none
-    (batch_all b t' new (step_inner i) (hushed ∙ h.made) (subst (Appends mid new) h.lines printed) (λ blocks xs. refl))
-batch_seen {taken} {i} {s} {t} {old} {mid} a n t' line new h printed (suc more) hushed =
-    let one : IsHushed i hushed.0 t' = hushed.2 in
-    let b : Along ((taken + h.before) + 1) (Step i) (Step i) s h.next old new = along_seen a n t' line new h printed (enabled_before more i h.next hushed.0 hushed.1 one.enabled) in
-    let c : Along (((taken + h.before) + 1) + more) (Step i) (Step i) s hushed.0 old new = along_hushed b more hushed.0 hushed.1 one.enabled in
-    let count : (((taken + h.before) + 1) + more) + 1 ≡ ((taken + h.before) + 1) + suc more = omega arith in
-    subst (λ (k : ℕ). Batch k (Step i) s t' old new) count
-    (batch_all c t' new (step_inner i) one.made (subst (Appends new new) (sym one.quiet) (append_none new)) (λ blocks xs. refl))
+-- steps of a process are a batch
+pub batch_steps : (blocks : List Bool) (steps left n i : ℕ) (s t : State) (old new : Option (List ℕ)) → s.over ≡ false → is_enabled s (Step i) ≡ true → StepsPrinted n i s t old new → n + left ≡ steps →
+    Batch steps left blocks (Step i) (inside_told blocks t.places (Step i)) s t old new
+batch_steps blocks steps left n i s t old new over enabled p count =
+    let h : Steps n i s t p.0 = p.1 in
+    batch_seen blocks steps left n i s t p.0 old new over enabled h p.2 h.more h.hushed (omega (arith, count, h.count))
 
--- and they end one
-pub batch_steps : {taken i : ℕ} {s t : State} {old mid : Option (List ℕ)} → Along taken (Step i) (Step i) s t old mid → (n : ℕ) (t' : State) (new : Option (List ℕ)) →
-    StepsPrinted n i t t' mid new → Batch (taken + n) (Step i) s t' old new
-batch_steps {taken} {i} {s} {t} {old} {mid} a n t' new p =
-    let h : Steps n i t t' p.0 = p.1 in
-    let more : ((taken + h.before) + 1) + h.more ≡ taken + n = omega (arith, h.count) in
-    subst (λ (k : ℕ). Batch k (Step i) s t' old new) more (batch_seen a n t' p.0 new h p.2 h.more h.hushed)
-
--- one that failed
-pub part_steps : {taken i : ℕ} {first : Move} {s t : State} {old mid : Option (List ℕ)} → Along taken first (Step i) s t old mid → (steps limit : ℕ) (new : Option (List ℕ)) → taken + limit ≤ steps →
-    StepsPart limit i t mid new → BatchPart steps first s old new
-part_steps {taken} {i} {first} {s} {t} {old} {mid} a steps limit new within h =
-    batch_part (along_silent a h.taken h.last h.silent) steps new (step_inner i) (omega (arith, within, h.within)) h.printed
+-- some that failed
+pub part_steps : (blocks : List Bool) (steps i : ℕ) (s : State) (old new : Option (List ℕ)) → s.over ≡ false → is_enabled s (Step i) ≡ true → StepsPart steps i s old new → BatchPart steps blocks (Step i) s old new
+part_steps blocks steps i s old new over enabled h =
+    batch_part (silent_first blocks h.taken i s h.last old over enabled h.silent) steps new (step_inner i) h.within h.printed
 
 -- steps whose line was written in part, or whole
 pub part_of_steps : {old new : Option (List ℕ)} (n i limit : ℕ) (s t : State) (line : List ℕ) → Steps n i s t line → n ≤ limit → AppendsPart old new line → StepsPart limit i s old new
@@ -331,72 +327,235 @@ reached_steps d n i s t line h all =
 pub steps_some : (n i : ℕ) (s t : State) (line : List ℕ) → Steps n i s t line → 0 < n
 steps_some n i s t line all = omega (arith, all.count)
 
--- so does an update, by its number among the activated ones
-pub made_inner : (s : State) (k : ℕ) → told s (Make k) ≡ EndSlot → ⊥
-made_inner s k e = cc
+-- ---- the evaluation of a continuous assignment, and the update behind it
 
-pub update_over : (s t : State) (k : ℕ) → t ≡ apply (told s (Make k)) s → s.over ≡ false → t.over ≡ false
-update_over s t k next going =
-    let i = place_of_active k s.updates in
-    ap (λ (r : State). r.over) next ∙ make_over s i (slice_get s.updates i) ∙ going
+evaluate_inner : (j : ℕ) → Evaluate j ≡ EndSlot → ⊥
+evaluate_inner j e = cc
+
+propagate_inner : (j : ℕ) → Propagate j ≡ EndSlot → ⊥
+propagate_inner j e = cc
+
+-- such a move leaves the time and the end
+evaluated_time : (s : State) (j : ℕ) (o : Option AssignState) → (evaluate s j o).time ≡ s.time
+evaluated_time s j None = refl
+evaluated_time s j (Some x) = refl
+
+value_time : (s : State) (j : ℕ) (x : AssignState) (o : Option (List Digit)) → (propagate_value s j x o).time ≡ s.time
+value_time s j x None = refl
+value_time s j x (Some v) = refl
+
+propagated_time : (s : State) (j : ℕ) (o : Option AssignState) → (propagate s j o).time ≡ s.time
+propagated_time s j None = refl
+propagated_time s j (Some x) = value_time s j x x.pending
+
+evaluate_stands : (s : State) (j : ℕ) → s.over ≡ false → let t : State = apply (Evaluate j) s in (t.over ≡ false) × (t.time ≡ s.time)
+evaluate_stands s j going = (evaluate_over s j (slice_get s.assigns j) ∙ going, evaluated_time s j (slice_get s.assigns j))
+
+propagate_stands : (s : State) (j : ℕ) → s.over ≡ false → let t : State = apply (Propagate j) s in (t.over ≡ false) × (t.time ≡ s.time)
+propagate_stands s j going = (propagate_over s j (slice_get s.assigns j) ∙ going, propagated_time s j (slice_get s.assigns j))
+
+-- the update of one is a batch
+pub batch_propagated : (blocks : List Bool) (steps left j : ℕ) (s t : State) (old : Option (List ℕ)) → s.over ≡ false → is_enabled s (Propagate j) ≡ true → t ≡ apply (Propagate j) s → 1 + left ≡ steps →
+    Batch steps left blocks (Propagate j) None s t old old
+batch_propagated blocks steps left j s t old over enabled made count =
+    let stands = propagate_stands s j over in
+    batch_all (along_first blocks (Propagate j) s old over enabled) steps left t old (propagate_inner j) made (append_none old) (ap (λ (r : State). r.over) made ∙ stands.0) (ap (λ (r : State). r.time) made ∙ stands.1) count
+
+-- so is the evaluation, and where the update is made too, both
+pub batch_evaluated : (blocks : List Bool) (steps left n j : ℕ) (s t : State) (old : Option (List ℕ)) → s.over ≡ false → is_enabled s (Evaluate j) ≡ true → Evaluated n j s t → n + left ≡ steps →
+    Batch steps left blocks (Evaluate j) None s t old old
+batch_evaluated blocks steps left zero j s t old over enabled h count = absurd h
+batch_evaluated blocks steps left (suc zero) j s t old over enabled h count =
+    let stands = evaluate_stands s j over in
+    batch_all (along_first blocks (Evaluate j) s old over enabled) steps left t old (evaluate_inner j) h (append_none old) (ap (λ (r : State). r.over) h ∙ stands.0) (ap (λ (r : State). r.time) h ∙ stands.1) count
+batch_evaluated blocks steps left (suc (suc zero)) j s t old over enabled h count =
+    let u : State = apply (Evaluate j) s in
+    let first = evaluate_stands s j over in
+    let a : Along blocks 1 (Evaluate j) (Propagate j) s u old old =
+    along_more (along_first blocks (Evaluate j) s old over enabled) u old (Propagate j) (evaluate_inner j) refl (append_none old) first.0 first.1 h.waits refl
+    in
+    let stands = propagate_stands u j first.0 in
+    batch_all a steps left t old (propagate_inner j) h.updated (append_none old) (ap (λ (r : State). r.over) h.updated ∙ stands.0) (ap (λ (r : State). r.time) h.updated ∙ stands.1) count
+batch_evaluated blocks steps left (suc (suc (suc n))) j s t old over enabled h count = absurd h
+
+-- behind them a state is reached
+pub reached_evaluated : (d : Parts) (n j : ℕ) (s t : State) → IsReached d s → Evaluated n j s t → IsReached d t
+reached_evaluated d zero j s t h on = absurd on
+reached_evaluated d (suc zero) j s t h on = reached_on d s t (Evaluate j) h on
+reached_evaluated d (suc (suc zero)) j s t h on = reached_on d (apply (Evaluate j) s) t (Propagate j) (reached_on d s (apply (Evaluate j) s) (Evaluate j) h refl) on.updated
+reached_evaluated d (suc (suc (suc n))) j s t h on = absurd on
+
+-- there is one at least
+pub evaluated_some : (n j : ℕ) (s t : State) → Evaluated n j s t → 0 < n
+evaluated_some zero j s t on = absurd on
+evaluated_some (suc n) j s t on = omega arith
+
+-- ---- a nonblocking update, by its number among the activated ones
+
+update_inner : (k : ℕ) → Make k ≡ EndSlot → ⊥
+update_inner k e = cc
 
 make_time : (s : State) (i : ℕ) (o : Option Update) → (make s i o).time ≡ s.time
 make_time s i None = refl
 make_time s i (Some u) = refl
 
-pub update_time : (s t : State) (k : ℕ) → t ≡ apply (told s (Make k)) s → t.time ≡ s.time
-update_time s t k next =
+-- it is a batch
+pub batch_updated : (blocks : List Bool) (steps left k : ℕ) (s t : State) (old new : Option (List ℕ)) → s.over ≡ false → is_enabled s (told s (Make k)) ≡ true → t ≡ apply (told s (Make k)) s →
+    Appends old new (made_text (made_line (Make k) s)) → 1 + left ≡ steps → Batch steps left blocks (Make k) None s t old new
+batch_updated blocks steps left k s t old new over enabled made printed count =
     let i = place_of_active k s.updates in
-    ap (λ (r : State). r.time) next ∙ make_time s i (slice_get s.updates i)
+    batch_all (along_first blocks (Make k) s old over enabled) steps left t new (update_inner k) made printed (ap (λ (r : State). r.over) made ∙ make_over s i (slice_get s.updates i) ∙ over)
+    (ap (λ (r : State). r.time) made ∙ make_time s i (slice_get s.updates i)) count
+
+-- one that failed, of whatever event
+pub part_event : (blocks : List Bool) (steps : ℕ) (event : ActiveEvent) (s : State) (old new : Option (List ℕ)) → 0 < steps → s.over ≡ false → is_enabled s (told s (move_of event)) ≡ true →
+    AppendsPart old new (made_text (made_line (move_of event) s)) → BatchPart steps blocks (move_of event) s old new
+part_event blocks steps event s old new some over enabled printed =
+    batch_part (along_first blocks (move_of event) s old over enabled) steps new (event_inner event) some printed
+  where
+    event_inner : (event : ActiveEvent) → move_of event ≡ EndSlot → ⊥
+    event_inner (e.Step i) = step_inner i
+    event_inner (e.Make k) = update_inner k
+    event_inner (e.Evaluate j) = evaluate_inner j
+    event_inner (e.Propagate j) = propagate_inner j
+
+-- ---- batches one after another
+
+-- behind so many steps, of which so many are left, this move is the next
+pub record Ahead (blocks : List Bool) (steps left : ℕ) (first next : Move) (s t : State) (old new : Option (List ℕ)) : Type 0 where
+  pub taken : ℕ
+  pub count : taken + left ≡ steps
+  pub along : Along blocks taken first next s t old new
+
+pub ahead_first : (blocks : List Bool) (steps : ℕ) (m : Move) (s : State) (old : Option (List ℕ)) → s.over ≡ false → is_enabled s (told s m) ≡ true → Ahead blocks steps steps m m s s old old
+ahead_first blocks steps m s old going enabled = record { taken = 0; count = omega arith; along = along_first blocks m s old going enabled }
+
+-- a batch goes on
+pub batch_then : {blocks : List Bool} {steps left : ℕ} {first next : Move} {s t : State} {old mid : Option (List ℕ)} → Ahead blocks steps left first next s t old mid → (rest : ℕ) (behind : Option ℕ) (t' : State)
+    (new : Option (List ℕ)) → Batch left rest blocks next behind t t' mid new → Batch steps rest blocks first behind s t' old new
+batch_then {blocks} {steps} {left} {first} {next} {s} {t} {old} {mid} a rest behind t' new b = record {
+  taken = a.taken + b.taken;
+  count = omega (arith, a.count, b.count);
+  going = b.going;
+  time = b.time ∙ a.along.time;
+  turned = λ inside writer vcd free.
+      let h = a.along.turned inside writer vcd free in
+      all_then a.taken b.taken blocks (point inside s writer vcd old) (point h.0 t writer vcd mid) (point behind t' writer vcd new) h.1 a.along.time (b.turned h.0 writer vcd h.2);
+}
+
+-- another move is the next behind it
+pub ahead_next : {blocks : List Bool} {steps left : ℕ} {first : Move} {behind : Option ℕ} {s t : State} {old new : Option (List ℕ)} → Batch steps left blocks first behind s t old new → (m : Move) →
+    is_step_of_any behind m ≡ true → is_enabled t (told t m) ≡ true → Ahead blocks steps left first m s t old new
+ahead_next {blocks} {steps} {left} {first} {behind} {s} {t} {old} {new} b m free enabled = record {
+  taken = b.taken;
+  count = b.count;
+  along = record { going = b.going; time = b.time; enabled = enabled; turned = λ inside writer vcd h. (behind, b.turned inside writer vcd h, free) };
+}
+
+-- one that failed
+pub part_then : {blocks : List Bool} {steps left : ℕ} {first next : Move} {s t : State} {old mid : Option (List ℕ)} → Ahead blocks steps left first next s t old mid → (new : Option (List ℕ)) →
+    BatchPart left blocks next t mid new → BatchPart steps blocks first s old new
+part_then {blocks} {steps} {left} {first} {next} {s} {t} {old} {mid} a new part = λ inside writer vcd free.
+    let h = a.along.turned inside writer vcd free in
+    let p = part h.0 writer vcd h.2 in
+    record {
+      taken = a.taken + p.taken;
+      last = p.last;
+      within = omega (arith, a.count, p.within);
+      turned = all_then a.taken p.taken blocks (point inside s writer vcd old) (point h.0 t writer vcd mid) p.last h.1 a.along.time p.turned;
+      going = p.going;
+      time = p.time ∙ a.along.time;
+      failed = p.failed;
+    }
+
+-- a step that was made may be told as one that failed
+turned_part : {blocks : List Bool} {p q : Point} → Turned blocks p q → TurnedPart p q.vcd q.lines
+turned_part {blocks} {p} {q} t = record {
+  choice = t.choice;
+  enabled = t.enabled;
+  free = t.free;
+  text = λ d before h. let piece = t.text d before h in (piece.0, piece.1, part_all p.vcd q.vcd piece.0 piece.2);
+  lines = part_all p.lines q.lines _ t.lines;
+}
+
+all_fell : (steps taken : ℕ) (blocks : List Bool) (p q : Point) → AllTurned taken blocks p q → 0 < taken → taken ≤ steps → AllTurnedPart steps blocks p q.vcd q.lines
+all_fell steps zero blocks p q all some within = absurd (omega (arith, some))
+all_fell steps (suc n) blocks p q all some within = record {
+  taken = n;
+  last = all.0;
+  within = omega (arith, within);
+  turned = all.1;
+  going = all.2;
+  time = all.3;
+  failed = turned_part all.4;
+}
+
+-- so may the last one of a batch
+pub part_fell : {blocks : List Bool} {steps left : ℕ} {first : Move} {behind : Option ℕ} {s t : State} {old new : Option (List ℕ)} → Batch steps left blocks first behind s t old new → left < steps →
+    BatchPart steps blocks first s old new
+part_fell {blocks} {steps} {left} {first} {behind} {s} {t} {old} {new} b some = λ inside writer vcd free.
+    all_fell steps b.taken blocks (point inside s writer vcd old) (point behind t writer vcd new) (b.turned inside writer vcd free) (omega (arith, b.count, some)) (omega (arith, b.count))
+
+-- where no block has left its control, any move is free
+pub none_free : (inside : Option ℕ) (m : Move) → is_some inside ≡ false → is_step_of_any inside m ≡ true
+none_free None m none = refl
+none_free (Some process) m none = absurd (true≢false none)
 
 -- ---- the turns of a run
 
--- one turn alone
-pub once : (blocks : List Bool) (p q : Point) → p.state.over ≡ false → Turned blocks p q → AllTurned 1 blocks p q
-once blocks p q going t = (p, refl, going, refl, t)
-
 -- one turn that failed
-pub once_part : (steps : ℕ) (blocks : List Bool) (p : Point) (vcd lines : Option (List ℕ)) → 0 < steps → p.state.over ≡ false → TurnedPart p vcd lines → AllTurnedPart steps blocks p vcd lines
+once_part : (steps : ℕ) (blocks : List Bool) (p : Point) (vcd lines : Option (List ℕ)) → 0 < steps → p.state.over ≡ false → TurnedPart p vcd lines → AllTurnedPart steps blocks p vcd lines
 once_part steps blocks p vcd lines some going t = record { taken = 0; last = p; within = some; turned = refl; going = going; time = refl; failed = t }
 
--- ---- steps from a move on
+-- none yet
+pub turning_first : (blocks : List Bool) (steps : ℕ) (p : Point) → p.state.over ≡ false → Turning blocks steps steps p p
+turning_first blocks steps p going = record { taken = 0; count = omega arith; going = going; time = refl; all = refl }
 
--- a batch, whatever was written of the dump
-pub took_batch : (r : Result ℕ VcdFault) (m first : Move) (s t : State) (writer : Option Progress) (vcd old new : Option (List ℕ)) → first ≡ m →
-    IfOk r (λ taken. Batch taken m s t old new) → IfOk r (λ taken. Took taken first s t writer writer vcd vcd old new)
-took_batch r m first s t writer vcd old new is h =
-    subst (λ (n : Move). IfOk r (λ taken. Took taken n s t writer writer vcd vcd old new)) (sym is)
-    (IfOk-weaker r (λ taken. Batch taken m s t old new) (λ taken. Took taken m s t writer writer vcd vcd old new) (λ taken b blocks inside free. b blocks inside writer vcd free) h)
+-- turns that failed
+pub turning_part : {blocks : List Bool} {steps left : ℕ} {p q : Point} {vcd lines : Option (List ℕ)} → Turning blocks steps left p q → AllTurnedPart left blocks q vcd lines → AllTurnedPart steps blocks p vcd lines
+turning_part {blocks} {steps} {left} {p} {q} {vcd} {lines} a part = record {
+  taken = a.taken + part.taken;
+  last = part.last;
+  within = omega (arith, a.count, part.within);
+  turned = all_then a.taken part.taken blocks p q part.last a.all a.time part.turned;
+  going = part.going;
+  time = part.time ∙ a.time;
+  failed = part.failed;
+}
+
+-- turns behind turns
+pub turning_then : {blocks : List Bool} {steps left rest : ℕ} {p q r : Point} → Turning blocks steps left p q → Turning blocks left rest q r → Turning blocks steps rest p r
+turning_then {blocks} {steps} {left} {rest} {p} {q} {r} a b = record {
+  taken = a.taken + b.taken;
+  count = omega (arith, a.count, b.count);
+  going = b.going;
+  time = b.time ∙ a.time;
+  all = all_then a.taken b.taken blocks p q r a.all a.time b.all;
+}
+
+-- a batch is some, whatever was written of the dump
+pub turning_batch : {blocks : List Bool} {steps left : ℕ} {first : Move} {behind : Option ℕ} {s t : State} {old new : Option (List ℕ)} → Batch steps left blocks first behind s t old new → (inside : Option ℕ) →
+    is_step_of_any inside first ≡ true → (writer : Option Progress) (vcd : Option (List ℕ)) → Turning blocks steps left (point inside s writer vcd old) (point behind t writer vcd new)
+turning_batch b inside free writer vcd = record { taken = b.taken; count = b.count; going = b.going; time = b.time; all = b.turned inside writer vcd free }
+
+-- one more turn, which may end the slot
+pub turned_last : {blocks : List Bool} {steps left : ℕ} {p q : Point} → Turning blocks steps left p q → (rest : ℕ) (r : Point) → Turned blocks q r → 1 + rest ≡ left → TurnedTo steps rest blocks p r
+turned_last {blocks} {steps} {left} {p} {q} a rest r t count =
+    let more : suc a.taken ≡ a.taken + 1 = omega arith in
+    let all : AllTurned (suc a.taken) blocks p r = (q, a.all, a.going, a.time, t) in
+    (a.taken + 1, omega (arith, a.count, count), subst (λ (n : ℕ). AllTurned n blocks p r) more all)
+
+-- and which doesn't
+pub turning_one : {blocks : List Bool} {steps left : ℕ} {p q : Point} → Turning blocks steps left p q → (rest : ℕ) (r : Point) → Turned blocks q r → 1 + rest ≡ left → r.state.over ≡ false →
+    r.state.time ≡ q.state.time → Turning blocks steps rest p r
+turning_one {blocks} {steps} {left} {p} {q} a rest r t count going time =
+    let last : TurnedTo steps rest blocks p r = turned_last a rest r t count in
+    record { taken = last.0; count = last.1; going = going; time = time ∙ a.time; all = last.2 }
 
 -- one that failed
-pub took_batch_part : (r : Result ℕ VcdFault) (steps : ℕ) (m first : Move) (s : State) (writer : Option Progress) (vcd old new : Option (List ℕ)) → first ≡ m →
-    OnErr r (BatchPart steps m s old new) → OnErr r (TookPart steps first s writer vcd vcd old new)
-took_batch_part r steps m first s writer vcd old new is h =
-    let part : BatchPart steps m s old new → TookPart steps m s writer vcd vcd old new = λ b blocks inside free. b blocks inside writer vcd free in
-    subst (λ (n : Move). OnErr r (TookPart steps n s writer vcd vcd old new)) (sym is) (on_err_weaker r part h)
+pub turning_one_part : {blocks : List Bool} {steps left : ℕ} {p q : Point} {vcd lines : Option (List ℕ)} → Turning blocks steps left p q → 0 < left → TurnedPart q vcd lines → AllTurnedPart steps blocks p vcd lines
+turning_one_part {blocks} {steps} {left} {p} {q} {vcd} {lines} a some t = turning_part a (once_part left blocks q vcd lines some a.going t)
 
--- a step that failed
-pub took_once : (r : Result ℕ VcdFault) (steps : ℕ) (first : Move) (s : State) (writer : Option Progress) (vcd vcd' lines lines' : Option (List ℕ)) → 0 < steps → s.over ≡ false →
-    OnErr r ((inside : Option ℕ) → is_step_of_any inside first ≡ true → TurnedPart (point inside s writer vcd lines) vcd' lines') → OnErr r (TookPart steps first s writer vcd vcd' lines lines')
-took_once r steps first s writer vcd vcd' lines lines' some going h =
-    let part : ((inside : Option ℕ) → is_step_of_any inside first ≡ true → TurnedPart (point inside s writer vcd lines) vcd' lines') → TookPart steps first s writer vcd vcd' lines lines' =
-    λ t blocks inside free. once_part steps blocks (point inside s writer vcd lines) vcd' lines' some going (t inside free)
-    in
-    on_err_weaker r part h
-
--- what holds of one holds of how many one step is
-pub one_step : (r : Result ℕ VcdFault) (P : ℕ → Type 0) → P 1 → IfOk r (λ n. n ≡ 1) → IfOk r P
-one_step r P one h = IfOk-weaker r (λ n. n ≡ 1) P (λ n is. subst P (sym is) one) h
-
--- marks behind steps are as many as before them
-pub took_len : (r : Result ℕ VcdFault) (old new : List ℕ) (s t : Store) → OnOk r (MarkChanges old new s t) → OnOk r (length new ≡ length old)
-took_len r old new s t h = on_ok_weaker r (λ (m : MarkChanges old new s t). m.len) h
-
--- the marks cover what steps change
-pub took_marked : (r : Result ℕ VcdFault) (writer : Option Progress) (known : Option (List ℕ)) (old new : List ℕ) (s t : Store) → CoversNoted old writer s → OnOk r (MarkChanges old new s t) →
-    OnOk r ((d : Parts) (slots : List Slot) → HasNoted writer known d slots → length d.signals < 512 * length old → CoversNoted new writer t)
-took_marked r writer known old new s t covers h =
-    let on : MarkChanges old new s t → (d : Parts) (slots : List Slot) → HasNoted writer known d slots → length d.signals < 512 * length old → CoversNoted new writer t =
-    λ changes d slots noted room. noted_on writer known old new s t d slots noted room covers changes
-    in
-    on_ok_weaker r on h
+-- they may stop here
+pub turned_so_far : {blocks : List Bool} {steps left : ℕ} {p q : Point} → Turning blocks steps left p q → TurnedTo steps left blocks p q
+turned_so_far a = (a.taken, a.count, a.all)

@@ -1,5 +1,5 @@
 -- The steps of a run, one by one, and one after another in a slot.
-use Rattle.std.specs.Prelude.{ℕ, zero, suc, ◌≡◌, ◌<◌, Bool, true, false, Option, List, ◌++◌}
+use Rattle.std.specs.Prelude.{ℕ, zero, suc, ◌≡◌, ◌+◌, ◌<◌, Bool, true, false, Option, List, ◌++◌}
 use Rattle.std.specs.Io.KnownBytes.{Appends}
 use Rattle.vs_design.specs.Parts.{Parts}
 use Rattle.vs_design.specs.Traces.{Slot}
@@ -7,13 +7,11 @@ use Rattle.vs_process.specs.declared.moves.Move.{Move}
 use Rattle.vs_process.specs.Blocks.{is_step_of_any}
 use Rattle.vs_process.specs.Executions.{apply, ended_slot, is_enabled, move_lines}
 use Rattle.vs_process.specs.States.{State}
-use Rattle.vs_process.specs.declared.moves.Move.TheVariants.{Step}
+use Rattle.vs_process.specs.declared.moves.Move.TheVariants.{Step, Evaluate}
 use Rattle.vs_state.specs.Driven.{IsDriven}
 use Rattle.vs_state.specs.Prints.{made_line, made_text}
 use Rattle.vs_state.specs.Silent.{AreSilent, Steps}
-use Rattle.vs_agenda.specs.declared.entries.AssignEvent.{AssignEvent}
-use Rattle.vs_agenda.specs.declared.entries.AssignEvent.TheVariants as e
-use Rattle.vs_agenda.specs.AssignEvents.{move_of}
+use Rattle.vs_state.specs.Told.{told}
 use Rattle.vs_vcd.specs.Progress.{Progress}
 use Rattle.vs_vcd.specs.Sinks.{AppendsPart}
 use Rattle.vs_turns.specs.Insides.{inside_told}
@@ -22,11 +20,11 @@ use Rattle.vs_turns.specs.Prints.{lines_text}
 use Rattle.vs_turns.specs.Recording.{HasNoted}
 use Rattle.vs_turns.specs.Slots.{AppendsSlots, AppendsSlotsPart}
 
--- so many moves of a continuous assignment: one, or an evaluation and the update that it has behind it
-abbrev pub MovesOn : ℕ → AssignEvent → State → State → Type 0
-MovesOn (suc zero) event s t = t ≡ apply (move_of event) s
-MovesOn (suc (suc zero)) (e.Evaluate j) s t = IsDriven j s t
-MovesOn _ _ s t = ⊥
+-- so many moves of the evaluation of a continuous assignment: it alone, or the update that it has behind it too
+abbrev pub Evaluated : ℕ → ℕ → State → State → Type 0
+Evaluated (suc zero) j s t = t ≡ apply (Evaluate j) s
+Evaluated (suc (suc zero)) j s t = IsDriven j s t
+Evaluated _ _ s t = ⊥
 
 -- so many steps of a process, of which one may have written a line
 abbrev pub StepsPrinted : ℕ → ℕ → State → State → Option (List ℕ) → Option (List ℕ) → Type 0
@@ -66,6 +64,18 @@ AllTurned zero blocks old new = new ≡ old
 AllTurned (suc n) blocks old new =
     (mid : Point) × AllTurned n blocks old mid × (mid.state.over ≡ false) × (mid.state.time ≡ old.state.time) × Turned blocks mid new
 
+-- of at most so many of them so many are left
+abbrev pub TurnedTo : ℕ → ℕ → List Bool → Point → Point → Type 0
+TurnedTo steps left blocks p q = (taken : ℕ) × (taken + left ≡ steps) × AllTurned taken blocks p q
+
+-- so many are left, and the slot goes on
+pub record Turning (blocks : List Bool) (steps left : ℕ) (p q : Point) : Type 0 where
+  pub taken : ℕ
+  pub count : taken + left ≡ steps
+  pub going : q.state.over ≡ false
+  pub time : q.state.time ≡ p.state.time
+  pub all : AllTurned taken blocks p q
+
 -- fewer than so many steps, and then one that failed, each in the slot of the first one and before the end
 pub record AllTurnedPart (steps : ℕ) (blocks : List Bool) (old : Point) (sink lines_sink : Option (List ℕ)) : Type 0 where
   pub taken : ℕ
@@ -76,25 +86,36 @@ pub record AllTurnedPart (steps : ℕ) (blocks : List Bool) (old : Point) (sink 
   pub time : last.state.time ≡ old.state.time
   pub failed : TurnedPart last sink lines_sink
 
--- so many steps of which none ends a slot; this move is the first, whatever the number of its update
-abbrev pub Batch : ℕ → Move → State → State → Option (List ℕ) → Option (List ℕ) → Type 0
-Batch taken first s t old new =
-    (blocks : List Bool) (inside : Option ℕ) (writer : Option Progress) (vcd : Option (List ℕ)) → is_step_of_any inside first ≡ true →
-    AllTurned taken blocks (point inside s writer vcd old) (point (inside_told blocks t.places first) t writer vcd new)
+-- of at most so many steps so many are left: those that were taken end no slot, this move is the first, whatever the number of its update, and behind the last
+-- one this block has taken a step since its control
+pub record Batch (steps left : ℕ) (blocks : List Bool) (first : Move) (behind : Option ℕ) (s t : State) (old new : Option (List ℕ)) : Type 0 where
+  pub taken : ℕ
+  pub count : taken + left ≡ steps
+  pub going : t.over ≡ false
+  pub time : t.time ≡ s.time
+  pub turned :
+      (inside : Option ℕ) (writer : Option Progress) (vcd : Option (List ℕ)) → is_step_of_any inside first ≡ true →
+      AllTurned taken blocks (point inside s writer vcd old) (point behind t writer vcd new)
 
 -- fewer than so many steps of which none ends a slot, and then one that failed; this move is the first, whatever the number of its update
-abbrev pub BatchPart : ℕ → Move → State → Option (List ℕ) → Option (List ℕ) → Type 0
-BatchPart steps first s old new =
-    (blocks : List Bool) (inside : Option ℕ) (writer : Option Progress) (vcd : Option (List ℕ)) → is_step_of_any inside first ≡ true →
+abbrev pub BatchPart : ℕ → List Bool → Move → State → Option (List ℕ) → Option (List ℕ) → Type 0
+BatchPart steps blocks first s old new =
+    (inside : Option ℕ) (writer : Option Progress) (vcd : Option (List ℕ)) → is_step_of_any inside first ≡ true →
     AllTurnedPart steps blocks (point inside s writer vcd old) vcd new
 
--- so many steps in a slot; this move is the first, whatever the number of its update
-abbrev pub Took : ℕ → Move → State → State → Option Progress → Option Progress → Option (List ℕ) → Option (List ℕ) → Option (List ℕ) → Option (List ℕ) → Type 0
-Took taken first s t writer writer' vcd vcd' lines lines' =
-    (blocks : List Bool) (inside : Option ℕ) → is_step_of_any inside first ≡ true →
-    AllTurned taken blocks (point inside s writer vcd lines) (point (inside_told blocks t.places first) t writer' vcd' lines')
+-- a move may be the next one where so many steps are left and this block has taken a step since its control
+pub record IsNext (left : ℕ) (inside : Option ℕ) (m : Move) (s : State) : Type 0 where
+  pub some : 0 < left
+  pub free : is_step_of_any inside m ≡ true
+  pub enabled : is_enabled s (told s m) ≡ true
 
--- fewer than so many steps, and then one that failed; this move is the first, whatever the number of its update
-abbrev pub TookPart : ℕ → Move → State → Option Progress → Option (List ℕ) → Option (List ℕ) → Option (List ℕ) → Option (List ℕ) → Type 0
-TookPart steps first s writer vcd vcd' lines lines' =
-    (blocks : List Bool) (inside : Option ℕ) → is_step_of_any inside first ≡ true → AllTurnedPart steps blocks (point inside s writer vcd lines) vcd' lines'
+-- a step by this move, whatever the number of its update
+abbrev pub Took : Move → State → State → Option Progress → Option Progress → Option (List ℕ) → Option (List ℕ) → Option (List ℕ) → Option (List ℕ) → Type 0
+Took choice s t writer writer' vcd vcd' lines lines' =
+    (blocks : List Bool) (inside : Option ℕ) → is_step_of_any inside choice ≡ true →
+    Turned blocks (point inside s writer vcd lines) (point (inside_told blocks t.places choice) t writer' vcd' lines')
+
+-- one that failed
+abbrev pub TookPart : Move → State → Option Progress → Option (List ℕ) → Option (List ℕ) → Option (List ℕ) → Option (List ℕ) → Type 0
+TookPart choice s writer vcd vcd' lines lines' =
+    (inside : Option ℕ) → is_step_of_any inside choice ≡ true → TurnedPart (point inside s writer vcd lines) vcd' lines'

@@ -4,5 +4,5 @@
 mod moves;
 mod recorder;
 
-pub use moves::{Room, advance, run_assigns, run_process, run_updates};
+pub use moves::{Ran, Room, advance, inside_behind, run_events};
 pub use recorder::Recorder;

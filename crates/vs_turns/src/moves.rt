@@ -1,8 +1,9 @@
 //! Moves that are made: one, and one after another where none is chosen between them.
-ghost use Rattle.std.specs.Prelude.{◌≡◌, ◌<◌, ◌≤◌, ◌^◌, [], false, true, IfOk, OnOk, OnErr};
+ghost use Rattle.std.specs.Prelude.{◌≡◌, ◌<◌, ◌≤◌, ◌^◌, false, true, IfOk, IfSome, OnOk, OnErr};
 ghost use Rattle.std.specs.Io.KnownBytes.{Appends};
-ghost use Rattle.vs_agenda.specs.AssignEvents.{move_of};
-ghost use Rattle.vs_turns.specs.Turns.{Batch, BatchPart, MovesOn, StepsPart, StepsPrinted};
+ghost use Rattle.vs_agenda.specs.ActiveEvents.{move_of};
+ghost use Rattle.vs_turns.specs.Insides.{inside_told};
+ghost use Rattle.vs_turns.specs.Turns.{Batch, BatchPart, Evaluated, IsNext, StepsPart, StepsPrinted};
 ghost use Rattle.vs_state.specs.Changes.{MarkChanges};
 ghost use Rattle.vs_state.specs.Silent.{IsReached};
 ghost use Rattle.vs_state.specs.Prints.{made_line, made_text};
@@ -11,7 +12,7 @@ ghost use Rattle.vs_process.specs.Executions as executions;
 ghost use Rattle.vs_vcd.specs.Progress.{is_write_fault};
 ghost use Rattle.vs_vcd.specs.Sinks.{AppendsPart, failed_after};
 
-use vs_agenda::{Agenda, AssignEvent};
+use vs_agenda::{ActiveEvent, Agenda, Next};
 use vs_design::Design;
 use vs_process::{Effect, Move};
 use vs_regions::Item;
@@ -113,179 +114,223 @@ fn advance_steps<'a, Q: EventQueue<Item>, L: Sink>(
     Ok(taken)
 }
 
-/// Takes the steps of a process, one after another, until it is no longer active or so many are taken. The answer is how many were taken.
-pub fn run_process<'a, Q: EventQueue<Item>, L: Sink>(
-    state: &mut State<'a, Q>,
-    design: &Design,
-    agenda: &mut Agenda,
-    marks: &mut Vec<u64>,
-    room: &mut Room<'a>,
-    lines: &mut L,
-    process: usize,
-    index: Option<usize>,
-    steps: u64,
-) -> Result<u64, VcdFault>
-    requires steps { 0 < steps }
-    requires going { state.old.over ≡ false }
-    requires enabled { executions.is_enabled state.old (Move.Step process) ≡ true }
-    requires early { state.old.time < 2 ^ 62 }
-    requires reached { IsReached design.now state.old }
-    ensures some { IfOk result (λ taken. 0 < taken) }
-    ensures within { IfOk result (λ taken. taken ≤ steps) }
-    ensures ok { IfOk result (λ taken. Batch taken (Move.Step process) state.old state.new (L.bytes lines.old) (L.bytes lines.new)) }
-    ensures err { OnErr result (BatchPart steps (Move.Step process) state.old (L.bytes lines.old) (L.bytes lines.new)) }
-    ensures marked { OnOk result (MarkChanges marks.old.items marks.new.items state.old.store state.new.store) }
-    ensures failures { L.failed lines.new ≡ failed_after (is_write_fault result) (L.failed lines.old) }
+/// The combinational block that has taken a step since its control, behind a move: that of the move's step, if it is one.
+#[inline(always)]
+pub fn inside_behind<Q: EventQueue<Item>>(
+    blocks: &[bool],
+    state: &State<Q>,
+    made: Move,
+) -> Option<usize>
+    ensures { result ≡ inside_told blocks.now state.now.places made }
 {
-    let mut taken = 0;
-    loop {
-        let left = steps - taken;
-        let made = advance_steps(state, design, marks, room, lines, process, left)?;
-        if !made.quiet {
-            agenda.add_woken(state)?;
-        }
-        taken += made.steps;
-        if !made.again {
-            agenda.remove(index);
-            return Ok(taken);
-        }
-        if taken == steps {
-            return Ok(taken);
-        }
+    let Move::Step(process) = made else {
+        return None;
+    };
+    let Some(block) = blocks.get(process) else {
+        return None;
+    };
+    if *block && state.is_inside(process) {
+        Some(process)
+    } else {
+        None
     }
 }
 
-/// Makes the activated updates, one after another, until none is left or so many are made; this is the number of the first among them. The
-/// answer is how many were made.
-pub fn run_updates<'a, Q: EventQueue<Item>, L: Sink>(
+/// Evaluates a continuous assignment, and brings the list up to date behind it. Where its event was the only one, the update is the next event, and is made
+/// too. At most so many moves are made; the answer is how many were.
+#[inline(always)]
+fn evaluate<'a, Q: EventQueue<Item>>(
     state: &mut State<'a, Q>,
     design: &Design,
     agenda: &mut Agenda,
     marks: &mut Vec<u64>,
-    room: &mut Room<'a>,
-    lines: &mut L,
-    first: usize,
+    assign: usize,
+    next: Next,
     steps: u64,
 ) -> Result<u64, VcdFault>
     requires steps { 0 < steps }
-    requires going { state.old.over ≡ false }
-    requires enabled { executions.is_enabled state.old (told state.old (Move.Make first)) ≡ true }
-    requires early { state.old.time < 2 ^ 62 }
     requires reached { IsReached design.now state.old }
-    ensures some { IfOk result (λ made. 0 < made) }
     ensures within { IfOk result (λ made. made ≤ steps) }
-    ensures ok { IfOk result (λ made. Batch made (Move.Make first) state.old state.new (L.bytes lines.old) (L.bytes lines.new)) }
-    ensures err { OnErr result (BatchPart steps (Move.Make first) state.old (L.bytes lines.old) (L.bytes lines.new)) }
+    ensures made { IfOk result (λ made. Evaluated made assign state.old state.new) }
     ensures marked { OnOk result (MarkChanges marks.old.items marks.new.items state.old.store state.new.store) }
-    ensures failures { L.failed lines.new ≡ failed_after (is_write_fault result) (L.failed lines.old) }
+    ensures memory { OnErr result (is_write_fault result ≡ false) }
 {
-    let mut made = 0;
-    let mut update = first;
-    loop {
-        advance(state, design, marks, room, lines, Move::Make(update))?;
-        agenda.add_woken(state)?;
-        made += 1;
-        if made == steps {
-            return Ok(made);
+    if steps > 1 && agenda.is_alone(next.listed) {
+        let updated = state.drive(design, assign, marks)?;
+        if updated {
+            agenda.pass(next.listed);
+            return Ok(2);
         }
-        match state.first_update() {
-            Some(next) => update = next,
-            None => return Ok(made),
-        }
+    } else {
+        state.evaluate(assign)?;
     }
+    agenda.follow_evaluation(assign, next.index(), state)?;
+    Ok(1)
 }
 
-/// Makes a move of a continuous assignment, and brings the list up to date behind it. Behind an evaluation whose event was the only one of the list the
-/// update is the next event, and is made too. At most so many moves are made; the answer is how many were.
-fn advance_assign<'a, Q: EventQueue<Item>, L: Sink>(
+/// What the moves of an event have come to: how many of the steps are left, the combinational block that has taken a step since its control behind them,
+/// and the event that comes next in any case, where it is known: the next step of the process, or another activated update.
+#[derive(Clone, Copy)]
+struct Behind {
+    left: u64,
+    inside: Option<usize>,
+    again: Option<Next>,
+}
+
+/// Makes the moves of an event: steps of a process, an update, or an evaluation, and the update behind it where that is the next event. It has left the list
+/// then, or comes again. What a move that comes again has woken is listed, what the last move has woken isn't.
+#[inline(always)]
+fn make_event<'a, Q: EventQueue<Item>, L: Sink>(
     state: &mut State<'a, Q>,
     design: &Design,
+    blocks: &[bool],
     agenda: &mut Agenda,
     marks: &mut Vec<u64>,
     room: &mut Room<'a>,
     lines: &mut L,
-    next: AssignEvent,
-    index: Option<usize>,
+    next: Next,
     steps: u64,
-) -> Result<u64, VcdFault>
+) -> Result<Behind, VcdFault>
     requires steps { 0 < steps }
     requires going { state.old.over ≡ false }
-    requires enabled { executions.is_enabled state.old (move_of next) ≡ true }
+    requires enabled { executions.is_enabled state.old (told state.old (move_of next.event)) ≡ true }
     requires early { state.old.time < 2 ^ 62 }
     requires reached { IsReached design.now state.old }
-    ensures within { IfOk result (λ made. made ≤ steps) }
-    ensures made { IfOk result (λ made. MovesOn made next state.old state.new) }
+    ensures some { IfOk result (λ made. made.left < steps) }
+    ensures ok { IfOk result (λ made. Batch steps made.left blocks.now (move_of next.event) made.inside state.old state.new
+        (L.bytes lines.old) (L.bytes lines.new)) }
+    ensures again { IfOk result (λ made. IfSome made.again (λ other. IsNext made.left made.inside (move_of other.event) state.new)) }
+    ensures err { OnErr result (BatchPart steps blocks.now (move_of next.event) state.old (L.bytes lines.old) (L.bytes lines.new)) }
+    ensures reached { OnOk result (IsReached design.now state.new) }
     ensures marked { OnOk result (MarkChanges marks.old.items marks.new.items state.old.store state.new.store) }
-    ensures printed { OnOk result (Appends (L.bytes lines.old) (L.bytes lines.new) []) }
-    ensures part { OnErr result (AppendsPart (L.bytes lines.old) (L.bytes lines.new) []) }
     ensures failures { L.failed lines.new ≡ failed_after (is_write_fault result) (L.failed lines.old) }
 {
-    match next {
-        AssignEvent::Evaluate(assign) => {
-            if steps > 1 && agenda.is_alone(index) {
-                let updated = state.drive(design, assign, marks)?;
-                if updated {
-                    agenda.remove(index);
+    match next.event {
+        ActiveEvent::Step(process) => {
+            let taken = advance_steps(state, design, marks, room, lines, process, steps)?;
+            let left = steps - taken.steps;
+            let inside = inside_behind(blocks, state, Move::Step(process));
+            if taken.again && left > 0 {
+                if !taken.quiet {
                     agenda.add_woken(state)?;
-                    return Ok(2);
                 }
-            } else {
-                state.evaluate(assign)?;
+                let again = Some(next);
+                return Ok(Behind {
+                    left,
+                    inside,
+                    again,
+                });
             }
-            agenda.follow_evaluation(assign, index, state)?;
-            Ok(1)
+            agenda.pass(next.listed);
+            let again = None;
+            Ok(Behind {
+                left,
+                inside,
+                again,
+            })
         }
-        AssignEvent::Propagate(assign) => {
+        ActiveEvent::Make(update) => {
+            advance(state, design, marks, room, lines, Move::Make(update))?;
+            let left = steps - 1;
+            let inside = None;
+            if left > 0
+                && let Some(other) = state.first_update()
+            {
+                agenda.add_woken(state)?;
+                let event = ActiveEvent::Make(other);
+                let listed = false;
+                let again = Some(Next { event, listed });
+                return Ok(Behind {
+                    left,
+                    inside,
+                    again,
+                });
+            }
+            let again = None;
+            Ok(Behind {
+                left,
+                inside,
+                again,
+            })
+        }
+        ActiveEvent::Evaluate(assign) => {
+            let made = evaluate(state, design, agenda, marks, assign, next, steps)?;
+            let left = steps - made;
+            let inside = None;
+            let again = None;
+            Ok(Behind {
+                left,
+                inside,
+                again,
+            })
+        }
+        ActiveEvent::Propagate(assign) => {
             state.propagate(design, assign, marks)?;
-            agenda.follow_propagation(assign, index, state)?;
-            Ok(1)
+            agenda.remove_update(assign, next.index());
+            let left = steps - 1;
+            let inside = None;
+            let again = None;
+            Ok(Behind {
+                left,
+                inside,
+                again,
+            })
         }
     }
 }
 
-/// Makes moves of continuous assignments, one after another as they stand at the front of the list, until another event stands there or so
-/// many are made; this is the first of them, and its index in the list. The answer is how many were made.
-pub fn run_assigns<'a, Q: EventQueue<Item>, L: Sink>(
+/// What `run_events` has come to: how many of the steps are left, and the combinational block that has taken a step since its control behind them.
+#[derive(Clone, Copy)]
+pub struct Ran {
+    pub left: u64,
+    pub inside: Option<usize>,
+}
+
+/// Makes events of the active region, one after another, this one first, where the first one of the list is always chosen: until no event is left, a
+/// combinational block has to go on, or so many steps are made.
+#[inline(always)]
+pub fn run_events<'a, Q: EventQueue<Item>, L: Sink>(
     state: &mut State<'a, Q>,
     design: &Design,
+    blocks: &[bool],
     agenda: &mut Agenda,
     marks: &mut Vec<u64>,
     room: &mut Room<'a>,
     lines: &mut L,
-    first: AssignEvent,
-    from: Option<usize>,
+    first: Next,
     steps: u64,
-) -> Result<u64, VcdFault>
+) -> Result<Ran, VcdFault>
     requires steps { 0 < steps }
     requires going { state.old.over ≡ false }
-    requires enabled { executions.is_enabled state.old (move_of first) ≡ true }
+    requires enabled { executions.is_enabled state.old (told state.old (move_of first.event)) ≡ true }
     requires early { state.old.time < 2 ^ 62 }
     requires reached { IsReached design.now state.old }
-    ensures some { IfOk result (λ made. 0 < made) }
-    ensures within { IfOk result (λ made. made ≤ steps) }
-    ensures ok { IfOk result (λ made. Batch made (move_of first) state.old state.new (L.bytes lines.old) (L.bytes lines.new)) }
-    ensures err { OnErr result (BatchPart steps (move_of first) state.old (L.bytes lines.old) (L.bytes lines.new)) }
+    ensures some { IfOk result (λ ran. ran.left < steps) }
+    ensures ok { IfOk result (λ ran. Batch steps ran.left blocks.now (move_of first.event) ran.inside state.old state.new
+        (L.bytes lines.old) (L.bytes lines.new)) }
+    ensures err { OnErr result (BatchPart steps blocks.now (move_of first.event) state.old (L.bytes lines.old) (L.bytes lines.new)) }
+    ensures reached { OnOk result (IsReached design.now state.new) }
     ensures marked { OnOk result (MarkChanges marks.old.items marks.new.items state.old.store state.new.store) }
     ensures failures { L.failed lines.new ≡ failed_after (is_write_fault result) (L.failed lines.old) }
 {
-    let mut made = 0;
-    let mut event = first;
-    let mut index = from;
+    let mut left = steps;
+    let mut next = first;
     loop {
-        let left = steps - made;
-        let moved = advance_assign(
-            state, design, agenda, marks, room, lines, event, index, left,
+        let made = make_event(
+            state, design, blocks, agenda, marks, room, lines, next, left,
         )?;
-        made += moved;
-        if made == steps {
-            return Ok(made);
+        left = made.left;
+        let inside = made.inside;
+        if let Some(other) = made.again {
+            next = other;
+            continue;
         }
-        match agenda.first_assign(state) {
-            Some(next) => {
-                event = next;
-                index = Some(0);
-            }
-            None => return Ok(made),
+        if left == 0 || inside.is_some() {
+            return Ok(Ran { left, inside });
+        }
+        match agenda.go_on(state)? {
+            Some(other) => next = other,
+            None => return Ok(Ran { left, inside }),
         }
     }
 }

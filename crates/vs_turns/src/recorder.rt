@@ -1,5 +1,5 @@
 //! What a run records of its value change dump.
-ghost use Rattle.std.specs.Prelude.{◌≡◌, ◌≤◌, ◌^◌, ◌++◌, ◌∷◌, [], ℕ, List, IfOk, OnOk, length};
+ghost use Rattle.std.specs.Prelude.{◌≡◌, ◌≤◌, ◌^◌, ◌++◌, ◌∷◌, [], ℕ, List, IfOk, OnOk, is_some, length};
 ghost use Rattle.vs_design.specs.Parts.{Parts};
 ghost use Rattle.vs_design.specs.Traces.{Slot};
 ghost use Rattle.vs_turns.specs.Recording.{HasNoted, CoversNoted};
@@ -50,7 +50,9 @@ impl Recorder {
 
     /// Whether slots are written.
     #[inline(always)]
-    pub fn is_writing(&self) -> bool {
+    pub fn is_writing(&self) -> bool
+        ensures { result ≡ is_some self.now }
+    {
         self.writer.is_some()
     }
 
@@ -73,6 +75,7 @@ impl Recorder {
             → WritesPiece result (S.bytes sink.old) (S.bytes sink.new) (vcd_slot d slots s) }
         ensures failures { S.failed sink.new ≡ failed_after (is_write_fault result) (S.failed sink.old) }
         ensures covered { OnOk result (CoversNoted [] self.new store.now) }
+        ensures writes { OnOk result (is_some self.new ≡ is_some self.old) }
         ensures pieces { (d : Parts) (slots : List Slot) (s : Slot)
             → vcd_slots d (slots ++ s ∷ []) ≡ vcd_slots d slots ++ vcd_slot d slots s }
     {

@@ -1,11 +1,11 @@
-use Rattle.std.proofs.Common.{◌≡◌, ◌+◌, ◌∙◌, List, refl, inl, inr, sym, subst, arith}
+use Rattle.std.proofs.Common.{◌≡◌, ◌+◌, ◌∙◌, ℕ, refl, inl, inr, sym, arith}
 use Rattle.std.proofs.lemmas.Result.{err_from_is_err_and}
-use Rattle.vs_design.specs.Stores.{Store}
-use Rattle.vs_flatcode.specs.declared.changes.Change.{Change}
 use Rattle.vs_flatcode.specs.Codes.{todo_in}
 use Rattle.vs_flatcode.specs.Places.{Todo}
-use Rattle.vs_flatcode.specs.Went.{QuietSteps, TookStep}
-use Rattle.vs_flatcode.proofs.Follows.{quiet_more, took_in}
+use Rattle.vs_flatcode.specs.declared.made.Halt.{Halt}
+use Rattle.vs_flatcode.specs.Went.{CalmlyTo, IsFollowed, QuietSteps, TookStep}
+use Rattle.vs_flatcode.proofs.Follows.{quiet_more, took_in, took_steps}
+use Rattle.vs_flatcode.proofs.cursor.glide.Goals.{else-not-events-via-then-not-events+else-not-is_written, else-not-events-via-else-not-events}
 use Rattle.vs_flatcode.proofs.cursor.glide.Goals as goal
 
 pub loop-halt-init : goal.loop-halt-init
@@ -22,37 +22,29 @@ returns-in_err-halt-clause-store_kept c =
 pub overflow_add-steps : goal.overflow_add-steps
 overflow_add-steps c = omega (arith, c.loop-halt.invariant.within, c.ranges.limit.fits)
 
-pub returns-then-not-is_made-clause-ok : goal.returns-then-not-is_made-clause-ok
-returns-then-not-is_made-clause-ok c =
-    let mid : Todo = todo_in c.args.ops.now c.loop-halt.counters.items c.loop-halt.place in
+pub returns-then-not-is_written-clause-ok : goal.returns-then-not-is_written-clause-ok
+returns-then-not-is_written-clause-ok c =
     let new : Todo = todo_in c.args.ops.now c.step.new.counters.items c.in_ok-halt.next in
-    record {
-      before = c.loop-halt.steps;
-      more = 0;
-      count = omega arith;
-      mid = mid;
-      next = new;
-      quiet = c.loop-halt.invariant.quiet;
-      took = took_in mid new c.loop-halt.store c.args.store.now c.step.new.store c.args.time c.in_ok-halt.halt c.step.new.effect c.loop-halt.changes.items c.args.changes.now.items c.step.new.changes.items
-          c.loop-halt.invariant.store c.loop-halt.invariant.changes c.in_ok-halt.ensures.ok;
-      rest = inl (refl, refl, refl);
-    }
+    took_steps c.loop-halt.steps 0 (c.loop-halt.steps + 1) (todo_in c.args.ops.now c.args.counters.now.items c.args.from) (todo_in c.args.ops.now c.loop-halt.counters.items c.loop-halt.place) new new
+    c.loop-halt.store c.args.store.now c.step.new.store c.args.time c.in_ok-halt.halt c.in_ok-halt.halt c.step.new.effect c.loop-halt.changes.items c.args.changes.now.items c.step.new.changes.items
+    (omega arith) c.loop-halt.invariant.quiet c.loop-halt.invariant.store c.loop-halt.invariant.changes c.in_ok-halt.ensures.ok (inl (refl, refl, refl))
 
 pub returns-then-steps-limit-clause-ok : goal.returns-then-steps-limit-clause-ok
 returns-then-steps-limit-clause-ok c =
-    let mid : Todo = todo_in c.args.ops.now c.loop-halt.counters.items c.loop-halt.place in
-    let new : Todo = todo_in c.args.ops.now c.step.new.counters.items c.in_ok-halt.next in
-    record {
-      before = c.loop-halt.steps;
-      more = c.coast-behind.result.2;
-      count = omega arith;
-      mid = mid;
-      next = new;
-      quiet = c.loop-halt.invariant.quiet;
-      took = took_in mid new c.loop-halt.store c.args.store.now c.step.new.store c.args.time c.in_ok-halt.halt c.step.new.effect c.loop-halt.changes.items c.args.changes.now.items c.step.new.changes.items
-          c.loop-halt.invariant.store c.loop-halt.invariant.changes c.in_ok-halt.ensures.ok;
-      rest = inr (c.if-not-is_made.ensures refl, c.coast-behind.ensures.calm c.step.new.counters.items c.args.store.now c.args.time c.in_ok-halt.ensures.code);
-    }
+    let more : ℕ = c.coast-behind.result.2 in
+    let last : Halt = c.coast-behind.result.0 in
+    let next : Todo = todo_in c.args.ops.now c.step.new.counters.items c.in_ok-halt.next in
+    let new : Todo = todo_in c.args.ops.now c.step.new.counters.items c.coast-behind.result.1 in
+    let calm : CalmlyTo more next c.step.new.store c.args.time last new = c.coast-behind.ensures.calm c.step.new.counters.items c.step.new.store c.args.time c.in_ok-halt.ensures.code in
+    let rest : IsFollowed more next c.step.new.store c.args.time c.in_ok-halt.halt last new =
+    elim c.else-not-events.branch [
+      | else-not-events-via-then-not-events+else-not-is_written w ↦ inr (inr (w.if-not-is_written.ensures refl, c.coast-behind.ensures.unheard w.if-not-events.true, calm))
+      | else-not-events-via-else-not-events w ↦ inr (inl (w.if-not-events.ensures refl, calm))
+    ]
+    in
+    took_steps c.loop-halt.steps more (c.loop-halt.steps + 1 + more) (todo_in c.args.ops.now c.args.counters.now.items c.args.from) (todo_in c.args.ops.now c.loop-halt.counters.items c.loop-halt.place) next new
+    c.loop-halt.store c.args.store.now c.step.new.store c.args.time c.in_ok-halt.halt last c.step.new.effect c.loop-halt.changes.items c.args.changes.now.items c.step.new.changes.items
+    (omega arith) c.loop-halt.invariant.quiet c.loop-halt.invariant.store c.loop-halt.invariant.changes c.in_ok-halt.ensures.ok rest
 
 pub loop-halt-smaller : goal.loop-halt-smaller
 loop-halt-smaller c = omega (arith, c.loop-halt.invariant.within)

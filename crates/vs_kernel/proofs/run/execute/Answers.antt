@@ -1,72 +1,84 @@
-use Rattle.std.proofs.Common.{◌≡◌, ◌∙◌, ◌+◌, ◌-◌, ◌≤◌, ℕ, List, Option, refl, rules, sym, ap, map, length, true, arith}
+use Rattle.std.proofs.Common.{◌≡◌, ◌∙◌, ◌+◌, ◌-◌, ◌≤◌, ℕ, List, [], Option, refl, rules, sym, ap, subst, map, true, arith}
 use Rattle.vs_process.specs.Executions.{is_combinational, is_complete}
 use Rattle.vs_process.specs.States.{State}
 use Rattle.vs_process.specs.Blocks.{inside_block}
 use Rattle.vs_turns.proofs.MarkingLemmas.{noted_first}
 use Rattle.vs_process.proofs.Effects.{on_err}
-use Rattle.vs_turns.proofs.Appending.{append_none}
-use Rattle.vs_kernel.proofs.RunsLemmas.{begins, limited, incomplete, complete_past, complete_over, ended_run, header_failed, end_failed, part_failed, first_failed, failed_as, failed_from}
+use Rattle.vs_turns.proofs.Appending.{append_none, part_all}
+use Rattle.vs_kernel.proofs.RunsLemmas.{HasRun, begins, limited, incomplete, complete_past, complete_over, ended_run, header_failed, end_failed, part_failed, first_failed, failed_as, failed_from}
 use Rattle.vs_turns.specs.Points.{Point, point}
+use Rattle.vs_turns.specs.Turns.{TurnedTo}
 use Rattle.vs_kernel.proofs.StandsLemmas.{StandsAt, all_failed, all_on}
 use Rattle.vs_kernel.proofs.run.execute.Goals as goal
 use Rattle.vs_kernel.proofs.run.execute.Goals.{then-loop-state-test+else-time-until, else-loop-state-test}
 
 pub loop-state-init : goal.loop-state-init
-loop-state-init g c = record {
-  run = begins c.requires.start c.in_ok-writer.ensures.written c.in_ok-writer.ensures.bytes;
-  inside = sym (ap (λ (s : State). inside_block c.args.design.now.processes s.places) c.requires.start ∙ c.none_inside_first.ensures c.args.design.now);
-  covers = noted_first c.args.design.now _ _ c.in_ok-marks.marks.items c.args.state.now.store c.in_ok-writer.ensures.written;
-  room = omega (arith, c.in_ok-marks.ensures.room, ap length c.signals.ensures);
-  few = c.in_ok-marks.ensures.few;
-  failures = c.in_ok-writer.ensures.failures;
-  line_failures = refl;
-}
+loop-state-init g c =
+    let none : 0 ≡ c.args.steps - c.args.steps = omega arith in
+    record {
+      run =
+          subst
+          (λ (n : ℕ). HasRun c.args.design.now c.args.until c.args.steps n c.args.state.now c.in_ok-writer.writer (g.V.Sink.bytes c.args.vcd.now) (g.V.Sink.bytes c.start.new.sink) (g.L.Sink.bytes c.args.lines.now) (g.L.Sink.bytes c.args.lines.now))
+          none (begins c.requires.start c.in_ok-writer.ensures.written c.in_ok-writer.ensures.bytes);
+      within = omega arith;
+      inside = sym (ap (λ (s : State). inside_block c.args.design.now.processes s.places) c.requires.start ∙ c.none_inside_first.ensures c.args.design.now);
+      recording = record {
+        slots = [];
+        noted = c.in_ok-writer.ensures.written;
+        covers = noted_first c.args.design.now _ _ c.in_ok-marks.marks.items c.args.state.now.store c.in_ok-writer.ensures.written;
+        room = c.in_ok-marks.ensures.room;
+        few = c.in_ok-marks.ensures.few;
+      };
+      failures = c.in_ok-writer.ensures.failures;
+      line_failures = refl;
+    }
 
 pub turn-requires : goal.turn-requires
 turn-requires g c = record {
   goes_on = λ process is. c.inside_goes_on.ensures c.args.design.now c.loop-state.state process (sym c.loop-state.invariant.inside ∙ is);
-  steps = omega (arith, c.loop-state.invariant.run.within, c.if-count-steps.false);
+  steps = omega (arith, c.if-left-eq0.false);
   going = sym c.is_over.ensures ∙ c.loop-state-test.true;
   early = omega (arith, c.requires.early, c.time.ensures, c.if-time-until.true);
   reached = (c.loop-state.invariant.run.moves, c.loop-state.invariant.run.state);
-  few = c.loop-state.invariant.few;
-  covers = c.loop-state.invariant.covers;
+  recording = c.loop-state.invariant.recording;
 }
 
 pub loop-state-preserved : goal.loop-state-preserved
 loop-state-preserved g c =
     let early : c.loop-state.state.time ≤ c.args.until = omega (arith, c.time.ensures, c.if-time-until.true) in
-    let n : ℕ = c.in_ok-taken.taken.steps in
     let old : Option (List ℕ) = g.V.Sink.bytes c.args.vcd.now in
     let lold : Option (List ℕ) = g.L.Sink.bytes c.args.lines.now in
     let p : Point = point c.loop-state.inside c.loop-state.state c.loop-state.writer (g.V.Sink.bytes c.loop-state.vcd) (g.L.Sink.bytes c.loop-state.lines) in
     let q : Point = point c.in_ok-taken.taken.inside c.turn.new.state c.turn.new.writer (g.V.Sink.bytes c.turn.new.vcd) (g.L.Sink.bytes c.turn.new.lines) in
-    let before : StandsAt c.args.design.now c.args.until c.args.steps c.loop-state.count p old lold =
+    let turned : TurnedTo c.loop-state.left c.in_ok-taken.taken.left c.deref.result.now p q = c.in_ok-taken.ensures.ok in
+    let taken : ℕ = c.args.steps - c.loop-state.left in
+    let before : StandsAt c.args.design.now c.args.until c.args.steps taken p old lold =
     record { run = c.loop-state.invariant.run; inside = c.loop-state.invariant.inside }
     in
-    let within : c.loop-state.count + n ≤ c.args.steps = omega (arith, c.loop-state.invariant.run.within, c.in_ok-taken.ensures.within) in
-    let behind : StandsAt c.args.design.now c.args.until c.args.steps (c.loop-state.count + n) q old lold =
-    all_on before n c.deref.result.now q c.blocks_exclude.ensures c.inside_follows.ensures
-    (c.deref.ensures.value ∙ c.in_ok-blocks.ensures ∙ ap (map is_combinational) c.processes.ensures) early within c.in_ok-taken.ensures.ok
+    let within : taken + turned.0 ≤ c.args.steps = omega (arith, c.loop-state.invariant.within, turned.1) in
+    let count : taken + turned.0 ≡ c.args.steps - c.in_ok-taken.taken.left = omega (arith, c.loop-state.invariant.within, turned.1) in
+    let behind : StandsAt c.args.design.now c.args.until c.args.steps (c.args.steps - c.in_ok-taken.taken.left) q old lold =
+    subst (λ (n : ℕ). StandsAt c.args.design.now c.args.until c.args.steps n q old lold) count
+    (all_on before turned.0 c.deref.result.now q c.blocks_exclude.ensures c.inside_follows.ensures
+    (c.deref.ensures.value ∙ c.in_ok-blocks.ensures ∙ ap (map is_combinational) c.processes.ensures) early within turned.2)
     in
     record {
-      inside = behind.inside;
       run = behind.run;
-      covers = c.in_ok-taken.ensures.covers c.args.design.now _ behind.run.written c.loop-state.invariant.room;
-      room = omega (arith, c.loop-state.invariant.room, c.in_ok-taken.ensures.len);
-      few = omega (arith, c.loop-state.invariant.few, c.in_ok-taken.ensures.len);
+      within = omega (arith, c.loop-state.invariant.within, c.in_ok-taken.ensures.some);
+      inside = behind.inside;
+      recording = c.in_ok-taken.ensures.recording;
       failures = c.in_ok-taken.ensures.failures.0 ∙ c.loop-state.invariant.failures;
       line_failures = c.in_ok-taken.ensures.failures.1 ∙ c.loop-state.invariant.line_failures;
     }
 
-pub returns-then-count-steps-clause-ran : goal.returns-then-count-steps-clause-ran
-returns-then-count-steps-clause-ran g c =
+pub returns-then-left-eq0-clause-ran : goal.returns-then-left-eq0-clause-ran
+returns-then-left-eq0-clause-ran g c =
     let early : c.loop-state.state.time ≤ c.args.until = omega (arith, c.time.ensures, c.if-time-until.true) in
-    limited c.time-then-count-steps.result c.loop-state.invariant.run (incomplete c.args.until c.loop-state.state (sym c.is_over.ensures ∙ c.loop-state-test.true) early)
-    c.time-then-count-steps.ensures c.if-count-steps.true
+    limited c.time-then-left-eq0.result c.loop-state.invariant.run (incomplete c.args.until c.loop-state.state (sym c.is_over.ensures ∙ c.loop-state-test.true) early)
+    c.time-then-left-eq0.ensures (omega (arith, c.if-left-eq0.true))
 
-pub returns-then-count-steps-clause-failures : goal.returns-then-count-steps-clause-failures
-returns-then-count-steps-clause-failures g c = (c.loop-state.invariant.failures, c.loop-state.invariant.line_failures)
+pub returns-then-left-eq0-clause-failures : goal.returns-then-left-eq0-clause-failures
+returns-then-left-eq0-clause-failures g c = (c.loop-state.invariant.failures, c.loop-state.invariant.line_failures)
 
 pub returns-clause-ran : goal.returns-clause-ran
 returns-clause-ran g c =
@@ -85,7 +97,7 @@ pub returns-in_err-blocks-clause-begun : goal.returns-in_err-blocks-clause-begun
 returns-in_err-blocks-clause-begun g c = on_err _ (header_failed (0, append_none _))
 
 pub returns-in_err-marks-clause-begun : goal.returns-in_err-marks-clause-begun
-returns-in_err-marks-clause-begun g c = on_err _ (header_failed (0, append_none _))
+returns-in_err-marks-clause-begun g c = on_err _ (header_failed (part_all _ _ _ c.in_ok-writer.ensures.bytes))
 
 pub returns-in_err-writer-clause-begun : goal.returns-in_err-writer-clause-begun
 returns-in_err-writer-clause-begun g c = on_err _ (header_failed (part_failed _ _ _ _ c.in_err-writer.ensures.bytes))
@@ -98,10 +110,11 @@ pub returns-in_err-taken-clause-begun : goal.returns-in_err-taken-clause-begun
 returns-in_err-taken-clause-begun g c =
     let early : c.loop-state.state.time ≤ c.args.until = omega (arith, c.time.ensures, c.if-time-until.true) in
     let p : Point = point c.loop-state.inside c.loop-state.state c.loop-state.writer (g.V.Sink.bytes c.loop-state.vcd) (g.L.Sink.bytes c.loop-state.lines) in
-    let before : StandsAt c.args.design.now c.args.until c.args.steps c.loop-state.count p (g.V.Sink.bytes c.args.vcd.now) (g.L.Sink.bytes c.args.lines.now) =
+    let taken : ℕ = c.args.steps - c.loop-state.left in
+    let before : StandsAt c.args.design.now c.args.until c.args.steps taken p (g.V.Sink.bytes c.args.vcd.now) (g.L.Sink.bytes c.args.lines.now) =
     record { run = c.loop-state.invariant.run; inside = c.loop-state.invariant.inside }
     in
-    let within : c.loop-state.count + (c.args.steps - c.loop-state.count) ≤ c.args.steps = omega (arith, c.loop-state.invariant.run.within) in
+    let within : taken + c.loop-state.left ≤ c.args.steps = omega (arith, c.loop-state.invariant.within) in
     on_err _
     (all_failed before c.deref.result.now c.blocks_exclude.ensures c.inside_follows.ensures
     (c.deref.ensures.value ∙ c.in_ok-blocks.ensures ∙ ap (map is_combinational) c.processes.ensures) early within c.in_err-taken.ensures.err)

@@ -1,4 +1,4 @@
-use Rattle.std.proofs.Common.{◌≡◌, ◌++◌, [], refl, rules, sym, ap, subst, List, ◌∙◌}
+use Rattle.std.proofs.Common.{◌≡◌, ◌++◌, ◌∷◌, ℕ, [], length, refl, rules, sym, ap, subst, arith, List, ◌∙◌}
 use Rattle.std.proofs.lemmas.List.{append-nil}
 use Rattle.std.specs.Io.KnownBytes.{Appends}
 use Rattle.vs_design.specs.Traces.{Slot}
@@ -11,12 +11,13 @@ use Rattle.vs_vcd.specs.Text.{vcd_slots}
 use Rattle.vs_vcd.specs.Sinks.{AppendsPart, failed_after}
 use Rattle.vs_turns.specs.Slots.{AppendsSlots, AppendsSlotsPart}
 use Rattle.vs_turns.specs.Prints.{lines_text, slot_lines}
-use Rattle.vs_turns.proofs.MarkingLemmas.{noted_clear}
+use Rattle.vs_turns.proofs.MarkingLemmas.{noted_clear, room_on}
 use Rattle.vs_turns.proofs.MoveLemmas.{not_ended, none_ended}
 use Rattle.vs_process.proofs.Effects.{on_err}
 use Rattle.vs_turns.proofs.Appending.{append_none}
 use Rattle.vs_kernel.proofs.RunsLemmas.{ended_here, slot_failed, slots_whole, first_failed, second_failed}
 use Rattle.vs_kernel.proofs.run.note.Goals as goal
+use Rattle.vs_kernel.proofs.run.note.Goals.{then-is_writing, else-is_writing}
 
 pub returns-in_default-clause-written : goal.returns-in_default-clause-written
 returns-in_default-clause-written g c = λ d before h.
@@ -101,5 +102,19 @@ returns-in_err-print_calls-clause-failures g c =
     let told : g.L.Sink.failed c.print_calls.new.lines ≡ failed_after (is_write_fault c.from_residual-in_err-print_calls.result) (g.L.Sink.failed c.args.lines.now) = search rules in
     second_failed _ _ _ _ _ c.in_ok-slot.ensures.failures told
 
-pub returns-clause-covers : goal.returns-clause-covers
-returns-clause-covers g c = noted_clear _ c.slot.new.self c.args.state.now.store (subst (CoversNoted [] c.slot.new.self) c.store.ensures c.in_ok-slot.ensures.covered)
+pub returns-clause-recording : goal.returns-clause-recording
+returns-clause-recording g c = λ d h.
+    let marks : List ℕ = c.if-is_writing.marks.items in
+    let len : length marks ≡ length c.args.marks.now.items =
+    elim c.if-is_writing.branch [
+      | then-is_writing w ↦ ap (λ m. length m.items) w.marks-is ∙ w.clear.ensures.len
+      | else-is_writing w ↦ ap (λ m. length m.items) w.marks-is
+    ]
+    in
+    record {
+      slots = h.slots ++ ended_here c.args.state.now ∷ [];
+      noted = c.in_ok-slot.ensures.written d h.slots (ended_here c.args.state.now) h.noted (record { time = sym c.time.ensures; values = sym c.store.ensures });
+      covers = noted_clear marks c.slot.new.self c.args.state.now.store (subst (CoversNoted [] c.slot.new.self) c.store.ensures c.in_ok-slot.ensures.covered);
+      room = room_on d c.args.marks.now.items marks c.args.writer.now c.slot.new.self h.room len c.in_ok-slot.ensures.writes;
+      few = omega (arith, h.few, len);
+    }

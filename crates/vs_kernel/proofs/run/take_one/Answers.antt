@@ -1,15 +1,15 @@
-use Rattle.std.proofs.Common.{◌≡◌, ◌∙◌, ℕ, Option, Bool, false, rules, refl, ap, sym, subst, arith}
+use Rattle.std.proofs.Common.{◌≡◌, ◌∙◌, ℕ, Option, Bool, false, rules, refl, ap, sym, subst}
 use Rattle.vs_vcd.specs.Progress.{is_write_fault}
 use Rattle.vs_vcd.specs.Sinks.{failed_after}
 use Rattle.vs_kernel.specs.Faults.{OneFailed}
 use Rattle.vs_turns.specs.Insides.{inside_told}
 use Rattle.vs_turns.specs.Points.{Point, point}
 use Rattle.vs_turns.specs.Turns.{Turned}
-use Rattle.vs_turns.proofs.MarkingLemmas.{noted_on}
+use Rattle.vs_turns.proofs.MarkingLemmas.{recording_on}
 use Rattle.vs_process.proofs.Effects.{on_err}
 use Rattle.vs_turns.proofs.Appending.{part_all}
 use Rattle.vs_kernel.proofs.RunsLemmas.{slots_whole, step_printed, slot_printed, line_printed, failed_as, second_failed}
-use Rattle.vs_turns.proofs.TurnsLemmas.{once, part_at, turned_told}
+use Rattle.vs_turns.proofs.TurnsLemmas.{part_at, turned_told}
 use Rattle.vs_kernel.proofs.run.take_one.Goals as goal
 
 pub returns-clause-ok : goal.returns-clause-ok
@@ -22,15 +22,15 @@ returns-clause-ok g c = λ blocks inside free.
     (g.L.Sink.bytes c.args.lines.now) (g.L.Sink.bytes c.advance.new.lines) c.args.next.choice c.requires.enabled free c.in_ok-advance.ensures.state refl c.in_ok-note.ensures.written
     c.in_ok-note.ensures.bytes (step_printed _ _ _ c.args.next.choice c.args.state.now c.in_ok-note.ensures.lines c.in_ok-advance.ensures.printed)
     in
-    once blocks p q c.requires.going turned
+    turned
 
 pub returns-clause-failures : goal.returns-clause-failures
 returns-clause-failures g c = (c.in_ok-note.ensures.failures.0, c.in_ok-advance.ensures.failures ∙ c.in_ok-note.ensures.failures.1)
 
-pub returns-clause-covers : goal.returns-clause-covers
-returns-clause-covers g c = λ d slots h room.
-    noted_on c.note.new.writer _ c.note.new.marks.items c.advance.new.marks.items c.args.state.now.store c.advance.new.state.store d slots h (omega (arith, room, c.note.ensures.len)) c.in_ok-note.ensures.covers
-    c.in_ok-advance.ensures.marked
+pub returns-clause-recording : goal.returns-clause-recording
+returns-clause-recording g c =
+    recording_on c.args.design.now c.note.new.marks.items c.advance.new.marks.items c.note.new.writer _ c.args.state.now.store c.advance.new.state.store
+    (c.in_ok-note.ensures.recording c.args.design.now c.requires.recording) c.in_ok-advance.ensures.marked
 
 pub returns-in_err-note-clause-err : goal.returns-in_err-note-clause-err
 returns-in_err-note-clause-err g c =

@@ -28,11 +28,11 @@ follow-requires g c =
       sizes = sizes_behind (step (todo_of h.went.mid) s.store s.processes.time).write s.store c.steps.new.changes.items h.went.noted;
       sources = subst (HasSources c.args.design.now) (sym c.self.view_is) c.requires.sources;
       terms = λ some.
-          went_within c.self.view_is c.args.design.now.processes c.in_ok-went.went.steps c.args.process c.steps.new.self.places effect c.steps.new.store c.steps.new.changes.items h c.requires.active some
+          went_within c.self.view_is c.args.design.now.processes c.in_ok-went.went.steps c.args.process c.steps.new.self.places effect c.steps.new.store c.steps.new.changes.items h some
           c.requires.terms;
     }
 
--- ---- steps that do nothing beyond the process, or the last of which writes
+-- ---- steps of which none has an effect
 
 pub returns-then-not-went-clause-state : goal.returns-then-not-went-clause-state
 returns-then-not-went-clause-state g c =
@@ -67,7 +67,7 @@ returns-then-not-went-clause-again g c = λ going.
     subst (λ (ps : List Place). if_some is_going (slice_get ps c.args.process) ≡ true) (sym c.in_ok-follow.ensures.places)
     (going_behind c.steps.new.changes.items c.steps.new.self.places c.args.process (c.in_ok-went.ensures.going going))
 
--- ---- the last of which has an effect
+-- ---- steps of which one has an effect
 
 pub returns-clause-state : goal.returns-clause-state
 returns-clause-state g c =
