@@ -43,3 +43,11 @@ images_more f g done new all i x within at same so_far =
 
 pub images_all : {A B : Type 0} (f : A → Data) (g : B → Data) (done : List A) (all : List B) (i : ℕ) → length all ≤ i → map f done ≡ map g (take i all) → array (items_of (map f done)) ≡ array (items_of (map g all))
 images_all f g done all i past so_far = ap (λ ds. array (items_of ds)) (so_far ∙ ap (map g) (take_all i all past))
+
+-- the entries of a list from one on pass where it does, and those behind it do
+module _ (test : Data → Bool) (entries : List Value) (i : ℕ) (entry : Value) (within : i < length entries) (is : entry ≡ get_or entries i entry) where
+  pub entry_passes : test (view entry) ≡ true → all_items test (items_view (drop (i + 1) entries)) ≡ all_items test (items_view (drop i entries))
+  entry_passes e = sym (rw (drop_more entries i entry within, ← is, e) refl)
+
+  pub entry_fails : test (view entry) ≡ false → false ≡ all_items test (items_view (drop i entries))
+  entry_fails e = sym (rw (drop_more entries i entry within, ← is, e) refl)

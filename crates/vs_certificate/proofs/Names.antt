@@ -1,6 +1,7 @@
 -- The names of an object's members, and what is found under them.
-use Rattle.std.proofs.Common.{nat_eq, ne_eqb, ◌≡◌, ℕ, zero, suc, ◌≤◌, Bool, true, ◌&&◌, not, List, [], ◌∷◌, length, drop, map, Bor, Option, Some, Ordering, Less, Equal, Greater, nat_cmp, is_eq, true≢false, refl, ap, sym, subst, ◌∙◌, arith}
-use Rattle.std.proofs.lemmas.Bool.{and_parts}
+use Rattle.std.proofs.Common.{nat_eq, ne_eqb, ◌≡◌, ℕ, zero, suc, ◌+◌, ◌<◌, ◌≤◌, Bool, true, false, ◌&&◌, not, List, [], ◌∷◌, length, get_or, drop, map, bytes_eq, Bor, Option, Some, Ordering, Less, Equal, Greater, nat_cmp, is_eq, true≢false, refl, ap, sym, subst, ◌∙◌, arith}
+use Rattle.std.proofs.lemmas.Bool.{and_parts, not-false}
+use Rattle.std.proofs.lemmas.List.{drop_more}
 use Rattle.std.proofs.lemmas.Bool.Decides.{nat_tests}
 use Rattle.std.proofs.lemmas.Cmp.{nat_list_cmp_total, tied_itself}
 use Rattle.std.proofs.lemmas.Slice.Eq.{bytes_eq-Decides}
@@ -20,6 +21,11 @@ are_names-end [] zero h = refl
 are_names-end [] (suc k) h = absurd (omega arith)
 are_names-end (n ∷ ns) zero h = ne_eqb 0 (suc (length ns)) (λ e. absurd (omega arith))
 are_names-end (n ∷ ns) (suc k) h = nat_eq-suc k (length ns) ∙ are_names-end ns k (omega arith)
+
+module _ (names : List (Bor (List ℕ))) (k : ℕ) {key : List ℕ} {d : Data} {all ms : Members} (is : all ≡ member key d ms) where
+  -- a member of the next name is passed over
+  pub are_names-next : (default : Bor (List ℕ)) → k < length names → not (bytes_eq key (get_or names k default).now) ≡ false → are_names (map (λ n. n.now) (drop (k + 1) names)) ms ≡ are_names (map (λ n. n.now) (drop k names)) all
+  are_names-next default within same = sym (rw (is, drop_more names k default within, not-false _ same) refl)
 
 -- ---- an object is known by its names and what is found under each
 

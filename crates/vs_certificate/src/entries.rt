@@ -5,13 +5,9 @@ ghost use Rattle.serde_json.specs.View.{view};
 ghost use Rattle.vs_certificate.specs.JsonValue.{grain_value, start_word_value, mode_value, edge_value, signal_value};
 ghost use Rattle.vs_certificate.specs.Shape.{is_natural, is_whole, is_grain, is_start, is_mode, is_edge_signal, is_signal_entry};
 
-use crate::form::{
-    JsonForm, Numbers, from_value_at, has_form_at, has_names, is_empty_list_at, is_word, is_word_at,
-};
-use crate::members::{
-    EdgeSignal, Grain, ProcessEntry, ProcessKind, SignalEntry, SignalMode, Start,
-};
-use serde_json::{Value, json};
+use crate::form::{JsonForm, Numbers, from_value_at, has_form_at, has_names, is_word, with_member};
+use crate::members::{EdgeSignal, Grain, SignalEntry, SignalMode, Start};
+use serde_json::{Map, Value};
 use std::alloc::{AllocError, Global};
 
 impl JsonForm for Grain {
@@ -99,7 +95,9 @@ impl JsonForm for EdgeSignal {
     ghost json_shape = { λ _. is_edge_signal };
 
     fn to_value(&self, alloc: Global) -> Result<Value, AllocError> {
-        json!(in alloc; {"root": &self.root, "signal": &self.signal})
+        let members = with_member(alloc, Map::new(alloc), "root", &self.root)?;
+        let members = with_member(alloc, members, "signal", &self.signal)?;
+        Ok(Value::Object(members))
     }
 
     fn has_form(json: &Value, numbers: Numbers) -> bool {
@@ -121,12 +119,11 @@ impl JsonForm for SignalEntry {
     ghost json_shape = { λ _. is_signal_entry };
 
     fn to_value(&self, alloc: Global) -> Result<Value, AllocError> {
-        json!(in alloc; {
-            "mode": self.mode.word(),
-            "name": &self.name,
-            "second": &self.second,
-            "writer": &self.writer,
-        })
+        let members = with_member(alloc, Map::new(alloc), "mode", &self.mode)?;
+        let members = with_member(alloc, members, "name", &self.name)?;
+        let members = with_member(alloc, members, "second", &self.second)?;
+        let members = with_member(alloc, members, "writer", &self.writer)?;
+        Ok(Value::Object(members))
     }
 
     fn has_form(json: &Value, numbers: Numbers) -> bool {

@@ -1,14 +1,14 @@
 //! What has a JSON form, and the forms of texts, numbers and lists.
 
 ghost use Rattle.std.specs.Prelude.{◌≡◌, ℕ, List, Bool, Some, map, IsTrue, IfOk};
-ghost use Rattle.serde_json.specs.Data.{Data};
+ghost use Rattle.serde_json.specs.Data.{Data, string, put};
 ghost use Rattle.serde_json.specs.Find.{get};
-ghost use Rattle.serde_json.specs.View.{view};
+ghost use Rattle.serde_json.specs.View.{view, members_view};
 ghost use Rattle.vs_certificate.specs.JsonValue.{text_value, whole_value, list_value};
 ghost use Rattle.vs_certificate.specs.Shape.{is_natural, is_number_of, is_text, is_list, passes_at};
 ghost use Rattle.vs_certificate.specs.Shape as Shape;
 
-use serde_json::Value;
+use serde_json::{Map, Value, put};
 use std::alloc::{AllocError, Global};
 
 /// Which numbers have the form of a number.
@@ -180,6 +180,34 @@ pub(crate) fn is_empty_list_at(json: &Value, name: &str) -> bool
         Some(member) => is_empty_list(member),
         None => false,
     }
+}
+
+/// The members of an object, and one more.
+pub(crate) fn with_member<T: JsonForm>(
+    alloc: Global,
+    mut members: Map<String, Value>,
+    name: &str,
+    member: &T,
+) -> Result<Map<String, Value>, AllocError>
+    ensures { IfOk result (λ all. members_view all.entries ≡ put name.now (T.json_value member.now) (members_view members.entries)) }
+{
+    let value = member.to_value(alloc)?;
+    put(&mut members, alloc, name, value)?;
+    Ok(members)
+}
+
+/// The members of an object, and a text.
+pub(crate) fn with_text(
+    alloc: Global,
+    mut members: Map<String, Value>,
+    name: &str,
+    text: &str,
+) -> Result<Map<String, Value>, AllocError>
+    ensures { IfOk result (λ all. members_view all.entries ≡ put name.now (string text.now) (members_view members.entries)) }
+{
+    let value = Value::try_from_str(alloc, text)?;
+    put(&mut members, alloc, name, value)?;
+    Ok(members)
 }
 
 /// What the member of this name stands for.

@@ -33,7 +33,7 @@ impl Drop for Certificate {
 }
 
 /// How finely processes may be interleaved.
-#[derive(Clone, Copy, Debug, PartialEq, Eq)]
+#[derive(Clone, Copy, PartialEq, Eq)]
 pub enum Grain {
     /// A combinational block runs whole; all else step by step.
     Block,
@@ -89,7 +89,7 @@ impl Drop for ProcessKind {
 }
 
 /// Why a combinational block that never ran has the outputs that a run would give it.
-#[derive(Clone, Copy, Debug, PartialEq, Eq)]
+#[derive(Clone, Copy, PartialEq, Eq)]
 pub enum Start {
     /// A run on the initial state gives its initial outputs.
     Cold,
@@ -121,7 +121,7 @@ impl Drop for SignalEntry {
 }
 
 /// How a signal is written.
-#[derive(Clone, Copy, Debug, PartialEq, Eq)]
+#[derive(Clone, Copy, PartialEq, Eq)]
 pub enum SignalMode {
     /// It is a net.
     Net,

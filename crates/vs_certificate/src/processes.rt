@@ -1,17 +1,18 @@
 //! The JSON form of the processes of a certificate.
 
-ghost use Rattle.std.specs.Prelude.{◌≡◌, ℕ, ◌||◌, IsTrue, IfOk};
-ghost use Rattle.serde_json.specs.Data.{string};
-ghost use Rattle.serde_json.specs.View.{view};
+ghost use Rattle.std.specs.Prelude.{◌≡◌, ℕ, ◌||◌, codes, IsTrue, IfOk};
+ghost use Rattle.serde_json.specs.Data.{string, put};
+ghost use Rattle.serde_json.specs.View.{view, members_view};
 ghost use Rattle.vs_certificate.specs.JsonValue.{process_value, slots_value, start_value, IsKindOf};
 ghost use Rattle.vs_certificate.specs.Shape.{is_natural, is_number_of, is_process_entry};
 ghost use Rattle.vs_certificate.specs.Shape as Shape;
 
 use crate::form::{
     JsonForm, Numbers, from_value_at, has_form_at, has_names, is_empty_list_at, is_word_at,
+    with_member, with_text,
 };
 use crate::members::{ProcessEntry, ProcessKind, Start};
-use serde_json::{Value, json};
+use serde_json::{Map, Value};
 use std::alloc::{AllocError, Global};
 
 impl JsonForm for ProcessEntry {
@@ -20,13 +21,11 @@ impl JsonForm for ProcessEntry {
     ghost json_shape = { is_process_entry };
 
     fn to_value(&self, alloc: Global) -> Result<Value, AllocError> {
-        let slots = slots_to_value(alloc, &self.kind)?;
-        json!(in alloc; {
-            "kind": self.kind.word(),
-            "name": &self.name,
-            "slots": slots,
-            "start": start_word(&self.kind),
-        })
+        let members = with_text(alloc, Map::new(alloc), "kind", self.kind.word())?;
+        let members = with_member(alloc, members, "name", &self.name)?;
+        let members = with_slots(alloc, members, &self.kind)?;
+        let members = with_text(alloc, members, "start", start_word(&self.kind))?;
+        Ok(Value::Object(members))
     }
 
     fn has_form(json: &Value, numbers: Numbers) -> bool {
@@ -42,12 +41,20 @@ impl JsonForm for ProcessEntry {
     }
 }
 
-fn slots_to_value(alloc: Global, kind: &ProcessKind) -> Result<Value, AllocError>
-    ensures { IfOk result (λ v. view v ≡ slots_value kind.now) }
+/// The members of an object, and the slots of a process of this kind.
+fn with_slots(
+    alloc: Global,
+    members: Map<String, Value>,
+    kind: &ProcessKind,
+) -> Result<Map<String, Value>, AllocError>
+    ensures { IfOk result (λ all. members_view all.entries ≡ put (codes "slots") (slots_value kind.now) (members_view members.entries)) }
 {
     match kind {
-        ProcessKind::Combinational(_) | ProcessKind::Edge => Ok(Value::Array(Vec::new(alloc))),
-        ProcessKind::Delay(slots) => slots.to_value(alloc),
+        ProcessKind::Combinational(_) | ProcessKind::Edge => {
+            let none: Vec<Vec<u64>> = Vec::new(alloc);
+            with_member(alloc, members, "slots", &none)
+        },
+        ProcessKind::Delay(slots) => with_member(alloc, members, "slots", slots),
     }
 }
 

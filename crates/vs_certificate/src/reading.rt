@@ -64,7 +64,9 @@ fn certificate_from(alloc: Global, json: &Value) -> Result<Certificate, CertFaul
     if !Certificate::has_form(json, Numbers::Natural) {
         return Err(CertFault::Limit);
     }
-    let certificate = Certificate::from_value(alloc, json).map_err(|_| CertFault::Memory)?;
+    let Ok(certificate) = Certificate::from_value(alloc, json) else {
+        return Err(CertFault::Memory);
+    };
     if !certificate.is_within_limits() {
         return Err(CertFault::Limit);
     }

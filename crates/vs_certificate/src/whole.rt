@@ -5,9 +5,11 @@ ghost use Rattle.serde_json.specs.View.{view};
 ghost use Rattle.vs_certificate.specs.JsonValue.{value_of};
 ghost use Rattle.vs_certificate.specs.Shape.{is_natural, is_whole, is_certificate};
 
-use crate::form::{JsonForm, Numbers, from_value_at, has_form_at, has_names, is_number_at};
+use crate::form::{
+    JsonForm, Numbers, from_value_at, has_form_at, has_names, is_number_at, with_member,
+};
 use crate::members::{Certificate, EdgeSignal, Grain, ProcessEntry, SignalEntry};
-use serde_json::{Value, json};
+use serde_json::{Map, Value};
 use std::alloc::{AllocError, Global};
 
 impl JsonForm for Certificate {
@@ -16,19 +18,14 @@ impl JsonForm for Certificate {
     ghost json_shape = { is_certificate };
 
     fn to_value(&self, alloc: Global) -> Result<Value, AllocError> {
-        let edges = self.edges.to_value(alloc)?;
-        let order = self.order.to_value(alloc)?;
-        let processes = self.processes.to_value(alloc)?;
-        let signals = self.signals.to_value(alloc)?;
-        json!(in alloc; {
-            "edges": edges,
-            "grain": self.grain.word(),
-            "modulus": self.modulus,
-            "order": order,
-            "processes": processes,
-            "signals": signals,
-            "version": 1u64,
-        })
+        let members = with_member(alloc, Map::new(alloc), "edges", &self.edges)?;
+        let members = with_member(alloc, members, "grain", &self.grain)?;
+        let members = with_member(alloc, members, "modulus", &self.modulus)?;
+        let members = with_member(alloc, members, "order", &self.order)?;
+        let members = with_member(alloc, members, "processes", &self.processes)?;
+        let members = with_member(alloc, members, "signals", &self.signals)?;
+        let members = with_member(alloc, members, "version", &1)?;
+        Ok(Value::Object(members))
     }
 
     fn has_form(json: &Value, numbers: Numbers) -> bool {

@@ -6,7 +6,7 @@ use Rattle.std.proofs.lemmas.List.Concat.{flat_map-append}
 use Rattle.vs_syntax.specs.declared.tree.Expr.{Expr}
 use Rattle.vs_connections.specs.passes.Ends.{read_end, read_ends}
 use Rattle.vs_connections.specs.Connections.{in_text, in_order}
-use Rattle.vs_connections.specs.Overrides.{Parameter, first_end, other_ends, given_from}
+use Rattle.vs_connections.specs.Overrides.{Parameter, first_end, other_ends, overridable, given_from}
 
 -- what is left of a list, at an element
 pub drop_at : {A : Type 0} (xs : List A) (i : ℕ) (x : A) → i < length xs → x ≡ get_or xs i x → drop i xs ≡ x ∷ drop (i + 1) xs
@@ -75,6 +75,13 @@ fixed_at p ps xs h = ap (λ t. cond t ((p, None) ∷ given_from ps xs) ((p, firs
 pub given_at : (p : Parameter) (ps : List Parameter) (xs : List (Option Expr)) (i : ℕ) → p.fixed ≡ false → given_from (p ∷ ps) (drop i xs) ≡ (p, first_end (drop i xs)) ∷ given_from ps (drop (i + 1) xs)
 given_at p ps xs i h =
     ap (λ t. cond t ((p, None) ∷ given_from ps (drop i xs)) ((p, first_end (drop i xs)) ∷ given_from ps (other_ends (drop i xs)))) h ∙ ap (λ z. (p, first_end (drop i xs)) ∷ given_from ps z) (other_dropped i xs)
+
+-- the names of parameters that may be overridden, at one
+pub overridable_fixed : (p : Parameter) (ps : List Parameter) → p.fixed ≡ true → overridable (p ∷ ps) ≡ overridable ps
+overridable_fixed p ps h = ap (λ t. cond t (overridable ps) (p.name ∷ overridable ps)) h
+
+pub overridable_other : (p : Parameter) (ps : List Parameter) → p.fixed ≡ false → overridable (p ∷ ps) ≡ p.name ∷ overridable ps
+overridable_other p ps h = ap (λ t. cond t (overridable ps) (p.name ∷ overridable ps)) h
 
 -- the first of what is left of optional references
 pub first_map : (xs : List (Option (Bor Expr))) (i : ℕ) (x : Option (Bor Expr)) → i < length xs → x ≡ get_or xs i x → first_end (drop i (read_ends xs)) ≡ read_end x

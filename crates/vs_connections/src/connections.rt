@@ -1,10 +1,10 @@
 //! What connections in order or by name say of each of the names that they are for.
-ghost use Rattle.std.specs.Prelude.{◌≡◌, ℕ, ◌∷◌, List, Option, drop, map, length, IfOk};
+ghost use Rattle.std.specs.Prelude.{◌≡◌, ℕ, ◌∷◌, [], List, Option, drop, map, length, IfOk};
 ghost use Rattle.vs_syntax.specs.declared.tree.Connection.{Connection};
 ghost use Rattle.vs_widths.specs.Names.{meaning_of};
 ghost use Rattle.vs_connections.specs.Connections.{in_text, in_order};
 ghost use Rattle.vs_connections.specs.Overrides.{first_end};
-ghost use Rattle.vs_connections.specs.passes.Ends.{borrowed, read_end, read_ends, value_under, AreEnds, IsSet, Gathers, GathersMore, GathersAll};
+ghost use Rattle.vs_connections.specs.passes.Ends.{borrowed, read_end, read_ends, value_under, AreEnds, AreNamedEnds, IsSet, Gathers, GathersMore, GathersEach, GathersAll};
 
 use std::alloc::{AllocError, Global};
 use vs_syntax::{Connection, Connections, Expr};
@@ -79,6 +79,23 @@ fn gather<'s>(
     Ok(fresh)
 }
 
+/// Takes the connections behind the first to it. Whether they fit.
+fn gather_rest<'s>(
+    rest: &'s [Connection],
+    set: &Names<bool>,
+    given: &mut Names<'s, Option<&'s Expr>>,
+) -> Result<bool, AllocError>
+    ensures { (ns : List (List ℕ)) (c : Connection) → IsSet ns set.now → Gathers ns (c ∷ []) given.old →
+        IfOk result (λ fit. GathersEach ns (c ∷ rest.entry.now) fit given.new) }
+{
+    for connection in rest {
+        if !gather(connection, set, given)? {
+            return Ok(false);
+        }
+    }
+    Ok(true)
+}
+
 /// Connections by name, to look one up among them; nothing where they don't fit the names that there are.
 fn gathered<'s>(
     alloc: Global,
@@ -93,10 +110,8 @@ fn gathered<'s>(
     if !gather(first, set, &mut given)? {
         return Ok(None);
     }
-    for connection in rest {
-        if !gather(connection, set, &mut given)? {
-            return Ok(None);
-        }
+    if !gather_rest(rest, set, &mut given)? {
+        return Ok(None);
     }
     Ok(Some(given))
 }
@@ -127,6 +142,22 @@ fn found_for<'s>(
     Ok(ends)
 }
 
+/// What connections by name say of each of these names; nothing where they don't fit them.
+fn named_ends<'s>(
+    alloc: Global,
+    first: &'s Connection,
+    rest: &'s [Connection],
+    names: &[&[u8]],
+) -> Result<Option<Vec<Option<&'s Expr>>>, AllocError>
+    ensures { IfOk result (AreNamedEnds (first.entry.now ∷ rest.entry.now) (borrowed names.now)) }
+{
+    let set = name_set(alloc, names)?;
+    match gathered(alloc, first, rest, &set)? {
+        Some(given) => Ok(Some(found_for(alloc, &given, names)?)),
+        None => Ok(None),
+    }
+}
+
 /// What connections say of each of these names, in the order of the names; nothing where they don't fit them: there are more in order than
 /// names, or one by name is given twice or to no such name (IEEE 1364-2005, clauses 12.2.2 and 12.3).
 pub fn ends<'s>(
@@ -143,12 +174,6 @@ pub fn ends<'s>(
             }
             Ok(Some(ordered(alloc, first, rest, names.len())?))
         }
-        Connections::Named(first, rest) => {
-            let set = name_set(alloc, names)?;
-            match gathered(alloc, first, rest, &set)? {
-                Some(given) => Ok(Some(found_for(alloc, &given, names)?)),
-                None => Ok(None),
-            }
-        }
+        Connections::Named(first, rest) => named_ends(alloc, first, rest, names),
     }
 }

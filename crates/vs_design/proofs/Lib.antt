@@ -1,9 +1,10 @@
 mod Drivers
 mod ExtentLemmas
 mod Kept
+pub mod LoopLemmas
 mod PlanesLemmas
 mod Quick
-mod StatementLemmas
+pub mod StatementLemmas
 mod Stores
 mod Tables
 pub mod UsesLemmas

@@ -1,10 +1,10 @@
 -- Lemmas on the planes of a store.
-use Rattle.std.proofs.Common.{◌≡◌, ◌≢◌, ℕ, zero, suc, ◌+◌, ◌<◌, ◌≤◌, ◌^◌, ◌⊎◌, inl, inr, ⊎_elim, nat_lt, if◌then◌else◌, Bool, true, false, Option, Some, None, List, [], ◌∷◌, ◌++◌, length, replicate, take, slice_get, slice_index, option_map, refl, sym, ◌∙◌, ap, ap₂, subst, arith}
+use Rattle.std.proofs.Common.{◌≡◌, ◌≢◌, ℕ, zero, suc, ◌+◌, ◌<◌, ◌≤◌, ◌^◌, ◌⊎◌, inl, inr, ⊎_elim, nat_lt, if◌then◌else◌, Bool, true, false, Option, Some, None, List, [], ◌∷◌, ◌++◌, length, replicate, take, get_or, slice_get, slice_index, option_map, refl, sym, ◌∙◌, ap, ap₂, subst, arith}
 use Rattle.std.specs.Prelude.{slice_set}
 use Rattle.std.proofs.lemmas.Bool.{cases_lt, lt-ltb, le-ltb}
 use Rattle.std.proofs.Math.ListN.{get_or-append}
 use Rattle.std.proofs.lemmas.List.{get_or-set_same, get_or-set_other, get_or-replicate, get_or-append-add, length-set, length-replicate, length-append, map-append}
-use Rattle.std.proofs.lemmas.Option.{none-some, same_Some, slice_get-map, slice_get_past}
+use Rattle.std.proofs.lemmas.Option.{none-some, same_Some, slice_get-map, slice_get_past, slice_get_read}
 use Rattle.vs_logic4.specs.declared.digit.Digit.{Digit}
 use Rattle.vs_logic4.specs.Planes.{digits_of_planes, value_plane, unknown_plane, ArePlanes}
 use Rattle.vs_logic4.specs.PlaneLaws.{digits_of_planes-of, value_plane-lt, unknown_plane-lt}
@@ -26,6 +26,19 @@ record IsFound (es : List Extent) (i word : ℕ) (s : Spot) : Type 0 where
 
 chosen : (e : Extent) (word : ℕ) (b : Bool) → nat_lt word e.count ≡ b → spot_in (Some e) word ≡ (if b then Some (record { index = e.first + word; width = e.width }) else None)
 chosen e word b h = ap (λ c. if c then Some (record { index = e.first + word; width = e.width }) else None) h
+
+-- a word that a signal has
+pub spot_read : (es : List Extent) (i word : ℕ) (e : Extent) → i < length es → e ≡ get_or es i e → word < e.count →
+    Some (record { index = e.first + word; width = e.width }) ≡ spot_of es i word
+spot_read es i word e lt is below = sym (ap (λ o. spot_in o word) (slice_get_read es (length es) i e refl lt is) ∙ chosen e word true (lt-ltb word e.count below))
+
+-- a word that a signal doesn't have
+pub no_spot : (es : List Extent) (i word : ℕ) (e : Extent) → i < length es → e ≡ get_or es i e → e.count ≤ word → None ≡ spot_of es i word
+no_spot es i word e lt is above = sym (ap (λ o. spot_in o word) (slice_get_read es (length es) i e refl lt is) ∙ chosen e word false (le-ltb word e.count above))
+
+-- a word of no signal
+pub no_signal : (es : List Extent) (i word : ℕ) → length es ≤ i → None ≡ spot_of es i word
+no_signal es i word past = ap (λ o. spot_in o word) (sym (slice_get_past es i past))
 
 spot_within : (e : Extent) (word : ℕ) (s : Spot) → spot_in (Some e) word ≡ Some s → (word < e.count) × (record { index = e.first + word; width = e.width } ≡ s)
 spot_within e word s h =

@@ -1,5 +1,5 @@
 -- Lemmas on what a statement reads and waits for.
-use Rattle.std.proofs.Common.{◌≡◌, ℕ, ◌<◌, ◌≤◌, ◌≢◌, ◌&&◌, Bool, true, false, nat_lt, ◌||◌, List, [], ◌∷◌, ◌++◌, length, map, refl, sym, ◌∙◌, ap, subst, arith}
+use Rattle.std.proofs.Common.{◌≡◌, ℕ, ◌<◌, ◌≤◌, ◌≢◌, ◌⊎◌, inl, inr, ◌&&◌, Bool, true, false, nat_lt, ◌||◌, List, [], ◌∷◌, ◌++◌, length, map, refl, sym, ◌∙◌, ap, subst, arith}
 use Rattle.std.specs.List.{list_any, list_all}
 use Rattle.std.specs.declared.vec.Vec.{Vec}
 use Rattle.std.specs.declared.boxed.Box.{Box}
@@ -11,17 +11,24 @@ use Rattle.vs_design.specs.declared.expression.Typed.{Typed}
 use Rattle.vs_design.specs.declared.range.BitRange.{BitRange}
 use Rattle.vs_design.specs.declared.signal.Signal.{Signal}
 use Rattle.vs_design.specs.declared.statement.EventTerm.{EventTerm}
+use Rattle.vs_design.specs.declared.statement.Target.{Target}
+use Rattle.vs_design.specs.declared.statement.Ticks.{Ticks}
 use Rattle.vs_design.specs.declared.statement.Statement.{Statement}
 use Rattle.vs_design.specs.declared.statement.Statement.TheVariants as y
-use Rattle.vs_design.specs.declared.statement.Statement.TheVariants.{rolls-Block, rolls-Case, rolls-While, rolls-Repeat}
+use Rattle.vs_design.specs.declared.statement.Statement.TheVariants.{rolls-Assign, rolls-Later, rolls-Block, rolls-Delay, rolls-Event, rolls-Case, rolls-While, rolls-Repeat, rolls-Forever}
 use Rattle.vs_design.specs.declared.statement.Statement.TheViews.{roll-Statement}
 use Rattle.vs_design.specs.declared.statement.Statement.TheOpen.{Statement-F}
 use Rattle.vs_design.specs.declared.statement.Statement.TheOpen as f
-use Rattle.vs_design.specs.declared.statement.Statement.TheFolds.{fold-roll-Statement, ind-Statement, map-Statement}
+use Rattle.vs_design.specs.declared.statement.Statement.TheFolds.{fold-Statement, fold-roll-Statement, ind-Statement, map-Statement}
 use Rattle.vs_design.specs.Uses.{reads, joined, is_of}
-use Rattle.vs_design.specs.Statements.{all_reads, statement_reads, statement_reads_step, event_terms, event_terms_step, has_control, has_control_step, listens}
+use Rattle.vs_design.specs.Statements.{all_reads, assignment_reads, statement_reads, statement_reads_step, event_terms, event_terms_step, has_control, has_control_step, listens}
 use Rattle.vs_design.specs.WellFormed.{are_sound_labels, are_sound_terms, is_sound_operand, is_sound_statement, sound_step}
 use Rattle.vs_design.proofs.UsesLemmas.{joined_each}
+
+-- a fold over a statement begins at the outermost layer
+pub fold_layer : {A : Type 0} (step : Statement-F A → A) (s : Statement) (layer : Statement-F Statement) → roll-Statement layer ≡ s →
+    fold-Statement A step s ≡ step (map-Statement Statement A (fold-Statement A step) layer)
+fold_layer {A = A} step s layer is = ap (fold-Statement A step) (sym is) ∙ fold-roll-Statement A step layer
 
 -- the items of a `case`: each with its expressions and its statement
 abbrev pub Items : Type 0
@@ -35,15 +42,34 @@ reads_Case n kind x items =
     ∙ ap (λ rs. reads x ++ rs)
     (joined_each (λ (i : Vec Typed Global × List BitRange). all_reads i.0.items ++ i.1) (λ (i : Vec Typed Global × Statement). (i.0, statement_reads i.1)) items.items)
 
--- a `while` reads what its condition and its statement read
-pub reads_While : (n : ℕ) (e : Typed) (body : Box Statement Global) → statement_reads (y.While n e body) ≡ reads e ++ statement_reads body.value
-reads_While n e body = ap statement_reads (sym (rolls-While n e body)) ∙ fold-roll-Statement (List BitRange) statement_reads_step (f.While n e body)
+-- an assignment reads what its expression and its target read
+pub reads_assignment : (s : Statement) (t : Target) (e : Typed) →
+    ((n : ℕ) × (s ≡ y.Assign n t e)) ⊎ ((n : ℕ) × (ticks : Ticks) × (s ≡ y.Later n ticks t e)) → statement_reads s ≡ assignment_reads t e
+reads_assignment s t e (inl (n, is)) = fold_layer statement_reads_step s (f.Assign n t e) (rolls-Assign n t e ∙ sym is)
+reads_assignment s t e (inr (n, ticks, is)) = fold_layer statement_reads_step s (f.Later n ticks t e) (rolls-Later n ticks t e ∙ sym is)
 
--- a `repeat` reads what its count and its statement read
-pub reads_Repeat : (n : ℕ) (signed : Bool) (e : Typed) (body : Box Statement Global) →
-    statement_reads (y.Repeat n signed e body) ≡ reads e ++ statement_reads body.value
-reads_Repeat n signed e body =
-    ap statement_reads (sym (rolls-Repeat n signed e body)) ∙ fold-roll-Statement (List BitRange) statement_reads_step (f.Repeat n signed e body)
+-- a delay, an event control and a `forever` read what their statement does
+pub reads_inner : (s : Statement) (body : Box Statement Global) →
+    ((n : ℕ) × (ticks : Ticks) × (s ≡ y.Delay n ticks body)) ⊎ (((n : ℕ) × (terms : Vec EventTerm Global) × (s ≡ y.Event n terms body)) ⊎ ((n : ℕ) × (s ≡ y.Forever n body))) →
+    statement_reads s ≡ statement_reads body.value
+reads_inner s body (inl (n, ticks, is)) = fold_layer statement_reads_step s (f.Delay n ticks body) (rolls-Delay n ticks body ∙ sym is)
+reads_inner s body (inr (inl (n, terms, is))) = fold_layer statement_reads_step s (f.Event n terms body) (rolls-Event n terms body ∙ sym is)
+reads_inner s body (inr (inr (n, is))) = fold_layer statement_reads_step s (f.Forever n body) (rolls-Forever n body ∙ sym is)
+
+-- a `while` and a `repeat` read what their condition or count and their statement read
+pub reads_loop : (s : Statement) (e : Typed) (body : Box Statement Global) →
+    ((n : ℕ) × (s ≡ y.While n e body)) ⊎ ((n : ℕ) × (signed : Bool) × (s ≡ y.Repeat n signed e body)) → statement_reads s ≡ reads e ++ statement_reads body.value
+reads_loop s e body (inl (n, is)) = fold_layer statement_reads_step s (f.While n e body) (rolls-While n e body ∙ sym is)
+reads_loop s e body (inr (n, signed, is)) = fold_layer statement_reads_step s (f.Repeat n signed e body) (rolls-Repeat n signed e body ∙ sym is)
+
+-- the event terms of a delay and of a loop are those of their statement
+pub terms_inner : (s : Statement) (body : Box Statement Global) →
+    ((n : ℕ) × (ticks : Ticks) × (s ≡ y.Delay n ticks body)) ⊎ (((n : ℕ) × (e : Typed) × (s ≡ y.While n e body))
+    ⊎ (((n : ℕ) × (signed : Bool) × (e : Typed) × (s ≡ y.Repeat n signed e body)) ⊎ ((n : ℕ) × (s ≡ y.Forever n body)))) → event_terms s ≡ event_terms body.value
+terms_inner s body (inl (n, ticks, is)) = fold_layer event_terms_step s (f.Delay n ticks body) (rolls-Delay n ticks body ∙ sym is)
+terms_inner s body (inr (inl (n, e, is))) = fold_layer event_terms_step s (f.While n e body) (rolls-While n e body ∙ sym is)
+terms_inner s body (inr (inr (inl (n, signed, e, is)))) = fold_layer event_terms_step s (f.Repeat n signed e body) (rolls-Repeat n signed e body ∙ sym is)
+terms_inner s body (inr (inr (inr (n, is)))) = fold_layer event_terms_step s (f.Forever n body) (rolls-Forever n body ∙ sym is)
 
 -- the event terms of a `case` are those of its items' statements
 pub terms_Case : (n : ℕ) (kind : CaseKind) (x : Typed) (items : Items) →
@@ -67,6 +93,14 @@ pub control_Case : (n : ℕ) (kind : CaseKind) (x : Typed) (items : Items) →
 control_Case n kind x items =
     ap has_control (sym (rolls-Case n kind x items)) ∙ fold-roll-Statement Bool has_control_step (f.Case n kind x items)
     ∙ any_each (λ (i : Vec Typed Global × Bool). i.1) (λ (i : Vec Typed Global × Statement). (i.0, has_control i.1)) items.items
+
+-- a loop has a timing control where its statement has one
+pub control_loop : (s : Statement) (body : Box Statement Global) →
+    ((n : ℕ) × (e : Typed) × (s ≡ y.While n e body)) ⊎ (((n : ℕ) × (signed : Bool) × (e : Typed) × (s ≡ y.Repeat n signed e body)) ⊎ ((n : ℕ) × (s ≡ y.Forever n body))) →
+    has_control s ≡ has_control body.value
+control_loop s body (inl (n, e, is)) = fold_layer has_control_step s (f.While n e body) (rolls-While n e body ∙ sym is)
+control_loop s body (inr (inl (n, signed, e, is))) = fold_layer has_control_step s (f.Repeat n signed e body) (rolls-Repeat n signed e body ∙ sym is)
+control_loop s body (inr (inr (n, is))) = fold_layer has_control_step s (f.Forever n body) (rolls-Forever n body ∙ sym is)
 
 -- ---- what a sound statement waits for
 

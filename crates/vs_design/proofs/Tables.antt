@@ -1,5 +1,5 @@
 -- Lemmas on the tables of readers and of listeners.
-use Rattle.std.proofs.Common.{◌≡◌, ◌≢◌, ℕ, zero, suc, ◌<◌, ◌-◌, ◌==◌, ◌&&◌, ◌||◌, ◌≤◌, Bool, true, false, nat_lt, if◌then◌else◌, List, [], ◌∷◌, ◌++◌, Some, None, length, get_or, slice_get, refl, sym, ◌∙◌, ap, subst, ⊎_elim, arith, append_assoc, eq-eqb}
+use Rattle.std.proofs.Common.{◌≡◌, ◌≢◌, ℕ, zero, suc, ◌+◌, ◌<◌, ◌-◌, ◌==◌, ◌&&◌, ◌||◌, ◌≤◌, Bool, true, false, nat_lt, if◌then◌else◌, List, [], ◌∷◌, ◌++◌, Some, None, length, get_or, drop, slice_get, refl, sym, ◌∙◌, ap, subst, ⊎_elim, arith, append_assoc, eq-eqb}
 use Rattle.std.specs.Prelude.{slice_set}
 use Rattle.std.specs.declared.vec.Vec.{Vec}
 use Rattle.std.specs.declared.alloc.Global.{Global}
@@ -7,7 +7,8 @@ use Rattle.std.specs.List.{list_all, list_any, All, AllByRecursion}
 use Rattle.std.proofs.lemmas.Bool.{and_parts, ne_eqb, cases_lt}
 use Rattle.std.proofs.lemmas.Bool.Decides.{eqb_tells}
 use borrow.Author.Tests.{ltb-true}
-use Rattle.std.proofs.lemmas.List.{get_or_past}
+use Rattle.std.proofs.Math.Numerals.{add-one}
+use Rattle.std.proofs.lemmas.List.{get_or_past, at_drop_more, drop_all, map-append, replicate_more}
 use Rattle.std.proofs.lemmas.List.Elements.{recursion_from_All}
 use Rattle.std.proofs.lemmas.Option.{none-some, same_Some}
 use Rattle.vs_design.specs.declared.design.Assign.{Assign}
@@ -44,6 +45,32 @@ pub rows-past : {A : Type 0} (f : List A → List A) (i : ℕ) (table : List (Ve
 rows-past f i [] h = refl
 rows-past f zero (x ∷ xs) h = absurd (none-some x (sym h))
 rows-past f (suc i) (x ∷ xs) h = ap (λ ys. x.items ∷ ys) (rows-past f i xs h)
+
+-- an empty row more
+pub row-pushed : {A : Type 0} (table more : List (Vec A Global)) (row : Vec A Global) (n : ℕ) → more ≡ table ++ row ∷ [] → row.items ≡ [] → rows table ≡ empty_rows n →
+    rows more ≡ empty_rows (n + 1)
+row-pushed table more row n made empty so_far =
+    ap rows made ∙ map-append (λ row. row.items) table (row ∷ []) ∙ ap (λ ys. ys ++ row.items ∷ []) so_far ∙ ap (λ y. empty_rows n ++ y ∷ []) empty ∙ replicate_more n []
+
+-- ---- the loops over all of them
+
+pub tabled-next : (assigns : List Assign) (i : ℕ) (d : Assign) (table next all : List (List Reader)) → i < length assigns →
+    next ≡ all_noted i (reads (get_or assigns i d).source) table → tabled i (drop i assigns) table ≡ all → tabled (i + 1) (drop (i + 1) assigns) next ≡ all
+tabled-next assigns i d table next all lt made so_far =
+    ap (tabled (i + 1) (drop (i + 1) assigns)) made ∙ ap (λ n. tabled n (drop (i + 1) assigns) (all_noted i (reads (get_or assigns i d).source) table)) (add-one i)
+    ∙ sym (at_drop_more (λ bs. tabled i bs table) assigns i d lt) ∙ so_far
+
+pub tabled-all : (assigns : List Assign) (i : ℕ) (table all : List (List Reader)) → length assigns ≤ i → tabled i (drop i assigns) table ≡ all → table ≡ all
+tabled-all assigns i table all past so_far = ap (λ bs. tabled i bs table) (sym (drop_all i assigns past)) ∙ so_far
+
+pub heard-next : (processes : List Process) (i : ℕ) (d : Process) (table next all : List (List ℕ)) → i < length processes →
+    next ≡ all_heard i (event_terms (get_or processes i d).body) table → heard i (drop i processes) table ≡ all → heard (i + 1) (drop (i + 1) processes) next ≡ all
+heard-next processes i d table next all lt made so_far =
+    ap (heard (i + 1) (drop (i + 1) processes)) made ∙ ap (λ n. heard n (drop (i + 1) processes) (all_heard i (event_terms (get_or processes i d).body) table)) (add-one i)
+    ∙ sym (at_drop_more (λ qs. heard i qs table) processes i d lt) ∙ so_far
+
+pub heard-all : (processes : List Process) (i : ℕ) (table all : List (List ℕ)) → length processes ≤ i → heard i (drop i processes) table ≡ all → table ≡ all
+heard-all processes i table all past so_far = ap (λ qs. heard i qs table) (sym (drop_all i processes past)) ∙ so_far
 
 -- ---- what stands in a row
 

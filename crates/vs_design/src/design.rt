@@ -36,7 +36,7 @@ impl Drop for Assign {
 }
 
 /// Whether a process runs once or for ever (IEEE 1364-2005, clause 9.9).
-#[derive(Clone, Copy, PartialEq, Eq, Debug)]
+#[derive(Clone, Copy, PartialEq, Eq)]
 pub enum ProcessKind {
     /// `initial`, a declaration assignment too.
     Initial,
@@ -65,7 +65,7 @@ impl Drop for Process {
 }
 
 /// What opened a scope.
-#[derive(Clone, Copy, PartialEq, Eq, Debug)]
+#[derive(Clone, Copy, PartialEq, Eq)]
 pub enum ScopeKind {
     /// The top or an instance.
     Module,

@@ -2,7 +2,7 @@
 ghost use Rattle.std.specs.Prelude.{◌<◌, ◌≤◌, ◌^◌};
 
 /// What a signal was declared as (IEEE 1364-2005, clauses 4.1 and 4.8).
-#[derive(Clone, Copy, PartialEq, Eq, Debug)]
+#[derive(Clone, Copy, PartialEq, Eq)]
 pub enum SignalKind {
     /// A net of type `wire`.
     Wire,

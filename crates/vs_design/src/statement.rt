@@ -66,7 +66,7 @@ impl Drop for FormatArg {
 }
 
 /// When the line of a call is made (IEEE 1364-2005, clauses 17.1.1 and 17.1.2).
-#[derive(Clone, Copy, PartialEq, Eq, Debug)]
+#[derive(Clone, Copy, PartialEq, Eq)]
 pub enum CallKind {
     /// `$display`: when the call runs.
     Display,

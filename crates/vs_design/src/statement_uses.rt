@@ -44,14 +44,14 @@ fn push_statement_reads(out: &mut Vec<BitRange>, s: &Statement) -> Result<(), Al
     ensures { OnOk result (out.new.items ≡ out.old.items ++ statement_reads s.now) }
 {
     match s {
-        Statement::Null(_) => Ok(()),
-        Statement::Assign(_, target, source) => push_assignment_reads(out, target, source),
-        Statement::Later(_, _, target, source) => push_assignment_reads(out, target, source),
+        Statement::Null(_) | Statement::Finish(_) => Ok(()),
+        Statement::Assign(_, target, source) | Statement::Later(_, _, target, source) => {
+            push_assignment_reads(out, target, source)
+        }
         Statement::Call(_, call) => push_call_reads(out, call),
-        Statement::Finish(_) => Ok(()),
         Statement::Block(all) => push_block_reads(out, all),
-        Statement::Delay(_, _, body) => push_statement_reads(out, body),
-        Statement::Event(_, _, body) => push_statement_reads(out, body),
+        Statement::Delay(_, _, body) | Statement::Event(_, _, body) | Statement::Forever(_, body) =>
+            push_statement_reads(out, body),
         Statement::If(_, condition, then, other) => {
             push_reads(out, condition)?;
             push_statement_reads(out, then)?;
@@ -61,15 +61,10 @@ fn push_statement_reads(out: &mut Vec<BitRange>, s: &Statement) -> Result<(), Al
             push_reads(out, selector)?;
             push_item_reads(out, items)
         }
-        Statement::While(_, condition, body) => {
-            push_reads(out, condition)?;
+        Statement::While(_, e, body) | Statement::Repeat(_, _, e, body) => {
+            push_reads(out, e)?;
             push_statement_reads(out, body)
         }
-        Statement::Repeat(_, _, count, body) => {
-            push_reads(out, count)?;
-            push_statement_reads(out, body)
-        }
-        Statement::Forever(_, body) => push_statement_reads(out, body),
     }
 }
 
@@ -111,13 +106,16 @@ fn push_terms(out: &mut Vec<EventTerm>, s: &Statement) -> Result<(), AllocError>
     ensures { OnOk result (out.new.items ≡ out.old.items ++ event_terms s.now) }
 {
     match s {
-        Statement::Null(_) => Ok(()),
-        Statement::Assign(_, _, _) => Ok(()),
-        Statement::Later(_, _, _, _) => Ok(()),
-        Statement::Call(_, _) => Ok(()),
-        Statement::Finish(_) => Ok(()),
+        Statement::Null(_)
+        | Statement::Assign(_, _, _)
+        | Statement::Later(_, _, _, _)
+        | Statement::Call(_, _)
+        | Statement::Finish(_) => Ok(()),
         Statement::Block(all) => push_block_terms(out, all),
-        Statement::Delay(_, _, body) => push_terms(out, body),
+        Statement::Delay(_, _, body)
+        | Statement::While(_, _, body)
+        | Statement::Repeat(_, _, _, body)
+        | Statement::Forever(_, body) => push_terms(out, body),
         Statement::Event(_, terms, body) => {
             out.extend_from_slice(terms)?;
             push_terms(out, body)
@@ -127,9 +125,6 @@ fn push_terms(out: &mut Vec<EventTerm>, s: &Statement) -> Result<(), AllocError>
             push_terms(out, other)
         }
         Statement::Case(_, _, _, items) => push_item_terms(out, items),
-        Statement::While(_, _, body) => push_terms(out, body),
-        Statement::Repeat(_, _, _, body) => push_terms(out, body),
-        Statement::Forever(_, body) => push_terms(out, body),
     }
 }
 
@@ -172,19 +167,18 @@ pub fn has_control(s: &Statement) -> bool
     ensures { result ≡ has_control s.now }
 {
     match s {
-        Statement::Null(_) => false,
-        Statement::Assign(_, _, _) => false,
-        Statement::Later(_, _, _, _) => false,
-        Statement::Call(_, _) => false,
-        Statement::Finish(_) => false,
+        Statement::Null(_)
+        | Statement::Assign(_, _, _)
+        | Statement::Later(_, _, _, _)
+        | Statement::Call(_, _)
+        | Statement::Finish(_) => false,
+        Statement::Delay(_, _, _) | Statement::Event(_, _, _) => true,
         Statement::Block(all) => has_control_in_block(all),
-        Statement::Delay(_, _, _) => true,
-        Statement::Event(_, _, _) => true,
         Statement::If(_, _, then, other) => has_control(then) || has_control(other),
         Statement::Case(_, _, _, items) => has_control_in_items(items),
-        Statement::While(_, _, body) => has_control(body),
-        Statement::Repeat(_, _, _, body) => has_control(body),
-        Statement::Forever(_, body) => has_control(body),
+        Statement::While(_, _, body)
+        | Statement::Repeat(_, _, _, body)
+        | Statement::Forever(_, body) => has_control(body),
     }
 }
 

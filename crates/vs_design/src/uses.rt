@@ -70,8 +70,8 @@ pub(crate) fn push_reads(out: &mut Vec<BitRange>, e: &Typed) -> Result<(), Alloc
             push_reads(out, word)?;
             push_reads(out, low)
         }
-        Typed::Excerpt(_, low) => push_reads(out, low),
-        Typed::Unary(_, x) => push_reads(out, x),
+        Typed::Excerpt(_, x) | Typed::Unary(_, x) | Typed::Repeat(_, x) | Typed::Resized(_, x) =>
+            push_reads(out, x),
         Typed::Chain(first, links) => {
             push_reads(out, first)?;
             push_link_reads(out, links)
@@ -84,8 +84,6 @@ pub(crate) fn push_reads(out: &mut Vec<BitRange>, e: &Typed) -> Result<(), Alloc
             push_reads(out, first)?;
             push_all_reads(out, others)
         }
-        Typed::Repeat(_, x) => push_reads(out, x),
-        Typed::Resized(_, x) => push_reads(out, x),
     }
 }
 

@@ -3,4 +3,5 @@ pub mod Digits
 pub mod Places
 pub mod ReadsHold
 pub mod SizesHold
-pub mod WritesHold
+pub mod ValueLemmas
+mod WritesHold

@@ -25,7 +25,7 @@ use Rattle.vs_design.specs.WellFormed.{sized_by, linked_size, chain_size, picked
 use Rattle.vs_eval.specs.Values.{left_side, right_side, linked, chained, picked, chosen, concatenated, operand_value, bits_value, value_step, value_of}
 
 -- operands that are to have one size are brought to one
-one_size : (s : Sizing) (width : ℕ) (left right : List Digit) → is_even s ≡ true → length (left_side s width left) ≡ length (right_side s width right)
+pub one_size : (s : Sizing) (width : ℕ) (left right : List Digit) → is_even s ≡ true → length (left_side s width left) ≡ length (right_side s width right)
 one_size Alike width left right h = length-resized false width left ∙ sym (length-resized false width right)
 one_size Shift width left right h = cc
 one_size Comparison width left right h = length-resized false width left ∙ sym (length-resized false width right)

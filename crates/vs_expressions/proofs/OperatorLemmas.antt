@@ -89,18 +89,23 @@ unary_begins x op e =
     let j : the_mark (unary_mark op) ≡ the_mark x = same_class-true (the_mark (unary_mark op)) (the_mark x) (ap (is_marked x) e ∙ unary_right x) in
     cc
 
+-- whether a mark is no operator before an operand
+abbrev no_unary : Option Unary → Bool
+no_unary None = true
+no_unary (Some op) = false
+
 -- a mark that begins no operand
 pub no_operand : (x : Mark) → (x ≡ m.Open → ⊥) → (x ≡ m.OpenBrace → ⊥) → unary_of x ≡ None → among (the_mark x) operand_fronts ≡ false
 no_operand m.Open f g h = absurd (f refl)
 no_operand m.OpenBrace f g h = absurd (g refl)
-no_operand m.Plus f g h = cc
-no_operand m.Minus f g h = cc
-no_operand m.Not f g h = cc
-no_operand m.Tilde f g h = cc
-no_operand m.And f g h = cc
-no_operand m.Nand f g h = cc
-no_operand m.Or f g h = cc
-no_operand m.Nor f g h = cc
-no_operand m.Xor f g h = cc
-no_operand m.Xnor f g h = cc
+no_operand m.Plus f g h = absurd (clash (ap no_unary h) refl)
+no_operand m.Minus f g h = absurd (clash (ap no_unary h) refl)
+no_operand m.Not f g h = absurd (clash (ap no_unary h) refl)
+no_operand m.Tilde f g h = absurd (clash (ap no_unary h) refl)
+no_operand m.And f g h = absurd (clash (ap no_unary h) refl)
+no_operand m.Nand f g h = absurd (clash (ap no_unary h) refl)
+no_operand m.Or f g h = absurd (clash (ap no_unary h) refl)
+no_operand m.Nor f g h = absurd (clash (ap no_unary h) refl)
+no_operand m.Xor f g h = absurd (clash (ap no_unary h) refl)
+no_operand m.Xnor f g h = absurd (clash (ap no_unary h) refl)
 no_operand _ f g h = refl

@@ -190,6 +190,12 @@ took_step ops cs counters place i next x store behind time halt effect changes a
       noted = noted ∙ ap (λ (v : Option Write). changes ++ changes_of store v) own.1;
     }
 
+-- where nothing is left to do, nothing is done
+pub took_none : (old : Todo) (store : Store) (time : ℕ) (effect : Effect) (changes : List Change) → old ≡ [] → TookStep old store time h.Nothing old effect store changes changes
+took_none old store time effect changes is =
+    subst (λ (t : Todo). TookStep t store time h.Nothing t effect store changes changes) (sym is)
+    (record { out = refl; still = refl; written = refl; noted = sym (append-nil changes) })
+
 -- a calm step at a place
 pub calm_there : (ops : List Op) (cs : List ℕ) (place i : ℕ) (x : Op) (task : Task) (s : Statement) (store : Store) (time : ℕ) (halt : Halt) → IsCode ops (length cs) → place ≡ suc i → slice_get ops i ≡ Some x →
     x.task ≡ task → job_of x.counter task ≡ performs s → lands x task cs store time ≡ landing x.first cs →

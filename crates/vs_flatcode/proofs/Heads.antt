@@ -1,18 +1,20 @@
 -- Lemmas on instructions that stand behind what is written in front of them.
-use Rattle.std.proofs.Common.{◌≡◌, ◌≢◌, ℕ, suc, ◌<◌, ◌≤◌, Some, List, [], ◌∷◌, length, refl, sym, ◌∙◌, ap, ap₂, subst, arith, ⊎_elim}
+use Rattle.std.proofs.Common.{false, ◌≡◌, ◌≢◌, ℕ, suc, ◌<◌, ◌≤◌, Some, List, [], ◌∷◌, length, refl, sym, ◌∙◌, ap, ap₂, subst, arith, ⊎_elim}
 use Rattle.std.specs.Prelude.{slice_get}
 use Rattle.std.proofs.lemmas.List.{length-map}
 use Rattle.std.proofs.lemmas.Option.{same_Some}
 use denote.Ref.{Bor}
 use Rattle.vs_design.specs.declared.statement.Statement.{Statement}
+use Rattle.vs_design.specs.declared.statement.Statement.TheOpen.{Statement-F}
+use Rattle.vs_design.specs.declared.statement.Statement.TheViews.{out-Statement}
 use Rattle.vs_flatcode.specs.declared.draft.Op.{Op}
 use Rattle.vs_flatcode.specs.declared.draft.Task.{Task}
 use Rattle.vs_flatcode.specs.declared.draft.Task.TheVariants.{Perform, Turns}
 use Rattle.vs_flatcode.specs.declared.draft.Draft.{Draft}
 use Rattle.vs_flatcode.specs.Places.{Todo, flat, perform}
 use Rattle.vs_flatcode.specs.Links.{Link, Job, performs, tests, AreLinked, Leads}
-use Rattle.vs_flatcode.specs.Codes.{Layout, links_of, link_of, job_of, Fits, FitsTask}
-use Rattle.vs_flatcode.specs.Drafts.{Grows, Always, AlwaysLeads, AlwaysFree, AlwaysTurn, drafted, IsLonger, Written, IsReady, IsEmitted, IsHead, IsLoop}
+use Rattle.vs_flatcode.specs.Codes.{Layout, links_of, link_of, job_of, Fits, FitsStatement, FitsTask}
+use Rattle.vs_flatcode.specs.Drafts.{is_block, IsNext, Grows, Always, AlwaysLeads, AlwaysFree, AlwaysTurn, drafted, IsLonger, Written, IsReady, IsEmitted, IsHead, IsLoop}
 use Rattle.vs_flatcode.proofs.Shapes.{flat-single}
 use Rattle.vs_flatcode.proofs.Drafts.{always_later, link_here, leads_here, free_then, free_test, turn_here, longer_then, ready_more, below_or}
 
@@ -122,3 +124,11 @@ emitted_turns a b c d s next depth p first ready below h w links counters others
     (subst (λ (k : ℕ). Rattle.vs_flatcode.specs.Codes.IsTurn later k s.now first h.op.behind) (sym h.counter)
     (subst (λ (b : ℕ). Rattle.vs_flatcode.specs.Codes.IsTurn later depth s.now first b) (sym h.behind) (turned later linked more))) in
     (written_patched a b c d (Turns s) next depth p y h w.written links counters others (patched_here a b c d (Turns s) next depth p first h w.written here) fits, turned)
+
+-- an instruction of a statement goes on where its outermost layer must
+pub next_of_layer : (d : Draft) (x : Op) (s : Statement) (f : Statement-F Statement) → out-Statement s ≡ f → is_block f ≡ false →
+    Always (drafted d) (λ later. FitsStatement later x (suc (length d.ops.items)) s f) → IsNext d x s
+next_of_layer d x s f is single fits = record {
+  single = ap (λ (g : Statement-F Statement). is_block g) is ∙ single;
+  fits = λ later linked more. subst (FitsStatement later x (suc (length d.ops.items)) s) (sym is) (fits later linked more);
+}

@@ -1,5 +1,5 @@
 -- Lemmas on the numbers of the statements in a code.
-use Rattle.std.proofs.Common.{Global, ◌≡◌, ◌≢◌, ℕ, zero, suc, ◌+◌, ◌<◌, ◌≤◌, ◌==◌, Bool, true, false, ◌&&◌, Option, Some, None, List, [], ◌∷◌, ◌++◌, map, drop, get_or, length, refl, rules, sym, ◌∙◌, ap, arith, ⊎_elim}
+use Rattle.std.proofs.Common.{Global, ◌≡◌, ◌≢◌, ℕ, zero, suc, ◌+◌, ◌<◌, ◌≤◌, ◌==◌, Bool, true, false, ◌&&◌, Option, Some, None, List, [], ◌∷◌, ◌++◌, map, drop, get_or, length, refl, rules, sym, ◌∙◌, ap, subst, arith, ⊎_elim}
 use Rattle.std.specs.Prelude.{slice_get, Vec, IfOk, Result, Ok, Err}
 use Rattle.std.specs.declared.boxed.Box.{Box}
 use Rattle.std.specs.declared.alloc.AllocError.{AllocError}
@@ -214,3 +214,9 @@ pub one_place : (s : Statement) (ops : List Op) (counters start : ℕ) → IsCod
     (p q n : ℕ) → number_next (point_at (links_of ops) p) ≡ Some n → point_at (links_of ops) p ≡ point_at (links_of ops) q → p ≡ q
 one_place s ops counters start code rise p q n is same =
     same_spot (links_of ops) n p q (omega (arith, code.stand n, (counted_once n 0 (numbers s) rise).0)) (spot (links_of ops) n p is) (spot (links_of ops) n q (ap number_next (sym same) ∙ is))
+
+-- the instruction of a statement with none in it
+pub ok_single : (a c : Draft) (s : Statement) (f : Statement-F Statement) (r : Result ℕ AllocError) → out-Statement s ≡ f → numbers_inside f ≡ [] →
+    IfOk r (λ p. AddsOne a c (number_of (out-Statement s))) → IfOk r (λ p. Adds a c (numbers s))
+ok_single a c s f r is none one =
+    ok_whole a a c s r (subst (λ (ns : List ℕ). Adds a a ns) (sym (ap (λ (g : Statement-F Statement). numbers_inside g) is ∙ none)) (adds_none a)) one

@@ -1,7 +1,7 @@
 //! How far an active process has come since its timing control.
 
 /// Whether an active process was woken by a timing control, and has taken a step since.
-#[derive(Clone, Copy, PartialEq, Eq, Debug)]
+#[derive(Clone, Copy, PartialEq, Eq)]
 pub enum Gait {
     /// It has met no timing control yet.
     Fresh,

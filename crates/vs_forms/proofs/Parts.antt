@@ -1,15 +1,16 @@
 -- How what was read makes what stands before a part.
-use Rattle.std.specs.Prelude.{ℕ, true, false, List, Result, Ok, Err}
+use Rattle.std.specs.Prelude.{◌≡◌, ℕ, true, false, List, Result, Ok, Err, IfOk}
+use Rattle.vs_tokens.specs.declared.token.Mark.{Mark}
 use Rattle.vs_tokens.specs.declared.token.Token.{Token}
-use Rattle.vs_syntax.specs.Symbols.{Symbol}
-use Rattle.vs_syntax.specs.Grammar.{Grammar, ◌·◌}
-use Rattle.vs_syntax.specs.Derivation.{Tree, both}
+use Rattle.vs_syntax.specs.Symbols.{Symbol, a_mark}
+use Rattle.vs_syntax.specs.Grammar.{Grammar, ◌·◌, mark}
+use Rattle.vs_syntax.specs.Derivation.{Tree, leaf, both}
 use Rattle.vs_syntax.specs.Reading.{Gets, stuck_second}
 use Rattle.vs_syntax.proofs.Gets.{gets_seq}
 use Rattle.vs_expressions.specs.declared.reading.Read.{Read}
 use Rattle.vs_expressions.specs.declared.reading.Stop.{Stop}
 use Rattle.vs_expressions.specs.declared.reading.Stop.TheVariants as stop
-use Rattle.vs_expressions.specs.Answers.{seen, FailsToRead}
+use Rattle.vs_expressions.specs.Answers.{seen, Answers, FailsToRead}
 use Rattle.vs_forms.specs.Parts.{Beyond, Leads}
 
 -- a part, and what stands behind it
@@ -30,3 +31,11 @@ beyond_fails a g w room ts mid (stop.TooDeep at) p f = p.stops true (seen at.now
 pub leads_on : {X : Type 0} (a b g : Grammar) (v : X → Tree → Tree) (w : Tree → Tree) (room : ℕ) (ts : List Token) (mid : List Token) (r : Result (Read X) Stop) → Beyond b g w room (seen ts) (seen mid) → Leads a b v room mid r → Leads a g (λ x y. w (v x y)) room ts r
 leads_on a b g v w room ts mid (Ok x) p q = beyond_behind a b g (v x.tree) w room (seen ts) (seen mid) (seen x.rest.now) p q
 leads_on a b g v w room ts mid (Err e) p q = beyond_fails b g w room (seen ts) (seen mid) e p q
+
+-- what holds of what was read where the mark is behind it, and of each failure to read the mark, holds of the answer
+pub ended_as : {X : Type 0} (P : Result (Read X) Stop → Type 0) (end : Mark) (room : ℕ) (x : X) (mid : List Token) (r : Result (Read X) Stop) →
+    ((y : Read X) → y.tree ≡ x → Gets (mark end) room (seen mid) (leaf (a_mark end)) (seen y.rest.now) → P (Ok y)) →
+    ((e : Stop) → FailsToRead (mark end) room (seen mid) e → P (Err e)) →
+    IfOk r (λ y. y.tree ≡ x) → Answers (mark end) room (seen mid) (λ _. leaf (a_mark end)) (λ y. seen y.rest.now) r → P r
+ended_as P end room x mid (Ok y) f g e p = f y e p
+ended_as P end room x mid (Err e) f g h p = g e p

@@ -10,7 +10,7 @@ ghost use Rattle.vs_syntax.specs.Reading.{Gets};
 ghost use Rattle.vs_expressions.specs.Answers.{seen, ReadsTree};
 ghost use Rattle.vs_forms.specs.Lists.{behind_commas};
 
-use crate::list::{Element, listed};
+use crate::list::{Element, ended, listed};
 use std::alloc::Global;
 use vs_expressions::{Read, Stop, expect_mark, expr, mark_at, word_at};
 use vs_lexer::{Mark, Token, Word};
@@ -82,12 +82,12 @@ pub fn declared_range<'t, 's>(
     let left = expr(alloc, room, after)?;
     let middle = expect_mark(left.rest, Mark::Colon)?;
     let right = expr(alloc, room, middle)?;
-    let rest = expect_mark(right.rest, Mark::CloseBracket)?;
-    Ok(Read {
+    let range = Read {
         tree: Some(Range {
             left: left.tree,
             right: right.tree,
         }),
-        rest,
-    })
+        rest: right.rest,
+    };
+    ended(range, Mark::CloseBracket)
 }

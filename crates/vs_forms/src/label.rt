@@ -8,9 +8,9 @@ ghost use Rattle.vs_syntax.specs.Views.{expr_tree, labelled_tree};
 ghost use Rattle.vs_expressions.specs.Answers.{seen, ReadsTree};
 ghost use Rattle.vs_forms.specs.Parts.{Beyond, Leads};
 
-use crate::list::{Element, others};
+use crate::list::{Element, ended, others};
 use std::alloc::Global;
-use vs_expressions::{Read, Stop, expect_mark, expr, mark_at, word_at};
+use vs_expressions::{Read, Stop, expr, mark_at, word_at};
 use vs_lexer::{Mark, Token, Word};
 use vs_syntax::{CaseLabel, Expr};
 
@@ -78,9 +78,9 @@ fn choices<'t, 's>(
 {
     let first = expr(alloc, room, tokens)?;
     let all = others::<Choice>(alloc, room, first.rest, Vec::new(alloc))?;
-    let rest = expect_mark(all.rest, Mark::Colon)?;
-    Ok(Read {
+    let label = Read {
         tree: CaseLabel::Expressions(first.tree, all.tree),
-        rest,
-    })
+        rest: all.rest,
+    };
+    ended(label, Mark::Colon)
 }

@@ -10,6 +10,6 @@ mod task;
 
 pub use form::{declared, declared_form, declared_range};
 pub use label::case_label;
-pub use list::{Element, listed, others};
+pub use list::{Element, ended, listed, others};
 pub use local::{BlockName, naming};
 pub use task::{dump_stmt, finish_stmt, print_stmt};

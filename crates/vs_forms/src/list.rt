@@ -1,11 +1,12 @@
 //! Reading lists with commas.
-ghost use Rattle.std.specs.Prelude.{◌≡◌, ◌≤◌, map, MatchResult};
+ghost use Rattle.std.specs.Prelude.{◌≡◌, ◌≤◌, ℕ, map, MatchResult, IfOk};
 ghost use Rattle.vs_tokens.specs.declared.token.Mark.TheVariants as m;
 ghost use Rattle.vs_syntax.specs.Grammar.{Grammar, ◌·◌, mark};
 ghost use Rattle.vs_syntax.specs.Tables.{low};
-ghost use Rattle.vs_syntax.specs.Derivation.{Tree};
+ghost use Rattle.vs_syntax.specs.Symbols.{a_mark};
+ghost use Rattle.vs_syntax.specs.Derivation.{Tree, leaf};
 ghost use Rattle.vs_syntax.specs.Views.{listed_tree};
-ghost use Rattle.vs_expressions.specs.Answers.{seen, FailsToRead, ReadsTree};
+ghost use Rattle.vs_expressions.specs.Answers.{seen, Answers, FailsToRead, ReadsTree};
 ghost use Rattle.vs_forms.specs.Lists.{behind_commas, Grown};
 
 use std::alloc::Global;
@@ -71,9 +72,20 @@ pub fn listed<'t, 's, T: Element>(
     let mut tree = Vec::with_capacity(alloc, 1)?;
     tree.push(first.tree)?;
     let all = others::<T>(alloc, room, first.rest, tree)?;
-    let rest = expect_mark(all.rest, Mark::Semicolon)?;
+    ended(all, Mark::Semicolon)
+}
+
+/// Reads the mark behind what was read.
+pub fn ended<'t, 's, T: Drop>(
+    read: Read<'t, 's, T>,
+    end: Mark,
+) -> Result<Read<'t, 's, T>, Stop<'t, 's>>
+    ensures tree { IfOk result (λ r. r.tree ≡ read.entry.tree) }
+    ensures mark { (room : ℕ) → Answers (mark end) room (seen read.entry.rest.now) (λ _. leaf (a_mark end)) (λ r. seen r.rest.now) result }
+{
+    let rest = expect_mark(read.rest, end)?;
     Ok(Read {
-        tree: all.tree,
+        tree: read.tree,
         rest,
     })
 }

@@ -13,7 +13,7 @@ ghost use Rattle.vs_expressions.specs.Answers.{seen, Answers, ReadsTree};
 ghost use Rattle.vs_forms.specs.Parts.{ReadsWithin, headed, marked};
 ghost use Rattle.vs_forms.specs.Tasks.{printed, dumped};
 
-use crate::list::{Element, others};
+use crate::list::{Element, ended, others};
 use std::alloc::Global;
 use vs_expressions::{
     Read, Stop, SystemName, expect_mark, expr, literal, mark_at, next, system_name,
@@ -160,17 +160,17 @@ fn print_list<'t, 's>(
     if begins_text(tokens) {
         let (text, after) = expect_text(alloc, tokens)?;
         let all = others::<Printed>(alloc, room, after, Vec::new(alloc))?;
-        let rest = expect_mark(all.rest, Mark::Close)?;
-        return Ok(Read {
+        let arguments = Read {
             tree: PrintArguments::Text(text, all.tree),
-            rest,
-        });
+            rest: all.rest,
+        };
+        return ended(arguments, Mark::Close);
     }
-    let rest = expect_mark(tokens, Mark::Close)?;
-    Ok(Read {
+    let none = Read {
         tree: PrintArguments::Empty,
-        rest,
-    })
+        rest: tokens,
+    };
+    ended(none, Mark::Close)
 }
 
 /// Reads what stands behind `$display` or `$strobe`.
@@ -187,11 +187,7 @@ fn print_arguments<'t, 's>(
             rest: tokens,
         });
     };
-    let arguments = print_list(alloc, room, inside)?;
-    Ok(Read {
-        tree: arguments.tree,
-        rest: arguments.rest,
-    })
+    print_list(alloc, room, inside)
 }
 
 /// Reads what stands behind `$display` or `$strobe`, and the semicolon.
@@ -205,11 +201,11 @@ pub fn print_stmt<'t, 's>(
     ensures { ReadsWithin stmt_tree (headed (a_print task)) (print_arguments · mark m.Semicolon) room tokens.now result }
 {
     let arguments = print_arguments(alloc, room, tokens)?;
-    let rest = expect_mark(arguments.rest, Mark::Semicolon)?;
-    Ok(Read {
+    let stmt = Read {
         tree: Stmt::Print(task, arguments.tree),
-        rest,
-    })
+        rest: arguments.rest,
+    };
+    ended(stmt, Mark::Semicolon)
 }
 
 /// Reads the semicolon behind a `$finish` with this number, or without one.
@@ -220,11 +216,11 @@ fn finished<'t, 's>(
     ensures { (room : ℕ) → ReadsWithin stmt_tree (λ y. headed a_finish (both (finish_tree number) y)) (mark m.Semicolon)
         room tokens.now result }
 {
-    let rest = expect_mark(tokens, Mark::Semicolon)?;
-    Ok(Read {
+    let stmt = Read {
         tree: Stmt::Finish(number),
-        rest,
-    })
+        rest: tokens,
+    };
+    ended(stmt, Mark::Semicolon)
 }
 
 /// Reads what stands behind `$finish`, and the semicolon.
@@ -256,11 +252,11 @@ fn dump_list<'t, 's>(
 {
     let first = dump_argument(alloc, room, tokens)?;
     let all = others::<Dumped>(alloc, room, first.rest, Vec::new(alloc))?;
-    let rest = expect_mark(all.rest, Mark::Close)?;
-    Ok(Read {
+    let arguments = Read {
         tree: (first.tree, all.tree),
-        rest,
-    })
+        rest: all.rest,
+    };
+    ended(arguments, Mark::Close)
 }
 
 /// Reads what stands behind `$dumpfile` or `$dumpvars`.
@@ -295,9 +291,9 @@ pub fn dump_stmt<'t, 's>(
     ensures { ReadsWithin stmt_tree (headed (a_dump task)) (dump_arguments · mark m.Semicolon) room tokens.now result }
 {
     let arguments = dump_arguments(alloc, room, tokens)?;
-    let rest = expect_mark(arguments.rest, Mark::Semicolon)?;
-    Ok(Read {
+    let stmt = Read {
         tree: Stmt::Dump(task, arguments.tree),
-        rest,
-    })
+        rest: arguments.rest,
+    };
+    ended(stmt, Mark::Semicolon)
 }

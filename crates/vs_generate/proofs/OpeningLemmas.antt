@@ -12,12 +12,13 @@ use Rattle.vs_pieces.specs.declared.scope.Piece.{Piece as FoundPiece}
 use Rattle.vs_scopes.specs.declared.faults.BodyFault.{BodyFault}
 use Rattle.vs_scopes.specs.declared.faults.Reason.{Reason}
 use Rattle.vs_scopes.specs.declared.faults.Reason.TheVariants.{Width, Endless, Unnamed}
-use Rattle.vs_scopes.specs.Generate.{Inner, generates, genvar_number, name_of_block, turns_inner, loop_inner, is_nameless, Turns, turns, faulty, endless, turns_fault, construct_fault, constructs_fault, inner_in, inner_from, behind_piece}
+use Rattle.vs_scopes.specs.Generate.{Inner, Taken, takes, refused, taken_fault, choice_inner, generates, genvar_number, name_of_block, turns_inner, loop_inner, is_nameless, Turns, turns, faulty, endless, turns_fault, construct_fault, constructs_fault, inner_in, inner_from, behind_piece}
 use Rattle.vs_scopes.specs.passes.Answers.{Refuses}
 use Rattle.vs_scopes.proofs.AnswerLemmas.{refused_by}
 use Rattle.vs_scopes.proofs.PassLemmas.{map_at, moved_by}
 use Rattle.vs_scopes.proofs.Folds.{left_true}
 use Rattle.vs_generate.specs.passes.Opening.{nameless_fault, turn_block, turn_blocks}
+use Rattle.vs_generate.specs.passes.Branches.{choice_fault}
 use Rattle.vs_generate.specs.passes.Turns.{turn_fault}
 
 -- ---- names
@@ -96,6 +97,51 @@ module _ (p : ℕ) (names : List (List ℕ)) (k : ℕ) (g : List ℕ) (t : Turns
   loop_opened cs o xs n old new h is named e = (
     λ r. ap (λ z. turns_fault r names k z t) is ∙ ap (turns_fault r names k (block o xs)) h ∙ turns_fine names k (block o xs) cs (named_block names k o xs n named) r,
     e ∙ ap (λ z. old ++ z) (sym (ap (λ z. loop_inner p names k g z t) is ∙ ap (loop_inner p names k g (block o xs)) h ∙ turns_opened p names k g o xs n cs named)),
+  )
+
+-- ---- choices
+
+module _ (p : ℕ) (names : List (List ℕ)) (k : ℕ) (t : Taken) where
+  -- what a choice opens, behind what was opened before it
+  abbrev pub Takes : List Inner → List Inner → Type 0
+  Takes old new = ((r : Reason) → taken_fault r names k t ≡ false) × (new ≡ old ++ choice_inner p names k t)
+
+  taken_fine : (x : Content) → t ≡ takes x → is_nameless names k x ≡ false → (r : Reason) → taken_fault r names k t ≡ false
+  taken_fine x is h r = ap (taken_fault r names k) is ∙ by r
+    where
+      by : (r : Reason) → taken_fault r names k (takes x) ≡ false
+      by Unnamed = h
+      by _ = refl
+
+  -- a fault of a condition
+  pub choice_refused : (e : BodyFault) → Refuses (choice_fault t) e → Refuses (λ r. taken_fault r names k t) e
+  choice_refused e h = refused_by (choice_fault t) (λ r. taken_fault r names k t) e (by t) h
+    where
+      by : (u : Taken) (r : Reason) → choice_fault u r ≡ true → taken_fault r names k u ≡ true
+      by (takes x) r h = absurd (true≢false (sym h))
+      by (refused faults) (Width w) h = h
+      by (refused faults) _ h = absurd (true≢false (sym h))
+
+  -- a branch of nothing
+  pub choice_nothing : (x : Content) (old : List Inner) → t ≡ takes x → x ≡ nothing → Takes old old
+  choice_nothing x old is e = (
+    taken_fine x is (ap (is_nameless names k) e),
+    sym (append-nil old) ∙ ap (λ z. old ++ z) (sym (ap (choice_inner p names k) is ∙ ap (λ z. choice_inner p names k (takes z)) e)),
+  )
+
+  -- a block without a name
+  pub choice_nameless : (o : Option (List ℕ)) (xs : List ModuleItem) (e : BodyFault) → t ≡ takes (block o xs) → Refuses (nameless_fault names k o) e → Refuses (λ r. taken_fault r names k t) e
+  choice_nameless o xs e is q = refused_by (nameless_fault names k o) (λ r. taken_fault r names k t) e (λ r s. ap (taken_fault r names k) is ∙ by r s) q
+    where
+      by : (r : Reason) → nameless_fault names k o r ≡ true → taken_fault r names k (takes (block o xs)) ≡ true
+      by Unnamed h = nameless_is names k o xs ∙ h
+      by _ h = absurd (true≢false (sym h))
+
+  -- a block
+  pub choice_opened : (o : Option (List ℕ)) (xs : List ModuleItem) (n : List ℕ) (old new : List Inner) → t ≡ takes (block o xs) → name_of_block names k o ≡ Some n → new ≡ old ++ generates p (Some n) None [] xs → Takes old new
+  choice_opened o xs n old new is named e = (
+    taken_fine (block o xs) is (named_block names k o xs n named),
+    e ∙ ap (λ z. old ++ z) (sym (ap (choice_inner p names k) is ∙ ap (λ z. generates p z None [] xs) named)),
   )
 
 -- ---- pieces

@@ -234,12 +234,8 @@ fn add_piece<'s, 'o>(
                 alloc, names, own, place, number, inners, condition, first, other,
             )
         }
-        Piece::Local(_) => Ok(()),
-        Piece::Inside(block) => {
-            append(inners, &Inner::Named(block))?;
-            Ok(())
-        }
-        Piece::Net(_) => Ok(()),
+        Piece::Inside(block) => Ok(append(inners, &Inner::Named(block))?),
+        Piece::Local(_) | Piece::Net(_) => Ok(()),
     }
 }
 

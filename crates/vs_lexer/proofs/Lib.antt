@@ -1,3 +1,4 @@
+pub mod Escaped
 pub mod Forms
 pub mod NameLines
 pub mod Openings

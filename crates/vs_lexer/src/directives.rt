@@ -1,6 +1,6 @@
 //! Directives (IEEE 1364-2005, clause 19).
 ghost use Rattle.std.specs.Prelude.{◌≡◌, ◌∷◌, MatchOption, None, Some, nat_lt};
-ghost use Rattle.vs_lexer.specs.Directives.{behind, behind_white, next_is, next_is_white, number_at, unit_at, time_at, timescale_at, nettype_at, directive_at};
+ghost use Rattle.vs_lexer.specs.Directives.{behind, behind_white, done, text, next_is, next_is_white, number_at, unit_at, time_at, timescale_at, nettype_at, directive_at};
 ghost use Rattle.vs_lexer.specs.Pieces.{directive_form};
 ghost use Rattle.vs_tokens.specs.Reading.{Reads};
 ghost use Rattle.vs_tokens.specs.Times.{exponent};
@@ -58,6 +58,14 @@ fn next_is_white(bytes: &[u8]) -> bool
     }
 }
 
+/// Reads a text that has this meaning.
+fn spelled<'s, T: Copy>(spelling: &[u8], meaning: T, bytes: &'s [u8]) -> Option<(T, &'s [u8])>
+    ensures { Gives (text spelling.now (done meaning)) bytes.now result }
+{
+    let rest = behind(spelling, bytes)?;
+    Some((meaning, rest))
+}
+
 /// Reads the number of a time.
 #[tactic(auto, unfolding(crate::specs::Directives::number_at))]
 fn number_at(bytes: &[u8]) -> Option<(Magnitude, &[u8])>
@@ -71,8 +79,7 @@ fn number_at(bytes: &[u8]) -> Option<(Magnitude, &[u8])>
     if !next_is(ten, b'0') {
         return Some((Magnitude::Ten, ten));
     }
-    let hundred = behind(b"0", ten)?;
-    Some((Magnitude::Hundred, hundred))
+    spelled(b"0", Magnitude::Hundred, ten)
 }
 
 /// Reads the unit of a time.
@@ -81,27 +88,21 @@ fn unit_at(bytes: &[u8]) -> Option<(TimeUnit, &[u8])>
     ensures { Gives unit_at bytes.now result }
 {
     if next_is(bytes, b's') {
-        let rest = behind(b"s", bytes)?;
-        return Some((TimeUnit::Seconds, rest));
+        return spelled(b"s", TimeUnit::Seconds, bytes);
     }
     if next_is(bytes, b'm') {
-        let rest = behind(b"ms", bytes)?;
-        return Some((TimeUnit::Milliseconds, rest));
+        return spelled(b"ms", TimeUnit::Milliseconds, bytes);
     }
     if next_is(bytes, b'u') {
-        let rest = behind(b"us", bytes)?;
-        return Some((TimeUnit::Microseconds, rest));
+        return spelled(b"us", TimeUnit::Microseconds, bytes);
     }
     if next_is(bytes, b'n') {
-        let rest = behind(b"ns", bytes)?;
-        return Some((TimeUnit::Nanoseconds, rest));
+        return spelled(b"ns", TimeUnit::Nanoseconds, bytes);
     }
     if next_is(bytes, b'p') {
-        let rest = behind(b"ps", bytes)?;
-        return Some((TimeUnit::Picoseconds, rest));
+        return spelled(b"ps", TimeUnit::Picoseconds, bytes);
     }
-    let rest = behind(b"fs", bytes)?;
-    Some((TimeUnit::Femtoseconds, rest))
+    spelled(b"fs", TimeUnit::Femtoseconds, bytes)
 }
 
 /// Reads a number and a unit.
@@ -150,11 +151,13 @@ fn nettype_at(bytes: &[u8]) -> Option<(Directive, &[u8])>
     }
     let after = behind_white(after);
     if next_is(after, b'w') {
-        let rest = behind(b"wire", after)?;
-        return Some((Directive::DefaultNettype(ImplicitNet::Wire), rest));
+        return spelled(b"wire", Directive::DefaultNettype(ImplicitNet::Wire), after);
     }
-    let rest = behind(b"none", after)?;
-    Some((Directive::DefaultNettype(ImplicitNet::Forbidden), rest))
+    spelled(
+        b"none",
+        Directive::DefaultNettype(ImplicitNet::Forbidden),
+        after,
+    )
 }
 
 /// Reads a directive behind its backquote.

@@ -7,7 +7,7 @@ ghost use Rattle.vs_logic4.specs.CasePlanes.{wild_plane};
 use crate::vector::Vec4;
 
 /// The word that a `case` statement begins with.
-#[derive(Clone, Copy, PartialEq, Eq, Debug)]
+#[derive(Clone, Copy, PartialEq, Eq)]
 pub enum CaseKind {
     /// `case`: digits are equal as `===` says.
     Case,

@@ -1,7 +1,7 @@
 //! Edges of a digit (IEEE 1364-2005, clause 9.7.2).
 
 /// Which change an event control waits for.
-#[derive(Clone, Copy, PartialEq, Eq, Debug)]
+#[derive(Clone, Copy, PartialEq, Eq)]
 pub enum Edge {
     /// A change of any bit.
     Any,

@@ -6,7 +6,7 @@ use crate::digit::Digit;
 use crate::vector::Vec4;
 
 /// An operator of one operand.
-#[derive(Clone, Copy, PartialEq, Eq, Debug)]
+#[derive(Clone, Copy, PartialEq, Eq)]
 pub enum Unary {
     /// `+` (IEEE 1364-2005, clause 5.1.5)
     Plus,
@@ -31,7 +31,7 @@ pub enum Unary {
 }
 
 /// An operator of two operands.
-#[derive(Clone, Copy, PartialEq, Eq, Debug)]
+#[derive(Clone, Copy, PartialEq, Eq)]
 pub enum Binary {
     /// `*` (IEEE 1364-2005, clause 5.1.5)
     Multiply,

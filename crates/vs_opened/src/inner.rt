@@ -27,13 +27,24 @@ fn add_names<'s>(list: &'s [Vec<u8>], names: &mut Vec<&'s [u8]>) -> Result<(), A
     Ok(())
 }
 
-/// Adds the genvars that a piece declares (IEEE 1364-2005, clause 12.4.1).
+/// Adds the genvars that an item declares (IEEE 1364-2005, clause 12.4.1).
+fn add_item_genvars<'s>(item: &'s Item, names: &mut Vec<&'s [u8]>) -> Result<(), AllocError>
+    ensures { OnOk result (borrowed names.new.items
+        ≡ borrowed names.old.items ++ genvars_in (plain item.entry.now)) }
+{
+    match item {
+        Item::Genvar(list) => add_names(list, names),
+        _ => Ok(()),
+    }
+}
+
+/// Adds the genvars that a piece declares.
 fn add_genvars<'s>(piece: Piece<'s>, names: &mut Vec<&'s [u8]>) -> Result<(), AllocError>
     ensures { OnOk result (borrowed names.new.items
         ≡ borrowed names.old.items ++ genvars_in (read_piece piece.entry)) }
 {
     match piece {
-        Piece::Plain(Item::Genvar(list)) => add_names(list, names),
+        Piece::Plain(item) => add_item_genvars(item, names),
         _ => Ok(()),
     }
 }
@@ -147,10 +158,7 @@ fn add_once<'s>(
 {
     let mut once = once_from_last(alloc, list)?;
     once.reverse();
-    for name in &once {
-        names.push(*name)?;
-    }
-    Ok(())
+    names.extend_from_slice(&once)
 }
 
 /// Adds the names of the scopes that a piece may open (IEEE 1364-2005, clauses 9.8.3, 12.1.2 and 12.4.3).
@@ -169,9 +177,8 @@ fn add_inner<'s>(
             let list = branch_names(alloc, first, other)?;
             add_once(alloc, &list, names)
         }
-        Piece::Local(_) => Ok(()),
-        Piece::Inside(block) => Ok(names.push(block.name)?),
-        Piece::Net(_) => Ok(()),
+        Piece::Inside(block) => names.extend_from_slice(&[block.name]),
+        Piece::Local(_) | Piece::Net(_) => Ok(()),
     }
 }
 

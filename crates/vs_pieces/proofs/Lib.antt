@@ -1,4 +1,5 @@
 pub mod DepthLemmas
 pub mod PiecesLemmas
+pub mod TurnLemmas
 pub mod UsedLemmas
 pub mod UsesLemmas

@@ -7,6 +7,9 @@ use Rattle.std.specs.declared.alloc.Global.{Global}
 use Rattle.vs_syntax.specs.declared.tree.Expr.{Expr}
 use Rattle.vs_logic4.specs.declared.case.CaseKind.{CaseKind}
 use Rattle.vs_syntax.specs.declared.tree.CaseLabel.{CaseLabel}
+use Rattle.vs_syntax.specs.declared.tree.DelayValue.{DelayValue}
+use Rattle.vs_syntax.specs.declared.tree.EventControl.{EventControl}
+use Rattle.vs_syntax.specs.declared.tree.ForHeader.{ForHeader}
 use Rattle.vs_syntax.specs.declared.tree.Stmt.{Stmt}
 use Rattle.vs_syntax.specs.declared.tree.Stmt.TheVariants as s
 use Rattle.vs_syntax.specs.declared.tree.Stmt.TheOpen.{Stmt-F}
@@ -48,6 +51,21 @@ blocks_layer l x h =
 
 pub blocks_Block : (xs : Vec Stmt Global) → blocks_in (s.Block xs) ≡ blocks_among xs.items
 blocks_Block xs = blocks_layer (f.Block xs) _ (rolls-Block xs) ∙ each_of_made blocks_by xs.items
+
+pub blocks_For : (k : Box ForHeader Global) (x : Box Stmt Global) → blocks_in (s.For k x) ≡ blocks_in x.value
+blocks_For k x = blocks_layer (f.For k x) _ (s.rolls-For k x)
+
+pub blocks_While : (e : Expr) (x : Box Stmt Global) → blocks_in (s.While e x) ≡ blocks_in x.value
+blocks_While e x = blocks_layer (f.While e x) _ (s.rolls-While e x)
+
+pub blocks_Repeat : (e : Expr) (x : Box Stmt Global) → blocks_in (s.Repeat e x) ≡ blocks_in x.value
+blocks_Repeat e x = blocks_layer (f.Repeat e x) _ (s.rolls-Repeat e x)
+
+pub blocks_Delay : (d : DelayValue) (x : Box Stmt Global) → blocks_in (s.Delay d x) ≡ blocks_in x.value
+blocks_Delay d x = blocks_layer (f.Delay d x) _ (s.rolls-Delay d x)
+
+pub blocks_Event : (v : EventControl) (x : Box Stmt Global) → blocks_in (s.Event v x) ≡ blocks_in x.value
+blocks_Event v x = blocks_layer (f.Event v x) _ (s.rolls-Event v x)
 
 pub blocks_If : (e : Box Expr Global) (x : Box Stmt Global) (o : Option (Box Stmt Global)) → blocks_in (s.If e x o) ≡ blocks_in x.value ++ blocks_behind o
 blocks_If e x None = blocks_layer (f.If e x None) _ (rolls-If e x None)

@@ -1,11 +1,12 @@
 -- Names in expressions and left sides, by their forms.
-use Rattle.std.proofs.Common.{◌≡◌, List, [], ◌∷◌, ◌++◌, Option, None, Some, map, refl, ap, ap₂, sym, ◌∙◌}
+use Rattle.std.proofs.Common.{◌≡◌, Bool, List, [], ◌∷◌, ◌++◌, Option, None, Some, map, refl, ap, ap₂, sym, ◌∙◌}
 use Rattle.std.specs.List.{flat_map}
 use Rattle.std.proofs.lemmas.List.Folds.{flat_map-map}
 use Rattle.std.specs.declared.vec.Vec.{Vec}
 use Rattle.std.specs.declared.boxed.Box.{Box}
 use Rattle.std.specs.declared.alloc.Global.{Global}
 use Rattle.vs_logic4.specs.declared.operators.Binary.{Binary}
+use Rattle.vs_logic4.specs.declared.operators.Unary.{Unary}
 use Rattle.vs_syntax.specs.declared.tree.Expr.{Expr, Expr-F, roll-Expr, fold-roll-Expr, map-Expr}
 use Rattle.vs_syntax.specs.declared.tree.Expr.TheOpen as x
 use Rattle.vs_syntax.specs.declared.tree.Expr.TheVariants as e
@@ -21,6 +22,15 @@ use Rattle.vs_pieces.specs.passes.Parts.{exprs_names, links_names, pairs_names, 
 
 pub names_form : (y : Expr-F Expr) (z : Expr) → roll-Expr y ≡ z → expr_names z ≡ expr_names_step (map-Expr Expr Bytes expr_names y)
 names_form y z h = ap expr_names (sym h) ∙ fold-roll-Expr Bytes expr_names_step y
+
+pub names_Group : (b : Box Expr Global) → expr_names (e.Group b) ≡ expr_names b.value
+names_Group b = names_form (x.Group b) (e.Group b) (e.rolls-Group b)
+
+pub names_Unary : (o : Unary) (b : Box Expr Global) → expr_names (e.Unary o b) ≡ expr_names b.value
+names_Unary o b = names_form (x.Unary o b) (e.Unary o b) (e.rolls-Unary o b)
+
+pub names_Cast : (s : Bool) (b : Box Expr Global) → expr_names (e.Cast s b) ≡ expr_names b.value
+names_Cast s b = names_form (x.Cast s b) (e.Cast s b) (e.rolls-Cast s b)
 
 layered : (s : Expr × Option (PartSelect × Expr)) → select_names (former-Expr-Select-1-at-5.map Expr Bytes expr_names s) ≡ select_expr_names s
 layered (a, None) = refl

@@ -1,7 +1,8 @@
 -- Lists of the numbers of elements, and counts.
-use Rattle.std.proofs.Common.{◌≡◌, ℕ, zero, suc, ◌+◌, ◌<◌, ◌≤◌, ◌^◌, drop, ◌||◌, ◌&&◌, not, cond, Bool, true, false, Some, List, [], ◌∷◌, ◌++◌, map, length, slice_get, slice_set, nat_lt, refl, sym, ◌∙◌, ap, ap₂, arith, rules}
+use Rattle.std.proofs.Common.{◌≡◌, ℕ, zero, suc, ◌+◌, ◌<◌, ◌≤◌, ◌^◌, drop, ◌||◌, ◌&&◌, not, cond, Bool, true, false, Some, None, List, [], ◌∷◌, ◌++◌, map, length, slice_get, slice_set, nat_lt, refl, sym, ◌∙◌, ap, ap₂, arith, rules}
 use Rattle.std.specs.List.{list_any, remove}
 use Rattle.std.proofs.Math.Bool.{or-false}
+use Rattle.std.proofs.lemmas.Bool.{false≢true}
 use Rattle.vs_design.specs.Stores.{changed_at}
 use Rattle.vs_process.specs.Executions.{if_some}
 use Rattle.vs_flatcode.specs.Places.{Place, is_going}
@@ -11,6 +12,15 @@ use Rattle.vs_places.specs.Listed.{is_number, names, Lists, count}
 -- the process at a number is active
 pub active_there : {xs ys : List Place} (same : xs ≡ ys) (p : ℕ) (x : Place) → slice_get xs p ≡ Some x → if_some is_going (slice_get ys p) ≡ true → is_going x ≡ true
 active_there same p x here active = sym (ap (if_some is_going) here) ∙ ap (λ (l : List Place). if_some is_going (slice_get l p)) same ∙ active
+
+past_end : {A : Type 0} (xs : List A) (p : ℕ) → (p < length xs → ⊥) → slice_get xs p ≡ None
+past_end [] p h = refl
+past_end (x ∷ xs) zero h = absurd (h (omega arith))
+past_end (x ∷ xs) (suc p) h = past_end xs p (λ b. h (omega arith))
+
+-- past the end no process is active
+pub none_active : (xs : List Place) (p : ℕ) → (p < length xs → false ≡ true) → false ≡ if_some is_going (slice_get xs p)
+none_active xs p h = sym (ap (if_some is_going) (past_end xs p (λ below. false≢true (h below))))
 
 -- an element that is set twice, and one that is set to what it is
 pub set_twice : {A : Type 0} (xs : List A) (i : ℕ) (x y : A) → slice_set (slice_set xs i x) i y ≡ slice_set xs i y

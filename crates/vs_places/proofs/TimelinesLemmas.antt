@@ -267,6 +267,22 @@ kept_going {ps} {ns} {bag} p h active = by_place (slice_get ps p) refl active
     by_place None here e = cc
     by_place (Some y) here e = kept_other p y h here (awake y e) (no_delay y e)
 
+-- a process that was active and is so still
+pub kept_active : {ps qs : List Place} {ns : List ℕ} {bag : List (Timed ℕ)} → AreKept ps ns bag → (p : ℕ) (to : Place) → if_some is_going (slice_get ps p) ≡ true → is_going to ≡ true → qs ≡ slice_set ps p to → AreKept qs ns bag
+kept_active {ps} {qs} {ns} {bag} h p to active still set = kept_going p (kept_behind h p to active set) (by_place (slice_get ps p) refl active)
+  where
+    by_place : (o : Option Place) → slice_get ps p ≡ o → if_some is_going o ≡ true → if_some is_going (slice_get qs p) ≡ true
+    by_place None here e = cc
+    by_place (Some x) here e = ap (λ (l : List Place). if_some is_going (slice_get l p)) set ∙ ap (if_some is_going) (set_same ps p x to here) ∙ still
+
+-- steps between lists of places and at a time that go by other names
+pub went_in : {steps p time now : ℕ} {old ps new qs : List Place} {store behind : Store} {effect : Effect} {changes all : List Change} → old ≡ ps → time ≡ now → new ≡ qs →
+    WentAt steps old p store time new effect behind changes all → WentAt steps ps p store now qs effect behind changes all
+went_in {steps} {p} {time} {now} {old} {ps} {new} {qs} {store} {behind} {effect} {changes} {all} first at last went =
+    subst (λ (l : List Place). WentAt steps l p store now qs effect behind changes all) first
+    (subst (λ (t : ℕ). WentAt steps old p store t qs effect behind changes all) at
+    (subst (λ (l : List Place). WentAt steps old p store time l effect behind changes all) last went))
+
 -- it becomes active again
 pub kept_roused : {ps qs : List Place} {ns ms : List ℕ} {bag : List (Timed ℕ)} (p : ℕ) (y : Place) → AreKeptBut ps ns bag p → slice_get ps p ≡ Some y → is_inactive y ≡ true → qs ≡ changed_at roused p ps → ms ≡ ns → AreKept qs ms bag
 kept_roused {ps} {qs} {ns} {ms} {bag} p y h here is changed same =

@@ -1,11 +1,12 @@
 -- Activated updates by their number, and activation.
-use Rattle.std.proofs.Common.{◌≡◌, ◌≢◌, ℕ, zero, suc, ◌<◌, ◌&&◌, ◌||◌, not, Bool, true, false, cond, Option, Some, None, List, [], ◌∷◌, map, length, get_or, take, filter, slice_get, refl, sym, ◌∙◌, ap, inl, inr, arith}
-use Rattle.std.specs.Prelude.{nat_eq}
+use Rattle.std.proofs.Common.{◌≡◌, ◌≢◌, ℕ, zero, suc, ◌+◌, ◌<◌, ◌≤◌, ◌&&◌, ◌||◌, not, Bool, true, false, cond, Option, Some, None, List, [], ◌∷◌, ◌++◌, map, length, get_or, take, drop, filter, slice_get, refl, sym, ◌∙◌, ap, inl, inr, arith}
+use Rattle.std.specs.Prelude.{nat_eq, option_map, IfSome}
 use Rattle.std.specs.List.{list_any, remove}
-use Rattle.std.proofs.lemmas.List.{get_or-take, length-take}
-use Rattle.std.proofs.lemmas.List.Folds.{list_any_at}
+use Rattle.std.proofs.lemmas.List.{append-nil, drop_all, get_or-take, length-take, take_all}
+use Rattle.std.proofs.lemmas.List.Folds.{list_any_at, list_any_more}
 use Rattle.std.proofs.lemmas.Bool.{ne_eqb, eqb-true, cases_eq, false≢true}
 use Rattle.std.proofs.lemmas.Option.{slice_get_read}
+use Rattle.vs_design.specs.declared.write.Part.{Part}
 use Rattle.vs_design.specs.Writes.{shares}
 use Rattle.vs_process.specs.Executions.{if_some, is_first}
 use Rattle.vs_process.specs.States.{Update, without, is_due, activated}
@@ -97,6 +98,22 @@ hidden_is_later us i k u o here below within is h =
     let inside : k < length (take i us) = omega (arith, length-take i us) in
     let found : hides u (get_or (take i us) k o) ≡ true = ap (hides u) (get_or-take i us k o below ∙ sym is) ∙ h in
     sym (at_update us i u here ∙ later_from u.active (list_any (hides u) (take i us)) (list_any_at (hides u) (take i us) k o inside found))
+
+-- what the update at a number writes, where that is one part
+pub part_there : (us : List Update) (i : ℕ) (u : Update) (r : Option Part) → slice_get us i ≡ Some u → IfSome r (λ p. u.what ≡ p ∷ []) →
+    IfSome r (λ p. option_map (λ (v : Update). v.what) (slice_get us i) ≡ Some (p ∷ []))
+part_there us i u None here is = tt
+part_there us i u (Some p) here is = ap (option_map (λ (v : Update). v.what)) here ∙ ap Some is
+
+-- an update that isn't activated isn't either
+pub still_is_none : (us : List Update) (i : ℕ) (u : Update) → slice_get us i ≡ Some u → u.active ≡ false → false ≡ if_some (is_first us i) (slice_get us i)
+still_is_none us i u here still = sym (at_update us i u here ∙ ap (λ b. b && not (list_any (hides u) (take i us))) still)
+
+-- one older one more that doesn't hide it
+pub shown_more : (us : List Update) (k : ℕ) (u o : Update) → k < length us → o ≡ get_or us k o → list_any (hides u) (take k us) ≡ false → hides u o ≡ false →
+    list_any (hides u) (take (k + 1) us) ≡ false
+shown_more us k u o within is none shown =
+    list_any_more (hides u) us k o within ∙ ap (λ b. b || hides u (get_or us k o)) none ∙ ap (hides u) (sym is) ∙ shown
 
 -- ---- the list without it
 pub without-remove : {A : Type 0} (xs : List A) (i : ℕ) → without i xs ≡ remove xs i
@@ -215,6 +232,11 @@ activated_later time t [] apart = refl
 activated_later time t (u ∷ us) apart =
     same_by (is_due t) u (activated time u) (filter (is_due t) (map (activated time) us)) (filter (is_due t) us) (later_test time t u apart) (later_same time t u apart) (activated_later time t us apart)
 
+-- all updates, where so many are all
+pub activated_all : (time n : ℕ) (us vs : List Update) → length us ≤ n → vs ≡ map (activated time) (take n us) ++ drop n us → vs ≡ map (activated time) us
+activated_all time n us vs all is =
+    is ∙ ap (λ l. map (activated time) l ++ drop n us) (take_all n us all) ∙ ap (λ l. map (activated time) us ++ l) (drop_all n us all) ∙ append-nil (map (activated time) us)
+
 -- ---- the first
 pub first_there : (us : List Update) → list_any is_active us ≡ true → if_some (is_first us (place_of_active 0 us)) (slice_get us (place_of_active 0 us)) ≡ true
 first_there us some = place-first 0 us ∙ oldest-first us (λ none. let no : list_any is_active us ≡ false = any_none is_active us none in false≢true (sym no ∙ some))
@@ -227,6 +249,10 @@ past : {A : Type 0} (xs : List A) (k : ℕ) → (k < length xs → ⊥) → slic
 past [] k h = refl
 past (x ∷ xs) zero h = absurd (h (omega arith))
 past (x ∷ xs) (suc k) h = past xs k (λ b. h (omega arith))
+
+-- past the end there is none that is the first of its signals
+pub past_is_none : (us : List Update) (i : ℕ) → (i < length us → false ≡ true) → false ≡ if_some (is_first us i) (slice_get us i)
+past_is_none us i within = sym (ap (if_some (is_first us i)) (past us i (λ below. false≢true (within below))))
 
 pub none_at : (us xs : List Update) (k : ℕ) → filter is_active us ≡ xs → (k < length xs → ⊥) → slice_get us (place_of_active k us) ≡ None
 none_at us xs k e h = place-get k us ∙ ap (λ l. slice_get l k) e ∙ past xs k h

@@ -8,7 +8,7 @@
 mod pieces;
 
 pub use pieces::make_of_pieces;
-use std::alloc::{AllocError, Global};
+use std::alloc::AllocError;
 use std::io::{self, Write};
 use std::{env, fs};
 
@@ -30,11 +30,17 @@ struct Row<'t> {
     wanted: Option<&'t str>,
 }
 
-/// How many rows were compared, and how many of them differ.
-#[derive(Clone, Copy)]
-struct Count {
+/// What the comparison of files has come to.
+#[derive(Drop)]
+struct Comparison {
+    /// How many rows of the file were compared.
     rows: usize,
+    /// How many of them differ.
     differ: usize,
+    /// The last answer.
+    answer: Vec<u8>,
+    /// What is written in the end.
+    report: Vec<u8>,
 }
 
 /// Whether an answer is the one that is wanted.
@@ -47,15 +53,20 @@ fn is_wanted(answer: &[u8], wanted: Option<&str>) -> bool {
 
 /// Tells a row whose answer differs.
 fn tell(row: Row, answer: &[u8], report: &mut Vec<u8>) -> Result<(), AllocError> {
-    report.extend_from_slice(b"==== ")?;
-    report.extend_from_slice(row.title.as_bytes())?;
-    report.extend_from_slice(b"\n")?;
-    report.extend_from_slice(row.words.as_bytes())?;
-    report.extend_from_slice(b"\n----\n")?;
-    report.extend_from_slice(row.question.as_bytes())?;
-    report.extend_from_slice(b"\n---- wanted\n")?;
-    report.extend_from_slice(row.wanted.unwrap_or("").as_bytes())?;
-    report.extend_from_slice(b"\n---- answered\n")?;
+    let parts = [
+        "==== ",
+        row.title,
+        "\n",
+        row.words,
+        "\n----\n",
+        row.question,
+        "\n---- wanted\n",
+        row.wanted.unwrap_or(""),
+        "\n---- answered\n",
+    ];
+    for part in parts {
+        report.extend_from_slice(part.as_bytes())?;
+    }
     report.extend_from_slice(answer)?;
     report.extend_from_slice(b"\n")
 }
@@ -64,28 +75,31 @@ fn tell(row: Row, answer: &[u8], report: &mut Vec<u8>) -> Result<(), AllocError>
 fn compare_row<A: Answers>(
     answers: &A,
     row: Row,
-    answer: &mut Vec<u8>,
-    count: &mut Count,
-    report: &mut Vec<u8>,
+    comparison: &mut Comparison,
 ) -> Result<(), AllocError> {
-    answer.clear();
-    answers.answer(row.words, row.question, answer)?;
-    count.rows = count.rows.saturating_add(1);
-    if is_wanted(answer, row.wanted) {
+    comparison.answer.clear();
+    answers.answer(row.words, row.question, &mut comparison.answer)?;
+    comparison.rows = comparison.rows.saturating_add(1);
+    if is_wanted(&comparison.answer, row.wanted) {
         return Ok(());
     }
-    count.differ = count.differ.saturating_add(1);
-    tell(row, answer, report)
+    comparison.differ = comparison.differ.saturating_add(1);
+    tell(row, &comparison.answer, &mut comparison.report)
+}
+
+/// What stands before the first such separator, and what stands behind it.
+fn first_and_rest<'t>(text: &'t str, separator: &str) -> (&'t str, &'t str) {
+    text.split_once(separator).unwrap_or((text, ""))
 }
 
 /// The row of a question between lines `----`, with its answer behind it.
 fn long_row<'t>(title: &'t str, words: &'t str, text: &'t str) -> Row<'t> {
-    let (question, tail) = text.split_once("\n----").unwrap_or((text, ""));
+    let (question, tail) = first_and_rest(text, "\n----");
     Row {
         title,
         words,
         question,
-        wanted: tail.strip_prefix("\n"),
+        wanted: tail.strip_prefix('\n'),
     }
 }
 
@@ -104,18 +118,15 @@ fn short_row<'t>(title: &'t str, words: &'t str, line: &'t str) -> Row<'t> {
 fn compare_group<A: Answers>(
     answers: &A,
     group: &str,
-    answer: &mut Vec<u8>,
-    count: &mut Count,
-    report: &mut Vec<u8>,
+    comparison: &mut Comparison,
 ) -> Result<(), AllocError> {
-    let (title, rest) = group.split_once("\n").unwrap_or((group, ""));
-    let (words, body) = rest.split_once("\n").unwrap_or((rest, ""));
+    let (title, rest) = first_and_rest(group, "\n");
+    let (words, body) = first_and_rest(rest, "\n");
     if let Some(text) = body.strip_prefix("----\n") {
-        return compare_row(answers, long_row(title, words, text), answer, count, report);
+        return compare_row(answers, long_row(title, words, text), comparison);
     }
-    for line in body.split("\n") {
-        let row = short_row(title, words, line);
-        compare_row(answers, row, answer, count, report)?;
+    for line in body.split('\n') {
+        compare_row(answers, short_row(title, words, line), comparison)?;
     }
     Ok(())
 }
@@ -124,30 +135,43 @@ fn compare_group<A: Answers>(
 fn compare_text<A: Answers>(
     answers: &A,
     text: &str,
-    answer: &mut Vec<u8>,
-    report: &mut Vec<u8>,
-) -> Result<Count, AllocError> {
-    let mut count = Count { rows: 0, differ: 0 };
+    comparison: &mut Comparison,
+) -> Result<(), AllocError> {
     let text = text.strip_prefix("==== ").unwrap_or(text);
-    let text = text.strip_suffix("\n").unwrap_or(text);
+    let text = text.strip_suffix('\n').unwrap_or(text);
     for group in text.split("\n==== ") {
-        compare_group(answers, group, answer, &mut count, report)?;
+        compare_group(answers, group, comparison)?;
     }
-    Ok(count)
+    Ok(())
+}
+
+/// Compares the rows of a file, and tells the number of its rows and of those that differ.
+fn compare_file<A: Answers>(
+    rt: &HostRuntime,
+    answers: &A,
+    name: &str,
+    comparison: &mut Comparison,
+) -> io::Result<()> {
+    let text = fs::read_to_string(rt, name)?;
+    comparison.rows = 0;
+    comparison.differ = 0;
+    compare_text(answers, &text, comparison)?;
+    let (rows, differ) = (comparison.rows, comparison.differ);
+    writeln!(comparison.report, "{name}: {rows} rows, {differ} differ")
 }
 
 /// Compares the rows of the files that the words of the call name, and writes each row that differs, and of each file the number of its rows and of those that
 /// differ.
 pub fn compare_files<A: Answers>(rt: &HostRuntime, answers: &A) -> io::Result<()> {
     let alloc = rt.alloc();
-    let names: Vec<String> = env::args(rt)?.collect(alloc)?;
-    let mut answer = Vec::new(alloc);
-    let mut report = Vec::new(alloc);
-    for name in names.iter().skip(1) {
-        let text = fs::read_to_string(rt, name.as_str())?;
-        let count = compare_text(answers, &text, &mut answer, &mut report)?;
-        let Count { rows, differ } = count;
-        writeln!(report, "{name}: {rows} rows, {differ} differ")?;
+    let mut comparison = Comparison {
+        rows: 0,
+        differ: 0,
+        answer: Vec::new(alloc),
+        report: Vec::new(alloc),
+    };
+    for name in env::args(rt)?.skip(1) {
+        compare_file(rt, answers, &name, &mut comparison)?;
     }
-    rt.stdout().write_all(&report)
+    rt.stdout().write_all(&comparison.report)
 }

@@ -195,16 +195,21 @@ fn processes(rt: HostRuntime) -> Result<(), Fail> {
     Ok(())
 }
 
-// A text may be 16 MiB long, and no byte longer; and no deeper than the reader goes.
+// A byte, how many of it, a text behind them, and the fault. A text may be 16 MiB long, and no byte longer; and no deeper than
+// the reader goes.
+const LENGTHS: &[(u8, usize, &[u8], CertFault)] = &[
+    (b'[', 100_000, b"", CertFault::NotJson),
+    (b' ', 16_777_215, b"1", CertFault::Shape),
+    (b' ', 16_777_215, b"1 ", CertFault::NotJson),
+];
+
 #[test]
 fn lengths(rt: HostRuntime) -> Result<(), Fail> {
     let alloc = rt.alloc();
-    let deep = vec![in alloc; b'['; 100_000]?;
-    assert!(rt; fault_of(alloc, &deep)? == Some(CertFault::NotJson));
-    let mut long = vec![in alloc; b' '; 16_777_215]?;
-    long.push(b'1')?;
-    assert!(rt; fault_of(alloc, &long)? == Some(CertFault::Shape));
-    long.push(b' ')?;
-    assert!(rt; fault_of(alloc, &long)? == Some(CertFault::NotJson));
+    for &(byte, count, tail, fault) in LENGTHS {
+        let mut text = vec![in alloc; byte; count]?;
+        text.extend_from_slice(tail)?;
+        assert!(rt; fault_of(alloc, &text)? == Some(fault));
+    }
     Ok(())
 }

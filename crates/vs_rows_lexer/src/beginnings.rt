@@ -1,6 +1,6 @@
 //! Each beginning of a source: where tokens end, and what is refused.
 
-use crate::showing::written;
+use crate::showing::{same, written};
 use std::alloc::{AllocError, Global};
 use std::process::Abort;
 use std::test::Fail;
@@ -9,7 +9,7 @@ use std::test::Fail;
 type Row = (&'static str, &'static str);
 
 /// Names, texts, comments, attributes and directives.
-const NAMES_AND_TEXTS: [Row; 19] = [
+const NAMES_AND_TEXTS: &[Row] = &[
     ("a$1_", "nnnn"),
     ("regs", "nnwn"),
     ("and_", "nnln"),
@@ -32,7 +32,7 @@ const NAMES_AND_TEXTS: [Row; 19] = [
 ];
 
 /// Numbers and marks.
-const NUMBERS_AND_MARKS: [Row; 29] = [
+const NUMBERS_AND_MARKS: &[Row] = &[
     ("1_02 ", "####="),
     ("12a", "##3"),
     ("1.5", "#+3"),
@@ -94,34 +94,41 @@ fn say(text: &mut String, letter: u8, count: usize) -> Result<(), AllocError> {
 /// The tokens of each beginning of a source, where the letters of `say` are wanted.
 fn cut(rt: &impl Abort, alloc: Global, source: &str, letters: &str) -> Result<(), AllocError> {
     let (source, letters) = (source.as_bytes(), letters.as_bytes());
-    assert_eq!(rt; source.len(), letters.len());
+    assert!(rt; source.len() == letters.len());
     let mut wanted = String::new(alloc);
     for end in 0..source.len() {
+        let beginning = &source[..end + 1];
         say(&mut wanted, letters[end], end + 1)?;
-        let told = written(alloc, &source[..end + 1], false)?;
-        assert_eq!(rt; told.as_str(), wanted.as_str(), "of {source:?} up to {end}");
+        same(rt, beginning, &written(alloc, beginning, false)?, &wanted);
+    }
+    Ok(())
+}
+
+/// The same of each source of a table.
+fn all_cut(rt: &impl Abort, alloc: Global, rows: &[Row]) -> Result<(), AllocError> {
+    for (source, letters) in rows {
+        cut(rt, alloc, source, letters)?;
     }
     Ok(())
 }
 
 #[test]
 fn single_bytes(rt: HostRuntime) -> Result<(), Fail> {
+    let alloc = rt.alloc();
+    let mut wanted = String::new(alloc);
     for byte in 0..256 {
-        let mut wanted = String::new(rt.alloc());
+        let source = [byte as u8];
         say(&mut wanted, BYTES[byte], 1)?;
-        let told = written(rt.alloc(), &[byte as u8], false)?;
-        assert_eq!(rt; told.as_str(), wanted.as_str(), "of {byte}");
+        same(&rt, &source, &written(alloc, &source, false)?, &wanted);
     }
     Ok(())
 }
 
 #[test]
 fn beginnings(rt: HostRuntime) -> Result<(), Fail> {
-    for (source, letters) in NAMES_AND_TEXTS {
-        cut(&rt, rt.alloc(), source, letters)?;
-    }
-    for (source, letters) in NUMBERS_AND_MARKS {
-        cut(&rt, rt.alloc(), source, letters)?;
+    let alloc = rt.alloc();
+    for rows in [NAMES_AND_TEXTS, NUMBERS_AND_MARKS] {
+        all_cut(&rt, alloc, rows)?;
     }
     Ok(())
 }

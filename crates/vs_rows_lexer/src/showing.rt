@@ -1,8 +1,14 @@
 //! How a row shows tokens.
 
 use std::alloc::{AllocError, Global};
+use std::process::Abort;
 use vs_lexer::{Kind, LexFault, Literal, Token, lex};
 use vs_logic4::Digit;
+
+/// Ends the test where a source has other tokens than those that are wanted.
+pub fn same(rt: &impl Abort, source: &[u8], told: &str, wanted: &str) {
+    assert!(rt; told == wanted, "of {source:?}: {told}");
+}
 
 /// A number: `s` where it is signed, `b` where it has a base, and its digits from the highest on.
 fn show_number(text: &mut String, literal: Literal) -> Result<(), AllocError> {

@@ -1,16 +1,16 @@
 //! Tokens of sources by hand: what the standard and the profile say of them.
 
-use crate::showing::shown;
+use crate::showing::{same, shown};
 use std::alloc::{AllocError, Global};
 use std::process::Abort;
 use std::test::Fail;
-use vs_lexer::{Kind, Mark, lex};
+use vs_lexer::{Kind, LexFault, Mark, lex};
 
 /// A source, and its tokens or its refusal.
 type Row = (&'static str, &'static str);
 
 /// Words, names and marks (IEEE 1364-2005, clauses 3.4, 3.7 and 5).
-const WORDS_AND_MARKS: [Row; 18] = [
+const WORDS_AND_MARKS: &[Row] = &[
     ("", ""),
     ("module t;", "w0+6 n7+1 m8+1 "),
     ("a<=b", "n0+1 m1+2 n3+1 "),
@@ -32,7 +32,7 @@ const WORDS_AND_MARKS: [Row; 18] = [
 ];
 
 /// White space, comments and attributes (clauses 3.2, 3.3 and 3.8).
-const SKIPPED: [Row; 19] = [
+const SKIPPED: &[Row] = &[
     (" \t\n\u{c}\ra", "n5+1 "),
     ("a // b\nc", "n0+1 n7+1 "),
     ("a // b", "n0+1 "),
@@ -55,7 +55,7 @@ const SKIPPED: [Row; 19] = [
 ];
 
 /// Numbers (clause 3.5).
-const NUMBERS: [Row; 42] = [
+const NUMBERS: &[Row] = &[
     ("5", "#0+1=s00000000000000000000000000000101 "),
     ("1_0__", "#0+5=s00000000000000000000000000001010 "),
     ("4294967295", "#0+10=s11111111111111111111111111111111 "),
@@ -104,7 +104,7 @@ const NUMBERS: [Row; 42] = [
 ];
 
 /// Texts (clause 3.6).
-const TEXTS: [Row; 15] = [
+const TEXTS: &[Row] = &[
     ("\"\" a", "t0+2 n3+1 "),
     ("\"%d\", x", "t0+4 m4+1 n6+1 "),
     ("\"a\\n\\t\\\\\\\"\"", "t0+11 "),
@@ -123,7 +123,7 @@ const TEXTS: [Row; 15] = [
 ];
 
 /// Directives (clause 19).
-const DIRECTIVES: [Row; 13] = [
+const DIRECTIVES: &[Row] = &[
     ("`timescale 1ns/1ps", "d0+18 "),
     ("`timescale\t100 s / 10\nms a", "d0+24 n25+1 "),
     ("`timescale 1ns/1psx", "d0+18 n18+1 "),
@@ -142,76 +142,82 @@ const DIRECTIVES: [Row; 13] = [
 /// Each source has these tokens, or this refusal.
 fn all_shown(rt: &impl Abort, alloc: Global, rows: &[Row]) -> Result<(), AllocError> {
     for (source, wanted) in rows {
-        assert_eq!(rt;
-            shown(alloc, source.as_bytes())?.as_str(),
-            *wanted,
-            "of {source:?}"
-        );
+        let source = source.as_bytes();
+        same(rt, source, &shown(alloc, source)?, wanted);
     }
     Ok(())
 }
 
 #[test]
 fn tokens(rt: HostRuntime) -> Result<(), Fail> {
-    all_shown(&rt, rt.alloc(), &WORDS_AND_MARKS)?;
-    all_shown(&rt, rt.alloc(), &SKIPPED)?;
-    all_shown(&rt, rt.alloc(), &NUMBERS)?;
-    all_shown(&rt, rt.alloc(), &TEXTS)?;
-    all_shown(&rt, rt.alloc(), &DIRECTIVES)?;
-    Ok(())
-}
-
-#[test]
-fn limits_of_names(rt: HostRuntime) -> Result<(), Fail> {
-    // The backslash of an escaped name doesn't count, and the `$` of a system name does.
-    for (first, length, wanted) in [
-        (b'a', 1024, "n0+1024 "),
-        (b'a', 1025, "L6 at 0"),
-        (b'\\', 1025, "n0+1025 "),
-        (b'\\', 1026, "L6 at 0"),
-        (b'$', 1024, "s0+1024 "),
-        (b'$', 1025, "L6 at 0"),
-    ] {
-        let mut name = vec![in rt.alloc(); b'a'; length]?;
-        name[0] = first;
-        assert_eq!(rt;
-            shown(rt.alloc(), &name)?.as_str(),
-            wanted,
-            "of {first} {length}"
-        );
+    let alloc = rt.alloc();
+    for rows in [WORDS_AND_MARKS, SKIPPED, NUMBERS, TEXTS, DIRECTIVES] {
+        all_shown(&rt, alloc, rows)?;
     }
     Ok(())
 }
 
+/// Equal bytes, how many, the place of one that is another one, and the tokens or the refusal.
+type LongRow = (u8, usize, usize, u8, &'static str);
+
+/// The limits of names and of a source. The backslash of an escaped name doesn't count, and the `$` of a system name does.
+const LIMITS: &[LongRow] = &[
+    (b'a', 1024, 0, b'a', "n0+1024 "),
+    (b'a', 1025, 0, b'a', "L6 at 0"),
+    (b'a', 1025, 0, b'\\', "n0+1025 "),
+    (b'a', 1026, 0, b'\\', "L6 at 0"),
+    (b'a', 1024, 0, b'$', "s0+1024 "),
+    (b'a', 1025, 0, b'$', "L6 at 0"),
+    (b' ', 4194304, 7, b' ', ""),
+    (b' ', 4194305, 7, b' ', "L6 at 4194304"),
+    (b' ', 4194305, 7, b'$', "L1 at 7"),
+];
+
 #[test]
-fn limit_of_a_source(rt: HostRuntime) -> Result<(), Fail> {
-    let spaces = vec![in rt.alloc(); b' '; 4194304]?;
-    assert_eq!(rt; shown(rt.alloc(), &spaces)?.as_str(), "");
-    let mut spaces = vec![in rt.alloc(); b' '; 4194305]?;
-    assert_eq!(rt; shown(rt.alloc(), &spaces)?.as_str(), "L6 at 4194304");
-    spaces[7] = b'$';
-    assert_eq!(rt; shown(rt.alloc(), &spaces)?.as_str(), "L1 at 7");
+fn limits(rt: HostRuntime) -> Result<(), Fail> {
+    let alloc = rt.alloc();
+    for &(bytes, length, place, byte, wanted) in LIMITS {
+        let mut source = vec![in alloc; bytes; length]?;
+        if let Some(other) = source.get_mut(place) {
+            *other = byte;
+        }
+        same(&rt, &[byte, bytes], &shown(alloc, &source)?, wanted);
+    }
+    Ok(())
+}
+
+/// Texts, and their values.
+const TEXT_VALUES: &[Row] = &[
+    ("\"\"", ""),
+    ("\"%d, ok\"", "%d, ok"),
+    ("\"a\\n\\t\\\\\\\"\"", "a\n\t\\\""),
+    ("\"\\1\\12\\1018\\45d\"", "\u{1}\nA8%d"),
+];
+
+/// Each token of a source has this value as a text.
+fn has_text(rt: &impl Abort, alloc: Global, source: &str, wanted: &str) -> Result<(), LexFault> {
+    for token in &lex(alloc, source.as_bytes())? {
+        let value = token.text(alloc)?;
+        assert!(rt; value.as_slice() == wanted.as_bytes(), "of {source:?}");
+    }
     Ok(())
 }
 
 #[test]
 fn text_values(rt: HostRuntime) -> Result<(), Fail> {
     let alloc = rt.alloc();
-    for (source, wanted) in [
-        ("\"\"", ""),
-        ("\"%d, ok\"", "%d, ok"),
-        ("\"a\\n\\t\\\\\\\"\"", "a\n\t\\\""),
-        ("\"\\1\\12\\1018\\45d\"", "\u{1}\nA8%d"),
-    ] {
-        for token in &lex(alloc, source.as_bytes())? {
-            let value = token.text(alloc)?;
-            assert_eq!(rt; value.as_slice(), wanted.as_bytes(), "of {source:?}");
-        }
+    for (source, wanted) in TEXT_VALUES {
+        has_text(&rt, alloc, source, wanted)?;
     }
-    let tokens = lex(alloc, b"\\a+b *")?;
-    assert_eq!(rt; tokens.len(), 2);
-    assert_eq!(rt; tokens[0].name(), b"a+b".as_slice());
-    assert_eq!(rt; tokens[1].kind, Kind::Mark(Mark::Star));
+    Ok(())
+}
+
+#[test]
+fn an_escaped_name_and_a_mark(rt: HostRuntime) -> Result<(), Fail> {
+    let tokens = lex(rt.alloc(), b"\\a+b *")?;
+    assert!(rt; tokens.len() == 2);
+    assert!(rt; tokens[0].name() == b"a+b".as_slice());
+    assert!(rt; tokens[1].kind == Kind::Mark(Mark::Star));
     assert!(rt; !Mark::Star.is_left_out());
     Ok(())
 }

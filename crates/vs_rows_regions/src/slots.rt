@@ -2,6 +2,7 @@
 ghost use Rattle.std.specs.Prelude.{◌≡◌, ◌<◌, ◌^◌, []};
 
 use std::alloc::{AllocError, Global};
+use std::process::Abort;
 use std::test::Fail;
 use vs_design::{Ticks, Write};
 use vs_regions::{Item, Regions};
@@ -103,22 +104,31 @@ fn some_slots<Q: EventQueue<Item> + Drop>(
     end_slots(alloc, &mut regions, made, woken)
 }
 
+// Ends the test where other updates are made, or other processes woken, than those that are wanted.
+fn compare<Q: EventQueue<Item> + Drop>(
+    rt: &impl Abort,
+    alloc: Global,
+    queue: Q,
+) -> Result<(), AllocError>
+    requires empty { Q.bag queue ≡ [] }
+    requires at_zero { Q.clock queue ≡ 0 }
+{
+    let (mut made, mut woken) = (Vec::new(alloc), Vec::new(alloc));
+    some_slots(alloc, queue, &mut made, &mut woken)?;
+    assert!(rt; made.as_slice() == [0, 2, 3, 1, 4, 5, 6].as_slice());
+    assert!(rt; woken.as_slice() == [7, 6].as_slice());
+    Ok(())
+}
+
 #[test]
 fn slots_of_a_list(rt: HostRuntime) -> Result<(), Fail> {
-    let (mut made, mut woken) = (Vec::new(rt.alloc()), Vec::new(rt.alloc()));
-    let queue = ListQueue::new(rt.alloc());
-    some_slots(rt.alloc(), queue, &mut made, &mut woken)?;
-    assert_eq!(rt; made.as_slice(), [0, 2, 3, 1, 4, 5, 6].as_slice());
-    assert_eq!(rt; woken.as_slice(), [7, 6].as_slice());
+    compare(&rt, rt.alloc(), ListQueue::new(rt.alloc()))?;
     Ok(())
 }
 
 #[test]
 fn slots_of_a_wheel(rt: HostRuntime) -> Result<(), Fail> {
-    let (mut made, mut woken) = (Vec::new(rt.alloc()), Vec::new(rt.alloc()));
     let queue = Wheel::new(rt.alloc()).ok().ok_or("memory")?;
-    some_slots(rt.alloc(), queue, &mut made, &mut woken)?;
-    assert_eq!(rt; made.as_slice(), [0, 2, 3, 1, 4, 5, 6].as_slice());
-    assert_eq!(rt; woken.as_slice(), [7, 6].as_slice());
+    compare(&rt, rt.alloc(), queue)?;
     Ok(())
 }

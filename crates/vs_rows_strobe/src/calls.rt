@@ -1,6 +1,6 @@
 //! Calls, whose text need not be a good one, and the steps of a process that makes calls.
 use crate::designs::one_signal;
-use crate::showing::values;
+use crate::showing::{same, values};
 use std::alloc::{AllocError, Global};
 use std::test::Fail;
 use vs_design::{
@@ -13,7 +13,7 @@ use vs_strobe::{Format, full_line};
 /// A text, how many arguments it has, each of them 1, and the line.
 type Row = (&'static str, usize, &'static [u8]);
 
-const CALLS: [Row; 6] = [
+const CALLS: &[Row] = &[
     ("", 0, b"\n"),
     ("%b %m", 1, b"1 t\n"),
     ("%b|%b", 1, b"1|\n"),
@@ -37,19 +37,25 @@ fn call(
     })
 }
 
+// The line of a call in a store.
+fn line_of_call(alloc: Global, call: &Call, store: &Store) -> Result<Vec<u8>, AllocError> {
+    let format = Format::of(alloc, call)?;
+    full_line(alloc, &format, store, 0)
+}
+
 fn printed(alloc: Global, text: &str, count: usize) -> Result<Vec<u8>, AllocError> {
     let args = values(alloc, false, "1", count)?;
     let call = call(alloc, CallKind::Display, text, args)?;
-    let format = Format::of(alloc, &call)?;
     let design = one_signal(alloc)?;
-    full_line(alloc, &format, &Store::start(alloc, &design)?, 0)
+    line_of_call(alloc, &call, &Store::start(alloc, &design)?)
 }
 
 #[test]
 fn calls(rt: HostRuntime) -> Result<(), Fail> {
-    for (text, count, wanted) in CALLS {
-        let told = printed(rt.alloc(), text, count)?;
-        assert_eq!(rt; told.as_slice(), wanted, "of {text}");
+    let alloc = rt.alloc();
+    for &(text, count, wanted) in CALLS {
+        let told = printed(alloc, text, count)?;
+        same(&rt, &told, wanted, text);
     }
     Ok(())
 }
@@ -88,12 +94,19 @@ fn one() -> Typed {
 fn body(alloc: Global) -> Result<Statement, AllocError> {
     let mut all = Vec::new(alloc);
     all.push(display(alloc)?)?;
-    all.push(Statement::Assign(1, target(alloc)?, one()))?;
-    all.push(Statement::Assign(2, target(alloc)?, one()))?;
+    for at in 1..3 {
+        all.push(Statement::Assign(at, target(alloc)?, one()))?;
+    }
+    end_of_body(alloc, &mut all)?;
+    Ok(Statement::Block(all))
+}
+
+// `$strobe("p"); a <= #5 1'b1; $finish;` behind other statements.
+fn end_of_body(alloc: Global, all: &mut Vec<Statement>) -> Result<(), AllocError> {
     all.push(Statement::Call(3, call(alloc, CallKind::Strobe, "p", Vec::new(alloc))?))?;
     all.push(Statement::Later(4, Ticks { count: 5 }, target(alloc)?, one()))?;
     all.push(Statement::Finish(5))?;
-    Ok(Statement::Block(all))
+    Ok(())
 }
 
 // A letter for what a step does, and the text or the ticks behind it.
@@ -104,22 +117,20 @@ fn tell(
     store: &Store,
 ) -> Result<(), AllocError> {
     match effect {
-        Effect::Nothing => out.push(b'n')?,
+        Effect::Nothing => out.extend_from_slice(b"n"),
         Effect::Update(ticks, _) | Effect::Part(ticks, _) => {
-            out.push(b'u')?;
-            out.push(b'0' + (ticks.count % 10) as u8)?;
+            out.extend_from_slice(&[b'u', b'0' + (ticks.count % 10) as u8])
         }
         Effect::Strobe(format) => {
-            out.push(b's')?;
-            out.extend_from_slice(&full_line(alloc, format, store, 0)?)?;
+            out.extend_from_slice(b"s")?;
+            out.extend_from_slice(&full_line(alloc, format, store, 0)?)
         }
         Effect::Line(text) => {
-            out.push(b'l')?;
-            out.extend_from_slice(&text)?;
+            out.extend_from_slice(b"l")?;
+            out.extend_from_slice(&text)
         }
-        Effect::Finish => out.push(b'f')?,
+        Effect::Finish => out.extend_from_slice(b"f"),
     }
-    Ok(())
 }
 
 // A step of an active process: a letter for each word that its write changes, and then its effect.
@@ -129,59 +140,53 @@ fn step_told<'a>(
     place: &mut Place<'a>,
     store: &mut Store,
 ) -> Result<(), AllocError> {
-    if place.is_going() {
-        let mut changes = Vec::new(alloc);
-        let mut effect = Effect::Nothing;
-        place.steps(alloc, store, 0, &mut changes, &mut effect, 1)?;
-        out.resize(out.len() + changes.len(), b'w')?;
-        tell(alloc, out, effect, store)?;
+    if !place.is_going() {
+        return Ok(());
     }
-    Ok(())
+    let mut changes = Vec::new(alloc);
+    let mut effect = Effect::Nothing;
+    place.steps(alloc, store, 0, &mut changes, &mut effect, 1)?;
+    out.resize(out.len() + changes.len(), b'w')?;
+    tell(alloc, out, effect, store)
 }
 
-// So many steps of each process with one of these codes, one after another.
+// So many steps of a process with this code.
 fn told(
     alloc: Global,
-    codes: &[Code],
+    code: &Code,
     count: usize,
     store: &mut Store,
 ) -> Result<Vec<u8>, AllocError> {
     let mut out = Vec::new(alloc);
-    for code in codes {
-        let mut place = Place::start(alloc, code)?;
-        for _ in 0..count {
-            step_told(alloc, &mut out, &mut place, store)?;
-        }
+    let mut place = Place::start(alloc, code)?;
+    for _ in 0..count {
+        step_told(alloc, &mut out, &mut place, store)?;
     }
     Ok(out)
 }
 
-// The codes of these bodies.
-fn codes_of<'a>(alloc: Global, bodies: &'a [Statement]) -> Result<Vec<Code<'a>>, AllocError> {
-    let mut codes = Vec::new(alloc);
-    for body in bodies {
-        codes.push(compile(alloc, body)?)?;
-    }
-    Ok(codes)
-}
-
-// So many steps of each process with one of these bodies, one after another.
+// So many steps of a process with this body.
 fn told_of(
     alloc: Global,
-    bodies: &[Statement],
+    body: &Statement,
     count: usize,
     store: &mut Store,
 ) -> Result<Vec<u8>, AllocError> {
-    let codes = codes_of(alloc, bodies)?;
-    told(alloc, &codes, count, store)
+    let code = compile(alloc, body)?;
+    told(alloc, &code, count, store)
+}
+
+// The seven steps of the body.
+fn seven_steps(alloc: Global) -> Result<Vec<u8>, AllocError> {
+    let design = one_signal(alloc)?;
+    let mut store = Store::start(alloc, &design)?;
+    let body = body(alloc)?;
+    told_of(alloc, &body, 7, &mut store)
 }
 
 #[test]
 fn steps(rt: HostRuntime) -> Result<(), Fail> {
-    let design = one_signal(rt.alloc())?;
-    let mut store = Store::start(rt.alloc(), &design)?;
-    let bodies = vec![in rt.alloc(); body(rt.alloc())?]?;
-    let told = told_of(rt.alloc(), &bodies, 7, &mut store)?;
-    assert_eq!(rt; told.as_slice(), b"lx\nwnnsp\nu5f".as_slice());
+    let told = seven_steps(rt.alloc())?;
+    assert!(rt; told.as_slice() == b"lx\nwnnsp\nu5f".as_slice());
     Ok(())
 }

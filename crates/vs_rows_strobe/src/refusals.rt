@@ -1,12 +1,13 @@
 //! Texts that are refused.
-use crate::showing::values;
+use crate::showing::{same, values};
+use std::alloc::{AllocError, Global};
 use std::test::Fail;
 use vs_strobe::{Format, FormatFault, FormatReason};
 
 /// A text, a number of arguments, and the number of the fault.
 type Row = (&'static str, usize, &'static str);
 
-const FAULTS: [Row; 12] = [
+const FAULTS: &[Row] = &[
     ("%b %b", 1, "F2"),
     ("%b", 2, "F3"),
     ("%q", 1, "F1"),
@@ -29,18 +30,22 @@ fn number(reason: FormatReason) -> &'static str {
     }
 }
 
+// The number of the fault that a text is refused with.
+fn fault_of(alloc: Global, text: &str, count: usize) -> Result<&'static str, AllocError> {
+    let args = values(alloc, false, "1", count)?;
+    match Format::read(alloc, text.as_bytes(), &args, b"t", 1) {
+        Ok(_) => Ok("none"),
+        Err(FormatFault::Memory) => Err(AllocError),
+        Err(FormatFault::Refused(reason)) => Ok(number(reason)),
+    }
+}
+
 #[test]
 fn refusals(rt: HostRuntime) -> Result<(), Fail> {
-    for (text, count, wanted) in FAULTS {
-        let args = values(rt.alloc(), false, "1", count)?;
-        let told = match Format::read(rt.alloc(), text.as_bytes(), &args, b"t", 1) {
-            Ok(_) => "none",
-            Err(FormatFault::Memory) => "memory",
-            Err(FormatFault::Refused(reason)) => number(reason),
-        };
-        if told != "memory" {
-            assert_eq!(rt; told, wanted, "of {text}");
-        }
+    let alloc = rt.alloc();
+    for &(text, count, wanted) in FAULTS {
+        let told = fault_of(alloc, text, count)?;
+        same(&rt, told.as_bytes(), wanted.as_bytes(), text);
     }
     Ok(())
 }

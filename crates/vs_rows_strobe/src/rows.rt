@@ -1,17 +1,29 @@
 //! Whole lines.
 use crate::designs::{assign, one_signal};
-use crate::showing::{line_of, line_of_value, values, vector};
+use crate::showing::{line_in, line_of, line_of_value, same, values, vector};
 use std::alloc::Global;
+use std::process::Abort;
 use std::test::Fail;
 use vs_design::{FormatArg, Operand, Store, Typed};
 use vs_logic4::Vec4;
-use vs_strobe::{Format, FormatFault, line};
+use vs_strobe::FormatFault;
 
 /// A text, how many arguments it takes, the digits of each, and the line.
 type Row = (&'static str, usize, &'static str, &'static [u8]);
 
+// The line of a text that takes so many arguments of one value.
+fn line_of_values(
+    alloc: Global,
+    text: &str,
+    digits: &str,
+    count: usize,
+) -> Result<Vec<u8>, FormatFault> {
+    let args = values(alloc, false, digits, count)?;
+    line_of(alloc, text, &args, 1, 0)
+}
+
 /// Characters, texts, the path, and what is printed as it is.
-const TEXTS: [Row; 12] = [
+const TEXTS: &[Row] = &[
     ("", 0, "1", b""),
     ("a%%b", 0, "1", b"a%b"),
     ("%m", 0, "1", b"t.g[0]"),
@@ -28,16 +40,16 @@ const TEXTS: [Row; 12] = [
 
 #[test]
 fn texts(rt: HostRuntime) -> Result<(), Fail> {
-    for (text, count, digits, wanted) in TEXTS {
-        let args = values(rt.alloc(), false, digits, count)?;
-        let told = line_of(rt.alloc(), text, &args, 1, 0)?;
-        assert_eq!(rt; told.as_slice(), wanted, "of {text}");
+    let alloc = rt.alloc();
+    for &(text, count, digits, wanted) in TEXTS {
+        let told = line_of_values(alloc, text, digits, count)?;
+        same(&rt, &told, wanted, text);
     }
     Ok(())
 }
 
 /// Whether a value is signed, a text, the value's digits, and the line where a unit is 1,000 ticks.
-const SCALED: [(bool, &str, &str, &str); 12] = [
+const SCALED: &[(bool, &str, &str, &str)] = &[
     (false, "%t", "1", "                1000"),
     (true, "%t", "11111111", "               -1000"),
     (true, "%0t", "11111111", "-1000"),
@@ -54,9 +66,10 @@ const SCALED: [(bool, &str, &str, &str); 12] = [
 
 #[test]
 fn scaled(rt: HostRuntime) -> Result<(), Fail> {
-    for (signed, text, digits, wanted) in SCALED {
-        let told = line_of_value(rt.alloc(), text, signed, digits, 1000)?;
-        assert_eq!(rt; told.as_slice(), wanted.as_bytes(), "of {text}");
+    let alloc = rt.alloc();
+    for &(signed, text, digits, wanted) in SCALED {
+        let told = line_of_value(alloc, text, signed, digits, 1000)?;
+        same(&rt, &told, wanted.as_bytes(), text);
     }
     Ok(())
 }
@@ -75,26 +88,25 @@ fn one_call(alloc: Global) -> Result<Vec<FormatArg>, FormatFault> {
 fn a_call_with_all_of_them(rt: HostRuntime) -> Result<(), Fail> {
     let args = one_call(rt.alloc())?;
     let told = line_of(rt.alloc(), "%d|%0d|%h|%b|%s|%t", &args, 1000, 0)?;
-    assert_eq!(rt;
-        told.as_slice(),
-        b"  5|5|fx|01zz|AB|                1000".as_slice()
-    );
+    assert!(rt; told.as_slice() == b"  5|5|fx|01zz|AB|                1000".as_slice());
     Ok(())
+}
+
+// The time as each directive shows it.
+fn line_of_times(alloc: Global) -> Result<Vec<u8>, FormatFault> {
+    let mut args = Vec::new(alloc);
+    for _ in 0..5 {
+        args.push(FormatArg::Time)?;
+    }
+    line_of(alloc, "%d|%0d|%t|%0t|%h", &args, 1000, 7000)
 }
 
 #[test]
 fn the_time(rt: HostRuntime) -> Result<(), Fail> {
-    let args = vec![in rt.alloc();
-        FormatArg::Time,
-        FormatArg::Time,
-        FormatArg::Time,
-        FormatArg::Time,
-        FormatArg::Time,
-    ]?;
-    let told = line_of(rt.alloc(), "%d|%0d|%t|%0t|%h", &args, 1000, 7000)?;
-    assert_eq!(rt;
-        told.as_slice(),
-        b"                   7|7|                7000|7000|0000000000000007".as_slice()
+    let told = line_of_times(rt.alloc())?;
+    assert!(rt;
+        told.as_slice()
+            == b"                   7|7|                7000|7000|0000000000000007".as_slice()
     );
     Ok(())
 }
@@ -108,31 +120,36 @@ fn shown(alloc: Global, text: &str, store: &Store) -> Result<Vec<u8>, FormatFaul
     };
     let mut args = Vec::new(alloc);
     args.push(FormatArg::Value(false, Typed::Signal(a)))?;
-    let format = Format::read(alloc, text.as_bytes(), &args, b"t", 1)?;
-    Ok(line(alloc, &format, store, 0)?)
+    line_in(alloc, text, &args, 1, 0, store)
+}
+
+// Each text has this line in a store.
+fn all_shown(
+    rt: &impl Abort,
+    alloc: Global,
+    store: &Store,
+    rows: &[(&str, &str)],
+) -> Result<(), FormatFault> {
+    for &(text, wanted) in rows {
+        let told = shown(alloc, text, store)?;
+        same(rt, &told, wanted.as_bytes(), text);
+    }
+    Ok(())
 }
 
 // The values are those of the store that a line is made in.
+fn store_shown(rt: &impl Abort, alloc: Global, store: &mut Store) -> Result<(), FormatFault> {
+    all_shown(rt, alloc, store, &[("%b", "x")])?;
+    assign(alloc, store, Vec4::from_number(1, 0))?;
+    let rows = [("%b", "0"), ("p %b", "p 0"), ("q %0d", "q 0")];
+    all_shown(rt, alloc, store, &rows)
+}
+
 #[test]
 fn a_line_shows_its_store(rt: HostRuntime) -> Result<(), Fail> {
-    let design = one_signal(rt.alloc())?;
-    let mut store = Store::start(rt.alloc(), &design)?;
-    assert_eq!(rt;
-        shown(rt.alloc(), "%b", &store)?.as_slice(),
-        b"x".as_slice()
-    );
-    assign(rt.alloc(), &mut store, Vec4::from_number(1, 0))?;
-    assert_eq!(rt;
-        shown(rt.alloc(), "%b", &store)?.as_slice(),
-        b"0".as_slice()
-    );
-    assert_eq!(rt;
-        shown(rt.alloc(), "p %b", &store)?.as_slice(),
-        b"p 0".as_slice()
-    );
-    assert_eq!(rt;
-        shown(rt.alloc(), "q %0d", &store)?.as_slice(),
-        b"q 0".as_slice()
-    );
+    let alloc = rt.alloc();
+    let design = one_signal(alloc)?;
+    let mut store = Store::start(alloc, &design)?;
+    store_shown(&rt, alloc, &mut store)?;
     Ok(())
 }

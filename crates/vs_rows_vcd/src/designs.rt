@@ -8,7 +8,7 @@ use vs_design::{
     Store, TimeSpan, TimeUnit, Timescale, Write,
 };
 use vs_logic4::Vec4;
-use vs_vcd::{Sink, VcdFault, Writer};
+use vs_vcd::{Counted, Sink, VcdFault, Writer};
 
 fn variable(
     alloc: Global,
@@ -82,7 +82,7 @@ pub fn three_signals(alloc: Global) -> Result<Design, AllocError> {
 }
 
 // A write of a whole signal.
-pub fn whole(alloc: Global, signal: usize, digits: Vec4) -> Result<Write, AllocError> {
+fn whole(alloc: Global, signal: usize, digits: Vec4) -> Result<Write, AllocError> {
     let mut write = Write::new(alloc);
     write.push(Part {
         signal,
@@ -102,17 +102,59 @@ pub const WIDE_HEADER: &[u8] =
 pub const DUMP: &[u8] =
     b"$timescale 10 ps $end\n$scope module t $end\n$var reg 1 ! a $end\n$var reg 4 \" b [-1:2] $end\n$upscope $end\n$enddefinitions $end\n#0\n$dumpvars\n0!\nbx \"\n$end\n#5\n1!\n#7\nb101 \"\n#10\n";
 
+// The time of a slot, and the signal that is written before it, with its digits.
+pub type Slot = (u64, Option<(usize, Vec4)>);
+
+// Writes a slot.
+fn write_slot<S: Sink>(
+    alloc: Global,
+    sink: &mut S,
+    writer: &mut Writer,
+    store: &mut Store,
+    slot: Slot,
+) -> Result<(), VcdFault> {
+    let (time, written) = slot;
+    if let Some((signal, digits)) = written {
+        store.put(&whole(alloc, signal, digits)?);
+    }
+    writer.slot(alloc, sink, time, store)
+}
+
+// Writes the dump of a design with these slots, up to an end.
+fn write_slots<S: Sink>(
+    alloc: Global,
+    sink: &mut S,
+    design: &Design,
+    slots: &[Slot],
+    end: u64,
+) -> Result<(), VcdFault> {
+    let mut store = Store::start(alloc, design)?;
+    let mut writer = Writer::header(alloc, sink, design)?;
+    for slot in slots {
+        write_slot(alloc, sink, &mut writer, &mut store, *slot)?;
+    }
+    writer.finish(sink, end)
+}
+
+// The dump of a design with these slots, up to an end.
+pub fn dump_of(
+    alloc: Global,
+    design: &Design,
+    slots: &[Slot],
+    end: u64,
+) -> Result<Vec<u8>, VcdFault> {
+    let mut sink = Counted::new(Vec::new(alloc));
+    write_slots(alloc, &mut sink, design, slots, end)?;
+    Ok(sink.into_inner())
+}
+
 // `a` is 0 from the start and 1 from 5 on, `b` is 0101 from 7 on; at 3 nothing changes.
 pub fn write_dump<S: Sink>(alloc: Global, sink: &mut S) -> Result<(), VcdFault> {
-    let design = three_signals(alloc)?;
-    let mut store = Store::start(alloc, &design)?;
-    let mut writer = Writer::header(alloc, sink, &design)?;
-    store.put(&whole(alloc, 1, Vec4::from_number(1, 0))?);
-    writer.slot(alloc, sink, 0, &store)?;
-    writer.slot(alloc, sink, 3, &store)?;
-    store.put(&whole(alloc, 1, Vec4::from_number(1, 1))?);
-    writer.slot(alloc, sink, 5, &store)?;
-    store.put(&whole(alloc, 2, Vec4::from_number(4, 5))?);
-    writer.slot(alloc, sink, 7, &store)?;
-    writer.finish(sink, 10)
+    let slots = [
+        (0, Some((1, Vec4::from_number(1, 0)))),
+        (3, None),
+        (5, Some((1, Vec4::from_number(1, 1)))),
+        (7, Some((2, Vec4::from_number(4, 5)))),
+    ];
+    write_slots(alloc, sink, &three_signals(alloc)?, &slots, 10)
 }

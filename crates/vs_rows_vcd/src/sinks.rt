@@ -35,42 +35,38 @@ impl Write for Narrow {
 }
 
 // A sink with room for so many bytes fails and holds a beginning of the dump.
-fn holds_a_beginning(
-    rt: &impl Abort,
-    alloc: Global,
-    room: usize,
-    full: Option<ErrorKind>,
-) -> Result<(), Fail> {
+fn holds_a_beginning(rt: &impl Abort, alloc: Global, room: usize, full: Option<ErrorKind>) {
     let got = Vec::new(alloc);
     let mut sink = Counted::new(Narrow { got, room, full });
     let result = write_dump(alloc, &mut sink);
-    assert_eq!(rt; result, Err(VcdFault::Write), "at {room}");
-    assert_eq!(rt; sink.failures(), 1, "at {room}");
-    assert!(rt; DUMP.starts_with(&sink.into_inner().got), "at {room}");
-    Ok(())
+    let failed_once = result == Err(VcdFault::Write) && sink.failures() == 1;
+    assert!(rt;
+        failed_once && DUMP.starts_with(&sink.into_inner().got),
+        "at {room}"
+    );
 }
 
 #[test]
-fn a_failing_sink_holds_a_beginning(rt: HostRuntime) -> Result<(), Fail> {
+fn a_failing_sink_holds_a_beginning(rt: HostRuntime) {
+    let alloc = rt.alloc();
     for room in [0, 1, 20, 21, 124, 125, 126, 153, 170] {
         for full in [None, Some(ErrorKind::Other)] {
-            holds_a_beginning(&rt, rt.alloc(), room, full)?;
+            holds_a_beginning(&rt, alloc, room, full);
         }
     }
-    Ok(())
 }
 
 #[test]
 fn a_sink_that_takes_little_gets_all(rt: HostRuntime) -> Result<(), Fail> {
-    let got = Vec::new(rt.alloc());
+    let alloc = rt.alloc();
     let mut sink = Counted::new(Narrow {
-        got,
+        got: Vec::new(alloc),
         room: 171,
         full: None,
     });
-    assert_eq!(rt; write_all(&mut sink, b""), Ok(()));
-    write_dump(rt.alloc(), &mut sink)?;
-    assert_eq!(rt; sink.failures(), 0);
-    assert_eq!(rt; sink.into_inner().got.as_slice(), DUMP);
+    assert!(rt; write_all(&mut sink, b"") == Ok(()));
+    write_dump(alloc, &mut sink)?;
+    assert!(rt; sink.failures() == 0);
+    assert!(rt; sink.into_inner().got.as_slice() == DUMP);
     Ok(())
 }

@@ -60,6 +60,24 @@ no_faults faults h Timescales = refl
 no_faults faults h (Format wrong) = refl
 no_faults faults h Limit = refl
 
+-- a fault of a part of a size is one of the whole
+pub width_refused : (part whole : WidthReason → Bool) (f : BodyFault) → ((w : WidthReason) → part w ≡ true → whole w ≡ true) → Refuses (width_faults part) f → Refuses (width_faults whole) f
+width_refused part whole f more h = refused_by (width_faults part) (width_faults whole) f by h
+  where
+    by : (q : Reason) → width_faults part q ≡ true → width_faults whole q ≡ true
+    by (Width w) k = more w k
+    by NoModule k = k
+    by Inside k = k
+    by PortMismatch k = k
+    by ParameterMismatch k = k
+    by DeclaredTwice k = k
+    by DrivenTwice k = k
+    by Endless k = k
+    by Unnamed k = k
+    by Timescales k = k
+    by (Format wrong) k = k
+    by Limit k = k
+
 module _ (env : Environment) (signed : Bool) (n : ℕ) (o : Option Range) where
   pub size_ranged : (r : Range) (b : Bounds) (width : ℕ) (s : Size) → o ≡ Some r → ((q : Reason) → width_faults (λ w. range_fault w env (Some r)) q ≡ false) × IsRange env r (b, width) →
       s.shape.width ≡ width → s.shape.signed ≡ signed → s.bounds ≡ Some b →

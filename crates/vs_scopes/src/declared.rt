@@ -1,5 +1,6 @@
 //! What items say of names that the header of a module has alone, or another item declares.
 ghost use Rattle.std.specs.Prelude.{◌≡◌, ℕ, ◌∷◌, [], List, map, IfOk, OnOk};
+ghost use Rattle.vs_pieces.specs.Pieces.{plain};
 ghost use Rattle.vs_pieces.specs.Reads.{read_piece};
 ghost use Rattle.vs_widths.specs.Names.{meaning_of};
 ghost use Rattle.vs_scopes.specs.Ports.{said_in, kind_in, kind_among};
@@ -57,7 +58,18 @@ fn add_forms<'s>(
     Ok(())
 }
 
-/// Adds what a piece says of ports by `input` or `output` (IEEE 1364-2005, clause 12.3.3).
+/// Adds what an item says of ports by `input` or `output` (IEEE 1364-2005, clause 12.3.3).
+fn add_item_forms<'s>(item: &'s Item, forms: &mut Names<'s, &'s PortForm>) -> Result<(), AllocError>
+    ensures { OnOk result ((n : List ℕ) → read_end (meaning_of forms.new n)
+        ≡ first_of (read_end (meaning_of forms.old n)) (said_in (plain item.entry.now) n)) }
+{
+    match item {
+        Item::Port(form, list) => add_forms(form, list, forms),
+        _ => Ok(()),
+    }
+}
+
+/// Adds what a piece says of ports by `input` or `output`.
 fn add_piece_forms<'s>(
     piece: Piece<'s>,
     forms: &mut Names<'s, &'s PortForm>,
@@ -66,7 +78,7 @@ fn add_piece_forms<'s>(
         ≡ first_of (read_end (meaning_of forms.old n)) (said_in (read_piece piece.entry) n)) }
 {
     match piece {
-        Piece::Plain(Item::Port(form, list)) => add_forms(form, list, forms),
+        Piece::Plain(item) => add_item_forms(item, forms),
         _ => Ok(()),
     }
 }
@@ -108,16 +120,13 @@ fn add_kinds<'s>(
     Ok(())
 }
 
-/// Adds what a piece declares names as (IEEE 1364-2005, clauses 4.2.1, 4.2.2 and 4.8).
-fn add_piece_kinds<'s>(
-    piece: Piece<'s>,
-    kinds: &mut Names<'s, KindSaid<'s>>,
-) -> Result<(), AllocError>
+/// Adds what an item declares names as (IEEE 1364-2005, clauses 4.2.1, 4.2.2 and 4.8).
+fn add_item_kinds<'s>(item: &'s Item, kinds: &mut Names<'s, KindSaid<'s>>) -> Result<(), AllocError>
     ensures { OnOk result ((n : List ℕ) → read_said (meaning_of kinds.new n)
-        ≡ first_of (read_said (meaning_of kinds.old n)) (kind_in (read_piece piece.entry) n)) }
+        ≡ first_of (read_said (meaning_of kinds.old n)) (kind_in (plain item.entry.now) n)) }
 {
-    match piece {
-        Piece::Plain(Item::Wire(form, list)) => {
+    match item {
+        Item::Wire(form, list) => {
             add_kinds(
                 SignalKind::Wire,
                 form.signed,
@@ -126,7 +135,7 @@ fn add_piece_kinds<'s>(
                 kinds,
             )
         }
-        Piece::Plain(Item::Reg(form, list)) => {
+        Item::Reg(form, list) => {
             add_kinds(
                 SignalKind::Reg,
                 form.signed,
@@ -135,9 +144,21 @@ fn add_piece_kinds<'s>(
                 kinds,
             )
         }
-        Piece::Plain(Item::Integer(list)) => {
-            add_kinds(SignalKind::Integer, true, None, list, kinds)
-        }
+        Item::Integer(list) => add_kinds(SignalKind::Integer, true, None, list, kinds),
+        _ => Ok(()),
+    }
+}
+
+/// Adds what a piece declares names as.
+fn add_piece_kinds<'s>(
+    piece: Piece<'s>,
+    kinds: &mut Names<'s, KindSaid<'s>>,
+) -> Result<(), AllocError>
+    ensures { OnOk result ((n : List ℕ) → read_said (meaning_of kinds.new n)
+        ≡ first_of (read_said (meaning_of kinds.old n)) (kind_in (read_piece piece.entry) n)) }
+{
+    match piece {
+        Piece::Plain(item) => add_item_kinds(item, kinds),
         _ => Ok(()),
     }
 }

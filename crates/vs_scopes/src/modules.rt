@@ -14,8 +14,6 @@ pub fn with_first<'s>(
 {
     let mut all = Vec::new(alloc);
     all.push(first)?;
-    for name in names {
-        all.push(*name)?;
-    }
+    all.extend_from_slice(names)?;
     Ok(all)
 }

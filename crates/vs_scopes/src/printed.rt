@@ -67,15 +67,12 @@ fn push_escaped_byte(text: &mut Vec<u8>, c: u8) -> Result<(), AllocError>
     ensures { OnOk result (text.new.items ≡ text.old.items ++ escaped_byte c) }
 {
     if c == b' ' {
-        text.push(127)?;
-        text.push(b'1')?;
+        text.extend_from_slice(&[127, b'1'])
     } else if c == 127 {
-        text.push(127)?;
-        text.push(b'0')?;
+        text.extend_from_slice(&[127, b'0'])
     } else {
-        text.push(c)?;
+        text.extend_from_slice(&[c])
     }
-    Ok(())
 }
 
 /// Appends the bytes of an escaped name as they are printed.
@@ -207,8 +204,7 @@ pub fn print_part(
     ensures { IfOk result (λ v. v.items ≡ part_name (read_path path.now) (own_name letter number)) }
 {
     let mut text = print_path(alloc, path)?;
-    text.push(b'#')?;
-    text.push(letter)?;
+    text.extend_from_slice(&[b'#', letter])?;
     let mut buffer = Buffer::new();
     text.extend_from_slice(buffer.format(number).as_bytes())?;
     Ok(text)

@@ -53,14 +53,15 @@ fn push_byte(text: &mut Vec<u8>, c: u8) -> Result<(), AllocError>
     ensures { OnOk result (text.new.items ≡ text.old.items ++ shown_byte c) }
 {
     if is_control_byte(c) {
-        text.push(b'\\')?;
-        text.push(b'x')?;
-        text.push(hexadecimal_digit(c / 16))?;
-        text.push(hexadecimal_digit(c % 16))?;
+        text.extend_from_slice(&[
+            b'\\',
+            b'x',
+            hexadecimal_digit(c / 16),
+            hexadecimal_digit(c % 16),
+        ])
     } else {
-        text.push(c)?;
+        text.extend_from_slice(&[c])
     }
-    Ok(())
 }
 
 /// Appends bytes as they are told.

@@ -1,6 +1,13 @@
 -- Values that no store changes.
-use Rattle.std.proofs.Common.{◌≡◌, ℕ, ◌==◌, Bool, true, false, List, [], ◌∷◌, Some, length, refl, ap, sym, ◌∙◌, arith, rules}
-use Rattle.std.specs.List.{list_any, IsDistinct}
+use Rattle.std.proofs.Common.{◌≡◌, ℕ, ◌-◌, ◌==◌, Bool, true, false, List, [], ◌∷◌, Option, Some, None, length, refl, ap, sym, ◌∙◌, arith, rules}
+use Rattle.std.specs.List.{slice_get, list_any, IsDistinct}
+use Rattle.std.proofs.lemmas.Option.{get_or_from_slice_get}
+use denote.Enum.Bare.{sameb}
+use Rattle.vs_logic4.specs.contracts.digit.Digit.{the_type}
+use Rattle.vs_logic4.specs.declared.digit.Digit.TheVariants.{Zero, One, X, Z}
+use Rattle.vs_logic4.specs.Arithmetic.{known_number}
+use Rattle.vs_logic4.specs.Vectors.{same_digit, top_digit}
+use Rattle.vs_selects.specs.Constants.{natural_number}
 use Rattle.std.specs.Str.{bytes_eq}
 use Rattle.std.proofs.lemmas.Bool.{eqb-true, eqb-false}
 use Rattle.std.proofs.Math.Path.{fun_ext}
@@ -23,6 +30,27 @@ use Rattle.vs_selects.specs.declared.forms.Measured.{Measured}
 use Rattle.vs_selects.specs.Senses.{sense, IsFitted}
 use Rattle.vs_selects.specs.passes.Measures.{IsKnown}
 use Rattle.vs_selects.specs.passes.Places.{IsAlone}
+
+-- ---- signs
+
+same_as_one : (d : Digit) → sameb the_type d One ≡ same_digit d One
+same_as_one Zero = refl
+same_as_one One = refl
+same_as_one X = refl
+same_as_one Z = refl
+
+-- the digit that is read below the width is the top one
+top_is : (ds : List Digit) (n : ℕ) (d : Digit) → n ≡ length ds → slice_get ds (n - 1) ≡ Some d → top_digit ds ≡ d
+top_is ds n d h k = get_or_from_slice_get ds (length ds - 1) d X (rw h at k)
+
+pub negative_none : (ds : List Digit) (s : Bool) (n : ℕ) (d : Digit) → s ≡ true → n ≡ length ds → slice_get ds (n - 1) ≡ Some d → sameb the_type d One ≡ true → None ≡ natural_number s ds
+negative_none ds s n d g h k e = rw (g, top_is ds n d h k, ← same_as_one d, e) refl
+
+pub natural_known : (ds : List Digit) (s : Bool) (n : ℕ) (d : Digit) (r : Option ℕ) → n ≡ length ds → slice_get ds (n - 1) ≡ Some d → sameb the_type d One ≡ false → r ≡ known_number ds → r ≡ natural_number s ds
+natural_known ds false n d r h k e l = l
+natural_known ds true n d r h k e l = rw (top_is ds n d h k, ← same_as_one d, e) l
+
+-- ---- values that no store changes
 
 is_nil : {A : Type 0} (xs : List A) → length xs ≡ 0 → xs ≡ []
 is_nil [] h = refl

@@ -1,15 +1,20 @@
 -- Forms at the size and with the sign of a context.
-use Rattle.std.proofs.Common.{◌≡◌, ℕ, ◌+◌, ◌<◌, Bool, false, List, [], ◌∷◌, ◌++◌, Option, Some, None, Result, Ok, Err, IfOk, option_map, length, map, take, get_or, refl, ap, ap₂, sym, subst, ◌∙◌}
-use Rattle.std.proofs.lemmas.List.{take_more}
+use Rattle.std.proofs.Common.{◌≡◌, ℕ, ◌+◌, ◌*◌, ◌<◌, ◌≤◌, Bool, false, if◌then◌else◌, List, [], ◌∷◌, ◌++◌, Option, Some, None, Result, Ok, Err, IfOk, option_map, length, map, take, get_or, refl, ap, ap₂, sym, subst, ◌∙◌}
+use Rattle.std.proofs.lemmas.List.{take_more, take_all}
 use Rattle.std.specs.declared.vec.Vec.{Vec}
 use Rattle.std.specs.declared.boxed.Box.{Box}
 use Rattle.std.specs.declared.alloc.Global.{Global}
 use Rattle.vs_logic4.specs.declared.digit.Digit.{Digit}
 use Rattle.vs_logic4.specs.declared.operators.Binary.{Binary}
-use Rattle.vs_logic4.specs.Operators.{sizing_of}
+use Rattle.vs_logic4.specs.declared.operators.Unary.{Unary}
+use Rattle.vs_logic4.specs.Operators.{unary, gives_bit, sizing_of}
+use Rattle.vs_logic4.specs.Parts.{replication}
 use Rattle.vs_logic4.specs.Vectors.{resized}
 use Rattle.vs_logic4.specs.Comparisons.{truth}
 use Rattle.vs_design.specs.declared.expression.Link.{Link}
+use Rattle.vs_design.specs.declared.expression.Count.{Count}
+use Rattle.vs_design.specs.declared.expression.Excerpt.{Excerpt}
+use Rattle.vs_design.specs.declared.expression.Operand.{Operand}
 use Rattle.vs_design.specs.declared.expression.Slice.{Slice}
 use Rattle.vs_design.specs.declared.expression.Selection.{Selection}
 use Rattle.vs_design.specs.declared.expression.Typed.{Typed, Typed-F, fold-roll-Typed, map-Typed, roll-Typed}
@@ -17,9 +22,9 @@ use Rattle.vs_design.specs.declared.expression.Typed.TheVariants as t
 use Rattle.vs_design.specs.declared.expression.Typed.TheOpen as o
 use Rattle.vs_design.specs.declared.range.BitRange.{BitRange}
 use Rattle.vs_design.specs.Stores.{Store}
-use Rattle.vs_design.specs.Uses.{all_words, joined, reads, reads_step}
+use Rattle.vs_design.specs.Uses.{whole, all_words, joined, reads, reads_step}
 use Rattle.vs_design.specs.WellFormed.{sized_by, linked_size, chain_size, picked_size, choice_size, indexed_size, sum_size, at_most_64, size_of, size_step}
-use Rattle.vs_eval.specs.Values.{linked, chained, picked, chosen, concatenated, value_of, value_step, selection_value}
+use Rattle.vs_eval.specs.Values.{excerpt_value, linked, chained, picked, chosen, concatenated, value_of, value_step, selection_value}
 use Rattle.vs_selects.specs.declared.shape.Shape.{Shape}
 use Rattle.vs_selects.specs.declared.forms.Form.{Form, Form-F, fold-roll-Form, map-Form, roll-Form}
 use Rattle.vs_selects.specs.declared.forms.Form.TheVariants as v
@@ -33,6 +38,10 @@ use Rattle.vs_selects.specs.Senses.{Sense, form_step, sense, open_size, open_lin
 pub each_push : {A B : Type 0} (R : A → B → Type 0) (xs : List A) (ys : List B) (x : A) (y : B) → Each R xs ys → R x y → Each R (xs ++ x ∷ []) (ys ++ y ∷ [])
 each_push R _ _ x y each_none h = each_more x y [] [] h each_none
 each_push R _ _ x y (each_more a b as' bs k r) h = each_more a b _ _ k (each_push R as' bs x y r h)
+
+-- behind the last value, all of them are related
+pub each_all : {A B : Type 0} (R : A → B → Type 0) (xs : List A) (i : ℕ) (ys : List B) → Each R (take i xs) ys → length xs ≤ i → Each R xs ys
+each_all R xs i ys h end = subst (λ z. Each R z ys) (take_all i xs end) h
 
 -- a loop's step
 pub each_step : {A B : Type 0} (R : A → B → Type 0) (xs : List A) (i : ℕ) (x : A) (ys zs : List B) (y : B) → i < length xs → x ≡ get_or xs i x → zs ≡ ys ++ y ∷ [] → Each R (take i xs) ys → R x y → Each R (take (i + 1) xs) zs
@@ -83,6 +92,31 @@ fits_Select s c xw xl aw al bw bl w g hc hw hl pw pl =
     (ap₂ (indexed_size s.value.width) qw.size ql.size)
     (λ store time. ap₂ (selection_value s.value store) (qw.value store time) (ql.value store time))
     (ap₂ (λ a b. all_words s.value.signal ∷ a ++ b) qw.ranges ql.ranges))
+
+pub fits_Signal : (n : ℕ) (k : Operand) (w : ℕ) (g : Bool) → k.signal ≡ n → k.width ≡ w → k.signed ≡ g → IsFitted (sense (v.Signal n)) w g (t.Signal k)
+fits_Signal n k w g hn hw hg =
+    fitted_as (f.Signal n) (v.Signal n) (v.rolls-Signal n) w g (o.Signal k) (t.Signal k) (t.rolls-Signal k)
+    (ap (λ z. Some z) hw) (λ store time. rw (hn, hw, hg) refl) (ap (λ z. whole z ∷ []) hn)
+
+pub fits_Excerpt : (s : Box Excerpt Global) (c : Excerpt) (x : Box Form Global) (a : Form) (b : Box Typed Global) (w : ℕ) (g : Bool) → c ≡ s.value → a ≡ x.value → IsFitted (sense a) w g b.value →
+    IsFitted (sense (v.Excerpt s x)) w g (t.Excerpt c b)
+fits_Excerpt s c x a b w g hc h p =
+    let q : IsFitted (sense x.value) w g b.value = subst (λ z. IsFitted (sense z) w g b.value) h p in
+    rw hc (
+    fitted_as (f.Excerpt s x) (v.Excerpt s x) (v.rolls-Excerpt s x) w g (o.Excerpt s.value b) (t.Excerpt s.value b) (t.rolls-Excerpt s.value b)
+    (ap (option_map (λ n. s.value.width)) q.size) (λ store time. ap (excerpt_value s.value) (q.value store time)) q.ranges)
+
+pub fits_Unary : (op : Unary) (x : Box Form Global) (a : Form) (b : Box Typed Global) (w : ℕ) (g : Bool) → a ≡ x.value → IsFitted (sense a) w g b.value → IsFitted (sense (v.Unary op x)) w g (t.Unary op b)
+fits_Unary op x a b w g h p =
+    let q : IsFitted (sense x.value) w g b.value = subst (λ z. IsFitted (sense z) w g b.value) h p in
+    fitted_as (f.Unary op x) (v.Unary op x) (v.rolls-Unary op x) w g (o.Unary op b) (t.Unary op b) (t.rolls-Unary op b)
+    (ap (option_map (λ n. if gives_bit op then 1 else n)) q.size) (λ store time. ap (unary op) (q.value store time)) q.ranges
+
+pub fits_Repeat : (n : Count) (x : Box Form Global) (a : Form) (b : Box Typed Global) (w : ℕ) (g : Bool) → a ≡ x.value → IsFitted (sense a) w g b.value → IsFitted (sense (v.Repeat n x)) w g (t.Repeat n b)
+fits_Repeat n x a b w g h p =
+    let q : IsFitted (sense x.value) w g b.value = subst (λ z. IsFitted (sense z) w g b.value) h p in
+    fitted_as (f.Repeat n x) (v.Repeat n x) (v.rolls-Repeat n x) w g (o.Repeat n b) (t.Repeat n b) (t.rolls-Repeat n b)
+    (ap (λ z. at_most_64 (option_map (λ m. n.times * m) z)) q.size) (λ store time. ap (λ ds. take 64 (replication n.times ds)) (q.value store time)) q.ranges
 
 -- ---- operands behind the first one
 

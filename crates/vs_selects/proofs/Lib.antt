@@ -1,5 +1,6 @@
-pub mod FittingLemmas
 pub mod ConstantLemmas
+pub mod DepthLemmas
+pub mod FittingLemmas
 pub mod PlaceLemmas
 pub mod FixingLemmas
 pub mod ExcerptLemmas

@@ -1,7 +1,8 @@
 -- What a name with selects names.
 use Rattle.std.proofs.Common.{◌≡◌, ℕ, suc, ◌≤◌, ◌<◌, ℤ, pos, ◌-ℤ◌, unsigned_abs, Bool, true, false, List, [], ◌∷◌, ◌++◌, Option, Some, None, is_some, length, take, drop, slice_index_or, refl, ap, ap₂, sym, subst, ◌∙◌, arith}
 use Rattle.std.specs.List.{All}
-use Rattle.std.proofs.lemmas.Bool.{le-leb}
+use Rattle.std.proofs.lemmas.Bool.{le-leb, lt-leb}
+use Rattle.std.proofs.lemmas.List.Elements.{All-drop}
 use Rattle.vs_logic4.specs.declared.digit.Digit.{Digit}
 use Rattle.vs_logic4.specs.declared.digit.Digit.TheVariants.{Zero}
 use Rattle.vs_syntax.specs.declared.tree.PartSelect.{PartSelect}
@@ -17,7 +18,7 @@ use Rattle.vs_selects.specs.declared.forms.Measured.{Measured}
 use Rattle.vs_selects.specs.Senses.{sense}
 use Rattle.vs_selects.proofs.FittingLemmas.{layer}
 use Rattle.vs_selects.specs.declared.faults.WidthReason.{WidthReason}
-use Rattle.vs_selects.specs.declared.faults.WidthReason.TheVariants.{WrongKind}
+use Rattle.vs_selects.specs.declared.faults.WidthReason.TheVariants.{WrongKind, TooWide}
 use Rattle.vs_selects.specs.declared.faults.WidthFault.{WidthFault}
 use Rattle.vs_selects.specs.declared.faults.WidthFault.TheVariants.{Memory, Refused}
 use Rattle.vs_selects.specs.declared.bindings.Meaning.{Meaning}
@@ -26,8 +27,8 @@ use Rattle.vs_selects.specs.declared.places.ChosenBits.{ChosenBits}
 use Rattle.vs_selects.specs.Findings.{Finding, Has, Lacks, stands, together, alone, second, Refuses}
 use Rattle.vs_selects.specs.Meants.{own}
 use Rattle.vs_selects.specs.Constants.{where_none, where_some, whole_of, natural_of, positive, constant_finding, whole_finding, count_finding}
-use Rattle.vs_selects.specs.Selects.{Select, Span, lowest_of, lowest_at, between, bounds_finding, bounds_span, is_reversed, counted, base_finding, all_bits, span_of, in_signal, in_word, in_array, of_words}
-use Rattle.vs_selects.specs.passes.Measures.{meaning, IsFlexible, IsWhole}
+use Rattle.vs_selects.specs.Selects.{below_base, base_span, Select, Span, lowest_of, lowest_at, between, bounds_finding, bounds_span, is_reversed, counted, base_finding, all_bits, span_of, in_signal, in_word, in_array, of_words}
+use Rattle.vs_selects.specs.passes.Measures.{meaning, IsFlexible, IsCount, IsWhole}
 use Rattle.vs_selects.specs.passes.Places.{select_meaning, selects_meaning, IsFlexibleSelect, IsZero, IsAxis, IsExtent, IsPlaced}
 
 pub refused_by : (a b : Finding) (d : WidthFault) → ((r : WidthReason) → stands r a ≡ true → stands r b ≡ true) → Refuses a d → Refuses b d
@@ -175,3 +176,39 @@ array_placed b x signal (y ∷ ys) rest i None a e h k r n m l g p =
 
 pub words_placed : (o : Option Bounds) (m : Meaning) (signal : ℕ) (ss : List Select) (p : ChosenBits) → o ≡ None → IsPlaced (in_signal signal (span_of m.bits m.shape ss)) p → IsPlaced (of_words o m signal ss) p
 words_placed o m signal ss p h q = rw h q
+
+-- ---- faults of arrays
+
+-- selects of which the first chooses no word
+pub no_word : (b : Bounds) (x : Meaning) (signal : ℕ) (xs : List (Measured × Option (PartSelect × Measured))) → length xs ≡ 0 → stands WrongKind (in_array b x signal (selects_meaning xs)).finding ≡ true
+no_word b x signal [] h = refl
+no_word b x signal (y ∷ ys) h = absurd (omega arith)
+
+pub words_refused : (b : Bounds) (x : Meaning) (signal : ℕ) (xs : List (Measured × Option (PartSelect × Measured))) (i : Measured) (o : Option (PartSelect × Measured)) → (i, o) ≡ slice_index_or xs 0 (i, o) → is_some o ≡ true →
+    stands WrongKind (in_array b x signal (selects_meaning xs)).finding ≡ true
+words_refused b x signal [] i o h k = refl
+words_refused b x signal (y ∷ ys) i None h k = cc
+words_refused b x signal (y ∷ ys) i (Some (how, m)) h k = rw (← h) refl
+
+-- what stands behind the first select is as flexible
+pub rest_flexible : (xs rest : List (Measured × Option (PartSelect × Measured))) → rest ≡ take 0 xs ++ drop 1 xs → All IsFlexibleSelect xs → All IsFlexibleSelect rest
+rest_flexible xs rest e h = subst (All IsFlexibleSelect) (sym e) (All-drop IsFlexibleSelect 1 xs h)
+
+-- ---- counts behind a base
+
+count_found : (x y : Measured) (n : ℕ) → IsCount (meaning y) n → n ≤ 64 → base_finding (meaning x) (meaning y) ≡ Has n false
+count_found x y n p k = rw (p.ranges, p.times, le-leb n 64 k) refl
+
+pub count_too_wide : (x y : Measured) (n : ℕ) → IsCount (meaning y) n → 64 < n → stands TooWide (base_finding (meaning x) (meaning y)) ≡ true
+count_too_wide x y n p k = rw (p.ranges, p.times, lt-leb n 64 k) refl
+
+pub base_extent : (how : PartSelect) (b : Bounds) (size : ℕ) (x y : Measured) (n : ℕ) (s : Shape) (a : Axis) → IsCount (meaning y) n → n ≤ 64 → s.width ≡ n → s.signed ≡ false → IsAxis b size (below_base how b n) a →
+    a.signed ≡ x.shape.signed → IsFlexible x.form → IsExtent (base_span how b size (meaning x) (meaning y)) (record { shape = s; axis = a; index = x })
+base_extent how b size x y n s a p k w g i j l =
+    let found : base_finding (meaning x) (meaning y) ≡ Has n false = count_found x y n p k in
+    record {
+      found = found ∙ ap₂ (λ z u. Has z u) (sym w) (sym g);
+      ranges = refl;
+      low = λ store time. rw (found, w) (lowest_same b size n (below_base how b n) a x i j store time);
+      flexible = l;
+    }

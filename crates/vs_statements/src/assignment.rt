@@ -4,7 +4,7 @@ ghost use Rattle.vs_tokens.specs.declared.token.Mark.TheVariants as m;
 ghost use Rattle.vs_syntax.specs.Grammar.{Grammar, ◌·◌, part, mark, assignment, guarded, for_parts, late, a_stmt, a_target, an_expr};
 ghost use Rattle.vs_syntax.specs.Tables.{goes};
 ghost use Rattle.vs_syntax.specs.Derivation.{both};
-ghost use Rattle.vs_syntax.specs.Views.{expr_tree, left_tree, late_tree, assigned_tree, guarded_tree, for_tree, stmt_tree};
+ghost use Rattle.vs_syntax.specs.Views.{expr_tree, late_tree, assigned_tree, guarded_tree, for_tree, stmt_tree};
 ghost use Rattle.vs_expressions.specs.Answers.{seen, ReadsTree};
 ghost use Rattle.vs_forms.specs.Parts.{Leads, marked, sides_tree};
 ghost use Rattle.vs_statements.specs.Timings.{timing, timing_tree};
@@ -12,6 +12,7 @@ ghost use Rattle.vs_statements.specs.Timings.{timing, timing_tree};
 use crate::control::delay_value;
 use std::alloc::{AllocError, Global};
 use vs_expressions::{Read, Stop, expect_mark, expr, left, mark_at};
+use vs_forms::ended;
 use vs_lexer::{Mark, Token};
 use vs_syntax::{DelayValue, Expr, ForHeader, Left, Stmt};
 
@@ -37,9 +38,12 @@ pub(crate) fn assigned_stmt<'t, 's>(
     let target = left(alloc, room - 1, tokens)?;
     let timing = sign(alloc, room - 1, target.rest)?;
     let value = expr(alloc, room - 1, timing.rest)?;
-    let rest = expect_mark(value.rest, Mark::Semicolon)?;
     let tree = assigned(alloc, timing.tree, target.tree, value.tree)?;
-    Ok(Read { tree, rest })
+    let stmt = Read {
+        tree,
+        rest: value.rest,
+    };
+    ended(stmt, Mark::Semicolon)
 }
 
 /// The assignment of a value to a target.
@@ -109,11 +113,7 @@ pub fn expr_until<'t, 's>(
         (λ x y. both (expr_tree x) (marked end y)) room tokens.now result }
 {
     let value = expr(alloc, room, tokens)?;
-    let rest = expect_mark(value.rest, end)?;
-    Ok(Read {
-        tree: value.tree,
-        rest,
-    })
+    ended(value, end)
 }
 
 /// Reads an expression in parentheses that are no node, in at most `room` nodes below one another.
@@ -141,11 +141,11 @@ fn sides_until<'t, 's>(
     let target = left(alloc, room, tokens)?;
     let after_sign = expect_mark(target.rest, Mark::Assign)?;
     let value = expr(alloc, room, after_sign)?;
-    let rest = expect_mark(value.rest, end)?;
-    Ok(Read {
+    let sides = Read {
         tree: (target.tree, value.tree),
-        rest,
-    })
+        rest: value.rest,
+    };
+    ended(sides, end)
 }
 
 /// Reads what stands in the parentheses of a `for` statement, with them.

@@ -11,9 +11,8 @@ ghost use Rattle.vs_forms.specs.Parts.{ReadsWithin, marked};
 
 use crate::head::{DelayHead, EventHead, delay_head, edge_at, event_head, separator_at};
 use std::alloc::Global;
-use vs_expressions::{
-    Read, Stop, expect_mark, expect_name, expr, literal, mark_at, name_selects, next,
-};
+use vs_expressions::{Read, Stop, expect_name, expr, literal, mark_at, name_selects, next};
+use vs_forms::ended;
 use vs_lexer::{Mark, Token};
 use vs_syntax::{DelayValue, EventControl, EventExpr, Expr, Separator};
 
@@ -73,9 +72,12 @@ fn closed<'t, 's>(
     ensures { ReadsTree (part an_expr · mark m.Close) room tokens.now (λ x. closed_tree (expr_tree x.value)) result }
 {
     let inner = expr(alloc, room, tokens)?;
-    let rest = expect_mark(inner.rest, Mark::Close)?;
     let tree = Box::new(alloc, inner.tree)?;
-    Ok(Read { tree, rest })
+    let boxed = Read {
+        tree,
+        rest: inner.rest,
+    };
+    ended(boxed, Mark::Close)
 }
 
 /// Reads what an event control waits for.
@@ -115,20 +117,20 @@ fn event_group<'t, 's>(
         room tokens.now result }
 {
     match mark_at(tokens, Mark::Star) {
-        Some(after) => {
-            let rest = expect_mark(after, Mark::Close)?;
-            Ok(Read {
+        Some(rest) => {
+            let star = Read {
                 tree: EventControl::GroupedStar,
                 rest,
-            })
+            };
+            ended(star, Mark::Close)
         }
         None => {
             let terms = event_terms(alloc, room, tokens)?;
-            let behind = expect_mark(terms.rest, Mark::Close)?;
-            Ok(Read {
+            let control = Read {
                 tree: EventControl::Terms(terms.tree.0, terms.tree.1),
-                rest: behind,
-            })
+                rest: terms.rest,
+            };
+            ended(control, Mark::Close)
         }
     }
 }

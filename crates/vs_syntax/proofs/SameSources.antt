@@ -1,6 +1,7 @@
 -- Items and sources of one tree of the grammar say the same.
 use Rattle.std.specs.Prelude.{◌≡◌, ℕ, ◌<◌, ◌≤◌, List, [], ◌∷◌, ◌++◌, Option, None, Some, map, refl}
 use Rattle.std.proofs.Common.{sym, ◌∙◌, ap, subst, append_assoc, arith}
+use Rattle.std.proofs.lemmas.Bool.{eqb-false}
 use Rattle.std.specs.List.{flat_map}
 use Rattle.std.specs.declared.boxed.Box.{Box}
 use Rattle.vs_tokens.specs.declared.token.Directive.{Directive}
@@ -253,7 +254,7 @@ same_item (i.Instances n o xs) (i.Instances n' o' xs') h =
 same_item (i.Assign xs) (i.Assign xs') h = same_assigns xs xs' (listed_pairs SameAssignment net_assignment_tree same_assignment xs.items xs'.items (cc))
 same_item (i.Initial x) (i.Initial x') h = same_initial x x' (same_stmt x x' (cc))
 same_item (i.Always x) (i.Always x') h = same_always x x' (same_stmt x x' (cc))
-same_item x x' h = let different : item_form x ≡ item_form x' = one_item_form x x' h in cc
+same_item x x' h = absurd (eqb-false (item_form x) (item_form x') refl (one_item_form x x' h))
 
 same_header : (h h' : LoopHeader) (x x' : Tree) → loop_tree h x ≡ loop_tree h' x' → SameLoopHeader h h' × (x ≡ x')
 same_header h h' x x' e = (
@@ -384,7 +385,7 @@ same_layers (y.For k x) (y.Plain x') h = not_plain x' 12 (omega arith) (sym (one
 same_layers (y.If e x o) (y.Plain x') h = not_plain x' 13 (omega arith) (sym (one_form (bare (y.If e x o)) (y.Plain x') h))
 same_layers y.Null (y.Plain x') h = not_plain x' 14 (omega arith) (sym (one_form y.Null (y.Plain x') h))
 same_layers (y.Block n xs) (y.Plain x') h = not_plain x' 15 (omega arith) (sym (one_form (bare (y.Block n xs)) (y.Plain x') h))
-same_layers z x' h = let different : form (bare z) ≡ form x' = one_form (bare z) x' h in cc
+same_layers z x' h = absurd (eqb-false (form (bare z)) (form x') refl (one_form (bare z) x' h))
 
 settled : (x : ModuleItem-F ModuleItem) (z : ModuleItem-F Inner) → bare z ≡ x → Settled (roll-ModuleItem x)
 settled x z is x' h =

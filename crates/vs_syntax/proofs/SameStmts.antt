@@ -1,6 +1,7 @@
 -- Statements of one tree of the grammar say the same.
 use Rattle.std.specs.Prelude.{◌≡◌, ℕ, Bool, true, false, List, [], ◌∷◌, Option, None, Some, map, refl}
 use Rattle.std.proofs.Common.{sym, ◌∙◌, ap, subst}
+use Rattle.std.proofs.lemmas.Bool.{eqb-false}
 use Rattle.std.specs.declared.boxed.Box.{Box}
 use Rattle.std.specs.declared.vec.Vec.{Vec}
 use Rattle.std.specs.declared.alloc.Global.{Global}
@@ -279,7 +280,7 @@ same_layers (f.Event v x) (f.Event v' x') h = rw (rolls-Event v _, rolls-Event v
 same_layers (f.Print task xs) (f.Print task' xs') h = rw (rolls-Print task xs, rolls-Print task' xs') (same_tasks task task' xs xs' (cc) (same_prints xs xs' (cc)))
 same_layers (f.Finish n) (f.Finish n') h = rw (rolls-Finish n, rolls-Finish n') (same_finishes n n' (same_number n n' (cc)))
 same_layers (f.Dump task xs) (f.Dump task' xs') h = rw (rolls-Dump task xs, rolls-Dump task' xs') (same_dump_tasks task task' xs xs' (cc) (same_dumps xs xs' (cc)))
-same_layers y x' h = let different : form (bare y) ≡ form x' = one_form (bare y) x' h in cc
+same_layers y x' h = absurd (eqb-false (form (bare y)) (form x') refl (one_form (bare y) x' h))
 
 settled : (x : Stmt-F Stmt) (y : Stmt-F Inner) → bare y ≡ x → Settled (roll-Stmt x)
 settled x y is x' h =

@@ -1,6 +1,7 @@
 -- Syntax trees of one tree of the grammar say the same.
 use Rattle.std.specs.Prelude.{true, false, ◌≡◌, ℕ, Bool, List, [], ◌∷◌, Option, None, Some, map, refl}
 use Rattle.std.proofs.Common.{sym, ◌∙◌, ap, subst}
+use Rattle.std.proofs.lemmas.Bool.{eqb-false}
 use Rattle.std.specs.declared.boxed.Box.{Box}
 use Rattle.std.specs.declared.alloc.Global.{Global}
 use Rattle.vs_logic4.specs.declared.operators.Unary.{Unary}
@@ -298,7 +299,7 @@ same_layers (f.Concat x xs) (f.Concat x' xs') h =
 same_layers (f.Repeat n x xs) (f.Repeat n' x' xs') h =
     rw (rolls-Repeat _ _ _, rolls-Repeat n' x' xs') (same_repeat _ n' _ x' _ xs' (n.value.1 n'.value (cc)) (x.value.1 x'.value (cc)) (same_commas xs.items xs'.items (cc)))
 same_layers (f.Cast s x) (f.Cast s' x') h = rw (rolls-Cast s _, rolls-Cast s' x') (same_casts s s' _ x' (cc) (x.value.1 x'.value (cc)))
-same_layers y x' h = let different : form (bare y) ≡ form x' = one_form (bare y) x' h in cc
+same_layers y x' h = absurd (eqb-false (form (bare y)) (form x') refl (one_form (bare y) x' h))
 
 settled : (x : Expr-F Expr) (y : Expr-F Inner) → bare y ≡ x → Settled (roll-Expr x)
 settled x y is x' h =

@@ -91,7 +91,7 @@ pub struct Constant {
 }
 
 /// Which way a port goes (IEEE 1364-2005, clause 12.3.3).
-#[derive(Clone, Copy, PartialEq, Eq, Debug)]
+#[derive(Clone, Copy, PartialEq, Eq)]
 pub enum Direction {
     /// `input`
     Input,
@@ -100,7 +100,7 @@ pub enum Direction {
 }
 
 /// The word of what a port is declared as, beside its direction (IEEE 1364-2005, clause 12.3.4).
-#[derive(Clone, Copy, PartialEq, Eq, Debug)]
+#[derive(Clone, Copy, PartialEq, Eq)]
 pub enum PortKind {
     /// `wire`
     Wire,
@@ -401,7 +401,7 @@ impl Drop for EventExpr {
 }
 
 /// What stands between two terms of an event control (IEEE 1364-2005, clauses 9.7.3 and 9.7.4).
-#[derive(Clone, Copy, PartialEq, Eq, Debug)]
+#[derive(Clone, Copy, PartialEq, Eq)]
 pub enum Separator {
     /// `or`
     Or,
@@ -476,7 +476,7 @@ impl Drop for Local {
 }
 
 /// A system task that prints (IEEE 1364-2005, clause 17.1).
-#[derive(Clone, Copy, PartialEq, Eq, Debug)]
+#[derive(Clone, Copy, PartialEq, Eq)]
 pub enum PrintTask {
     /// `$display`
     Display,
@@ -519,7 +519,7 @@ impl Drop for PrintArguments {
 }
 
 /// A system task that says what is dumped (IEEE 1364-2005, clause 18.1).
-#[derive(Clone, Copy, PartialEq, Eq, Debug)]
+#[derive(Clone, Copy, PartialEq, Eq)]
 pub enum DumpTask {
     /// `$dumpfile`
     File,
@@ -640,7 +640,7 @@ impl Drop for Left {
 }
 
 /// What stands between the two expressions of a part-select (IEEE 1364-2005, clause 5.2.1).
-#[derive(Clone, Copy, PartialEq, Eq, Debug)]
+#[derive(Clone, Copy, PartialEq, Eq)]
 pub enum PartSelect {
     /// `[left:right]`
     Bounds,

@@ -1,6 +1,7 @@
 -- Calls on bags: two bags that are alike stay alike, and calls one after another.
 use Rattle.std.proofs.Common.{◌≡◌, ℕ, ◌≤◌, List, [], ◌∷◌, ◌++◌, refl, sym, ap, ◌∙◌, subst, arith, take, length, length-append, append_assoc}
 use Rattle.std.specs.Option.{ForSome}
+use Rattle.std.proofs.lemmas.List.{append-nil}
 use Rattle.std.proofs.Math.Seq.{take-append_seam}
 use Rattle.vs_time_wheel.specs.declared.timing.Timed.{Timed}
 use Rattle.vs_time_wheel.specs.declared.calls.Call.{Call}
@@ -102,3 +103,12 @@ next_allowed call left rest now now' clock clock' allowed next same time =
 
 pub next_call : {E : Type 0} (yielded left rest calls : List (Call E)) (call : Call E) → yielded ++ left ≡ calls → left ≡ call ∷ rest → (yielded ++ call ∷ []) ++ rest ≡ calls
 next_call yielded left rest calls call all next = append_assoc yielded (call ∷ []) rest ∙ ap (λ cs. yielded ++ cs) (sym next) ∙ all
+
+-- no call is left
+pub all_made : {E : Type 0} (yielded left calls : List (Call E)) → yielded ++ left ≡ calls → length left ≡ 0 → yielded ≡ calls
+all_made yielded [] calls all none = sym (append-nil yielded) ∙ all
+all_made yielded (call ∷ left) calls all none = absurd (omega arith)
+
+pub all_told : {E : Type 0} (answers : List (Answer E)) (left : List (Call E)) (now : List (Timed E)) (clock : ℕ) (all : List (Answer E)) → answers ++ answers_of left now clock ≡ all → length left ≡ 0 → answers ≡ all
+all_told answers [] now clock all told none = sym (append-nil answers) ∙ told
+all_told answers (call ∷ left) now clock all told none = absurd (omega arith)

@@ -9,7 +9,7 @@ use crate::timing::Memory;
 use std::alloc::Global;
 
 /// A call of an event queue.
-#[derive(Clone, Copy, Debug, PartialEq, Eq, Drop)]
+#[derive(Clone, Copy, Drop)]
 pub enum Call<E> {
     /// `schedule`: the time in ticks, and the event.
     Schedule(u64, E),
@@ -22,7 +22,7 @@ pub enum Call<E> {
 }
 
 /// The answer to a call.
-#[derive(Clone, Copy, Debug, PartialEq, Eq, Drop)]
+#[derive(Clone, Copy, PartialEq, Eq, Drop)]
 pub enum Answer<E> {
     /// The event was scheduled.
     Scheduled,

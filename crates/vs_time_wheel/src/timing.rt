@@ -3,7 +3,7 @@ use std::error::Error;
 use std::fmt;
 
 /// An event and the time at which it is due, in ticks.
-#[derive(Clone, Copy, Debug, PartialEq, Eq, Drop)]
+#[derive(Clone, Copy, PartialEq, Eq, Drop)]
 pub struct Timed<E> {
     /// When the event is due, in ticks.
     pub time: u64,
@@ -12,7 +12,7 @@ pub struct Timed<E> {
 }
 
 /// An event that found no room: a growth was refused, and the queue is as it was.
-#[derive(Clone, Copy, Debug, PartialEq, Eq, Drop)]
+#[derive(Clone, Copy, PartialEq, Eq, Drop)]
 pub struct Full<E> {
     /// The event, handed back.
     pub event: E,

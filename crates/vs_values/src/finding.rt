@@ -85,9 +85,7 @@ fn no_values(alloc: Global, count: usize) -> Result<Vec<Option<Const>>, AllocErr
     ensures { IfOk result (λ v. v.items ≡ replicate count None) }
 {
     let mut values = Vec::new(alloc);
-    for _ in 0..count {
-        values.push(None)?;
-    }
+    values.resize(count, None)?;
     Ok(values)
 }
 

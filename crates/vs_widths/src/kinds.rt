@@ -6,7 +6,7 @@ use vs_design::SignalKind;
 
 /// Whether a name with its selects is assigned by a statement, is a net that is driven, or is waited for (IEEE 1364-2005, clauses 6 and
 /// 9.7.2).
-#[derive(Clone, Copy, PartialEq, Eq, Debug)]
+#[derive(Clone, Copy, PartialEq, Eq)]
 pub enum AssignmentKind {
     /// A statement, or the declaration assignment of a variable.
     Procedural,

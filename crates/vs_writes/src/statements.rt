@@ -23,22 +23,21 @@ fn push_writes(alloc: Global, out: &mut Vec<BitRange>, s: &Statement) -> Result<
     ensures { OnOk result (out.new.items ≡ out.old.items ++ statement_writes s.now) }
 {
     match s {
-        Statement::Null(_) => Ok(()),
-        Statement::Assign(_, target, _) => push_target_writes(alloc, out, target),
-        Statement::Later(_, _, target, _) => push_target_writes(alloc, out, target),
-        Statement::Call(_, _) => Ok(()),
-        Statement::Finish(_) => Ok(()),
+        Statement::Null(_) | Statement::Call(_, _) | Statement::Finish(_) => Ok(()),
+        Statement::Assign(_, target, _) | Statement::Later(_, _, target, _) => {
+            push_target_writes(alloc, out, target)
+        }
         Statement::Block(all) => push_block_writes(alloc, out, all),
-        Statement::Delay(_, _, body) => push_writes(alloc, out, body),
-        Statement::Event(_, _, body) => push_writes(alloc, out, body),
+        Statement::Delay(_, _, body)
+        | Statement::Event(_, _, body)
+        | Statement::While(_, _, body)
+        | Statement::Repeat(_, _, _, body)
+        | Statement::Forever(_, body) => push_writes(alloc, out, body),
         Statement::If(_, _, then, other) => {
             push_writes(alloc, out, then)?;
             push_writes(alloc, out, other)
         }
         Statement::Case(_, _, _, items) => push_item_writes(alloc, out, items),
-        Statement::While(_, _, body) => push_writes(alloc, out, body),
-        Statement::Repeat(_, _, _, body) => push_writes(alloc, out, body),
-        Statement::Forever(_, body) => push_writes(alloc, out, body),
     }
 }
 

@@ -54,10 +54,20 @@ IsSet ns set = (n : List ℕ) → is_some (meaning_of set n) ≡ list_any (bytes
 abbrev pub is_named_mismatch : List Connection → List (List ℕ) → Bool
 is_named_mismatch cs ns = has_twice (names_given cs) || has_other (names_given cs) ns
 
+-- what connections by name say of each of these names, where they fit them
+abbrev pub AreNamedEnds : List Connection → List (List ℕ) → Option (Vec (Option (Bor Expr)) Global) → Type 0
+AreNamedEnds cs ns None = is_named_mismatch cs ns ≡ true
+AreNamedEnds cs ns (Some v) = (is_named_mismatch cs ns ≡ false) × (read_ends v.items ≡ map (by_name cs) ns)
+
 -- a connection more, where it fits
 abbrev pub GathersMore : List (List ℕ) → List Connection → Connection → Bool → List (List ℕ × Option (Bor Expr)) → Type 0
 GathersMore ns cs c true given = Gathers ns (cs ++ c ∷ []) given
 GathersMore ns cs c false given = is_named_mismatch (cs ++ c ∷ []) ns ≡ true
+
+-- each of these connections, where they fit
+abbrev pub GathersEach : List (List ℕ) → List Connection → Bool → List (List ℕ × Option (Bor Expr)) → Type 0
+GathersEach ns cs true given = Gathers ns cs given
+GathersEach ns cs false given = is_named_mismatch cs ns ≡ true
 
 -- connections by name, where they fit
 abbrev pub GathersAll : List (List ℕ) → List Connection → Option (List (List ℕ × Option (Bor Expr))) → Type 0

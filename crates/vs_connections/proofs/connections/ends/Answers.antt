@@ -1,17 +1,22 @@
-use Rattle.std.proofs.Common.{◌≡◌, ◌∷◌, false, Some, map, ap, subst, sym, ◌∙◌, ℕ, List, Option}
-use Rattle.std.proofs.Math.Path.{fun_ext}
+use Rattle.std.proofs.Common.{◌≡◌, ◌∷◌, ℕ, List, Option, Result, Ok, Err, Some, None, IfOk, subst, sym, Bor}
+use Rattle.std.specs.declared.vec.Vec.{Vec}
+use Rattle.std.specs.declared.alloc.Global.{Global}
+use Rattle.std.specs.declared.alloc.AllocError.{AllocError}
 use Rattle.vs_syntax.specs.declared.tree.Expr.{Expr}
-use Rattle.vs_connections.specs.Connections.{is_mismatch, ends_of}
-use Rattle.vs_connections.specs.passes.Ends.{borrowed, read_ends, Gathers, GathersAll}
-use Rattle.vs_connections.proofs.Folds.{both_false}
+use Rattle.vs_syntax.specs.declared.tree.Connection.{Connection}
+use Rattle.vs_syntax.specs.declared.tree.Connections.{Connections}
+use Rattle.vs_syntax.specs.declared.tree.Connections.TheVariants.{Named}
+use Rattle.vs_connections.specs.passes.Ends.{borrowed, AreEnds, AreNamedEnds}
 use Rattle.vs_connections.proofs.connections.ends.Goals as goal
 
-pub returns-in-Some : goal.returns-in-Some
-returns-in-Some c =
-    let ns = borrowed c.args.names.now in
-    let first = c.in-Named.first in
-    let all = c.in_ok-given-in-Named.ensures ns c.in_ok-set-in-Named.ensures in
-    let g : Gathers ns (first ∷ c.in-Named.rest.items) c.in-Some.given =
-    subst (λ r. GathersAll ns (first ∷ r) (Some c.in-Some.given)) c.deref-in-Named.ensures.value (subst (GathersAll ns (first ∷ c.deref-in-Named.result.now)) c.in-Some.is all) in
-    subst (λ k. (is_mismatch k ns ≡ false) × (read_ends c.in_ok-found_for-in-Some.field-0.items ≡ ends_of k ns)) (sym c.in-Named.is)
-    (both_false _ _ g.once g.known, c.in_ok-found_for-in-Some.ensures ∙ ap (λ (f : List ℕ → Option Expr). map f ns) (fun_ext g.values))
+-- connections by name, as connections
+named_are : (k : Connections) (c : Connection) (cs : Vec Connection Global) (rest : List Connection) (ns : List (List ℕ)) (r : Result (Option (Vec (Option (Bor Expr)) Global)) AllocError) → k ≡ Named c cs → rest ≡ cs.items → IfOk r (AreNamedEnds (c ∷ rest) ns) → IfOk r (AreEnds k ns)
+named_are k c cs rest ns r e d h = subst (λ z. IfOk r (AreEnds z ns)) (sym e) (by r (subst (λ z. IfOk r (AreNamedEnds (c ∷ z) ns)) d h))
+  where
+    by : (r : Result (Option (Vec (Option (Bor Expr)) Global)) AllocError) → IfOk r (AreNamedEnds (c ∷ cs.items) ns) → IfOk r (AreEnds (Named c cs) ns)
+    by (Ok None) h = h
+    by (Ok (Some v)) h = h
+    by (Err e) h = h
+
+pub returns-in-Named : goal.returns-in-Named
+returns-in-Named c = named_are _ c.in-Named.first c.in-Named.rest c.deref-in-Named.result.now (borrowed c.args.names.now) c.named_ends.result c.in-Named.is c.deref-in-Named.ensures.value c.named_ends.ensures

@@ -1,9 +1,10 @@
-use Rattle.std.proofs.Common.{◌≡◌, ◌∙◌, ◌++◌, ◌∷◌, [], ◌+◌, take, ap, arith, sym, refl}
+use Rattle.std.proofs.Common.{◌≡◌, ◌∙◌, ◌++◌, ◌∷◌, [], ◌+◌, take, ap, subst, arith, sym, refl}
 use Rattle.std.specs.Prelude.{sum_by}
-use Rattle.std.proofs.lemmas.List.{take_more}
+use Rattle.std.proofs.lemmas.List.{take_more, take_all}
 use Rattle.std.proofs.lemmas.List.Sums.{sum_by_push}
 use Rattle.vs_design.specs.declared.extent.Extent.{Extent}
 use Rattle.vs_design.specs.declared.signal.Signal.{Signal}
+use Rattle.vs_design.specs.Tables.{AreExtents}
 use Rattle.vs_design.proofs.ExtentLemmas.{extents_added}
 use Rattle.vs_design.proofs.extents.table_of.Goals as goal
 
@@ -21,3 +22,6 @@ loop-signal-preserved c =
       extents = rw (next, c.in_ok-push.ensures.items) (extents_added (take i signals) es s _ c.loop-signal.invariant.extents c.loop-signal.invariant.end refl refl);
       end = omega (arith, more, c.loop-signal.invariant.end);
     }
+
+pub returns : goal.returns
+returns c = subst (λ ss. AreExtents ss c.loop-signal.extents.items) (take_all c.loop-signal.signal-index c.args.signals.now c.loop-signal-test.false) c.loop-signal.invariant.extents

@@ -1,7 +1,11 @@
-use Rattle.std.proofs.Common.{◌++◌, ◌∙◌, ap, map}
+use Rattle.std.proofs.Common.{◌++◌, ◌∷◌, [], ◌∙◌, refl, sym, ap, map}
+use Rattle.std.proofs.lemmas.List.{append-nil}
 use Rattle.std.proofs.lemmas.Result.{on_ok_weaker}
 use Rattle.vs_design.specs.Uses.{reads, joined}
-use Rattle.vs_design.proofs.UsesLemmas.{reads_Chain, reads_Choice, reads_Concat, both_pushed}
+use Rattle.vs_design.specs.declared.expression.Typed.TheVariants.{rolls-Number, rolls-Signal, rolls-Slice}
+use Rattle.vs_design.specs.declared.expression.Typed.TheOpen as layer
+use Rattle.vs_design.proofs.UsesLemmas.{reads_layer, reads_operand, reads_Chain, reads_Choice, reads_Concat, both_pushed, pushed_as}
+use Rattle.vs_design.proofs.LoopLemmas.{each_pushed, all_pushed}
 use Rattle.vs_design.proofs.uses.+reads.Goals as goal
 
 pub push_reads-returns-in_ok-push_reads-in-Chain : goal.push_reads-returns-in_ok-push_reads-in-Chain
@@ -30,3 +34,46 @@ push_reads-returns-in_ok-push_reads-in-Concat t c =
     (is ∙ ap (λ es. c.push_reads-in-Concat.new.out.items ++ joined (map reads es)) c.deref-in-Concat-2.ensures.value)
     (ap reads c.in-Concat.is ∙ reads_Concat c.in-Concat.first c.in-Concat.others))
     c.push_all_reads.ensures
+
+pub push_all_reads-loop-e-preserved : goal.push_all_reads-loop-e-preserved
+push_all_reads-loop-e-preserved t c =
+    each_pushed reads c.args.all.now c.loop-e.e-index c.e-item.result c.loop-e.out.items c.push_reads.new.out.items _
+    c.loop-e-test.true c.e-item.is c.in_ok-push_reads.ensures c.loop-e.invariant
+
+pub push_all_reads-returns : goal.push_all_reads-returns
+push_all_reads-returns t c = all_pushed reads c.args.all.now c.loop-e.e-index c.loop-e.out.items _ c.loop-e-test.false c.loop-e.invariant
+
+pub push_link_reads-loop-e-preserved : goal.push_link_reads-loop-e-preserved
+push_link_reads-loop-e-preserved t c =
+    each_pushed (λ l. reads l.1) c.args.links.now c.loop-e.e-index c.loop-e-item.result c.loop-e.out.items c.push_reads.new.out.items _
+    c.loop-e-test.true c.loop-e-item.is c.in_ok-push_reads.ensures c.loop-e.invariant
+
+pub push_link_reads-returns : goal.push_link_reads-returns
+push_link_reads-returns t c = all_pushed (λ l. reads l.1) c.args.links.now c.loop-e.e-index c.loop-e.out.items _ c.loop-e-test.false c.loop-e.invariant
+
+pub push_pair_reads-loop-condition-preserved : goal.push_pair_reads-loop-condition-preserved
+push_pair_reads-loop-condition-preserved t c =
+    each_pushed (λ p. reads p.0 ++ reads p.1) c.args.pairs.now c.loop-condition.condition-index c.loop-condition-item.result c.loop-condition.out.items c.push_reads-in-loop-condition.new.out.items _
+    c.loop-condition-test.true c.loop-condition-item.is (both_pushed c.loop-condition.out.items (reads c.loop-condition-item.result.0) (reads c.loop-condition-item.result.1) c.in_ok-push_reads.ensures c.in_ok-push_reads-2.ensures refl) c.loop-condition.invariant
+
+pub push_pair_reads-returns : goal.push_pair_reads-returns
+push_pair_reads-returns t c = all_pushed (λ p. reads p.0 ++ reads p.1) c.args.pairs.now c.loop-condition.condition-index c.loop-condition.out.items _ c.loop-condition-test.false c.loop-condition.invariant
+
+pub push_reads-returns-in-Number : goal.push_reads-returns-in-Number
+push_reads-returns-in-Number t c =
+    sym (append-nil c.args.out.now.items) ∙ ap (λ rs. c.args.out.now.items ++ rs) (sym (reads_layer c.args.e.now (layer.Number c.in-Number.field-0) (rolls-Number c.in-Number.field-0 ∙ sym c.in-Number.is)))
+
+pub push_reads-returns-in_ok-push-in-Signal : goal.push_reads-returns-in_ok-push-in-Signal
+push_reads-returns-in_ok-push-in-Signal t c =
+    c.in_ok-push-in-Signal.ensures.items
+    ∙ ap (λ rs. c.args.out.now.items ++ rs) (ap (λ r. r ∷ []) c.whole.ensures ∙ sym (reads_layer c.args.e.now (layer.Signal c.in-Signal.o) (rolls-Signal c.in-Signal.o ∙ sym c.in-Signal.is)))
+
+pub push_reads-returns-in_ok-push-in-Slice : goal.push_reads-returns-in_ok-push-in-Slice
+push_reads-returns-in_ok-push-in-Slice t c =
+    c.in_ok-push-in-Slice.ensures.items
+    ∙ ap (λ rs. c.args.out.now.items ++ rs) (ap (λ r. r ∷ []) c.slice_range.ensures ∙ sym (reads_layer c.args.e.now (layer.Slice c.in-Slice.s) (rolls-Slice c.in-Slice.s ∙ sym c.in-Slice.is)))
+
+pub push_reads-returns-in-Excerpt : goal.push_reads-returns-in-Excerpt
+push_reads-returns-in-Excerpt t c =
+    pushed_as c.push_reads-in-Excerpt.result c.args.out.now.items c.push_reads-in-Excerpt.new.out.items c.push_reads-in-Excerpt.ensures
+    (ap reads c.deref-in-Excerpt.ensures ∙ sym (reads_operand c.args.e.now c.in-Excerpt.x c.in-Excerpt.is))

@@ -5,16 +5,18 @@ use Rattle.std.proofs.lemmas.List.{take_more}
 use Rattle.vs_design.specs.WellFormed.{numbers}
 use Rattle.vs_design.specs.declared.expression.Typed.{Typed}
 use Rattle.vs_design.specs.declared.statement.Statement.{Statement}
-use Rattle.vs_design.specs.declared.statement.Statement.TheViews.{out-Statement}
+use Rattle.vs_design.specs.declared.statement.Statement.TheViews.{the_lemmas, out-Statement}
 use Rattle.vs_flatcode.specs.Places.{Todo, flat}
+use Rattle.vs_design.specs.declared.statement.Statement.TheOpen.{Statement-F}
+use Rattle.vs_flatcode.specs.Links.{Leads}
 use Rattle.vs_flatcode.specs.Codes.{LeadAll}
 use Rattle.vs_flatcode.specs.declared.draft.Op.{Op}
 use Rattle.vs_flatcode.specs.declared.draft.Draft.{Draft}
-use Rattle.vs_flatcode.specs.Drafts.{flat_all, numbers_all, numbers_in, IsEmitted, drafted, IsReady, Written, AlwaysTurn, Adds, numbers_inside}
+use Rattle.vs_flatcode.specs.Drafts.{flat_all, numbers_all, numbers_in, IsEmitted, drafted, IsReady, Written, AlwaysLeadAll, AlwaysLeads, AlwaysTurn, Adds, numbers_inside}
 use Rattle.vs_flatcode.proofs.Shapes.{flat-Block, flat_all-drop}
-use Rattle.vs_flatcode.proofs.Drafts.{ok_after, emitted_none, emitted_then, ready_more, written_then, grows_then, lead_all-snoc, written_raised}
-use Rattle.vs_flatcode.proofs.Heads.{head_ready, test_ready, emitted_loop, emitted_turns}
-use Rattle.vs_flatcode.proofs.Numbers.{adds_head, adds_item, adds_none, adds_same, adds_test, adds_then, inside-Case, inside-Delay, inside-Event, inside-If, inside-Repeat, numbers-Block, numbers_all-drop, ok_whole}
+use Rattle.vs_flatcode.proofs.Drafts.{always_later, ok_after, emitted_none, emitted_then, ready_more, written_then, grows_then, lead_all-snoc, written_raised}
+use Rattle.vs_flatcode.proofs.Heads.{next_of_layer, head_ready, test_ready, emitted_loop, emitted_turns}
+use Rattle.vs_flatcode.proofs.Numbers.{adds_head, adds_item, adds_none, adds_same, adds_test, adds_then, inside-Case, inside-Delay, inside-Event, inside-If, inside-Repeat, numbers-Block, numbers_all-drop, ok_single, ok_whole}
 use Rattle.vs_flatcode.proofs.draft.+emit.Goals as goal
 
 pub emit-returns-in-Block-clause-emitted : goal.emit-returns-in-Block-clause-emitted
@@ -201,3 +203,89 @@ emit_turns-returns-clause-numbers t c =
     let last : Draft = record { ops = c.set_first.new.ops; counters = c.emit.new.draft.counters } in
     adds_test d c.put_head.new.draft last (numbers c.args.body.now) c.in_ok-test.ensures.number
     (adds_same c.put_head.new.draft c.emit.new.draft last (numbers c.args.body.now) c.set_first.ensures.links c.in_ok-first.ensures.numbers)
+
+pub emit-put_statement-requires-clause-next : goal.emit-put_statement-requires-clause-next
+emit-put_statement-requires-clause-next t c = next_of_layer _ _ _ (Statement-F.Null c.in-Null.field-0) (rw c.in-Null.is (search (rules, the_lemmas))) refl (λ later linked more. tt)
+
+pub emit-returns-in-Null-clause-numbers : goal.emit-returns-in-Null-clause-numbers
+emit-returns-in-Null-clause-numbers t c =
+    ok_single c.args.draft.now c.put_statement.new.draft c.args.s.now (Statement-F.Null c.in-Null.field-0) c.put_statement.result (rw c.in-Null.is (search (rules, the_lemmas))) refl c.put_statement.ensures.number
+
+pub emit-put_statement-requires-in-Assign-clause-next : goal.emit-put_statement-requires-in-Assign-clause-next
+emit-put_statement-requires-in-Assign-clause-next t c = next_of_layer _ _ _ (Statement-F.Assign c.in-Assign.field-0 c.in-Assign.field-1 c.in-Assign.field-2) (rw c.in-Assign.is (search (rules, the_lemmas))) refl (λ later linked more. tt)
+
+pub emit-returns-in-Assign-clause-numbers : goal.emit-returns-in-Assign-clause-numbers
+emit-returns-in-Assign-clause-numbers t c =
+    ok_single c.args.draft.now c.put_statement-in-Assign.new.draft c.args.s.now (Statement-F.Assign c.in-Assign.field-0 c.in-Assign.field-1 c.in-Assign.field-2) c.put_statement-in-Assign.result (rw c.in-Assign.is (search (rules, the_lemmas))) refl c.put_statement-in-Assign.ensures.number
+
+pub emit-put_statement-requires-in-Later-clause-next : goal.emit-put_statement-requires-in-Later-clause-next
+emit-put_statement-requires-in-Later-clause-next t c = next_of_layer _ _ _ (Statement-F.Later c.in-Later.field-0 c.in-Later.field-1 c.in-Later.field-2 c.in-Later.field-3) (rw c.in-Later.is (search (rules, the_lemmas))) refl (λ later linked more. tt)
+
+pub emit-returns-in-Later-clause-numbers : goal.emit-returns-in-Later-clause-numbers
+emit-returns-in-Later-clause-numbers t c =
+    ok_single c.args.draft.now c.put_statement-in-Later.new.draft c.args.s.now (Statement-F.Later c.in-Later.field-0 c.in-Later.field-1 c.in-Later.field-2 c.in-Later.field-3) c.put_statement-in-Later.result (rw c.in-Later.is (search (rules, the_lemmas))) refl c.put_statement-in-Later.ensures.number
+
+pub emit-put_statement-requires-in-Finish-clause-next : goal.emit-put_statement-requires-in-Finish-clause-next
+emit-put_statement-requires-in-Finish-clause-next t c = next_of_layer _ _ _ (Statement-F.Finish c.in-Finish.field-0) (rw c.in-Finish.is (search (rules, the_lemmas))) refl (λ later linked more. tt)
+
+pub emit-returns-in-Finish-clause-numbers : goal.emit-returns-in-Finish-clause-numbers
+emit-returns-in-Finish-clause-numbers t c =
+    ok_single c.args.draft.now c.put_statement-in-Finish.new.draft c.args.s.now (Statement-F.Finish c.in-Finish.field-0) c.put_statement-in-Finish.result (rw c.in-Finish.is (search (rules, the_lemmas))) refl c.put_statement-in-Finish.ensures.number
+
+pub emit-put_statement-requires-in-Call-clause-next : goal.emit-put_statement-requires-in-Call-clause-next
+emit-put_statement-requires-in-Call-clause-next t c =
+    next_of_layer c.args.draft.now _ _ (Statement-F.Call c.in-Call.field-0 c.in-Call.call) (rw c.in-Call.is (search (rules, the_lemmas))) refl
+    (λ later linked more. c.in_ok-extra-in-Call.ensures)
+
+pub emit-returns-in_ok-extra-in-Call-clause-numbers : goal.emit-returns-in_ok-extra-in-Call-clause-numbers
+emit-returns-in_ok-extra-in-Call-clause-numbers t c =
+    ok_single c.args.draft.now c.put_statement-in-Call.new.draft c.args.s.now (Statement-F.Call c.in-Call.field-0 c.in-Call.call) c.put_statement-in-Call.result (rw c.in-Call.is (search (rules, the_lemmas))) refl c.put_statement-in-Call.ensures.number
+
+pub emit-put_statement-requires-in-Delay-clause-ready : goal.emit-put_statement-requires-in-Delay-clause-ready
+emit-put_statement-requires-in-Delay-clause-ready t c = ready_more c.args.draft.now c.emit.new.draft c.args.next c.args.depth c.requires.ready c.in_ok-first-in-Delay.ensures.emitted.written.more
+
+pub emit-put_statement-requires-in-Delay-clause-next : goal.emit-put_statement-requires-in-Delay-clause-next
+emit-put_statement-requires-in-Delay-clause-next t c =
+    next_of_layer c.emit.new.draft _ _ (Statement-F.Delay c.in-Delay.field-0 c.in-Delay.field-1 c.in-Delay.body) (rw c.in-Delay.is (search (rules, the_lemmas))) refl
+    (subst (λ (b : Statement). AlwaysLeads (drafted c.emit.new.draft) (flat b) c.in_ok-first-in-Delay.first c.args.next) c.deref-in-Delay.ensures c.in_ok-first-in-Delay.ensures.emitted.leads)
+
+pub emit-put_statement-requires-in-Event-clause-ready : goal.emit-put_statement-requires-in-Event-clause-ready
+emit-put_statement-requires-in-Event-clause-ready t c = ready_more c.args.draft.now c.emit-in-Event.new.draft c.args.next c.args.depth c.requires.ready c.in_ok-first-in-Event.ensures.emitted.written.more
+
+pub emit-put_statement-requires-in-Event-clause-next : goal.emit-put_statement-requires-in-Event-clause-next
+emit-put_statement-requires-in-Event-clause-next t c =
+    next_of_layer c.emit-in-Event.new.draft _ _ (Statement-F.Event c.in-Event.field-0 c.in-Event.field-1 c.in-Event.body) (rw c.in-Event.is (search (rules, the_lemmas))) refl
+    (subst (λ (b : Statement). AlwaysLeads (drafted c.emit-in-Event.new.draft) (flat b) c.in_ok-first-in-Event.first c.args.next) c.deref-in-Event.ensures c.in_ok-first-in-Event.ensures.emitted.leads)
+
+pub emit-put_statement-requires-in-If-clause-ready : goal.emit-put_statement-requires-in-If-clause-ready
+emit-put_statement-requires-in-If-clause-ready t c =
+    ready_more c.emit-in-If.new.draft c.emit-in-If-2.new.draft c.args.next c.args.depth
+    (ready_more c.args.draft.now c.emit-in-If.new.draft c.args.next c.args.depth c.requires.ready c.in_ok-second-in-If.ensures.emitted.written.more)
+    c.in_ok-first-in-If.ensures.emitted.written.more
+
+pub emit-put_statement-requires-in-If-clause-next : goal.emit-put_statement-requires-in-If-clause-next
+emit-put_statement-requires-in-If-clause-next t c =
+    let second : AlwaysLeads (drafted c.emit-in-If-2.new.draft) (flat c.in-If.b.value) c.in_ok-second-in-If.second c.args.next =
+    subst (λ (b : Statement). AlwaysLeads (drafted c.emit-in-If-2.new.draft) (flat b) c.in_ok-second-in-If.second c.args.next) c.deref-in-If.ensures
+    (always_later (λ later. Leads later.links (flat c.deref-in-If.result.now) c.in_ok-second-in-If.second c.args.next) (drafted c.emit-in-If.new.draft) (drafted c.emit-in-If-2.new.draft)
+    c.in_ok-first-in-If.ensures.emitted.written.more.grows c.in_ok-second-in-If.ensures.emitted.leads) in
+    let first : AlwaysLeads (drafted c.emit-in-If-2.new.draft) (flat c.in-If.a.value) c.in_ok-first-in-If.first c.args.next =
+    subst (λ (b : Statement). AlwaysLeads (drafted c.emit-in-If-2.new.draft) (flat b) c.in_ok-first-in-If.first c.args.next) c.deref-in-If-2.ensures c.in_ok-first-in-If.ensures.emitted.leads in
+    next_of_layer c.emit-in-If-2.new.draft _ _ (Statement-F.If c.in-If.field-0 c.in-If.field-1 c.in-If.a c.in-If.b) (rw c.in-If.is (search (rules, the_lemmas))) refl
+    (λ later linked more. (first later linked more, second later linked more))
+
+pub emit-put_statement-requires-in-Case-clause-ready : goal.emit-put_statement-requires-in-Case-clause-ready
+emit-put_statement-requires-in-Case-clause-ready t c = ready_more c.args.draft.now c.emit_items.new.draft c.args.next c.args.depth c.requires.ready c.in_ok-starts-in-Case.ensures.written.more
+
+pub emit-put_statement-requires-in-Case-clause-next : goal.emit-put_statement-requires-in-Case-clause-next
+emit-put_statement-requires-in-Case-clause-next t c =
+    next_of_layer c.emit_items.new.draft _ _ (Statement-F.Case c.in-Case.field-0 c.in-Case.field-1 c.in-Case.field-2 c.in-Case.items) (rw c.in-Case.is (search (rules, the_lemmas))) refl
+    (subst (λ (items : List (Vec Typed Global × Statement)). AlwaysLeadAll (drafted c.emit_items.new.draft) items c.in_ok-starts-in-Case.starts.items c.args.next) c.deref-in-Case.ensures.value c.in_ok-starts-in-Case.ensures.leads)
+
+pub emit-put_statement-requires-in-Repeat-clause-ready : goal.emit-put_statement-requires-in-Repeat-clause-ready
+emit-put_statement-requires-in-Repeat-clause-ready t c = ready_more c.args.draft.now c.emit_turns.new.draft c.args.next c.args.depth c.requires.ready c.in_ok-first-in-Repeat.ensures.written.more
+
+pub emit-put_statement-requires-in-Repeat-clause-next : goal.emit-put_statement-requires-in-Repeat-clause-next
+emit-put_statement-requires-in-Repeat-clause-next t c =
+    next_of_layer c.emit_turns.new.draft _ _ (Statement-F.Repeat c.in-Repeat.field-0 c.in-Repeat.field-1 c.in-Repeat.field-2 c.in-Repeat.body) (rw c.in-Repeat.is (search (rules, the_lemmas))) refl
+    (subst (λ (b : Statement). AlwaysTurn (drafted c.emit_turns.new.draft) c.args.depth b c.in_ok-first-in-Repeat.first c.args.next) c.deref-in-Repeat.ensures c.in_ok-first-in-Repeat.ensures.turn)

@@ -5,8 +5,10 @@ use Rattle.vs_syntax.specs.Symbols.{a_mark, the_mark}
 use Rattle.vs_syntax.specs.Grammar.{nothing, ◌·◌, ◌or◌, part, mark, range, an_expr}
 use Rattle.vs_syntax.specs.Reading.{stuck_first, stuck_second}
 use Rattle.vs_syntax.proofs.Gets.{gets_seq}
-use Rattle.vs_expressions.specs.Answers.{seen}
+use Rattle.vs_syntax.specs.Views.{range_tree}
+use Rattle.vs_expressions.specs.Answers.{seen, ReadsTree}
 use Rattle.vs_expressions.proofs.Exits.{fails_by}
+use Rattle.vs_forms.proofs.Parts.{ended_as}
 use Rattle.vs_forms.proofs.Forms.{absent, present_stuck, present_read}
 use Rattle.vs_forms.proofs.form.declared_range.Goals as goal
 
@@ -34,13 +36,11 @@ returns-in_err-right c =
     (λ deep at s. present_stuck (a_mark m.OpenBracket) (part an_expr · mark m.Colon · part an_expr · mark m.CloseBracket) c.args.room deep _ _ at refl c.in-Some.ensures (stuck_second c.in_ok-left.ensures (stuck_second (c.in_ok-middle.ensures c.args.room) (stuck_first s))))
     c.in_err-right.field-0.0 c.in_err-right.ensures)
 
-pub returns-in_err-rest : goal.returns-in_err-rest
-returns-in_err-rest c =
-    let p = err_from_is_err_and c.from_residual-in_err-rest.result c.from_residual-in_err-rest.ensures.1 in
-    rw (p.1, p.2) (fails_by (mark m.CloseBracket) (range or nothing) c.args.room c.args.room (seen c.in_ok-right.right.rest.now) (seen c.args.tokens.now)
-    (λ deep at s. present_stuck (a_mark m.OpenBracket) (part an_expr · mark m.Colon · part an_expr · mark m.CloseBracket) c.args.room deep _ _ at refl c.in-Some.ensures (stuck_second c.in_ok-left.ensures (stuck_second (c.in_ok-middle.ensures c.args.room) (stuck_second c.in_ok-right.ensures s))))
-    c.in_err-rest.field-0.0 (c.in_err-rest.ensures c.args.room))
-
 pub returns : goal.returns
-returns c = present_read (a_mark m.OpenBracket) (part an_expr · mark m.Colon · part an_expr · mark m.CloseBracket) c.args.room _ _ _ _ c.in-Some.ensures
-    (gets_seq c.in_ok-left.ensures (gets_seq (c.in_ok-middle.ensures c.args.room) (gets_seq c.in_ok-right.ensures (c.in_ok-rest.ensures c.args.room))))
+returns c =
+    ended_as (λ r. ReadsTree (range or nothing) c.args.room c.args.tokens.now range_tree r) m.CloseBracket c.args.room _ c.in_ok-right.right.rest.now _
+    (λ y e p. rw e (present_read (a_mark m.OpenBracket) (part an_expr · mark m.Colon · part an_expr · mark m.CloseBracket) c.args.room _ _ _ _ c.in-Some.ensures
+    (gets_seq c.in_ok-left.ensures (gets_seq (c.in_ok-middle.ensures c.args.room) (gets_seq c.in_ok-right.ensures p)))))
+    (λ e p. fails_by (mark m.CloseBracket) (range or nothing) c.args.room c.args.room (seen c.in_ok-right.right.rest.now) (seen c.args.tokens.now)
+    (λ deep at s. present_stuck (a_mark m.OpenBracket) (part an_expr · mark m.Colon · part an_expr · mark m.CloseBracket) c.args.room deep _ _ at refl c.in-Some.ensures (stuck_second c.in_ok-left.ensures (stuck_second (c.in_ok-middle.ensures c.args.room) (stuck_second c.in_ok-right.ensures s)))) e p)
+    c.ended.ensures.tree (c.ended.ensures.mark c.args.room)

@@ -1,13 +1,15 @@
 use Rattle.std.proofs.lemmas.Result.{err_from_is_err_and}
 use Rattle.vs_tokens.specs.declared.token.Mark.TheVariants as m
-use Rattle.vs_syntax.specs.Grammar.{part, mark, a_case_item, an_expr}
+use Rattle.vs_syntax.specs.Grammar.{part, mark, a_stmt, a_case_item, an_expr}
 use Rattle.vs_syntax.specs.Reading.{stuck_first, stuck_second}
 use Rattle.vs_syntax.proofs.Gets.{gets_seq}
-use Rattle.vs_syntax.specs.Views.{expr_tree}
+use Rattle.vs_syntax.specs.Views.{expr_tree, labelled_tree}
 use Rattle.vs_expressions.specs.Answers.{seen}
 use Rattle.vs_expressions.proofs.Exits.{fails_by}
 use Rattle.vs_forms.specs.Lists.{behind_commas}
+use Rattle.vs_forms.specs.Parts.{Leads}
 use Rattle.vs_forms.proofs.Lists.{grown_none}
+use Rattle.vs_forms.proofs.Parts.{ended_as}
 use Rattle.vs_forms.proofs.Labels.{chosen_stuck, chosen_read}
 use Rattle.vs_forms.proofs.label.choices.Goals as goal
 
@@ -25,18 +27,14 @@ returns-in_err-all c =
     (λ deep at s. chosen_stuck c.args.room deep _ at c.requires.room c.requires.first (stuck_second c.in_ok-first.ensures (stuck_first s)))
     c.in_err-all.field-0.0 c.in_err-all.ensures)
 
-pub returns-in_err-rest : goal.returns-in_err-rest
-returns-in_err-rest c =
-    let p = err_from_is_err_and c.from_residual-in_err-rest.result c.from_residual-in_err-rest.ensures.1 in
-    rw (p.1, p.2) (fails_by (mark m.Colon) (part a_case_item) c.args.room c.args.room (seen c.in_ok-all.all.rest.now) (seen c.args.tokens.now)
-    (λ deep at s. chosen_stuck c.args.room deep _ at c.requires.room c.requires.first (stuck_second c.in_ok-first.ensures (stuck_second (grown_none (part an_expr) c.args.room expr_tree _ _ _ _ c.in_ok-all.ensures c.new.ensures.items) (stuck_first s))))
-    c.in_err-rest.field-0.0 (c.in_err-rest.ensures c.args.room))
-
 pub returns : goal.returns
 returns c =
-    let colon = c.in_ok-rest.ensures c.args.room in
-    let all = (grown_none (part an_expr) c.args.room expr_tree _ _ _ _ c.in_ok-all.ensures c.new.ensures.items) in
-    record {
-      reads = λ y at p. chosen_read c.args.room _ at _ c.requires.first (gets_seq c.in_ok-first.ensures (gets_seq all (gets_seq colon p)));
+    let all = grown_none (part an_expr) c.args.room expr_tree _ _ _ _ c.in_ok-all.ensures c.new.ensures.items in
+    ended_as (λ r. Leads (part a_stmt) (part a_case_item) labelled_tree c.args.room c.args.tokens.now r) m.Colon c.args.room _ c.in_ok-all.all.rest.now _
+    (λ y e colon. rw e (record {
+      reads = λ z at p. chosen_read c.args.room _ at _ c.requires.first (gets_seq c.in_ok-first.ensures (gets_seq all (gets_seq colon p)));
       stops = λ deep at s. chosen_stuck c.args.room deep _ at c.requires.room c.requires.first (stuck_second c.in_ok-first.ensures (stuck_second all (stuck_second colon s)));
-    }
+    }))
+    (λ e p. fails_by (mark m.Colon) (part a_case_item) c.args.room c.args.room (seen c.in_ok-all.all.rest.now) (seen c.args.tokens.now)
+    (λ deep at s. chosen_stuck c.args.room deep _ at c.requires.room c.requires.first (stuck_second c.in_ok-first.ensures (stuck_second all (stuck_first s)))) e p)
+    c.ended.ensures.tree (c.ended.ensures.mark c.args.room)

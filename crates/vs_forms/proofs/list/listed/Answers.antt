@@ -2,10 +2,13 @@ use Rattle.std.proofs.lemmas.Result.{err_from_is_err_and}
 use Rattle.vs_tokens.specs.declared.token.Mark.TheVariants as m
 use Rattle.vs_syntax.specs.Grammar.{◌·◌, mark}
 use Rattle.vs_syntax.specs.Reading.{stuck_first, stuck_second}
-use Rattle.vs_expressions.specs.Answers.{seen}
+use Rattle.std.specs.Prelude.{map}
+use Rattle.vs_syntax.specs.Views.{listed_tree}
+use Rattle.vs_expressions.specs.Answers.{seen, ReadsTree}
 use Rattle.vs_expressions.proofs.Exits.{fails_by}
 use Rattle.vs_forms.specs.Lists.{behind_commas}
 use Rattle.vs_forms.proofs.Lists.{listed_read, pushed_one}
+use Rattle.vs_forms.proofs.Parts.{ended_as}
 use Rattle.vs_forms.proofs.list.listed.Goals as goal
 
 pub returns-in_err-first : goal.returns-in_err-first
@@ -22,12 +25,10 @@ returns-in_err-all g c =
     (λ deep at s. stuck_second c.in_ok-first.ensures (stuck_first s))
     c.in_err-all.field-0.0 c.in_err-all.ensures)
 
-pub returns-in_err-rest : goal.returns-in_err-rest
-returns-in_err-rest g c =
-    let p = err_from_is_err_and c.from_residual-in_err-rest.result c.from_residual-in_err-rest.ensures.1 in
-    rw (p.1, p.2) (fails_by (mark m.Semicolon) (g.T.Element.grammar · behind_commas g.T.Element.grammar · mark m.Semicolon) c.args.room c.args.room (seen c.in_ok-all.all.rest.now) (seen c.args.tokens.now)
-    (λ deep at s. stuck_second c.in_ok-first.ensures (stuck_second c.in_ok-all.ensures.gets s))
-    c.in_err-rest.field-0.0 (c.in_err-rest.ensures c.args.room))
-
 pub returns : goal.returns
-returns g c = listed_read g.T.Element.grammar c.args.room g.T.Element.tree_of _ _ _ _ _ _ _ c.in_ok-first.ensures c.in_ok-all.ensures (pushed_one _ _ _ c.in_ok-push.ensures.items c.in_ok-tree.ensures.items) (c.in_ok-rest.ensures c.args.room)
+returns g c =
+    ended_as (λ r. ReadsTree (g.T.Element.grammar · behind_commas g.T.Element.grammar · mark m.Semicolon) c.args.room c.args.tokens.now (λ xs. listed_tree (map g.T.Element.tree_of xs.items)) r) m.Semicolon c.args.room _ c.in_ok-all.all.rest.now _
+    (λ y e p. rw e (listed_read g.T.Element.grammar c.args.room g.T.Element.tree_of _ _ _ _ _ _ _ c.in_ok-first.ensures c.in_ok-all.ensures (pushed_one _ _ _ c.in_ok-push.ensures.items c.in_ok-tree.ensures.items) p))
+    (λ e p. fails_by (mark m.Semicolon) (g.T.Element.grammar · behind_commas g.T.Element.grammar · mark m.Semicolon) c.args.room c.args.room (seen c.in_ok-all.all.rest.now) (seen c.args.tokens.now)
+    (λ deep at s. stuck_second c.in_ok-first.ensures (stuck_second c.in_ok-all.ensures.gets s)) e p)
+    c.ended.ensures.tree (c.ended.ensures.mark c.args.room)

@@ -6,6 +6,10 @@ use Rattle.vs_syntax.specs.Reading.{stuck_first, stuck_second}
 use Rattle.vs_syntax.proofs.Gets.{gets_seq}
 use Rattle.vs_expressions.specs.Answers.{seen}
 use Rattle.vs_expressions.proofs.Exits.{fails_by}
+use Rattle.vs_syntax.specs.Symbols.{a_dump}
+use Rattle.vs_syntax.specs.Views.{stmt_tree}
+use Rattle.vs_forms.specs.Parts.{ReadsWithin, headed}
+use Rattle.vs_forms.proofs.Parts.{ended_as}
 use Rattle.vs_forms.proofs.Trees.{tree_Dump}
 use Rattle.vs_forms.proofs.task.dump_stmt.Goals as goal
 
@@ -16,12 +20,10 @@ returns-in_err-arguments c =
     (λ deep at s. stuck_first s)
     c.in_err-arguments.field-0.0 c.in_err-arguments.ensures)
 
-pub returns-in_err-rest : goal.returns-in_err-rest
-returns-in_err-rest c =
-    let p = err_from_is_err_and c.from_residual-in_err-rest.result c.from_residual-in_err-rest.ensures.1 in
-    rw (p.1, p.2) (fails_by (mark m.Semicolon) (dump_arguments · mark m.Semicolon) c.args.room c.args.room (seen c.in_ok-arguments.arguments.rest.now) (seen c.args.tokens.now)
-    (λ deep at s. stuck_second c.in_ok-arguments.ensures s)
-    c.in_err-rest.field-0.0 (c.in_err-rest.ensures c.args.room))
-
 pub returns : goal.returns
-returns c = record { inner = _; whole = tree_Dump _ _; gets = gets_seq c.in_ok-arguments.ensures (c.in_ok-rest.ensures c.args.room) }
+returns c =
+    ended_as (λ r. ReadsWithin stmt_tree (headed (a_dump c.args.task)) (dump_arguments · mark m.Semicolon) c.args.room c.args.tokens.now r) m.Semicolon c.args.room _ c.in_ok-arguments.arguments.rest.now _
+    (λ y e p. rw e (record { inner = _; whole = tree_Dump _ _; gets = gets_seq c.in_ok-arguments.ensures p }))
+    (λ e p. fails_by (mark m.Semicolon) (dump_arguments · mark m.Semicolon) c.args.room c.args.room (seen c.in_ok-arguments.arguments.rest.now) (seen c.args.tokens.now)
+    (λ deep at s. stuck_second c.in_ok-arguments.ensures s) e p)
+    c.ended.ensures.tree (c.ended.ensures.mark c.args.room)

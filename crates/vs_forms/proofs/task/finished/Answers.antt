@@ -1,16 +1,16 @@
-use Rattle.std.proofs.Common.{refl, arith, false}
-use Rattle.std.proofs.lemmas.Result.{err_from_is_err_and}
 use Rattle.vs_tokens.specs.declared.token.Mark.TheVariants as m
+use Rattle.vs_syntax.specs.Symbols.{a_finish}
 use Rattle.vs_syntax.specs.Grammar.{mark}
-use Rattle.vs_expressions.specs.Answers.{seen}
-use Rattle.vs_expressions.proofs.Exits.{fails_by}
+use Rattle.vs_syntax.specs.Derivation.{both}
+use Rattle.vs_syntax.specs.Views.{finish_tree, stmt_tree}
+use Rattle.vs_forms.specs.Parts.{ReadsWithin, headed}
+use Rattle.vs_forms.proofs.Parts.{ended_as}
 use Rattle.vs_forms.proofs.Trees.{tree_Finish}
 use Rattle.vs_forms.proofs.task.finished.Goals as goal
 
-pub returns-in_err-rest : goal.returns-in_err-rest
-returns-in_err-rest c = λ room.
-    let p = err_from_is_err_and c.from_residual.result c.from_residual.ensures.1 in
-    rw (p.1, p.2) (c.in_err-rest.ensures room)
-
 pub returns : goal.returns
-returns c = λ room. record { inner = _; whole = tree_Finish _; gets = c.in_ok-rest.ensures room }
+returns c = λ room.
+    ended_as (λ r. ReadsWithin stmt_tree (λ y. headed a_finish (both (finish_tree c.args.number) y)) (mark m.Semicolon) room c.args.tokens.now r) m.Semicolon room _ c.args.tokens.now _
+    (λ y e p. rw e (record { inner = _; whole = tree_Finish _; gets = p }))
+    (λ e p. p)
+    c.ended.ensures.tree (c.ended.ensures.mark room)

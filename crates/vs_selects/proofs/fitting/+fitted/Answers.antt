@@ -1,7 +1,9 @@
-use Rattle.std.proofs.Common.{refl, arith}
+use Rattle.std.proofs.Common.{refl}
+use Rattle.std.proofs.Math.Nat.{le_refl}
 use Rattle.vs_selects.specs.Each.{each_none}
 use Rattle.vs_selects.specs.Senses.{IsLink, IsTest, IsPair, IsPart}
-use Rattle.vs_selects.proofs.FittingLemmas.{each_step, fits_Slice, fits_Select, fits_Chain, fits_Choice, fits_Concat, fits_Closed, tests_fitted}
+use Rattle.vs_selects.proofs.FittingLemmas.{each_step, each_all, fits_Signal, fits_Slice, fits_Select, fits_Excerpt, fits_Unary, fits_Repeat, fits_Chain, fits_Choice, fits_Concat, fits_Closed, tests_fitted}
+use Rattle.vs_selects.proofs.DepthLemmas.{falls_in, first_most, second_most}
 use Rattle.vs_selects.proofs.fitting.+fitted.Goals as goal
 
 pub fitted-returns-in-Slice : goal.fitted-returns-in-Slice
@@ -41,7 +43,7 @@ fitted_links-loop-operator-init t c = rw c.in_ok-done.ensures.items each_none
 
 pub fitted_links-loop-operator-preserved : goal.fitted_links-loop-operator-preserved
 fitted_links-loop-operator-preserved t c =
-    each_step (IsLink c.args.shape.width c.args.shape.signed) c.args.links.now c.loop-operator.operator-index c.loop-operator-item.result c.loop-operator.done.items _ _ (omega arith) c.loop-operator-item.is c.in_ok-push.ensures.items c.loop-operator.invariant
+    each_step (IsLink c.args.shape.width c.args.shape.signed) c.args.links.now c.loop-operator.operator-index c.loop-operator-item.result c.loop-operator.done.items _ _ c.loop-operator-test.true c.loop-operator-item.is c.in_ok-push.ensures.items c.loop-operator.invariant
     (record { operator = refl; width_is = refl; sign_is = refl; fits = c.in_ok-operand.ensures })
 
 pub fitted_tests-loop-link-init : goal.fitted_tests-loop-link-init
@@ -49,7 +51,7 @@ fitted_tests-loop-link-init t c = rw c.in_ok-done.ensures.items each_none
 
 pub fitted_tests-loop-link-preserved : goal.fitted_tests-loop-link-preserved
 fitted_tests-loop-link-preserved t c =
-    each_step IsTest c.args.links.now c.loop-link.link-index c.loop-link-item.result c.loop-link.done.items _ _ (omega arith) c.loop-link-item.is c.in_ok-push.ensures.items c.loop-link.invariant
+    each_step IsTest c.args.links.now c.loop-link.link-index c.loop-link-item.result c.loop-link.done.items _ _ c.loop-link-test.true c.loop-link-item.is c.in_ok-push.ensures.items c.loop-link.invariant
     (record { link = refl; fits = c.in_ok-operand.ensures })
 
 pub fitted_pairs-loop-condition-init : goal.fitted_pairs-loop-condition-init
@@ -57,7 +59,7 @@ fitted_pairs-loop-condition-init t c = rw c.in_ok-done.ensures.items each_none
 
 pub fitted_pairs-loop-condition-preserved : goal.fitted_pairs-loop-condition-preserved
 fitted_pairs-loop-condition-preserved t c =
-    each_step (IsPair c.args.shape.width c.args.shape.signed) c.args.pairs.now c.loop-condition.condition-index c.loop-condition-item.result c.loop-condition.done.items _ _ (omega arith) c.loop-condition-item.is c.in_ok-push.ensures.items c.loop-condition.invariant
+    each_step (IsPair c.args.shape.width c.args.shape.signed) c.args.pairs.now c.loop-condition.condition-index c.loop-condition-item.result c.loop-condition.done.items _ _ c.loop-condition-test.true c.loop-condition-item.is c.in_ok-push.ensures.items c.loop-condition.invariant
     (record { condition = c.in_ok-condition.ensures; value = c.in_ok-value.ensures })
 
 pub fitted_parts-loop-part-init : goal.fitted_parts-loop-part-init
@@ -65,4 +67,45 @@ fitted_parts-loop-part-init t c = rw c.in_ok-done.ensures.items each_none
 
 pub fitted_parts-loop-part-preserved : goal.fitted_parts-loop-part-preserved
 fitted_parts-loop-part-preserved t c =
-    each_step (IsPart c.args.shape.width c.args.shape.signed) c.args.parts.now c.loop-part.part-index c.part-item.result c.loop-part.done.items _ _ (omega arith) c.part-item.is c.in_ok-push.ensures.items c.loop-part.invariant c.in_ok-fitted.ensures
+    each_step (IsPart c.args.shape.width c.args.shape.signed) c.args.parts.now c.loop-part.part-index c.part-item.result c.loop-part.done.items _ _ c.loop-part-test.true c.part-item.is c.in_ok-push.ensures.items c.loop-part.invariant c.in_ok-fitted.ensures
+
+pub fitted-returns-in-Signal : goal.fitted-returns-in-Signal
+fitted-returns-in-Signal t c = rw c.in-Signal.is (fits_Signal c.in-Signal.signal _ c.args.shape.width c.args.shape.signed refl refl refl)
+
+pub fitted-returns-in_ok-low-in-Excerpt : goal.fitted-returns-in_ok-low-in-Excerpt
+fitted-returns-in_ok-low-in-Excerpt t c =
+    rw c.in-Excerpt.is (fits_Excerpt c.in-Excerpt.excerpt _ c.in-Excerpt.low _ c.in_ok-low-in-Excerpt.low c.args.shape.width c.args.shape.signed c.deref-in-Excerpt-2.ensures c.deref-in-Excerpt.ensures c.in_ok-low-in-Excerpt.ensures)
+
+pub fitted-returns-in_ok-x-in-Unary : goal.fitted-returns-in_ok-x-in-Unary
+fitted-returns-in_ok-x-in-Unary t c = rw c.in-Unary.is (fits_Unary c.in-Unary.operator c.in-Unary.x _ c.in_ok-x-in-Unary.x c.args.shape.width c.args.shape.signed c.deref-in-Unary.ensures c.in_ok-x-in-Unary.ensures)
+
+pub fitted-returns-in_ok-x-in-Repeat : goal.fitted-returns-in_ok-x-in-Repeat
+fitted-returns-in_ok-x-in-Repeat t c = rw c.in-Repeat.is (fits_Repeat c.in-Repeat.count c.in-Repeat.x _ c.in_ok-x-in-Repeat.x c.args.shape.width c.args.shape.signed c.deref-in-Repeat.ensures c.in_ok-x-in-Repeat.ensures)
+
+pub fitted_links-fitted-requires : goal.fitted_links-fitted-requires
+fitted_links-fitted-requires t c = (falls_in _ c.args.links.now c.loop-operator.operator-index t _ c.loop-operator-item.result c.loop-operator-test.true c.loop-operator-item.is c.decreases (second_most 0 _), tt)
+
+pub fitted_links-returns : goal.fitted_links-returns
+fitted_links-returns t c = each_all (IsLink c.args.shape.width c.args.shape.signed) c.args.links.now c.loop-operator.operator-index _ c.loop-operator.invariant c.loop-operator-test.false
+
+pub fitted_tests-fitted-requires : goal.fitted_tests-fitted-requires
+fitted_tests-fitted-requires t c = (falls_in _ c.args.links.now c.loop-link.link-index t _ c.loop-link-item.result c.loop-link-test.true c.loop-link-item.is c.decreases (second_most 0 _), tt)
+
+pub fitted_tests-returns : goal.fitted_tests-returns
+fitted_tests-returns t c = each_all IsTest c.args.links.now c.loop-link.link-index _ c.loop-link.invariant c.loop-link-test.false
+
+pub fitted_pairs-fitted-requires : goal.fitted_pairs-fitted-requires
+fitted_pairs-fitted-requires t c = (falls_in _ c.args.pairs.now c.loop-condition.condition-index t _ c.loop-condition-item.result c.loop-condition-test.true c.loop-condition-item.is c.decreases (first_most _ _), tt)
+
+pub fitted_pairs-fitted-requires-in-loop-condition : goal.fitted_pairs-fitted-requires-in-loop-condition
+fitted_pairs-fitted-requires-in-loop-condition t c =
+    (falls_in _ c.args.pairs.now c.loop-condition.condition-index t _ c.loop-condition-item.result c.loop-condition-test.true c.loop-condition-item.is c.decreases (second_most _ _), tt)
+
+pub fitted_pairs-returns : goal.fitted_pairs-returns
+fitted_pairs-returns t c = each_all (IsPair c.args.shape.width c.args.shape.signed) c.args.pairs.now c.loop-condition.condition-index _ c.loop-condition.invariant c.loop-condition-test.false
+
+pub fitted_parts-fitted-requires : goal.fitted_parts-fitted-requires
+fitted_parts-fitted-requires t c = (falls_in _ c.args.parts.now c.loop-part.part-index t _ c.part-item.result c.loop-part-test.true c.part-item.is c.decreases (le_refl _), tt)
+
+pub fitted_parts-returns : goal.fitted_parts-returns
+fitted_parts-returns t c = each_all (IsPart c.args.shape.width c.args.shape.signed) c.args.parts.now c.loop-part.part-index _ c.loop-part.invariant c.loop-part-test.false

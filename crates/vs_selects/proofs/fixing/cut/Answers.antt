@@ -1,4 +1,4 @@
-use Rattle.std.proofs.Common.{refl, subst, ap, ◌∙◌, rules, w64}
+use Rattle.std.proofs.Common.{subst, ap, ◌∙◌, rules, w64}
 use Rattle.std.proofs.lemmas.Int.{to_z-of_z}
 use mir.Val.{SFits}
 use Rattle.vs_logic4.specs.Parts.{selected}

@@ -4,9 +4,11 @@ use Rattle.vs_tokens.specs.declared.token.Mark.TheVariants as m
 use Rattle.vs_syntax.specs.Grammar.{part, mark, a_stmt, a_target, an_expr}
 use Rattle.vs_syntax.specs.Reading.{stuck_first, stuck_second}
 use Rattle.vs_syntax.proofs.Gets.{gets_seq}
-use Rattle.vs_expressions.specs.Answers.{seen}
+use Rattle.vs_syntax.specs.Views.{stmt_tree}
+use Rattle.vs_expressions.specs.Answers.{seen, ReadsTree}
 use Rattle.vs_expressions.proofs.Exits.{fails_by}
 use Rattle.vs_statements.specs.Timings.{timing}
+use Rattle.vs_forms.proofs.Parts.{ended_as}
 use Rattle.vs_statements.proofs.Statements.{assign_stuck, assign_read}
 use Rattle.vs_statements.proofs.assignment.assigned_stmt.Goals as goal
 
@@ -34,15 +36,11 @@ returns-in_err-value c =
     (λ deep at s. assign_stuck c.args.room deep _ at h c.requires.first (stuck_second c.in_ok-target.ensures (stuck_second c.in_ok-timing.ensures (stuck_first s))))
     c.in_err-value.field-0.0 c.in_err-value.ensures)
 
-pub returns-in_err-rest : goal.returns-in_err-rest
-returns-in_err-rest c =
-    let p = err_from_is_err_and c.from_residual-in_err-rest.result c.from_residual-in_err-rest.ensures.1 in
-    let h : 2 ≤ c.args.room = c.requires.room in
-    rw (p.1, p.2) (fails_by (mark m.Semicolon) (part a_stmt) (c.args.room - 1) c.args.room (seen c.in_ok-value.value.rest.now) (seen c.args.tokens.now)
-    (λ deep at s. assign_stuck c.args.room deep _ at h c.requires.first (stuck_second c.in_ok-target.ensures (stuck_second c.in_ok-timing.ensures (stuck_second c.in_ok-value.ensures s))))
-    c.in_err-rest.field-0.0 (c.in_err-rest.ensures (c.args.room - 1)))
-
 pub returns : goal.returns
 returns c =
     let h : 2 ≤ c.args.room = c.requires.room in
-    rw c.in_ok-tree.ensures (assign_read c.args.room _ _ _ h c.requires.first (gets_seq c.in_ok-target.ensures (gets_seq c.in_ok-timing.ensures (gets_seq c.in_ok-value.ensures (c.in_ok-rest.ensures (c.args.room - 1))))))
+    ended_as (λ r. ReadsTree (part a_stmt) c.args.room c.args.tokens.now stmt_tree r) m.Semicolon (c.args.room - 1) _ c.in_ok-value.value.rest.now _
+    (λ y e p. rw (e, c.in_ok-tree.ensures) (assign_read c.args.room _ _ _ h c.requires.first (gets_seq c.in_ok-target.ensures (gets_seq c.in_ok-timing.ensures (gets_seq c.in_ok-value.ensures p)))))
+    (λ e p. fails_by (mark m.Semicolon) (part a_stmt) (c.args.room - 1) c.args.room (seen c.in_ok-value.value.rest.now) (seen c.args.tokens.now)
+    (λ deep at s. assign_stuck c.args.room deep _ at h c.requires.first (stuck_second c.in_ok-target.ensures (stuck_second c.in_ok-timing.ensures (stuck_second c.in_ok-value.ensures s)))) e p)
+    c.ended.ensures.tree (c.ended.ensures.mark (c.args.room - 1))

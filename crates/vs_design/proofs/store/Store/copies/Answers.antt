@@ -1,11 +1,11 @@
 use Rattle.std.proofs.Common.{◌≡◌, ◌∙◌, ◌++◌, ◌∷◌, [], ◌+◌, ap, arith, refl, sym, subst, take, length, replicate, ◌<◌, ◌≤◌}
 use Rattle.std.proofs.Math.Numerals.{add-one}
 use Rattle.std.proofs.Math.Seq.{take-length}
-use Rattle.std.proofs.lemmas.List.{take_more, length-map}
+use Rattle.std.proofs.lemmas.List.{take_more, take_all, length-map}
 use Rattle.std.proofs.lemmas.Option.{slice_get_read}
 use Rattle.vs_design.specs.declared.extent.Extent.{Extent}
 use Rattle.vs_design.specs.Drivers.{in_copies}
-use Rattle.vs_design.specs.passes.Planes.{store_of, counts_of}
+use Rattle.vs_design.specs.passes.Planes.{ArePlanesOf, store_of, counts_of}
 use Rattle.vs_design.proofs.Drivers.{copies-more, length-in_copies}
 use Rattle.vs_design.proofs.PlanesLemmas.{planes_grown, store_grown, next_first}
 use Rattle.vs_design.proofs.ExtentLemmas.{same_number, same_width, count_at}
@@ -54,3 +54,10 @@ returns c =
     number ∙ sym (length-in_copies counts words same ∙ length-map extents (λ (e : Extent). e.count)) in
     subst (λ es. store_of es c.loop-i.values.items c.loop-i.unknowns.items ≡ in_copies counts words) whole
     (c.loop-i.invariant.store ∙ ap (λ n. take n (in_copies counts words)) all ∙ take-length (in_copies counts words))
+
+pub bounds-words-i : goal.bounds-words-i
+bounds-words-i c = subst (λ n. c.loop-i.i < n) (sym (same_number c.args.extents.now c.args.words.now c.requires.widths)) c.loop-i-test.true
+
+pub invariant_of-result : goal.invariant_of-result
+invariant_of-result c =
+    subst (λ es. ArePlanesOf es c.loop-i.values.items c.loop-i.unknowns.items) (take_all c.loop-i.i c.args.extents.now c.loop-i-test.false) c.loop-i.invariant.planes

@@ -1,0 +1,6 @@
+use Rattle.std.proofs.Common.{refl}
+use Rattle.serde_json.proofs.Views.{view-Object}
+use Rattle.vs_certificate.proofs.entries.EdgeSignalJsonForm.to_value.Goals as goal
+
+pub returns : goal.returns
+returns c = rw (view-Object c.in_ok-members-2.members, c.in_ok-members-2.ensures, c.in_ok-members.ensures, c.new.ensures.empty) refl

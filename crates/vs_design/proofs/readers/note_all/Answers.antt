@@ -1,0 +1,14 @@
+use Rattle.std.proofs.Common.{refl}
+use Rattle.vs_design.specs.Tables.{rows, noted, all_noted}
+use Rattle.vs_design.proofs.LoopLemmas.{went_on, went_through}
+use Rattle.vs_design.proofs.readers.note_all.Goals as goal
+
+pub loop-range-preserved : goal.loop-range-preserved
+loop-range-preserved c =
+    went_on (all_noted c.args.assign) (λ r table. noted (record { assign = c.args.assign; range = r }) table) (λ r rs table. refl) c.args.ranges.now c.loop-range.range-index _ _
+    (rows c.loop-range.table.items) (rows c.note.new.table.items) _
+    c.loop-range-test.true refl c.in_ok-note.ensures c.loop-range.invariant
+
+pub returns : goal.returns
+returns c =
+    went_through (all_noted c.args.assign) (λ table. refl) c.args.ranges.now c.loop-range.range-index (rows c.loop-range.table.items) _ c.loop-range-test.false c.loop-range.invariant
