@@ -4,4 +4,4 @@ pub mod Places
 pub mod ReadsHold
 pub mod SizesHold
 pub mod ValueLemmas
-mod WritesHold
+pub mod WritesHold
