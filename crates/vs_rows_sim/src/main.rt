@@ -15,3 +15,6 @@ mod queues;
 mod running;
 #[cfg(test)]
 mod runs;
+
+/// The tests alone do something.
+fn main() {}

@@ -11,3 +11,6 @@ mod short;
 mod sinks;
 #[cfg(test)]
 mod words;
+
+/// The tests alone do something.
+fn main() {}
