@@ -1,12 +1,13 @@
 -- Lemmas on the values of expressions, for the code that makes them.
 use Rattle.std.proofs.Common.{◌≡◌, ℕ, ◌+◌, ◌-◌, ◌<◌, ◌≤◌, List, [], ◌∷◌, length, get_or, drop, map, sym, ◌∙◌, ap, arith}
-use Rattle.std.proofs.lemmas.List.{drop_more, at_drop_more, drop_all}
+use Rattle.std.proofs.lemmas.List.{drop_more}
 use Rattle.vs_logic4.specs.declared.digit.Digit.{Digit}
 use Rattle.vs_logic4.specs.Comparisons.{truth}
 use Rattle.vs_design.specs.declared.expression.Typed.{Typed, Typed-F}
 use Rattle.vs_design.specs.declared.expression.Typed.TheViews.{roll-Typed}
 use Rattle.vs_design.specs.declared.expression.Typed.TheFolds.{fold-roll-Typed, map-Typed}
 use Rattle.vs_design.specs.Stores.{Store}
+use Rattle.vs_design.proofs.LoopLemmas.{went_on as one_on, went_through as to_the_end}
 use Rattle.vs_eval.specs.Values.{picked, chosen, value_step, value_of}
 
 -- the value of an expression is what its outermost layer gives
@@ -18,14 +19,13 @@ value_layer e store time layer is = ap (λ x. value_of x store time) (sym is) �
 pub went_on : {A B S : Type 0} (whole : S → List B → S) (step : S → B → S) (f : A → B) → ((s : S) (y : B) (ys : List B) → whole s (y ∷ ys) ≡ whole (step s y) ys) →
     (xs : List A) (i : ℕ) (x : A) (now next all : S) →
     i < length xs → x ≡ get_or xs i x → next ≡ step now (f x) → whole now (map f (drop i xs)) ≡ all → whole next (map f (drop (i + 1) xs)) ≡ all
-went_on whole step f law xs i x now next all lt is made so_far =
-    ap (λ s. whole s (map f (drop (i + 1) xs))) made ∙ sym (law now (f x) (map f (drop (i + 1) xs)))
-    ∙ ap (λ y. whole now (f y ∷ map f (drop (i + 1) xs))) is ∙ sym (at_drop_more (λ ys. whole now (map f ys)) xs i x lt) ∙ so_far
+went_on whole step f law xs i x now next all =
+    one_on (λ ys s. whole s (map f ys)) (λ y s. step s (f y)) (λ y ys s. law s (f y) (map f ys)) xs i x x now next all
 
 -- the same loop at its end
 pub went_through : {A B S : Type 0} (whole : S → List B → S) (f : A → B) → ((s : S) → whole s [] ≡ s) → (xs : List A) (i : ℕ) (now all : S) →
     length xs ≤ i → whole now (map f (drop i xs)) ≡ all → now ≡ all
-went_through whole f law xs i now all past so_far = sym (law now) ∙ ap (λ ys. whole now (map f ys)) (sym (drop_all i xs past)) ∙ so_far
+went_through whole f law xs i now all = to_the_end (λ ys s. whole s (map f ys)) law xs i now all
 
 -- a choice with one pair more before the others
 pub chosen_before : {A : Type 0} (f : A → List Digit × List Digit) (xs : List A) (i : ℕ) (x : A) (last now next : List Digit) → 0 < i → i ≤ length xs → x ≡ get_or xs (i - 1) x →
