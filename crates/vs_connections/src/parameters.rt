@@ -1,7 +1,7 @@
 //! The parameters of a module, and what overrides them.
 ghost use Rattle.std.specs.Prelude.{◌≡◌, ◌++◌, [], None, drop, map, IfOk, OnOk};
 ghost use Rattle.vs_pieces.specs.Reads.{read_piece};
-ghost use Rattle.vs_connections.specs.Overrides.{header_parameters, item_parameter, parameters_in, piece_parameters, parameters_among, overridable, given_from, first_end};
+ghost use Rattle.vs_connections.specs.Overrides.{header_parameters, item_parameter, parameters_in, parameters_among, overridable, given_from, first_end};
 ghost use Rattle.vs_connections.specs.passes.Ends.{borrowed, read_end, read_ends, read_parameter, read_given, AreOverrides, AreGiven};
 
 use crate::connections::ends;
@@ -86,24 +86,16 @@ fn push_parameters<'s>(item: &'s Item, list: &mut Vec<Parameter<'s>>) -> Result<
     }
 }
 
-/// Appends the parameters that a piece declares (IEEE 1364-2005, clause 4.10).
-fn push_declared<'s>(piece: Piece<'s>, list: &mut Vec<Parameter<'s>>) -> Result<(), AllocError>
-    ensures { OnOk result (map read_parameter list.new.items
-        ≡ map read_parameter list.old.items ++ piece_parameters (read_piece piece.entry)) }
-{
-    match piece {
-        Piece::Plain(item) => push_parameters(item, list),
-        _ => Ok(()),
-    }
-}
-
 /// Appends the parameters that pieces declare, in the order of the text.
 fn push_among<'s>(pieces: &[Piece<'s>], list: &mut Vec<Parameter<'s>>) -> Result<(), AllocError>
     ensures { OnOk result (map read_parameter list.new.items
         ≡ map read_parameter list.old.items ++ parameters_among (map read_piece pieces.now)) }
 {
     for piece in pieces {
-        push_declared(*piece, list)?;
+        let Piece::Plain(item) = *piece else {
+            continue;
+        };
+        push_parameters(item, list)?;
     }
     Ok(())
 }

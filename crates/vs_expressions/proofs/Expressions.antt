@@ -5,6 +5,7 @@ use Rattle.std.proofs.lemmas.List.{map-append}
 use Rattle.vs_logic4.specs.declared.operators.Unary.{Unary}
 use Rattle.vs_logic4.specs.declared.operators.Unary.TheVariants as u
 use Rattle.vs_logic4.specs.declared.operators.Binary.{Binary}
+use Rattle.vs_tokens.specs.declared.token.Token.{Token}
 use Rattle.vs_tokens.specs.declared.token.Mark.{Mark}
 use Rattle.vs_tokens.specs.declared.token.Mark.TheVariants as m
 use Rattle.vs_syntax.specs.Symbols.{Symbol, a_mark, a_cast, the_mark, any_number, class_of, same_class, first}
@@ -18,12 +19,13 @@ use Rattle.vs_syntax.proofs.Fronts.{clash}
 use Rattle.vs_syntax.proofs.Ends.{marked_fronts, link_fronts}
 use Rattle.vs_syntax.proofs.Plainly.{same_class-true}
 use Rattle.vs_syntax.proofs.Gets.{gets_token, gets_seq, gets_left, gets_right, gets_part, gets_node, gets_stop, gets_one, gets_chain}
+use Rattle.vs_expressions.specs.Answers.{seen}
 use Rattle.vs_expressions.specs.Operators.{NoOperator, BeginsLink}
 use Rattle.vs_expressions.proofs.Choices as choices
 use Rattle.vs_expressions.proofs.Choices.{branch}
 use Rattle.vs_expressions.proofs.Exits.{deep_at, goes_at}
 use Rattle.vs_expressions.proofs.Lists.{comma_by}
-use Rattle.vs_expressions.proofs.Rows.{Along, along_one, all_read, more_read, more_stuck, some_there, height-row_push}
+use Rattle.vs_expressions.proofs.Rows.{Along, along_none, along_one, all_read, more_read, more_stuck, some_there, height-row_push}
 use Rattle.vs_expressions.proofs.Trees.{linked, paired}
 
 -- one of several marks
@@ -156,13 +158,26 @@ arms_height ps qs x v y e =
     let k : height (row_of (arms_of (map paired ps) (expr_tree x) ++ arm_tree (expr_tree v) (expr_tree y) ∷ [])) ≡ max (height (row_of (arms_of (map paired ps) (expr_tree x)))) (height (arm_tree (expr_tree v) (expr_tree y))) = height-row_push (arms_of (map paired ps) (expr_tree x)) (arm_tree (expr_tree v) (expr_tree y)) in
     omega (arith, h, k)
 
-question_goes : (ts after : List Symbol) → ts ≡ a_mark m.Question ∷ after → goes arm ts ≡ true
+pub question_goes : (ts after : List Symbol) → ts ≡ a_mark m.Question ∷ after → goes arm ts ≡ true
 question_goes ts after e = ap (goes arm) e
+
+-- before the first of them
+pub arms_start : (room : ℕ) (ts us : List Token) (ps : List (Expr × Expr)) (x : Tree) → us ≡ ts → ps ≡ [] → Along arm room (seen ts) (seen us) (arms_of (map paired ps) x)
+arms_start room ts us ps x e f = subst (λ (u : List Token). Along arm room (seen ts) (seen u) (arms_of (map paired ps) x)) (sym e) (subst (λ u. Along arm room (seen ts) (seen ts) (arms_of (map paired u) x)) (sym f) (along_none arm room (seen ts)))
+
+pub head_start : (ps : List (Expr × Expr)) (x : Tree) → ps ≡ [] → head_of (map paired ps) x ≡ x
+head_start ps x e = ap (λ u. head_of (map paired u) x) e
+
+pub height_start : (ps : List (Expr × Expr)) (x : Tree) → ps ≡ [] → height (row_of (arms_of (map paired ps) x)) ≡ 0
+height_start ps x e = ap (λ u. height (row_of (arms_of (map paired u) x))) e
+
+pub arm_read : (room : ℕ) (rest after behind : List Symbol) (x y : Tree) → rest ≡ a_mark m.Question ∷ after → Gets (part an_expr · mark m.Colon · part a_condition) room after (both x (both (leaf (a_mark m.Colon)) y)) behind → Gets arm room rest (arm_tree x y) behind
+arm_read room rest after behind x y e p = rw e (gets_seq (gets_token refl) p)
 
 pub arms_along : (room : ℕ) (start rest after behind : List Symbol) (ps qs : List (Expr × Expr)) (x v y : Expr) → qs ≡ ps ++ (x, v) ∷ [] → Along arm room start rest (arms_of (map paired ps) (expr_tree x)) → rest ≡ a_mark m.Question ∷ after → Gets (part an_expr · mark m.Colon · part a_condition) room after (both (expr_tree v) (both (leaf (a_mark m.Colon)) (expr_tree y))) behind → Along arm room start behind (arms_of (map paired qs) (expr_tree y))
 arms_along room start rest after behind ps qs x v y e l f p =
     subst (λ (u : List Tree). Along arm room start behind u) (sym (arms_pushed ps qs x v y e))
-    (along_one arm room start rest behind (arms_of (map paired ps) (expr_tree x)) (arm_tree (expr_tree v) (expr_tree y)) l (question_goes rest after f) (rw f (gets_seq (gets_token refl) p)))
+    (along_one arm room start rest behind (arms_of (map paired ps) (expr_tree x)) (arm_tree (expr_tree v) (expr_tree y)) l (question_goes rest after f) (arm_read room rest after behind (expr_tree v) (expr_tree y) f p))
 
 pub choice_alone : (room : ℕ) (ts rest : List Symbol) (x : Tree) → goes (mark m.Question) rest ≡ false → Gets (part a_condition) room ts x rest → Gets (part an_expr) room ts x rest
 choice_alone room ts rest x h p = gets_part (gets_one h p)

@@ -1,12 +1,12 @@
 -- How the parts of a select make it, and where it stops.
-use Rattle.std.specs.Prelude.{◌≡◌, ℕ, ◌-◌, ◌<◌, ◌≤◌, Bool, true, false, List, [], ◌∷◌, refl}
-use Rattle.std.proofs.Common.{ap, arith}
+use Rattle.std.specs.Prelude.{◌≡◌, ℕ, max, ◌++◌, ◌-◌, ◌<◌, ◌≤◌, Bool, true, false, List, [], ◌∷◌, refl}
+use Rattle.std.proofs.Common.{◌∙◌, ap, append_assoc, arith}
 use Rattle.vs_tokens.specs.declared.token.Mark.TheVariants as m
 use Rattle.vs_syntax.specs.Symbols.{Symbol, a_mark, any_name, first}
-use Rattle.vs_syntax.specs.Grammar.{Grammar, ◌·◌, part, mark, name, number, many, chain, one_or_more, part_marks, second, select, an_expr, an_operand}
+use Rattle.vs_syntax.specs.Grammar.{Grammar, ◌·◌, part, mark, name, number, many, chain, one_or_more, part_marks, second, select, a_condition, an_expr, an_operand}
 use Rattle.vs_syntax.specs.Tables.{goes}
-use Rattle.vs_syntax.specs.Derivation.{Tree, empty, leaf, both, down, height}
-use Rattle.vs_syntax.specs.Reading.{Gets, Stuck, stuck_second, stuck_left, stuck_right, stuck_many, stuck_part, stuck_link, stuck_high}
+use Rattle.vs_syntax.specs.Derivation.{Tree, empty, leaf, both, down, tokens, height, Is, is_seq}
+use Rattle.vs_syntax.specs.Reading.{Gets, Stuck, stuck_here, stuck_deep, stuck_first, stuck_second, stuck_left, stuck_right, stuck_many, stuck_part, stuck_link, stuck_high}
 use Rattle.vs_syntax.specs.Views.{row_of, part_mark, some_tree}
 use Rattle.vs_syntax.specs.declared.tree.PartSelect.{PartSelect}
 use Rattle.vs_syntax.specs.declared.tree.PartSelect.TheVariants as p
@@ -40,6 +40,30 @@ second_stuck room deep ts after at k e s =
 
 pub second_read : (room : ℕ) (ts after rest : List Symbol) (k : PartSelect) (x : Tree) → ts ≡ a_mark (part_mark k) ∷ after → Gets (part an_expr) room after x rest → Gets second room ts (both (leaf (a_mark (part_mark k))) x) rest
 second_read room ts after rest k x e q = gets_left (part_goes ts after k e) (gets_seq (part_read room ts after k e) q)
+
+-- the two parts of what was read in a row
+seq_is : {a b : Grammar} {x y : Tree} {more : List Symbol} → Is (a · b) (both x y) more → Is a x (tokens y ++ more) × Is b y more
+seq_is (is_seq p q) = (p, q)
+
+pub seq_apart : {a b : Grammar} {room : ℕ} {ts rest : List Symbol} {x y : Tree} → Gets (a · b) room ts (both x y) rest → Gets a room ts x (tokens y ++ rest) × Gets b room (tokens y ++ rest) y rest
+seq_apart {ts = ts} {rest = rest} {x = x} {y = y} g =
+    let p = seq_is g.is in
+    let h : max (height x) (height y) ≤ _ = g.fits in
+    (record { is = p.0; text = g.text ∙ append_assoc (tokens x) (tokens y) rest; fits = omega (arith, h) }, record { is = p.1; text = refl; fits = omega (arith, h) })
+
+-- a condition's first operand and the colon, before the other operand
+pub before_stuck : {room : ℕ} {deep : Bool} {ts at : List Symbol} → Stuck (part an_expr · mark m.Colon) room deep ts at → Stuck (part an_expr · mark m.Colon · part a_condition) room deep ts at
+before_stuck (stuck_here n h) = stuck_here refl h
+before_stuck (stuck_deep h n) = stuck_deep h n
+before_stuck (stuck_first s) = stuck_first s
+before_stuck (stuck_second p s) = stuck_second p (stuck_first s)
+
+-- the second expression and the bracket behind it
+pub second_closed_stuck : {room : ℕ} {deep : Bool} {ts after at : List Symbol} (k : PartSelect) → ts ≡ a_mark (part_mark k) ∷ after → Stuck (part an_expr · mark m.CloseBracket) room deep after at → Stuck (second · mark m.CloseBracket) room deep ts at
+second_closed_stuck k e (stuck_here n h) = stuck_first (second_stuck _ false _ _ _ k e (stuck_here refl h))
+second_closed_stuck k e (stuck_deep h n) = stuck_first (second_stuck _ true _ _ _ k e (stuck_deep h n))
+second_closed_stuck k e (stuck_first s) = stuck_first (second_stuck _ _ _ _ _ k e s)
+second_closed_stuck k e (stuck_second p s) = stuck_second (second_read _ _ _ _ k _ e p) s
 
 -- a select behind its bracket
 abbrev pub select_rest : Grammar

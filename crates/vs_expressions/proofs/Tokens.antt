@@ -7,8 +7,9 @@ use Rattle.vs_tokens.specs.declared.token.Kind.TheVariants as k
 use Rattle.vs_tokens.specs.declared.token.Literal.{Literal}
 use Rattle.vs_tokens.specs.declared.token.Mark.{Mark}
 use Rattle.vs_tokens.specs.declared.token.Token.{Token}
+use Rattle.vs_tokens.specs.declared.token.Word.{Word}
 use Rattle.vs_lexer.specs.Tokens.{name_of}
-use Rattle.vs_syntax.specs.Symbols.{Symbol, a_name, a_number, Class, the_mark, any_name, any_number, any_other, class_of, system_names, symbol_named, system_symbol, symbol_of, same_class}
+use Rattle.vs_syntax.specs.Symbols.{Symbol, a_name, a_number, Class, the_mark, the_word, any_name, any_number, any_other, class_of, system_names, symbol_named, system_symbol, symbol_of, same_class}
 use Rattle.vs_syntax.specs.Grammar.{token, name, number}
 use Rattle.vs_syntax.specs.Tables.{goes}
 use Rattle.vs_syntax.specs.Derivation.{leaf}
@@ -70,6 +71,12 @@ pub no_mark : (kind : Kind) (bytes : List ℕ) (x : Mark) → ((y : Mark) → ki
 no_mark (k.Mark y) bytes x f = absurd (f y refl)
 no_mark k.System bytes x f = system_class (the_mark x) bytes refl
 no_mark _ bytes x f = refl
+
+-- no reserved word
+pub no_word : (kind : Kind) (bytes : List ℕ) (x : Word) → ((y : Word) → kind ≡ k.Word y → ⊥) → same_class (class_of (symbol_of kind bytes)) (the_word x) ≡ false
+no_word (k.Word y) bytes x f = absurd (f y refl)
+no_word k.System bytes x f = system_class (the_word x) bytes refl
+no_word _ bytes x f = refl
 
 -- no token
 pub none_at : (ts : List Token) (g : _) (b : Bool) → ts ≡ [] → goes g [] ≡ b → goes g (seen ts) ≡ b

@@ -1,10 +1,10 @@
 -- What a function that reads a part of a source answers.
-use Rattle.std.specs.Prelude.{ℕ, true, false, List, Result, Ok, Err}
+use Rattle.std.specs.Prelude.{◌≡◌, ℕ, true, false, List, Result, Ok, Err}
 use Rattle.vs_tokens.specs.declared.token.Token.{Token}
 use Rattle.vs_lexer.specs.Tokens.{lexemes}
 use Rattle.vs_syntax.specs.Symbols.{Symbol, symbols}
 use Rattle.vs_syntax.specs.Grammar.{Grammar}
-use Rattle.vs_syntax.specs.Derivation.{Tree}
+use Rattle.vs_syntax.specs.Derivation.{Tree, height}
 use Rattle.vs_syntax.specs.Reading.{Gets, Stuck}
 use Rattle.vs_syntax.specs.Views.{expr_tree}
 use Rattle.vs_expressions.specs.declared.expression.Nested.{Nested}
@@ -34,3 +34,12 @@ ReadsTree a room ts tree r = Answers a room (seen ts) (λ x. tree x.tree) (λ x.
 -- the same of an expression with its nesting
 abbrev pub Nests : Grammar → ℕ → List Symbol → Result Nested Stop → Type 0
 Nests a room ts r = Answers a room ts (λ x. expr_tree x.tree) (λ x. seen x.rest.now) r
+
+-- a tree of the part, its nesting and the symbols behind it, or why and where reading stopped
+abbrev pub Measures : {X : Type 0} → Grammar → ℕ → List Symbol → (X → Tree) → (X → ℕ) → (X → List Symbol) → Result X Stop → Type 0
+Measures a room ts tree nesting rest (Ok x) = Gets a room ts (tree x) (rest x) × (nesting x ≡ height (tree x))
+Measures a room ts tree nesting rest (Err e) = FailsToRead a room ts e
+
+-- the same of an expression
+abbrev pub Measured : Grammar → ℕ → List Symbol → Result Nested Stop → Type 0
+Measured a room ts r = Measures a room ts (λ x. expr_tree x.tree) (λ x. x.height) (λ x. seen x.rest.now) r

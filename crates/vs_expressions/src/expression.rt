@@ -1,12 +1,12 @@
 //! Reading expressions.
-ghost use Rattle.std.specs.Prelude.{◌≡◌, ℕ, suc, max, ◌∷◌, map, IfOk};
+ghost use Rattle.std.specs.Prelude.{◌≡◌, ℕ, suc, ◌∷◌, map, IfOk};
 ghost use Rattle.vs_tokens.specs.declared.token.Mark.TheVariants as m;
 ghost use Rattle.vs_syntax.specs.Symbols.{a_mark, a_cast, any_name, any_number, first};
-ghost use Rattle.vs_syntax.specs.Grammar.{◌·◌, part, many, mark, a_level, a_condition, an_expr, an_operand, other_parts, second, select};
+ghost use Rattle.vs_syntax.specs.Grammar.{◌·◌, part, many, mark, a_level, a_condition, an_expr, an_operand, other_parts, select};
 ghost use Rattle.vs_syntax.specs.Derivation.{leaf, both, height};
-ghost use Rattle.vs_syntax.specs.Views.{row_of, unary_mark, others_tree, repeated_tree, closed_tree, second_tree, second_trees, chosen_tree, expr_tree};
+ghost use Rattle.vs_syntax.specs.Views.{row_of, unary_mark, others_tree, chosen_tree, expr_tree};
 ghost use Rattle.vs_syntax.specs.Reading.{Gets};
-ghost use Rattle.vs_expressions.specs.Answers.{seen, Answers, ReadsTree, Nests};
+ghost use Rattle.vs_expressions.specs.Answers.{seen, ReadsTree, Measures, Nests, Measured};
 
 use crate::head::{OperandHead, operand_head};
 use crate::operator::{LEVELS, binary_at};
@@ -42,40 +42,11 @@ struct ReadSelect<'t, 's> {
     rest: &'t [Token<'s>],
 }
 
-/// The second expression of a part-select that was read, if one was, its nesting, and the tokens
-/// behind it.
-#[derive(Drop)]
-struct ReadSecond<'t, 's> {
-    tree: Option<(PartSelect, Expr)>,
-    height: u32,
-    rest: &'t [Token<'s>],
-}
-
-/// What stands behind a condition: the operand for it, and the next condition or the last operand;
-/// their nesting, and the tokens behind them.
-#[derive(Drop)]
-struct ReadArm<'t, 's> {
-    value: Expr,
-    other: Expr,
-    height: u32,
-    rest: &'t [Token<'s>],
-}
-
 /// The parts of a concatenation behind the first one, their nesting, and the tokens behind the
 /// brace.
 #[derive(Drop)]
 struct ReadOthers<'t, 's> {
     tree: Vec<Expr>,
-    height: u32,
-    rest: &'t [Token<'s>],
-}
-
-/// The parts of a multiple concatenation, the first and the others, their nesting, and the tokens
-/// behind the braces.
-#[derive(Drop)]
-struct ReadParts<'t, 's> {
-    first: Expr,
-    others: Vec<Expr>,
     height: u32,
     rest: &'t [Token<'s>],
 }
@@ -102,11 +73,10 @@ fn nested_expr<'t, 's>(
     room: u32,
     tokens: &'t [Token<'s>],
 ) -> Result<Nested<'t, 's>, Stop<'t, 's>>
-    ensures reads { Nests (part an_expr) room (seen tokens.now) result }
-    ensures height { IfOk result (λ x. x.height ≡ height (expr_tree x.tree)) }
+    ensures { Measured (part an_expr) room (seen tokens.now) result }
 {
     let first = operands(alloc, room, tokens, LEVELS)?;
-    choice(alloc, room, first.tree, first.height, first.rest)
+    choice(alloc, room, first)
 }
 
 /// Reads what stands behind a first condition, which was read: it alone, or a node of all
@@ -115,66 +85,36 @@ fn nested_expr<'t, 's>(
 fn choice<'t, 's>(
     alloc: Global,
     room: u32,
-    first: Expr,
-    first_height: u32,
-    start: &'t [Token<'s>],
+    first: Nested<'t, 's>,
 ) -> Result<Nested<'t, 's>, Stop<'t, 's>>
-    requires { first_height ≡ height (expr_tree first) }
-    ensures reads { (ts : _) → Gets (part a_condition) room ts (expr_tree first) (seen start.now)
-        → Nests (part an_expr) room ts result }
-    ensures height { IfOk result (λ x. x.height ≡ height (expr_tree x.tree)) }
+    requires { first.height ≡ height (expr_tree first.tree) }
+    ensures { (ts : _) → Gets (part a_condition) room ts (expr_tree first.entry.tree) (seen first.entry.rest.now)
+        → Measured (part an_expr) room ts result }
 {
-    let Some(_) = mark_at(start, Mark::Question) else {
-        return Ok(Nested {
-            tree: first,
-            height: first_height,
-            rest: start,
-        });
+    let Some(_) = mark_at(first.rest, Mark::Question) else {
+        return Ok(first);
     };
-    if first_height >= room {
-        return Err(Stop::TooDeep(start));
+    if first.height >= room {
+        return Err(Stop::TooDeep(first.rest));
     }
-    let mut height = first_height;
+    let mut height = first.height;
     // All of them, but from a call: so the borrow checker can join it with what the loop sets.
-    let (_none, mut rest) = start.split_at(0);
-    let mut last = first;
+    let (_none, mut rest) = first.rest.split_at(0);
+    let mut last = first.tree;
     let mut pairs = Vec::new(alloc);
     while let Some(after) = mark_at(rest, Mark::Question) {
-        let read = arm(alloc, room - 1, after)?;
-        height = height.max(read.height);
-        rest = read.rest;
-        pairs.push((last, read.value))?;
-        last = read.other;
+        let value = closed(alloc, room - 1, after, Mark::Colon)?;
+        let other = operands(alloc, room - 1, value.rest, LEVELS)?;
+        height = height.max(value.height).max(other.height);
+        rest = other.rest;
+        pairs.push((last, value.tree))?;
+        last = other.tree;
     }
     let other = Box::new(alloc, last)?;
     Ok(Nested {
         tree: Expr::Choice(pairs, other),
         height: height + 1,
         rest,
-    })
-}
-
-/// Reads what stands behind the `?` of a condition.
-#[cycle(expr)]
-fn arm<'t, 's>(
-    alloc: Global,
-    room: u32,
-    tokens: &'t [Token<'s>],
-) -> Result<ReadArm<'t, 's>, Stop<'t, 's>>
-    ensures reads { Answers (part an_expr · mark m.Colon · part a_condition) room (seen tokens.now)
-        (λ x. both (expr_tree x.value) (both (leaf (a_mark m.Colon)) (expr_tree x.other)))
-        (λ x. seen x.rest.now) result }
-    ensures height { IfOk result
-        (λ x. x.height ≡ max (height (expr_tree x.value)) (height (expr_tree x.other))) }
-{
-    let value = nested_expr(alloc, room, tokens)?;
-    let after = expect_mark(value.rest, Mark::Colon)?;
-    let other = operands(alloc, room, after, LEVELS)?;
-    Ok(ReadArm {
-        value: value.tree,
-        other: other.tree,
-        height: value.height.max(other.height),
-        rest: other.rest,
     })
 }
 
@@ -187,12 +127,11 @@ fn operands<'t, 's>(
     tokens: &'t [Token<'s>],
     top: usize,
 ) -> Result<Nested<'t, 's>, Stop<'t, 's>>
-    ensures reads { Nests (part (a_level top)) room (seen tokens.now) result }
-    ensures height { IfOk result (λ x. x.height ≡ height (expr_tree x.tree)) }
+    ensures { Measured (part (a_level top)) room (seen tokens.now) result }
 {
     let mut read = operand(alloc, room, tokens)?;
     for level in 0..top {
-        read = chain(alloc, room, read.tree, read.height, read.rest, level)?;
+        read = chain(alloc, room, read, level)?;
     }
     Ok(read)
 }
@@ -203,29 +142,23 @@ fn operands<'t, 's>(
 fn chain<'t, 's>(
     alloc: Global,
     room: u32,
-    first: Expr,
-    first_height: u32,
-    start: &'t [Token<'s>],
+    first: Nested<'t, 's>,
     level: usize,
 ) -> Result<Nested<'t, 's>, Stop<'t, 's>>
-    requires { first_height ≡ height (expr_tree first) }
-    ensures reads { (ts : _) → Gets (part (a_level level)) room ts (expr_tree first) (seen start.now)
-        → Nests (part (a_level (suc level))) room ts result }
-    ensures height { IfOk result (λ x. x.height ≡ height (expr_tree x.tree)) }
+    requires { first.height ≡ height (expr_tree first.tree) }
+    ensures { (ts : _) → Gets (part (a_level level)) room ts (expr_tree first.entry.tree) (seen first.entry.rest.now)
+        → Measured (part (a_level (suc level))) room ts result }
 {
-    let Some(_) = binary_at(start, level) else {
-        return Ok(Nested {
-            tree: first,
-            height: first_height,
-            rest: start,
-        });
+    let Some(_) = binary_at(first.rest, level) else {
+        return Ok(first);
     };
-    if first_height >= room {
-        return Err(Stop::TooDeep(start));
+    if first.height >= room {
+        return Err(Stop::TooDeep(first.rest));
     }
-    let mut height = first_height;
+    let mut height = first.height;
     // All of them, but from a call: so the borrow checker can join it with what the loop sets.
-    let (_none, mut rest) = start.split_at(0);
+    let (_none, mut rest) = first.rest.split_at(0);
+    let operand = Box::new(alloc, first.tree)?;
     let mut links = Vec::with_capacity(alloc, 1)?;
     while let Some((operator, after)) = binary_at(rest, level) {
         let other = operands(alloc, room - 1, after, level)?;
@@ -234,7 +167,7 @@ fn chain<'t, 's>(
         links.push((operator, other.tree))?;
     }
     Ok(Nested {
-        tree: Expr::Chain(Box::new(alloc, first)?, links),
+        tree: Expr::Chain(operand, links),
         height: height + 1,
         rest,
     })
@@ -247,8 +180,7 @@ fn operand<'t, 's>(
     room: u32,
     tokens: &'t [Token<'s>],
 ) -> Result<Nested<'t, 's>, Stop<'t, 's>>
-    ensures reads { Nests (part an_operand) room (seen tokens.now) result }
-    ensures height { IfOk result (λ x. x.height ≡ height (expr_tree x.tree)) }
+    ensures { Measured (part an_operand) room (seen tokens.now) result }
 {
     let Some(head) = operand_head(tokens) else {
         return Err(Stop::Unexpected(tokens));
@@ -290,8 +222,7 @@ fn named<'t, 's>(
     tokens: &'t [Token<'s>],
 ) -> Result<Nested<'t, 's>, Stop<'t, 's>>
     requires { first (seen tokens.now) ≡ any_name }
-    ensures reads { Nests (part an_operand) room (seen tokens.now) result }
-    ensures height { IfOk result (λ x. x.height ≡ height (expr_tree x.tree)) }
+    ensures { Measured (part an_operand) room (seen tokens.now) result }
 {
     let (name, start) = expect_name(alloc, tokens)?;
     let Some(_) = mark_at(start, Mark::OpenBracket) else {
@@ -319,9 +250,8 @@ pub(crate) fn selects<'t, 's>(
     room: u32,
     tokens: &'t [Token<'s>],
 ) -> Result<ReadSelects<'t, 's>, Stop<'t, 's>>
-    ensures reads { Answers (many select) room (seen tokens.now)
-        (λ x. row_of (map chosen_tree x.tree.items)) (λ x. seen x.rest.now) result }
-    ensures height { IfOk result (λ x. x.height ≡ height (row_of (map chosen_tree x.tree.items))) }
+    ensures { Measures (many select) room (seen tokens.now)
+        (λ x. row_of (map chosen_tree x.tree.items)) (λ x. x.height) (λ x. seen x.rest.now) result }
 {
     let mut height: u32 = 0;
     // All of them, but from a call: so the borrow checker can join it with what the loop sets.
@@ -345,42 +275,23 @@ fn chosen<'t, 's>(
     after: &'t [Token<'s>],
 ) -> Result<ReadSelect<'t, 's>, Stop<'t, 's>>
     requires { seen tokens.now ≡ a_mark m.OpenBracket ∷ seen after.now }
-    ensures reads { Answers select room (seen tokens.now) (λ x. chosen_tree x.tree) (λ x. seen x.rest.now) result }
-    ensures height { IfOk result (λ x. x.height ≡ height (chosen_tree x.tree)) }
+    ensures { Measures select room (seen tokens.now)
+        (λ x. chosen_tree x.tree) (λ x. x.height) (λ x. seen x.rest.now) result }
 {
     let index = nested_expr(alloc, room, after)?;
-    let other = second(alloc, room, index.rest)?;
-    let rest = expect_mark(other.rest, Mark::CloseBracket)?;
-    Ok(ReadSelect {
-        tree: (index.tree, other.tree),
-        height: index.height.max(other.height),
-        rest,
-    })
-}
-
-/// Reads the second expression of a part-select and what stands before it, if that is next.
-#[cycle(expr)]
-fn second<'t, 's>(
-    alloc: Global,
-    room: u32,
-    tokens: &'t [Token<'s>],
-) -> Result<ReadSecond<'t, 's>, Stop<'t, 's>>
-    ensures reads { Answers second room (seen tokens.now)
-        (λ x. second_tree (second_trees x.tree)) (λ x. seen x.rest.now) result }
-    ensures height { IfOk result (λ x. x.height ≡ height (second_tree (second_trees x.tree))) }
-{
-    let Some((kind, after)) = part_select_at(tokens) else {
-        return Ok(ReadSecond {
-            tree: None,
-            height: 0,
-            rest: tokens,
+    let Some((kind, behind)) = part_select_at(index.rest) else {
+        let rest = expect_mark(index.rest, Mark::CloseBracket)?;
+        return Ok(ReadSelect {
+            tree: (index.tree, None),
+            height: index.height,
+            rest,
         });
     };
-    let value = nested_expr(alloc, room, after)?;
-    Ok(ReadSecond {
-        tree: Some((kind, value.tree)),
-        height: value.height,
-        rest: value.rest,
+    let other = closed(alloc, room, behind, Mark::CloseBracket)?;
+    Ok(ReadSelect {
+        tree: (index.tree, Some((kind, other.tree))),
+        height: index.height.max(other.height),
+        rest: other.rest,
     })
 }
 
@@ -394,17 +305,18 @@ fn prefixed<'t, 's>(
     after: &'t [Token<'s>],
 ) -> Result<Nested<'t, 's>, Stop<'t, 's>>
     requires { seen tokens.now ≡ a_mark (unary_mark operator) ∷ seen after.now }
-    ensures reads { Nests (part an_operand) room (seen tokens.now) result }
-    ensures height { IfOk result (λ x. x.height ≡ height (expr_tree x.tree)) }
+    ensures { Measured (part an_operand) room (seen tokens.now) result }
 {
     if room == 0 {
         return Err(Stop::TooDeep(tokens));
     }
     let inner = operand(alloc, room - 1, after)?;
-    let height = inner.height + 1;
-    let rest = inner.rest;
-    let tree = Expr::Unary(operator, Box::new(alloc, inner.tree)?);
-    Ok(Nested { tree, height, rest })
+    let part = Box::new(alloc, inner.tree)?;
+    Ok(Nested {
+        tree: Expr::Unary(operator, part),
+        height: inner.height + 1,
+        rest: inner.rest,
+    })
 }
 
 /// Reads an expression in parentheses, behind whose `(` `after` stands.
@@ -416,17 +328,18 @@ fn group<'t, 's>(
     after: &'t [Token<'s>],
 ) -> Result<Nested<'t, 's>, Stop<'t, 's>>
     requires { seen tokens.now ≡ a_mark m.Open ∷ seen after.now }
-    ensures reads { Nests (part an_operand) room (seen tokens.now) result }
-    ensures height { IfOk result (λ x. x.height ≡ height (expr_tree x.tree)) }
+    ensures { Measured (part an_operand) room (seen tokens.now) result }
 {
     if room == 0 {
         return Err(Stop::TooDeep(tokens));
     }
-    let inner = closed(alloc, room - 1, after)?;
-    let height = inner.height + 1;
-    let rest = inner.rest;
-    let tree = Expr::Group(Box::new(alloc, inner.tree)?);
-    Ok(Nested { tree, height, rest })
+    let inner = closed(alloc, room - 1, after, Mark::Close)?;
+    let part = Box::new(alloc, inner.tree)?;
+    Ok(Nested {
+        tree: Expr::Group(part),
+        height: inner.height + 1,
+        rest: inner.rest,
+    })
 }
 
 /// Reads a conversion to signed or to unsigned, behind whose name `after` stands.
@@ -439,33 +352,34 @@ fn cast<'t, 's>(
     after: &'t [Token<'s>],
 ) -> Result<Nested<'t, 's>, Stop<'t, 's>>
     requires { seen tokens.now ≡ a_cast signed ∷ seen after.now }
-    ensures reads { Nests (part an_operand) room (seen tokens.now) result }
-    ensures height { IfOk result (λ x. x.height ≡ height (expr_tree x.tree)) }
+    ensures { Measured (part an_operand) room (seen tokens.now) result }
 {
     if room == 0 {
         return Err(Stop::TooDeep(tokens));
     }
     let opened = expect_mark(after, Mark::Open)?;
-    let inner = closed(alloc, room - 1, opened)?;
-    let height = inner.height + 1;
-    let rest = inner.rest;
-    let tree = Expr::Cast(signed, Box::new(alloc, inner.tree)?);
-    Ok(Nested { tree, height, rest })
+    let inner = closed(alloc, room - 1, opened, Mark::Close)?;
+    let part = Box::new(alloc, inner.tree)?;
+    Ok(Nested {
+        tree: Expr::Cast(signed, part),
+        height: inner.height + 1,
+        rest: inner.rest,
+    })
 }
 
-/// Reads an expression and the parenthesis behind it.
+/// Reads an expression and the mark behind it.
 #[cycle(expr)]
 fn closed<'t, 's>(
     alloc: Global,
     room: u32,
     tokens: &'t [Token<'s>],
+    end: Mark,
 ) -> Result<Nested<'t, 's>, Stop<'t, 's>>
-    ensures reads { Answers (part an_expr · mark m.Close) room (seen tokens.now)
-        (λ x. closed_tree (expr_tree x.tree)) (λ x. seen x.rest.now) result }
-    ensures height { IfOk result (λ x. x.height ≡ height (expr_tree x.tree)) }
+    ensures { Measures (part an_expr · mark end) room (seen tokens.now)
+        (λ x. both (expr_tree x.tree) (leaf (a_mark end))) (λ x. x.height) (λ x. seen x.rest.now) result }
 {
     let inner = nested_expr(alloc, room, tokens)?;
-    let rest = expect_mark(inner.rest, Mark::Close)?;
+    let rest = expect_mark(inner.rest, end)?;
     Ok(Nested {
         tree: inner.tree,
         height: inner.height,
@@ -482,49 +396,28 @@ fn braces<'t, 's>(
     after: &'t [Token<'s>],
 ) -> Result<Nested<'t, 's>, Stop<'t, 's>>
     requires { seen tokens.now ≡ a_mark m.OpenBrace ∷ seen after.now }
-    ensures reads { Nests (part an_operand) room (seen tokens.now) result }
-    ensures height { IfOk result (λ x. x.height ≡ height (expr_tree x.tree)) }
+    ensures { Measured (part an_operand) room (seen tokens.now) result }
 {
     if room == 0 {
         return Err(Stop::TooDeep(tokens));
     }
     let first = nested_expr(alloc, room - 1, after)?;
+    let head = Box::new(alloc, first.tree)?;
     let Some(inner) = mark_at(first.rest, Mark::OpenBrace) else {
         let behind = others(alloc, room - 1, first.rest)?;
-        let height = first.height.max(behind.height) + 1;
-        let rest = behind.rest;
-        let tree = Expr::Concat(Box::new(alloc, first.tree)?, behind.tree);
-        return Ok(Nested { tree, height, rest });
+        return Ok(Nested {
+            tree: Expr::Concat(head, behind.tree),
+            height: first.height.max(behind.height) + 1,
+            rest: behind.rest,
+        });
     };
-    let parts = repeated(alloc, room - 1, inner)?;
-    let height = first.height.max(parts.height) + 1;
-    let rest = parts.rest;
-    let times = Box::new(alloc, first.tree)?;
-    let part = Box::new(alloc, parts.first)?;
-    let tree = Expr::Repeat(times, part, parts.others);
-    Ok(Nested { tree, height, rest })
-}
-
-/// Reads the parts of a multiple concatenation, and the braces behind them.
-#[cycle(expr)]
-fn repeated<'t, 's>(
-    alloc: Global,
-    room: u32,
-    tokens: &'t [Token<'s>],
-) -> Result<ReadParts<'t, 's>, Stop<'t, 's>>
-    ensures reads { Answers (part an_expr · other_parts an_expr · mark m.CloseBrace) room (seen tokens.now)
-        (λ x. repeated_tree (expr_tree x.first) (map expr_tree x.others.items))
-        (λ x. seen x.rest.now) result }
-    ensures height { IfOk result
-        (λ x. x.height ≡ height (repeated_tree (expr_tree x.first) (map expr_tree x.others.items))) }
-{
-    let part = nested_expr(alloc, room, tokens)?;
-    let parts = others(alloc, room, part.rest)?;
-    let rest = expect_mark(parts.rest, Mark::CloseBrace)?;
-    Ok(ReadParts {
-        first: part.tree,
-        others: parts.tree,
-        height: part.height.max(parts.height),
+    let part = nested_expr(alloc, room - 1, inner)?;
+    let content = Box::new(alloc, part.tree)?;
+    let behind = others(alloc, room - 1, part.rest)?;
+    let rest = expect_mark(behind.rest, Mark::CloseBrace)?;
+    Ok(Nested {
+        tree: Expr::Repeat(head, content, behind.tree),
+        height: first.height.max(part.height).max(behind.height) + 1,
         rest,
     })
 }
@@ -536,10 +429,8 @@ fn others<'t, 's>(
     room: u32,
     tokens: &'t [Token<'s>],
 ) -> Result<ReadOthers<'t, 's>, Stop<'t, 's>>
-    ensures reads { Answers (other_parts an_expr) room (seen tokens.now)
-        (λ x. others_tree (map expr_tree x.tree.items)) (λ x. seen x.rest.now) result }
-    ensures height { IfOk result
-        (λ x. x.height ≡ height (others_tree (map expr_tree x.tree.items))) }
+    ensures { Measures (other_parts an_expr) room (seen tokens.now)
+        (λ x. others_tree (map expr_tree x.tree.items)) (λ x. x.height) (λ x. seen x.rest.now) result }
 {
     let mut height: u32 = 0;
     // All of them, but from a call: so the borrow checker can join it with what the loop sets.

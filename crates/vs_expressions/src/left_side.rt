@@ -1,10 +1,9 @@
 //! Reading the left sides of assignments.
-ghost use Rattle.std.specs.Prelude.{◌≡◌, ◌≤◌, ◌∷◌, map};
+ghost use Rattle.std.specs.Prelude.{◌≡◌, ◌∷◌, map};
 ghost use Rattle.vs_tokens.specs.declared.token.Mark.TheVariants as m;
 ghost use Rattle.vs_syntax.specs.Symbols.{a_mark, any_name, first};
-ghost use Rattle.vs_syntax.specs.Grammar.{part, many, select, other_parts, a_target};
-ghost use Rattle.vs_syntax.specs.Tables.{low_of};
-ghost use Rattle.vs_syntax.specs.Views.{row_of, chosen_tree, others_tree, left_tree};
+ghost use Rattle.vs_syntax.specs.Grammar.{part, many, select, a_target};
+ghost use Rattle.vs_syntax.specs.Views.{row_of, chosen_tree, left_tree};
 ghost use Rattle.vs_expressions.specs.Answers.{seen, ReadsTree};
 
 use crate::expression::selects;
@@ -83,32 +82,18 @@ fn places<'t, 's>(
         return Err(Stop::TooDeep(tokens));
     }
     let first = left(alloc, room - 1, after)?;
-    let behind = other_places(alloc, room - 1, first.rest)?;
-    Ok(Read {
-        tree: Left::Concat(Box::new(alloc, first.tree)?, behind.tree),
-        rest: behind.rest,
-    })
-}
-
-/// Reads the left sides in braces behind the first one, and the brace behind them.
-#[cycle(left)]
-fn other_places<'t, 's>(
-    alloc: Global,
-    room: u32,
-    tokens: &'t [Token<'s>],
-) -> Result<Read<'t, 's, Vec<Left>>, Stop<'t, 's>>
-    requires { low_of a_target ≤ room }
-    ensures { ReadsTree (other_parts a_target) room tokens.now
-        (λ xs. others_tree (map left_tree xs.items)) result }
-{
+    let mut others = Vec::new(alloc);
     // All of them, but from a call: so the borrow checker can join it with what the loop sets.
-    let (_none, mut rest) = tokens.split_at(0);
-    let mut tree = Vec::new(alloc);
-    while let Some(after) = mark_at(rest, Mark::Comma) {
-        let part = left(alloc, room, after)?;
+    let (_none, mut rest) = first.rest.split_at(0);
+    while let Some(next) = mark_at(rest, Mark::Comma) {
+        let part = left(alloc, room - 1, next)?;
         rest = part.rest;
-        tree.push(part.tree)?;
+        others.push(part.tree)?;
     }
     let behind = expect_mark(rest, Mark::CloseBrace)?;
-    Ok(Read { tree, rest: behind })
+    let head = Box::new(alloc, first.tree)?;
+    Ok(Read {
+        tree: Left::Concat(head, others),
+        rest: behind,
+    })
 }

@@ -1,6 +1,7 @@
 -- Lemmas on code that is being written.
 use Rattle.std.proofs.Common.{Global, ◌≡◌, ℕ, zero, suc, ◌<◌, ◌≤◌, false, Some, List, [], ◌∷◌, ◌++◌, ◌+◌, length, get_or, refl, sym, ◌∙◌, ap, subst, arith, ◌⊎◌, inl, inr, ⊎_elim, append_assoc}
-use Rattle.std.specs.Prelude.{slice_get, slice_set, Vec, option_map, IfOk, Result, Ok, Err}
+use Rattle.std.specs.Prelude.{slice_get, slice_set, Vec, option_map, IfOk, OnErr, Result, Ok, Err}
+use Rattle.std.specs.Result.{IsErrAnd}
 use Rattle.std.specs.declared.alloc.AllocError.{AllocError}
 use Rattle.vs_design.specs.declared.statement.Statement.TheViews.{out-Statement}
 use Rattle.std.proofs.lemmas.List.{get_or-set_same, get_or-set_other, length-append, length-map, map-append}
@@ -210,3 +211,13 @@ written_raised d n h le = record {
   more = record { grows = record { links = λ i l e. e; counters = le }; longer = omega arith; kept = λ i lt. refl; linked = h };
   fits = λ i x ge e. absurd (omega (arith, slice_get_within d.ops.items i x e));
 }
+
+-- ---- an error
+
+pub none_ok : {T E : Type 0} (P : T → Type 0) (Q : E → Type 0) (r : Result T E) → IsErrAnd r Q → IfOk r P
+none_ok P Q (Ok x) e = absurd e
+none_ok P Q (Err y) e = tt
+
+pub on_err : {T E : Type 0} (P : Type 0) (r : Result T E) → P → OnErr r P
+on_err P (Ok x) p = tt
+on_err P (Err y) p = p

@@ -1,6 +1,7 @@
 -- The code of a process does what the process does.
-use Rattle.std.proofs.Common.{Global, ◌≡◌, ℕ, zero, suc, ◌<◌, ◌+◌, Bool, true, false, Option, Some, None, List, [], ◌∷◌, ◌++◌, length, refl, sym, ◌∙◌, ap, subst, arith}
-use Rattle.std.specs.Prelude.{slice_get, Vec, find, if◌then◌else◌}
+use Rattle.std.proofs.Common.{Global, ◌≡◌, ℕ, zero, suc, ◌<◌, ◌+◌, Bool, true, false, Option, Some, None, List, [], ◌∷◌, ◌++◌, length, refl, sym, ◌∙◌, ap, subst, inl, arith}
+use Rattle.std.specs.Prelude.{slice_get, Vec, find, if◌then◌else◌, IfOk, OnOk, OnErr, Result, Ok, Err}
+use Rattle.std.specs.declared.alloc.AllocError.{AllocError}
 use Rattle.std.proofs.lemmas.List.{append-nil, length-set}
 use Rattle.vs_logic4.specs.declared.digit.Digit.{Digit}
 use Rattle.vs_logic4.specs.declared.digit.Digit.TheVariants.{Zero, One, X, Z}
@@ -8,7 +9,7 @@ use Rattle.vs_logic4.specs.Comparisons.{truth}
 use Rattle.vs_design.specs.declared.expression.Typed.{Typed}
 use Rattle.vs_design.specs.declared.statement.Statement.{Statement}
 use Rattle.vs_design.specs.declared.statement.Statement.TheOpen.{Statement-F}
-use Rattle.vs_design.specs.declared.statement.Statement.TheViews.{out-Statement}
+use Rattle.vs_design.specs.declared.statement.Statement.TheViews.{roll-Statement, out-Statement}
 use Rattle.vs_design.specs.Stores.{Store}
 use Rattle.vs_design.specs.Writes.{Write}
 use Rattle.vs_eval.specs.Values.{value_of}
@@ -27,9 +28,10 @@ use Rattle.vs_flatcode.specs.Steps.{Next, Out, on, goes, has_nothing, step, stat
 use Rattle.vs_flatcode.specs.Links.{Job, Link, performs, todo_at, todo_from, todo_within, item_of}
 use Rattle.vs_flatcode.specs.Went.{CalmSteps, CalmlyTo, IsCalmStep, IsFollowed, QuietSteps, TookStep, TookSteps}
 use Rattle.vs_flatcode.specs.Codes.{Layout, todo_in, IsCode, IsTurn, LeadAll, FitsStatement, FitsTask, IsFormatOf, IsFormatFor, links_of, link_of, layout_of, job_of}
-use Rattle.vs_flatcode.specs.Landings.{Landing, landing, out_of, next_of, effect_in, made_out, item_write, IsMade, IsStill, turned, start_where, place_or, layer_lands, lands, todo_behind}
+use Rattle.vs_flatcode.specs.Landings.{Landing, landing, out_of, next_of, effect_in, made_out, item_write, layer_write, IsMade, IsStill, statement_lands, turned, start_where, place_or, layer_lands, lands, todo_behind}
 use Rattle.vs_flatcode.proofs.Links.{todo_here}
 use Rattle.vs_flatcode.proofs.Drafts.{link_here}
+use Rattle.vs_flatcode.proofs.Shapes.{layer_of}
 
 -- what is done from one of two places on
 branch_leads : (links : List Link) (cs : List ℕ) (d : Digit) (a b : Todo) (p q : ℕ) → todo_at links cs p ≡ a → todo_at links cs q ≡ b → branch d a b ≡ todo_at links cs (branch d p q)
@@ -190,6 +192,22 @@ took_step ops cs counters place i next x store behind time halt effect changes a
       noted = noted ∙ ap (λ (v : Option Write). changes ++ changes_of store v) own.1;
     }
 
+-- the same where there may have been no memory for it
+pub ok_step : (ops : List Op) (cs counters : List ℕ) (place i : ℕ) (x : Op) (store behind : Store) (time : ℕ) (effect : Effect) (changes all : List Change) (r : Result (Halt × ℕ) AllocError) →
+    IsCode ops (length cs) → place ≡ suc i → slice_get ops i ≡ Some x → IfOk r (λ v. landing v.1 counters ≡ lands x x.task cs store time) →
+    IfOk r (λ v. IsMade (item_of cs (job_of x.counter x.task)) store time v.0 effect) →
+    let w : Option Write = item_write (item_of cs (job_of x.counter x.task)) store time in
+    IfOk r (λ v. IsStill v.0 w) → OnOk r (behind ≡ store_behind store w) → OnOk r (all ≡ changes ++ changes_of store w) →
+    IfOk r (λ v. TookStep (todo_in ops cs place) store time v.0 (todo_in ops counters v.1) effect behind changes all)
+ok_step ops cs counters place i x store behind time effect changes all (Ok v) code at e l m still written noted =
+    took_step ops cs counters place i v.1 x store behind time v.0 effect changes all code at e l m still written noted
+ok_step ops cs counters place i x store behind time effect changes all (Err y) code at e l m still written noted = tt
+
+pub code_behind : (ops : List Op) (x : Op) (cs counters : List ℕ) (store : Store) (time : ℕ) (r : Result (Halt × ℕ) AllocError) → IsCode ops (length cs) →
+    IfOk r (λ v. landing v.1 counters ≡ lands x x.task cs store time) → OnErr r (counters ≡ cs) → IsCode ops (length counters)
+code_behind ops x cs counters store time (Ok v) code l kept = still_code ops x cs counters v.1 store time code l
+code_behind ops x cs counters store time (Err y) code l kept = subst (λ (k : List ℕ). IsCode ops (length k)) (sym kept) code
+
 -- where nothing is left to do, nothing is done
 pub took_none : (old : Todo) (store : Store) (time : ℕ) (effect : Effect) (changes : List Change) → old ≡ [] → TookStep old store time h.Nothing old effect store changes changes
 took_none old store time effect changes is =
@@ -307,3 +325,51 @@ took_steps n more steps old mid next new here store behind time halt last effect
   took = took_in mid next here store behind time halt effect so changes all same kept took;
   rest = rest;
 }
+
+-- steps that do nothing beyond the process, some of them, and no more
+pub took_quiet : (steps : ℕ) (old new : Todo) (store behind : Store) (time : ℕ) (effect : Effect) (changes all : List Change) → QuietSteps steps old store time new → (steps ≡ 0 → ⊥) → behind ≡ store → all ≡ changes →
+    TookSteps steps old store time h.Nothing h.Nothing new effect behind changes all
+took_quiet zero old new store behind time effect changes all quiet some same kept = absurd (some refl)
+took_quiet (suc n) old new store behind time effect changes all quiet some same kept =
+    let none : (step quiet.0 store time).write ≡ None = ap (λ (o : Out). o.write) quiet.2.out in
+    record {
+      before = n;
+      more = 0;
+      count = omega arith;
+      mid = quiet.0;
+      next = new;
+      quiet = quiet.1;
+      took = record {
+        out = quiet.2.out ∙ ap (λ (w : Option Write). made_out h.Nothing effect w new) (sym none);
+        still = none;
+        written = same ∙ ap (store_behind store) (sym none);
+        noted = kept ∙ sym (append-nil changes) ∙ ap (λ (w : Option Write). changes ++ changes_of store w) (sym none);
+      };
+      rest = inl (refl, refl, refl);
+    }
+
+-- the step of a statement ended so, led there, has this effect where it has one, leaves the store so, and puts the words that it changes behind a list
+pub record IsPerformed (x : Op) (s : Statement) (cs counters : List ℕ) (store behind : Store) (time : ℕ) (halt : Halt) (place : ℕ) (effect : Effect) (changes all : List Change) : Type 0 where
+  pub lands : landing place counters ≡ statement_lands x s cs store time
+  pub made : IsMade (perform s) store time halt effect
+  pub still : IsStill halt (item_write (perform s) store time)
+  pub written : behind ≡ store_behind store (item_write (perform s) store time)
+  pub noted : all ≡ changes ++ changes_of store (item_write (perform s) store time)
+
+-- the same by the statement's outermost layer
+pub performed : (x : Op) (s t : Statement) (f : Statement-F Statement) (cs counters : List ℕ) (store behind : Store) (time : ℕ) (halt : Halt) (place : ℕ) (effect : Effect) (changes all : List Change) →
+    s ≡ t → roll-Statement f ≡ t → landing place counters ≡ layer_lands x f cs store time →
+    ((rest : Todo) → let out = statement_step s f rest store time in out ≡ made_out halt effect (layer_write f store time) (todo_behind out.next)) →
+    IsStill halt (layer_write f store time) → behind ≡ store_behind store (layer_write f store time) → all ≡ changes ++ changes_of store (layer_write f store time) →
+    IsPerformed x s cs counters store behind time halt place effect changes all
+performed x s t f cs counters store behind time halt place effect changes all is built lands made still written noted =
+    let layer : f ≡ out-Statement s = sym (layer_of s t f is built) in
+    record {
+      lands = lands ∙ ap (λ (g : Statement-F Statement). layer_lands x g cs store time) layer;
+      made =
+          subst (λ (g : Statement-F Statement). (rest : Todo) → let out = statement_step s g rest store time in out ≡ made_out halt effect (layer_write g store time) (todo_behind out.next))
+          layer made;
+      still = subst (λ (g : Statement-F Statement). IsStill halt (layer_write g store time)) layer still;
+      written = written ∙ ap (λ (g : Statement-F Statement). store_behind store (layer_write g store time)) layer;
+      noted = noted ∙ ap (λ (g : Statement-F Statement). changes ++ changes_of store (layer_write g store time)) layer;
+    }

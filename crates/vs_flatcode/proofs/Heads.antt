@@ -1,12 +1,19 @@
 -- Lemmas on instructions that stand behind what is written in front of them.
-use Rattle.std.proofs.Common.{false, ◌≡◌, ◌≢◌, ℕ, suc, ◌<◌, ◌≤◌, Some, List, [], ◌∷◌, length, refl, sym, ◌∙◌, ap, ap₂, subst, arith, ⊎_elim}
-use Rattle.std.specs.Prelude.{slice_get}
+use Rattle.std.proofs.Common.{false, ◌≡◌, ◌≢◌, ℕ, suc, ◌<◌, ◌≤◌, Some, List, [], ◌∷◌, length, refl, sym, ◌∙◌, ap, ap₂, subst, arith, ◌⊎◌, inl, inr, ⊎_elim, Global}
+use Rattle.std.specs.Prelude.{slice_get, Vec}
+use Rattle.std.specs.declared.boxed.Box.{Box}
 use Rattle.std.proofs.lemmas.List.{length-map}
 use Rattle.std.proofs.lemmas.Option.{same_Some}
 use denote.Ref.{Bor}
+use Rattle.vs_design.specs.WellFormed.{numbers}
+use Rattle.vs_design.specs.declared.expression.Typed.{Typed}
+use Rattle.vs_design.specs.declared.statement.EventTerm.{EventTerm}
+use Rattle.vs_design.specs.declared.statement.Target.{Target}
+use Rattle.vs_design.specs.declared.statement.Ticks.{Ticks}
 use Rattle.vs_design.specs.declared.statement.Statement.{Statement}
+use Rattle.vs_design.specs.declared.statement.Statement.TheVariants as d
 use Rattle.vs_design.specs.declared.statement.Statement.TheOpen.{Statement-F}
-use Rattle.vs_design.specs.declared.statement.Statement.TheViews.{out-Statement}
+use Rattle.vs_design.specs.declared.statement.Statement.TheViews.{out-Statement, roll-Statement}
 use Rattle.vs_flatcode.specs.declared.draft.Op.{Op}
 use Rattle.vs_flatcode.specs.declared.draft.Task.{Task}
 use Rattle.vs_flatcode.specs.declared.draft.Task.TheVariants.{Perform, Turns}
@@ -14,8 +21,8 @@ use Rattle.vs_flatcode.specs.declared.draft.Draft.{Draft}
 use Rattle.vs_flatcode.specs.Places.{Todo, flat, perform}
 use Rattle.vs_flatcode.specs.Links.{Link, Job, performs, tests, AreLinked, Leads}
 use Rattle.vs_flatcode.specs.Codes.{Layout, links_of, link_of, job_of, Fits, FitsStatement, FitsTask}
-use Rattle.vs_flatcode.specs.Drafts.{is_block, IsNext, Grows, Always, AlwaysLeads, AlwaysFree, AlwaysTurn, drafted, IsLonger, Written, IsReady, IsEmitted, IsHead, IsLoop}
-use Rattle.vs_flatcode.proofs.Shapes.{flat-single}
+use Rattle.vs_flatcode.specs.Drafts.{is_block, numbers_inside, IsNext, Grows, Always, AlwaysLeads, AlwaysFree, AlwaysTurn, drafted, IsLonger, Written, IsReady, IsEmitted, IsHead, IsLoop}
+use Rattle.vs_flatcode.proofs.Shapes.{flat-single, layer_of}
 use Rattle.vs_flatcode.proofs.Drafts.{always_later, link_here, leads_here, free_then, free_test, turn_here, longer_then, ready_more, below_or}
 
 -- the place of a head
@@ -131,4 +138,50 @@ pub next_of_layer : (d : Draft) (x : Op) (s : Statement) (f : Statement-F Statem
 next_of_layer d x s f is single fits = record {
   single = ap (λ (g : Statement-F Statement). is_block g) is ∙ single;
   fits = λ later linked more. subst (FitsStatement later x (suc (length d.ops.items)) s) (sym is) (fits later linked more);
+}
+
+-- a statement goes on where it must where this holds, and has these numbers inside
+pub record IsKnown (s : Statement) (need : Layout → Op → ℕ → Type 0) (ns : List ℕ) : Type 0 where
+  pub single : is_block (out-Statement s) ≡ false
+  pub fits : (c : Layout) (x : Op) (here : ℕ) → need c x here → FitsStatement c x here s (out-Statement s)
+  pub inside : numbers_inside (out-Statement s) ≡ ns
+
+pub known_by : (s t : Statement) (f : Statement-F Statement) → s ≡ t → roll-Statement f ≡ t → is_block f ≡ false → IsKnown s (λ c x here. FitsStatement c x here s f) (numbers_inside f)
+known_by s t f is built single =
+    let layer : out-Statement s ≡ f = layer_of s t f is built in
+    record {
+      single = ap (λ (g : Statement-F Statement). is_block g) layer ∙ single;
+      fits = λ c x here h. subst (FitsStatement c x here s) (sym layer) h;
+      inside = ap (λ (g : Statement-F Statement). numbers_inside g) layer;
+    }
+
+-- a statement with none in it that goes on behind it
+pub plain_known : (s : Statement) →
+    ((n : ℕ) × (s ≡ d.Null n)) ⊎ ((n : ℕ) × (t : Target) × (e : Typed) × (s ≡ d.Assign n t e)) ⊎ ((n : ℕ) × (ticks : Ticks) × (t : Target) × (e : Typed) × (s ≡ d.Later n ticks t e)) ⊎ ((n : ℕ) × (s ≡ d.Finish n)) →
+    IsKnown s (λ c x here. Unit {0}) []
+plain_known s (inl w) = known_by s (d.Null w.0) (Statement-F.Null w.0) w.1 (d.rolls-Null w.0) refl
+plain_known s (inr (inl w)) = known_by s (d.Assign w.0 w.1 w.2) (Statement-F.Assign w.0 w.1 w.2) w.3 (d.rolls-Assign w.0 w.1 w.2) refl
+plain_known s (inr (inr (inl w))) = known_by s (d.Later w.0 w.1 w.2 w.3) (Statement-F.Later w.0 w.1 w.2 w.3) w.4 (d.rolls-Later w.0 w.1 w.2 w.3) refl
+plain_known s (inr (inr (inr w))) = known_by s (d.Finish w.0) (Statement-F.Finish w.0) w.1 (d.rolls-Finish w.0) refl
+
+-- a timing control
+pub control_known : (s : Statement) (b : Box Statement Global) → ((n : ℕ) × (ticks : Ticks) × (s ≡ d.Delay n ticks b)) ⊎ ((n : ℕ) × (terms : Vec EventTerm Global) × (s ≡ d.Event n terms b)) →
+    IsKnown s (λ c x here. Leads c.links (flat b.value) x.first x.behind) (numbers b.value)
+control_known s b (inl w) = known_by s (d.Delay w.0 w.1 b) (Statement-F.Delay w.0 w.1 b) w.2 (d.rolls-Delay w.0 w.1 b) refl
+control_known s b (inr w) = known_by s (d.Event w.0 w.1 b) (Statement-F.Event w.0 w.1 b) w.2 (d.rolls-Event w.0 w.1 b) refl
+
+loop_known : (s : Statement) (b : Box Statement Global) → ((n : ℕ) × (e : Typed) × (s ≡ d.While n e b)) ⊎ ((n : ℕ) × (s ≡ d.Forever n b)) →
+    IsKnown s (λ c x here. Leads c.links (flat b.value) x.first here) (numbers b.value)
+loop_known s b (inl w) = known_by s (d.While w.0 w.1 b) (Statement-F.While w.0 w.1 b) w.2 (d.rolls-While w.0 w.1 b) refl
+loop_known s b (inr w) = known_by s (d.Forever w.0 b) (Statement-F.Forever w.0 b) w.1 (d.rolls-Forever w.0 b) refl
+
+pub loop_of : (s : Statement) (b : Box Statement Global) (body : Statement) → body ≡ b.value → ((n : ℕ) × (e : Typed) × (s ≡ d.While n e b)) ⊎ ((n : ℕ) × (s ≡ d.Forever n b)) → IsLoop s body
+loop_of s b body same is =
+    let known : IsKnown s (λ c x here. Leads c.links (flat b.value) x.first here) (numbers b.value) = loop_known s b is in
+    subst (IsLoop s) (sym same) (record { single = known.single; fits = known.fits; inside = known.inside })
+
+pub known_next : (d : Draft) (x : Op) (s : Statement) (need : Layout → Op → ℕ → Type 0) (ns : List ℕ) → IsKnown s need ns → Always (drafted d) (λ later. need later x (suc (length d.ops.items))) → IsNext d x s
+known_next d x s need ns known goes = record {
+  single = known.single;
+  fits = λ later linked more. known.fits later x (suc (length d.ops.items)) (goes later linked more);
 }

@@ -220,3 +220,8 @@ pub ok_single : (a c : Draft) (s : Statement) (f : Statement-F Statement) (r : R
     IfOk r (λ p. AddsOne a c (number_of (out-Statement s))) → IfOk r (λ p. Adds a c (numbers s))
 ok_single a c s f r is none one =
     ok_whole a a c s r (subst (λ (ns : List ℕ). Adds a a ns) (sym (ap (λ (g : Statement-F Statement). numbers_inside g) is ∙ none)) (adds_none a)) one
+
+-- the instruction of a statement in front of the code of those in it
+pub ok_known : (a b c : Draft) (s : Statement) (ns : List ℕ) (r : Result ℕ AllocError) → numbers_inside (out-Statement s) ≡ ns → Adds a b ns →
+    IfOk r (λ p. AddsOne b c (number_of (out-Statement s))) → IfOk r (λ p. Adds a c (numbers s))
+ok_known a b c s ns r is inside one = ok_whole a b c s r (subst (λ (ms : List ℕ). Adds a b ms) (sym is) inside) one

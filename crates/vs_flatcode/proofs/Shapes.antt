@@ -1,11 +1,11 @@
 -- Lemmas on statements by their outermost layer.
-use Rattle.std.proofs.Common.{◌≡◌, false, List, [], ◌∷◌, ◌++◌, refl, ap, subst, rules, Global, ℕ, ◌<◌, ◌+◌, length, drop, get_or}
+use Rattle.std.proofs.Common.{◌≡◌, ◌∙◌, false, List, [], ◌∷◌, ◌++◌, refl, sym, ap, subst, rules, Global, ℕ, ◌<◌, ◌+◌, length, drop, get_or}
 use Rattle.std.proofs.lemmas.List.{drop_more}
 use Rattle.std.specs.Prelude.{Vec}
 use mathlib.Core.Former.{Count}
 use Rattle.vs_design.specs.declared.statement.Statement.{Statement, Row_of-Statement, end_of-Statement, more_of-Statement, items-the_row-Statement}
 use Rattle.vs_design.specs.declared.statement.Statement.TheVariants.{Block}
-use Rattle.vs_design.specs.declared.statement.Statement.TheViews.{the_lemmas, roll-Statement, out-Statement, roll-out-Statement}
+use Rattle.vs_design.specs.declared.statement.Statement.TheViews.{the_lemmas, roll-Statement, out-Statement, roll-out-Statement, out-roll-Statement}
 use Rattle.vs_design.specs.declared.statement.Statement.TheOpen.{Statement-F}
 use Rattle.vs_flatcode.specs.Places.{perform, flat, flat_row}
 use Rattle.vs_flatcode.specs.Drafts.{flat_all, is_block}
@@ -27,3 +27,7 @@ flat-rolled _ h = refl
 
 pub flat-single : (s : Statement) → is_block (out-Statement s) ≡ false → flat s ≡ perform s ∷ []
 flat-single s h = subst (λ t. flat t ≡ perform t ∷ []) (roll-out-Statement s) (flat-rolled (out-Statement s) h)
+
+-- the outermost layer of a statement that is built of it
+pub layer_of : (s t : Statement) (f : Statement-F Statement) → s ≡ t → roll-Statement f ≡ t → out-Statement s ≡ f
+layer_of s t f is built = ap out-Statement (is ∙ sym built) ∙ out-roll-Statement f

@@ -1,5 +1,5 @@
 //! Writes that are made in a store, and the words that they change (IEEE 1364-2005, clauses 6, 9.2 and 9.7.2).
-ghost use Rattle.std.specs.Prelude.{◌≡◌, ◌++◌, ◌∷◌, [], ◌<◌, ◌≤◌, ℕ, pos, Some, vec_len, vec_capacity, IfOk, IfSome, OnOk, OnErr};
+ghost use Rattle.std.specs.Prelude.{◌≡◌, ◌++◌, ◌∷◌, [], ◌<◌, ◌≤◌, ◌+◌, ℕ, pos, Some, vec_len, vec_capacity, IfOk, IfSome, OnOk, OnErr};
 ghost use Rattle.vs_logic4.specs.Parts.{selected};
 ghost use Rattle.vs_design.specs.Stores.{Store, put, put_part, changes_nothing};
 ghost use Rattle.vs_eval.specs.Targets.{assigned};
@@ -27,7 +27,9 @@ pub struct Change {
 #[inline(always)]
 fn note(signal: usize, word: usize, before: Vec4, behind: Vec4, changes: &mut Vec<Change>)
     requires room { vec_len changes.old < vec_capacity changes.old }
-    ensures { changes.new.items ≡ changes.old.items ++ changed_word signal word (Some before) (Some behind) }
+    ensures noted { changes.new.items ≡ changes.old.items ++ changed_word signal word (Some before) (Some behind) }
+    ensures length { vec_len changes.new ≤ vec_len changes.old + 1 }
+    ensures capacity { vec_capacity changes.new ≡ vec_capacity changes.old }
 {
     if before != behind {
         changes.push_reserved(Change {
@@ -45,6 +47,7 @@ fn make_part(store: &mut Store, part: Part, changes: &mut Vec<Change>) -> Result
     ensures store { OnOk result (store.new ≡ put_part store.old part) }
     ensures changes { OnOk result (changes.new.items ≡ changes.old.items ++ changed_part store.old store.new part) }
     ensures store_kept { OnErr result (store.new ≡ store.old) }
+    ensures changes_kept { OnErr result (changes.new.items ≡ changes.old.items) }
 {
     changes.reserve(1)?;
     let signal = part.signal;
@@ -56,32 +59,37 @@ fn make_part(store: &mut Store, part: Part, changes: &mut Vec<Change>) -> Result
     Ok(())
 }
 
-/// The words that a write will change, each as it is behind the whole of it.
-fn foresee(store: &Store, write: &Write, changes: &mut Vec<Change>) -> Result<(), AllocError>
-    ensures { OnOk result (changes.new.items
-        ≡ changes.old.items ++ changed_words store.now (put store.now write.now) write.now) }
-{
-    for part in write.parts() {
-        let before = store.word(part.signal, part.word);
-        let behind = store.word_behind(write, part.signal, part.word);
-        foresee_word(part.signal, part.word, before, behind, changes)?;
-    }
-    Ok(())
-}
-
 /// Appends a word, where there is one and its values differ.
-fn foresee_word(
+#[inline(always)]
+fn note_word(
     signal: usize,
     word: usize,
     before: Option<Vec4>,
     behind: Option<Vec4>,
     changes: &mut Vec<Change>,
-) -> Result<(), AllocError>
-    ensures { OnOk result (changes.new.items ≡ changes.old.items ++ changed_word signal word before behind) }
+)
+    requires room { vec_len changes.old < vec_capacity changes.old }
+    ensures noted { changes.new.items ≡ changes.old.items ++ changed_word signal word before behind }
+    ensures length { vec_len changes.new ≤ vec_len changes.old + 1 }
+    ensures capacity { vec_capacity changes.new ≡ vec_capacity changes.old }
 {
     if let (Some(before), Some(behind)) = (before, behind) {
-        changes.reserve(1)?;
         note(signal, word, before, behind, changes);
+    }
+}
+
+/// The words that a write will change, each as it is behind the whole of it.
+fn foresee(store: &Store, write: &Write, changes: &mut Vec<Change>) -> Result<(), AllocError>
+    ensures changes { OnOk result (changes.new.items
+        ≡ changes.old.items ++ changed_words store.now (put store.now write.now) write.now) }
+    ensures changes_kept { OnErr result (changes.new.items ≡ changes.old.items) }
+{
+    let parts = write.parts();
+    changes.reserve(parts.len())?;
+    for part in parts {
+        let before = store.word(part.signal, part.word);
+        let behind = store.word_behind(write, part.signal, part.word);
+        note_word(part.signal, part.word, before, behind, changes);
     }
     Ok(())
 }
@@ -92,6 +100,7 @@ fn make_parts(store: &mut Store, write: &Write, changes: &mut Vec<Change>) -> Re
     ensures store { OnOk result (store.new ≡ put store.old write.now) }
     ensures changes { OnOk result (changes.new.items ≡ changes.old.items ++ changed_words store.old store.new write.now) }
     ensures store_kept { OnErr result (store.new ≡ store.old) }
+    ensures changes_kept { OnErr result (changes.new.items ≡ changes.old.items) }
 {
     foresee(store, write, changes)?;
     store.put(write);
@@ -99,12 +108,13 @@ fn make_parts(store: &mut Store, write: &Write, changes: &mut Vec<Change>) -> Re
 }
 
 /// Makes a write, and appends the words that it changes: each that one of its parts names, where it isn't behind the whole write as before it.
-/// Without memory the store is as it was.
+/// Without memory the store and the changes are as they were.
 #[inline(always)]
 pub fn make(store: &mut Store, write: &Write, changes: &mut Vec<Change>) -> Result<(), AllocError>
     ensures store { OnOk result (store.new ≡ put store.old write.now) }
     ensures changes { OnOk result (changes.new.items ≡ changes.old.items ++ changed_words store.old store.new write.now) }
     ensures store_kept { OnErr result (store.new ≡ store.old) }
+    ensures changes_kept { OnErr result (changes.new.items ≡ changes.old.items) }
 {
     let parts = write.parts();
     if parts.len() == 1 {
@@ -159,13 +169,14 @@ fn assign_any(
     ensures changes { OnOk result (changes.new.items
         ≡ changes.old.items ++ changed_words store.old store.new (assigned target.now digits store.old time)) }
     ensures store_kept { OnErr result (store.new ≡ store.old) }
+    ensures changes_kept { OnErr result (changes.new.items ≡ changes.old.items) }
 {
     let write = write_of(alloc, target, digits, store, time)?;
     make(store, &write, changes)
 }
 
 /// Makes the write that gives a target these digits, its indices read in this store at a time in ticks, and appends the words that it changes, as
-/// `make` does. A target of one fixed place takes no memory but that for the word. Without memory the store is as it was.
+/// `make` does. A target of one fixed place takes no memory but that for the word. Without memory the store and the changes are as they were.
 #[inline(always)]
 pub fn assign(
     alloc: Global,
@@ -179,6 +190,7 @@ pub fn assign(
     ensures changes { OnOk result (changes.new.items
         ≡ changes.old.items ++ changed_words store.old store.new (assigned target.now digits store.old time)) }
     ensures store_kept { OnErr result (store.new ≡ store.old) }
+    ensures changes_kept { OnErr result (changes.new.items ≡ changes.old.items) }
 {
     if let Some(part) = only_part(target, digits) {
         return make_part(store, part, changes);

@@ -219,6 +219,7 @@ fn assign_value(
     ensures changes { OnOk result (changes.new.items
         ≡ changes.old.items ++ changed_words store.old store.new (assignment target.now e.now store.old time)) }
     ensures store_kept { OnErr result (store.new ≡ store.old) }
+    ensures changes_kept { OnErr result (changes.new.items ≡ changes.old.items) }
 {
     let digits = near_value(target, e, store, time);
     assign(alloc, target, digits, store, time, changes)
@@ -246,6 +247,7 @@ fn perform<'a>(
         ≡ changes.old.items ++ changes_of store.old (item_write (perform s.entry.now) store.old time)) }
     ensures counters_kept { OnErr result (counters.new.items ≡ counters.old.items) }
     ensures store_kept { OnErr result (store.new ≡ store.old) }
+    ensures changes_kept { OnErr result (changes.new.items ≡ changes.old.items) }
 {
     match s {
         Statement::Null(_) => Ok((Halt::Nothing, op.behind)),
@@ -314,6 +316,7 @@ fn run<'a>(
         (item_write (item_of counters.old.items (job_of op.entry.now.counter op.entry.now.task)) store.old time)) }
     ensures counters_kept { OnErr result (counters.new.items ≡ counters.old.items) }
     ensures store_kept { OnErr result (store.new ≡ store.old) }
+    ensures changes_kept { OnErr result (changes.new.items ≡ changes.old.items) }
 {
     match op.task {
         Task::Perform(s) => perform(alloc, op, s, counters, store, time, changes, effect),
@@ -341,13 +344,14 @@ fn step<'a>(
     ensures code { IsCode ops.entry.now (length counters.new.items) }
     ensures ok { IfOk result (λ r. TookStep (todo_in ops.entry.now counters.old.items place) store.old time r.0
         (todo_in ops.entry.now counters.new.items r.1) effect.new store.new changes.old.items changes.new.items) }
+    ensures counters_kept { OnErr result (counters.new.items ≡ counters.old.items) }
     ensures store_kept { OnErr result (store.new ≡ store.old) }
+    ensures changes_kept { OnErr result (changes.new.items ≡ changes.old.items) }
 {
     let Some(op) = op_at(ops, place) else {
         return Ok((Halt::Nothing, place));
     };
-    let (halt, next) = run(alloc, op, counters, store, time, changes, effect)?;
-    Ok((halt, next))
+    run(alloc, op, counters, store, time, changes, effect)
 }
 
 // Whether a step has an effect.
@@ -422,7 +426,8 @@ fn coast<'a>(ops: &'a [Op<'a>], from: usize, limit: u64, events: bool) -> (Halt<
 
 // Steps from a place of a code on, one after another while they do nothing beyond the process and it has something left to do, and where the last of
 // these has an effect or writes, those that `coast` takes behind it, event controls behind an effect alone, at most so many in all: how that step ends,
-// how the last one ends, where it leads, and how many they are.
+// how the last one ends, where it leads, and how many they are. The steps end in front of one that has no memory; only where this is the first one they
+// have an error.
 #[inline(always)]
 fn glide<'a>(
     alloc: Global,
@@ -441,12 +446,19 @@ fn glide<'a>(
     ensures within { IfOk result (λ r. r.3 ≤ limit) }
     ensures ok { IfOk result (λ r. TookSteps r.3 (todo_in ops.entry.now counters.old.items from) store.old time r.0 r.1
         (todo_in ops.entry.now counters.new.items r.2) effect.new store.new changes.old.items changes.new.items) }
+    ensures counters_kept { OnErr result (counters.new.items ≡ counters.old.items) }
     ensures store_kept { OnErr result (store.new ≡ store.old) }
 {
     let mut place = from;
     let mut steps = 0;
     loop {
-        let (halt, next) = step(alloc, ops, counters, place, store, time, changes, effect)?;
+        let Ok((halt, next)) = step(alloc, ops, counters, place, store, time, changes, effect)
+        else {
+            if steps == 0 {
+                return Err(AllocError);
+            }
+            return Ok((Halt::Nothing, Halt::Nothing, place, steps));
+        };
         place = next;
         steps += 1;
         if steps == limit || !is_still(halt) || is_end(ops, place) {
@@ -486,7 +498,7 @@ impl<'a> Cursor<'a> {
     /// has something left to do, and where the last of these has an effect, the turns of `forever` and the timing control behind it, or where it writes,
     /// the turns of `forever` and the delay behind it, at most so many in all: how that step ends, how the last one ends, and how many they are. Where it
     /// has an effect, this stands in `effect`, which otherwise may hold any. The write of a blocking assignment is made in the store, and the words that it
-    /// changes go to `changes`. Without memory the process has something left to do still, and the store is as it was.
+    /// changes go to `changes`. The steps end in front of one that has no memory; without memory for the first one the place and the store are as they were.
     #[inline(always)]
     pub fn steps(
         &mut self,
@@ -503,6 +515,7 @@ impl<'a> Cursor<'a> {
         ensures ok { IfOk result (λ r. TookSteps r.2 self.old store.old time r.0 r.1 self.new
             effect.new store.new changes.old.items changes.new.items) }
         ensures some { OnErr result (has_nothing self.new ≡ false) }
+        ensures place_kept { OnErr result (self.new ≡ self.old) }
         ensures store_kept { OnErr result (store.new ≡ store.old) }
     {
         let (halt, last, place, steps) = glide(

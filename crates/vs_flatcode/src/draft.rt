@@ -240,24 +240,16 @@ pub(crate) fn emit<'a>(
     ensures numbers { IfOk result (λ _. Adds draft.old draft.new (numbers s.entry.now)) }
 {
     match s {
-        Statement::Null(_) => put_statement(draft, s, next, next, next, depth, Extra::Nothing),
-        Statement::Assign(_, _, _) => {
-            put_statement(draft, s, next, next, next, depth, Extra::Nothing)
-        }
-        Statement::Later(_, _, _, _) => {
-            put_statement(draft, s, next, next, next, depth, Extra::Nothing)
-        }
+        Statement::Null(_)
+        | Statement::Assign(_, _, _)
+        | Statement::Later(_, _, _, _)
+        | Statement::Finish(_) => put_statement(draft, s, next, next, next, depth, Extra::Nothing),
         Statement::Call(_, call) => {
             let extra = format_read(alloc, call)?;
             put_statement(draft, s, next, next, next, depth, extra)
         }
-        Statement::Finish(_) => put_statement(draft, s, next, next, next, depth, Extra::Nothing),
         Statement::Block(all) => emit_all(alloc, draft, all, next, depth),
-        Statement::Delay(_, _, body) => {
-            let first = emit(alloc, draft, body, next, depth)?;
-            put_statement(draft, s, next, first, next, depth, Extra::Nothing)
-        }
-        Statement::Event(_, _, body) => {
+        Statement::Delay(_, _, body) | Statement::Event(_, _, body) => {
             let first = emit(alloc, draft, body, next, depth)?;
             put_statement(draft, s, next, first, next, depth, Extra::Nothing)
         }
@@ -270,11 +262,12 @@ pub(crate) fn emit<'a>(
             let starts = emit_items(alloc, draft, items, next, depth)?;
             put_statement(draft, s, next, next, next, depth, Extra::Starts(starts))
         }
-        Statement::While(_, _, body) => emit_loop(alloc, draft, body, s, next, depth),
+        Statement::While(_, _, body) | Statement::Forever(_, body) => {
+            emit_loop(alloc, draft, body, s, next, depth)
+        }
         Statement::Repeat(_, _, _, body) => {
             let first = emit_turns(alloc, draft, body, next, depth)?;
             put_statement(draft, s, next, first, next, depth, Extra::Nothing)
         }
-        Statement::Forever(_, body) => emit_loop(alloc, draft, body, s, next, depth),
     }
 }

@@ -1,12 +1,12 @@
 -- Lists with commas.
-use Rattle.std.specs.Prelude.{◌≡◌, ℕ, ◌≤◌, Bool, true, false, List, [], ◌∷◌, ◌++◌, map, drop, refl}
+use Rattle.std.specs.Prelude.{◌≡◌, ℕ, ◌<◌, ◌≤◌, Bool, true, false, List, [], ◌∷◌, ◌++◌, length, map, drop, refl}
 use Rattle.std.proofs.Common.{sym, ◌∙◌, ap, subst, append_assoc, arith}
-use Rattle.std.proofs.lemmas.List.{append-nil, map-append}
+use Rattle.std.proofs.lemmas.List.{append-nil, length-append, map-append}
 use Rattle.vs_tokens.specs.declared.token.Mark.TheVariants as m
 use Rattle.vs_syntax.specs.Symbols.{Symbol, a_mark, class_of}
 use Rattle.vs_syntax.specs.Grammar.{Grammar, ◌·◌, mark}
 use Rattle.vs_syntax.specs.Tables.{low, goes}
-use Rattle.vs_syntax.specs.Derivation.{Tree, leaf, both}
+use Rattle.vs_syntax.specs.Derivation.{Tree, leaf, both, tokens}
 use Rattle.vs_syntax.specs.Reading.{Gets, Stuck, stuck_second, stuck_many}
 use Rattle.vs_syntax.specs.Views.{commas_tree, listed_tree}
 use Rattle.vs_syntax.proofs.Fronts.{or_left, same_class-refl}
@@ -42,6 +42,10 @@ adding_push g room tree start rest after behind xs ys zs x e l f q = record {
   all = e ∙ ap (λ u. u ++ x ∷ []) l.all ∙ append_assoc xs l.others (x ∷ []);
   along = along_push (mark m.Comma · g) room start rest behind comma_before (map tree l.others) _ (tree x) (map-append tree l.others (x ∷ [])) l.along (goes_comma g rest after f) (comma_read g room rest after behind (tree x) f q);
 }
+
+-- less is left behind one more
+pub comma_shorter : (g : Grammar) (room : ℕ) (ts after rest : List Symbol) (x : Tree) → ts ≡ a_mark m.Comma ∷ after → Gets g room after x rest → length rest < length ts
+comma_shorter g room ts after rest x e p = omega (arith, ap length e, ap length p.text, length-append (tokens x) rest)
 
 -- what stops one of them behind its comma
 pub adding_stuck : {X : Type 0} (g : Grammar) (room : ℕ) (deep : Bool) (tree : X → Tree) (start rest after at : List Symbol) (xs ys : List X) → low g ≤ room → Adding g room tree start rest xs ys → rest ≡ a_mark m.Comma ∷ after → Stuck g room deep after at → Stuck (behind_commas g) room deep start at

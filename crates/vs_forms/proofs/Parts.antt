@@ -1,17 +1,20 @@
 -- How what was read makes what stands before a part.
-use Rattle.std.specs.Prelude.{◌≡◌, ℕ, true, false, List, Result, Ok, Err, IfOk}
+use Rattle.std.specs.Prelude.{◌≡◌, ℕ, true, false, List, ◌∷◌, Result, Ok, Err, IfOk}
 use Rattle.vs_tokens.specs.declared.token.Mark.{Mark}
 use Rattle.vs_tokens.specs.declared.token.Token.{Token}
 use Rattle.vs_syntax.specs.Symbols.{Symbol, a_mark}
-use Rattle.vs_syntax.specs.Grammar.{Grammar, ◌·◌, mark}
+use Rattle.vs_syntax.specs.Grammar.{Grammar, nothing, ◌·◌, ◌or◌, mark}
+use Rattle.vs_syntax.specs.Tables.{low}
 use Rattle.vs_syntax.specs.Derivation.{Tree, leaf, both}
 use Rattle.vs_syntax.specs.Reading.{Gets, stuck_second}
 use Rattle.vs_syntax.proofs.Gets.{gets_seq}
 use Rattle.vs_expressions.specs.declared.reading.Read.{Read}
 use Rattle.vs_expressions.specs.declared.reading.Stop.{Stop}
 use Rattle.vs_expressions.specs.declared.reading.Stop.TheVariants as stop
-use Rattle.vs_expressions.specs.Answers.{seen, Answers, FailsToRead}
-use Rattle.vs_forms.specs.Parts.{Beyond, Leads}
+use Rattle.vs_expressions.specs.Answers.{seen, Answers, FailsToRead, ReadsTree}
+use Rattle.vs_expressions.proofs.Exits.{fails_by}
+use Rattle.vs_forms.specs.Parts.{ReadsWithin, Beyond, Leads, marked}
+use Rattle.vs_forms.proofs.Forms.{present_stuck, present_read}
 
 -- a part, and what stands behind it
 pub beyond_part : (a c : Grammar) (room : ℕ) (ts mid : List Symbol) (x : Tree) → Gets a room ts x mid → Beyond c (a · c) (both x) room ts mid
@@ -39,3 +42,9 @@ pub ended_as : {X : Type 0} (P : Result (Read X) Stop → Type 0) (end : Mark) (
     IfOk r (λ y. y.tree ≡ x) → Answers (mark end) room (seen mid) (λ _. leaf (a_mark end)) (λ y. seen y.rest.now) r → P r
 ended_as P end room x mid (Ok y) f g e p = f y e p
 ended_as P end room x mid (Err e) f g h p = g e p
+
+-- what stands behind a mark that may be absent, by what reading it answers
+pub marked_answers : {X : Type 0} (tree : X → Tree) (sign : Mark) (g : Grammar) (room : ℕ) (ts us : List Token) (r : Result (Read X) Stop) → low g ≡ 0 → seen ts ≡ a_mark sign ∷ seen us → ReadsWithin tree (marked sign) g room us r → ReadsTree (mark sign · g or nothing) room ts tree r
+marked_answers tree sign g room ts us (Ok x) n e w = rw w.whole (present_read (a_mark sign) g room _ _ _ _ e w.gets)
+marked_answers tree sign g room ts us (Err f) n e p =
+    fails_by g (mark sign · g or nothing) room room (seen us) (seen ts) (λ deep at s. present_stuck (a_mark sign) g room deep _ _ at n e s) f p

@@ -6,7 +6,8 @@ ghost use Rattle.vs_syntax.specs.Grammar.{◌·◌, many, part, name, local_decl
 ghost use Rattle.vs_syntax.specs.Tables.{goes};
 ghost use Rattle.vs_syntax.specs.Views.{row_of, local_tree, local_declaration_tree};
 ghost use Rattle.vs_expressions.specs.Answers.{seen, ReadsTree};
-ghost use Rattle.vs_forms.specs.Blocks.{local_word, named_tree, naming_tree};
+ghost use Rattle.vs_forms.specs.Blocks.{local_word, naming_tree};
+ghost use Rattle.vs_forms.specs.Parts.{ReadsWithin, marked};
 
 use crate::form::{declared, declared_range};
 use crate::list::{Element, listed};
@@ -48,7 +49,15 @@ impl Element for Variable {
         room: u32,
         tokens: &'t [Token<'s>],
     ) -> Result<Read<'t, 's, Local>, Stop<'t, 's>> {
-        local(alloc, room, tokens)
+        let (name, after_name) = expect_name(alloc, tokens)?;
+        let words = declared_range(alloc, room, after_name)?;
+        Ok(Read {
+            tree: Local {
+                name,
+                words: words.tree,
+            },
+            rest: words.rest,
+        })
     }
 }
 
@@ -67,11 +76,7 @@ pub fn naming<'t, 's>(
             rest: tokens,
         });
     };
-    let named = named(alloc, room, after)?;
-    Ok(Read {
-        tree: Some(named.tree),
-        rest: named.rest,
-    })
+    named(alloc, room, after)
 }
 
 /// Reads the name of a block, and the declarations behind it.
@@ -79,16 +84,16 @@ fn named<'t, 's>(
     alloc: Global,
     room: u32,
     tokens: &'t [Token<'s>],
-) -> Result<Read<'t, 's, BlockName>, Stop<'t, 's>>
-    ensures { ReadsTree (name · many local_declaration) room tokens.now named_tree result }
+) -> Result<Read<'t, 's, Option<BlockName>>, Stop<'t, 's>>
+    ensures { ReadsWithin naming_tree (marked m.Colon) (name · many local_declaration) room tokens.now result }
 {
     let (name, after_name) = expect_name(alloc, tokens)?;
     let locals = locals(alloc, room, after_name)?;
     Ok(Read {
-        tree: BlockName {
+        tree: Some(BlockName {
             name,
             locals: locals.tree,
-        },
+        }),
         rest: locals.rest,
     })
 }
@@ -156,23 +161,4 @@ fn declaration<'t, 's>(
             })
         }
     }
-}
-
-/// Reads a name of a declaration in a block, with the range of its words, where it has one.
-fn local<'t, 's>(
-    alloc: Global,
-    room: u32,
-    tokens: &'t [Token<'s>],
-) -> Result<Read<'t, 's, Local>, Stop<'t, 's>>
-    ensures { ReadsTree (part a_local) room tokens.now local_tree result }
-{
-    let (name, after_name) = expect_name(alloc, tokens)?;
-    let words = declared_range(alloc, room, after_name)?;
-    Ok(Read {
-        tree: Local {
-            name,
-            words: words.tree,
-        },
-        rest: words.rest,
-    })
 }

@@ -1,8 +1,5 @@
 //! Reading what stands behind system tasks (IEEE 1364-2005, clause A.6.9).
-ghost use Rattle.std.specs.Prelude.{◌≡◌, ◌∷◌, ℕ, Some, false, MatchOption};
-ghost use Rattle.std.specs.declared.vec.Vec.{Vec};
-ghost use Rattle.std.specs.declared.alloc.Global.{Global};
-ghost use Rattle.vs_syntax.specs.declared.tree.DumpArgument.{DumpArgument};
+ghost use Rattle.std.specs.Prelude.{◌≡◌, ◌∷◌, ℕ, false, MatchOption};
 ghost use Rattle.vs_tokens.specs.declared.token.Mark.TheVariants as m;
 ghost use Rattle.vs_syntax.specs.Symbols.{a_number, a_mark, a_text, a_print, a_finish, a_dump, a_time, any_text, the_time};
 ghost use Rattle.vs_syntax.specs.Grammar.{Grammar, ◌·◌, token, part, mark, number, print_arguments, finish_argument, dump_arguments, an_argument, a_dump_argument};
@@ -36,7 +33,19 @@ impl Element for Printed {
         room: u32,
         tokens: &'t [Token<'s>],
     ) -> Result<Read<'t, 's, Argument>, Stop<'t, 's>> {
-        argument(alloc, room, tokens)
+        match time_at(tokens) {
+            Some(rest) => Ok(Read {
+                tree: Argument::Time,
+                rest,
+            }),
+            None => {
+                let value = expr(alloc, room, tokens)?;
+                Ok(Read {
+                    tree: Argument::Value(value.tree),
+                    rest: value.rest,
+                })
+            }
+        }
     }
 }
 
@@ -55,7 +64,19 @@ impl Element for Dumped {
         room: u32,
         tokens: &'t [Token<'s>],
     ) -> Result<Read<'t, 's, DumpArgument>, Stop<'t, 's>> {
-        dump_argument(alloc, room, tokens)
+        if begins_text(tokens) {
+            let (text, rest) = expect_text(alloc, tokens)?;
+            return Ok(Read {
+                tree: DumpArgument::Text(text),
+                rest,
+            });
+        }
+        let value = expr(alloc, room, tokens)?;
+        let inner = Box::new(alloc, value.tree)?;
+        Ok(Read {
+            tree: DumpArgument::Value(inner),
+            rest: value.rest,
+        })
     }
 }
 
@@ -101,52 +122,6 @@ fn time_at<'t, 's>(tokens: &'t [Token<'s>]) -> Option<&'t [Token<'s>]>
         },
         _ => None,
     }
-}
-
-/// Reads an argument of `$display` or `$strobe` behind the text.
-fn argument<'t, 's>(
-    alloc: Global,
-    room: u32,
-    tokens: &'t [Token<'s>],
-) -> Result<Read<'t, 's, Argument>, Stop<'t, 's>>
-    ensures { ReadsTree (part an_argument) room tokens.now argument_tree result }
-{
-    match time_at(tokens) {
-        Some(rest) => Ok(Read {
-            tree: Argument::Time,
-            rest,
-        }),
-        None => {
-            let value = expr(alloc, room, tokens)?;
-            Ok(Read {
-                tree: Argument::Value(value.tree),
-                rest: value.rest,
-            })
-        }
-    }
-}
-
-/// Reads an argument of `$dumpfile` or `$dumpvars`.
-fn dump_argument<'t, 's>(
-    alloc: Global,
-    room: u32,
-    tokens: &'t [Token<'s>],
-) -> Result<Read<'t, 's, DumpArgument>, Stop<'t, 's>>
-    ensures { ReadsTree (part a_dump_argument) room tokens.now dump_argument_tree result }
-{
-    if begins_text(tokens) {
-        let (text, rest) = expect_text(alloc, tokens)?;
-        return Ok(Read {
-            tree: DumpArgument::Text(text),
-            rest,
-        });
-    }
-    let value = expr(alloc, room, tokens)?;
-    let inner = Box::new(alloc, value.tree)?;
-    Ok(Read {
-        tree: DumpArgument::Value(inner),
-        rest: value.rest,
-    })
 }
 
 /// Reads what stands in the parentheses of `$display` or `$strobe`, and the second one.
@@ -246,14 +221,13 @@ fn dump_list<'t, 's>(
     alloc: Global,
     room: u32,
     tokens: &'t [Token<'s>],
-) -> Result<Read<'t, 's, (DumpArgument, Vec<DumpArgument>)>, Stop<'t, 's>>
-    ensures { ReadsWithin (λ (x : DumpArgument × Vec DumpArgument Global). dump_tree (Some x)) (marked m.Open) dumped
-        room tokens.now result }
+) -> Result<Read<'t, 's, Option<(DumpArgument, Vec<DumpArgument>)>>, Stop<'t, 's>>
+    ensures { ReadsWithin dump_tree (marked m.Open) dumped room tokens.now result }
 {
-    let first = dump_argument(alloc, room, tokens)?;
+    let first = Dumped::read(alloc, room, tokens)?;
     let all = others::<Dumped>(alloc, room, first.rest, Vec::new(alloc))?;
     let arguments = Read {
-        tree: (first.tree, all.tree),
+        tree: Some((first.tree, all.tree)),
         rest: all.rest,
     };
     ended(arguments, Mark::Close)
@@ -273,11 +247,7 @@ fn dump_arguments<'t, 's>(
             rest: tokens,
         });
     };
-    let arguments = dump_list(alloc, room, inside)?;
-    Ok(Read {
-        tree: Some(arguments.tree),
-        rest: arguments.rest,
-    })
+    dump_list(alloc, room, inside)
 }
 
 /// Reads what stands behind `$dumpfile` or `$dumpvars`, and the semicolon.

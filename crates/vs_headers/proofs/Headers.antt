@@ -11,12 +11,13 @@ use Rattle.vs_syntax.specs.Grammar.{Nonterminal, Grammar, nothing, either, ◌·
 use Rattle.vs_syntax.specs.Tables.{among, fronts, goes}
 use Rattle.vs_syntax.specs.Derivation.{Tree, empty, leaf, both}
 use Rattle.vs_syntax.specs.Reading.{Gets, Stuck, stuck_second, stuck_left, stuck_right}
-use Rattle.vs_syntax.specs.Views.{header_parameter_tree, header_parameters_tree, direction_word, kind_tree, port_tree, ports_tree}
+use Rattle.vs_syntax.specs.Views.{commas_tree, parameter_form_tree, parameter_word_tree, header_parameter_tree, header_parameters_tree, direction_word, kind_tree, port_tree, ports_tree}
 use Rattle.vs_syntax.specs.declared.tree.Direction.{Direction}
 use Rattle.vs_syntax.specs.declared.tree.Direction.TheVariants as o
 use Rattle.vs_syntax.specs.declared.tree.PortKind.{PortKind}
 use Rattle.vs_syntax.specs.declared.tree.PortKind.TheVariants as k
 use Rattle.vs_syntax.specs.declared.tree.HeaderParameter.{HeaderParameter}
+use Rattle.vs_syntax.specs.declared.tree.ParameterForm.{ParameterForm}
 use Rattle.vs_syntax.specs.declared.tree.Port.{Port}
 use Rattle.vs_syntax.proofs.Fronts.{or_false, goes-either}
 use Rattle.vs_syntax.proofs.Gets.{gets_nothing, gets_token, gets_seq, gets_left, gets_right}
@@ -25,8 +26,10 @@ use Rattle.vs_expressions.specs.declared.reading.Stop.{Stop}
 use Rattle.vs_expressions.specs.Answers.{seen, FailsToRead, ReadsTree}
 use Rattle.vs_expressions.proofs.Exits.{fails_by, goes_at}
 use Rattle.vs_headers.specs.Ports.{port_kind, kind_word, told_ports, named_ports, ports_within}
+use Rattle.vs_headers.proofs.Declarations.{beyond_present, within_beyond}
 use Rattle.vs_forms.specs.Lists.{behind_commas, Grown}
-use Rattle.vs_forms.proofs.Forms.{present_read}
+use Rattle.vs_forms.specs.Parts.{Within, ReadsWithin, Beyond}
+use Rattle.vs_forms.proofs.Parts.{beyond_part, beyond_behind}
 use Rattle.vs_forms.proofs.Lists.{grown_one}
 
 -- neither of two parts
@@ -120,8 +123,30 @@ parameters_within = mark m.Open · first_parameter · behind_commas (part a_head
 pub no_parameters : (room : ℕ) (ts : List Symbol) (xs : List HeaderParameter) → goes (mark m.Hash) ts ≡ false → xs ≡ [] → Gets (header_parameters or nothing) room ts (header_parameters_tree (map header_parameter_tree xs)) ts
 no_parameters room ts xs h e = subst (λ u. Gets (header_parameters or nothing) room ts (header_parameters_tree (map header_parameter_tree u)) ts) (sym e) (gets_right h gets_nothing)
 
-pub parameters_read : (room : ℕ) (ts after inside start rest at : List Symbol) (x : HeaderParameter) (xs ys : List HeaderParameter) → ts ≡ a_mark m.Hash ∷ after → Gets (mark m.Open) room after (leaf (a_mark m.Open)) inside → Gets first_parameter room inside (header_parameter_tree x) start →
-    Grown (part a_header_parameter) room header_parameter_tree start rest xs ys → xs ≡ x ∷ [] → Gets (mark m.Close) room rest (leaf (a_mark m.Close)) at → Gets (header_parameters or nothing) room ts (header_parameters_tree (map header_parameter_tree ys)) at
-parameters_read room ts after inside start rest at x xs ys e p q l h r =
-    grown_one (part a_header_parameter) room header_parameter_tree start rest x xs ys (λ u. Gets (header_parameters or nothing) room ts (header_parameters_tree (map header_parameter_tree u)) at) l h
-    (present_read (a_mark m.Hash) parameters_within room ts after at _ e (gets_seq p (gets_seq q (gets_seq l.gets r))))
+-- what stands behind the mark before the parameters
+abbrev pub parameters_inside : Grammar
+parameters_inside = first_parameter · behind_commas (part a_header_parameter) · mark m.Close
+
+pub inside_read : (room : ℕ) (ts start rest at : List Symbol) (x : HeaderParameter) (ys : Vec HeaderParameter Global) → Gets first_parameter room ts (header_parameter_tree x) start → Grown (part a_header_parameter) room header_parameter_tree start rest (x ∷ []) ys.items →
+    Gets (mark m.Close) room rest (leaf (a_mark m.Close)) at → Within (λ (xs : Vec HeaderParameter Global). header_parameters_tree (map header_parameter_tree xs.items)) (λ y. both (leaf (a_mark m.Hash)) (both (leaf (a_mark m.Open)) y)) parameters_inside room ts ys at
+inside_read room ts start rest at x ys q l r = record {
+  inner = both (header_parameter_tree x) (both (commas_tree (map header_parameter_tree l.others)) (leaf (a_mark m.Close)));
+  whole = ap (λ (u : List HeaderParameter). header_parameters_tree (map header_parameter_tree u)) l.all;
+  gets = gets_seq q (gets_seq l.gets r);
+}
+
+pub inside_beyond : (room : ℕ) (ts after inside : List Symbol) → ts ≡ a_mark m.Hash ∷ after → Gets (mark m.Open) room after (leaf (a_mark m.Open)) inside → Beyond parameters_inside (header_parameters or nothing) (λ y. both (leaf (a_mark m.Hash)) (both (leaf (a_mark m.Open)) y)) room ts inside
+inside_beyond room ts after inside e p =
+    beyond_behind parameters_inside parameters_within (header_parameters or nothing) (both (leaf (a_mark m.Open))) (both (leaf (a_mark m.Hash))) room ts after inside
+    (beyond_present (a_mark m.Hash) parameters_within room ts after refl e)
+    (beyond_part (mark m.Open) parameters_inside room after inside (leaf (a_mark m.Open)) p)
+
+-- a parameter with its word, by what reading its name and its value answers
+pub word_beyond : (room : ℕ) (ts after : List Symbol) → ts ≡ a_word w.Parameter ∷ after → Beyond parameter_form (word w.Parameter · parameter_form) (both (leaf (a_word w.Parameter))) room ts after
+word_beyond room ts after e = beyond_part (word w.Parameter) parameter_form room ts after (leaf (a_word w.Parameter)) (rw e (gets_token refl))
+
+pub parameter_answers : (front : Grammar) (room : ℕ) (ts mid : List Token) (after : List Symbol) (f : ParameterForm) (r : Result (Read HeaderParameter) Stop) → Beyond parameter_form front (both (leaf (a_word w.Parameter))) room (seen ts) after → Gets parameter_form room after (parameter_form_tree f) (seen mid) →
+    ReadsWithin header_parameter_tree (λ y. both (parameter_word_tree (Some f)) y) (part a_constant) room mid r → ReadsTree (front · part a_constant) room ts header_parameter_tree r
+parameter_answers front room ts mid after f r b p w =
+    within_beyond (part a_constant) (front · part a_constant) header_parameter_tree _ room ts mid r
+    (beyond_part front (part a_constant) room (seen ts) (seen mid) (parameter_word_tree (Some f)) (b.reads (parameter_form_tree f) (seen mid) p)) w

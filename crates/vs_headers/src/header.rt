@@ -1,26 +1,31 @@
 //! Reading the parameters and the ports in the header of a module.
-ghost use Rattle.std.specs.Prelude.{◌≡◌, ◌∷◌, ℕ, map, IfOk};
+ghost use Rattle.std.specs.Prelude.{◌≡◌, ◌≤◌, [], ◌∷◌, ℕ, map, MatchResult, IfOk};
 ghost use Rattle.std.specs.Option.{option_map};
 ghost use Rattle.std.specs.declared.vec.Vec.{Vec};
 ghost use Rattle.std.specs.declared.alloc.Global.{Global};
+ghost use Rattle.vs_tokens.specs.declared.token.Mark.TheVariants as m;
 ghost use Rattle.vs_tokens.specs.declared.token.Word.TheVariants as w;
-ghost use Rattle.vs_syntax.specs.Symbols.{a_word};
-ghost use Rattle.vs_syntax.specs.Grammar.{◌·◌, ◌or◌, nothing, part, word, parameter_form, a_constant, a_header_parameter, a_port, a_port_name};
+ghost use Rattle.vs_syntax.specs.Symbols.{a_mark, a_word};
+ghost use Rattle.vs_syntax.specs.Grammar.{◌·◌, ◌or◌, nothing, part, mark, word, name, parameter_form, may_value};
+ghost use Rattle.vs_syntax.specs.Grammar.{a_constant, a_header_parameter, a_port, a_port_name};
 ghost use Rattle.vs_syntax.specs.Grammar as g;
-ghost use Rattle.vs_syntax.specs.Derivation.{both};
+ghost use Rattle.vs_syntax.specs.Tables.{low};
+ghost use Rattle.vs_syntax.specs.Derivation.{leaf, both};
 ghost use Rattle.vs_syntax.specs.declared.tree.Port.{Port};
 ghost use Rattle.vs_syntax.specs.Reading.{Gets};
 ghost use Rattle.vs_syntax.specs.Views.{form_tree, listed_tree, bare_name_tree, parameter_word_tree, header_parameter_tree, header_parameters_tree};
 ghost use Rattle.vs_syntax.specs.Views.{direction_word, kind_tree, port_form_tree, port_tree, ports_tree, header_ports_tree};
-ghost use Rattle.vs_expressions.specs.Answers.{seen, ReadsTree};
+ghost use Rattle.vs_expressions.specs.Answers.{seen, FailsToRead, ReadsTree};
+ghost use Rattle.vs_forms.specs.Lists.{behind_commas, Grown};
+ghost use Rattle.vs_forms.specs.Parts.{ReadsWithin};
 ghost use Rattle.vs_headers.specs.Ports.{port_kind, behind_direction, first_port, told_ports, named_ports, ports_within};
 
-use crate::declaration::{BareName, declared_value};
+use crate::declaration::BareName;
 use crate::head::{begins_name, direction_at, kind_at};
-use crate::parameter;
+use crate::parameter::{Parameter, parameter_form};
 use std::alloc::Global;
-use vs_expressions::{Read, Stop, expect_mark, expect_name, expect_word, mark_at, word_at};
-use vs_forms::{Element, declared, declared_form, others};
+use vs_expressions::{Read, Stop, expect_mark, expect_name, expr, mark_at, word_at};
+use vs_forms::{Element, declared, declared_form, ended, others};
 use vs_lexer::{Mark, Token, Word};
 use vs_syntax::{Direction, HeaderParameter, ParameterForm, Port, PortForm, PortKind};
 
@@ -45,7 +50,10 @@ impl Element for OtherParameter {
         room: u32,
         tokens: &'t [Token<'s>],
     ) -> Result<Read<'t, 's, HeaderParameter>, Stop<'t, 's>> {
-        other_parameter(alloc, room, tokens)
+        match word_at(tokens, Word::Parameter) {
+            Some(after) => told_parameter(alloc, room, tokens, after),
+            None => parameter(alloc, room, tokens, None),
+        }
     }
 }
 
@@ -61,7 +69,10 @@ impl Element for OtherPort {
         room: u32,
         tokens: &'t [Token<'s>],
     ) -> Result<Read<'t, 's, Port>, Stop<'t, 's>> {
-        other_port(alloc, room, tokens)
+        match direction_at(tokens) {
+            Some((direction, after)) => told_port(alloc, room, tokens, direction, after),
+            None => port(alloc, room, tokens, None),
+        }
     }
 }
 
@@ -77,7 +88,15 @@ impl Element for PortName {
         _room: u32,
         tokens: &'t [Token<'s>],
     ) -> Result<Read<'t, 's, Port>, Stop<'t, 's>> {
-        port_name(alloc, tokens)
+        let (name, rest) = expect_name(alloc, tokens)?;
+        Ok(Read {
+            tree: Port {
+                form: None,
+                name,
+                value: None,
+            },
+            rest,
+        })
     }
 }
 
@@ -97,15 +116,23 @@ pub fn header_parameters<'t, 's>(
         });
     };
     let inside = expect_mark(after, Mark::Open)?;
+    parameters_within(alloc, room, inside)
+}
+
+/// Reads the parameters in the header of a module, behind the mark before them.
+fn parameters_within<'t, 's>(
+    alloc: Global,
+    room: u32,
+    inside: &'t [Token<'s>],
+) -> Result<Read<'t, 's, Vec<HeaderParameter>>, Stop<'t, 's>>
+    ensures { ReadsWithin (λ (xs : Vec HeaderParameter Global). header_parameters_tree (map header_parameter_tree xs.items))
+        (λ y. both (leaf (a_mark m.Hash)) (both (leaf (a_mark m.Open)) y))
+        (((word w.Parameter · parameter_form) · part a_constant) · behind_commas (part a_header_parameter) · mark m.Close)
+        room inside.now result }
+{
     let first = first_parameter(alloc, room, inside)?;
-    let mut tree = Vec::new(alloc);
-    tree.push(first.tree)?;
-    let all = others::<OtherParameter>(alloc, room, first.rest, tree)?;
-    let rest = expect_mark(all.rest, Mark::Close)?;
-    Ok(Read {
-        tree: all.tree,
-        rest,
-    })
+    let all = with_others::<OtherParameter>(alloc, room, first)?;
+    ended(all, Mark::Close)
 }
 
 /// Reads the first parameter in the header of a module, which has the word.
@@ -117,32 +144,41 @@ fn first_parameter<'t, 's>(
     ensures { ReadsTree ((word w.Parameter · parameter_form) · part a_constant) room tokens.now
         header_parameter_tree result }
 {
-    let after_word = expect_word(tokens, Word::Parameter)?;
-    let form = parameter::parameter_form(alloc, room, after_word)?;
-    let constant = parameter::constant(alloc, room, form.rest)?;
-    Ok(Read {
-        tree: HeaderParameter {
-            form: Some(form.tree),
-            name: constant.tree.name,
-            value: constant.tree.value,
-        },
-        rest: constant.rest,
-    })
+    match word_at(tokens, Word::Parameter) {
+        Some(after) => told_parameter(alloc, room, tokens, after),
+        None => Err(Stop::Unexpected(tokens)),
+    }
 }
 
-/// Reads a parameter in the header of a module behind the first one.
-fn other_parameter<'t, 's>(
+/// Reads a parameter that begins with the word, behind which `after` stands.
+fn told_parameter<'t, 's>(
     alloc: Global,
     room: u32,
     tokens: &'t [Token<'s>],
+    after: &'t [Token<'s>],
 ) -> Result<Read<'t, 's, HeaderParameter>, Stop<'t, 's>>
-    ensures { ReadsTree (part a_header_parameter) room tokens.now header_parameter_tree result }
+    requires { seen tokens.now ≡ a_word w.Parameter ∷ seen after.now }
+    ensures first { ReadsTree ((word w.Parameter · parameter_form) · part a_constant) room tokens.now
+        header_parameter_tree result }
+    ensures other { ReadsTree (part a_header_parameter) room tokens.now header_parameter_tree result }
 {
-    let form = worded_form(alloc, room, tokens)?;
-    let constant = parameter::constant(alloc, room, form.rest)?;
+    let form = parameter_form(alloc, room, after)?;
+    parameter(alloc, room, form.rest, Some(form.tree))
+}
+
+/// Reads the name of a parameter, with its value, behind its type or where it has none.
+fn parameter<'t, 's>(
+    alloc: Global,
+    room: u32,
+    tokens: &'t [Token<'s>],
+    form: Option<ParameterForm>,
+) -> Result<Read<'t, 's, HeaderParameter>, Stop<'t, 's>>
+    ensures { ReadsWithin header_parameter_tree (λ y. both (parameter_word_tree form) y) (part a_constant) room tokens.now result }
+{
+    let constant = Parameter::read(alloc, room, tokens)?;
     Ok(Read {
         tree: HeaderParameter {
-            form: form.tree,
+            form,
             name: constant.tree.name,
             value: constant.tree.value,
         },
@@ -150,26 +186,20 @@ fn other_parameter<'t, 's>(
     })
 }
 
-/// Reads the word `parameter` and the type behind it, if the word is next.
-fn worded_form<'t, 's>(
+/// Reads the others behind the first one, each behind its comma, into a list that begins with it.
+fn with_others<'t, 's, T: Element>(
     alloc: Global,
     room: u32,
-    tokens: &'t [Token<'s>],
-) -> Result<Read<'t, 's, Option<ParameterForm>>, Stop<'t, 's>>
-    ensures { ReadsTree (word w.Parameter · parameter_form or nothing) room tokens.now
-        parameter_word_tree result }
+    first: Read<'t, 's, T::Syntax>,
+) -> Result<Read<'t, 's, Vec<T::Syntax>>, Stop<'t, 's>>
+    requires { low T.grammar ≤ room }
+    ensures { MatchResult result
+        (λ r. Grown T.grammar room T.tree_of (seen first.entry.rest.now) (seen r.rest.now) (first.entry.tree ∷ []) r.tree.items)
+        (λ e. FailsToRead (behind_commas T.grammar) room (seen first.entry.rest.now) e) }
 {
-    let Some(after) = word_at(tokens, Word::Parameter) else {
-        return Ok(Read {
-            tree: None,
-            rest: tokens,
-        });
-    };
-    let form = parameter::parameter_form(alloc, room, after)?;
-    Ok(Read {
-        tree: Some(form.tree),
-        rest: form.rest,
-    })
+    let mut tree = Vec::new(alloc);
+    tree.push(first.tree)?;
+    others::<T>(alloc, room, first.rest, tree)
 }
 
 /// Reads the ports in the header of a module, if it has a list of them.
@@ -188,11 +218,11 @@ pub fn header_ports<'t, 's>(
         });
     };
     let inside = ports(alloc, room, after)?;
-    let rest = expect_mark(inside.rest, Mark::Close)?;
-    Ok(Read {
+    let within = Read {
         tree: Some(inside.tree),
-        rest,
-    })
+        rest: inside.rest,
+    };
+    ended(within, Mark::Close)
 }
 
 /// Reads what stands in the parentheses of a header: ports with what is said of them, or names alone, or nothing.
@@ -220,10 +250,8 @@ fn told_ports<'t, 's>(
     requires { seen tokens.now ≡ a_word (direction_word direction) ∷ seen after.now }
     ensures { ReadsTree told_ports room tokens.now (λ ps. ports_tree (map port_tree ps.items)) result }
 {
-    let first = first_port(alloc, room, tokens, direction, after)?;
-    let mut tree = Vec::new(alloc);
-    tree.push(first.tree)?;
-    others::<OtherPort>(alloc, room, first.rest, tree)
+    let first = told_port(alloc, room, tokens, direction, after)?;
+    with_others::<OtherPort>(alloc, room, first)
 }
 
 /// Reads the names of ports, of which there may be none.
@@ -234,17 +262,18 @@ fn named_ports<'t, 's>(
 ) -> Result<Read<'t, 's, Vec<Port>>, Stop<'t, 's>>
     ensures { ReadsTree named_ports room tokens.now (λ ps. ports_tree (map port_tree ps.items)) result }
 {
-    let mut tree = Vec::new(alloc);
     if !begins_name(tokens) {
-        return Ok(Read { tree, rest: tokens });
+        return Ok(Read {
+            tree: Vec::new(alloc),
+            rest: tokens,
+        });
     }
-    let first = port_name(alloc, tokens)?;
-    tree.push(first.tree)?;
-    others::<PortName>(alloc, room, first.rest, tree)
+    let first = PortName::read(alloc, room, tokens)?;
+    with_others::<PortName>(alloc, room, first)
 }
 
 /// Reads a port that begins with its direction, behind which `after` stands.
-fn first_port<'t, 's>(
+fn told_port<'t, 's>(
     alloc: Global,
     room: u32,
     tokens: &'t [Token<'s>],
@@ -252,78 +281,41 @@ fn first_port<'t, 's>(
     after: &'t [Token<'s>],
 ) -> Result<Read<'t, 's, Port>, Stop<'t, 's>>
     requires { seen tokens.now ≡ a_word (direction_word direction) ∷ seen after.now }
-    ensures { ReadsTree first_port room tokens.now port_tree result }
+    ensures first { ReadsTree first_port room tokens.now port_tree result }
+    ensures other { ReadsTree (part a_port) room tokens.now port_tree result }
 {
     let said = port_form(alloc, room, tokens, direction, after)?;
-    let (name, after_name) = expect_name(alloc, said.rest)?;
-    let value = declared_value(alloc, room, after_name)?;
-    Ok(Read {
-        tree: Port {
-            form: Some(said.tree),
-            name,
-            value: value.tree,
-        },
-        rest: value.rest,
-    })
+    port(alloc, room, said.rest, Some(said.tree))
 }
 
-/// Reads a port behind the first one.
-fn other_port<'t, 's>(
+/// Reads the name of a port, with its value where it has one, behind what is said of it or where nothing is.
+fn port<'t, 's>(
     alloc: Global,
     room: u32,
     tokens: &'t [Token<'s>],
+    form: Option<PortForm>,
 ) -> Result<Read<'t, 's, Port>, Stop<'t, 's>>
-    ensures { ReadsTree (part a_port) room tokens.now port_tree result }
+    ensures { ReadsWithin port_tree (λ y. both (port_form_tree form) y) (name · may_value) room tokens.now result }
 {
-    let said = told_form(alloc, room, tokens)?;
-    let (name, after_name) = expect_name(alloc, said.rest)?;
-    let value = declared_value(alloc, room, after_name)?;
-    Ok(Read {
-        tree: Port {
-            form: said.tree,
-            name,
-            value: value.tree,
-        },
-        rest: value.rest,
-    })
-}
-
-/// Reads a port of which the header has the name alone.
-fn port_name<'t, 's>(
-    alloc: Global,
-    tokens: &'t [Token<'s>],
-) -> Result<Read<'t, 's, Port>, Stop<'t, 's>>
-    ensures { (room : ℕ) → ReadsTree (part a_port_name) room tokens.now port_tree result }
-{
-    let (name, rest) = expect_name(alloc, tokens)?;
-    Ok(Read {
-        tree: Port {
-            form: None,
-            name,
-            value: None,
-        },
-        rest,
-    })
-}
-
-/// Reads what stands before the name of a port, if a direction is next.
-fn told_form<'t, 's>(
-    alloc: Global,
-    room: u32,
-    tokens: &'t [Token<'s>],
-) -> Result<Read<'t, 's, Option<PortForm>>, Stop<'t, 's>>
-    ensures { ReadsTree (g.port_form or nothing) room tokens.now port_form_tree result }
-{
-    let Some((direction, after)) = direction_at(tokens) else {
+    let (name, after_name) = expect_name(alloc, tokens)?;
+    let Some(after) = mark_at(after_name, Mark::Assign) else {
         return Ok(Read {
-            tree: None,
-            rest: tokens,
+            tree: Port {
+                form,
+                name,
+                value: None,
+            },
+            rest: after_name,
         });
     };
-    let said = port_form(alloc, room, tokens, direction, after)?;
+    let value = expr(alloc, room, after)?;
     Ok(Read {
-        tree: Some(said.tree),
-        rest: said.rest,
+        tree: Port {
+            form,
+            name,
+            value: Some(value.tree),
+        },
+        rest: value.rest,
     })
 }
 

@@ -1,9 +1,10 @@
 //! Reading instances of modules.
-ghost use Rattle.std.specs.Prelude.{map};
+ghost use Rattle.std.specs.Prelude.{◌≤◌, map};
 ghost use Rattle.vs_tokens.specs.declared.token.Mark.TheVariants as m;
 ghost use Rattle.vs_syntax.specs.Symbols.{a_mark};
 ghost use Rattle.vs_syntax.specs.Grammar.{◌·◌, ◌or◌, nothing, part, mark, an_end, connections, a_connection, an_instance};
 ghost use Rattle.vs_syntax.specs.Grammar as g;
+ghost use Rattle.vs_syntax.specs.Tables.{low};
 ghost use Rattle.vs_syntax.specs.Derivation.{leaf, both};
 ghost use Rattle.vs_syntax.specs.Views.{listed_tree, end_tree, connection_tree, connections_tree, overrides_tree, instance_tree};
 ghost use Rattle.vs_expressions.specs.Answers.{ReadsTree};
@@ -11,7 +12,7 @@ ghost use Rattle.vs_forms.specs.Lists.{behind_commas};
 
 use std::alloc::Global;
 use vs_expressions::{Read, Stop, begins_expr, expect_mark, expect_name, expr, mark_at};
-use vs_forms::{Element, listed, others};
+use vs_forms::{Element, ended, listed, others};
 use vs_lexer::{Mark, Token};
 use vs_syntax::{Connection, Connections, Expr, Instance};
 
@@ -20,6 +21,9 @@ struct Named;
 
 /// A connection in the order of the ports or of the parameters.
 struct Ordered;
+
+/// What ports are connected to, or the values of parameters: by name, or in order.
+struct Connected;
 
 /// An instance of a module.
 struct Placed;
@@ -36,7 +40,16 @@ impl Element for Named {
         room: u32,
         tokens: &'t [Token<'s>],
     ) -> Result<Read<'t, 's, Connection>, Stop<'t, 's>> {
-        connection(alloc, room, tokens)
+        let after_dot = expect_mark(tokens, Mark::Dot)?;
+        let (name, after_name) = expect_name(alloc, after_dot)?;
+        let value = enclosed::<Ordered>(alloc, room, after_name)?;
+        Ok(Read {
+            tree: Connection {
+                name,
+                value: value.tree,
+            },
+            rest: value.rest,
+        })
     }
 }
 
@@ -52,7 +65,37 @@ impl Element for Ordered {
         room: u32,
         tokens: &'t [Token<'s>],
     ) -> Result<Read<'t, 's, Option<Expr>>, Stop<'t, 's>> {
-        end(alloc, room, tokens)
+        if begins_expr(tokens) {
+            let value = expr(alloc, room, tokens)?;
+            Ok(Read {
+                tree: Some(value.tree),
+                rest: value.rest,
+            })
+        } else {
+            Ok(Read {
+                tree: None,
+                rest: tokens,
+            })
+        }
+    }
+}
+
+impl Element for Connected {
+    type Syntax = Connections;
+
+    ghost grammar = { connections };
+
+    ghost tree_of = { connections_tree };
+
+    fn read<'t, 's>(
+        alloc: Global,
+        room: u32,
+        tokens: &'t [Token<'s>],
+    ) -> Result<Read<'t, 's, Connections>, Stop<'t, 's>> {
+        match mark_at(tokens, Mark::Dot) {
+            Some(_) => by_name(alloc, room, tokens),
+            None => in_order(alloc, room, tokens),
+        }
     }
 }
 
@@ -68,7 +111,15 @@ impl Element for Placed {
         room: u32,
         tokens: &'t [Token<'s>],
     ) -> Result<Read<'t, 's, Instance>, Stop<'t, 's>> {
-        instance(alloc, room, tokens)
+        let (name, after_name) = expect_name(alloc, tokens)?;
+        let ports = enclosed::<Connected>(alloc, room, after_name)?;
+        Ok(Read {
+            tree: Instance {
+                name,
+                ports: ports.tree,
+            },
+            rest: ports.rest,
+        })
     }
 }
 
@@ -105,62 +156,26 @@ fn overrides<'t, 's>(
             rest: tokens,
         });
     };
-    let values = enclosed(alloc, room, after)?;
+    let values = enclosed::<Connected>(alloc, room, after)?;
     Ok(Read {
         tree: Some(values.tree),
         rest: values.rest,
     })
 }
 
-/// Reads an instance: its name, and what its ports are connected to.
-fn instance<'t, 's>(
+/// Reads what stands in parentheses, and they.
+fn enclosed<'t, 's, T: Element>(
     alloc: Global,
     room: u32,
     tokens: &'t [Token<'s>],
-) -> Result<Read<'t, 's, Instance>, Stop<'t, 's>>
-    ensures { ReadsTree (part an_instance) room tokens.now instance_tree result }
-{
-    let (name, after_name) = expect_name(alloc, tokens)?;
-    let ports = enclosed(alloc, room, after_name)?;
-    Ok(Read {
-        tree: Instance {
-            name,
-            ports: ports.tree,
-        },
-        rest: ports.rest,
-    })
-}
-
-/// Reads connections in parentheses.
-fn enclosed<'t, 's>(
-    alloc: Global,
-    room: u32,
-    tokens: &'t [Token<'s>],
-) -> Result<Read<'t, 's, Connections>, Stop<'t, 's>>
-    ensures { ReadsTree (mark m.Open · connections · mark m.Close) room tokens.now
-        (λ x. both (leaf (a_mark m.Open)) (both (connections_tree x) (leaf (a_mark m.Close)))) result }
+) -> Result<Read<'t, 's, T::Syntax>, Stop<'t, 's>>
+    requires { low T.grammar ≤ room }
+    ensures { ReadsTree (mark m.Open · T.grammar · mark m.Close) room tokens.now
+        (λ x. both (leaf (a_mark m.Open)) (both (T.tree_of x) (leaf (a_mark m.Close)))) result }
 {
     let after = expect_mark(tokens, Mark::Open)?;
-    let inside = connected(alloc, room, after)?;
-    let rest = expect_mark(inside.rest, Mark::Close)?;
-    Ok(Read {
-        tree: inside.tree,
-        rest,
-    })
-}
-
-/// Reads what ports are connected to, or the values of parameters: by name, or in order.
-fn connected<'t, 's>(
-    alloc: Global,
-    room: u32,
-    tokens: &'t [Token<'s>],
-) -> Result<Read<'t, 's, Connections>, Stop<'t, 's>>
-    ensures { ReadsTree connections room tokens.now connections_tree result }
-{
-    match mark_at(tokens, Mark::Dot) {
-        Some(_) => by_name(alloc, room, tokens),
-        None => in_order(alloc, room, tokens),
-    }
+    let inside = T::read(alloc, room, after)?;
+    ended(inside, Mark::Close)
 }
 
 /// Reads connections by name.
@@ -172,7 +187,7 @@ fn by_name<'t, 's>(
     ensures { ReadsTree (part a_connection · behind_commas (part a_connection)) room tokens.now
         connections_tree result }
 {
-    let first = connection(alloc, room, tokens)?;
+    let first = Named::read(alloc, room, tokens)?;
     let behind = others::<Named>(alloc, room, first.rest, Vec::new(alloc))?;
     Ok(Read {
         tree: Connections::Named(first.tree, behind.tree),
@@ -188,54 +203,10 @@ fn in_order<'t, 's>(
 ) -> Result<Read<'t, 's, Connections>, Stop<'t, 's>>
     ensures { ReadsTree (an_end · behind_commas an_end) room tokens.now connections_tree result }
 {
-    let first = end(alloc, room, tokens)?;
+    let first = Ordered::read(alloc, room, tokens)?;
     let behind = others::<Ordered>(alloc, room, first.rest, Vec::new(alloc))?;
     Ok(Read {
         tree: Connections::Ordered(first.tree, behind.tree),
         rest: behind.rest,
     })
-}
-
-/// Reads a connection by name.
-fn connection<'t, 's>(
-    alloc: Global,
-    room: u32,
-    tokens: &'t [Token<'s>],
-) -> Result<Read<'t, 's, Connection>, Stop<'t, 's>>
-    ensures { ReadsTree (part a_connection) room tokens.now connection_tree result }
-{
-    let after_dot = expect_mark(tokens, Mark::Dot)?;
-    let (name, after_name) = expect_name(alloc, after_dot)?;
-    let after_open = expect_mark(after_name, Mark::Open)?;
-    let value = end(alloc, room, after_open)?;
-    let rest = expect_mark(value.rest, Mark::Close)?;
-    Ok(Read {
-        tree: Connection {
-            name,
-            value: value.tree,
-        },
-        rest,
-    })
-}
-
-/// Reads the expression that is next, if one is.
-fn end<'t, 's>(
-    alloc: Global,
-    room: u32,
-    tokens: &'t [Token<'s>],
-) -> Result<Read<'t, 's, Option<Expr>>, Stop<'t, 's>>
-    ensures { ReadsTree an_end room tokens.now end_tree result }
-{
-    if begins_expr(tokens) {
-        let value = expr(alloc, room, tokens)?;
-        Ok(Read {
-            tree: Some(value.tree),
-            rest: value.rest,
-        })
-    } else {
-        Ok(Read {
-            tree: None,
-            rest: tokens,
-        })
-    }
 }

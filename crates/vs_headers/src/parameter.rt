@@ -26,7 +26,16 @@ impl Element for Parameter {
         room: u32,
         tokens: &'t [Token<'s>],
     ) -> Result<Read<'t, 's, Constant>, Stop<'t, 's>> {
-        constant(alloc, room, tokens)
+        let (name, after_name) = expect_name(alloc, tokens)?;
+        let after_sign = expect_mark(after_name, Mark::Assign)?;
+        let value = expr(alloc, room, after_sign)?;
+        Ok(Read {
+            tree: Constant {
+                name,
+                value: value.tree,
+            },
+            rest: value.rest,
+        })
     }
 }
 
@@ -65,25 +74,5 @@ pub(crate) fn parameter_form<'t, 's>(
     Ok(Read {
         tree: ParameterForm::Integer,
         rest: behind,
-    })
-}
-
-/// Reads the name of a parameter, with its value.
-pub(crate) fn constant<'t, 's>(
-    alloc: Global,
-    room: u32,
-    tokens: &'t [Token<'s>],
-) -> Result<Read<'t, 's, Constant>, Stop<'t, 's>>
-    ensures { ReadsTree (part a_constant) room tokens.now constant_tree result }
-{
-    let (name, after_name) = expect_name(alloc, tokens)?;
-    let after_sign = expect_mark(after_name, Mark::Assign)?;
-    let value = expr(alloc, room, after_sign)?;
-    Ok(Read {
-        tree: Constant {
-            name,
-            value: value.tree,
-        },
-        rest: value.rest,
     })
 }

@@ -2,6 +2,7 @@ pub mod Calls
 pub mod Lists
 pub mod Stores
 pub mod StepReads
+mod Named
 pub mod Threads
 pub mod Assigns
 pub mod Todos

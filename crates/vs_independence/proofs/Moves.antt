@@ -18,9 +18,10 @@ use Rattle.vs_process.specs.States.{State, AssignState, place_behind, performed,
 use Rattle.vs_flatcode.specs.Places.{todo_of}
 use Rattle.vs_process.proofs.WellFormed.{is_sound_place, is_sound_todo}
 use Rattle.vs_process.proofs.Assigns.{AssignsSound, IsUndriven, assign_driven, assigned_other, sound_behind, sound_evaluated, sound_propagated}
+use Rattle.vs_independence.specs.Reads.{mute}
 use Rattle.vs_independence.specs.Threads.{store_behind, Thread, IsThread, log_behind, moved, turn_at, writes, place_reads, todo_reads}
 use Rattle.vs_independence.proofs.Lists.{at, at_each}
-use Rattle.vs_independence.proofs.StepReads.{mute, step_reads, IsPlain, step_plain}
+use Rattle.vs_independence.proofs.StepReads.{step_reads, IsPlain, step_plain}
 use Rattle.vs_independence.proofs.Threads.{thread_turns, rouse_thread, thread_rouses}
 use Rattle.vs_independence.proofs.Assigns.{DrivesWell, assigns_behind}
 use Rattle.vs_independence.proofs.Events.{IsSilent, behind_silent, written_silent}

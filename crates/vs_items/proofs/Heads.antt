@@ -1,6 +1,6 @@
 -- How items are made of what they begin with and what stands behind it, and where they stop.
 use Rattle.std.specs.Prelude.{◌≡◌, ℕ, suc, ◌-◌, ◌<◌, ◌≤◌, Bool, true, List, ◌∷◌, Some, Result, Ok, Err, refl}
-use Rattle.std.proofs.Common.{ap, subst, ◌∙◌, arith}
+use Rattle.std.proofs.Common.{ap, sym, subst, ◌∙◌, arith}
 use Rattle.vs_tokens.specs.declared.token.Word.{Word}
 use Rattle.vs_tokens.specs.declared.token.Word.TheVariants as w
 use Rattle.vs_tokens.specs.declared.token.Token.{Token}
@@ -25,7 +25,7 @@ use Rattle.vs_items.specs.declared.head.DeclarationWord.{DeclarationWord}
 use Rattle.vs_items.specs.declared.head.DeclarationWord.TheVariants as d
 use Rattle.vs_expressions.specs.declared.reading.Read.{Read}
 use Rattle.vs_expressions.specs.declared.reading.Stop.{Stop}
-use Rattle.vs_expressions.specs.Answers.{seen, ReadsTree}
+use Rattle.vs_expressions.specs.Answers.{seen, FailsToRead, ReadsTree}
 use Rattle.vs_forms.specs.Parts.{Within, ReadsWithin, headed}
 use Rattle.vs_items.specs.Heads.{word_of, generate_word, plain_symbol, symbol_of, declaration_of, construct_of, plain_body, body_of}
 use Rattle.vs_expressions.proofs.Exits.{deep_at, fails_by, goes_at}
@@ -131,3 +131,13 @@ need_of k k' n room e i l = omega (arith, l, i, ap (λ u. need (class_of (symbol
 -- what was read of an item that is no generate construct
 pub plain_within : (k : PlainHead) (room : ℕ) (ts rest : List Symbol) (x : Item) → Gets (plain_body k) room ts (body_tree x) rest → item_symbol x ≡ plain_symbol k → Within module_item_tree (headed (plain_symbol k)) (plain_body k) room ts (v.Plain x) rest
 plain_within k room ts rest x q e = record { inner = body_tree x; whole = tree_Plain x ∙ ap (λ u. headed u (body_tree x)) e; gets = q }
+
+-- a beginning that is known
+pub plain_fails : (k k' : PlainHead) (room : ℕ) (ts : List Symbol) (e : Stop) → k ≡ k' → FailsToRead (plain_body k') room ts e → FailsToRead (plain_body k) room ts e
+plain_fails k k' room ts e i f = subst (λ (u : PlainHead). FailsToRead (plain_body u) room ts e) (sym i) f
+
+pub plain_is : (k k' : PlainHead) (room : ℕ) (ts rest : List Symbol) (x : Item) → k ≡ k' → Gets (plain_body k') room ts (body_tree x) rest → item_symbol x ≡ plain_symbol k' → Within module_item_tree (headed (plain_symbol k)) (plain_body k) room ts (v.Plain x) rest
+plain_is k k' room ts rest x i q e = subst (λ (u : PlainHead). Within module_item_tree (headed (plain_symbol u)) (plain_body u) room ts (v.Plain x) rest) (sym i) (plain_within k' room ts rest x q e)
+
+pub declared_read : (k k' : DeclarationWord) (room : ℕ) (ts rest : List Symbol) (x : Tree) → k ≡ k' → Gets (declaration_of k') room ts x rest → Gets (declaration_of k) room ts x rest
+declared_read k k' room ts rest x i q = subst (λ (u : DeclarationWord). Gets (declaration_of u) room ts x rest) (sym i) q

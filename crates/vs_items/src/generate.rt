@@ -1,22 +1,22 @@
 //! Reading generate constructs and the items in them. What one form of them needs is never inlined, so that a level of nesting takes little
 //! stack.
-ghost use Rattle.std.specs.Prelude.{◌≡◌, ℕ, false, map};
+ghost use Rattle.std.specs.Prelude.{ℕ, map};
 ghost use Rattle.vs_tokens.specs.declared.token.Mark.TheVariants as m;
 ghost use Rattle.vs_tokens.specs.declared.token.Word.TheVariants as w;
 ghost use Rattle.vs_syntax.specs.Symbols.{a_word, the_word};
 ghost use Rattle.vs_syntax.specs.Grammar.{Grammar, ◌·◌, many, part, mark, word, optional, guarded, named_value, generate_loop, generate_branches, block_name, a_generate_block, an_item};
-ghost use Rattle.vs_syntax.specs.Tables.{goes};
 ghost use Rattle.vs_syntax.specs.Derivation.{both};
 ghost use Rattle.vs_syntax.specs.Views.{row_of, constant_tree, loop_tree, block_name_tree, module_item_tree};
 ghost use Rattle.vs_expressions.specs.Answers.{seen, ReadsTree};
 ghost use Rattle.vs_forms.specs.Parts.{ReadsWithin, Leads, headed, marked};
-ghost use Rattle.vs_items.specs.Heads.{BeginsItem, generate_word, construct_of};
+ghost use Rattle.vs_items.specs.Heads.{BeginsItem};
 ghost use Rattle.vs_items.specs.Generated.{boxed_item_tree, other_item_tree, begun, block_rest};
 
 use crate::head::{GenerateWord, ItemHead, item_head, least_item};
 use crate::item::plain_item;
 use std::alloc::Global;
 use vs_expressions::{Read, Stop, expect_mark, expect_name, expect_word, expr, mark_at, word_at};
+use vs_forms::ended;
 use vs_lexer::{Mark, Token, Word};
 use vs_statements::{expr_until, guard};
 use vs_syntax::{Constant, LoopHeader, ModuleItem};
@@ -36,26 +36,14 @@ fn item<'t, 's>(
     if room < least_item(head) {
         return Err(Stop::TooDeep(tokens));
     }
+    let below = room - 1;
     match head {
-        ItemHead::Plain(plain) => plain_item(alloc, room - 1, after, plain),
-        ItemHead::Generate(word) => construct(alloc, room - 1, after, word),
-    }
-}
-
-/// Reads a generate construct behind the word that it begins with.
-#[cycle(item)]
-fn construct<'t, 's>(
-    alloc: Global,
-    room: u32,
-    tokens: &'t [Token<'s>],
-    word: GenerateWord,
-) -> Result<Read<'t, 's, ModuleItem>, Stop<'t, 's>>
-    ensures { ReadsWithin module_item_tree (headed (a_word (generate_word word))) (construct_of word) room tokens.now result }
-{
-    match word {
-        GenerateWord::Region => region(alloc, room, tokens),
-        GenerateWord::For => generate_for(alloc, room, tokens),
-        GenerateWord::If => generate_if(alloc, room, tokens),
+        ItemHead::Plain(plain) => plain_item(alloc, below, after, plain),
+        ItemHead::Generate(word) => match word {
+            GenerateWord::Region => region(alloc, below, after),
+            GenerateWord::For => generate_for(alloc, below, after),
+            GenerateWord::If => generate_if(alloc, below, after),
+        },
     }
 }
 
@@ -184,44 +172,19 @@ fn generated<'t, 's>(
 ) -> Result<Read<'t, 's, ModuleItem>, Stop<'t, 's>>
     ensures { ReadsTree (part a_generate_block) room tokens.now module_item_tree result }
 {
-    let Some(rest) = mark_at(tokens, Mark::Semicolon) else {
-        return block_or_item(alloc, room, tokens);
-    };
-    Ok(Read {
-        tree: ModuleItem::Null,
-        rest,
-    })
-}
-
-/// Reads a block, or an item.
-#[cycle(item)]
-fn block_or_item<'t, 's>(
-    alloc: Global,
-    room: u32,
-    tokens: &'t [Token<'s>],
-) -> Result<Read<'t, 's, ModuleItem>, Stop<'t, 's>>
-    requires { goes (mark m.Semicolon) (seen tokens.now) ≡ false }
-    ensures { ReadsTree (part a_generate_block) room tokens.now module_item_tree result }
-{
-    let Some(after) = word_at(tokens, Word::Begin) else {
-        return one_item(alloc, room, tokens);
-    };
-    block(alloc, room, after)
-}
-
-/// Reads the item that is next.
-#[cycle(item)]
-fn one_item<'t, 's>(
-    alloc: Global,
-    room: u32,
-    tokens: &'t [Token<'s>],
-) -> Result<Read<'t, 's, ModuleItem>, Stop<'t, 's>>
-    ensures { ReadsTree (part an_item) room tokens.now module_item_tree result }
-{
-    let Some((head, after)) = item_head(tokens) else {
-        return Err(Stop::Unexpected(tokens));
-    };
-    item(alloc, room, tokens, head, after)
+    if let Some(rest) = mark_at(tokens, Mark::Semicolon) {
+        return Ok(Read {
+            tree: ModuleItem::Null,
+            rest,
+        });
+    }
+    if let Some(after) = word_at(tokens, Word::Begin) {
+        return block(alloc, room, after);
+    }
+    match item_head(tokens) {
+        Some((head, after)) => item(alloc, room, tokens, head, after),
+        None => Err(Stop::Unexpected(tokens)),
+    }
 }
 
 /// Reads what stands behind the `begin` of a block: its name, where it has one, its items, and `end`.
@@ -294,11 +257,7 @@ fn named_value_until<'t, 's>(
         (λ x y. both (constant_tree x) (marked end y)) room tokens.now result }
 {
     let value = named_value(alloc, room, tokens)?;
-    let rest = expect_mark(value.rest, end)?;
-    Ok(Read {
-        tree: value.tree,
-        rest,
-    })
+    ended(value, end)
 }
 
 /// Reads the header of a generate loop.

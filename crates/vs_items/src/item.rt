@@ -27,24 +27,6 @@ pub(crate) fn plain_item<'t, 's>(
     requires { low (plain_body head) ≤ room }
     ensures { ReadsWithin module_item_tree (headed (plain_symbol head.entry)) (plain_body head.entry) room tokens.now result }
 {
-    let inner = body(alloc, room, tokens, head)?;
-    Ok(Read {
-        tree: ModuleItem::Plain(inner.tree),
-        rest: inner.rest,
-    })
-}
-
-/// Reads what stands behind the first token of an item that is no generate construct.
-fn body<'t, 's>(
-    alloc: Global,
-    room: u32,
-    tokens: &'t [Token<'s>],
-    head: PlainHead<'s>,
-) -> Result<Read<'t, 's, Item>, Stop<'t, 's>>
-    requires { low (plain_body head) ≤ room }
-    ensures reads { ReadsTree (plain_body head.entry) room tokens.now body_tree result }
-    ensures symbol { IfOk result (λ x. item_symbol x.tree ≡ plain_symbol head.entry) }
-{
     let (tree, rest) = match head {
         PlainHead::Name(module) => {
             let name = Vec::from_slice(alloc, module)?;
@@ -71,7 +53,10 @@ fn body<'t, 's>(
             (Item::Always(repeated.tree), repeated.rest)
         }
     };
-    Ok(Read { tree, rest })
+    Ok(Read {
+        tree: ModuleItem::Plain(tree),
+        rest,
+    })
 }
 
 /// Reads what stands behind the word of a declaration.

@@ -6,6 +6,16 @@ use Rattle.std.specs.Str.{bytes_eq}
 use Rattle.std.proofs.lemmas.List.{map-append, length-map, length-append, append-nil}
 use Rattle.std.proofs.lemmas.List.Folds.{list_any-append}
 use Rattle.std.proofs.lemmas.Slice.Zip.{all_zipped_more}
+use Rattle.std.specs.Borrow.{Bor}
+use Rattle.std.specs.declared.vec.Vec.{Vec}
+use Rattle.std.specs.declared.alloc.Global.{Global}
+use Rattle.vs_syntax.specs.declared.tree.Declarator.{Declarator}
+use Rattle.vs_syntax.specs.declared.tree.Item.{Item}
+use Rattle.vs_syntax.specs.declared.tree.Item.TheVariants as t
+use Rattle.vs_syntax.specs.declared.tree.LocalDeclaration.{LocalDeclaration}
+use Rattle.vs_pieces.specs.declared.scope.Piece.{Piece as FoundPiece}
+use Rattle.vs_pieces.specs.declared.scope.Piece.TheVariants as p
+use Rattle.vs_pieces.specs.Reads.{read_piece}
 use Rattle.vs_syntax.specs.declared.tree.Form.{Form}
 use Rattle.vs_syntax.specs.declared.tree.Range.{Range}
 use Rattle.vs_scopes.specs.declared.sizes.Size.{Size}
@@ -25,7 +35,7 @@ use Rattle.vs_widths.specs.Names.{meaning_of, Declares as NamesDeclare}
 use Rattle.vs_scopes.specs.Printed.{Path}
 use Rattle.vs_scopes.specs.Ranges.{Sized, shape_with, sized_as, words_as}
 use Rattle.vs_scopes.specs.Ports.{without_name}
-use Rattle.vs_scopes.specs.Declarations.{Bindings, DeclaredName, declaration_fault, names_in, meaning_as, size_of_kind, declared_by_port, not_joined}
+use Rattle.vs_scopes.specs.Declarations.{Bindings, DeclaredName, declaration_fault, names_in, meaning_as, size_of_kind, declared_by_port, declared_by_item, declared_in, not_joined}
 use Rattle.vs_scopes.specs.Scopes.{Scope, keys, constant_names, numbered_names, named}
 use Rattle.vs_scopes.specs.passes.Answers.{Refuses, Elaborates, Told, IsFaultAt, IsRefusal, Grows}
 use Rattle.vs_scopes.specs.passes.Sizes.{width_faults, IsSize, AreWords}
@@ -38,7 +48,7 @@ use Rattle.vs_opened.specs.passes.Naming.{Bound}
 use Rattle.vs_opened.specs.passes.Declaring.{declared_so, SameCounts, Keeps, KeepsNot, DeclaresPorts, DeclaresPortsNot, joined_names, still_joined, kept, Declares, DeclaresNot}
 use Rattle.vs_scopes.proofs.SizeLemmas.{shape_is, no_faults}
 use Rattle.vs_scopes.proofs.Folds.{any_push, both_false, left_true, right_true}
-use Rattle.vs_scopes.proofs.AnswerLemmas.{told_at, told_by, told_part, refused_by, Kept}
+use Rattle.vs_scopes.proofs.AnswerLemmas.{told_at, told_by, told_part, refused_by, Kept, kept_none}
 use Rattle.vs_opened.proofs.BindLemmas.{bound_push, bound_twice, numbered_push, numbered_keys, repeated_more}
 
 -- ---- signals
@@ -337,3 +347,21 @@ size_scalar env s k m n = (
 
 pub words_none : (env : Environment) (kind : SignalKind) (w : WordCount) → w.bounds ≡ None → w.count ≡ 1 → ((q : Reason) → (words_as env kind None).faults q ≡ false) × AreWords (words_as env kind None) w
 words_none env kind w h k = (port_words env kind, record { bounds = h; count = k })
+
+-- ---- what declares nothing
+
+-- nothing more
+pub kept_still : {A C : Type 0} (Old : C → List A → Type 0) (xs : List A) → xs ≡ [] → Kept Old Old xs
+kept_still Old xs e = subst (Kept Old Old) (sym e) (kept_none Old)
+
+pub quiet_item : (env : Environment) (x : Item) → ((f : Form) (ds : Vec Declarator Global) → x ≡ t.Wire f ds → ⊥) → ((f : Form) (ds : Vec Declarator Global) → x ≡ t.Reg f ds → ⊥) → ((ds : Vec Declarator Global) → x ≡ t.Integer ds → ⊥) → declared_by_item env x ≡ []
+quiet_item env (t.Wire f ds) a b c = absurd (a f ds refl)
+quiet_item env (t.Reg f ds) a b c = absurd (b f ds refl)
+quiet_item env (t.Integer ds) a b c = absurd (c ds refl)
+quiet_item env _ a b c = refl
+
+pub quiet_piece : (env : Environment) (x : FoundPiece) → ((i : Bor Item) → x ≡ p.Plain i → ⊥) → ((d : Bor LocalDeclaration) → x ≡ p.Local d → ⊥) → ((n : Bor (List ℕ)) → x ≡ p.Net n → ⊥) → declared_in env (read_piece x) ≡ []
+quiet_piece env (p.Plain i) a b c = absurd (a i refl)
+quiet_piece env (p.Local d) a b c = absurd (b d refl)
+quiet_piece env (p.Net n) a b c = absurd (c n refl)
+quiet_piece env _ a b c = refl

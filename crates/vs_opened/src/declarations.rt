@@ -244,14 +244,7 @@ fn declare_item<'s>(
             let size = Ok(INTEGER);
             declare_names(alloc, site, SignalKind::Integer, &size, list, to, plan)
         }
-        Item::Port(_, _) => Ok(()),
-        Item::Genvar(_) => Ok(()),
-        Item::Parameter(_, _) => Ok(()),
-        Item::Localparam(_, _) => Ok(()),
-        Item::Instances(_, _, _) => Ok(()),
-        Item::Assign(_) => Ok(()),
-        Item::Initial(_) => Ok(()),
-        Item::Always(_) => Ok(()),
+        _ => Ok(()),
     }
 }
 
@@ -314,10 +307,8 @@ fn declare_piece<'s>(
     match piece {
         Piece::Plain(item) => declare_item(alloc, site, item, to, plan),
         Piece::Local(declaration) => declare_locally(alloc, site, declaration, to, plan),
-        Piece::Loop(_, _) => Ok(()),
-        Piece::Choice(_, _, _) => Ok(()),
-        Piece::Inside(_) => Ok(()),
         Piece::Net(name) => declare_net(alloc, site, name, to, plan),
+        _ => Ok(()),
     }
 }
 

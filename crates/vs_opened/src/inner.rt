@@ -5,15 +5,15 @@ ghost use Rattle.std.specs.declared.vec.Vec.{Vec};
 ghost use Rattle.std.specs.declared.alloc.Global.{Global};
 ghost use Rattle.vs_syntax.specs.declared.tree.Connections.{Connections};
 ghost use Rattle.std.specs.Prelude.{Option};
-ghost use Rattle.vs_pieces.specs.Pieces.{NamedBlock as TheBlock, plain, block_name};
-ghost use Rattle.vs_pieces.specs.Reads.{read_block, read_content, read_piece};
+ghost use Rattle.vs_pieces.specs.Pieces.{NamedBlock as TheBlock, plain, content_of, block_name};
+ghost use Rattle.vs_pieces.specs.Reads.{read_block, read_piece};
 ghost use Rattle.vs_scopes.specs.Declarations.{Use, use_of, uses_by_item, genvars_in, inner_names_in, inner_names_among, each_once};
 ghost use Rattle.vs_scopes.specs.passes.Answers.{borrowed};
 ghost use Rattle.vs_opened.specs.passes.Naming.{KeepsOnce};
 
 use std::alloc::{AllocError, Global};
 use vs_pieces::{Content, NamedBlock, Piece, branch_names, content_of, item_blocks};
-use vs_syntax::{Instance, Item};
+use vs_syntax::{Instance, Item, ModuleItem};
 use vs_widths::Names;
 
 /// Adds names.
@@ -27,24 +27,13 @@ fn add_names<'s>(list: &'s [Vec<u8>], names: &mut Vec<&'s [u8]>) -> Result<(), A
     Ok(())
 }
 
-/// Adds the genvars that an item declares (IEEE 1364-2005, clause 12.4.1).
-fn add_item_genvars<'s>(item: &'s Item, names: &mut Vec<&'s [u8]>) -> Result<(), AllocError>
-    ensures { OnOk result (borrowed names.new.items
-        ≡ borrowed names.old.items ++ genvars_in (plain item.entry.now)) }
-{
-    match item {
-        Item::Genvar(list) => add_names(list, names),
-        _ => Ok(()),
-    }
-}
-
-/// Adds the genvars that a piece declares.
+/// Adds the genvars that a piece declares (IEEE 1364-2005, clause 12.4.1).
 fn add_genvars<'s>(piece: Piece<'s>, names: &mut Vec<&'s [u8]>) -> Result<(), AllocError>
     ensures { OnOk result (borrowed names.new.items
         ≡ borrowed names.old.items ++ genvars_in (read_piece piece.entry)) }
 {
     match piece {
-        Piece::Plain(item) => add_item_genvars(item, names),
+        Piece::Plain(Item::Genvar(list)) => add_names(list, names),
         _ => Ok(()),
     }
 }
@@ -107,12 +96,12 @@ fn add_item_inner<'s>(
     add_blocks(&blocks, names)
 }
 
-/// Adds the name of a block that a loop generates, where it has one.
-fn add_content<'s>(content: Content<'s>, names: &mut Vec<&'s [u8]>) -> Result<(), AllocError>
+/// Adds the name of the block that a turn of a loop generates, where it has one (IEEE 1364-2005, clause 12.4.1).
+fn add_generated<'s>(inner: &'s ModuleItem, names: &mut Vec<&'s [u8]>) -> Result<(), AllocError>
     ensures { OnOk result (borrowed names.new.items
-        ≡ borrowed names.old.items ++ block_name (read_content content.entry)) }
+        ≡ borrowed names.old.items ++ block_name (content_of inner.entry.now)) }
 {
-    if let Content::Block(Some(name), _) = content {
+    if let Content::Block(Some(name), _) = content_of(inner) {
         names.push(name)?;
     }
     Ok(())
@@ -172,7 +161,7 @@ fn add_inner<'s>(
 {
     match piece {
         Piece::Plain(item) => add_item_inner(alloc, item, names),
-        Piece::Loop(_, inner) => add_content(content_of(inner), names),
+        Piece::Loop(_, inner) => add_generated(inner, names),
         Piece::Choice(_, first, other) => {
             let list = branch_names(alloc, first, other)?;
             add_once(alloc, &list, names)

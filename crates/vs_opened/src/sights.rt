@@ -5,7 +5,6 @@ ghost use Rattle.std.specs.declared.alloc.Global.{Global};
 ghost use Rattle.vs_syntax.specs.declared.tree.Declarator.{Declarator};
 ghost use Rattle.vs_design.specs.Kinds.{is_variable};
 ghost use Rattle.vs_widths.specs.Names.{meaning_of};
-ghost use Rattle.vs_pieces.specs.Pieces.{plain};
 ghost use Rattle.vs_pieces.specs.Reads.{read_piece};
 ghost use Rattle.vs_scopes.specs.Nets.{told_in, told_from, is_before, is_net};
 ghost use Rattle.vs_scopes.specs.Scopes.{Scope, sight_in};
@@ -74,17 +73,6 @@ fn add_declarators<'s>(
     Ok(())
 }
 
-/// Adds the ports and nets that an item declares, with the place of its piece.
-fn add_item<'s>(place: usize, item: &'s Item, told: &mut Names<'s, usize>) -> Result<(), AllocError>
-    ensures { OnOk result (AddsNames told.old told.new (placed place (told_in (plain item.entry.now)))) }
-{
-    match item {
-        Item::Port(_, list) => add_names(place, list, told),
-        Item::Wire(_, list) => add_declarators(place, list, told),
-        _ => Ok(()),
-    }
-}
-
 /// Adds the ports and nets that a piece declares, with its place.
 fn add_piece<'s>(
     place: usize,
@@ -94,7 +82,8 @@ fn add_piece<'s>(
     ensures { OnOk result (AddsNames told.old told.new (placed place (told_in (read_piece piece.entry)))) }
 {
     match piece {
-        Piece::Plain(item) => add_item(place, item, told),
+        Piece::Plain(Item::Port(_, list)) => add_names(place, list, told),
+        Piece::Plain(Item::Wire(_, list)) => add_declarators(place, list, told),
         Piece::Net(name) => add_first(name, place, told),
         _ => Ok(()),
     }
@@ -191,7 +180,7 @@ fn sight_at(list: &[Opened], place: usize, piece: usize, name: &[u8]) -> Sight
 {
     let mut at = place;
     let mut from = piece;
-    for _step in 0..place {
+    for _step in 0..place + 1 {
         if let Some(sight) = sight_here(list, at, from, name) {
             return sight;
         }
@@ -204,10 +193,7 @@ fn sight_at(list: &[Opened], place: usize, piece: usize, name: &[u8]) -> Sight
             None => return Sight::Unseen,
         }
     }
-    match sight_here(list, at, from, name) {
-        Some(sight) => sight,
-        None => Sight::Unseen,
-    }
+    Sight::Unseen
 }
 
 /// How a name stands around a scope of this kind, where it stands in the text (IEEE 1364-2005, clauses 4.5 and 12.7).

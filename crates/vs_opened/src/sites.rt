@@ -1,5 +1,5 @@
 //! Where scopes stand: their paths, and what names are bound to outward of them.
-ghost use Rattle.std.specs.Prelude.{◌≡◌, ◌<◌, ℕ, List, Some, length, reverse, slice_get, IfOk};
+ghost use Rattle.std.specs.Prelude.{◌≡◌, ◌<◌, ℕ, List, Some, length, slice_get, IfOk};
 ghost use Rattle.vs_widths.specs.Names.{meaning_of, nested_names};
 ghost use Rattle.vs_scopes.specs.Scopes.{Scope, environment, seen_from};
 ghost use Rattle.vs_scopes.specs.passes.Names.{read_title, read_path};
@@ -36,7 +36,7 @@ pub fn names_outward<'s, 'o>(
 {
     let mut levels = Vec::new(alloc);
     let mut at = place;
-    for _step in 0..place {
+    for _step in 0..place + 1 {
         let scope = &list[at];
         levels.push(&scope.names)?;
         match outward_place(scope.kind, scope.around) {
@@ -44,8 +44,6 @@ pub fn names_outward<'s, 'o>(
             None => return Ok(levels),
         }
     }
-    let scope = &list[at];
-    levels.push(&scope.names)?;
     Ok(levels)
 }
 
@@ -67,33 +65,6 @@ pub fn names_around<'s, 'o>(
     }
 }
 
-/// The names from a scope to the top.
-fn titles_upward<'s>(
-    alloc: Global,
-    list: &[Opened<'s>],
-    place: usize,
-) -> Result<Vec<PathName<'s>>, AllocError>
-    requires place { place < length list.now }
-    requires seated { AreSeated list.now }
-    ensures rooted { IfOk result (λ v. 0 < length v.items) }
-    ensures path { (ss : List Scope) (s : Scope) → AreOpened list.now ss → slice_get ss place ≡ Some s →
-        IfOk result (λ v. read_path (reverse v.items) ≡ s.path) }
-{
-    let mut titles = Vec::new(alloc);
-    let mut at = place;
-    for _step in 0..place {
-        let scope = &list[at];
-        titles.push(scope.title)?;
-        match scope.around {
-            Some(next) => at = next,
-            None => return Ok(titles),
-        }
-    }
-    let scope = &list[at];
-    titles.push(scope.title)?;
-    Ok(titles)
-}
-
 /// The names from the top to a scope (IEEE 1364-2005, clause 12.5).
 pub fn path<'s>(
     alloc: Global,
@@ -106,8 +77,19 @@ pub fn path<'s>(
     ensures path { (ss : List Scope) (s : Scope) → AreOpened list.now ss → slice_get ss place ≡ Some s →
         IfOk result (λ v. read_path v.items ≡ s.path) }
 {
-    let mut titles = titles_upward(alloc, list, place)?;
-    titles.reverse();
+    let mut titles = Vec::new(alloc);
+    let mut at = place;
+    for _step in 0..place + 1 {
+        let scope = &list[at];
+        titles.push(scope.title)?;
+        match scope.around {
+            Some(next) => at = next,
+            None => {
+                titles.reverse();
+                return Ok(titles);
+            }
+        }
+    }
     Ok(titles)
 }
 

@@ -212,8 +212,8 @@ impl<'a> Place<'a> {
     /// Steps of an active process (IEEE 1364-2005, clauses 9.2 and 9.7) at `time`, in ticks, one after another while they do nothing beyond it and it
     /// stays active, and where the last of these has an effect, the turns of `forever` and the timing control behind it, or where it writes, the turns of
     /// `forever` and the delay behind it, at most so many in all: where it goes from there, and in `effect` what they do to the rest of the state, where
-    /// they do any. The write of a blocking assignment is made in the store, and the words that it changes go to `changes`. Without memory the process is
-    /// still active, and the store is as it was.
+    /// they do any. The write of a blocking assignment is made in the store, and the words that it changes go to `changes`. The steps end in front of one that
+    /// has no memory; without memory for the first one the place and the store are as they were.
     #[inline(always)]
     pub fn steps(
         &mut self,
@@ -232,6 +232,7 @@ impl<'a> Place<'a> {
         ensures ok { IfOk result (λ went. WentFrom went.steps self.old store.old time self.new
             (effect_if went.made effect.new) store.new changes.old.items changes.new.items) }
         ensures active { OnErr result (is_going self.new ≡ true) }
+        ensures place_kept { OnErr result (self.new ≡ self.old) }
         ensures store_kept { OnErr result (store.new ≡ store.old) }
     {
         let Wait::Nothing(gait) = self.wait else {

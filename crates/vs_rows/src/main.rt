@@ -1,5 +1,8 @@
-//! Rows of the whole program: sources with the exact bytes that it writes for them.
+//! Rows of the whole program: sources with the exact bytes that it writes for them, and expressions with the digits of their values.
 #![tactic(auto)]
+
+mod expressions;
+mod signals;
 
 use std::alloc::{AllocError, Global};
 use std::io;
@@ -102,11 +105,13 @@ fn called_on_pieces(
 
 impl Answers for Calls {
     fn answer(&self, words: &str, question: &str, text: &mut Vec<u8>) -> Result<(), AllocError> {
-        match (words, words.strip_prefix("pieces ")) {
-            ("refused", _) => refused(self.alloc, question, text),
-            ("cut after each byte", _) => cut(self.alloc, question, text),
-            (_, Some(rest)) => called_on_pieces(self.alloc, rest, question, text),
-            (_, None) => called(self.alloc, words, question, text),
+        let (kind, rest) = words.split_once(' ').unwrap_or((words, ""));
+        match kind {
+            "vsim" => called(self.alloc, words, question, text),
+            "pieces" => called_on_pieces(self.alloc, rest, question, text),
+            "refused" => refused(self.alloc, question, text),
+            "cut" => cut(self.alloc, question, text),
+            _ => expressions::answer(self.alloc, words, question, text),
         }
     }
 }

@@ -2,6 +2,6 @@
 #![tactic(auto)]
 
 #[cfg(test)]
-mod reading;
+mod members;
 #[cfg(test)]
-mod refusals;
+mod rows;

@@ -1,7 +1,9 @@
-//! Calls whose words are wrong, and help.
+//! Calls whose words are wrong or can't be read, a name that isn't fit for a terminal, and help.
 
 use crate::calling::run;
+use std::io::{self, ErrorKind};
 use std::test::Fail;
+use vs_sim::refuse_start;
 
 const MISUSED: &[&str] = &[
     "vsim run --top t --until 10 --policy last",
@@ -23,5 +25,39 @@ fn command_lines(rt: HostRuntime) -> Result<(), Fail> {
     assert_eq!(rt; shown.status, 0);
     assert_eq!(rt; shown.err.len(), 0);
     assert_ne!(rt; shown.out.len(), 0);
+    Ok(())
+}
+
+/// Why the words of a call can't be read, the status, and what is told.
+static UNREADABLE: [(ErrorKind, u8, &str); 3] = [
+    (ErrorKind::OutOfMemory, 3, "vsim: memory\n"),
+    (
+        ErrorKind::InvalidData,
+        64,
+        "vsim: a word is no text in UTF-8\n",
+    ),
+    (ErrorKind::BrokenPipe, 3, "vsim: read\n"),
+];
+
+#[test]
+fn words_that_cannot_be_read(rt: HostRuntime) -> Result<(), Fail> {
+    for (kind, wanted, text) in UNREADABLE {
+        let mut err = Vec::new(rt.alloc());
+        let status = refuse_start(&io::Error::from(kind), &mut err);
+        assert_eq!(rt; status, wanted, "{text}");
+        assert!(rt; err.as_slice() == text.as_bytes(), "{text}");
+    }
+    Ok(())
+}
+
+#[test]
+fn control_bytes_of_a_name_are_spelled(rt: HostRuntime) -> Result<(), Fail> {
+    let answer = run(
+        rt.alloc(),
+        "vsim run --top a\u{1b}b --until 1",
+        b"module t; endmodule",
+    )?;
+    assert_eq!(rt; answer.status, 1);
+    assert!(rt; answer.err.as_slice() == b"vsim: E1 at \\a\\x1bb \n".as_slice());
     Ok(())
 }

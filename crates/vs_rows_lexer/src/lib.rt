@@ -2,8 +2,6 @@
 #![tactic(auto)]
 
 #[cfg(test)]
-mod beginnings;
-#[cfg(test)]
 mod showing;
 #[cfg(test)]
 mod tokens;

@@ -1,5 +1,5 @@
 //! Rows of the calls that no expression makes: tables of digits, parts at the ends of `i64`, vectors joined beyond 64 digits, widths, numbers and planes.
-//! The operators have theirs in `vs_rows_expressions`.
+//! The operators have theirs in `vs_rows`.
 ghost use Rattle.std.specs.Prelude.{◌≡◌, ◌<◌, ◌≤◌, length};
 
 use std::process::Abort;

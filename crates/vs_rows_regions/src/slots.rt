@@ -1,5 +1,5 @@
 //! What waits, slot by slot, with a list and with a wheel.
-ghost use Rattle.std.specs.Prelude.{◌≡◌, ◌<◌, ◌^◌, []};
+ghost use Rattle.std.specs.Prelude.{◌≡◌, []};
 
 use std::alloc::{AllocError, Global};
 use std::process::Abort;
@@ -8,22 +8,27 @@ use vs_design::{Ticks, Write};
 use vs_regions::{Item, Regions};
 use vs_time_wheel::{EventQueue, ListQueue, Wheel};
 
-// Pushes an update of a process that is due in so many ticks; without memory, and late in time, none.
+// Pushes an update of a process that is due in so many ticks; late in time none.
 fn push<Q: EventQueue<Item>>(
     alloc: Global,
     regions: &mut Regions<Q>,
     by: usize,
     count: u64,
-) -> Result<(), AllocError>
-    requires { count < 2 ^ 62 }
-{
-    if regions.time() < 1 << 62 {
+) -> Result<(), AllocError> {
+    if regions.time() < 1 << 62 && count < 1 << 62 {
         regions.push(by, Ticks { count }, Write::new(alloc))?;
     }
     Ok(())
 }
 
-// Activates the updates that are due, and takes them, the oldest first: their numbers in the order of execution.
+// Takes the oldest update: its number in the order of execution.
+fn take_first<Q: EventQueue<Item>>(regions: &mut Regions<Q>) -> Option<u64> {
+    let first = regions.first()?;
+    let update = regions.take(first)?;
+    Some(update.serial())
+}
+
+// Activates the updates that are due, and takes them, the oldest first.
 fn make_due<Q: EventQueue<Item>>(
     regions: &mut Regions<Q>,
     made: &mut Vec<u64>,
@@ -32,11 +37,8 @@ fn make_due<Q: EventQueue<Item>>(
         regions.activate();
     }
     for _ in 0..regions.activated().len() {
-        let Some(first) = regions.first() else {
-            return Ok(());
-        };
-        if let Some(update) = regions.take(first) {
-            made.push(update.serial())?;
+        if let Some(number) = take_first(regions) {
+            made.push(number)?;
         }
     }
     Ok(())
@@ -59,11 +61,9 @@ fn end_slot<Q: EventQueue<Item>>(
 
 // Two updates of the first slot around late ones, a process that sleeps, and one that is inactive.
 fn begin<Q: EventQueue<Item>>(alloc: Global, regions: &mut Regions<Q>) -> Result<(), AllocError> {
-    push(alloc, regions, 1, 0)?;
-    push(alloc, regions, 2, 300)?;
-    push(alloc, regions, 3, 0)?;
-    push(alloc, regions, 4, 44)?;
-    push(alloc, regions, 5, 300)?;
+    for (by, count) in [(1, 0), (2, 300), (3, 0), (4, 44), (5, 300)] {
+        push(alloc, regions, by, count)?;
+    }
     let until = regions.time().saturating_add(44);
     regions.sleep(6, until)?;
     regions.wait(7)
@@ -115,20 +115,22 @@ fn compare<Q: EventQueue<Item> + Drop>(
 {
     let (mut made, mut woken) = (Vec::new(alloc), Vec::new(alloc));
     some_slots(alloc, queue, &mut made, &mut woken)?;
-    assert!(rt; made.as_slice() == [0, 2, 3, 1, 4, 5, 6].as_slice());
-    assert!(rt; woken.as_slice() == [7, 6].as_slice());
+    let are_made = made.as_slice() == [0, 2, 3, 1, 4, 5, 6].as_slice();
+    assert!(rt; are_made && woken.as_slice() == [7, 6].as_slice());
     Ok(())
 }
 
-#[test]
-fn slots_of_a_list(rt: HostRuntime) -> Result<(), Fail> {
-    compare(&rt, rt.alloc(), ListQueue::new(rt.alloc()))?;
-    Ok(())
+// The same of a list and of a wheel.
+fn compare_both(rt: &impl Abort, alloc: Global) -> Result<(), AllocError> {
+    compare(rt, alloc, ListQueue::new(alloc))?;
+    match Wheel::new(alloc) {
+        Ok(wheel) => compare(rt, alloc, wheel),
+        Err(_) => Err(AllocError),
+    }
 }
 
 #[test]
-fn slots_of_a_wheel(rt: HostRuntime) -> Result<(), Fail> {
-    let queue = Wheel::new(rt.alloc()).ok().ok_or("memory")?;
-    compare(&rt, rt.alloc(), queue)?;
+fn slot_by_slot(rt: HostRuntime) -> Result<(), Fail> {
+    compare_both(&rt, rt.alloc())?;
     Ok(())
 }

@@ -1,10 +1,12 @@
-//! A design made by hand.
+//! A design and calls made by hand.
 ghost use Rattle.std.specs.Prelude.{◌≡◌, IfOk, codes};
 ghost use Rattle.vs_rows_strobe.specs.OneSignal.{IsOutline};
 
+use crate::arguments::arguments;
 use std::alloc::{AllocError, Global};
 use vs_design::{
-    DEFAULT_TIMESCALE, Design, Entry, Part, ScopeKind, Signal, SignalKind, Store, Write,
+    Call, CallKind, DEFAULT_TIMESCALE, Design, Entry, Part, ScopeKind, Signal, SignalKind, Store,
+    Write,
 };
 use vs_logic4::Vec4;
 
@@ -34,7 +36,7 @@ fn outline(alloc: Global) -> Result<Vec<Entry>, AllocError>
     Ok(outline)
 }
 
-// `module t; reg a; endmodule`.
+/// `module t; reg a; endmodule`.
 pub fn one_signal(alloc: Global) -> Result<Design, AllocError> {
     let mut signals = Vec::new(alloc);
     signals.push(variable(alloc)?)?;
@@ -49,15 +51,26 @@ pub fn one_signal(alloc: Global) -> Result<Design, AllocError> {
     )
 }
 
-// Makes `a` this value.
-pub fn assign(alloc: Global, store: &mut Store, digits: Vec4) -> Result<(), AllocError> {
+/// Makes `a` this bit.
+pub fn set(alloc: Global, store: &mut Store, bit: u64) -> Result<(), AllocError> {
     let mut write = Write::new(alloc);
     write.push(Part {
         signal: 0,
         word: 0,
         low: 0,
-        digits,
+        digits: Vec4::from_number(1, bit),
     })?;
     store.put(&write);
     Ok(())
+}
+
+/// A call in the scope `t`, with the arguments of a list.
+pub fn call(alloc: Global, kind: CallKind, text: &str, list: &str) -> Result<Call, AllocError> {
+    Ok(Call {
+        kind,
+        text: Vec::from_slice(alloc, text.as_bytes())?,
+        args: arguments(alloc, list)?,
+        path: Vec::from_slice(alloc, b"t")?,
+        ratio: 1,
+    })
 }

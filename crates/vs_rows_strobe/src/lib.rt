@@ -2,12 +2,12 @@
 #![tactic(auto)]
 
 #[cfg(test)]
-mod calls;
+mod arguments;
 #[cfg(test)]
 mod designs;
 #[cfg(test)]
-mod refusals;
+mod lines;
 #[cfg(test)]
 mod rows;
 #[cfg(test)]
-mod showing;
+mod stepping;

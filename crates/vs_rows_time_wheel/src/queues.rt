@@ -64,44 +64,43 @@ fn drive<Q: EventQueue<u64>>(
     Ok(taken)
 }
 
-// The events of a list and of a wheel, driven alike.
-fn driven(alloc: Global, calls: u64, delays: u64) -> Result<[Vec<(u64, u64)>; 2], AllocError>
+// The events of a list.
+fn of_a_list(alloc: Global, delays: u64) -> Result<Vec<(u64, u64)>, AllocError>
     requires { 0 < delays }
 {
     let mut list = ListQueue::new(alloc);
-    let mut wheel = match Wheel::new(alloc) {
-        Ok(wheel) => wheel,
-        Err(_) => return Err(AllocError),
-    };
-    let plain = drive(alloc, &mut list, calls, delays)?;
-    let fast = drive(alloc, &mut wheel, calls, delays)?;
-    Ok([plain, fast])
+    drive(alloc, &mut list, 3000, delays)
+}
+
+// The events of a wheel.
+fn of_a_wheel(alloc: Global, delays: u64) -> Result<Vec<(u64, u64)>, AllocError>
+    requires { 0 < delays }
+{
+    match Wheel::new(alloc) {
+        Ok(mut wheel) => drive(alloc, &mut wheel, 3000, delays),
+        Err(_) => Err(AllocError),
+    }
 }
 
 // Compares the events of a list and of a wheel, driven alike: more than 1000 are taken.
 fn compare(rt: &impl Abort, alloc: Global, delays: u64) -> Result<(), AllocError>
     requires { 0 < delays }
 {
-    let [plain, fast] = driven(alloc, 3000, delays)?;
-    assert!(rt; plain.len() > 1000 && plain.as_slice() == fast.as_slice());
+    let plain = of_a_list(alloc, delays)?;
+    let fast = of_a_wheel(alloc, delays)?;
+    assert!(rt;
+        plain.len() > 1000 && plain.as_slice() == fast.as_slice(),
+        "{delays}"
+    );
     Ok(())
 }
 
+// Times that wrap the wheel, that jump a little, and that jump far.
 #[test]
-fn times_wrap_the_wheel(rt: HostRuntime) -> Result<(), Fail> {
+fn mixed_calls(rt: HostRuntime) -> Result<(), Fail> {
     compare(&rt, rt.alloc(), 300)?;
-    Ok(())
-}
-
-#[test]
-fn times_jump_far(rt: HostRuntime) -> Result<(), Fail> {
-    compare(&rt, rt.alloc(), 0x4000_0000_0000)?;
-    Ok(())
-}
-
-#[test]
-fn times_jump_a_little(rt: HostRuntime) -> Result<(), Fail> {
     compare(&rt, rt.alloc(), 3000)?;
+    compare(&rt, rt.alloc(), 0x4000_0000_0000)?;
     Ok(())
 }
 
@@ -166,38 +165,36 @@ const ANSWERS: &[Answer<u8>] = &[
 ];
 
 // A queue answers the calls as the law says.
-fn answers_by_the_law<Q: EventQueue<u8>>(
+fn answers_by_the_law<Q: EventQueue<u8> + Drop>(
     rt: &impl Abort,
     alloc: Global,
-    queue: &mut Q,
+    queue: Q,
 ) -> Result<(), AllocError>
-    requires empty { Q.bag queue.old ≡ [] }
-    requires at_zero { Q.clock queue.old ≡ 0 }
+    requires empty { Q.bag queue ≡ [] }
+    requires at_zero { Q.clock queue ≡ 0 }
 {
-    let answers = answers_to_calls(alloc, queue)?;
+    let mut queue = queue;
+    let answers = answers_to_calls(alloc, &mut queue)?;
     assert!(rt; answers.as_slice() == ANSWERS);
     Ok(())
 }
 
-#[test]
-fn the_list_answers_by_the_law(rt: HostRuntime) -> Result<(), Fail> {
-    let mut queue = ListQueue::new(rt.alloc());
-    answers_by_the_law(&rt, rt.alloc(), &mut queue)?;
-    Ok(())
+// A list and a wheel answer alike, and by the law.
+fn answer_by_the_law(rt: &impl Abort, alloc: Global) -> Result<(), AllocError> {
+    let list = ListQueue::new(alloc);
+    match Wheel::new(alloc) {
+        Ok(wheel) => {
+            same_answers(&list, &wheel);
+            answers_by_the_law(rt, alloc, wheel)?;
+        }
+        Err(_) => return Err(AllocError),
+    }
+    answers_by_the_law(rt, alloc, list)
 }
 
 #[test]
-fn the_wheel_answers_by_the_law(rt: HostRuntime) -> Result<(), Fail> {
-    let mut queue = Wheel::new(rt.alloc()).ok().ok_or("memory")?;
-    answers_by_the_law(&rt, rt.alloc(), &mut queue)?;
-    Ok(())
-}
-
-#[test]
-fn equal_queues_answer_alike(rt: HostRuntime) -> Result<(), Fail> {
-    let list = ListQueue::<u8>::new(rt.alloc());
-    let wheel = Wheel::<u8>::new(rt.alloc()).ok().ok_or("memory")?;
-    same_answers(&list, &wheel);
+fn the_law(rt: HostRuntime) -> Result<(), Fail> {
+    answer_by_the_law(&rt, rt.alloc())?;
     Ok(())
 }
 
@@ -230,20 +227,30 @@ fn scheduled_and_taken<Q: EventQueue<u64>>(queue: &mut Q) -> (u64, u64) {
     (scheduled, taken)
 }
 
-// A wheel, asked for once more where memory was refused.
-fn some_wheel(alloc: Global) -> Option<Wheel<u64>> {
+// The same of a list.
+fn with_a_list(alloc: Global) -> (u64, u64) {
+    let mut list = ListQueue::new(alloc);
+    scheduled_and_taken(&mut list)
+}
+
+// The same of a wheel.
+fn with_a_wheel(alloc: Global) -> Option<(u64, u64)> {
     match Wheel::new(alloc) {
-        Ok(wheel) => Some(wheel),
-        Err(_) => Wheel::new(alloc).ok(),
+        Ok(mut wheel) => Some(scheduled_and_taken(&mut wheel)),
+        Err(_) => None,
+    }
+}
+
+// The same of a wheel, asked for once more where memory was refused.
+fn with_some_wheel(alloc: Global) -> Option<(u64, u64)> {
+    match with_a_wheel(alloc) {
+        Some(taken) => Some(taken),
+        None => with_a_wheel(alloc),
     }
 }
 
 #[test]
-fn a_refused_event_comes_back(rt: HostRuntime) -> Result<(), Fail> {
-    let mut list = ListQueue::new(rt.alloc());
-    let mut wheel = some_wheel(rt.alloc()).ok_or("memory")?;
-    let plain = scheduled_and_taken(&mut list);
-    let fast = scheduled_and_taken(&mut wheel);
-    assert!(rt; plain.0 == 500 && plain == fast);
-    Ok(())
+fn a_refused_event_comes_back(rt: HostRuntime) {
+    let plain = with_a_list(rt.alloc());
+    assert!(rt; plain.0 == 500 && with_some_wheel(rt.alloc()) == Some(plain));
 }

@@ -8,7 +8,7 @@ use vs_design::{
     Store, TimeSpan, TimeUnit, Timescale, Write,
 };
 use vs_logic4::Vec4;
-use vs_vcd::{Counted, Sink, VcdFault, Writer};
+use vs_vcd::{Sink, VcdFault, Writer};
 
 fn variable(
     alloc: Global,
@@ -48,19 +48,23 @@ fn outline(alloc: Global) -> Result<Vec<Entry>, AllocError>
     Ok(outline)
 }
 
-// A module `t` with the array `m`, the variable `a` of one bit and the variable `b` of so many; a tick is 10 ps.
-pub fn three_signals_of(alloc: Global, width: u32, range: Bounds) -> Result<Design, AllocError>
-    requires { (0 < width) × (width ≤ 64) }
-{
-    let words = Bounds { left: 0, right: 7 };
+// A tick is 10 ps.
+fn ten_picoseconds() -> Timescale {
     let precision = TimeSpan {
         magnitude: Magnitude::Ten,
         unit: TimeUnit::Picosecond,
     };
-    let timescale = Timescale {
+    Timescale {
         unit: DEFAULT_TIMESCALE.unit,
         precision,
-    };
+    }
+}
+
+// A module `t` with the array `m`, the variable `a` of one bit and the variable `b` of so many; a tick is 10 ps.
+fn three_signals_of(alloc: Global, width: u32, range: Bounds) -> Result<Design, AllocError>
+    requires { (0 < width) × (width ≤ 64) }
+{
+    let words = Bounds { left: 0, right: 7 };
     let mut signals = Vec::new(alloc);
     signals.push(variable(alloc, b"t.m", 8, None, Some(words), 8)?)?;
     signals.push(variable(alloc, b"t.a", 1, None, None, 1)?)?;
@@ -68,7 +72,7 @@ pub fn three_signals_of(alloc: Global, width: u32, range: Bounds) -> Result<Desi
     let outline = outline(alloc)?;
     Design::new(
         alloc,
-        timescale,
+        ten_picoseconds(),
         signals,
         Vec::new(alloc),
         Vec::new(alloc),
@@ -76,13 +80,16 @@ pub fn three_signals_of(alloc: Global, width: u32, range: Bounds) -> Result<Desi
     )
 }
 
-// The module whose variable `b` is `b [-1:2]`.
-pub fn three_signals(alloc: Global) -> Result<Design, AllocError> {
+// The module whose variable `b` is `b [63:0]` where it is wide, else `b [-1:2]`.
+fn three_signals(alloc: Global, wide: bool) -> Result<Design, AllocError> {
+    if wide {
+        return three_signals_of(alloc, 64, Bounds { left: 63, right: 0 });
+    }
     three_signals_of(alloc, 4, Bounds { left: -1, right: 2 })
 }
 
-// A write of a whole signal.
-fn whole(alloc: Global, signal: usize, digits: Vec4) -> Result<Write, AllocError> {
+// Writes a whole signal.
+fn put(alloc: Global, store: &mut Store, signal: usize, digits: Vec4) -> Result<(), AllocError> {
     let mut write = Write::new(alloc);
     write.push(Part {
         signal,
@@ -90,7 +97,8 @@ fn whole(alloc: Global, signal: usize, digits: Vec4) -> Result<Write, AllocError
         low: 0,
         digits,
     })?;
-    Ok(write)
+    store.put(&write);
+    Ok(())
 }
 
 pub const HEADER: &[u8] =
@@ -115,13 +123,27 @@ fn write_slot<S: Sink>(
 ) -> Result<(), VcdFault> {
     let (time, written) = slot;
     if let Some((signal, digits)) = written {
-        store.put(&whole(alloc, signal, digits)?);
+        put(alloc, store, signal, digits)?;
     }
     writer.slot(alloc, sink, time, store)
 }
 
-// Writes the dump of a design with these slots, up to an end.
+// Writes these slots.
 fn write_slots<S: Sink>(
+    alloc: Global,
+    sink: &mut S,
+    writer: &mut Writer,
+    store: &mut Store,
+    slots: &[Slot],
+) -> Result<(), VcdFault> {
+    for slot in slots {
+        write_slot(alloc, sink, writer, store, *slot)?;
+    }
+    Ok(())
+}
+
+// Writes the dump of a design with these slots, up to an end.
+fn write_dump_of<S: Sink>(
     alloc: Global,
     sink: &mut S,
     design: &Design,
@@ -130,31 +152,28 @@ fn write_slots<S: Sink>(
 ) -> Result<(), VcdFault> {
     let mut store = Store::start(alloc, design)?;
     let mut writer = Writer::header(alloc, sink, design)?;
-    for slot in slots {
-        write_slot(alloc, sink, &mut writer, &mut store, *slot)?;
-    }
+    write_slots(alloc, sink, &mut writer, &mut store, slots)?;
     writer.finish(sink, end)
 }
 
-// The dump of a design with these slots, up to an end.
-pub fn dump_of(
+// Writes the dump of the module with these slots, up to an end.
+pub fn write_dump<S: Sink>(
     alloc: Global,
-    design: &Design,
+    sink: &mut S,
+    wide: bool,
     slots: &[Slot],
     end: u64,
-) -> Result<Vec<u8>, VcdFault> {
-    let mut sink = Counted::new(Vec::new(alloc));
-    write_slots(alloc, &mut sink, design, slots, end)?;
-    Ok(sink.into_inner())
+) -> Result<(), VcdFault> {
+    let design = three_signals(alloc, wide)?;
+    write_dump_of(alloc, sink, &design, slots, end)
 }
 
 // `a` is 0 from the start and 1 from 5 on, `b` is 0101 from 7 on; at 3 nothing changes.
-pub fn write_dump<S: Sink>(alloc: Global, sink: &mut S) -> Result<(), VcdFault> {
-    let slots = [
+pub fn slots_of_a_dump() -> [Slot; 4] {
+    [
         (0, Some((1, Vec4::from_number(1, 0)))),
         (3, None),
         (5, Some((1, Vec4::from_number(1, 1)))),
         (7, Some((2, Vec4::from_number(4, 5)))),
-    ];
-    write_slots(alloc, sink, &three_signals(alloc)?, &slots, 10)
+    ]
 }

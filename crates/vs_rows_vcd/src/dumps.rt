@@ -1,92 +1,59 @@
 //! Texts of dumps.
-use crate::designs::{
-    DUMP, HEADER, WIDE_HEADER, dump_of, three_signals, three_signals_of, write_dump,
-};
+use crate::designs::{DUMP, HEADER, Slot, WIDE_HEADER, slots_of_a_dump, write_dump};
 use std::alloc::Global;
 use std::process::Abort;
 use std::test::Fail;
-use vs_design::Bounds;
-use vs_logic4::{Digit, Vec4};
+use vs_logic4::Vec4;
 use vs_vcd::{Counted, Sink, VcdFault, shows_values_at_slot_ends};
 
-#[test]
-fn writes_a_whole_dump(rt: HostRuntime) -> Result<(), Fail> {
-    shows_values_at_slot_ends();
-    let alloc = rt.alloc();
+// The dump of the module with these slots, up to an end.
+fn dump_of(alloc: Global, wide: bool, slots: &[Slot], end: u64) -> Result<Vec<u8>, VcdFault> {
     let mut sink = Counted::new(Vec::new(alloc));
-    write_dump(alloc, &mut sink)?;
-    assert!(rt; sink.failures() == 0);
-    let bytes = sink.into_inner();
-    assert!(rt; bytes.len() == 171 && bytes.as_slice() == DUMP);
-    Ok(())
+    write_dump(alloc, &mut sink, wide, slots, end)?;
+    if sink.failures() > 0 {
+        return Err(VcdFault::Write);
+    }
+    Ok(sink.into_inner())
 }
 
 #[test]
-fn a_dump_without_slots_has_its_end(rt: HostRuntime) -> Result<(), Fail> {
-    let alloc = rt.alloc();
-    let dump = dump_of(alloc, &three_signals(alloc)?, &[], 7)?;
+fn whole_dumps(rt: HostRuntime) -> Result<(), Fail> {
+    shows_values_at_slot_ends();
+    let dump = dump_of(rt.alloc(), false, &slots_of_a_dump(), 10)?;
+    assert!(rt; dump.len() == 171 && dump.as_slice() == DUMP);
+    let dump = dump_of(rt.alloc(), false, &[], 7)?;
     assert!(rt; dump.strip_prefix(HEADER) == Some(b"#7\n".as_slice()));
     Ok(())
 }
 
-// The dump of one slot at 3, in which `b` has these digits, as they are written, ends with a text behind its header.
-fn digits_are_shown(
-    rt: &impl Abort,
-    alloc: Global,
-    digits: [Digit; 4],
-    text: &[u8],
-) -> Result<(), VcdFault> {
-    let [a, b, c, d] = digits;
-    let slots = [(3, Some((2, Vec4::from_digits(&[d, c, b, a]))))];
-    let dump = dump_of(alloc, &three_signals(alloc)?, &slots, 3)?;
-    assert!(rt; dump.strip_prefix(HEADER) == Some(text));
-    Ok(())
-}
-
-#[test]
-fn left_digits_are_dropped(rt: HostRuntime) -> Result<(), Fail> {
-    let alloc = rt.alloc();
-    let (o, i, x, z) = (Digit::Zero, Digit::One, Digit::X, Digit::Z);
-    // Digits as they are written, the highest first.
-    let rows: &[([Digit; 4], &[u8])] = &[
-        ([o, x, x, i], b"#3\n$dumpvars\nx!\nb0xx1 \"\n$end\n"),
-        ([x, x, o, i], b"#3\n$dumpvars\nx!\nbx01 \"\n$end\n"),
-        ([x, x, x, x], b"#3\n$dumpvars\nx!\nbx \"\n$end\n"),
-        ([o, o, o, o], b"#3\n$dumpvars\nx!\nb0 \"\n$end\n"),
-        ([o, o, z, z], b"#3\n$dumpvars\nx!\nb0zz \"\n$end\n"),
-        ([o, i, o, o], b"#3\n$dumpvars\nx!\nb100 \"\n$end\n"),
-        ([i, i, i, i], b"#3\n$dumpvars\nx!\nb1111 \"\n$end\n"),
-    ];
-    for &(digits, text) in rows {
-        digits_are_shown(&rt, alloc, digits, text)?;
-    }
-    Ok(())
-}
-
-// What a dump of one slot at 0 says of `b`.
-fn value_of_b(dump: &[u8]) -> Option<&[u8]> {
-    let slot = dump.strip_prefix(WIDE_HEADER)?;
-    slot.strip_prefix(b"#0\n$dumpvars\nx!\n")?
+// What a dump of one slot, at 0 where `b` is wide and else at 3, says of `b`.
+fn value_of_b(dump: &[u8], wide: bool) -> Option<&[u8]> {
+    let (header, slot): (&[u8], &[u8]) = if wide {
+        (WIDE_HEADER, b"#0\n$dumpvars\nx!\n")
+    } else {
+        (HEADER, b"#3\n$dumpvars\nx!\n")
+    };
+    dump.strip_prefix(header)?
+        .strip_prefix(slot)?
         .strip_suffix(b" \"\n$end\n")
 }
 
-// The dump of one slot at 0, in which `b` has the 64 digits of two planes, says this of `b`.
-fn planes_are_shown(
-    rt: &impl Abort,
-    alloc: Global,
-    value: u64,
-    unknown: u64,
-    text: &[u8],
-) -> Result<(), VcdFault> {
-    let design = three_signals_of(alloc, 64, Bounds { left: 63, right: 0 })?;
-    let slots = [(0, Some((2, Vec4::from_planes(64, value, unknown))))];
-    let dump = dump_of(alloc, &design, &slots, 0)?;
-    assert!(rt; value_of_b(&dump) == Some(text));
-    Ok(())
-}
-
 // The planes of the values and of the unknown digits, in which x is in both and z in the second alone, and what is written.
-const PLANES: &[(u64, u64, &[u8])] = &[
+type Row = (u64, u64, &'static [u8]);
+
+// Values of four digits, of which left ones are dropped.
+const FOUR: &[Row] = &[
+    (0b0111, 0b0110, b"b0xx1"),
+    (0b1101, 0b1100, b"bx01"),
+    (0b1111, 0b1111, b"bx"),
+    (0b0000, 0b0000, b"b0"),
+    (0b0000, 0b0011, b"b0zz"),
+    (0b0100, 0b0000, b"b100"),
+    (0b1111, 0b0000, b"b1111"),
+];
+
+// Values of 64 digits.
+const SIXTY_FOUR: &[Row] = &[
     (u64::MAX, u64::MAX, b"bx"),
     (
         u64::MAX,
@@ -123,11 +90,23 @@ const PLANES: &[(u64, u64, &[u8])] = &[
     ),
 ];
 
+// The dump of one slot in which `b` has the digits of two planes says this of `b`.
+fn is_shown(rt: &impl Abort, alloc: Global, wide: bool, row: &Row) -> Result<(), VcdFault> {
+    let &(value, unknown, text) = row;
+    let (width, time) = if wide { (64, 0) } else { (4, 3) };
+    let slots = [(time, Some((2, Vec4::from_planes(width, value, unknown))))];
+    let dump = dump_of(alloc, wide, &slots, time)?;
+    assert!(rt; value_of_b(&dump, wide) == Some(text));
+    Ok(())
+}
+
 #[test]
-fn sixty_four_digits_are_written(rt: HostRuntime) -> Result<(), Fail> {
-    let alloc = rt.alloc();
-    for &(value, unknown, text) in PLANES {
-        planes_are_shown(&rt, alloc, value, unknown, text)?;
+fn digits(rt: HostRuntime) -> Result<(), Fail> {
+    for row in FOUR {
+        is_shown(&rt, rt.alloc(), false, row)?;
+    }
+    for row in SIXTY_FOUR {
+        is_shown(&rt, rt.alloc(), true, row)?;
     }
     Ok(())
 }

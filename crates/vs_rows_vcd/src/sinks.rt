@@ -1,10 +1,9 @@
 //! Sinks that fail, and sinks that take little.
-use crate::designs::{DUMP, write_dump};
+use crate::designs::{DUMP, slots_of_a_dump, write_dump};
 use std::alloc::Global;
 use std::io;
 use std::io::{ErrorKind, Write};
 use std::process::Abort;
-use std::test::Fail;
 use vs_vcd::{Counted, Sink, VcdFault, write_all};
 
 // A writer that takes at most three bytes at a time, and fails once it holds `room` bytes.
@@ -34,39 +33,37 @@ impl Write for Narrow {
     }
 }
 
-// A sink with room for so many bytes fails and holds a beginning of the dump.
-fn holds_a_beginning(rt: &impl Abort, alloc: Global, room: usize, full: Option<ErrorKind>) {
+// How often a sink fails that nothing is written to, and then a dump; `None` where it fails at nothing, or without memory.
+fn failures(alloc: Global, sink: &mut Counted<Narrow>) -> Option<u64> {
+    if write_all(sink, b"") != Ok(()) {
+        return None;
+    }
+    match write_dump(alloc, sink, false, &slots_of_a_dump(), 10) {
+        Ok(()) => Some(0),
+        Err(VcdFault::Write) => Some(1),
+        Err(VcdFault::Memory) => None,
+    }
+}
+
+// A sink with room for so many bytes of the 171 fails once, and holds as many; one that takes little and has room for all gets all.
+fn holds(rt: &impl Abort, alloc: Global, room: usize, full: Option<ErrorKind>) {
     let got = Vec::new(alloc);
     let mut sink = Counted::new(Narrow { got, room, full });
-    let result = write_dump(alloc, &mut sink);
-    let failed_once = result == Err(VcdFault::Write) && sink.failures() == 1;
+    let wanted = u64::from(room < 171);
+    let told = failures(alloc, &mut sink) == Some(wanted) && sink.failures() == wanted;
+    let got = sink.into_inner().got;
     assert!(rt;
-        failed_once && DUMP.starts_with(&sink.into_inner().got),
+        told && got.len() == room && DUMP.starts_with(&got),
         "at {room}"
     );
 }
 
 #[test]
-fn a_failing_sink_holds_a_beginning(rt: HostRuntime) {
+fn narrow_sinks_hold_a_beginning(rt: HostRuntime) {
     let alloc = rt.alloc();
-    for room in [0, 1, 20, 21, 124, 125, 126, 153, 170] {
+    for room in [0, 1, 20, 21, 124, 125, 126, 153, 170, 171] {
         for full in [None, Some(ErrorKind::Other)] {
-            holds_a_beginning(&rt, alloc, room, full);
+            holds(&rt, alloc, room, full);
         }
     }
-}
-
-#[test]
-fn a_sink_that_takes_little_gets_all(rt: HostRuntime) -> Result<(), Fail> {
-    let alloc = rt.alloc();
-    let mut sink = Counted::new(Narrow {
-        got: Vec::new(alloc),
-        room: 171,
-        full: None,
-    });
-    assert!(rt; write_all(&mut sink, b"") == Ok(()));
-    write_dump(alloc, &mut sink)?;
-    assert!(rt; sink.failures() == 0);
-    assert!(rt; sink.into_inner().got.as_slice() == DUMP);
-    Ok(())
 }

@@ -7,9 +7,13 @@ use Rattle.std.proofs.lemmas.Slice.Eq.{bytes_eq-Decides}
 use Rattle.std.proofs.lemmas.List.{take_all, map-append}
 use Rattle.vs_syntax.specs.declared.tree.Declarator.{Declarator}
 use Rattle.vs_syntax.specs.declared.tree.Form.{Form}
+use Rattle.vs_syntax.specs.declared.tree.Item.{Item}
 use Rattle.vs_syntax.specs.declared.tree.PortForm.{PortForm}
 use Rattle.vs_design.specs.declared.signal.SignalKind.{SignalKind}
 use Rattle.vs_pieces.specs.Pieces.{Piece}
+use Rattle.vs_pieces.specs.Reads.{read_piece}
+use Rattle.vs_pieces.specs.declared.scope.Piece.{Piece as FoundPiece}
+use Rattle.vs_pieces.specs.declared.scope.Piece.TheVariants as pieces
 use Rattle.vs_widths.specs.Names.{meaning_of, Declares}
 use Rattle.vs_scopes.specs.Parameters.{said}
 use Rattle.vs_scopes.specs.Ports.{is_among, said_in, port_said, KindSaid, kind_among, kind_in, kind_said}
@@ -110,6 +114,21 @@ port_said_step = said_step said_in port_said (λ n. refl) (λ p ps n. refl)
 pub kind_said_step : {X : Type 0} (f : X → Piece) (xs : List X) (i : ℕ) (x : X) (n : List ℕ) (old new : Option KindSaid) → i < length xs → x ≡ get_or xs i x → old ≡ kind_said (map f (take i xs)) n →
     new ≡ first_of old (kind_in (f x) n) → new ≡ kind_said (map f (take (i + 1) xs)) n
 kind_said_step = said_step kind_in kind_said (λ n. refl) (λ p ps n. refl)
+
+-- other pieces than items say nothing of a name
+no_port : (x : FoundPiece) (n : List ℕ) → ((i : Bor Item) → x ≡ pieces.Plain i → ⊥) → said_in (read_piece x) n ≡ None
+no_port (pieces.Plain i) n h = absurd (h i refl)
+no_port _ n h = refl
+
+pub no_ports : (x : FoundPiece) (n : List ℕ) (old : Option PortForm) → ((i : Bor Item) → x ≡ pieces.Plain i → ⊥) → old ≡ first_of old (said_in (read_piece x) n)
+no_ports x n old h = sym (ap (first_of old) (no_port x n h) ∙ first_none old)
+
+no_kind : (x : FoundPiece) (n : List ℕ) → ((i : Bor Item) → x ≡ pieces.Plain i → ⊥) → kind_in (read_piece x) n ≡ None
+no_kind (pieces.Plain i) n h = absurd (h i refl)
+no_kind _ n h = refl
+
+pub no_kinds : (x : FoundPiece) (n : List ℕ) (old : Option KindSaid) → ((i : Bor Item) → x ≡ pieces.Plain i → ⊥) → old ≡ first_of old (kind_in (read_piece x) n)
+no_kinds x n old h = sym (ap (first_of old) (no_kind x n h) ∙ first_none old)
 
 -- what an item says of one of its ports
 among_push : (ns : List (Vec ℕ Global)) (m : Vec ℕ Global) (form : PortForm) (n : List ℕ) → said_by form (ns ++ m ∷ []) n ≡ first_of (said_by form ns n) (said_by form (m ∷ []) n)

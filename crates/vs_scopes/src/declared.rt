@@ -69,20 +69,6 @@ fn add_item_forms<'s>(item: &'s Item, forms: &mut Names<'s, &'s PortForm>) -> Re
     }
 }
 
-/// Adds what a piece says of ports by `input` or `output`.
-fn add_piece_forms<'s>(
-    piece: Piece<'s>,
-    forms: &mut Names<'s, &'s PortForm>,
-) -> Result<(), AllocError>
-    ensures { OnOk result ((n : List ℕ) → read_end (meaning_of forms.new n)
-        ≡ first_of (read_end (meaning_of forms.old n)) (said_in (read_piece piece.entry) n)) }
-{
-    match piece {
-        Piece::Plain(item) => add_item_forms(item, forms),
-        _ => Ok(()),
-    }
-}
-
 /// What the first of some pieces says of each port by `input` or `output` (IEEE 1364-2005, clause 12.3.3).
 pub fn port_forms<'s>(
     alloc: Global,
@@ -92,7 +78,10 @@ pub fn port_forms<'s>(
 {
     let mut forms = Names::new(alloc);
     for piece in pieces {
-        add_piece_forms(*piece, &mut forms)?;
+        let Piece::Plain(item) = *piece else {
+            continue;
+        };
+        add_item_forms(item, &mut forms)?;
     }
     Ok(forms)
 }
@@ -149,20 +138,6 @@ fn add_item_kinds<'s>(item: &'s Item, kinds: &mut Names<'s, KindSaid<'s>>) -> Re
     }
 }
 
-/// Adds what a piece declares names as.
-fn add_piece_kinds<'s>(
-    piece: Piece<'s>,
-    kinds: &mut Names<'s, KindSaid<'s>>,
-) -> Result<(), AllocError>
-    ensures { OnOk result ((n : List ℕ) → read_said (meaning_of kinds.new n)
-        ≡ first_of (read_said (meaning_of kinds.old n)) (kind_in (read_piece piece.entry) n)) }
-{
-    match piece {
-        Piece::Plain(item) => add_item_kinds(item, kinds),
-        _ => Ok(()),
-    }
-}
-
 /// What the first of some pieces declares each name as.
 pub fn kinds_said<'s>(
     alloc: Global,
@@ -172,7 +147,10 @@ pub fn kinds_said<'s>(
 {
     let mut kinds = Names::new(alloc);
     for piece in pieces {
-        add_piece_kinds(*piece, &mut kinds)?;
+        let Piece::Plain(item) = *piece else {
+            continue;
+        };
+        add_item_kinds(item, &mut kinds)?;
     }
     Ok(kinds)
 }

@@ -7,7 +7,7 @@ use Rattle.vs_logic4.specs.contracts.digit.Digit.{the_type}
 use Rattle.vs_logic4.specs.declared.digit.Digit.TheVariants.{Zero, One, X, Z}
 use Rattle.vs_logic4.specs.Arithmetic.{known_number}
 use Rattle.vs_logic4.specs.Vectors.{same_digit, top_digit}
-use Rattle.vs_selects.specs.Constants.{natural_number}
+use Rattle.vs_selects.specs.Constants.{natural_number, where_none}
 use Rattle.std.specs.Str.{bytes_eq}
 use Rattle.std.proofs.lemmas.Bool.{eqb-true, eqb-false}
 use Rattle.std.proofs.Math.Path.{fun_ext}
@@ -15,6 +15,7 @@ use Rattle.vs_logic4.specs.declared.digit.Digit.{Digit}
 use Rattle.vs_design.specs.declared.expression.Typed.{Typed, Typed-F, fold-Typed}
 use Rattle.vs_design.specs.declared.expression.Typed.TheOpen as t
 use Rattle.vs_design.specs.Stores.{Store, is_changed}
+use Rattle.vs_design.specs.declared.range.BitRange.{BitRange}
 use Rattle.vs_design.specs.Uses.{reads}
 use Rattle.vs_design.specs.declared.timescale.Timescale.{Timescale}
 use Rattle.vs_design.specs.declared.signal.Signal.{Signal}
@@ -24,7 +25,9 @@ use Rattle.vs_design.specs.declared.design.Entry.{Entry}
 use Rattle.vs_design.specs.WellFormed.{WellFormed, share_a_bit, driven}
 use Rattle.vs_eval.specs.Values.{value_of, value_step}
 use Rattle.vs_eval.specs.Laws.{ReadsHold, SizesHold}
+use Rattle.vs_selects.specs.declared.faults.WidthReason.TheVariants.{NotConstant}
 use Rattle.vs_selects.specs.declared.shape.Shape.{Shape}
+use Rattle.vs_selects.specs.Findings.{stands}
 use Rattle.vs_selects.specs.declared.forms.Form.{Form}
 use Rattle.vs_selects.specs.declared.forms.Measured.{Measured}
 use Rattle.vs_selects.specs.Senses.{sense, IsFitted}
@@ -66,6 +69,14 @@ is_known x s y v h p n same sizes e =
       value = λ store. sym (p.value store 0) ∙ same y store [] 0 (ap (list_any (is_changed store [])) none) ∙ sym e;
       length_is = ap length e ∙ sizes y s.width [] 0 (p.size ∙ h);
     }
+
+some_read : (rs : List BitRange) (width : ℕ) (signed : Bool) → (length rs == 0) ≡ false → stands NotConstant (where_none rs width signed) ≡ true
+some_read [] width signed h = cc
+some_read (r ∷ rs) width signed h = refl
+
+-- the fault of a value that reads something
+pub not_known : (x : Form) (s : Shape) (y : Typed) → IsFitted (sense x) s.width s.signed y → (length (reads y) == 0) ≡ false → stands NotConstant (where_none (sense x).reads s.width s.signed) ≡ true
+not_known x s y p n = some_read (sense x).reads s.width s.signed (ap (λ z. length z == 0) (sym p.ranges) ∙ n)
 
 step_time : (store : Store) (time : ℕ) (x : Typed-F (List Digit)) → value_step store time x ≡ value_step store 0 x
 step_time store time (t.Number digits) = refl

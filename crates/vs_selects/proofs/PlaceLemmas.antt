@@ -190,6 +190,23 @@ words_refused b x signal [] i o h k = refl
 words_refused b x signal (y ∷ ys) i None h k = cc
 words_refused b x signal (y ∷ ys) i (Some (how, m)) h k = rw (← h) refl
 
+behind_first : (width : ℕ) (signed : Bool) (f : Finding) (r : WidthReason) → stands r f ≡ true → stands r (together second (Has width signed) f) ≡ true
+behind_first width signed (Has w s) r h = h
+behind_first width signed (Lacks p) r h = h
+
+rest_refused_by : (b : Bounds) (x : Meaning) (signal : ℕ) (y : Measured × Option (PartSelect × Measured)) (ys : List (Measured × Option (PartSelect × Measured))) (i : Measured) (d : WidthFault) → y ≡ (i, None) →
+    Refuses (span_of x.bits x.shape (selects_meaning ys)).finding d → Refuses (in_array b x signal (select_meaning y ∷ selects_meaning ys)).finding d
+rest_refused_by b x signal y ys i d h p =
+    rw h (refused_by (span_of x.bits x.shape (selects_meaning ys)).finding (in_word b x.count signal (meaning i) (span_of x.bits x.shape (selects_meaning ys))).finding d
+    (behind_first i.shape.width i.shape.signed (span_of x.bits x.shape (selects_meaning ys)).finding) p)
+
+-- selects behind the first one that have a fault
+pub rest_refused : (b : Bounds) (x : Meaning) (signal : ℕ) (xs rest : List (Measured × Option (PartSelect × Measured))) (i : Measured) (o : Option (PartSelect × Measured)) (d : WidthFault) → (length xs ≡ 0 → ⊥) →
+    (i, o) ≡ slice_index_or xs 0 (i, o) → rest ≡ take 0 xs ++ drop 1 xs → is_some o ≡ false → Refuses (span_of x.bits x.shape (selects_meaning rest)).finding d → Refuses (in_array b x signal (selects_meaning xs)).finding d
+rest_refused b x signal [] rest i o d e h r n p = absurd (e refl)
+rest_refused b x signal (y ∷ ys) rest i (Some z) d e h r n p = cc
+rest_refused b x signal (y ∷ ys) rest i None d e h r n p = rest_refused_by b x signal y ys i d (sym h) (subst (λ z. Refuses (span_of x.bits x.shape (selects_meaning z)).finding d) r p)
+
 -- what stands behind the first select is as flexible
 pub rest_flexible : (xs rest : List (Measured × Option (PartSelect × Measured))) → rest ≡ take 0 xs ++ drop 1 xs → All IsFlexibleSelect xs → All IsFlexibleSelect rest
 rest_flexible xs rest e h = subst (All IsFlexibleSelect) (sym e) (All-drop IsFlexibleSelect 1 xs h)

@@ -144,7 +144,8 @@ fn fitted_parts(alloc: Global, parts: &[Form], shape: Shape) -> Result<Vec<Typed
 {
     let mut done = Vec::with_capacity(alloc, parts.len())?;
     for part in parts {
-        done.push(fitted(alloc, part, shape)?)?;
+        let part = fitted(alloc, part, shape)?;
+        done.push(part)?;
     }
     Ok(done)
 }

@@ -11,6 +11,7 @@ use Rattle.vs_design.specs.declared.design.Process.{Process}
 use Rattle.vs_design.specs.declared.design.ProcessKind.{ProcessKind}
 use Rattle.vs_design.specs.declared.design.ProcessKind.TheVariants.{Initial, Always}
 use Rattle.vs_design.specs.Parts.{Parts}
+use Rattle.vs_vcd.specs.Sinks.{AppendsPart}
 use Rattle.vs_simulation.specs.Honesty.{Defines}
 
 -- the word of what a signal was declared as
@@ -55,3 +56,10 @@ pub record IsListed (bytes top : List ℕ) (old new : Option (List ℕ)) : Type 
   pub design : Parts
   pub defined : Defines bytes top design
   pub written : Appends old new (listing design)
+
+-- what a listing leaves whose writing failed: a beginning of the listing of the design that the bytes and the top define was appended to the known
+-- bytes of a writer
+pub record HasBegunListing (bytes top : List ℕ) (old new : Option (List ℕ)) : Type 0 where
+  pub design : Parts
+  pub defined : Defines bytes top design
+  pub begun : AppendsPart old new (listing design)

@@ -109,8 +109,8 @@ fn run_design<V: Sink, L: Sink>(
 /// clauses 17.1 and 18).
 ///
 /// Where it answers an outcome, the run is an execution of the design that the source defines, and the dump is that execution's: it shows, of each
-/// signal at each time, the value at the end of the last slot at or before that time; and the lines are those that its steps make, in their order, those
-/// of `$strobe` at the end of their slot. Where the source is refused, nothing is written.
+/// signal that is no array, at each time, the value at the end of the last slot at or before that time; and the lines are those that its steps make, in
+/// their order, those of `$strobe` at the end of their slot. Where the source is refused, nothing is written.
 pub fn simulate<'s, V: Sink, L: Sink>(
     alloc: Global,
     source: &'s [u8],

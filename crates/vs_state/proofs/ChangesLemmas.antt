@@ -1,7 +1,7 @@
 -- Which words and signals a move may change.
 use Rattle.std.proofs.Common.{◌≡◌, ℕ, ◌+◌, ◌<◌, ◌==◌, ◌&&◌, not, Bool, true, false, Option, Some, None, option_map, List, [], ◌∷◌, ◌++◌, length, drop, get_or, slice_get, if◌then◌else◌, refl, sym, ◌∙◌, ap, ap₂, subst, arith}
 use Rattle.std.specs.List.{list_any}
-use Rattle.std.proofs.lemmas.Bool.{ne_eqb, eqb-false, or_parts, or_from}
+use Rattle.std.proofs.lemmas.Bool.{cond-true, ne_eqb, eqb-false, or_parts, or_from}
 use Rattle.std.proofs.lemmas.List.{drop_more}
 use Rattle.std.proofs.lemmas.List.Folds.{list_any-append}
 use Rattle.std.proofs.lemmas.Option.{same_Some}
@@ -182,3 +182,23 @@ nothing_words store p = ap (λ (l : List Change). l ++ []) (kept (word_of store 
     kept : (o : Option (List Digit)) → changed_word p.signal p.word o o ≡ []
     kept None = refl
     kept (Some ds) = word_kept p.signal p.word ds ds (same_digits_self ds)
+
+-- ---- a word or none
+
+-- without a changed word the marks stay
+pub no_words : (marks : List ℕ) → MarkWords marks marks []
+no_words marks = record { len = refl; marked = λ v off. (off, λ within. refl) }
+
+-- where the store stays, the marks may
+pub same_store : (marks : List ℕ) (old new : Store) → new ≡ old → MarkChanges marks marks old new
+same_store marks old new same = record { len = refl; marked = λ v off within. (off, ap (λ (s : Store). slice_get s v) same) }
+
+-- a list of one change
+pub one_change : (cs : List Change) (c : Change) → length cs ≡ 1 → c ≡ get_or cs 0 c → cs ≡ c ∷ []
+one_change [] c h is = absurd (omega arith)
+one_change (d ∷ []) c h is = ap (λ (x : Change). x ∷ []) (sym is)
+one_change (d ∷ f ∷ cs) c h is = absurd (omega arith)
+
+-- a word that is the same behind is no change
+pub word_same : (signal word : ℕ) (before behind : List Digit) → same_digits before behind ≡ true → changed_word signal word (Some before) (Some behind) ≡ []
+word_same signal word before behind same = cond-true (same_digits before behind) [] (record { signal = signal; word = word; before = before; behind = behind } ∷ []) same

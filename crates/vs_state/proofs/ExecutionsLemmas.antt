@@ -12,6 +12,8 @@ use Rattle.vs_design.specs.Writes.{Write}
 use Rattle.vs_eval.specs.Targets.{assigned}
 use Rattle.vs_eval.specs.Values.{target_value}
 use Rattle.vs_process.proofs.Lists.{set_same}
+use Rattle.vs_process.specs.declared.moves.Move.{Move}
+use Rattle.vs_state.specs.Prints.{made_line, made_text}
 use Rattle.vs_process.specs.declared.moves.Move.TheVariants.{Evaluate, Propagate, Make, Activate, EndSlot}
 use Rattle.vs_process.specs.Executions.{if_some, is_enabled, is_busy, has_inactive, has_due, apply}
 use Rattle.vs_process.specs.States.{State, AssignState, Update, without, written, evaluated, evaluate, propagate, propagate_value, settled, make, is_due}
@@ -171,3 +173,15 @@ driven_at {s} {now} e j time x xs v w t here same value what held after wrote =
 -- an assignment of which nothing is left to do evaluates the same
 pub rested_sources : (d : Parts) (xs ys : List AssignState) (j : ℕ) → ys ≡ changed_at rested j xs → AreOf d xs → AreOf d ys
 rested_sources d xs ys j after h = kept_sources rested (λ (x : AssignState). refl) d xs ys j after h
+
+-- ---- a move of the state that a contract sees
+
+pub enabled_seen : {s now : State} {choice : Move} (m : Move) → s ≡ now → choice ≡ m → is_enabled now (told now choice) ≡ true → is_enabled s (told s m) ≡ true
+enabled_seen m same is h = ap₂ (λ (s : State) (x : Move). is_enabled s (told s x)) same (sym is) ∙ h
+
+pub apply_seen : {s now : State} {choice : Move} (m : Move) → s ≡ now → choice ≡ m → apply (told s m) s ≡ apply (told now choice) now
+apply_seen m same is = ap₂ (λ (s : State) (x : Move). apply (told s x) s) same (sym is)
+
+-- a move that makes no line
+pub silent_seen : {choice : Move} (m : Move) (now : State) (line : List ℕ) → choice ≡ m → made_line m now ≡ None → line ≡ [] → line ≡ made_text (made_line choice now)
+silent_seen m now line is none empty = empty ∙ sym (ap made_text (ap (λ (x : Move). made_line x now) is ∙ none))

@@ -1,6 +1,7 @@
 -- How statements and their parts begin.
-use Rattle.std.specs.Prelude.{◌≡◌, List, ◌∷◌}
+use Rattle.std.specs.Prelude.{◌≡◌, Bool, true, false, List, ◌∷◌}
 use Rattle.vs_tokens.specs.declared.token.Mark.TheVariants as m
+use Rattle.vs_tokens.specs.declared.token.Word.{Word}
 use Rattle.vs_tokens.specs.declared.token.Word.TheVariants as w
 use Rattle.vs_syntax.specs.Symbols.{Symbol, a_mark, a_word, a_print, a_finish, a_dump, Class, the_mark, any_name, any_number, class_of, first}
 use Rattle.vs_syntax.specs.Grammar.{Grammar, nothing, ◌·◌, ◌or◌, many, part, mark, word, block_head, guarded, branches, case_items, for_parts, delay, event, print_arguments, finish_argument, dump_arguments, a_stmt}
@@ -83,3 +84,8 @@ separator_symbol r.Comma = a_mark m.Comma
 -- the word of an edge, or nothing (clause A.6.5)
 abbrev pub edge_word : Grammar
 edge_word = word w.Posedge or word w.Negedge or nothing
+
+-- the word of a loop with an expression: `repeat`, else `while`
+abbrev pub loop_word : Bool → Word
+loop_word true = w.Repeat
+loop_word false = w.While

@@ -1,10 +1,10 @@
 //! Reading assignments, and expressions before a mark.
 ghost use Rattle.std.specs.Prelude.{◌≡◌, ◌≤◌, true, IfOk};
 ghost use Rattle.vs_tokens.specs.declared.token.Mark.TheVariants as m;
-ghost use Rattle.vs_syntax.specs.Grammar.{Grammar, ◌·◌, part, mark, assignment, guarded, for_parts, late, a_stmt, a_target, an_expr};
+ghost use Rattle.vs_syntax.specs.Grammar.{Grammar, ◌·◌, part, mark, assignment, guarded, for_parts, a_stmt, a_target, an_expr};
 ghost use Rattle.vs_syntax.specs.Tables.{goes};
 ghost use Rattle.vs_syntax.specs.Derivation.{both};
-ghost use Rattle.vs_syntax.specs.Views.{expr_tree, late_tree, assigned_tree, guarded_tree, for_tree, stmt_tree};
+ghost use Rattle.vs_syntax.specs.Views.{expr_tree, assigned_tree, guarded_tree, for_tree, stmt_tree};
 ghost use Rattle.vs_expressions.specs.Answers.{seen, ReadsTree};
 ghost use Rattle.vs_forms.specs.Parts.{Leads, marked, sides_tree};
 ghost use Rattle.vs_statements.specs.Timings.{timing, timing_tree};
@@ -65,39 +65,22 @@ fn sign<'t, 's>(
 ) -> Result<Read<'t, 's, Timing>, Stop<'t, 's>>
     ensures { ReadsTree timing room tokens.now timing_tree result }
 {
-    match mark_at(tokens, Mark::Assign) {
-        Some(rest) => Ok(Read {
+    if let Some(rest) = mark_at(tokens, Mark::Assign) {
+        return Ok(Read {
             tree: Timing::Blocking,
             rest,
-        }),
-        None => {
-            let after = expect_mark(tokens, Mark::LessEqual)?;
-            let delay = late(alloc, room, after)?;
-            Ok(Read {
-                tree: Timing::Nonblocking(delay.tree),
-                rest: delay.rest,
-            })
-        }
+        });
     }
-}
-
-/// Reads the delay of a nonblocking assignment, where it has one.
-fn late<'t, 's>(
-    alloc: Global,
-    room: u32,
-    tokens: &'t [Token<'s>],
-) -> Result<Read<'t, 's, Option<DelayValue>>, Stop<'t, 's>>
-    ensures { ReadsTree late room tokens.now late_tree result }
-{
-    let Some(after) = mark_at(tokens, Mark::Hash) else {
+    let after = expect_mark(tokens, Mark::LessEqual)?;
+    let Some(behind) = mark_at(after, Mark::Hash) else {
         return Ok(Read {
-            tree: None,
-            rest: tokens,
+            tree: Timing::Nonblocking(None),
+            rest: after,
         });
     };
-    let delay = delay_value(alloc, room, after)?;
+    let delay = delay_value(alloc, room, behind)?;
     Ok(Read {
-        tree: Some(delay.tree),
+        tree: Timing::Nonblocking(Some(delay.tree)),
         rest: delay.rest,
     })
 }

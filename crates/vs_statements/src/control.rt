@@ -3,9 +3,8 @@ ghost use Rattle.std.specs.Prelude.{◌≡◌, ℕ, map};
 ghost use Rattle.vs_tokens.specs.declared.token.Mark.TheVariants as m;
 ghost use Rattle.vs_tokens.specs.declared.token.Word.TheVariants as w;
 ghost use Rattle.vs_syntax.specs.Symbols.{any_number, first};
-ghost use Rattle.vs_syntax.specs.Grammar.{◌·◌, ◌or◌, many, part, mark, word, delay, event, event_exprs, an_expr, an_event_expr};
-ghost use Rattle.vs_syntax.specs.Derivation.{both};
-ghost use Rattle.vs_syntax.specs.Views.{row_of, closed_tree, expr_tree, delay_tree, event_expr_tree, other_event_tree, event_tree};
+ghost use Rattle.vs_syntax.specs.Grammar.{◌·◌, ◌or◌, many, part, mark, word, delay, event, event_exprs, an_event_expr};
+ghost use Rattle.vs_syntax.specs.Views.{row_of, delay_tree, event_expr_tree, other_event_tree, event_tree};
 ghost use Rattle.vs_expressions.specs.Answers.{seen, ReadsTree};
 ghost use Rattle.vs_forms.specs.Parts.{ReadsWithin, marked};
 
@@ -14,7 +13,7 @@ use std::alloc::Global;
 use vs_expressions::{Read, Stop, expect_name, expr, literal, mark_at, name_selects, next};
 use vs_forms::ended;
 use vs_lexer::{Mark, Token};
-use vs_syntax::{DelayValue, EventControl, EventExpr, Expr, Separator};
+use vs_syntax::{DelayValue, EventControl, EventExpr, Separator};
 
 /// Reads a delay.
 pub(crate) fn delay_value<'t, 's>(
@@ -37,11 +36,13 @@ pub(crate) fn delay_value<'t, 's>(
             })
         }
         DelayHead::Open => {
-            let inner = closed(alloc, room, after)?;
-            Ok(Read {
-                tree: DelayValue::Group(inner.tree),
+            let inner = expr(alloc, room, after)?;
+            let boxed = Box::new(alloc, inner.tree)?;
+            let group = Read {
+                tree: DelayValue::Group(boxed),
                 rest: inner.rest,
-            })
+            };
+            ended(group, Mark::Close)
         }
     }
 }
@@ -61,23 +62,6 @@ fn delay_number<'t, 's>(tokens: &'t [Token<'s>]) -> Result<Read<'t, 's, DelayVal
         tree: DelayValue::Number(time),
         rest,
     })
-}
-
-/// Reads an expression into a box, and the parenthesis behind it.
-fn closed<'t, 's>(
-    alloc: Global,
-    room: u32,
-    tokens: &'t [Token<'s>],
-) -> Result<Read<'t, 's, Box<Expr>>, Stop<'t, 's>>
-    ensures { ReadsTree (part an_expr · mark m.Close) room tokens.now (λ x. closed_tree (expr_tree x.value)) result }
-{
-    let inner = expr(alloc, room, tokens)?;
-    let tree = Box::new(alloc, inner.tree)?;
-    let boxed = Read {
-        tree,
-        rest: inner.rest,
-    };
-    ended(boxed, Mark::Close)
 }
 
 /// Reads what an event control waits for.
@@ -125,32 +109,16 @@ fn event_group<'t, 's>(
             ended(star, Mark::Close)
         }
         None => {
-            let terms = event_terms(alloc, room, tokens)?;
+            let first = event_term(alloc, room, tokens)?;
+            let others = other_terms(alloc, room, first.rest)?;
+            let term = Box::new(alloc, first.tree)?;
             let control = Read {
-                tree: EventControl::Terms(terms.tree.0, terms.tree.1),
-                rest: terms.rest,
+                tree: EventControl::Terms(term, others.tree),
+                rest: others.rest,
             };
             ended(control, Mark::Close)
         }
     }
-}
-
-/// Reads the terms of an event control: the first, and the others with what stands before each of them.
-fn event_terms<'t, 's>(
-    alloc: Global,
-    room: u32,
-    tokens: &'t [Token<'s>],
-) -> Result<Read<'t, 's, (Box<EventExpr>, Vec<(Separator, EventExpr)>)>, Stop<'t, 's>>
-    ensures { ReadsTree event_exprs room tokens.now
-        (λ x. both (event_expr_tree x.0.value) (row_of (map other_event_tree x.1.items))) result }
-{
-    let first = event_term(alloc, room, tokens)?;
-    let others = other_terms(alloc, room, first.rest)?;
-    let term = Box::new(alloc, first.tree)?;
-    Ok(Read {
-        tree: (term, others.tree),
-        rest: others.rest,
-    })
 }
 
 /// Reads the terms of an event control behind the first one.

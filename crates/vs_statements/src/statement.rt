@@ -2,15 +2,15 @@
 ghost use Rattle.std.specs.Prelude.{◌≡◌, ◌≤◌, map};
 ghost use Rattle.vs_tokens.specs.declared.token.Mark.TheVariants as m;
 ghost use Rattle.vs_tokens.specs.declared.token.Word.TheVariants as w;
-ghost use Rattle.vs_syntax.specs.Symbols.{a_mark, a_word, the_word};
-ghost use Rattle.vs_syntax.specs.Grammar.{◌·◌, part, many, word, optional, block_head, guarded, branches, case_items, for_parts, delay, event, a_stmt, a_case_item};
+ghost use Rattle.vs_syntax.specs.Symbols.{a_mark, a_word};
+ghost use Rattle.vs_syntax.specs.Grammar.{◌·◌, part, many, word, block_head, guarded, branches, case_items, for_parts, delay, event, a_stmt};
 ghost use Rattle.vs_syntax.specs.Tables.{low};
 ghost use Rattle.vs_syntax.specs.Derivation.{leaf, both};
 ghost use Rattle.vs_syntax.specs.Views.{row_of, some_tree, case_word, expr_tree, guarded_tree, stmt_tree};
 ghost use Rattle.vs_expressions.specs.Answers.{seen, ReadsTree};
 ghost use Rattle.vs_forms.specs.Blocks.{naming_tree};
-ghost use Rattle.vs_statements.specs.Heads.{BeginsStatement, symbol_of, behind_of};
-ghost use Rattle.vs_forms.specs.Parts.{ReadsWithin, headed, boxed_tree, other_tree, labelled_stmt_tree};
+ghost use Rattle.vs_statements.specs.Heads.{BeginsStatement, symbol_of, behind_of, loop_word};
+ghost use Rattle.vs_forms.specs.Parts.{ReadsWithin, headed, boxed_tree, labelled_stmt_tree};
 
 use crate::assignment::{assigned_stmt, for_header, guard};
 use crate::control::{delay_value, event_control};
@@ -83,8 +83,8 @@ fn behind<'t, 's>(
         StatementWord::Casez => case_stmt(alloc, room, tokens, CaseKind::Casez),
         StatementWord::Casex => case_stmt(alloc, room, tokens, CaseKind::Casex),
         StatementWord::For => for_stmt(alloc, room, tokens),
-        StatementWord::While => while_stmt(alloc, room, tokens),
-        StatementWord::Repeat => repeat_stmt(alloc, room, tokens),
+        StatementWord::While => loop_stmt(alloc, room, tokens, false),
+        StatementWord::Repeat => loop_stmt(alloc, room, tokens, true),
         StatementWord::Forever => forever_stmt(alloc, room, tokens),
         StatementWord::Delay => delayed_stmt(alloc, room, tokens),
         StatementWord::Event => event_stmt(alloc, room, tokens),
@@ -161,35 +161,17 @@ fn conditional<'t, 's>(
 {
     let condition = guard(alloc, room, tokens)?;
     let inner = boxed(alloc, room, condition.rest)?;
-    let other = alternative(alloc, room, inner.rest)?;
     let test = Box::new(alloc, condition.tree)?;
-    Ok(Read {
-        tree: Stmt::If(test, inner.tree, other.tree),
-        rest: other.rest,
-    })
-}
-
-/// Reads `else` and the statement behind it, where that is next.
-#[cycle(stmt)]
-#[inline(never)]
-fn alternative<'t, 's>(
-    alloc: Global,
-    room: u32,
-    tokens: &'t [Token<'s>],
-) -> Result<Read<'t, 's, Option<Box<Stmt>>>, Stop<'t, 's>>
-    requires { 1 ≤ room }
-    ensures { ReadsTree (optional (the_word w.Else) (part a_stmt)) room tokens.now other_tree result }
-{
-    let Some(after) = word_at(tokens, Word::Else) else {
+    let Some(after) = word_at(inner.rest, Word::Else) else {
         return Ok(Read {
-            tree: None,
-            rest: tokens,
+            tree: Stmt::If(test, inner.tree, None),
+            rest: inner.rest,
         });
     };
-    let inner = boxed(alloc, room, after)?;
+    let other = boxed(alloc, room, after)?;
     Ok(Read {
-        tree: Some(inner.tree),
-        rest: inner.rest,
+        tree: Stmt::If(test, inner.tree, Some(other.tree)),
+        rest: other.rest,
     })
 }
 
@@ -233,31 +215,13 @@ fn items<'t, 's>(
     // All of them, but from a call: so the borrow checker can join it with what the loop sets.
     let (_none, mut rest) = tokens.split_at(0);
     while begins_case_item(rest) {
-        let item = case_item(alloc, room, rest)?;
-        rest = item.rest;
-        tree.push(item.tree)?;
+        let label = case_label(alloc, room, rest)?;
+        let inner = stmt(alloc, room, label.rest)?;
+        rest = inner.rest;
+        tree.push((label.tree, inner.tree))?;
     }
     let after = expect_word(rest, Word::Endcase)?;
     Ok(Read { tree, rest: after })
-}
-
-/// Reads an item of a `case` statement.
-#[cycle(stmt)]
-#[inline(never)]
-fn case_item<'t, 's>(
-    alloc: Global,
-    room: u32,
-    tokens: &'t [Token<'s>],
-) -> Result<Read<'t, 's, (CaseLabel, Stmt)>, Stop<'t, 's>>
-    requires { 1 ≤ room }
-    ensures { ReadsTree (part a_case_item) room tokens.now labelled_stmt_tree result }
-{
-    let label = case_label(alloc, room, tokens)?;
-    let inner = stmt(alloc, room, label.rest)?;
-    Ok(Read {
-        tree: (label.tree, inner.tree),
-        rest: inner.rest,
-    })
 }
 
 /// Reads what stands behind `for`.
@@ -279,56 +243,35 @@ fn for_stmt<'t, 's>(
     })
 }
 
-/// Reads an expression in parentheses and a statement.
+/// Reads what stands behind `repeat`, else behind `while`: an expression in parentheses and a statement.
 #[cycle(stmt)]
-fn guarded_stmt<'t, 's>(
+#[inline(never)]
+fn loop_stmt<'t, 's>(
     alloc: Global,
     room: u32,
     tokens: &'t [Token<'s>],
-) -> Result<Read<'t, 's, (Expr, Box<Stmt>)>, Stop<'t, 's>>
-    ensures { ReadsTree (guarded (part a_stmt)) room tokens.now
-        (λ x. guarded_tree (expr_tree x.0) (boxed_tree x.1)) result }
+    counted: bool,
+) -> Result<Read<'t, 's, Stmt>, Stop<'t, 's>>
+    ensures { ReadsWithin stmt_tree (headed (a_word (loop_word counted))) (guarded (part a_stmt)) room tokens.now result }
 {
     let condition = guard(alloc, room, tokens)?;
     let inner = boxed(alloc, room, condition.rest)?;
     Ok(Read {
-        tree: (condition.tree, inner.tree),
+        tree: looped(counted, condition.tree, inner.tree),
         rest: inner.rest,
     })
 }
 
-/// Reads what stands behind `while`.
-#[cycle(stmt)]
+/// The `repeat` statement of the expression and the statement, else the `while` statement.
 #[inline(never)]
-fn while_stmt<'t, 's>(
-    alloc: Global,
-    room: u32,
-    tokens: &'t [Token<'s>],
-) -> Result<Read<'t, 's, Stmt>, Stop<'t, 's>>
-    ensures { ReadsWithin stmt_tree (headed (a_word w.While)) (guarded (part a_stmt)) room tokens.now result }
+fn looped(counted: bool, condition: Expr, body: Box<Stmt>) -> Stmt
+    ensures { stmt_tree result ≡ headed (a_word (loop_word counted)) (guarded_tree (expr_tree condition) (boxed_tree body)) }
 {
-    let inner = guarded_stmt(alloc, room, tokens)?;
-    Ok(Read {
-        tree: Stmt::While(inner.tree.0, inner.tree.1),
-        rest: inner.rest,
-    })
-}
-
-/// Reads what stands behind `repeat`.
-#[cycle(stmt)]
-#[inline(never)]
-fn repeat_stmt<'t, 's>(
-    alloc: Global,
-    room: u32,
-    tokens: &'t [Token<'s>],
-) -> Result<Read<'t, 's, Stmt>, Stop<'t, 's>>
-    ensures { ReadsWithin stmt_tree (headed (a_word w.Repeat)) (guarded (part a_stmt)) room tokens.now result }
-{
-    let inner = guarded_stmt(alloc, room, tokens)?;
-    Ok(Read {
-        tree: Stmt::Repeat(inner.tree.0, inner.tree.1),
-        rest: inner.rest,
-    })
+    if counted {
+        Stmt::Repeat(condition, body)
+    } else {
+        Stmt::While(condition, body)
+    }
 }
 
 /// Reads what stands behind `forever`.

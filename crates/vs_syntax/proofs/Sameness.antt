@@ -208,6 +208,19 @@ form_of (f.Select n ss) = selects_form (select_trees ss.items)
 one_form : (x x' : Expr-F Expr) → layer x ≡ layer x' → form x ≡ form x'
 one_form x x' h = sym (form_of x) ∙ ap form_of_tree h ∙ form_of x'
 
+-- the parts of one tree
+two : (x x' y y' : Tree) → both x y ≡ both x' y' → (x ≡ x') × (y ≡ y')
+two x x' y y' h = (cc, cc)
+
+below : (x x' y y' : Tree) → down (both x y) ≡ down (both x' y') → (x ≡ x') × (y ≡ y')
+below x x' y y' h = (cc, cc)
+
+marks : (k k' : Mark) → leaf (a_mark k) ≡ leaf (a_mark k') → k ≡ k'
+marks k k' h = cc
+
+casts : (s s' : Bool) → leaf (a_cast s) ≡ leaf (a_cast s') → s ≡ s'
+casts s s' h = cc
+
 -- operands with their operators, without what is settled of them
 abbrev bare_links : List (Binary × Inner) → List (Binary × Expr)
 bare_links ls = map (λ l. (l.0, l.1.0)) ls
@@ -217,7 +230,9 @@ same_rows [] [] h = same_no_link
 same_rows [] (l' ∷ ls') h = cc
 same_rows (l ∷ ls) [] h = cc
 same_rows (l ∷ ls) (l' ∷ ls') h =
-    same_link _ l' _ ls' (binary_by l.0 l'.0 (cc)) (l.1.1 l'.1 (cc)) (same_rows ls ls' (cc))
+    let p = two _ _ _ _ h in
+    let q = two _ _ _ _ p.0 in
+    same_link _ l' _ ls' (binary_by l.0 l'.0 (marks _ _ q.0)) (l.1.1 l'.1 q.1) (same_rows ls ls' p.1)
 
 -- conditions with their operands, and the last operand
 abbrev bare_pairs : List (Inner × Inner) → List (Expr × Expr)
@@ -245,7 +260,9 @@ same_commas : (xs : List Inner) (xs' : List Expr) → commas_tree (map expr_tree
 same_commas [] [] h = same_no_expr
 same_commas [] (x' ∷ xs') h = cc
 same_commas (x ∷ xs) [] h = cc
-same_commas (x ∷ xs) (x' ∷ xs') h = same_more_exprs _ x' _ xs' (x.1 x' (cc)) (same_commas xs xs' (cc))
+same_commas (x ∷ xs) (x' ∷ xs') h =
+    let p = two _ _ _ _ h in
+    same_more_exprs _ x' _ xs' (x.1 x' (two _ _ _ _ p.0).1) (same_commas xs xs' p.1)
 
 -- selects, without what is settled of their expressions
 abbrev bare_second : Option (PartSelect × Inner) → Option (PartSelect × Expr)
@@ -258,13 +275,18 @@ same_seconds : (o : Option (PartSelect × Inner)) (o' : Option (PartSelect × Ex
 same_seconds None None h = same_no_second
 same_seconds None (Some x') h = cc
 same_seconds (Some x) None h = cc
-same_seconds (Some x) (Some x') h = same_second _ x' (part_by x.0 x'.0 (cc)) (x.1.1 x'.1 (cc))
+same_seconds (Some x) (Some x') h =
+    let p = two _ _ _ _ h in
+    same_second _ x' (part_by x.0 x'.0 (marks _ _ p.0)) (x.1.1 x'.1 p.1)
 
 same_select_rows : (xs : List (Inner × Option (PartSelect × Inner))) (xs' : List (Expr × Option (PartSelect × Expr))) → row_of (map select_tree (select_trees (bare_selects xs))) ≡ row_of (map select_tree (select_trees xs')) → SameSelects (bare_selects xs) xs'
 same_select_rows [] [] h = same_no_select
 same_select_rows [] (x' ∷ xs') h = cc
 same_select_rows (x ∷ xs) [] h = cc
-same_select_rows (x ∷ xs) (x' ∷ xs') h = same_more_selects _ x' _ xs' (x.0.1 x'.0 (cc)) (same_seconds x.1 x'.1 (cc)) (same_select_rows xs xs' (cc))
+same_select_rows (x ∷ xs) (x' ∷ xs') h =
+    let p = two _ _ _ _ h in
+    let q = two _ _ _ _ (two _ _ _ _ p.0).1 in
+    same_more_selects _ x' _ xs' (x.0.1 x'.0 q.0) (same_seconds x.1 x'.1 (two _ _ _ _ q.1).0) (same_select_rows xs xs' p.1)
 
 same_selected : (xs : List (Inner × Option (PartSelect × Inner))) (xs' : List (Expr × Option (PartSelect × Expr))) → some_tree (map select_tree (select_trees (bare_selects xs))) ≡ some_tree (map select_tree (select_trees xs')) → SameSelects (bare_selects xs) xs'
 same_selected [] [] h = same_no_select
@@ -286,19 +308,30 @@ same_layers : (y : Expr-F Inner) (x' : Expr-F Expr) → layer (bare y) ≡ layer
 same_layers (f.Number l) (f.Number l') h = rw (rolls-Number l, rolls-Number l') (same_numbers l l' (cc))
 same_layers (f.Name n) (f.Name n') h = rw (rolls-Name n, rolls-Name n') (same_name n n' (cc))
 same_layers (f.Select n ss) (f.Select n' ss') h =
-    rw (rolls-Select _ _, rolls-Select n' ss') (same_select n n' _ ss' (cc) (same_selected ss.items ss'.items (cc)))
-same_layers (f.Group x) (f.Group x') h = rw (rolls-Group _, rolls-Group x') (same_group _ x' (x.value.1 x'.value (cc)))
-same_layers (f.Unary op x) (f.Unary op' x') h = rw (rolls-Unary op _, rolls-Unary op' x') (same_unaries op op' _ x' (unary_by op op' (cc)) (x.value.1 x'.value (cc)))
+    let p = below _ _ _ _ h in
+    let n-is : n.items ≡ n'.items = let e = p.0 in cc in
+    rw (rolls-Select _ _, rolls-Select n' ss') (same_select n n' _ ss' n-is (same_selected ss.items ss'.items p.1))
+same_layers (f.Group x) (f.Group x') h = rw (rolls-Group _, rolls-Group x') (same_group _ x' (x.value.1 x'.value (two _ _ _ _ (below _ _ _ _ h).1).0))
+same_layers (f.Unary op x) (f.Unary op' x') h =
+    let p = below _ _ _ _ h in
+    rw (rolls-Unary op _, rolls-Unary op' x') (same_unaries op op' _ x' (unary_by op op' (marks _ _ p.0)) (x.value.1 x'.value p.1))
 same_layers (f.Chain x ls) (f.Chain x' ls') h =
-    rw (rolls-Chain _ _, rolls-Chain x' ls') (same_chain _ x' _ ls' (x.value.1 x'.value (cc)) (same_rows ls.items ls'.items (cc)))
+    let p = below _ _ _ _ h in
+    rw (rolls-Chain _ _, rolls-Chain x' ls') (same_chain _ x' _ ls' (x.value.1 x'.value p.0) (same_rows ls.items ls'.items p.1))
 same_layers (f.Choice ps x) (f.Choice ps' x') h =
     let r = same_choices ps.items ps'.items x.value x'.value h in
     rw (rolls-Choice _ _, rolls-Choice ps' x') (same_choice _ ps' _ x' r.0 r.1)
 same_layers (f.Concat x xs) (f.Concat x' xs') h =
-    rw (rolls-Concat _ _, rolls-Concat x' xs') (same_concat _ x' _ xs' (x.value.1 x'.value (cc)) (same_commas xs.items xs'.items (cc)))
+    let p = two _ _ _ _ (below _ _ _ _ h).1 in
+    rw (rolls-Concat _ _, rolls-Concat x' xs') (same_concat _ x' _ xs' (x.value.1 x'.value p.0) (same_commas xs.items xs'.items (two _ _ _ _ p.1).0))
 same_layers (f.Repeat n x xs) (f.Repeat n' x' xs') h =
-    rw (rolls-Repeat _ _ _, rolls-Repeat n' x' xs') (same_repeat _ n' _ x' _ xs' (n.value.1 n'.value (cc)) (x.value.1 x'.value (cc)) (same_commas xs.items xs'.items (cc)))
-same_layers (f.Cast s x) (f.Cast s' x') h = rw (rolls-Cast s _, rolls-Cast s' x') (same_casts s s' _ x' (cc) (x.value.1 x'.value (cc)))
+    let p = two _ _ _ _ (below _ _ _ _ h).1 in
+    let q = two _ _ _ _ (two _ _ _ _ p.1).1 in
+    rw (rolls-Repeat _ _ _, rolls-Repeat n' x' xs')
+    (same_repeat _ n' _ x' _ xs' (n.value.1 n'.value p.0) (x.value.1 x'.value q.0) (same_commas xs.items xs'.items (two _ _ _ _ (two _ _ _ _ q.1).0).0))
+same_layers (f.Cast s x) (f.Cast s' x') h =
+    let p = below _ _ _ _ h in
+    rw (rolls-Cast s _, rolls-Cast s' x') (same_casts s s' _ x' (casts s s' p.0) (x.value.1 x'.value (two _ _ _ _ (two _ _ _ _ p.1).1).0))
 same_layers y x' h = absurd (eqb-false (form (bare y)) (form x') refl (one_form (bare y) x' h))
 
 settled : (x : Expr-F Expr) (y : Expr-F Inner) → bare y ≡ x → Settled (roll-Expr x)

@@ -5,6 +5,16 @@ use Rattle.std.specs.Str.{bytes_eq}
 use Rattle.std.proofs.lemmas.Slice.Eq.{bytes_eq-Decides}
 use Rattle.std.proofs.lemmas.List.{append-nil, map-append, get_or_default}
 use Rattle.std.proofs.lemmas.List.Concat.{flat_map-append}
+use Rattle.std.specs.declared.vec.Vec.{Vec}
+use Rattle.std.specs.declared.alloc.Global.{Global}
+use Rattle.vs_syntax.specs.declared.tree.Declarator.{Declarator}
+use Rattle.vs_syntax.specs.declared.tree.Form.{Form}
+use Rattle.vs_syntax.specs.declared.tree.Item.{Item}
+use Rattle.vs_syntax.specs.declared.tree.Item.TheVariants as t
+use Rattle.vs_syntax.specs.declared.tree.LocalDeclaration.{LocalDeclaration}
+use Rattle.vs_pieces.specs.declared.scope.Piece.{Piece as FoundPiece}
+use Rattle.vs_pieces.specs.declared.scope.Piece.TheVariants as p
+use Rattle.vs_pieces.specs.Reads.{read_piece}
 use Rattle.vs_design.specs.declared.signal.SignalKind.{SignalKind}
 use Rattle.vs_pieces.specs.Pieces.{Piece}
 use Rattle.vs_selects.specs.declared.bindings.Meaning.{Meaning}
@@ -13,10 +23,10 @@ use Rattle.vs_selects.specs.declared.bindings.Binding.TheVariants.{Signal, Genva
 use Rattle.vs_widths.specs.Names.{meaning_of}
 use Rattle.vs_scopes.specs.Parameters.{Parameter}
 use Rattle.vs_scopes.specs.Ports.{ModulePort}
-use Rattle.vs_scopes.specs.Declarations.{Bindings, DeclaredName, declared_by_port, declared_among, scalar, unsized_of, unsized_as, unsized_names, pending_names, bound_to, each_once, genvars_in, inner_names_among}
+use Rattle.vs_scopes.specs.Declarations.{Bindings, DeclaredName, declared_by_port, declared_by_item, declared_in, declared_among, scalar, unsized_of, unsized_as, unsized_names, pending_names, bound_to, each_once, genvars_in, inner_names_among}
 use Rattle.vs_scopes.specs.passes.Answers.{borrowed}
 use Rattle.vs_scopes.specs.passes.Declared.{first_of, AddsNames}
-use Rattle.vs_scopes.proofs.DeclaredLemmas.{adds_then, adds_step}
+use Rattle.vs_scopes.proofs.DeclaredLemmas.{first_none, adds_then, adds_step}
 use Rattle.vs_scopes.proofs.PassLemmas.{maps_two}
 use Rattle.vs_scopes.proofs.SizeLemmas.{shape_is, meaning_is}
 use Rattle.vs_values.specs.passes.Early.{AreEarly}
@@ -83,3 +93,20 @@ early_is xs ports ps a b c d e f empty p q s g i n =
     let more : AddsNames a e ((pending_names xs ++ unsized_names (first ++ signals)) ++ genvars) = adds_then a d e (pending_names xs ++ unsized_names (first ++ signals)) genvars some g in
     let all : AddsNames a f (((pending_names xs ++ unsized_names (first ++ signals)) ++ genvars) ++ inner) = adds_then a e f ((pending_names xs ++ unsized_names (first ++ signals)) ++ genvars) inner more i in
     all n ∙ ap (λ z. first_of (meaning_of z n) (meaning_of (((pending_names xs ++ unsized_names (first ++ signals)) ++ genvars) ++ inner) n)) empty
+
+-- ---- what declares nothing
+
+pub adds_none : (a bs : Bindings) → bs ≡ [] → AddsNames a a bs
+adds_none a bs e n = sym (ap (λ z. first_of (meaning_of a n) (meaning_of z n)) e ∙ first_none (meaning_of a n))
+
+pub quiet_item : (x : Item) → ((f : Form) (ds : Vec Declarator Global) → x ≡ t.Wire f ds → ⊥) → ((f : Form) (ds : Vec Declarator Global) → x ≡ t.Reg f ds → ⊥) → ((ds : Vec Declarator Global) → x ≡ t.Integer ds → ⊥) → unsized_names (declared_by_item (λ n. None) x) ≡ []
+quiet_item (t.Wire f ds) a b c = absurd (a f ds refl)
+quiet_item (t.Reg f ds) a b c = absurd (b f ds refl)
+quiet_item (t.Integer ds) a b c = absurd (c ds refl)
+quiet_item _ a b c = refl
+
+pub quiet_signals : (x : FoundPiece) → ((i : Bor Item) → x ≡ p.Plain i → ⊥) → ((d : Bor LocalDeclaration) → x ≡ p.Local d → ⊥) → ((n : Bor (List ℕ)) → x ≡ p.Net n → ⊥) → unsized_names (declared_in (λ n. None) (read_piece x)) ≡ []
+quiet_signals (p.Plain i) a b c = absurd (a i refl)
+quiet_signals (p.Local d) a b c = absurd (b d refl)
+quiet_signals (p.Net n) a b c = absurd (c n refl)
+quiet_signals _ a b c = refl

@@ -4,8 +4,8 @@ ghost use Rattle.std.specs.List.{flat_map};
 ghost use Rattle.std.specs.declared.vec.Vec.{Vec};
 ghost use Rattle.std.specs.declared.alloc.Global.{Global};
 ghost use Rattle.vs_syntax.specs.declared.tree.Connections.{Connections};
-ghost use Rattle.vs_pieces.specs.Pieces.{NamedBlock as TheBlock, plain, block_name};
-ghost use Rattle.vs_pieces.specs.Reads.{read_block, read_content, read_piece};
+ghost use Rattle.vs_pieces.specs.Pieces.{NamedBlock as TheBlock, plain, content_of, block_name};
+ghost use Rattle.vs_pieces.specs.Reads.{read_block, read_piece};
 ghost use Rattle.vs_selects.specs.declared.bindings.Binding.TheVariants.{Genvar, Other};
 ghost use Rattle.vs_scopes.specs.Ranges.{Sized};
 ghost use Rattle.vs_scopes.specs.Declarations.{declared_as, declared_by_port, declared_by_item, declared_local, declared_locally, declared_in, declared_among};
@@ -20,7 +20,7 @@ use vs_design::SignalKind;
 use vs_pieces::{Content, NamedBlock, Piece, branch_names, content_of, item_blocks};
 use vs_scopes::{ModulePort, Parameter, add_first};
 use vs_selects::{Binding, Meaning, Shape};
-use vs_syntax::{Declarator, Instance, Item, Local, LocalDeclaration};
+use vs_syntax::{Declarator, Instance, Item, Local, LocalDeclaration, ModuleItem};
 use vs_widths::Names;
 
 /// The size and sign of a signal without a range.
@@ -114,17 +114,10 @@ fn add_item_signals<'s>(item: &'s Item, names: &mut Names<'s, Binding>) -> Resul
         (unsized_names (declared_by_item (λ n. None) item.entry.now))) }
 {
     match item {
-        Item::Port(_, _) => Ok(()),
-        Item::Genvar(_) => Ok(()),
         Item::Wire(_, list) => add_declarators(SignalKind::Wire, list, names),
         Item::Reg(_, list) => add_declarators(SignalKind::Reg, list, names),
         Item::Integer(list) => add_declarators(SignalKind::Integer, list, names),
-        Item::Parameter(_, _) => Ok(()),
-        Item::Localparam(_, _) => Ok(()),
-        Item::Instances(_, _, _) => Ok(()),
-        Item::Assign(_) => Ok(()),
-        Item::Initial(_) => Ok(()),
-        Item::Always(_) => Ok(()),
+        _ => Ok(()),
     }
 }
 
@@ -149,11 +142,9 @@ fn add_signals<'s>(piece: Piece<'s>, names: &mut Names<'s, Binding>) -> Result<(
 {
     match piece {
         Piece::Plain(item) => add_item_signals(item, names),
-        Piece::Loop(_, _) => Ok(()),
-        Piece::Choice(_, _, _) => Ok(()),
         Piece::Local(declaration) => add_local_signals(declaration, names),
-        Piece::Inside(_) => Ok(()),
         Piece::Net(name) => add_first(name, unsized_signal(SignalKind::Wire), names),
+        _ => Ok(()),
     }
 }
 
@@ -185,29 +176,14 @@ fn add_genvar_names<'s>(
     Ok(())
 }
 
-/// Adds the genvars that an item declares (IEEE 1364-2005, clause 12.4.1).
-fn add_item_genvars<'s>(item: &'s Item, names: &mut Names<'s, Binding>) -> Result<(), AllocError>
-    ensures { OnOk result (AddsNames names.old names.new
-        (bound_to Genvar (genvars_in (plain item.entry.now)))) }
-{
-    match item {
-        Item::Genvar(list) => add_genvar_names(list, names),
-        _ => Ok(()),
-    }
-}
-
-/// Adds the genvars that a piece declares.
+/// Adds the genvars that a piece declares (IEEE 1364-2005, clause 12.4.1).
 fn add_genvars<'s>(piece: Piece<'s>, names: &mut Names<'s, Binding>) -> Result<(), AllocError>
     ensures { OnOk result (AddsNames names.old names.new
         (bound_to Genvar (genvars_in (read_piece piece.entry)))) }
 {
     match piece {
-        Piece::Plain(item) => add_item_genvars(item, names),
-        Piece::Loop(_, _) => Ok(()),
-        Piece::Choice(_, _, _) => Ok(()),
-        Piece::Local(_) => Ok(()),
-        Piece::Inside(_) => Ok(()),
-        Piece::Net(_) => Ok(()),
+        Piece::Plain(Item::Genvar(list)) => add_genvar_names(list, names),
+        _ => Ok(()),
     }
 }
 
@@ -275,16 +251,18 @@ fn add_item_inner<'s>(
 {
     add_uses(item, names)?;
     let blocks = item_blocks(alloc, item)?;
-    add_blocks(&blocks, names)?;
-    Ok(())
+    add_blocks(&blocks, names)
 }
 
-/// Adds the name of a block that a loop generates, where it has one.
-fn add_content<'s>(content: Content<'s>, names: &mut Names<'s, Binding>) -> Result<(), AllocError>
+/// Adds the name of the block that a turn of a loop generates, where it has one (IEEE 1364-2005, clause 12.4.1).
+fn add_generated<'s>(
+    inner: &'s ModuleItem,
+    names: &mut Names<'s, Binding>,
+) -> Result<(), AllocError>
     ensures { OnOk result (AddsNames names.old names.new
-        (bound_to Other (block_name (read_content content.entry)))) }
+        (bound_to Other (block_name (content_of inner.entry.now)))) }
 {
-    match content {
+    match content_of(inner) {
         Content::Nothing => Ok(()),
         Content::Block(None, _) => Ok(()),
         Content::Block(Some(name), _) => add_first(name, Binding::Other, names),
@@ -302,15 +280,14 @@ fn add_inner<'s>(
 {
     match piece {
         Piece::Plain(item) => add_item_inner(alloc, item, names),
-        Piece::Loop(_, inner) => add_content(content_of(inner), names),
+        Piece::Loop(_, inner) => add_generated(inner, names),
         Piece::Choice(_, first, other) => {
             let list = branch_names(alloc, first, other)?;
             add_names(&list, names)?;
             Ok(())
         }
-        Piece::Local(_) => Ok(()),
         Piece::Inside(block) => add_first(block.name, Binding::Other, names),
-        Piece::Net(_) => Ok(()),
+        Piece::Local(_) | Piece::Net(_) => Ok(()),
     }
 }
 

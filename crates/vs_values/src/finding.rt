@@ -154,7 +154,7 @@ fn find_value<'s>(
     }
 }
 
-/// Finds the values of parameters in the order of the text, each where those of the parameters that it names are found before it.
+/// Finds the values of parameters, each behind those that it names.
 fn find_each<'s>(
     alloc: Global,
     around: &Levels,
@@ -173,37 +173,10 @@ fn find_each<'s>(
     ensures fault { IfErr result (RefusesValues false
         (λ w. outer_faults w (meaning_of around.now) (map read_given list.now)) (λ w. false)) }
 {
-    for number in 0..list.len() {
-        find_value(alloc, around, &*outer, list, numbers, number, values, known)?;
-    }
-    Ok(())
-}
-
-/// The same in another order.
-fn find_in<'s>(
-    alloc: Global,
-    around: &Levels,
-    outer: &[&Names<'s, Binding>],
-    list: &[Given<'s>],
-    numbers: &Names<'s, usize>,
-    order: &[usize],
-    values: &mut Vec<Option<Const>>,
-    known: &mut Names<'s, Binding>,
-) -> Result<(), ParameterRefusal>
-    requires all { length values.now.items ≡ length list.now }
-    requires numbers { AreNumbers (map read_given list.now) numbers.now }
-    ensures all { OnOk result (length values.new.items ≡ length list.now) }
-    ensures found { OnOk result ((env : Environment)
-        → AreFound (meaning_of around.now) env (nested_names outer.now) (map read_given list.now) values.old.items known.old
-        → AreFound (meaning_of around.now) env (nested_names outer.now) (map read_given list.now) values.new.items known.new) }
-    ensures fault { IfErr result (RefusesValues false
-        (λ w. outer_faults w (meaning_of around.now) (map read_given list.now)) (λ w. false)) }
-{
-    for number in order {
+    let order = order(alloc, list, numbers)?;
+    for number in &order {
         if *number < list.len() {
-            find_value(
-                alloc, around, &*outer, list, numbers, *number, values, known,
-            )?;
+            find_value(alloc, around, outer, list, numbers, *number, values, known)?;
         }
     }
     Ok(())
@@ -261,7 +234,7 @@ fn find_rest<'s>(
         (λ w. own_faults w (meaning_of around.now) env (map read_given list.now)) e) }
 {
     loop {
-        match next_value(alloc, around, &*outer, list, &*values, &*known)? {
+        match next_value(alloc, around, outer, list, &*values, &*known)? {
             Next::Nothing => return Ok(()),
             Next::Stuck(reason) => return Err(ParameterRefusal::Own(reason)),
             Next::Value(number, constant) => {
@@ -271,45 +244,29 @@ fn find_rest<'s>(
     }
 }
 
-/// Whether the value of some parameter isn't found.
-fn has_unfound(values: &[Option<Const>]) -> bool {
-    for value in values {
-        if value.is_none() {
-            return true;
-        }
-    }
-    false
-}
-
-/// Finds the values of parameters: in the order of the text those that name parameters before them alone, and then each of the others
-/// behind those that it names, so that each is looked at a few times however many there are. The last step finds what is left, and rests on
-/// no order.
+/// Finds the values of parameters: each behind those that it names, so that each is looked at a few times however many there are. The last
+/// step finds what is left, and rests on no order.
 fn find_values<'s>(
     alloc: Global,
     around: &Levels,
     outer: &[&Names<'s, Binding>],
     list: &[Given<'s>],
-    numbers: &Names<'s, usize>,
-    values: &mut Vec<Option<Const>>,
     known: &mut Names<'s, Binding>,
-) -> Result<(), ParameterRefusal>
-    requires all { length values.now.items ≡ length list.now }
-    requires numbers { AreNumbers (map read_given list.now) numbers.now }
-    ensures all { OnOk result ((length values.new.items ≡ length list.now) × AreAll values.new.items) }
-    ensures found { OnOk result ((env : Environment)
-        → AreFound (meaning_of around.now) env (nested_names outer.now) (map read_given list.now) values.old.items known.old
-        → AreFound (meaning_of around.now) env (nested_names outer.now) (map read_given list.now) values.new.items known.new) }
+) -> Result<Vec<Option<Const>>, ParameterRefusal>
+    ensures all { IfOk result (λ v. (length v.items ≡ length list.now) × AreAll v.items) }
+    ensures found { IfOk result (λ v. (env : Environment)
+        → AreFound (meaning_of around.now) env (nested_names outer.now) (map read_given list.now) (replicate (length list.now) None) known.old
+        → AreFound (meaning_of around.now) env (nested_names outer.now) (map read_given list.now) v.items known.new) }
     ensures fault { IfErr result (λ e. (env : Environment)
-        → AreFound (meaning_of around.now) env (nested_names outer.now) (map read_given list.now) values.old.items known.old
+        → AreFound (meaning_of around.now) env (nested_names outer.now) (map read_given list.now) (replicate (length list.now) None) known.old
         → RefusesValues false (λ w. outer_faults w (meaning_of around.now) (map read_given list.now))
         (λ w. own_faults w (meaning_of around.now) env (map read_given list.now)) e) }
 {
-    find_each(alloc, around, &*outer, list, numbers, values, known)?;
-    if has_unfound(&*values) {
-        let order = order(alloc, list, numbers, &*values)?;
-        find_in(alloc, around, &*outer, list, numbers, &order, values, known)?;
-    }
-    find_rest(alloc, around, &*outer, list, numbers, values, known)
+    let numbers = numbered(alloc, list)?;
+    let mut values = no_values(alloc, list.len())?;
+    find_each(alloc, around, outer, list, &numbers, &mut values, known)?;
+    find_rest(alloc, around, outer, list, &numbers, &mut values, known)?;
+    Ok(values)
 }
 
 /// Appends the constants that parameters are.
@@ -344,17 +301,7 @@ pub(crate) fn add_constants<'s>(
         (λ w. outer_faults w (meaning_of around.now) (map read_given list.now))
         (λ w. own_faults w (meaning_of around.now) (meaning_of (values.old.known ++ nested_names outer.now)) (map read_given list.now))) }
 {
-    let numbers = numbered(alloc, list)?;
     bind_pending(list, &mut values.known)?;
-    let mut found = no_values(alloc, list.len())?;
-    find_values(
-        alloc,
-        around,
-        &*outer,
-        list,
-        &numbers,
-        &mut found,
-        &mut values.known,
-    )?;
+    let found = find_values(alloc, around, outer, list, &mut values.known)?;
     Ok(push_found(list, &found, &mut values.constants)?)
 }

@@ -2,17 +2,16 @@
 use std::alloc::{AllocError, Global};
 use vs_pieces::names_in;
 use vs_scopes::Given;
-use vs_selects::Const;
 use vs_syntax::{Expr, ParameterForm, Range};
 use vs_widths::Names;
 
-/// Which parameters parameters name: those of each stand behind those of the one before.
-#[derive(Drop)]
-struct Uses {
-    /// Where the parameters begin that each parameter names; and the end of the last ones.
-    starts: Vec<usize>,
-    /// The numbers of parameters that are named.
-    used: Vec<usize>,
+/// What is left to do with the parameter of a number.
+#[derive(Clone, Copy)]
+enum Task {
+    /// To look at it, and at those that it needs.
+    Visit(usize),
+    /// To put it into the order, behind those that it needs.
+    Place(usize),
 }
 
 /// How far parameters are looked at.
@@ -20,177 +19,132 @@ struct Uses {
 struct Walk {
     /// Whether each parameter was met.
     met: Vec<bool>,
-    /// Where the next parameter stands among the used ones that each parameter names.
-    next: Vec<usize>,
-    /// Parameters each of which names the one behind it.
-    path: Vec<usize>,
-    /// Parameters behind those that they name.
+    /// What is left to do, the next last.
+    tasks: Vec<Task>,
+    /// Parameters behind those that they need.
     order: Vec<usize>,
 }
 
-/// Appends the number of the parameter of a name, where it is one.
-fn push_use(name: &[u8], numbers: &Names<usize>, used: &mut Vec<usize>) -> Result<(), AllocError> {
+/// Leaves the parameter of a name to be looked at, where it is one.
+fn push_use(name: &[u8], numbers: &Names<usize>, tasks: &mut Vec<Task>) -> Result<(), AllocError> {
     match numbers.find(name) {
-        Some(number) => Ok(used.push(number)?),
+        Some(number) => Ok(tasks.push(Task::Visit(number))?),
         None => Ok(()),
     }
 }
 
-/// Appends the numbers of the parameters that an expression names.
+/// Leaves the parameters that an expression names to be looked at.
 fn push_uses(
     alloc: Global,
     e: &Expr,
     numbers: &Names<usize>,
-    used: &mut Vec<usize>,
+    tasks: &mut Vec<Task>,
 ) -> Result<(), AllocError> {
     let names = names_in(alloc, e)?;
     for name in &names {
-        push_use(name, numbers, used)?;
+        push_use(name, numbers, tasks)?;
     }
     Ok(())
 }
 
-/// Appends the numbers of the parameters that a range names.
+/// Leaves the parameters that a range names to be looked at.
 fn push_range_uses(
     alloc: Global,
     range: &Range,
     numbers: &Names<usize>,
-    used: &mut Vec<usize>,
+    tasks: &mut Vec<Task>,
 ) -> Result<(), AllocError> {
-    push_uses(alloc, &range.left, numbers, used)?;
-    push_uses(alloc, &range.right, numbers, used)
+    push_uses(alloc, &range.left, numbers, tasks)?;
+    push_uses(alloc, &range.right, numbers, tasks)
 }
 
-/// Appends the numbers of the parameters that a parameter of the same scope needs: those in its range, and in its value where nothing
+/// Leaves the parameters that a parameter of the same scope needs to be looked at: those in its range, and in its value where nothing
 /// overrides that.
 fn push_given_uses(
     alloc: Global,
     given: &Given,
     numbers: &Names<usize>,
-    used: &mut Vec<usize>,
+    tasks: &mut Vec<Task>,
 ) -> Result<(), AllocError> {
     if let Some(ParameterForm::Vector(form)) = given.parameter.form {
         if let Some(range) = &form.range {
-            push_range_uses(alloc, range, numbers, used)?;
+            push_range_uses(alloc, range, numbers, tasks)?;
         }
     }
     match given.over {
         Some(_) => Ok(()),
-        None => push_uses(alloc, given.parameter.value, numbers, used),
+        None => push_uses(alloc, given.parameter.value, numbers, tasks),
     }
 }
 
-/// Which parameters parameters need whose values aren't found.
-fn all_uses(
+/// Meets a parameter; whether it wasn't met before.
+fn meet(met: &mut [bool], number: usize) -> bool {
+    match met.get_mut(number) {
+        Some(met) => {
+            let is_new = !*met;
+            *met = true;
+            is_new
+        }
+        None => false,
+    }
+}
+
+/// The next parameter that wasn't met; those that come before it are put into the order.
+fn next(walk: &mut Walk) -> Result<Option<usize>, AllocError> {
+    while let Some(task) = walk.tasks.pop() {
+        match task {
+            Task::Place(number) => walk.order.push(number)?,
+            Task::Visit(number) => {
+                if meet(&mut walk.met, number) {
+                    return Ok(Some(number));
+                }
+            }
+        }
+    }
+    Ok(None)
+}
+
+/// Looks at the next parameter that wasn't met: it comes behind those that it needs.
+fn advance(
     alloc: Global,
     list: &[Given],
     numbers: &Names<usize>,
-    values: &[Option<Const>],
-) -> Result<Uses, AllocError> {
-    let mut starts = Vec::new(alloc);
-    let mut used = Vec::new(alloc);
-    starts.push(0)?;
-    for number in 0..list.len() {
-        if let Some(None) = values.get(number) {
-            push_given_uses(alloc, &list[number], numbers, &mut used)?;
-        }
-        starts.push(used.len())?;
-    }
-    Ok(Uses { starts, used })
-}
-
-/// The end of those that a parameter needs, among all.
-fn end_of(uses: &Uses, number: usize) -> usize {
-    match uses.starts.get(number.saturating_add(1)) {
-        Some(end) => *end,
-        None => 0,
-    }
-}
-
-/// The number of the next parameter that one needs, and the place behind it; none behind the last one.
-fn next_of(uses: &Uses, walk: &Walk, number: usize) -> Option<(usize, usize)> {
-    let at = walk.next.get(number)?;
-    if *at < end_of(uses, number) {
-        let used = uses.used.get(*at)?;
-        Some((*used, at.saturating_add(1)))
-    } else {
-        None
-    }
-}
-
-/// Goes to a parameter, unless it was met.
-fn enter(walk: &mut Walk, number: usize) -> Result<(), AllocError> {
-    if let Some(met) = walk.met.get_mut(number) {
-        if !*met {
-            *met = true;
-            walk.path.push(number)?;
-        }
-    }
-    Ok(())
-}
-
-/// One step: on to what the last parameter of the path needs, or back from it. Whether there was one.
-fn step(uses: &Uses, walk: &mut Walk) -> Result<bool, AllocError> {
-    let Some(last) = walk.path.last() else {
-        return Ok(false);
+    walk: &mut Walk,
+) -> Result<(), AllocError> {
+    let Some(number) = next(walk)? else {
+        return Ok(());
     };
-    let number = *last;
-    match next_of(uses, walk, number) {
-        Some((used, behind)) => {
-            if let Some(next) = walk.next.get_mut(number) {
-                *next = behind;
-            }
-            enter(walk, used)?;
-        }
-        None => {
-            let _ = walk.path.pop();
-            walk.order.push(number)?;
-        }
-    }
-    Ok(true)
+    let Some(given) = list.get(number) else {
+        return Ok(());
+    };
+    walk.tasks.push(Task::Place(number))?;
+    push_given_uses(alloc, given, numbers, &mut walk.tasks)
 }
 
-/// Looks at a parameter and at all that it needs.
-fn visit(uses: &Uses, walk: &mut Walk, number: usize) -> Result<(), AllocError> {
-    enter(walk, number)?;
-    let most = uses.used.len().saturating_add(uses.starts.len());
-    for _ in 0..most {
-        if !step(uses, walk)? {
-            return Ok(());
-        }
-    }
-    Ok(())
-}
-
-/// A walk before its first step: parameters whose values are found count as met.
-fn start(alloc: Global, uses: &Uses, values: &[Option<Const>]) -> Result<Walk, AllocError> {
+/// A walk before its first step, where all parameters, of which there are so many, are left to be looked at.
+fn start(alloc: Global, count: usize) -> Result<Walk, AllocError> {
     let mut met = Vec::new(alloc);
-    for value in values {
-        met.push(value.is_some())?;
-    }
-    let mut next = Vec::new(alloc);
-    for at in &uses.starts {
-        next.push(*at)?;
+    met.resize(count, false)?;
+    let mut tasks = Vec::new(alloc);
+    for number in (0..count).rev() {
+        tasks.push(Task::Visit(number))?;
     }
     Ok(Walk {
         met,
-        next,
-        path: Vec::new(alloc),
+        tasks,
         order: Vec::new(alloc),
     })
 }
 
-/// The numbers of the parameters whose values aren't found, each behind those that it needs, where it doesn't need itself.
+/// The numbers of parameters, each behind those that it needs, where it doesn't need itself.
 pub(crate) fn order(
     alloc: Global,
     list: &[Given],
     numbers: &Names<usize>,
-    values: &[Option<Const>],
 ) -> Result<Vec<usize>, AllocError> {
-    let uses = all_uses(alloc, list, numbers, values)?;
-    let mut walk = start(alloc, &uses, values)?;
-    for number in 0..list.len() {
-        visit(&uses, &mut walk, number)?;
+    let mut walk = start(alloc, list.len())?;
+    for _ in 0..list.len().saturating_add(1) {
+        advance(alloc, list, numbers, &mut walk)?;
     }
     Ok(walk.order)
 }

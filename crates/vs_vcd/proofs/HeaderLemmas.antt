@@ -1,20 +1,46 @@
 -- The text of a header.
-use Rattle.std.proofs.Common.{◌≡◌, ℕ, ◌+◌, ◌<◌, List, [], ◌∷◌, ◌++◌, length, take, get_or, sym, ap, ◌∙◌, subst, append_assoc}
+use Rattle.std.proofs.Common.{◌≡◌, ℕ, ◌+◌, ◌<◌, List, [], ◌∷◌, ◌++◌, length, take, get_or, sym, ap, ◌∙◌, subst, append_assoc, append-nil}
 use Rattle.std.proofs.lemmas.List.{take_more, flat_map_more}
-use Rattle.std.specs.Prelude.{codes}
+use Rattle.std.specs.Prelude.{codes, decimal, Option, Some}
+use Rattle.std.specs.Fmt.{signed_decimal}
+use Rattle.vs_design.specs.declared.signal.Bounds.{Bounds}
 use Rattle.vs_design.specs.declared.signal.Signal.{Signal}
 use Rattle.vs_design.specs.declared.design.Entry.{Entry}
+use Rattle.vs_design.specs.declared.design.ScopeKind.{ScopeKind}
 use Rattle.vs_design.specs.Parts.{Parts}
 use Rattle.vs_vcd.specs.Codes.{code}
-use Rattle.vs_vcd.specs.Text.{text_of, precision, shape_text, range_text, declaration, entry_lines, outline_lines, end_of_definitions, header_lines}
+use Rattle.vs_vcd.specs.Text.{text_of, magnitude_word, unit_word, precision, scope_word, scope_line, kind_word, shape_text, range_text, declaration, entry_lines, outline_lines, end_of_definitions, header_lines}
 use Rattle.vs_vcd.proofs.LineLemmas.{text_more}
 
+-- the parts of the line of a tick stand one after another
+pub tick_whole : (old m u new : List ℕ) (d : Parts) → m ≡ magnitude_word d.timescale.precision.magnitude → u ≡ unit_word d.timescale.precision.unit
+    → new ≡ old ++ (codes "$timescale " ++ (m ++ (codes " " ++ (u ++ codes " $end\n")))) → new ≡ old ++ text_of ((codes "$timescale " ++ precision d ++ codes " $end") ∷ [])
+tick_whole old m u new d p q h = rw (h, p, q) (simp append_assoc)
+
+-- the parts of the line that opens a scope stand one after another
+pub scope_whole : (old w name a b new : List ℕ) (kind : ScopeKind) → w ≡ scope_word kind → a ≡ old ++ (codes "$scope " ++ (w ++ codes " "))
+    → b ≡ a ++ name → new ≡ b ++ codes " $end\n" → new ≡ old ++ text_of (scope_line kind name ∷ [])
+scope_whole old w name a b new kind m p q h = rw (h, q, p, m) (simp append_assoc)
+
+-- the parts of a range stand one after another
+pub range_whole : (old a b new : List ℕ) (range : Option Bounds) (r : Bounds) → range ≡ Some r → a ≡ signed_decimal r.left → b ≡ signed_decimal r.right
+    → new ≡ old ++ (codes " [" ++ (a ++ (codes ":" ++ (b ++ codes "]")))) → new ≡ old ++ range_text range
+range_whole old a b new range r is p q h = rw (h, p, q, is) (simp append_assoc)
+
+-- the parts of what stands before the code stand one after another
+pub shape_whole : (old k w new : List ℕ) (s : Signal) → k ≡ kind_word s.kind → w ≡ decimal s.width → new ≡ old ++ (codes "$var " ++ (k ++ (codes " " ++ (w ++ codes " "))))
+    → new ≡ old ++ codes "$var " ++ shape_text s ++ codes " "
+shape_whole old k w new s p q h = rw (h, p, q) (simp append_assoc)
+
+-- the parts of what stands behind the code stand one after another
+pub name_whole : (old a b new name : List ℕ) (s : Signal) → name ≡ s.name.items → a ≡ old ++ (codes " " ++ (name ++ [])) → b ≡ a ++ range_text s.range → new ≡ b ++ codes " $end\n"
+    → new ≡ old ++ codes " " ++ s.name.items ++ range_text s.range ++ codes " $end\n"
+name_whole old a b new name s m p q h = rw (h, q, p, m, append-nil) (simp append_assoc)
+
 -- the parts of a declaration stand one after another
-pub declared_whole : (old a b c d e f g new : List ℕ) (s : Signal) (n : ℕ) (name : List ℕ) → name ≡ s.name.items
-    → a ≡ old ++ codes "$var " → b ≡ a ++ shape_text s → c ≡ b ++ codes " " → d ≡ c ++ code n → e ≡ d ++ codes " " → f ≡ e ++ name → g ≡ f ++ range_text s.range → new ≡ g ++ codes " $end\n"
-    → new ≡ old ++ text_of (declaration s n ∷ [])
-declared_whole old a b c d e f g new s n name m p1 p2 p3 p4 p5 p6 p7 p8 =
-    rw (p8, p7, p6, p5, p4, p3, p2, p1, m) (simp append_assoc)
+pub declared_whole : (old a b new : List ℕ) (s : Signal) (n : ℕ) → a ≡ old ++ codes "$var " ++ shape_text s ++ codes " " → b ≡ a ++ code n
+    → new ≡ b ++ codes " " ++ s.name.items ++ range_text s.range ++ codes " $end\n" → new ≡ old ++ text_of (declaration s n ∷ [])
+declared_whole old a b new s n p q h = rw (h, q, p) (simp append_assoc)
 
 -- one more entry of the outline is written
 pub outline_more : (old mid new : List ℕ) (d : Parts) (items : List Entry) (i : ℕ) (e : Entry) → items ≡ d.outline → i < length items → e ≡ get_or items i e
@@ -29,10 +55,9 @@ outline_more old mid new d items i e same h item first second =
     text_more old mid new (outline_lines d (take i outline)) (entry_lines d e) first second ∙ ap (λ l. old ++ text_of l) lines
 
 -- the parts of a header stand one after another
-pub header_written : (old a b c e new : List ℕ) (d : Parts) → a ≡ old ++ codes "$timescale " → b ≡ a ++ precision d → c ≡ b ++ codes " $end\n"
-    → e ≡ c ++ text_of (outline_lines d d.outline) → new ≡ e ++ text_of (end_of_definitions ∷ []) → new ≡ old ++ text_of (header_lines d)
-header_written old a b c e new d p1 p2 p3 p4 p5 =
+pub header_whole : (old a b new : List ℕ) (d : Parts) → old ≡ [] → a ≡ old ++ text_of ((codes "$timescale " ++ precision d ++ codes " $end") ∷ [])
+    → b ≡ a ++ text_of (outline_lines d d.outline) → new ≡ b ++ text_of (end_of_definitions ∷ []) → new ≡ text_of (header_lines d)
+header_whole old a b new d none p q h =
     let first = codes "$timescale " ++ precision d ++ codes " $end" in
-    let start : c ≡ old ++ text_of (first ∷ []) = rw (p3, p2, p1) (simp append_assoc) in
-    let scopes = text_more old c e (first ∷ []) (outline_lines d d.outline) start p4 in
-    text_more old e new (first ∷ outline_lines d d.outline) (end_of_definitions ∷ []) scopes p5
+    text_more old b new (first ∷ outline_lines d d.outline) (end_of_definitions ∷ []) (text_more old a b (first ∷ []) (outline_lines d d.outline) p q) h
+    ∙ ap (λ l. l ++ text_of (header_lines d)) none

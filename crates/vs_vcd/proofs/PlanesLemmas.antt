@@ -1,5 +1,8 @@
 -- Words in flat planes.
-use Rattle.std.proofs.Common.{◌≡◌, ℕ, zero, suc, ◌<◌, ◌≤◌, Bool, true, false, ◌&&◌, eqb, if◌then◌else◌, Some, List, [], ◌∷◌, length, replicate, get_or, slice_get, slice_index, refl, sym, ap, ◌∙◌, arith}
+use Rattle.std.proofs.Common.{◌≡◌, ℕ, zero, suc, ◌+◌, ◌-◌, ◌<◌, ◌≤◌, Bool, true, false, ◌&&◌, eqb, if◌then◌else◌, Some, List, [], ◌∷◌, ◌++◌, length, take, drop, replicate, get_or, slice_get, slice_index, refl, sym, ap, ap₂, ◌∙◌, arith}
+use Rattle.std.proofs.Math.ListN.{get_or-append}
+use Rattle.std.proofs.lemmas.List.{length-take, length-drop, get_or-take, get_or-drop, get_or-append-add}
+use borrow.Rule.Slice.PartMut.{put_mid, post_of}
 use Rattle.std.specs.Prelude.{slice_set}
 use Rattle.std.proofs.lemmas.Option.{same_Some, slice_get_read, slice_get-get_or}
 use Rattle.vs_logic4.specs.declared.digit.Digit.{Digit}
@@ -27,6 +30,30 @@ get_set_other (y ∷ ys) (suc i) (suc k) x h = get_set_other ys i k x (λ e. h (
 
 pub read : (xs : List ℕ) (i x : ℕ) → i < length xs → x ≡ get_or xs i x → x ≡ slice_index xs i
 read xs i x lt is = same_Some x (slice_index xs i) (sym (slice_get_read xs (length xs) i x refl lt is) ∙ slice_get-get_or xs i 0 lt)
+
+-- ---- parts of lists
+
+pub part_long : {A : Type 0} (xs : List A) (from to : ℕ) → from ≤ to → to ≤ length xs → length (take (to - from) (drop from xs)) ≡ to - from
+part_long xs from to order within = omega (arith, length-take (to - from) (drop from xs), length-drop from xs)
+
+part_at : (xs : List ℕ) (from n i k : ℕ) → i < n → from + i ≡ k → slice_index (take n (drop from xs)) i ≡ slice_index xs k
+part_at xs from n i k lt at = get_or-take n (drop from xs) i 0 lt ∙ get_or-drop from xs i 0 ∙ ap (slice_index xs) at
+
+-- the flags of a part of two planes stand in its place
+pub part_compared : (old new flags out : List ℕ) (from to : ℕ) → from ≤ to → to ≤ length old → length flags ≡ length old → length out ≡ length (take (to - from) (drop from flags))
+    → ((k : ℕ) → k < length (take (to - from) (drop from old)) → slice_index out k ≡ change (slice_index (take (to - from) (drop from old)) k) (slice_index (take (to - from) (drop from new)) k))
+    → (k : ℕ) → from ≤ k → k < to → slice_index (put_mid from (to - from) flags out) k ≡ change (slice_index old k) (slice_index new k)
+part_compared old new flags out from to order within long out_long same k ge lt =
+    let i = k - from in
+    let at : from + i ≡ k = omega arith in
+    let below : i < to - from = omega arith in
+    let inside : i < length out = omega (arith, out_long, part_long flags from to order (omega arith)) in
+    let front : length (take from flags) ≡ from = omega (arith, length-take from flags) in
+    let behind = post_of from (to - from) flags in
+    let place : k ≡ length (take from flags) + i = omega (arith, front, at) in
+    ap (slice_index (take from flags ++ (out ++ behind))) place ∙ get_or-append-add (take from flags) (out ++ behind) i 0 ∙ get_or-append out behind 0 i inside
+    ∙ same i (omega (arith, below, part_long old from to order within))
+    ∙ ap₂ change (part_at old from (to - from) i k below at) (part_at new from (to - from) i k below at)
 
 -- ---- words
 

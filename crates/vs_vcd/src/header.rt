@@ -1,15 +1,15 @@
 //! The header: the time scale, scopes and signals.
-ghost use Rattle.std.specs.Prelude.{◌≡◌, ◌++◌, ◌∷◌, [], OnOk, Some, slice_get};
-ghost use Rattle.std.specs.Fmt.{signed_decimal};
+ghost use Rattle.std.specs.Prelude.{◌≡◌, ◌++◌, ◌∷◌, [], IfOk, OnOk, Some, codes, slice_get};
 ghost use Rattle.std.specs.Option.{option_flatten};
 ghost use Rattle.vs_vcd.specs.CodeTables.{code_table};
 ghost use Rattle.vs_vcd.specs.Text.{text_of, magnitude_word, unit_word, precision, scope_word, kind_word};
 ghost use Rattle.vs_vcd.specs.Text.{scope_line, range_text, shape_text};
-ghost use Rattle.vs_vcd.specs.Text.{declaration, declared, entry_lines, header_lines, outline_lines};
+ghost use Rattle.vs_vcd.specs.Text.{declaration, declared, entry_lines, outline_lines, vcd_header};
 
+use crate::texts::push_texts;
 use crate::value::push_code;
 use itoa::Buffer;
-use std::alloc::AllocError;
+use std::alloc::{AllocError, Global};
 use vs_design::{Bounds, Design, Entry, Magnitude, ScopeKind, Signal, SignalKind, TimeUnit};
 
 /// How many of a unit.
@@ -37,15 +37,14 @@ fn unit_text(unit: TimeUnit) -> &'static [u8]
     }
 }
 
-/// Appends the time that a tick stands for.
+/// Appends the line of the time that a tick stands for.
 fn push_tick(text: &mut Vec<u8>, design: &Design) -> Result<(), AllocError>
-    ensures { OnOk result (text.new.items ≡ text.old.items ++ precision design.now) }
+    ensures { OnOk result (text.new.items ≡ text.old.items
+        ++ text_of ((codes "$timescale " ++ precision design.now ++ codes " $end") ∷ [])) }
 {
     let span = design.timescale().precision;
-    text.extend_from_slice(magnitude_text(span.magnitude))?;
-    text.push(b' ')?;
-    text.extend_from_slice(unit_text(span.unit))?;
-    Ok(())
+    let (magnitude, unit) = (magnitude_text(span.magnitude), unit_text(span.unit));
+    push_texts(text, &[b"$timescale ", magnitude, b" ", unit, b" $end\n"])
 }
 
 /// The word for a scope's kind.
@@ -73,20 +72,9 @@ fn kind_text(kind: SignalKind) -> &'static [u8]
 fn push_scope(text: &mut Vec<u8>, kind: ScopeKind, name: &[u8]) -> Result<(), AllocError>
     ensures { OnOk result (text.new.items ≡ text.old.items ++ text_of (scope_line kind name.now ∷ [])) }
 {
-    text.extend_from_slice(b"$scope ")?;
-    text.extend_from_slice(scope_text(kind))?;
-    text.push(b' ')?;
+    push_texts(text, &[b"$scope ", scope_text(kind), b" "])?;
     text.extend_from_slice(name)?;
     text.extend_from_slice(b" $end\n")?;
-    Ok(())
-}
-
-/// Appends a bound of a range, in decimal.
-fn push_bound(text: &mut Vec<u8>, bound: i64) -> Result<(), AllocError>
-    ensures { OnOk result (text.new.items ≡ text.old.items ++ signed_decimal bound) }
-{
-    let mut buffer = Buffer::new();
-    text.extend_from_slice(buffer.format(bound).as_bytes())?;
     Ok(())
 }
 
@@ -97,22 +85,29 @@ fn push_range(text: &mut Vec<u8>, range: Option<Bounds>) -> Result<(), AllocErro
     let Some(bounds) = range else {
         return Ok(());
     };
-    text.extend_from_slice(b" [")?;
-    push_bound(text, bounds.left)?;
-    text.push(b':')?;
-    push_bound(text, bounds.right)?;
-    text.push(b']')?;
-    Ok(())
+    let (mut left, mut right) = (Buffer::new(), Buffer::new());
+    let first = left.format(bounds.left).as_bytes();
+    let last = right.format(bounds.right).as_bytes();
+    push_texts(text, &[b" [", first, b":", last, b"]"])
 }
 
 /// Appends what stands before the code in the declaration of a signal: its kind and its size.
 fn push_shape(text: &mut Vec<u8>, signal: &Signal) -> Result<(), AllocError>
-    ensures { OnOk result (text.new.items ≡ text.old.items ++ shape_text signal.now) }
+    ensures { OnOk result (text.new.items ≡ text.old.items ++ codes "$var " ++ shape_text signal.now ++ codes " ") }
 {
     let mut buffer = Buffer::new();
-    text.extend_from_slice(kind_text(signal.kind))?;
-    text.push(b' ')?;
-    text.extend_from_slice(buffer.format(signal.width).as_bytes())?;
+    let width = buffer.format(signal.width).as_bytes();
+    push_texts(text, &[b"$var ", kind_text(signal.kind), b" ", width, b" "])
+}
+
+/// Appends what stands behind the code in the declaration of a signal: its name and its range.
+fn push_name(text: &mut Vec<u8>, signal: &Signal) -> Result<(), AllocError>
+    ensures { OnOk result (text.new.items ≡ text.old.items
+        ++ codes " " ++ signal.now.name.items ++ range_text signal.now.range ++ codes " $end\n") }
+{
+    push_texts(text, &[b" ", &signal.name])?;
+    push_range(text, signal.range)?;
+    text.extend_from_slice(b" $end\n")?;
     Ok(())
 }
 
@@ -120,15 +115,9 @@ fn push_shape(text: &mut Vec<u8>, signal: &Signal) -> Result<(), AllocError>
 fn push_declaration(text: &mut Vec<u8>, signal: &Signal, number: usize) -> Result<(), AllocError>
     ensures { OnOk result (text.new.items ≡ text.old.items ++ text_of (declaration signal.now number ∷ [])) }
 {
-    text.extend_from_slice(b"$var ")?;
     push_shape(text, signal)?;
-    text.push(b' ')?;
     push_code(text, number)?;
-    text.push(b' ')?;
-    text.extend_from_slice(&signal.name)?;
-    push_range(text, signal.range)?;
-    text.extend_from_slice(b" $end\n")?;
-    Ok(())
+    push_name(text, signal)
 }
 
 /// Appends the declaration of the signal of this number, where it has a code.
@@ -185,19 +174,18 @@ fn push_outline(
     Ok(())
 }
 
-/// Appends the header of a design. The table has of each signal the number of its code.
-pub(crate) fn push_header(
-    text: &mut Vec<u8>,
+/// The header of a design. The table has of each signal the number of its code.
+pub(crate) fn header_text(
+    alloc: Global,
     design: &Design,
     table: &[Option<usize>],
-) -> Result<(), AllocError>
+) -> Result<Vec<u8>, AllocError>
     requires table { table.now ≡ code_table 0 design.now.signals }
-    ensures { OnOk result (text.new.items ≡ text.old.items ++ text_of (header_lines design.now)) }
+    ensures { IfOk result (λ text. text.items ≡ vcd_header design.now) }
 {
-    text.extend_from_slice(b"$timescale ")?;
-    push_tick(text, design)?;
-    text.extend_from_slice(b" $end\n")?;
-    push_outline(text, design, table)?;
+    let mut text = Vec::new(alloc);
+    push_tick(&mut text, design)?;
+    push_outline(&mut text, design, table)?;
     text.extend_from_slice(b"$enddefinitions $end\n")?;
-    Ok(())
+    Ok(text)
 }

@@ -12,6 +12,7 @@ mod marks;
 mod planes;
 mod room;
 mod sink;
+mod texts;
 mod value;
 mod writer;
 

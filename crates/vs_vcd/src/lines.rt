@@ -4,6 +4,7 @@ ghost use Rattle.vs_vcd.specs.Text.{text_of, time_line};
 ghost use Rattle.vs_vcd.specs.Kept.{change_texts, slot_lines};
 
 use crate::kept::Change;
+use crate::texts::push_texts;
 use crate::value::push_change;
 use itoa::Buffer;
 use std::alloc::AllocError;
@@ -13,10 +14,7 @@ pub(crate) fn push_time(text: &mut Vec<u8>, time: u64) -> Result<(), AllocError>
     ensures { OnOk result (text.new.items ≡ text.old.items ++ text_of (time_line time ∷ [])) }
 {
     let mut buffer = Buffer::new();
-    text.push(b'#')?;
-    text.extend_from_slice(buffer.format(time).as_bytes())?;
-    text.push(b'\n')?;
-    Ok(())
+    push_texts(text, &[b"#", buffer.format(time).as_bytes(), b"\n"])
 }
 
 /// Appends the lines of changes.

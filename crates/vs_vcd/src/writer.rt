@@ -1,9 +1,9 @@
 //! The writer of a value change dump.
-ghost use Rattle.std.specs.Prelude.{◌≡◌, ◌≤◌, ◌^◌, ℕ, ◌++◌, ◌∷◌, [], List, IfOk, OnOk, OnErr, is_none, length};
+ghost use Rattle.std.specs.Prelude.{◌≡◌, ◌≤◌, ◌^◌, ℕ, ◌++◌, ◌∷◌, [], List, IfOk, OnOk, OnErr, None, is_none, length};
 ghost use Rattle.vs_design.specs.Parts.{Parts};
 ghost use Rattle.vs_design.specs.Traces.{Slot};
 ghost use Rattle.vs_vcd.specs.Sinks.{failed_after};
-ghost use Rattle.vs_vcd.specs.Kept.{next_changes, change_texts, slot_lines, slot_time, next_kept, time_kept};
+ghost use Rattle.vs_vcd.specs.Kept.{codes_of, next_changes, change_texts, slot_lines, slot_time, next_kept, time_kept};
 ghost use Rattle.vs_vcd.specs.Rooms.{IsRoom};
 ghost use Rattle.vs_vcd.specs.Text.{text_of, end_lines, vcd_header, vcd_slots, vcd_end};
 ghost use Rattle.vs_vcd.specs.Progress.{vcd_slot, HasWritten, Covers, Follows, IsSlotAt, is_write_fault, WritesPiece};
@@ -11,7 +11,7 @@ ghost use Rattle.vs_vcd.specs.Progress.{vcd_slot, HasWritten, Covers, Follows, I
 use crate::changes::list_changes;
 use crate::codes::code_numbers;
 use crate::fault::VcdFault;
-use crate::header::push_header;
+use crate::header::header_text;
 use crate::kept::{Change, Written};
 use crate::lines::{push_first, push_later, push_time};
 use crate::room::Room;
@@ -140,6 +140,22 @@ impl Model for Writer {
 }
 
 impl Writer {
+    /// The writer before the first slot. The table has of each signal the number of its code.
+    fn begun(alloc: Global, table: Vec<Option<usize>>) -> Result<Self, AllocError>
+        ensures codes { IfOk result (λ w. codes_of w.kept ≡ table.items) }
+        ensures last { IfOk result (λ w. w.last ≡ None) }
+    {
+        let room = Room::new(alloc, table.len())?;
+        let kept = Written::new(alloc, table)?;
+        Ok(Writer {
+            kept,
+            last: None,
+            text: Vec::new(alloc),
+            changes: Vec::new(alloc),
+            room,
+        })
+    }
+
     /// Writes the header of a design, and answers the writer of the slots. Where the sink fails, it holds a beginning of the header.
     pub fn header<S: Sink>(alloc: Global, sink: &mut S, design: &Design) -> Result<Self, VcdFault>
         ensures written { IfOk result (λ w. HasWritten w design.now []) }
@@ -147,18 +163,10 @@ impl Writer {
         ensures failures { S.failed sink.new ≡ failed_after (is_write_fault result) (S.failed sink.old) }
     {
         let table = code_numbers(alloc, design.signals())?;
-        let mut text = Vec::new(alloc);
-        push_header(&mut text, design, &table)?;
-        let room = Room::new(alloc, table.len())?;
-        let kept = Written::new(alloc, table)?;
+        let text = header_text(alloc, design, &table)?;
+        let writer = Writer::begun(alloc, table)?;
         write_all(sink, &text)?;
-        Ok(Writer {
-            kept,
-            last: None,
-            text,
-            changes: Vec::new(alloc),
-            room,
-        })
+        Ok(writer)
     }
 
     /// Whether no slot is written yet.

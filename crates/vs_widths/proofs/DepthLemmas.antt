@@ -27,3 +27,20 @@ falls_by k depth xs i t n a h j e l =
     let same : depth a ≡ depth (get_or xs i a) = ap depth j in
     let all : k * n ≤ k * most depth xs = mul-le-mul_left k (omega arith) in
     omega arith
+
+-- a part is no deeper than the whole
+pub falls_one : (k n whole t : ℕ) → n ≤ whole → k * whole + 1 ≡ t → k * n + 0 < t
+falls_one k n whole t h e = let all : k * n ≤ k * whole = mul-le-mul_left k h in omega arith
+
+-- an expression of an element of a list is no deeper than a whole that the list is a part of
+pub falls_within : {X : Type 0} (k : ℕ) (depth : X → ℕ) (xs : List X) (i t n whole : ℕ) (a : X) → i < length xs → a ≡ get_or xs i a → most depth xs ≤ whole → k * whole + 1 ≡ t → n ≤ depth a → k * n + 0 < t
+falls_within k depth xs i t n whole a h j l e m =
+    let deep : depth (get_or xs i a) ≤ most depth xs = at_most depth xs i a h in
+    let same : depth a ≡ depth (get_or xs i a) = ap depth j in
+    falls_one k n whole t (omega arith) e
+
+pub second_most : (a b : ℕ) → b ≤ max a b
+second_most a b = omega arith
+
+pub middle_most : (a b : ℕ) → b ≤ max a (max b 0)
+middle_most a b = omega arith

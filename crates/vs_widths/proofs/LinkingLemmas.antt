@@ -1,6 +1,7 @@
 -- Operators of two operands, by their sizing.
 use Rattle.std.proofs.Common.{◌≡◌, ℕ, zero, suc, ◌+◌, ◌<◌, ◌≤◌, Bool, true, false, if◌then◌else◌, List, [], ◌∷◌, ◌++◌, Option, Some, None, option_map, length, map, get_or, refl, ap, ap₂, sym, ◌∙◌, append_assoc, arith}
 use Rattle.std.proofs.lemmas.List.{append-nil}
+use Rattle.std.proofs.lemmas.Bool.{eq-eqb}
 use Rattle.std.proofs.lemmas.Option.{none-some}
 use Rattle.std.specs.declared.vec.Vec.{Vec}
 use Rattle.std.specs.declared.boxed.Box.{Box}
@@ -23,11 +24,13 @@ use Rattle.vs_selects.specs.declared.forms.Form.{Form}
 use Rattle.vs_selects.specs.declared.forms.Form.TheVariants as v
 use Rattle.vs_selects.specs.declared.forms.Form.TheOpen as f
 use Rattle.vs_selects.specs.declared.forms.Measured.{Measured}
+use Rattle.vs_selects.specs.Findings.{Has, alike, linked_shape}
 use Rattle.vs_selects.specs.Meants.{Meant}
 use Rattle.vs_selects.specs.Operations.{operated}
 use Rattle.vs_selects.specs.Senses.{Sense, sense, open_size, open_link, open_value}
+use Rattle.vs_widths.specs.Expressions.{linked_value, linked_meant}
 use Rattle.vs_widths.specs.passes.Forms.{ends_in_test, IsOperated, IsTestLink, IsTested}
-use Rattle.vs_selects.specs.passes.Measures.{IsFlexible, IsOwnPart}
+use Rattle.vs_selects.specs.passes.Measures.{meaning, IsFlexible, IsMeasured, IsOwnPart}
 use Rattle.vs_selects.proofs.FittingLemmas.{layer, links_sensed, tests_sensed}
 
 -- ---- meanings
@@ -79,6 +82,34 @@ operated_more c ls ns op right k =
           ap (λ z. z.at store time w g) new ∙ ap (λ l. open_value w g (x.at store time w g) (map (λ (l : Binary × Sense). (l.0, l.1.at store time w g)) (links_sensed l))) k
           ∙ open_value_push w g store time (x.at store time w g) ls.items op right ∙ ap (λ z. operated op w g (z.at store time w g) ((sense right).at store time w g)) (sym old);
     }
+
+sized_alike : (z : Sizing) (w : ℕ) → z ≡ Alike → sized_by z w w w ≡ Some w
+sized_alike z w h = rw (h, eq-eqb w w refl) refl
+
+sized_shift : (z : Sizing) (w n : ℕ) → z ≡ Shift → sized_by z w w n ≡ Some w
+sized_shift z w n h = rw (h, eq-eqb w w refl) refl
+
+-- an operator whose operands have the size and sign of the context
+pub alike_measured : (left right : Measured) (op : Binary) (s : Shape) (y : Form) → sizing_of op ≡ Alike → IsFlexible left.form → IsFlexible right.form →
+    alike left.shape.width left.shape.signed right.shape.width right.shape.signed ≡ Has s.width s.signed → IsOperated left.form op right.form y →
+    IsMeasured (linked_meant (meaning left) (op, meaning right)) (record { shape = s; form = y })
+alike_measured left right op s y h p q a o = record {
+  means = meant_same (linked_meant (meaning left) (op, meaning right)) (meaning (record { shape = s; form = y }))
+      (ap (λ z. linked_shape z left.shape.width left.shape.signed right.shape.width right.shape.signed) h ∙ a) (sym o.ranges)
+      (λ store time w g. ap (λ z. linked_value z op (meaning left) (meaning right) store time w g) h ∙ sym (o.value store time w g));
+  flexible = λ w. o.size w ∙ ap₂ (λ b c. open_link w b (op, c)) (p w) (q w) ∙ sized_alike (sizing_of op) w h;
+}
+
+-- a shift, whose amount has its own size and sign
+pub shift_measured : (left right : Measured) (op : Binary) (a y : Form) → sizing_of op ≡ Shift → IsFlexible left.form → IsFlexible right.form → IsOwnPart right a → IsOperated left.form op a y →
+    IsMeasured (linked_meant (meaning left) (op, meaning right)) (record { shape = left.shape; form = y })
+shift_measured left right op a y h p q k o = record {
+  means = meant_same (linked_meant (meaning left) (op, meaning right)) (meaning (record { shape = left.shape; form = y }))
+      (ap (λ z. linked_shape z left.shape.width left.shape.signed right.shape.width right.shape.signed) h) (ap (λ z. (sense left.form).reads ++ z) (sym k.ranges) ∙ sym o.ranges)
+      (λ store time w g. ap (λ z. linked_value z op (meaning left) (meaning right) store time w g) h
+      ∙ ap (operated op w g ((sense left.form).at store time w g)) (sym (k.value store time w g)) ∙ sym (o.value store time w g));
+  flexible = λ w. o.size w ∙ ap₂ (λ b c. open_link w b (op, c)) (p w) (k.size w ∙ q right.shape.width) ∙ sized_shift (sizing_of op) w right.shape.width h;
+}
 
 -- ---- operators that give one bit
 

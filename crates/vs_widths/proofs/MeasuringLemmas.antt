@@ -10,7 +10,7 @@ use Rattle.std.specs.declared.alloc.Global.{Global}
 use Rattle.vs_logic4.specs.declared.digit.Digit.{Digit}
 use Rattle.vs_logic4.specs.declared.operators.Unary.{Unary}
 use Rattle.vs_logic4.specs.declared.operators.Binary.{Binary}
-use Rattle.vs_logic4.specs.Operators.{sizing_of}
+use Rattle.vs_logic4.specs.Operators.{sizing_of, gives_bit}
 use Rattle.vs_logic4.specs.Vectors.{resized}
 use Rattle.vs_logic4.specs.Parts.{replication}
 use Rattle.vs_tokens.specs.declared.token.Literal.{Literal}
@@ -37,7 +37,7 @@ use Rattle.vs_widths.specs.Expressions.{meant, meant_step, number_meant, name_me
 use Rattle.vs_selects.specs.Constants.{where_none, where_some, constant_finding, count_finding, natural_of, positive}
 use Rattle.vs_selects.specs.Senses.{Sense, sense}
 use Rattle.vs_selects.specs.passes.Measures.{meaning, IsFlexible, IsMeasured, Measures, IsOwnPart, IsCount}
-use Rattle.vs_widths.specs.passes.Forms.{links_meant, pairs_meant, IsChoicePair, IsPartOf, AreJoined, IsRepetition, Repeats}
+use Rattle.vs_widths.specs.passes.Forms.{links_meant, pairs_meant, IsChoicePair, IsPartOf, AreJoined, IsRepetition, Repeats, Closes}
 use Rattle.vs_selects.specs.Each.{Each, each_none, each_more}
 use Rattle.vs_selects.proofs.FittingLemmas.{layer, pairs_sensed}
 use Rattle.vs_widths.proofs.LinkingLemmas.{meant_same}
@@ -388,7 +388,33 @@ pub repeats : (count : Measured) (n : ℕ) (first : Meant) (rest : List Meant) (
 repeats count n first rest x (Ok y) k h q = is_repeat count n first rest x y k h q
 repeats count n first rest x (Err d) k h q = repeat_too_wide count n first rest x d k h q
 
+-- ---- concatenations and casts in a context
+
+pub concat_closed : (first : Meant) (rest : List Meant) (x : Measured) (r : Result Measured WidthFault) → AreJoined first rest x → Closes x x.shape r → Measures (concat_meant first rest) r
+concat_closed first rest x (Ok y) h k = record {
+  means = meant_same (concat_meant first rest) (meaning y) (h.found ∙ ap (λ z. Has z.width z.signed) (sym k.shape_is)) (sym (k.ranges ∙ h.ranges))
+      (λ store time w g. sym (k.value store time w g ∙ ap (resized g w) (h.value store time x.shape.width x.shape.signed)));
+  flexible = λ w. k.size w ∙ ap (option_map (λ n. w)) (h.size x.shape.width);
+}
+concat_closed first rest x (Err d) h k = rw k tt
+
+pub cast_closed : (sign : Bool) (m : Meant) (x : Measured) (s : Shape) (r : Result Measured WidthFault) → IsMeasured m x → s.width ≡ x.shape.width → s.signed ≡ sign → Closes x s r → Measures (cast_meant sign m) r
+cast_closed sign m x s (Ok y) h p q k = record {
+  means = meant_same (cast_meant sign m) (meaning y)
+      (ap (λ z. alone (λ width signed. Has width sign) z.finding) h.means ∙ ap₂ Has (sym p) (sym q) ∙ ap (λ z. Has z.width z.signed) (sym k.shape_is))
+      (ap (λ z. z.reads) h.means ∙ sym k.ranges)
+      (λ store time w g. ap (λ z. resized g w (own z store time)) h.means ∙ sym (k.value store time w g));
+  flexible = λ w. k.size w ∙ ap (option_map (λ n. w)) (h.flexible x.shape.width);
+}
+cast_closed sign m x s (Err d) h p q k = rw k tt
+
 -- ---- faults of the first part
+
+pub unary_refused : (op : Unary) (m : Meant) (d : WidthFault) → Refuses m.finding d → Refuses (unary_meant op m).finding d
+unary_refused op m d h = refused_by m.finding (unary_meant op m).finding d (λ r s. stands_unary (gives_bit op) m.finding r s) h
+
+pub cast_refused : (sign : Bool) (m : Meant) (d : WidthFault) → Refuses m.finding d → Refuses (cast_meant sign m).finding d
+cast_refused sign m d h = refused_by m.finding (cast_meant sign m).finding d (λ r s. stands_alone (λ width signed. Has width sign) m.finding r s) h
 
 pub chain_refused : (a : Meant) (ls : List (Binary × Meant)) (d : WidthFault) → Refuses a.finding d → Refuses (chain_meant a ls).finding d
 chain_refused a ls d h = refused_by a.finding (chain_meant a ls).finding d (λ r s. stands_chain a ls r s) h

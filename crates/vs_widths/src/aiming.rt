@@ -76,17 +76,23 @@ fn bound_aim(
     Ok(aim)
 }
 
+/// How many bits a place has.
+fn aim_width(aim: &Aim) -> u32
+    ensures { result ≡ aim_width aim.now }
+{
+    match aim {
+        Aim::Fixed(slice) => slice.width,
+        Aim::Chosen(selection, _, _) => selection.width,
+    }
+}
+
 /// The target of one place.
 fn alone(alloc: Global, aim: Aim) -> Result<Target, AllocError>
     ensures parts { IfOk result (λ t. t.parts.items ≡ aim ∷ []) }
     ensures width { IfOk result (λ t. t.width ≡ aim_width aim) }
 {
-    let width = match &aim {
-        Aim::Fixed(slice) => slice.width,
-        Aim::Chosen(selection, _, _) => selection.width,
-    };
-    let mut parts = Vec::with_capacity(alloc, 1)?;
-    parts.push(aim)?;
+    let width = aim_width(&aim);
+    let parts = vec![in alloc; aim]?;
     Ok(Target { parts, width })
 }
 

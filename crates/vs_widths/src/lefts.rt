@@ -180,8 +180,7 @@ fn joined(high: Target, low: Target) -> Result<Target, WidthFault>
     }
     let width = high.width + low.width;
     let mut parts = low.parts;
-    for aim in high.parts {
-        parts.push(aim)?;
-    }
+    let mut others = high.parts;
+    parts.append(&mut others)?;
     Ok(Target { parts, width })
 }

@@ -56,9 +56,7 @@ impl<'s, 'o> Levels<'s, 'o> {
     {
         let mut scopes = Vec::new(alloc);
         scopes.push(self.own)?;
-        for names in self.outer {
-            scopes.push(*names)?;
-        }
+        scopes.extend_from_slice(self.outer)?;
         Ok(scopes)
     }
 }

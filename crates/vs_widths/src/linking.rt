@@ -141,8 +141,7 @@ fn operated(alloc: Global, left: Form, operator: Binary, right: Form) -> Result<
             Ok(Form::Chain(first, links))
         }
         Err(left) => {
-            let mut links = Vec::with_capacity(alloc, 1)?;
-            links.push((operator, right))?;
+            let links = vec![in alloc; (operator, right)]?;
             Ok(Form::Chain(Box::new(alloc, left)?, links))
         }
     }
@@ -186,8 +185,7 @@ fn first_tested(
     ensures { IfOk result (λ y. IsTested left shape link right y) }
 {
     let first = Form::Own(shape, Box::new(alloc, left)?);
-    let mut links = Vec::with_capacity(alloc, 1)?;
-    links.push((link, right))?;
+    let links = vec![in alloc; (link, right)]?;
     Ok(Form::Tests(Box::new(alloc, first)?, links))
 }
 

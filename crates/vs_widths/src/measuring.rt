@@ -1,16 +1,16 @@
 //! The own size and sign of each part of an expression.
-ghost use Rattle.std.specs.Prelude.{◌≡◌, ◌<◌, ◌≤◌, false, List, Some, IfOk, IfErr, OnOk, map};
+ghost use Rattle.std.specs.Prelude.{◌≡◌, ◌<◌, ◌≤◌, false, List, Some, IfErr, OnOk, map};
 ghost use Rattle.vs_widths.specs.Names.{meaning_of};
 ghost use Rattle.vs_widths.specs.Expressions.{meant, meant_selects, digits_meant, name_meant, unary_meant};
-ghost use Rattle.vs_widths.specs.Expressions.{chain_meant, choice_meant, concat_meant, repeat_meant, cast_meant};
+ghost use Rattle.vs_widths.specs.Expressions.{chain_meant, choice_meant, repeat_meant};
 ghost use Rattle.vs_selects.specs.declared.bindings.Binding.TheVariants.{Signal};
 ghost use Rattle.vs_selects.specs.declared.faults.WidthFault.TheVariants.{Memory};
 ghost use Rattle.std.specs.List.{All};
 ghost use Rattle.vs_selects.specs.Meants.{Meant};
 ghost use Rattle.vs_selects.specs.Selects.{named, operand_meant, constant_span, excerpt_meant, select_meant};
-ghost use Rattle.vs_selects.specs.passes.Measures.{meaning, IsFlexible, IsMeasured, Measures, IsClosedPart};
+ghost use Rattle.vs_selects.specs.passes.Measures.{meaning, IsFlexible, IsMeasured, Measures};
 ghost use Rattle.vs_selects.specs.passes.Places.{selects_meaning, IsFlexibleSelect};
-ghost use Rattle.vs_widths.specs.passes.Forms.{links_meant, pairs_meant, AddsPair, AddsPart, AreJoined, Joins, Repeats};
+ghost use Rattle.vs_widths.specs.passes.Forms.{links_meant, pairs_meant, AddsPair, AddsPart, AreJoined, Joins, Repeats, Closes};
 ghost use Rattle.vs_widths.specs.passes.Selects.{MeasuresSelects};
 
 use crate::levels::Levels;
@@ -41,12 +41,29 @@ pub fn measured(alloc: Global, names: &Levels, e: &Expr) -> Result<Measured, Wid
             of_select(alloc, names.find(name), selects)
         }
         Expr::Group(inner) => measured(alloc, names, inner),
-        Expr::Unary(operator, x) => measured_unary(alloc, names, *operator, x),
+        Expr::Unary(operator, x) => {
+            let x = measured(alloc, names, x)?;
+            of_unary(alloc, *operator, x)
+        }
         Expr::Chain(first, links) => measured_links(alloc, names, first, links),
         Expr::Choice(pairs, last) => measured_pairs(alloc, names, pairs, last),
-        Expr::Concat(first, rest) => measured_concat(alloc, names, first, rest),
-        Expr::Repeat(count, first, rest) => measured_repeat(alloc, names, count, first, rest),
-        Expr::Cast(signed, x) => measured_cast(alloc, names, *signed, x),
+        Expr::Concat(first, rest) => {
+            let parts = measured_parts(alloc, names, first, rest)?;
+            closed(alloc, parts.shape, parts)
+        }
+        Expr::Repeat(count, first, rest) => {
+            let parts = measured_parts(alloc, names, first, rest)?;
+            let count = measured(alloc, names, count)?;
+            counted(alloc, count, parts)
+        }
+        Expr::Cast(signed, x) => {
+            let x = measured(alloc, names, x)?;
+            let shape = Shape {
+                width: x.shape.width,
+                signed: *signed,
+            };
+            closed(alloc, shape, x)
+        }
     }
 }
 
@@ -70,21 +87,6 @@ pub fn measured_selects(
         done.push((index, Some((*how, other))))?;
     }
     Ok(done)
-}
-
-/// An operator and its operand.
-#[cycle(measured)]
-#[inline(never)]
-fn measured_unary(
-    alloc: Global,
-    names: &Levels,
-    operator: Unary,
-    x: &Expr,
-) -> Result<Measured, WidthFault>
-    ensures { Measures (unary_meant operator (meant (meaning_of names.now) x.now)) result }
-{
-    let x = measured(alloc, names, x)?;
-    Ok(of_unary(alloc, operator, x)?)
 }
 
 /// An operand and those behind it.
@@ -159,74 +161,6 @@ fn measured_parts(
         shape: unsigned(width),
         form: Form::Concat(Box::new(alloc, highest)?, done),
     })
-}
-
-/// A concatenation.
-#[cycle(measured)]
-#[inline(never)]
-fn measured_concat(
-    alloc: Global,
-    names: &Levels,
-    first: &Expr,
-    rest: &[Expr],
-) -> Result<Measured, WidthFault>
-    ensures { Measures (concat_meant (meant (meaning_of names.now) first.now) (map (meant (meaning_of names.now)) rest.now)) result }
-{
-    let parts = measured_parts(alloc, names, first, rest)?;
-    Ok(closed(alloc, parts.shape, parts)?)
-}
-
-/// A concatenation so many times.
-#[cycle(measured)]
-#[inline(never)]
-fn measured_repeat(
-    alloc: Global,
-    names: &Levels,
-    count: &Expr,
-    first: &Expr,
-    rest: &[Expr],
-) -> Result<Measured, WidthFault>
-    ensures { Measures (repeat_meant (meant (meaning_of names.now) count.now) (meant (meaning_of names.now) first.now)
-        (map (meant (meaning_of names.now)) rest.now)) result }
-{
-    let parts = measured_parts(alloc, names, first, rest)?;
-    measured_times(alloc, names, count, parts)
-}
-
-/// Joined parts as often as a count says.
-#[cycle(measured)]
-#[inline(never)]
-fn measured_times(
-    alloc: Global,
-    names: &Levels,
-    count: &Expr,
-    parts: Measured,
-) -> Result<Measured, WidthFault>
-    ensures { (first : Meant) (rest : List Meant) → AreJoined first rest parts
-        → Measures (repeat_meant (meant (meaning_of names.now) count.now) first rest) result }
-{
-    let count = measured(alloc, names, count)?;
-    let times = count_of(alloc, &count)?;
-    repeated(alloc, times, parts)
-}
-
-/// An expression as a signed or an unsigned number.
-#[cycle(measured)]
-#[inline(never)]
-fn measured_cast(
-    alloc: Global,
-    names: &Levels,
-    signed: bool,
-    x: &Expr,
-) -> Result<Measured, WidthFault>
-    ensures { Measures (cast_meant signed (meant (meaning_of names.now) x.now)) result }
-{
-    let x = measured(alloc, names, x)?;
-    let shape = Shape {
-        width: x.shape.width,
-        signed,
-    };
-    Ok(closed(alloc, shape, x)?)
 }
 
 /// A condition, which has its own size and sign, and the operand behind it, added to those before them.
@@ -358,9 +292,9 @@ fn of_select(
 
 /// An operator and its operand.
 #[inline(never)]
-fn of_unary(alloc: Global, operator: Unary, x: Measured) -> Result<Measured, AllocError>
+fn of_unary(alloc: Global, operator: Unary, x: Measured) -> Result<Measured, WidthFault>
     requires flexible { IsFlexible x.form }
-    ensures { IfOk result (λ y. IsMeasured (unary_meant operator (meaning x)) y) }
+    ensures { Measures (unary_meant operator (meaning x)) result }
 {
     let form = Form::Unary(operator, Box::new(alloc, x.form)?);
     if operator.gives_bit() {
@@ -377,13 +311,23 @@ fn of_unary(alloc: Global, operator: Unary, x: Measured) -> Result<Measured, All
 
 /// A part that has its own size and sign, brought to those of its context, with the size and sign that its context sees.
 #[inline(never)]
-fn closed(alloc: Global, shape: Shape, x: Measured) -> Result<Measured, AllocError>
-    ensures { IfOk result (λ y. IsClosedPart x shape y) }
+fn closed(alloc: Global, shape: Shape, x: Measured) -> Result<Measured, WidthFault>
+    ensures { Closes x shape result }
 {
     Ok(Measured {
         shape,
         form: Form::Closed(x.shape, Box::new(alloc, x.form)?),
     })
+}
+
+/// Joined parts as often as a count says.
+#[inline(never)]
+fn counted(alloc: Global, count: Measured, parts: Measured) -> Result<Measured, WidthFault>
+    requires flexible { IsFlexible count.form }
+    ensures { (first : Meant) (rest : List Meant) → AreJoined first rest parts → Measures (repeat_meant (meaning count) first rest) result }
+{
+    let times = count_of(alloc, &count)?;
+    repeated(alloc, times, parts)
 }
 
 /// Joined parts so many times.

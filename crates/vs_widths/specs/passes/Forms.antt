@@ -16,10 +16,11 @@ use Rattle.vs_selects.specs.declared.forms.Measured.{Measured}
 use Rattle.vs_selects.specs.Operations.{operated}
 use Rattle.vs_selects.specs.Senses.{sense, open_link}
 use Rattle.vs_selects.specs.declared.faults.WidthFault.{WidthFault}
+use Rattle.vs_selects.specs.declared.faults.WidthFault.TheVariants.{Memory}
 use Rattle.vs_selects.specs.Environment.{Environment}
 use Rattle.vs_selects.specs.Findings.{Has, unsigned, Refuses}
 use Rattle.vs_selects.specs.Meants.{Meant, own}
-use Rattle.vs_selects.specs.passes.Measures.{IsFlexible, IsOwnPart}
+use Rattle.vs_selects.specs.passes.Measures.{IsFlexible, IsOwnPart, IsClosedPart}
 use Rattle.vs_widths.specs.Expressions.{meant, concat_meant, joined_value}
 
 -- whether the last of the operators gives one bit
@@ -110,6 +111,11 @@ pub record AreJoined (first : Meant) (rest : List Meant) (x : Measured) : Type 0
 abbrev pub Joins : Meant → List Meant → Result Measured WidthFault → Type 0
 Joins first rest (Ok x) = AreJoined first rest x
 Joins first rest (Err e) = Refuses (concat_meant first rest).finding e
+
+-- a part at its own size and sign, brought to those of its context, or no memory for it
+abbrev pub Closes : Measured → Shape → Result Measured WidthFault → Type 0
+Closes x shape (Ok y) = IsClosedPart x shape y
+Closes x shape (Err e) = e ≡ Memory
 
 -- joined parts so many times
 pub record IsRepetition (n : ℕ) (x y : Measured) : Type 0 where

@@ -1,8 +1,8 @@
 use Rattle.std.proofs.Common.{◌++◌, ◌∷◌, [], ◌∙◌, refl, sym, ap, map}
 use Rattle.std.proofs.lemmas.List.{append-nil}
 use Rattle.std.proofs.lemmas.Result.{on_ok_weaker}
-use Rattle.vs_design.specs.Uses.{reads, joined}
-use Rattle.vs_design.specs.declared.expression.Typed.TheVariants.{rolls-Number, rolls-Signal, rolls-Slice}
+use Rattle.vs_design.specs.Uses.{reads, joined, all_words}
+use Rattle.vs_design.specs.declared.expression.Typed.TheVariants.{rolls-Number, rolls-Signal, rolls-Slice, rolls-Select}
 use Rattle.vs_design.specs.declared.expression.Typed.TheOpen as layer
 use Rattle.vs_design.proofs.UsesLemmas.{reads_layer, reads_operand, reads_Chain, reads_Choice, reads_Concat, both_pushed, pushed_as}
 use Rattle.vs_design.proofs.LoopLemmas.{each_pushed, all_pushed}
@@ -77,3 +77,15 @@ pub push_reads-returns-in-Excerpt : goal.push_reads-returns-in-Excerpt
 push_reads-returns-in-Excerpt t c =
     pushed_as c.push_reads-in-Excerpt.result c.args.out.now.items c.push_reads-in-Excerpt.new.out.items c.push_reads-in-Excerpt.ensures
     (ap reads c.deref-in-Excerpt.ensures ∙ sym (reads_operand c.args.e.now c.in-Excerpt.x c.in-Excerpt.is))
+
+pub push_reads-returns-in_ok-push_reads-in-Select : goal.push_reads-returns-in_ok-push_reads-in-Select
+push_reads-returns-in_ok-push_reads-in-Select t c =
+    let whole = all_words c.in-Select.s.signal in
+    on_ok_weaker c.push_reads-in-Select.result
+    (λ is. both_pushed c.args.out.now.items (whole ∷ reads c.in-Select.word.value) (reads c.in-Select.low.value)
+    (both_pushed c.args.out.now.items (whole ∷ []) (reads c.in-Select.word.value)
+    (c.in_ok-push-in-Select.ensures.items ∙ ap (λ r. c.args.out.now.items ++ r ∷ []) c.all_words.ensures)
+    (c.in_ok-push_reads-in-Select.ensures ∙ ap (λ e. c.push-in-Select.new.self.items ++ reads e) c.deref.ensures) refl)
+    (is ∙ ap (λ e. c.push_reads.new.out.items ++ reads e) c.deref-in-Select.ensures)
+    (reads_layer c.args.e.now (layer.Select c.in-Select.s c.in-Select.word c.in-Select.low) (rolls-Select c.in-Select.s c.in-Select.word c.in-Select.low ∙ sym c.in-Select.is)))
+    c.push_reads-in-Select.ensures

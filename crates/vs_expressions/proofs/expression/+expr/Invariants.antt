@@ -18,9 +18,6 @@ decreases-nested_expr l = 8 * l.room + 3
 abbrev pub decreases-choice : goal.decreases-choice
 decreases-choice l = 8 * l.room + 2
 
-abbrev pub decreases-arm : goal.decreases-arm
-decreases-arm l = 8 * l.room + 4
-
 abbrev pub decreases-operands : goal.decreases-operands
 decreases-operands l = 8 * l.room + 2
 
@@ -39,9 +36,6 @@ decreases-selects l = 8 * l.room + 6
 abbrev pub decreases-chosen : goal.decreases-chosen
 decreases-chosen l = 8 * l.room + 5
 
-abbrev pub decreases-second : goal.decreases-second
-decreases-second l = 8 * l.room + 4
-
 abbrev pub decreases-prefixed : goal.decreases-prefixed
 decreases-prefixed l = 8 * l.room
 
@@ -57,17 +51,14 @@ decreases-closed l = 8 * l.room + 4
 abbrev pub decreases-braces : goal.decreases-braces
 decreases-braces l = 8 * l.room
 
-abbrev pub decreases-repeated : goal.decreases-repeated
-decreases-repeated l = 8 * l.room + 5
-
 abbrev pub decreases-others : goal.decreases-others
 decreases-others l = 8 * l.room + 4
 
 abbrev pub invariant-choice-loop-after : goal.invariant-choice-loop-after
 invariant-choice-loop-after l = record {
-  along : Along g.arm (l.room - 1) (seen l.start) (seen l.rest) (arms_of (map paired l.pairs.items) (expr_tree l.last));
-  head : head_of (map paired l.pairs.items) (expr_tree l.last) ≡ expr_tree l.fn.first;
-  height : l.height ≡ max (height (expr_tree l.fn.first)) (height (row_of (arms_of (map paired l.pairs.items) (expr_tree l.last))));
+  along : Along g.arm (l.room - 1) (seen l.fn.first.rest.now) (seen l.rest) (arms_of (map paired l.pairs.items) (expr_tree l.last));
+  head : head_of (map paired l.pairs.items) (expr_tree l.last) ≡ expr_tree l.fn.first.tree;
+  height : l.height ≡ max (height (expr_tree l.fn.first.tree)) (height (row_of (arms_of (map paired l.pairs.items) (expr_tree l.last))));
   below : l.height < l.room;
 }
 
@@ -82,9 +73,9 @@ invariant-operands-loop-level l = record {
 
 abbrev pub invariant-chain-loop-operator : goal.invariant-chain-loop-operator
 invariant-chain-loop-operator l = record {
-  same : l.first ≡ l.fn.first;
-  along : Along (link_at l.level) (l.room - 1) (seen l.start) (seen l.rest) (map link_of l.links.items);
-  height : l.height ≡ max (height (expr_tree l.fn.first)) (height (row_of (map link_of l.links.items)));
+  same : l.operand.value ≡ l.fn.first.tree;
+  along : Along (link_at l.level) (l.room - 1) (seen l.fn.first.rest.now) (seen l.rest) (map link_of l.links.items);
+  height : l.height ≡ max (height (expr_tree l.fn.first.tree)) (height (row_of (map link_of l.links.items)));
   below : l.height < l.room;
 }
 

@@ -26,9 +26,9 @@ returns-in_err-read c =
     let h : 0 < c.args.room = omega arith in
     rw (p.1, p.2) (fails_by (many select) (part a_target) (c.args.room - 1) c.args.room (seen c.in_ok-name.after_name.now) (seen c.args.tokens.now)
     (λ deep at s. place_stuck c.args.room deep _ at h c.requires (stuck_second (c.in_ok-name.ensures (c.args.room - 1)) s))
-    c.in_err-read.field-0.0 c.in_err-read.ensures.reads)
+    c.in_err-read.field-0.0 c.in_err-read.ensures)
 
 pub returns : goal.returns
 returns c =
     let h : 0 < c.args.room = omega arith in
-    rw tree_Place (place_read c.args.room _ _ _ h c.requires (gets_seq (c.in_ok-name.ensures (c.args.room - 1)) c.in_ok-read.ensures.reads))
+    rw tree_Place (place_read c.args.room _ _ _ h c.requires (gets_seq (c.in_ok-name.ensures (c.args.room - 1)) c.in_ok-read.ensures.0))

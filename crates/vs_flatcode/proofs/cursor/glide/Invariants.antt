@@ -9,6 +9,7 @@ invariant-loop-halt l = record {
   quiet : QuietSteps l.steps (todo_in l.ops l.fn.counters.items l.fn.from) l.fn.store l.time (todo_in l.ops l.counters.items l.place);
   store : l.store ≡ l.fn.store;
   changes : l.changes.items ≡ l.fn.changes.items;
+  start : l.steps ≡ 0 → l.counters.items ≡ l.fn.counters.items;
   within : l.steps < l.limit;
 }
 

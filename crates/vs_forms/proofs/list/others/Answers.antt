@@ -2,7 +2,7 @@ use Rattle.std.proofs.lemmas.Result.{err_from_is_err_and}
 use Rattle.vs_expressions.specs.Answers.{seen}
 use Rattle.vs_expressions.proofs.Exits.{fails_by}
 use Rattle.vs_forms.specs.Lists.{behind_commas}
-use Rattle.vs_forms.proofs.Lists.{adding_start, adding_push, adding_stuck, all_added}
+use Rattle.vs_forms.proofs.Lists.{adding_start, adding_push, adding_stuck, all_added, comma_shorter}
 use Rattle.vs_forms.proofs.list.others.Goals as goal
 
 pub loop-after-init : goal.loop-after-init
@@ -16,6 +16,9 @@ returns-in_err-other g c =
     rw (p.1, p.2) (fails_by g.T.Element.grammar (behind_commas g.T.Element.grammar) c.args.room c.args.room (seen c.in-Some.after.now) (seen c.args.tokens.now)
     (λ deep at s. adding_stuck g.T.Element.grammar c.args.room deep g.T.Element.tree_of _ _ _ at _ _ c.requires c.loop-after.invariant.adding c.in-Some.ensures s)
     c.in_err-other.field-0.0 c.in_err-other.ensures)
+
+pub loop-after-smaller : goal.loop-after-smaller
+loop-after-smaller g c = comma_shorter g.T.Element.grammar c.args.room _ _ _ _ c.in-Some.ensures c.in_ok-other.ensures
 
 pub loop-after-preserved : goal.loop-after-preserved
 loop-after-preserved g c = record {

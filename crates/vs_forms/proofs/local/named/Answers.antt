@@ -1,3 +1,4 @@
+use Rattle.std.proofs.Common.{refl}
 use Rattle.std.proofs.lemmas.Result.{err_from_is_err_and}
 use Rattle.vs_syntax.specs.Grammar.{many, name, local_declaration}
 use Rattle.vs_syntax.specs.Reading.{stuck_first, stuck_second}
@@ -22,4 +23,4 @@ returns-in_err-locals c =
     c.in_err-locals.field-0.0 c.in_err-locals.ensures)
 
 pub returns : goal.returns
-returns c = gets_seq (c.in_ok-name.ensures c.args.room) c.in_ok-locals.ensures
+returns c = record { inner = _; whole = refl; gets = gets_seq (c.in_ok-name.ensures c.args.room) c.in_ok-locals.ensures }

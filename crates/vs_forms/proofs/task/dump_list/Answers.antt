@@ -1,12 +1,8 @@
-use Rattle.std.proofs.Common.{refl, arith, false}
+use Rattle.std.proofs.Common.{refl}
 use Rattle.std.proofs.lemmas.Result.{err_from_is_err_and}
 use Rattle.vs_tokens.specs.declared.token.Mark.TheVariants as m
 use Rattle.vs_syntax.specs.Grammar.{part, mark, a_dump_argument}
 use Rattle.vs_syntax.specs.Reading.{stuck_first, stuck_second}
-use Rattle.std.specs.Prelude.{Some}
-use Rattle.std.specs.declared.vec.Vec.{Vec}
-use Rattle.std.specs.declared.alloc.Global.{Global}
-use Rattle.vs_syntax.specs.declared.tree.DumpArgument.{DumpArgument}
 use Rattle.vs_syntax.specs.Views.{dump_argument_tree, dump_tree}
 use Rattle.vs_syntax.proofs.Gets.{gets_seq}
 use Rattle.vs_expressions.specs.Answers.{seen}
@@ -35,7 +31,7 @@ returns-in_err-all c =
 pub returns : goal.returns
 returns c =
     let all = grown_none (part a_dump_argument) c.args.room dump_argument_tree _ _ _ _ c.in_ok-all.ensures c.new.ensures.items in
-    ended_as (λ r. ReadsWithin (λ (x : DumpArgument × Vec DumpArgument Global). dump_tree (Some x)) (marked m.Open) dumped c.args.room c.args.tokens.now r) m.Close c.args.room _ c.in_ok-all.all.rest.now _
+    ended_as (λ r. ReadsWithin dump_tree (marked m.Open) dumped c.args.room c.args.tokens.now r) m.Close c.args.room _ c.in_ok-all.all.rest.now _
     (λ y e p. rw e (record { inner = _; whole = refl; gets = gets_seq c.in_ok-first.ensures (gets_seq all p) }))
     (λ e p. fails_by (mark m.Close) dumped c.args.room c.args.room (seen c.in_ok-all.all.rest.now) (seen c.args.tokens.now)
     (λ deep at s. stuck_second c.in_ok-first.ensures (stuck_second all s)) e p)

@@ -7,7 +7,9 @@ use Rattle.vs_syntax.specs.Reading.{stuck_here, stuck_first, stuck_second}
 use Rattle.vs_syntax.proofs.Gets.{gets_seq, gets_stop, gets_absent}
 use Rattle.vs_expressions.specs.Answers.{seen}
 use Rattle.vs_expressions.proofs.Exits.{fails_by}
-use Rattle.vs_expressions.proofs.Rows.{along_push, shorter, all_read}
+use Rattle.vs_expressions.proofs.Rows.{along_start, along_push, shorter, all_read}
+use Rattle.std.specs.Prelude.{Err}
+use Rattle.vs_expressions.specs.declared.reading.Stop.TheVariants as stop
 use Rattle.vs_items.specs.declared.head.ItemHead.TheVariants as i
 use Rattle.vs_items.specs.Generated.{block_rest}
 use Rattle.vs_items.proofs.Heads.{item_goes, item_deep, begins_of, need_of}
@@ -22,17 +24,25 @@ item-returns-then-room-least_item t c = item_deep c.args.room _ _ c.args.head c.
 pub item-returns-in-Plain : goal.item-returns-in-Plain
 item-returns-in-Plain t c = items.item_answers c.args.room _ c.args.after.now (i.Plain c.in-Plain.plain) _ (begins_of _ _ _ _ c.in-Plain.is c.requires) (need_of _ _ _ c.args.room c.in-Plain.is c.least_item.ensures (omega arith)) c.plain_item.ensures
 
-pub item-returns-in-Generate : goal.item-returns-in-Generate
-item-returns-in-Generate t c = items.item_answers c.args.room _ c.args.after.now (i.Generate c.in-Generate.word) _ (begins_of _ _ _ _ c.in-Generate.is c.requires) (need_of _ _ _ c.args.room c.in-Generate.is c.least_item.ensures (omega arith)) c.construct.ensures
+pub item-returns-in-Region : goal.item-returns-in-Region
+item-returns-in-Region t c =
+    items.item_answers c.args.room _ c.args.after.now (i.Generate c.in-Generate.word) _ (begins_of _ _ _ _ c.in-Generate.is c.requires) (need_of _ _ _ c.args.room c.in-Generate.is c.least_item.ensures (omega arith))
+    (construct_is _ _ _ _ _ c.in-Region.is c.region.ensures)
 
-pub construct-returns-in-Region : goal.construct-returns-in-Region
-construct-returns-in-Region t c = construct_is _ _ c.args.room _ _ c.in-Region.is c.region.ensures
+pub item-returns-in-For : goal.item-returns-in-For
+item-returns-in-For t c =
+    items.item_answers c.args.room _ c.args.after.now (i.Generate c.in-Generate.word) _ (begins_of _ _ _ _ c.in-Generate.is c.requires) (need_of _ _ _ c.args.room c.in-Generate.is c.least_item.ensures (omega arith))
+    (construct_is _ _ _ _ _ c.in-For.is c.generate_for.ensures)
 
-pub construct-returns-in-For : goal.construct-returns-in-For
-construct-returns-in-For t c = construct_is _ _ c.args.room _ _ c.in-For.is c.generate_for.ensures
+pub item-returns-in-If : goal.item-returns-in-If
+item-returns-in-If t c =
+    items.item_answers c.args.room _ c.args.after.now (i.Generate c.in-Generate.word) _ (begins_of _ _ _ _ c.in-Generate.is c.requires) (need_of _ _ _ c.args.room c.in-Generate.is c.least_item.ensures (omega arith))
+    (construct_is _ _ _ _ _ c.in-If.is c.generate_if.ensures)
 
-pub construct-returns-in-If : goal.construct-returns-in-If
-construct-returns-in-If t c = construct_is _ _ c.args.room _ _ c.in-If.is c.generate_if.ensures
+pub items-loop-head-init : goal.items-loop-head-init
+items-loop-head-init t c = record {
+  along = along_start (part an_item) c.args.room c.args.tokens.now _ module_item_tree _ c.split_at.ensures.back c.new-tree.ensures.items;
+}
 
 pub items-returns-in_err-inner : goal.items-returns-in_err-inner
 items-returns-in_err-inner t c =
@@ -127,20 +137,17 @@ boxed-returns-in_err-inner t c =
 pub boxed-returns : goal.boxed-returns
 boxed-returns t c = rw (c.in_ok-tree.ensures.ok) c.in_ok-inner.ensures
 
-pub generated-returns-in_default : goal.generated-returns-in_default
-generated-returns-in_default t c = c.block_or_item.ensures
+pub generated-returns-in-Some : goal.generated-returns-in-Some
+generated-returns-in-Some t c = rw tree_Null (null_read c.args.room _ _ c.in-Some.ensures)
 
-pub generated-returns : goal.generated-returns
-generated-returns t c = rw tree_Null (null_read c.args.room _ _ c.in-Some.ensures)
+pub generated-returns-in-Some-word_at : goal.generated-returns-in-Some-word_at
+generated-returns-in-Some-word_at t c = block_answers c.args.room _ _ _ c.in-Some-word_at.ensures c.block.ensures
 
-pub block_or_item-returns-in_default : goal.block_or_item-returns-in_default
-block_or_item-returns-in_default t c = item_answers c.args.room _ _ c.requires c.in_default.ensures c.one_item.ensures
+pub generated-returns-in-Some-item_head : goal.generated-returns-in-Some-item_head
+generated-returns-in-Some-item_head t c = item_answers c.args.room _ _ c.in_default.ensures c.in_default-word_at.ensures c.item.ensures
 
-pub block_or_item-returns : goal.block_or_item-returns
-block_or_item-returns t c = block_answers c.args.room _ _ _ c.in-Some.ensures c.block.ensures
-
-pub one_item-returns-in_default : goal.one_item-returns-in_default
-one_item-returns-in_default t c = stuck_here refl c.in_default.ensures
+pub generated-returns-in-None : goal.generated-returns-in-None
+generated-returns-in-None t c = item_answers c.args.room c.args.tokens.now (Err (stop.Unexpected c.args.tokens)) c.in_default.ensures c.in_default-word_at.ensures (stuck_here refl c.in-None.ensures)
 
 pub block-returns-in_err-name : goal.block-returns-in_err-name
 block-returns-in_err-name t c =

@@ -8,9 +8,6 @@ use Rattle.vs_items.proofs.generate.+item.Given as goal
 abbrev pub decreases-item : goal.decreases-item
 decreases-item l = 16 * l.room
 
-abbrev pub decreases-construct : goal.decreases-construct
-decreases-construct l = 16 * l.room + 8
-
 abbrev pub decreases-items : goal.decreases-items
 decreases-items l = 16 * l.room + 1
 
@@ -31,12 +28,6 @@ decreases-boxed l = 16 * l.room + 5
 
 abbrev pub decreases-generated : goal.decreases-generated
 decreases-generated l = 16 * l.room + 4
-
-abbrev pub decreases-block_or_item : goal.decreases-block_or_item
-decreases-block_or_item l = 16 * l.room + 3
-
-abbrev pub decreases-one_item : goal.decreases-one_item
-decreases-one_item l = 16 * l.room + 1
 
 abbrev pub decreases-block : goal.decreases-block
 decreases-block l = 16 * l.room + 2

@@ -1,6 +1,6 @@
 use Rattle.std.proofs.Common.{sym, ◌∙◌, arith}
 use Rattle.vs_opened.proofs.SiteLemmas.{opened_at, seated_next, place_outward}
-use Rattle.vs_opened.proofs.SightLemmas.{sees_itself, sees_there, sees_next, sees_nothing, nothing_around, first_sees}
+use Rattle.vs_opened.proofs.SightLemmas.{sees_itself, sees_there, sees_next, sees_nothing, nothing_around}
 use Rattle.vs_opened.proofs.sights.sight_at.Goals as goal
 
 pub loop-step-init : goal.loop-step-init
@@ -39,14 +39,5 @@ returns-in-None-clause-sight c ss s a h =
     sees_nothing ss s c.args.piece c.args.name.now l.at l.from g (nothing_around ss g.scope o.kind o.around o.piece (sym c.outward_place.ensures ∙ c.in-None.is) t.kind t.sight)
     (c.in_default.ensures.sight ss g.scope a g.stands)
 
-pub returns-in-Some-sight_here-clause-sight : goal.returns-in-Some-sight_here-clause-sight
-returns-in-Some-sight_here-clause-sight c ss s a h =
-    let l = c.loop-step in
-    let g = l.invariant.sees ss s a h in
-    sees_there ss s c.args.piece c.args.name.now l.at l.from g c.in-Some-sight_here.sight (c.in-Some-sight_here.ensures.sight ss g.scope a g.stands)
-
-pub returns-in-None-sight_here-clause-sight : goal.returns-in-None-sight_here-clause-sight
-returns-in-None-sight_here-clause-sight c ss s a h =
-    let l = c.loop-step in
-    let g = l.invariant.sees ss s a h in
-    sees_nothing ss s c.args.piece c.args.name.now l.at l.from g (first_sees c.args.list.now ss g.scope l.at a (omega arith) (omega arith) g.stands) (c.in-None-sight_here.ensures.sight ss g.scope a g.stands)
+pub returns-clause-sight : goal.returns-clause-sight
+returns-clause-sight c ss s a h = absurd (omega (arith, c.loop-step.invariant.before, c.loop-step-test.false))

@@ -2,7 +2,7 @@ use Rattle.std.proofs.Common.{List, refl, sym, subst, ◌∙◌, arith}
 use Rattle.std.specs.Borrow.{Bor}
 use Rattle.vs_scopes.specs.Declarations.{Bindings}
 use Rattle.vs_widths.specs.Names.{nested_names}
-use Rattle.vs_opened.proofs.SiteLemmas.{Gathers, opened_at, first_outermost, seated_next, place_outward, seen_nothing, gathers_none, gathers_more, gathers_all}
+use Rattle.vs_opened.proofs.SiteLemmas.{Gathers, opened_at, seated_next, place_outward, seen_nothing, gathers_none, gathers_more, gathers_all}
 use Rattle.vs_opened.proofs.sites.names_outward.Goals as goal
 
 pub loop-step-init : goal.loop-step-init
@@ -35,10 +35,4 @@ returns-in-None c ss s a h n =
     gathers_all ss s i o c.loop-step.levels.items c.push.new.self.items _ c.in_ok-push.ensures.items refl g t (seen_nothing ss g.scope o.kind o.around (sym c.outward_place.ensures ∙ c.in-None.is) t.entered.kind t.entered.around) n
 
 pub returns : goal.returns
-returns c ss s a h n =
-    let list = c.args.list.now in
-    let i = c.loop-step.at in
-    let o = c.index-list-at-2.result in
-    let g = c.loop-step.invariant.gathers ss s a h in
-    let t = opened_at list ss a i o (omega arith) c.index-list-at-2.is g.scope g.stands in
-    gathers_all ss s i o c.loop-step.levels.items c.push-2.new.self.items _ c.in_ok-push-2.ensures.items refl g t (first_outermost list ss a i o (omega arith) c.index-list-at-2.is g.scope g.stands (omega arith)).kind n
+returns c ss s a h n = absurd (omega (arith, c.loop-step.invariant.before, c.loop-step-test.false))

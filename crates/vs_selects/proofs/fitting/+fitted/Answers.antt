@@ -67,7 +67,7 @@ fitted_parts-loop-part-init t c = rw c.in_ok-done.ensures.items each_none
 
 pub fitted_parts-loop-part-preserved : goal.fitted_parts-loop-part-preserved
 fitted_parts-loop-part-preserved t c =
-    each_step (IsPart c.args.shape.width c.args.shape.signed) c.args.parts.now c.loop-part.part-index c.part-item.result c.loop-part.done.items _ _ c.loop-part-test.true c.part-item.is c.in_ok-push.ensures.items c.loop-part.invariant c.in_ok-fitted.ensures
+    each_step (IsPart c.args.shape.width c.args.shape.signed) c.args.parts.now c.loop-part.part-index c.part-item.result c.loop-part.done.items _ _ c.loop-part-test.true c.part-item.is c.in_ok-push.ensures.items c.loop-part.invariant c.in_ok-part.ensures
 
 pub fitted-returns-in-Signal : goal.fitted-returns-in-Signal
 fitted-returns-in-Signal t c = rw c.in-Signal.is (fits_Signal c.in-Signal.signal _ c.args.shape.width c.args.shape.signed refl refl refl)

@@ -1,6 +1,7 @@
-use Rattle.std.proofs.Common.{◌≡◌, ◌+◌, List, ◌∷◌, drop, arith}
+use Rattle.std.proofs.Common.{◌≡◌, ◌+◌, List, ◌∷◌, drop, length, refl, sym, ap, ◌∙◌, arith}
+use Rattle.std.proofs.lemmas.List.{drop_all}
 use Rattle.vs_flatcode.specs.declared.changes.Change.{Change}
-use Rattle.vs_state.proofs.ChangesLemmas.{next_change}
+use Rattle.vs_state.proofs.ChangesLemmas.{next_change, is_among}
 use Rattle.vs_state.proofs.MarkingLemmas.{marked_more}
 use Rattle.vs_state.proofs.changes.mark_signals.Goals as goal
 
@@ -17,4 +18,19 @@ loop-change-preserved c =
       marked =
           marked_more c.args.marks.now.items c.loop-change.marks.items c.mark.new.marks.items change (drop c.loop-change.change-index changes) rest changes next c.loop-change.invariant.len
           c.loop-change.invariant.marked c.mark.ensures.set c.mark.ensures.others;
+    }
+
+pub loop-change-init : goal.loop-change-init
+loop-change-init c = record { len = refl; marked = λ v off. (off, λ within. refl) }
+
+pub returns : goal.returns
+returns c =
+    let changes = c.args.changes.now.items in
+    let none = drop_all c.loop-change.change-index changes (omega (arith, c.loop-change-test.false, ap length c.deref-change-items.ensures.value)) in record {
+      marked = record {
+        len = c.loop-change.invariant.len;
+        marked = λ v off.
+            let m = c.loop-change.invariant.marked v off in
+            (m.0, λ within. sym (m.1 within) ∙ ap (λ (l : List Change). is_among l v) none);
+      };
     }

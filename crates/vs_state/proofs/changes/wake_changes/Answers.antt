@@ -1,4 +1,5 @@
-use Rattle.std.proofs.Common.{◌≡◌, ◌∙◌, ◌+◌, Some, List, ◌∷◌, drop, sym, ap, subst, arith}
+use Rattle.std.proofs.Common.{◌≡◌, ◌∙◌, ◌+◌, Some, List, ◌∷◌, drop, length, refl, sym, ap, subst, arith}
+use Rattle.std.proofs.lemmas.List.{drop_all}
 use Rattle.vs_edges.specs.Differences.{word_changes}
 use Rattle.vs_flatcode.specs.declared.changes.Change.{Change}
 use Rattle.vs_flatcode.specs.Places.{Place}
@@ -46,3 +47,24 @@ loop-change-preserved g c =
       time = c.wake_word.ensures.time ∙ c.loop-change.invariant.time;
       updates = c.wake_word.ensures.updates ∙ c.loop-change.invariant.updates;
     }
+
+pub loop-change-init : goal.loop-change-init
+loop-change-init g c = record {
+  assigns = refl;
+  places = refl;
+  sizes = c.requires.sizes;
+  sources = c.requires.sources;
+  terms = c.requires.terms;
+  time = refl;
+  updates = refl;
+}
+
+pub returns-clause-assigns : goal.returns-clause-assigns
+returns-clause-assigns g c =
+    sym (ap (λ (cs : List Change). woken_changes cs c.loop-change.assigns) (drop_all c.loop-change.change-index c.args.changes.now.items (omega (arith, c.loop-change-test.false, ap length c.deref-change-items.ensures.value))))
+    ∙ c.loop-change.invariant.assigns
+
+pub returns-clause-places : goal.returns-clause-places
+returns-clause-places g c =
+    sym (ap (λ (cs : List Change). triggered_changes cs c.loop-change.processes.places) (drop_all c.loop-change.change-index c.args.changes.now.items (omega (arith, c.loop-change-test.false, ap length c.deref-change-items.ensures.value))))
+    ∙ c.loop-change.invariant.places

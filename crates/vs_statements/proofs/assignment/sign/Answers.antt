@@ -1,10 +1,12 @@
-use Rattle.std.proofs.Common.{refl, arith, false}
+use Rattle.std.proofs.Common.{refl}
 use Rattle.std.proofs.lemmas.Result.{err_from_is_err_and}
 use Rattle.vs_tokens.specs.declared.token.Mark.TheVariants as m
-use Rattle.vs_syntax.specs.Grammar.{mark, late}
+use Rattle.vs_syntax.specs.Symbols.{a_mark, the_mark}
+use Rattle.vs_syntax.specs.Grammar.{mark, delay}
 use Rattle.vs_syntax.specs.Reading.{stuck_first, stuck_second}
 use Rattle.vs_expressions.specs.Answers.{seen}
 use Rattle.vs_expressions.proofs.Exits.{fails_by}
+use Rattle.vs_forms.proofs.Forms.{absent, present_stuck, present_read}
 use Rattle.vs_statements.specs.Timings.{timing}
 use Rattle.vs_statements.proofs.Timings.{at_once, later_stuck, later_read}
 use Rattle.vs_statements.proofs.assignment.sign.Goals as goal
@@ -12,19 +14,22 @@ use Rattle.vs_statements.proofs.assignment.sign.Goals as goal
 pub returns-in-Some : goal.returns-in-Some
 returns-in-Some c = at_once c.args.room _ _ c.in-Some.ensures
 
-pub returns-in_err-after-in-None : goal.returns-in_err-after-in-None
-returns-in_err-after-in-None c =
+pub returns-in_err-after : goal.returns-in_err-after
+returns-in_err-after c =
     let p = err_from_is_err_and c.from_residual.result c.from_residual.ensures.1 in
     rw (p.1, p.2) (fails_by (mark m.LessEqual) timing c.args.room c.args.room (seen c.args.tokens.now) (seen c.args.tokens.now)
-    (λ deep at s. later_stuck c.args.room deep _ at c.in-None.ensures (stuck_first s))
-    c.in_err-after-in-None.field-0.0 (c.in_err-after-in-None.ensures c.args.room))
+    (λ deep at s. later_stuck c.args.room deep _ at c.in_default.ensures (stuck_first s))
+    c.in_err-after.field-0.0 (c.in_err-after.ensures c.args.room))
 
-pub returns-in_err-delay-in-None : goal.returns-in_err-delay-in-None
-returns-in_err-delay-in-None c =
-    let p = err_from_is_err_and c.from_residual-in_err-delay-in-None.result c.from_residual-in_err-delay-in-None.ensures.1 in
-    rw (p.1, p.2) (fails_by late timing c.args.room c.args.room (seen c.in_ok-after-in-None.after.now) (seen c.args.tokens.now)
-    (λ deep at s. later_stuck c.args.room deep _ at c.in-None.ensures (stuck_second (c.in_ok-after-in-None.ensures c.args.room) s))
-    c.in_err-delay-in-None.field-0.0 c.in_err-delay-in-None.ensures)
+pub returns-in_default-mark_at : goal.returns-in_default-mark_at
+returns-in_default-mark_at c = later_read c.args.room _ _ _ _ _ c.in_default.ensures (c.in_ok-after.ensures c.args.room) (absent (the_mark m.Hash) delay c.args.room _ c.in_default-mark_at.ensures)
 
-pub returns-in_ok-delay-in-None : goal.returns-in_ok-delay-in-None
-returns-in_ok-delay-in-None c = later_read c.args.room _ _ _ _ _ c.in-None.ensures (c.in_ok-after-in-None.ensures c.args.room) c.in_ok-delay-in-None.ensures
+pub returns-in_err-delay : goal.returns-in_err-delay
+returns-in_err-delay c =
+    let p = err_from_is_err_and c.from_residual-in_err-delay.result c.from_residual-in_err-delay.ensures.1 in
+    rw (p.1, p.2) (fails_by delay timing c.args.room c.args.room (seen c.in-Some-mark_at.behind.now) (seen c.args.tokens.now)
+    (λ deep at s. later_stuck c.args.room deep _ at c.in_default.ensures (stuck_second (c.in_ok-after.ensures c.args.room) (present_stuck (a_mark m.Hash) delay c.args.room deep _ _ at refl c.in-Some-mark_at.ensures s)))
+    c.in_err-delay.field-0.0 c.in_err-delay.ensures)
+
+pub returns : goal.returns
+returns c = later_read c.args.room _ _ _ _ _ c.in_default.ensures (c.in_ok-after.ensures c.args.room) (present_read (a_mark m.Hash) delay c.args.room _ _ _ _ c.in-Some-mark_at.ensures c.in_ok-delay.ensures)

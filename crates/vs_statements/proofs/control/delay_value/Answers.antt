@@ -1,10 +1,13 @@
 use Rattle.std.proofs.Common.{refl}
 use Rattle.std.proofs.lemmas.Result.{err_from_is_err_and}
 use Rattle.vs_tokens.specs.declared.token.Mark.TheVariants as m
-use Rattle.vs_syntax.specs.Grammar.{◌·◌, part, mark, name, delay, an_expr}
-use Rattle.vs_syntax.specs.Reading.{stuck_here}
-use Rattle.vs_expressions.specs.Answers.{seen}
+use Rattle.vs_syntax.specs.Grammar.{part, mark, name, delay, an_expr}
+use Rattle.vs_syntax.specs.Reading.{stuck_here, stuck_first, stuck_second}
+use Rattle.vs_syntax.specs.Views.{delay_tree}
+use Rattle.vs_syntax.proofs.Gets.{gets_seq}
+use Rattle.vs_expressions.specs.Answers.{seen, ReadsTree}
 use Rattle.vs_expressions.proofs.Exits.{fails_by}
+use Rattle.vs_forms.proofs.Parts.{ended_as}
 use Rattle.vs_statements.proofs.Controls.{delay_of, delay_name_stuck, delay_name_read, delay_group_stuck, delay_group_read}
 use Rattle.vs_statements.proofs.control.delay_value.Goals as goal
 
@@ -27,9 +30,14 @@ returns-in_ok-name-in-Name c = delay_name_read c.args.room _ _ _ (delay_of _ _ _
 pub returns-in_err-inner-in-Open : goal.returns-in_err-inner-in-Open
 returns-in_err-inner-in-Open c =
     let p = err_from_is_err_and c.from_residual-in_err-inner-in-Open.result c.from_residual-in_err-inner-in-Open.ensures.1 in
-    rw (p.1, p.2) (fails_by (part an_expr · mark m.Close) (delay) c.args.room c.args.room (seen c.in-Some.after.now) (seen c.args.tokens.now)
-    (λ deep at s. delay_group_stuck c.args.room deep _ _ at (delay_of _ _ _ _ c.in-Open.is c.in-Some.ensures) s)
+    rw (p.1, p.2) (fails_by (part an_expr) (delay) c.args.room c.args.room (seen c.in-Some.after.now) (seen c.args.tokens.now)
+    (λ deep at s. delay_group_stuck c.args.room deep _ _ at (delay_of _ _ _ _ c.in-Open.is c.in-Some.ensures) (stuck_first s))
     c.in_err-inner-in-Open.field-0.0 c.in_err-inner-in-Open.ensures)
 
-pub returns-in_ok-inner-in-Open : goal.returns-in_ok-inner-in-Open
-returns-in_ok-inner-in-Open c = delay_group_read c.args.room _ _ _ _ (delay_of _ _ _ _ c.in-Open.is c.in-Some.ensures) c.in_ok-inner-in-Open.ensures
+pub returns-in_ok-boxed-in-Open : goal.returns-in_ok-boxed-in-Open
+returns-in_ok-boxed-in-Open c =
+    let opens = delay_of _ _ _ _ c.in-Open.is c.in-Some.ensures in
+    ended_as (λ r. ReadsTree delay c.args.room c.args.tokens.now delay_tree r) m.Close c.args.room _ c.in_ok-inner-in-Open.inner.rest.now _
+    (λ y e p. rw (e, c.in_ok-boxed-in-Open.ensures.ok) (delay_group_read c.args.room _ _ _ _ opens (gets_seq c.in_ok-inner-in-Open.ensures p)))
+    (λ e p. fails_by (mark m.Close) delay c.args.room c.args.room (seen c.in_ok-inner-in-Open.inner.rest.now) (seen c.args.tokens.now) (λ deep at s. delay_group_stuck c.args.room deep _ _ at opens (stuck_second c.in_ok-inner-in-Open.ensures s)) e p)
+    c.ended.ensures.tree (c.ended.ensures.mark c.args.room)

@@ -1,17 +1,17 @@
-use Rattle.std.proofs.Common.{sym, ◌∙◌, refl, arith}
+use Rattle.std.proofs.Common.{Some, None, sym, ◌∙◌, refl, arith}
 use Rattle.std.proofs.lemmas.Result.{err_from_is_err_and}
 use Rattle.vs_tokens.specs.declared.token.Word.TheVariants as w
-use Rattle.vs_syntax.specs.Grammar.{◌·◌, part, many, word, block_head, guarded, branches, case_items, for_parts, delay, event, a_stmt, a_case_item}
+use Rattle.vs_syntax.specs.Grammar.{◌·◌, part, word, block_head, guarded, branches, case_items, for_parts, delay, event, a_stmt, a_case_item}
 use Rattle.vs_syntax.specs.Views.{stmt_tree}
 use Rattle.vs_syntax.specs.Reading.{stuck_here, stuck_first, stuck_second}
 use Rattle.vs_syntax.proofs.Gets.{gets_seq, gets_stop, gets_absent}
 use Rattle.vs_expressions.specs.Answers.{seen}
 use Rattle.vs_expressions.proofs.Exits.{fails_by}
-use Rattle.vs_expressions.proofs.Rows.{along_push, shorter, all_read}
+use Rattle.vs_expressions.proofs.Rows.{along_start, along_push, shorter, all_read}
 use Rattle.vs_forms.specs.Parts.{labelled_stmt_tree}
 use Rattle.vs_statements.proofs.Heads.{head_goes, head_deep}
-use Rattle.vs_statements.proofs.Statements.{null_read, word_stmt, word_is, word_room, begins_of, block_body, row_stuck, otherwise, else_stuck, else_read, items_none, item_stuck, items_read}
-use Rattle.vs_forms.proofs.Trees.{tree_If, tree_Case, tree_For, tree_While, tree_Repeat, tree_Forever, tree_Delay, tree_Event}
+use Rattle.vs_statements.proofs.Statements.{null_read, word_stmt, word_is, room_of, word_room, begins_of, block_body, row_stuck, else_stuck, else_read, items_none, item_stuck, items_read}
+use Rattle.vs_forms.proofs.Trees.{tree_If, tree_Case, tree_For, tree_Forever, tree_Delay, tree_Event}
 use Rattle.vs_statements.proofs.statement.+stmt.Goals as goal
 
 pub stmt-returns-in_default : goal.stmt-returns-in_default
@@ -45,10 +45,10 @@ pub behind-returns-in-For : goal.behind-returns-in-For
 behind-returns-in-For t c = word_is _ _ c.args.room _ _ c.in-For.is c.for_stmt.ensures
 
 pub behind-returns-in-While : goal.behind-returns-in-While
-behind-returns-in-While t c = word_is _ _ c.args.room _ _ c.in-While.is c.while_stmt.ensures
+behind-returns-in-While t c = word_is _ _ c.args.room _ _ c.in-While.is c.loop_stmt.ensures
 
 pub behind-returns-in-Repeat : goal.behind-returns-in-Repeat
-behind-returns-in-Repeat t c = word_is _ _ c.args.room _ _ c.in-Repeat.is c.repeat_stmt.ensures
+behind-returns-in-Repeat t c = word_is _ _ c.args.room _ _ c.in-Repeat.is c.loop_stmt-in-Repeat.ensures
 
 pub behind-returns-in-Forever : goal.behind-returns-in-Forever
 behind-returns-in-Forever t c = word_is _ _ c.args.room _ _ c.in-Forever.is c.forever_stmt.ensures
@@ -114,28 +114,18 @@ conditional-returns-in_err-inner t c =
     (λ deep at s. (c.in_ok-condition.ensures branches).stops deep at (stuck_first s))
     c.in_err-inner.field-0.0 c.in_err-inner.ensures)
 
+pub conditional-returns-in_default : goal.conditional-returns-in_default
+conditional-returns-in_default t c = record { inner = _; whole = tree_If _ _ None; gets = rw c.in_ok-test.ensures.ok ((c.in_ok-condition.ensures branches).reads _ _ (gets_seq c.in_ok-inner.ensures (gets_absent c.in_default.ensures))) }
+
 pub conditional-returns-in_err-other : goal.conditional-returns-in_err-other
 conditional-returns-in_err-other t c =
     let p = err_from_is_err_and c.from_residual-in_err-other.result c.from_residual-in_err-other.ensures.1 in
-    rw (p.1, p.2) (fails_by (otherwise) (guarded branches) c.args.room c.args.room (seen c.in_ok-inner.inner.rest.now) (seen c.args.tokens.now)
-    (λ deep at s. (c.in_ok-condition.ensures branches).stops deep at (stuck_second c.in_ok-inner.ensures s))
+    rw (p.1, p.2) (fails_by (part a_stmt) (guarded branches) c.args.room c.args.room (seen c.in-Some.after.now) (seen c.args.tokens.now)
+    (λ deep at s. (c.in_ok-condition.ensures branches).stops deep at (stuck_second c.in_ok-inner.ensures (else_stuck c.args.room deep _ _ at c.requires c.in-Some.ensures s)))
     c.in_err-other.field-0.0 c.in_err-other.ensures)
 
 pub conditional-returns : goal.conditional-returns
-conditional-returns t c = record { inner = _; whole = tree_If _ _ _; gets = rw c.in_ok-test.ensures.ok ((c.in_ok-condition.ensures branches).reads _ _ (gets_seq c.in_ok-inner.ensures c.in_ok-other.ensures)) }
-
-pub alternative-returns-in_default : goal.alternative-returns-in_default
-alternative-returns-in_default t c = gets_absent c.in_default.ensures
-
-pub alternative-returns-in_err-inner : goal.alternative-returns-in_err-inner
-alternative-returns-in_err-inner t c =
-    let p = err_from_is_err_and c.from_residual.result c.from_residual.ensures.1 in
-    rw (p.1, p.2) (fails_by (part a_stmt) (otherwise) c.args.room c.args.room (seen c.in-Some.after.now) (seen c.args.tokens.now)
-    (λ deep at s. else_stuck c.args.room deep _ _ at c.requires c.in-Some.ensures s)
-    c.in_err-inner.field-0.0 c.in_err-inner.ensures)
-
-pub alternative-returns : goal.alternative-returns
-alternative-returns t c = else_read c.args.room _ _ _ _ c.in-Some.ensures c.in_ok-inner.ensures
+conditional-returns t c = record { inner = _; whole = tree_If _ _ (Some c.in_ok-other.other.tree); gets = rw c.in_ok-test.ensures.ok ((c.in_ok-condition.ensures branches).reads _ _ (gets_seq c.in_ok-inner.ensures (else_read c.args.room _ _ _ _ c.in-Some.ensures c.in_ok-other.ensures))) }
 
 pub case_stmt-returns-in_err-subject : goal.case_stmt-returns-in_err-subject
 case_stmt-returns-in_err-subject t c =
@@ -152,21 +142,6 @@ case_stmt-returns-in_err-items t c =
 pub case_stmt-returns : goal.case_stmt-returns
 case_stmt-returns t c = record { inner = _; whole = tree_Case _ _ _; gets = rw c.in_ok-operand.ensures.ok ((c.in_ok-subject.ensures case_items).reads _ _ c.in_ok-items.ensures) }
 
-pub case_item-returns-in_err-label : goal.case_item-returns-in_err-label
-case_item-returns-in_err-label t c =
-    let p = err_from_is_err_and c.from_residual.result c.from_residual.ensures.1 in
-    rw (p.1, p.2) (c.in_err-label.ensures)
-
-pub case_item-returns-in_err-inner : goal.case_item-returns-in_err-inner
-case_item-returns-in_err-inner t c =
-    let p = err_from_is_err_and c.from_residual-in_err-inner.result c.from_residual-in_err-inner.ensures.1 in
-    rw (p.1, p.2) (fails_by (part a_stmt) (part a_case_item) c.args.room c.args.room (seen c.in_ok-label.label.rest.now) (seen c.args.tokens.now)
-    (λ deep at s. c.in_ok-label.ensures.stops deep at s)
-    c.in_err-inner.field-0.0 c.in_err-inner.ensures)
-
-pub case_item-returns : goal.case_item-returns
-case_item-returns t c = c.in_ok-label.ensures.reads _ _ c.in_ok-inner.ensures
-
 pub for_stmt-returns-in_err-read : goal.for_stmt-returns-in_err-read
 for_stmt-returns-in_err-read t c =
     let p = err_from_is_err_and c.from_residual.result c.from_residual.ensures.1 in
@@ -182,36 +157,17 @@ for_stmt-returns-in_err-inner t c =
 pub for_stmt-returns : goal.for_stmt-returns
 for_stmt-returns t c = record { inner = _; whole = tree_For _ _; gets = rw c.in_ok-header.ensures.ok (c.in_ok-read.ensures.reads _ _ c.in_ok-inner.ensures) }
 
-pub guarded_stmt-returns-in_err-condition : goal.guarded_stmt-returns-in_err-condition
-guarded_stmt-returns-in_err-condition t c =
+pub loop_stmt-returns-in_err-condition : goal.loop_stmt-returns-in_err-condition
+loop_stmt-returns-in_err-condition t c =
     let p = err_from_is_err_and c.from_residual.result c.from_residual.ensures.1 in
     rw (p.1, p.2) (c.in_err-condition.ensures (part a_stmt))
 
-pub guarded_stmt-returns-in_err-inner : goal.guarded_stmt-returns-in_err-inner
-guarded_stmt-returns-in_err-inner t c =
+pub loop_stmt-returns-in_err-inner : goal.loop_stmt-returns-in_err-inner
+loop_stmt-returns-in_err-inner t c =
     let p = err_from_is_err_and c.from_residual-in_err-inner.result c.from_residual-in_err-inner.ensures.1 in
     rw (p.1, p.2) (fails_by (part a_stmt) (guarded (part a_stmt)) c.args.room c.args.room (seen c.in_ok-condition.condition.rest.now) (seen c.args.tokens.now)
     (λ deep at s. (c.in_ok-condition.ensures (part a_stmt)).stops deep at s)
     c.in_err-inner.field-0.0 c.in_err-inner.ensures)
-
-pub guarded_stmt-returns : goal.guarded_stmt-returns
-guarded_stmt-returns t c = (c.in_ok-condition.ensures (part a_stmt)).reads _ _ c.in_ok-inner.ensures
-
-pub while_stmt-returns-in_err-inner : goal.while_stmt-returns-in_err-inner
-while_stmt-returns-in_err-inner t c =
-    let p = err_from_is_err_and c.from_residual.result c.from_residual.ensures.1 in
-    rw (p.1, p.2) (c.in_err-inner.ensures)
-
-pub while_stmt-returns : goal.while_stmt-returns
-while_stmt-returns t c = record { inner = _; whole = tree_While _ _; gets = c.in_ok-inner.ensures }
-
-pub repeat_stmt-returns-in_err-inner : goal.repeat_stmt-returns-in_err-inner
-repeat_stmt-returns-in_err-inner t c =
-    let p = err_from_is_err_and c.from_residual.result c.from_residual.ensures.1 in
-    rw (p.1, p.2) (c.in_err-inner.ensures)
-
-pub repeat_stmt-returns : goal.repeat_stmt-returns
-repeat_stmt-returns t c = record { inner = _; whole = tree_Repeat _ _; gets = c.in_ok-inner.ensures }
 
 pub forever_stmt-returns-in_err-inner : goal.forever_stmt-returns-in_err-inner
 forever_stmt-returns-in_err-inner t c =
@@ -258,16 +214,9 @@ event_stmt-returns t c = record { inner = _; whole = tree_Event _ _; gets = gets
 pub items-returns-then-not-begins_case_item : goal.items-returns-then-not-begins_case_item
 items-returns-then-not-begins_case_item t c = items_none c.args.room _ (sym c.begins_case_item.ensures ∙ c.if-not-begins_case_item.true)
 
-pub items-returns-in_err-item : goal.items-returns-in_err-item
-items-returns-in_err-item t c =
-    let p = err_from_is_err_and c.from_residual.result c.from_residual.ensures.1 in
-    rw (p.1, p.2) (fails_by (part a_case_item) (case_items) c.args.room c.args.room (seen c.loop-alloc.rest.now) (seen c.args.tokens.now)
-    (λ deep at s. item_stuck c.args.room deep _ _ at _ c.requires c.loop-alloc.invariant.along (sym c.begins_case_item-in-loop-alloc.ensures ∙ c.loop-alloc-test.true) s)
-    c.in_err-item.field-0.0 c.in_err-item.ensures)
-
 pub items-loop-alloc-preserved : goal.items-loop-alloc-preserved
 items-loop-alloc-preserved t c = record {
-  along = along_push (part a_case_item) c.args.room _ _ _ labelled_stmt_tree _ _ _ c.in_ok-push.ensures.items c.loop-alloc.invariant.along (sym c.begins_case_item-in-loop-alloc.ensures ∙ c.loop-alloc-test.true) c.in_ok-item.ensures;
+  along = along_push (part a_case_item) c.args.room _ _ _ labelled_stmt_tree _ _ _ c.in_ok-push.ensures.items c.loop-alloc.invariant.along (sym c.begins_case_item-in-loop-alloc.ensures ∙ c.loop-alloc-test.true) (c.in_ok-label.ensures.reads _ _ c.in_ok-inner.ensures);
 }
 
 pub items-returns-in_err-after : goal.items-returns-in_err-after
@@ -279,3 +228,90 @@ items-returns-in_err-after t c =
 
 pub items-returns : goal.items-returns
 items-returns t c = gets_seq (items_read c.args.room _ _ _ c.loop-alloc.invariant.along (sym c.begins_case_item.ensures ∙ c.if-not-begins_case_item.false) (sym c.begins_case_item-in-loop-alloc.ensures ∙ c.loop-alloc-test.false)) (c.in_ok-after.ensures c.args.room)
+
+pub loop_stmt-returns : goal.loop_stmt-returns
+loop_stmt-returns t c = record { inner = _; whole = c.looped.ensures; gets = (c.in_ok-condition.ensures (part a_stmt)).reads _ _ c.in_ok-inner.ensures }
+
+pub items-returns-in_err-label : goal.items-returns-in_err-label
+items-returns-in_err-label t c =
+    let p = err_from_is_err_and c.from_residual.result c.from_residual.ensures.1 in
+    rw (p.1, p.2) (fails_by (part a_case_item) (case_items) c.args.room c.args.room (seen c.loop-alloc.rest.now) (seen c.args.tokens.now)
+    (λ deep at s. item_stuck c.args.room deep _ _ at _ c.requires c.loop-alloc.invariant.along (sym c.begins_case_item-in-loop-alloc.ensures ∙ c.loop-alloc-test.true) s)
+    c.in_err-label.field-0.0 c.in_err-label.ensures)
+
+pub items-returns-in_err-inner : goal.items-returns-in_err-inner
+items-returns-in_err-inner t c =
+    let p = err_from_is_err_and c.from_residual-in_err-inner.result c.from_residual-in_err-inner.ensures.1 in
+    rw (p.1, p.2) (fails_by (part a_stmt) (case_items) c.args.room c.args.room (seen c.in_ok-label.label.rest.now) (seen c.args.tokens.now)
+    (λ deep at s. item_stuck c.args.room deep _ _ at _ c.requires c.loop-alloc.invariant.along (sym c.begins_case_item-in-loop-alloc.ensures ∙ c.loop-alloc-test.true) (c.in_ok-label.ensures.stops deep at s))
+    c.in_err-inner.field-0.0 c.in_err-inner.ensures)
+
+pub items-loop-alloc-smaller : goal.items-loop-alloc-smaller
+items-loop-alloc-smaller t c =
+    shorter (part a_case_item) c.args.room (seen c.loop-alloc.rest.now) (seen c.in_ok-inner.inner.rest.now) _ (sym c.begins_case_item-in-loop-alloc.ensures ∙ c.loop-alloc-test.true) (c.in_ok-label.ensures.reads _ _ c.in_ok-inner.ensures)
+
+pub items-loop-alloc-init : goal.items-loop-alloc-init
+items-loop-alloc-init t c = record { along = along_start (part a_case_item) c.args.room c.args.tokens.now _ labelled_stmt_tree _ c.split_at.ensures.back c.new-tree.ensures.items }
+
+pub block-loop-head-init : goal.block-loop-head-init
+block-loop-head-init t c = record { along = along_start (part a_stmt) c.args.room c.in_ok-naming.naming.rest.now _ stmt_tree _ c.split_at.ensures.back c.new-tree.ensures.items }
+
+pub stmt-headed-requires : goal.stmt-headed-requires
+stmt-headed-requires t c = (omega arith, c.in-Some.ensures)
+
+pub behind-block-requires : goal.behind-block-requires
+behind-block-requires t c = (omega arith, tt)
+
+pub behind-conditional-requires : goal.behind-conditional-requires
+behind-conditional-requires t c = (omega arith, room_of _ _ c.args.room c.in-If.is c.requires)
+
+pub behind-case_stmt-requires : goal.behind-case_stmt-requires
+behind-case_stmt-requires t c = (omega arith, room_of _ _ c.args.room c.in-Case.is c.requires)
+
+pub behind-for_stmt-requires : goal.behind-for_stmt-requires
+behind-for_stmt-requires t c = (omega arith, tt)
+
+pub behind-loop_stmt-requires : goal.behind-loop_stmt-requires
+behind-loop_stmt-requires t c = (omega arith, tt)
+
+pub behind-forever_stmt-requires : goal.behind-forever_stmt-requires
+behind-forever_stmt-requires t c = (omega arith, tt)
+
+pub behind-delayed_stmt-requires : goal.behind-delayed_stmt-requires
+behind-delayed_stmt-requires t c = (omega arith, tt)
+
+pub behind-event_stmt-requires : goal.behind-event_stmt-requires
+behind-event_stmt-requires t c = (omega arith, tt)
+
+pub boxed-stmt-requires : goal.boxed-stmt-requires
+boxed-stmt-requires t c = (omega arith, tt)
+
+pub block-headed-requires : goal.block-headed-requires
+block-headed-requires t c = (omega arith, c.in-Some.ensures)
+
+pub conditional-boxed-requires : goal.conditional-boxed-requires
+conditional-boxed-requires t c = (omega arith, tt)
+
+pub case_stmt-items-requires : goal.case_stmt-items-requires
+case_stmt-items-requires t c = (omega arith, c.requires)
+
+pub items-stmt-requires : goal.items-stmt-requires
+items-stmt-requires t c = (omega arith, tt)
+
+pub for_stmt-boxed-requires : goal.for_stmt-boxed-requires
+for_stmt-boxed-requires t c = (omega arith, tt)
+
+pub loop_stmt-boxed-requires : goal.loop_stmt-boxed-requires
+loop_stmt-boxed-requires t c = (omega arith, tt)
+
+pub forever_stmt-boxed-requires : goal.forever_stmt-boxed-requires
+forever_stmt-boxed-requires t c = (omega arith, tt)
+
+pub delayed_stmt-boxed-requires : goal.delayed_stmt-boxed-requires
+delayed_stmt-boxed-requires t c = (omega arith, tt)
+
+pub event_stmt-boxed-requires : goal.event_stmt-boxed-requires
+event_stmt-boxed-requires t c = (omega arith, tt)
+
+pub conditional-boxed-requires-2 : goal.conditional-boxed-requires-2
+conditional-boxed-requires-2 t c = (omega arith, tt)

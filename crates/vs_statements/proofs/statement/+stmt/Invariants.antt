@@ -24,29 +24,17 @@ decreases-block l = 8 * l.room + 3
 abbrev pub decreases-conditional : goal.decreases-conditional
 decreases-conditional l = 8 * l.room + 4
 
-abbrev pub decreases-alternative : goal.decreases-alternative
-decreases-alternative l = 8 * l.room + 3
-
 abbrev pub decreases-case_stmt : goal.decreases-case_stmt
 decreases-case_stmt l = 8 * l.room + 4
 
 abbrev pub decreases-items : goal.decreases-items
 decreases-items l = 8 * l.room + 3
 
-abbrev pub decreases-case_item : goal.decreases-case_item
-decreases-case_item l = 8 * l.room + 2
-
 abbrev pub decreases-for_stmt : goal.decreases-for_stmt
 decreases-for_stmt l = 8 * l.room + 4
 
-abbrev pub decreases-guarded_stmt : goal.decreases-guarded_stmt
-decreases-guarded_stmt l = 8 * l.room + 3
-
-abbrev pub decreases-while_stmt : goal.decreases-while_stmt
-decreases-while_stmt l = 8 * l.room + 4
-
-abbrev pub decreases-repeat_stmt : goal.decreases-repeat_stmt
-decreases-repeat_stmt l = 8 * l.room + 4
+abbrev pub decreases-loop_stmt : goal.decreases-loop_stmt
+decreases-loop_stmt l = 8 * l.room + 4
 
 abbrev pub decreases-forever_stmt : goal.decreases-forever_stmt
 decreases-forever_stmt l = 8 * l.room + 4

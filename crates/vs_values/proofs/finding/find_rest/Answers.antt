@@ -1,11 +1,39 @@
 use Rattle.std.proofs.Common.{◌++◌, ◌∙◌, Some, length, map, ap, subst, arith}
 use Rattle.std.proofs.lemmas.List.{length-map, length-set}
+use Rattle.std.proofs.lemmas.Result.{err_from_is_err_and}
 use Rattle.vs_widths.specs.Names.{meaning_of, nested_names}
 use Rattle.vs_scopes.specs.passes.Parts.{read_given}
 use Rattle.vs_values.specs.passes.Finding.{Comes, IsNext}
 use Rattle.vs_values.proofs.FindingLemmas.{count_less, found_then}
 use Rattle.vs_values.proofs.FoundLemmas.{stuck_refused}
+use Rattle.vs_values.proofs.SearchLemmas.{refused_outside}
 use Rattle.vs_values.proofs.finding.find_rest.Goals as goal
+
+pub loop-reason-init : goal.loop-reason-init
+loop-reason-init c = record { all = c.requires.all; found = λ env h. h }
+
+pub returns-in_err-next_value-clause-fault : goal.returns-in_err-next_value-clause-fault
+returns-in_err-next_value-clause-fault c =
+    let p = err_from_is_err_and c.from_residual.result c.from_residual.ensures.1 in
+    rw (p.1, p.2) (λ env h. refused_outside _ _ c.in_err-next_value.field-0.0 c.in_err-next_value.ensures.fault)
+
+pub returns-in-Nothing-clause-all : goal.returns-in-Nothing-clause-all
+returns-in-Nothing-clause-all c =
+    let around = meaning_of c.args.around.now in
+    let env = meaning_of (c.loop-reason.known ++ nested_names c.args.outer.now) in
+    (c.loop-reason.invariant.all, subst (Comes around env (map read_given c.args.list.now) c.loop-reason.values.items) c.in-Nothing.is (rw c.deref.ensures.value at c.in_ok-next_value.ensures.ok))
+
+pub returns-in-Nothing-clause-found : goal.returns-in-Nothing-clause-found
+returns-in-Nothing-clause-found c = c.loop-reason.invariant.found
+
+pub keep-requires : goal.keep-requires
+keep-requires c =
+    let around = meaning_of c.args.around.now in
+    let env = meaning_of (c.loop-reason.known ++ nested_names c.args.outer.now) in
+    let gs = map read_given c.args.list.now in
+    let vs = c.loop-reason.values.items in
+    let next : IsNext around env gs vs c.in-Value.number c.in-Value.constant = subst (Comes around env gs vs) c.in-Value.is (rw c.deref.ensures.value at c.in_ok-next_value.ensures.ok) in
+    record { within = omega (arith, next.within, length-map c.args.list.now read_given); all = c.loop-reason.invariant.all; numbers = c.requires.numbers }
 
 pub returns-in-Stuck-clause-fault : goal.returns-in-Stuck-clause-fault
 returns-in-Stuck-clause-fault c env h =

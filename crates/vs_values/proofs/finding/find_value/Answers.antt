@@ -1,4 +1,5 @@
-use Rattle.std.proofs.Common.{◌≡◌, ◌++◌, ◌∙◌, true, Some, None, slice_get, map, refl, sym, subst, arith}
+use Rattle.std.proofs.Common.{◌≡◌, ◌++◌, ◌∙◌, true, Some, None, length, slice_get, map, refl, ap, sym, subst, arith}
+use Rattle.std.proofs.lemmas.List.{length-set}
 use Rattle.std.proofs.lemmas.Result.{err_from_is_err_and}
 use Rattle.vs_widths.specs.Names.{meaning_of, nested_names}
 use Rattle.vs_scopes.specs.passes.Parts.{read_given}
@@ -6,6 +7,18 @@ use Rattle.vs_values.specs.passes.Finding.{IsTried}
 use Rattle.vs_values.proofs.FindingLemmas.{found_more}
 use Rattle.vs_values.proofs.SearchLemmas.{get_map, unfound_at, refused_among}
 use Rattle.vs_values.proofs.finding.find_value.Goals as goal
+
+pub returns-then-is_some-clause-found : goal.returns-then-is_some-clause-found
+returns-then-is_some-clause-found c env h = h
+
+pub returns-in-Not-clause-found : goal.returns-in-Not-clause-found
+returns-in-Not-clause-found c env h = h
+
+pub keep-requires : goal.keep-requires
+keep-requires c = record { within = c.requires.within; all = c.requires.all; numbers = c.requires.numbers }
+
+pub returns-in_ok-keep-in-Is-clause-all : goal.returns-in_ok-keep-in-Is-clause-all
+returns-in_ok-keep-in-Is-clause-all c = ap length c.in_ok-keep-in-Is.ensures.values ∙ length-set c.args.values.now.items c.args.number (Some c.in-Is.constant) ∙ c.requires.all
 
 pub returns-in_err-try_value-clause-fault : goal.returns-in_err-try_value-clause-fault
 returns-in_err-try_value-clause-fault c =

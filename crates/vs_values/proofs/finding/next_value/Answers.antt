@@ -1,9 +1,10 @@
 use Rattle.std.proofs.Common.{◌≡◌, ◌+◌, ◌++◌, Some, None, slice_get, map, sym, subst, arith}
+use Rattle.std.proofs.lemmas.List.{length-map}
 use Rattle.std.proofs.lemmas.Result.{err_from_is_err_and}
 use Rattle.vs_widths.specs.Names.{meaning_of, nested_names}
 use Rattle.vs_scopes.specs.passes.Parts.{read_given}
 use Rattle.vs_values.specs.passes.Finding.{IsTried}
-use Rattle.vs_values.proofs.SearchLemmas.{IsSearched, get_map, unfound_at, found_at, refused_among, next_is, searched_found, searched_faulty, searched_all}
+use Rattle.vs_values.proofs.SearchLemmas.{IsSearched, get_map, unfound_at, found_at, refused_among, next_is, searched_none, searched_found, searched_faulty, searched_all, searched_stuck}
 use Rattle.vs_values.proofs.finding.next_value.Goals as goal
 use Rattle.vs_values.proofs.finding.next_value.Goals.{then-is_none+in_ok-constant+in-Not, else-is_none}
 
@@ -43,3 +44,10 @@ returns-in-Is-clause-ok c =
 pub returns-in-None-clause-ok : goal.returns-in-None-clause-ok
 returns-in-None-clause-ok c =
     searched_all (meaning_of (c.args.known.now ++ nested_names c.args.outer.now)) (map read_given c.args.list.now) c.args.values.now c.loop-number.fault c.loop-number.number (omega (arith, c.requires.all, c.loop-number-test.false)) c.in-None.is c.loop-number.invariant
+
+pub loop-number-init : goal.loop-number-init
+loop-number-init c = searched_none (meaning_of (c.args.known.now ++ nested_names c.args.outer.now)) (map read_given c.args.list.now) c.args.values.now
+
+pub returns-in-Some-clause-ok : goal.returns-in-Some-clause-ok
+returns-in-Some-clause-ok c =
+    searched_stuck (meaning_of (c.args.known.now ++ nested_names c.args.outer.now)) (map read_given c.args.list.now) c.args.values.now c.loop-number.fault c.loop-number.number c.in-Some.reason (omega (arith, c.loop-number-test.false, length-map c.args.list.now read_given)) c.in-Some.is c.loop-number.invariant

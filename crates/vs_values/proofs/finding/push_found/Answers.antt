@@ -1,8 +1,9 @@
 use Rattle.std.proofs.Common.{◌≡◌, ◌+◌, ◌∷◌, ◌++◌, [], ◌∙◌, Some, None, slice_get, map, drop, get_or, ap, sym, arith}
+use Rattle.std.proofs.lemmas.List.{drop_all}
 use Rattle.std.proofs.lemmas.Option.{slice_get-get_or}
 use Rattle.vs_widths.specs.Names.{by_bytes}
 use Rattle.vs_scopes.specs.passes.Parts.{read_given}
-use Rattle.vs_scopes.proofs.PassLemmas.{moved_by}
+use Rattle.vs_scopes.proofs.PassLemmas.{moved_by, ended}
 use Rattle.vs_values.specs.passes.Finding.{found_constants}
 use Rattle.vs_values.proofs.SearchLemmas.{found_next, found_skipped}
 use Rattle.vs_values.proofs.finding.push_found.Goals as goal
@@ -26,3 +27,7 @@ loop-number-preserved c =
           ap (λ z. by_bytes z.items ++ found_constants (map read_given (drop (i + 1) xs)) (drop (i + 1) vs)) w.constants-is
           ∙ ap (λ z. by_bytes c.loop-number.constants.items ++ z) (sym (found_skipped xs vs i c.loop-number-test.true c.requires.all at)) ∙ c.loop-number.invariant
     ]
+
+pub returns : goal.returns
+returns c =
+    ended _ _ _ (ap (λ z. found_constants (map read_given z) (drop c.loop-number.number c.args.values.now)) (drop_all c.loop-number.number c.args.list.now (omega (arith, c.loop-number-test.false)))) c.loop-number.invariant

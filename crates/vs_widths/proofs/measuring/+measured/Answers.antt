@@ -1,13 +1,14 @@
-use Rattle.std.proofs.Common.{Some, None, map, refl, ap, sym, arith, rules}
+use Rattle.std.proofs.Common.{Some, None, Ok, Err, map, refl, ap, sym, ◌∙◌, arith, rules}
+use Rattle.std.proofs.Math.Nat.{le_refl}
 use Rattle.std.proofs.lemmas.Result.{err_from_is_err_and}
 use Rattle.vs_widths.specs.Names.{meaning_of}
 use Rattle.vs_selects.specs.passes.Measures.{meaning}
 use Rattle.vs_selects.specs.Each.{each_none}
-use Rattle.vs_widths.specs.Expressions.{meant, chain_meant}
+use Rattle.vs_widths.specs.Expressions.{meant, name_meant, number_meant, unary_meant, chain_meant, repeat_meant}
 use Rattle.vs_widths.specs.passes.Forms.{links_meant, pairs_meant, IsChoicePair, IsPartOf}
 use Rattle.vs_selects.proofs.FittingLemmas.{each_step}
-use Rattle.vs_widths.proofs.DepthLemmas.{falls_by, first_most}
-use Rattle.vs_widths.proofs.MeasuringLemmas.{chain_refused, choice_refused, concat_refused, count_refused, counted_refused, parts_refused, form_Unary, form_Cast, form_Chain, form_Choice, form_Concat, form_Repeat, repeats, links_step, link_refused, pair_of, pairs_step, condition_refused, operand_refused, pairs_end, sum_one, part_of, parts_step, size_step, part_refused, part_too_wide, parts_end}
+use Rattle.vs_widths.proofs.DepthLemmas.{falls_by, falls_one, falls_within, first_most, second_most, middle_most}
+use Rattle.vs_widths.proofs.MeasuringLemmas.{measures_as, meant_Number, meant_Name, meant_Group, links_end, chain_refused, choice_refused, concat_refused, count_refused, counted_refused, parts_refused, form_Unary, form_Cast, form_Chain, form_Choice, form_Concat, form_Repeat, unary_refused, cast_refused, concat_closed, cast_closed, links_step, link_refused, pair_of, pairs_step, condition_refused, operand_refused, pairs_end, sum_one, part_of, parts_step, size_step, part_refused, part_too_wide, parts_end}
 use Rattle.vs_widths.proofs.SelectLemmas.{select_refused, place_measures, selects_step, bit_meaning, part_meaning, index_refused, other_refused}
 use Rattle.vs_widths.proofs.measuring.+measured.Goals as goal
 
@@ -21,8 +22,17 @@ measured-returns-in_ok-selects-in-Select t c =
     rw c.in-Select.is (place_measures (meaning_of c.args.names.now) c.in-Select.name c.in-Select.selects c.find-in-Select.result c.deref-in-Select-2.result.now c.deref-in-Select.result.now c.in_ok-selects-in-Select.selects.items c.of_select.result
     c.find-in-Select.ensures c.deref-in-Select-2.ensures.value c.deref-in-Select.ensures.value c.in_ok-selects-in-Select.ensures c.of_select.ensures)
 
-pub measured-returns-in-Unary : goal.measured-returns-in-Unary
-measured-returns-in-Unary t c = rw c.in-Unary.is (form_Unary (meaning_of c.args.names.now) c.in-Unary.operator c.in-Unary.x _ c.measured_unary.result c.deref-in-Unary.ensures c.measured_unary.ensures)
+pub measured-returns-in-Number : goal.measured-returns-in-Number
+measured-returns-in-Number t c = rw c.in-Number.is (measures_as (number_meant c.in-Number.literal) _ (Ok c.of_digits.result) (meant_Number (meaning_of c.args.names.now) c.in-Number.literal) c.of_digits.ensures)
+
+pub measured-returns-in-Name : goal.measured-returns-in-Name
+measured-returns-in-Name t c =
+    rw c.in-Name.is (measures_as (name_meant c.find.result) _ c.of_name.result
+    (meant_Name (meaning_of c.args.names.now) c.in-Name.name ∙ ap name_meant (ap (meaning_of c.args.names.now) (sym c.deref.ensures.value) ∙ sym c.find.ensures)) c.of_name.ensures.measures)
+
+pub measured-returns-in-Group : goal.measured-returns-in-Group
+measured-returns-in-Group t c =
+    rw c.in-Group.is (measures_as (meant (meaning_of c.args.names.now) c.deref-in-Group.result.now) _ c.measured.result (meant_Group (meaning_of c.args.names.now) c.in-Group.inner ∙ ap (meant (meaning_of c.args.names.now)) (sym c.deref-in-Group.ensures)) c.measured.ensures)
 
 pub measured-returns-in-Chain : goal.measured-returns-in-Chain
 measured-returns-in-Chain t c =
@@ -32,39 +42,70 @@ pub measured-returns-in-Choice : goal.measured-returns-in-Choice
 measured-returns-in-Choice t c =
     rw c.in-Choice.is (form_Choice (meaning_of c.args.names.now) c.in-Choice.pairs c.in-Choice.last c.deref-in-Choice.result.now _ c.measured_pairs.result c.deref-in-Choice.ensures.value c.deref-in-Choice-2.ensures c.measured_pairs.ensures)
 
-pub measured-returns-in-Concat : goal.measured-returns-in-Concat
-measured-returns-in-Concat t c =
-    rw c.in-Concat.is (form_Concat (meaning_of c.args.names.now) c.in-Concat.first c.in-Concat.rest _ c.deref-in-Concat-2.result.now c.measured_concat.result c.deref-in-Concat.ensures c.deref-in-Concat-2.ensures.value c.measured_concat.ensures)
+pub measured-returns-in_err-x-in-Unary : goal.measured-returns-in_err-x-in-Unary
+measured-returns-in_err-x-in-Unary t c =
+    let env = meaning_of c.args.names.now in
+    let p = err_from_is_err_and c.from_residual-in_err-x-in-Unary.result c.from_residual-in_err-x-in-Unary.ensures.1 in
+    rw (p.1, p.2, c.in-Unary.is) (form_Unary env c.in-Unary.operator c.in-Unary.x c.deref-in-Unary.result.now (Err c.in_err-x-in-Unary.field-0.0) c.deref-in-Unary.ensures
+    (unary_refused c.in-Unary.operator (meant env c.deref-in-Unary.result.now) c.in_err-x-in-Unary.field-0.0 c.in_err-x-in-Unary.ensures))
 
-pub measured-returns-in-Repeat : goal.measured-returns-in-Repeat
-measured-returns-in-Repeat t c =
-    rw c.in-Repeat.is (form_Repeat (meaning_of c.args.names.now) c.in-Repeat.count c.in-Repeat.first c.in-Repeat.rest _ _ c.deref-in-Repeat-3.result.now c.measured_repeat.result c.deref-in-Repeat.ensures c.deref-in-Repeat-2.ensures c.deref-in-Repeat-3.ensures.value
-    c.measured_repeat.ensures)
+pub measured-returns-in_ok-x-in-Unary : goal.measured-returns-in_ok-x-in-Unary
+measured-returns-in_ok-x-in-Unary t c =
+    let env = meaning_of c.args.names.now in
+    rw c.in-Unary.is (form_Unary env c.in-Unary.operator c.in-Unary.x c.deref-in-Unary.result.now c.of_unary.result c.deref-in-Unary.ensures
+    (measures_as (unary_meant c.in-Unary.operator (meaning c.in_ok-x-in-Unary.x)) _ c.of_unary.result (ap (unary_meant c.in-Unary.operator) c.in_ok-x-in-Unary.ensures.means) c.of_unary.ensures))
 
-pub measured-returns-in-Cast : goal.measured-returns-in-Cast
-measured-returns-in-Cast t c = rw c.in-Cast.is (form_Cast (meaning_of c.args.names.now) c.in-Cast.signed c.in-Cast.x _ c.measured_cast.result c.deref-in-Cast.ensures c.measured_cast.ensures)
+pub measured-returns-in_err-parts-in-Concat : goal.measured-returns-in_err-parts-in-Concat
+measured-returns-in_err-parts-in-Concat t c =
+    let p = err_from_is_err_and c.from_residual-in_err-parts-in-Concat.result c.from_residual-in_err-parts-in-Concat.ensures.1 in
+    rw (p.1, p.2, c.in-Concat.is) (form_Concat (meaning_of c.args.names.now) c.in-Concat.first c.in-Concat.rest c.deref-in-Concat.result.now c.deref-in-Concat-2.result.now (Err c.in_err-parts-in-Concat.field-0.0)
+    c.deref-in-Concat.ensures c.deref-in-Concat-2.ensures.value c.in_err-parts-in-Concat.ensures)
 
-pub measured_repeat-returns-in_err-parts : goal.measured_repeat-returns-in_err-parts
-measured_repeat-returns-in_err-parts t c =
-    let p = err_from_is_err_and c.from_residual.result c.from_residual.ensures.1 in
-    rw (p.1, p.2) (parts_refused (meant (meaning_of c.args.names.now) c.args.count.now) (meant (meaning_of c.args.names.now) c.args.first.now) (map (meant (meaning_of c.args.names.now)) c.args.rest.now) c.in_err-parts.field-0.0 c.in_err-parts.ensures)
+pub measured-returns-in_ok-parts-in-Concat : goal.measured-returns-in_ok-parts-in-Concat
+measured-returns-in_ok-parts-in-Concat t c =
+    let env = meaning_of c.args.names.now in
+    rw c.in-Concat.is (form_Concat env c.in-Concat.first c.in-Concat.rest c.deref-in-Concat.result.now c.deref-in-Concat-2.result.now c.closed.result c.deref-in-Concat.ensures c.deref-in-Concat-2.ensures.value
+    (concat_closed (meant env c.deref-in-Concat.result.now) (map (meant env) c.deref-in-Concat-2.result.now) c.in_ok-parts-in-Concat.parts c.closed.result c.in_ok-parts-in-Concat.ensures c.closed.ensures))
 
-pub measured_repeat-returns : goal.measured_repeat-returns
-measured_repeat-returns t c = c.measured_times.ensures (meant (meaning_of c.args.names.now) c.args.first.now) (map (meant (meaning_of c.args.names.now)) c.args.rest.now) c.in_ok-parts.ensures
+pub measured-returns-in_err-parts-in-Repeat : goal.measured-returns-in_err-parts-in-Repeat
+measured-returns-in_err-parts-in-Repeat t c =
+    let env = meaning_of c.args.names.now in
+    let p = err_from_is_err_and c.from_residual-in_err-parts-in-Repeat.result c.from_residual-in_err-parts-in-Repeat.ensures.1 in
+    rw (p.1, p.2, c.in-Repeat.is) (form_Repeat env c.in-Repeat.count c.in-Repeat.first c.in-Repeat.rest c.in-Repeat.count.value c.deref-in-Repeat.result.now c.deref-in-Repeat-2.result.now (Err c.in_err-parts-in-Repeat.field-0.0)
+    refl c.deref-in-Repeat.ensures c.deref-in-Repeat-2.ensures.value
+    (parts_refused (meant env c.in-Repeat.count.value) (meant env c.deref-in-Repeat.result.now) (map (meant env) c.deref-in-Repeat-2.result.now) c.in_err-parts-in-Repeat.field-0.0 c.in_err-parts-in-Repeat.ensures))
 
-pub measured_times-returns-in_err-count : goal.measured_times-returns-in_err-count
-measured_times-returns-in_err-count t c =
-    let p = err_from_is_err_and c.from_residual.result c.from_residual.ensures.1 in
-    rw (p.1, p.2) (λ first rest h. count_refused (meant (meaning_of c.args.names.now) c.args.count.now) first rest c.in_err-count.field-0.0 (counted_refused (meant (meaning_of c.args.names.now) c.args.count.now) c.in_err-count.field-0.0 c.in_err-count.ensures))
+pub measured-returns-in_err-count-in-Repeat : goal.measured-returns-in_err-count-in-Repeat
+measured-returns-in_err-count-in-Repeat t c =
+    let env = meaning_of c.args.names.now in
+    let p = err_from_is_err_and c.from_residual-in_err-count-in-Repeat.result c.from_residual-in_err-count-in-Repeat.ensures.1 in
+    let count = meant env c.deref-in-Repeat-3.result.now in
+    let d = c.in_err-count-in-Repeat.field-0.0 in
+    rw (p.1, p.2, c.in-Repeat.is) (form_Repeat env c.in-Repeat.count c.in-Repeat.first c.in-Repeat.rest c.deref-in-Repeat-3.result.now c.deref-in-Repeat.result.now c.deref-in-Repeat-2.result.now (Err d)
+    c.deref-in-Repeat-3.ensures c.deref-in-Repeat.ensures c.deref-in-Repeat-2.ensures.value
+    (count_refused count (meant env c.deref-in-Repeat.result.now) (map (meant env) c.deref-in-Repeat-2.result.now) d (counted_refused count d c.in_err-count-in-Repeat.ensures)))
 
-pub measured_times-returns-in_err-times : goal.measured_times-returns-in_err-times
-measured_times-returns-in_err-times t c =
-    let p = err_from_is_err_and c.from_residual-in_err-times.result c.from_residual-in_err-times.ensures.1 in
-    rw (p.1, p.2, c.in_ok-count.ensures.means) (λ first rest h. count_refused (meaning c.in_ok-count.count) first rest c.in_err-times.field-0.0 c.in_err-times.ensures)
+pub measured-returns-in_ok-count-in-Repeat : goal.measured-returns-in_ok-count-in-Repeat
+measured-returns-in_ok-count-in-Repeat t c =
+    let env = meaning_of c.args.names.now in
+    let first = meant env c.deref-in-Repeat.result.now in
+    let rest = map (meant env) c.deref-in-Repeat-2.result.now in
+    rw c.in-Repeat.is (form_Repeat env c.in-Repeat.count c.in-Repeat.first c.in-Repeat.rest c.deref-in-Repeat-3.result.now c.deref-in-Repeat.result.now c.deref-in-Repeat-2.result.now c.counted.result
+    c.deref-in-Repeat-3.ensures c.deref-in-Repeat.ensures c.deref-in-Repeat-2.ensures.value
+    (measures_as (repeat_meant (meaning c.in_ok-count-in-Repeat.count) first rest) _ c.counted.result (ap (λ z. repeat_meant z first rest) c.in_ok-count-in-Repeat.ensures.means) (c.counted.ensures first rest c.in_ok-parts-in-Repeat.ensures)))
 
-pub measured_times-returns : goal.measured_times-returns
-measured_times-returns t c =
-    rw c.in_ok-count.ensures.means (λ first rest h. repeats c.in_ok-count.count c.in_ok-times.times first rest c.args.parts c.repeated.result c.in_ok-times.ensures h c.repeated.ensures)
+pub measured-returns-in_err-x-in-Cast : goal.measured-returns-in_err-x-in-Cast
+measured-returns-in_err-x-in-Cast t c =
+    let env = meaning_of c.args.names.now in
+    let p = err_from_is_err_and c.from_residual-in_err-x-in-Cast.result c.from_residual-in_err-x-in-Cast.ensures.1 in
+    rw (p.1, p.2, c.in-Cast.is) (form_Cast env c.in-Cast.signed c.in-Cast.x c.deref-in-Cast.result.now (Err c.in_err-x-in-Cast.field-0.0) c.deref-in-Cast.ensures
+    (cast_refused c.in-Cast.signed (meant env c.deref-in-Cast.result.now) c.in_err-x-in-Cast.field-0.0 c.in_err-x-in-Cast.ensures))
+
+pub measured-returns-in_ok-x-in-Cast : goal.measured-returns-in_ok-x-in-Cast
+measured-returns-in_ok-x-in-Cast t c =
+    let env = meaning_of c.args.names.now in
+    rw c.in-Cast.is (form_Cast env c.in-Cast.signed c.in-Cast.x c.deref-in-Cast.result.now c.closed-in-Cast.result c.deref-in-Cast.ensures
+    (cast_closed c.in-Cast.signed (meant env c.deref-in-Cast.result.now) c.in_ok-x-in-Cast.x _ c.closed-in-Cast.result c.in_ok-x-in-Cast.ensures refl refl c.closed-in-Cast.ensures))
 
 pub measured_links-returns-in_err-all : goal.measured_links-returns-in_err-all
 measured_links-returns-in_err-all t c =
@@ -181,3 +222,32 @@ measured_selects-loop-index-preserved t c =
 pub measured_selects-measured-requires : goal.measured_selects-measured-requires
 measured_selects-measured-requires t c =
     (falls_by 3 _ c.args.selects.now c.loop-index.index-index t _ c.loop-index-item.result (omega arith) c.loop-index-item.is c.decreases (first_most _ _), tt)
+
+pub measured_links-measured-requires : goal.measured_links-measured-requires
+measured_links-measured-requires t c = (falls_one 3 _ _ t (first_most _ _) c.decreases, tt)
+
+pub measured_pairs-measured-requires : goal.measured_pairs-measured-requires
+measured_pairs-measured-requires t c = (falls_one 3 _ _ t (second_most _ _) c.decreases, tt)
+
+pub measured_parts-measured-requires : goal.measured_parts-measured-requires
+measured_parts-measured-requires t c = (falls_one 3 _ _ t (first_most _ _) c.decreases, tt)
+
+pub measured_links-measured-requires-in-loop-operator : goal.measured_links-measured-requires-in-loop-operator
+measured_links-measured-requires-in-loop-operator t c =
+    (falls_within 3 _ c.args.links.now c.loop-operator.operator-index t _ _ c.loop-operator-item.result (omega arith) c.loop-operator-item.is (second_most _ _) c.decreases (middle_most 0 _), tt)
+
+pub measured_pairs-measured-requires-in-loop-condition : goal.measured_pairs-measured-requires-in-loop-condition
+measured_pairs-measured-requires-in-loop-condition t c =
+    (falls_within 3 _ c.args.pairs.now c.loop-condition.condition-index t _ _ c.loop-condition-item.result (omega arith) c.loop-condition-item.is (first_most _ _) c.decreases (first_most _ _), tt)
+
+pub measured_pairs-measured-requires-in-loop-condition-2 : goal.measured_pairs-measured-requires-in-loop-condition-2
+measured_pairs-measured-requires-in-loop-condition-2 t c =
+    (falls_within 3 _ c.args.pairs.now c.loop-condition.condition-index t _ _ c.loop-condition-item.result (omega arith) c.loop-condition-item.is (first_most _ _) c.decreases (middle_most _ _), tt)
+
+pub measured_parts-measured-requires-in-loop-e : goal.measured_parts-measured-requires-in-loop-e
+measured_parts-measured-requires-in-loop-e t c =
+    (falls_within 3 _ c.args.rest.now c.loop-e.e-index t _ _ c.e-item.result (omega arith) c.e-item.is (second_most _ _) c.decreases (le_refl _), tt)
+
+pub measured_links-returns : goal.measured_links-returns
+measured_links-returns t c =
+    links_end (meaning_of c.args.names.now) c.loop-operator.all (meant (meaning_of c.args.names.now) c.args.first.now) c.args.links.now c.loop-operator.operator-index (omega arith) c.loop-operator.invariant.flexible c.loop-operator.invariant.whole

@@ -18,12 +18,6 @@ decreases-measured l = 3 * size-Expr l.e.now + 0
 abbrev pub decreases-measured_selects : goal.decreases-measured_selects
 decreases-measured_selects l = 3 * goal.size-measured_selects l + 1
 
-abbrev pub decreases-measured_unary : goal.decreases-measured_unary
-decreases-measured_unary l = 3 * size-Expr l.x.now + 1
-
-abbrev pub decreases-measured_cast : goal.decreases-measured_cast
-decreases-measured_cast l = 3 * size-Expr l.x.now + 1
-
 abbrev pub decreases-measured_links : goal.decreases-measured_links
 decreases-measured_links l = 3 * max (size-Expr l.first.now) (links_depth l.links.now) + 1
 
@@ -32,15 +26,6 @@ decreases-measured_pairs l = 3 * max (pairs_depth l.pairs.now) (size-Expr l.last
 
 abbrev pub decreases-measured_parts : goal.decreases-measured_parts
 decreases-measured_parts l = 3 * max (size-Expr l.first.now) (parts_depth l.rest.now) + 1
-
-abbrev pub decreases-measured_concat : goal.decreases-measured_concat
-decreases-measured_concat l = 3 * max (size-Expr l.first.now) (parts_depth l.rest.now) + 2
-
-abbrev pub decreases-measured_repeat : goal.decreases-measured_repeat
-decreases-measured_repeat l = 3 * max (size-Expr l.count.now) (max (size-Expr l.first.now) (parts_depth l.rest.now)) + 2
-
-abbrev pub decreases-measured_times : goal.decreases-measured_times
-decreases-measured_times l = 3 * size-Expr l.count.now + 1
 
 abbrev pub invariant-measured_selects-loop-index : goal.invariant-measured_selects-loop-index
 invariant-measured_selects-loop-index l = AreMeasured (meant_selects (meaning_of l.names) (take l.index-index l.selects)) l.done.items

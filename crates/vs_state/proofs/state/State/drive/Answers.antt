@@ -1,4 +1,4 @@
-use Rattle.std.proofs.Common.{◌≡◌, ◌∙◌, ℕ, true, false, List, [], ◌∷◌, sym, ap, ap₂, subst}
+use Rattle.std.proofs.Common.{◌≡◌, ◌∙◌, ℕ, true, false, List, [], ◌∷◌, Option, slice_get, sym, ap, ap₂, subst}
 use Rattle.std.proofs.lemmas.Bool.{not-true, not-false}
 use Rattle.vs_logic4.specs.declared.digit.Digit.{Digit}
 use Rattle.vs_design.specs.declared.expression.Typed.{Typed}
@@ -6,9 +6,10 @@ use Rattle.vs_design.specs.declared.statement.Target.{Target}
 use Rattle.vs_design.specs.Stores.{changes_nothing}
 use Rattle.vs_eval.specs.Targets.{assigned}
 use Rattle.vs_eval.specs.Values.{target_value}
-use Rattle.vs_process.specs.States.{State}
+use Rattle.vs_process.specs.States.{State, AssignState, evaluate}
 use Rattle.vs_state.specs.Touches.{HasSources}
-use Rattle.vs_state.proofs.ChangesLemmas.{marks_seen}
+use Rattle.vs_state.specs.Waits.{HasTerms}
+use Rattle.vs_state.proofs.ChangesLemmas.{marks_seen, same_store}
 use Rattle.vs_state.proofs.ExecutionsLemmas.{driven_at, rested_at, rested_sources}
 use Rattle.vs_state.proofs.WaitsLemmas.{written_none}
 use Rattle.vs_state.proofs.state.State.drive.Goals as goal
@@ -42,3 +43,18 @@ returns-clause-updated g c = λ made.
 
 pub returns-clause-marked : goal.returns-clause-marked
 returns-clause-marked g c = marks_seen c.args.marks.now.items c.write.new.marks.items c.write.new.self.store c.self.view_is c.in_ok-updated.ensures.marked
+
+pub write-requires-clause-terms : goal.write-requires-clause-terms
+write-requires-clause-terms g c = subst (λ (s : State). HasTerms c.args.design.now s) (sym c.self.view_is) c.requires.terms
+
+pub returns-in_default-clause-evaluated : goal.returns-in_default-clause-evaluated
+returns-in_default-clause-evaluated g c = λ same.
+    c.self.view_is
+    ∙ ap (λ (o : Option AssignState). evaluate c.args.self.now c.args.number o)
+    (sym (ap (λ (s : State). slice_get s.assigns c.args.number) (sym c.self.view_is) ∙ c.in_default.ensures))
+
+pub returns-in_default-only_part-clause-evaluated : goal.returns-in_default-only_part-clause-evaluated
+returns-in_default-only_part-clause-evaluated g c = λ same. c.in_ok-evaluate_apart.ensures.made ∙ ap (λ (s : State). evaluate s c.args.number (slice_get s.assigns c.args.number)) c.self.view_is
+
+pub returns-in_default-only_part-clause-marked : goal.returns-in_default-only_part-clause-marked
+returns-in_default-only_part-clause-marked g c = same_store c.args.marks.now.items _ _ (c.evaluate_apart.ensures.store ∙ ap (λ (s : State). s.store) c.self.view_is)

@@ -1,9 +1,9 @@
-use Rattle.std.proofs.Common.{◌≡◌, ◌++◌, ◌∙◌, List, [], ◌∷◌, refl, sym, ap, subst}
+use Rattle.std.proofs.Common.{◌≡◌, ◌++◌, ◌∙◌, List, [], ◌∷◌, Option, slice_get, refl, sym, ap, subst}
 use Rattle.vs_design.specs.Writes.{Write}
 use Rattle.vs_eval.specs.Targets.{assigned}
 use Rattle.vs_flatcode.specs.declared.changes.Change.{Change}
 use Rattle.vs_flatcode.specs.Changes.{changed_words}
-use Rattle.vs_process.specs.States.{State}
+use Rattle.vs_process.specs.States.{State, AssignState, propagate}
 use Rattle.vs_state.specs.Touches.{HasSources}
 use Rattle.vs_state.specs.Waits.{HasTerms}
 use Rattle.vs_state.proofs.ChangesLemmas.{sizes_put, marks_put, marks_seen}
@@ -72,3 +72,12 @@ returns-in-Some-only_part-clause-made g c =
 
 pub returns-in-Some-only_part-clause-marked : goal.returns-in-Some-only_part-clause-marked
 returns-in-Some-only_part-clause-marked g c = marks_seen c.args.marks.now.items c.write.new.marks.items c.write.new.self.store c.self.view_is c.in_ok-write.ensures.marked
+
+pub write-requires-clause-terms : goal.write-requires-clause-terms
+write-requires-clause-terms g c = subst (λ (s : State). HasTerms c.args.design.now s) (sym c.self.view_is) c.requires.terms
+
+pub returns-in_default-clause-made : goal.returns-in_default-clause-made
+returns-in_default-clause-made g c =
+    c.self.view_is
+    ∙ ap (λ (o : Option AssignState). propagate c.args.self.now c.args.number o)
+    (sym (ap (λ (s : State). slice_get s.assigns c.args.number) (sym c.self.view_is) ∙ c.in_default.ensures))

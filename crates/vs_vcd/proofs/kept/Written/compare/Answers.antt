@@ -1,5 +1,6 @@
 use Rattle.std.proofs.Common.{slice_get, ap, ◌∙◌, arith, rules}
 use Rattle.std.proofs.lemmas.List.{with_items_is, places}
+use Rattle.std.specs.Vec.{with_items}
 use Rattle.vs_vcd.proofs.WordLemmas.{length_of_words, word_kept}
 use Rattle.vs_vcd.proofs.kept.Written.compare.Goals as goal
 
@@ -32,3 +33,15 @@ returns-clause-compared c i k ge lt get =
       word = shown;
       same = rw (widths, values, unknowns) (c.compare.ensures i k.value _ ge lt kept shown);
     }
+
+pub returns-clause-room : goal.returns-clause-room
+returns-clause-room c =
+    let room = c.args.room.now in record {
+      words = c.gather.ensures.long ∙ c.requires.room.words;
+      widths = omega (arith, (with_items room.widths c.compare.new.widths).ok.0, room.widths.ok.0, c.requires.room.widths);
+      values = omega (arith, (with_items room.values c.compare.new.values).ok.0, room.values.ok.0, c.requires.room.values);
+      unknowns = omega (arith, (with_items room.unknowns c.compare.new.unknowns).ok.0, room.unknowns.ok.0, c.requires.room.unknowns);
+    }
+
+pub gather-requires-clause-within : goal.gather-requires-clause-within
+gather-requires-clause-within c = omega (arith, c.requires.within, c.requires.room.words)
