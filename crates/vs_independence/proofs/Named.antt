@@ -1,12 +1,12 @@
 -- What a step reads is named by a statement that was to be done, and what a process reads by its body.
-use Rattle.std.proofs.Common.{◌≡◌, ℕ, zero, suc, Bool, false, Option, Some, List, [], ◌∷◌, ◌++◌, map, slice_get, refl, sym, ◌∙◌, ap, ap₂, subst, inl, inr, append_assoc, arith}
+use Rattle.std.proofs.Common.{◌≡◌, ℕ, zero, suc, Bool, false, Option, Some, List, [], ◌∷◌, ◌++◌, map, slice_get, refl, sym, ◌∙◌, ap, ap₂, subst, append_assoc, arith}
 use Rattle.std.specs.List.{All, Contains, list_any}
 use Rattle.std.specs.declared.vec.Vec.{Vec}
 use Rattle.std.specs.declared.alloc.Global.{Global}
-use Rattle.std.proofs.lemmas.Bool.{cases_Bool, false≢true, or_parts}
+use Rattle.std.proofs.lemmas.Bool.{or_parts}
 use Rattle.std.proofs.lemmas.List.{append-nil}
-use Rattle.std.proofs.lemmas.List.Elements.{All-contains_itself, Contains-append_left, Contains-append_right, Contains-append_cases}
-use Rattle.std.proofs.lemmas.List.Folds.{Any-from_list_any, list_any-append, list_any-from_Any}
+use Rattle.std.proofs.lemmas.List.Elements.{All-contains_itself}
+use Rattle.std.proofs.lemmas.List.Folds.{list_any-append}
 use Rattle.vs_logic4.specs.Comparisons.{truth}
 use Rattle.vs_design.specs.declared.expression.Typed.{Typed}
 use Rattle.vs_design.specs.declared.range.BitRange.{BitRange}
@@ -34,42 +34,14 @@ use Rattle.vs_flatcode.specs.Steps.{Out, display_line, flat_item, repeated, stat
 use Rattle.vs_process.proofs.Values.{value_unchanged}
 use Rattle.vs_process.proofs.WellFormed.{branch_each}
 use Rattle.vs_writes.specs.Laws.{IsLeft, start, behind}
+use Rattle.vs_writes.proofs.Among.{Among, both_among, left_of, none_among, right_of}
 use Rattle.vs_independence.specs.Reads.{AllReadsAreThere, IsNamedByOne, LinesReadWhatIsNamed, NoReadIsAdded, ProcessesReadWhatIsNamed, ReadsAreNamed, StrobesReadWhatIsNamed, all_named_reads, mute, named_reads}
 use Rattle.vs_independence.specs.Threads.{item_reads, own_reads, todo_reads}
 use Rattle.vs_independence.proofs.StepReads.{step_reads}
 use Rattle.vs_independence.proofs.Todos.{flat_each, taken_each}
 
--- ---- ranges that are among those of a list
-
-abbrev Among : List BitRange → List BitRange → Type 0
-Among some all = (r : BitRange) → Contains some r → Contains all r
-
-left_of : (xs ys : List BitRange) → Among xs (xs ++ ys)
-left_of xs ys r h = Contains-append_left xs ys r h
-
-right_of : (xs ys : List BitRange) → Among ys (xs ++ ys)
-right_of xs ys r h = Contains-append_right xs ys r h
-
-both_among : (xs ys all : List BitRange) → Among xs all → Among ys all → Among (xs ++ ys) all
-both_among xs ys all hx hy r h =
-    elim (Contains-append_cases xs ys r h) [
-      | inl x ↦ hx r x
-      | inr y ↦ hy r y
-    ]
-
 all_among : (some all : List BitRange) → Among some all → All (Contains all) some
 all_among some all among k d h = among _ (All-contains_itself some k d h)
-
--- a test that no range of a list passes, none of those among them passes
-none_among : (p : BitRange → Bool) (some all : List BitRange) → Among some all → list_any p all ≡ false → list_any p some ≡ false
-none_among p some all among h =
-    elim (cases_Bool (list_any p some)) [
-      | inl hit ↦
-          let one = Any-from_list_any p some hit in
-          let there = among one.1 (one.0, one.2, one.3) in
-          absurd (false≢true (sym h ∙ list_any-from_Any p all (there.0, one.1, there.1, there.2, one.4)))
-      | inr miss ↦ miss
-    ]
 
 -- ---- a statement, blocks opened
 

@@ -1,3 +1,4 @@
+pub mod Among
 pub mod Filled
 mod Named
 mod Todos

@@ -1,10 +1,8 @@
 -- What a step writes is named by a statement that was to be done, and what a process writes by its body.
-use Rattle.std.proofs.Common.{◌≡◌, ℕ, zero, suc, ◌<◌, Bool, false, Some, None, List, [], ◌∷◌, length, refl, sym, ◌∙◌, subst, inl, inr, arith}
+use Rattle.std.proofs.Common.{◌≡◌, ℕ, zero, suc, ◌<◌, Bool, Some, None, List, [], ◌∷◌, length, refl, sym, ◌∙◌, subst, arith}
 use Rattle.std.specs.Prelude.{slice_index_or}
-use Rattle.std.specs.List.{Contains, list_any}
-use Rattle.std.proofs.lemmas.Bool.{cases_Bool, false≢true}
+use Rattle.std.specs.List.{Contains}
 use Rattle.std.proofs.lemmas.List.Elements.{All-contains_itself}
-use Rattle.std.proofs.lemmas.List.Folds.{Any-from_list_any, list_any-from_Any}
 use Rattle.vs_design.specs.declared.expression.Typed.{Typed}
 use Rattle.vs_design.specs.declared.range.BitRange.{BitRange}
 use Rattle.vs_design.specs.declared.statement.Statement.{Statement}
@@ -22,7 +20,8 @@ use Rattle.vs_flatcode.specs.Steps.{Out, assignment, step, statement_step}
 use Rattle.vs_process.proofs.Ranges.{assigned_names}
 use Rattle.vs_writes.specs.Laws.{AllAreThere, IsLeft, start, behind, LiesIn, LiesInOne, NoneIsAdded, ProcessesWriteWhatIsNamed, UpdatesAreNamed, WritesAreNamed}
 use Rattle.vs_writes.specs.Writes.{item_writes, statement_writes, todo_writes}
-use Rattle.vs_writes.proofs.Todos.{Among, all_there, layer_writes, left_of, right_of, step_among, writes_out}
+use Rattle.vs_writes.proofs.Among.{Among, left_of, none_among, right_of}
+use Rattle.vs_writes.proofs.Todos.{all_there, layer_writes, step_among, writes_out}
 
 -- ---- a step
 
@@ -81,17 +80,6 @@ begun = all_there
 left_among : (body : Statement) (todo : Todo) → IsLeft body todo → Among (todo_writes todo) (statement_writes body)
 left_among body _ start = λ r h. subst (λ l. Contains l r) (all_there body) h
 left_among body _ (behind todo store time l) = λ r h. left_among body todo l r (step_among todo store time r h)
-
--- a test that no range of a list passes, none of those among them passes
-none_among : (p : BitRange → Bool) (some all : List BitRange) → Among some all → list_any p all ≡ false → list_any p some ≡ false
-none_among p some all among h =
-    elim (cases_Bool (list_any p some)) [
-      | inl hit ↦
-          let one = Any-from_list_any p some hit in
-          let there = among one.1 (one.0, one.2, one.3) in
-          absurd (false≢true (sym h ∙ list_any-from_Any p all (there.0, one.1, there.1, there.2, one.4)))
-      | inr miss ↦ miss
-    ]
 
 lies_more : (some all : List BitRange) (w : Write) → Among some all → LiesIn some w → LiesIn all w
 lies_more some all w among h = record {

@@ -1,12 +1,10 @@
 -- What is to be done for a statement, and what is behind a step, has the ranges of what was to be done.
-use Rattle.std.proofs.Common.{◌≡◌, ℕ, zero, suc, Bool, false, Option, Some, None, List, [], ◌∷◌, ◌++◌, map, refl, sym, ◌∙◌, ap, ap₂, subst, inl, inr, append_assoc}
+use Rattle.std.proofs.Common.{◌≡◌, ℕ, zero, suc, Bool, false, Option, Some, None, List, [], ◌∷◌, ◌++◌, map, refl, sym, ◌∙◌, ap, ap₂, subst, append_assoc}
 use Rattle.std.specs.Prelude.{find}
-use Rattle.std.specs.List.{Contains}
 use Rattle.std.specs.declared.vec.Vec.{Vec}
 use Rattle.std.specs.declared.alloc.Global.{Global}
 use Rattle.std.proofs.lemmas.Bool.{cond_both}
 use Rattle.std.proofs.lemmas.List.{append-nil}
-use Rattle.std.proofs.lemmas.List.Elements.{Contains-append_left, Contains-append_right, Contains-append_cases}
 use Rattle.vs_logic4.specs.Comparisons.{truth}
 use Rattle.vs_design.specs.declared.expression.Typed.{Typed}
 use Rattle.vs_design.specs.declared.range.BitRange.{BitRange}
@@ -25,6 +23,7 @@ use Rattle.vs_flatcode.specs.Steps.{step, statement_step, first_of, flat_item, i
 use Rattle.vs_flatcode.proofs.Shapes.{flat-Block, flat-rolled}
 use Rattle.vs_process.proofs.WellFormed.{branch_each}
 use Rattle.vs_writes.specs.Writes.{item_writes, statement_writes, statement_writes_step, todo_writes}
+use Rattle.vs_writes.proofs.Among.{Among, both_among, left_of, right_of, same_among}
 
 -- ---- a statement, blocks opened
 
@@ -59,27 +58,6 @@ layer y = of_leaf (map-Statement Known Statement bare y) refl
 -- what is to be done for a statement has its ranges, in their order
 pub all_there : (s : Statement) → todo_writes (flat s) ≡ statement_writes s
 all_there s = ind-Statement AreThere (λ x y is. subst (λ z. AreThere (roll-Statement z)) is (layer y)) s
-
--- ---- ranges that are among those of a list
-
-abbrev pub Among : List BitRange → List BitRange → Type 0
-Among some all = (r : BitRange) → Contains some r → Contains all r
-
-pub left_of : (xs ys : List BitRange) → Among xs (xs ++ ys)
-left_of xs ys r h = Contains-append_left xs ys r h
-
-pub right_of : (xs ys : List BitRange) → Among ys (xs ++ ys)
-right_of xs ys r h = Contains-append_right xs ys r h
-
-both_among : (xs ys all : List BitRange) → Among xs all → Among ys all → Among (xs ++ ys) all
-both_among xs ys all hx hy r h =
-    elim (Contains-append_cases xs ys r h) [
-      | inl x ↦ hx r x
-      | inr y ↦ hy r y
-    ]
-
-same_among : (xs ys all : List BitRange) → xs ≡ ys → Among ys all → Among xs all
-same_among xs ys all e h r c = h r (subst (λ l. Contains l r) e c)
 
 -- a statement in front of what else is to be done
 flat_among : (all : List BitRange) (s : Statement) (rest : Todo) → Among (statement_writes s) all → Among (todo_writes rest) all → Among (todo_writes (flat s ++ rest)) all
