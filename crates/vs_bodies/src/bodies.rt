@@ -7,10 +7,11 @@ ghost use Rattle.vs_operands.specs.passes.Faults.{IsBelow};
 ghost use Rattle.vs_operands.specs.passes.Views.{IsView, IsPlaced};
 ghost use Rattle.vs_operands.specs.passes.Bodies.{Embodies};
 
-use crate::statements::{PROCEDURAL, statement, take_number};
+use crate::statements::statement;
 use std::alloc::Global;
 use vs_design::Statement;
 use vs_operands::{StatementFault, View, declared_assignment};
+use vs_statement_forms::{PROCEDURAL, take_number};
 use vs_syntax::{Expr, Stmt};
 
 /// The body of a process that sets a variable to the value in its declaration.

@@ -1,5 +1,5 @@
 //! Statements with names as numbers of signals, delays as ticks, and numbers of their own.
-ghost use Rattle.std.specs.Prelude.{◌≡◌, ◌+◌, ◌^◌, ◌<◌, ◌≤◌, ◌∷◌, ◌++◌, [], List, length, IfOk, IfErr, MatchResult};
+ghost use Rattle.std.specs.Prelude.{◌≡◌, ◌+◌, ◌∷◌, ◌++◌, [], List, length, IfErr};
 ghost use Rattle.std.specs.declared.vec.Vec.{Vec};
 ghost use Rattle.std.specs.declared.alloc.Global.{Global};
 ghost use Rattle.vs_syntax.specs.declared.tree.CaseLabel.{CaseLabel};
@@ -7,122 +7,23 @@ ghost use Rattle.vs_syntax.specs.declared.tree.LocalDeclaration.{LocalDeclaratio
 ghost use Rattle.vs_syntax.specs.declared.tree.Stmt.{Stmt};
 ghost use Rattle.vs_syntax.specs.declared.tree.Stmt.TheVariants as form;
 ghost use Rattle.vs_scopes.specs.Printed.{plainly, Path};
-ghost use Rattle.vs_operands.specs.declared.faults.StatementFault.TheVariants.{Overfull};
 ghost use Rattle.vs_operands.specs.Surroundings.{Surroundings};
 ghost use Rattle.vs_operands.specs.passes.Faults.{IsBelow};
 ghost use Rattle.vs_operands.specs.passes.Views.{IsView, IsPlaced};
-ghost use Rattle.vs_operands.specs.passes.Bodies.{Answers, MeansStatement, MeansStatements, MeansElse, MeansItems, IsNumbered, IsRepeated, numbered_burden, statement_burden, statements_burden, items_burden, named_burden, else_list};
+ghost use Rattle.vs_operands.specs.passes.Bodies.{Answers, MeansStatement, MeansStatements, MeansElse, MeansItems, statement_burden, statements_burden, items_burden, named_burden, else_list};
 
-use std::alloc::{AllocError, Global};
-use vs_design::{Statement, Target, Typed};
+use std::alloc::Global;
+use vs_design::{Statement, Typed};
 use vs_logic4::CaseKind;
 use vs_opened::names_around;
-use vs_operands::{
-    StatementFault, View, assignment, call, case_operand, deeper, delay, due, event_terms,
-    label_values, operand,
-};
+use vs_operands::{StatementFault, View, case_operand, deeper, label_values};
 use vs_selects::Shape;
-use vs_syntax::{CaseLabel, DelayValue, Expr, ForHeader, Left, PrintArguments, PrintTask, Stmt};
-use vs_widths::{AssignmentKind, Levels};
-
-/// The kind of an assignment that is a statement.
-pub const PROCEDURAL: AssignmentKind = AssignmentKind::Procedural;
-
-/// The number of a statement, which is the next one.
-pub fn take_number(next: &mut u32) -> Result<u32, StatementFault>
-    ensures { MatchResult result
-        (λ number. (number ≡ next.old) × ((next.new ≡ next.old + 1) × (next.old + 1 < 2 ^ 32)))
-        (λ e. (e ≡ Overfull) × (2 ^ 32 ≤ next.old + 1)) }
-{
-    let number = *next;
-    match number.checked_add(1) {
-        Some(more) => {
-            *next = more;
-            Ok(number)
-        }
-        None => Err(StatementFault::Overfull),
-    }
-}
-
-/// The number of an assignment, which is the next one, and its two sides.
-fn numbered(
-    alloc: Global,
-    view: &View,
-    next: &mut u32,
-    left: &Left,
-    e: &Expr,
-) -> Result<(u32, Target, Typed), StatementFault>
-    ensures answer { (envs : Path → Surroundings) (p : Path) → IsView view.now envs p →
-        Answers view.now.list.now envs p (numbered_burden (envs p) next.old left.now e.now)
-        (λ q. IsNumbered (envs p) next.old left.now e.now q.0 q.1 q.2 next.new) result }
-    ensures below { IfErr result (IsBelow (length view.now.list.now)) }
-{
-    let number = take_number(next)?;
-    let (target, source) = assignment(alloc, view.names, PROCEDURAL, left, e)?;
-    Ok((number, target, source))
-}
-
-/// A nonblocking assignment, which has the next number (IEEE 1364-2005, clause 9.2.2).
-#[inline(never)]
-fn later(
-    alloc: Global,
-    view: &View,
-    next: &mut u32,
-    left: &Box<Left>,
-    value: &Option<DelayValue>,
-    e: &Box<Expr>,
-) -> Result<Statement, StatementFault>
-    ensures answer { (envs : Path → Surroundings) (p : Path) → IsView view.now envs p →
-        Answers view.now.list.now envs p (statement_burden (envs p) next.old (form.Later left.now value.now e.now))
-        (λ d. MeansStatement envs p next.old (form.Later left.now value.now e.now) d next.new) result }
-    ensures below { IfErr result (IsBelow (length view.now.list.now)) }
-{
-    let (number, target, source) = numbered(alloc, view, next, left, e)?;
-    let ticks = due(alloc, view.names, view.ratio.ticks, value)?;
-    Ok(Statement::Later(number, ticks, target, source))
-}
-
-/// A call of `$display` or `$strobe`, which has the next number (IEEE 1364-2005, clause 17.1).
-#[inline(never)]
-fn print(
-    alloc: Global,
-    view: &View,
-    next: &mut u32,
-    task: PrintTask,
-    all: &PrintArguments,
-) -> Result<Statement, StatementFault>
-    requires { IsPlaced view.now.list.now view.now.place }
-    ensures answer { (envs : Path → Surroundings) (p : Path) → IsView view.now envs p →
-        Answers view.now.list.now envs p (statement_burden (envs p) next.old (form.Print task all.now))
-        (λ d. MeansStatement envs p next.old (form.Print task all.now) d next.new) result }
-    ensures below { IfErr result (IsBelow (length view.now.list.now)) }
-{
-    let number = take_number(next)?;
-    let made = call(alloc, view, task, all)?;
-    Ok(Statement::Call(number, made))
-}
-
-/// A `for` of these parts: its first assignment, and then a `while`, whose body ends with its second assignment
-/// (IEEE 1364-2005, clause 9.6).
-fn repeated(
-    alloc: Global,
-    begin: Statement,
-    number: u32,
-    condition: Typed,
-    body: Statement,
-    step: Statement,
-) -> Result<Statement, AllocError>
-    ensures { IfOk result (IsRepeated begin number condition body step) }
-{
-    let mut inner = Vec::with_capacity(alloc, 2)?;
-    inner.push(body)?;
-    inner.push(step)?;
-    let body = Box::new(alloc, Statement::Block(inner))?;
-    let mut all = Vec::with_capacity(alloc, 2)?;
-    all.push(begin)?;
-    all.push(Statement::While(number, condition, body))?;
-    Ok(Statement::Block(all))
-}
+use vs_statement_forms::{
+    assign, delay_around, event_around, finish, for_around, forever_around, if_around, later, null,
+    numbered, print, repeat_around, take_number, while_around,
+};
+use vs_syntax::{CaseLabel, Expr, ForHeader, Stmt};
+use vs_widths::Levels;
 
 /// A statement, and those in it. Its number is `next`, which moves on behind those that are given away.
 #[cycle(statement)]
@@ -139,14 +40,8 @@ pub fn statement(
     ensures below { IfErr result (IsBelow (length view.now.list.now)) }
 {
     match s {
-        Stmt::Null => {
-            let number = take_number(next)?;
-            Ok(Statement::Null(number))
-        }
-        Stmt::Assign(left, e) => {
-            let (number, target, source) = numbered(alloc, view, next, left, e)?;
-            Ok(Statement::Assign(number, target, source))
-        }
+        Stmt::Null => null(next),
+        Stmt::Assign(left, e) => assign(alloc, view, next, left, e),
         Stmt::Later(left, value, e) => later(alloc, view, next, left, value, e),
         Stmt::Block(inner) => {
             let inner = statements(alloc, view, next, inner)?;
@@ -157,48 +52,35 @@ pub fn statement(
             Ok(Statement::Block(inner))
         }
         Stmt::If(e, x, other) => {
-            let (number, then) = behind(alloc, view, next, x)?;
+            let inner = behind(alloc, view, next, x)?;
             let other = otherwise(alloc, view, next, other)?;
-            let (_, condition) = operand(alloc, view.names, e)?;
-            let first = Box::new(alloc, then)?;
-            let second = Box::new(alloc, other)?;
-            Ok(Statement::If(number, condition, first, second))
+            if_around(alloc, view, e, inner, other)
         }
         Stmt::Case(kind, e, all) => case_statement(alloc, view, next, all, *kind, e),
         Stmt::For(head, x) => for_statement(alloc, view, next, x, head),
         Stmt::While(e, x) => {
-            let (number, body) = behind(alloc, view, next, x)?;
-            let (_, condition) = operand(alloc, view.names, e)?;
-            Ok(Statement::While(number, condition, Box::new(alloc, body)?))
+            let inner = behind(alloc, view, next, x)?;
+            while_around(alloc, view, e, inner)
         }
         Stmt::Repeat(e, x) => {
-            let (number, body) = behind(alloc, view, next, x)?;
-            let (signed, count) = operand(alloc, view.names, e)?;
-            Ok(Statement::Repeat(number, signed, count, Box::new(alloc, body)?))
+            let inner = behind(alloc, view, next, x)?;
+            repeat_around(alloc, view, e, inner)
         }
         Stmt::Forever(x) => {
-            let (number, body) = behind(alloc, view, next, x)?;
-            Ok(Statement::Forever(number, Box::new(alloc, body)?))
+            let inner = behind(alloc, view, next, x)?;
+            forever_around(alloc, inner)
         }
         Stmt::Delay(value, x) => {
-            let (number, body) = behind(alloc, view, next, x)?;
-            let ticks = delay(alloc, view.names, view.ratio.ticks, value)?;
-            Ok(Statement::Delay(number, ticks, Box::new(alloc, body)?))
+            let inner = behind(alloc, view, next, x)?;
+            delay_around(alloc, view, value, inner)
         }
         Stmt::Event(control, x) => {
-            let (number, body) = behind(alloc, view, next, x)?;
-            let terms = event_terms(alloc, view.names, control, &body)?;
-            Ok(Statement::Event(number, terms, Box::new(alloc, body)?))
+            let inner = behind(alloc, view, next, x)?;
+            event_around(alloc, view, control, inner)
         }
         Stmt::Print(task, all) => print(alloc, view, next, *task, all),
-        Stmt::Finish(_) => {
-            let number = take_number(next)?;
-            Ok(Statement::Finish(number))
-        }
-        Stmt::Dump(_, _) => {
-            let number = take_number(next)?;
-            Ok(Statement::Null(number))
-        }
+        Stmt::Finish(_) => finish(next),
+        Stmt::Dump(_, _) => null(next),
     }
 }
 
@@ -217,13 +99,9 @@ fn for_statement(
         (λ d. MeansStatement envs p next.old (form.For head.now x.now) d next.new) result }
     ensures below { IfErr result (IsBelow (length view.now.list.now)) }
 {
-    let (number, target, source) = numbered(alloc, view, next, &head.first.0, &head.first.1)?;
-    let begin = Statement::Assign(number, target, source);
-    let (number, body) = behind(alloc, view, next, x)?;
-    let (_, condition) = operand(alloc, view.names, &head.condition)?;
-    let (last, target, source) = numbered(alloc, view, next, &head.step.0, &head.step.1)?;
-    let step = Statement::Assign(last, target, source);
-    Ok(repeated(alloc, begin, number, condition, body, step)?)
+    let begin = numbered(alloc, view, next, &head.first.0, &head.first.1)?;
+    let inner = behind(alloc, view, next, x)?;
+    for_around(alloc, view, next, head, begin, inner)
 }
 
 /// Statements one after another.

@@ -1,6 +1,6 @@
 -- Faults of a run.
-use Rattle.std.specs.Prelude.{ℕ, ◌≡◌, ◌⊎◌, Bool, true, false, Result, Ok, Err}
-use Rattle.vs_vcd.specs.Sinks.{one_more}
+use Rattle.std.specs.Prelude.{◌≡◌, ◌⊎◌, Bool, true, false, Result, Ok, Err}
+pub use Rattle.vs_slots.specs.Failures.{OneFailed}
 use Rattle.vs_kernel.specs.declared.kernel.Status.{Status}
 use Rattle.vs_kernel.specs.declared.kernel.Status.TheVariants as statuses
 use Rattle.vs_kernel.specs.declared.outcome.RunFault.{RunFault}
@@ -13,11 +13,6 @@ is_write (Err Memory) = false
 is_write (Err Write) = true
 is_write (Err Failed) = false
 is_write (Err Done) = false
-
--- the counts of failed writes of two sinks behind a call that failed because a sink did, or didn't: one of them rose by one, or none
-abbrev pub OneFailed : Bool → ℕ → ℕ → ℕ → ℕ → Type 0
-OneFailed true old new lines_old lines_new = ((new ≡ one_more old) × (lines_new ≡ lines_old)) ⊎ ((new ≡ old) × (lines_new ≡ one_more lines_old))
-OneFailed false old new lines_old lines_new = (new ≡ old) × (lines_new ≡ lines_old)
 
 -- the faults that a call answers, by how far the kernel had come
 abbrev pub FaultAt : Status → RunFault → Type 0

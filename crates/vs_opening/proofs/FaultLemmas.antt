@@ -27,9 +27,11 @@ use Rattle.vs_scopes.proofs.AnswerLemmas.{told_by, told_part}
 use Rattle.vs_opened.specs.ScopeFaults.{Repeated, of_module, AtInstance, parameter_fault, override_fault, HasConstructFault, PassesLimit, PassesTurns, HoldsOpening, HoldsOpeningIn}
 use Rattle.vs_nets.specs.passes.Nets.{IsNamedAsNet}
 use Rattle.vs_entering.specs.passes.Entering.{IsSoundUse, IsSoundInner, EntersNot}
-use Rattle.vs_opening.specs.passes.Opens.{IsSoundOwn, HoldsOwn, HasInnerNot, AddsInnerNot, IsSoundInside}
+use Rattle.vs_members.specs.passes.Own.{IsSoundOwn, HoldsOwn}
+use Rattle.vs_members.specs.passes.Adding.{AddsInnerNot}
+use Rattle.vs_opening.specs.passes.Opens.{HasInnerNot, IsSoundInside}
 use Rattle.vs_entering.proofs.ListLemmas.{slice_front, slice_back, slice_either, all_at}
-use Rattle.vs_opening.proofs.OwnLemmas.{is_shallow, is_deep, is_few}
+use Rattle.vs_members.proofs.OwnLemmas.{is_shallow, is_deep, is_few}
 use Rattle.vs_opening.proofs.OpenLemmas.{below_append, within_inside}
 
 -- ---- instances among what opens scopes

@@ -1,5 +1,5 @@
 -- The scopes inside a scope, one after another.
-use Rattle.std.proofs.Common.{◌≡◌, ℕ, zero, suc, ◌+◌, ◌-◌, ◌<◌, ◌≤◌, false, List, [], ◌∷◌, ◌++◌, Some, inl, inr, is_some, length, map, take, drop, get_or, refl, ap, sym, subst, ◌∙◌, arith}
+use Rattle.std.proofs.Common.{◌≡◌, ℕ, zero, suc, ◌+◌, ◌-◌, ◌<◌, ◌≤◌, false, List, [], ◌∷◌, ◌++◌, Some, is_some, length, map, take, drop, get_or, refl, ap, sym, subst, ◌∙◌, arith}
 use Rattle.std.specs.List.{slice_get}
 use Rattle.std.proofs.lemmas.List.{map-append, length-append, take_all}
 use Rattle.vs_syntax.specs.declared.tree.Module.{Module}
@@ -16,33 +16,28 @@ use Rattle.vs_scopes.specs.declared.faults.ElabFault.{ElabFault}
 use Rattle.vs_scopes.specs.Parameters.{said}
 use Rattle.vs_scopes.specs.Declarations.{Bindings}
 use Rattle.vs_scopes.specs.Generate.{Inner, inner_from, constructs_fault}
-use Rattle.vs_scopes.specs.Scopes.{Scope, Before, behind, within_first, text_names, environment, seen_from, inner_of, opened, below, scopes_within}
+use Rattle.vs_scopes.specs.Scopes.{Scope, behind, within_first, text_names, environment, seen_from, inner_of, below, scopes_within}
 use Rattle.vs_scopes.specs.passes.Answers.{Told, Refuses, IsRefusal}
 use Rattle.vs_scopes.proofs.Folds.{take_push}
-use Rattle.vs_scopes.proofs.AnswerLemmas.{told_by, refused_by}
+use Rattle.vs_scopes.proofs.AnswerLemmas.{refused_by}
 use Rattle.vs_opened.specs.declared.opened.Opened.{Opened as FoundScope}
 use Rattle.vs_opened.specs.declared.opened.Plan.{Plan}
 use Rattle.vs_opened.specs.Opened.{IsOpened}
 use Rattle.vs_opened.specs.ScopeFaults.{HasConstructFault, HoldsOpeningIn}
 use Rattle.vs_opened.proofs.BindLemmas.{is_key}
 use Rattle.vs_entering.specs.declared.entering.Listed.{Listed}
-use Rattle.vs_entering.specs.passes.Entering.{before_next, IsShallow, EntersNot}
-use Rattle.vs_opening.specs.passes.Opens.{IsSoundOwn, HoldsOwn, IsPlanned, AddsInnerAt, AddsInnerNot, FindsInner, HasInner, IsReady, IsHolding, OpensInside, HoldsInner, OpensInsideNot}
+use Rattle.vs_entering.specs.passes.Entering.{before_next}
+use Rattle.vs_members.specs.passes.Own.{IsSoundOwn}
+use Rattle.vs_members.specs.passes.Adding.{AddsInnerAt, AddsInnerNot, IsHolding}
+use Rattle.vs_opening.specs.passes.Opens.{FindsInner, HasInner, IsReady, OpensInside, HoldsInner, OpensInsideNot}
 use Rattle.vs_entering.proofs.ListLemmas.{slice_front, slice_end, all_at}
-use Rattle.vs_entering.proofs.SeatLemmas.{opened_here}
 use Rattle.vs_entering.proofs.EnterLemmas.{known_levels}
-use Rattle.vs_opening.proofs.OwnLemmas.{is_shallow, is_deep}
-use Rattle.vs_opening.proofs.OpenLemmas.{opened_before, holding_none, holding_more, holding_all, planned_behind}
+use Rattle.vs_members.proofs.OwnLemmas.{is_deep}
+use Rattle.vs_members.proofs.AddLemmas.{opened_before, planned_behind}
+use Rattle.vs_opening.proofs.OpenLemmas.{holding_none, holding_more, holding_all}
 use Rattle.vs_opening.proofs.FaultLemmas.{construct_told, adds_told, inner_told}
 
 -- ---- a scope that is listed
-
--- it stands in no more instances than one may
-pub shallow : (list : List FoundScope) (plan : Plan) (ss : List Scope) (place : ℕ) (s : Scope) → IsPlanned list plan ss → slice_get ss place ≡ Some s → IsShallow list place
-shallow list plan ss place s h e o f =
-    let depth = (opened_here list ss place o s h.opened f e).entered.depth in
-    let small = is_shallow s (all_at IsSoundOwn ss place s h.sound e).few in
-    omega (arith, depth, small)
 
 -- the names that its text declares, and no others, are bound so
 pub names_are : (ss : List Scope) (o : FoundScope) (s : Scope) → IsOpened ss o s → AreNames (text_names s) o.text
@@ -64,14 +59,6 @@ module _ (s : Scope) (env : Environment) (ps : List Piece) (e : env ≡ environm
 
   pub fault_found : (f : BodyFault) (b : ElabFault) → Refuses (λ r. constructs_fault r env (text_names s) 1 ps) f → IsRefusal s.path f b → Told (HasConstructFault s) b
   fault_found f b h k = construct_told s f b (refused_by (λ r. constructs_fault r env (text_names s) 1 ps) (λ r. constructs_fault r (environment s) (text_names s) 1 s.pieces) f (λ q g. sym (faults_same q) ∙ g) h) k
-
--- ---- a scope that is added
-
-pub enters_told : (ms : List Module) (s : Scope) (at : Before) (x : Inner) (e : ElabFault) → Told (EntersNot ms s x) e → Told (AddsInnerNot ms s at x) e
-enters_told ms s at x e h = told_by (EntersNot ms s x) (AddsInnerNot ms s at x) e (λ r p k. inl k) h
-
-pub added_told : (ms : List Module) (s : Scope) (at : Before) (x : Inner) (inner : Scope) (e : ElabFault) → opened ms s at x ≡ Some inner → Told (HoldsOwn inner) e → Told (AddsInnerNot ms s at x) e
-added_told ms s at x inner e o h = told_by (HoldsOwn inner) (AddsInnerNot ms s at x) e (λ r p k. inr (inner, o, k)) h
 
 -- ---- the loop
 

@@ -1,4 +1,3 @@
-pub mod OwnLemmas
 pub mod OpenLemmas
 pub mod FaultLemmas
 pub mod InsideLemmas

@@ -47,7 +47,9 @@ use Rattle.vs_nets.specs.passes.Nets.{AreMembers}
 use Rattle.vs_entering.specs.declared.entering.Listed.{Listed}
 use Rattle.vs_entering.specs.passes.Blocks.{AreNamed}
 use Rattle.vs_entering.specs.passes.Entering.{module_names, Lists, ListsNot}
-use Rattle.vs_opening.specs.passes.Opens.{IsSoundOwn, HoldsOwn, own_lines, IsPlanned, IsNext, AddsScope, IsReady, IsSoundInside, scopes_inside, lines_inside, OpensInside, IsTop, TopNot, Made}
+use Rattle.vs_members.specs.passes.Own.{IsSoundOwn, HoldsOwn, own_lines}
+use Rattle.vs_members.specs.passes.Adding.{IsPlanned, IsNext, AddsScope}
+use Rattle.vs_opening.specs.passes.Opens.{IsReady, IsSoundInside, scopes_inside, lines_inside, OpensInside, IsTop, TopNot, Made}
 use Rattle.vs_entering.proofs.SeatLemmas.{seated_none}
 use Rattle.vs_entering.proofs.EnterLemmas.{said_none}
 use Rattle.vs_opening.proofs.OpenLemmas.{within_inside, outline_inside, lines_join}

@@ -24,7 +24,9 @@ use Rattle.vs_opened.specs.ScopeFaults.{top_fault, StandsOpening}
 use Rattle.vs_entering.specs.declared.entering.Listed.{Listed}
 use Rattle.vs_entering.specs.passes.Blocks.{text_name, HasIndex, with_blocks, AddsBlock, AreIndexedUpTo, AreIndexed}
 use Rattle.vs_entering.specs.passes.Entering.{Lists}
-use Rattle.vs_opening.specs.passes.Opens.{IsReady, AddsScope, OpensInside, OpensInsideNot, HoldsOwn, TopNot, Made}
+use Rattle.vs_members.specs.passes.Adding.{AddsScope}
+use Rattle.vs_members.specs.passes.Own.{HoldsOwn}
+use Rattle.vs_opening.specs.passes.Opens.{IsReady, OpensInside, OpensInsideNot, TopNot, Made}
 use Rattle.vs_opening.proofs.FaultLemmas.{own_told}
 use Rattle.vs_opening.proofs.SourceLemmas.{top_ready, top_made, opening_told}
 use Rattle.vs_opening.proofs.BlockLemmas.{adds_none, adds_one}

@@ -8,11 +8,11 @@ ghost use Rattle.vs_opened.specs.Opened.{AreOpened, AreSeated};
 ghost use Rattle.vs_opened.specs.ScopeFaults.{HasConstructFault};
 ghost use Rattle.vs_opening.specs.passes.Opens.{FindsInner, HasInner, HasInnerNot, IsReady, OpensInside, OpensInsideNot};
 
-use crate::adding::add;
 use std::alloc::Global;
 use vs_design::Entry;
 use vs_entering::Listed;
 use vs_generate::{Inner, inners};
+use vs_members::add;
 use vs_nets::check_blocks;
 use vs_opened::{Opened, Plan, names_around, scope_fault};
 use vs_scopes::{BodyFault, ElabFault};
@@ -51,7 +51,9 @@ fn found_at<'s>(
     }
 }
 
-/// The same, where no generate block has the name of an implicit net (IEEE 1364-2005, clauses 4.5 and 12.4.3).
+/// The same, where no generate block has the name of an implicit net (IEEE 1364-2005, clauses 4.5 and 12.4.3). It stands apart, so that a level of scopes
+/// takes little stack.
+#[inline(never)]
 fn inner_at<'s>(
     alloc: Global,
     list: &[Opened<'s>],

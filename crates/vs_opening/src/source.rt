@@ -1,26 +1,34 @@
 //! All scopes of a source.
-ghost use Rattle.std.specs.Prelude.{◌≡◌, ◌<◌, ◌∷◌, [], ℕ, length, IfOk, OnOk, MatchResult};
+ghost use Rattle.std.specs.Prelude.{◌≡◌, ◌<◌, ◌∷◌, [], ℕ, None, length, map, IfOk, OnOk, MatchResult};
 ghost use Rattle.std.specs.List.{All};
 ghost use Rattle.vs_scopes.specs.Printed.{plainly};
+ghost use Rattle.vs_scopes.specs.Ports.{ports_of};
+ghost use Rattle.vs_scopes.specs.Scopes.{nowhere};
 ghost use Rattle.vs_scopes.specs.passes.Answers.{IsFaultAt, Told};
+ghost use Rattle.vs_scopes.specs.passes.Parts.{read_port};
+ghost use Rattle.vs_values.specs.passes.Values.{AreValues};
 ghost use Rattle.vs_opened.specs.Opened.{AreSeated, OpensAll};
 ghost use Rattle.vs_opened.specs.ScopeFaults.{StandsOpening};
 ghost use Rattle.vs_entering.specs.passes.Entering.{Lists, ListsNot};
-ghost use Rattle.vs_pieces.specs.Reads.{referred};
+ghost use Rattle.vs_pieces.specs.Pieces.{pieces_of};
+ghost use Rattle.vs_pieces.specs.Reads.{read_piece, referred};
 ghost use Rattle.vs_entering.specs.passes.Blocks.{text_name, HasIndex, HasNoBlocks, AddsBlock, AreIndexed};
-ghost use Rattle.vs_opening.specs.passes.Opens.{IsTop, TopNot, IsPlanned, Made};
+ghost use Rattle.vs_members.specs.passes.Adding.{IsPlanned};
+ghost use Rattle.vs_opening.specs.passes.Opens.{IsTop, TopNot, Made};
 
-use crate::adding::list_scope;
 use crate::opening::open_inside;
 use std::alloc::{AllocError, Global};
 use vs_design::ScopeKind;
 use vs_entering::{Listed, plain_title};
+use vs_members::list_scope;
 use vs_nets::{Around, module_members, permits_behind};
 use vs_opened::{DEEPEST, Opened, Opening, Plan, fault_at};
-use vs_pieces::pieces;
-use vs_scopes::{ElabFault, ParameterRefusal, PartName, PathName, Reason, module_ports};
+use vs_pieces::{Piece, pieces};
+use vs_scopes::{
+    ElabFault, ModulePort, ParameterRefusal, PartName, PathName, Reason, module_ports,
+};
 use vs_syntax::Module;
-use vs_values::values;
+use vs_values::{ParameterValues, values};
 use vs_widths::{Levels, Names};
 
 /// A fault at a module's name.
@@ -48,6 +56,29 @@ fn list_modules<'s>(
     Ok(names)
 }
 
+/// The values of the parameters of the top, around which nothing has a name.
+#[inline(never)]
+fn top_values<'s>(
+    alloc: Global,
+    module: &'s Module,
+    ports: &[ModulePort<'s>],
+    pieces: &[Piece<'s>],
+) -> Result<ParameterValues<'s>, ElabFault>
+    requires ports { map read_port ports.now ≡ ports_of «module».now }
+    requires pieces { map read_piece pieces.now ≡ pieces_of «module».now.items.items }
+    ensures { MatchResult result (AreValues nowhere None «module».entry.now) (Told (TopNot «module».entry.now)) }
+{
+    let nothing = Names::new(alloc);
+    let around = Levels::alone(&nothing);
+    match values(alloc, &around, module, ports, pieces, None) {
+        Ok(values) => Ok(values),
+        Err(ParameterRefusal::Own(reason)) => {
+            Err(module_fault(alloc, &module.name, Reason::Width(reason)))
+        }
+        Err(_) => Err(ElabFault::Memory),
+    }
+}
+
 /// The scope of the top module (IEEE 1364-2005, clause 12.1.1).
 #[inline(never)]
 fn top_scope<'s>(alloc: Global, listed: Listed<'s>) -> Result<Opened<'s>, ElabFault>
@@ -56,15 +87,7 @@ fn top_scope<'s>(alloc: Global, listed: Listed<'s>) -> Result<Opened<'s>, ElabFa
     let module = listed.module;
     let pieces = pieces(alloc, &module.items)?;
     let ports = module_ports(alloc, module, &pieces)?;
-    let nothing = Names::new(alloc);
-    let nowhere = Levels::alone(&nothing);
-    let values = match values(alloc, &nowhere, module, &ports, &pieces, None) {
-        Ok(values) => values,
-        Err(ParameterRefusal::Own(reason)) => {
-            return Err(module_fault(alloc, &module.name, Reason::Width(reason)));
-        }
-        Err(_) => return Err(ElabFault::Memory),
-    };
+    let values = top_values(alloc, module, &ports, &pieces)?;
     let mut within = Vec::new(alloc);
     within.push(module.name.as_slice())?;
     let around = Around {

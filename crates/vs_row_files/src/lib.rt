@@ -6,16 +6,17 @@
 #![tactic(auto)]
 
 mod pieces;
+mod text;
 
-pub use pieces::make_of_pieces;
-use std::alloc::AllocError;
+pub use pieces::put_pieces;
 use std::io::{self, Write};
 use std::{env, fs};
+pub use text::Text;
 
 /// Who answers the questions of a file.
 pub trait Answers {
-    /// Writes the answer to a question that is asked with these words behind what the text has.
-    fn answer(&self, words: &str, question: &str, text: &mut Vec<u8>) -> Result<(), AllocError>;
+    /// Puts the answer to a question that is asked with these words behind the text.
+    fn answer(&self, words: &str, question: &str, text: &mut Text);
 }
 
 /// A row: how its question is meant, the question, and what is wanted.
@@ -37,23 +38,22 @@ struct Comparison {
     rows: usize,
     /// How many of them differ.
     differ: usize,
-    /// The last answer.
-    answer: Vec<u8>,
     /// What is written in the end.
-    report: Vec<u8>,
+    report: Text,
 }
 
-/// Whether an answer is the one that is wanted.
-fn is_wanted(answer: &[u8], wanted: Option<&str>) -> bool {
-    match wanted {
-        Some(text) => answer.strip_suffix(b"\n") == Some(text.as_bytes()),
-        None => answer.is_empty(),
+/// Whether an answer is the one that is wanted. An answer that isn't whole is none.
+fn is_wanted(answer: &Text, wanted: Option<&str>) -> bool {
+    match (answer.whole(), wanted) {
+        (Ok(bytes), Some(text)) => bytes.strip_suffix(b"\n") == Some(text.as_bytes()),
+        (Ok(bytes), None) => bytes.is_empty(),
+        (Err(_), _) => false,
     }
 }
 
 /// Tells a row whose answer differs.
-fn tell(row: Row, answer: &[u8], report: &mut Vec<u8>) -> Result<(), AllocError> {
-    let parts = [
+fn tell(row: Row, answer: &Text, report: &mut Text) {
+    report.put_all(&[
         "==== ",
         row.title,
         "\n",
@@ -63,28 +63,20 @@ fn tell(row: Row, answer: &[u8], report: &mut Vec<u8>) -> Result<(), AllocError>
         "\n---- wanted\n",
         row.wanted.unwrap_or(""),
         "\n---- answered\n",
-    ];
-    for part in parts {
-        report.extend_from_slice(part.as_bytes())?;
-    }
-    report.extend_from_slice(answer)?;
-    report.extend_from_slice(b"\n")
+    ]);
+    report.append(answer);
+    report.put(b"\n");
 }
 
 /// Asks a row's question, and compares.
-fn compare_row<A: Answers>(
-    answers: &A,
-    row: Row,
-    comparison: &mut Comparison,
-) -> Result<(), AllocError> {
-    comparison.answer.clear();
-    answers.answer(row.words, row.question, &mut comparison.answer)?;
+fn compare_row<A: Answers>(answers: &A, row: Row, comparison: &mut Comparison) {
+    let mut answer = Text::new(comparison.report.alloc());
+    answers.answer(row.words, row.question, &mut answer);
     comparison.rows = comparison.rows.saturating_add(1);
-    if is_wanted(&comparison.answer, row.wanted) {
-        return Ok(());
+    if !is_wanted(&answer, row.wanted) {
+        comparison.differ = comparison.differ.saturating_add(1);
+        tell(row, &answer, &mut comparison.report);
     }
-    comparison.differ = comparison.differ.saturating_add(1);
-    tell(row, &comparison.answer, &mut comparison.report)
 }
 
 /// What stands before the first such separator, and what stands behind it.
@@ -115,63 +107,46 @@ fn short_row<'t>(title: &'t str, words: &'t str, line: &'t str) -> Row<'t> {
 }
 
 /// Compares the rows of a group, whose text stands behind `==== `.
-fn compare_group<A: Answers>(
-    answers: &A,
-    group: &str,
-    comparison: &mut Comparison,
-) -> Result<(), AllocError> {
+fn compare_group<A: Answers>(answers: &A, group: &str, comparison: &mut Comparison) {
     let (title, rest) = first_and_rest(group, "\n");
     let (words, body) = first_and_rest(rest, "\n");
     if let Some(text) = body.strip_prefix("----\n") {
         return compare_row(answers, long_row(title, words, text), comparison);
     }
     for line in body.split('\n') {
-        compare_row(answers, short_row(title, words, line), comparison)?;
+        compare_row(answers, short_row(title, words, line), comparison);
     }
-    Ok(())
 }
 
 /// Compares the rows of a file's text.
-fn compare_text<A: Answers>(
-    answers: &A,
-    text: &str,
-    comparison: &mut Comparison,
-) -> Result<(), AllocError> {
-    let text = text.strip_prefix("==== ").unwrap_or(text);
-    let text = text.strip_suffix('\n').unwrap_or(text);
-    for group in text.split("\n==== ") {
-        compare_group(answers, group, comparison)?;
+fn compare_text<A: Answers>(answers: &A, text: &str, comparison: &mut Comparison) {
+    let (_, groups) = first_and_rest(text, "==== ");
+    let groups = groups.strip_suffix('\n').unwrap_or(groups);
+    for group in groups.split("\n==== ") {
+        compare_group(answers, group, comparison);
     }
-    Ok(())
 }
 
-/// Compares the rows of a file, and tells the number of its rows and of those that differ.
-fn compare_file<A: Answers>(
-    rt: &HostRuntime,
-    answers: &A,
-    name: &str,
-    comparison: &mut Comparison,
-) -> io::Result<()> {
+/// Compares the rows of a file, and writes each row that differs, and the number of its rows and of those that differ.
+fn compare_file<A: Answers>(rt: &HostRuntime, answers: &A, name: &str) -> io::Result<()> {
     let text = fs::read_to_string(rt, name)?;
-    comparison.rows = 0;
-    comparison.differ = 0;
-    compare_text(answers, &text, comparison)?;
+    let mut comparison = Comparison {
+        rows: 0,
+        differ: 0,
+        report: Text::new(rt.alloc()),
+    };
+    compare_text(answers, &text, &mut comparison);
     let (rows, differ) = (comparison.rows, comparison.differ);
-    writeln!(comparison.report, "{name}: {rows} rows, {differ} differ")
+    let mut report = comparison.report;
+    report.put_shown(format_args!("{name}: {rows} rows, {differ} differ\n"));
+    rt.stdout().write_all(report.whole()?)
 }
 
 /// Compares the rows of the files that the words of the call name, and writes each row that differs, and of each file the number of its rows and of those that
 /// differ.
 pub fn compare_files<A: Answers>(rt: &HostRuntime, answers: &A) -> io::Result<()> {
-    let alloc = rt.alloc();
-    let mut comparison = Comparison {
-        rows: 0,
-        differ: 0,
-        answer: Vec::new(alloc),
-        report: Vec::new(alloc),
-    };
     for name in env::args(rt)?.skip(1) {
-        compare_file(rt, answers, &name, &mut comparison)?;
+        compare_file(rt, answers, &name)?;
     }
-    rt.stdout().write_all(&comparison.report)
+    Ok(())
 }

@@ -1,54 +1,38 @@
 //! Texts that are made of repeated pieces.
 
-use std::alloc::{AllocError, Global};
+use crate::text::Text;
 
-/// Adds a piece: `§` stands for the number of the turn, `¶` for the next one, and `°` for as many zeros as the number says.
-fn add_piece(
-    alloc: Global,
-    piece: &str,
-    number: usize,
-    text: &mut String,
-) -> Result<(), AllocError> {
+/// Puts a piece: `§` stands for the number of the turn, `¶` for the next one, and `°` for as many zeros as the number says.
+fn put_piece(piece: &str, number: usize, text: &mut Text) {
     for letter in piece.chars() {
         match letter {
-            '§' => add_number(alloc, number, text),
-            '¶' => add_number(alloc, number.saturating_add(1), text),
-            '°' => add_zeros(number, text),
-            _ => text.push(letter),
-        }?;
+            '§' => text.put_shown(number),
+            '¶' => text.put_shown(number.saturating_add(1)),
+            '°' => put_zeros(number, text),
+            _ => text.put_shown(letter),
+        }
     }
-    Ok(())
 }
 
-/// Adds a number in decimal digits.
-fn add_number(alloc: Global, number: usize, text: &mut String) -> Result<(), AllocError> {
-    let digits = format!(in alloc; "{number}")?;
-    text.push_str(&digits)
-}
-
-/// Adds so many zeros.
-fn add_zeros(count: usize, text: &mut String) -> Result<(), AllocError> {
+/// Puts so many zeros.
+fn put_zeros(count: usize, text: &mut Text) {
     for _ in 0..count {
-        text.push('0')?;
+        text.put(b"0");
     }
-    Ok(())
 }
 
-/// Adds the pieces of a line: a count, a space, and the piece that stands so many times.
-fn add_line(alloc: Global, line: &str, text: &mut String) -> Result<(), AllocError> {
+/// Puts the pieces of a line: a count, a space, and the piece that stands so many times.
+fn put_line(line: &str, text: &mut Text) {
     let (count, piece) = line.split_once(' ').unwrap_or(("1", line));
-    let count: usize = count.parse().ok().unwrap_or(1);
-    for number in 0..count {
-        add_piece(alloc, piece, number, text)?;
+    for number in 0..count.parse().ok().unwrap_or(1) {
+        put_piece(piece, number, text);
     }
-    Ok(())
 }
 
-/// Makes a text of pieces: each line has a count, a space, and the piece that stands so many times; in it `§` stands for the number of the turn, `¶` for
+/// Puts a text of pieces: each line has a count, a space, and the piece that stands so many times; in it `§` stands for the number of the turn, `¶` for
 /// the next one, and `°` for as many zeros as the number says.
-pub fn make_of_pieces(alloc: Global, lines: &str, text: &mut String) -> Result<(), AllocError> {
+pub fn put_pieces(lines: &str, text: &mut Text) {
     for line in lines.split('\n') {
-        add_line(alloc, line, text)?;
+        put_line(line, text);
     }
-    Ok(())
 }

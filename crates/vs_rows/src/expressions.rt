@@ -2,55 +2,48 @@
 //! hand from the standard.
 
 use crate::signals::SIGNALS;
-use std::alloc::{AllocError, Global};
+use vs_row_files::Text;
 use vs_sim::program;
 
-/// What a source prints, or the text of its refusal.
-fn print(alloc: Global, source: &str, out: &mut Vec<u8>) {
-    let words = ["vsim", "run", "--top", "t", "--until", "1"];
-    let mut err = Vec::new(alloc);
-    let status = program(alloc, &words, source.as_bytes(), &mut *out, &mut err);
-    if status != 0 {
-        *out = err;
-    }
+/// Puts a module with items and a net of an expression, which is in braces and so has its own size (IEEE 1364-2005, clause 5.4.1): it prints
+/// the expression's digits, and then those of the net.
+fn put_items<'t>(items: &'t str, before: &'t str, expression: &'t str, source: &mut Text) {
+    source.put_all(&[
+        "module t;",
+        items,
+        before,
+        "\nwire [63:0] r = {",
+        expression,
+        "};\ninitial #1 begin $display(\"%b\", {",
+        expression,
+        "}); $display(\"%b\", r); end endmodule\n",
+    ]);
 }
 
-/// A module with items and a net of an expression, which is in braces and so has its own size (IEEE 1364-2005, clause 5.4.1): it prints the expression's
-/// digits, and then those of the net.
-fn source_of_items(
-    alloc: Global,
-    items: &str,
-    before: &str,
-    expression: &str,
-) -> Result<String, AllocError> {
-    let net = format!(in alloc; "module t;{items}{before}\nwire [63:0] r = {{{expression}}};\n")?;
-    let calls = format!(in alloc; "$display(\"%b\", {{{expression}}}); $display(\"%b\", r);")?;
-    format!(in alloc; "{net}initial #1 begin {calls} end endmodule\n")
+/// Puts the same of an assignment in place of the net, behind statements.
+fn put_statements<'t>(before: &'t str, expression: &'t str, source: &mut Text) {
+    source.put_all(&[
+        "module t;",
+        SIGNALS,
+        "reg [63:0] r;\ninitial #0 begin ",
+        before,
+        " r = {",
+        expression,
+        "}; $display(\"%b\", {",
+        expression,
+        "}); $display(\"%b\", r); end endmodule\n",
+    ]);
 }
 
-/// The same of an assignment in place of the net, behind statements.
-fn source_of_statements(
-    alloc: Global,
-    before: &str,
-    expression: &str,
-) -> Result<String, AllocError> {
-    let assigned = format!(in alloc; "{before} r = {{{expression}}};")?;
-    let calls = format!(in alloc; "$display(\"%b\", {{{expression}}}); $display(\"%b\", r);")?;
-    format!(in alloc;
-        "module t;{SIGNALS}reg [63:0] r;\ninitial #0 begin {assigned} {calls} end endmodule\n"
-    )
-}
-
-/// A module that prints what directives show, each of the same expression.
-fn source_of_line(alloc: Global, directives: &str, expression: &str) -> Result<String, AllocError> {
-    let mut args = String::new(alloc);
+/// Puts a module that prints what directives show, each of the same expression.
+fn put_line(directives: &str, expression: &str, source: &mut Text) {
+    source.put_all(&["module t;\ninitial $display(\"", directives, "\""]);
     for byte in directives.bytes() {
         if byte == b'%' {
-            args.push_str(", ")?;
-            args.push_str(expression)?;
+            source.put_all(&[", ", expression]);
         }
     }
-    format!(in alloc; "module t;\ninitial $display(\"{directives}\"{args});\nendmodule\n")
+    source.put(b");\nendmodule\n");
 }
 
 /// Whether 64 digits are some digits behind zeros.
@@ -76,23 +69,29 @@ fn line_of(printed: &[u8]) -> &[u8] {
     }
 }
 
-/// The answer of a row of expressions, assignments or directives.
-pub fn answer(
-    alloc: Global,
-    words: &str,
-    question: &str,
-    text: &mut Vec<u8>,
-) -> Result<(), AllocError> {
+/// Puts what a source prints, or the text of its refusal.
+fn print(source: &[u8], text: &mut Text) {
+    let alloc = text.alloc();
+    let words = ["vsim", "run", "--top", "t", "--until", "1"];
+    let mut out = Vec::new(alloc);
+    let mut err = Vec::new(alloc);
+    let status = program(alloc, &words, source, &mut out, &mut err);
+    text.put(line_of(if status == 0 { &out } else { &err }));
+}
+
+/// Puts the answer of a row of expressions, assignments or directives.
+pub fn answer(words: &str, question: &str, text: &mut Text) {
     let (before, expression) = question.rsplit_once(" => ").unwrap_or(("", question));
-    let source = match (words, words.strip_prefix("shown by ")) {
-        ("expression", _) => source_of_items(alloc, "\n", before, expression)?,
-        ("items", _) => source_of_items(alloc, SIGNALS, before, expression)?,
-        (_, Some(directives)) => source_of_line(alloc, directives, expression)?,
-        _ => source_of_statements(alloc, before, expression)?,
-    };
-    let mut printed = Vec::new(alloc);
-    print(alloc, &source, &mut printed);
-    text.extend_from_slice(line_of(&printed))?;
-    text.push(b'\n')?;
-    Ok(())
+    let mut source = Text::new(text.alloc());
+    match (words, words.strip_prefix("shown by ")) {
+        ("expression", _) => put_items("\n", before, expression, &mut source),
+        ("items", _) => put_items(SIGNALS, before, expression, &mut source),
+        (_, Some(directives)) => put_line(directives, expression, &mut source),
+        _ => put_statements(before, expression, &mut source),
+    }
+    match source.whole() {
+        Ok(bytes) => print(bytes, text),
+        Err(_) => text.leave_out(),
+    }
+    text.put(b"\n");
 }

@@ -1,7 +1,8 @@
 //! How the program is called.
 
+use crate::short::Short;
 use std::alloc::{AllocError, Global};
-use std::io::{self, ErrorKind, Read, Write};
+use std::io::{self, ErrorKind, Read};
 use vs_sim::program;
 
 /// What the program answered.
@@ -48,11 +49,11 @@ impl<'s> Read for Input<'s> {
 }
 
 /// Runs the program with these words, a reader and a writer, and answers its status and what it told.
-pub fn call<R: Read + Drop, O: Write + Drop>(
+pub fn call(
     alloc: Global,
     words: &str,
-    input: R,
-    out: O,
+    input: &mut Input,
+    out: &mut Short,
 ) -> Result<(u8, Vec<u8>), AllocError> {
     let mut list = Vec::new(alloc);
     for word in words.split_whitespace() {
@@ -65,7 +66,11 @@ pub fn call<R: Read + Drop, O: Write + Drop>(
 
 /// Runs the program on a source with these words.
 pub fn run(alloc: Global, words: &str, source: &[u8]) -> Result<Answer, AllocError> {
-    let mut out = Vec::new(alloc);
-    let (status, err) = call(alloc, words, Input::new(source), &mut out)?;
-    Ok(Answer { status, out, err })
+    let mut out = Short::new(alloc, usize::MAX, true);
+    let (status, err) = call(alloc, words, &mut Input::new(source), &mut out)?;
+    Ok(Answer {
+        status,
+        out: out.taken,
+        err,
+    })
 }

@@ -25,11 +25,11 @@ fn is_read(
 ) -> Result<(), AllocError> {
     let mut input = Input::new(source);
     input.fails = fails;
-    let mut out = Vec::new(alloc);
+    let mut out = Short::new(alloc, usize::MAX, fails);
     let (answered, err) = call(alloc, WORDS, &mut input, &mut out)?;
     assert_eq!(rt; err.as_slice(), told.as_bytes());
     assert_eq!(rt; answered, status);
-    assert_eq!(rt; out.len(), 0);
+    assert_eq!(rt; out.taken.len(), 0);
     assert_eq!(rt; input.given, source.len());
     Ok(())
 }
@@ -54,11 +54,23 @@ fn readers(rt: HostRuntime) -> Result<(), Fail> {
     Ok(())
 }
 
-// Of the dump's 128 bytes the writer holds as many as it took.
-fn is_written(rt: &impl Abort, alloc: Global, left: usize, fails: bool) -> Result<(), AllocError> {
+// A writer that takes so many bytes of what a call writes holds these, and the status tells whether they are all.
+fn is_cut(
+    rt: &impl Abort,
+    alloc: Global,
+    call_of: &Call,
+    left: usize,
+    fails: bool,
+) -> Result<(), AllocError> {
+    let Call {
+        words,
+        source,
+        text,
+    } = *call_of;
     let mut out = Short::new(alloc, left, fails);
-    let (status, err) = call(alloc, WORDS, Input::new(SOURCE.as_bytes()), &mut out)?;
-    let (wanted, told) = if left < 128 {
+    let mut input = Input::new(source.as_bytes());
+    let (status, err) = call(alloc, words, &mut input, &mut out)?;
+    let (wanted, told) = if left < text.len() {
         (3, "vsim: write\n")
     } else {
         (0, "")
@@ -66,15 +78,43 @@ fn is_written(rt: &impl Abort, alloc: Global, left: usize, fails: bool) -> Resul
     assert_eq!(rt; err.as_slice(), told.as_bytes(), "{left} bytes");
     assert_eq!(rt; status, wanted, "{left} bytes");
     assert_eq!(rt; out.taken.len(), left);
-    assert!(rt; ONE.as_bytes().starts_with(&out.taken), "{left} bytes");
+    assert!(rt; text.as_bytes().starts_with(&out.taken), "{left} bytes");
     Ok(())
 }
 
+/// A call, its source, and the text that it writes.
+struct Call {
+    words: &'static str,
+    source: &'static str,
+    text: &'static str,
+}
+
+/// A run whose dump is asked for, one whose lines are, and a listing.
+static CALLS: [Call; 3] = [
+    Call {
+        words: WORDS,
+        source: SOURCE,
+        text: ONE,
+    },
+    Call {
+        words: "vsim run --top t --until 10",
+        source: "module t; reg a = 0; initial $strobe(\"p %b\", a); initial $strobe(\"q %0d\", a); endmodule",
+        text: "p 0\nq 0\n",
+    },
+    Call {
+        words: "vsim elab --top t",
+        source: SOURCE,
+        text: "t.a reg 1 unsigned 1\nt#p0 initial\n",
+    },
+];
+
 #[test]
 fn writers(rt: HostRuntime) -> Result<(), Fail> {
-    for left in 0..129 {
-        is_written(&rt, rt.alloc(), left, false)?;
-        is_written(&rt, rt.alloc(), left, true)?;
+    for call in &CALLS {
+        for left in 0..call.text.len() + 1 {
+            is_cut(&rt, rt.alloc(), call, left, false)?;
+            is_cut(&rt, rt.alloc(), call, left, true)?;
+        }
     }
     Ok(())
 }

@@ -5,64 +5,66 @@ mod elaborating;
 mod showing;
 
 use crate::elaborating::{Asked, answer_of};
-use std::alloc::{AllocError, Global};
 use std::io;
-use vs_row_files::{Answers, compare_files, make_of_pieces};
+use vs_row_files::{Answers, Text, compare_files, put_pieces};
 
 /// Who elaborates.
-#[derive(Drop)]
-struct Sources {
-    alloc: Global,
+#[derive(Clone, Copy)]
+struct Sources;
+
+/// Whether what is told is one of some answers, with `; ` between these.
+fn is_one(told: &[u8], answers: &str) -> bool {
+    for answer in answers.split("; ") {
+        if told == answer.as_bytes() {
+            return true;
+        }
+    }
+    false
 }
 
 /// What is told of a source where it is one of some answers, with `; ` between these: all of them, else what is told.
-fn one_of(
-    alloc: Global,
-    top: &str,
-    answers: &str,
-    source: &str,
-    text: &mut Vec<u8>,
-) -> Result<(), AllocError> {
-    let mut told = Vec::new(alloc);
-    answer_of(alloc, Asked::Told, top, source, &mut told)?;
-    for answer in answers.split("; ") {
-        if told.as_slice() == answer.as_bytes() {
-            return text.extend_from_slice(answers.as_bytes());
-        }
+fn one_of(answers: &str, source: &str, text: &mut Text) {
+    let mut told = Text::new(text.alloc());
+    answer_of(Asked::Told, "t", source.as_bytes(), &mut told);
+    match told.whole() {
+        Ok(bytes) if is_one(bytes, answers) => text.put(answers.as_bytes()),
+        _ => text.append(&told),
     }
-    text.extend_from_slice(&told)
 }
 
 /// What is told of a source that is made of repeated pieces.
-fn told_of_pieces(
-    alloc: Global,
-    top: &str,
-    pieces: &str,
-    text: &mut Vec<u8>,
-) -> Result<(), AllocError> {
-    let mut source = String::new(alloc);
-    make_of_pieces(alloc, pieces, &mut source)?;
-    answer_of(alloc, Asked::Told, top, &source, text)
+fn told_of_pieces(top: &str, pieces: &str, text: &mut Text) {
+    let mut source = Text::new(text.alloc());
+    put_pieces(pieces, &mut source);
+    match source.whole() {
+        Ok(bytes) => answer_of(Asked::Told, top, bytes, text),
+        Err(_) => text.leave_out(),
+    }
+}
+
+/// What is asked with this word.
+fn asked_with(word: &str) -> Asked {
+    match word {
+        "signals" => Asked::Signals,
+        "assignments" => Asked::Assigns,
+        "processes" => Asked::Processes,
+        "outline" => Asked::Outline,
+        _ => Asked::Told,
+    }
 }
 
 impl Answers for Sources {
-    fn answer(&self, words: &str, question: &str, text: &mut Vec<u8>) -> Result<(), AllocError> {
-        let alloc = self.alloc;
-        let (asked, rest) = words.split_once(" of ").unwrap_or((words, "t"));
-        match asked {
-            "signals" => answer_of(alloc, Asked::Signals, rest, question, text)?,
-            "assignments" => answer_of(alloc, Asked::Assigns, rest, question, text)?,
-            "processes" => answer_of(alloc, Asked::Processes, rest, question, text)?,
-            "outline" => answer_of(alloc, Asked::Outline, rest, question, text)?,
-            "pieces" => told_of_pieces(alloc, rest, question, text)?,
-            "one" => one_of(alloc, "t", rest, question, text)?,
-            _ => answer_of(alloc, Asked::Told, rest, question, text)?,
+    fn answer(&self, words: &str, question: &str, text: &mut Text) {
+        let (word, rest) = words.split_once(" of ").unwrap_or((words, "t"));
+        match word {
+            "pieces" => told_of_pieces(rest, question, text),
+            "one" => one_of(rest, question, text),
+            _ => answer_of(asked_with(word), rest, question.as_bytes(), text),
         }
-        text.push(b'\n')?;
-        Ok(())
+        text.put(b"\n");
     }
 }
 
 fn main(rt: HostRuntime) -> io::Result<()> {
-    compare_files(&rt, &Sources { alloc: rt.alloc() })
+    compare_files(&rt, &Sources)
 }

@@ -1,6 +1,6 @@
 //! Headers and instances as text.
-use crate::text::Text;
-use crate::trees::{form_shown, shown};
+use crate::trees::{form_shown, name_shown, shown, shown_behind, value_shown};
+use vs_row_files::Text;
 use vs_syntax::{
     Connection, Connections, Constant, Direction, Expr, HeaderParameter, Instance, Module,
     ParameterForm, Port, PortForm, PortKind,
@@ -14,14 +14,18 @@ fn parameter_form_shown(form: &ParameterForm, text: &mut Text) {
     }
 }
 
-/// Parameters of an item, with what is said of them.
-pub(crate) fn constants_shown(form: &ParameterForm, constants: &[Constant], text: &mut Text) {
+/// Parameters of an item that begins with a word, with what is said of them.
+pub(crate) fn constants_shown(
+    word: &[u8],
+    form: &ParameterForm,
+    constants: &[Constant],
+    text: &mut Text,
+) {
+    text.put(word);
     parameter_form_shown(form, text);
     for constant in constants {
-        text.put(b" ");
-        text.put(&constant.name);
-        text.put(b" = ");
-        shown(&constant.value, text);
+        name_shown(&constant.name, text);
+        shown_behind(b" = ", &constant.value, text);
     }
 }
 
@@ -73,8 +77,7 @@ pub(crate) fn instances_shown(
         connections_shown(connections, text);
     }
     for instance in instances {
-        text.put(b" ");
-        text.put(&instance.name);
+        name_shown(&instance.name, text);
         connections_shown(&instance.ports, text);
     }
 }
@@ -88,8 +91,7 @@ fn header_parameter_shown(parameter: &HeaderParameter, text: &mut Text) {
         text.put(b" ");
     }
     text.put(&parameter.name);
-    text.put(b" = ");
-    shown(&parameter.value, text);
+    shown_behind(b" = ", &parameter.value, text);
 }
 
 /// What stands before the names of ports.
@@ -117,10 +119,7 @@ fn port_shown(port: &Port, text: &mut Text) {
         text.put(b" ");
     }
     text.put(&port.name);
-    if let Some(value) = &port.value {
-        text.put(b" = ");
-        shown(value, text);
-    }
+    value_shown(&port.value, text);
 }
 
 /// The name and the header of a module in one line.

@@ -6,155 +6,113 @@ mod generated;
 mod instances;
 mod statements;
 mod tasks;
-mod text;
 mod trees;
 
 use crate::asked::{Asked, answer_of};
-use std::alloc::{AllocError, Global};
 use std::io;
-use vs_row_files::{Answers, compare_files, make_of_pieces};
+use vs_row_files::{Answers, Text, compare_files, put_pieces};
 
 /// Who parses.
-#[derive(Drop)]
-struct Texts {
-    alloc: Global,
+#[derive(Clone, Copy)]
+struct Texts;
+
+/// What is asked with some words, and what stands before and behind the question in its source; a fault of the question alone with any others.
+static KINDS: [(&str, Asked, &str, &str); 10] = [
+    (
+        "expression",
+        Asked::Value,
+        "module t; initial x = ",
+        "; endmodule",
+    ),
+    (
+        "left side before `=`",
+        Asked::Left,
+        "module t; initial ",
+        " = x; endmodule",
+    ),
+    (
+        "left side before `<=`",
+        Asked::Left,
+        "module t; initial ",
+        " <= x; endmodule",
+    ),
+    ("item", Asked::Item, "module t; ", " endmodule"),
+    ("items", Asked::Item, "module t; ", " endmodule"),
+    (
+        "statement",
+        Asked::Statement,
+        "module t; initial ",
+        " endmodule",
+    ),
+    ("header", Asked::Header, "module ", " endmodule"),
+    ("source", Asked::Source, "", ""),
+    (
+        "refused behind `module t; `",
+        Asked::Fault,
+        "module t; ",
+        "",
+    ),
+    (
+        "refused behind `module t; initial `",
+        Asked::Fault,
+        "module t; initial ",
+        "",
+    ),
+];
+
+/// What is asked with these words, and what stands before and behind the question in its source.
+fn asked_with(words: &str) -> (Asked, &'static str, &'static str) {
+    for (name, asked, before, behind) in &KINDS {
+        if *name == words {
+            return (*asked, *before, *behind);
+        }
+    }
+    (Asked::Fault, "", "")
 }
 
-/// Answers of a question between two texts.
-fn between(
-    alloc: Global,
-    asked: Asked,
-    ends: (&str, &str),
-    question: &str,
-    text: &mut Vec<u8>,
-) -> Result<(), AllocError> {
-    let (before, behind) = ends;
-    let source = format!(in alloc; "{before}{question}{behind}")?;
-    answer_of(alloc, asked, source.as_bytes(), text)
-}
-
-/// A text without what stands around it.
-fn inner<'a>(whole: &'a [u8], around: (&[u8], &[u8])) -> Option<&'a [u8]> {
-    let (before, behind) = around;
-    whole.strip_prefix(before)?.strip_suffix(behind)
-}
-
-/// Answers of a question between two texts, without what stands around them in the answer.
-fn within(
-    alloc: Global,
-    asked: Asked,
-    ends: (&str, &str),
-    question: &str,
-    around: (&[u8], &[u8]),
-    text: &mut Vec<u8>,
-) -> Result<(), AllocError> {
-    let mut whole = Vec::new(alloc);
-    between(alloc, asked, ends, question, &mut whole)?;
-    match inner(&whole, around) {
-        Some(part) => text.extend_from_slice(part),
-        None => text.extend_from_slice(&whole),
+/// Puts what is answered of a question that is asked with these words.
+fn answer(words: &str, question: &str, text: &mut Text) {
+    let (asked, before, behind) = asked_with(words);
+    let mut source = Text::new(text.alloc());
+    if words == "pieces" {
+        put_pieces(question, &mut source);
+    } else {
+        source.put(before.as_bytes());
+        source.put(question.as_bytes());
+        source.put(behind.as_bytes());
+    }
+    match source.whole() {
+        Ok(bytes) => answer_of(asked, bytes, text),
+        Err(_) => text.leave_out(),
     }
 }
 
-/// What is answered of a left side before `=` and before `<=`, where it is the same; else both.
-fn left_side(alloc: Global, question: &str, text: &mut Vec<u8>) -> Result<(), AllocError> {
-    let mut blocking = Vec::new(alloc);
-    let mut later = Vec::new(alloc);
-    between(
-        alloc,
-        Asked::Item,
-        ("module t; initial ", " = x; endmodule"),
-        question,
-        &mut blocking,
-    )?;
-    between(
-        alloc,
-        Asked::Item,
-        ("module t; initial ", " <= x; endmodule"),
-        question,
-        &mut later,
-    )?;
-    match (blocking.strip_suffix(b" = x"), later.strip_suffix(b" <= x")) {
-        (Some(one), Some(other)) if one == other => text.extend_from_slice(one),
+/// Puts what is answered of a left side before `=` and before `<=`, where it is the same; else both.
+fn left_side(question: &str, text: &mut Text) {
+    let mut blocking = Text::new(text.alloc());
+    let mut later = Text::new(text.alloc());
+    answer("left side before `=`", question, &mut blocking);
+    answer("left side before `<=`", question, &mut later);
+    match (blocking.whole(), later.whole()) {
+        (Ok(one), Ok(other)) if one == other => text.put(one),
         _ => {
-            text.extend_from_slice(&blocking)?;
-            text.extend_from_slice(b"; ")?;
-            text.extend_from_slice(&later)
+            text.append(&blocking);
+            text.put(b"; ");
+            text.append(&later);
         }
     }
 }
 
-/// What is answered of a text that is made of repeated pieces.
-fn pieces(alloc: Global, question: &str, text: &mut Vec<u8>) -> Result<(), AllocError> {
-    let mut source = String::new(alloc);
-    make_of_pieces(alloc, question, &mut source)?;
-    answer_of(alloc, Asked::Fault, source.as_bytes(), text)
-}
-
-/// Answers a question that is asked with these words.
-fn answer(
-    alloc: Global,
-    words: &str,
-    question: &str,
-    text: &mut Vec<u8>,
-) -> Result<(), AllocError> {
-    let module = ("module t; ", " endmodule");
-    let initial = ("module t; initial ", " endmodule");
-    match words {
-        "expression" => within(
-            alloc,
-            Asked::Item,
-            ("module t; initial x = ", "; endmodule"),
-            question,
-            (b"x = ", b""),
-            text,
-        ),
-        "left side" => left_side(alloc, question, text),
-        "item" => between(alloc, Asked::Item, module, question, text),
-        "statement" => between(alloc, Asked::Statement, initial, question, text),
-        "items" => within(
-            alloc,
-            Asked::Source,
-            module,
-            question,
-            (b" module t ", b";"),
-            text,
-        ),
-        "header" => between(
-            alloc,
-            Asked::Header,
-            ("module ", " endmodule"),
-            question,
-            text,
-        ),
-        "source" => answer_of(alloc, Asked::Source, question.as_bytes(), text),
-        "refused behind `module t; `" => between(
-            alloc,
-            Asked::Fault,
-            ("module t; ", ""),
-            question,
-            text,
-        ),
-        "refused behind `module t; initial `" => between(
-            alloc,
-            Asked::Fault,
-            ("module t; initial ", ""),
-            question,
-            text,
-        ),
-        "pieces" => pieces(alloc, question, text),
-        _ => answer_of(alloc, Asked::Fault, question.as_bytes(), text),
-    }
-}
-
 impl Answers for Texts {
-    fn answer(&self, words: &str, question: &str, text: &mut Vec<u8>) -> Result<(), AllocError> {
-        answer(self.alloc, words, question, text)?;
-        text.push(b'\n')?;
-        Ok(())
+    fn answer(&self, words: &str, question: &str, text: &mut Text) {
+        match words {
+            "left side" => left_side(question, text),
+            _ => answer(words, question, text),
+        }
+        text.put(b"\n");
     }
 }
 
 fn main(rt: HostRuntime) -> io::Result<()> {
-    compare_files(&rt, &Texts { alloc: rt.alloc() })
+    compare_files(&rt, &Texts)
 }

@@ -1,7 +1,7 @@
 //! System tasks and delays of nonblocking assignments as text.
 use crate::statements::delay_shown;
-use crate::text::Text;
-use crate::trees::shown;
+use crate::trees::{shown, shown_behind};
+use vs_row_files::Text;
 use vs_syntax::{Argument, DelayValue, DumpArgument, DumpTask, PrintArguments, PrintTask, Stmt};
 
 /// The sign of a nonblocking assignment, and its delay.
@@ -14,21 +14,24 @@ pub(crate) fn later_sign(delay: &Option<DelayValue>, text: &mut Text) {
     }
 }
 
+/// A text in quotes.
+fn quoted(bytes: &[u8], text: &mut Text) {
+    text.put(b"\"");
+    text.put(bytes);
+    text.put(b"\"");
+}
+
 /// What stands behind `$display` or `$strobe`: the bytes of the text in quotes, and each argument behind a space.
 fn print_arguments_shown(arguments: &PrintArguments, text: &mut Text) {
     match arguments {
         PrintArguments::Missing => {}
         PrintArguments::Empty => text.put(b"()"),
         PrintArguments::Text(format, others) => {
-            text.put(b"(\"");
-            text.put(format);
-            text.put(b"\"");
+            text.put(b"(");
+            quoted(format, text);
             for other in others {
                 match other {
-                    Argument::Value(value) => {
-                        text.put(b" ");
-                        shown(value, text);
-                    },
+                    Argument::Value(value) => shown_behind(b" ", value, text),
                     Argument::Time => text.put(b" $time"),
                 }
             }
@@ -40,16 +43,12 @@ fn print_arguments_shown(arguments: &PrintArguments, text: &mut Text) {
 /// An argument of `$dumpfile` or `$dumpvars`: the bytes of a text in quotes.
 fn dump_argument_shown(argument: &DumpArgument, text: &mut Text) {
     match argument {
-        DumpArgument::Text(bytes) => {
-            text.put(b"\"");
-            text.put(bytes);
-            text.put(b"\"");
-        }
+        DumpArgument::Text(bytes) => quoted(bytes, text),
         DumpArgument::Value(value) => shown(value, text),
     }
 }
 
-/// A system task, its arguments in parentheses; nothing of any other statement.
+/// A system task, its arguments in parentheses; `not shown` for any other statement.
 pub(crate) fn task_shown(s: &Stmt, text: &mut Text) {
     match s {
         Stmt::Print(task, arguments) => {
@@ -78,6 +77,6 @@ pub(crate) fn task_shown(s: &Stmt, text: &mut Text) {
                 text.put(b")");
             }
         }
-        _ => {}
+        _ => text.put(b"not shown"),
     }
 }

@@ -1,22 +1,44 @@
 //! Declarations, assignments and expressions as text.
-use crate::generated::bare_names_shown;
 use crate::instances::{constants_shown, instances_shown, port_form_shown};
-use crate::tasks::later_sign;
-use crate::text::Text;
+use crate::statements::simple_shown;
 use vs_logic4::{Binary, Unary};
-use vs_syntax::{
-    Declarator, DelayValue, Expr, Form, Item, Left, NetAssignment, PartSelect, Range, Stmt,
-};
+use vs_row_files::Text;
+use vs_syntax::{Declarator, Expr, Form, Item, Left, NetAssignment, PartSelect, Range};
 
 /// How deep expressions are shown.
 const DEPTH: u32 = 256;
 
 /// An expression in one line, each chain, each conditional and each operator with its operand in brackets, each select behind a bar.
 pub(crate) fn shown(e: &Expr, text: &mut Text) {
-    shown_within(DEPTH, e, text)
+    shown_within(DEPTH, e, text);
 }
 
-/// The same, of at most so many expressions within one another; nothing of those below.
+/// An expression behind a word.
+pub(crate) fn shown_behind(word: &[u8], e: &Expr, text: &mut Text) {
+    behind_within(DEPTH, word, e, text);
+}
+
+/// An expression between two words.
+pub(crate) fn shown_between(before: &[u8], e: &Expr, behind: &[u8], text: &mut Text) {
+    between_within(DEPTH, before, e, behind, text);
+}
+
+/// Expressions with commas between them, and a word behind them.
+pub(crate) fn list_shown(first: &Expr, others: &[Expr], behind: &[u8], text: &mut Text) {
+    list_within(DEPTH, first, others, behind, text);
+}
+
+/// A name, and its selects behind it, each with a bar before its first expression.
+pub(crate) fn selected_shown(
+    name: &[u8],
+    selects: &[(Expr, Option<(PartSelect, Expr)>)],
+    text: &mut Text,
+) {
+    selected_within(DEPTH, name, selects, text);
+}
+
+/// An expression in one line, of at most so many expressions within one another; nothing of those below.
+#[cycle(shown)]
 fn shown_within(depth: u32, e: &Expr, text: &mut Text) {
     if depth == 0 {
         return;
@@ -25,33 +47,16 @@ fn shown_within(depth: u32, e: &Expr, text: &mut Text) {
     match e {
         Expr::Number(_) => text.put(b"0"),
         Expr::Name(name) => text.put(name),
-        Expr::Select(name, selects) => {
-            text.put(name);
-            for (index, second) in selects {
-                text.put(b"|");
-                shown_within(room, index, text);
-                if let Some((kind, other)) = second {
-                    text.put(between(*kind));
-                    shown_within(room, other, text);
-                }
-            }
-        }
-        Expr::Group(inner) => {
-            text.put(b"(");
-            shown_within(room, inner, text);
-            text.put(b")");
-        }
+        Expr::Select(name, selects) => selected_within(room, name, selects, text),
+        Expr::Group(inner) => between_within(room, b"(", inner, b")", text),
         Expr::Unary(operator, inner) => {
-            text.put(prefix(*operator));
-            shown_within(room, inner, text);
-            text.put(b"]");
+            between_within(room, prefix(*operator), inner, b"]", text)
         }
+        Expr::Cast(signed, inner) => between_within(room, conversion(*signed), inner, b")", text),
         Expr::Chain(first, links) => {
-            text.put(b"[");
-            shown_within(room, first, text);
+            behind_within(room, b"[", first, text);
             for (operator, operand) in links {
-                text.put(infix(*operator));
-                shown_within(room, operand, text);
+                behind_within(room, infix(*operator), operand, text);
             }
             text.put(b"]");
         }
@@ -59,54 +64,61 @@ fn shown_within(depth: u32, e: &Expr, text: &mut Text) {
             text.put(b"[");
             for (condition, value) in pairs {
                 shown_within(room, condition, text);
-                text.put(b" ? ");
-                shown_within(room, value, text);
-                text.put(b" : ");
+                between_within(room, b" ? ", value, b" : ", text);
             }
             shown_within(room, last, text);
             text.put(b"]");
         }
         Expr::Concat(first, others) => {
             text.put(b"{");
-            shown_within(room, first, text);
-            for other in others {
-                text.put(b", ");
-                shown_within(room, other, text);
-            }
-            text.put(b"}");
+            list_within(room, first, others, b"}", text);
         }
         Expr::Repeat(times, first, others) => {
-            text.put(b"{");
-            shown_within(room, times, text);
-            text.put(b"{");
-            shown_within(room, first, text);
-            for other in others {
-                text.put(b", ");
-                shown_within(room, other, text);
-            }
-            text.put(b"}}");
-        }
-        Expr::Cast(signed, inner) => {
-            text.put(conversion(*signed));
-            shown_within(room, inner, text);
-            text.put(b")");
+            between_within(room, b"{", times, b"{", text);
+            list_within(room, first, others, b"}}", text);
         }
     }
 }
 
-/// The selects behind the name of a left side, each with a bar before its first expression.
-pub(crate) fn selects_shown(selects: &[(Expr, Option<(PartSelect, Expr)>)], text: &mut Text) {
+#[cycle(shown)]
+fn behind_within(depth: u32, word: &[u8], e: &Expr, text: &mut Text) {
+    text.put(word);
+    shown_within(depth, e, text);
+}
+
+#[cycle(shown)]
+fn between_within(depth: u32, before: &[u8], e: &Expr, behind: &[u8], text: &mut Text) {
+    text.put(before);
+    shown_within(depth, e, text);
+    text.put(behind);
+}
+
+#[cycle(shown)]
+fn list_within(depth: u32, first: &Expr, others: &[Expr], behind: &[u8], text: &mut Text) {
+    shown_within(depth, first, text);
+    for other in others {
+        behind_within(depth, b", ", other, text);
+    }
+    text.put(behind);
+}
+
+#[cycle(shown)]
+fn selected_within(
+    depth: u32,
+    name: &[u8],
+    selects: &[(Expr, Option<(PartSelect, Expr)>)],
+    text: &mut Text,
+) {
+    text.put(name);
     for (index, second) in selects {
-        text.put(b"|");
-        shown(index, text);
+        behind_within(depth, b"|", index, text);
         if let Some((kind, other)) = second {
-            text.put(between(*kind));
-            shown(other, text);
+            behind_within(depth, middle(*kind), other, text);
         }
     }
 }
 
-fn between(kind: PartSelect) -> &'static [u8] {
+fn middle(kind: PartSelect) -> &'static [u8] {
     match kind {
         PartSelect::Bounds => b" to ",
         PartSelect::Upward => b" up ",
@@ -162,12 +174,9 @@ fn infix(operator: Binary) -> &'static [u8] {
 }
 
 /// The left side of an assignment in one line.
-fn left_shown(left: &Left, text: &mut Text) {
+pub(crate) fn left_shown(left: &Left, text: &mut Text) {
     match left {
-        Left::Name(name, selects) => {
-            text.put(name);
-            selects_shown(selects, text);
-        }
+        Left::Name(name, selects) => selected_shown(name, selects, text),
         Left::Concat(first, others) => {
             text.put(b"{");
             left_shown(first, text);
@@ -180,26 +189,40 @@ fn left_shown(left: &Left, text: &mut Text) {
     }
 }
 
+/// A name behind a space.
+pub(crate) fn name_shown(name: &[u8], text: &mut Text) {
+    text.put(b" ");
+    text.put(name);
+}
+
+/// Names alone, each behind a space.
+fn bare_names_shown(names: &[Vec<u8>], text: &mut Text) {
+    for name in names {
+        name_shown(name, text);
+    }
+}
+
 /// A range, where there is one.
 pub(crate) fn range_shown(range: &Option<Range>, text: &mut Text) {
     if let Some(range) = range {
-        text.put(b" from ");
-        shown(&range.left, text);
-        text.put(b" to ");
-        shown(&range.right, text);
+        shown_behind(b" from ", &range.left, text);
+        shown_behind(b" to ", &range.right, text);
+    }
+}
+
+/// The value that a name is given, where there is one.
+pub(crate) fn value_shown(value: &Option<Expr>, text: &mut Text) {
+    if let Some(value) = value {
+        shown_behind(b" = ", value, text);
     }
 }
 
 /// Names of a declaration, each with the range of its words, or its value.
 fn names_shown(names: &[Declarator], text: &mut Text) {
     for name in names {
-        text.put(b" ");
-        text.put(&name.name);
+        name_shown(&name.name, text);
         range_shown(&name.words, text);
-        if let Some(value) = &name.value {
-            text.put(b" = ");
-            shown(value, text);
-        }
+        value_shown(&name.value, text);
     }
 }
 
@@ -211,29 +234,29 @@ pub(crate) fn form_shown(form: &Form, text: &mut Text) {
     range_shown(&form.range, text);
 }
 
-/// Both sides of an assignment in one line, with the sign between them.
-pub(crate) fn sides_shown(left: &Left, sign: &[u8], value: &Expr, text: &mut Text) {
-    left_shown(left, text);
-    text.put(sign);
-    shown(value, text);
+/// A declaration that begins with a word.
+fn declaration_shown(word: &[u8], form: &Form, names: &[Declarator], text: &mut Text) {
+    text.put(word);
+    form_shown(form, text);
+    names_shown(names, text);
 }
 
-/// Both sides of a nonblocking assignment in one line, with its delay.
-pub(crate) fn later_shown(left: &Left, delay: &Option<DelayValue>, value: &Expr, text: &mut Text) {
+/// Both sides of an assignment in one line.
+pub(crate) fn sides_shown(left: &Left, value: &Expr, text: &mut Text) {
     left_shown(left, text);
-    later_sign(delay, text);
-    shown(value, text)
+    shown_behind(b" = ", value, text);
 }
 
 /// The assignments of an `assign` item in one line.
 fn assignments_shown(assignments: &[NetAssignment], text: &mut Text) {
+    text.put(b"assign");
     for a in assignments {
         text.put(b" ");
-        sides_shown(&a.target, b" = ", &a.value, text);
+        sides_shown(&a.target, &a.value, text);
     }
 }
 
-/// A declaration, an assignment in `initial`, or the assignments of an `assign` item, in one line.
+/// A declaration, a simple statement in `initial`, or the assignments of an `assign` item, in one line.
 pub(crate) fn item_shown(item: &Item, text: &mut Text) {
     match item {
         Item::Port(form, names) => {
@@ -244,42 +267,20 @@ pub(crate) fn item_shown(item: &Item, text: &mut Text) {
             text.put(b"genvar");
             bare_names_shown(names, text);
         }
-        Item::Wire(form, names) => {
-            text.put(b"wire");
-            form_shown(form, text);
-            names_shown(names, text);
-        }
-        Item::Reg(form, names) => {
-            text.put(b"reg");
-            form_shown(form, text);
-            names_shown(names, text);
-        }
+        Item::Wire(form, names) => declaration_shown(b"wire", form, names, text),
+        Item::Reg(form, names) => declaration_shown(b"reg", form, names, text),
         Item::Integer(names) => {
             text.put(b"integer");
             names_shown(names, text);
-        },
-        Item::Parameter(form, constants) => {
-            text.put(b"parameter");
-            constants_shown(form, constants, text);
         }
-        Item::Localparam(form, constants) => {
-            text.put(b"localparam");
-            constants_shown(form, constants, text);
-        }
+        Item::Parameter(form, constants) => constants_shown(b"parameter", form, constants, text),
+        Item::Localparam(form, constants) => constants_shown(b"localparam", form, constants, text),
         Item::Instances(name, overrides, instances) => {
             text.put(name);
             instances_shown(overrides, instances, text);
         }
-        Item::Initial(Stmt::Assign(left, value)) => {
-            sides_shown(left, b" = ", value, text);
-        }
-        Item::Initial(Stmt::Later(left, delay, value)) => {
-            later_shown(left, delay, value, text);
-        }
-        Item::Assign(assignments) => {
-            text.put(b"assign");
-            assignments_shown(assignments, text);
-        }
-        _ => text.put(b"not shown"),
+        Item::Assign(assignments) => assignments_shown(assignments, text),
+        Item::Initial(statement) => simple_shown(statement, text),
+        Item::Always(_) => text.put(b"not shown"),
     }
 }

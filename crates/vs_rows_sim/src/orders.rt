@@ -1,30 +1,11 @@
-//! Several events that are enabled at once: other permitted orders, by a policy of the test's own. Every run is an execution that is permitted, whatever
+//! Several events that are enabled at once: other permitted orders, which the policy `Listed` chooses. Every run is an execution that is permitted, whatever
 //! the policy.
 
 use crate::headers::{EIGHT, ONE_VARIABLE, SIX, VARIABLES};
-use crate::running::{design_of, is_text};
-use std::alloc::Global;
+use crate::running::{is_text, run_whole};
 use std::test::Fail;
-use vs_kernel::{Kernel, Outcome, Pick};
-use vs_regions::Item;
-use vs_sim::Dropped;
-use vs_time_wheel::Wheel;
-use vs_vcd::Counted;
-
-/// A policy that makes the choices of a list, the last item where there are fewer, and the first item behind its end.
-#[derive(Drop)]
-struct Script {
-    choices: &'static [usize],
-    next: usize,
-}
-
-impl Pick for Script {
-    fn pick(&mut self, n: usize) -> usize {
-        let choice = self.choices.get(self.next).copied().unwrap_or(0);
-        self.next = self.next.saturating_add(1);
-        choice.min(n - 1)
-    }
-}
+use vs_kernel::Outcome;
+use vs_sim::Policy;
 
 /// A source, the choices of the policy, and the dump.
 struct Order {
@@ -38,7 +19,7 @@ struct Order {
 const ORDERS: &[Order] = &[
     // At 3 the second process goes first, so the first one reads what it wrote.
     Order {
-        choices: &[0, 0, 0, 9, 9],
+        choices: &[0, 0, 0, 1, 0],
         until: 3,
         source: "module t; reg a; reg b; initial begin a = 0; #3 b = a; end initial #3 a = 1; endmodule",
         out: &[VARIABLES, "#0\n$dumpvars\n0!\nx\"\n$end\n#3\n1!\n1\"\n"],
@@ -121,34 +102,23 @@ const ORDERS: &[Order] = &[
     },
 ];
 
-// The outcome of a run under an order's policy, and the dump.
-fn ordered(alloc: Global, order: &Order) -> Result<(Outcome, Vec<u8>), Fail> {
-    let design = design_of(alloc, order.source)?;
-    let policy = Script {
-        choices: order.choices,
-        next: 0,
-    };
-    let queue = Wheel::<Item>::new(alloc).ok().ok_or("memory")?;
-    let mut kernel = Kernel::new(alloc, &design, queue, policy)?;
-    let mut out = Counted::new(Vec::new(alloc));
-    let outcome = kernel
-        .run(u64::from(order.until), 100, &mut out, &mut Dropped)
-        .ok()
-        .ok_or("run")?;
-    Ok((outcome, out.into_inner()))
-}
-
 #[test]
 fn orders(rt: HostRuntime) -> Result<(), Fail> {
     for order in ORDERS {
         let Order {
             choices,
+            until,
             source,
-            ..
-        } = order;
-        let (outcome, text) = ordered(rt.alloc(), order)?;
-        assert_eq!(rt; outcome, Outcome::Quiet, "{choices:?}: {source}");
-        assert!(rt; is_text(&text, order.out), "{choices:?}: {source}");
+            out,
+        } = *order;
+        let policy = Policy::Listed(choices);
+        let answer = run_whole(rt.alloc(), source, &policy, (until, 100))?;
+        assert_eq!(rt;
+            answer.outcome,
+            Some(Outcome::Quiet),
+            "{choices:?}: {source}"
+        );
+        assert!(rt; is_text(&answer.dump, out), "{choices:?}: {source}");
     }
     Ok(())
 }

@@ -1,11 +1,9 @@
 //! Rows of the policy `Listed`, which makes the choices that it is given.
 
 use crate::headers::VARIABLES;
-use crate::running::is_text;
-use std::alloc::Global;
+use crate::running::{is_text, run_whole};
 use std::test::Fail;
-use vs_sim::{Dropped, Policy, simulate};
-use vs_vcd::Counted;
+use vs_sim::Policy;
 
 /// A source, the choices that are made, and the body of the dump.
 struct Listed {
@@ -39,31 +37,16 @@ const LISTED: &[Listed] = &[
     },
 ];
 
-// The dump of a run to 0 that makes these choices.
-fn dump_listed(alloc: Global, row: &Listed) -> Result<Vec<u8>, Fail> {
-    let mut sink = Counted::new(Vec::new(alloc));
-    let mut lines = Dropped;
-    let policy = Policy::Listed(row.choices);
-    simulate(
-        alloc,
-        row.source.as_bytes(),
-        b"t",
-        0,
-        1000,
-        &policy,
-        &mut sink,
-        &mut lines,
-    )
-    .ok()
-    .ok_or("the source is refused")?;
-    Ok(sink.into_inner())
-}
-
 #[test]
 fn listed_items(rt: HostRuntime) -> Result<(), Fail> {
     for row in LISTED {
-        let text = dump_listed(rt.alloc(), row)?;
-        assert!(rt; is_text(&text, &[VARIABLES, row.body]), "{:?}", row.choices);
+        let policy = Policy::Listed(row.choices);
+        let answer = run_whole(rt.alloc(), row.source, &policy, (0, 1000))?;
+        assert!(rt;
+            is_text(&answer.dump, &[VARIABLES, row.body]),
+            "{:?}",
+            row.choices
+        );
     }
     Ok(())
 }

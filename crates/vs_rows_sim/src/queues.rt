@@ -1,7 +1,7 @@
 //! Event queues: a run over the wheel and one over the plain list give the same outcome, and write the same dump and the same lines.
 ghost use Rattle.std.specs.Prelude.{◌≡◌, []};
 
-use crate::running::design_of;
+use crate::running::{Answer, Room, design_of};
 use std::alloc::Global;
 use std::process::Abort;
 use std::test::Fail;
@@ -9,7 +9,6 @@ use vs_design::Design;
 use vs_kernel::{Fifo, Kernel, Lifo, Outcome, Pick};
 use vs_regions::Item;
 use vs_time_wheel::{EventQueue, ListQueue, Wheel};
-use vs_vcd::Counted;
 
 /// A source, how its run to 3000 ends, what ends the dump, and the lines under `fifo` and under `lifo`.
 struct Delayed {
@@ -55,14 +54,6 @@ const DELAYED: &[Delayed] = &[
     },
 ];
 
-/// What a run answers and writes.
-#[derive(Drop)]
-struct Answer {
-    outcome: Outcome,
-    dump: Vec<u8>,
-    lines: Vec<u8>,
-}
-
 // A run to 3000 over a queue.
 fn run_over<Q: EventQueue<Item> + Drop, P: Pick + Drop>(
     alloc: Global,
@@ -74,16 +65,16 @@ fn run_over<Q: EventQueue<Item> + Drop, P: Pick + Drop>(
     requires at_zero { Q.clock queue ≡ 0 }
 {
     let mut kernel = Kernel::new(alloc, design, queue, policy)?;
-    let mut dump = Counted::new(Vec::new(alloc));
-    let mut lines = Counted::new(Vec::new(alloc));
+    let mut dump = Room::for_all(alloc);
+    let mut lines = Room::for_all(alloc);
     let outcome = kernel
         .run(3000, 100_000, &mut dump, &mut lines)
         .ok()
         .ok_or("run")?;
     Ok(Answer {
-        outcome,
-        dump: dump.into_inner(),
-        lines: lines.into_inner(),
+        outcome: Some(outcome),
+        dump: dump.into_inner().taken,
+        lines: lines.into_inner().taken,
     })
 }
 
@@ -101,8 +92,8 @@ fn compare<P: Pick + Copy + Drop>(
     let list = ListQueue::<Item>::new(alloc);
     let fast = run_over(alloc, &design, wheel, policy)?;
     let plain = run_over(alloc, &design, list, policy)?;
-    assert_eq!(rt; fast.outcome, row.outcome, "{source}");
-    assert_eq!(rt; plain.outcome, row.outcome, "{source}");
+    assert_eq!(rt; fast.outcome, Some(row.outcome), "{source}");
+    assert_eq!(rt; plain.outcome, Some(row.outcome), "{source}");
     assert_eq!(rt; fast.lines.as_slice(), lines.as_bytes(), "{source}");
     assert_eq!(rt; plain.lines.as_slice(), lines.as_bytes(), "{source}");
     assert!(rt; fast.dump.ends_with(row.end.as_bytes()), "{source}");

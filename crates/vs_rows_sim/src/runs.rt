@@ -1,11 +1,11 @@
 //! Runs of `simulate`: what it answers, and what it writes to both sinks.
 
+use crate::running::run_whole;
 use std::alloc::Global;
 use std::process::Abort;
 use std::test::Fail;
 use vs_kernel::Outcome;
-use vs_sim::{Policy, simulate};
-use vs_vcd::Counted;
+use vs_sim::Policy;
 
 /// The line before the body of a dump.
 const DECLARED: &[u8] = b"$enddefinitions $end\n";
@@ -337,30 +337,18 @@ const LIMITS: &[Run] = &[
 
 // Ends the test if a run answers or writes something else.
 fn compare(rt: &impl Abort, alloc: Global, run: &Run) -> Result<(), Fail> {
-    let source = run.source;
-    let mut vcd = Counted::new(Vec::new(alloc));
-    let mut lines = Counted::new(Vec::new(alloc));
-    let (until, steps) = (u64::from(run.until), u64::from(run.steps));
-    let answer = simulate(
-        alloc,
-        source.as_bytes(),
-        b"t",
-        until,
-        steps,
-        &run.policy,
-        &mut vcd,
-        &mut lines,
-    );
-    let outcome = answer.ok().ok_or("the source is refused")?;
-    assert_eq!(rt; outcome, run.outcome, "{source}");
-    assert_eq!(rt;
-        lines.into_inner().as_slice(),
-        run.lines.as_bytes(),
-        "{source}"
-    );
-    let mut wanted = Vec::from_slice(alloc, DECLARED)?;
-    wanted.extend_from_slice(run.body.as_bytes())?;
-    assert!(rt; vcd.into_inner().ends_with(&wanted), "{source}");
+    let Run {
+        source,
+        body,
+        lines,
+        ..
+    } = run;
+    let answer = run_whole(alloc, source, &run.policy, (run.until, run.steps))?;
+    assert_eq!(rt; answer.outcome, Some(run.outcome), "{source}");
+    assert!(rt; answer.lines.as_slice() == lines.as_bytes(), "{source}");
+    let declared = answer.dump.strip_suffix(body.as_bytes());
+    let declared = declared.ok_or("another dump")?;
+    assert!(rt; declared.ends_with(DECLARED), "{source}");
     Ok(())
 }
 

@@ -169,8 +169,10 @@ fn do_call<'s, W: Write>(
             }
         }
         Call::Elab(top) => {
-            let mut writer = writer;
-            match list_design(alloc, source, top.as_bytes(), &mut writer) {
+            let mut shown = Counted::new(writer);
+            let result = list_design(alloc, source, top.as_bytes(), &mut shown);
+            let writer = shown.into_inner();
+            match result {
                 Ok(()) => (Ok(None), writer),
                 Err(fault) => (Err(fault), writer),
             }

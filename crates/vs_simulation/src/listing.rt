@@ -1,18 +1,16 @@
 //! The listing of a design.
 ghost use Rattle.std.specs.Prelude.{◌≡◌, ◌++◌, ◌∷◌, [], true, false, IfOk, IfErr, OnOk, OnErr};
-ghost use Rattle.std.specs.Io.KnownBytes.{Appends};
 ghost use Rattle.std.specs.List.{flat_map};
-ghost use Rattle.vs_vcd.specs.Sinks.{AppendsPart};
-ghost use Rattle.vs_simulation.specs.Honesty.{SimulationFails, is_refusal};
+ghost use Rattle.vs_vcd.specs.Sinks.{failed_after};
+ghost use Rattle.vs_simulation.specs.Honesty.{SimulationFails, is_refusal, is_write};
 ghost use Rattle.vs_simulation.specs.Listing.{kind_word, sign_word, process_word, spaced, signal_line, assign_line, process_line, listing, IsListed, HasBegunListing};
 
 use crate::fault::SimFault;
 use crate::simulation::design_of;
 use std::alloc::{AllocError, Global};
-use std::io::Write;
 use vs_design::{Assign, Design, Process, ProcessKind, Signal, SignalKind};
 use vs_kernel::RunFault;
-use vs_vcd::WriteFault;
+use vs_vcd::{Sink, WriteFault, write_all};
 
 fn kind_word(kind: SignalKind) -> &'static [u8]
     ensures { result.now ≡ kind_word kind }
@@ -110,38 +108,25 @@ fn design_text(alloc: Global, design: &Design) -> Result<Vec<u8>, AllocError>
     Ok(text)
 }
 
-// Writes a text, in as many pieces as the writer wants. The first write that fails ends it, as at a sink.
-fn write_text<W: Write>(writer: &mut W, text: &[u8]) -> Result<(), WriteFault>
-    ensures ok { OnOk result (Appends (W.contents writer.old) (W.contents writer.new) text.now) }
-    ensures err { OnErr result (AppendsPart (W.contents writer.old) (W.contents writer.new) text.now) }
-{
-    let mut rest = text;
-    while !rest.is_empty() {
-        match writer.write(rest) {
-            Ok(taken) if taken > 0 => rest = &rest[taken..],
-            _ => return Err(WriteFault),
-        }
-    }
-    Ok(())
-}
-
 /// Writes a line for each signal, continuous assignment and process of the design that a source and the name of a top module define, in design order.
-/// Where the source is refused, nothing is written; where the writing fails, a beginning of the lines.
-pub fn list_design<'s, W: Write>(
+/// Where the source is refused, nothing is written; where the sink fails, a beginning of the lines.
+pub fn list_design<'s, L: Sink>(
     alloc: Global,
     source: &'s [u8],
     top: &[u8],
-    writer: &mut W,
+    lines: &mut L,
 ) -> Result<(), SimFault<'s>>
-    ensures listed { IfOk result (λ _. IsListed source.entry.now top.now (W.contents writer.old) (W.contents writer.new)) }
+    ensures listed { IfOk result (λ _. IsListed source.entry.now top.now (L.bytes lines.old) (L.bytes lines.new)) }
     ensures fault { IfErr result (λ fault. SimulationFails source.entry.now top.now fault) }
-    ensures refused { IfErr result (λ fault. is_refusal fault ≡ true → writer.new ≡ writer.old) }
+    ensures refused { IfErr result (λ fault. is_refusal fault ≡ true → lines.new ≡ lines.old) }
     ensures begun { IfErr result (λ fault. is_refusal fault ≡ false →
-        HasBegunListing source.entry.now top.now (W.contents writer.old) (W.contents writer.new)) }
+        HasBegunListing source.entry.now top.now (L.bytes lines.old) (L.bytes lines.new)) }
+    // A failed write is told only where the count of the sink rose.
+    ensures failures { L.failed lines.new ≡ failed_after (is_write result) (L.failed lines.old) }
 {
     let design = design_of(alloc, source, top)?;
     let text = design_text(alloc, &design)?;
-    match write_text(writer, &text) {
+    match write_all(lines, &text) {
         Ok(()) => Ok(()),
         Err(WriteFault) => Err(SimFault::Run(RunFault::Write)),
     }

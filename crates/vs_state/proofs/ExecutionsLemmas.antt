@@ -22,7 +22,7 @@ use Rattle.vs_places.proofs.ChangedLemmas.{changed_there}
 use Rattle.vs_regions.specs.Active.{is_active, place_of_active}
 use Rattle.vs_state.specs.Told.{told}
 use Rattle.vs_state.specs.Driven.{IsDriven}
-use Rattle.vs_state.specs.Touches.{AreOf, is_left, rested}
+use Rattle.vs_changes.specs.Touches.{AreOf, is_left, rested}
 
 -- ---- ends of regions
 

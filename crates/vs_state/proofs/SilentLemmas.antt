@@ -20,12 +20,14 @@ use Rattle.vs_process.specs.Executions.{apply, if_some}
 use Rattle.vs_process.specs.States.{AssignState, State, Update, stepped, terms_of, written_behind}
 use Rattle.vs_places.proofs.ListedLemmas.{set_itself, set_twice}
 use Rattle.vs_places.specs.Timelines.{StepsAt, WentAt, step_write}
+use Rattle.vs_state.specs.Effects.{behind_effect}
 use Rattle.vs_state.specs.Prints.{line_of, made_line, made_text}
 use Rattle.vs_state.specs.Silent.{AreHushed, AreSilent, IsHushed, IsReached, IsSilent, Steps}
-use Rattle.vs_state.specs.Touches.{behind_effect, woken_changes}
-use Rattle.vs_state.specs.Waits.{WaitWithin, triggered_changes}
+use Rattle.vs_changes.specs.Touches.{woken_changes}
+use Rattle.vs_changes.specs.Waits.{WaitWithin, triggered_changes}
+use Rattle.vs_state.proofs.EffectsLemmas.{stepped_by}
 use Rattle.vs_state.proofs.PrintsLemmas.{step_line}
-use Rattle.vs_state.proofs.WaitsLemmas.{stepped_by, triggered_set, triggered_there, within_set, written_terms}
+use Rattle.vs_changes.proofs.WaitsLemmas.{triggered_set, triggered_there, within_set, written_terms}
 
 -- a step leaves the time
 behind_time : (s : State) (w : Option Write) → (written_behind s w).time ≡ s.time

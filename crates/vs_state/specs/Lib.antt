@@ -1,8 +1,5 @@
-pub mod Changes
 pub mod Driven
+pub mod Effects
 pub mod Prints
 pub mod Silent
-pub mod Sources
 pub mod Told
-pub mod Touches
-pub mod Waits

@@ -7,22 +7,23 @@ ghost use Rattle.vs_process.specs.Executions as executions;
 ghost use Rattle.vs_flatcode.specs.Places.{is_going};
 ghost use Rattle.vs_process.specs.States as states;
 ghost use Rattle.vs_design.specs.Stores.{changes_nothing};
-ghost use Rattle.vs_state.specs.Changes.{MarkChanges};
+ghost use Rattle.vs_changes.specs.Changes.{MarkChanges};
 ghost use Rattle.vs_state.specs.Driven.{IsDriven};
-ghost use Rattle.vs_state.specs.Touches.{HasSources, behind_effect};
+ghost use Rattle.vs_state.specs.Effects.{behind_effect};
+ghost use Rattle.vs_changes.specs.Touches.{HasSources};
 ghost use Rattle.vs_state.specs.Prints.{line_of, made_line, made_text};
 ghost use Rattle.vs_state.specs.Silent.{Steps};
 ghost use Rattle.vs_state.specs.Told.{told};
-ghost use Rattle.vs_state.specs.Waits.{HasTerms};
+ghost use Rattle.vs_changes.specs.Waits.{HasTerms};
 
 use crate::called::Called;
-use crate::changes::{follow, write_part};
 use crate::state::State;
 use std::alloc::AllocError;
 use std::mem;
+use vs_changes::{follow, write_part, write_parts, write_value};
 use vs_design::{Design, Part, Write};
 use vs_eval::cut_value;
-use vs_flatcode::{assign, make, only_part};
+use vs_flatcode::only_part;
 use vs_process::{Effect, Move};
 use vs_regions::Item;
 use vs_time_wheel::EventQueue;
@@ -263,22 +264,18 @@ impl<'a, Q: EventQueue<Item>> State<'a, Q> {
             return Ok(());
         }
         let time = self.processes.time();
-        self.changes.clear();
-        assign(
-            self.alloc,
-            target,
-            digits,
-            &mut self.store,
-            time,
-            &mut self.changes,
-        )?;
         self.assigns.settle(number);
-        follow(
+        write_value(
+            self.alloc,
+            &mut self.store,
             &mut self.assigns,
             &mut self.processes,
             &mut self.woken,
+            &mut self.changes,
             design,
-            &self.changes,
+            target,
+            digits,
+            time,
             marks,
         )?;
         Ok(())
@@ -331,14 +328,14 @@ impl<'a, Q: EventQueue<Item>> State<'a, Q> {
         let Some(update) = self.processes.take(index) else {
             return Ok(());
         };
-        self.changes.clear();
-        make(&mut self.store, update.what(), &mut self.changes)?;
-        follow(
+        write_parts(
+            &mut self.store,
             &mut self.assigns,
             &mut self.processes,
             &mut self.woken,
+            &mut self.changes,
             design,
-            &self.changes,
+            update.what(),
             marks,
         )?;
         Ok(())

@@ -1,28 +1,13 @@
 //! What is enabled in a state of a run.
-ghost use Rattle.std.specs.Prelude.{◌≡◌, true, false, slice_get, MatchOption};
+ghost use Rattle.std.specs.Prelude.{◌≡◌, true, false, MatchOption};
 ghost use Rattle.std.specs.List.{list_any};
 ghost use Rattle.vs_process.specs.Executions as executions;
 ghost use Rattle.vs_state.specs.Told.{told};
-ghost use Rattle.vs_state.specs.Touches.{is_left};
 
-use crate::assign::AssignState;
 use crate::state::State;
 use vs_process::Move;
 use vs_regions::Item;
 use vs_time_wheel::EventQueue;
-
-/// The first continuous assignment that has to be evaluated or has a value that waits to be written.
-pub(crate) fn busy_assign(assigns: &Vec<AssignState>) -> Option<usize>
-    ensures { MatchOption result (list_any is_left assigns.now.items ≡ false)
-        (λ j. executions.if_some is_left (slice_get assigns.now.items j) ≡ true) }
-{
-    for assign in 0..assigns.len() {
-        if assigns[assign].is_left() {
-            return Some(assign);
-        }
-    }
-    None
-}
 
 impl<'a, Q: EventQueue<Item>> State<'a, Q> {
     /// Whether an active event is left in the slot.

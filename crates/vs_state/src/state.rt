@@ -5,12 +5,11 @@ ghost use Rattle.vs_flatcode.specs.Places.{is_going, is_inside};
 ghost use Rattle.vs_process.specs.States as states;
 ghost use Rattle.vs_regions.specs.Active.{is_active};
 
-use crate::assigns::Assigns;
 use crate::called::Called;
-use crate::woken::Woken;
 use std::alloc::{AllocError, Global};
 use std::collections::VecDeque;
 use std::marker::Model;
+use vs_changes::{Assigns, Woken};
 use vs_design::{Design, Store};
 use vs_flatcode::Change;
 use vs_places::Processes;

@@ -9,10 +9,10 @@ use Rattle.vs_design.specs.declared.signal.Signal.{Signal}
 use Rattle.vs_design.specs.Parts.{Parts}
 use Rattle.vs_design.specs.Stores.{Store, word_in}
 use Rattle.vs_design.specs.Traces.{Slot}
-use Rattle.vs_state.specs.Changes.{MarkChanges}
+use Rattle.vs_changes.specs.Changes.{MarkChanges}
 use Rattle.vs_vcd.specs.Codes.{is_array}
 use Rattle.vs_vcd.specs.CodeTables.{code_table}
-use Rattle.vs_state.proofs.MarkingLemmas.{unmarked}
+use Rattle.vs_changes.proofs.MarkingLemmas.{unmarked}
 use Rattle.vs_vcd.specs.Progress.{Covers, HasWritten, Progress}
 use Rattle.vs_turns.specs.Recording.{CoversNoted, HasNoted, HasRoom, IsRecording}
 

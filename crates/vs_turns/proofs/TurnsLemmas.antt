@@ -13,12 +13,12 @@ use Rattle.vs_flatcode.specs.Places.{Place}
 use Rattle.vs_process.specs.States.{AssignState, State, Update, evaluate, make, propagate, propagate_value}
 use Rattle.vs_regions.specs.Active.{place_of_active}
 use Rattle.vs_state.specs.Prints.{made_line, made_text}
-use Rattle.vs_state.specs.Sources.{has_sources}
+use Rattle.vs_changes.specs.Sources.{has_sources}
 use Rattle.vs_state.specs.Told.{told}
-use Rattle.vs_state.specs.Touches.{HasSources}
-use Rattle.vs_state.specs.Waits.{HasTerms}
+use Rattle.vs_changes.specs.Touches.{HasSources}
+use Rattle.vs_changes.specs.Waits.{HasTerms}
 use Rattle.vs_state.proofs.SilentLemmas.{reached_on, step_time}
-use Rattle.vs_state.proofs.TermsLemmas.{has_terms}
+use Rattle.vs_changes.proofs.TermsLemmas.{has_terms}
 use Rattle.vs_vcd.specs.declared.fault.VcdFault.{VcdFault}
 use Rattle.vs_vcd.specs.Progress.{Progress}
 use Rattle.vs_vcd.specs.Sinks.{AppendsPart}
@@ -28,7 +28,7 @@ use Rattle.vs_turns.specs.Points.{Point, point}
 use Rattle.vs_turns.specs.Recording.{CoversNoted, HasNoted}
 use Rattle.vs_turns.specs.Prints.{lines_text}
 use Rattle.vs_turns.specs.Slots.{AppendsSlots, AppendsSlotsPart}
-use Rattle.vs_state.specs.Changes.{MarkChanges}
+use Rattle.vs_changes.specs.Changes.{MarkChanges}
 use Rattle.vs_state.specs.Silent.{AreHushed, AreSilent, IsHushed, IsReached, IsSilent, Steps}
 use Rattle.vs_turns.specs.Turns.{AllTurned, AllTurnedPart, Batch, BatchPart, Evaluated, StepsPart, StepsPrinted, Turned, TurnedPart, TurnedTo, Turning}
 use Rattle.vs_turns.proofs.PrintsLemmas.{move_prints}

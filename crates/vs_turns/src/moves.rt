@@ -4,7 +4,7 @@ ghost use Rattle.std.specs.Io.KnownBytes.{Appends};
 ghost use Rattle.vs_agenda.specs.ActiveEvents.{move_of};
 ghost use Rattle.vs_turns.specs.Insides.{inside_told};
 ghost use Rattle.vs_turns.specs.Turns.{Batch, BatchPart, Evaluated, IsNext, StepsPart, StepsPrinted};
-ghost use Rattle.vs_state.specs.Changes.{MarkChanges};
+ghost use Rattle.vs_changes.specs.Changes.{MarkChanges};
 ghost use Rattle.vs_state.specs.Silent.{IsReached};
 ghost use Rattle.vs_state.specs.Prints.{made_line, made_text};
 ghost use Rattle.vs_state.specs.Told.{told};

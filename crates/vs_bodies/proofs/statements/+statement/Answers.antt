@@ -6,26 +6,10 @@ use Rattle.vs_syntax.specs.declared.tree.Stmt.TheVariants as s
 use Rattle.vs_scopes.specs.Printed.{plainly}
 use Rattle.vs_operands.proofs.BlockLemmas.{got, placed_inside, site_inside, ratio_inside, names_at, inside_free, inside_fails, below_deeper}
 use Rattle.vs_operands.proofs.DepthLemmas.{items_depth, items_falls, item_within}
-use Rattle.vs_operands.proofs.StatementLemmas.{assign_refused, begin_refused, behind_overfull, behind_refused, block_refused, case_overfull, case_refused_by, delay_inner, delay_refused, dump_refused, else_refused, event_inner, event_refused, finish_refused, forever_inner, if_refused, item_refused, items_refused, label_refused, listed_all, listed_more, listed_none, named_refused, null_refused, otherwise_none, otherwise_some, repeat_inner, repeat_refused, stated_all, stated_more, stated_none, statement_refused, states_Assign, states_Block, states_Case, states_Delay, states_Dump, states_Event, states_Finish, states_For, states_Forever, states_If, states_Named, states_Null, states_Repeat, states_While, states_behind, step_refused, test_refused, then_refused, turn_refused, while_inner, while_refused}
+use Rattle.vs_operands.proofs.StatementLemmas.{begin_refused, behind_overfull, behind_refused, block_refused, case_overfull, case_refused_by, delay_inner, else_refused, event_inner, forever_inner, item_refused, items_refused, label_refused, listed_all, listed_more, listed_none, named_refused, otherwise_none, otherwise_some, repeat_inner, stated_all, stated_more, stated_none, statement_refused, states_Block, states_Case, states_Named, states_behind, then_refused, turn_refused, while_inner}
+use Rattle.vs_bodies.proofs.BelowLemmas.{overfull_below, refused_below}
+use Rattle.vs_statement_forms.proofs.NumberLemmas.{null_answers, finish_answers, dump_answers, none_below}
 use Rattle.vs_bodies.proofs.statements.+statement.Goals as goal
-
-pub statement-returns-in_ok-number-in-Null-clause-answer : goal.statement-returns-in_ok-number-in-Null-clause-answer
-statement-returns-in_ok-number-in-Null-clause-answer t c envs p v =
-    rw c.in-Null.is (states_Null c.args.view.now.list.now envs p c.args.next.now c.in_ok-number-in-Null.number _ c.in_ok-number-in-Null.ensures)
-
-pub statement-returns-in_err-number-in-Null-clause-answer : goal.statement-returns-in_err-number-in-Null-clause-answer
-statement-returns-in_err-number-in-Null-clause-answer t c envs p v =
-    let q = err_from_is_err_and c.from_residual.result c.from_residual.ensures.1 in
-    rw (q.1, q.2, c.in-Null.is) (null_refused c.args.view.now.list.now envs p c.args.next.now c.in_err-number-in-Null.field-0.0 c.in_err-number-in-Null.ensures)
-
-pub statement-returns-in_ok-number-in-Assign-clause-answer : goal.statement-returns-in_ok-number-in-Assign-clause-answer
-statement-returns-in_ok-number-in-Assign-clause-answer t c envs p v =
-    rw c.in-Assign.is (states_Assign c.args.view.now.list.now envs p c.args.next.now c.in_ok-number-in-Assign.number _ c.in-Assign.left c.in-Assign.e c.in_ok-number-in-Assign.target c.in_ok-number-in-Assign.source (rw c.deref.ensures at (c.in_ok-number-in-Assign.ensures.answer envs p v)))
-
-pub statement-returns-in_err-number-in-Assign-clause-answer : goal.statement-returns-in_err-number-in-Assign-clause-answer
-statement-returns-in_err-number-in-Assign-clause-answer t c envs p v =
-    let q = err_from_is_err_and c.from_residual-in_err-number-in-Assign.result c.from_residual-in_err-number-in-Assign.ensures.1 in
-    rw (q.1, q.2, c.in-Assign.is) (assign_refused c.args.view.now.list.now envs p c.args.next.now c.in-Assign.left c.in-Assign.e c.in_err-number-in-Assign.field-0.0 (rw c.deref.ensures at (c.in_err-number-in-Assign.ensures.answer envs p v)))
 
 pub statement-returns-in-Later-clause-answer : goal.statement-returns-in-Later-clause-answer
 statement-returns-in-Later-clause-answer t c envs p v = rw c.in-Later.is (c.later.ensures.answer envs p v)
@@ -33,32 +17,14 @@ statement-returns-in-Later-clause-answer t c envs p v = rw c.in-Later.is (c.late
 pub statement-returns-in-Print-clause-answer : goal.statement-returns-in-Print-clause-answer
 statement-returns-in-Print-clause-answer t c envs p v = rw c.in-Print.is (c.print.ensures.answer envs p v)
 
-pub statement-returns-in_ok-number-in-Finish-clause-answer : goal.statement-returns-in_ok-number-in-Finish-clause-answer
-statement-returns-in_ok-number-in-Finish-clause-answer t c envs p v =
-    rw c.in-Finish.is (states_Finish c.args.view.now.list.now envs p c.args.next.now c.in_ok-number-in-Finish.number _ c.in-Finish.field-0 c.in_ok-number-in-Finish.ensures)
-
-pub statement-returns-in_err-number-in-Finish-clause-answer : goal.statement-returns-in_err-number-in-Finish-clause-answer
-statement-returns-in_err-number-in-Finish-clause-answer t c envs p v =
-    let q = err_from_is_err_and c.from_residual-in_err-number-in-Finish.result c.from_residual-in_err-number-in-Finish.ensures.1 in
-    rw (q.1, q.2, c.in-Finish.is) (finish_refused c.args.view.now.list.now envs p c.args.next.now c.in-Finish.field-0 c.in_err-number-in-Finish.field-0.0 c.in_err-number-in-Finish.ensures)
-
-pub statement-returns-in_ok-number-in-Dump-clause-answer : goal.statement-returns-in_ok-number-in-Dump-clause-answer
-statement-returns-in_ok-number-in-Dump-clause-answer t c envs p v =
-    rw c.in-Dump.is (states_Dump c.args.view.now.list.now envs p c.args.next.now c.in_ok-number-in-Dump.number _ c.in-Dump.field-0 c.in-Dump.field-1 c.in_ok-number-in-Dump.ensures)
-
-pub statement-returns-in_err-number-in-Dump-clause-answer : goal.statement-returns-in_err-number-in-Dump-clause-answer
-statement-returns-in_err-number-in-Dump-clause-answer t c envs p v =
-    let q = err_from_is_err_and c.from_residual-in_err-number-in-Dump.result c.from_residual-in_err-number-in-Dump.ensures.1 in
-    rw (q.1, q.2, c.in-Dump.is) (dump_refused c.args.view.now.list.now envs p c.args.next.now c.in-Dump.field-0 c.in-Dump.field-1 c.in_err-number-in-Dump.field-0.0 c.in_err-number-in-Dump.ensures)
-
 pub statement-returns-in_ok-inner-in-Block-clause-answer : goal.statement-returns-in_ok-inner-in-Block-clause-answer
 statement-returns-in_ok-inner-in-Block-clause-answer t c envs p v =
-    rw c.in-Block.is (states_Block c.args.view.now.list.now envs p c.args.next.now _ c.in-Block.inner _ c.in_ok-inner-in-Block.inner c.deref-in-Block.ensures.value (c.in_ok-inner-in-Block.ensures.answer envs p v))
+    rw c.in-Block.is (states_Block c.args.view.now.list.now envs p c.args.next.now _ c.in-Block.inner _ c.in_ok-inner-in-Block.inner c.deref.ensures.value (c.in_ok-inner-in-Block.ensures.answer envs p v))
 
 pub statement-returns-in_err-inner-in-Block-clause-answer : goal.statement-returns-in_err-inner-in-Block-clause-answer
 statement-returns-in_err-inner-in-Block-clause-answer t c envs p v =
-    let q = err_from_is_err_and c.from_residual-in_err-inner-in-Block.result c.from_residual-in_err-inner-in-Block.ensures.1 in
-    rw (q.1, q.2, c.in-Block.is) (block_refused c.args.view.now.list.now envs p c.args.next.now c.in-Block.inner _ c.in_err-inner-in-Block.field-0.0 c.deref-in-Block.ensures.value (c.in_err-inner-in-Block.ensures.answer envs p v))
+    let q = err_from_is_err_and c.from_residual.result c.from_residual.ensures.1 in
+    rw (q.1, q.2, c.in-Block.is) (block_refused c.args.view.now.list.now envs p c.args.next.now c.in-Block.inner _ c.in_err-inner-in-Block.field-0.0 c.deref.ensures.value (c.in_err-inner-in-Block.ensures.answer envs p v))
 
 pub statement-returns-in_ok-inner-in-Named-clause-answer : goal.statement-returns-in_ok-inner-in-Named-clause-answer
 statement-returns-in_ok-inner-in-Named-clause-answer t c envs p v =
@@ -69,89 +35,40 @@ statement-returns-in_err-inner-in-Named-clause-answer t c envs p v =
     let q = err_from_is_err_and c.from_residual-in_err-inner-in-Named.result c.from_residual-in_err-inner-in-Named.ensures.1 in
     rw (q.1, q.2, c.in-Named.is) (named_refused c.args.view.now.list.now envs p c.args.next.now c.in-Named.name c.in-Named.field-1 c.in-Named.inner _ _ c.in_err-inner-in-Named.field-0.0 c.deref-in-Named.ensures.value c.deref-in-Named-2.ensures.value (c.in_err-inner-in-Named.ensures.answer envs p c.in-Named.field-1.items v))
 
-pub statement-returns-in_err-number-in-If-clause-answer : goal.statement-returns-in_err-number-in-If-clause-answer
-statement-returns-in_err-number-in-If-clause-answer t c envs p v =
-    let q = err_from_is_err_and c.from_residual-in_err-number-in-If.result c.from_residual-in_err-number-in-If.ensures.1 in
-    rw (q.1, q.2, c.in-If.is) (then_refused c.args.view.now.list.now envs p c.args.next.now c.in-If.e c.in-If.x c.in-If.other _ c.in_err-number-in-If.field-0.0 c.deref-in-If.ensures (c.in_err-number-in-If.ensures.answer envs p v))
+pub statement-returns-in_err-inner-in-If-clause-answer : goal.statement-returns-in_err-inner-in-If-clause-answer
+statement-returns-in_err-inner-in-If-clause-answer t c envs p v =
+    let q = err_from_is_err_and c.from_residual-in_err-inner-in-If.result c.from_residual-in_err-inner-in-If.ensures.1 in
+    rw (q.1, q.2, c.in-If.is) (then_refused c.args.view.now.list.now envs p c.args.next.now c.in-If.e c.in-If.x c.in-If.other _ c.in_err-inner-in-If.field-0.0 c.deref-in-If.ensures (c.in_err-inner-in-If.ensures.answer envs p v))
 
 pub statement-returns-in_err-other-in-If-clause-answer : goal.statement-returns-in_err-other-in-If-clause-answer
 statement-returns-in_err-other-in-If-clause-answer t c envs p v =
     let q = err_from_is_err_and c.from_residual-in_err-other-in-If.result c.from_residual-in_err-other-in-If.ensures.1 in
-    rw (q.1, q.2, c.in-If.is) (else_refused c.args.view.now.list.now envs p c.args.next.now _ c.in-If.e c.in-If.x c.in-If.other _ c.in_err-other-in-If.field-0.0 c.deref-in-If.ensures (c.in_ok-number-in-If.ensures.answer envs p v).1.1.next_is (c.in_err-other-in-If.ensures.answer envs p v))
+    rw (q.1, q.2, c.in-If.is) (else_refused c.args.view.now.list.now envs p c.args.next.now _ c.in-If.e c.in-If.x c.in-If.other _ c.in_err-other-in-If.field-0.0 c.deref-in-If.ensures (c.in_ok-inner-in-If.ensures.answer envs p v).1.1.next_is (c.in_err-other-in-If.ensures.answer envs p v))
 
-pub statement-returns-in_err-condition-in-If-clause-answer : goal.statement-returns-in_err-condition-in-If-clause-answer
-statement-returns-in_err-condition-in-If-clause-answer t c envs p v =
-    let q = err_from_is_err_and c.from_residual-in_err-condition-in-If.result c.from_residual-in_err-condition-in-If.ensures.1 in
-    rw (q.1, q.2, c.in-If.is) (if_refused c.args.view.now.list.now envs p c.args.next.now c.in-If.e c.in-If.x c.in-If.other c.in_err-condition-in-If.field-0.0 (rw (v.names, c.deref-in-If-2.ensures) at c.in_err-condition-in-If.ensures))
+pub statement-returns-in_err-inner-in-While-clause-answer : goal.statement-returns-in_err-inner-in-While-clause-answer
+statement-returns-in_err-inner-in-While-clause-answer t c envs p v =
+    let q = err_from_is_err_and c.from_residual-in_err-inner-in-While.result c.from_residual-in_err-inner-in-While.ensures.1 in
+    rw (q.1, q.2, c.in-While.is) (while_inner c.args.view.now.list.now envs p c.args.next.now c.in-While.x _ c.deref-in-While.ensures c.in-While.e c.in_err-inner-in-While.field-0.0 (c.in_err-inner-in-While.ensures.answer envs p v))
 
-pub statement-returns-in_ok-second-in-If-clause-answer : goal.statement-returns-in_ok-second-in-If-clause-answer
-statement-returns-in_ok-second-in-If-clause-answer t c envs p v =
-    rw c.in-If.is (states_If c.args.view.now.list.now envs p c.args.next.now c.in_ok-number-in-If.number _ _ c.in-If.e _ c.in_ok-condition-in-If.condition c.in-If.x c.in-If.other c.in_ok-first-in-If.first c.in_ok-second-in-If.second _ c.in_ok-number-in-If.then c.in_ok-other-in-If.other (c.in_ok-number-in-If.ensures.answer envs p v) (c.in_ok-other-in-If.ensures.answer envs p v) (rw (v.names, c.deref-in-If-2.ensures) at c.in_ok-condition-in-If.ensures) c.deref-in-If.ensures c.in_ok-first-in-If.ensures.ok c.in_ok-second-in-If.ensures.ok)
+pub statement-returns-in_err-inner-in-Repeat-clause-answer : goal.statement-returns-in_err-inner-in-Repeat-clause-answer
+statement-returns-in_err-inner-in-Repeat-clause-answer t c envs p v =
+    let q = err_from_is_err_and c.from_residual-in_err-inner-in-Repeat.result c.from_residual-in_err-inner-in-Repeat.ensures.1 in
+    rw (q.1, q.2, c.in-Repeat.is) (repeat_inner c.args.view.now.list.now envs p c.args.next.now c.in-Repeat.x _ c.deref-in-Repeat.ensures c.in-Repeat.e c.in_err-inner-in-Repeat.field-0.0 (c.in_err-inner-in-Repeat.ensures.answer envs p v))
 
-pub statement-returns-in_err-number-in-While-clause-answer : goal.statement-returns-in_err-number-in-While-clause-answer
-statement-returns-in_err-number-in-While-clause-answer t c envs p v =
-    let q = err_from_is_err_and c.from_residual-in_err-number-in-While.result c.from_residual-in_err-number-in-While.ensures.1 in
-    rw (q.1, q.2, c.in-While.is) (while_inner c.args.view.now.list.now envs p c.args.next.now c.in-While.x _ c.deref-in-While.ensures c.in-While.e c.in_err-number-in-While.field-0.0 (c.in_err-number-in-While.ensures.answer envs p v))
+pub statement-returns-in_err-inner-in-Forever-clause-answer : goal.statement-returns-in_err-inner-in-Forever-clause-answer
+statement-returns-in_err-inner-in-Forever-clause-answer t c envs p v =
+    let q = err_from_is_err_and c.from_residual-in_err-inner-in-Forever.result c.from_residual-in_err-inner-in-Forever.ensures.1 in
+    rw (q.1, q.2, c.in-Forever.is) (forever_inner c.args.view.now.list.now envs p c.args.next.now c.in-Forever.x _ c.deref-in-Forever.ensures c.in_err-inner-in-Forever.field-0.0 (c.in_err-inner-in-Forever.ensures.answer envs p v))
 
-pub statement-returns-in_err-condition-in-While-clause-answer : goal.statement-returns-in_err-condition-in-While-clause-answer
-statement-returns-in_err-condition-in-While-clause-answer t c envs p v =
-    let q = err_from_is_err_and c.from_residual-in_err-condition-in-While.result c.from_residual-in_err-condition-in-While.ensures.1 in
-    rw (q.1, q.2, c.in-While.is) (while_refused c.args.view.now.list.now envs p c.args.next.now c.in-While.x c.in-While.e c.in_err-condition-in-While.field-0.0 (rw v.names at c.in_err-condition-in-While.ensures))
+pub statement-returns-in_err-inner-in-Delay-clause-answer : goal.statement-returns-in_err-inner-in-Delay-clause-answer
+statement-returns-in_err-inner-in-Delay-clause-answer t c envs p v =
+    let q = err_from_is_err_and c.from_residual-in_err-inner-in-Delay.result c.from_residual-in_err-inner-in-Delay.ensures.1 in
+    rw (q.1, q.2, c.in-Delay.is) (delay_inner c.args.view.now.list.now envs p c.args.next.now c.in-Delay.x _ c.deref-in-Delay.ensures c.in-Delay.value c.in_err-inner-in-Delay.field-0.0 (c.in_err-inner-in-Delay.ensures.answer envs p v))
 
-pub statement-returns-in_ok-new-in-While-clause-answer : goal.statement-returns-in_ok-new-in-While-clause-answer
-statement-returns-in_ok-new-in-While-clause-answer t c envs p v =
-    rw c.in-While.is (states_While c.args.view.now.list.now envs p c.args.next.now c.in_ok-number-in-While.number _ c.in-While.x c.in_ok-new-in-While.field-0 _ c.in_ok-number-in-While.body (c.in_ok-number-in-While.ensures.answer envs p v) c.deref-in-While.ensures c.in_ok-new-in-While.ensures.ok c.in-While.e _ c.in_ok-condition-in-While.condition (rw v.names at c.in_ok-condition-in-While.ensures))
-
-pub statement-returns-in_err-number-in-Repeat-clause-answer : goal.statement-returns-in_err-number-in-Repeat-clause-answer
-statement-returns-in_err-number-in-Repeat-clause-answer t c envs p v =
-    let q = err_from_is_err_and c.from_residual-in_err-number-in-Repeat.result c.from_residual-in_err-number-in-Repeat.ensures.1 in
-    rw (q.1, q.2, c.in-Repeat.is) (repeat_inner c.args.view.now.list.now envs p c.args.next.now c.in-Repeat.x _ c.deref-in-Repeat.ensures c.in-Repeat.e c.in_err-number-in-Repeat.field-0.0 (c.in_err-number-in-Repeat.ensures.answer envs p v))
-
-pub statement-returns-in_err-signed-in-Repeat-clause-answer : goal.statement-returns-in_err-signed-in-Repeat-clause-answer
-statement-returns-in_err-signed-in-Repeat-clause-answer t c envs p v =
-    let q = err_from_is_err_and c.from_residual-in_err-signed-in-Repeat.result c.from_residual-in_err-signed-in-Repeat.ensures.1 in
-    rw (q.1, q.2, c.in-Repeat.is) (repeat_refused c.args.view.now.list.now envs p c.args.next.now c.in-Repeat.x c.in-Repeat.e c.in_err-signed-in-Repeat.field-0.0 (rw v.names at c.in_err-signed-in-Repeat.ensures))
-
-pub statement-returns-in_ok-new-in-Repeat-clause-answer : goal.statement-returns-in_ok-new-in-Repeat-clause-answer
-statement-returns-in_ok-new-in-Repeat-clause-answer t c envs p v =
-    rw c.in-Repeat.is (states_Repeat c.args.view.now.list.now envs p c.args.next.now c.in_ok-number-in-Repeat.number _ c.in-Repeat.x c.in_ok-new-in-Repeat.field-0 _ c.in_ok-number-in-Repeat.body (c.in_ok-number-in-Repeat.ensures.answer envs p v) c.deref-in-Repeat.ensures c.in_ok-new-in-Repeat.ensures.ok c.in-Repeat.e c.in_ok-signed-in-Repeat.signed c.in_ok-signed-in-Repeat.count (rw v.names at c.in_ok-signed-in-Repeat.ensures))
-
-pub statement-returns-in_err-number-in-Forever-clause-answer : goal.statement-returns-in_err-number-in-Forever-clause-answer
-statement-returns-in_err-number-in-Forever-clause-answer t c envs p v =
-    let q = err_from_is_err_and c.from_residual-in_err-number-in-Forever.result c.from_residual-in_err-number-in-Forever.ensures.1 in
-    rw (q.1, q.2, c.in-Forever.is) (forever_inner c.args.view.now.list.now envs p c.args.next.now c.in-Forever.x _ c.deref-in-Forever.ensures c.in_err-number-in-Forever.field-0.0 (c.in_err-number-in-Forever.ensures.answer envs p v))
-
-pub statement-returns-in_ok-new-in-Forever-clause-answer : goal.statement-returns-in_ok-new-in-Forever-clause-answer
-statement-returns-in_ok-new-in-Forever-clause-answer t c envs p v =
-    rw c.in-Forever.is (states_Forever c.args.view.now.list.now envs p c.args.next.now c.in_ok-number-in-Forever.number _ c.in-Forever.x c.in_ok-new-in-Forever.field-0 _ c.in_ok-number-in-Forever.body (c.in_ok-number-in-Forever.ensures.answer envs p v) c.deref-in-Forever.ensures c.in_ok-new-in-Forever.ensures.ok)
-
-pub statement-returns-in_err-number-in-Delay-clause-answer : goal.statement-returns-in_err-number-in-Delay-clause-answer
-statement-returns-in_err-number-in-Delay-clause-answer t c envs p v =
-    let q = err_from_is_err_and c.from_residual-in_err-number-in-Delay.result c.from_residual-in_err-number-in-Delay.ensures.1 in
-    rw (q.1, q.2, c.in-Delay.is) (delay_inner c.args.view.now.list.now envs p c.args.next.now c.in-Delay.x _ c.deref-in-Delay.ensures c.in-Delay.value c.in_err-number-in-Delay.field-0.0 (c.in_err-number-in-Delay.ensures.answer envs p v))
-
-pub statement-returns-in_err-ticks-in-Delay-clause-answer : goal.statement-returns-in_err-ticks-in-Delay-clause-answer
-statement-returns-in_err-ticks-in-Delay-clause-answer t c envs p v =
-    let q = err_from_is_err_and c.from_residual-in_err-ticks-in-Delay.result c.from_residual-in_err-ticks-in-Delay.ensures.1 in
-    rw (q.1, q.2, c.in-Delay.is) (delay_refused c.args.view.now.list.now envs p c.args.next.now c.in-Delay.x c.in-Delay.value c.in_err-ticks-in-Delay.field-0.0 (rw (v.names, v.ratio) at c.in_err-ticks-in-Delay.ensures))
-
-pub statement-returns-in_ok-new-in-Delay-clause-answer : goal.statement-returns-in_ok-new-in-Delay-clause-answer
-statement-returns-in_ok-new-in-Delay-clause-answer t c envs p v =
-    rw c.in-Delay.is (states_Delay c.args.view.now.list.now envs p c.args.next.now c.in_ok-number-in-Delay.number _ c.in-Delay.x c.in_ok-new-in-Delay.field-0 _ c.in_ok-number-in-Delay.body (c.in_ok-number-in-Delay.ensures.answer envs p v) c.deref-in-Delay.ensures c.in_ok-new-in-Delay.ensures.ok c.in-Delay.value c.in_ok-ticks-in-Delay.ticks (rw (v.names, v.ratio) at c.in_ok-ticks-in-Delay.ensures))
-
-pub statement-returns-in_err-number-in-Event-clause-answer : goal.statement-returns-in_err-number-in-Event-clause-answer
-statement-returns-in_err-number-in-Event-clause-answer t c envs p v =
-    let q = err_from_is_err_and c.from_residual-in_err-number-in-Event.result c.from_residual-in_err-number-in-Event.ensures.1 in
-    rw (q.1, q.2, c.in-Event.is) (event_inner c.args.view.now.list.now envs p c.args.next.now c.in-Event.x _ c.deref-in-Event.ensures c.in-Event.control c.in_err-number-in-Event.field-0.0 (c.in_err-number-in-Event.ensures.answer envs p v))
-
-pub statement-returns-in_err-terms-in-Event-clause-answer : goal.statement-returns-in_err-terms-in-Event-clause-answer
-statement-returns-in_err-terms-in-Event-clause-answer t c envs p v =
-    let q = err_from_is_err_and c.from_residual-in_err-terms-in-Event.result c.from_residual-in_err-terms-in-Event.ensures.1 in
-    rw (q.1, q.2, c.in-Event.is) (event_refused c.args.view.now.list.now envs p c.args.next.now c.in-Event.x c.in-Event.control c.in_err-terms-in-Event.field-0.0 (rw v.names at c.in_err-terms-in-Event.ensures))
-
-pub statement-returns-in_ok-new-in-Event-clause-answer : goal.statement-returns-in_ok-new-in-Event-clause-answer
-statement-returns-in_ok-new-in-Event-clause-answer t c envs p v =
-    rw c.in-Event.is (states_Event c.args.view.now.list.now envs p c.args.next.now c.in_ok-number-in-Event.number _ c.in-Event.x c.in_ok-new-in-Event.field-0 _ c.in_ok-number-in-Event.body (c.in_ok-number-in-Event.ensures.answer envs p v) c.deref-in-Event.ensures c.in_ok-new-in-Event.ensures.ok c.in-Event.control c.in_ok-terms-in-Event.terms (rw v.names at c.in_ok-terms-in-Event.ensures))
+pub statement-returns-in_err-inner-in-Event-clause-answer : goal.statement-returns-in_err-inner-in-Event-clause-answer
+statement-returns-in_err-inner-in-Event-clause-answer t c envs p v =
+    let q = err_from_is_err_and c.from_residual-in_err-inner-in-Event.result c.from_residual-in_err-inner-in-Event.ensures.1 in
+    rw (q.1, q.2, c.in-Event.is) (event_inner c.args.view.now.list.now envs p c.args.next.now c.in-Event.x _ c.deref-in-Event.ensures c.in-Event.control c.in_err-inner-in-Event.field-0.0 (c.in_err-inner-in-Event.ensures.answer envs p v))
 
 pub statement-returns-in-Case-clause-answer : goal.statement-returns-in-Case-clause-answer
 statement-returns-in-Case-clause-answer t c envs p v =
@@ -183,29 +100,15 @@ pub case_statement-returns-clause-answer : goal.case_statement-returns-clause-an
 case_statement-returns-clause-answer t c envs p v same seen =
     states_Case c.args.view.now.list.now envs p c.args.next.now c.in_ok-number.number _ _ c.args.kind c.args.e.now v c.in_ok-shape.shape c.in_ok-shape.selector c.in_ok-done.done _ _ c.in_ok-number.ensures (rw (seen.names, c.deref.ensures) at c.in_ok-shape.ensures) (c.in_ok-done.ensures.answer envs p seen) (sym same) (sym same)
 
-pub for_statement-returns-in_err-number-clause-answer : goal.for_statement-returns-in_err-number-clause-answer
-for_statement-returns-in_err-number-clause-answer t c envs p v =
+pub for_statement-returns-in_err-begin-clause-answer : goal.for_statement-returns-in_err-begin-clause-answer
+for_statement-returns-in_err-begin-clause-answer t c envs p v =
     let q = err_from_is_err_and c.from_residual.result c.from_residual.ensures.1 in
-    rw (q.1, q.2) (begin_refused c.args.view.now.list.now envs p c.args.next.now c.args.head.now c.args.x.now c.in_err-number.field-0.0 (rw (c.deref.ensures, c.deref-2.ensures) at (c.in_err-number.ensures.answer envs p v)))
+    rw (q.1, q.2) (begin_refused c.args.view.now.list.now envs p c.args.next.now c.args.head.now c.args.x.now c.in_err-begin.field-0.0 (rw (c.deref.ensures, c.deref-2.ensures) at (c.in_err-begin.ensures.answer envs p v)))
 
-pub for_statement-returns-in_err-number-2-clause-answer : goal.for_statement-returns-in_err-number-2-clause-answer
-for_statement-returns-in_err-number-2-clause-answer t c envs p v =
-    let q = err_from_is_err_and c.from_residual-in_err-number-2.result c.from_residual-in_err-number-2.ensures.1 in
-    rw (q.1, q.2) (turn_refused c.args.view.now.list.now envs p c.args.next.now c.args.head.now c.args.x.now _ _ c.in_err-number-2.field-0.0 (c.in_ok-number.ensures.answer envs p v).1.next_is c.deref-3.ensures (c.in_err-number-2.ensures.answer envs p v))
-
-pub for_statement-returns-in_err-condition-clause-answer : goal.for_statement-returns-in_err-condition-clause-answer
-for_statement-returns-in_err-condition-clause-answer t c envs p v =
-    let q = err_from_is_err_and c.from_residual-in_err-condition.result c.from_residual-in_err-condition.ensures.1 in
-    rw (q.1, q.2) (test_refused c.args.view.now.list.now envs p c.args.next.now c.args.head.now c.args.x.now c.in_err-condition.field-0.0 (rw (v.names, c.deref-4.ensures) at c.in_err-condition.ensures))
-
-pub for_statement-returns-in_err-last-clause-answer : goal.for_statement-returns-in_err-last-clause-answer
-for_statement-returns-in_err-last-clause-answer t c envs p v =
-    let q = err_from_is_err_and c.from_residual-in_err-last.result c.from_residual-in_err-last.ensures.1 in
-    rw (q.1, q.2) (step_refused c.args.view.now.list.now envs p c.args.next.now c.args.head.now c.args.x.now _ _ _ c.in_err-last.field-0.0 (c.in_ok-number.ensures.answer envs p v).1.next_is (c.in_ok-number-2.ensures.answer envs p v).1.1.next_is c.deref-3.ensures (rw (c.deref-5.ensures, c.deref-6.ensures) at (c.in_err-last.ensures.answer envs p v)))
-
-pub for_statement-returns-clause-answer : goal.for_statement-returns-clause-answer
-for_statement-returns-clause-answer t c envs p v =
-    (states_For c.args.view.now.list.now envs p c.args.next.now _ _ _ _ _ _ c.args.head.now c.args.x.now _ _ _ _ _ _ _ _ c.in_ok-repeated.field-0 (rw (c.deref.ensures, c.deref-2.ensures) at (c.in_ok-number.ensures.answer envs p v)) (c.in_ok-number-2.ensures.answer envs p v) (rw (v.names, c.deref-4.ensures) at c.in_ok-condition.ensures) (rw (c.deref-5.ensures, c.deref-6.ensures) at (c.in_ok-last.ensures.answer envs p v)) c.deref-3.ensures c.in_ok-repeated.ensures)
+pub for_statement-returns-in_err-inner-clause-answer : goal.for_statement-returns-in_err-inner-clause-answer
+for_statement-returns-in_err-inner-clause-answer t c envs p v =
+    let q = err_from_is_err_and c.from_residual-in_err-inner.result c.from_residual-in_err-inner.ensures.1 in
+    rw (q.1, q.2) (turn_refused c.args.view.now.list.now envs p c.args.next.now c.args.head.now c.args.x.now _ _ c.in_err-inner.field-0.0 (c.in_ok-begin.ensures.answer envs p v).1.next_is c.deref-3.ensures (c.in_err-inner.ensures.answer envs p v))
 
 pub behind-returns-clause-answer : goal.behind-returns-clause-answer
 behind-returns-clause-answer t c envs p v = states_behind c.args.view.now.list.now envs p c.args.next.now c.in_ok-number.number _ _ c.args.s.now c.in_ok-inner.inner c.in_ok-number.ensures (c.in_ok-inner.ensures.answer envs p v)
@@ -318,3 +221,210 @@ items-statement-requires t c =
 
 pub statement-returns-in-For-clause-answer : goal.statement-returns-in-For-clause-answer
 statement-returns-in-For-clause-answer t c envs p v = rw c.in-For.is (c.for_statement.ensures.answer envs p v)
+
+pub statement-returns-in_ok-inner-in-While-clause-answer : goal.statement-returns-in_ok-inner-in-While-clause-answer
+statement-returns-in_ok-inner-in-While-clause-answer t c envs p v =
+    rw c.in-While.is (c.while_around.ensures.answer envs p c.args.next.now _ c.in-While.x v (rw c.deref-in-While.ensures at (c.in_ok-inner-in-While.ensures.answer envs p v)))
+
+pub statement-returns-in_ok-inner-in-Repeat-clause-answer : goal.statement-returns-in_ok-inner-in-Repeat-clause-answer
+statement-returns-in_ok-inner-in-Repeat-clause-answer t c envs p v =
+    rw c.in-Repeat.is (c.repeat_around.ensures.answer envs p c.args.next.now _ c.in-Repeat.x v (rw c.deref-in-Repeat.ensures at (c.in_ok-inner-in-Repeat.ensures.answer envs p v)))
+
+pub statement-returns-in_ok-inner-in-Delay-clause-answer : goal.statement-returns-in_ok-inner-in-Delay-clause-answer
+statement-returns-in_ok-inner-in-Delay-clause-answer t c envs p v =
+    rw c.in-Delay.is (c.delay_around.ensures.answer envs p c.args.next.now _ c.in-Delay.x v (rw c.deref-in-Delay.ensures at (c.in_ok-inner-in-Delay.ensures.answer envs p v)))
+
+pub statement-returns-in_ok-inner-in-Event-clause-answer : goal.statement-returns-in_ok-inner-in-Event-clause-answer
+statement-returns-in_ok-inner-in-Event-clause-answer t c envs p v =
+    rw c.in-Event.is (c.event_around.ensures.answer envs p c.args.next.now _ c.in-Event.x v (rw c.deref-in-Event.ensures at (c.in_ok-inner-in-Event.ensures.answer envs p v)))
+
+pub statement-returns-in_ok-inner-in-Forever-clause-answer : goal.statement-returns-in_ok-inner-in-Forever-clause-answer
+statement-returns-in_ok-inner-in-Forever-clause-answer t c envs p v =
+    rw c.in-Forever.is (c.forever_around.ensures.answer c.args.view.now.list.now envs p c.args.next.now _ c.in-Forever.x (rw c.deref-in-Forever.ensures at (c.in_ok-inner-in-Forever.ensures.answer envs p v)))
+
+pub statement-returns-in_ok-other-in-If-clause-answer : goal.statement-returns-in_ok-other-in-If-clause-answer
+statement-returns-in_ok-other-in-If-clause-answer t c envs p v =
+    rw c.in-If.is (c.if_around.ensures.answer envs p c.args.next.now _ _ c.in-If.x c.in-If.other v (rw c.deref-in-If.ensures at (c.in_ok-inner-in-If.ensures.answer envs p v)) (c.in_ok-other-in-If.ensures.answer envs p v))
+
+pub statement-returns-in-Assign-clause-answer : goal.statement-returns-in-Assign-clause-answer
+statement-returns-in-Assign-clause-answer t c envs p v = rw c.in-Assign.is (c.assign.ensures.answer envs p v)
+
+pub statement-returns-in-Null-clause-answer : goal.statement-returns-in-Null-clause-answer
+statement-returns-in-Null-clause-answer t c envs p v = rw c.in-Null.is (null_answers c.args.view.now.list.now envs p c.args.next.now _ c.null.result c.null.ensures)
+
+pub statement-returns-in-Null-clause-below : goal.statement-returns-in-Null-clause-below
+statement-returns-in-Null-clause-below t c = none_below (length c.args.view.now.list.now) c.args.next.now _ c.null.result c.null.ensures
+
+pub statement-returns-in-Finish-clause-answer : goal.statement-returns-in-Finish-clause-answer
+statement-returns-in-Finish-clause-answer t c envs p v = rw c.in-Finish.is (finish_answers c.args.view.now.list.now envs p c.args.next.now _ c.in-Finish.field-0 c.finish.result c.finish.ensures)
+
+pub statement-returns-in-Finish-clause-below : goal.statement-returns-in-Finish-clause-below
+statement-returns-in-Finish-clause-below t c = none_below (length c.args.view.now.list.now) c.args.next.now _ c.finish.result c.finish.ensures
+
+pub statement-returns-in-Dump-clause-answer : goal.statement-returns-in-Dump-clause-answer
+statement-returns-in-Dump-clause-answer t c envs p v = rw c.in-Dump.is (dump_answers c.args.view.now.list.now envs p c.args.next.now _ c.in-Dump.field-0 c.in-Dump.field-1 c.null-in-Dump.result c.null-in-Dump.ensures)
+
+pub statement-returns-in-Dump-clause-below : goal.statement-returns-in-Dump-clause-below
+statement-returns-in-Dump-clause-below t c = none_below (length c.args.view.now.list.now) c.args.next.now _ c.null-in-Dump.result c.null-in-Dump.ensures
+
+pub for_statement-returns-clause-answer : goal.for_statement-returns-clause-answer
+for_statement-returns-clause-answer t c envs p v =
+    c.for_around.ensures.answer envs p c.args.next.now _ c.args.x.now v (rw (c.deref.ensures, c.deref-2.ensures) at (c.in_ok-begin.ensures.answer envs p v)) (rw c.deref-3.ensures at (c.in_ok-inner.ensures.answer envs p v))
+
+pub statement-returns-in-Later-clause-below : goal.statement-returns-in-Later-clause-below
+statement-returns-in-Later-clause-below t c = c.later.ensures.below
+
+pub statement-returns-in-Print-clause-below : goal.statement-returns-in-Print-clause-below
+statement-returns-in-Print-clause-below t c = c.print.ensures.below
+
+pub statement-returns-in_ok-inner-in-Block-clause-below : goal.statement-returns-in_ok-inner-in-Block-clause-below
+statement-returns-in_ok-inner-in-Block-clause-below t c = tt
+
+pub statement-returns-in_err-inner-in-Block-clause-below : goal.statement-returns-in_err-inner-in-Block-clause-below
+statement-returns-in_err-inner-in-Block-clause-below t c =
+    let q = err_from_is_err_and c.from_residual.result c.from_residual.ensures.1 in
+    rw (q.1, q.2) c.in_err-inner-in-Block.ensures.below
+
+pub statement-returns-in_ok-inner-in-Named-clause-below : goal.statement-returns-in_ok-inner-in-Named-clause-below
+statement-returns-in_ok-inner-in-Named-clause-below t c = tt
+
+pub statement-returns-in_err-inner-in-Named-clause-below : goal.statement-returns-in_err-inner-in-Named-clause-below
+statement-returns-in_err-inner-in-Named-clause-below t c =
+    let q = err_from_is_err_and c.from_residual-in_err-inner-in-Named.result c.from_residual-in_err-inner-in-Named.ensures.1 in
+    rw (q.1, q.2) c.in_err-inner-in-Named.ensures.below
+
+pub statement-returns-in_err-inner-in-If-clause-below : goal.statement-returns-in_err-inner-in-If-clause-below
+statement-returns-in_err-inner-in-If-clause-below t c =
+    let q = err_from_is_err_and c.from_residual-in_err-inner-in-If.result c.from_residual-in_err-inner-in-If.ensures.1 in
+    rw (q.1, q.2) c.in_err-inner-in-If.ensures.below
+
+pub statement-returns-in_err-other-in-If-clause-below : goal.statement-returns-in_err-other-in-If-clause-below
+statement-returns-in_err-other-in-If-clause-below t c =
+    let q = err_from_is_err_and c.from_residual-in_err-other-in-If.result c.from_residual-in_err-other-in-If.ensures.1 in
+    rw (q.1, q.2) c.in_err-other-in-If.ensures.below
+
+pub statement-returns-in_err-inner-in-While-clause-below : goal.statement-returns-in_err-inner-in-While-clause-below
+statement-returns-in_err-inner-in-While-clause-below t c =
+    let q = err_from_is_err_and c.from_residual-in_err-inner-in-While.result c.from_residual-in_err-inner-in-While.ensures.1 in
+    rw (q.1, q.2) c.in_err-inner-in-While.ensures.below
+
+pub statement-returns-in_err-inner-in-Repeat-clause-below : goal.statement-returns-in_err-inner-in-Repeat-clause-below
+statement-returns-in_err-inner-in-Repeat-clause-below t c =
+    let q = err_from_is_err_and c.from_residual-in_err-inner-in-Repeat.result c.from_residual-in_err-inner-in-Repeat.ensures.1 in
+    rw (q.1, q.2) c.in_err-inner-in-Repeat.ensures.below
+
+pub statement-returns-in_err-inner-in-Forever-clause-below : goal.statement-returns-in_err-inner-in-Forever-clause-below
+statement-returns-in_err-inner-in-Forever-clause-below t c =
+    let q = err_from_is_err_and c.from_residual-in_err-inner-in-Forever.result c.from_residual-in_err-inner-in-Forever.ensures.1 in
+    rw (q.1, q.2) c.in_err-inner-in-Forever.ensures.below
+
+pub statement-returns-in_err-inner-in-Delay-clause-below : goal.statement-returns-in_err-inner-in-Delay-clause-below
+statement-returns-in_err-inner-in-Delay-clause-below t c =
+    let q = err_from_is_err_and c.from_residual-in_err-inner-in-Delay.result c.from_residual-in_err-inner-in-Delay.ensures.1 in
+    rw (q.1, q.2) c.in_err-inner-in-Delay.ensures.below
+
+pub statement-returns-in_err-inner-in-Event-clause-below : goal.statement-returns-in_err-inner-in-Event-clause-below
+statement-returns-in_err-inner-in-Event-clause-below t c =
+    let q = err_from_is_err_and c.from_residual-in_err-inner-in-Event.result c.from_residual-in_err-inner-in-Event.ensures.1 in
+    rw (q.1, q.2) c.in_err-inner-in-Event.ensures.below
+
+pub statement-returns-in-Case-clause-below : goal.statement-returns-in-Case-clause-below
+statement-returns-in-Case-clause-below t c = c.case_statement.ensures.below
+
+pub case_statement-returns-in_err-number-clause-below : goal.case_statement-returns-in_err-number-clause-below
+case_statement-returns-in_err-number-clause-below t c =
+    let q = err_from_is_err_and c.from_residual.result c.from_residual.ensures.1 in
+    rw (q.1, q.2) (overfull_below (length c.args.view.now.list.now) c.args.next.now c.in_err-number.field-0.0 c.in_err-number.ensures)
+
+pub case_statement-returns-in_err-shape-clause-below : goal.case_statement-returns-in_err-shape-clause-below
+case_statement-returns-in_err-shape-clause-below t c =
+    let q = err_from_is_err_and c.from_residual-in_err-shape.result c.from_residual-in_err-shape.ensures.1 in
+    rw (q.1, q.2) (refused_below (length c.args.view.now.list.now) c.in_err-shape.field-0.0)
+
+pub case_statement-returns-in_err-done-clause-below : goal.case_statement-returns-in_err-done-clause-below
+case_statement-returns-in_err-done-clause-below t c =
+    let q = err_from_is_err_and c.from_residual-in_err-done.result c.from_residual-in_err-done.ensures.1 in
+    rw (q.1, q.2) c.in_err-done.ensures.below
+
+pub case_statement-returns-clause-below : goal.case_statement-returns-clause-below
+case_statement-returns-clause-below t c = tt
+
+pub for_statement-returns-in_err-begin-clause-below : goal.for_statement-returns-in_err-begin-clause-below
+for_statement-returns-in_err-begin-clause-below t c =
+    let q = err_from_is_err_and c.from_residual.result c.from_residual.ensures.1 in
+    rw (q.1, q.2) c.in_err-begin.ensures.below
+
+pub for_statement-returns-in_err-inner-clause-below : goal.for_statement-returns-in_err-inner-clause-below
+for_statement-returns-in_err-inner-clause-below t c =
+    let q = err_from_is_err_and c.from_residual-in_err-inner.result c.from_residual-in_err-inner.ensures.1 in
+    rw (q.1, q.2) c.in_err-inner.ensures.below
+
+pub behind-returns-clause-below : goal.behind-returns-clause-below
+behind-returns-clause-below t c = tt
+
+pub behind-returns-in_err-number-clause-below : goal.behind-returns-in_err-number-clause-below
+behind-returns-in_err-number-clause-below t c =
+    let q = err_from_is_err_and c.from_residual.result c.from_residual.ensures.1 in
+    rw (q.1, q.2) (overfull_below (length c.args.view.now.list.now) c.args.next.now c.in_err-number.field-0.0 c.in_err-number.ensures)
+
+pub behind-returns-in_err-inner-clause-below : goal.behind-returns-in_err-inner-clause-below
+behind-returns-in_err-inner-clause-below t c =
+    let q = err_from_is_err_and c.from_residual-in_err-inner.result c.from_residual-in_err-inner.ensures.1 in
+    rw (q.1, q.2) c.in_err-inner.ensures.below
+
+pub otherwise-returns-in-Some-clause-below : goal.otherwise-returns-in-Some-clause-below
+otherwise-returns-in-Some-clause-below t c = c.statement.ensures.below
+
+pub otherwise-returns-in-None-clause-below : goal.otherwise-returns-in-None-clause-below
+otherwise-returns-in-None-clause-below t c = tt
+
+pub statements-returns-in_err-one-clause-below : goal.statements-returns-in_err-one-clause-below
+statements-returns-in_err-one-clause-below t c =
+    let q = err_from_is_err_and c.from_residual-in_err-one.result c.from_residual-in_err-one.ensures.1 in
+    rw (q.1, q.2) c.in_err-one.ensures.below
+
+pub statements-returns-clause-below : goal.statements-returns-clause-below
+statements-returns-clause-below t c = tt
+
+pub items-returns-in_err-values-clause-below : goal.items-returns-in_err-values-clause-below
+items-returns-in_err-values-clause-below t c =
+    let q = err_from_is_err_and c.from_residual-in_err-values.result c.from_residual-in_err-values.ensures.1 in
+    rw (q.1, q.2) (refused_below (length c.args.view.now.list.now) c.in_err-values.field-0.0)
+
+pub items-returns-in_err-one-clause-below : goal.items-returns-in_err-one-clause-below
+items-returns-in_err-one-clause-below t c =
+    let q = err_from_is_err_and c.from_residual-in_err-one.result c.from_residual-in_err-one.ensures.1 in
+    rw (q.1, q.2) c.in_err-one.ensures.below
+
+pub items-returns-clause-below : goal.items-returns-clause-below
+items-returns-clause-below t c = tt
+
+pub block-returns-in-Ok-clause-below : goal.block-returns-in-Ok-clause-below
+block-returns-in-Ok-clause-below t c = tt
+
+pub statement-returns-in-For-clause-below : goal.statement-returns-in-For-clause-below
+statement-returns-in-For-clause-below t c = c.for_statement.ensures.below
+
+pub statement-returns-in_ok-inner-in-While-clause-below : goal.statement-returns-in_ok-inner-in-While-clause-below
+statement-returns-in_ok-inner-in-While-clause-below t c = c.while_around.ensures.below
+
+pub statement-returns-in_ok-inner-in-Repeat-clause-below : goal.statement-returns-in_ok-inner-in-Repeat-clause-below
+statement-returns-in_ok-inner-in-Repeat-clause-below t c = c.repeat_around.ensures.below
+
+pub statement-returns-in_ok-inner-in-Delay-clause-below : goal.statement-returns-in_ok-inner-in-Delay-clause-below
+statement-returns-in_ok-inner-in-Delay-clause-below t c = c.delay_around.ensures.below
+
+pub statement-returns-in_ok-inner-in-Event-clause-below : goal.statement-returns-in_ok-inner-in-Event-clause-below
+statement-returns-in_ok-inner-in-Event-clause-below t c = c.event_around.ensures.below
+
+pub statement-returns-in_ok-inner-in-Forever-clause-below : goal.statement-returns-in_ok-inner-in-Forever-clause-below
+statement-returns-in_ok-inner-in-Forever-clause-below t c = c.forever_around.ensures.below (length c.args.view.now.list.now)
+
+pub statement-returns-in_ok-other-in-If-clause-below : goal.statement-returns-in_ok-other-in-If-clause-below
+statement-returns-in_ok-other-in-If-clause-below t c = c.if_around.ensures.below
+
+pub statement-returns-in-Assign-clause-below : goal.statement-returns-in-Assign-clause-below
+statement-returns-in-Assign-clause-below t c = c.assign.ensures.below
+
+pub for_statement-returns-clause-below : goal.for_statement-returns-clause-below
+for_statement-returns-clause-below t c = c.for_around.ensures.below

@@ -5,7 +5,8 @@ use Rattle.vs_process.specs.Blocks.{inside_block}
 use Rattle.vs_turns.proofs.MarkingLemmas.{noted_first}
 use Rattle.vs_process.proofs.Effects.{on_err}
 use Rattle.vs_turns.proofs.Appending.{append_none, part_all}
-use Rattle.vs_kernel.proofs.RunsLemmas.{HasRun, begins, limited, incomplete, complete_past, complete_over, ended_run, header_failed, end_failed, part_failed, first_failed, failed_as, failed_from}
+use Rattle.vs_kernel.proofs.RunsLemmas.{HasRun, begins, limited, incomplete, complete_past, complete_over, ended_run, header_failed, end_failed}
+use Rattle.vs_slots.proofs.WritingLemmas.{part_failed, first_failed, failed_as, failed_from}
 use Rattle.vs_turns.specs.Points.{Point, point}
 use Rattle.vs_turns.specs.Turns.{TurnedTo}
 use Rattle.vs_kernel.proofs.StandsLemmas.{StandsAt, all_failed, all_on}

@@ -5,7 +5,7 @@ use Rattle.vs_state.specs.Told.{told}
 use Rattle.vs_turns.specs.Turns.{IsNext}
 use Rattle.vs_agenda.specs.ActiveEvents.{move_of}
 use Rattle.vs_process.proofs.Effects.{on_err}
-use Rattle.vs_state.proofs.MarkingLemmas.{changes_more}
+use Rattle.vs_changes.proofs.MarkingLemmas.{changes_more}
 use Rattle.vs_turns.proofs.TurnsLemmas.{ahead_next, batch_then, none_free, part_fell, part_then}
 use Rattle.vs_turns.proofs.moves.run_events.Goals as goal
 

@@ -1,6 +1,6 @@
 use Rattle.std.proofs.Common.{◌≡◌, ◌<◌, ◌≤◌}
 use Rattle.vs_agenda.specs.ActiveEvents.{move_of}
-use Rattle.vs_state.specs.Changes.{MarkChanges}
+use Rattle.vs_changes.specs.Changes.{MarkChanges}
 use Rattle.vs_state.specs.Silent.{IsReached}
 use Rattle.vs_turns.proofs.TurnsLemmas.{Ahead}
 use Rattle.vs_turns.proofs.moves.run_events.Given as goal

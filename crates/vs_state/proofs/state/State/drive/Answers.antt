@@ -7,11 +7,11 @@ use Rattle.vs_design.specs.Stores.{changes_nothing}
 use Rattle.vs_eval.specs.Targets.{assigned}
 use Rattle.vs_eval.specs.Values.{target_value}
 use Rattle.vs_process.specs.States.{State, AssignState, evaluate}
-use Rattle.vs_state.specs.Touches.{HasSources}
-use Rattle.vs_state.specs.Waits.{HasTerms}
-use Rattle.vs_state.proofs.ChangesLemmas.{marks_seen, same_store}
+use Rattle.vs_changes.specs.Touches.{HasSources}
+use Rattle.vs_changes.specs.Waits.{HasTerms}
+use Rattle.vs_changes.proofs.ChangesLemmas.{marks_seen, same_store}
 use Rattle.vs_state.proofs.ExecutionsLemmas.{driven_at, rested_at, rested_sources}
-use Rattle.vs_state.proofs.WaitsLemmas.{written_none}
+use Rattle.vs_changes.proofs.WaitsLemmas.{written_none}
 use Rattle.vs_state.proofs.state.State.drive.Goals as goal
 
 pub write-requires-clause-sources : goal.write-requires-clause-sources

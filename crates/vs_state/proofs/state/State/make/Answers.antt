@@ -7,7 +7,7 @@ use Rattle.vs_process.specs.Executions.{is_enabled}
 use Rattle.vs_process.specs.States.{State}
 use Rattle.vs_state.specs.Prints.{made_line, made_text}
 use Rattle.vs_state.specs.Told.{told}
-use Rattle.vs_state.proofs.ChangesLemmas.{same_store}
+use Rattle.vs_changes.proofs.ChangesLemmas.{same_store}
 use Rattle.vs_state.proofs.ExecutionsLemmas.{apply_seen, enabled_seen, silent_seen}
 use Rattle.vs_state.proofs.state.State.make.Goals as goal
 

@@ -1,7 +1,7 @@
 use Rattle.std.proofs.Common.{◌∙◌, sym, ap, ap₂, arith}
 use Rattle.vs_process.specs.States.{State}
 use Rattle.vs_state.specs.Prints.{line_of, made_text}
-use Rattle.vs_state.specs.Touches.{behind_effect}
+use Rattle.vs_state.specs.Effects.{behind_effect}
 use Rattle.vs_state.proofs.state.State.perform.Goals as goal
 
 pub push-requires : goal.push-requires

@@ -1,36 +1,26 @@
-use Rattle.std.proofs.Common.{◌≡◌, ◌++◌, ◌∙◌, List, [], ◌∷◌, Option, slice_get, refl, sym, ap, subst}
+use Rattle.std.proofs.Common.{◌∙◌, [], ◌∷◌, Option, slice_get, refl, sym, ap, subst}
 use Rattle.vs_design.specs.Writes.{Write}
 use Rattle.vs_eval.specs.Targets.{assigned}
-use Rattle.vs_flatcode.specs.declared.changes.Change.{Change}
 use Rattle.vs_flatcode.specs.Changes.{changed_words}
 use Rattle.vs_process.specs.States.{State, AssignState, propagate}
-use Rattle.vs_state.specs.Touches.{HasSources}
-use Rattle.vs_state.specs.Waits.{HasTerms}
-use Rattle.vs_state.proofs.ChangesLemmas.{sizes_put, marks_put, marks_seen}
+use Rattle.vs_changes.specs.Touches.{HasSources}
+use Rattle.vs_changes.specs.Waits.{HasTerms}
+use Rattle.vs_changes.proofs.ChangesLemmas.{marks_put, marks_seen}
 use Rattle.vs_state.proofs.ExecutionsLemmas.{propagate_at, settled_sources}
-use Rattle.vs_state.proofs.WaitsLemmas.{written_by}
+use Rattle.vs_changes.proofs.WaitsLemmas.{written_by}
 use Rattle.vs_state.proofs.state.State.propagate.Goals as goal
 
-pub follow-requires : goal.follow-requires
-follow-requires g c =
-    let s = c.self.inside in
-    let w : Write = assigned c.target-target.result.now c.in-Some-pending.digits s.store c.time-time.result in
-    let words : c.assign.new.changes.items ≡ changed_words s.store c.assign.new.store w =
-    c.in_ok-assign.ensures.changes ∙ ap (λ (l : List Change). l ++ changed_words s.store c.assign.new.store w) c.clear-2.ensures.items
-    in
-    record {
-      sizes = sizes_put w s.store c.assign.new.store c.assign.new.changes.items c.in_ok-assign.ensures.store words;
-      sources = settled_sources c.args.design.now s.assigns c.settle-2.new.self c.args.number c.settle-2.ensures (subst (λ (s : State). HasSources c.args.design.now s) (sym c.self.view_is) c.requires.sources);
-      terms = λ some. subst (λ (s : State). HasTerms c.args.design.now s) (sym c.self.view_is) c.requires.terms;
-    }
+pub write_value-requires : goal.write_value-requires
+write_value-requires g c = record {
+  sources = settled_sources c.args.design.now c.self.inside.assigns c.settle-2.new.self c.args.number c.settle-2.ensures
+      (subst (λ (s : State). HasSources c.args.design.now s) (sym c.self.view_is) c.requires.sources);
+  terms = subst (λ (s : State). HasTerms c.args.design.now s) (sym c.self.view_is) c.requires.terms;
+}
 
 pub returns-clause-made : goal.returns-clause-made
 returns-clause-made g c =
     let s = c.self.inside in
     let w : Write = assigned c.target-target.result.now c.in-Some-pending.digits s.store c.time-time.result in
-    let words : c.assign.new.changes.items ≡ changed_words s.store c.assign.new.store w =
-    c.in_ok-assign.ensures.changes ∙ ap (λ (l : List Change). l ++ changed_words s.store c.assign.new.store w) c.clear-2.ensures.items
-    in
     let before : State = record {
       store = s.store;
       places = s.processes.places;
@@ -41,8 +31,9 @@ returns-clause-made g c =
       finishing = s.finishing;
       over = s.over;
     } in
-    written_by before w c.follow.new.processes.time c.assign.new.store c.assign.new.changes.items c.follow.new.processes.places c.follow.new.assigns
-    c.follow.new.processes.updates c.in_ok-assign.ensures.store words c.in_ok-follow.ensures.assigns c.in_ok-follow.ensures.places c.follow.ensures.time c.follow.ensures.updates
+    written_by before w c.write_value.new.processes.time c.write_value.new.store (changed_words s.store c.write_value.new.store w) c.write_value.new.processes.places c.write_value.new.assigns
+    c.write_value.new.processes.updates c.in_ok-write_value.ensures.store refl c.in_ok-write_value.ensures.assigns c.in_ok-write_value.ensures.places c.write_value.ensures.time
+    c.write_value.ensures.updates
     ∙ propagate_at c.self.view_is c.args.number c.time-time.result c.in-Some.x.now c.settle-2.new.self c.target-target.result.now c.in-Some-pending.digits w c.in-Some.ensures
     (sym c.pending.ensures ∙ c.in-Some-pending.is) c.settle-2.ensures c.target-target.ensures c.time-time.ensures refl
 
@@ -50,11 +41,9 @@ pub returns-clause-marked : goal.returns-clause-marked
 returns-clause-marked g c =
     let s = c.self.inside in
     let w : Write = assigned c.target-target.result.now c.in-Some-pending.digits s.store c.time-time.result in
-    let words : c.assign.new.changes.items ≡ changed_words s.store c.assign.new.store w =
-    c.in_ok-assign.ensures.changes ∙ ap (λ (l : List Change). l ++ changed_words s.store c.assign.new.store w) c.clear-2.ensures.items
-    in
-    marks_seen c.args.marks.now.items c.follow.new.marks.items c.assign.new.store c.self.view_is
-    (marks_put c.args.marks.now.items c.follow.new.marks.items w s.store c.assign.new.store c.assign.new.changes.items c.follow.ensures.marked words c.in_ok-assign.ensures.store)
+    marks_seen c.args.marks.now.items c.write_value.new.marks.items c.write_value.new.store c.self.view_is
+    (marks_put c.args.marks.now.items c.write_value.new.marks.items w s.store c.write_value.new.store (changed_words s.store c.write_value.new.store w) c.in_ok-write_value.ensures.marked refl
+    c.in_ok-write_value.ensures.store)
 
 -- ---- a target of one fixed place
 

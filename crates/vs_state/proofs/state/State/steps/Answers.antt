@@ -9,10 +9,10 @@ use Rattle.vs_flatcode.specs.Steps.{step}
 use Rattle.vs_process.specs.Effects.{effect_if}
 use Rattle.vs_process.specs.Executions.{if_some}
 use Rattle.vs_places.specs.Timelines.{WentAt}
-use Rattle.vs_state.specs.Touches.{HasSources}
-use Rattle.vs_state.proofs.ChangesLemmas.{sizes_behind, marks_behind, marks_seen}
+use Rattle.vs_changes.specs.Touches.{HasSources}
+use Rattle.vs_changes.proofs.ChangesLemmas.{sizes_behind, marks_behind, marks_seen}
 use Rattle.vs_state.proofs.SilentLemmas.{steps_made, went_within}
-use Rattle.vs_state.proofs.WaitsLemmas.{going_behind}
+use Rattle.vs_changes.proofs.WaitsLemmas.{going_behind}
 use Rattle.vs_state.proofs.state.State.steps.Goals as goal
 
 pub follow-requires : goal.follow-requires

@@ -1,5 +1,5 @@
 use Rattle.std.proofs.Common.{[], ◌∷◌, ◌∙◌}
-use Rattle.vs_state.proofs.ChangesLemmas.{marks_seen}
+use Rattle.vs_changes.proofs.ChangesLemmas.{marks_seen}
 use Rattle.vs_state.proofs.ExecutionsLemmas.{make_at}
 use Rattle.vs_state.proofs.state.State.update.Goals as goal
 

@@ -4,8 +4,8 @@ use Rattle.vs_design.specs.Writes.{Write}
 use Rattle.vs_flatcode.specs.declared.changes.Change.{Change}
 use Rattle.vs_flatcode.specs.Changes.{changed_part, changed_words}
 use Rattle.vs_process.specs.States.{State, written}
-use Rattle.vs_state.proofs.ChangesLemmas.{marks_put, marks_seen}
-use Rattle.vs_state.proofs.WaitsLemmas.{written_by}
+use Rattle.vs_changes.proofs.ChangesLemmas.{marks_put, marks_seen}
+use Rattle.vs_changes.proofs.WaitsLemmas.{written_by}
 use Rattle.vs_state.proofs.state.State.write.Goals as goal
 
 pub returns-clause-made : goal.returns-clause-made

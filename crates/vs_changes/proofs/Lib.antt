@@ -1,0 +1,5 @@
+pub mod ChangesLemmas
+pub mod MarkingLemmas
+pub mod TouchesLemmas
+pub mod WaitsLemmas
+pub mod TermsLemmas

@@ -1,0 +1,4 @@
+pub mod Changes
+pub mod Sources
+pub mod Touches
+pub mod Waits

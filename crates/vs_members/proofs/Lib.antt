@@ -1,0 +1,2 @@
+pub mod OwnLemmas
+pub mod AddLemmas
