@@ -1,11 +1,11 @@
 -- What is found under a name, where it passes a test.
-use Rattle.std.proofs.Common.{◌≡◌, ℕ, Bool, true, false, ◌||◌, List, [], ◌∷◌, Option, Some, None, codes, true≢false, refl, ap, sym}
+use Rattle.std.proofs.Common.{◌≡◌, ℕ, Bool, true, false, ◌||◌, List, ◌∷◌, Option, Some, None, codes, true≢false, refl, ap, sym}
 use Rattle.std.proofs.lemmas.Bool.{and_parts, eqb-true}
 use Rattle.std.proofs.lemmas.Slice.Eq.{bytes_eq-Decides}
 use Rattle.std.specs.Option.{option_map_or}
 use Rattle.serde_json.specs.Data.{Data, unsigned, negative, float, null, boolean, number, string, array, object, no_items, item}
 use Rattle.serde_json.specs.Find.{get}
-use Rattle.vs_certificate.specs.Shape.{is_word, is_empty_list, is_list, is_text, is_number, is_grain, is_start, passes_at, has_names, is_edge_signal, is_signal_entry, is_process_entry, is_combinational, is_edge_process, is_delay_process, is_certificate}
+use Rattle.vs_certificate.specs.Shape.{is_word, is_empty_list, is_list, is_text, is_number, is_flag, is_grain, is_start, passes_at, has_names, names_of_one, is_edge_signal, is_signal_entry, is_process_entry, is_combinational, is_edge_process, is_delay_process, is_version_one, is_version_two, is_certificate}
 
 word_found : (o : Option Data) (word : List ℕ) → option_map_or (is_word word) o false ≡ true → o ≡ Some (string word)
 word_found None word h = absurd (true≢false (sym h))
@@ -45,6 +45,11 @@ number_found (Some (object ms)) n h = absurd (true≢false (sym h))
 
 pub get-is_number : (name : List ℕ) (n : ℕ) (d : Data) → passes_at (is_number n) name d ≡ true → get name d ≡ Some (number (unsigned n))
 get-is_number name n d h = number_found (get name d) n h
+
+-- the second of two, where not the first
+pub second : (a b : Bool) → (a || b) ≡ true → a ≡ false → b ≡ true
+second true b h p = absurd (true≢false p)
+second false b h p = h
 
 -- the last of three, where neither of the others
 pub third : (a b c : Bool) → (a || b || c) ≡ true → a ≡ false → b ≡ false → c ≡ true
@@ -87,15 +92,34 @@ delay_parts numeric d h =
     let b = and_parts _ _ a.0 in
     record { kind = get-is_word (codes "kind") (codes "delay") d b.0; slots = b.1; start = get-is_word (codes "start") (codes "none") d a.1 }
 
+pub record VersionOneParts (d : Data) : Type 0 where
+  pub names : has_names names_of_one d ≡ true
+  pub version : get (codes "version") d ≡ Some (number (unsigned 1))
+
+pub version_one_parts : (d : Data) → is_version_one d ≡ true → VersionOneParts d
+version_one_parts d h =
+    let a = and_parts _ _ (and_parts _ _ h).0 in
+    record { names = a.0; version = get-is_number (codes "version") 1 d a.1 }
+
+pub record VersionTwoParts (d : Data) : Type 0 where
+  pub names : has_names (codes "displays" ∷ names_of_one) d ≡ true
+  pub version : get (codes "version") d ≡ Some (number (unsigned 2))
+  pub displays : passes_at is_flag (codes "displays") d ≡ true
+
+pub version_two_parts : (d : Data) → is_version_two d ≡ true → VersionTwoParts d
+version_two_parts d h =
+    let a = and_parts _ _ h in
+    let b = and_parts _ _ a.0 in
+    record { names = b.0; version = get-is_number (codes "version") 2 d b.1; displays = a.1 }
+
 pub record CertificateParts (numeric : Data → Bool) (d : Data) : Type 0 where
-  pub names : has_names (codes "edges" ∷ codes "grain" ∷ codes "modulus" ∷ codes "order" ∷ codes "processes" ∷ codes "signals" ∷ codes "version" ∷ []) d ≡ true
   pub edges : passes_at (is_list is_edge_signal) (codes "edges") d ≡ true
   pub grain : passes_at is_grain (codes "grain") d ≡ true
   pub modulus : passes_at numeric (codes "modulus") d ≡ true
   pub order : passes_at (is_list is_text) (codes "order") d ≡ true
   pub processes : passes_at (is_list (is_process_entry numeric)) (codes "processes") d ≡ true
   pub signals : passes_at (is_list is_signal_entry) (codes "signals") d ≡ true
-  pub version : passes_at (is_number 1) (codes "version") d ≡ true
+  pub version : (is_version_one d || is_version_two d) ≡ true
 
 pub certificate_parts : (numeric : Data → Bool) (d : Data) → is_certificate numeric d ≡ true → CertificateParts numeric d
 certificate_parts numeric d h =
@@ -105,5 +129,4 @@ certificate_parts numeric d h =
     let order = and_parts _ _ processes.0 in
     let modulus = and_parts _ _ order.0 in
     let grain = and_parts _ _ modulus.0 in
-    let edges = and_parts _ _ grain.0 in
-    record { names = edges.0; edges = edges.1; grain = grain.1; modulus = modulus.1; order = order.1; processes = processes.1; signals = signals.1; version = version.1 }
+    record { edges = grain.0; grain = grain.1; modulus = modulus.1; order = order.1; processes = processes.1; signals = signals.1; version = version.1 }

@@ -1,7 +1,8 @@
 -- The value of a certificate within its limits is plain, and has the form of a certificate.
-use Rattle.std.proofs.Common.{◌≡◌, ℕ, ◌+◌, ◌^◌, ◌<◌, ◌≤◌, Bool, true, ◌&&◌, nat_le, nat_lt, List, [], ◌∷◌, map, String, Vec, Global, codes, refl, arith, ltb-true}
+use Rattle.std.proofs.Common.{◌≡◌, ℕ, ◌+◌, ◌^◌, ◌<◌, ◌≤◌, Bool, true, false, not, ◌&&◌, ◌||◌, nat_le, nat_lt, List, [], ◌∷◌, map, String, Vec, Global, codes, refl, sym, ap₂, ◌∙◌, arith, ltb-true}
 use Rattle.std.proofs.lemmas.Bool.{and_parts, leb-true}
 use Rattle.std.proofs.lemmas.Str.{IsUtf8-string_bytes}
+use Rattle.std.specs.List.{list_all}
 use Rattle.json.specs.Tree.{depth}
 use Rattle.json.proofs.Printed.Utf8.{IsUtf8-are_ascii}
 use Rattle.serde_json.specs.Data.{Data, string}
@@ -10,19 +11,22 @@ use Rattle.serde_json.specs.View.{items_of}
 use Rattle.serde_json.specs.Written.{outline}
 use Rattle.vs_certificate.specs.declared.members.Certificate.{Certificate}
 use Rattle.vs_certificate.specs.declared.members.EdgeSignal.{EdgeSignal}
-use Rattle.vs_certificate.specs.declared.members.Grain.{Grain}
-use Rattle.vs_certificate.specs.declared.members.Grain.TheVariants as grains
+use Rattle.vs_certificate.specs.declared.members.ClaimedGrain.{ClaimedGrain}
+use Rattle.vs_certificate.specs.declared.members.ClaimedGrain.TheVariants as grains
 use Rattle.vs_certificate.specs.declared.members.ProcessEntry.{ProcessEntry}
-use Rattle.vs_certificate.specs.declared.members.ProcessKind.{ProcessKind}
-use Rattle.vs_certificate.specs.declared.members.ProcessKind.TheVariants as kinds
+use Rattle.vs_certificate.specs.declared.members.ClaimedKind.{ClaimedKind}
+use Rattle.vs_certificate.specs.declared.members.ClaimedKind.TheVariants as kinds
 use Rattle.vs_certificate.specs.declared.members.SignalEntry.{SignalEntry}
 use Rattle.vs_certificate.specs.declared.members.SignalMode.{SignalMode}
 use Rattle.vs_certificate.specs.declared.members.SignalMode.TheVariants as modes
 use Rattle.vs_certificate.specs.declared.members.Start.TheVariants as starts
-use Rattle.vs_certificate.specs.JsonValue.{kind_word, grain_value, mode_value, text_value, list_value, whole_value, residues_value, slots_value, start_value, edge_value, process_value, signal_value, value_of}
-use Rattle.vs_certificate.specs.Shape.{is_whole, all_items, is_list, passes_at, is_text, is_grain, is_mode, is_edge_signal, is_signal_entry, is_process_entry, is_certificate}
-use Rattle.vs_certificate.specs.Limits.{rise, is_within, are_residues, are_slots, are_processes, is_within_limits}
-use Rattle.vs_certificate.specs.Reading.{ReadsBack, IsSound}
+use Rattle.vs_certificate.specs.declared.members.Version.{Version}
+use Rattle.vs_certificate.specs.declared.members.Version.TheVariants as versions
+use Rattle.vs_certificate.specs.JsonValue.{kind_word, grain_value, mode_value, text_value, list_value, whole_value, residues_value, slots_value, start_value, edge_value, process_value, signal_value, object_with, members_by, value_of}
+use Rattle.vs_certificate.specs.Shape.{is_whole, is_word, all_items, is_list, passes_at, is_text, is_grain, is_mode, is_edge_signal, is_signal_entry, is_process_entry, is_no_starter, has_shared, is_certificate}
+use Rattle.vs_certificate.specs.Limits.{rise, is_within, are_residues, are_slots, are_processes, is_modulus, is_within_limits}
+use Rattle.vs_certificate.specs.Reading.{is_other_version, ReadsBack, IsSound}
+use Rattle.vs_certificate.specs.Versions.{has_kind, has_own_kinds}
 use Rattle.vs_certificate.proofs.Plain.{IsPlain, ArePlainItems, of_json-outline, IsUtf8-compact_text, read-compact_text}
 use Rattle.vs_certificate.proofs.Natural.{limit_parts}
 
@@ -58,7 +62,7 @@ plain_slots_items modulus small (r ∷ rs) h =
     let a = and_parts (are_residues modulus (residues_value r)) (all_items (are_residues modulus) (items_of (map residues_value rs))) h in
     (plain_residues modulus small r a.0, plain_slots_items modulus small rs a.1)
 
-plain_slots : (modulus : ℕ) → modulus ≤ 2 ^ 32 → (kind : ProcessKind) → are_slots modulus (slots_value kind) ≡ true → IsPlain (slots_value kind)
+plain_slots : (modulus : ℕ) → modulus ≤ 2 ^ 32 → (kind : ClaimedKind) → are_slots modulus (slots_value kind) ≡ true → IsPlain (slots_value kind)
 plain_slots modulus small (kinds.Combinational start) h = tt
 plain_slots modulus small kinds.Edge h = tt
 plain_slots modulus small (kinds.Delay slots) h =
@@ -66,11 +70,11 @@ plain_slots modulus small (kinds.Delay slots) h =
 
 -- ---- words
 
-plain_grain : (g : Grain) → IsPlain (grain_value g)
+plain_grain : (g : ClaimedGrain) → IsPlain (grain_value g)
 plain_grain grains.Block = IsUtf8-are_ascii _ refl
 plain_grain grains.Statement = IsUtf8-are_ascii _ refl
 
-formed_grain : (g : Grain) → is_grain (grain_value g) ≡ true
+formed_grain : (g : ClaimedGrain) → is_grain (grain_value g) ≡ true
 formed_grain grains.Block = refl
 formed_grain grains.Statement = refl
 
@@ -90,14 +94,15 @@ formed_mode modes.Nonblocking = refl
 formed_mode modes.Blocking = refl
 formed_mode modes.Private = refl
 
-plain_kind_word : (kind : ProcessKind) → IsPlain (string (kind_word kind))
+plain_kind_word : (kind : ClaimedKind) → IsPlain (string (kind_word kind))
 plain_kind_word (kinds.Combinational start) = IsUtf8-are_ascii _ refl
 plain_kind_word kinds.Edge = IsUtf8-are_ascii _ refl
 plain_kind_word (kinds.Delay slots) = IsUtf8-are_ascii _ refl
 
-plain_start : (kind : ProcessKind) → IsPlain (start_value kind)
+plain_start : (kind : ClaimedKind) → IsPlain (start_value kind)
 plain_start (kinds.Combinational starts.Cold) = IsUtf8-are_ascii _ refl
 plain_start (kinds.Combinational starts.Sources) = IsUtf8-are_ascii _ refl
+plain_start (kinds.Combinational starts.Starter) = IsUtf8-are_ascii _ refl
 plain_start kinds.Edge = IsUtf8-are_ascii _ refl
 plain_start (kinds.Delay slots) = IsUtf8-are_ascii _ refl
 
@@ -134,21 +139,22 @@ plain_processes modulus small ps h =
 formed_residues : (residues : Vec ℕ Global) → is_list is_whole (residues_value residues) ≡ true
 formed_residues residues = formed_list whole_value is_whole (λ n. refl) residues.items
 
-formed_kind : (name : String Global) (kind : ProcessKind) → is_process_entry is_whole (process_value (record { kind = kind; name = name })) ≡ true
+formed_kind : (name : String Global) (kind : ClaimedKind) → is_process_entry is_whole (process_value (record { kind = kind; name = name })) ≡ true
 formed_kind name (kinds.Combinational starts.Cold) = refl
 formed_kind name (kinds.Combinational starts.Sources) = refl
+formed_kind name (kinds.Combinational starts.Starter) = refl
 formed_kind name kinds.Edge = refl
 formed_kind name (kinds.Delay slots) = rw (formed_list residues_value (is_list is_whole) formed_residues slots.items) refl
 
 formed_process : (p : ProcessEntry) → is_process_entry is_whole (process_value p) ≡ true
 formed_process p = formed_kind p.name p.kind
 
-shallow_slots : (kind : ProcessKind) → depth (outline (slots_value kind)) ≤ 2
+shallow_slots : (kind : ClaimedKind) → depth (outline (slots_value kind)) ≤ 2
 shallow_slots (kinds.Combinational start) = omega arith
 shallow_slots kinds.Edge = omega arith
 shallow_slots (kinds.Delay slots) = shallow_list residues_value 1 (λ r. shallow_list whole_value 0 (λ n. omega arith) r.items) slots.items
 
-shallow_start : (kind : ProcessKind) → depth (outline (start_value kind)) ≤ 0
+shallow_start : (kind : ClaimedKind) → depth (outline (start_value kind)) ≤ 0
 shallow_start (kinds.Combinational start) = omega arith
 shallow_start kinds.Edge = omega arith
 shallow_start (kinds.Delay slots) = omega arith
@@ -156,31 +162,90 @@ shallow_start (kinds.Delay slots) = omega arith
 shallow_process : (p : ProcessEntry) → depth (outline (process_value p)) ≤ 3
 shallow_process p = omega (arith, shallow_slots p.kind, shallow_start p.kind)
 
+-- ---- the starts of a version
+
+no_starter : (k : ClaimedKind) → not (is_word (codes "starter") (start_value k)) ≡ has_kind versions.One k
+no_starter (kinds.Combinational starts.Cold) = refl
+no_starter (kinds.Combinational starts.Sources) = refl
+no_starter (kinds.Combinational starts.Starter) = refl
+no_starter kinds.Edge = refl
+no_starter (kinds.Delay slots) = refl
+
+abbrev have_kinds : Version → List ProcessEntry → Bool
+have_kinds version ps = list_all (λ (p : ProcessEntry). has_kind version p.kind) ps
+
+no_starters : (ps : List ProcessEntry) → all_items is_no_starter (items_of (map process_value ps)) ≡ have_kinds versions.One ps
+no_starters [] = refl
+no_starters (p ∷ ps) = ap₂ (λ a b. a && b) (no_starter p.kind) (no_starters ps)
+
+any_kinds : (displays : Bool) (ps : List ProcessEntry) → have_kinds (versions.Two displays) ps ≡ true
+any_kinds displays [] = refl
+any_kinds displays (p ∷ ps) = any_kinds displays ps
+
 -- ---- the whole
 
-plain_value : (c : Certificate) → is_within_limits (value_of c) ≡ true → IsPlain (value_of c)
-plain_value c h =
-    let limits = limit_parts (value_of c) c.modulus h in
-    let small : c.modulus ≤ 2 ^ 32 = leb-true c.modulus (2 ^ 32) (and_parts (nat_le 1 c.modulus) (nat_le c.modulus (2 ^ 32)) limits.fits).1 in
-    let edges = plain_list edge_value plain_edge c.edges.items in
-    let order = plain_list text_value plain_text c.order.items in
-    let processes = plain_processes c.modulus small c.processes.items limits.processes in
-    let signals = plain_list signal_value plain_signal c.signals.items in
-    let modulus : IsPlain (whole_value c.modulus) = omega arith in
-    let version : IsPlain (whole_value 1) = omega arith in (
-      (refl, edges, (refl, plain_grain c.grain, (refl, modulus, (refl, order, (refl, processes, (refl, signals, (refl, version, tt))))))),
+-- the value of a certificate as one of this version
+abbrev value_by : Version → Certificate → Data
+value_by version c = object_with (members_by version c)
+
+record ArePlain (c : Certificate) : Type 0 where
+  pub edges : IsPlain (list_value edge_value c.edges.items)
+  pub modulus : IsPlain (whole_value c.modulus)
+  pub order : IsPlain (list_value text_value c.order.items)
+  pub processes : IsPlain (list_value process_value c.processes.items)
+  pub signals : IsPlain (list_value signal_value c.signals.items)
+
+plain_members : (c : Certificate) → is_modulus c.modulus ≡ true → are_processes c.modulus (list_value process_value c.processes.items) ≡ true → ArePlain c
+plain_members c fits processes =
+    let small : c.modulus ≤ 2 ^ 32 = leb-true c.modulus (2 ^ 32) (and_parts (nat_le 1 c.modulus) (nat_le c.modulus (2 ^ 32)) fits).1 in
+    record {
+      edges = plain_list edge_value plain_edge c.edges.items;
+      modulus = omega arith;
+      order = plain_list text_value plain_text c.order.items;
+      processes = plain_processes c.modulus small c.processes.items processes;
+      signals = plain_list signal_value plain_signal c.signals.items;
+    }
+
+plain_by : (version : Version) (c : Certificate) → is_within_limits (value_by version c) ≡ true → IsPlain (value_by version c)
+plain_by versions.One c h =
+    let limits = limit_parts (value_by versions.One c) c.modulus h in
+    let p = plain_members c limits.fits limits.processes in
+    let one : IsPlain (whole_value 1) = omega arith in (
+      (refl, p.edges, (refl, plain_grain c.grain, (refl, p.modulus, (refl, p.order, (refl, p.processes, (refl, p.signals, (refl, one, tt))))))),
       rw (
-        of_json-outline (list_value edge_value c.edges.items) edges,
-        of_json-outline (whole_value c.modulus) modulus,
-        of_json-outline (list_value text_value c.order.items) order,
-        of_json-outline (list_value process_value c.processes.items) processes,
-        of_json-outline (list_value signal_value c.signals.items) signals,
-        of_json-outline (whole_value 1) version,
+        of_json-outline (list_value edge_value c.edges.items) p.edges,
+        of_json-outline (whole_value c.modulus) p.modulus,
+        of_json-outline (list_value text_value c.order.items) p.order,
+        of_json-outline (list_value process_value c.processes.items) p.processes,
+        of_json-outline (list_value signal_value c.signals.items) p.signals,
+        of_json-outline (whole_value 1) one,
+      ) refl,
+    )
+plain_by (versions.Two displays) c h =
+    let limits = limit_parts (value_by (versions.Two displays) c) c.modulus h in
+    let p = plain_members c limits.fits limits.processes in
+    let two : IsPlain (whole_value 2) = omega arith in (
+      (refl, tt, (refl, p.edges, (refl, plain_grain c.grain, (refl, p.modulus, (refl, p.order, (refl, p.processes, (refl, p.signals, (refl, two, tt)))))))),
+      rw (
+        of_json-outline (list_value edge_value c.edges.items) p.edges,
+        of_json-outline (whole_value c.modulus) p.modulus,
+        of_json-outline (list_value text_value c.order.items) p.order,
+        of_json-outline (list_value process_value c.processes.items) p.processes,
+        of_json-outline (list_value signal_value c.signals.items) p.signals,
+        of_json-outline (whole_value 2) two,
       ) refl,
     )
 
-formed_value : (c : Certificate) → is_certificate is_whole (value_of c) ≡ true
-formed_value c =
+shared_by : (version : Version) (c : Certificate) → has_shared is_whole (value_by version c) ≡ true
+shared_by versions.One c =
+    rw (
+      formed_list edge_value is_edge_signal (λ e. refl) c.edges.items,
+      formed_grain c.grain,
+      formed_list text_value is_text (λ s. refl) c.order.items,
+      formed_list process_value (is_process_entry is_whole) formed_process c.processes.items,
+      formed_list signal_value is_signal_entry formed_signal c.signals.items,
+    ) refl
+shared_by (versions.Two displays) c =
     rw (
       formed_list edge_value is_edge_signal (λ e. refl) c.edges.items,
       formed_grain c.grain,
@@ -189,8 +254,31 @@ formed_value c =
       formed_list signal_value is_signal_entry formed_signal c.signals.items,
     ) refl
 
-shallow_value : (c : Certificate) → depth (outline (value_of c)) ≤ max_depth
-shallow_value c =
+formed_by : (version : Version) (c : Certificate) → have_kinds version c.processes.items ≡ true → is_certificate is_whole (value_by version c) ≡ true
+formed_by versions.One c own =
+    let none : all_items is_no_starter (items_of (map process_value c.processes.items)) ≡ true = no_starters c.processes.items ∙ own in
+    rw (shared_by versions.One c, none) refl
+formed_by (versions.Two displays) c own = rw (shared_by (versions.Two displays) c) refl
+
+not_second : (b : Bool) → (b || false) ≡ true → b ≡ true
+not_second true h = refl
+not_second false h = h
+
+-- what has the form of a certificate has the starts of its version
+kinds_by : (version : Version) (c : Certificate) → is_certificate is_whole (value_by version c) ≡ true → have_kinds version c.processes.items ≡ true
+kinds_by versions.One c h = sym (no_starters c.processes.items) ∙ not_second _ (and_parts (has_shared is_whole (value_by versions.One c)) _ h).1
+kinds_by (versions.Two displays) c h = any_kinds displays c.processes.items
+
+shallow_by : (version : Version) (c : Certificate) → depth (outline (value_by version c)) ≤ max_depth
+shallow_by versions.One c =
+    omega (
+      arith,
+      shallow_list edge_value 1 (λ e. omega arith) c.edges.items,
+      shallow_list text_value 0 (λ s. omega arith) c.order.items,
+      shallow_list process_value 3 shallow_process c.processes.items,
+      shallow_list signal_value 1 (λ s. omega arith) c.signals.items,
+    )
+shallow_by (versions.Two displays) c =
     omega (
       arith,
       shallow_list edge_value 1 (λ e. omega arith) c.edges.items,
@@ -199,14 +287,21 @@ shallow_value c =
       shallow_list signal_value 1 (λ s. omega arith) c.signals.items,
     )
 
--- within its limits no test fails of the value
-pub sound_value : (c : Certificate) → is_within_limits (value_of c) ≡ true → IsSound (value_of c)
-sound_value c within = record { version = refl; shape = formed_value c; limits = within }
+known_by : (version : Version) (c : Certificate) → is_other_version (value_by version c) ≡ false
+known_by versions.One c = refl
+known_by (versions.Two displays) c = refl
+
+-- within its limits, and with the starts of its version, no test fails of the value
+pub sound_value : (c : Certificate) → has_own_kinds c ≡ true → is_within_limits (value_of c) ≡ true → IsSound (value_of c)
+sound_value c own within = record { version = known_by c.version c; shape = formed_by c.version c own; limits = within }
+
+pub own_kinds : (c : Certificate) → IsSound (value_of c) → has_own_kinds c ≡ true
+own_kinds c sound = kinds_by c.version c sound.shape
 
 pub reads_back : (c : Certificate) → ReadsBack c
-reads_back c within short =
-    let plain = plain_value c within in
+reads_back c own within short =
+    let plain = plain_by c.version c within in
     record {
-      json = record { short = short; reads = (IsUtf8-compact_text (value_of c) plain, read-compact_text (value_of c) plain (shallow_value c)) };
-      sound = sound_value c within;
+      json = record { short = short; reads = (IsUtf8-compact_text (value_of c) plain, read-compact_text (value_of c) plain (shallow_by c.version c)) };
+      sound = sound_value c own within;
     }

@@ -6,5 +6,6 @@ pub mod Natural
 pub mod Plain
 pub mod Law
 pub mod Only
+pub mod Versions
 pub mod Images
 pub mod Sameness

@@ -7,13 +7,11 @@ use Rattle.serde_json.specs.Find.{get}
 use Rattle.vs_certificate.specs.Shape.{natural, is_whole, is_natural, all_items, is_list, passes_at, is_combinational, is_edge_process, is_delay_process, is_process_entry, is_certificate}
 use Rattle.vs_certificate.specs.Limits.{items_in, rise, is_within, are_residues, are_slots, are_processes, is_modulus, holds_by, is_within_limits}
 use Rattle.vs_certificate.proofs.Found.{certificate_parts}
+use Rattle.std.proofs.lemmas.Bool.{and_from as both}
 
 -- what passes two tests passes a third
 abbrev Implied : (p q r : Data → Bool) → Type 0
 Implied p q r = (d : Data) → p d ≡ true → q d ≡ true → r d ≡ true
-
-both : (a b : Bool) → a ≡ true → b ≡ true → (a && b) ≡ true
-both a b p q = rw (p, q) refl
 
 or_next : (b x y : Bool) → (b || x) ≡ true → (x ≡ true → y ≡ true) → (b || y) ≡ true
 or_next true x y h f = refl
@@ -114,7 +112,7 @@ is_certificate-natural d h k =
     let q = modulus_found d (option_and_then natural (get (codes "modulus") d)) k in
     let modulus = modulus_natural (get (codes "modulus") d) q.0 q.1 in
     let processes = found_implies (is_list (is_process_entry is_whole)) (are_processes q.0) (is_list (is_process_entry is_natural)) (processes_natural q.0) (get (codes "processes") d) p.processes q.2.processes in
-    both _ _ (both _ _ (both _ _ (both _ _ (both _ _ (both _ _ (both _ _ p.names p.edges) p.grain) modulus) p.order) processes) p.signals) p.version
+    both _ _ (both _ _ (both _ _ (both _ _ (both _ _ (both _ _ p.edges p.grain) modulus) p.order) processes) p.signals) p.version
 
 -- a negative number is over a limit
 pub is_within_limits-negative : (d : Data) → is_certificate is_whole d ≡ true → is_certificate is_natural d ≡ false → is_within_limits d ≡ false

@@ -1,21 +1,23 @@
 -- The members of a certificate are read off its JSON value.
 use Rattle.std.proofs.Common.{◌≡◌, ℕ, Bool, if◌then◌else◌, List, [], ◌∷◌, map, codes, String, string_bytes, Vec, Global, Option, Some, None, true≢false, refl, ap, ap₂, sym, ◌∙◌}
-use Rattle.serde_json.specs.Data.{Data, string, array, object, Members, Items, member}
+use Rattle.serde_json.specs.Data.{Data, boolean, string, array, object, Members, Items, member}
 use Rattle.serde_json.specs.View.{items_of}
 use Rattle.vs_certificate.specs.declared.members.Certificate.{Certificate}
 use Rattle.vs_certificate.specs.declared.members.EdgeSignal.{EdgeSignal}
-use Rattle.vs_certificate.specs.declared.members.Grain.{Grain}
-use Rattle.vs_certificate.specs.declared.members.Grain.TheVariants as grains
+use Rattle.vs_certificate.specs.declared.members.ClaimedGrain.{ClaimedGrain}
+use Rattle.vs_certificate.specs.declared.members.ClaimedGrain.TheVariants as grains
 use Rattle.vs_certificate.specs.declared.members.ProcessEntry.{ProcessEntry}
-use Rattle.vs_certificate.specs.declared.members.ProcessKind.{ProcessKind}
-use Rattle.vs_certificate.specs.declared.members.ProcessKind.TheVariants as kinds
+use Rattle.vs_certificate.specs.declared.members.ClaimedKind.{ClaimedKind}
+use Rattle.vs_certificate.specs.declared.members.ClaimedKind.TheVariants as kinds
 use Rattle.vs_certificate.specs.declared.members.SignalEntry.{SignalEntry}
 use Rattle.vs_certificate.specs.declared.members.SignalMode.{SignalMode}
 use Rattle.vs_certificate.specs.declared.members.SignalMode.TheVariants as modes
 use Rattle.vs_certificate.specs.declared.members.Start.{Start}
 use Rattle.vs_certificate.specs.declared.members.Start.TheVariants as starts
-use Rattle.vs_certificate.specs.JsonValue.{kind_word, grain_value, mode_value, text_value, list_value, whole_value, residues_value, slots_value, start_word_value, start_value, edge_value, process_value, signal_value, value_of}
-use Rattle.vs_certificate.specs.Shape.{is_word}
+use Rattle.vs_certificate.specs.declared.members.Version.{Version}
+use Rattle.vs_certificate.specs.declared.members.Version.TheVariants as versions
+use Rattle.vs_certificate.specs.JsonValue.{kind_word, grain_value, mode_value, text_value, list_value, whole_value, residues_value, slots_value, start_word_value, start_value, edge_value, process_value, signal_value, members_with, object_with, shared_members, members_by, value_of}
+use Rattle.vs_certificate.specs.Shape.{is_word, has_names, names_of_one}
 use Rattle.vs_certificate.specs.Sameness.{start_of, residues_of, edge_parts, process_parts, signal_parts, IsSame}
 
 -- ---- lists
@@ -50,14 +52,14 @@ parts_from_list value parts each xs ys h = parts_from_values value parts each xs
 
 -- ---- words
 
-abbrev grain_in : Data → Option Grain
+abbrev grain_in : Data → Option ClaimedGrain
 grain_in d = if is_word (codes "block") d then Some grains.Block else Some grains.Statement
 
-grain_again : (g : Grain) → grain_in (grain_value g) ≡ Some g
+grain_again : (g : ClaimedGrain) → grain_in (grain_value g) ≡ Some g
 grain_again grains.Block = refl
 grain_again grains.Statement = refl
 
-grain_from_value : (g h : Grain) → grain_value g ≡ grain_value h → g ≡ h
+grain_from_value : (g h : ClaimedGrain) → grain_value g ≡ grain_value h → g ≡ h
 grain_from_value g h e = let same : Some g ≡ Some h = sym (grain_again g) ∙ ap grain_in e ∙ grain_again h in cc
 
 abbrev mode_in : Data → Option SignalMode
@@ -77,15 +79,16 @@ mode_from_value : (m n : SignalMode) → mode_value m ≡ mode_value n → m ≡
 mode_from_value m n e = let same : Some m ≡ Some n = sym (mode_again m) ∙ ap mode_in e ∙ mode_again n in cc
 
 abbrev start_in : Data → Option Start
-start_in d = if is_word (codes "cold") d then Some starts.Cold else if is_word (codes "sources") d then Some starts.Sources else None
+start_in d = if is_word (codes "cold") d then Some starts.Cold else if is_word (codes "sources") d then Some starts.Sources else if is_word (codes "starter") d then Some starts.Starter else None
 
-start_again : (k : ProcessKind) → start_in (start_value k) ≡ start_of k
+start_again : (k : ClaimedKind) → start_in (start_value k) ≡ start_of k
 start_again (kinds.Combinational starts.Cold) = refl
 start_again (kinds.Combinational starts.Sources) = refl
+start_again (kinds.Combinational starts.Starter) = refl
 start_again kinds.Edge = refl
 start_again (kinds.Delay slots) = refl
 
-start_from_value : (j k : ProcessKind) → start_value j ≡ start_value k → start_of j ≡ start_of k
+start_from_value : (j k : ClaimedKind) → start_value j ≡ start_value k → start_of j ≡ start_of k
 start_from_value j k e = sym (start_again j) ∙ ap start_in e ∙ start_again k
 
 -- ---- residues
@@ -103,7 +106,7 @@ numbers_from_value a b e = sym (map_itself a.items) ∙ parts_from_list whole_va
 abbrev is_delay : Data → Bool
 is_delay = is_word (codes "delay")
 
-residues_from_value : (j k : ProcessKind) → string (kind_word j) ≡ string (kind_word k) → slots_value j ≡ slots_value k → residues_of j ≡ residues_of k
+residues_from_value : (j k : ClaimedKind) → string (kind_word j) ≡ string (kind_word k) → slots_value j ≡ slots_value k → residues_of j ≡ residues_of k
 residues_from_value (kinds.Combinational s) (kinds.Combinational t) w e = refl
 residues_from_value (kinds.Combinational s) kinds.Edge w e = refl
 residues_from_value (kinds.Combinational s) (kinds.Delay b) w e = absurd (true≢false (sym (ap is_delay w)))
@@ -153,9 +156,17 @@ signal_from_value s t h =
 
 -- ---- the whole
 
-pub same_from_value : (c d : Certificate) → value_of c ≡ value_of d → IsSame c d
-same_from_value c d h =
-    let edges = members_of h in
+-- the same members, but for those of one version alone
+record AreSame (c d : Certificate) : Type 0 where
+  pub edges : map edge_parts c.edges.items ≡ map edge_parts d.edges.items
+  pub grain : c.grain ≡ d.grain
+  pub modulus : c.modulus ≡ d.modulus
+  pub order : map string_bytes c.order.items ≡ map string_bytes d.order.items
+  pub processes : map process_parts c.processes.items ≡ map process_parts d.processes.items
+  pub signals : map signal_parts c.signals.items ≡ map signal_parts d.signals.items
+
+shared_from_value : (m n : ℕ) (c d : Certificate) → members_with (shared_members m c) ≡ members_with (shared_members n d) → AreSame c d
+shared_from_value m n c d edges =
     let grain = other_members edges in
     let modulus = other_members grain in
     let order = other_members modulus in
@@ -169,6 +180,22 @@ same_from_value c d h =
       processes = parts_from_list process_value process_parts process_from_value c.processes.items d.processes.items (first_member processes);
       signals = parts_from_list signal_value signal_parts signal_from_value c.signals.items d.signals.items (first_member signals);
     }
+
+flag_from_value : (a b : Bool) → boolean a ≡ boolean b → a ≡ b
+flag_from_value a b h = cc
+
+same_by : (v w : Version) (c d : Certificate) → object_with (members_by v c) ≡ object_with (members_by w d) → (v ≡ w) × AreSame c d
+same_by versions.One versions.One c d h = (refl, shared_from_value 1 1 c d (members_of h))
+same_by versions.One (versions.Two b) c d h = absurd (true≢false (ap (has_names names_of_one) h))
+same_by (versions.Two a) versions.One c d h = absurd (true≢false (sym (ap (has_names names_of_one) h)))
+same_by (versions.Two a) (versions.Two b) c d h =
+    let displays = members_of h in
+    (ap versions.Two (flag_from_value a b (first_member displays)), shared_from_value 2 2 c d (other_members displays))
+
+pub same_from_value : (c d : Certificate) → value_of c ≡ value_of d → IsSame c d
+same_from_value c d h =
+    let s = same_by c.version d.version c d h in
+    record { version = s.0; edges = s.1.edges; grain = s.1.grain; modulus = s.1.modulus; order = s.1.order; processes = s.1.processes; signals = s.1.signals }
 
 -- ---- the other way round
 
@@ -194,7 +221,7 @@ kind_word_by (Some start) residues = codes "comb"
 kind_word_by None None = codes "edge"
 kind_word_by None (Some residues) = codes "delay"
 
-kind_word_of : (k : ProcessKind) → kind_word k ≡ kind_word_by (start_of k) (residues_of k)
+kind_word_of : (k : ClaimedKind) → kind_word k ≡ kind_word_by (start_of k) (residues_of k)
 kind_word_of (kinds.Combinational start) = refl
 kind_word_of kinds.Edge = refl
 kind_word_of (kinds.Delay slots) = refl
@@ -203,12 +230,12 @@ abbrev start_value_by : Option Start → Data
 start_value_by (Some start) = start_word_value start
 start_value_by None = string (codes "none")
 
-start_value_of : (k : ProcessKind) → start_value k ≡ start_value_by (start_of k)
+start_value_of : (k : ClaimedKind) → start_value k ≡ start_value_by (start_of k)
 start_value_of (kinds.Combinational start) = refl
 start_value_of kinds.Edge = refl
 start_value_of (kinds.Delay slots) = refl
 
-slots_from_residues : (j k : ProcessKind) → residues_of j ≡ residues_of k → slots_value j ≡ slots_value k
+slots_from_residues : (j k : ClaimedKind) → residues_of j ≡ residues_of k → slots_value j ≡ slots_value k
 slots_from_residues (kinds.Combinational s) (kinds.Combinational t) h = refl
 slots_from_residues (kinds.Combinational s) kinds.Edge h = refl
 slots_from_residues (kinds.Combinational s) (kinds.Delay b) h = absurd cc
@@ -230,8 +257,8 @@ process_from_parts p q h =
     let begins : start_value p.kind ≡ start_value q.kind = start_value_of p.kind ∙ ap start_value_by start ∙ sym (start_value_of q.kind) in
     rw (word, name, slots_from_residues p.kind q.kind residues, begins) refl
 
-pub value_from_same : (c d : Certificate) → IsSame c d → value_of c ≡ value_of d
-value_from_same c d h =
+value_by : (v : Version) (c d : Certificate) → IsSame c d → object_with (members_by v c) ≡ object_with (members_by v d)
+value_by versions.One c d h =
     rw (
       values_from_parts edge_value edge_parts edge_from_parts c.edges.items d.edges.items h.edges,
       h.grain,
@@ -240,3 +267,15 @@ value_from_same c d h =
       values_from_parts process_value process_parts process_from_parts c.processes.items d.processes.items h.processes,
       values_from_parts signal_value signal_parts signal_from_parts c.signals.items d.signals.items h.signals,
     ) refl
+value_by (versions.Two displays) c d h =
+    rw (
+      values_from_parts edge_value edge_parts edge_from_parts c.edges.items d.edges.items h.edges,
+      h.grain,
+      h.modulus,
+      values_from_parts text_value string_bytes text_from_parts c.order.items d.order.items h.order,
+      values_from_parts process_value process_parts process_from_parts c.processes.items d.processes.items h.processes,
+      values_from_parts signal_value signal_parts signal_from_parts c.signals.items d.signals.items h.signals,
+    ) refl
+
+pub value_from_same : (c d : Certificate) → IsSame c d → value_of c ≡ value_of d
+value_from_same c d h = ap (λ v. object_with (members_by v c)) h.version ∙ value_by d.version c d h

@@ -1,16 +1,18 @@
--- The JSON value of a certificate, version 1.
-use Rattle.std.specs.Prelude.{◌≡◌, Some, ℕ, List, [], ◌∷◌, map, codes, String, string_bytes, Vec}
+-- The JSON value of a certificate, in either version.
+use Rattle.std.specs.Prelude.{◌≡◌, Some, ℕ, Bool, List, [], ◌∷◌, map, codes, String, string_bytes, Vec}
 use Rattle.std.specs.declared.alloc.Global.{Global}
-use Rattle.serde_json.specs.Data.{Data, number, unsigned, string, array, object, Members, no_members, member}
+use Rattle.serde_json.specs.Data.{Data, boolean, number, unsigned, string, array, object, Members, no_members, member, put}
 use Rattle.serde_json.specs.Find.{get}
 use Rattle.serde_json.specs.View.{items_of}
 use Rattle.vs_certificate.specs.declared.members.Certificate.{Certificate}
-use Rattle.vs_certificate.specs.declared.members.Grain.{Grain}
-use Rattle.vs_certificate.specs.declared.members.Grain.TheVariants as grains
+use Rattle.vs_certificate.specs.declared.members.Version.{Version}
+use Rattle.vs_certificate.specs.declared.members.Version.TheVariants as versions
+use Rattle.vs_certificate.specs.declared.members.ClaimedGrain.{ClaimedGrain}
+use Rattle.vs_certificate.specs.declared.members.ClaimedGrain.TheVariants as grains
 use Rattle.vs_certificate.specs.declared.members.EdgeSignal.{EdgeSignal}
 use Rattle.vs_certificate.specs.declared.members.ProcessEntry.{ProcessEntry}
-use Rattle.vs_certificate.specs.declared.members.ProcessKind.{ProcessKind}
-use Rattle.vs_certificate.specs.declared.members.ProcessKind.TheVariants as kinds
+use Rattle.vs_certificate.specs.declared.members.ClaimedKind.{ClaimedKind}
+use Rattle.vs_certificate.specs.declared.members.ClaimedKind.TheVariants as kinds
 use Rattle.vs_certificate.specs.declared.members.Start.{Start}
 use Rattle.vs_certificate.specs.declared.members.Start.TheVariants as starts
 use Rattle.vs_certificate.specs.declared.members.SignalEntry.{SignalEntry}
@@ -19,11 +21,11 @@ use Rattle.vs_certificate.specs.declared.members.SignalMode.TheVariants as modes
 
 -- ---- words (profile)
 
-abbrev pub grain_word : Grain → List ℕ
+abbrev pub grain_word : ClaimedGrain → List ℕ
 grain_word grains.Block = codes "block"
 grain_word grains.Statement = codes "statement"
 
-abbrev pub kind_word : ProcessKind → List ℕ
+abbrev pub kind_word : ClaimedKind → List ℕ
 kind_word (kinds.Combinational start) = codes "comb"
 kind_word kinds.Edge = codes "edge"
 kind_word (kinds.Delay slots) = codes "delay"
@@ -31,6 +33,7 @@ kind_word (kinds.Delay slots) = codes "delay"
 abbrev pub start_word : Start → List ℕ
 start_word starts.Cold = codes "cold"
 start_word starts.Sources = codes "sources"
+start_word starts.Starter = codes "starter"
 
 abbrev pub mode_word : SignalMode → List ℕ
 mode_word modes.Net = codes "net"
@@ -46,7 +49,10 @@ mode_word modes.Private = codes "private"
 abbrev pub text_value : String Global → Data
 text_value s = string (string_bytes s)
 
-abbrev pub grain_value : Grain → Data
+abbrev pub flag_value : Bool → Data
+flag_value b = boolean b
+
+abbrev pub grain_value : ClaimedGrain → Data
 grain_value g = string (grain_word g)
 
 abbrev pub start_word_value : Start → Data
@@ -75,19 +81,19 @@ abbrev pub residues_value : Vec ℕ Global → Data
 residues_value residues = list_value whole_value residues.items
 
 -- a delay process has a list for each delay control, any other process none
-abbrev pub slots_value : ProcessKind → Data
+abbrev pub slots_value : ClaimedKind → Data
 slots_value (kinds.Combinational start) = list_value residues_value []
 slots_value kinds.Edge = list_value residues_value []
 slots_value (kinds.Delay slots) = list_value residues_value slots.items
 
 -- a combinational block has a start, any other process none
-abbrev pub start_value : ProcessKind → Data
+abbrev pub start_value : ClaimedKind → Data
 start_value (kinds.Combinational start) = start_word_value start
 start_value kinds.Edge = string (codes "none")
 start_value (kinds.Delay slots) = string (codes "none")
 
 -- the members of an object that tell a process's kind tell this one
-abbrev pub IsKindOf : Data → ProcessKind → Type 0
+abbrev pub IsKindOf : Data → ClaimedKind → Type 0
 IsKindOf d kind = (get (codes "kind") d ≡ Some (string (kind_word kind))) × (get (codes "slots") d ≡ Some (slots_value kind)) × (get (codes "start") d ≡ Some (start_value kind))
 
 abbrev pub edge_value : EdgeSignal → Data
@@ -101,16 +107,34 @@ abbrev pub signal_value : SignalEntry → Data
 signal_value s =
     object_with ((codes "mode", mode_value s.mode) ∷ (codes "name", text_value s.name) ∷ (codes "second", text_value s.second) ∷ (codes "writer", text_value s.writer) ∷ [])
 
--- the JSON value of a certificate
-abbrev pub value_of : Certificate → Data
-value_of c =
-    object_with (
+-- ---- the whole
+
+abbrev pub version_number : Version → ℕ
+version_number versions.One = 1
+version_number (versions.Two displays) = 2
+
+-- the members that both versions have, with this number as that of the version
+abbrev pub shared_members : ℕ → Certificate → List (List ℕ × Data)
+shared_members version c =
     (codes "edges", list_value edge_value c.edges.items)
     ∷ (codes "grain", grain_value c.grain)
     ∷ (codes "modulus", whole_value c.modulus)
     ∷ (codes "order", list_value text_value c.order.items)
     ∷ (codes "processes", list_value process_value c.processes.items)
     ∷ (codes "signals", list_value signal_value c.signals.items)
-    ∷ (codes "version", whole_value 1)
+    ∷ (codes "version", whole_value version)
     ∷ []
-    )
+
+-- the members of a certificate of this version
+abbrev pub members_by : Version → Certificate → List (List ℕ × Data)
+members_by versions.One c = shared_members 1 c
+members_by (versions.Two displays) c = (codes "displays", flag_value displays) ∷ shared_members 2 c
+
+-- the JSON value of a certificate
+abbrev pub value_of : Certificate → Data
+value_of c = object_with (members_by c.version c)
+
+-- for private clauses: members, and those that this version alone has
+abbrev pub put_own : Version → Members → Members
+put_own versions.One ms = ms
+put_own (versions.Two displays) ms = put (codes "displays") (flag_value displays) ms

@@ -1,6 +1,6 @@
 -- What bytes are the JSON text of a certificate, and which test fails first where they aren't (profile).
 -- The tests go in the order C1, C3, C2, C4.
-use Rattle.std.specs.Prelude.{◌≡◌, ◌⊎◌, ◌<◌, ◌≤◌, ℕ, List, length, Bool, true, false, not, IsUtf8, Some, option_and_then, pos, codes}
+use Rattle.std.specs.Prelude.{◌≡◌, ◌⊎◌, ◌<◌, ◌≤◌, ℕ, ℤ, List, length, Bool, true, false, ◌||◌, not, IsUtf8, Some, option_and_then, pos, codes}
 use Rattle.std.specs.Ordering.{int_eq}
 use Rattle.std.specs.Option.{option_map_or}
 use Rattle.serde_json.specs.Data.{Data}
@@ -12,6 +12,7 @@ use Rattle.vs_certificate.specs.declared.fault.CertFault.{CertFault}
 use Rattle.vs_certificate.specs.declared.fault.CertFault.TheVariants as faults
 use Rattle.vs_certificate.specs.JsonValue.{value_of}
 use Rattle.vs_certificate.specs.Shape.{is_whole, is_certificate}
+use Rattle.vs_certificate.specs.Versions.{has_own_kinds}
 use Rattle.vs_certificate.specs.Limits.{is_within_limits}
 
 -- what is printed of a fault (profile)
@@ -39,9 +40,12 @@ pub record IsJson (bytes : List ℕ) (d : Data) : Type 0 where
   pub short : length bytes ≤ max_len
   pub reads : IsReadAs bytes d
 
--- C3 fails: the version is a whole number of 64 bits other than 1
+abbrev pub is_version : ℤ → Bool
+is_version z = int_eq z (pos 1) || int_eq z (pos 2)
+
+-- C3 fails: the version is a whole number of 64 bits other than 1 and 2
 abbrev pub is_other_version : Data → Bool
-is_other_version d = option_map_or (λ z. not (int_eq z (pos 1))) (option_and_then as_integer (option_and_then as_number (get (codes "version") d))) false
+is_other_version d = option_map_or (λ z. not (is_version z)) (option_and_then as_integer (option_and_then as_number (get (codes "version") d))) false
 
 -- C3, C2 and C4 pass of the value
 pub record IsSound (d : Data) : Type 0 where
@@ -79,6 +83,6 @@ IsUnread bytes faults.Version = ⊥
 IsUnread bytes faults.Shape = ⊥
 IsUnread bytes faults.Limit = ⊥
 
--- what is written of a certificate within its limits reads back, where it isn't over 16 MiB
+-- what is written of a certificate within its limits reads back, where its version has what it claims and it isn't over 16 MiB
 abbrev pub ReadsBack : Certificate → Type 0
-ReadsBack c = is_within_limits (value_of c) ≡ true → length (compact_text (value_of c)) ≤ max_len → Passes (compact_text (value_of c)) (value_of c)
+ReadsBack c = has_own_kinds c ≡ true → is_within_limits (value_of c) ≡ true → length (compact_text (value_of c)) ≤ max_len → Passes (compact_text (value_of c)) (value_of c)

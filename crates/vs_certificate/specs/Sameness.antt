@@ -4,20 +4,20 @@ use Rattle.std.specs.Prelude.{◌≡◌, ℕ, List, map, Option, None, Some, str
 use Rattle.vs_certificate.specs.declared.members.Certificate.{Certificate}
 use Rattle.vs_certificate.specs.declared.members.EdgeSignal.{EdgeSignal}
 use Rattle.vs_certificate.specs.declared.members.ProcessEntry.{ProcessEntry}
-use Rattle.vs_certificate.specs.declared.members.ProcessKind.{ProcessKind}
-use Rattle.vs_certificate.specs.declared.members.ProcessKind.TheVariants as kinds
+use Rattle.vs_certificate.specs.declared.members.ClaimedKind.{ClaimedKind}
+use Rattle.vs_certificate.specs.declared.members.ClaimedKind.TheVariants as kinds
 use Rattle.vs_certificate.specs.declared.members.Start.{Start}
 use Rattle.vs_certificate.specs.declared.members.SignalEntry.{SignalEntry}
 use Rattle.vs_certificate.specs.declared.members.SignalMode.{SignalMode}
 
 -- the start of a combinational block (profile)
-abbrev pub start_of : ProcessKind → Option Start
+abbrev pub start_of : ClaimedKind → Option Start
 start_of (kinds.Combinational start) = Some start
 start_of kinds.Edge = None
 start_of (kinds.Delay slots) = None
 
 -- the residues of a process that waits for times, a list for each of its delay controls (profile)
-abbrev pub residues_of : ProcessKind → Option (List (List ℕ))
+abbrev pub residues_of : ClaimedKind → Option (List (List ℕ))
 residues_of (kinds.Combinational start) = None
 residues_of kinds.Edge = None
 residues_of (kinds.Delay slots) = Some (map (λ residues. residues.items) slots.items)
@@ -36,6 +36,7 @@ signal_parts s = (s.mode, string_bytes s.name, string_bytes s.second, string_byt
 
 -- the same members (profile)
 pub record IsSame (c d : Certificate) : Type 0 where
+  pub version : c.version ≡ d.version
   pub edges : map edge_parts c.edges.items ≡ map edge_parts d.edges.items
   pub grain : c.grain ≡ d.grain
   pub modulus : c.modulus ≡ d.modulus

@@ -1,11 +1,11 @@
--- Which JSON values have the form of a certificate, version 1: the members of each object, and of what kind each is.
+-- Which JSON values have the form of a certificate, in either version: the members of each object, and of what kind each is.
 -- The limits are no part of it. So numbers go by a test, `numeric`: any whole number of 64 bits, or one that isn't negative.
-use Rattle.std.specs.Prelude.{List, ℕ, [], ◌∷◌, codes, Bool, true, false, ◌&&◌, ◌||◌, bytes_eq, is_some, Option, option_and_then, ◌==◌}
+use Rattle.std.specs.Prelude.{List, ℕ, [], ◌∷◌, codes, Bool, true, false, not, ◌&&◌, ◌||◌, bytes_eq, is_some, Option, option_and_then, ◌==◌}
 use Rattle.std.specs.Option.{option_map_or}
 use Rattle.serde_json.specs.Data.{Data, Items, no_items, item, Members, no_members, member}
 use Rattle.vs_certificate.specs.declared.form.Numbers.{Numbers}
 use Rattle.vs_certificate.specs.declared.form.Numbers.TheVariants as numbers
-use Rattle.serde_json.specs.Find.{get, as_number, as_str, as_array, as_object, as_u64, as_integer}
+use Rattle.serde_json.specs.Find.{get, as_bool, as_number, as_str, as_array, as_object, as_u64, as_integer}
 
 -- a whole number of 64 bits
 abbrev pub is_whole : Data → Bool
@@ -26,6 +26,10 @@ is_number_of numbers.Natural d = is_natural d
 -- this number
 abbrev pub is_number : ℕ → Data → Bool
 is_number n d = option_map_or (λ m. m == n) (natural d) false
+
+-- true or false
+abbrev pub is_flag : Data → Bool
+is_flag d = is_some (as_bool d)
 
 abbrev pub is_text : Data → Bool
 is_text d = is_some (as_str d)
@@ -66,7 +70,7 @@ abbrev pub is_grain : Data → Bool
 is_grain d = is_word (codes "block") d || is_word (codes "statement") d
 
 abbrev pub is_start : Data → Bool
-is_start d = is_word (codes "cold") d || is_word (codes "sources") d
+is_start d = is_word (codes "cold") d || is_word (codes "sources") d || is_word (codes "starter") d
 
 abbrev pub is_mode : Data → Bool
 is_mode d =
@@ -101,9 +105,30 @@ is_process_entry numeric d =
 
 -- ---- the whole (profile)
 
+-- the members that both versions have are there, where numbers pass this test
+abbrev pub has_shared : (Data → Bool) → Data → Bool
+has_shared numeric d =
+    passes_at (is_list is_edge_signal) (codes "edges") d && passes_at is_grain (codes "grain") d && passes_at numeric (codes "modulus") d && passes_at (is_list is_text) (codes "order") d
+    && passes_at (is_list (is_process_entry numeric)) (codes "processes") d && passes_at (is_list is_signal_entry) (codes "signals") d
+
+-- the start of a process isn't `starter`
+abbrev pub is_no_starter : Data → Bool
+is_no_starter d = not (passes_at (is_word (codes "starter")) (codes "start") d)
+
+abbrev pub has_no_starter : Data → Bool
+has_no_starter d = passes_at (is_list is_no_starter) (codes "processes") d
+
+abbrev pub names_of_one : List (List ℕ)
+names_of_one = codes "edges" ∷ codes "grain" ∷ codes "modulus" ∷ codes "order" ∷ codes "processes" ∷ codes "signals" ∷ codes "version" ∷ []
+
+-- version 1: no other members, and no start that is `starter`
+abbrev pub is_version_one : Data → Bool
+is_version_one d = has_names names_of_one d && passes_at (is_number 1) (codes "version") d && has_no_starter d
+
+-- version 2: `displays` besides, true or false
+abbrev pub is_version_two : Data → Bool
+is_version_two d = has_names (codes "displays" ∷ names_of_one) d && passes_at (is_number 2) (codes "version") d && passes_at is_flag (codes "displays") d
+
 -- a certificate whose numbers pass this test
 abbrev pub is_certificate : (Data → Bool) → Data → Bool
-is_certificate numeric d =
-    has_names (codes "edges" ∷ codes "grain" ∷ codes "modulus" ∷ codes "order" ∷ codes "processes" ∷ codes "signals" ∷ codes "version" ∷ []) d && passes_at (is_list is_edge_signal) (codes "edges") d
-    && passes_at is_grain (codes "grain") d && passes_at numeric (codes "modulus") d && passes_at (is_list is_text) (codes "order") d && passes_at (is_list (is_process_entry numeric)) (codes "processes") d
-    && passes_at (is_list is_signal_entry) (codes "signals") d && passes_at (is_number 1) (codes "version") d
+is_certificate numeric d = has_shared numeric d && (is_version_one d || is_version_two d)

@@ -6,11 +6,11 @@ ghost use Rattle.vs_certificate.specs.JsonValue.{grain_value, start_word_value, 
 ghost use Rattle.vs_certificate.specs.Shape.{is_natural, is_whole, is_grain, is_start, is_mode, is_edge_signal, is_signal_entry};
 
 use crate::form::{JsonForm, Numbers, from_value_at, has_form_at, has_names, is_word, with_member};
-use crate::members::{EdgeSignal, Grain, SignalEntry, SignalMode, Start};
+use crate::members::{ClaimedGrain, EdgeSignal, SignalEntry, SignalMode, Start};
 use serde_json::{Map, Value};
 use std::alloc::{AllocError, Global};
 
-impl JsonForm for Grain {
+impl JsonForm for ClaimedGrain {
     ghost json_value = { grain_value };
 
     ghost json_shape = { λ _. is_grain };
@@ -23,11 +23,11 @@ impl JsonForm for Grain {
         is_word(json, "block") || is_word(json, "statement")
     }
 
-    fn from_value(_alloc: Global, json: &Value) -> Result<Grain, AllocError> {
+    fn from_value(_alloc: Global, json: &Value) -> Result<ClaimedGrain, AllocError> {
         if is_word(json, "block") {
-            Ok(Grain::Block)
+            Ok(ClaimedGrain::Block)
         } else {
-            Ok(Grain::Statement)
+            Ok(ClaimedGrain::Statement)
         }
     }
 }
@@ -42,14 +42,16 @@ impl JsonForm for Start {
     }
 
     fn has_form(json: &Value, _numbers: Numbers) -> bool {
-        is_word(json, "cold") || is_word(json, "sources")
+        is_word(json, "cold") || is_word(json, "sources") || is_word(json, "starter")
     }
 
     fn from_value(_alloc: Global, json: &Value) -> Result<Start, AllocError> {
         if is_word(json, "cold") {
             Ok(Start::Cold)
-        } else {
+        } else if is_word(json, "sources") {
             Ok(Start::Sources)
+        } else {
+            Ok(Start::Starter)
         }
     }
 }

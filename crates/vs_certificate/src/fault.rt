@@ -10,10 +10,10 @@ pub enum CertFault {
     /// C1: the bytes are no JSON text, or more than 16 MiB.
     #[error("C1")]
     NotJson,
-    /// C2: a member is missing, unknown or of the wrong kind, or goes against its process's kind.
+    /// C2: a member is missing, unknown or of the wrong kind, or goes against its process's kind or the version.
     #[error("C2")]
     Shape,
-    /// C3: a whole-number version other than 1.
+    /// C3: a whole-number version other than 1 and 2.
     #[error("C3")]
     Version,
     /// C4: a limit is passed, or residues don't rise.

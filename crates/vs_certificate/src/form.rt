@@ -4,8 +4,8 @@ ghost use Rattle.std.specs.Prelude.{◌≡◌, ℕ, List, Bool, Some, map, IsTru
 ghost use Rattle.serde_json.specs.Data.{Data, string, put};
 ghost use Rattle.serde_json.specs.Find.{get};
 ghost use Rattle.serde_json.specs.View.{view, members_view};
-ghost use Rattle.vs_certificate.specs.JsonValue.{text_value, whole_value, list_value};
-ghost use Rattle.vs_certificate.specs.Shape.{is_natural, is_number_of, is_text, is_list, passes_at};
+ghost use Rattle.vs_certificate.specs.JsonValue.{flag_value, text_value, whole_value, list_value};
+ghost use Rattle.vs_certificate.specs.Shape.{is_natural, is_number_of, is_flag, is_text, is_list, passes_at};
 ghost use Rattle.vs_certificate.specs.Shape as Shape;
 
 use serde_json::{Map, Value, put};
@@ -56,6 +56,24 @@ impl JsonForm for String {
 
     fn from_value(alloc: Global, json: &Value) -> Result<String, AllocError> {
         String::from_str(alloc, json.as_str().unwrap())
+    }
+}
+
+impl JsonForm for bool {
+    ghost json_value = { flag_value };
+
+    ghost json_shape = { λ _. is_flag };
+
+    fn to_value(&self, _alloc: Global) -> Result<Value, AllocError> {
+        Ok(Value::from(*self))
+    }
+
+    fn has_form(json: &Value, _numbers: Numbers) -> bool {
+        json.is_boolean()
+    }
+
+    fn from_value(_alloc: Global, json: &Value) -> Result<bool, AllocError> {
+        Ok(json.as_bool().unwrap())
     }
 }
 

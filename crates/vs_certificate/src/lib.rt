@@ -1,4 +1,4 @@
-//! The certificate of a design's independence of the simulator's choices, and its JSON form, version 1.
+//! The certificate of a design's independence of the simulator's choices, and its JSON form, versions 1 and 2.
 #![tactic(auto)]
 
 mod entries;
@@ -15,7 +15,8 @@ mod writing;
 pub use fault::CertFault;
 pub use laws::value_has_one_certificate;
 pub use members::{
-    Certificate, EdgeSignal, Grain, ProcessEntry, ProcessKind, SignalEntry, SignalMode, Start,
+    Certificate, ClaimedGrain, ClaimedKind, EdgeSignal, ProcessEntry, SignalEntry, SignalMode,
+    Start, Version,
 };
 pub use reading::from_json;
 pub use writing::{to_json, written_reads_back};

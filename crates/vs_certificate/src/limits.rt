@@ -5,9 +5,10 @@ ghost use Rattle.vs_certificate.specs.JsonValue.{whole_value, residues_value, li
 ghost use Rattle.vs_certificate.specs.Limits.{is_within, are_residues, are_slots, are_processes, is_within_limits};
 ghost use Rattle.vs_certificate.specs.Limits as Limits;
 ghost use Rattle.vs_certificate.specs.Reading.{IsSound};
+ghost use Rattle.vs_certificate.specs.Versions.{has_own_kinds};
 
 use crate::form::JsonForm;
-use crate::members::{Certificate, ProcessEntry, ProcessKind};
+use crate::members::{Certificate, ClaimedKind, ProcessEntry};
 
 const MAX_ENTRIES: usize = 65_536;
 
@@ -16,11 +17,22 @@ const MAX_RESIDUES: usize = 64;
 const MAX_MODULUS: u64 = 1 << 32;
 
 impl Certificate {
-    /// Whether the limits hold. Then no test fails of what is written of it, and a checker may be asked.
+    /// Whether the limits hold and each start is one of its version. Then no test fails of what is written of it, and a
+    /// checker may be asked.
     pub fn is_sound(&self) -> bool
         ensures { IsTrue result ↔ IsSound (value_of self.now) }
     {
-        self.is_within_limits()
+        self.has_own_kinds() && self.is_within_limits()
+    }
+
+    /// Whether its version has all that is claimed of its processes.
+    fn has_own_kinds(&self) -> bool
+        ensures { result ≡ has_own_kinds self.now }
+    {
+        let version = self.version;
+        self.processes
+            .iter()
+            .all(|process| version.has_kind(&process.kind))
     }
 
     /// Whether the limits hold, as they are tested of its JSON value.
@@ -56,7 +68,7 @@ fn are_processes_within(processes: &[ProcessEntry], modulus: u64) -> bool
         return false;
     }
     for process in processes {
-        if let ProcessKind::Delay(slots) = &process.kind {
+        if let ClaimedKind::Delay(slots) = &process.kind {
             if !are_slots_within(slots, modulus) {
                 return false;
             }

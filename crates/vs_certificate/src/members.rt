@@ -1,12 +1,15 @@
 //! What a certificate holds.
 
 ghost use Rattle.std.specs.Prelude.{◌≡◌};
-ghost use Rattle.vs_certificate.specs.JsonValue.{grain_word, kind_word, start_word, mode_word};
+ghost use Rattle.vs_certificate.specs.JsonValue.{grain_word, kind_word, start_word, mode_word, version_number};
+ghost use Rattle.vs_certificate.specs.Versions as Versions;
 
 /// A claim about a design, by which a checker can tell that no choice of the simulator matters.
 pub struct Certificate {
+    /// Of which version it is.
+    pub version: Version,
     /// How finely processes may be interleaved.
-    pub grain: Grain,
+    pub grain: ClaimedGrain,
     /// What residues are counted by, in ticks: 1 to 2^32.
     pub modulus: u64,
     /// The signals of the edge terms. At most 65,536.
@@ -22,6 +25,7 @@ pub struct Certificate {
 impl Drop for Certificate {
     fn drop(self) {
         let Self {
+            version: _,
             grain: _,
             modulus: _,
             edges: _,
@@ -32,9 +36,21 @@ impl Drop for Certificate {
     }
 }
 
+/// The version of a certificate, with what that version alone says.
+#[derive(Clone, Copy, PartialEq, Eq)]
+pub enum Version {
+    /// Version 1.
+    One,
+    /// Version 2.
+    Two {
+        /// Whether the lines of `$display` are no choice of the simulator either.
+        displays: bool,
+    },
+}
+
 /// How finely processes may be interleaved.
 #[derive(Clone, Copy, PartialEq, Eq)]
-pub enum Grain {
+pub enum ClaimedGrain {
     /// A combinational block runs whole; all else step by step.
     Block,
     /// Every process may be suspended between any two steps.
@@ -58,7 +74,7 @@ impl Drop for EdgeSignal {
 /// A process of the design.
 pub struct ProcessEntry {
     /// What runs it.
-    pub kind: ProcessKind,
+    pub kind: ClaimedKind,
     /// The process's name.
     pub name: String,
 }
@@ -70,7 +86,7 @@ impl Drop for ProcessEntry {
 }
 
 /// What runs a process, and what is claimed of it.
-pub enum ProcessKind {
+pub enum ClaimedKind {
     /// A combinational block, and how its first outputs are explained.
     Combinational(Start),
     /// A process that waits for edges alone.
@@ -80,7 +96,7 @@ pub enum ProcessKind {
     Delay(Vec<Vec<u64>>),
 }
 
-impl Drop for ProcessKind {
+impl Drop for ClaimedKind {
     fn drop(self) {
         match self {
             Self::Combinational(_) | Self::Edge | Self::Delay(_) => {}
@@ -95,6 +111,8 @@ pub enum Start {
     Cold,
     /// It waits for sources alone, so it runs as soon as there is anything to see.
     Sources,
+    /// A signal that it waits for is sure to change in the first slot. In version 2 alone.
+    Starter,
 }
 
 /// A signal of the design, and the processes that write it.
@@ -131,31 +149,52 @@ pub enum SignalMode {
     Combinational,
     /// By `<=` alone.
     Nonblocking,
-    /// By `=` alone, in a process that waits for times.
+    /// By `=` alone, in a process that waits for times, or in version 2 for edges.
     Blocking,
     /// No other process reads it.
     Private,
 }
 
-impl Grain {
-    pub(crate) fn word(self) -> &'static str
-        ensures { result.now ≡ grain_word self }
+impl Version {
+    pub(crate) fn number(self) -> u64
+        ensures { result ≡ version_number self }
     {
         match self {
-            Grain::Block => "block",
-            Grain::Statement => "statement",
+            Version::One => 1,
+            Version::Two { .. } => 2,
+        }
+    }
+
+    /// Whether it has what is claimed of a process of this kind: `starter` is a start of version 2 alone.
+    pub(crate) fn has_kind(self, kind: &ClaimedKind) -> bool
+        ensures { result ≡ Versions.has_kind self kind.now }
+    {
+        match self {
+            Version::One => !matches!(kind, ClaimedKind::Combinational(Start::Starter)),
+            Version::Two { .. } => true,
         }
     }
 }
 
-impl ProcessKind {
+impl ClaimedGrain {
+    pub(crate) fn word(self) -> &'static str
+        ensures { result.now ≡ grain_word self }
+    {
+        match self {
+            ClaimedGrain::Block => "block",
+            ClaimedGrain::Statement => "statement",
+        }
+    }
+}
+
+impl ClaimedKind {
     pub(crate) fn word(&self) -> &'static str
         ensures { result.now ≡ kind_word self.now }
     {
         match self {
-            ProcessKind::Combinational(_) => "comb",
-            ProcessKind::Edge => "edge",
-            ProcessKind::Delay(_) => "delay",
+            ClaimedKind::Combinational(_) => "comb",
+            ClaimedKind::Edge => "edge",
+            ClaimedKind::Delay(_) => "delay",
         }
     }
 }
@@ -167,6 +206,7 @@ impl Start {
         match self {
             Start::Cold => "cold",
             Start::Sources => "sources",
+            Start::Starter => "starter",
         }
     }
 }

@@ -11,7 +11,7 @@ use crate::form::{
     JsonForm, Numbers, from_value_at, has_form_at, has_names, is_empty_list_at, is_word_at,
     with_member, with_text,
 };
-use crate::members::{ProcessEntry, ProcessKind, Start};
+use crate::members::{ClaimedKind, ProcessEntry, Start};
 use serde_json::{Map, Value};
 use std::alloc::{AllocError, Global};
 
@@ -45,25 +45,25 @@ impl JsonForm for ProcessEntry {
 fn with_slots(
     alloc: Global,
     members: Map<String, Value>,
-    kind: &ProcessKind,
+    kind: &ClaimedKind,
 ) -> Result<Map<String, Value>, AllocError>
     ensures { IfOk result (λ all. members_view all.entries ≡ put (codes "slots") (slots_value kind.now) (members_view members.entries)) }
 {
     match kind {
-        ProcessKind::Combinational(_) | ProcessKind::Edge => {
+        ClaimedKind::Combinational(_) | ClaimedKind::Edge => {
             let none: Vec<Vec<u64>> = Vec::new(alloc);
             with_member(alloc, members, "slots", &none)
         },
-        ProcessKind::Delay(slots) => with_member(alloc, members, "slots", slots),
+        ClaimedKind::Delay(slots) => with_member(alloc, members, "slots", slots),
     }
 }
 
-fn start_word(kind: &ProcessKind) -> &'static str
+fn start_word(kind: &ClaimedKind) -> &'static str
     ensures { string result.now ≡ start_value kind.now }
 {
     match kind {
-        ProcessKind::Combinational(start) => start.word(),
-        ProcessKind::Edge | ProcessKind::Delay(_) => "none",
+        ClaimedKind::Combinational(start) => start.word(),
+        ClaimedKind::Edge | ClaimedKind::Delay(_) => "none",
     }
 }
 
@@ -91,7 +91,7 @@ fn is_delay_process(json: &Value, numbers: Numbers) -> bool
         && is_word_at(json, "start", "none")
 }
 
-fn kind_from_value(alloc: Global, json: &Value) -> Result<ProcessKind, AllocError>
+fn kind_from_value(alloc: Global, json: &Value) -> Result<ClaimedKind, AllocError>
     requires { IsTrue (Shape.is_combinational (view json.now)
         || Shape.is_edge_process (view json.now)
         || Shape.is_delay_process is_natural (view json.now)) }
@@ -99,11 +99,11 @@ fn kind_from_value(alloc: Global, json: &Value) -> Result<ProcessKind, AllocErro
 {
     if is_combinational(json) {
         let start = from_value_at(alloc, json, "start")?;
-        Ok(ProcessKind::Combinational(start))
+        Ok(ClaimedKind::Combinational(start))
     } else if is_edge_process(json) {
-        Ok(ProcessKind::Edge)
+        Ok(ClaimedKind::Edge)
     } else {
         let slots = from_value_at(alloc, json, "slots")?;
-        Ok(ProcessKind::Delay(slots))
+        Ok(ClaimedKind::Delay(slots))
     }
 }

@@ -73,12 +73,15 @@ fn certificate_from(alloc: Global, json: &Value) -> Result<Certificate, CertFaul
     Ok(certificate)
 }
 
-/// Whether the version is a whole number other than 1.
+/// Whether the version is a whole number other than 1 and 2.
 fn is_other_version(json: &Value) -> bool
     ensures { result ≡ Reading.is_other_version (view json.now) }
 {
     match json.get("version") {
-        Some(version) => (version.is_u64() || version.is_i64()) && version.as_u64() != Some(1),
+        Some(version) => {
+            let number = version.as_u64();
+            (version.is_u64() || version.is_i64()) && number != Some(1) && number != Some(2)
+        },
         None => false,
     }
 }

@@ -1,14 +1,16 @@
 //! The JSON form of a certificate as a whole.
 
-ghost use Rattle.std.specs.Prelude.{◌≡◌, IsTrue, IfOk};
-ghost use Rattle.serde_json.specs.View.{view};
-ghost use Rattle.vs_certificate.specs.JsonValue.{value_of};
-ghost use Rattle.vs_certificate.specs.Shape.{is_natural, is_whole, is_certificate};
+ghost use Rattle.std.specs.Prelude.{◌≡◌, ◌||◌, IsTrue, IfOk};
+ghost use Rattle.serde_json.specs.View.{view, members_view};
+ghost use Rattle.vs_certificate.specs.JsonValue.{value_of, put_own};
+ghost use Rattle.vs_certificate.specs.Shape.{is_natural, is_whole, is_number_of, is_certificate, has_shared};
+ghost use Rattle.vs_certificate.specs.Shape as Shape;
+ghost use Rattle.vs_certificate.specs.Versions.{IsOfVersion};
 
 use crate::form::{
-    JsonForm, Numbers, from_value_at, has_form_at, has_names, is_number_at, with_member,
+    JsonForm, Numbers, from_value_at, has_form_at, has_names, is_number_at, is_word_at, with_member,
 };
-use crate::members::{Certificate, EdgeSignal, Grain, ProcessEntry, SignalEntry};
+use crate::members::{Certificate, ClaimedGrain, EdgeSignal, ProcessEntry, SignalEntry, Version};
 use serde_json::{Map, Value};
 use std::alloc::{AllocError, Global};
 
@@ -18,37 +20,23 @@ impl JsonForm for Certificate {
     ghost json_shape = { is_certificate };
 
     fn to_value(&self, alloc: Global) -> Result<Value, AllocError> {
-        let members = with_member(alloc, Map::new(alloc), "edges", &self.edges)?;
+        let members = with_own_members(alloc, Map::new(alloc), self.version)?;
+        let members = with_member(alloc, members, "edges", &self.edges)?;
         let members = with_member(alloc, members, "grain", &self.grain)?;
         let members = with_member(alloc, members, "modulus", &self.modulus)?;
         let members = with_member(alloc, members, "order", &self.order)?;
         let members = with_member(alloc, members, "processes", &self.processes)?;
         let members = with_member(alloc, members, "signals", &self.signals)?;
-        let members = with_member(alloc, members, "version", &1)?;
+        let members = with_member(alloc, members, "version", &self.version.number())?;
         Ok(Value::Object(members))
     }
 
     fn has_form(json: &Value, numbers: Numbers) -> bool {
-        let names = [
-            "edges",
-            "grain",
-            "modulus",
-            "order",
-            "processes",
-            "signals",
-            "version",
-        ];
-        has_names(json, &names)
-            && has_form_at::<Vec<EdgeSignal>>(json, "edges", numbers)
-            && has_form_at::<Grain>(json, "grain", numbers)
-            && has_form_at::<u64>(json, "modulus", numbers)
-            && has_form_at::<Vec<String>>(json, "order", numbers)
-            && has_form_at::<Vec<ProcessEntry>>(json, "processes", numbers)
-            && has_form_at::<Vec<SignalEntry>>(json, "signals", numbers)
-            && is_number_at(json, "version", 1)
+        has_shared_members(json, numbers) && (is_version_one(json) || is_version_two(json))
     }
 
     fn from_value(alloc: Global, json: &Value) -> Result<Certificate, AllocError> {
+        let version = version_from_value(alloc, json)?;
         let grain = from_value_at(alloc, json, "grain")?;
         let modulus = from_value_at(alloc, json, "modulus")?;
         let edges = from_value_at(alloc, json, "edges")?;
@@ -56,6 +44,7 @@ impl JsonForm for Certificate {
         let processes = from_value_at(alloc, json, "processes")?;
         let signals = from_value_at(alloc, json, "signals")?;
         Ok(Certificate {
+            version,
             grain,
             modulus,
             edges,
@@ -64,4 +53,92 @@ impl JsonForm for Certificate {
             signals,
         })
     }
+}
+
+/// The members of an object, and those that this version alone has.
+fn with_own_members(
+    alloc: Global,
+    members: Map<String, Value>,
+    version: Version,
+) -> Result<Map<String, Value>, AllocError>
+    ensures { IfOk result (λ all. members_view all.entries ≡ put_own version (members_view members.entries)) }
+{
+    match version {
+        Version::One => Ok(members),
+        Version::Two { displays } => with_member(alloc, members, "displays", &displays),
+    }
+}
+
+/// Whether the members are there, and of their kinds, that both versions have.
+fn has_shared_members(json: &Value, numbers: Numbers) -> bool
+    ensures { result ≡ has_shared (is_number_of numbers) (view json.now) }
+{
+    has_form_at::<Vec<EdgeSignal>>(json, "edges", numbers)
+        && has_form_at::<ClaimedGrain>(json, "grain", numbers)
+        && has_form_at::<u64>(json, "modulus", numbers)
+        && has_form_at::<Vec<String>>(json, "order", numbers)
+        && has_form_at::<Vec<ProcessEntry>>(json, "processes", numbers)
+        && has_form_at::<Vec<SignalEntry>>(json, "signals", numbers)
+}
+
+fn is_version_one(json: &Value) -> bool
+    ensures { result ≡ Shape.is_version_one (view json.now) }
+{
+    let names = [
+        "edges",
+        "grain",
+        "modulus",
+        "order",
+        "processes",
+        "signals",
+        "version",
+    ];
+    has_names(json, &names) && is_number_at(json, "version", 1) && has_no_starter(json)
+}
+
+fn is_version_two(json: &Value) -> bool
+    ensures { result ≡ Shape.is_version_two (view json.now) }
+{
+    let names = [
+        "displays",
+        "edges",
+        "grain",
+        "modulus",
+        "order",
+        "processes",
+        "signals",
+        "version",
+    ];
+    has_names(json, &names)
+        && is_number_at(json, "version", 2)
+        && has_form_at::<bool>(json, "displays", Numbers::Whole)
+}
+
+/// Whether there is a list of processes, none of which has a start that version 1 lacks.
+fn has_no_starter(json: &Value) -> bool
+    ensures { result ≡ Shape.has_no_starter (view json.now) }
+{
+    let Some(processes) = json.get("processes") else {
+        return false;
+    };
+    let Some(list) = processes.as_array() else {
+        return false;
+    };
+    for process in list {
+        if is_word_at(process, "start", "starter") {
+            return false;
+        }
+    }
+    true
+}
+
+fn version_from_value(alloc: Global, json: &Value) -> Result<Version, AllocError>
+    requires { IsTrue (Shape.is_version_one (view json.now) || Shape.is_version_two (view json.now)) }
+    ensures { IfOk result (IsOfVersion (view json.now)) }
+{
+    if is_version_one(json) {
+        return Ok(Version::One);
+    }
+    let displays = from_value_at(alloc, json, "displays")?;
+    Ok(Version::Two { displays })
 }

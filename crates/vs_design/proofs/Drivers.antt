@@ -22,6 +22,7 @@ use Rattle.vs_design.specs.declared.statement.Aim.TheVariants.{Fixed, Chosen}
 use Rattle.vs_design.specs.Drivers.{undriven_word, driven_word, driven_at, driven_by, all_driven, in_copies}
 use Rattle.vs_design.specs.Stores.{changed_at, overlaid, start_digit, start_digits, start_word, start_words, drives_bit}
 use Rattle.vs_design.specs.Uses.{aim_range, bits_from, has_bit, has_word, covers, writes, is_of}
+use Rattle.vs_logic4.proofs.Basics.{same_self as same_signal}
 
 -- ---- digits at the start
 
@@ -43,7 +44,7 @@ driven_digit Wire = refl
 driven_digit Reg = refl
 driven_digit Integer = refl
 
-length-start_digits : (f : ℕ → Bool) (kind : SignalKind) (place n : ℕ) → length (start_digits f kind place n) ≡ n
+pub length-start_digits : (f : ℕ → Bool) (kind : SignalKind) (place n : ℕ) → length (start_digits f kind place n) ≡ n
 length-start_digits f kind place zero = refl
 length-start_digits f kind place (suc n) = ap suc (length-start_digits f kind (suc place) n)
 
@@ -159,9 +160,6 @@ other_signal n m h = grind (arith, nat_tests)
 
 other_below : (n m : ℕ) → m < n → (n == m) ≡ false
 other_below n m h = grind (arith, nat_tests)
-
-same_signal : (n m : ℕ) → n ≡ m → (n == m) ≡ true
-same_signal n m h = grind (arith, nat_tests)
 
 driven_with : (a : Aim) (test : ℕ → ℕ → Bool) (first i : ℕ) (ss : List Signal) → (aim_range a).signal ≡ first + i →
     changed_at (driven_word a) i (words_with test first ss) ≡ words_with (more test a) first ss

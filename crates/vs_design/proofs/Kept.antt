@@ -3,14 +3,7 @@ use Rattle.std.proofs.Common.{◌≡◌, ℕ, ◌==◌, ◌||◌, Bool, true, fa
 use Rattle.vs_design.specs.Stores.{Store, put_part, put}
 use Rattle.vs_design.specs.Writes.{Write, names}
 use Rattle.vs_design.proofs.Stores.{part_keeps}
-
-neither_left : (a b : Bool) → (a || b) ≡ false → a ≡ false
-neither_left true b h = cc
-neither_left false b h = refl
-
-neither_right : (a b : Bool) → (a || b) ≡ false → b ≡ false
-neither_right true b h = cc
-neither_right false b h = h
+use Rattle.vs_logic4.proofs.Basics.{left_false as neither_left, right_false as neither_right}
 
 -- a write keeps each signal that it doesn't name
 pub put_keeps : (w : Write) (store : Store) (signal : ℕ) → names w signal ≡ false → slice_get (put store w) signal ≡ slice_get store signal

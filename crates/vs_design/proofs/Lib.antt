@@ -1,10 +1,10 @@
-mod Drivers
+pub mod Drivers
 mod ExtentLemmas
 mod Kept
 pub mod LoopLemmas
 mod PlanesLemmas
 mod Quick
 pub mod StatementLemmas
-mod Stores
+pub mod Stores
 mod Tables
 pub mod UsesLemmas

@@ -24,6 +24,7 @@ use Rattle.vs_design.specs.Uses.{reads, joined, is_of}
 use Rattle.vs_design.specs.Statements.{all_reads, assignment_reads, statement_reads, statement_reads_step, event_terms, event_terms_step, has_control, has_control_step, listens}
 use Rattle.vs_design.specs.WellFormed.{are_sound_labels, are_sound_terms, is_sound_operand, is_sound_statement, sound_step}
 use Rattle.vs_design.proofs.UsesLemmas.{joined_each}
+use Rattle.vs_logic4.proofs.Basics.{any_map as any_each}
 
 -- a fold over a statement begins at the outermost layer
 pub fold_layer : {A : Type 0} (step : Statement-F A → A) (s : Statement) (layer : Statement-F Statement) → roll-Statement layer ≡ s →
@@ -77,10 +78,6 @@ pub terms_Case : (n : ℕ) (kind : CaseKind) (x : Typed) (items : Items) →
 terms_Case n kind x items =
     ap event_terms (sym (rolls-Case n kind x items)) ∙ fold-roll-Statement (List EventTerm) event_terms_step (f.Case n kind x items)
     ∙ joined_each (λ (i : Vec Typed Global × List EventTerm). i.1) (λ (i : Vec Typed Global × Statement). (i.0, event_terms i.1)) items.items
-
-any_each : {A B : Type 0} (p : B → Bool) (g : A → B) (xs : List A) → list_any p (map g xs) ≡ list_any (λ x. p (g x)) xs
-any_each p g [] = refl
-any_each p g (x ∷ xs) = ap (λ b. p (g x) || b) (any_each p g xs)
 
 -- a block has a timing control where one of its statements has one
 pub control_Block : (all : Vec Statement Global) → has_control (y.Block all) ≡ list_any has_control all.items

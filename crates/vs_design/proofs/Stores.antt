@@ -13,6 +13,7 @@ use Rattle.vs_design.specs.Behind.{behind, is_kept, keeps}
 use Rattle.vs_design.specs.Stores.{Store, word_in, words_in, word_of, changed_at, put_part, put, overlaid, same_words, is_changed, chosen_bits, changes_nothing}
 use Rattle.vs_design.specs.Uses.{all_words}
 use Rattle.vs_design.specs.Writes.{Write}
+use Rattle.vs_logic4.proofs.Basics.{and_left, and_right, left_false as or_left, not_false, right_false as or_right, same_lists as same_elements}
 
 -- ---- a list with a change at a place
 
@@ -55,7 +56,7 @@ word_keeps : (f : List Digit → List Digit) (i k : ℕ) (o : Option (List (List
 word_keeps f i k None h = refl
 word_keeps f i k (Some words) h = slice_get-changed_at_other f i k words h
 
-word_changes : (f : List Digit → List Digit) (k : ℕ) (o : Option (List (List Digit))) → word_in (option_map (changed_at f k) o) k ≡ option_map f (word_in o k)
+pub word_changes : (f : List Digit → List Digit) (k : ℕ) (o : Option (List (List Digit))) → word_in (option_map (changed_at f k) o) k ≡ option_map f (word_in o k)
 word_changes f k None = refl
 word_changes f k (Some words) = slice_get-changed_at f k words
 
@@ -131,43 +132,20 @@ pub same_words_self : (ws : List (List Digit)) → same_words ws ws ≡ true
 same_words_self [] = refl
 same_words_self (w ∷ ws) = rw (same_digits_self w, same_words_self ws) refl
 
-and_left : (a b : Bool) → (a && b) ≡ true → a ≡ true
-and_left true b h = refl
-and_left false b h = cc
-
-and_right : (a b : Bool) → (a && b) ≡ true → b ≡ true
-and_right true b h = h
-and_right false b h = cc
-
-same_words-true : (as' bs : List (List Digit)) → same_words as' bs ≡ true → as' ≡ bs
+pub same_words-true : (as' bs : List (List Digit)) → same_words as' bs ≡ true → as' ≡ bs
 same_words-true [] [] h = refl
 same_words-true [] (b ∷ bs) h = cc
 same_words-true (a ∷ as') [] h = cc
 same_words-true (a ∷ as') (b ∷ bs) h =
     ap₂ (λ x xs. x ∷ xs) (same_digits-true a b (and_left (same_digits a b) (same_words as' bs) h)) (same_words-true as' bs (and_right (same_digits a b) (same_words as' bs) h))
 
-or_left : (a b : Bool) → (a || b) ≡ false → a ≡ false
-or_left true b h = cc
-or_left false b h = refl
-
-or_right : (a b : Bool) → (a || b) ≡ false → b ≡ false
-or_right true b h = cc
-or_right false b h = h
-
-map_none : (ws : List (List Digit)) → map (chosen_bits None) ws ≡ ws
+pub map_none : (ws : List (List Digit)) → map (chosen_bits None) ws ≡ ws
 map_none [] = refl
 map_none (w ∷ ws) = ap (λ xs. w ∷ xs) (map_none ws)
 
-word_in-words : (o : Option (List (List Digit))) (k : ℕ) → word_in o k ≡ slice_get (words_in o) k
+pub word_in-words : (o : Option (List (List Digit))) (k : ℕ) → word_in o k ≡ slice_get (words_in o) k
 word_in-words None k = refl
 word_in-words (Some words) k = refl
-
--- lists with the same element at each place
-same_elements : {A : Type 0} (xs ys : List A) → ((k : ℕ) → slice_get xs k ≡ slice_get ys k) → xs ≡ ys
-same_elements [] [] h = refl
-same_elements [] (y ∷ ys) h = absurd (none-some y (h 0))
-same_elements (x ∷ xs) [] h = absurd (none-some x (sym (h 0)))
-same_elements (x ∷ xs) (y ∷ ys) h = ap₂ (λ z zs. z ∷ zs) (same_Some x y (h 0)) (same_elements xs ys (λ k. h (suc k)))
 
 -- stores with the same words of a signal hold the same of it
 pub unchanged_signal : (old new : Store) (signal : ℕ) → ((word : ℕ) → word_of old signal word ≡ word_of new signal word) → is_changed old new (all_words signal) ≡ false
@@ -176,10 +154,6 @@ unchanged_signal old new signal h =
     same_elements _ _ (λ k. sym (word_in-words (slice_get old signal) k) ∙ h k ∙ word_in-words (slice_get new signal) k) in
     ap (λ ws. not (same_words (map (chosen_bits None) ws) (map (chosen_bits None) (words_in (slice_get new signal))))) same
     ∙ ap not (same_words_self (map (chosen_bits None) (words_in (slice_get new signal))))
-
-not_false : (b : Bool) → not b ≡ false → b ≡ true
-not_false true h = refl
-not_false false h = cc
 
 -- stores that hold the same of a signal have the same words of it
 pub same_signal : (old new : Store) (signal word : ℕ) → is_changed old new (all_words signal) ≡ false → word_of old signal word ≡ word_of new signal word

@@ -4,7 +4,7 @@ use Rattle.std.specs.declared.vec.Vec.{Vec}
 use Rattle.std.specs.declared.alloc.Global.{Global}
 use Rattle.vs_design.specs.declared.design.Assign.{Assign}
 use Rattle.vs_design.specs.declared.design.Process.{Process}
-use Rattle.vs_design.specs.declared.extent.Extent.{Extent}
+use Rattle.vs_design.specs.declared.extent.Layout.{Layout}
 use Rattle.vs_design.specs.declared.signal.Signal.{Signal}
 use Rattle.vs_design.specs.declared.statement.EventTerm.{EventTerm}
 use Rattle.vs_design.specs.declared.range.BitRange.{BitRange}
@@ -66,7 +66,7 @@ abbrev pub AreListeners : List Process → List (Vec ℕ Global) → Type 0
 AreListeners processes table = (signal : ℕ) → get_or (rows table) signal [] ≡ listeners processes signal
 
 -- the table of a design: of each signal as many words of its size, those of one behind those of another
-pub record AreExtents (signals : List Signal) (extents : List Extent) : Type 0 where
+pub record AreExtents (signals : List Signal) (extents : List Layout) : Type 0 where
   pub in_turn : AreInTurn extents
   pub counts : counts_of extents ≡ map (λ (s : Signal). s.count) signals
   pub widths : widths_of extents ≡ map (λ (s : Signal). s.width) signals

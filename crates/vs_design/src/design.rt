@@ -6,7 +6,7 @@ ghost use Rattle.vs_design.specs.Tables.{AreExtents};
 ghost use Rattle.vs_design.specs.WellFormed.{WellFormed};
 
 use crate::expression::Typed;
-use crate::extent::Extent;
+use crate::extent::Layout;
 use crate::readers::{self, Reader};
 use crate::signal::Signal;
 use crate::statement::{Statement, Target};
@@ -103,7 +103,7 @@ pub struct Design {
     // For each signal, which processes have an event control that names it.
     listeners: Vec<Vec<usize>>,
     // For each signal, where a store has its words.
-    extents: Vec<Extent>,
+    extents: Vec<Layout>,
 }
 
 impl Drop for Design {
@@ -234,7 +234,7 @@ impl Design {
     }
 
     /// For each signal where a store has its words.
-    pub(crate) fn extents(&self) -> &[Extent]
+    pub(crate) fn extents(&self) -> &[Layout]
         ensures { AreExtents self.now.signals result.now }
     {
         &self.extents

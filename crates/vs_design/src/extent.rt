@@ -3,7 +3,7 @@ ghost use Rattle.std.specs.Prelude.{◌+◌, ◌<◌, ◌≤◌, ◌^◌};
 
 /// Where the words of one signal are: one after another.
 #[derive(Clone, Copy)]
-pub(crate) struct Extent {
+pub(crate) struct Layout {
     /// The index of the first word in the planes.
     pub first: usize,
     /// How many words the signal has.

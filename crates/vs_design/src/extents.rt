@@ -2,12 +2,12 @@
 ghost use Rattle.std.specs.Prelude.{IfOk};
 ghost use Rattle.vs_design.specs.Tables.{AreExtents};
 
-use crate::extent::Extent;
+use crate::extent::Layout;
 use crate::signal::Signal;
 use std::alloc::{AllocError, Global};
 
 /// For each signal where its words are: those of one behind those of another. No memory holds more words than 64 bits count.
-pub(crate) fn table_of(alloc: Global, signals: &[Signal]) -> Result<Vec<Extent>, AllocError>
+pub(crate) fn table_of(alloc: Global, signals: &[Signal]) -> Result<Vec<Layout>, AllocError>
     ensures { IfOk result (λ extents. AreExtents signals.now extents.items) }
 {
     let mut extents = Vec::with_capacity(alloc, signals.len())?;
@@ -16,7 +16,7 @@ pub(crate) fn table_of(alloc: Global, signals: &[Signal]) -> Result<Vec<Extent>,
         let Some(next) = first.checked_add(signal.count as usize) else {
             return Err(AllocError);
         };
-        extents.push(Extent {
+        extents.push(Layout {
             first,
             count: signal.count,
             width: signal.width,

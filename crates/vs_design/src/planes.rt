@@ -3,12 +3,12 @@ ghost use Rattle.std.specs.Prelude.{◌≡◌, ◌++◌, OnOk, replicate, slice_
 ghost use Rattle.vs_logic4.specs.Planes.{value_plane, unknown_plane};
 ghost use Rattle.vs_design.specs.passes.Planes.{spot_of, word_at, IsSpot};
 
-use crate::extent::{Extent, Spot};
+use crate::extent::{Layout, Spot};
 use std::alloc::AllocError;
 use vs_logic4::Vec4;
 
 /// Where a word of a signal is, where there is one.
-pub(crate) fn spot(extents: &[Extent], signal: usize, word: usize) -> Option<Spot>
+pub(crate) fn spot(extents: &[Layout], signal: usize, word: usize) -> Option<Spot>
     ensures { result ≡ spot_of extents.now signal word }
 {
     let extent = extents.get(signal)?;

@@ -6,7 +6,7 @@ ghost use Rattle.vs_design.specs.Drivers.{undriven_word, driven_word, driven_at,
 ghost use Rattle.vs_design.specs.passes.Planes.{AreInTurn, counts_of, widths_of};
 
 use crate::design::{Assign, Design};
-use crate::extent::Extent;
+use crate::extent::Layout;
 use crate::planes::{fill, set_word, spot, word_at};
 use crate::signal::{Signal, SignalKind};
 use crate::statement::Aim;
@@ -20,7 +20,7 @@ use vs_logic4::Vec4;
 #[derive(Drop)]
 pub struct Store<'a> {
     // For each signal, where its words are.
-    extents: &'a [Extent],
+    extents: &'a [Layout],
     values: Vec<u64>,
     unknowns: Vec<u64>,
 }
@@ -48,7 +48,7 @@ impl<'a> Store<'a> {
     }
 
     /// Each word as often as its signal has words.
-    fn copies(alloc: Global, extents: &'a [Extent], words: &[Vec4]) -> Result<Self, AllocError>
+    fn copies(alloc: Global, extents: &'a [Layout], words: &[Vec4]) -> Result<Self, AllocError>
         requires in_turn { AreInTurn extents.now }
         requires widths { map length words.now ≡ widths_of extents.now }
         ensures { IfOk result (λ s. s ≡ in_copies (counts_of extents.entry.now) words.now) }

@@ -16,13 +16,10 @@ use Rattle.vs_design.specs.Stores.{Store, word_of, word_in, words_in, one_word, 
 use Rattle.vs_design.specs.Uses.{is_of, has_word}
 use Rattle.vs_design.specs.Writes.{Write}
 use Rattle.vs_edges.specs.Differences.{HaveOneSize, bits_differ, part_changes}
+use Rattle.vs_design.proofs.Stores.{same_words-true, same_words_self, slice_get-changed_at as changed_at-here, word_in-words}
+use Rattle.vs_logic4.proofs.Basics.{not_false, same_lists}
 
 -- ---- one part
-
-changed_at-here : {A : Type 0} (f : A → A) (i : ℕ) (xs : List A) → slice_get (changed_at f i xs) i ≡ option_map f (slice_get xs i)
-changed_at-here f i [] = refl
-changed_at-here f zero (x ∷ xs) = refl
-changed_at-here f (suc i) (x ∷ xs) = changed_at-here f i xs
 
 changed_at-other : {A : Type 0} (f : A → A) (i k : ℕ) (xs : List A) → (i ≡ k → ⊥) → slice_get (changed_at f i xs) k ≡ slice_get xs k
 changed_at-other f i k [] h = refl
@@ -111,10 +108,6 @@ option_self : (a : Option (List Digit)) → option_eq same_digits a a ≡ true
 option_self None = refl
 option_self (Some ds) = same_digits_self ds
 
-not_false : (b : Bool) → not b ≡ false → b ≡ true
-not_false true h = refl
-not_false false h = cc
-
 same_from : (bits : Option Bits) (a b : Option (List Digit)) → bits_differ bits a b ≡ false → AreSame bits a b
 same_from bits a b h = same_option (option_map (chosen_bits bits) a) (option_map (chosen_bits bits) b) (not_false _ h)
 
@@ -124,31 +117,6 @@ same_to bits a b h = ap not (ap (option_eq same_digits (option_map (chosen_bits 
 -- bits of one value of a word don't differ
 pub same_bits_differ : (bits : Option Bits) (a : Option (List Digit)) → bits_differ bits a a ≡ false
 same_bits_differ bits a = same_to bits a a refl
-
-same_words_self : (ws : List (List Digit)) → same_words ws ws ≡ true
-same_words_self [] = refl
-same_words_self (w ∷ ws) = and_from (same_digits w w) (same_words ws ws) (same_digits_self w) (same_words_self ws)
-
-same_words-true : (ws vs : List (List Digit)) → same_words ws vs ≡ true → ws ≡ vs
-same_words-true [] [] h = refl
-same_words-true [] (v ∷ vs) h = cc
-same_words-true (w ∷ ws) [] h = cc
-same_words-true (w ∷ ws) (v ∷ vs) h =
-    let parts = and_parts (same_digits w v) (same_words ws vs) h in
-    ap₂ (λ (x : List Digit) (xs : List (List Digit)). x ∷ xs) (same_digits-true w v parts.0) (same_words-true ws vs parts.1)
-
-same_lists : {A : Type 0} (xs ys : List A) → ((k : ℕ) → slice_get xs k ≡ slice_get ys k) → xs ≡ ys
-same_lists [] [] h = refl
-same_lists [] (y ∷ ys) h = let e = h 0 in cc
-same_lists (x ∷ xs) [] h = let e = h 0 in cc
-same_lists (x ∷ xs) (y ∷ ys) h =
-    let first : Some x ≡ Some y = h 0 in
-    let rest : xs ≡ ys = same_lists xs ys (λ k. h (suc k)) in
-    cc
-
-pub word_in-words : (o : Option (List (List Digit))) (k : ℕ) → word_in o k ≡ slice_get (words_in o) k
-word_in-words None k = refl
-word_in-words (Some words) k = refl
 
 -- words of a signal whose chosen bits are the same
 abbrev AllSame : BitRange → Store → Store → Type 0

@@ -18,7 +18,9 @@ use Rattle.vs_design.specs.Writes.{Write}
 use Rattle.vs_edges.specs.Differences.{bits_differ, difference, sees}
 use Rattle.vs_edges.specs.Waking.{lowest_digit, is_edge_of, wakes_by, wakes, first_digit, edge_digit, edge_word, edge_in, range_wakes, term_wakes, word_wakes, part_wakes}
 use Rattle.vs_edges.proofs.DifferencesLemmas.{sees_difference}
-use Rattle.vs_edges.proofs.StoresLemmas.{is_at, put_keeps, word_in-words, changed_by_parts, same_bits_differ}
+use Rattle.vs_edges.proofs.StoresLemmas.{is_at, put_keeps, changed_by_parts, same_bits_differ}
+use Rattle.vs_design.proofs.Stores.{word_in-words}
+use Rattle.vs_logic4.proofs.Basics.{any_none}
 
 -- ---- no change
 
@@ -157,10 +159,6 @@ range_by_parts : (edge : Edge) (t : EventTerm) (store : Store) (w : Write) →
 range_by_parts Any t store w = changed_by_parts w store t.range
 range_by_parts Posedge t store w = edge_by_parts Posedge t.range.signal t.range.word t.range.bits store w
 range_by_parts Negedge t store w = edge_by_parts Negedge t.range.signal t.range.word t.range.bits store w
-
-any_none : {A : Type 0} (xs : List A) → list_any (λ (x : A). false) xs ≡ false
-any_none [] = refl
-any_none (x ∷ xs) = any_none xs
 
 four : (a b c d : Bool) → ((a || c) || (b || d)) ≡ ((a || b) || (c || d))
 four true b c d = refl

@@ -12,26 +12,33 @@ use Rattle.vs_design.specs.WellFormed.{width_at, is_of_net, share_a_bit, driven}
 use Rattle.vs_design.specs.declared.range.BitRange.{BitRange}
 use Rattle.vs_design.specs.declared.signal.Signal.{Signal}
 use Rattle.vs_design.specs.declared.design.Assign.{Assign}
-use Rattle.vs_selects.specs.Selects.{named_range}
+use Rattle.vs_width_selects.specs.Findings.{Has}
+use Rattle.vs_width_selects.specs.Selects.{named_range}
+use Rattle.vs_widths.specs.Lefts.{Aimed}
 use Rattle.vs_scopes.specs.Printed.{Path, printed}
 use Rattle.vs_scopes.specs.Declarations.{DeclaredName}
 use Rattle.vs_scopes.specs.Scopes.{Scope, declarations_of, environment, signal_count, signal_paths, named}
-use Rattle.vs_opened.specs.Outlines.{Declared, declared, signal_of, signals_of}
-use Rattle.vs_operands.specs.Members.{PortDriver, Driver, of_port, of_text, drivers_of, port_drivers_of}
+use Rattle.vs_elab_listed.specs.Outlines.{Declared, declared, signal_of, signals_of}
+use Rattle.vs_elab_operands.specs.Members.{PortDriver, Driver, of_port, of_text, drivers_of, port_drivers_of}
 use Rattle.vs_elaborate.specs.Drivers.{IsDriver}
-use Rattle.vs_elaborate.specs.Faults.{aimed_at, ranges_driven, share_bits, DrivesTwice}
+use Rattle.vs_elaborate.specs.Faults.{aimed_at, ranges_found, ranges_aimed, ranges_driven, share_bits, DrivesTwice}
 use Rattle.vs_elaborate.specs.DesignOf.{PartOf, parts_from, port_part, assigns_of, IsAssign}
 use Rattle.vs_elaborate.specs.passes.Filling.{IsDrivenTwice}
-use Rattle.vs_elaborate.proofs.SignalLemmas.{located, signal_at, signals_counted}
+use Rattle.vs_elaborate.proofs.SignalLemmas.{located, signal_at}
+use Rattle.vs_elab_scope.proofs.AddLemmas.{signals_shown as signals_counted}
 use Rattle.vs_elaborate.proofs.WellFormedLemmas.{OfNet}
 
 -- the ranges that a continuous assignment of a source drives
 abbrev part_ranges : PartOf Driver → List BitRange
-part_ranges q = map named_range (aimed_at q.scope q.part).places
+part_ranges q = ranges_aimed (aimed_at q.scope q.part)
 
-side_ranges : (s : Scope) (d : Driver) (a : Assign) → IsDriver (environment s) s.outer d a.target a.source → writes a.target ≡ map named_range (aimed_at s d).places
-side_ranges s (of_port d) a h = h.target.ranges
-side_ranges s (of_text x) a h = h.target.ranges
+-- a target without a fault drives the ranges of its places
+sound_ranges : (a : Aimed) (width : ℕ) (signed : Bool) → a.finding ≡ Has width signed → map named_range a.places ≡ ranges_aimed a
+sound_ranges a width signed h = ap (λ z. ranges_found z a.places) (sym h)
+
+side_ranges : (s : Scope) (d : Driver) (a : Assign) → IsDriver (environment s) s.outer d a.target a.source → writes a.target ≡ ranges_aimed (aimed_at s d)
+side_ranges s (of_port d) a h = h.target.ranges ∙ sound_ranges (aimed_at s (of_port d)) _ _ h.target.found
+side_ranges s (of_text x) a h = h.target.ranges ∙ sound_ranges (aimed_at s (of_text x)) _ _ h.target.found
 
 parts_driven : (ps : List Assign) (qs : List (PartOf Driver)) → AllZip IsAssign ps qs → driven ps ≡ flat_map part_ranges qs
 parts_driven [] [] h = refl
@@ -41,7 +48,7 @@ parts_driven (p ∷ ps) (q ∷ qs) h = ap₂ (λ a b. a ++ b) (side_ranges q.sco
 
 -- what a driver of a scope drives
 abbrev driver_ranges : Scope → Driver → List BitRange
-driver_ranges s d = map named_range (aimed_at s d).places
+driver_ranges s d = ranges_aimed (aimed_at s d)
 
 ports_driven : (s : Scope) (ds : List PortDriver) → flat_map part_ranges (map (port_part s) ds) ≡ flat_map (driver_ranges s) (map of_port ds)
 ports_driven s [] = refl

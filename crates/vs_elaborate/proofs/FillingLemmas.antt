@@ -25,29 +25,33 @@ use Rattle.vs_scopes.specs.Printed.{Path, own_name, port_assign_name, part_name}
 use Rattle.std.specs.declared.vec.Vec.{Vec}
 use Rattle.std.specs.declared.alloc.Global.{Global}
 use Rattle.std.specs.Borrow.{Bor}
-use Rattle.vs_selects.specs.Environment.{Environment}
+use Rattle.vs_width_selects.specs.Environment.{Environment}
 use Rattle.vs_widths.specs.Names.{meaning_of, nested_names}
 use Rattle.vs_scopes.specs.Declarations.{Bindings}
-use Rattle.vs_pieces.specs.Reads.{read_piece}
-use Rattle.vs_pieces.specs.declared.scope.Piece.{Piece as FoundPiece}
-use Rattle.vs_pieces.specs.declared.scope.Piece.TheVariants as p
+use Rattle.vs_elab_pieces.specs.Reads.{read_piece}
+use Rattle.vs_elab_pieces.specs.declared.scope.ScopePiece.{ScopePiece as FoundPiece}
+use Rattle.vs_elab_pieces.specs.declared.scope.ScopePiece.TheVariants as p
 use Rattle.vs_scopes.specs.declared.ports.ModulePort.{ModulePort as FoundPort}
 use Rattle.vs_scopes.specs.passes.Parts.{read_port, read_ends}
-use Rattle.vs_opened.specs.declared.opened.Opened.{Opened as FoundScope}
-use Rattle.vs_opened.specs.Opened.{IsWithin, IsOutermost}
+use Rattle.vs_elab_listed.specs.declared.opened.ListedScope.{ListedScope as FoundScope}
+use Rattle.vs_elab_listed.specs.Opened.{IsWithin, IsOutermost}
 use Rattle.vs_scopes.specs.Scopes.{Scope, environment}
 use Rattle.vs_scopes.specs.passes.Answers.{Told}
-use Rattle.vs_scopes.proofs.Folds.{any_push, left_true, right_true, take_push}
+use Rattle.vs_scopes.proofs.Folds.{any_push}
+use Rattle.std.proofs.lemmas.Bool.{or_left as left_true, or_right as right_true}
+use Rattle.vs_logic4.proofs.Basics.{take_push}
 use Rattle.vs_scopes.proofs.AnswerLemmas.{told_by}
-use Rattle.vs_operands.specs.Statements.{IsAssignment}
-use Rattle.vs_operands.specs.Members.{Assignment, named_signal, assignment_of, PortDriver, connected, port_of, of_text, Behavior, setting, port_drivers, drivers_in, behaviors_by_item, behaviors_in, port_setting, drivers_of, port_drivers_of, behaviors_of}
-use Rattle.vs_operands.specs.Processes.{kind_of, statements_of, HasBehaviorFault}
-use Rattle.vs_operands.specs.Surroundings.{Surroundings}
-use Rattle.vs_operands.specs.passes.Bodies.{counting, MeansBody}
-use Rattle.vs_contents.specs.declared.contents.Contents.{Contents}
+use Rattle.vs_elab_operands.specs.Statements.{IsAssignment}
+use Rattle.vs_elab_operands.specs.Members.{Assignment, named_signal, assignment_of, PortDriver, connected, port_of, of_text, Behavior, setting, port_drivers, drivers_in, behaviors_by_item, behaviors_in, port_setting, drivers_of, port_drivers_of, behaviors_of}
+use Rattle.vs_elab_operands.specs.Processes.{kind_of, statements_of, HasBehaviorFault}
+use Rattle.vs_elab_operands.specs.Surroundings.{Surroundings}
+use Rattle.vs_elab_operands.specs.passes.Bodies.{counting, MeansBody}
+use Rattle.vs_elab_contents.specs.declared.contents.Contents.{Contents}
 use Rattle.vs_elaborate.specs.Drivers.{IsPortAssign}
 use Rattle.vs_elaborate.specs.DesignOf.{PartOf, port_part, parts_from, assigns_of, processes_of, IsProcess, IsAssign}
 use Rattle.vs_elaborate.specs.passes.Filling.{Adds, AreSound, AddsNot, port_faults, text_faults, Connects, ConnectsNot, text_parts, Drives, DrivesNot, RunSoundly, Runs, RunsNot, HasMembers, FillsNot, DrivesScope, FillsScope, Fills, FillsOneNot}
+use Rattle.vs_elab_listed.proofs.DeclareLemmas.{any_last}
+use Rattle.vs_logic4.proofs.Basics.{any_front, at_end, slice_front as at_first, there, zip_append as zipped_append}
 
 -- ---- parts with their names
 
@@ -168,16 +172,8 @@ runs_none envs s first contents h = record {
 
 -- ---- a fault among more
 
-any_front : {A : Type 0} (p : A → Bool) (xs ys : List A) → list_any p xs ≡ true → list_any p (xs ++ ys) ≡ true
-any_front p xs ys h = list_any-append p xs ys ∙ left_true (list_any p xs) (list_any p ys) h
-
 adds_not_more : {A : Type 0} (fault : Reason → A → Bool) (at : Path) (xs ys : List A) (r : Reason) (p : Path) → AddsNot fault at xs r p → AddsNot fault at (xs ++ ys) r p
 adds_not_more fault at xs ys r p h = (any_front (fault r) xs ys h.0, h.1)
-
-pub at_first : {A : Type 0} (xs rest : List A) (i : ℕ) (x : A) → slice_get xs i ≡ Some x → slice_get (xs ++ rest) i ≡ Some x
-at_first [] rest i x h = absurd (none-some x h)
-at_first (y ∷ ys) rest zero x h = h
-at_first (y ∷ ys) rest (suc i) x h = at_first ys rest i x h
 
 pub runs_not_more : (envs : Path → Surroundings) (s : Scope) (start : Contents) (xs ys : List Behavior) (r : Reason) (p : Path) → RunsNot envs s start xs r p → RunsNot envs s start (xs ++ ys) r p
 runs_not_more envs s start xs ys r p h = record { place = h.place; behavior = h.behavior; stands = at_first xs ys h.place h.behavior h.stands; fault = h.fault }
@@ -187,14 +183,6 @@ drives_not_more s start = adds_not_more (text_faults s) s.path
 
 pub connects_not_more : (s : Scope) (start : List Assign) (xs ys : List PortDriver) (r : Reason) (p : Path) → ConnectsNot s start xs r p → ConnectsNot s start (xs ++ ys) r p
 connects_not_more s start = adds_not_more (port_faults s) s.around
-
--- a fault of the last one
-pub any_last : {A : Type 0} (p : A → Bool) (xs : List A) (x : A) → p x ≡ true → list_any p (xs ++ x ∷ []) ≡ true
-any_last p xs x h = list_any-append p xs (x ∷ []) ∙ right_true (list_any p xs) _ (left_true (p x) false h)
-
-at_end : {A : Type 0} (xs : List A) (x : A) → slice_get (xs ++ x ∷ []) (length xs) ≡ Some x
-at_end [] x = refl
-at_end (y ∷ ys) x = at_end ys x
 
 pub runs_last : (envs : Path → Surroundings) (s : Scope) (start : Contents) (done : List Behavior) (x : Behavior) (e : ElabFault) → Told (λ r at. HasBehaviorFault envs r at s.path x) e → Told (RunsNot envs s start (done ++ x ∷ [])) e
 runs_last envs s start done x e h =
@@ -208,12 +196,6 @@ pub assignment_some : (n m : List ℕ) (o : Option Expr) (e : Expr) → m ≡ n 
 assignment_some n m o e h k = (let P : List ℕ → List Assignment = λ z. record { target = named_signal z; value = e } ∷ [] in ap P h) ∙ ap (assignment_of n) (sym k)
 
 -- ---- a scope
-
-pub zipped_append : {A B : Type 0} (R : A → B → Type 0) (xs : List A) (ys : List B) (us : List A) (vs : List B) → AllZip R xs ys → AllZip R us vs → AllZip R (xs ++ us) (ys ++ vs)
-zipped_append R [] [] us vs h k = k
-zipped_append R [] (y ∷ ys) us vs h k = absurd h
-zipped_append R (x ∷ xs) [] us vs h k = absurd h
-zipped_append R (x ∷ xs) (y ∷ ys) us vs h k = (h.0, zipped_append R xs ys us vs h.1 k)
 
 pub fills : (envs : Path → Surroundings) (s : Scope) (n : ℕ) (a c d : Contents) → DrivesScope s a c → Runs envs s n d c (behaviors_of s) → FillsScope envs s a d
 fills envs s n a c d p r = record {
@@ -338,12 +320,6 @@ fills_one_not envs ss k s e h g = told_by (FillsNot envs s) (FillsOneNot envs ss
 -- a scope at a place, and those before it
 pub take_next : {A : Type 0} (xs : List A) (k : ℕ) (x : A) → slice_get xs k ≡ Some x → take (k + 1) xs ≡ take k xs ++ x ∷ []
 take_next xs k x h = take_push xs k x (slice_get_within xs k x h) (sym (get_or_from_slice_get xs k x x h))
-
--- an element that is there
-pub there : {A : Type 0} (xs : List A) (i : ℕ) → i < length xs → (x : A) × (slice_get xs i ≡ Some x)
-there [] i h = absurd (omega arith)
-there (x ∷ xs) zero h = (x, refl)
-there (x ∷ xs) (suc i) h = there xs i (omega arith)
 
 -- names that are bound around a scope alone
 pub outer_names_are : (names nothing outside : Bindings) (env : Environment) → names ≡ nothing ++ outside → nothing ≡ [] → ((n : List ℕ) → meaning_of outside n ≡ env n) → meaning_of names ≡ env

@@ -15,9 +15,9 @@ use Rattle.vs_design.specs.Parts.{Parts}
 use Rattle.vs_design.specs.WellFormed.{WellFormed, is_sound_assign, share_a_bit, driven, declared_in as declared_by_outline}
 use Rattle.vs_design.specs.declared.signal.Signal.{Signal}
 use Rattle.vs_design.specs.declared.design.Assign.{Assign}
-use Rattle.vs_selects.specs.declared.bindings.Binding.TheVariants as b
+use Rattle.vs_width_selects.specs.declared.bindings.Binding.TheVariants as b
 use Rattle.vs_widths.specs.Names.{meaning_of}
-use Rattle.vs_pieces.specs.Reads.{read_piece}
+use Rattle.vs_elab_pieces.specs.Reads.{read_piece}
 use Rattle.vs_scopes.specs.declared.faults.Reason.{Reason}
 use Rattle.vs_scopes.specs.declared.faults.Reason.TheVariants.{NoModule, Inside, PortMismatch, ParameterMismatch, DeclaredTwice, DrivenTwice, Limit, Width, Endless, Unnamed, Timescales, Format}
 use Rattle.vs_scopes.specs.declared.faults.ElabFault.{ElabFault}
@@ -26,34 +26,38 @@ use Rattle.vs_scopes.specs.Printed.{Path, same_path, printed}
 use Rattle.vs_scopes.specs.Ports.{names_where, is_joined, without_name}
 use Rattle.vs_scopes.specs.Declarations.{DeclaredName, declared_by_port, declared_among, not_joined, declaration_fault, names_in}
 use Rattle.vs_scopes.specs.Scopes.{Scope, declarations_of, names_of, all_names_of, named, environment, environment_at, has_wrong_end, scopes_of, signal_count, signal_paths}
-use Rattle.vs_scopes.proofs.Folds.{left_true, right_true}
-use Rattle.vs_paths.specs.Laws.{HasTurnsThatFit, DeclareOnce, HaveCountedPieces, scope_paths}
-use Rattle.vs_paths.proofs.PathsDiffer.{paths_differ, paths_not_same}
-use Rattle.vs_paths.proofs.PathsFit.{turns_fit}
-use Rattle.vs_paths.proofs.PathsNumbered.{scopes_are_numbered}
-use Rattle.vs_paths.proofs.PathsParts.{printed_differ}
-use Rattle.vs_opened.specs.declared.opened.Opened.{Opened as FoundScope}
-use Rattle.vs_opened.specs.declared.opened.Opening.{Opening}
-use Rattle.vs_opened.specs.Opened.{IsWithin, IsOutermost, StandsAround, IsOpened, AreSeated, HasBlocks, OpensAll}
-use Rattle.vs_opened.specs.Outlines.{Declared, declared, signal_of, signals_of}
-use Rattle.vs_opened.specs.ScopeFaults.{Repeated, HoldsOpening}
-use Rattle.vs_operands.specs.Surroundings.{surroundings_at}
-use Rattle.vs_operands.specs.passes.Bodies.{counting}
-use Rattle.vs_operands.specs.passes.Views.{AreSites, IsPlaced}
-use Rattle.vs_operands.proofs.BlockLemmas.{zip_at, zip_other}
-use Rattle.vs_operands.proofs.WellFormedLemmas.{IsGood}
-use Rattle.vs_contents.specs.declared.contents.Contents.{Contents}
+use Rattle.std.proofs.lemmas.Bool.{or_left as left_true, or_right as right_true}
+use Rattle.vs_elab_path_laws.specs.Laws.{HasTurnsThatFit, DeclareOnce, HaveCountedPieces, scope_paths}
+use Rattle.vs_elab_path_laws.proofs.PathsDiffer.{paths_differ, paths_not_same}
+use Rattle.vs_elab_path_laws.proofs.PathsFit.{turns_fit}
+use Rattle.vs_elab_path_laws.proofs.PathsNumbered.{scopes_are_numbered}
+use Rattle.vs_elab_path_laws.proofs.PathsParts.{printed_differ}
+use Rattle.vs_elab_listed.specs.declared.opened.ListedScope.{ListedScope as FoundScope}
+use Rattle.vs_elab_listed.specs.declared.opened.Hierarchy.{Hierarchy}
+use Rattle.vs_elab_listed.specs.Opened.{IsWithin, IsOutermost, StandsAround, IsOpened, AreSeated, HasBlocks, OpensAll}
+use Rattle.vs_elab_listed.specs.Outlines.{Declared, declared, signal_of, signals_of}
+use Rattle.vs_elab_listed.specs.ScopeFaults.{Repeated, HoldsOpening}
+use Rattle.vs_elab_operands.specs.Surroundings.{surroundings_at}
+use Rattle.vs_elab_operands.specs.passes.Bodies.{counting}
+use Rattle.vs_elab_operands.specs.passes.Views.{AreSites, IsPlaced}
+use Rattle.vs_elab_operands.proofs.BlockLemmas.{zip_other}
+use Rattle.vs_logic4.proofs.Basics.{zip_at}
+use Rattle.vs_elab_operands.proofs.WellFormedLemmas.{IsGood}
+use Rattle.vs_elab_contents.specs.declared.contents.Contents.{Contents}
 use Rattle.vs_elaborate.specs.Timescales.{timescale_of, has_other_timescale}
 use Rattle.vs_elaborate.specs.Faults.{Faults, DrivesTwice, surroundings_of}
 use Rattle.vs_elaborate.specs.DesignOf.{DesignOf}
 use Rattle.vs_elaborate.specs.passes.Filling.{AreLefts, Fills, DrivenTwiceOnly}
-use Rattle.vs_marks.specs.Marks.{AreWithin}
-use Rattle.vs_elaborate.proofs.SignalLemmas.{AreSized, AreInside, AreBased, each_at, there, signals_counted, good_inside, good_around}
+use Rattle.vs_elab_contents.specs.Marks.{AreWithin}
+use Rattle.vs_elaborate.proofs.SignalLemmas.{AreSized, AreInside, AreBased, each_at, good_inside, good_around}
+use Rattle.vs_elab_scope.proofs.AddLemmas.{signals_shown as signals_counted}
+use Rattle.vs_logic4.proofs.Basics.{there}
 use Rattle.vs_elaborate.proofs.WellFormedLemmas.{IsFine, OfNet, processes_sound, assigns_sound, driven_nets, of_net_within}
 use Rattle.vs_elaborate.proofs.OutlineLemmas.{outline_declares, counting_below, counting_distinct, counting_contains}
 use Rattle.vs_elaborate.proofs.PartLemmas.{processes_named, assigns_named}
 use Rattle.vs_elaborate.proofs.DriverLemmas.{driven_once, driven_twice}
 use Rattle.vs_elaborate.proofs.SoundLemmas.{opening_at, none_stands}
+use Rattle.vs_logic4.proofs.Basics.{or_parts}
 
 each_from : {A : Type 0} (P : A → Type 0) (xs : List A) → ((i : ℕ) (x : A) → slice_get xs i ≡ Some x → P x) → AllByRecursion P xs
 each_from P [] f = tt
@@ -71,10 +75,6 @@ distinct_from ns none = IsDistinct-from_apart bytes_eq ns (λ i j e h l. false_f
     none (get_or ns i e) (record { first = i; second = j; before = h; one = slice_get-get_or ns i e (omega (arith, h, l)); other = slice_get-get_or ns j e l ∙ ap Some (sym same) }))))
 
 -- ---- ranges without faults
-
-or_parts : (x y : Bool) → (x || y) ≡ true → (x ≡ true) ⊎ (y ≡ true)
-or_parts true y h = inl refl
-or_parts false y h = inr h
 
 module _ (test : DeclaredName → Bool) where
   joined_any : (ns : List (List ℕ)) (ds : List DeclaredName) → list_any test (not_joined ns ds) ≡ true → list_any test ds ≡ true
@@ -149,7 +149,7 @@ paths_kept (x ∷ now) = ap (λ z. x.path.items ∷ z) (paths_kept now)
 
 -- ---- a source whose scopes are opened
 
-module _ (source : Source) (top : List ℕ) (x : Opening) (o : OpensAll source.modules.items top x) where
+module _ (source : Source) (top : List ℕ) (x : Hierarchy) (o : OpensAll source.modules.items top x) where
   -- a scope of the list has what the one that it stands for has
   opened_at : (i : ℕ) (s : Scope) → slice_get (scopes_of source.modules.items top) i ≡ Some s → (y : FoundScope) × ((slice_get x.scopes.items i ≡ Some y) × IsOpened (scopes_of source.modules.items top) y s)
   opened_at i s h = zip_other (IsOpened (scopes_of source.modules.items top)) x.scopes.items (scopes_of source.modules.items top) i s o.scopes.each h

@@ -14,22 +14,21 @@ use Rattle.vs_syntax.specs.declared.tree.Direction.{Direction}
 use Rattle.vs_syntax.specs.declared.tree.Direction.TheVariants.{Input, Output}
 use Rattle.vs_design.specs.declared.design.Assign.{Assign}
 use Rattle.vs_design.specs.declared.design.Process.{Process}
-use Rattle.vs_selects.specs.Environment.{Environment}
+use Rattle.vs_width_selects.specs.Environment.{Environment}
 use Rattle.vs_scopes.specs.Printed.{Path, same_path, printed_name, own_name, port_assign_name, part_name}
 use Rattle.vs_scopes.specs.Ports.{ModulePort, port_names, names_where, is_joined}
 use Rattle.vs_scopes.specs.Declarations.{DeclaredName, declared_by_port, declared_among, not_joined, names_in}
 use Rattle.vs_scopes.specs.Scopes.{Scope, all_names_of}
-use Rattle.vs_paths.specs.Laws.{HasTurnsThatFit, scope_paths}
-use Rattle.vs_paths.proofs.PathsLists.{each_append, distinct_append, distinct_left}
-use Rattle.vs_paths.proofs.PathsParts.{IsPartAt, parts_differ}
-use Rattle.vs_paths.proofs.PathsPrinted.{name_same}
-use Rattle.vs_paths.proofs.TitleLemmas.{signals_differ}
-use Rattle.vs_operands.specs.Members.{PortDriver, connected, port_drivers, port_drivers_of, port_of, Driver, of_text, drivers_of, behaviors_of}
-use Rattle.vs_operands.specs.Surroundings.{Surroundings}
+use Rattle.vs_elab_path_laws.specs.Laws.{HasTurnsThatFit, scope_paths}
+use Rattle.vs_elab_path_laws.proofs.PathsLists.{each_append, distinct_append, distinct_left}
+use Rattle.vs_elab_path_laws.proofs.PathsParts.{IsPartAt, parts_differ}
+use Rattle.vs_elab_path_laws.proofs.PathsPrinted.{name_same}
+use Rattle.vs_elab_path_laws.proofs.TitleLemmas.{signals_differ}
+use Rattle.vs_elab_operands.specs.Members.{PortDriver, connected, port_drivers, port_drivers_of, port_of, Driver, of_text, drivers_of, behaviors_of}
+use Rattle.vs_elab_operands.specs.Surroundings.{Surroundings}
 use Rattle.vs_elaborate.specs.DesignOf.{PartOf, parts_from, port_part, processes_of, assigns_of, IsProcess, IsAssign}
-
-not_same : (xs ys : List ℕ) → (xs ≡ ys → ⊥) → bytes_eq xs ys ≡ false
-not_same xs ys h = false_from_ne_true (bytes_eq xs ys) (λ e. h ((bytes_eq-Decides xs ys).0 e))
+use Rattle.vs_elab_scope.proofs.OwnLemmas.{port_names_declared as ports_first}
+use Rattle.vs_logic4.proofs.Basics.{bytes_apart as not_same}
 
 abbrev pub path_of : {A : Type 0} → PartOf A → Path
 path_of q = q.scope.path
@@ -72,10 +71,6 @@ module _ {A : Type 0} (letter : ℕ) (s : Scope) where
   names_own k (x ∷ xs) = (record { number = k; is = refl }, names_own (suc k) xs)
 
 -- ---- names of ports
-
-ports_first : (env : Environment) (ps : List ModulePort) → names_in (map (declared_by_port env) ps) ≡ port_names ps
-ports_first env [] = refl
-ports_first env (p ∷ ps) = ap (λ z. p.name ∷ z) (ports_first env ps)
 
 -- the ports of a scope that declares a name once have names that differ
 ports_differ : (s : Scope) → IsDistinct bytes_eq (all_names_of s) → IsDistinct bytes_eq (port_names s.ports)

@@ -11,10 +11,11 @@ use Rattle.vs_scopes.specs.Ports.{ModulePort}
 use Rattle.vs_scopes.specs.Scopes.{Scope, is_wrong_end, has_wrong_end}
 use Rattle.vs_scopes.specs.passes.Answers.{Told}
 use Rattle.vs_scopes.proofs.AnswerLemmas.{Kept, Grown, told_by}
-use Rattle.vs_operands.specs.Members.{PortDriver, port_driver, port_drivers}
+use Rattle.vs_elab_operands.specs.Members.{PortDriver, port_driver, port_drivers}
 use Rattle.vs_scopes.specs.passes.Names.{read_title, read_path}
 use Rattle.vs_scopes.specs.declared.printed.PathName.{PathName as FoundName}
-use Rattle.vs_opened.specs.Opened.{StandsAround}
+use Rattle.vs_elab_listed.specs.Opened.{StandsAround}
+use Rattle.vs_logic4.proofs.Basics.{get_or_same as again}
 
 -- ---- ports and what they are connected to, a place at a time
 
@@ -123,7 +124,3 @@ pub outer_is : (names : List FoundName) (s : Scope) → read_path names ≡ s.pa
 outer_is names s h e =
     let long : length names ≡ length s.path = sym (length-map names read_title) ∙ ap length h in
     ap (λ n. take (n - 1) (read_path names)) long ∙ ap (take (length s.path - 1)) h ∙ e
-
--- an element that is there, whatever stands for one that isn't
-pub again : {A : Type 0} (xs : List A) (i : ℕ) (d : A) → i < length xs → get_or xs i d ≡ get_or xs i (get_or xs i d)
-again xs i d l = sym (get_or_from_slice_get xs i (get_or xs i d) (get_or xs i d) (slice_get-get_or xs i d l))

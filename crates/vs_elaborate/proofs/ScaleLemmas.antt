@@ -6,9 +6,11 @@ use Rattle.std.proofs.lemmas.List.Folds.{list_any-append}
 use Rattle.std.proofs.lemmas.Option.{none-some, same_Some}
 use Rattle.vs_design.specs.declared.timescale.Timescale.{Timescale}
 use Rattle.vs_design.specs.declared.timescale.TheConstants.{DEFAULT_TIMESCALE}
-use Rattle.vs_scopes.proofs.Folds.{both_false, left_true, right_true, flat_more}
+use Rattle.vs_scopes.proofs.Folds.{flat_more}
+use Rattle.std.proofs.lemmas.Bool.{or_from as both_false, or_left as left_true, or_right as right_true}
 use Rattle.vs_elaborate.specs.Timescales.{first_or_default}
 use Rattle.vs_elaborate.specs.passes.Scales.{first_of}
+use Rattle.vs_logic4.proofs.Basics.{any_front as any_first}
 
 -- ---- the first of several lists
 
@@ -69,10 +71,6 @@ module _ {A B : Type 0} (p : B → Bool) (f : A → List B) where
 
   pub any_flat_all : (xs : List A) (i : ℕ) → length xs ≤ i → list_any p (flat_map f (take i xs)) ≡ false → list_any p (flat_map f xs) ≡ false
   any_flat_all xs i h n = sym (ap (λ z. list_any p (flat_map f z)) (take_all i xs h)) ∙ n
-
--- a test of two lists
-pub any_first : {B : Type 0} (p : B → Bool) (xs ys : List B) → list_any p xs ≡ true → list_any p (xs ++ ys) ≡ true
-any_first p xs ys h = list_any-append p xs ys ∙ left_true (list_any p xs) _ h
 
 pub any_second : {B : Type 0} (p : B → Bool) (xs ys : List B) (b : Bool) → list_any p xs ≡ false → b ≡ list_any p ys → b ≡ list_any p (xs ++ ys)
 any_second p xs ys b n h = h ∙ sym (list_any-append p xs ys ∙ ap (λ z. z || list_any p ys) n)

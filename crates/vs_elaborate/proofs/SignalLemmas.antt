@@ -16,15 +16,15 @@ use Rattle.vs_design.specs.declared.signal.Signal.{Signal}
 use Rattle.vs_design.specs.declared.signal.SignalKind.{SignalKind}
 use Rattle.vs_design.specs.declared.design.ScopeKind.{ScopeKind}
 use Rattle.vs_design.specs.declared.design.ScopeKind.TheVariants as opened_by
-use Rattle.vs_selects.specs.declared.bindings.Meaning.{Meaning}
-use Rattle.vs_selects.specs.declared.bindings.Binding.{Binding}
-use Rattle.vs_selects.specs.declared.bindings.Binding.TheVariants as b
-use Rattle.vs_selects.specs.declared.constants.Const.{Const}
-use Rattle.vs_selects.specs.declared.faults.WidthReason.{WidthReason}
-use Rattle.vs_selects.specs.declared.faults.WidthReason.TheVariants.{WrongKind}
-use Rattle.vs_selects.specs.Environment.{Environment}
+use Rattle.vs_width_selects.specs.declared.bindings.Meaning.{Meaning}
+use Rattle.vs_width_selects.specs.declared.bindings.Binding.{Binding}
+use Rattle.vs_width_selects.specs.declared.bindings.Binding.TheVariants as b
+use Rattle.vs_width_selects.specs.declared.constants.Const.{Const}
+use Rattle.vs_width_selects.specs.declared.faults.WidthReason.{WidthReason}
+use Rattle.vs_width_selects.specs.declared.faults.WidthReason.TheVariants.{WrongKind}
+use Rattle.vs_width_selects.specs.Environment.{Environment}
 use Rattle.vs_widths.specs.Names.{meaning_of}
-use Rattle.vs_pieces.specs.Pieces.{Piece, plain, loop, choice, local, inside, net}
+use Rattle.vs_elab_pieces.specs.Pieces.{Piece, plain, loop, choice, local, inside, net}
 use Rattle.vs_scopes.specs.declared.faults.Reason.TheVariants.{Width}
 use Rattle.vs_scopes.specs.Ranges.{Sized, bounds_fault, Words, words_fault, words_as, word_count}
 use Rattle.vs_scopes.specs.Parameters.{said}
@@ -32,27 +32,14 @@ use Rattle.vs_scopes.specs.Ports.{ModulePort, names_where, is_joined, without_na
 use Rattle.vs_scopes.specs.Declarations.{Bindings, DeclaredName, declared_by_port, declared_as, declared_by_item, declared_local, declared_in, declared_among, not_joined, declaration_fault, meaning_as, genvars_in, inner_names_among, bound_to}
 use Rattle.vs_scopes.specs.Scopes.{Scope, declarations_of, names_of, named, numbered_names, constant_names, bindings_of, environment, seen_from, signal_count, signal_paths}
 use Rattle.vs_scopes.proofs.Folds.{any_false_at}
-use Rattle.vs_paths.proofs.PathsLists.{each_append}
-use Rattle.vs_opened.specs.Outlines.{Declared, declared, signal_of, signals_of}
-use Rattle.vs_opened.specs.Opened.{IsWithin, IsOutermost}
-use Rattle.vs_operands.proofs.WellFormedLemmas.{IsMeant, IsGood}
-
-right_false : (a b : Bool) → (a || b) ≡ false → b ≡ false
-right_false true b h = absurd (true≢false h)
-right_false false b h = h
+use Rattle.vs_elab_path_laws.proofs.PathsLists.{each_append}
+use Rattle.vs_elab_listed.specs.Outlines.{Declared, declared, signal_of, signals_of}
+use Rattle.vs_elab_listed.specs.Opened.{IsWithin, IsOutermost}
+use Rattle.vs_elab_operands.proofs.WellFormedLemmas.{IsMeant, IsGood}
+use Rattle.vs_elab_scope.proofs.AddLemmas.{signals_shown as signals_counted}
+use Rattle.vs_logic4.proofs.Basics.{right_false, slice_back as at_behind, slice_front as at_front, there}
 
 -- ---- lists that are joined
-
-pub at_front : {A : Type 0} (xs ys : List A) (i : ℕ) (x : A) → slice_get xs i ≡ Some x → slice_get (xs ++ ys) i ≡ Some x
-at_front [] ys i x h = absurd (none-some x h)
-at_front (z ∷ xs) ys zero x h = h
-at_front (z ∷ xs) ys (suc i) x h = at_front xs ys i x h
-
-pub at_behind : {A : Type 0} (xs ys : List A) (i : ℕ) → slice_get (xs ++ ys) (length xs + i) ≡ slice_get ys i
-at_behind [] ys i = ap (slice_get ys) (zero-add i)
-at_behind (z ∷ xs) ys i =
-    let e : length (z ∷ xs) + i ≡ suc (length xs + i) = omega arith in
-    ap (slice_get (z ∷ xs ++ ys)) e ∙ at_behind xs ys i
 
 -- an element of what a function lists of one of many
 pub flat_at : {A B : Type 0} (f : A → List B) (xs : List A) (i j : ℕ) (x : A) (y : B) → slice_get xs i ≡ Some x → slice_get (f x) j ≡ Some y → slice_get (flat_map f xs) (length (flat_map f (take i xs)) + j) ≡ Some y
@@ -63,12 +50,6 @@ flat_at f (z ∷ xs) (suc i) j x y h k =
     let e : length (flat_map f (take (suc i) (z ∷ xs))) + j ≡ length (f z) + (length (flat_map f (take i xs)) + j) = omega (arith, length-append (f z) (flat_map f (take i xs))) in
     ap (slice_get (f z ++ flat_map f xs)) e ∙ at_behind (f z) (flat_map f xs) (length (flat_map f (take i xs)) + j) ∙ flat_at f xs i j x y h k
 
--- an element that is there
-pub there : {A : Type 0} (xs : List A) (i : ℕ) → i < length xs → (x : A) × (slice_get xs i ≡ Some x)
-there [] i h = absurd (omega arith)
-there (x ∷ xs) zero h = (x, refl)
-there (x ∷ xs) (suc i) h = there xs i (omega arith)
-
 pub each_at : {A : Type 0} (P : A → Type 0) (xs : List A) (i : ℕ) (x : A) → AllByRecursion P xs → slice_get xs i ≡ Some x → P x
 each_at P [] i x h k = absurd (none-some x k)
 each_at P (y ∷ ys) zero x h k = subst P (same_Some y x k) h.0
@@ -78,13 +59,6 @@ pub all_at : {A : Type 0} (P : A → Type 0) (xs : List A) (i : ℕ) (x : A) →
 all_at P xs i x h k = subst P (get_or_from_slice_get xs i x x k) (h i x (slice_get_within xs i x k))
 
 -- ---- signals by their numbers
-
-pub signals_counted : (ss : List Scope) → length (flat_map signals_of ss) ≡ signal_count ss
-signals_counted [] = refl
-signals_counted (s ∷ ss) =
-    let own = length-map (declarations_of s) (signal_of s) in
-    let others = signals_counted ss in
-    omega (arith, own, others, length-append (signals_of s) (flat_map signals_of ss), length-append (declarations_of s) (flat_map declarations_of ss))
 
 -- the declaration at a number among those of scopes, with its scope
 pub record IsLocated (ss : List Scope) (k : ℕ) : Type 0 where

@@ -12,7 +12,7 @@ use Rattle.vs_syntax.specs.declared.tree.Source.{Source}
 use Rattle.vs_syntax.specs.declared.tree.Stmt.{Stmt, Stmt-F, roll-Stmt, ind-Stmt, map-Stmt}
 use Rattle.vs_syntax.specs.declared.tree.Stmt.TheFolds.{fold-roll-Stmt}
 use Rattle.vs_syntax.specs.declared.tree.Stmt.TheOpen as f
-use Rattle.vs_selects.specs.Environment.{Environment}
+use Rattle.vs_width_selects.specs.Environment.{Environment}
 use Rattle.vs_widths.specs.declared.kinds.AssignmentKind.{AssignmentKind}
 use Rattle.vs_widths.specs.declared.kinds.AssignmentKind.TheVariants.{Procedural, Continuous}
 use Rattle.vs_scopes.specs.declared.faults.Reason.{Reason}
@@ -22,13 +22,13 @@ use Rattle.vs_scopes.specs.declared.faults.ElabFault.TheVariants.{Memory, At}
 use Rattle.vs_scopes.specs.Printed.{plainly, Path}
 use Rattle.vs_scopes.specs.Scopes.{Scope, environment, scopes_of}
 use Rattle.vs_scopes.specs.passes.Answers.{IsFaultAt, Told}
-use Rattle.vs_scopes.proofs.Folds.{both_false}
+use Rattle.std.proofs.lemmas.Bool.{or_from as both_false}
 use Rattle.vs_scopes.proofs.AnswerLemmas.{told_at, told_by}
-use Rattle.vs_opened.specs.ScopeFaults.{HoldsOpening, HoldsOpeningIn, HoldsOpeningAbove, StandsOpening}
-use Rattle.vs_operands.specs.Statements.{assign_fault, operand_fault, case_fault, delay_fault, due_fault, print_fault, event_fault, fault_step, has_fault, is_overfull, HasFaultAt, in_statement, in_block}
-use Rattle.vs_operands.specs.Surroundings.{Surroundings}
-use Rattle.vs_operands.specs.Members.{Assignee, places, Assignment, PortDriver, Behavior, sets, runs, repeats, drivers_of, port_drivers_of}
-use Rattle.vs_operands.specs.Processes.{statements_of, HasBehaviorFault}
+use Rattle.vs_elab_listed.specs.ScopeFaults.{HoldsOpening, HoldsOpeningIn, HoldsOpeningAbove, StandsOpening}
+use Rattle.vs_elab_operands.specs.Statements.{assign_fault, operand_fault, case_fault, delay_fault, due_fault, print_fault, event_fault, fault_step, has_fault, is_overfull, HasFaultAt, in_statement, in_block}
+use Rattle.vs_elab_operands.specs.Surroundings.{Surroundings}
+use Rattle.vs_elab_operands.specs.Members.{Assignee, places, Assignment, PortDriver, Behavior, sets, runs, repeats, drivers_of, port_drivers_of}
+use Rattle.vs_elab_operands.specs.Processes.{statements_of, HasBehaviorFault}
 use Rattle.vs_elaborate.specs.Drivers.{driver_fault, port_driver_fault}
 use Rattle.vs_elaborate.specs.Timescales.{has_other_timescale}
 use Rattle.vs_elaborate.specs.Faults.{Holds, HoldsIn, HoldsAbove, surroundings_of, Stands, DrivesTwice, Faults}

@@ -6,7 +6,8 @@ use Rattle.vs_syntax.specs.declared.tree.Source.{Source}
 use Rattle.vs_design.specs.Kinds.{is_variable}
 use Rattle.vs_design.specs.WellFormed.{have_common, bits_or_all}
 use Rattle.vs_design.specs.declared.range.BitRange.{BitRange}
-use Rattle.vs_selects.specs.Selects.{named_range}
+use Rattle.vs_width_selects.specs.Findings.{Finding, Has, Lacks}
+use Rattle.vs_width_selects.specs.Selects.{Named, named_range}
 use Rattle.vs_widths.specs.declared.kinds.AssignmentKind.TheVariants.{Continuous}
 use Rattle.vs_widths.specs.Lefts.{Aimed}
 use Rattle.vs_scopes.specs.declared.faults.Reason.{Reason}
@@ -17,13 +18,13 @@ use Rattle.vs_scopes.specs.Printed.{plainly, Path, printed}
 use Rattle.vs_scopes.specs.Parameters.{is_override_mismatch}
 use Rattle.vs_scopes.specs.Declarations.{DeclaredName}
 use Rattle.vs_scopes.specs.Scopes.{Scope, module_named, scopes_of, declarations_of, environment, signal_paths, is_inside, is_port_mismatch}
-use Rattle.vs_opened.specs.ScopeFaults.{of_module, AtInstance, HasNoModule, parameter_fault, HasOverrideFault, DeclaresTwice, HasWrongPort, HasUnlikePort, HasStrayPort, HasBlockParameter, HasConstructFault, HasBlockFault, HasLateNet, HasBlockOfNet, HasRangeFault, PassesLimit, PassesTurns, NamesTwice, top_fault}
-use Rattle.vs_operands.specs.Statements.{assigned_to}
-use Rattle.vs_operands.specs.Surroundings.{Surroundings, surroundings_at}
-use Rattle.vs_operands.specs.Members.{Behavior, Driver, of_port, of_text, drivers_of, port_drivers_of, behaviors_of}
+use Rattle.vs_elab_listed.specs.ScopeFaults.{of_module, AtInstance, HasNoModule, parameter_fault, HasOverrideFault, DeclaresTwice, HasWrongPort, HasUnlikePort, HasStrayPort, HasBlockParameter, HasConstructFault, HasBlockFault, HasLateNet, HasBlockOfNet, HasRangeFault, PassesLimit, PassesTurns, NamesTwice, top_fault}
+use Rattle.vs_elab_operands.specs.Statements.{assigned_to}
+use Rattle.vs_elab_operands.specs.Surroundings.{Surroundings, surroundings_at}
+use Rattle.vs_elab_operands.specs.Members.{Behavior, Driver, of_port, of_text, drivers_of, port_drivers_of, behaviors_of}
 use Rattle.vs_elaborate.specs.Timescales.{timescale_of, has_other_timescale, ratio_of}
 use Rattle.vs_elaborate.specs.Drivers.{port_target, driver_fault, port_driver_fault}
-use Rattle.vs_operands.specs.Processes.{HasBehaviorFault}
+use Rattle.vs_elab_operands.specs.Processes.{HasBehaviorFault}
 
 -- a process of a scope that has the fault, with these surroundings in the scope of each path, by the path of the innermost scope where it stands
 pub record HasProcessFault (envs : Path → Surroundings) (s : Scope) (r : Reason) (p : Path) : Type 0 where
@@ -68,7 +69,7 @@ HoldsIn ms envs (s ∷ more) r p = Holds ms envs s r p ⊎ HoldsIn ms envs more 
 
 -- ---- faults above scopes
 
--- the ranges that a continuous assignment of a scope drives, the lowest first (clause 6.1)
+-- what the target of a continuous assignment of a scope means (clause 6.1)
 abbrev pub aimed_at : Scope → Driver → Aimed
 aimed_at s (of_port d) = port_target (environment s) s.outer d
 aimed_at s (of_text a) = assigned_to Continuous (environment s) a.target
@@ -77,9 +78,18 @@ aimed_at s (of_text a) = assigned_to Continuous (environment s) a.target
 abbrev pub all_drivers_of : Scope → List Driver
 all_drivers_of s = map of_port (port_drivers_of s) ++ map of_text (drivers_of s)
 
+-- the ranges of these places, where a target has a size; one that has a fault drives nothing (clause 6.1; profile)
+abbrev pub ranges_found : Finding → List Named → List BitRange
+ranges_found (Has width signed) places = map named_range places
+ranges_found (Lacks faults) places = []
+
+-- the ranges that a target drives
+abbrev pub ranges_aimed : Aimed → List BitRange
+ranges_aimed a = ranges_found a.finding a.places
+
 -- the ranges that the continuous assignments of a scope drive, in their order
 abbrev pub ranges_driven : Scope → List BitRange
-ranges_driven s = flat_map (λ d. map named_range (aimed_at s d).places) (all_drivers_of s)
+ranges_driven s = flat_map (λ d. ranges_aimed (aimed_at s d)) (all_drivers_of s)
 
 -- what two ranges have in common where they are of a net: bits of it by its size (clause 6.1)
 abbrev pub share_bits : ℕ → BitRange → BitRange → Bool

@@ -2,20 +2,20 @@
 ghost use Rattle.std.specs.Prelude.{◌≡◌, ◌∷◌, [], map};
 ghost use Rattle.std.specs.List.{flat_map};
 ghost use Rattle.vs_widths.specs.declared.kinds.AssignmentKind.TheVariants.{Continuous};
-ghost use Rattle.vs_pieces.specs.Reads.{read_piece};
+ghost use Rattle.vs_elab_pieces.specs.Reads.{read_piece};
 ghost use Rattle.vs_scopes.specs.Printed.{Path};
-ghost use Rattle.vs_operands.specs.Surroundings.{Surroundings};
+ghost use Rattle.vs_elab_operands.specs.Surroundings.{Surroundings};
 ghost use Rattle.vs_scopes.specs.Scopes.{Scope, environment};
 ghost use Rattle.vs_scopes.specs.passes.Answers.{Elaborates, Grows};
-ghost use Rattle.vs_operands.specs.Statements.{IsAssignment};
-ghost use Rattle.vs_operands.specs.Members.{Assignment, values_of, net_assignment, drivers_by_item, drivers_in};
+ghost use Rattle.vs_elab_operands.specs.Statements.{IsAssignment};
+ghost use Rattle.vs_elab_operands.specs.Members.{Assignment, values_of, net_assignment, drivers_by_item, drivers_in};
 ghost use Rattle.vs_elaborate.specs.passes.Filling.{IsFrame, text_faults, Drives, DrivesNot};
 
 use crate::frames::{Frame, part_fault};
 use std::alloc::Global;
 use vs_design::{Assign, Target, Typed};
-use vs_operands::{assignment, declared_assignment};
-use vs_pieces::Piece;
+use vs_elab_operands::{assignment, declared_assignment};
+use vs_elab_pieces::ScopePiece;
 use vs_scopes::{BodyFault, ElabFault, print_part};
 use vs_syntax::{Declarator, Item, NetAssignment};
 use vs_widths::AssignmentKind;
@@ -113,14 +113,14 @@ fn drive_item(
 fn drive_piece(
     alloc: Global,
     frame: &Frame,
-    piece: &Piece,
+    piece: &ScopePiece,
     assigns: &mut Vec<Assign>,
 ) -> Result<(), ElabFault>
     ensures { (envs : Path → Surroundings) (s : Scope) → IsFrame frame.now envs s →
         Grows (Drives s assigns.old.items) (Drives s assigns.new.items) (DrivesNot s) (drivers_in (read_piece piece.now)) result }
 {
     match piece {
-        Piece::Plain(item) => drive_item(alloc, frame, item, assigns),
+        ScopePiece::Plain(item) => drive_item(alloc, frame, item, assigns),
         _ => Ok(()),
     }
 }
@@ -129,7 +129,7 @@ fn drive_piece(
 pub fn drive_pieces(
     alloc: Global,
     frame: &Frame,
-    pieces: &[Piece],
+    pieces: &[ScopePiece],
     assigns: &mut Vec<Assign>,
 ) -> Result<(), ElabFault>
     ensures { (envs : Path → Surroundings) (s : Scope) → IsFrame frame.now envs s →

@@ -6,10 +6,10 @@ ghost use Rattle.vs_scopes.specs.Scopes.{Scope, has_wrong_end};
 ghost use Rattle.std.specs.Prelude.{false, map};
 ghost use Rattle.vs_scopes.specs.passes.Answers.{Told};
 ghost use Rattle.vs_scopes.specs.passes.Parts.{read_port, read_ends};
-ghost use Rattle.vs_opened.specs.declared.opened.Opened.{Opened as FoundScope};
-ghost use Rattle.vs_opened.specs.Opened.{AreOpened, AreSeated, StandsAround};
-ghost use Rattle.vs_operands.specs.Surroundings.{Surroundings, surroundings_at};
-ghost use Rattle.vs_operands.specs.passes.Views.{AreSites, IsPlaced};
+ghost use Rattle.vs_elab_listed.specs.declared.opened.ListedScope.{ListedScope as FoundScope};
+ghost use Rattle.vs_elab_listed.specs.Opened.{AreOpened, AreSeated, StandsAround};
+ghost use Rattle.vs_elab_operands.specs.Surroundings.{Surroundings, surroundings_at};
+ghost use Rattle.vs_elab_operands.specs.passes.Views.{AreSites, IsPlaced};
 ghost use Rattle.vs_elaborate.specs.passes.Filling.{IsFrame, HasMembers, AreLefts, Fills, FillsNot, FillsOneNot, DrivesScope, FillsScope};
 
 use crate::connecting::drive_ports;
@@ -17,17 +17,17 @@ use crate::drivers::drive_pieces;
 use crate::frames::Frame;
 use crate::processes::{run_pieces, run_ports};
 use std::alloc::{AllocError, Global};
-use vs_contents::Contents;
-use vs_opened::{Opened, names_around, names_outward, path};
-use vs_operands::{Ratio, View};
+use vs_elab_contents::Contents;
+use vs_elab_listed::{ListedScope, names_around, names_outward, path};
+use vs_elab_operands::{Ratio, View};
 use vs_scopes::ElabFault;
-use vs_selects::Binding;
+use vs_width_selects::Binding;
 use vs_widths::{Levels, Names};
 
 /// The names of the scope around one and those seen there, the innermost first.
 fn names_outside<'s, 'o>(
     alloc: Global,
-    list: &'o [Opened<'s>],
+    list: &'o [ListedScope<'s>],
     around: Option<usize>,
 ) -> Result<Vec<&'o Names<'s, Binding>>, AllocError>
     requires place { (place : ℕ) → around ≡ Some place → place < length list.now }
@@ -46,7 +46,7 @@ fn names_outside<'s, 'o>(
 fn drive_frame(
     alloc: Global,
     frame: &Frame,
-    scope: &Opened,
+    scope: &ListedScope,
     outer: &Levels,
     contents: &mut Contents,
 ) -> Result<(), ElabFault>
@@ -66,7 +66,7 @@ fn drive_frame(
 fn fill_frame(
     alloc: Global,
     frame: &Frame,
-    scope: &Opened,
+    scope: &ListedScope,
     outer: &Levels,
     contents: &mut Contents,
 ) -> Result<(), ElabFault>
@@ -85,7 +85,7 @@ fn fill_frame(
 fn fill_named(
     alloc: Global,
     ratio: Ratio,
-    list: &[Opened],
+    list: &[ListedScope],
     place: usize,
     outer: &Levels,
     contents: &mut Contents,
@@ -115,7 +115,7 @@ fn fill_named(
 fn fill_within<'s>(
     alloc: Global,
     ratio: Ratio,
-    list: &[Opened<'s>],
+    list: &[ListedScope<'s>],
     place: usize,
     nothing: &Names<'s, Binding>,
     contents: &mut Contents,
@@ -136,7 +136,7 @@ fn fill_within<'s>(
 fn fill(
     alloc: Global,
     ratio: Ratio,
-    list: &[Opened],
+    list: &[ListedScope],
     place: usize,
     contents: &mut Contents,
 ) -> Result<(), ElabFault>
@@ -151,7 +151,7 @@ fn fill(
 }
 
 /// The continuous assignments and the processes of scopes, in design order.
-pub fn fill_all(alloc: Global, ratio: Ratio, list: &[Opened]) -> Result<Contents, ElabFault>
+pub fn fill_all(alloc: Global, ratio: Ratio, list: &[ListedScope]) -> Result<Contents, ElabFault>
     requires placed { (place : ℕ) → place < length list.now → IsPlaced list.now place }
     requires lefts { (place : ℕ) (o : FoundScope) → slice_get list.now place ≡ Some o → AreLefts o }
     ensures { (ss : List Scope) → let envs = surroundings_at ratio.ticks ss in AreSites list.now ss envs →

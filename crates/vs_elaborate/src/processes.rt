@@ -1,26 +1,26 @@
 //! The processes of a scope, as parts of a design.
 ghost use Rattle.std.specs.Prelude.{◌≡◌, ◌∷◌, [], Some, length, IfErr};
 ghost use Rattle.std.specs.List.{flat_map};
-ghost use Rattle.vs_pieces.specs.Reads.{read_piece};
+ghost use Rattle.vs_elab_pieces.specs.Reads.{read_piece};
 ghost use Rattle.vs_scopes.specs.Printed.{Path};
 ghost use Rattle.vs_scopes.specs.Scopes.{Scope};
 ghost use Rattle.vs_scopes.specs.passes.Answers.{Grows};
 ghost use Rattle.vs_scopes.specs.passes.Parts.{read_port};
-ghost use Rattle.vs_operands.specs.Members.{Behavior, setting, behaviors_by_item, behaviors_in, port_setting};
-ghost use Rattle.vs_operands.specs.Processes.{kind_of};
-ghost use Rattle.vs_operands.specs.Surroundings.{Surroundings};
-ghost use Rattle.vs_operands.specs.passes.Bodies.{Embodies};
-ghost use Rattle.vs_operands.specs.passes.Faults.{IsBelow};
-ghost use Rattle.vs_operands.specs.passes.Views.{IsPlaced};
+ghost use Rattle.vs_elab_operands.specs.Members.{Behavior, setting, behaviors_by_item, behaviors_in, port_setting};
+ghost use Rattle.vs_elab_operands.specs.Processes.{kind_of};
+ghost use Rattle.vs_elab_operands.specs.Surroundings.{Surroundings};
+ghost use Rattle.vs_elab_operands.specs.passes.Bodies.{Embodies};
+ghost use Rattle.vs_elab_operands.specs.passes.Faults.{IsBelow};
+ghost use Rattle.vs_elab_operands.specs.passes.Views.{IsPlaced};
 ghost use Rattle.vs_elaborate.specs.passes.Filling.{IsFrame, Runs, RunsNot};
 
 use crate::frames::{Frame, process_fault};
 use std::alloc::Global;
-use vs_bodies::{repeat_body, run_body, set_body};
-use vs_contents::Contents;
 use vs_design::{Process, ProcessKind, Statement};
-use vs_operands::StatementFault;
-use vs_pieces::Piece;
+use vs_elab_contents::Contents;
+use vs_elab_operands::StatementFault;
+use vs_elab_pieces::ScopePiece;
+use vs_elab_statements::{repeat_body, run_body, set_body};
 use vs_scopes::{ElabFault, ModulePort, print_part};
 use vs_syntax::{Declarator, Expr, Item};
 
@@ -137,7 +137,7 @@ fn run_piece(
     alloc: Global,
     frame: &Frame,
     first: usize,
-    piece: &Piece,
+    piece: &ScopePiece,
     contents: &mut Contents,
 ) -> Result<(), ElabFault>
     requires { IsPlaced frame.now.view.list.now frame.now.view.place }
@@ -145,7 +145,7 @@ fn run_piece(
         Grows (Runs envs s first contents.old) (Runs envs s first contents.new) (RunsNot envs s) (behaviors_in (read_piece piece.now)) result }
 {
     match piece {
-        Piece::Plain(item) => run_item(alloc, frame, first, item, contents),
+        ScopePiece::Plain(item) => run_item(alloc, frame, first, item, contents),
         _ => Ok(()),
     }
 }
@@ -155,7 +155,7 @@ pub fn run_pieces(
     alloc: Global,
     frame: &Frame,
     first: usize,
-    pieces: &[Piece],
+    pieces: &[ScopePiece],
     contents: &mut Contents,
 ) -> Result<(), ElabFault>
     requires { IsPlaced frame.now.view.list.now frame.now.view.place }

@@ -6,15 +6,15 @@ ghost use Rattle.vs_elaborate.specs.Timescales.{has_other_timescale};
 ghost use Rattle.vs_elaborate.specs.Faults.{Faults};
 ghost use Rattle.vs_elaborate.specs.DesignOf.{DesignOf};
 ghost use Rattle.vs_elaborate.specs.passes.Filling.{DrivenTwiceOnly};
-ghost use Rattle.vs_marks.specs.Marks.{AreWithin};
+ghost use Rattle.vs_elab_contents.specs.Marks.{AreWithin};
 
 use crate::filling::fill_all;
 use crate::timescales::{has_other_timescale, ratio_of, timescale_of};
 use std::alloc::Global;
 use vs_design::{Assign, Design, Signal, writes};
-use vs_marks::{mark_ranges, no_marks};
-use vs_opened::fault_at;
-use vs_opening::open_all;
+use vs_elab_contents::{mark_ranges, no_marks};
+use vs_elab_hierarchy::open_all;
+use vs_elab_listed::fault_at;
 use vs_scopes::{ElabFault, PartName, PathName, Reason};
 use vs_syntax::Source;
 

@@ -62,7 +62,7 @@ selected_kept (negsuc b) width ds es h =
 -- ---- digits laid over
 
 -- a digit of a vector with a part put in
-replaced_digit : (z : ℤ) (part ds : List Digit) (i : ℕ) → slice_get (replaced_from z part ds) i ≡ option_map (digit_at (z +ℤ pos i) part) (slice_get ds i)
+pub replaced_digit : (z : ℤ) (part ds : List Digit) (i : ℕ) → slice_get (replaced_from z part ds) i ≡ option_map (digit_at (z +ℤ pos i) part) (slice_get ds i)
 replaced_digit z part [] i = refl
 replaced_digit z part (d ∷ ds) zero = let here : z ≡ z +ℤ pos 0 = omega (arith, ints) in ap (λ y. Some (digit_at y part d)) here
 replaced_digit z part (d ∷ ds) (suc i) =

@@ -17,10 +17,8 @@ use Rattle.vs_design.specs.Selects.{place_of, word_place}
 use Rattle.vs_design.specs.Uses.{reads, reads_step, joined, whole, all_words, slice_range, bits_from}
 use Rattle.vs_eval.specs.Values.{value_of, value_step, operand_value, bits_value, selection_value, excerpt_value, chained, chosen, concatenated}
 use Rattle.vs_eval.proofs.Digits.{selected_kept}
-
-not_false : (b : Bool) → not b ≡ false → b ≡ true
-not_false true h = refl
-not_false false h = cc
+use Rattle.vs_design.proofs.Stores.{map_none, same_words-true, word_in-words}
+use Rattle.vs_logic4.proofs.Basics.{and_left, and_right, map_twice as map_map, not_false}
 
 pub or_false_left : (a b : Bool) → a || b ≡ false → a ≡ false
 or_false_left true b h = cc
@@ -29,14 +27,6 @@ or_false_left false b h = refl
 pub or_false_right : (a b : Bool) → a || b ≡ false → b ≡ false
 or_false_right true b h = cc
 or_false_right false b h = h
-
-word_in-words : (o : Option (List (List Digit))) (k : ℕ) → word_in o k ≡ slice_get (words_in o) k
-word_in-words None k = refl
-word_in-words (Some words) k = refl
-
-and_left : (a b : Bool) → (a && b) ≡ true → a ≡ true
-and_left true b h = refl
-and_left false b h = cc
 
 same_one : (a b : Option (List Digit)) → same_words (map (chosen_bits None) (one_word a)) (map (chosen_bits None) (one_word b)) ≡ true → a ≡ b
 same_one None None h = refl
@@ -50,21 +40,6 @@ word_kept old new signal h =
     word_in-words (slice_get old signal) 0
     ∙ same_one (slice_get (words_in (slice_get old signal)) 0) (slice_get (words_in (slice_get new signal)) 0) (not_false _ (or_false_left (is_changed old new (whole signal)) false h))
     ∙ sym (word_in-words (slice_get new signal) 0)
-
-and_right : (a b : Bool) → (a && b) ≡ true → b ≡ true
-and_right true b h = h
-and_right false b h = cc
-
-same_words-true : (as' bs : List (List Digit)) → same_words as' bs ≡ true → as' ≡ bs
-same_words-true [] [] h = refl
-same_words-true [] (b ∷ bs) h = cc
-same_words-true (a ∷ as') [] h = cc
-same_words-true (a ∷ as') (b ∷ bs) h =
-    ap₂ (λ x xs. x ∷ xs) (same_digits-true a b (and_left (same_digits a b) (same_words as' bs) h)) (same_words-true as' bs (and_right (same_digits a b) (same_words as' bs) h))
-
-map_none : (ws : List (List Digit)) → map (chosen_bits None) ws ≡ ws
-map_none [] = refl
-map_none (w ∷ ws) = ap (λ xs. w ∷ xs) (map_none ws)
 
 -- stores that agree on all words of a signal have the same ones of it
 words_kept : (old new : Store) (signal word : ℕ) → is_changed old new (all_words signal) ≡ false → word_of old signal word ≡ word_of new signal word
@@ -88,10 +63,6 @@ bits_kept old new s h =
     ap (bits_value s.low s.width) (word_in-words (slice_get old s.signal) s.word)
     ∙ same_bits s.low s.width (slice_get (words_in (slice_get old s.signal)) s.word) (slice_get (words_in (slice_get new s.signal)) s.word) (not_false _ (or_false_left (is_changed old new (slice_range s)) false h))
     ∙ ap (bits_value s.low s.width) (sym (word_in-words (slice_get new s.signal) s.word))
-
-map_map : {A B C : Type 0} (f : B → C) (g : A → B) (xs : List A) → map f (map g xs) ≡ map (λ x. f (g x)) xs
-map_map f g [] = refl
-map_map f g (x ∷ xs) = ap (λ ys. f (g x) ∷ ys) (map_map f g xs)
 
 module _ (old new : Store) (time : ℕ) where
   -- an expression with one value in both stores, where they agree on what it reads

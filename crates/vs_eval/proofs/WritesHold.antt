@@ -17,6 +17,7 @@ use Rattle.vs_eval.specs.Laws.{digit_in, digit_of}
 use Rattle.vs_eval.specs.Targets.{part_at, parts_from}
 use Rattle.vs_eval.proofs.Digits.{outside_kept}
 use Rattle.vs_eval.proofs.ReadsHold.{value_kept, first_kept, rest_kept, or_false_left, or_false_right}
+use Rattle.vs_design.proofs.Stores.{slice_get-changed_at as get-changed_at, slice_get-changed_at_other as get-changed_at_other, word_changes}
 
 -- ---- what it depends on
 
@@ -39,25 +40,9 @@ module _ (old new : Store) (time : ℕ) where
 
 -- ---- what it keeps
 
-get-changed_at : {A : Type 0} (f : A → A) (i : ℕ) (xs : List A) → slice_get (changed_at f i xs) i ≡ option_map f (slice_get xs i)
-get-changed_at f i [] = refl
-get-changed_at f zero (x ∷ xs) = refl
-get-changed_at f (suc i) (x ∷ xs) = get-changed_at f i xs
-
-get-changed_at_other : {A : Type 0} (f : A → A) (i j : ℕ) (xs : List A) → i ≢ j → slice_get (changed_at f i xs) j ≡ slice_get xs j
-get-changed_at_other f i j [] h = refl
-get-changed_at_other f zero zero (x ∷ xs) h = absurd (h refl)
-get-changed_at_other f zero (suc j) (x ∷ xs) h = refl
-get-changed_at_other f (suc i) zero (x ∷ xs) h = refl
-get-changed_at_other f (suc i) (suc j) (x ∷ xs) h = get-changed_at_other f i j xs (λ e. h (ap suc e))
-
 word_keeps : (f : List Digit → List Digit) (i k : ℕ) (o : Option (List (List Digit))) → i ≢ k → word_in (option_map (changed_at f i) o) k ≡ word_in o k
 word_keeps f i k None h = refl
 word_keeps f i k (Some words) h = get-changed_at_other f i k words h
-
-word_changes : (f : List Digit → List Digit) (k : ℕ) (o : Option (List (List Digit))) → word_in (option_map (changed_at f k) o) k ≡ option_map f (word_in o k)
-word_changes f k None = refl
-word_changes f k (Some words) = get-changed_at f k words
 
 digit_keeps : (f : List Digit → List Digit) (place : ℕ) → ((w : List Digit) → slice_get (f w) place ≡ slice_get w place) → (o : Option (List Digit)) → digit_in (option_map f o) place ≡ digit_in o place
 digit_keeps f place h None = refl

@@ -6,7 +6,7 @@ use vs_design::Axis;
 use vs_logic4::Vec4;
 
 /// The number of an index by its own size and sign, where no digit is x or z.
-fn index_number(signed: bool, index: Vec4) -> Option<i128>
+pub fn index_number(signed: bool, index: Vec4) -> Option<i128>
     ensures is { result ≡ index_number signed index }
     ensures least { IfSome result (λ n. neg_ℤ (pos (2 ^ 63)) ≤ℤ n) }
     ensures most { IfSome result (λ n. n <ℤ pos (2 ^ 64)) }

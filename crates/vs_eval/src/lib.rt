@@ -13,7 +13,7 @@ ghost use Rattle.vs_design.specs.Stores.{word_of};
 mod indices;
 mod targets;
 
-pub use indices::{place_of, word_place};
+pub use indices::{index_number, place_of, word_place};
 pub use targets::{cut_value, write_of};
 use vs_design::{Excerpt, Link, Operand, Selection, Slice, Store, Typed};
 use vs_logic4::{Digit, Sizing, Vec4};

@@ -16,7 +16,8 @@ use Rattle.vs_flatcode.specs.Codes.{Layout, links_of, link_of, Fits, LeadAll}
 use Rattle.vs_flatcode.specs.Drafts.{Grows, Always, IsFree, AlwaysLeads, AlwaysFree, AlwaysTurn, drafted, IsLonger, Written, IsReady, IsEmitted, is_block}
 use Rattle.vs_flatcode.proofs.Links.{todo_here}
 use Rattle.vs_flatcode.proofs.Shapes.{flat-single}
-use Rattle.vs_flatcode.proofs.Lists.{at_front, at_seam, of_pushed}
+use Rattle.vs_flatcode.proofs.Lists.{at_front, of_pushed}
+use Rattle.vs_logic4.proofs.Basics.{at_end as at_seam}
 
 -- ---- growth
 

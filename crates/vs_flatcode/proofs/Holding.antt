@@ -6,18 +6,8 @@ use Rattle.vs_logic4.specs.Vectors.{same_digits}
 use Rattle.vs_design.specs.declared.write.Part.{Part}
 use Rattle.vs_design.specs.Behind.{is_kept}
 use Rattle.vs_design.specs.Stores.{Store, changed_at, overlaid, put_part, same_words, words_in, chosen_bits, word_in, word_of, changes_nothing}
-
-all_bits : (words : List (List Digit)) → map (chosen_bits None) words ≡ words
-all_bits [] = refl
-all_bits (w ∷ ws) = ap (λ z. w ∷ z) (all_bits ws)
-
-all_same : (words : List (List Digit)) → same_words words words ≡ true
-all_same [] = refl
-all_same (w ∷ ws) = ap₂ (λ a b. a && b) (same_digits_self w) (all_same ws)
-
-and_true : (b : Bool) → (b && true) ≡ b
-and_true true = refl
-and_true false = refl
+use Rattle.vs_design.proofs.Stores.{map_none as all_bits, same_words_self as all_same, slice_get-changed_at as changed_there}
+use Rattle.vs_logic4.proofs.Basics.{and_true}
 
 not_twice : (b : Bool) → not (not b || false) ≡ b
 not_twice true = refl
@@ -28,11 +18,6 @@ same_but_one : (f : List Digit → List Digit) (i : ℕ) (words : List (List Dig
 same_but_one f i [] = refl
 same_but_one f zero (w ∷ ws) = ap (λ b. same_digits w (f w) && b) (all_same ws) ∙ and_true (same_digits w (f w))
 same_but_one f (suc i) (w ∷ ws) = ap (λ b. b && same_words ws (changed_at f i ws)) (same_digits_self w) ∙ same_but_one f i ws
-
-changed_there : {A : Type 0} (f : A → A) (i : ℕ) (xs : List A) → slice_get (changed_at f i xs) i ≡ option_map f (slice_get xs i)
-changed_there f i [] = refl
-changed_there f zero (x ∷ xs) = refl
-changed_there f (suc i) (x ∷ xs) = changed_there f i xs
 
 -- the words of a signal that one part changes are the same where the word that it names, if there is one, is kept
 same_signal : (f : List Digit → List Digit) (i : ℕ) (o : Option (List (List Digit))) → same_words (words_in o) (words_in (option_map (changed_at f i) o)) ≡ is_kept f (word_in o i)

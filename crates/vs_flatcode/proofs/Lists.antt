@@ -1,15 +1,12 @@
 -- Lemmas on elements of lists.
 use Rattle.std.proofs.Common.{◌≡◌, ◌≢◌, ℕ, zero, suc, ◌<◌, Some, List, [], ◌∷◌, ◌++◌, length, refl, ap, arith, ◌⊎◌, inl, inr, ⊎_elim}
 use Rattle.std.specs.Prelude.{slice_get, slice_set}
+use Rattle.vs_logic4.proofs.Basics.{at_end as at_seam}
 
 pub at_front : {A : Type 0} (xs ys : List A) (i : ℕ) → i < length xs → slice_get (xs ++ ys) i ≡ slice_get xs i
 at_front [] ys i h = absurd (omega arith)
 at_front (x ∷ xs) ys zero h = refl
 at_front (x ∷ xs) ys (suc i) h = at_front xs ys i (omega arith)
-
-pub at_seam : {A : Type 0} (xs : List A) (y : A) → slice_get (xs ++ y ∷ []) (length xs) ≡ Some y
-at_seam [] y = refl
-at_seam (x ∷ xs) y = at_seam xs y
 
 -- an element of a list with one more at its end
 pub of_pushed : {A : Type 0} (xs : List A) (y z : A) (i : ℕ) → slice_get (xs ++ y ∷ []) i ≡ Some z → (i < length xs) ⊎ ((i ≡ length xs) × (y ≡ z))

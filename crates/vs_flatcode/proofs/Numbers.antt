@@ -27,6 +27,7 @@ use Rattle.vs_flatcode.specs.Ways.{point_at}
 use Rattle.vs_flatcode.specs.Numbers.{number_of, number_next, number_at, once_where, times_here, times_in, times_stands, AllStand}
 use Rattle.vs_flatcode.specs.Drafts.{numbers_all, numbers_in, numbers_inside, AddsOne, Adds}
 use Rattle.vs_flatcode.proofs.Drafts.{below_or}
+use Rattle.vs_logic4.proofs.Basics.{and_left as both_left, and_right as both_right}
 
 -- ---- the numbers of a statement by its outermost layer
 
@@ -154,14 +155,6 @@ two_stand n (m ∷ links) zero (suc j) k l lt e h f g =
     let is : number_at m.job ≡ Some n = ap (λ (o : Link). number_at o.job) (same_Some m k e) ∙ h in
     omega (arith, here_once n (number_at m.job) is, one_stands n links j l f g)
 two_stand n (m ∷ links) (suc i) (suc j) k l lt e h f g = omega (arith, two_stand n links i j k l (omega (arith, lt)) e h f g)
-
-both_left : (a b : Bool) → (a && b) ≡ true → a ≡ true
-both_left true b h = refl
-both_left false b h = absurd (false≢true h)
-
-both_right : (a b : Bool) → (a && b) ≡ true → b ≡ true
-both_right true b h = h
-both_right false b h = absurd (false≢true h)
 
 -- numbers that count up from one on are there at most once, and none below it
 counted_once : (n a : ℕ) (xs : List ℕ) → counts_from a xs ≡ true → (times_in n xs ≤ 1) × (n < a → times_in n xs ≡ 0)

@@ -448,6 +448,7 @@ fn glide<'a>(
         (todo_in ops.entry.now counters.new.items r.2) effect.new store.new changes.old.items changes.new.items) }
     ensures counters_kept { OnErr result (counters.new.items ≡ counters.old.items) }
     ensures store_kept { OnErr result (store.new ≡ store.old) }
+    ensures changes_kept { OnErr result (changes.new.items ≡ changes.old.items) }
 {
     let mut place = from;
     let mut steps = 0;
@@ -498,7 +499,8 @@ impl<'a> Cursor<'a> {
     /// has something left to do, and where the last of these has an effect, the turns of `forever` and the timing control behind it, or where it writes,
     /// the turns of `forever` and the delay behind it, at most so many in all: how that step ends, how the last one ends, and how many they are. Where it
     /// has an effect, this stands in `effect`, which otherwise may hold any. The write of a blocking assignment is made in the store, and the words that it
-    /// changes go to `changes`. The steps end in front of one that has no memory; without memory for the first one the place and the store are as they were.
+    /// changes go to `changes`. The steps end in front of one that has no memory; without memory for the first one the place, the store and `changes` are
+    /// as they were.
     #[inline(always)]
     pub fn steps(
         &mut self,
@@ -517,6 +519,7 @@ impl<'a> Cursor<'a> {
         ensures some { OnErr result (has_nothing self.new ≡ false) }
         ensures place_kept { OnErr result (self.new ≡ self.old) }
         ensures store_kept { OnErr result (store.new ≡ store.old) }
+        ensures changes_kept { OnErr result (changes.new.items ≡ changes.old.items) }
     {
         let (halt, last, place, steps) = glide(
             alloc,

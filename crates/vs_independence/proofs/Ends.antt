@@ -1,61 +1,64 @@
 -- Within a slot, and how it ends: in one state.
-use Rattle.std.proofs.Common.{◌≡◌, ℕ, zero, suc, ◌==◌, ◌<◌, ◌⊎◌, Bool, true, false, ◌&&◌, ◌||◌, not, cond, Option, Some, None, is_some, List, [], ◌∷◌, ◌++◌, map, length, get_or, slice_get, ltb, leb, ltb-true, eqb-true, arith, refl, sym, ◌∙◌, ap, ap₂, subst, inl, inr}
+use Rattle.vs_law_threads.specs.Blocks.{starter, StartsMoved, StartsAs}
+use Rattle.vs_independence.proofs.Starters.{Stops, SameBit, level_evaluated, level_written, level_settled, propagated_shown, bit_written, level_bit, shows_same}
+use Rattle.vs_independence.proofs.Inner.{AllStarted}
+use Rattle.vs_law_threads.specs.Blocks.{cold, sources, SameOutputs, outputs, home}
+use Rattle.std.proofs.Common.{◌≡◌, ℕ, zero, suc, ◌==◌, ◌<◌, ◌⊎◌, Bool, true, false, ◌&&◌, ◌||◌, not, cond, Option, Some, None, is_some, List, [], ◌∷◌, ◌++◌, map, length, get_or, slice_get, ltb, leb, ltb-true, eqb-true, arith, refl, sym, ◌∙◌, ap, ap₂, subst, inl, inr, take, slice_set}
 use Rattle.std.specs.List.{list_any, list_all}
-use Rattle.std.proofs.lemmas.Bool.{and_parts, and_from, or_parts, or_cases, not-true, not_from_true, not_from_false, true≢false, false≢true}
+use Rattle.std.proofs.lemmas.Bool.{and_parts, and_from, or_parts, or_cases, not-true, not_from_true, not_from_false, true≢false, false≢true, cases_Bool, false_from_ne_true, or_left, or_right}
 use Rattle.std.proofs.lemmas.List.{ext_get_or}
 use Rattle.std.specs.Prelude.{is_none}
 use Rattle.vs_logic4.specs.declared.digit.Digit.{Digit}
 use Rattle.vs_design.specs.Parts.{Parts}
-use Rattle.vs_design.specs.Stores.{Store, put, is_driven}
+use Rattle.vs_design.specs.Stores.{Store, put, is_driven, is_changed, start_store, word_in}
 use Rattle.vs_process.specs.declared.moves.Move.{Move}
 use Rattle.vs_process.specs.declared.moves.Move.TheVariants.{Step, Evaluate, Propagate, Make, Rouse, Activate, EndSlot}
-use Rattle.vs_flatcode.specs.Places.{Place, going, sleeping, inactive, waiting, ended, is_going, is_inactive}
-use Rattle.vs_process.specs.States.{State, AssignState, Update, is_due, activated, stepped, evaluate, propagate, propagate_value, make}
-use Rattle.vs_process.specs.Executions.{is_first, if_some, is_busy, has_inactive, has_due, is_enabled, apply, ends, next_time, slot_behind, places_at, time_at}
-use Rattle.vs_process.proofs.Lists.{any_at, none_at}
-use Rattle.vs_independence.specs.Threads.{Thread, IsThread, iterate, turn, opening, writes, any_names}
-use Rattle.vs_independence.proofs.Assigns.{DrivesWell}
-use Rattle.vs_independence.proofs.Events.{IsSilent}
-use Rattle.vs_independence.proofs.Stores.{names_some, by, left, put_active, put_active_local, put_active_by, by-left, by-activated, filter_hit}
-use Rattle.vs_independence.proofs.Threads.{is_stopped, stopped_unique}
-use Rattle.vs_independence.proofs.Settle.{AllIdle, settled_unique, idle_unique}
-use Rattle.vs_independence.proofs.Moves.{Runs, step_runs, evaluate_runs, propagate_runs, rouse_runs}
-use Rattle.vs_independence.proofs.Calls.{of, SameCalls}
-use Rattle.vs_independence.proofs.Making.{Making, is_settled, activate_makes, none_makes, make_makes, evaluate_makes, propagate_makes, stopped_at}
+use Rattle.vs_flatcode.specs.Places.{Place, going, sleeping, inactive, waiting, ended, is_going, is_inactive, Todo, is_inside}
+use Rattle.vs_process.specs.States.{State, AssignState, Update, is_due, activated, stepped, evaluate, propagate, propagate_value, make, roused, wakened, settled, start}
+use Rattle.vs_process.specs.Executions.{is_first, if_some, is_busy, has_inactive, has_due, is_enabled, apply, ends, next_time, slot_behind, places_at, time_at, is_step_of}
+use Rattle.vs_process.proofs.Lists.{none_at}
+use Rattle.std.proofs.lemmas.Map.Keys.{any_passes_from_place as at_any}
+use Rattle.vs_logic4.proofs.Basics.{element_of as any_at}
+use Rattle.vs_law_threads.specs.Threads.{Thread, writes, any_names, IsThread}
+use Rattle.vs_law_threads.proofs.Assigns.{DrivesWell}
+use Rattle.vs_law_threads.proofs.Links.{copies_settled}
+use Rattle.vs_independence.proofs.Inputs.{Stopped, one_thread, stopped_alike}
+use Rattle.vs_law_threads.proofs.Stores.{names_some, by, left, put_active, put_active_local, put_active_by, by-left, by-activated, filter_hit}
+use Rattle.vs_law_threads.proofs.Threads.{not_inactive, rouse_thread, is_stopped, not_going}
+use Rattle.vs_law_threads.proofs.Settle.{AllIdle, idle_unique, assign_leaves}
+use Rattle.vs_law_threads.proofs.Calls.{of, SameCalls}
+use Rattle.vs_independence.proofs.Making.{Making, is_settled, activate_makes, none_makes, make_makes, evaluate_makes, propagate_makes, stopped_at, GoesFrom, GoesOn, none_activated, none_get}
 use Rattle.vs_independence.proofs.Times.{is_future, same_next}
-use Rattle.vs_independence.proofs.Running.{Apart, is_waiting}
-
--- a state of the slot that begins with `b`
-abbrev pub InSlot : Parts → State → State → Type 0
-InSlot d b s = Runs d b s ⊎ Making d b s
-
-pub some_of : {A : Type 0} (f : A → Bool) (o : Option A) → if_some f o ≡ true → (x : A) × (o ≡ Some x) × (f x ≡ true)
-some_of f None h = absurd (false≢true h)
-some_of f (Some x) h = (x, refl, h)
-
-pub pending_of : {A : Type 0} (o : Option A) → is_some o ≡ true → (x : A) × (o ≡ Some x)
-pending_of None h = absurd (false≢true h)
-pending_of (Some x) h = (x, refl)
-
-not_going : (p : Place) → is_stopped p ≡ true → is_going p ≡ true → ⊥
-not_going (going gait todo) h g = false≢true h
-not_going (sleeping due todo) h g = false≢true g
-not_going (inactive todo) h g = false≢true g
-not_going (waiting terms todo) h g = false≢true g
-not_going ended h g = false≢true g
-
-not_inactive : (p : Place) → is_stopped p ≡ true → is_inactive p ≡ true → ⊥
-not_inactive (going gait todo) h g = false≢true g
-not_inactive (sleeping due todo) h g = false≢true g
-not_inactive (inactive todo) h g = false≢true h
-not_inactive (waiting terms todo) h g = false≢true g
-not_inactive ended h g = false≢true g
-
--- an element of a list of which all pass
-all_get : {A : Type 0} (p : A → Bool) (xs : List A) (i : ℕ) (x : A) → slice_get xs i ≡ Some x → list_all p xs ≡ true → p x ≡ true
-all_get p [] i x is h = cc
-all_get p (y ∷ xs) zero x is h = let e : y ≡ x = cc in ap p (sym e) ∙ (and_parts (p y) (list_all p xs) h).0
-all_get p (y ∷ xs) (suc i) x is h = all_get p xs i x is (and_parts (p y) (list_all p xs) h).1
+use Rattle.vs_independence.proofs.Running.{Apart, is_waiting, same_made}
+use Rattle.vs_independence.proofs.Inner.{AllCold, Before, Behind, FirstEra, LateEra, Moment, Setting, block_moment, down_still, down_written, first_writes, late_more, more_up, only_sources, phase_kept, thread_moment}
+use Rattle.vs_process.proofs.Assigns.{AssignsSound, drives}
+use Rattle.vs_independence.proofs.FirstQuiet.{AtFirst, first_quiet, is_cold, Anything, agree_back, covers_all}
+use Rattle.vs_design.specs.declared.range.BitRange.{BitRange}
+use Rattle.vs_independence.proofs.BlocksAt.{BlocksAt, IsFree, NoneInside, blocks_behind, blocks_mapped, blocks_still, mapped_place, text_at, woken_more}
+use Rattle.vs_law_threads.proofs.Fares.{Fares, is_awake, or_last, or_some, fresh, unfed, fed, woken, inside, Follows, agree_then}
+use Rattle.vs_flatcode.specs.declared.gait.Gait.{Gait}
+use Rattle.vs_independence.proofs.History.{History, alters, change_named, history_still, put_log, Seen, altered, altered_by, altered_local, altered_none}
+use Rattle.vs_law_threads.specs.Blocks.{IsSource, Roles, Start, sources}
+use Rattle.vs_independence.proofs.Owed.{Owed, owed_begins, owed_like, owed_made, owed_still, Due}
+use Rattle.vs_law_threads.proofs.Texts.{Text}
+use Rattle.vs_design.specs.Writes.{Write, shares, names}
+use Rattle.vs_eval.specs.Targets.{assigned}
+use Rattle.vs_independence.proofs.Moves.{runs_as, evaluate_runs, propagate_runs, propagated_named, propagated_undriven, rouse_runs, source_free}
+use Rattle.std.proofs.Math.ListN.{get_or-map}
+use Rattle.std.proofs.lemmas.Option.{get_or_from_slice_get}
+use Rattle.vs_flatcode.specs.Steps.{goes, assignment}
+use Rattle.vs_independence.specs.Discipline.{here}
+use Rattle.vs_independence.proofs.Compare.{Comparing, Hangs, compared}
+use Rattle.vs_law_threads.proofs.Held.{HasBlock, held}
+use Rattle.vs_design.specs.Uses.{all_words, covers}
+use Rattle.vs_eval.specs.Laws.{digit_in, digit_of}
+use Rattle.vs_process.proofs.Digits.{same_stores}
+use Rattle.vs_process.proofs.Stores.{shape}
+use Rattle.vs_design.specs.declared.design.Assign.{Assign}
+use Rattle.vs_process.proofs.Ranges.{assigned_fixed}
+use Rattle.vs_eval.specs.Values.{target_value}
+use Rattle.vs_logic4.proofs.Basics.{all_at as all_get, pending_of, same_tests as same_test}
+use Rattle.vs_process.proofs.Permitted.{some_of}
 
 -- nothing is left to do but a change of region
 pub record IsQuiet (s : State) : Type 0 where
@@ -84,12 +87,12 @@ pub record AtEnd (s : State) : Type 0 where
   pub inactive : list_any is_inactive s.places ≡ false
   pub due : list_any (is_due s.time) s.updates ≡ false
 
-at_rouse : (s : State) → is_enabled s Rouse ≡ true → AtRouse s
+pub at_rouse : (s : State) → is_enabled s Rouse ≡ true → AtRouse s
 at_rouse s h =
     let r = and_parts (not (is_busy s)) (has_inactive s) h in
     record { quiet = quiet s (not-true (is_busy s) r.0); inactive = r.1 }
 
-at_activate : (s : State) → is_enabled s Activate ≡ true → AtActivate s
+pub at_activate : (s : State) → is_enabled s Activate ≡ true → AtActivate s
 at_activate s h =
     let r = and_parts (not (is_busy s) && not (has_inactive s)) (has_due s) h in
     let q = and_parts (not (is_busy s)) (not (has_inactive s)) r.0 in
@@ -106,65 +109,6 @@ abbrev pub IsInner : Move → Type 0
 IsInner EndSlot = ⊥
 IsInner _ = Unit {0}
 
--- every move within a slot keeps what holds there
-pub inner_kept : (d : Parts) → DrivesWell d → (b s : State) → Apart d b → IsSilent s → (m : Move) → IsInner m → is_enabled s m ≡ true → InSlot d b s → InSlot d b (apply m s)
-inner_kept d well b s apart silent (Step i) inner h (inl r) =
-    let p = some_of is_going (slice_get s.places i) h in
-    inl (subst (λ (o : Option Place). Runs d b (stepped s i o)) (sym p.1) (step_runs d b s apart silent r i p.0 p.1 p.2))
-inner_kept d well b s apart silent (Step i) inner h (inr m) =
-    let p = some_of is_going (slice_get s.places i) h in
-    absurd (not_going p.0 (stopped_at d b s m i p.0 p.1) p.2)
-inner_kept d well b s apart silent (Evaluate j) inner h (inl r) =
-    let x = some_of (λ (x : AssignState). x.needs) (slice_get s.assigns j) h in
-    inl (subst (λ (o : Option AssignState). Runs d b (evaluate s j o)) (sym x.1) (evaluate_runs d well b s r j x.0 x.1 x.2))
-inner_kept d well b s apart silent (Evaluate j) inner h (inr m) =
-    let x = some_of (λ (x : AssignState). x.needs) (slice_get s.assigns j) h in
-    inr (subst (λ (o : Option AssignState). Making d b (evaluate s j o)) (sym x.1) (evaluate_makes d well b s m j x.0 x.1))
-inner_kept d well b s apart silent (Propagate j) inner h (inl r) =
-    let x = some_of (λ (x : AssignState). is_some x.pending) (slice_get s.assigns j) h in
-    let v = pending_of x.0.pending x.2 in
-    inl (subst (λ (o : Option AssignState). Runs d b (propagate s j o)) (sym x.1)
-    (subst (λ (p : Option (List Digit)). Runs d b (propagate_value s j x.0 p)) (sym v.1) (propagate_runs d well b s apart silent r j x.0 v.0 x.1 v.1)))
-inner_kept d well b s apart silent (Propagate j) inner h (inr m) =
-    let x = some_of (λ (x : AssignState). is_some x.pending) (slice_get s.assigns j) h in
-    let v = pending_of x.0.pending x.2 in
-    inr (subst (λ (o : Option AssignState). Making d b (propagate s j o)) (sym x.1)
-    (subst (λ (p : Option (List Digit)). Making d b (propagate_value s j x.0 p)) (sym v.1) (propagate_makes d well b s silent m j x.0 v.0 x.1 v.1)))
-inner_kept d well b s apart silent (Make i) inner h (inl (th, r)) =
-    let u = some_of (is_first s.updates i) (slice_get s.updates i) h in
-    let active = (and_parts u.0.active _ u.2).0 in
-    let waits = and_parts (not u.0.active && leb b.time u.0.due) (names_some u.0.what) (all_get (is_waiting b.time) s.updates i u.0 u.1 r.mades.waiting) in
-    absurd (true≢false (sym (and_parts (not u.0.active) (leb b.time u.0.due) waits.0).0 ∙ not_from_true u.0.active active))
-inner_kept d well b s apart silent (Make i) inner h (inr m) =
-    let u = some_of (is_first s.updates i) (slice_get s.updates i) h in
-    inr (subst (λ (o : Option Update). Making d b (make s i o)) (sym u.1) (make_makes d b s silent m i u.0 u.1 u.2))
-inner_kept d well b s apart silent Rouse inner h (inl r) = inl (rouse_runs d b s r)
-inner_kept d well b s apart silent Rouse inner h (inr m) =
-    let p = any_at is_inactive s.places (at_rouse s h).inactive in
-    absurd (not_inactive p.1 (stopped_at d b s m p.0 p.1 p.2) p.3)
-inner_kept d well b s apart silent Activate inner h (inl r) =
-    let a = at_activate s h in
-    inr (activate_makes d b s r a.quiet.going a.inactive)
-inner_kept d well b s apart silent Activate inner h (inr m) =
-    let u = any_at (is_due s.time) s.updates (at_activate s h).due in
-    let due = and_parts (not u.1.active) (u.1.due == s.time) u.3 in
-    let done = (and_parts (u.1.active || ltb b.time u.1.due) (names_some u.1.what) (all_get (is_settled b.time) s.updates u.0 u.1 u.2 m.settled)).0 in
-    absurd (elim (or_cases u.1.active (ltb b.time u.1.due) done) [
-      | inl active ↦ true≢false (sym due.0 ∙ not_from_true u.1.active active)
-      | inr later ↦
-          let up : b.time < u.1.due = ltb-true b.time u.1.due later in
-          let now : u.1.due ≡ s.time = eqb-true u.1.due s.time due.1 in
-          let same : s.time ≡ b.time = m.slot.time in
-          omega (arith, up, now, same)
-    ])
-inner_kept d well b s apart silent EndSlot inner h i = absurd inner
-
--- the last state of a slot
-pub record Ends (d : Parts) (b s : State) : Type 0 where
-  pub making : Making d b s
-  pub none : list_any (λ (u : Update). u.active) s.updates ≡ false
-  pub idle : AllIdle s.assigns
-
 none_of : {A : Type 0} (o : Option A) → is_some o ≡ false → o ≡ None
 none_of None h = refl
 none_of (Some x) h = absurd (true≢false h)
@@ -174,13 +118,433 @@ all_idle xs h j x is =
     let parts = or_parts x.needs (is_some x.pending) (none_at (λ (x : AssignState). x.needs || is_some x.pending) xs j x is h) in
     (parts.0, none_of x.pending parts.1)
 
-pub slot_ends : (d : Parts) (b s : State) → InSlot d b s → is_enabled s EndSlot ≡ true → Ends d b s
-slot_ends d b s (inl (th, r)) h =
-    let e = at_end s h in
-    record { making = none_makes d b s (th, r) e.quiet.going e.inactive (ap (λ t. list_any (is_due t) s.updates) (sym r.slot.time) ∙ e.due); none = e.quiet.updates; idle = all_idle s.assigns e.quiet.assigns }
-slot_ends d b s (inr m) h =
-    let e = at_end s h in
-    record { making = m; none = e.quiet.updates; idle = all_idle s.assigns e.quiet.assigns }
+-- ---- moves that change the store or an assignment alone
+
+phase_sound : (d : Parts) (roles : Roles) (b s : State) (ran0 : ℕ → Bool) (late : Bool) (ran : ℕ → Bool) → (Before d roles b s ran0 late ran ⊎ Behind d roles b s ran0 late ran) → AssignsSound d s.store s.assigns
+phase_sound d roles b s ran0 late ran (inl x) = x.runs.sound
+phase_sound d roles b s ran0 late ran (inr x) = x.making.sound
+
+evaluate_moment : (d : Parts) (roles : Roles) (set : Setting d roles) (b s : State) (ran0 : ℕ → Bool) (late : Bool) (ran : ℕ → Bool) → Apart d roles.blocks b → (j : ℕ) (x : AssignState) → slice_get s.assigns j ≡ Some x → x.needs ≡ true → Moment d roles set b s ran0 late ran →
+    Moment d roles set b (evaluate s j (Some x)) ran0 late (woken_more ran s.places)
+evaluate_moment d roles set b s ran0 late ran apart j x is needs m = record {
+  blocks = blocks_still d roles set.z late ran s.time s.store s.places m.blocks;
+  phase = phase_kept d roles set b s (evaluate s j (Some x)) ran0 late ran (woken_more ran s.places) (record {
+    up = more_up ran s.places;
+    down = λ k at_k s_k h. down_still d roles set.z late ran s.time s.store s.places m.blocks k at_k h;
+    same = λ v source. refl;
+    updates = refl;
+    level = λ l. level_evaluated d roles s.store s.time s.assigns (phase_sound d roles b s ran0 late ran m.phase) j x is l;
+    bits = λ later k at_k mo same. inr same;
+  }) (λ th r. runs_as d roles.blocks b (evaluate s j (Some x)) th (evaluate_runs d roles.blocks set.well b s apart th r j x is needs)) (λ n. evaluate_makes d roles.blocks set.well b s n j x is needs) m.phase;
+  begun = m.begun;
+}
+
+propagate_moment : (d : Parts) (roles : Roles) (set : Setting d roles) (b s : State) (ran0 : ℕ → Bool) (late : Bool) (ran : ℕ → Bool) → Apart d roles.blocks b → NoneInside roles s.places →
+    (j : ℕ) (x : AssignState) (digits : List Digit) → slice_get s.assigns j ≡ Some x → x.pending ≡ Some digits → Moment d roles set b s ran0 late ran →
+    Moment d roles set b (propagate_value s j x (Some digits)) ran0 late (woken_more ran (propagate_value s j x (Some digits)).places)
+propagate_moment d roles set b s ran0 late ran apart none j x digits is waits m = record {
+  blocks = blocks_behind d roles set.z late ran s.time s.store s.places (Some w) free none m.blocks;
+  phase = phase_kept d roles set b s t ran0 late ran (woken_more ran t.places) (record {
+    up = more_up ran t.places;
+    down = λ k at_k s_k h. elim (or_cases (ran k) (is_awake (get_or t.places k ended)) h) [
+      | inl old ↦ old
+      | inr awake ↦ down_written d roles set late ran s.time s.store s.places (Some w) m.blocks k at_k s_k (λ u e v hit. free u e k v at_k hit) (λ u e v source. other u e v source)
+          (ap is_awake (sym (get_or-map (wakened s.store (put s.store w)) s.places k ended)) ∙ awake)
+    ];
+    same = λ v source. propagated_undriven d s.store s.time s.assigns sound j x digits is v source.undriven;
+    updates = refl;
+    level = λ l. level_written d roles s.store (slice_set s.assigns j (settled x)) w (propagated_shown d roles s.store s.time s.assigns sound j x digits is waits l) (level_settled d roles s.store s.assigns j x is l);
+    bits = λ later k at_k mo same. elim (bit_written d roles.blocks (roles.inputs k) k (text_at d roles set.z k at_k) mo (ran k) s.time s.store (get_or s.places k ended) w
+        (subst (λ l. Fares d (roles.inputs k) k (text_at d roles set.z k at_k) l (ran k) s.time s.store (get_or s.places k ended)) later (m.blocks.fares k at_k)) same) [
+          | inl run ↦ inl (ap (λ p. ran k || is_awake p) (get_or-map (wakened s.store (put s.store w)) s.places k ended) ∙ run)
+          | inr still ↦ inr still
+        ];
+  }) (λ th r. propagate_runs d roles.blocks set.well (text_at d roles set.z) set.z.own b s apart th r j x digits is waits) (λ n. propagate_makes d roles.blocks set.well b s apart n j x digits is waits) m.phase;
+  begun = m.begun;
+}
+  where
+    w : Write
+    w = assigned x.target digits s.store s.time
+
+    t : State
+    t = propagate_value s j x (Some digits)
+
+    sound : AssignsSound d s.store s.assigns
+    sound = phase_sound d roles b s ran0 late ran m.phase
+
+    undriven : (u : Write) → Some w ≡ Some u → (v : ℕ) → is_driven d.assigns v ≡ false → names u v ≡ false
+    undriven u e v h =
+        let same : w ≡ u = cc in
+        subst (λ u. names u v ≡ false) same (propagated_named d s.store s.time s.assigns sound j x digits is v h)
+
+    free : (u : Write) → Some w ≡ Some u → IsFree d roles u
+    free u e k v at_k hit = undriven u e v (set.z.own k v at_k hit)
+
+    other : (u : Write) → Some w ≡ Some u → (v : ℕ) → IsSource d roles.blocks v → names u v ≡ false
+    other u e v source = undriven u e v source.undriven
+
+make_moment : (d : Parts) (roles : Roles) (set : Setting d roles) (b s : State) (ran0 : ℕ → Bool) (late : Bool) (ran : ℕ → Bool) → Apart d roles.blocks b → (b ≡ start d) ⊎ AllStarted roles ran0 → NoneInside roles s.places → BlocksAt d roles set.z late ran s.time s.store s.places →
+    (x : Behind d roles b s ran0 late ran) → (i : ℕ) (u : Update) → slice_get s.updates i ≡ Some u → is_first s.updates i u ≡ true → Moment d roles set b (make s i (Some u)) ran0 late (woken_more ran (make s i (Some u)).places)
+make_moment d roles set b s ran0 late ran apart begun none at_them x i u is first = record {
+  blocks = blocks_behind d roles set.z late ran s.time s.store s.places (Some u.what) free none at_them;
+  phase = inr (record {
+    making = next.0;
+    mid = x.mid;
+    past = subst (λ th. History d roles b th ran0 x.mid) (sym next.2) x.past;
+    owed = subst (λ (before : State). Owed d roles before.store (map (activated b.time) before.updates) x.mid (woken_more ran t.places) t.store t.updates) (sym next.1)
+        (owed_like d roles x.making.before.store (map (activated b.time) x.making.before.updates) x.mid (λ k. ran k || is_awake (wakened s.store (put s.store u.what) (get_or s.places k ended))) (woken_more ran t.places) t.store t.updates
+        (λ k at_k. ap (λ p. ran k || is_awake p) (sym (get_or-map (wakened s.store (put s.store u.what)) s.places k ended)))
+        (owed_made d roles set.z x.making.before.store (map (activated b.time) x.making.before.updates) x.mid ran s.time s.store s.places s.updates i u is active none_older free_u
+        (subst (λ l. BlocksAt d roles set.z l ran s.time s.store s.places) x.era.is_late at_them) x.owed));
+    era = late_more roles late ran (woken_more ran t.places) (more_up ran t.places) x.era;
+    grown = λ k old. more_up ran t.places k (x.grown k old);
+    bits = λ e k at_k s_k mo. elim (x.bits e k at_k s_k mo) [
+      | inl run ↦ inl (more_up ran t.places k run)
+      | inr same ↦ elim (bit_written d roles.blocks (roles.inputs k) k (text_at d roles set.z k at_k) mo (ran k) s.time s.store (get_or s.places k ended) u.what
+          (subst (λ l. Fares d (roles.inputs k) k (text_at d roles set.z k at_k) l (ran k) s.time s.store (get_or s.places k ended)) x.era.is_late (at_them.fares k at_k)) same) [
+            | inl run ↦ inl (ap (λ p. ran k || is_awake p) (get_or-map (wakened s.store (put s.store u.what)) s.places k ended) ∙ run)
+            | inr still ↦ inr still
+          ]
+    ];
+  });
+  begun = begun;
+}
+  where
+    t : State
+    t = make s i (Some u)
+
+    next : GoesOn d roles.blocks b s x.making t
+    next = make_makes d roles.blocks b s apart x.making i u is first
+
+    active : u.active ≡ true
+    active = (and_parts u.active (not (list_any (λ (older : Update). older.active && shares older.what u.what) (take i s.updates))) first).0
+
+    none_older : list_any (λ (older : Update). older.active && shares older.what u.what) (take i s.updates) ≡ false
+    none_older = not-true (list_any (λ (older : Update). older.active && shares older.what u.what) (take i s.updates))
+        (and_parts u.active (not (list_any (λ (older : Update). older.active && shares older.what u.what) (take i s.updates))) first).1
+
+    free_u : IsFree d roles u.what
+    free_u = source_free d roles.blocks u.what (λ v named. x.making.undriven v (at_any (λ (y : Update). names y.what v) s.updates i u is named))
+
+    free : (w : Write) → Some u.what ≡ Some w → IsFree d roles w
+    free w e = let same : u.what ≡ w = cc in subst (IsFree d roles) same free_u
+
+-- ---- quiet moments
+
+-- blocks that start cold have, from the first quiet moment on, what a run gives
+abbrev pub sure : Roles → (ℕ → Bool) → ℕ → Bool
+sure roles ran k = ran k || is_cold (roles.start k)
+
+alters_named : (base : Store) (log : List Write) (r : BitRange) → alters base log r ≡ true → list_any (λ w. names w r.signal) log ≡ true
+alters_named base [] r h = absurd (false≢true h)
+alters_named base (w ∷ log) r h =
+    elim (or_cases (alters base log r) (is_changed (put_log base log) (put (put_log base log) w) r) h) [
+      | inl old ↦ or_right (names w r.signal) (list_any (λ w. names w r.signal) log) (alters_named base log r old)
+      | inr now ↦ or_left (names w r.signal) (list_any (λ w. names w r.signal) log) (change_named (put_log base log) w r now)
+    ]
+
+sure_down : (roles : Roles) (ran : ℕ → Bool) (k : ℕ) → roles.start k ≡ sources → sure roles ran k ≡ true → ran k ≡ true
+sure_down roles ran k s h = elim (or_cases (ran k) (is_cold (roles.start k)) h) [
+  | inl old ↦ old
+  | inr is ↦ absurd (false≢true (sym (ap is_cold s) ∙ is))
+]
+
+or_nothing : (b : Bool) → b ≡ (b || false)
+or_nothing true = refl
+or_nothing false = refl
+
+sure_same : (roles : Roles) (ran : ℕ → Bool) → AllCold roles ran → (k : ℕ) → roles.blocks k ≡ true → ran k ≡ sure roles ran k
+sure_same roles ran cold_ran k is = by_start (roles.start k) refl
+  where
+    by_start : (s : Start) → roles.start k ≡ s → ran k ≡ (ran k || is_cold s)
+    by_start cold e = let on = cold_ran k is e in on ∙ sym (or_last (ran k) true refl)
+    by_start sources e = or_nothing (ran k)
+    by_start starter e = or_nothing (ran k)
+
+pub quiet_moment : (d : Parts) (roles : Roles) (set : Setting d roles) (b s : State) (ran0 : ℕ → Bool) (late : Bool) (ran : ℕ → Bool) → IsQuiet s → Moment d roles set b s ran0 late ran → Moment d roles set b s ran0 true (sure roles ran)
+quiet_moment d roles set b s ran0 late ran q m = by_phase m.phase
+  where
+    up : (k : ℕ) → ran k ≡ true → sure roles ran k ≡ true
+    up k h = or_some (ran k) (is_cold (roles.start k)) h
+
+    cold_sure : AllCold roles (sure roles ran)
+    cold_sure k is s = or_last (ran k) (is_cold (roles.start k)) (ap is_cold s)
+
+    blocks_late : LateEra roles late ran → BlocksAt d roles set.z true (sure roles ran) s.time s.store s.places
+    blocks_late later = record {
+      fares = λ k is. subst (λ r. Fares d (roles.inputs k) k (text_at d roles set.z k is) true r s.time s.store (get_or s.places k ended)) (sure_same roles ran later.cold k is)
+          (subst (λ l. Fares d (roles.inputs k) k (text_at d roles set.z k is) l (ran k) s.time s.store (get_or s.places k ended)) later.is_late (m.blocks.fares k is));
+      bare = m.blocks.bare;
+      sized = m.blocks.sized;
+    }
+
+    before_late : (x : Before d roles b s ran0 late ran) → Before d roles b s ran0 true (sure roles ran)
+    before_late x = record {
+      th = x.th;
+      runs = x.runs;
+      history = history_still d roles b x.th x.th ran0 ran (sure roles ran) (λ i. refl) up (λ k is s_k h. sure_down roles ran k s_k h) x.history;
+      era = inr (record { is_late = refl; cold = cold_sure });
+      grown = λ k old. up k (x.grown k old);
+      level = x.level;
+    }
+
+    unwoken : (x : Before d roles b s ran0 late ran) → (first : FirstEra d roles b ran0 late x.th) → (k : ℕ) → roles.blocks k ≡ true → roles.start k ≡ sources → ran k ≡ false
+    unwoken x first k is s_k = false_from_ne_true (ran k) (λ h. elim (x.history.some k is s_k h) [
+      | inl old ↦ true≢false (sym old ∙ first.none k)
+      | inr seen ↦ first_writes d roles set b x.th first.begin first.threads seen.thread k seen.range.signal seen.range is seen.named
+          (alters_named b.store (x.th seen.thread).log seen.range seen.alters) (here seen.range refl)
+    ])
+
+    at_first : (x : Before d roles b s ran0 late ran) → (first : FirstEra d roles b ran0 late x.th) → AtFirst d roles set.z b s.store s.assigns s.places x.th s.time ran
+    at_first x first = record {
+      begin = ap (λ (t : State). t.store) first.begin;
+      sound = x.runs.sound;
+      idle = all_idle s.assigns q.assigns;
+      from = x.runs.sources;
+      first = first_writes d roles set b x.th first.begin first.threads;
+      blocks = subst (λ l. BlocksAt d roles set.z l ran s.time s.store s.places) first.early m.blocks;
+      quiet = λ k. none_get is_going s.places k ended refl q.going;
+      unwoken = unwoken x first;
+    }
+
+    by_era : (x : Before d roles b s ran0 late ran) → (FirstEra d roles b ran0 late x.th ⊎ LateEra roles late ran) → Moment d roles set b s ran0 true (sure roles ran)
+    by_era x (inl first) = record {
+      blocks = first_quiet d roles set.well set.z set.order set.unstarted set.starts b s.store s.assigns s.places x.th s.time ran (at_first x first);
+      phase = inl (before_late x);
+      begun = m.begun;
+    }
+    by_era x (inr later) = record { blocks = blocks_late later; phase = inl (before_late x); begun = m.begun }
+
+    by_phase : (Before d roles b s ran0 late ran ⊎ Behind d roles b s ran0 late ran) → Moment d roles set b s ran0 true (sure roles ran)
+    by_phase (inl x) = by_era x x.era
+    by_phase (inr x) = record {
+      blocks = blocks_late x.era;
+      phase = inr (record {
+        making = x.making;
+        mid = x.mid;
+        past = x.past;
+        owed = owed_like d roles x.making.before.store (map (activated b.time) x.making.before.updates) x.mid ran (sure roles ran) s.store s.updates (sure_same roles ran x.era.cold) x.owed;
+        era = record { is_late = refl; cold = cold_sure };
+        grown = λ k old. up k (x.grown k old);
+        bits = λ e k is s_k mo. elim (x.bits e k is s_k mo) [
+          | inl run ↦ inl (up k run)
+          | inr same ↦ inr same
+        ];
+      });
+      begun = m.begun;
+    }
+
+rouse_moment : (d : Parts) (roles : Roles) (set : Setting d roles) (b s : State) (ran0 : ℕ → Bool) (ran : ℕ → Bool) → (b ≡ start d) ⊎ AllStarted roles ran0 → BlocksAt d roles set.z true ran s.time s.store s.places → (x : Before d roles b s ran0 true ran) →
+    Moment d roles set b (record s { places = map roused s.places }) ran0 true (woken_more ran (map roused s.places))
+rouse_moment d roles set b s ran0 ran begun at_them x = record {
+  blocks = blocks_mapped d roles set.z true ran s.time s.store s.places roused refl (λ gait todo. refl) (λ terms todo. refl) at_them;
+  phase = inl (record {
+    th = λ i. rouse_thread (x.th i);
+    runs = rouse_runs d roles.blocks (text_at d roles set.z) b s x.th x.runs;
+    history = history_still d roles b x.th (λ i. rouse_thread (x.th i)) ran0 ran (woken_more ran (map roused s.places)) (λ i. refl) (more_up ran (map roused s.places))
+        (λ k is s_k h. down_still d roles set.z true ran s.time s.store s.places at_them k is
+        (ap (λ p. ran k || is_awake p) (sym (mapped_place d (roles.inputs k) k (text_at d roles set.z k is) true (ran k) s.time s.store s.places roused refl (λ gait todo. refl) (λ terms todo. refl) (at_them.fares k is))) ∙ h))
+        x.history;
+    era = era_late x.era;
+    grown = λ k old. more_up ran (map roused s.places) k (x.grown k old);
+    level = x.level;
+  });
+  begun = begun;
+}
+  where
+    era_late : (FirstEra d roles b ran0 true x.th ⊎ LateEra roles true ran) → FirstEra d roles b ran0 true (λ i. rouse_thread (x.th i)) ⊎ LateEra roles true (woken_more ran (map roused s.places))
+    era_late (inl first) = absurd (true≢false first.early)
+    era_late (inr later) = inr (late_more roles true ran (woken_more ran (map roused s.places)) (more_up ran (map roused s.places)) later)
+
+stopped_still : (p : Place) → is_stopped p ≡ true → (is_going p ≡ false) × (is_inactive p ≡ false)
+stopped_still p h = (false_from_ne_true (is_going p) (not_going p h), false_from_ne_true (is_inactive p) (not_inactive p h))
+
+-- where updates are made all processes have come to a stop
+stops_of : (d : Parts) (blocks : ℕ → Bool) (b s : State) → Making d blocks b s → b ≡ start d → (i : ℕ) → Stops d blocks i
+stops_of d blocks b s m at_start i =
+    let still = stopped_still (m.th i).place (m.still i) in
+    record { last = m.th i; is = subst (λ b. IsThread d blocks b i (m.th i)) at_start ((m.runs.stands i).is); going = still.0; resting = still.1 }
+
+late_of : (d : Parts) (roles : Roles) (b : State) (ran0 : ℕ → Bool) (th : ℕ → Thread) (ran : ℕ → Bool) → (FirstEra d roles b ran0 true th ⊎ LateEra roles true ran) → LateEra roles true ran
+late_of d roles b ran0 th ran (inl first) = absurd (true≢false first.early)
+late_of d roles b ran0 th ran (inr later) = later
+
+activate_moment : (d : Parts) (roles : Roles) (set : Setting d roles) (b s : State) (ran0 : ℕ → Bool) (ran : ℕ → Bool) → Apart d roles.blocks b → (b ≡ start d) ⊎ AllStarted roles ran0 → AllIdle s.assigns → list_any is_going s.places ≡ false → list_any is_inactive s.places ≡ false →
+    BlocksAt d roles set.z true ran s.time s.store s.places → (x : Before d roles b s ran0 true ran) → Moment d roles set b (record s { updates = map (activated s.time) s.updates }) ran0 true (woken_more ran s.places)
+activate_moment d roles set b s ran0 ran apart begun idle none_going none_inactive at_them x = record {
+  blocks = blocks_still d roles set.z true ran s.time s.store s.places at_them;
+  phase = inr (record {
+    making = next.0;
+    mid = ran;
+    past = subst (λ th. History d roles b th ran0 ran) (sym next.2) x.history;
+    owed = subst (λ (before : State). Owed d roles before.store (map (activated b.time) before.updates) ran (woken_more ran s.places) s.store (map (activated s.time) s.updates)) (sym next.1)
+        (subst (λ n. Owed d roles s.store (map (activated n) s.updates) ran (woken_more ran s.places) s.store (map (activated s.time) s.updates)) x.runs.slot.time
+        (owed_still d roles (only_sources d roles set) s.store (map (activated s.time) s.updates) ran ran (woken_more ran s.places) s.store s.store (map (activated s.time) s.updates) (more_up ran s.places)
+        (λ k is s_k h. down_still d roles set.z true ran s.time s.store s.places at_them k is h) (λ v source. refl)
+        (owed_begins d roles ran s.store (map (activated s.time) s.updates))));
+    era = late_more roles true ran (woken_more ran s.places) (more_up ran s.places) (late_of d roles b ran0 x.th ran x.era);
+    grown = λ k old. more_up ran s.places k (x.grown k old);
+    bits = λ e k is s_k mo. inr (level_bit d roles s.store s.assigns k is s_k mo (stops_of d roles.blocks b (record s { updates = map (activated s.time) s.updates }) next.0 e mo.writer) (x.level e));
+  });
+  begun = begun;
+}
+  where
+    next : GoesFrom d roles.blocks b s x.th (record s { updates = map (activated s.time) s.updates })
+    next = activate_makes d roles.blocks b s apart x.th x.runs none_going none_inactive idle
+
+-- ---- moves
+
+-- what is said of blocks behind a move
+abbrev pub late_behind : Bool → Move → Bool
+late_behind late (Step i) = late
+late_behind late (Evaluate j) = late
+late_behind late (Propagate j) = late
+late_behind late (Make i) = late
+late_behind late Rouse = true
+late_behind late Activate = true
+late_behind late EndSlot = true
+
+abbrev pub ran_behind : Roles → (ℕ → Bool) → Move → List Place → ℕ → Bool
+ran_behind roles ran (Step i) places = woken_more ran places
+ran_behind roles ran (Evaluate j) places = woken_more ran places
+ran_behind roles ran (Propagate j) places = woken_more ran places
+ran_behind roles ran (Make i) places = woken_more ran places
+ran_behind roles ran Rouse places = woken_more (sure roles ran) places
+ran_behind roles ran Activate places = woken_more (sure roles ran) places
+ran_behind roles ran EndSlot places = woken_more (sure roles ran) places
+
+-- a block inside its run keeps out all but its own steps
+abbrev pub KeepsOut : Roles → List Place → Move → Type 0
+KeepsOut roles places m = (k : ℕ) → roles.blocks k ≡ true → is_inside (get_or places k ended) ≡ true → is_step_of k m ≡ true
+
+pub block_active : (d : Parts) (inputs : List BitRange) (k : ℕ) (t : Text d k) (late ran : Bool) (time : ℕ) (store : Store) (p : Place) → Fares d inputs k t late ran time store p → is_inactive p ≡ true → ⊥
+block_active d inputs k t late ran time store p (fresh todo is way same none first) h = false≢true (sym (ap is_inactive is) ∙ h)
+block_active d inputs k t late ran time store p (unfed is same none) h = false≢true (sym (ap is_inactive (is ∙ t.home_is)) ∙ h)
+block_active d inputs k t late ran time store p (fed is follows some) h = false≢true (sym (ap is_inactive (is ∙ t.home_is)) ∙ h)
+block_active d inputs k t late ran time store p (woken is some) h = false≢true (sym (ap is_inactive is) ∙ h)
+block_active d inputs k t late ran time store p (inside todo from th is run sized at same some) h = false≢true (sym (ap is_inactive is) ∙ h)
+
+pub going_place : (p : Place) → is_going p ≡ true → (gait : Gait) × (todo : Todo) × (p ≡ going gait todo)
+going_place (going gait todo) h = (gait, todo, refl)
+going_place (sleeping due todo) h = absurd (false≢true h)
+going_place (inactive todo) h = absurd (false≢true h)
+going_place (waiting terms todo) h = absurd (false≢true h)
+going_place ended h = absurd (false≢true h)
+
+step_moment : (d : Parts) (roles : Roles) (set : Setting d roles) (b s : State) (ran0 : ℕ → Bool) (late : Bool) (ran : ℕ → Bool) → Apart d roles.blocks b → (i : ℕ) → KeepsOut roles s.places (Step i) →
+    (p : Place) → slice_get s.places i ≡ Some p → is_going p ≡ true → Moment d roles set b s ran0 late ran → Moment d roles set b (stepped s i (Some p)) ran0 late (woken_more ran (stepped s i (Some p)).places)
+step_moment d roles set b s ran0 late ran apart i out p is goes m =
+    elim (cases_Bool (roles.blocks i)) [
+      | inl at_i ↦ let g = going_place p goes in
+          subst (λ q. Moment d roles set b (stepped s i (Some q)) ran0 late (woken_more ran (stepped s i (Some q)).places)) (sym g.2)
+          (block_moment d roles set b s ran0 late ran apart i at_i (λ l at_l ne inside_it. ne (sym (eqb-true i l (out l at_l inside_it)))) g.0 g.1 (is ∙ ap (λ q. Some q) g.2) m)
+      | inr other ↦ thread_moment d roles set b s ran0 late ran apart (λ k at_k inside_it. true≢false (sym at_k ∙ ap roles.blocks (sym (eqb-true i k (out k at_k inside_it))) ∙ other)) i other p is goes m
+    ]
+
+-- every move within a slot keeps what holds there
+pub inner_kept : (d : Parts) (roles : Roles) (set : Setting d roles) (b s : State) (ran0 : ℕ → Bool) (late : Bool) (ran : ℕ → Bool) → Apart d roles.blocks b → (m : Move) → IsInner m → is_enabled s m ≡ true →
+    KeepsOut roles s.places m → Moment d roles set b s ran0 late ran → Moment d roles set b (apply m s) ran0 (late_behind late m) (ran_behind roles ran m (apply m s).places)
+inner_kept d roles set b s ran0 late ran apart (Step i) inner h out mo =
+    let p = some_of is_going (slice_get s.places i) h in
+    subst (λ (o : Option Place). Moment d roles set b (stepped s i o) ran0 late (woken_more ran (stepped s i o).places)) (sym p.1) (step_moment d roles set b s ran0 late ran apart i out p.0 p.1 p.2 mo)
+inner_kept d roles set b s ran0 late ran apart (Evaluate j) inner h out mo =
+    let x = some_of (λ (x : AssignState). x.needs) (slice_get s.assigns j) h in
+    subst (λ (o : Option AssignState). Moment d roles set b (evaluate s j o) ran0 late (woken_more ran (evaluate s j o).places)) (sym x.1) (evaluate_moment d roles set b s ran0 late ran apart j x.0 x.1 x.2 mo)
+inner_kept d roles set b s ran0 late ran apart (Propagate j) inner h out mo =
+    let x = some_of (λ (x : AssignState). is_some x.pending) (slice_get s.assigns j) h in
+    let v = pending_of x.0.pending x.2 in
+    subst (λ (o : Option AssignState). Moment d roles set b (propagate s j o) ran0 late (woken_more ran (propagate s j o).places)) (sym x.1)
+    (subst (λ (p : Option (List Digit)). Moment d roles set b (propagate_value s j x.0 p) ran0 late (woken_more ran (propagate_value s j x.0 p).places)) (sym v.1)
+    (propagate_moment d roles set b s ran0 late ran apart (λ k at_k inside_it. false≢true (out k at_k inside_it)) j x.0 v.0 x.1 v.1 mo))
+inner_kept d roles set b s ran0 late ran apart (Make i) inner h out mo = by_phase mo.phase
+  where
+    u : (u : Update) × (slice_get s.updates i ≡ Some u) × (is_first s.updates i u ≡ true)
+    u = some_of (is_first s.updates i) (slice_get s.updates i) h
+
+    by_phase : (Before d roles b s ran0 late ran ⊎ Behind d roles b s ran0 late ran) → Moment d roles set b (make s i (slice_get s.updates i)) ran0 late (woken_more ran (make s i (slice_get s.updates i)).places)
+    by_phase (inl x) =
+        let active = (and_parts u.0.active _ u.2).0 in
+        let waits = and_parts (not u.0.active && leb b.time u.0.due) (names_some u.0.what) (all_get (is_waiting b.time) s.updates i u.0 u.1 x.runs.mades.waiting) in
+        absurd (true≢false (sym (and_parts (not u.0.active) (leb b.time u.0.due) waits.0).0 ∙ not_from_true u.0.active active))
+    by_phase (inr x) =
+        subst (λ (o : Option Update). Moment d roles set b (make s i o) ran0 late (woken_more ran (make s i o).places)) (sym u.1)
+        (make_moment d roles set b s ran0 late ran apart mo.begun (λ k at_k inside_it. false≢true (out k at_k inside_it)) mo.blocks x i u.0 u.1 u.2)
+inner_kept d roles set b s ran0 late ran apart Rouse inner h out mo = by_phase q.phase
+  where
+    a : AtRouse s
+    a = at_rouse s h
+
+    q : Moment d roles set b s ran0 true (sure roles ran)
+    q = quiet_moment d roles set b s ran0 late ran a.quiet mo
+
+    by_phase : (Before d roles b s ran0 true (sure roles ran) ⊎ Behind d roles b s ran0 true (sure roles ran)) → Moment d roles set b (record s { places = map roused s.places }) ran0 true (woken_more (sure roles ran) (map roused s.places))
+    by_phase (inl x) = rouse_moment d roles set b s ran0 (sure roles ran) q.begun q.blocks x
+    by_phase (inr x) =
+        let p = any_at is_inactive s.places a.inactive in
+        absurd (elim (cases_Bool (roles.blocks p.0)) [
+          | inl is ↦ block_active d (roles.inputs p.0) p.0 (text_at d roles set.z p.0 is) true (sure roles ran p.0) s.time s.store (get_or s.places p.0 ended) (q.blocks.fares p.0 is) (ap is_inactive (get_or_from_slice_get s.places p.0 p.1 ended p.2) ∙ p.3)
+          | inr other ↦ not_inactive p.1 (stopped_at d roles.blocks b s x.making p.0 other p.1 p.2) p.3
+        ])
+inner_kept d roles set b s ran0 late ran apart Activate inner h out mo = by_phase q.phase
+  where
+    a : AtActivate s
+    a = at_activate s h
+
+    q : Moment d roles set b s ran0 true (sure roles ran)
+    q = quiet_moment d roles set b s ran0 late ran a.quiet mo
+
+    by_phase : (Before d roles b s ran0 true (sure roles ran) ⊎ Behind d roles b s ran0 true (sure roles ran)) → Moment d roles set b (record s { updates = map (activated s.time) s.updates }) ran0 true (woken_more (sure roles ran) s.places)
+    by_phase (inl x) = activate_moment d roles set b s ran0 (sure roles ran) apart q.begun (all_idle s.assigns a.quiet.assigns) a.quiet.going a.inactive q.blocks x
+    by_phase (inr x) =
+        let u = any_at (is_due s.time) s.updates a.due in
+        let due = and_parts (not u.1.active) (u.1.due == s.time) u.3 in
+        let done = (and_parts (u.1.active || ltb b.time u.1.due) (names_some u.1.what) (all_get (is_settled b.time) s.updates u.0 u.1 u.2 x.making.settled)).0 in
+        absurd (elim (or_cases u.1.active (ltb b.time u.1.due) done) [
+          | inl active ↦ true≢false (sym due.0 ∙ not_from_true u.1.active active)
+          | inr later ↦
+              let up : b.time < u.1.due = ltb-true b.time u.1.due later in
+              let now : u.1.due ≡ s.time = eqb-true u.1.due s.time due.1 in
+              let same : s.time ≡ b.time = x.making.slot.time in
+              omega (arith, up, now, same)
+        ])
+inner_kept d roles set b s ran0 late ran apart EndSlot inner h out mo = absurd inner
+
+-- the last state of a slot
+pub record Ends (d : Parts) (roles : Roles) (set : Setting d roles) (b s : State) (ran0 ran : ℕ → Bool) : Type 0 where
+  pub behind : Behind d roles b s ran0 true ran
+  pub blocks : BlocksAt d roles set.z true ran s.time s.store s.places
+  pub none : list_any (λ (u : Update). u.active) s.updates ≡ false
+  pub idle : AllIdle s.assigns
+  pub going : list_any is_going s.places ≡ false
+  pub begun : (b ≡ start d) ⊎ AllStarted roles ran0
+
+pub slot_ends : (d : Parts) (roles : Roles) (set : Setting d roles) (b s : State) (ran0 : ℕ → Bool) (late : Bool) (ran : ℕ → Bool) → Apart d roles.blocks b → Moment d roles set b s ran0 late ran → is_enabled s EndSlot ≡ true → Ends d roles set b s ran0 (sure roles ran)
+slot_ends d roles set b s ran0 late ran apart mo h = by_phase q.phase
+  where
+    e : AtEnd s
+    e = at_end s h
+
+    q : Moment d roles set b s ran0 true (sure roles ran)
+    q = quiet_moment d roles set b s ran0 late ran e.quiet mo
+
+    behind_none : (x : Before d roles b s ran0 true (sure roles ran)) → Behind d roles b s ran0 true (sure roles ran)
+    behind_none x =
+        let next = none_makes d roles.blocks b s apart x.th x.runs e.quiet.going e.inactive (all_idle s.assigns e.quiet.assigns) (ap (λ t. list_any (is_due t) s.updates) (sym x.runs.slot.time) ∙ e.due) in
+        let same : map (activated b.time) s.updates ≡ s.updates = none_activated b.time s.updates x.runs.mades.waiting (ap (λ t. list_any (is_due t) s.updates) (sym x.runs.slot.time) ∙ e.due) in
+        record {
+          making = next.0;
+          mid = sure roles ran;
+          past = subst (λ th. History d roles b th ran0 (sure roles ran)) (sym next.2) x.history;
+          owed = subst (λ (before : State). Owed d roles before.store (map (activated b.time) before.updates) (sure roles ran) (sure roles ran) s.store s.updates) (sym next.1)
+              (subst (λ us. Owed d roles s.store us (sure roles ran) (sure roles ran) s.store s.updates) (sym same) (owed_begins d roles (sure roles ran) s.store s.updates));
+          era = late_of d roles b ran0 x.th (sure roles ran) x.era;
+          grown = x.grown;
+          bits = λ at_start k is s_k mo. inr (level_bit d roles s.store s.assigns k is s_k mo (stops_of d roles.blocks b s next.0 at_start mo.writer) (x.level at_start));
+        }
+
+    by_phase : (Before d roles b s ran0 true (sure roles ran) ⊎ Behind d roles b s ran0 true (sure roles ran)) → Ends d roles set b s ran0 (sure roles ran)
+    by_phase (inl x) = record { behind = behind_none x; blocks = q.blocks; none = e.quiet.updates; idle = all_idle s.assigns e.quiet.assigns; going = e.quiet.going; begun = q.begun }
+    by_phase (inr x) = record { behind = x; blocks = q.blocks; none = e.quiet.updates; idle = all_idle s.assigns e.quiet.assigns; going = e.quiet.going; begun = q.begun }
 
 future_from : (time : ℕ) (us : List Update) → list_all (is_settled time) us ≡ true → list_any (λ (u : Update). u.active) us ≡ false → list_all (is_future time) us ≡ true
 future_from time [] h g = refl
@@ -194,8 +558,8 @@ future_from time (u ∷ us) h g =
     (future_from time us all.1 any.1)
 
 -- the updates that are left at the end of a slot are due later
-pub all_future : (d : Parts) (b s : State) → Ends d b s → list_all (is_future s.time) s.updates ≡ true
-all_future d b s e = future_from s.time s.updates (ap (λ t. list_all (is_settled t) s.updates) e.making.slot.time ∙ e.making.settled) e.none
+pub all_future : (d : Parts) (roles : Roles) (set : Setting d roles) (b s : State) (ran0 ran : ℕ → Bool) → Ends d roles set b s ran0 ran → list_all (is_future s.time) s.updates ≡ true
+all_future d roles set b s ran0 ran e = future_from s.time s.updates (ap (λ t. list_all (is_settled t) s.updates) e.behind.making.slot.time ∙ e.behind.making.settled) e.none
 
 -- two states in which a slot begins or ends: all but the calls of `$strobe` is the same, and updates of different signals may stand in another order
 pub record Alike (a c : State) : Type 0 where
@@ -207,52 +571,53 @@ pub record Alike (a c : State) : Type 0 where
   pub over : a.over ≡ c.over
   pub updates : (v : ℕ) → by v a.updates ≡ by v c.updates
 
-abbrev opened : Store → List Place → ℕ → Thread
-opened store places i = record { place = get_or places i ended; view = store; log = []; made = []; asked = []; fin = false }
+-- the same blocks have ever been woken
+abbrev pub SameRan : Roles → (ℕ → Bool) → (ℕ → Bool) → Type 0
+SameRan roles ran qan = (k : ℕ) → roles.blocks k ≡ true → ran k ≡ qan k
 
--- they have the same threads
-thread_alike : (b c : State) → Alike b c → (i : ℕ) (th : Thread) → IsThread c i th → IsThread b i th
-thread_alike b c al i th h = record {
-  count = h.count;
-  is = ap (λ t. iterate h.count (turn t i) (opening b i)) al.time
-      ∙ ap (λ p. iterate h.count (turn c.time i) (opened b.store p i)) al.places
-      ∙ ap (λ s. iterate h.count (turn c.time i) (opened s c.places i)) al.store
-      ∙ h.is;
+-- the processes of a slot whose updates are made have stopped
+pub stopped_of : (d : Parts) (blocks : ℕ → Bool) → DrivesWell d → (b s : State) → (m : Making d blocks b s) → Stopped d blocks b m.before.store m.th
+stopped_of d blocks well b s m = record {
+  stands = m.runs.stands;
+  own = m.runs.sources.own;
+  still = m.still;
+  level = copies_settled d well m.before.store m.before.assigns m.runs.sound m.idle;
 }
 
 -- two threads of one process that have stopped are one
-same_threads : (d : Parts) (b c s t : State) → Alike b c → (x : Making d b s) (y : Making d c t) → (i : ℕ) → x.th i ≡ y.th i
-same_threads d b c s t al x y i = stopped_unique b i (x.th i) (y.th i) (x.runs.threads i) (thread_alike b c al i (y.th i) (y.runs.threads i)) (x.still i) (y.still i)
+pub same_threads : (d : Parts) (blocks : ℕ → Bool) (b c s t : State) → DrivesWell d → Apart d blocks b → Alike b c → (x : Making d blocks b s) (y : Making d blocks c t) → (i : ℕ) → x.th i ≡ y.th i
+same_threads d blocks b c s t well apart al x y =
+    one_thread d blocks b apart x.before.store y.before.store x.th y.th (stopped_of d blocks well b s x) (stopped_alike d blocks b c al.store al.places al.time y.before.store y.th (stopped_of d blocks well c t y))
 
 -- the processes wrote the same
-same_written : (d : Parts) (b c s t : State) → Alike b c → (x : Making d b s) (y : Making d c t) → (v : ℕ) → is_driven d.assigns v ≡ false → slice_get x.before.store v ≡ slice_get y.before.store v
-same_written d b c s t al x y v undriven = by_cases (x.runs.sources.fresh v undriven) (y.runs.sources.fresh v undriven)
+same_written : (d : Parts) (blocks : ℕ → Bool) (b c s t : State) → DrivesWell d → Apart d blocks b → Alike b c → (x : Making d blocks b s) (y : Making d blocks c t) → (v : ℕ) → IsSource d blocks v → slice_get x.before.store v ≡ slice_get y.before.store v
+same_written d blocks b c s t well apart al x y v source = by_cases (x.runs.sources.fresh v source) (y.runs.sources.fresh v source)
   where
     wrote : (i : ℕ) → writes (x.th i) v ≡ true → writes (y.th i) v ≡ true → slice_get x.before.store v ≡ slice_get y.before.store v
-    wrote i hx hy = x.runs.sources.own i v hx ∙ ap (λ (z : Thread). slice_get z.view v) (same_threads d b c s t al x y i) ∙ sym (y.runs.sources.own i v hy)
+    wrote i hx hy = x.runs.sources.own i v hx ∙ ap (λ (z : Thread). slice_get z.view v) (same_threads d blocks b c s t well apart al x y i) ∙ sym (y.runs.sources.own i v hy)
 
     by_cases : ((slice_get x.before.store v ≡ slice_get b.store v) ⊎ ((i : ℕ) × (writes (x.th i) v ≡ true))) → ((slice_get y.before.store v ≡ slice_get c.store v) ⊎ ((i : ℕ) × (writes (y.th i) v ≡ true))) →
         slice_get x.before.store v ≡ slice_get y.before.store v
-    by_cases (inr (i, hx)) other = wrote i hx (subst (λ z. writes z v ≡ true) (same_threads d b c s t al x y i) hx)
-    by_cases (inl same) (inr (i, hy)) = wrote i (subst (λ z. writes z v ≡ true) (sym (same_threads d b c s t al x y i)) hy) hy
+    by_cases (inr (i, hx)) other = wrote i hx (subst (λ z. writes z v ≡ true) (same_threads d blocks b c s t well apart al x y i) hx)
+    by_cases (inl same) (inr (i, hy)) = wrote i (subst (λ z. writes z v ≡ true) (sym (same_threads d blocks b c s t well apart al x y i)) hy) hy
     by_cases (inl same) (inl alike) = same ∙ ap (λ (a : Store). slice_get a v) al.store ∙ sym alike
 
 -- they made the same calls
-pub same_calls : (d : Parts) (b c s t : State) → Alike b c → (x : Making d b s) (y : Making d c t) → SameCalls s.calls t.calls
-same_calls d b c s t al x y i =
-    ap (of i) x.calls ∙ x.runs.asks i ∙ ap (λ (z : Thread). z.asked) (same_threads d b c s t al x y i) ∙ sym (ap (of i) y.calls ∙ y.runs.asks i)
+pub same_calls : (d : Parts) (blocks : ℕ → Bool) (b c s t : State) → DrivesWell d → Apart d blocks b → Alike b c → (x : Making d blocks b s) (y : Making d blocks c t) → SameCalls s.calls t.calls
+same_calls d blocks b c s t well apart al x y i =
+    ap (of i) x.calls ∙ x.runs.asks i ∙ ap (λ (z : Thread). z.asked) (same_threads d blocks b c s t well apart al x y i) ∙ sym (ap (of i) y.calls ∙ y.runs.asks i)
 
 -- they made the same updates of each signal
-same_updates : (d : Parts) (b c s t : State) → Alike b c → (x : Making d b s) (y : Making d c t) → (v : ℕ) → by v x.before.updates ≡ by v y.before.updates
-same_updates d b c s t al x y v = by_cases (x.runs.mades.unmade v) (y.runs.mades.unmade v)
+same_updates : (d : Parts) (blocks : ℕ → Bool) (b c s t : State) → DrivesWell d → Apart d blocks b → Alike b c → (x : Making d blocks b s) (y : Making d blocks c t) → (v : ℕ) → by v x.before.updates ≡ by v y.before.updates
+same_updates d blocks b c s t well apart al x y v = by_cases (x.runs.mades.unmade v) (y.runs.mades.unmade v)
   where
     made : (i : ℕ) → any_names (x.th i).made v ≡ true → any_names (y.th i).made v ≡ true → by v x.before.updates ≡ by v y.before.updates
-    made i hx hy = x.runs.mades.made i v hx ∙ ap₂ (λ (l : List Update) (z : Thread). l ++ by v z.made) (al.updates v) (same_threads d b c s t al x y i) ∙ sym (y.runs.mades.made i v hy)
+    made i hx hy = x.runs.mades.made i v hx ∙ ap₂ (λ (l : List Update) (z : Thread). l ++ by v z.made) (al.updates v) (same_threads d blocks b c s t well apart al x y i) ∙ sym (y.runs.mades.made i v hy)
 
     by_cases : ((by v x.before.updates ≡ by v b.updates) ⊎ ((i : ℕ) × (any_names (x.th i).made v ≡ true))) → ((by v y.before.updates ≡ by v c.updates) ⊎ ((i : ℕ) × (any_names (y.th i).made v ≡ true))) →
         by v x.before.updates ≡ by v y.before.updates
-    by_cases (inr (i, hx)) other = made i hx (subst (λ (z : Thread). any_names z.made v ≡ true) (same_threads d b c s t al x y i) hx)
-    by_cases (inl nil) (inr (i, hy)) = made i (subst (λ (z : Thread). any_names z.made v ≡ true) (sym (same_threads d b c s t al x y i)) hy) hy
+    by_cases (inr (i, hx)) other = made i hx (subst (λ (z : Thread). any_names z.made v ≡ true) (same_threads d blocks b c s t well apart al x y i) hx)
+    by_cases (inl nil) (inr (i, hy)) = made i (subst (λ (z : Thread). any_names z.made v ≡ true) (sym (same_threads d blocks b c s t well apart al x y i)) hy) hy
     by_cases (inl nil) (inl none) = nil ∙ al.updates v ∙ sym none
 
 put_none : (store : Store) (us : List Update) → list_any (λ (u : Update). u.active) us ≡ false → put_active store us ≡ store
@@ -268,70 +633,262 @@ left_all (u ∷ us) h =
     filter_hit (λ (x : Update). not x.active) u us (not_from_false u.active parts.0) ∙ ap (λ l. u ∷ l) (left_all us parts.1)
 
 -- what the updates made of a signal
-ended_value : (d : Parts) (b s : State) → (e : Ends d b s) → (v : ℕ) → is_driven d.assigns v ≡ false →
-    slice_get s.store v ≡ slice_get (put_active e.making.before.store (map (activated b.time) (by v e.making.before.updates))) v
-ended_value d b s e v undriven =
-    ap (λ (a : Store). slice_get a v) (sym (put_none s.store s.updates e.none)) ∙ e.making.store v undriven
-    ∙ put_active_by e.making.before.store (map (activated b.time) e.making.before.updates) v
-    ∙ ap (λ us. slice_get (put_active e.making.before.store us) v) (by-activated b.time e.making.before.updates v)
+ended_value : (d : Parts) (blocks : ℕ → Bool) (b s : State) (m : Making d blocks b s) → list_any (λ (u : Update). u.active) s.updates ≡ false → (v : ℕ) → IsSource d blocks v →
+    slice_get s.store v ≡ slice_get (put_active m.before.store (map (activated b.time) (by v m.before.updates))) v
+ended_value d blocks b s m none v source =
+    ap (λ (a : Store). slice_get a v) (sym (put_none s.store s.updates none)) ∙ m.store v source
+    ∙ put_active_by m.before.store (map (activated b.time) m.before.updates) v
+    ∙ ap (λ us. slice_get (put_active m.before.store us) v) (by-activated b.time m.before.updates v)
 
-same_undriven : (d : Parts) (b c s t : State) → Alike b c → Ends d b s → Ends d c t → (v : ℕ) → is_driven d.assigns v ≡ false → slice_get s.store v ≡ slice_get t.store v
-same_undriven d b c s t al x y v undriven =
-    ended_value d b s x v undriven
-    ∙ put_active_local x.making.before.store y.making.before.store (map (activated b.time) (by v x.making.before.updates)) v (same_written d b c s t al x.making y.making v undriven)
-    ∙ ap₂ (λ t us. slice_get (put_active y.making.before.store (map (activated t) us)) v) al.time (same_updates d b c s t al x.making y.making v)
-    ∙ sym (ended_value d c t y v undriven)
+-- two slots that begin alike and end
+record Two (d : Parts) (roles : Roles) (set : Setting d roles) (b c s t : State) (ran0 qan0 ran qan : ℕ → Bool) : Type 0 where
+  apart : Apart d roles.blocks b
+  apart_other : Apart d roles.blocks c
+  alike : Alike b c
+  same_ran : SameRan roles ran0 qan0
+  one : Ends d roles set b s ran0 ran
+  other : Ends d roles set c t qan0 qan
+
+same_sources : (d : Parts) (roles : Roles) (set : Setting d roles) (b c s t : State) (ran0 qan0 ran qan : ℕ → Bool) → Two d roles set b c s t ran0 qan0 ran qan → (v : ℕ) → IsSource d roles.blocks v → slice_get s.store v ≡ slice_get t.store v
+same_sources d roles set b c s t ran0 qan0 ran qan two v source =
+    let mx = two.one.behind.making in
+    let my = two.other.behind.making in
+    ended_value d roles.blocks b s mx two.one.none v source
+    ∙ put_active_local mx.before.store my.before.store (map (activated b.time) (by v mx.before.updates)) v (same_written d roles.blocks b c s t set.well two.apart two.alike mx my v source)
+    ∙ ap₂ (λ t us. slice_get (put_active my.before.store (map (activated t) us)) v) two.alike.time (same_updates d roles.blocks b c s t set.well two.apart two.alike mx my v)
+    ∙ sym (ended_value d roles.blocks c t my two.other.none v source)
 
 -- the updates of a signal that are left
-ended_left : (d : Parts) (b s : State) → (e : Ends d b s) → (v : ℕ) → by v s.updates ≡ left (map (activated b.time) (by v e.making.before.updates))
-ended_left d b s e v =
-    ap (by v) (sym (left_all s.updates e.none)) ∙ e.making.rest v ∙ by-left (map (activated b.time) e.making.before.updates) v ∙ ap left (by-activated b.time e.making.before.updates v)
+ended_left : (d : Parts) (blocks : ℕ → Bool) (b s : State) (m : Making d blocks b s) → list_any (λ (u : Update). u.active) s.updates ≡ false → (v : ℕ) → by v s.updates ≡ left (map (activated b.time) (by v m.before.updates))
+ended_left d blocks b s m none v =
+    ap (by v) (sym (left_all s.updates none)) ∙ m.rest v ∙ by-left (map (activated b.time) m.before.updates) v ∙ ap left (by-activated b.time m.before.updates v)
 
-same_left : (d : Parts) (b c s t : State) → Alike b c → Ends d b s → Ends d c t → (v : ℕ) → by v s.updates ≡ by v t.updates
-same_left d b c s t al x y v =
-    ended_left d b s x v ∙ ap₂ (λ t us. left (map (activated t) us)) al.time (same_updates d b c s t al x.making y.making v) ∙ sym (ended_left d c t y v)
+same_left : (d : Parts) (roles : Roles) (set : Setting d roles) (b c s t : State) (ran0 qan0 ran qan : ℕ → Bool) → Two d roles set b c s t ran0 qan0 ran qan → (v : ℕ) → by v s.updates ≡ by v t.updates
+same_left d roles set b c s t ran0 qan0 ran qan two v =
+    let mx = two.one.behind.making in
+    let my = two.other.behind.making in
+    ended_left d roles.blocks b s mx two.one.none v ∙ ap₂ (λ t us. left (map (activated t) us)) two.alike.time (same_updates d roles.blocks b c s t set.well two.apart two.alike mx my v) ∙ sym (ended_left d roles.blocks c t my two.other.none v)
 
-same_test : (a b : Bool) → (a ≡ true → b ≡ true) → (b ≡ true → a ≡ true) → a ≡ b
-same_test true b f g = sym (f refl)
-same_test false true f g = g refl
-same_test false false f g = refl
-
-finishes_alike : (d : Parts) (b c s t : State) → Alike b c → (x : Making d b s) (y : Making d c t) → x.before.finishing ≡ true → y.before.finishing ≡ true
-finishes_alike d b c s t al x y h = elim (x.runs.finishes.some h) [
+finishes_alike : (d : Parts) (blocks : ℕ → Bool) (b c s t : State) → DrivesWell d → Apart d blocks b → Alike b c → (x : Making d blocks b s) (y : Making d blocks c t) → x.before.finishing ≡ true → y.before.finishing ≡ true
+finishes_alike d blocks b c s t well apart al x y h = elim (x.runs.finishes.some h) [
   | inl before ↦ y.runs.finishes.kept (sym al.finishing ∙ before)
-  | inr other ↦ y.runs.finishes.by_thread other.0 (subst (λ (z : Thread). z.fin ≡ true) (same_threads d b c s t al x y other.0) other.1)
+  | inr other ↦ y.runs.finishes.by_thread other.0 (subst (λ (z : Thread). z.fin ≡ true) (same_threads d blocks b c s t well apart al x y other.0) other.1)
 ]
 
 pub alike_back : (a c : State) → Alike a c → Alike c a
 alike_back a c al = record { store = sym al.store; places = sym al.places; assigns = sym al.assigns; time = sym al.time; finishing = sym al.finishing; over = sym al.over; updates = λ v. sym (al.updates v) }
 
+two_back : (d : Parts) (roles : Roles) (set : Setting d roles) (b c s t : State) (ran0 qan0 ran qan : ℕ → Bool) → Two d roles set b c s t ran0 qan0 ran qan → Two d roles set c b t s qan0 ran0 qan ran
+two_back d roles set b c s t ran0 qan0 ran qan two = record { apart = two.apart_other; apart_other = two.apart; alike = alike_back b c two.alike; same_ran = λ k is. sym (two.same_ran k is); one = two.other; other = two.one }
+
+-- ---- blocks with a starter have been woken
+
+pub all_started : (d : Parts) (roles : Roles) (set : Setting d roles) (b s : State) (ran0 ran : ℕ → Bool) → Ends d roles set b s ran0 ran → AllStarted roles ran
+all_started d roles set b s ran0 ran e k is s_k = by_begun e.begun
+  where
+    mo : StartsMoved d roles.blocks k
+    mo = subst (StartsAs d roles.blocks k) s_k (set.starts k is)
+
+    m : Making d roles.blocks b s
+    m = e.behind.making
+
+    th : Thread
+    th = m.th mo.writer
+
+    thread_is : b ≡ start d → (i : ℕ) → IsThread d roles.blocks (start d) i (m.th i)
+    thread_is at_start i = subst (λ b. IsThread d roles.blocks b i (m.th i)) at_start ((m.runs.stands i).is)
+
+    found_root : b ≡ start d → ((slice_get m.before.store mo.root ≡ slice_get b.store mo.root) ⊎ ((i : ℕ) × (writes (m.th i) mo.root ≡ true))) → slice_get m.before.store mo.root ≡ slice_get (start_store d) mo.root
+    found_root at_start (inl same) = same ∙ ap (λ (b : State). slice_get b.store mo.root) at_start
+    found_root at_start (inr (i, wrote)) = absurd (true≢false (sym wrote ∙ let still = stopped_still th.place (m.still mo.writer) in mo.untouched i (m.th i) th (thread_is at_start i) (thread_is at_start mo.writer) still.0 still.1))
+
+    made_is : b ≡ start d → by mo.root m.before.updates ≡ by mo.root th.made
+    made_is at_start =
+        let still = stopped_still th.place (m.still mo.writer) in
+        same_made d roles.blocks b m.before.updates m.th m.runs.mades mo.writer mo.root (λ i named. mo.alone i (m.th i) th (thread_is at_start i) named (thread_is at_start mo.writer) still.0 still.1)
+        ∙ ap (λ (b : State). by mo.root b.updates ++ by mo.root th.made) at_start
+
+    root_is : b ≡ start d → slice_get s.store mo.root ≡ slice_get (put_active (start_store d) (map (activated 0) th.made)) mo.root
+    root_is at_start =
+        ended_value d roles.blocks b s m e.none mo.root mo.source
+        ∙ put_active_local m.before.store (start_store d) (map (activated b.time) (by mo.root m.before.updates)) mo.root (found_root at_start (m.runs.sources.fresh mo.root mo.source))
+        ∙ ap (λ (b : State). slice_get (put_active (start_store d) (map (activated b.time) (by mo.root m.before.updates))) mo.root) at_start
+        ∙ ap (λ us. slice_get (put_active (start_store d) (map (activated 0) us)) mo.root) (made_is at_start)
+        ∙ sym (ap (λ us. slice_get (put_active (start_store d) us) mo.root) (by-activated 0 th.made mo.root))
+        ∙ sym (put_active_by (start_store d) (map (activated 0) th.made) mo.root)
+
+    left : (j : ℕ) (a : Assign) → slice_get d.assigns j ≡ Some a → put s.store (assignment a.target a.source s.store 0) ≡ s.store
+    left j a at_j =
+        ap (put s.store) (assigned_fixed a.target (target_value a.target a.source s.store 0) s.store 0 (set.well.places.fixed j a at_j)) ∙ assign_leaves d set.well s.store s.assigns m.sound e.idle j a at_j
+
+    by_bits : b ≡ start d → ((ran k ≡ true) ⊎ SameBit d roles.blocks k mo s.store) → ran k ≡ true
+    by_bits at_start (inl run) = run
+    by_bits at_start (inr same) =
+        let still = stopped_still th.place (m.still mo.writer) in
+        absurd (mo.moved th (thread_is at_start mo.writer) still.0 still.1
+        (λ n w p shows named. sym (ap (λ o. digit_in (word_in o w) p) (shows_same d s.store mo.root n e.blocks.sized left shows ∙ root_is at_start)) ∙ same n w p shows named))
+
+    by_begun : ((b ≡ start d) ⊎ AllStarted roles ran0) → ran k ≡ true
+    by_begun (inl at_start) = by_bits at_start (e.behind.bits at_start k is s_k mo)
+    by_begun (inr all) = e.behind.grown k (all k is s_k)
+
+-- ---- the same blocks were woken
+
+woken_too : (d : Parts) (roles : Roles) (set : Setting d roles) (b c s t : State) (ran0 qan0 ran qan : ℕ → Bool) → Two d roles set b c s t ran0 qan0 ran qan → (k : ℕ) → roles.blocks k ≡ true → roles.start k ≡ sources → ran k ≡ true → qan k ≡ true
+woken_too d roles set b c s t ran0 qan0 ran qan two k is s_k h = by_owed (two.one.behind.owed.some k is s_k h)
+  where
+    mx : Making d roles.blocks b s
+    mx = two.one.behind.making
+
+    my : Making d roles.blocks c t
+    my = two.other.behind.making
+
+    from_mid : two.other.behind.mid k ≡ true → qan k ≡ true
+    from_mid mid = two.other.behind.owed.kept k is s_k mid
+
+    by_seen : Seen d b mx.th k → qan k ≡ true
+    by_seen x = from_mid (two.other.behind.past.seen k is s_k (record {
+      thread = x.thread;
+      range = x.range;
+      named = x.named;
+      other = x.other;
+      alters = ap (λ st. alters st (my.th x.thread).log x.range) (sym two.alike.store) ∙ ap (λ (z : Thread). alters b.store z.log x.range) (sym (same_threads d roles.blocks b c s t set.well two.apart two.alike mx my x.thread)) ∙ x.alters;
+    }))
+
+    by_past : ((ran0 k ≡ true) ⊎ Seen d b mx.th k) → qan k ≡ true
+    by_past (inl old) = from_mid (two.other.behind.past.kept k is s_k (sym (two.same_ran k is) ∙ old))
+    by_past (inr x) = by_seen x
+
+    due_same : (r : BitRange) → IsSource d roles.blocks r.signal → altered mx.before.store (map (activated b.time) mx.before.updates) r ≡ altered my.before.store (map (activated c.time) my.before.updates) r
+    due_same r source =
+        altered_by mx.before.store (map (activated b.time) mx.before.updates) r
+        ∙ ap (λ us. altered mx.before.store us r) (by-activated b.time mx.before.updates r.signal)
+        ∙ altered_local mx.before.store my.before.store (map (activated b.time) (by r.signal mx.before.updates)) r (same_written d roles.blocks b c s t set.well two.apart two.alike mx my r.signal source)
+        ∙ ap₂ (λ n us. altered my.before.store (map (activated n) us) r) two.alike.time (same_updates d roles.blocks b c s t set.well two.apart two.alike mx my r.signal)
+        ∙ sym (ap (λ us. altered my.before.store us r) (by-activated c.time my.before.updates r.signal))
+        ∙ sym (altered_by my.before.store (map (activated c.time) my.before.updates) r)
+
+    by_due : (x : Due d mx.before.store (map (activated b.time) mx.before.updates) k) → ((qan k ≡ true) ⊎ (altered t.store t.updates x.range ≡ true)) → qan k ≡ true
+    by_due x (inl run) = run
+    by_due x (inr hit) = absurd (true≢false (sym hit ∙ altered_none t.store t.updates x.range two.other.none))
+
+    by_owed : ((two.one.behind.mid k ≡ true) ⊎ Due d mx.before.store (map (activated b.time) mx.before.updates) k) → qan k ≡ true
+    by_owed (inl mid) = by_past (two.one.behind.past.some k is s_k mid)
+    by_owed (inr x) = by_due x (two.other.behind.owed.owed k is s_k (record {
+      range = x.range;
+      named = x.named;
+      other = x.other;
+      alters = sym (due_same x.range (only_sources d roles set k is s_k x.range x.named x.other)) ∙ x.alters;
+    }))
+
+same_woken : (d : Parts) (roles : Roles) (set : Setting d roles) (b c s t : State) (ran0 qan0 ran qan : ℕ → Bool) → Two d roles set b c s t ran0 qan0 ran qan → SameRan roles ran qan
+same_woken d roles set b c s t ran0 qan0 ran qan two k is = by_start (roles.start k) refl
+  where
+    by_start : (a : Start) → roles.start k ≡ a → ran k ≡ qan k
+    by_start cold e = two.one.behind.era.cold k is e ∙ sym (two.other.behind.era.cold k is e)
+    by_start starter e = all_started d roles set b s ran0 ran two.one k is e ∙ sym (all_started d roles set c t qan0 qan two.other k is e)
+    by_start sources e = same_test (ran k) (qan k) (woken_too d roles set b c s t ran0 qan0 ran qan two k is e)
+        (woken_too d roles set c b t s qan0 ran0 qan ran (two_back d roles set b c s t ran0 qan0 ran qan two) k is e)
+
+-- ---- how a block ends the slot
+
+-- it has what it had at the start, or it follows its inputs
+pub record Rested (d : Parts) (inputs : List BitRange) (k : ℕ) (ran : Bool) (store : Store) (place : Place) : Type 0 where
+  pub at_home : place ≡ home d k
+  pub state : ((ran ≡ false) × SameOutputs d k store (start_store d)) ⊎ ((ran ≡ true) × Follows d inputs k store)
+
+rested : (d : Parts) (inputs : List BitRange) (k : ℕ) (t : Text d k) (late ran : Bool) (time : ℕ) (store : Store) (place : Place) → Fares d inputs k t late ran time store place → is_going place ≡ false → Rested d inputs k ran store place
+rested d inputs k t late ran time store place (fresh todo is way same none first) quiet = absurd (true≢false (sym (ap is_going is) ∙ quiet))
+rested d inputs k t late ran time store place (unfed is same none) quiet = record { at_home = is; state = inl (none, same) }
+rested d inputs k t late ran time store place (fed is follows some) quiet = record { at_home = is; state = inr (some, follows) }
+rested d inputs k t late ran time store place (woken is some) quiet = absurd (true≢false (sym (ap is_going is) ∙ quiet))
+rested d inputs k t late ran time store place (inside todo from th is run sized at same some) quiet = absurd (true≢false (sym (ap is_going is) ∙ quiet))
+
+pub ends_rested : (d : Parts) (roles : Roles) (set : Setting d roles) (b s : State) (ran0 ran : ℕ → Bool) → Ends d roles set b s ran0 ran → (k : ℕ) → roles.blocks k ≡ true → Rested d (roles.inputs k) k (ran k) s.store (get_or s.places k ended)
+ends_rested d roles set b s ran0 ran e k is =
+    rested d (roles.inputs k) k (text_at d roles set.z k is) true (ran k) s.time s.store (get_or s.places k ended) (e.blocks.fares k is) (none_get is_going s.places k ended refl e.going)
+
+same_blocks : (d : Parts) (roles : Roles) (set : Setting d roles) (b c s t : State) (ran0 qan0 ran qan : ℕ → Bool) → (two : Two d roles set b c s t ran0 qan0 ran qan) → (k : ℕ) → roles.blocks k ≡ true →
+    SameOutputs d k s.store t.store ⊎ Hangs d roles s.store t.store Anything k
+same_blocks d roles set b c s t ran0 qan0 ran qan two k is =
+    by_states (ends_rested d roles set b s ran0 ran two.one k is).state (ends_rested d roles set c t qan0 qan two.other k is).state
+  where
+    same : ran k ≡ qan k
+    same = same_woken d roles set b c s t ran0 qan0 ran qan two k is
+
+    by_states : (((ran k ≡ false) × SameOutputs d k s.store (start_store d)) ⊎ ((ran k ≡ true) × Follows d (roles.inputs k) k s.store)) →
+        (((qan k ≡ false) × SameOutputs d k t.store (start_store d)) ⊎ ((qan k ≡ true) × Follows d (roles.inputs k) k t.store)) → SameOutputs d k s.store t.store ⊎ Hangs d roles s.store t.store Anything k
+    by_states (inl x) (inl y) = inl (λ v w n hit. x.1 v w n hit ∙ sym (y.1 v w n hit))
+    by_states (inl x) (inr y) = absurd (true≢false (sym y.0 ∙ sym same ∙ x.0))
+    by_states (inr x) (inl y) = absurd (true≢false (sym x.0 ∙ same ∙ y.0))
+    by_states (inr x) (inr y) = inr (record {
+      same = λ agree v w n hit.
+          let f = x.1 in
+          let g = y.1 in
+          let between = agree_then d (roles.inputs k) k f.from s.store g.from f.agrees (agree_then d (roles.inputs k) k s.store t.store g.from agree (agree_back d (roles.inputs k) k g.from t.store g.agrees)) in
+          sym (f.same v w n hit) ∙ (set.z.follows k is).function f.time g.time f.from g.from f.end g.end f.sized g.sized f.run g.run between v w n hit ∙ g.same v w n hit;
+      up = λ r w n bit named other at_r. (r, tt, at_r);
+    })
+
 -- a slot ends in one way
-pub ends_unique : (d : Parts) → DrivesWell d → (b c s t : State) → Alike b c → Ends d b s → Ends d c t → Alike s t
-ends_unique d well b c s t al x y =
-    let mx = x.making in
-    let my = y.making in
-    record {
-      store = settled_unique d s.store t.store s.assigns t.assigns (record {
-        well = well;
-        one = mx.sound;
-        other = my.sound;
-        one_idle = x.idle;
-        other_idle = y.idle;
-        undriven = same_undriven d b c s t al x y;
-      });
-      places = ext_get_or ended s.places t.places (mx.slot.count ∙ ap (λ l. length l) al.places ∙ sym my.slot.count) (λ i lt.
-          ap (λ l. get_or l i ended) mx.places ∙ mx.runs.places i ∙ ap (λ (z : Thread). z.place) (same_threads d b c s t al mx my i) ∙ sym (my.runs.places i) ∙ ap (λ l. get_or l i ended) (sym my.places));
-      assigns = idle_unique s.assigns t.assigns (mx.sound.linked ∙ sym my.sound.linked) x.idle y.idle;
-      time = mx.slot.time ∙ al.time ∙ sym my.slot.time;
-      finishing = mx.finishing ∙ same_test mx.before.finishing my.before.finishing (finishes_alike d b c s t al mx my) (finishes_alike d c b t s (alike_back b c al) my mx) ∙ sym my.finishing;
-      over = mx.slot.over ∙ al.over ∙ sym my.slot.over;
-      updates = same_left d b c s t al x y;
+pub ends_unique : (d : Parts) (roles : Roles) (set : Setting d roles) (b c s t : State) (ran0 qan0 ran qan : ℕ → Bool) → Apart d roles.blocks b → Apart d roles.blocks c → Alike b c → SameRan roles ran0 qan0 → Ends d roles set b s ran0 ran → Ends d roles set c t qan0 qan →
+    Alike s t × SameRan roles ran qan
+ends_unique d roles set b c s t ran0 qan0 ran qan apart apart_other al same_ran0 x y = (
+  record {
+    store = same_stores s.store t.store shaped (λ v w n. compared d roles s.store t.store Anything comparing v w n (all_words v) tt (covers_all v w n));
+    places = ext_get_or ended s.places t.places (mx.slot.count ∙ ap (λ l. length l) al.places ∙ sym my.slot.count) (λ i lt. same_place i);
+    assigns = idle_unique s.assigns t.assigns (mx.sound.linked ∙ sym my.sound.linked) x.idle y.idle;
+    time = mx.slot.time ∙ al.time ∙ sym my.slot.time;
+    finishing = mx.finishing ∙ same_test mx.before.finishing my.before.finishing (finishes_alike d roles.blocks b c s t set.well two.apart al mx my) (finishes_alike d roles.blocks c b t s set.well two.apart_other (alike_back b c al) my mx) ∙ sym my.finishing;
+    over = mx.slot.over ∙ al.over ∙ sym my.slot.over;
+    updates = same_left d roles set b c s t ran0 qan0 ran qan two;
+  },
+  same_woken d roles set b c s t ran0 qan0 ran qan two,
+)
+  where
+    mx : Making d roles.blocks b s
+    mx = x.behind.making
+
+    my : Making d roles.blocks c t
+    my = y.behind.making
+
+    two : Two d roles set b c s t ran0 qan0 ran qan
+    two = record { apart = apart; apart_other = apart_other; alike = al; same_ran = same_ran0; one = x; other = y }
+
+    shaped : shape s.store ≡ shape t.store
+    shaped = mx.sound.shaped ∙ sym my.sound.shaped
+
+    bit : (v w n : ℕ) → drives d.assigns v w n ≡ false → ((k : ℕ) → roles.blocks k ≡ true → list_any (covers v w n) (outputs d k) ≡ false) → (IsSource d roles.blocks v ⊎ ((is_driven d.assigns v ≡ true) ⊎ HasBlock d roles.blocks v)) →
+        digit_of s.store v w n ≡ digit_of t.store v w n
+    bit v w n none uncovered (inl source) = ap (λ o. digit_in (word_in o w) n) (same_sources d roles set b c s t ran0 qan0 ran qan two v source)
+    bit v w n none uncovered (inr (inl driven)) = mx.sound.bare v w n driven none ∙ sym (my.sound.bare v w n driven none)
+    bit v w n none uncovered (inr (inr (k, is, hit))) = x.blocks.bare k v w n is hit (uncovered k is) ∙ sym (y.blocks.bare k v w n is hit (uncovered k is))
+
+    comparing : Comparing d roles s.store t.store Anything
+    comparing = record {
+      well = set.well;
+      z = set.z;
+      order = set.order;
+      started = mx.sound.shaped;
+      shaped = shaped;
+      left_one = λ j e is. assign_leaves d set.well s.store s.assigns mx.sound x.idle j e is;
+      left_other = λ j e is. assign_leaves d set.well t.store t.assigns my.sound y.idle j e is;
+      plain = λ v w n r up at_r none uncovered. bit v w n none uncovered (held d roles.blocks v);
+      up = λ r q j e up is into named. tt;
+      block = λ r k up is into. same_blocks d roles set b c s t ran0 qan0 ran qan two k is;
     }
 
+    same_place : (i : ℕ) → get_or s.places i ended ≡ get_or t.places i ended
+    same_place i =
+        elim (cases_Bool (roles.blocks i)) [
+          | inl is ↦ (ends_rested d roles set b s ran0 ran x i is).at_home ∙ sym (ends_rested d roles set c t qan0 qan y i is).at_home
+          | inr other ↦ mx.places i other ∙ mx.runs.places i other ∙ ap (λ (z : Thread). z.place) (same_threads d roles.blocks b c s t set.well two.apart al mx my i) ∙ sym (my.runs.places i other) ∙ sym (my.places i other)
+        ]
+
 -- so does the next one begin
-pub behind_alike : (d : Parts) (b c s t : State) → Ends d b s → Ends d c t → Alike s t → Alike (slot_behind s) (slot_behind t)
-behind_alike d b c s t x y al =
-    let next : next_time s ≡ next_time t = same_next s t s.time al.places (all_future d b s x) (ap (λ n. list_all (is_future n) t.updates) al.time ∙ all_future d c t y) al.updates in
+pub behind_alike : (d : Parts) (roles : Roles) (set : Setting d roles) (b c s t : State) (ran0 qan0 ran qan : ℕ → Bool) → Ends d roles set b s ran0 ran → Ends d roles set c t qan0 qan → Alike s t → Alike (slot_behind s) (slot_behind t)
+behind_alike d roles set b c s t ran0 qan0 ran qan x y al =
+    let next : next_time s ≡ next_time t = same_next s t s.time al.places (all_future d roles set b s ran0 ran x) (ap (λ n. list_all (is_future n) t.updates) al.time ∙ all_future d roles set c t qan0 qan y) al.updates in
     let over : ends s ≡ ends t = ap₂ (λ f n. f || is_none n) al.finishing next in
     record {
       store = al.store;

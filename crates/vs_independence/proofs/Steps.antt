@@ -11,37 +11,33 @@ use Rattle.vs_strobe.specs.Lines.{Format}
 use Rattle.vs_flatcode.specs.Places.{Place}
 use Rattle.vs_process.specs.States.{State, Update, Called, updates_behind, calls_behind}
 use Rattle.vs_process.proofs.Stores.{put_other, put_local}
-use Rattle.vs_independence.specs.Threads.{store_behind, Thread, IsThread, log_behind, writes, any_names}
-use Rattle.vs_independence.proofs.Calls.{of, of_own, of_other}
-use Rattle.vs_independence.proofs.Lists.{at, at_same, at_each, at_some}
-use Rattle.vs_independence.proofs.Stores.{names_some, by}
-use Rattle.vs_independence.proofs.Running.{Apart, Asks, Finishes, is_waiting, AllThreads, Sources, Mades, agrees, same_made}
+use Rattle.vs_law_threads.specs.Threads.{store_behind, Thread, IsThread, log_behind, writes, any_names}
+use Rattle.vs_law_threads.proofs.Calls.{of, of_own, of_other}
+use Rattle.vs_law_threads.proofs.Lists.{at, at_same, at_each, at_some}
+use Rattle.vs_law_threads.proofs.Stores.{names_some, by}
+use Rattle.vs_independence.proofs.Running.{Apart, Asks, Finishes, is_waiting, AllThreads, AllStand, Sources, Mades, agrees, same_made}
 
 -- what one of the functions has, where it is the changed one
 pub at_this : {A : Type 0} (P : A → Type 0) (f : ℕ → A) (i : ℕ) (x : A) → P x → (j : ℕ) × P (at f i x j)
 at_this P f i x p = (i, subst P (sym (at_same f i x)) p)
-
--- all threads behind a step of one
-pub all_at : (b : State) (th : ℕ → Thread) (i : ℕ) (tn : Thread) → AllThreads b th → IsThread b i tn → AllThreads b (at th i tn)
-all_at b th i tn all is = at_each (IsThread b) th i tn is (λ k ne. all k)
 
 -- a thread behind a step: where it is, its write, its updates and its calls
 abbrev pub stepped_thread : Thread → Place → Option Write → List Update → List Called → Bool → Thread
 stepped_thread th p o made asked fin = record { place = p; view = store_behind th.view o; log = log_behind th.log o; made = made; asked = asked; fin = fin }
 
 -- the store behind a step of one process, against the threads behind it
-pub sources_step : (d : Parts) (b : State) → Apart d b → (store : Store) (th : ℕ → Thread) → AllThreads b th → Sources d b store th → (i : ℕ) (p : Place) (o : Option Write) (made : List Update) (asked : List Called) (fin : Bool) →
-    IsThread b i (stepped_thread (th i) p o made asked fin) → Sources d b (store_behind store o) (at th i (stepped_thread (th i) p o made asked fin))
-sources_step d b apart store th all so i p None made asked fin is = record {
+pub sources_step : (d : Parts) (blocks : ℕ → Bool) (b : State) → Apart d blocks b → (store : Store) (th : ℕ → Thread) → AllStand d blocks b store th → Sources d blocks b store th → (i : ℕ) (p : Place) (o : Option Write) (made : List Update) (asked : List Called) (fin : Bool) →
+    IsThread d blocks b i (stepped_thread (th i) p o made asked fin) → Sources d blocks b (store_behind store o) (at th i (stepped_thread (th i) p o made asked fin))
+sources_step d blocks b apart store th all so i p None made asked fin is = record {
   own = at_each (λ k t. (v : ℕ) → writes t v ≡ true → slice_get store v ≡ slice_get t.view v) th i (stepped_thread (th i) p None made asked fin) (so.own i) (λ k ne. so.own k);
   fresh = λ v undriven. elim (so.fresh v undriven) [
     | inl same ↦ inl same
     | inr other ↦ inr (at_some (λ t. writes t v ≡ true) th i (stepped_thread (th i) p None made asked fin) (λ h. h) other)
   ];
 }
-sources_step d b apart store th all so i p (Some w) made asked fin is = record {
+sources_step d blocks b apart store th all so i p (Some w) made asked fin is = record {
   own = at_each (λ k t. (v : ℕ) → writes t v ≡ true → slice_get (put store w) v ≡ slice_get t.view v) th i tn
-      (λ v h. put_local store (th i).view w v (agrees d b store th all so i v (apart.variables i v tn is h) (λ k other. apart.keeps.only i k v tn (th k) is (all k) h other)))
+      (λ v h. put_local store (th i).view w v (agrees d blocks b apart store th all so i v (apart.variables i v tn is h) (λ k other. apart.keeps.only i k v tn (th k) is (all k).is h other)))
       (λ k ne v h. put_other store w v (unnamed k ne v h) ∙ so.own k v h);
   fresh = λ v undriven. elim (cases_Bool (names w v)) [
     | inl hit ↦ inr (at_this (λ t. writes t v ≡ true) th i tn (or_left (names w v) (writes (th i) v) hit))
@@ -55,7 +51,7 @@ sources_step d b apart store th all so i p (Some w) made asked fin is = record {
     unnamed : (k : ℕ) → (k ≡ i → ⊥) → (v : ℕ) → writes (th k) v ≡ true → names w v ≡ false
     unnamed k ne v h =
         elim (cases_Bool (names w v)) [
-          | inl hit ↦ absurd (ne (apart.keeps.only i k v tn (th k) is (all k) (or_left (names w v) (writes (th i) v) hit) h))
+          | inl hit ↦ absurd (ne (apart.keeps.only i k v tn (th k) is (all k).is (or_left (names w v) (writes (th i) v) hit) h))
           | inr miss ↦ miss
         ]
 
@@ -78,10 +74,10 @@ by_other : (us : List Update) (u : Update) (v : ℕ) → names u.what v ≡ fals
 by_other us u v miss = by_more us u v ∙ ap (λ b. by v us ++ cond b (u ∷ []) []) miss ∙ append-nil (by v us)
 
 -- the updates behind a step of one process, against the threads behind it
-pub mades_step : (d : Parts) (b : State) → Apart d b → (updates : List Update) (th : ℕ → Thread) → AllThreads b th → Mades d b updates th → (i : ℕ) (p : Place) (o : Option Write) (u : Option (ℕ × Write)) (asked : List Called) (fin : Bool) →
+pub mades_step : (d : Parts) (blocks : ℕ → Bool) (b : State) → Apart d blocks b → (updates : List Update) (th : ℕ → Thread) → AllThreads d blocks b th → Mades d blocks b updates th → (i : ℕ) (p : Place) (o : Option Write) (u : Option (ℕ × Write)) (asked : List Called) (fin : Bool) →
     ((w : ℕ × Write) → u ≡ Some w → names_some w.1 ≡ true) →
-    IsThread b i (stepped_thread (th i) p o (updates_behind i b.time u (th i).made) asked fin) → Mades d b (updates_behind i b.time u updates) (at th i (stepped_thread (th i) p o (updates_behind i b.time u (th i).made) asked fin))
-mades_step d b apart updates th all ma i p o None asked fin some is = record {
+    IsThread d blocks b i (stepped_thread (th i) p o (updates_behind i b.time u (th i).made) asked fin) → Mades d blocks b (updates_behind i b.time u updates) (at th i (stepped_thread (th i) p o (updates_behind i b.time u (th i).made) asked fin))
+mades_step d blocks b apart updates th all ma i p o None asked fin some is = record {
   made = at_each (λ k t. (v : ℕ) → any_names t.made v ≡ true → by v updates ≡ by v b.updates ++ by v t.made) th i (stepped_thread (th i) p o (th i).made asked fin) (ma.made i) (λ k ne. ma.made k);
   unmade = λ v. elim (ma.unmade v) [
     | inl nil ↦ inl nil
@@ -90,9 +86,9 @@ mades_step d b apart updates th all ma i p o None asked fin some is = record {
   waiting = ma.waiting;
   undriven = ma.undriven;
 }
-mades_step d b apart updates th all ma i p o (Some w) asked fin some is = record {
+mades_step d blocks b apart updates th all ma i p o (Some w) asked fin some is = record {
   made = at_each (λ k t. (v : ℕ) → any_names t.made v ≡ true → by v (updates ++ u ∷ []) ≡ by v b.updates ++ by v t.made) th i tn
-      (λ v h. by_more updates u v ∙ ap (λ l. l ++ by v (u ∷ [])) (same_made d b updates th ma i v (λ k other. apart.keeps.only_later i k v tn (th k) is (all k) h other))
+      (λ v h. by_more updates u v ∙ ap (λ l. l ++ by v (u ∷ [])) (same_made d blocks b updates th ma i v (λ k other. apart.keeps.only_later i k v tn (th k) is (all k) h other))
       ∙ append_assoc (by v b.updates) (by v (th i).made) (by v (u ∷ [])) ∙ ap (λ l. by v b.updates ++ l) (sym (by_more (th i).made u v)))
       (λ k ne v h. by_other updates u v (unnamed k ne v h) ∙ ma.made k v h);
   unmade = λ v. elim (cases_Bool (names w.1 v)) [

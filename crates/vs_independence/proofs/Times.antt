@@ -4,16 +4,17 @@ use Rattle.std.specs.List.{list_all}
 use Rattle.std.proofs.lemmas.Bool.{cond_both, cases_Bool, cases_lt, eqb-false, and_parts, and_from, or_left, false≢true}
 use Rattle.std.proofs.lemmas.List.Folds.{list_all-map}
 use Rattle.vs_design.specs.declared.design.Process.{Process}
+use Rattle.vs_design.specs.Parts.{Parts}
 use Rattle.vs_design.specs.Writes.{Write, names}
 use Rattle.vs_flatcode.specs.declared.gait.Gait.{Gait}
 use Rattle.vs_flatcode.specs.declared.gait.Gait.TheVariants.{Woken, Fresh}
 use Rattle.vs_flatcode.specs.Places.{Todo, Place, going, sleeping, inactive, waiting, ended, active_at, stepped_gait, start_place, flat}
 use Rattle.vs_flatcode.specs.Steps.{Next, on, after, wait, step}
-use Rattle.vs_process.specs.States.{State, Update, place_behind, paused, woken_at}
+use Rattle.vs_process.specs.States.{State, Update, place_behind, paused, triggered, woken_at}
 use Rattle.vs_process.specs.Executions.{earlier, next_wake, next_update, next_time, ends, slot_behind, places_at, time_at}
 use Rattle.vs_process.proofs.Lists.{list_all_like}
-use Rattle.vs_independence.specs.Threads.{Thread, IsThread, turn_at, turn, iterate, opening}
-use Rattle.vs_independence.proofs.Stores.{names_some, by, filter_hit, filter_miss}
+use Rattle.vs_law_threads.specs.Threads.{Thread, Fired, found, IsThread, turn_at, turn, iterate, opening}
+use Rattle.vs_law_threads.proofs.Stores.{names_some, by, filter_hit, filter_miss}
 use Rattle.vs_independence.proofs.Running.{is_waiting}
 
 -- a delay ends later than this time
@@ -45,11 +46,22 @@ later_turn time i (sleeping due todo) th h = h
 later_turn time i (waiting terms todo) th h = h
 later_turn time i ended th h = h
 
-later_iterate : (b : State) (i n : ℕ) → is_later b.time (get_or b.places i ended) ≡ true → is_later b.time (iterate n (turn b.time i) (opening b i)).place ≡ true
-later_iterate b i zero h = h
-later_iterate b i (suc n) h =
-    let th = iterate n (turn b.time i) (opening b i) in
-    later_turn b.time i th.place th (later_iterate b i n h)
+later_iterate : (time i n : ℕ) (o : Thread) → is_later time o.place ≡ true → is_later time (iterate n (turn time i) o).place ≡ true
+later_iterate time i zero o h = h
+later_iterate time i (suc n) o h =
+    let th = iterate n (turn time i) o in
+    later_turn time i th.place th (later_iterate time i n o h)
+
+later_triggered : (time : ℕ) (p : Place) → is_later time p ≡ true → is_later time (triggered p) ≡ true
+later_triggered time (waiting terms todo) h = later_active time Woken todo
+later_triggered time (going gait todo) h = h
+later_triggered time (sleeping due todo) h = h
+later_triggered time (inactive todo) h = h
+later_triggered time ended h = h
+
+later_opening : (blocks : ℕ → Bool) (b : State) (i : ℕ) (o : Option Fired) → is_later b.time (found blocks b i) ≡ true → is_later b.time (opening blocks b i o).place ≡ true
+later_opening blocks b i None h = h
+later_opening blocks b i (Some f) h = later_triggered b.time (found blocks b i) h
 
 pub all_from_get : {A : Type 0} (p : A → Bool) (xs : List A) (x : A) → ((i : ℕ) → p (get_or xs i x) ≡ true) → list_all p xs ≡ true
 all_from_get p [] x h = refl
@@ -61,8 +73,10 @@ get_from_all p (y ∷ xs) x h g zero = (and_parts (p y) (list_all p xs) g).0
 get_from_all p (y ∷ xs) x h g (suc i) = get_from_all p xs x h (and_parts (p y) (list_all p xs) g).1 i
 
 -- a thread of a slot in which all delays end later
-pub later_thread : (b : State) (i : ℕ) (th : Thread) → list_all (is_later b.time) b.places ≡ true → IsThread b i th → is_later b.time th.place ≡ true
-later_thread b i th h is = ap (λ t. is_later b.time t.place) (sym is.is) ∙ later_iterate b i is.count (get_from_all (is_later b.time) b.places ended refl h i)
+pub later_thread : (d : Parts) (blocks : ℕ → Bool) (b : State) (i : ℕ) (th : Thread) → list_all (is_later b.time) b.places ≡ true → IsThread d blocks b i th → is_later b.time th.place ≡ true
+later_thread d blocks b i th h is =
+    ap (λ t. is_later b.time t.place) (sym is.is)
+    ∙ later_iterate b.time i is.count (opening blocks b i is.input) (later_opening blocks b i is.input (cond_both (blocks i) ended (get_or b.places i ended) (λ p. is_later b.time p ≡ true) (λ e. refl) (λ e. get_from_all (is_later b.time) b.places ended refl h i)))
 
 pub later_start : (ps : List Process) (time : ℕ) → list_all (is_later time) (map (λ (p : Process). start_place p.body) ps) ≡ true
 later_start [] time = refl

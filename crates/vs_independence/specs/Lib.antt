@@ -1,6 +1,2 @@
-pub mod Feeds
-pub mod Threads
-pub mod Reads
 pub mod Discipline
-pub mod Race
-pub mod Carry
+pub mod Displays

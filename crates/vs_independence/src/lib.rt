@@ -1,10 +1,6 @@
-//! That the traces of a disciplined design do not depend on the order in which its permitted steps are taken, and that processes
-//! read what their statements name.
+//! That the traces of a disciplined design do not depend on the order in which its permitted steps are taken, nor what its processes print.
 #![tactic(auto)]
 
 mod laws;
 
-pub use laws::{
-    a_carry_is_disciplined, a_race_is_seen, discipline_makes_independent,
-    processes_read_what_is_named, steps_read_what_is_named,
-};
+pub use laws::{discipline_makes_displays_alike, discipline_makes_independent, lines_are_of_slots};

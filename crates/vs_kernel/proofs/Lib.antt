@@ -1,2 +1,3 @@
 pub mod RunsLemmas
+pub mod ShowsLemmas
 pub mod StandsLemmas

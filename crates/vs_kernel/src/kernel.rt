@@ -9,10 +9,10 @@ use crate::outcome::{Outcome, RunFault};
 use crate::run::launch;
 use std::alloc::{AllocError, Global};
 use std::marker::Model;
-use vs_agenda::Pick;
 use vs_design::Design;
 use vs_process::never_stuck;
-use vs_regions::Item;
+use vs_regions::Due;
+use vs_run_agenda::Pick;
 use vs_time_wheel::EventQueue;
 use vs_vcd::Sink;
 
@@ -30,7 +30,7 @@ pub enum Status {
 /// The run of a design under a policy, which keeps the ends of delays and late updates in an event queue. A contract sees the design, and
 /// whether it may run.
 #[derive(Drop)]
-pub struct Kernel<'a, Q: EventQueue<Item>, P> {
+pub struct Kernel<'a, Q: EventQueue<Due>, P> {
     alloc: Global,
     design: &'a Design,
     /// The queue until the run takes it.
@@ -39,7 +39,7 @@ pub struct Kernel<'a, Q: EventQueue<Item>, P> {
     status: Status,
 }
 
-impl<'a, Q: EventQueue<Item>, P> Model for Kernel<'a, Q, P> {
+impl<'a, Q: EventQueue<Due>, P> Model for Kernel<'a, Q, P> {
     ghost use Rattle.std.specs.Coded.{codes};
     ghost use Rattle.vs_design.specs.contracts.expression.Typed as expression;
     ghost use Rattle.vs_design.specs.contracts.statement.Statement as statement;
@@ -54,7 +54,7 @@ impl<'a, Q: EventQueue<Item>, P> Model for Kernel<'a, Q, P> {
     ghost invariant = { λ k. KeepsQueue Q.bag Q.clock k.status k.queue };
 }
 
-impl<'a, Q: EventQueue<Item> + Drop, P: Pick + Drop> Kernel<'a, Q, P> {
+impl<'a, Q: EventQueue<Due> + Drop, P: Pick + Drop> Kernel<'a, Q, P> {
     /// A kernel that hasn't run. The queue holds no events, and its time is 0.
     pub fn new(alloc: Global, design: &'a Design, queue: Q, policy: P) -> Result<Self, AllocError>
         requires empty { Q.bag queue ≡ [] }

@@ -1,7 +1,7 @@
 //! Laws of runs.
 ghost use Rattle.vs_kernel.specs.Shows.{DumpsShow};
 
-use vs_process::times_rise;
+use vs_process::{stores_are_sized, times_rise};
 use vs_vcd::shows_values_at_slot_ends;
 
 /// The value change dump of an execution so far shows, of each signal that is no array, at each time, its value at the end of the last slot at
@@ -11,4 +11,5 @@ pub fn dumps_show_slot_ends()
 {
     shows_values_at_slot_ends();
     times_rise();
+    stores_are_sized();
 }

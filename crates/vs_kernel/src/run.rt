@@ -1,27 +1,27 @@
 //! The run of a design, from its start to its end.
 ghost use Rattle.std.specs.Prelude.{◌≡◌, [], ◌<◌, ◌≤◌, ◌^◌, None, length, map, IfOk, OnErr};
 ghost use Rattle.vs_kernel.specs.Ends.{end_in, outcome_in};
-ghost use Rattle.vs_slots.specs.Failures.{OneFailed};
+ghost use Rattle.vs_run_loop.specs.Failures.{OneFailed};
 ghost use Rattle.vs_kernel.specs.Runs.{RanTo, HasBegun};
-ghost use Rattle.vs_turns.specs.Recording.{HasRoom};
+ghost use Rattle.vs_run_events.specs.Recording.{HasRoom};
 ghost use Rattle.vs_process.specs.Executions as executions;
 ghost use Rattle.vs_process.specs.States as states;
 ghost use Rattle.vs_vcd.specs.Progress.{is_write_fault};
 
 use crate::outcome::Outcome;
 use std::alloc::{AllocError, Global};
-use vs_agenda::{Agenda, Pick};
-use vs_changes::no_marks;
 use vs_design::{Design, Process};
 use vs_process::{
     Code, Effect, blocks_exclude, compile, inside_follows, inside_goes_on, is_combinational,
     none_inside_first,
 };
-use vs_regions::Item;
-use vs_slots::turn;
-use vs_state::State;
+use vs_regions::Due;
+use vs_run_agenda::{Agenda, Pick};
+use vs_run_events::{Recorder, Scratch};
+use vs_run_loop::take_steps;
+use vs_run_state::State;
+use vs_run_wakes::no_marks;
 use vs_time_wheel::EventQueue;
-use vs_turns::{Recorder, Room};
 use vs_vcd::{Sink, VcdFault};
 
 /// For each process whether it is a combinational block.
@@ -47,7 +47,7 @@ fn codes_of<'a>(alloc: Global, processes: &'a [Process]) -> Result<Vec<Code<'a>>
 }
 
 /// How a run ends in a state in which its execution is complete.
-fn outcome_of<Q: EventQueue<Item>>(state: &State<Q>) -> Outcome
+fn outcome_of<Q: EventQueue<Due>>(state: &State<Q>) -> Outcome
     ensures { result ≡ outcome_in state.now }
 {
     if !state.is_over() {
@@ -61,7 +61,7 @@ fn outcome_of<Q: EventQueue<Item>>(state: &State<Q>) -> Outcome
 }
 
 /// The time at which the value change dump of a complete execution ends, in ticks.
-fn end_of<Q: EventQueue<Item>>(state: &State<Q>, until: u64) -> u64
+fn end_of<Q: EventQueue<Due>>(state: &State<Q>, until: u64) -> u64
     ensures { result ≡ end_in until state.now }
 {
     if state.is_over() && state.is_finishing() {
@@ -84,7 +84,7 @@ fn marks_for(alloc: Global, writer: &Recorder, design: &Design) -> Result<Vec<u6
 }
 
 /// Runs a design from its start.
-fn execute<'a, Q: EventQueue<Item>, P: Pick, V: Sink, L: Sink>(
+fn execute<'a, Q: EventQueue<Due>, P: Pick, V: Sink, L: Sink>(
     alloc: Global,
     design: &Design,
     state: &mut State<'a, Q>,
@@ -108,7 +108,7 @@ fn execute<'a, Q: EventQueue<Item>, P: Pick, V: Sink, L: Sink>(
     inside_goes_on();
     none_inside_first();
     let blocks = blocks_of(alloc, design.processes())?;
-    let mut room = Room {
+    let mut room = Scratch {
         effect: Effect::Nothing,
         line: Vec::new(alloc),
     };
@@ -120,7 +120,7 @@ fn execute<'a, Q: EventQueue<Item>, P: Pick, V: Sink, L: Sink>(
         if left == 0 {
             return Ok(Outcome::StepLimit(state.time()));
         }
-        let taken = turn(
+        let taken = take_steps(
             alloc,
             design,
             &blocks,
@@ -143,7 +143,7 @@ fn execute<'a, Q: EventQueue<Item>, P: Pick, V: Sink, L: Sink>(
 }
 
 /// Runs a design from its start; these are the codes of its processes, one each in order.
-fn execute_codes<Q: EventQueue<Item> + Drop, P: Pick, V: Sink, L: Sink>(
+fn execute_codes<Q: EventQueue<Due> + Drop, P: Pick, V: Sink, L: Sink>(
     alloc: Global,
     design: &Design,
     codes: &[Code],
@@ -180,7 +180,7 @@ fn execute_codes<Q: EventQueue<Item> + Drop, P: Pick, V: Sink, L: Sink>(
 }
 
 /// Compiles the processes of a design, and runs it from its start.
-pub(crate) fn launch<Q: EventQueue<Item> + Drop, P: Pick, V: Sink, L: Sink>(
+pub(crate) fn launch<Q: EventQueue<Due> + Drop, P: Pick, V: Sink, L: Sink>(
     alloc: Global,
     design: &Design,
     queue: Q,

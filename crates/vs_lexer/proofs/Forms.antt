@@ -2,14 +2,14 @@
 use Rattle.std.proofs.Common.{◌≡◌, ℕ, Bool, true, false, if◌then◌else◌, ◌==◌, nat_eq, List, [], ◌∷◌, ◌++◌, Some, None, refl, sym, subst, eq-eqb, arith}
 use Rattle.std.specs.Char.{is_ascii_digit}
 use borrow.Author.Tests.{eqb-true}
-use Rattle.vs_tokens.specs.declared.piece.Piece.{Piece}
-use Rattle.vs_tokens.specs.declared.piece.Read.{Read}
-use Rattle.vs_tokens.specs.Bytes.{is_white, starts_name, in_name, in_escaped, in_decimal, begins}
-use Rattle.vs_tokens.specs.Forms.{Form, run_of, Begins}
-use Rattle.vs_tokens.specs.Texts.{text_form}
-use Rattle.vs_tokens.specs.Literals.{number_form, apostrophe_form, quote_form, decimal_piece}
+use Rattle.vs_lex_tokens.specs.declared.piece.Piece.{Piece}
+use Rattle.vs_lex_tokens.specs.declared.piece.Lexed.{Lexed}
+use Rattle.vs_lex_tokens.specs.Bytes.{is_white, starts_name, in_name, in_escaped, in_decimal, begins}
+use Rattle.vs_lex_tokens.specs.Forms.{Form, run_of, Begins}
+use Rattle.vs_lex_tokens.specs.Texts.{text_form}
+use Rattle.vs_lex_tokens.specs.Literals.{number_form, apostrophe_form, quote_form, decimal_piece}
 use Rattle.vs_lexer.specs.Pieces.{white_piece, name_piece, system_piece, escaped_piece, slash_form, parenthesis_form, mark_form, directive_form, form_of, piece_of}
-use Rattle.vs_tokens.specs.Reading.{Reads}
+use Rattle.vs_lex_tokens.specs.Reading.{Reads}
 use Rattle.std.proofs.lemmas.Bool.{ne_eqb}
 
 module _ (b : ℕ) where
@@ -170,7 +170,7 @@ byte_has_first b =
     (mark_has_first b)
 
 -- what begins by the form of its first byte is a piece
-pub piece_by_first : (b : ℕ) (tail : List ℕ) (read : Read) → Reads (form_of b) (b ∷ tail) read → Reads piece_of (b ∷ tail) read
+pub piece_by_first : (b : ℕ) (tail : List ℕ) (read : Lexed) → Reads (form_of b) (b ∷ tail) read → Reads piece_of (b ∷ tail) read
 piece_by_first b tail read reads = record { text = reads.text; begins = at reads.text reads.begins }
   where
     at : (text : List ℕ) → Begins (form_of b) read.piece text read.rest.now (b ∷ tail) → Begins piece_of read.piece text read.rest.now (b ∷ tail)

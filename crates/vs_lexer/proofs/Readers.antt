@@ -4,25 +4,25 @@ use Rattle.std.specs.List.{list_all}
 use Rattle.std.specs.Prelude.{codes}
 use Rattle.std.proofs.lemmas.List.{append-nil}
 use borrow.Author.Tests.{eqb-true}
-use Rattle.vs_tokens.specs.declared.token.Directive.{Directive}
-use Rattle.vs_tokens.specs.declared.token.Directive.TheVariants as d
-use Rattle.vs_tokens.specs.declared.token.ImplicitNet.TheVariants as i
-use Rattle.vs_tokens.specs.declared.token.Magnitude.{Magnitude}
-use Rattle.vs_tokens.specs.declared.token.Magnitude.TheVariants as m
-use Rattle.vs_tokens.specs.declared.token.Time.{Time}
-use Rattle.vs_tokens.specs.declared.token.TimeUnit.{TimeUnit}
-use Rattle.vs_tokens.specs.declared.token.TimeUnit.TheVariants as t
-use Rattle.vs_tokens.specs.declared.refusal.Refusal.TheVariants as r
-use Rattle.vs_tokens.specs.declared.piece.Piece.TheVariants.{Token, Refused}
-use Rattle.vs_tokens.specs.declared.piece.Read.{Read}
-use Rattle.vs_tokens.specs.declared.token.Kind.TheVariants as k
-use Rattle.vs_tokens.specs.Bytes.{is_white, after_run}
+use Rattle.vs_lex_tokens.specs.declared.token.Directive.{Directive}
+use Rattle.vs_lex_tokens.specs.declared.token.Directive.TheVariants as d
+use Rattle.vs_lex_tokens.specs.declared.token.ImplicitNet.TheVariants as i
+use Rattle.vs_lex_tokens.specs.declared.token.Magnitude.{Magnitude}
+use Rattle.vs_lex_tokens.specs.declared.token.Magnitude.TheVariants as m
+use Rattle.vs_lex_tokens.specs.declared.token.Time.{Time}
+use Rattle.vs_lex_tokens.specs.declared.token.TimeUnit.{TimeUnit}
+use Rattle.vs_lex_tokens.specs.declared.token.TimeUnit.TheVariants as t
+use Rattle.vs_lex_tokens.specs.declared.refusal.Refusal.TheVariants as r
+use Rattle.vs_lex_tokens.specs.declared.piece.Piece.TheVariants.{Token, Refused}
+use Rattle.vs_lex_tokens.specs.declared.piece.Lexed.{Lexed}
+use Rattle.vs_lex_tokens.specs.declared.token.Kind.TheVariants as k
+use Rattle.vs_lex_tokens.specs.Bytes.{is_white, after_run}
 use Rattle.vs_lexer.specs.Directives.{Reader, done, nowhere, with_rest, behind, text, behind_white, white, next_is, next_is_white, by_next, some_white, follow, ◌then◌, number_at, unit_at, time_at, timescale_of, timescale_at, nettype_at, directive_at}
-use Rattle.vs_tokens.specs.Times.{exponent}
+use Rattle.vs_lex_tokens.specs.Times.{exponent}
 use Rattle.vs_lexer.specs.Pieces.{directive_piece, directive_form}
-use Rattle.vs_tokens.specs.Forms.{Longest}
-use Rattle.vs_tokens.specs.Reading.{Reads}
-use Rattle.vs_tokens.proofs.LongestRuns.{after_all}
+use Rattle.vs_lex_tokens.specs.Forms.{Longest}
+use Rattle.vs_lex_tokens.specs.Reading.{Reads}
+use Rattle.vs_lex_tokens.proofs.LongestRuns.{after_all}
 use Rattle.vs_lexer.proofs.Openings.{alone_reads}
 
 -- the bytes that were read, which are read so whatever follows them
@@ -397,7 +397,7 @@ unfolding directive_at
 firm_directive = firm_by_next (next_is 116) (next_is_local 116) timescale_at nettype_at firm_timescale firm_nettype
 
 -- a directive that has been read
-pub directive_reads : (backquote : ℕ) (after : List ℕ) (directive : Directive) (read : Read) → directive_at after ≡ Some (directive, read.rest.now) → read.piece ≡ Token (k.Directive directive) → Reads directive_form (backquote ∷ after) read
+pub directive_reads : (backquote : ℕ) (after : List ℕ) (directive : Directive) (read : Lexed) → directive_at after ≡ Some (directive, read.rest.now) → read.piece ≡ Token (k.Directive directive) → Reads directive_form (backquote ∷ after) read
 unfolding directive_form
 directive_reads backquote after directive read e is =
     let part = strong_directive.part after directive read.rest.now e in
@@ -411,7 +411,7 @@ directive_reads backquote after directive read e is =
     }
 
 -- a backquote without a directive
-pub lone_backquote : (backquote : ℕ) (after : List ℕ) (read : Read) → directive_at after ≡ None → read.rest.now ≡ after → read.piece ≡ Refused r.BadDirective → Reads directive_form (backquote ∷ after) read
+pub lone_backquote : (backquote : ℕ) (after : List ℕ) (read : Lexed) → directive_at after ≡ None → read.rest.now ≡ after → read.piece ≡ Refused r.BadDirective → Reads directive_form (backquote ∷ after) read
 unfolding directive_form
 lone_backquote backquote after read none at is =
     alone_reads directive_form backquote after read at (ap Some (sym is)) (λ b more rest e. ap directive_piece (nothing b more rest e (directive_at (b ∷ more)) refl))

@@ -1,15 +1,15 @@
 -- Directives (IEEE 1364-2005, clause 19).
 use Rattle.std.specs.Prelude.{ℕ, ◌==◌, Bool, List, [], ◌∷◌, Option, None, Some, if◌then◌else◌, codes, nat_lt}
-use Rattle.vs_tokens.specs.declared.token.Directive.{Directive}
-use Rattle.vs_tokens.specs.declared.token.Directive.TheVariants as d
-use Rattle.vs_tokens.specs.declared.token.ImplicitNet.TheVariants as i
-use Rattle.vs_tokens.specs.declared.token.Magnitude.{Magnitude}
-use Rattle.vs_tokens.specs.declared.token.Magnitude.TheVariants as m
-use Rattle.vs_tokens.specs.declared.token.Time.{Time}
-use Rattle.vs_tokens.specs.declared.token.TimeUnit.{TimeUnit}
-use Rattle.vs_tokens.specs.declared.token.TimeUnit.TheVariants as t
-use Rattle.vs_tokens.specs.Bytes.{is_white, begins, after_run}
-use Rattle.vs_tokens.specs.Times.{exponent}
+use Rattle.vs_lex_tokens.specs.declared.token.Directive.{Directive}
+use Rattle.vs_lex_tokens.specs.declared.token.Directive.TheVariants as d
+use Rattle.vs_lex_tokens.specs.declared.token.ImplicitNet.TheVariants as i
+use Rattle.vs_lex_tokens.specs.declared.token.Magnitude.{Magnitude}
+use Rattle.vs_lex_tokens.specs.declared.token.Magnitude.TheVariants as m
+use Rattle.vs_lex_tokens.specs.declared.token.Time.{Time}
+use Rattle.vs_lex_tokens.specs.declared.token.TimeUnit.{TimeUnit}
+use Rattle.vs_lex_tokens.specs.declared.token.TimeUnit.TheVariants as t
+use Rattle.vs_lex_tokens.specs.Bytes.{is_white, begins, after_run}
+use Rattle.vs_lex_tokens.specs.Times.{exponent}
 
 -- what the bytes begin with, and the bytes behind it; or they don't begin so
 abbrev pub Reader : Type 0 → Type 0

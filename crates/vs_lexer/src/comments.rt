@@ -1,9 +1,11 @@
 //! Comments and attributes (IEEE 1364-2005, clauses 3.3 and 3.8).
 ghost use Rattle.std.specs.Prelude.{◌≡◌, ◌++◌, ◌∷◌, [], MatchOption, Some, None};
 ghost use Rattle.vs_lexer.specs.Pieces.{among, after_pair, closed_by, slash_form, parenthesis_form, opens_attribute};
-ghost use Rattle.vs_tokens.specs.Reading.{Reads, in_class};
+ghost use Rattle.vs_lex_tokens.specs.Reading.{Reads, in_class};
 
-use vs_tokens::{ByteClass, Kind, Mark, Piece, Read, Refusal, first_and_rest, is_white, split_run};
+use vs_lex_tokens::{
+    ByteClass, Kind, Lexed, Mark, Piece, Refusal, first_and_rest, is_white, split_run,
+};
 
 /// The bytes up to the first place where the two bytes stand side by side, both included, and the
 /// bytes behind it.
@@ -32,15 +34,15 @@ fn among(text: &[u8], allowed: ByteClass, piece: Piece) -> Piece
 }
 
 /// Reads on behind an opening, up to the two bytes that close it.
-fn read_closed(bytes: &[u8], first: u8, second: u8, allowed: ByteClass) -> Read<'_>
+fn read_closed(bytes: &[u8], first: u8, second: u8, allowed: ByteClass) -> Lexed<'_>
     ensures { Reads (closed_by (in_class allowed) first second) bytes.now result }
 {
     match split_after_pair(bytes, first, second) {
-        Some((body, rest)) => Read {
+        Some((body, rest)) => Lexed {
             piece: among(body, allowed, Piece::Skipped),
             rest,
         },
-        None => Read {
+        None => Lexed {
             piece: among(bytes, allowed, Piece::Refused(Refusal::Unclosed)),
             rest: &[],
         },
@@ -48,10 +50,10 @@ fn read_closed(bytes: &[u8], first: u8, second: u8, allowed: ByteClass) -> Read<
 }
 
 /// Reads what a slash begins, from the bytes after it.
-pub(crate) fn read_slash(slash: u8, after: &[u8]) -> Read<'_>
+pub(crate) fn read_slash(slash: u8, after: &[u8]) -> Lexed<'_>
     ensures { Reads slash_form (slash ∷ after.now) result }
 {
-    let mark = Read {
+    let mark = Lexed {
         piece: Piece::Token(Kind::Mark(Mark::Slash)),
         rest: after,
     };
@@ -61,7 +63,7 @@ pub(crate) fn read_slash(slash: u8, after: &[u8]) -> Read<'_>
     if second == b'/' {
         let (line, rest) = split_run(body, ByteClass::Line);
         let piece = among(line, ByteClass::Comment, Piece::Skipped);
-        return Read { piece, rest };
+        return Lexed { piece, rest };
     }
     if second == b'*' {
         return read_closed(body, b'*', b'/', ByteClass::Comment);
@@ -82,10 +84,10 @@ fn opens_attribute(bytes: &[u8]) -> bool
 }
 
 /// Reads what a parenthesis begins, from the bytes after it.
-pub(crate) fn read_parenthesis(parenthesis: u8, after: &[u8]) -> Read<'_>
+pub(crate) fn read_parenthesis(parenthesis: u8, after: &[u8]) -> Lexed<'_>
     ensures { Reads parenthesis_form (parenthesis ∷ after.now) result }
 {
-    let mark = Read {
+    let mark = Lexed {
         piece: Piece::Token(Kind::Mark(Mark::Open)),
         rest: after,
     };

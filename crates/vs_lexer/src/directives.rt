@@ -2,12 +2,12 @@
 ghost use Rattle.std.specs.Prelude.{◌≡◌, ◌∷◌, MatchOption, None, Some, nat_lt};
 ghost use Rattle.vs_lexer.specs.Directives.{behind, behind_white, done, text, next_is, next_is_white, number_at, unit_at, time_at, timescale_at, nettype_at, directive_at};
 ghost use Rattle.vs_lexer.specs.Pieces.{directive_form};
-ghost use Rattle.vs_tokens.specs.Reading.{Reads};
-ghost use Rattle.vs_tokens.specs.Times.{exponent};
+ghost use Rattle.vs_lex_tokens.specs.Reading.{Reads};
+ghost use Rattle.vs_lex_tokens.specs.Times.{exponent};
 ghost use Rattle.vs_lexer.specs.Taking.{Gives};
 
-use vs_tokens::{
-    ByteClass, Directive, ImplicitNet, Kind, Magnitude, Piece, Read, Refusal, Time, TimeUnit,
+use vs_lex_tokens::{
+    ByteClass, Directive, ImplicitNet, Kind, Lexed, Magnitude, Piece, Refusal, Time, TimeUnit,
     first_and_rest, is_white, split_run,
 };
 
@@ -172,16 +172,16 @@ fn directive_at(bytes: &[u8]) -> Option<(Directive, &[u8])>
 }
 
 /// Reads a directive, from the bytes after its backquote.
-pub(crate) fn read_directive(backquote: u8, after: &[u8]) -> Read<'_>
+pub(crate) fn read_directive(backquote: u8, after: &[u8]) -> Lexed<'_>
     ensures { Reads directive_form (backquote ∷ after.now) result }
 {
     let Some((directive, rest)) = directive_at(after) else {
-        return Read {
+        return Lexed {
             piece: Piece::Refused(Refusal::BadDirective),
             rest: after,
         };
     };
-    Read {
+    Lexed {
         piece: Piece::Token(Kind::Directive(directive)),
         rest,
     }

@@ -5,7 +5,7 @@ ghost use Rattle.std.specs.Prelude.{◌≡◌, IfOk};
 
 use std::alloc::{AllocError, AllocFailed, Global};
 use thiserror::Error;
-use vs_tokens::Refusal;
+use vs_lex_tokens::Refusal;
 
 /// Why there are no tokens.
 #[derive(Clone, Copy, PartialEq, Eq, Debug, Error)]

@@ -2,12 +2,12 @@
 ghost use Rattle.std.specs.Prelude.{◌≡◌, ◌<◌, ◌≤◌, [], ◌∷◌, ◌++◌, length, MatchResult, OnOk};
 ghost use Rattle.vs_lexer.specs.Spelling.{IsSpelled, Fails};
 ghost use Rattle.vs_lexer.specs.Taking.{Takes, Stops};
-ghost use Rattle.vs_tokens.specs.Tokens.{lexemes};
+ghost use Rattle.vs_lex_tokens.specs.Tokens.{lexemes};
 
 use crate::fault::LexFault;
 use crate::scan::read_piece;
 use std::alloc::{AllocError, Global};
-use vs_tokens::{Kind, Piece, Read, Refusal, Token};
+use vs_lex_tokens::{Kind, Lexed, Piece, Refusal, Token};
 
 /// The most bytes that a source has: 4 MiB.
 const SOURCE_LIMIT: usize = 4194304;
@@ -37,7 +37,7 @@ fn take_piece<'s>(
         (λ rest. Takes place bytes.now (lexemes tokens.old.items) (lexemes tokens.new.items) rest.now)
         (λ fault. Stops place bytes.now fault) }
 {
-    let Read { piece, rest } = read_piece(bytes);
+    let Lexed { piece, rest } = read_piece(bytes);
     match piece {
         Piece::Skipped => Ok(rest),
         Piece::Token(kind) => {

@@ -14,6 +14,6 @@ mod scan;
 pub use fault::LexFault;
 pub use laws::{names_of_one_line, no_spelling_of_refused, one_refusal, one_spelling};
 pub use lexing::lex;
-pub use vs_tokens::{
+pub use vs_lex_tokens::{
     Directive, ImplicitNet, Kind, Literal, Magnitude, Mark, Refusal, Time, TimeUnit, Token, Word,
 };

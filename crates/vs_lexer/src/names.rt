@@ -1,12 +1,12 @@
 //! White space, names and reserved words.
 ghost use Rattle.std.specs.Prelude.{◌≡◌, []};
-ghost use Rattle.vs_tokens.specs.Bytes.{is_white, in_name, in_escaped};
-ghost use Rattle.vs_tokens.specs.Forms.{run_of};
+ghost use Rattle.vs_lex_tokens.specs.Bytes.{is_white, in_name, in_escaped};
+ghost use Rattle.vs_lex_tokens.specs.Forms.{run_of};
 ghost use Rattle.vs_lexer.specs.Pieces.{limited, word_or_name, white_piece, name_piece, system_piece, escaped_piece};
-ghost use Rattle.vs_tokens.specs.Reading.{Reads};
+ghost use Rattle.vs_lex_tokens.specs.Reading.{Reads};
 
 use crate::reserved::{left_out_to_h, left_out_to_r, left_out_to_x, word};
-use vs_tokens::{ByteClass, Kind, Piece, Read, Refusal, is_white, split_run};
+use vs_lex_tokens::{ByteClass, Kind, Lexed, Piece, Refusal, is_white, split_run};
 
 /// The most bytes that a name has.
 const NAME_LIMIT: usize = 1024;
@@ -70,39 +70,39 @@ fn system_piece(text: &[u8]) -> Piece
 }
 
 /// Reads white space.
-pub(crate) fn read_white(bytes: &[u8]) -> Read<'_>
+pub(crate) fn read_white(bytes: &[u8]) -> Lexed<'_>
     ensures { Reads (run_of is_white white_piece) bytes.now result }
 {
     let (_, rest) = split_run(bytes, ByteClass::White);
-    Read {
+    Lexed {
         piece: Piece::Skipped,
         rest,
     }
 }
 
 /// Reads a simple name.
-pub(crate) fn read_name(bytes: &[u8]) -> Read<'_>
+pub(crate) fn read_name(bytes: &[u8]) -> Lexed<'_>
     ensures { Reads (run_of in_name name_piece) bytes.now result }
 {
     let (text, rest) = split_run(bytes, ByteClass::Name);
     let piece = limited(text, word_or_name(text));
-    Read { piece, rest }
+    Lexed { piece, rest }
 }
 
 /// Reads the name of a system task or function.
-pub(crate) fn read_system(bytes: &[u8]) -> Read<'_>
+pub(crate) fn read_system(bytes: &[u8]) -> Lexed<'_>
     ensures { Reads (run_of in_name system_piece) bytes.now result }
 {
     let (text, rest) = split_run(bytes, ByteClass::Name);
     let piece = system_piece(text);
-    Read { piece, rest }
+    Lexed { piece, rest }
 }
 
 /// Reads an escaped name.
-pub(crate) fn read_escaped(bytes: &[u8]) -> Read<'_>
+pub(crate) fn read_escaped(bytes: &[u8]) -> Lexed<'_>
     ensures { Reads (run_of in_escaped escaped_piece) bytes.now result }
 {
     let (text, rest) = split_run(bytes, ByteClass::Escaped);
     let piece = escaped_piece(text, rest);
-    Read { piece, rest }
+    Lexed { piece, rest }
 }

@@ -1,18 +1,18 @@
 //! Reading one piece of a source.
 ghost use Rattle.std.specs.Prelude.{◌≡◌, ◌<◌, ◌∷◌, length};
 ghost use Rattle.vs_lexer.specs.Pieces.{form_of, piece_of};
-ghost use Rattle.vs_tokens.specs.Reading.{Reads};
+ghost use Rattle.vs_lex_tokens.specs.Reading.{Reads};
 
 use crate::comments::{read_parenthesis, read_slash};
 use crate::directives::read_directive;
 use crate::marks::read_mark;
 use crate::names::{read_escaped, read_name, read_system, read_white};
-use vs_tokens::{
-    Read, first_and_rest, is_white, read_apostrophe, read_number, read_text, starts_name,
+use vs_lex_tokens::{
+    Lexed, first_and_rest, is_white, read_apostrophe, read_number, read_text, starts_name,
 };
 
 /// Reads the piece that this first byte begins, with these bytes after it.
-fn read_form<'s>(first: u8, after: &'s [u8], bytes: &'s [u8]) -> Read<'s>
+fn read_form<'s>(first: u8, after: &'s [u8], bytes: &'s [u8]) -> Lexed<'s>
     requires { bytes.now ≡ first ∷ after.now }
     ensures { Reads (form_of first) bytes.now result }
 {
@@ -50,7 +50,7 @@ fn read_form<'s>(first: u8, after: &'s [u8], bytes: &'s [u8]) -> Read<'s>
 }
 
 /// Reads the piece with which the bytes begin.
-pub(crate) fn read_piece(bytes: &[u8]) -> Read<'_>
+pub(crate) fn read_piece(bytes: &[u8]) -> Lexed<'_>
     requires { 0 < length bytes.now }
     ensures { Reads piece_of bytes.now result }
 {

@@ -17,7 +17,8 @@ use Rattle.vs_logic4.specs.Bitwise.{reduced_and, reduced_or, reduced_xor}
 use Rattle.vs_logic4.specs.Comparisons.{is_known, truth, some_position, logical_equality, casez_equality, casex_equality}
 use mathlib.Core.Bool.{beq}
 use Rattle.vs_logic4.proofs.Bits.{holds4, agree2_at, tests2_at, tests4_at, bit_at_and_not, below_64, and_below_left, ones_below, same_width}
-use Rattle.vs_logic4.proofs.Positions.{same_tests, half_below, each_is, some_is, all_is, any_is}
+use Rattle.vs_logic4.proofs.Positions.{half_below, each_is, some_is, all_is, any_is}
+use Rattle.vs_logic4.proofs.Basics.{same_tests}
 
 module _ {w v u : ℕ} {ds : List Digit} (p : ArePlanes w v u) (view : digits_of_planes w v u ≡ ds) where
   pub is_known_is : eqb u 0 ≡ is_known ds

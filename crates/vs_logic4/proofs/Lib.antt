@@ -1,3 +1,4 @@
+pub mod Basics
 pub mod Bits
 pub mod Bitwise
 pub mod Positions

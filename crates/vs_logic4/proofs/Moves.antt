@@ -2,27 +2,19 @@
 use Rattle.std.proofs.Common.{◌≡◌, ℕ, suc, ◌+◌, ◌-◌, ◌*◌, ◌/◌, ◌%◌, ◌^◌, ◌<◌, ◌≤◌, ℤ, pos, negsuc, ◌+ℤ◌, ◌&&◌, eqb, bit_and, Bool, true, false, cond, refl, sym, ap, ◌∙◌, ⊎_elim, arith}
 use Rattle.std.specs.Int.{bit_at}
 use Rattle.std.proofs.lemmas.Bool.{cases_lt, lt-ltb, le-ltb, and_parts, eqb-true, eqb-false}
-use Rattle.std.proofs.lemmas.Nat.{shr-shr, shr_split, pow_pos, xor_lt, xor_comm, shr_le, pow-add}
+use Rattle.std.proofs.lemmas.Nat.{pow_pos, xor_lt, xor_comm, shr_le, pow-add}
 use Rattle.std.proofs.lemmas.Nat.Bits.{bit_at_cat_low, bit_at_cat_high, bit_at-zero, bit_at_and, bit_at_xor, bit_at_ones, bit_at-lt, bit_at_above}
 use Rattle.std.specs.Int.RustNames.{bit_xor}
 use Rattle.std.proofs.Math.Nat.{pow-le-pow_right, div-eq_of_lt}
 use Rattle.vs_logic4.specs.Moves.{lowered, IsMovedLeft, IsMovedRight}
 use Rattle.vs_logic4.specs.Extensions.{masked_below}
 use Rattle.vs_logic4.proofs.Bits.{ones_below}
+use Rattle.vs_logic4.proofs.Basics.{bit_at-shr, bit_at-wrapped}
 
 -- a bit of a plane, 0 out of range
 abbrev pub bit_or_zero : ℤ → ℕ → ℕ
 bit_or_zero (pos j) p = bit_at p j
 bit_or_zero (negsuc _) p = 0
-
-pub bit_at-shr : (p n i : ℕ) → bit_at (p / 2 ^ n) i ≡ bit_at p (n + i)
-bit_at-shr p n i = ap (λ q. q % 2) (shr-shr p n i)
-
--- the low 64 bits of a number are its own
-pub bit_at-wrapped : (p i : ℕ) → i < 64 → bit_at (p % 2 ^ 64) i ≡ bit_at p i
-bit_at-wrapped p i h =
-    let whole : p ≡ p / 2 ^ 64 * 2 ^ 64 + p % 2 ^ 64 = sym (shr_split p 64) in
-    sym (ap (λ q. bit_at q i) whole ∙ bit_at_cat_low (p / 2 ^ 64) 64 (p % 2 ^ 64) i h)
 
 pub bit_at-shl_below : (p n i : ℕ) → i < 64 → i < n → bit_at (p * 2 ^ n % 2 ^ 64) i ≡ 0
 bit_at-shl_below p n i h k =

@@ -28,7 +28,7 @@ number_is (suc w) v h =
     let rest = number_is w (v / 2) (half_below w v h) in
     omega (arith, bit, rest)
 
-bit_of-lt : (d : Digit) → bit_of d < 2
+pub bit_of-lt : (d : Digit) → bit_of d < 2
 bit_of-lt Zero = omega arith
 bit_of-lt One = omega arith
 bit_of-lt X = omega arith

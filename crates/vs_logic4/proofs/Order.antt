@@ -17,7 +17,7 @@ use Rattle.vs_logic4.specs.Tables.{digit_of_test}
 use Rattle.vs_logic4.specs.Comparisons.{is_known}
 use Rattle.vs_logic4.specs.Arithmetic.{number, integer, of_integer, signed_number, less_than, known_number, known_signed_number}
 use Rattle.vs_logic4.proofs.Bits.{same_width}
-use Rattle.vs_logic4.proofs.Positions.{same_tests}
+use Rattle.vs_logic4.proofs.Basics.{same_tests}
 use Rattle.vs_logic4.proofs.Comparisons.{or_both, is_known_is}
 use Rattle.vs_logic4.proofs.Numbers.{number_is, integer_is, of_integer_is}
 use Rattle.vs_logic4.proofs.Signs.{signed_value, negative, magnitude_of, integer_by_sign, split}

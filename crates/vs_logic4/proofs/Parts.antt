@@ -4,7 +4,6 @@ use Rattle.std.specs.Int.{bit_at}
 use Rattle.std.specs.Int.RustNames.{bit_xor}
 use Rattle.std.proofs.Math.Nat.{mul-le-mul_right, mul-div_cancel_left}
 use Rattle.std.proofs.lemmas.Bool.{cases_lt}
-use Rattle.std.proofs.lemmas.Int.{ints}
 use Rattle.std.proofs.lemmas.List.{length-append, get_or_append_left, get_or-append_right, get_or_past}
 use Rattle.std.proofs.lemmas.Nat.{xor_lt, and_le_r, pow-add, pow_pos, pow_below, shl_whole, or_shifted, mul-add-lt}
 use Rattle.std.proofs.lemmas.Nat.Bits.{bit_at_and, bit_at_xor, bit_at_ones, bit_at_ones_above, bit_at_above, bit_at-lt, bit_at_cat_low, bit_at_cat_high}
@@ -18,12 +17,7 @@ use Rattle.vs_logic4.specs.Moves.{lowered}
 use Rattle.vs_logic4.specs.Parts.{digit_at, selected, replaced_from, with_part, concatenation, replication}
 use Rattle.vs_logic4.proofs.Bits.{agree2_at, agree4_at, ones_below}
 use Rattle.vs_logic4.proofs.Moves.{bit_or_zero, bit_at-lowered}
-
-plus_zero : (z : ℤ) → z +ℤ pos 0 ≡ z
-plus_zero z = omega (arith, ints)
-
-plus_suc : (z : ℤ) (i : ℕ) → (z +ℤ pos 1) +ℤ pos i ≡ z +ℤ pos (suc i)
-plus_suc z i = omega (arith, ints)
+use Rattle.vs_logic4.proofs.Basics.{plus_suc, plus_zero}
 
 -- a digit of a part
 pub get_or-selected : (low : ℤ) (n : ℕ) (ds : List Digit) (i : ℕ) → i < n → get_or (selected low n ds) i X ≡ digit_at (low +ℤ pos i) ds X

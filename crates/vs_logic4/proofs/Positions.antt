@@ -3,16 +3,12 @@ use Rattle.std.proofs.Common.{◌≡◌, ℕ, zero, suc, ◌/◌, ◌%◌, ◌^�
 use Rattle.std.specs.Int.{bit_at}
 use Rattle.std.specs.List.{list_any, list_all}
 use Rattle.std.proofs.Math.Nat.{pow-succ'}
-use Rattle.std.proofs.lemmas.Bool.{and_parts, and_from, eqb-true, eq-eqb, false_from_ne_true}
+use Rattle.std.proofs.lemmas.Bool.{and_parts, and_from, eqb-true, eq-eqb}
 use Rattle.std.proofs.lemmas.Nat.Bits.{bit_at-suc, bit_at_lowest}
 use Rattle.vs_logic4.specs.declared.digit.Digit.{Digit}
 use Rattle.vs_logic4.specs.Planes.{digit_of_bits, digits_of_planes}
 use Rattle.vs_logic4.specs.Comparisons.{some_position, each_position}
-
--- two tests that hold together are one
-pub same_tests : (s t : Bool) → (s ≡ true → t ≡ true) → (t ≡ true → s ≡ true) → s ≡ t
-same_tests true t h k = sym (h refl)
-same_tests false t h k = sym (false_from_ne_true t (λ e. let f : false ≡ true = k e in cc))
+use Rattle.vs_logic4.proofs.Basics.{same_tests}
 
 none_zero : (m : ℕ) → (eqb (m % 2) 0 && eqb (m / 2) 0) ≡ eqb m 0
 none_zero m =

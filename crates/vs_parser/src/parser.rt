@@ -6,14 +6,14 @@ ghost use Rattle.vs_syntax.specs.Derivation.{Tree};
 ghost use Rattle.vs_syntax.specs.Derives.{Derives};
 ghost use Rattle.vs_syntax.specs.Views.{source_tree};
 ghost use Rattle.vs_parser.specs.declared.fault.ParseFault.TheVariants.{Memory};
-ghost use Rattle.vs_expressions.specs.Answers.{seen};
+ghost use Rattle.vs_parse_expressions.specs.Answers.{seen};
 ghost use Rattle.vs_parser.specs.Faults.{IsRefused, IsTreeOf, Halts, StopsAt};
 
 use crate::fault::{ParseFault, left_out};
 use crate::source::source;
 use std::alloc::Global;
-use vs_expressions::{Stop, next};
 use vs_lexer::Token;
+use vs_parse_expressions::{Stop, next};
 use vs_syntax::Source;
 
 /// The deepest nesting, in nodes below one another.

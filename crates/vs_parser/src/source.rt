@@ -1,38 +1,38 @@
 //! Reading modules and sources.
 ghost use Rattle.std.specs.Prelude.{◌≡◌, ◌∷◌, IfOk};
-ghost use Rattle.vs_tokens.specs.declared.token.Word.TheVariants as w;
+ghost use Rattle.vs_lex_tokens.specs.declared.token.Word.TheVariants as w;
 ghost use Rattle.vs_syntax.specs.Symbols.{a_word};
 ghost use Rattle.vs_syntax.specs.Grammar.{part, a_source, a_module};
 ghost use Rattle.vs_syntax.specs.Views.{module_tree, source_tree};
-ghost use Rattle.vs_expressions.specs.Answers.{seen, ReadsTree};
+ghost use Rattle.vs_parse_expressions.specs.Answers.{seen, ReadsTree};
 
 use crate::head::{SourceHead, source_head};
 use std::alloc::Global;
-use vs_expressions::{Read, Stop, expect_mark, expect_name, expect_word};
-use vs_headers::{header_parameters, header_ports};
-use vs_items::items;
 use vs_lexer::{Directive, Mark, Token, Word};
+use vs_parse_expressions::{Parsed, Stop, expect_mark, expect_name, expect_word};
+use vs_parse_headers::{header_parameters, header_ports};
+use vs_parse_items::items;
 use vs_syntax::{Module, Source};
 
 /// Reads a module, behind whose first word `after` stands, with the directives before it.
 fn module<'t, 's>(
     alloc: Global,
-    room: u32,
+    depth: u32,
     tokens: &'t [Token<'s>],
     after: &'t [Token<'s>],
     directives: Vec<Directive>,
-) -> Result<Read<'t, 's, Module>, Stop<'t, 's>>
+) -> Result<Parsed<'t, 's, Module>, Stop<'t, 's>>
     requires { seen tokens.now ≡ a_word w.Module ∷ seen after.now }
-    ensures reads { ReadsTree (part a_module) room tokens.now module_tree result }
+    ensures reads { ReadsTree (part a_module) depth tokens.now module_tree result }
     ensures directives { IfOk result (λ x. x.tree.directives ≡ directives) }
 {
     let (name, after_name) = expect_name(alloc, after)?;
-    let parameters = header_parameters(alloc, room, after_name)?;
-    let ports = header_ports(alloc, room, parameters.rest)?;
+    let parameters = header_parameters(alloc, depth, after_name)?;
+    let ports = header_ports(alloc, depth, parameters.rest)?;
     let after_header = expect_mark(ports.rest, Mark::Semicolon)?;
-    let inner = items(alloc, room, after_header)?;
+    let inner = items(alloc, depth, after_header)?;
     let rest = expect_word(inner.rest, Word::Endmodule)?;
-    Ok(Read {
+    Ok(Parsed {
         tree: Module {
             directives,
             name,
@@ -47,10 +47,10 @@ fn module<'t, 's>(
 /// Reads the modules and the directives that are next: the source, as far as it goes.
 pub(crate) fn source<'t, 's>(
     alloc: Global,
-    room: u32,
+    depth: u32,
     tokens: &'t [Token<'s>],
-) -> Result<Read<'t, 's, Source>, Stop<'t, 's>>
-    ensures { ReadsTree (part a_source) room tokens.now source_tree result }
+) -> Result<Parsed<'t, 's, Source>, Stop<'t, 's>>
+    ensures { ReadsTree (part a_source) depth tokens.now source_tree result }
 {
     let mut modules = Vec::new(alloc);
     let mut directives = Vec::new(alloc);
@@ -63,14 +63,14 @@ pub(crate) fn source<'t, 's>(
                 rest = after;
             }
             SourceHead::Module => {
-                let inner = module(alloc, room, rest, after, directives)?;
+                let inner = module(alloc, depth, rest, after, directives)?;
                 directives = Vec::new(alloc);
                 rest = inner.rest;
                 modules.push(inner.tree)?;
             }
         }
     }
-    Ok(Read {
+    Ok(Parsed {
         tree: Source {
             modules,
             directives,

@@ -19,10 +19,13 @@ use Rattle.vs_process.specs.States.{State, AssignState, start_assign, touched, e
 use Rattle.vs_flatcode.specs.Steps.{assignment}
 use Rattle.vs_process.specs.Idle.{IsIdle}
 use Rattle.vs_process.proofs.Digits.{Keeps, kept_digit, put_again, put_swapped, unnamed_keeps}
-use Rattle.vs_process.proofs.Lists.{any_at, at_any, map_at, map_cases, none_at, none_from, same_gets, set_cases}
+use Rattle.vs_process.proofs.Lists.{map_at, map_cases, none_at, none_from, set_cases}
+use Rattle.std.proofs.lemmas.Map.Keys.{any_passes_from_place as at_any}
+use Rattle.vs_logic4.proofs.Basics.{element_of as any_at, same_lists as same_gets}
 use Rattle.vs_process.proofs.Ranges.{IsFixed, assigned_fixed, assigned_names, fixed_write, present, same_sizes, uncovered_keeps}
 use Rattle.vs_process.proofs.Stores.{put_other, shape, shape-put}
 use Rattle.vs_process.proofs.Values.{not_changed, target_value_unchanged, unchanged}
+use Rattle.vs_design.proofs.Stores.{map_none as all_content}
 
 -- the places that continuous assignments drive are constant, and no two of them drive one bit of a net
 pub record DrivesApart (d : Parts) : Type 0 where
@@ -74,10 +77,6 @@ consistent_touched old new x stays (inr fed) =
     ]
 
 -- ---- writes that change nothing
-
-all_content : (words : List (List Digit)) → map (chosen_bits None) words ≡ words
-all_content [] = refl
-all_content (w ∷ words) = ap (λ l. w ∷ l) (all_content words)
 
 same_slot : {N : Type 0} (f : List (List Digit) → N) (a b : Option (List (List Digit))) → option_map f a ≡ option_map f b → words_in a ≡ words_in b → a ≡ b
 same_slot f None None h same = refl

@@ -21,6 +21,8 @@ use Rattle.vs_process.specs.Blocks.{BlocksExclude, InsideFollows, InsideGoesOn, 
 use Rattle.vs_process.specs.Executions.{after, allowed, apply, Legal, is_enabled, is_free, is_kept_out, is_step_of, is_combinational, if_some, ends, next_time, places_at}
 use Rattle.vs_process.specs.Permitted.{CanGo}
 use Rattle.vs_process.proofs.Permitted.{AllFree, allow}
+use Rattle.std.proofs.lemmas.Bool.{false_from_ne_true as none_if}
+use Rattle.vs_logic4.proofs.Basics.{and_false as and_none, same_tests as bool_same}
 
 -- whether the process at an index passes a test and is inside
 abbrev inside_at : (Process → Bool) → List Process → List Place → ℕ → Bool
@@ -137,10 +139,6 @@ inside_at-slot : (test : Process → Bool) (b : Bool) (next : Option ℕ) (ps : 
 inside_at-slot test true next ps xs k = refl
 inside_at-slot test false None ps xs k = refl
 inside_at-slot test false (Some t) ps xs k = inside_at-map test (woken_at t) (inside-woken_at t) ps xs k
-
-and_none : (b : Bool) → (b && false) ≡ false
-and_none true = refl
-and_none false = refl
 
 inside_at-start : (test : Process → Bool) (ps : List Process) (k : ℕ) → inside_at test ps (map (λ (p : Process). start_place p.body) ps) k ≡ false
 inside_at-start test [] k = refl
@@ -302,15 +300,6 @@ inside_from-some number (p ∷ ps) (x ∷ xs) (suc i) here only =
 
 inside_block-some : (ps : List Process) (xs : List Place) (i : ℕ) → inside_at is_combinational ps xs i ≡ true → ((k : ℕ) → inside_at is_combinational ps xs k ≡ true → k ≡ i) → inside_block ps xs ≡ Some i
 inside_block-some ps xs i here only = let e : 0 + i ≡ i = omega arith in inside_from-some 0 ps xs i here only ∙ ap Some e
-
-none_if : (b : Bool) → (b ≡ true → ⊥) → b ≡ false
-none_if true h = absurd (h refl)
-none_if false h = refl
-
-bool_same : (a b : Bool) → (a ≡ true → b ≡ true) → (b ≡ true → a ≡ true) → a ≡ b
-bool_same true b to back = sym (to refl)
-bool_same false true to back = back refl
-bool_same false false to back = refl
 
 -- a free move is a step of each block that is inside
 free_steps : (d : Parts) (s : State) (m : Move) (i : ℕ) → inside_at is_combinational d.processes s.places i ≡ true → is_free Block d s m ≡ true → is_step_of i m ≡ true

@@ -10,21 +10,14 @@ use Rattle.vs_design.specs.declared.write.Part.{Part}
 use Rattle.vs_design.specs.Stores.{Store, changed_at, overlaid, put_part, put, word_in, word_of}
 use Rattle.vs_design.specs.Writes.{Write, names}
 use Rattle.vs_eval.specs.Laws.{digit_in, digit_of}
-use Rattle.vs_process.proofs.Lists.{same_gets}
-use Rattle.vs_process.proofs.Stores.{changed_other, changed_same, shape, shape-put}
+use Rattle.vs_logic4.proofs.Basics.{same_lists as same_gets}
+use Rattle.vs_process.proofs.Stores.{changed_other, shape, shape-put}
+use Rattle.vs_design.proofs.Stores.{slice_get-changed_at as changed_same}
+use Rattle.vs_design.proofs.Stores.{word_changes as word_same}
+use Rattle.vs_eval.proofs.Digits.{replaced_digit as get-replaced_from}
+use Rattle.vs_logic4.proofs.Basics.{plus_suc, plus_zero, same_first as head_is, tail_is}
 
 -- ---- digits of a word behind a part
-
-plus_zero : (z : ℤ) → z +ℤ pos 0 ≡ z
-plus_zero z = omega (arith, ints)
-
-plus_suc : (z : ℤ) (k : ℕ) → (z +ℤ pos 1) +ℤ pos k ≡ z +ℤ pos (suc k)
-plus_suc z k = omega (arith, ints)
-
-get-replaced_from : (z : ℤ) (part ds : List Digit) (k : ℕ) → slice_get (replaced_from z part ds) k ≡ option_map (digit_at (z +ℤ pos k) part) (slice_get ds k)
-get-replaced_from z part [] k = refl
-get-replaced_from z part (d ∷ ds) zero = ap (λ y. Some (digit_at y part d)) (sym (plus_zero z))
-get-replaced_from z part (d ∷ ds) (suc k) = get-replaced_from (z +ℤ pos 1) part ds k ∙ ap (λ y. option_map (digit_at y part) (slice_get ds k)) (plus_suc z k)
 
 digit-overlaid : (low : ℤ) (part : List Digit) (o : Option (List Digit)) (k : ℕ) → digit_in (option_map (overlaid low part) o) k ≡ option_map (digit_at (neg_ℤ low +ℤ pos k) part) (digit_in o k)
 digit-overlaid low part None k = refl
@@ -58,10 +51,6 @@ laid_there p v w k d h = ap (λ b. if b then digit_at (neg_ℤ p.low +ℤ pos k)
 
 pub laid_elsewhere : (p : Part) (v w k : ℕ) (d : Digit) → (p.signal == v && p.word == w) ≡ false → laid_part p v w k d ≡ d
 laid_elsewhere p v w k d h = ap (λ b. if b then digit_at (neg_ℤ p.low +ℤ pos k) p.digits d else d) h
-
-word_same : (f : List Digit → List Digit) (i : ℕ) (o : Option (List (List Digit))) → word_in (option_map (changed_at f i) o) i ≡ option_map f (word_in o i)
-word_same f i None = refl
-word_same f i (Some words) = changed_same f i words
 
 word_other : (f : List Digit → List Digit) (i w : ℕ) (o : Option (List (List Digit))) → (w ≡ i → ⊥) → word_in (option_map (changed_at f i) o) w ≡ word_in o w
 word_other f i w None h = refl
@@ -157,12 +146,6 @@ pub kept_digit : (store : Store) (ps : Write) (v w k : ℕ) → Keeps ps v w k �
 kept_digit store ps v w k h = digit-put store ps v w k ∙ map_kept (laid ps v w k) (digit_of store v w k) h
 
 -- ---- equal stores
-
-tail_is : {A : Type 0} (x y : A) (xs ys : List A) → x ∷ xs ≡ y ∷ ys → xs ≡ ys
-tail_is x y xs ys h = cc
-
-head_is : {A : Type 0} (x y : A) (xs ys : List A) → x ∷ xs ≡ y ∷ ys → x ≡ y
-head_is x y xs ys h = cc
 
 same_word_lists : (xs ys : List (List Digit)) → map length xs ≡ map length ys → ((w k : ℕ) → digit_in (slice_get xs w) k ≡ digit_in (slice_get ys w) k) → xs ≡ ys
 same_word_lists [] [] h same = refl

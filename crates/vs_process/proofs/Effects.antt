@@ -172,7 +172,7 @@ went_by steps gait todo rest store behind time halt last old next new effect mad
     }
 
 -- a process that doesn't end at an event control waits for no event
-active_terms : (gait : Gait) (todo : Todo) → terms_of (active_at gait todo) ≡ []
+pub active_terms : (gait : Gait) (todo : Todo) → terms_of (active_at gait todo) ≡ []
 active_terms gait [] = refl
 active_terms gait (i ∷ todo) = refl
 

@@ -21,7 +21,9 @@ use Rattle.vs_process.specs.declared.moves.Move.TheVariants.{Step, Evaluate, Pro
 use Rattle.vs_process.specs.Idle.{HasValueIfIdle}
 use Rattle.vs_process.proofs.WellFormed.{IsVariable, NamesVariables, any_activated, is_sound_place, is_sound_todo, next_todo, drives_apart, sound_made, sound_next, sound_all_wakened, sound_place_behind, sound_places_at, sound_roused, sound_start_places, step_names, variable_undriven}
 use Rattle.vs_process.proofs.Assigns.{AssignsSound, assign_fixed, assign_of, idle_value, sound_behind, sound_evaluated, sound_propagated, sound_start, sound_written}
-use Rattle.vs_process.proofs.Lists.{all_at, all_set, any_without, at_any, list_all_like}
+use Rattle.vs_process.proofs.Lists.{all_set, any_without, list_all_like}
+use Rattle.std.proofs.lemmas.Map.Keys.{any_passes_from_place as at_any}
+use Rattle.vs_logic4.proofs.Basics.{all_at}
 
 -- the continuous assignments are sound, processes still do what is sound, and updates name variables alone
 pub record IsSound (d : Parts) (s : State) : Type 0 where

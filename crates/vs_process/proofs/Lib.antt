@@ -4,8 +4,9 @@ pub mod Digits
 pub mod Effects
 pub mod Idle
 pub mod Lists
-mod Permitted
+pub mod Permitted
 pub mod Ranges
+pub mod Sizes
 pub mod Stores
 pub mod Times
 pub mod Values

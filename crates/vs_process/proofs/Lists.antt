@@ -6,16 +6,8 @@ use Rattle.std.proofs.lemmas.List.Elements.{All-get_or}
 use Rattle.std.proofs.lemmas.Option.{slice_get_within, get_or_from_slice_get}
 use Rattle.std.proofs.lemmas.Bool.{cases_eq, cases_Bool, and_parts, and_from, or_left, or_right, or_from, true≢false, false≢true}
 use Rattle.vs_process.specs.States.{without}
-
--- two lists with the same elements are equal
-pub same_gets : {A : Type 0} (xs ys : List A) → ((i : ℕ) → slice_get xs i ≡ slice_get ys i) → xs ≡ ys
-same_gets [] [] h = refl
-same_gets [] (y ∷ ys) h = let e : None ≡ Some y = h 0 in cc
-same_gets (x ∷ xs) [] h = let e : Some x ≡ None = h 0 in cc
-same_gets (x ∷ xs) (y ∷ ys) h =
-    let first : Some x ≡ Some y = h 0 in
-    let rest = same_gets xs ys (λ i. h (suc i)) in
-    cc
+use Rattle.std.proofs.lemmas.Map.Keys.{any_passes_from_place as at_any}
+use Rattle.vs_logic4.proofs.Basics.{all_at, element_of as any_at, same_lists as same_gets}
 
 pub set_same : {A : Type 0} (xs : List A) (i : ℕ) (x y : A) → slice_get xs i ≡ Some x → slice_get (slice_set xs i y) i ≡ Some y
 set_same [] i x y h = cc
@@ -57,24 +49,6 @@ list_all_like p q (x ∷ xs) f h =
     let parts = and_parts (p x) (list_all p xs) h in
     and_from (q x) (list_all q xs) (f x parts.0) (list_all_like p q xs f parts.1)
 
--- some element of which a list has one
-pub any_at : {A : Type 0} (p : A → Bool) (xs : List A) → list_any p xs ≡ true → (i : ℕ) × (x : A) × (slice_get xs i ≡ Some x) × (p x ≡ true)
-any_at p [] h = absurd (false≢true h)
-any_at p (x ∷ xs) h =
-    elim (cases_Bool (p x)) [
-      | inl hit ↦ (0, x, refl, hit)
-      | inr miss ↦ let r = any_at p xs (sym (ap (λ b. b || list_any p xs) miss) ∙ h) in (suc r.0, r.1, r.2, r.3)
-    ]
-
-pub at_any : {A : Type 0} (p : A → Bool) (xs : List A) (i : ℕ) (x : A) → slice_get xs i ≡ Some x → p x ≡ true → list_any p xs ≡ true
-at_any p [] i x h g = cc
-at_any p (z ∷ xs) zero x h g = let e : z ≡ x = cc in ap (λ t. p t || list_any p xs) e ∙ ap (λ b. b || list_any p xs) g
-at_any p (z ∷ xs) (suc i) x h g =
-    elim (cases_Bool (p z)) [
-      | inl hit ↦ ap (λ b. b || list_any p xs) hit
-      | inr miss ↦ ap (λ b. b || list_any p xs) miss ∙ at_any p xs i x h g
-    ]
-
 -- no element of which a list has none
 pub none_at : {A : Type 0} (p : A → Bool) (xs : List A) (i : ℕ) (x : A) → slice_get xs i ≡ Some x → list_any p xs ≡ false → p x ≡ false
 none_at p xs i x h g =
@@ -107,12 +81,6 @@ distinct_place eq same (y ∷ ks) (suc j) zero x z h at_j at_k e =
     let s : y ≡ x = cc in
     absurd (true≢false (sym (same y x s) ∙ all_of (λ q. eq y q ≡ false) ks j x at_j (IsDistinct-head eq y ks h)))
 distinct_place eq same (y ∷ ks) (suc j) (suc k) x z h at_j at_k e = ap suc (distinct_place eq same ks j k x z (IsDistinct-tail eq y ks h) at_j at_k e)
-
--- an element of a list of which all pass a test
-pub all_at : {A : Type 0} (p : A → Bool) (xs : List A) (i : ℕ) (x : A) → slice_get xs i ≡ Some x → list_all p xs ≡ true → p x ≡ true
-all_at p [] i x is h = cc
-all_at p (y ∷ xs) zero x is h = let e : y ≡ x = cc in subst (λ z. p z ≡ true) e (and_parts (p y) (list_all p xs) h).0
-all_at p (y ∷ xs) (suc i) x is h = all_at p xs i x is (and_parts (p y) (list_all p xs) h).1
 
 -- a list of which one element was set
 pub all_set : {A : Type 0} (p : A → Bool) (xs : List A) (i : ℕ) (y : A) → p y ≡ true → list_all p xs ≡ true → list_all p (slice_set xs i y) ≡ true

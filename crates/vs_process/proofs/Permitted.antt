@@ -13,6 +13,7 @@ use Rattle.vs_flatcode.specs.Places.{Place, is_going}
 use Rattle.vs_process.specs.States.{State, AssignState, Update, stepped, evaluate, propagate, propagate_value, make}
 use Rattle.vs_process.specs.Executions.{is_first, is_busy, has_inactive, has_due, is_free, is_enabled, if_some, allowed, apply}
 use Rattle.vs_process.specs.Permitted.{Permitted, runs, evaluates, propagates, updates, rouses, activates, ends_slot, CanGo}
+use Rattle.vs_logic4.proofs.Basics.{pending_of}
 
 -- the first element that passes a test
 pub record Found {A : Type 0} (f : A → Bool) (xs : List A) : Type 0 where
@@ -123,13 +124,9 @@ permitted_is_allowed grain d s _ (activates o quiet none due free) =
 permitted_is_allowed grain d s _ (ends_slot o quiet none idle free) =
     (EndSlot, allowed_from grain d s EndSlot o (ap (λ b. not b && not (has_inactive s) && not (has_due s)) quiet ∙ ap (λ b. not b && not (has_due s)) none ∙ ap not idle) free, refl)
 
-some_of : {A : Type 0} (f : A → Bool) (o : Option A) → if_some f o ≡ true → (x : A) × (o ≡ Some x) × (f x ≡ true)
+pub some_of : {A : Type 0} (f : A → Bool) (o : Option A) → if_some f o ≡ true → (x : A) × (o ≡ Some x) × (f x ≡ true)
 some_of f None h = absurd (let no_way : false ≡ true = h in cc)
 some_of f (Some x) h = (x, refl, h)
-
-pending_of : {A : Type 0} (o : Option A) → is_some o ≡ true → (x : A) × (o ≡ Some x)
-pending_of None h = absurd (let no_way : false ≡ true = h in cc)
-pending_of (Some x) h = (x, refl)
 
 enabled_is_permitted : (grain : Grain) (d : Parts) (s : State) (m : Move) → s.over ≡ false → is_enabled s m ≡ true → is_free grain d s m ≡ true → Permitted grain d s (apply m s)
 enabled_is_permitted grain d s (Step i) o e f =

@@ -27,28 +27,22 @@ use Rattle.vs_design.specs.WellFormed.{width_at, bits_or_all, have_common, share
 use Rattle.vs_design.specs.Writes.{Write, names}
 use Rattle.vs_eval.specs.Laws.{digit_in, digit_of}
 use Rattle.vs_eval.specs.Targets.{part_at, parts_from, assigned}
-use Rattle.vs_process.proofs.Lists.{all_of, any_at, at_any, same_gets}
+use Rattle.vs_process.proofs.Lists.{all_of}
+use Rattle.std.proofs.lemmas.Map.Keys.{any_passes_from_place as at_any}
+use Rattle.vs_logic4.proofs.Basics.{element_of as any_at, same_lists as same_gets}
 use Rattle.vs_process.proofs.Stores.{shape}
 use Rattle.vs_process.proofs.Digits.{Fixes, Keeps, laid_part, laid_there, laid_elsewhere, length_in, lengths}
+use Rattle.vs_design.proofs.Drivers.{length-start_digits}
+use Rattle.vs_design.proofs.Stores.{word_in-words}
+use Rattle.vs_logic4.proofs.Basics.{get-drop, get-take as get-take_low, tail_is}
 
 -- ---- what a range holds
-
-get-take_low : {A : Type 0} (n k : ℕ) (xs : List A) → k < n → slice_get (take n xs) k ≡ slice_get xs k
-get-take_low zero k xs h = absurd (omega (arith, h))
-get-take_low (suc n) k [] h = refl
-get-take_low (suc n) zero (x ∷ xs) h = refl
-get-take_low (suc n) (suc k) (x ∷ xs) h = get-take_low n k xs (omega (arith, h))
 
 get-take_high : {A : Type 0} (n k : ℕ) (xs : List A) → n ≤ k → slice_get (take n xs) k ≡ None
 get-take_high zero k xs h = refl
 get-take_high (suc n) k [] h = refl
 get-take_high (suc n) zero (x ∷ xs) h = absurd (omega (arith, h))
 get-take_high (suc n) (suc k) (x ∷ xs) h = get-take_high n k xs (omega (arith, h))
-
-get-drop : {A : Type 0} (l k : ℕ) (xs : List A) → slice_get (drop l xs) k ≡ slice_get xs (l + k)
-get-drop zero k xs = let e : k ≡ 0 + k = omega arith in ap (slice_get xs) e
-get-drop (suc l) k [] = refl
-get-drop (suc l) k (x ∷ xs) = let e : suc (l + k) ≡ suc l + k = omega arith in get-drop l k xs ∙ ap (slice_get (x ∷ xs)) e
 
 -- words that agree at the places of a range have the same bits of it
 bits_alike : (bits : Option Bits) (x y : List Digit) → ((k : ℕ) → has_bit bits k ≡ true → slice_get x k ≡ slice_get y k) → chosen_bits bits x ≡ chosen_bits bits y
@@ -60,9 +54,6 @@ bits_alike (Some b) x y h = same_gets (take b.width (drop b.low x)) (take b.widt
           get-take_low b.width k (drop b.low x) lt ∙ get-drop b.low k x ∙ h (b.low + k) here ∙ sym (get-take_low b.width k (drop b.low y) lt ∙ get-drop b.low k y)
       | inr le ↦ get-take_high b.width k (drop b.low x) le ∙ sym (get-take_high b.width k (drop b.low y) le)
     ])
-
-tail_is : {A : Type 0} (x y : A) (xs ys : List A) → x ∷ xs ≡ y ∷ ys → xs ≡ ys
-tail_is x y xs ys h = cc
 
 words_alike : (bits : Option Bits) (xs ys : List (List Digit)) → map length xs ≡ map length ys →
     ((w k : ℕ) → has_bit bits k ≡ true → digit_in (slice_get xs w) k ≡ digit_in (slice_get ys w) k) → map (chosen_bits bits) xs ≡ map (chosen_bits bits) ys
@@ -85,10 +76,6 @@ chosen_alike : (word : Option ℕ) (bits : Option Bits) (xs ys : List (List Digi
 chosen_alike None bits xs ys long h = words_alike bits xs ys long (λ w k. h w k refl)
 chosen_alike (Some n) bits xs ys long h =
     one_alike bits (slice_get xs n) (slice_get ys n) (sym (slice_get-map length xs n) ∙ ap (λ l. slice_get l n) long ∙ slice_get-map length ys n) (λ k. h n k (eq-eqb n n refl))
-
-word_in-words : (o : Option (List (List Digit))) (w : ℕ) → word_in o w ≡ slice_get (words_in o) w
-word_in-words None w = refl
-word_in-words (Some words) w = refl
 
 sizes_in : (a b : Option (List (List Digit))) → option_map (λ words. map length words) a ≡ option_map (λ words. map length words) b → map length (words_in a) ≡ map length (words_in b)
 sizes_in None None h = refl
@@ -344,10 +331,6 @@ distinct_flat eq P clash f (z ∷ xs) (suc i) (suc j) x y apart at_i at_j ne h g
     distinct_flat eq P clash f xs i j x y (distinct_back eq (f z) (flat_map f xs) apart) at_i at_j (λ e. ne (ap suc e)) h g
 
 -- ---- how large signals are
-
-length-start_digits : (driven : ℕ → Bool) (kind : SignalKind) (place n : ℕ) → length (start_digits driven kind place n) ≡ n
-length-start_digits driven kind place zero = refl
-length-start_digits driven kind place (suc n) = ap suc (length-start_digits driven kind (suc place) n)
 
 repeated_size : (count : ℕ) (word : List Digit) (w n : ℕ) → slice_get (map length (replicate count word)) w ≡ Some n → n ≡ length word
 repeated_size zero word w n h = cc

@@ -6,6 +6,7 @@ use Rattle.vs_logic4.specs.Parts.{replaced_from}
 use Rattle.vs_design.specs.declared.write.Part.{Part}
 use Rattle.vs_design.specs.Stores.{Store, changed_at, overlaid, put_part, put}
 use Rattle.vs_design.specs.Writes.{Write, names}
+use Rattle.vs_design.proofs.Stores.{slice_get-changed_at as changed_same}
 
 pub changed_other : {A : Type 0} (f : A → A) (i v : ℕ) (xs : List A) → (v ≡ i → ⊥) → slice_get (changed_at f i xs) v ≡ slice_get xs v
 changed_other f i v [] h = refl
@@ -13,11 +14,6 @@ changed_other f zero zero (x ∷ xs) h = absurd (h refl)
 changed_other f zero (suc v) (x ∷ xs) h = refl
 changed_other f (suc i) zero (x ∷ xs) h = refl
 changed_other f (suc i) (suc v) (x ∷ xs) h = changed_other f i v xs (λ e. h (ap suc e))
-
-pub changed_same : {A : Type 0} (f : A → A) (i : ℕ) (xs : List A) → slice_get (changed_at f i xs) i ≡ option_map f (slice_get xs i)
-changed_same f i [] = refl
-changed_same f zero (x ∷ xs) = refl
-changed_same f (suc i) (x ∷ xs) = changed_same f i xs
 
 changed_local : {A : Type 0} (f : A → A) (i v : ℕ) (xs ys : List A) → slice_get xs v ≡ slice_get ys v → slice_get (changed_at f i xs) v ≡ slice_get (changed_at f i ys) v
 changed_local f i v xs ys h =

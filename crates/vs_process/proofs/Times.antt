@@ -25,6 +25,7 @@ use Rattle.vs_process.specs.States.{State, AssignState, Update, stepped, perform
 use Rattle.vs_flatcode.specs.Places.{todo_of}
 use Rattle.vs_flatcode.specs.Steps.{Next, on, Out, step}
 use Rattle.vs_flatcode.specs.Steps as steps
+use Rattle.vs_logic4.proofs.Basics.{past_due}
 
 -- ---- a fact of each element
 
@@ -128,7 +129,7 @@ due_behind : (by time : ℕ) (u : Option (ℕ × Write)) (us : List Update) → 
 due_behind by time None us h = h
 due_behind by time (Some u) us h = each-append (NotBefore time) us _ h (omega arith, tt)
 
-behind_time : (s : State) (w : Option Write) → (written_behind s w).time ≡ s.time
+pub behind_time : (s : State) (w : Option Write) → (written_behind s w).time ≡ s.time
 behind_time s None = refl
 behind_time s (Some w) = refl
 
@@ -240,11 +241,6 @@ each_update best (u ∷ us) = (least_update (earlier best u.due) us u.due (new_e
 
 -- ---- the end of a slot
 
-past_due : (time due : ℕ) (active : Bool) → active ≡ false → (not active && due == time) ≡ false → time ≤ due → time < due
-past_due time due true h k early = cc
-past_due time due false h k early =
-    ⊎_elim (λ same. absurd (let no_way : true ≡ false = sym same.0 ∙ k in cc)) (λ other. let apart : due ≡ time → ⊥ = other.1 in omega (arith, apart)) (eqb_tells due time)
-
 -- where none is activated and none is due, all are due later
 all_past : (time : ℕ) (us : List Update) → list_any (λ (u : Update). u.active) us ≡ false → list_any (is_due time) us ≡ false → Each (NotBefore time) us → Each (Past time) us
 all_past time [] h k e = tt
@@ -335,7 +331,7 @@ same_rise xs s t over time r =
     subst (λ (l : List Slot). Rises l t) (sym (append-nil xs))
     (record { rising = r.rising; below = λ live. subst (λ (n : ℕ). Each (Before n) xs) (sym time) (r.below (sym over ∙ live)) })
 
-stepped_over : (s : State) (i : ℕ) (o : Option Place) → (stepped s i o).over ≡ s.over
+pub stepped_over : (s : State) (i : ℕ) (o : Option Place) → (stepped s i o).over ≡ s.over
 stepped_over s i None = refl
 stepped_over s i (Some x) = over_behind s (step (todo_of x) s.store s.time).write
   where

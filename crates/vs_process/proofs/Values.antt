@@ -12,20 +12,9 @@ use Rattle.vs_design.specs.Stores.{Store, same_words, words_in, chosen_words, ch
 use Rattle.vs_design.specs.Uses.{reads}
 use Rattle.vs_eval.specs.Values.{value_of, target_value}
 use Rattle.vs_eval.proofs.ReadsHold.{value_kept}
+use Rattle.vs_design.proofs.Stores.{same_words-true, same_words_self}
 
 -- ---- changes of ranges
-
-pub same_words-true : (a b : List (List Digit)) → same_words a b ≡ true → a ≡ b
-same_words-true [] [] h = refl
-same_words-true [] (y ∷ b) h = absurd (false≢true h)
-same_words-true (x ∷ a) [] h = absurd (false≢true h)
-same_words-true (x ∷ a) (y ∷ b) h =
-    let parts = and_parts (same_digits x y) (same_words a b) h in
-    ap₂ (λ w ws. w ∷ ws) (same_digits-true x y parts.0) (same_words-true a b parts.1)
-
-same_words_self : (a : List (List Digit)) → same_words a a ≡ true
-same_words_self [] = refl
-same_words_self (x ∷ a) = rw (same_digits_self x, same_words_self a) refl
 
 -- a range that isn't changed has the same content
 pub unchanged : (old new : Store) (r : BitRange) → is_changed old new r ≡ false → content r old ≡ content r new

@@ -39,7 +39,8 @@ use Rattle.vs_flatcode.specs.Places.{todo_of}
 use Rattle.vs_process.specs.Executions.{places_at}
 use Rattle.vs_eval.specs.Values.{target_value, value_of}
 use Rattle.vs_process.proofs.Assigns.{DrivesApart}
-use Rattle.vs_process.proofs.Lists.{all_at, all_slice, any_at, list_all_like, map_cases}
+use Rattle.vs_process.proofs.Lists.{all_slice, list_all_like, map_cases}
+use Rattle.vs_logic4.proofs.Basics.{all_at, element_of as any_at}
 use Rattle.vs_process.proofs.Ranges.{assigned_names, distinct_flat, is_fixed, shares_covered}
 use Rattle.vs_flatcode.proofs.Shapes.{flat-Block}
 
@@ -88,7 +89,7 @@ net_of d formed j a v is h =
     let place = place_named a.target v h in
     net_place d.signals place.1 v (all_at (is_net_aim d.signals) a.target.parts.items place.0 place.1 place.2 (net_places d formed j a is)) place.3
 
-variable_at : (o : Option Signal) → is_of_variable o ≡ true → (s : Signal) × (o ≡ Some s) × (is_variable s.kind ≡ true)
+pub variable_at : (o : Option Signal) → is_of_variable o ≡ true → (s : Signal) × (o ≡ Some s) × (is_variable s.kind ≡ true)
 variable_at None h = absurd (false≢true h)
 variable_at (Some s) h = (s, refl, h)
 

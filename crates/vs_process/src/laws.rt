@@ -2,7 +2,7 @@
 ghost use Rattle.vs_process.specs.Blocks.{BlocksExclude, InsideFollows, InsideGoesOn, NoneInsideFirst};
 ghost use Rattle.vs_process.specs.Examples.{BlocksAreTold};
 ghost use Rattle.vs_process.specs.Idle.{IdleHaveValues};
-ghost use Rattle.vs_process.specs.Laws.{TimesRise};
+ghost use Rattle.vs_process.specs.Laws.{StoresAreSized, TimesRise};
 ghost use Rattle.vs_process.specs.Permitted.{NeverStuck, MovesArePermitted};
 
 /// An execution is never stuck: a state that it reaches and that isn't over has a permitted step, at both grains.
@@ -24,6 +24,11 @@ pub fn idle_assigns_have_values()
 /// The slots of an execution's trace end at rising times.
 pub fn times_rise()
     ensures { TimesRise }
+{}
+
+/// In each state that moves lead to, and at the end of each slot, every word of every signal has the signal's size (IEEE 1364-2005, clauses 4.3.1 and 4.9).
+pub fn stores_are_sized()
+    ensures { StoresAreSized }
 {}
 
 /// At grain block at most one combinational block has taken a step since its control, and a move is free where none has, or where it is a step of

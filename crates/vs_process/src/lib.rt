@@ -9,7 +9,7 @@ mod place;
 pub use combinational::is_combinational;
 pub use laws::{
     blocks_are_told, blocks_exclude, idle_assigns_have_values, inside_follows, inside_goes_on,
-    moves_are_permitted, never_stuck, none_inside_first, times_rise,
+    moves_are_permitted, never_stuck, none_inside_first, stores_are_sized, times_rise,
 };
 pub use moves::{Grain, Move};
 pub use place::{Place, Went};

@@ -213,7 +213,7 @@ impl<'a> Place<'a> {
     /// stays active, and where the last of these has an effect, the turns of `forever` and the timing control behind it, or where it writes, the turns of
     /// `forever` and the delay behind it, at most so many in all: where it goes from there, and in `effect` what they do to the rest of the state, where
     /// they do any. The write of a blocking assignment is made in the store, and the words that it changes go to `changes`. The steps end in front of one that
-    /// has no memory; without memory for the first one the place and the store are as they were.
+    /// has no memory; without memory for the first one the place, the store and `changes` are as they were.
     #[inline(always)]
     pub fn steps(
         &mut self,
@@ -234,6 +234,7 @@ impl<'a> Place<'a> {
         ensures active { OnErr result (is_going self.new ≡ true) }
         ensures place_kept { OnErr result (self.new ≡ self.old) }
         ensures store_kept { OnErr result (store.new ≡ store.old) }
+        ensures changes_kept { OnErr result (changes.new.items ≡ changes.old.items) }
     {
         let Wait::Nothing(gait) = self.wait else {
             return Ok(Went {

@@ -11,7 +11,9 @@ use Rattle.vs_design.specs.Writes.{shares}
 use Rattle.vs_process.specs.Executions.{if_some, is_first}
 use Rattle.vs_process.specs.States.{Update, without, is_due, activated}
 use Rattle.vs_regions.specs.Active.{is_active, place_of_active}
-use Rattle.vs_regions.proofs.FilterLemmas.{any_none}
+use Rattle.vs_logic4.proofs.Basics.{filter_some as any_none}
+use Rattle.std.proofs.lemmas.Bool.{and_right as away}
+use Rattle.vs_logic4.proofs.Basics.{and_right, left_false as left_any, or_false as kept_flag, past_end as past, right_false as right_any}
 
 -- ---- the update at the place
 get_here : (c : Bool) (u : Update) (us fs : List Update) (n : ℕ) → slice_get us n ≡ slice_get fs 0 → slice_get (u ∷ us) (cond c 0 (suc n)) ≡ slice_get (cond c (u ∷ fs) fs) 0
@@ -171,14 +173,6 @@ now_by time u false false ls bs e h = h
 now_by time u true false ls bs e h = cc
 now_by time u false true ls bs e h = cc
 
-left_any : (a b : Bool) → (a || b) ≡ false → a ≡ false
-left_any true b h = h
-left_any false b h = refl
-
-right_any : (a b : Bool) → (a || b) ≡ false → b ≡ false
-right_any true b h = cc
-right_any false b h = h
-
 pub activated_ones : (time : ℕ) (us : List Update) → list_any is_active us ≡ false → filter is_active (map (activated time) us) ≡ map (activated time) (filter (is_due time) us)
 activated_ones time [] none = refl
 activated_ones time (u ∷ us) none =
@@ -201,18 +195,6 @@ same_by p u v ls bs e f h = ap (λ b. cond b (v ∷ ls) ls) e ∙ by_test (p u) 
     by_test : (c : Bool) → (c ≡ true → v ≡ u) → cond c (v ∷ ls) ls ≡ cond c (u ∷ bs) bs
     by_test true f = ap (λ w. w ∷ ls) (f refl) ∙ ap (λ l. u ∷ l) h
     by_test false f = h
-
-kept_flag : (a c : Bool) → c ≡ false → (a || c) ≡ a
-kept_flag true c e = refl
-kept_flag false c e = e
-
-away : (d x : Bool) → x ≡ false → (d && x) ≡ false
-away true x e = e
-away false x e = refl
-
-and_right : (d x : Bool) → (d && x) ≡ true → x ≡ true
-and_right true x e = e
-and_right false x e = cc
 
 later_same : (time t : ℕ) (u : Update) → time ≢ t → is_due t u ≡ true → activated time u ≡ u
 later_same time t u apart h =
@@ -245,10 +227,6 @@ pub first_among : (us xs : List Update) (k : ℕ) → filter is_active us ≡ xs
 first_among us xs k e = sym (place-first k us ∙ ap (λ l. if_some (is_first l k) (slice_get l k)) e)
 
 -- ---- taken out by number
-past : {A : Type 0} (xs : List A) (k : ℕ) → (k < length xs → ⊥) → slice_get xs k ≡ None
-past [] k h = refl
-past (x ∷ xs) zero h = absurd (h (omega arith))
-past (x ∷ xs) (suc k) h = past xs k (λ b. h (omega arith))
 
 -- past the end there is none that is the first of its signals
 pub past_is_none : (us : List Update) (i : ℕ) → (i < length us → false ≡ true) → false ≡ if_some (is_first us i) (slice_get us i)

@@ -3,6 +3,7 @@ use Rattle.std.proofs.Common.{◌≡◌, ℕ, ◌||◌, not, length, Bool, true,
 use Rattle.std.specs.Prelude.{nat_eq}
 use Rattle.std.specs.List.{list_any}
 use Rattle.std.proofs.lemmas.Bool.{ne_eqb}
+use Rattle.vs_logic4.proofs.Basics.{filter_some as any_none}
 
 -- whether a list has an element
 abbrev pub is_filled : {A : Type 0} → List A → Bool
@@ -23,9 +24,6 @@ empty_of (x ∷ xs) h = cc
 
 pub none_any : {A : Type 0} (p : A → Bool) (xs : List A) → list_any p xs ≡ false → filter p xs ≡ []
 none_any p xs h = empty_of (filter p xs) (sym (any_filled p xs) ∙ h)
-
-pub any_none : {A : Type 0} (p : A → Bool) (xs : List A) → filter p xs ≡ [] → list_any p xs ≡ false
-any_none p xs h = any_filled p xs ∙ ap is_filled h
 
 -- ---- one test after another
 skip_by : {A : Type 0} (p : A → Bool) (x : A) (c d : Bool) (ys zs : List A) → p x ≡ d → (d ≡ true → c ≡ true) → filter p ys ≡ zs → filter p (cond c (x ∷ ys) ys) ≡ cond d (x ∷ zs) zs

@@ -7,52 +7,52 @@ use Rattle.vs_time_wheel.specs.Bag.{events_at, least_time, SameBag, IsFrom, olde
 use Rattle.vs_time_wheel.specs.Turn.{first_of}
 use Rattle.vs_time_wheel.proofs.Bags.{least_time-from_time, oldest_at-first, events_at-without_oldest, events_at-without_other}
 use Rattle.vs_process.specs.States.{Update}
-use Rattle.vs_regions.specs.declared.item.Item.{Item}
-use Rattle.vs_regions.specs.declared.item.Item.TheVariants.{Wake, Late}
+use Rattle.vs_regions.specs.declared.item.Due.{Due}
+use Rattle.vs_regions.specs.declared.item.Due.TheVariants.{Wake, Late}
 use Rattle.vs_regions.specs.Items.{wakes, lates, sleeper, sleepers_of}
 
 -- ---- lists of items
-pub wakes-append : (xs ys : List Item) → wakes (xs ++ ys) ≡ wakes xs ++ wakes ys
+pub wakes-append : (xs ys : List Due) → wakes (xs ++ ys) ≡ wakes xs ++ wakes ys
 wakes-append [] ys = refl
 wakes-append (Wake p ∷ xs) ys = ap (λ (l : List ℕ). p ∷ l) (wakes-append xs ys)
 wakes-append (Late u ∷ xs) ys = wakes-append xs ys
 
-pub lates-append : (xs ys : List Item) → lates (xs ++ ys) ≡ lates xs ++ lates ys
+pub lates-append : (xs ys : List Due) → lates (xs ++ ys) ≡ lates xs ++ lates ys
 lates-append [] ys = refl
 lates-append (Wake p ∷ xs) ys = lates-append xs ys
 lates-append (Late u ∷ xs) ys = ap (λ (l : List Update). u ∷ l) (lates-append xs ys)
 
 -- without ends of delays and without updates there is no item
-pub no_items : (xs : List Item) → wakes xs ≡ [] → lates xs ≡ [] → xs ≡ []
+pub no_items : (xs : List Due) → wakes xs ≡ [] → lates xs ≡ [] → xs ≡ []
 no_items [] w l = refl
 no_items (Wake p ∷ xs) w l = absurd cc
 no_items (Late u ∷ xs) w l = absurd cc
 
 -- ---- ends of delays
-wake_by : (c : Bool) (p : ℕ) (xs : List ℕ) (ys : List Item) → xs ≡ wakes ys → cond c (p ∷ xs) xs ≡ wakes (cond c (Wake p ∷ ys) ys)
+wake_by : (c : Bool) (p : ℕ) (xs : List ℕ) (ys : List Due) → xs ≡ wakes ys → cond c (p ∷ xs) xs ≡ wakes (cond c (Wake p ∷ ys) ys)
 wake_by true p xs ys e = ap (λ (l : List ℕ). p ∷ l) e
 wake_by false p xs ys e = e
 
-late_by : (c : Bool) (u : Update) (xs : List ℕ) (ys : List Item) → xs ≡ wakes ys → xs ≡ wakes (cond c (Late u ∷ ys) ys)
+late_by : (c : Bool) (u : Update) (xs : List ℕ) (ys : List Due) → xs ≡ wakes ys → xs ≡ wakes (cond c (Late u ∷ ys) ys)
 late_by true u xs ys e = e
 late_by false u xs ys e = e
 
-sleeper_at : (t time : ℕ) (x : Item) (others : List (Timed ℕ)) (ys : List Item) → events_at t others ≡ wakes ys → events_at t (sleeper time x others) ≡ wakes (cond (nat_eq time t) (x ∷ ys) ys)
+sleeper_at : (t time : ℕ) (x : Due) (others : List (Timed ℕ)) (ys : List Due) → events_at t others ≡ wakes ys → events_at t (sleeper time x others) ≡ wakes (cond (nat_eq time t) (x ∷ ys) ys)
 sleeper_at t time (Wake p) others ys e = wake_by (nat_eq time t) p (events_at t others) ys e
 sleeper_at t time (Late u) others ys e = late_by (nat_eq time t) u (events_at t others) ys e
 
-pub sleepers_at : (t : ℕ) (b : List (Timed Item)) → events_at t (sleepers_of b) ≡ wakes (events_at t b)
+pub sleepers_at : (t : ℕ) (b : List (Timed Due)) → events_at t (sleepers_of b) ≡ wakes (events_at t b)
 sleepers_at t [] = refl
 sleepers_at t (e ∷ es) = sleeper_at t e.time e.event (sleepers_of es) (events_at t es) (sleepers_at t es)
 
-pub sleepers_same : {a b : List (Timed Item)} → SameBag a b → SameBag (sleepers_of a) (sleepers_of b)
+pub sleepers_same : {a b : List (Timed Due)} → SameBag a b → SameBag (sleepers_of a) (sleepers_of b)
 sleepers_same {a} {b} s = record { at_each = λ t. sleepers_at t a ∙ ap wakes (s.at_each t) ∙ sym (sleepers_at t b) }
 
-sleeper_before : (time : ℕ) (x : Item) (ls bs : List (Timed ℕ)) → sleeper time x (ls ++ bs) ≡ sleeper time x ls ++ bs
+sleeper_before : (time : ℕ) (x : Due) (ls bs : List (Timed ℕ)) → sleeper time x (ls ++ bs) ≡ sleeper time x ls ++ bs
 sleeper_before time (Wake p) ls bs = refl
 sleeper_before time (Late u) ls bs = refl
 
-pub sleepers_append : (a b : List (Timed Item)) → sleepers_of (a ++ b) ≡ sleepers_of a ++ sleepers_of b
+pub sleepers_append : (a b : List (Timed Due)) → sleepers_of (a ++ b) ≡ sleepers_of a ++ sleepers_of b
 sleepers_append [] b = refl
 sleepers_append (e ∷ es) b = ap (sleeper e.time e.event) (sleepers_append es b) ∙ sleeper_before e.time e.event (sleepers_of es) (sleepers_of b)
 
@@ -89,16 +89,16 @@ pub from_least : {E : Type 0} (time : ℕ) (bag : List (Timed E)) → IsFrom tim
 from_least time bag from = for_some (least_time bag) time (least_time-from_time time bag from)
 
 -- ---- an item goes to its list
-pub more_lates : (xs xs' target : List Update) (item : Item) (ys ys' : List Item) → xs' ≡ xs ++ lates (item ∷ []) → ys ≡ item ∷ ys' → xs ++ lates ys ≡ target → xs' ++ lates ys' ≡ target
+pub more_lates : (xs xs' target : List Update) (item : Due) (ys ys' : List Due) → xs' ≡ xs ++ lates (item ∷ []) → ys ≡ item ∷ ys' → xs ++ lates ys ≡ target → xs' ++ lates ys' ≡ target
 more_lates xs xs' target item ys ys' e f h =
     ap (λ l. l ++ lates ys') e ∙ append_assoc xs (lates (item ∷ [])) (lates ys') ∙ ap (λ l. xs ++ l) (sym (lates-append (item ∷ []) ys')) ∙ ap (λ l. xs ++ lates l) (sym f) ∙ h
 
-pub more_wakes : (xs xs' target : List ℕ) (item : Item) (ys ys' : List Item) → xs' ≡ xs ++ wakes (item ∷ []) → ys ≡ item ∷ ys' → xs ++ wakes ys ≡ target → xs' ++ wakes ys' ≡ target
+pub more_wakes : (xs xs' target : List ℕ) (item : Due) (ys ys' : List Due) → xs' ≡ xs ++ wakes (item ∷ []) → ys ≡ item ∷ ys' → xs ++ wakes ys ≡ target → xs' ++ wakes ys' ≡ target
 more_wakes xs xs' target item ys ys' e f h =
     ap (λ l. l ++ wakes ys') e ∙ append_assoc xs (wakes (item ∷ [])) (wakes ys') ∙ ap (λ l. xs ++ l) (sym (wakes-append (item ∷ []) ys')) ∙ ap (λ l. xs ++ wakes l) (sym f) ∙ h
 
-pub all_lates : (xs target : List Update) (ys : List Item) → ys ≡ [] → xs ++ lates ys ≡ target → xs ≡ target
+pub all_lates : (xs target : List Update) (ys : List Due) → ys ≡ [] → xs ++ lates ys ≡ target → xs ≡ target
 all_lates xs target ys none h = sym (ap (λ l. xs ++ lates l) none ∙ append-nil xs) ∙ h
 
-pub all_wakes : (xs target : List ℕ) (ys : List Item) → ys ≡ [] → xs ++ wakes ys ≡ target → xs ≡ target
+pub all_wakes : (xs target : List ℕ) (ys : List Due) → ys ≡ [] → xs ++ wakes ys ≡ target → xs ≡ target
 all_wakes xs target ys none h = sym (ap (λ l. xs ++ wakes l) none ∙ append-nil xs) ∙ h

@@ -8,8 +8,8 @@ use Rattle.vs_time_wheel.specs.declared.timing.Timed.{Timed}
 use Rattle.vs_time_wheel.specs.Bag.{events_at, SameBag}
 use Rattle.vs_time_wheel.proofs.Bags.{events_at-append, events_at-here, events_at-apart, SameBag-trans, SameBag-from_eq}
 use Rattle.vs_process.specs.States.{Update, without, is_due, activated}
-use Rattle.vs_regions.specs.declared.item.Item.{Item}
-use Rattle.vs_regions.specs.declared.item.Item.TheVariants.{Wake, Late}
+use Rattle.vs_regions.specs.declared.item.Due.{Due}
+use Rattle.vs_regions.specs.declared.item.Due.TheVariants.{Wake, Late}
 use Rattle.vs_regions.specs.Items.{lates, sleepers_of}
 use Rattle.vs_regions.specs.Active.{is_active, not_due, place_of_active}
 use Rattle.vs_regions.specs.Entries.{now_of, later_of, HasEntered}
@@ -17,8 +17,10 @@ use Rattle.vs_regions.specs.Regions.{AreKept}
 use Rattle.vs_regions.proofs.ItemsLemmas.{lates-append, sleepers_same, sleepers_append}
 use Rattle.vs_regions.proofs.FilterLemmas.{none_any, filter_within, filter_out}
 use Rattle.vs_regions.proofs.ActiveLemmas.{place-left, place-others, active_not_due, without-remove, activated_ones, activated_due, activated_later}
+use Rattle.std.proofs.lemmas.Bool.{and_right as away, not_from_false as not_other}
+use Rattle.vs_logic4.proofs.Basics.{and_right}
 
-pub kept_none : (bag : List (Timed Item)) (time : ℕ) → bag ≡ [] → AreKept [] [] [] bag time
+pub kept_none : (bag : List (Timed Due)) (time : ℕ) → bag ≡ [] → AreKept [] [] [] bag time
 kept_none bag time none = record {
   active_ones = refl;
   due_ones = refl;
@@ -26,7 +28,7 @@ kept_none bag time none = record {
   none_now = ap (λ b. lates (events_at time b)) none;
 }
 
-pub kept_same : {us active due : List Update} {bag bag' : List (Timed Item)} {time : ℕ} → AreKept us active due bag time → SameBag bag' bag → AreKept us active due bag' time
+pub kept_same : {us active due : List Update} {bag bag' : List (Timed Due)} {time : ℕ} → AreKept us active due bag time → SameBag bag' bag → AreKept us active due bag' time
 kept_same {time = time} h s = record {
   active_ones = h.active_ones;
   due_ones = h.due_ones;
@@ -41,13 +43,13 @@ wake_late t due p = elim (cases_eq due t) [
   | inr other ↦ ap lates (events_at-apart t (record { time = due; event = Wake p }) [] other)
 ]
 
-slept_late : (bag bag' : List (Timed Item)) (due p : ℕ) → SameBag bag' (bag ++ record { time = due; event = Wake p } ∷ []) → (t : ℕ) → lates (events_at t bag') ≡ lates (events_at t bag)
+slept_late : (bag bag' : List (Timed Due)) (due p : ℕ) → SameBag bag' (bag ++ record { time = due; event = Wake p } ∷ []) → (t : ℕ) → lates (events_at t bag') ≡ lates (events_at t bag)
 slept_late bag bag' due p s t =
     ap lates (s.at_each t ∙ events_at-append t bag (record { time = due; event = Wake p } ∷ []))
     ∙ lates-append (events_at t bag) (events_at t (record { time = due; event = Wake p } ∷ []))
     ∙ ap (λ l. lates (events_at t bag) ++ l) (wake_late t due p) ∙ append-nil (lates (events_at t bag))
 
-pub kept_slept : {us active due : List Update} {bag bag' : List (Timed Item)} {time : ℕ} (until p : ℕ) → AreKept us active due bag time → SameBag bag' (bag ++ record { time = until; event = Wake p } ∷ []) → AreKept us active due bag' time
+pub kept_slept : {us active due : List Update} {bag bag' : List (Timed Due)} {time : ℕ} (until p : ℕ) → AreKept us active due bag time → SameBag bag' (bag ++ record { time = until; event = Wake p } ∷ []) → AreKept us active due bag' time
 kept_slept {bag = bag} {bag' = bag'} {time = time} until p h s = record {
   active_ones = h.active_ones;
   due_ones = h.due_ones;
@@ -55,7 +57,7 @@ kept_slept {bag = bag} {bag' = bag'} {time = time} until p h s = record {
   none_now = slept_late bag bag' until p s time ∙ h.none_now;
 }
 
-pub slept_sleepers : (bag bag' : List (Timed Item)) (until p : ℕ) → SameBag bag' (bag ++ record { time = until; event = Wake p } ∷ []) → SameBag (sleepers_of bag') (sleepers_of bag ++ record { time = until; event = p } ∷ [])
+pub slept_sleepers : (bag bag' : List (Timed Due)) (until p : ℕ) → SameBag bag' (bag ++ record { time = until; event = Wake p } ∷ []) → SameBag (sleepers_of bag') (sleepers_of bag ++ record { time = until; event = p } ∷ [])
 slept_sleepers bag bag' until p s = SameBag-trans (sleepers_same s) (SameBag-from_eq (sleepers_append bag (record { time = until; event = Wake p } ∷ [])))
 
 -- ---- an update enters
@@ -97,7 +99,7 @@ module _ (u : Update) (time : ℕ) where
     | inr other ↦ item_at time other ∙ now_none time other
   ]
 
-  late_entered : (bag bag' : List (Timed Item)) → SameBag bag' (bag ++ later_of time u) → (t : ℕ) → lates (events_at t bag') ≡ lates (events_at t bag) ++ lates (events_at t (later_of time u))
+  late_entered : (bag bag' : List (Timed Due)) → SameBag bag' (bag ++ later_of time u) → (t : ℕ) → lates (events_at t bag') ≡ lates (events_at t bag) ++ lates (events_at t (later_of time u))
   late_entered bag bag' s t = ap lates (s.at_each t ∙ events_at-append t bag (later_of time u)) ∙ lates-append (events_at t bag) (events_at t (later_of time u))
 
   no_sleeper : sleepers_of (later_of time u) ≡ []
@@ -106,7 +108,7 @@ module _ (u : Update) (time : ℕ) where
     | inr other ↦ ap sleepers_of (later_one other)
   ]
 
-pub kept_entered : {us active due due' : List Update} {bag bag' : List (Timed Item)} {time : ℕ} (u : Update) → u.active ≡ false → AreKept us active due bag time → HasEntered u time due due' bag bag' → AreKept (us ++ u ∷ []) active due' bag' time
+pub kept_entered : {us active due due' : List Update} {bag bag' : List (Timed Due)} {time : ℕ} (u : Update) → u.active ≡ false → AreKept us active due bag time → HasEntered u time due due' bag bag' → AreKept (us ++ u ∷ []) active due' bag' time
 kept_entered {us} {active} {due} {due'} {bag} {bag'} {time} u off h e = record {
   active_ones = filter-append is_active us (u ∷ []) ∙ ap (λ l. filter is_active us ++ l) (new_active u off) ∙ append-nil (filter is_active us) ∙ h.active_ones;
   due_ones =
@@ -117,13 +119,13 @@ kept_entered {us} {active} {due} {due'} {bag} {bag'} {time} u off h e = record {
   none_now = late_entered u time bag bag' e.later time ∙ ap (λ l. lates (events_at time bag) ++ l) (entered_now u time) ∙ append-nil (lates (events_at time bag)) ∙ h.none_now;
 }
 
-pub entered_sleepers : {due due' : List Update} {bag bag' : List (Timed Item)} {time : ℕ} (u : Update) → HasEntered u time due due' bag bag' → SameBag (sleepers_of bag') (sleepers_of bag)
+pub entered_sleepers : {due due' : List Update} {bag bag' : List (Timed Due)} {time : ℕ} (u : Update) → HasEntered u time due due' bag bag' → SameBag (sleepers_of bag') (sleepers_of bag)
 entered_sleepers {bag = bag} {time = time} u e =
     SameBag-trans (sleepers_same e.later)
     (SameBag-from_eq (sleepers_append bag (later_of time u) ∙ ap (λ l. sleepers_of bag ++ l) (no_sleeper u time) ∙ append-nil (sleepers_of bag)))
 
 -- ---- an activated update is taken out
-pub kept_taken : {us active active' due : List Update} {bag : List (Timed Item)} {time : ℕ} (k : ℕ) → AreKept us active due bag time → active' ≡ remove active k → AreKept (without (place_of_active k us) us) active' due bag time
+pub kept_taken : {us active active' due : List Update} {bag : List (Timed Due)} {time : ℕ} (k : ℕ) → AreKept us active due bag time → active' ≡ remove active k → AreKept (without (place_of_active k us) us) active' due bag time
 kept_taken {us} {active} {active'} {due} {bag} {time} k h e = record {
   active_ones = place-left k us ∙ ap (without k) h.active_ones ∙ without-remove active k ∙ sym e;
   due_ones = place-others (is_due time) (active_not_due time) k us ∙ h.due_ones;
@@ -132,7 +134,7 @@ kept_taken {us} {active} {active'} {due} {bag} {time} k h e = record {
 }
 
 -- ---- those due in the slot are activated
-pub kept_activated : {us active due active' due' : List Update} {bag : List (Timed Item)} {time : ℕ} → list_any is_active us ≡ false → AreKept us active due bag time → active' ≡ map (activated time) due → due' ≡ active →
+pub kept_activated : {us active due active' due' : List Update} {bag : List (Timed Due)} {time : ℕ} → list_any is_active us ≡ false → AreKept us active due bag time → active' ≡ map (activated time) due → due' ≡ active →
     AreKept (map (activated time) us) active' due' bag time
 kept_activated {us} {active} {due} {active'} {due'} {bag} {time} none h e f = record {
   active_ones = activated_ones time us none ∙ ap (map (activated time)) h.due_ones ∙ sym e;
@@ -142,16 +144,16 @@ kept_activated {us} {active} {due} {active'} {due'} {bag} {time} none h e f = re
 }
 
 -- ---- time goes on
-none_due : {us active due : List Update} {bag : List (Timed Item)} {now : ℕ} → AreKept us active due bag now → list_any (is_due now) us ≡ false → filter (is_due now) us ≡ []
+none_due : {us active due : List Update} {bag : List (Timed Due)} {now : ℕ} → AreKept us active due bag now → list_any (is_due now) us ≡ false → filter (is_due now) us ≡ []
 none_due {us} {now = now} h none = none_any (is_due now) us none
 
-late_at : {us active due : List Update} {bag : List (Timed Item)} {now : ℕ} → AreKept us active due bag now → list_any (is_due now) us ≡ false → (t : ℕ) → filter (is_due t) us ≡ lates (events_at t bag)
+late_at : {us active due : List Update} {bag : List (Timed Due)} {now : ℕ} → AreKept us active due bag now → list_any (is_due now) us ≡ false → (t : ℕ) → filter (is_due t) us ≡ lates (events_at t bag)
 late_at {us} {active} {due} {bag} {now} h none t = elim (cases_eq now t) [
   | inl here ↦ subst (λ n. filter (is_due n) us ≡ lates (events_at n bag)) here (none_due h none ∙ sym h.none_now)
   | inr other ↦ h.late_ones t other
 ]
 
-pub kept_advanced : {us active due due' : List Update} {bag bag' : List (Timed Item)} {now : ℕ} (time : ℕ) → AreKept us active due bag now → list_any (is_due now) us ≡ false →
+pub kept_advanced : {us active due due' : List Update} {bag bag' : List (Timed Due)} {now : ℕ} (time : ℕ) → AreKept us active due bag now → list_any (is_due now) us ≡ false →
     due' ≡ due ++ lates (events_at time bag) → events_at time bag' ≡ [] → ((t : ℕ) → time ≢ t → events_at t bag' ≡ events_at t bag) → AreKept us active due' bag' time
 kept_advanced {us} {active} {due} {due'} {bag} {bag'} {now} time h none new taken others = record {
   active_ones = h.active_ones;
@@ -164,25 +166,13 @@ not_both : (b : Bool) → not b ≡ true → b ≡ false
 not_both true h = cc
 not_both false h = refl
 
-not_other : (b : Bool) → b ≡ false → not b ≡ true
-not_other true h = cc
-not_other false h = refl
-
-and_right : (d x : Bool) → (d && x) ≡ true → x ≡ true
-and_right true x e = e
-and_right false x e = cc
-
-away : (d x : Bool) → x ≡ false → (d && x) ≡ false
-away true x e = e
-away false x e = refl
-
 due_elsewhere : (time t : ℕ) → time ≢ t → (u : Update) → is_due t u ≡ true → not_due time u ≡ true
 due_elsewhere time t apart u h =
     let due : u.due ≡ t = eqb-true u.due t (and_right (not u.active) (nat_eq u.due t) h) in
     not_other (is_due time u) (away (not u.active) (nat_eq u.due time) (ne_eqb u.due time (λ e. apart (sym e ∙ due))))
 
 -- without memory those that are due then are lost
-pub kept_lost : {us active due due' : List Update} {bag bag' : List (Timed Item)} {now : ℕ} (time : ℕ) → AreKept us active due bag now → list_any (is_due now) us ≡ false →
+pub kept_lost : {us active due due' : List Update} {bag bag' : List (Timed Due)} {now : ℕ} (time : ℕ) → AreKept us active due bag now → list_any (is_due now) us ≡ false →
     due' ≡ [] → events_at time bag' ≡ [] → ((t : ℕ) → time ≢ t → events_at t bag' ≡ events_at t bag) → AreKept (filter (not_due time) us) active due' bag' time
 kept_lost {us} {active} {due} {due'} {bag} {bag'} {now} time h none new taken others = record {
   active_ones = filter_within is_active (not_due time) (λ u e. not_other (is_due time u) (active_not_due time u e)) us ∙ h.active_ones;

@@ -9,12 +9,13 @@ use Rattle.vs_time_wheel.specs.Bag.{events_at, least_time, IsFrom}
 use Rattle.vs_time_wheel.proofs.Bags.{IsLeast, IsBare, IsSoonest, least_time-is_least, least_time-from, none_before}
 use Rattle.vs_process.specs.Executions.{next_update}
 use Rattle.vs_process.specs.States.{Update, is_due}
-use Rattle.vs_regions.specs.declared.item.Item.{Item}
+use Rattle.vs_regions.specs.declared.item.Due.{Due}
 use Rattle.vs_regions.specs.Items.{wakes, lates, sleepers_of}
 use Rattle.vs_regions.specs.Active.{is_active}
 use Rattle.vs_regions.specs.Regions.{AreKept}
 use Rattle.vs_regions.proofs.ItemsLemmas.{sleepers_at, no_items}
 use Rattle.vs_regions.proofs.FilterLemmas.{none_any}
+use Rattle.std.proofs.lemmas.Bool.{or_left as here, or_right as there}
 
 -- no update is due before a time
 abbrev pub AreFrom : ℕ → List Update → Type 0
@@ -51,14 +52,6 @@ none_due_before time t (u ∷ us) h before =
 abbrev pub IsDueAt : ℕ → List Update → Type 0
 IsDueAt t us = list_any (λ (u : Update). u.due == t) us ≡ true
 
-there : (a b : Bool) → b ≡ true → (a || b) ≡ true
-there true b e = refl
-there false b e = e
-
-here : (a b : Bool) → a ≡ true → (a || b) ≡ true
-here true b e = refl
-here false b e = cc
-
 pub reached : (best : Option ℕ) (us : List Update) (t : ℕ) → next_update best us ≡ Some t → (best ≡ Some t) ⊎ IsDueAt t us
 reached best [] t e = inl e
 reached None (u ∷ us) t e = elim (reached (Some u.due) us t e) [
@@ -92,7 +85,7 @@ due_found t (u ∷ us) n e =
     let r = some_due u.active (nat_eq u.due t) (list_any is_active us) u (filter (is_due t) us) e n in
     ap (λ b. b || list_any (λ (u : Update). u.due == t) us) r.0 ∙ due_found t us r.1 r.2
 
-module _ (us active due : List Update) (bag : List (Timed Item)) (time : ℕ) (kept : AreKept us active due bag time) (idle : list_any is_active us ≡ false) (done : list_any (is_due time) us ≡ false) where
+module _ (us active due : List Update) (bag : List (Timed Due)) (time : ℕ) (kept : AreKept us active due bag time) (idle : list_any is_active us ≡ false) (done : list_any (is_due time) us ≡ false) where
   late : (t : ℕ) → lates (events_at t bag) ≡ filter (is_due t) us
   late t = elim (cases_eq time t) [
     | inl here ↦ subst (λ n. lates (events_at n bag) ≡ filter (is_due n) us) here (kept.none_now ∙ sym (none_any (is_due time) us done))

@@ -1,4 +1,5 @@
 pub mod Items
 pub mod Active
+pub mod Claims
 pub mod Entries
 pub mod Regions

@@ -3,14 +3,18 @@ ghost use Rattle.std.specs.Prelude.{◌≡◌, ◌<◌, ◌↔◌, ◌∷◌, []
 ghost use Rattle.std.specs.List.{remove};
 ghost use Rattle.vs_process.specs.Executions as executions;
 ghost use Rattle.vs_process.specs.States as states;
+ghost use Rattle.vs_regions.specs.Claims.{AreClaimed};
 
+use crate::claims::{Claim, are_once};
 use crate::update::Update;
 use std::collections::VecDeque;
 use vs_design::Part;
 
-/// Whether an update is activated and no older activated one names a signal that it names.
+/// Whether an update is activated and no older activated one names a signal that it names. Where no other one is claimed to name them, it takes no look
+/// at the others.
 #[inline(always)]
-pub(crate) fn is_first(updates: &VecDeque<Update>, index: usize) -> bool
+pub(crate) fn is_first(updates: &VecDeque<Update>, claims: &[Claim], index: usize) -> bool
+    requires { AreClaimed claims.now updates.now.items }
     ensures { result ≡ executions.if_some (executions.is_first updates.now.items index) (slice_get updates.now.items index) }
 {
     let Some(update) = updates.get(index) else {
@@ -18,6 +22,9 @@ pub(crate) fn is_first(updates: &VecDeque<Update>, index: usize) -> bool
     };
     if !update.is_active() {
         return false;
+    }
+    if are_once(claims, update.what()) {
+        return true;
     }
     for older in 0..index {
         if updates[older].hides(update) {

@@ -1,11 +1,11 @@
 //! How updates and ends of delays enter the event queue and leave it.
 ghost use Rattle.std.specs.Prelude.{ℕ, ◌≡◌, ◌≢◌, ◌++◌, ◌∷◌, [], ◌≤◌, true, OnOk, OnErr};
 ghost use Rattle.vs_time_wheel.specs.Bag.{IsFrom, SameBag, events_at};
-ghost use Rattle.vs_regions.specs.declared.item.Item.TheVariants as Item;
+ghost use Rattle.vs_regions.specs.declared.item.Due.TheVariants as Due;
 ghost use Rattle.vs_regions.specs.Entries.{HasEntered};
 ghost use Rattle.vs_regions.specs.Items.{wakes, lates};
 
-use crate::item::Item;
+use crate::item::Due;
 use crate::update::{Held, Update};
 use std::alloc::{AllocError, Global};
 use std::collections::VecDeque;
@@ -13,20 +13,20 @@ use vs_time_wheel::EventQueue;
 
 /// An update of a later slot enters the queue; without room it doesn't. It stands apart, as the result of the queue would be cleared for the others too.
 #[inline(never)]
-fn enter_queue<Q: EventQueue<Item>>(
+fn enter_queue<Q: EventQueue<Due>>(
     alloc: Global,
     queue: &mut Q,
     update: Update,
 ) -> Result<(), AllocError>
     requires { Q.clock queue.old ≤ update.due }
     ensures queued { OnOk result
-        (SameBag (Q.bag queue.new) (Q.bag queue.old ++ record { time = update.due; event = Item.Late update } ∷ [])) }
+        (SameBag (Q.bag queue.new) (Q.bag queue.old ++ record { time = update.due; event = Due.Late update } ∷ [])) }
     ensures unqueued { OnErr result (SameBag (Q.bag queue.new) (Q.bag queue.old)) }
     ensures clock { Q.clock queue.new ≡ Q.clock queue.old }
 {
     let due = update.due();
     let held = Held::new(alloc, update)?;
-    if let Err(_) = queue.schedule(due, Item::Late(held)) {
+    if let Err(_) = queue.schedule(due, Due::Late(held)) {
         return Err(AllocError);
     }
     Ok(())
@@ -34,7 +34,7 @@ fn enter_queue<Q: EventQueue<Item>>(
 
 /// An update enters the list of those due in the slot, or the queue; without room it enters none.
 #[inline(always)]
-pub(crate) fn enter<Q: EventQueue<Item>>(
+pub(crate) fn enter<Q: EventQueue<Due>>(
     alloc: Global,
     queue: &mut Q,
     due: &mut VecDeque<Update>,
@@ -64,19 +64,19 @@ fn place_update(update: Held, due: &mut VecDeque<Update>) -> bool
 
 /// A process whose delay is over, or an update that is due, goes to its list; the answer is whether it found room there.
 #[inline(always)]
-fn place(item: Item, due: &mut VecDeque<Update>, woken: &mut Vec<usize>) -> bool
+fn place(item: Due, due: &mut VecDeque<Update>, woken: &mut Vec<usize>) -> bool
     ensures due { result ≡ true → due.new.items ≡ due.old.items ++ lates (item ∷ []) }
     ensures woken { result ≡ true → woken.new.items ≡ woken.old.items ++ wakes (item ∷ []) }
 {
     match item {
-        Item::Wake(process) => woken.push(process).is_ok(),
-        Item::Late(update) => place_update(update, due),
+        Due::Wake(process) => woken.push(process).is_ok(),
+        Due::Late(update) => place_update(update, due),
     }
 }
 
 /// The items of a time go to their lists; the answer is whether all found room there.
 #[inline(always)]
-pub(crate) fn take_due<Q: EventQueue<Item>>(
+pub(crate) fn take_due<Q: EventQueue<Due>>(
     queue: &mut Q,
     due: &mut VecDeque<Update>,
     woken: &mut Vec<usize>,

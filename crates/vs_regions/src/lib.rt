@@ -5,12 +5,13 @@
 #![tactic(auto)]
 
 mod active;
+mod claims;
 mod entry;
 mod item;
 mod listed;
 mod regions;
 mod update;
 
-pub use item::Item;
+pub use item::Due;
 pub use regions::Regions;
 pub use update::{Held, Update};

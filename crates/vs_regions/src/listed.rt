@@ -6,30 +6,30 @@ use std::marker::{Model, PhantomData};
 
 /// A clause reads the list as `items`.
 #[derive(Drop)]
-pub(crate) struct Listed<T> {
+pub(crate) struct GhostList<T> {
     of: PhantomData<T>,
     pub(crate) ghost items: { List T },
 }
 
-impl<T> Model for Listed<T> {
+impl<T> Model for GhostList<T> {
     ghost also_owns = { λ _. ftrue };
 }
 
-impl<T> Listed<T> {
+impl<T> GhostList<T> {
     /// No element.
     #[inline(always)]
-    pub(crate) fn new() -> Listed<T>
+    pub(crate) fn new() -> GhostList<T>
         ensures { result.items ≡ [] }
     {
-        Listed { of: PhantomData }
+        GhostList { of: PhantomData }
     }
 
     /// The list that the caller's proof picks by this one and a value.
     #[inline(always)]
-    pub(crate) fn next<B>(&self, _by: &B) -> Listed<T>
+    pub(crate) fn next<B>(&self, _by: &B) -> GhostList<T>
         ghost list: { List T }
         ensures { result.items ≡ list }
     {
-        Listed { of: PhantomData }
+        GhostList { of: PhantomData }
     }
 }

@@ -8,9 +8,10 @@ ghost use Rattle.vs_process.specs.States as states;
 ghost use Rattle.vs_regions.specs.Active.{is_active, not_due, place_of_active};
 
 use crate::active::{activate_each, drop_at, is_first, part_at, take_at};
+use crate::claims::{Claim, claim_all, make_room};
 use crate::entry::{enter, take_due};
-use crate::item::Item;
-use crate::listed::Listed;
+use crate::item::Due;
+use crate::listed::GhostList;
 use crate::update::Update;
 use std::alloc::{AllocError, Global};
 use std::collections::VecDeque;
@@ -23,23 +24,25 @@ use vs_time_wheel::EventQueue;
 /// A contract sees the time of the slot, which is the last one that `advance` went to, the numbers of the inactive processes, the ends of delays
 /// as a bag, and all updates in the order of execution.
 #[derive(Drop)]
-pub struct Regions<Q: EventQueue<Item>> {
+pub struct Regions<Q: EventQueue<Due>> {
     alloc: Global,
     /// The ends of delays, and the updates of later slots.
     queue: Q,
     inactive: Vec<usize>,
     /// The activated updates, the oldest first.
     active: VecDeque<Update>,
+    /// How often the activated updates name each signal.
+    claims: Vec<Claim>,
     /// The updates that are due in this slot and not activated, the oldest first.
     due: VecDeque<Update>,
     /// How many updates were made so far; no part of what a contract sees.
     serial: u64,
     /// All updates, for proofs alone.
-    updates: Listed<Update>,
+    updates: GhostList<Update>,
 }
 
-impl<Q: EventQueue<Item>> Model for Regions<Q> {
-    ghost use Rattle.vs_regions.specs.Regions.{Waiting, AreKept};
+impl<Q: EventQueue<Due>> Model for Regions<Q> {
+    ghost use Rattle.vs_regions.specs.Regions.{Waiting, AreHeld};
     ghost use Rattle.vs_regions.specs.Items.{sleepers_of};
 
     ghost Value = { Waiting };
@@ -51,10 +54,10 @@ impl<Q: EventQueue<Item>> Model for Regions<Q> {
       updates = r.updates.items;
     } };
 
-    ghost invariant = { λ r. AreKept r.updates.items r.active.items r.due.items (Q.bag r.queue) (Q.clock r.queue) };
+    ghost invariant = { λ r. AreHeld r.updates.items r.active.items r.claims.items r.due.items (Q.bag r.queue) (Q.clock r.queue) };
 }
 
-impl<Q: EventQueue<Item>> Regions<Q> {
+impl<Q: EventQueue<Due>> Regions<Q> {
     /// Nothing waits yet; the queue keeps the ends of delays and the updates of later slots.
     pub fn start(alloc: Global, queue: Q) -> Self
         requires empty { Q.bag queue ≡ [] }
@@ -66,9 +69,10 @@ impl<Q: EventQueue<Item>> Regions<Q> {
             queue,
             inactive: Vec::new(alloc),
             active: VecDeque::new(alloc),
+            claims: Vec::new(alloc),
             due: VecDeque::new(alloc),
             serial: 0,
-            updates: Listed::new(),
+            updates: GhostList::new(),
         }
     }
 
@@ -94,6 +98,7 @@ impl<Q: EventQueue<Item>> Regions<Q> {
         let due = self.queue.now() + ticks.count;
         let update = Update::new(self.serial, by, due, what);
         let updates = self.updates.next(&update);
+        make_room(&mut self.claims, update.what())?;
         enter(self.alloc, &mut self.queue, &mut self.due, update)?;
         self.updates = updates;
         self.serial = self.serial.wrapping_add(1);
@@ -143,7 +148,7 @@ impl<Q: EventQueue<Item>> Regions<Q> {
         ensures { result ≡ executions.if_some (executions.is_first self.now.updates (place_of_active index self.now.updates))
             (slice_get self.now.updates (place_of_active index self.now.updates)) }
     {
-        is_first(&self.active, index)
+        is_first(&self.active, &self.claims, index)
     }
 
     /// Takes out the activated update of this number among these.
@@ -183,6 +188,7 @@ impl<Q: EventQueue<Item>> Regions<Q> {
     {
         let time = self.queue.now();
         activate_each(&mut self.due, time);
+        claim_all(&mut self.claims, &self.due);
         mem::swap(&mut self.active, &mut self.due);
         self.updates = self.updates.next(&time);
     }
@@ -224,7 +230,7 @@ impl<Q: EventQueue<Item>> Regions<Q> {
         ensures inactive { self.new.inactive ≡ self.old.inactive }
         ensures updates { self.new.updates ≡ self.old.updates }
     {
-        if let Err(_) = self.queue.schedule(until, Item::Wake(process)) {
+        if let Err(_) = self.queue.schedule(until, Due::Wake(process)) {
             return Err(AllocError);
         }
         Ok(())

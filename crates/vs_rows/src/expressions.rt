@@ -2,8 +2,8 @@
 //! hand from the standard.
 
 use crate::signals::SIGNALS;
+use vs_program::program;
 use vs_row_files::Text;
-use vs_sim::program;
 
 /// Puts a module with items and a net of an expression, which is in braces and so has its own size (IEEE 1364-2005, clause 5.4.1): it prints
 /// the expression's digits, and then those of the net.
@@ -75,7 +75,7 @@ fn print(source: &[u8], text: &mut Text) {
     let words = ["vsim", "run", "--top", "t", "--until", "1"];
     let mut out = Vec::new(alloc);
     let mut err = Vec::new(alloc);
-    let status = program(alloc, &words, source, &mut out, &mut err);
+    let (status, _) = program(alloc, &words, source, &mut out, &mut err);
     text.put(line_of(if status == 0 { &out } else { &err }));
 }
 

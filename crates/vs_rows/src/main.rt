@@ -6,8 +6,8 @@ mod signals;
 
 use std::alloc::Global;
 use std::io;
+use vs_program::program;
 use vs_row_files::{Answers, Text, compare_files, put_pieces};
-use vs_sim::program;
 
 /// Who asks the program.
 #[derive(Clone, Copy)]
@@ -25,7 +25,7 @@ struct Answer {
 fn run(alloc: Global, words: &[&str], source: &[u8]) -> Answer {
     let mut out = Vec::new(alloc);
     let mut err = Vec::new(alloc);
-    let status = program(alloc, words, source, &mut out, &mut err);
+    let (status, _) = program(alloc, words, source, &mut out, &mut err);
     Answer { status, out, err }
 }
 

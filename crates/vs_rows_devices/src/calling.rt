@@ -3,7 +3,7 @@
 use crate::short::Short;
 use std::alloc::{AllocError, Global};
 use std::io::{self, ErrorKind, Read};
-use vs_sim::program;
+use vs_program::program;
 
 /// What the program answered.
 #[derive(Drop)]
@@ -60,7 +60,7 @@ pub fn call(
         list.push(word)?;
     }
     let mut err = Vec::new(alloc);
-    let status = program(alloc, list.as_slice(), input, out, &mut err);
+    let (status, _) = program(alloc, list.as_slice(), input, out, &mut err);
     Ok((status, err))
 }
 

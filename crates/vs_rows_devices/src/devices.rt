@@ -118,3 +118,44 @@ fn writers(rt: HostRuntime) -> Result<(), Fail> {
     }
     Ok(())
 }
+
+// What a call answers whose writer takes all, but perhaps for an interruption of its first write: this status and this text, and it isn't flushed.
+fn is_answered(
+    rt: &impl Abort,
+    alloc: Global,
+    call_of: &Call,
+    interrupted: bool,
+) -> Result<(), AllocError> {
+    let mut out = Short::new(alloc, usize::MAX, true);
+    out.interrupted = interrupted;
+    let mut input = Input::new(call_of.source.as_bytes());
+    let (status, err) = call(alloc, call_of.words, &mut input, &mut out)?;
+    let (wanted, told, text) = if interrupted {
+        (3, "vsim: write\n", "")
+    } else {
+        (0, "", call_of.text)
+    };
+    assert_eq!(rt; status, wanted, "{}", call_of.words);
+    assert_eq!(rt; err.as_slice(), told.as_bytes(), "{}", call_of.words);
+    assert_eq!(rt; out.taken.as_slice(), text.as_bytes(), "{}", call_of.words);
+    assert_eq!(rt; out.flushed, 0, "{}", call_of.words);
+    Ok(())
+}
+
+// An interrupted write isn't tried again: it is a device's fault.
+#[test]
+fn an_interrupted_write_is_a_fault(rt: HostRuntime) -> Result<(), Fail> {
+    for call in &CALLS {
+        is_answered(&rt, rt.alloc(), call, true)?;
+    }
+    Ok(())
+}
+
+// The writer's flush fails, and isn't called.
+#[test]
+fn nothing_is_flushed(rt: HostRuntime) -> Result<(), Fail> {
+    for call in &CALLS {
+        is_answered(&rt, rt.alloc(), call, false)?;
+    }
+    Ok(())
+}

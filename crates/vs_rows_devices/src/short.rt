@@ -3,12 +3,16 @@
 use std::alloc::Global;
 use std::io::{self, ErrorKind, Write};
 
-/// A writer that takes `left` bytes, one at a time, and behind these fails, or takes none.
+/// A writer that takes `left` bytes, one at a time, and after these fails, or takes none. Its first write may be interrupted, and its flush fails.
 #[derive(Drop)]
 pub struct Short {
     pub taken: Vec<u8>,
     left: usize,
     fails: bool,
+    /// Whether the next write is interrupted.
+    pub interrupted: bool,
+    /// How often it was flushed.
+    pub flushed: u32,
 }
 
 impl Short {
@@ -17,6 +21,8 @@ impl Short {
             taken: Vec::new(alloc),
             left,
             fails,
+            interrupted: false,
+            flushed: 0,
         }
     }
 }
@@ -26,6 +32,10 @@ impl Write for Short {
         let Some(byte) = buf.first() else {
             return Ok(0);
         };
+        if self.interrupted {
+            self.interrupted = false;
+            return Err(io::Error::from(ErrorKind::Interrupted));
+        }
         if self.left == 0 && self.fails {
             return Err(io::Error::from(ErrorKind::BrokenPipe));
         }
@@ -38,6 +48,7 @@ impl Write for Short {
     }
 
     fn flush(&mut self) -> io::Result<()> {
-        Ok(())
+        self.flushed = self.flushed.saturating_add(1);
+        Err(io::Error::from(ErrorKind::BrokenPipe))
     }
 }

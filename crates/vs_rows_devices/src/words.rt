@@ -3,7 +3,7 @@
 use crate::calling::run;
 use std::io::{self, ErrorKind};
 use std::test::Fail;
-use vs_sim::refuse_start;
+use vs_program::refuse_start;
 
 const MISUSED: &[&str] = &[
     "vsim run --top t --until 10 --policy last",

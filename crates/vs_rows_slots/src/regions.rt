@@ -5,11 +5,11 @@ use std::alloc::{AllocError, Global};
 use std::process::Abort;
 use std::test::Fail;
 use vs_design::{Ticks, Write};
-use vs_regions::{Item, Regions};
+use vs_regions::{Due, Regions};
 use vs_time_wheel::{EventQueue, ListQueue, Wheel};
 
 // Pushes an update of a process that is due in so many ticks.
-fn push<Q: EventQueue<Item>>(
+fn push<Q: EventQueue<Due>>(
     rt: &impl Abort,
     alloc: Global,
     regions: &mut Regions<Q>,
@@ -21,14 +21,14 @@ fn push<Q: EventQueue<Item>>(
 }
 
 // Takes the oldest update: its number in the order of execution.
-fn take_first<Q: EventQueue<Item>>(regions: &mut Regions<Q>) -> Option<u64> {
+fn take_first<Q: EventQueue<Due>>(regions: &mut Regions<Q>) -> Option<u64> {
     let first = regions.first()?;
     let update = regions.take(first)?;
     Some(update.serial())
 }
 
 // Activates the updates that are due, and takes them, the oldest first: they have these numbers.
-fn make_due<Q: EventQueue<Item>>(rt: &impl Abort, regions: &mut Regions<Q>, numbers: &[u64]) {
+fn make_due<Q: EventQueue<Due>>(rt: &impl Abort, regions: &mut Regions<Q>, numbers: &[u64]) {
     assert!(rt; !regions.has_active());
     regions.activate();
     assert!(rt; regions.activated().len() == numbers.len());
@@ -38,7 +38,7 @@ fn make_due<Q: EventQueue<Item>>(rt: &impl Abort, regions: &mut Regions<Q>, numb
 }
 
 // Two updates of the first slot around late ones, a process that sleeps, and one that is inactive.
-fn begin<Q: EventQueue<Item>>(
+fn begin<Q: EventQueue<Due>>(
     rt: &impl Abort,
     alloc: Global,
     regions: &mut Regions<Q>,
@@ -52,7 +52,7 @@ fn begin<Q: EventQueue<Item>>(
 }
 
 // The slot ends; in the next one an update that is due 256 ticks later is pushed, and the updates with these numbers are made.
-fn next_slot<Q: EventQueue<Item>>(
+fn next_slot<Q: EventQueue<Due>>(
     rt: &impl Abort,
     alloc: Global,
     regions: &mut Regions<Q>,
@@ -71,7 +71,7 @@ fn next_slot<Q: EventQueue<Item>>(
 static LATER_SLOTS: [&[u64]; 3] = [&[3], &[1, 4, 5], &[6]];
 
 // What is made slot by slot, and which processes are woken.
-fn some_slots<Q: EventQueue<Item> + Drop>(
+fn some_slots<Q: EventQueue<Due> + Drop>(
     rt: &impl Abort,
     alloc: Global,
     queue: Q,

@@ -1,16 +1,17 @@
 //! The members of the certificate of two registers that swap at each rise of a clock of period 10.
 
 use vs_certificate::{
-    Certificate, EdgeSignal, Grain, ProcessEntry, ProcessKind, SignalEntry, SignalMode,
+    Certificate, ClaimedGrain, ClaimedKind, EdgeSignal, ProcessEntry, SignalEntry, SignalMode,
+    Version,
 };
 
 /// Whether processes are those of the swap.
 fn are_processes(processes: &[ProcessEntry]) -> bool {
-    if processes.len() != 6 || !matches!(processes[4].kind, ProcessKind::Edge) {
+    if processes.len() != 6 || !matches!(processes[4].kind, ClaimedKind::Edge) {
         return false;
     }
     match &processes[3].kind {
-        ProcessKind::Delay(slots) => {
+        ClaimedKind::Delay(slots) => {
             slots.len() == 1 && slots[0].as_slice() == [0, 5].as_slice()
         }
         _ => false,
@@ -31,7 +32,8 @@ fn are_signals(signals: &[SignalEntry]) -> bool {
 
 /// Whether a certificate has the members of the swap's.
 pub(crate) fn is_of_the_swap(certificate: &Certificate) -> bool {
-    certificate.grain == Grain::Block
+    certificate.version == Version::One
+        && certificate.grain == ClaimedGrain::Block
         && certificate.modulus == 10
         && certificate.order.is_empty()
         && are_edges(&certificate.edges)

@@ -3,7 +3,7 @@ ghost use Rattle.std.specs.Prelude.{◌≡◌, ◌<◌, ◌≤◌, []};
 
 use std::alloc::Global;
 use std::process::Abort;
-use vs_time_wheel::{Answer, Call, EventQueue, ListQueue, Wheel, replay, same_answers};
+use vs_time_wheel::{Answer, EventQueue, ListQueue, QueueCall, Wheel, replay, same_answers};
 
 // A linear congruential generator of 64 bits.
 fn next_random(state: u64) -> u64 {
@@ -78,27 +78,27 @@ fn mixed_calls(rt: HostRuntime) {
 }
 
 // Three events of time 5, two of time 5 + 256, one of a time far behind.
-static CALLS: [Call<u8>; 20] = [
-    Call::NextTime,
-    Call::Schedule(5, 1),
-    Call::Schedule(261, 2),
-    Call::Schedule(5, 3),
-    Call::Schedule(1000, 4),
-    Call::NextTime,
-    Call::TakeDue(4),
-    Call::TakeDue(5),
-    Call::Now,
-    Call::TakeDue(5),
-    Call::TakeDue(5),
-    Call::NextTime,
-    Call::Schedule(261, 5),
-    Call::TakeDue(261),
-    Call::TakeDue(261),
-    Call::NextTime,
-    Call::TakeDue(1000),
-    Call::NextTime,
-    Call::TakeDue(5000),
-    Call::Now,
+static CALLS: [QueueCall<u8>; 20] = [
+    QueueCall::NextTime,
+    QueueCall::Schedule(5, 1),
+    QueueCall::Schedule(261, 2),
+    QueueCall::Schedule(5, 3),
+    QueueCall::Schedule(1000, 4),
+    QueueCall::NextTime,
+    QueueCall::TakeDue(4),
+    QueueCall::TakeDue(5),
+    QueueCall::Now,
+    QueueCall::TakeDue(5),
+    QueueCall::TakeDue(5),
+    QueueCall::NextTime,
+    QueueCall::Schedule(261, 5),
+    QueueCall::TakeDue(261),
+    QueueCall::TakeDue(261),
+    QueueCall::NextTime,
+    QueueCall::TakeDue(1000),
+    QueueCall::NextTime,
+    QueueCall::TakeDue(5000),
+    QueueCall::Now,
 ];
 
 // What the law says of those calls.

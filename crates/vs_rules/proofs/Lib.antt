@@ -1,4 +1,3 @@
-mod Points
-mod Rules
-mod Clocked
-mod Branch
+pub mod Points
+pub mod Places
+pub mod Tested

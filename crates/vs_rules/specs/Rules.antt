@@ -1,100 +1,55 @@
--- The rules of certificates, each for one subject: a signal, a continuous assignment or a process, by its number in design order.
-use Rattle.std.specs.Prelude.{ℕ, ◌+◌, ◌%◌, ◌≡◌, ◌<◌, ◌⊎◌, Bool, true, false, Some, List, map, length, slice_get}
-use Rattle.vs_design.specs.declared.signal.Signal.{Signal}
+-- The rules of certificates but for those of combinational blocks alone, each for one subject: a name, a signal, a driver or a process. Signals,
+-- continuous assignments and processes go by their numbers in design order; nothing is asked of a number past the end.
+use Rattle.std.specs.Prelude.{ℕ, ◌+◌, ◌%◌, ◌≡◌, ◌<◌, ◌⊎◌, true, false, Some, None, List, length, slice_get}
+use Rattle.std.specs.List.{list_any}
+use Rattle.vs_logic4.specs.declared.digit.Digit.{Digit}
+use Rattle.vs_logic4.specs.declared.digit.Digit.TheVariants.{X}
+use Rattle.vs_logic4.specs.Edges.{is_edge}
 use Rattle.vs_design.specs.declared.design.Assign.{Assign}
-use Rattle.vs_design.specs.declared.design.Process.{Process}
-use Rattle.vs_design.specs.Kinds.{is_variable}
-use Rattle.vs_design.specs.Parts.{Parts}
 use Rattle.vs_design.specs.declared.range.BitRange.{BitRange}
-use Rattle.vs_design.specs.Uses.{reads_signal}
+use Rattle.vs_design.specs.declared.signal.Signal.{Signal}
+use Rattle.vs_design.specs.declared.statement.EventTerm.{EventTerm}
+use Rattle.vs_design.specs.Parts.{Parts}
+use Rattle.vs_design.specs.Uses.{reads, writes}
+use Rattle.vs_process.specs.Executions.{is_level}
 use Rattle.vs_flatcode.specs.Places.{Todo}
-use Rattle.vs_flatcode.specs.Steps.{after}
-use Rattle.vs_independence.specs.Feeds.{feeds}
-use Rattle.vs_independence.specs.Discipline.{Reaches}
-use Rattle.vs_rules.specs.Points.{Goes, first_todo, WritesNow, WritesLater, ReadsNow, Point, Late, Slot0, Hot, RunsAt}
-use Rattle.vs_rules.specs.Claims.{Name, Mode, net, unwritten, combinational, nonblocking, blocking, private, SignalClaim, ProcessClaim, Claims}
-use Rattle.vs_rules.specs.Claims.{claim_of, writer_in, second_in, is_writer, is_second, place_of, times_in, controls_of, slots_of, ends_at}
-
--- ---- words of the rules
-
--- the points of a process, by its number: of its text; behind a delay control; at slot 0; with a hot variable; with run slots
-abbrev pub IsPoint : Parts → ℕ → Todo → Type 0
-IsPoint d i k = Point (first_todo d i) k
-
-abbrev pub IsLate : Parts → ℕ → Todo → Type 0
-IsLate d i k = Late (first_todo d i) k
-
-abbrev pub IsSlot0 : Parts → ℕ → Todo → Type 0
-IsSlot0 d i k = Slot0 (first_todo d i) k
-
-abbrev pub IsHot : Parts → ℕ → ℕ → Todo → Type 0
-IsHot d i v k = Hot (first_todo d i) v k
-
-abbrev pub HasSlot : Parts → Claims → ℕ → Todo → ℕ → Type 0
-HasSlot d c i k r = RunsAt (ends_at d c i) (first_todo d i) k r
-
--- a process is claimed to be a signal's writer, or its second
-abbrev pub IsWriter : Parts → Claims → ℕ → ℕ → Type 0
-IsWriter d c v i = is_writer d c v i ≡ true
-
-abbrev pub IsSecond : Parts → Claims → ℕ → ℕ → Type 0
-IsSecond d c v i = is_second d c v i ≡ true
-
--- the text of a process has a write of the signal, by `=` or by `<=`
-pub data Writes (d : Parts) (i v : ℕ) : Type 0 where
-  now : (k : Todo) → IsPoint d i k → WritesNow k v → Writes d i v
-  later : (k : Todo) → IsPoint d i k → WritesLater k v → Writes d i v
-
--- the text of a process reads the signal
-pub data ReadsSignal (d : Parts) (i v : ℕ) : Type 0 where
-  reads_at : (k : Todo) (r : BitRange) → IsPoint d i k → ReadsNow k r → r.signal ≡ v → ReadsSignal d i v
-
--- a blocking source: the text of some process has a write of it by `=` (so it is a variable, which no continuous assignment drives)
-pub data IsBlocking (d : Parts) (v : ℕ) : Type 0 where
-  by : (i : ℕ) (k : Todo) → IsPoint d i k → WritesNow k v → IsBlocking d v
-
--- the signal is a variable, or a net
-abbrev pub HasKind : Bool → Parts → ℕ → Type 0
-HasKind variable d v = (s : Signal) × (slice_get d.signals v ≡ Some s) × (is_variable s.kind ≡ variable)
-
-abbrev pub process_names : Claims → List Name
-process_names c = map (λ (p : ProcessClaim). p.name) c.processes
-
-abbrev pub signal_names : Claims → List Name
-signal_names c = map (λ (s : SignalClaim). s.name) c.signals
+use Rattle.vs_flatcode.specs.Steps.{after, wait}
+use Rattle.vs_rules.specs.Claims.{Name, Mode, net, unwritten, combinational, nonblocking, blocking, private, writer_in, second_in, times_in}
+use Rattle.vs_rules.specs.Controls.{controls_of}
+use Rattle.vs_rules.specs.Points.{Goes}
+use Rattle.vs_rules.specs.Claims.{Claims, IsSignalNamed, IsProcessNamed, IsAssignNamed, claim_of, IsWriter, IsSecond, HasMode, HasKind, IsBlock, IsEdge, HasLists, IsDelay, IsSequential}
+use Rattle.vs_rules.specs.Claims.{signal_names, process_names, edge_names, edge_signals, IsRootOf, IsRoot}
+use Rattle.vs_rules.specs.Paths.{Bit, IsBit, Has, ListsSignal, WritesNow, WritesLater, WritesAny, ReadsNow, ShowsNow, IsPoint, IsSlot0, IsPrologue, IsLate, IsHot, Writes, reads_of, HasTerm}
+use Rattle.vs_rules.specs.Drivers.{Driver, block, IsDriver, DriverReads, DriverNeeds, StandsBefore, WritesBit, IsSource, IsBlocking, InCone}
+use Rattle.vs_rules.specs.Constants.{bit_of, Gives, IsKnown, IsWhole, IsWholeTarget}
+use Rattle.vs_rules.specs.Slots.{DelayEnds, RunsByDelays, HasSlot, HasWriteSlot, FiresOf}
 
 -- ---- K1: each list names what it is a list of, each once, and nothing else
 
--- a name stands once in its own list, and in neither of the others
+-- a name stands once in one list, and in neither of two others
 pub record IsListed (name : Name) (own one other : List Name) : Type 0 where
   pub once : times_in name own ≡ 1
   pub nowhere : times_in name one ≡ 0
   pub nowhere_else : times_in name other ≡ 0
 
--- K1 of a signal
-pub record K1_Signal (d : Parts) (c : Claims) (v : ℕ) : Type 0 where
-  pub listed : (s : Signal) → slice_get d.signals v ≡ Some s → IsListed s.path.items (signal_names c) c.order (process_names c)
+-- of a signal
+abbrev pub K1_Signal : Parts → Claims → ℕ → Type 0
+K1_Signal d c v = (name : Name) → IsSignalNamed d v name → IsListed name (signal_names c) c.order (process_names c)
 
--- K1 of a continuous assignment
+-- of a continuous assignment
 pub record K1_Assign (d : Parts) (c : Claims) (j : ℕ) : Type 0 where
-  pub listed : (a : Assign) → slice_get d.assigns j ≡ Some a → IsListed a.name.items c.order (signal_names c) (process_names c)
+  pub listed : (name : Name) → IsAssignNamed d j name → IsListed name c.order (signal_names c) (process_names c)
+  pub no_edge : (name : Name) → IsAssignNamed d j name → times_in name (edge_names c) ≡ 0
 
--- K1 of a process, of which none stands in the order: without event controls no process is a combinational block
+-- of a process: one of kind comb stands once in the order too
 pub record K1_Process (d : Parts) (c : Claims) (i : ℕ) : Type 0 where
-  pub listed : (p : Process) → slice_get d.processes i ≡ Some p → IsListed p.name.items (process_names c) c.order (signal_names c)
+  pub listed : (name : Name) → IsProcessNamed d i name → IsListed name (process_names c) (signal_names c) (edge_names c)
+  pub block_ordered : (name : Name) → IsProcessNamed d i name → IsBlock d c i → times_in name c.order ≡ 1
+  pub not_ordered : (name : Name) → IsProcessNamed d i name → (IsBlock d c i → ⊥) → times_in name c.order ≡ 0
 
--- a name is one of the design
-abbrev pub IsKnown : Parts → Name → Type 0
-IsKnown d name =
-    ((v : ℕ) × (s : Signal) × (slice_get d.signals v ≡ Some s) × (s.path.items ≡ name))
-    ⊎ (((j : ℕ) × (a : Assign) × (slice_get d.assigns j ≡ Some a) × (a.name.items ≡ name))
-    ⊎ ((i : ℕ) × (p : Process) × (slice_get d.processes i ≡ Some p) × (p.name.items ≡ name)))
-
--- K1 of names that the design doesn't have
-pub record K1_Names (d : Parts) (c : Claims) : Type 0 where
-  pub order : (n : ℕ) (name : Name) → slice_get c.order n ≡ Some name → IsKnown d name
-  pub processes : (n : ℕ) (name : Name) → slice_get (process_names c) n ≡ Some name → IsKnown d name
-  pub signals : (n : ℕ) (name : Name) → slice_get (signal_names c) n ≡ Some name → IsKnown d name
+-- of a name that stands in one of the lists: the design has it
+abbrev pub K1_Name : Parts → Claims → Name → Type 0
+K1_Name d c name = ((v : ℕ) × IsSignalNamed d v name) ⊎ (((j : ℕ) × IsAssignNamed d j name) ⊎ ((i : ℕ) × IsProcessNamed d i name))
 
 -- ---- K2: writer and second are the processes that write a signal; the second writes it at the start alone
 
@@ -104,96 +59,209 @@ pub record K2 (d : Parts) (c : Claims) (v : ℕ) : Type 0 where
   -- who is named writes it
   pub writer_writes : (name : Name) → writer_in (claim_of d c v) ≡ Some name → (i : ℕ) × IsWriter d c v i × Writes d i v
   pub second_writes : (name : Name) → second_in (claim_of d c v) ≡ Some name → (i : ℕ) × IsSecond d c v i × Writes d i v
-  -- no path leads through a delay control to a write of the second
-  pub early_now : (i : ℕ) (k : Todo) → IsSecond d c v i → IsPoint d i k → WritesNow k v → IsLate d i k → ⊥
-  pub early_later : (i : ℕ) (k : Todo) → IsSecond d c v i → IsPoint d i k → WritesLater k v → IsLate d i k → ⊥
+  -- an output of a process of kind comb has no second
+  pub no_block : (i j : ℕ) → IsSecond d c v i → IsBlock d c j → Writes d j v → ⊥
+  -- no path leads through a control to a write of the second
+  pub early : (i : ℕ) (k : Todo) → IsSecond d c v i → IsPoint d i k → WritesAny d k v → IsLate d i k → ⊥
   -- where there is a second, the writer has no `=` of it at slot-0 points
-  pub first_alone : (i j : ℕ) (l : Todo) → IsSecond d c v i → IsWriter d c v j → IsSlot0 d j l → WritesNow l v → ⊥
+  pub first_alone : (i j : ℕ) (l : Todo) → IsSecond d c v i → IsWriter d c v j → IsSlot0 d j l → WritesNow d l v → ⊥
   -- and where the second writes it by `<=`, no `<=` of it either
-  pub first_alone_later : (i j : ℕ) (k l : Todo) → IsSecond d c v i → IsPoint d i k → WritesLater k v →
-      IsWriter d c v j → IsSlot0 d j l → WritesLater l v → ⊥
+  pub first_alone_later : (i j : ℕ) (k l : Todo) → IsSecond d c v i → IsPoint d i k → WritesLater d k v →
+      IsWriter d c v j → IsSlot0 d j l → WritesLater d l v → ⊥
 
 -- ---- K3: a signal is written as its mode says
 
--- it has a writer, which has no `=` of it
-abbrev pub WritesLaterAlone : Parts → Claims → ℕ → Type 0
-WritesLaterAlone d c v = (i : ℕ) × IsWriter d c v i × ((k : Todo) → IsPoint d i k → WritesNow k v → ⊥)
+-- it has a writer that passes
+abbrev pub HasWriter : Parts → Claims → ℕ → (ℕ → Type 0) → Type 0
+HasWriter d c v passes = (i : ℕ) × IsWriter d c v i × passes i
 
--- it has a writer, which has no `<=` of it
-abbrev pub WritesNowAlone : Parts → Claims → ℕ → Type 0
-WritesNowAlone d c v = (i : ℕ) × IsWriter d c v i × ((k : Todo) → IsPoint d i k → WritesLater k v → ⊥)
+-- a process has no `=` of the signal, or no `<=` of it
+abbrev pub NeverNow : Parts → ℕ → ℕ → Type 0
+NeverNow d v i = (k : Todo) → IsPoint d i k → WritesNow d k v → ⊥
 
--- no continuous assignment reads it
-abbrev pub IsUnread : Parts → ℕ → Type 0
-IsUnread d v = (j : ℕ) (a : Assign) → slice_get d.assigns j ≡ Some a → reads_signal a.source v ≡ false
+abbrev pub NeverLater : Parts → ℕ → ℕ → Type 0
+NeverLater d v i = (k : Todo) → IsPoint d i k → WritesLater d k v → ⊥
 
--- it has a writer, and no other process and no continuous assignment reads it
-abbrev pub ReadsAlone : Parts → Claims → ℕ → Type 0
-ReadsAlone d c v = (i : ℕ) × IsWriter d c v i × ((j : ℕ) → ReadsSignal d j v → j ≡ i) × IsUnread d v
+-- of kind delay, or in version 2 of kind edge
+abbrev pub MayBlock : Parts → Claims → ℕ → Type 0
+MayBlock d c i = IsDelay d c i ⊎ ((c.version ≡ 2) × IsEdge d c i)
 
-abbrev pub HasMode : Parts → Claims → ℕ → Mode → Type 0
-HasMode d c v net = HasKind false d v
-HasMode d c v unwritten = (i : ℕ) → Writes d i v → ⊥
--- without event controls no process is a combinational block
-HasMode d c v combinational = ⊥
-HasMode d c v nonblocking = WritesLaterAlone d c v
-HasMode d c v blocking = WritesNowAlone d c v
-HasMode d c v private = ReadsAlone d c v
+-- no other process, no continuous assignment and no event term reads the signal; what `$display` shows is no read
+pub record IsPrivate (d : Parts) (v i : ℕ) : Type 0 where
+  pub processes : (j : ℕ) → ListsSignal d (reads_of d j) v → j ≡ i
+  pub assigns : (j : ℕ) (a : Assign) → slice_get d.assigns j ≡ Some a → ListsSignal d (reads a.source) v → ⊥
+  pub terms : (j : ℕ) (t : EventTerm) → HasTerm d j t → t.range.signal ≡ v → ⊥
 
-pub record K3 (d : Parts) (c : Claims) (v : ℕ) : Type 0 where
-  pub mode : (s : SignalClaim) → claim_of d c v ≡ Some s → HasMode d c v s.mode
+abbrev pub IsAsModeSays : Parts → Claims → ℕ → Mode → Type 0
+IsAsModeSays d c v net = HasKind false d v
+IsAsModeSays d c v unwritten = (i : ℕ) → Writes d i v → ⊥
+IsAsModeSays d c v combinational = HasWriter d c v (IsBlock d c)
+IsAsModeSays d c v nonblocking = HasWriter d c v (λ i. IsSequential d c i × NeverNow d v i)
+IsAsModeSays d c v blocking = HasWriter d c v (λ i. MayBlock d c i × NeverLater d v i)
+IsAsModeSays d c v private = HasWriter d c v (λ i. IsSequential d c i × IsPrivate d v i)
 
--- ---- K4: a continuous assignment reads, of driven bits, those alone whose assignment stands earlier in the order
+abbrev pub K3 : Parts → Claims → ℕ → Type 0
+K3 d c v = (mode : Mode) → HasMode d c v mode → IsAsModeSays d c v mode
 
-pub record K4 (d : Parts) (c : Claims) (j : ℕ) : Type 0 where
-  pub earlier : (a b : Assign) (i : ℕ) → slice_get d.assigns j ≡ Some a → slice_get d.assigns i ≡ Some b → feeds b a ≡ true →
-      place_of b.name.items c.order < place_of a.name.items c.order
+-- ---- K4: each bit that a driver reads is one of a source, an undriven one, its own where it is a block, or one of drivers earlier in the order
 
--- ---- K8: a list of residues for each delay control, and the lists are closed
+-- a driver writes the bit
+pub record IsDriven (d : Parts) (c : Claims) (b : Bit) : Type 0 where
+  pub driver : Driver
+  pub is : IsDriver d c driver
+  pub writes : WritesBit d driver b
+
+-- two drivers are one block
+abbrev pub IsSelf : Driver → Driver → Type 0
+IsSelf (block i) (block k) = k ≡ i
+IsSelf _ _ = ⊥
+
+-- drivers write each bit of the range that the design has
+abbrev pub IsCovered : Parts → Claims → BitRange → Type 0
+IsCovered d c r = (b : Bit) → IsBit d b → Has r b → IsDriven d c b
+
+pub record K4 (d : Parts) (c : Claims) (x : Driver) : Type 0 where
+  -- what it reads is of a net, whose bits are driven or undriven, or of a source, or drivers write each bit of it
+  pub known : (r : BitRange) → IsDriver d c x → DriverReads d x r → HasKind false d r.signal ⊎ (IsSource d c r.signal ⊎ IsCovered d c r)
+  -- of each bit of the design that is driven the driver is earlier, where it isn't the block itself
+  pub earlier : (r : BitRange) (b : Bit) (y : Driver) → IsDriver d c x → DriverReads d x r → IsBit d b → Has r b →
+      IsDriver d c y → WritesBit d y b → IsSelf x y ⊎ StandsBefore d c y x
+
+-- ---- K6: the signals of edge terms, each of one bit, copy a root, which changes at most once in a slot
+
+-- the signal is named by an edge term of some process
+pub record IsEdgeSignal (d : Parts) (v : ℕ) : Type 0 where
+  pub process : ℕ
+  pub term : EventTerm
+  pub has : HasTerm d process term
+  pub edge : is_level term ≡ false
+  pub of : term.range.signal ≡ v
+
+-- it has one bit, and is no array: an array of one word of one bit isn't such a signal
+abbrev pub IsOneBit : Parts → ℕ → Type 0
+IsOneBit d v = (s : Signal) × (slice_get d.signals v ≡ Some s) × (s.width ≡ 1) × (s.count ≡ 1) × (s.words ≡ None)
+
+-- a net that one continuous assignment alone drives, which copies a whole signal into the whole of it, at the same size
+pub record IsCopy (d : Parts) (v u : ℕ) : Type 0 where
+  pub is_net : HasKind false d v
+  pub number : ℕ
+  pub assign : Assign
+  pub is : slice_get d.assigns number ≡ Some assign
+  pub whole : IsWholeTarget d v assign.target
+  pub copies : IsWhole d u assign.source
+  pub same : (s t : Signal) → slice_get d.signals v ≡ Some s → slice_get d.signals u ≡ Some t → s.width ≡ t.width
+  pub alone : (j : ℕ) (a : Assign) → slice_get d.assigns j ≡ Some a → ListsSignal d (writes a.target) v → j ≡ number
+
+-- it is its root, or a copy of a signal of which this holds with the same root; all have one bit
+pub data CopiesRoot (d : Parts) (root : ℕ) : ℕ → Type 0 where
+  itself : IsOneBit d root → CopiesRoot d root root
+  copy : (v u : ℕ) → IsOneBit d v → IsCopy d v u → CopiesRoot d root u → CopiesRoot d root v
+
+-- a variable of mode blocking, with a writer of kind delay, and not hot where that writes it
+pub record IsSoundRoot (d : Parts) (c : Claims) (root : ℕ) : Type 0 where
+  pub variable : HasKind true d root
+  pub mode : HasMode d c root blocking
+  pub writer : HasWriter d c root (IsDelay d c)
+  -- its writer has no write of it at which it is hot
+  pub once : (i : ℕ) (k : Todo) → IsWriter d c root i → IsPoint d i k → WritesAny d k root → IsHot d i root k → ⊥
+
+pub record K6 (d : Parts) (c : Claims) (v : ℕ) : Type 0 where
+  -- it has one entry where an edge term names it, else none
+  pub one_entry : (name : Name) → IsSignalNamed d v name → IsEdgeSignal d v → times_in name (edge_signals c) ≡ 1
+  pub no_entry : (name : Name) → IsSignalNamed d v name → (IsEdgeSignal d v → ⊥) → times_in name (edge_signals c) ≡ 0
+  -- it copies the root of its entry
+  pub copies : (root : ℕ) → IsRootOf d c root v → CopiesRoot d root v
+  pub root : (root : ℕ) → IsRootOf d c root v → IsSoundRoot d c root
+
+-- ---- K7: a process of kind edge waits for edges alone, and in a slot for those of one root alone
+
+-- all terms are edge terms; an `@*` before what reads nothing has no term, and so none of another sort
+abbrev pub AreEdges : List EventTerm → Type 0
+AreEdges terms = list_any is_level terms ≡ false
+
+pub record K7 (d : Parts) (c : Claims) (i : ℕ) : Type 0 where
+  -- its event controls are of edge terms
+  pub events : (k l : Todo) (number : ℕ) (terms : List EventTerm) → IsEdge d c i → IsPoint d i k → Goes k (wait number terms l) →
+      AreEdges terms
+  -- it has no delay control, of zero ticks neither
+  pub no_delay : (k l : Todo) (number ticks : ℕ) → IsEdge d c i → IsPoint d i k → Goes k (after number ticks l) → ⊥
+  -- its terms of one root name one signal
+  pub one_signal : (t u : EventTerm) (root : ℕ) → IsEdge d c i → HasTerm d i t → HasTerm d i u →
+      IsRootOf d c root t.range.signal → IsRootOf d c root u.range.signal → t.range.signal ≡ u.range.signal
+  -- the firing slots of its different roots are disjoint
+  pub apart : (one other r : ℕ) → IsEdge d c i → FiresOf d c i one r → FiresOf d c i other r → one ≡ other
+
+-- ---- K8: a process of kind delay has delay controls alone, a list of residues for each, and the lists are closed
 
 pub record K8 (d : Parts) (c : Claims) (i : ℕ) : Type 0 where
-  pub one_each : length (slots_of d c i) ≡ length (controls_of d i)
-  -- from the start, or from a delay of zero ticks in the first slot
-  pub from_start : (number ticks : ℕ) (k l : Todo) → IsSlot0 d i k → Goes k (after number ticks l) → 0 < ticks →
-      ends_at d c i number (ticks % c.modulus) ≡ true
-  -- from a residue of a control
-  pub from_residue : (number ticks r : ℕ) (k l : Todo) → HasSlot d c i k r → Goes k (after number ticks l) →
-      ends_at d c i number ((r + ticks) % c.modulus) ≡ true
+  -- it has no event control, without terms neither
+  pub no_event : (k l : Todo) (number : ℕ) (terms : List EventTerm) → IsDelay d c i → IsPoint d i k → Goes k (wait number terms l) → ⊥
+  -- there is one list for each of its delay controls
+  pub one_each : (lists : List (List ℕ)) → HasLists d c i lists → length lists ≡ length (controls_of d i)
+  -- from the start, or from a `#0` in the first slot, a next control of d ticks, above 0, can end at d modulo the modulus
+  pub from_start : (lists : List (List ℕ)) (k l : Todo) (number ticks : ℕ) → HasLists d c i lists → IsSlot0 d i k →
+      Goes k (after number ticks l) → 0 < ticks → DelayEnds d i lists (after number ticks l) (ticks % c.modulus)
+  -- from a residue r of a control it can end at r + d modulo the modulus
+  pub from_residue : (lists : List (List ℕ)) (k l : Todo) (number ticks r : ℕ) → HasLists d c i lists → RunsByDelays d i lists k r →
+      Goes k (after number ticks l) → DelayEnds d i lists (after number ticks l) ((r + ticks) % c.modulus)
 
--- ---- K9: what a process reads at a point with run slots is its own, or is written at other residues
+-- ---- K9: what a process reads at a point with run slots is its own, is its edge signal, or is written at other residues
+
+-- what counts as a read in this rule and the next: where the certificate says so, arguments of `$display` too
+abbrev pub Reads : Parts → Claims → Todo → BitRange → Type 0
+Reads d c k r = ReadsNow d k r ⊎ ((c.displays ≡ true) × ShowsNow d k r)
 
 -- it is the writer, and either reads that very signal, or the signal isn't hot where it reads
-abbrev pub IsOwn : Parts → Claims → ℕ → ℕ → ℕ → Todo → Type 0
-IsOwn d c i u v k = IsWriter d c u i × ((u ≡ v) ⊎ (IsHot d i u k → ⊥))
+abbrev pub IsOwnRead : Parts → Claims → ℕ → ℕ → ℕ → Todo → Type 0
+IsOwnRead d c i u v k = IsWriter d c u i × ((u ≡ v) ⊎ (IsHot d i u k → ⊥))
 
--- the write slots of a variable, those of the `=` of its writer, and the run slots of a point have nothing in common
+-- the process has an edge term of the signal, whose root is written at no residue at which a term of another root can fire
+pub record IsOwnEdge (d : Parts) (c : Claims) (i v : ℕ) : Type 0 where
+  pub term : EventTerm
+  pub has : HasTerm d i term
+  pub edge : is_level term ≡ false
+  pub of : term.range.signal ≡ v
+  pub apart : (root other r : ℕ) → IsRootOf d c root v → HasWriteSlot d c root r → FiresOf d c i other r → other ≡ root
+
+-- the write slots of a variable and the run slots of a point have nothing in common
 abbrev pub AreApart : Parts → Claims → ℕ → ℕ → Todo → Type 0
-AreApart d c i u k =
-    (w r : ℕ) (l : Todo) → IsWriter d c u w → IsPoint d w l → WritesNow l u → HasSlot d c w l r → HasSlot d c i k r → ⊥
+AreApart d c i u k = (r : ℕ) → HasWriteSlot d c u r → HasSlot d c i k r → ⊥
 
 pub record K9 (d : Parts) (c : Claims) (i : ℕ) : Type 0 where
-  pub fixed : (u : ℕ) (r : BitRange) (k : Todo) → IsPoint d i k → ReadsNow k r → Reaches d.assigns u r → IsBlocking d u →
-      IsOwn d c i u r.signal k ⊎ AreApart d c i u k
+  pub fixed : (k : Todo) (r : BitRange) (u : ℕ) → IsSequential d c i → IsPoint d i k → Reads d c k r → IsBlocking d c u → InCone d c u r →
+      IsOwnRead d c i u r.signal k ⊎ (IsOwnEdge d c i r.signal ⊎ AreApart d c i u k)
 
--- ---- K10: in the first slot a process reads variables that it alone writes
+-- ---- K10: the first slot
 
-pub record K10 (d : Parts) (c : Claims) (i : ℕ) : Type 0 where
-  pub variable : (r : BitRange) (k : Todo) → IsSlot0 d i k → ReadsNow k r → HasKind true d r.signal
-  pub written : (r : BitRange) (k : Todo) → IsSlot0 d i k → ReadsNow k r → Writes d i r.signal
-  pub alone : (r : BitRange) (j : ℕ) (k : Todo) → IsSlot0 d i k → ReadsNow k r → Writes d j r.signal → j ≡ i
+-- of a signal: a root is written at slot-0 points at most once in all, by `=`, by a constant 0 or 1 that fires no edge term of it
+pub record FiresNone (d : Parts) (c : Claims) (root : ℕ) (k : Todo) : Type 0 where
+  pub digit : Digit
+  pub known : IsKnown digit
+  pub gives : Gives k (bit_of root) digit
+  pub silent : (j : ℕ) (t : EventTerm) → HasTerm d j t → is_level t ≡ false → IsRootOf d c root t.range.signal →
+      is_edge t.edge X digit ≡ false
 
--- ---- all rules
+pub record K10_Signal (d : Parts) (c : Claims) (v : ℕ) : Type 0 where
+  -- one statement at most, of all processes, writes it at slot-0 points
+  pub once : (i j : ℕ) (k l : Todo) → IsRoot d c v → IsSlot0 d i k → WritesAny d k v → IsSlot0 d j l → WritesAny d l v → (i ≡ j) × (k ≡ l)
+  -- by `=`
+  pub now : (i : ℕ) (k : Todo) → IsRoot d c v → IsSlot0 d i k → WritesLater d k v → ⊥
+  -- a constant 0 or 1, which from x fires no edge term of it
+  pub constant : (i : ℕ) (k : Todo) → IsRoot d c v → IsSlot0 d i k → WritesNow d k v → FiresNone d c v k
 
--- a design keeps the rules under what a certificate claims; a number past the end is of no subject, and nothing is asked of it. They are rules of
--- designs without event controls: a path through one makes no run slots
-pub record Ruled (d : Parts) (c : Claims) : Type 0 where
-  pub signals_named : (v : ℕ) → K1_Signal d c v
-  pub assigns_named : (j : ℕ) → K1_Assign d c j
-  pub processes_named : (i : ℕ) → K1_Process d c i
-  pub names_known : K1_Names d c
-  pub writers : (v : ℕ) → K2 d c v
-  pub modes : (v : ℕ) → K3 d c v
-  pub order : (j : ℕ) → K4 d c j
-  pub residues : (i : ℕ) → K8 d c i
-  pub readings : (i : ℕ) → K9 d c i
-  pub first_slot : (i : ℕ) → K10 d c i
+-- what a process of kind comb reads or waits for, and where the certificate says so what it shows
+pub data BlockNeeds (d : Parts) (c : Claims) (r : BitRange) : Type 0 where
+  needs : (i : ℕ) → IsBlock d c i → DriverNeeds d (block i) r → BlockNeeds d c r
+  shows : (i : ℕ) (k : Todo) → IsBlock d c i → c.displays ≡ true → IsPoint d i k → ShowsNow d k r → BlockNeeds d c r
+
+-- of a process: at slot-0 points one of kind edge or delay reads variables that it alone writes; at prologue points none writes by `=` what a block
+-- hangs on
+pub record K10_Process (d : Parts) (c : Claims) (i : ℕ) : Type 0 where
+  -- what one of kind edge or delay reads at a slot-0 point is a variable
+  pub variable : (k : Todo) (r : BitRange) → IsSequential d c i → IsSlot0 d i k → Reads d c k r → HasKind true d r.signal
+  -- that it writes
+  pub written : (k : Todo) (r : BitRange) → IsSequential d c i → IsSlot0 d i k → Reads d c k r → Writes d i r.signal
+  -- and no other process
+  pub alone : (k : Todo) (r : BitRange) (j : ℕ) → IsSequential d c i → IsSlot0 d i k → Reads d c k r → Writes d j r.signal → j ≡ i
+  -- no `=` at a prologue point writes what is in the cone of what a block needs
+  pub untouched : (k : Todo) (u : ℕ) (r : BitRange) → IsPrologue d i k → WritesNow d k u → BlockNeeds d c r → InCone d c u r → ⊥

@@ -9,7 +9,8 @@ use Rattle.vs_scopes.specs.declared.faults.ElabFault.{ElabFault}
 use Rattle.vs_scopes.specs.declared.faults.ElabFault.TheVariants.{Memory, At}
 use Rattle.vs_scopes.specs.Printed.{Path}
 use Rattle.vs_scopes.specs.passes.Answers.{Refuses, Elaborates, Told, IsFaultAt, IsRefusal, Grows}
-use Rattle.vs_connections.proofs.Folds.{flat_more}
+use Rattle.vs_elab_connections.proofs.Folds.{flat_more}
+use Rattle.std.proofs.lemmas.List.Concat.{flat_map_single as flat_one}
 
 -- a fault of a part is one of the whole
 pub refused_by : (stands also : Reason → Bool) (e : BodyFault) → ((q : Reason) → stands q ≡ true → also q ≡ true) → Refuses stands e → Refuses also e
@@ -74,11 +75,6 @@ module _ {A C X : Type 0} (f : X → List A) where
       let whole : ((done ++ before) ++ f x) ++ rest.0 ≡ done ++ flat_map f xs = append_assoc (done ++ before) (f x) rest.0 ∙ append_assoc done before (f x ++ rest.0) ∙ ap (λ z. done ++ z) rest.1 in
       let told = told_by _ (Stands start (((done ++ before) ++ f x) ++ rest.0)) e (λ r p s. more start ((done ++ before) ++ f x) rest.0 r p s) (m start (done ++ before) (g start done o)) in
       subst (λ z. Told (Stands start z) e) whole told
-
--- the pieces of a list, one element each
-flat_one : {A B : Type 0} (f : A → B) (xs : List A) → flat_map (λ x. f x ∷ []) xs ≡ map f xs
-flat_one f [] = refl
-flat_one f (x ∷ xs) = ap (λ z. f x ∷ z) (flat_one f xs)
 
 -- the same, where each element has one piece
 module _ {A C X : Type 0} (f : X → A) where

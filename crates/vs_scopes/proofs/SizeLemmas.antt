@@ -7,11 +7,11 @@ use Rattle.vs_design.specs.declared.signal.Bounds.{Bounds}
 use Rattle.vs_design.specs.declared.signal.SignalKind.{SignalKind}
 use Rattle.vs_design.specs.declared.signal.SignalKind.TheVariants as k
 use Rattle.vs_design.specs.Kinds.{is_variable}
-use Rattle.vs_selects.specs.declared.shape.Shape.{Shape}
-use Rattle.vs_selects.specs.declared.bindings.Meaning.{Meaning}
-use Rattle.vs_selects.specs.declared.faults.WidthReason.TheVariants.{TooWide, Unknown, NotConstant, WrongKind}
-use Rattle.vs_selects.specs.declared.faults.WidthReason.{WidthReason}
-use Rattle.vs_selects.specs.Environment.{Environment}
+use Rattle.vs_width_selects.specs.declared.shape.Shape.{Shape}
+use Rattle.vs_width_selects.specs.declared.bindings.Meaning.{Meaning}
+use Rattle.vs_width_selects.specs.declared.faults.WidthReason.TheVariants.{TooWide, Unknown, NotConstant, WrongKind}
+use Rattle.vs_width_selects.specs.declared.faults.WidthReason.{WidthReason}
+use Rattle.vs_width_selects.specs.Environment.{Environment}
 use Rattle.vs_scopes.specs.declared.faults.Reason.{Reason}
 use Rattle.vs_scopes.specs.declared.faults.Reason.TheVariants.{NoModule, Inside, PortMismatch, ParameterMismatch, DeclaredTwice, DrivenTwice, Limit, Endless, Unnamed, Timescales, Format, Width}
 use Rattle.vs_scopes.specs.declared.faults.BodyFault.{BodyFault}
@@ -21,7 +21,7 @@ use Rattle.vs_scopes.specs.Ranges.{range_bounds, distance, bounds_fault, range_f
 use Rattle.vs_scopes.specs.passes.Answers.{Refuses}
 use Rattle.vs_scopes.specs.passes.Sizes.{width_faults, IsSize, AreWords, IsRange}
 use Rattle.vs_scopes.proofs.AnswerLemmas.{refused_by}
-use Rattle.vs_connections.proofs.Folds.{both_false, left_true, right_true}
+use Rattle.std.proofs.lemmas.Bool.{or_from as both_false, or_left as left_true, or_right as right_true}
 
 -- ---- shapes
 

@@ -19,12 +19,12 @@ use Rattle.vs_syntax.specs.declared.tree.Item.TheVariants as i
 use Rattle.vs_design.specs.declared.signal.Bounds.{Bounds}
 use Rattle.vs_design.specs.declared.signal.SignalKind.{SignalKind}
 use Rattle.vs_design.specs.declared.signal.SignalKind.TheVariants as k
-use Rattle.vs_selects.specs.declared.shape.Shape.{Shape}
-use Rattle.vs_selects.specs.declared.bindings.Meaning.{Meaning}
-use Rattle.vs_selects.specs.declared.bindings.Binding.{Binding}
-use Rattle.vs_selects.specs.declared.bindings.Binding.TheVariants as b
-use Rattle.vs_selects.specs.Environment.{Environment}
-use Rattle.vs_pieces.specs.Pieces.{NamedBlock, blocks_of, Piece, plain, loop, choice, local, inside, net, content_of, block_name, branch_names, other_names}
+use Rattle.vs_width_selects.specs.declared.shape.Shape.{Shape}
+use Rattle.vs_width_selects.specs.declared.bindings.Meaning.{Meaning}
+use Rattle.vs_width_selects.specs.declared.bindings.Binding.{Binding}
+use Rattle.vs_width_selects.specs.declared.bindings.Binding.TheVariants as b
+use Rattle.vs_width_selects.specs.Environment.{Environment}
+use Rattle.vs_elab_pieces.specs.Pieces.{NamedBlock, blocks_of, Piece, plain, loop, choice, local, inside, net, content_of, block_name, branch_names, other_names}
 use Rattle.vs_scopes.specs.declared.faults.Reason.{Reason}
 use Rattle.vs_scopes.specs.declared.faults.Reason.TheVariants.{Width}
 use Rattle.vs_scopes.specs.Ranges.{Sized, sized_as, range_bounds, distance_or, Words, words_as, word_count}
@@ -197,27 +197,30 @@ inner_names_among ps = flat_map inner_names_in ps
 abbrev pub bound_to : Binding → List (List ℕ) → Bindings
 bound_to x ns = map (λ (n : List ℕ). (n, x)) ns
 
--- ---- names in constant expressions
+-- ---- names before the values of parameters are known
 
 -- the size and sign of a signal without a range (clause 4.3.1)
 abbrev pub scalar : Shape
 scalar = record { width = 1; signed = false; sized = (lit< tt, lit≤ tt) }
 
--- what a signal's name is bound to in a constant expression: its size, ranges and number don't matter there, since it is no constant
+-- what a signal's name is bound to by the text: its size, ranges and number don't matter there
 abbrev pub unsized_of : SignalKind → Binding
 unsized_of kind = b.Signal (record { kind = kind; shape = scalar; bits = None; words = None; count = 1; counted = (lit< tt, lit≤ tt) }) 0
 
-abbrev pub unsized_as : DeclaredName → Binding
-unsized_as d = unsized_of d.kind
+-- what it is bound to in the constant expressions of its own scope: it is no constant there, with selects or without them (clauses 4.10 and 5.2)
+abbrev pub valueless_of : SignalKind → Binding
+valueless_of kind = b.Pending
 
-abbrev pub unsized_names : List DeclaredName → Bindings
-unsized_names ds = map (λ (d : DeclaredName). (d.name, unsized_as d)) ds
+-- names of signals, each bound by its kind
+abbrev pub signal_names : (SignalKind → Binding) → List DeclaredName → Bindings
+signal_names bound ds = map (λ (d : DeclaredName). (d.name, bound d.kind)) ds
 
 abbrev pub pending_names : List Parameter → Bindings
 pending_names ps = map (λ (p : Parameter). (p.name, b.Pending)) ps
 
--- what the names of a scope are bound to before the values of its parameters are known: by its parameters, its ports and its pieces (clause 12.7)
-abbrev pub early_names : List Parameter → List ModulePort → List Piece → Bindings
-early_names xs ports ps =
-    pending_names xs ++ unsized_names (map (declared_by_port (λ n. None)) ports ++ declared_among (λ n. None) ps) ++
+-- what the names of a scope are bound to before the values of its parameters are known, where signals are bound so by their kinds: by its parameters,
+-- its ports and its pieces (clause 12.7)
+abbrev pub early_names : (SignalKind → Binding) → List Parameter → List ModulePort → List Piece → Bindings
+early_names bound xs ports ps =
+    pending_names xs ++ signal_names bound (map (declared_by_port (λ n. None)) ports ++ declared_among (λ n. None) ps) ++
     bound_to b.Genvar (flat_map genvars_in ps) ++ bound_to b.Other (inner_names_among ps)

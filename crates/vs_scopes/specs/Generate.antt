@@ -1,5 +1,5 @@
 -- What generate constructs generate.
-use Rattle.std.specs.Prelude.{ℕ, zero, suc, ℤ, Bool, true, false, ◌&&◌, ◌||◌, not, nat_lt, List, [], ◌∷◌, ◌++◌, length, Option, Some, None, is_none, map, codes, decimal, replicate, if◌then◌else◌}
+use Rattle.std.specs.Prelude.{ℕ, zero, suc, ℤ, Bool, true, false, ◌&&◌, ◌||◌, not, nat_lt, List, [], ◌∷◌, ◌++◌, length, Option, Some, None, is_none, map, sum, codes, decimal, replicate, if◌then◌else◌}
 use Rattle.std.specs.List.{list_any}
 use Rattle.std.specs.Str.{bytes_eq}
 use Rattle.std.specs.declared.boxed.Box.{Box}
@@ -13,17 +13,17 @@ use Rattle.vs_syntax.specs.declared.tree.ModuleItem.TheOpen.{ModuleItem-F}
 use Rattle.vs_syntax.specs.declared.tree.ModuleItem.TheOpen as m
 use Rattle.vs_syntax.specs.declared.tree.ModuleItem.TheFolds.{fold-ModuleItem}
 use Rattle.vs_syntax.specs.declared.tree.ModuleItem.TheViews.{out-ModuleItem}
-use Rattle.vs_selects.specs.declared.bindings.Binding.{Binding}
-use Rattle.vs_selects.specs.declared.bindings.Binding.TheVariants as b
-use Rattle.vs_selects.specs.declared.constants.Const.{Const}
-use Rattle.vs_selects.specs.declared.faults.WidthReason.{WidthReason}
-use Rattle.vs_selects.specs.declared.faults.WidthReason.TheVariants.{Unknown, WrongKind}
-use Rattle.vs_selects.specs.Environment.{Environment}
-use Rattle.vs_selects.specs.Findings.{stands}
-use Rattle.vs_selects.specs.Meants.{own}
-use Rattle.vs_selects.specs.Constants.{constant_finding, whole_number}
+use Rattle.vs_width_selects.specs.declared.bindings.Binding.{Binding}
+use Rattle.vs_width_selects.specs.declared.bindings.Binding.TheVariants as b
+use Rattle.vs_width_selects.specs.declared.constants.Const.{Const}
+use Rattle.vs_width_selects.specs.declared.faults.WidthReason.{WidthReason}
+use Rattle.vs_width_selects.specs.declared.faults.WidthReason.TheVariants.{Unknown, WrongKind}
+use Rattle.vs_width_selects.specs.Environment.{Environment}
+use Rattle.vs_width_selects.specs.Findings.{stands}
+use Rattle.vs_width_selects.specs.Meants.{own}
+use Rattle.vs_width_selects.specs.Constants.{constant_finding, whole_number}
 use Rattle.vs_widths.specs.Expressions.{meant}
-use Rattle.vs_pieces.specs.Pieces.{NamedBlock, blocks_of, Piece, plain, loop, choice, local, inside, net, Content, nothing, block, content_step, content_of}
+use Rattle.vs_elab_pieces.specs.Pieces.{NamedBlock, blocks_of, Piece, plain, loop, choice, local, inside, net, Content, nothing, block, content_step, content_of}
 use Rattle.vs_scopes.specs.declared.faults.Reason.{Reason}
 use Rattle.vs_scopes.specs.declared.faults.Reason.TheVariants.{Endless, Unnamed, Width}
 use Rattle.vs_scopes.specs.Printed.{PathName}
@@ -109,6 +109,21 @@ turns_of env h =
     if any_fault (header_fault env h) then faulty (header_fault env h)
     else if any_fault (genvar_fault env h.first) then faulty (genvar_fault env h.first)
     else turns_from turn_limit env h (genvar_value env h.first)
+
+-- how many turns a loop has; none where it has a fault or doesn't end in time
+abbrev pub turn_number : Turns → ℕ
+turn_number (turns cs) = length cs
+turn_number (faulty w) = 0
+turn_number endless = 0
+
+-- how many turns a piece has, which may be a loop
+abbrev pub piece_turns : Environment → Piece → ℕ
+piece_turns env (loop h x) = turn_number (turns_of env h)
+piece_turns env _ = 0
+
+-- how many turns the loops among pieces have, whether one opens a scope or not
+abbrev pub turns_among : Environment → List Piece → ℕ
+turns_among env ps = sum (map (piece_turns env) ps)
 
 -- ---- branches
 

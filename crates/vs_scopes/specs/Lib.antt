@@ -1,7 +1,7 @@
 pub mod Printed
 pub mod Ranges
-pub use Rattle.vs_connections.specs.Connections
-pub use Rattle.vs_connections.specs.Overrides
+pub use Rattle.vs_elab_connections.specs.Connections
+pub use Rattle.vs_elab_connections.specs.Overrides
 pub mod Parameters
 pub mod Ports
 pub mod Declarations

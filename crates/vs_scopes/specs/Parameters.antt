@@ -7,20 +7,20 @@ use Rattle.vs_syntax.specs.declared.tree.Expr.{Expr}
 use Rattle.vs_syntax.specs.declared.tree.Range.{Range}
 use Rattle.vs_syntax.specs.declared.tree.ParameterForm.{ParameterForm}
 use Rattle.vs_syntax.specs.declared.tree.ParameterForm.TheVariants.{Integer, Vector}
-use Rattle.vs_selects.specs.declared.bindings.Binding.{Binding}
-use Rattle.vs_selects.specs.declared.bindings.Binding.TheVariants as b
-use Rattle.vs_selects.specs.declared.constants.Const.{Const}
-use Rattle.vs_selects.specs.declared.faults.WidthReason.{WidthReason}
-use Rattle.vs_selects.specs.declared.faults.WidthReason.TheVariants.{TooWide, Unknown, NotConstant, WrongKind}
-use Rattle.vs_selects.specs.Environment.{Environment}
-use Rattle.vs_selects.specs.Findings.{Finding, Has, Lacks, stands}
-use Rattle.vs_selects.specs.Meants.{Meant, own}
-use Rattle.vs_selects.specs.Selects.{size_found}
-use Rattle.vs_selects.specs.Constants.{constant_finding, constant_in}
+use Rattle.vs_width_selects.specs.declared.bindings.Binding.{Binding}
+use Rattle.vs_width_selects.specs.declared.bindings.Binding.TheVariants as b
+use Rattle.vs_width_selects.specs.declared.constants.Const.{Const}
+use Rattle.vs_width_selects.specs.declared.faults.WidthReason.{WidthReason}
+use Rattle.vs_width_selects.specs.declared.faults.WidthReason.TheVariants.{TooWide, Unknown, NotConstant, WrongKind}
+use Rattle.vs_width_selects.specs.Environment.{Environment}
+use Rattle.vs_width_selects.specs.Findings.{Finding, Has, Lacks, stands}
+use Rattle.vs_width_selects.specs.Meants.{Meant, own}
+use Rattle.vs_width_selects.specs.Selects.{size_found}
+use Rattle.vs_width_selects.specs.Constants.{constant_finding, constant_in}
 use Rattle.vs_widths.specs.Expressions.{meant}
 use Rattle.vs_scopes.specs.Ranges.{Sized, sized_as}
-pub use Rattle.vs_connections.specs.Overrides.{Parameter, said, header_parameters, item_parameter, parameters_in, piece_parameters, parameters_among, parameters_of, overridable}
-pub use Rattle.vs_connections.specs.Overrides.{Given, first_end, other_ends, given_from, overriding, given_to, do_not_fit, is_override_mismatch}
+pub use Rattle.vs_elab_connections.specs.Overrides.{Parameter, said, header_parameters, item_parameter, parameters_in, piece_parameters, parameters_among, parameters_of, overridable}
+pub use Rattle.vs_elab_connections.specs.Overrides.{Given, first_end, other_ends, given_from, overriding, given_to, do_not_fit, is_override_mismatch}
 
 -- ---- values
 
@@ -109,9 +109,30 @@ known_behind around env gs = known_after (length gs) around env gs
 abbrev pub constants_of : Environment → Environment → List Given → List (List ℕ × Const)
 constants_of around env gs = map (λ (g : Given). (g.0.name, constant_given around (known_behind around env gs) g)) gs
 
+-- What a parameter's name is bound to where those are told apart that wait for a value: nothing yet where it isn't a constant itself, or names one of
+-- those; and something that has no value where it has another fault, its own or that of what overrides it.
+abbrev pub blamed_given : Environment → Environment → Given → Binding
+blamed_given around env g =
+    if own_fault NotConstant env g then b.Pending
+    else if any_fault (λ w. own_fault w env g || outer_fault w around g) then b.Other
+    else b.Constant (constant_given around env g)
+
+-- what names are bound to so after so many rounds, and in a module behind its parameters
+abbrev pub blamed_after : ℕ → Environment → Environment → List Given → Environment
+blamed_after zero around env gs = with_given (λ g. b.Pending) gs env
+blamed_after (suc n) around env gs = with_given (blamed_given around (blamed_after n around env gs)) gs env
+
+abbrev pub blamed_behind : Environment → Environment → List Given → Environment
+blamed_behind around env gs = blamed_after (length gs) around env gs
+
+-- What names are bound to where a fault of a parameter is looked for: a parameter is no faulty constant because it names one that has another fault.
+abbrev pub known_for : WidthReason → Environment → Environment → List Given → Environment
+known_for NotConstant around env gs = blamed_behind around env gs
+known_for w around env gs = known_behind around env gs
+
 -- a fault of one of these parameters in their module
 abbrev pub own_faults : WidthReason → Environment → Environment → List Given → Bool
-own_faults w around env gs = list_any (own_fault w (known_behind around env gs)) gs
+own_faults w around env gs = list_any (own_fault w (known_for w around env gs)) gs
 
 -- a fault of one of the expressions that override these
 abbrev pub outer_faults : WidthReason → Environment → List Given → Bool

@@ -1,5 +1,5 @@
 -- Scopes of a source.
-use Rattle.std.specs.Prelude.{ℕ, zero, suc, ◌+◌, ◌*◌, Bool, true, false, ◌&&◌, ◌||◌, not, List, [], ◌∷◌, ◌++◌, Option, Some, None, is_some, is_none, length, map, filter, find, if◌then◌else◌}
+use Rattle.std.specs.Prelude.{ℕ, zero, suc, ◌+◌, ◌*◌, Bool, true, false, ◌&&◌, ◌||◌, not, List, [], ◌∷◌, ◌++◌, Option, Some, None, is_some, is_none, length, map, sum, filter, find, if◌then◌else◌}
 use Rattle.std.specs.List.{flat_map, list_any}
 use Rattle.std.specs.Str.{bytes_eq}
 use Rattle.vs_syntax.specs.declared.tree.Expr.{Expr}
@@ -10,22 +10,22 @@ use Rattle.vs_syntax.specs.declared.tree.Item.TheVariants as i
 use Rattle.vs_syntax.specs.declared.tree.Module.{Module}
 use Rattle.vs_design.specs.declared.design.ScopeKind.{ScopeKind}
 use Rattle.vs_design.specs.declared.design.ScopeKind.TheVariants as opened_by
-use Rattle.vs_selects.specs.declared.bindings.Binding.{Binding}
-use Rattle.vs_selects.specs.declared.bindings.Binding.TheVariants as b
-use Rattle.vs_selects.specs.declared.constants.Const.{Const}
-use Rattle.vs_selects.specs.declared.faults.WidthReason.{WidthReason}
-use Rattle.vs_selects.specs.Environment.{Environment}
+use Rattle.vs_width_selects.specs.declared.bindings.Binding.{Binding}
+use Rattle.vs_width_selects.specs.declared.bindings.Binding.TheVariants as b
+use Rattle.vs_width_selects.specs.declared.constants.Const.{Const}
+use Rattle.vs_width_selects.specs.declared.faults.WidthReason.{WidthReason}
+use Rattle.vs_width_selects.specs.Environment.{Environment}
 use Rattle.vs_widths.specs.Names.{meaning_of}
 use Rattle.vs_widths.specs.Lefts.{is_left}
-use Rattle.vs_pieces.specs.Pieces.{block_pieces, Piece, plain, pieces_of}
-use Rattle.vs_pieces.specs.Uses.{names_used}
+use Rattle.vs_elab_pieces.specs.Pieces.{block_pieces, Piece, plain, pieces_of}
+use Rattle.vs_elab_pieces.specs.Uses.{names_used}
 use Rattle.vs_scopes.specs.Printed.{PathName, plainly, Path, same_path}
-use Rattle.vs_connections.specs.Connections.{ends_of, is_mismatch}
+use Rattle.vs_elab_connections.specs.Connections.{ends_of, is_mismatch}
 use Rattle.vs_scopes.specs.Parameters.{said, parameters_of, parameters_among, Given, given_from, given_to, is_override_mismatch, with_constant, known_behind, constants_of, own_faults, outer_faults, any_fault}
 use Rattle.vs_scopes.specs.Ports.{ModulePort, ports_of, port_names, ports_again}
-use Rattle.vs_scopes.specs.Declarations.{Bindings, DeclaredName, declared_names, names_in, meaning_as, Use, uses_among, genvars_in, inner_names_among, bound_to, early_names}
+use Rattle.vs_scopes.specs.Declarations.{Bindings, DeclaredName, declared_names, names_in, meaning_as, Use, uses_among, genvars_in, inner_names_among, bound_to, unsized_of, valueless_of, early_names}
 use Rattle.vs_scopes.specs.Nets.{permits_nets, Sight, unseen, seen, coming, nothing_seen, coming_paths, pieces_with_nets, first_told, is_before, is_net}
-use Rattle.vs_scopes.specs.Generate.{Inner, instance, generated, inner_from}
+use Rattle.vs_scopes.specs.Generate.{Inner, instance, generated, inner_from, turns_among}
 use Rattle.vs_scopes.specs.Generate as g
 
 -- what names mean to no scope
@@ -38,11 +38,11 @@ outward bs env n = said (env n) (meaning_of bs n)
 
 -- the names that the text of a module declares, with what they are bound to before the values of its parameters are known
 abbrev pub text_of : Module → Bindings
-text_of m = early_names (parameters_of m) (ports_of m) (pieces_of m.items.items)
+text_of m = early_names unsized_of (parameters_of m) (ports_of m) (pieces_of m.items.items)
 
--- what names of a module are bound to before the values of its parameters are known
+-- what names of a module are bound to in its constant expressions before the values of its parameters are known
 abbrev pub early : Module → Environment
-early m = outward (text_of m) nowhere
+early m = outward (early_names valueless_of (parameters_of m) (ports_of m) (pieces_of m.items.items)) nowhere
 
 -- ---- scopes
 
@@ -191,9 +191,13 @@ signal_count ss = length (flat_map declarations_of ss)
 abbrev pub instance_count : List Scope → ℕ
 instance_count ss = length (filter (λ (s : Scope). is_instance s.kind) ss)
 
--- how many turns of generate loops scopes are
+-- how many turns the generate loops of a scope have (clause 12.4.1)
+abbrev pub turns_in : Scope → ℕ
+turns_in s = turns_among (environment s) s.pieces
+
+-- how many turns the generate loops of scopes have
 abbrev pub turn_count : List Scope → ℕ
-turn_count ss = length (filter (λ (s : Scope). is_some s.title.turn) ss)
+turn_count ss = sum (map turns_in ss)
 
 -- what stands before a scope that follows these
 abbrev pub behind : Before → List Scope → Before
@@ -252,8 +256,8 @@ instance_scope nets s at u m = record {
   text = text_of m;
   ports = ports_of m;
   pieces = module_pieces nets m;
-  constants = constants_of s.known (early m) (given_to u.overrides m);
-  known = known_behind s.known (early m) (given_to u.overrides m);
+  constants = constants_of (environment s) (early m) (given_to u.overrides m);
+  known = known_behind (environment s) (early m) (given_to u.overrides m);
   within = m.name.items ∷ s.within;
   home = named s u.name;
   around = s.path;
@@ -271,13 +275,14 @@ abbrev pub with_constants : Environment → List (List ℕ × Const) → Environ
 with_constants env [] = env
 with_constants env (c ∷ cs) = with_constants (with_constant env c.0 c.1) cs
 
--- what names are bound to in a block in a scope, of these constants and pieces, before the values of its parameters are known
+-- what names are bound to in the constant expressions of a block in a scope, of these constants and pieces, before the values of its parameters are
+-- known
 abbrev pub early_block : Scope → List (List ℕ × Const) → List Piece → Environment
-early_block s cs ps = with_constants (outward (early_names (parameters_among ps) [] ps) (environment s)) cs
+early_block s cs ps = with_constants (outward (early_names valueless_of (parameters_among ps) [] ps) (environment s)) cs
 
 -- the names that the text of a block of these constants and pieces declares, with what they are bound to before its constants are known
 abbrev pub block_text : List (List ℕ × Const) → List Piece → Bindings
-block_text cs ps = early_names (parameters_among ps) [] ps ++ constant_names cs
+block_text cs ps = early_names unsized_of (parameters_among ps) [] ps ++ constant_names cs
 
 -- the scope that a generate block or a named block in a scope is, of these constants and pieces, before the piece at a place there, with so much before
 -- it (clauses 12.4 and 9.8.3)
@@ -322,7 +327,7 @@ block_fault s cs ps w = own_faults w nowhere (early_block s cs ps) (block_given 
 -- the scope that an instance opens: none where there is no such module, the scope stands in it, or its parameters have no values
 abbrev pub opened_instance : Bool → Scope → Before → Use → Option Module → Option Scope
 opened_instance nets s at u None = None
-opened_instance nets s at u (Some m) = if is_inside s m || has_no_values s.known u.overrides m then None else Some (instance_scope nets s at u m)
+opened_instance nets s at u (Some m) = if is_inside s m || has_no_values (environment s) u.overrides m then None else Some (instance_scope nets s at u m)
 
 -- the scope that a block opens: none where its parameters have no values
 abbrev pub opened_block : ℕ → Scope → Before → PathName → List (List ℕ × Const) → List Piece → Option Scope

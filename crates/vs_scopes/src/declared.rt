@@ -1,7 +1,7 @@
 //! What items say of names that the header of a module has alone, or another item declares.
 ghost use Rattle.std.specs.Prelude.{◌≡◌, ℕ, ◌∷◌, [], List, map, IfOk, OnOk};
-ghost use Rattle.vs_pieces.specs.Pieces.{plain};
-ghost use Rattle.vs_pieces.specs.Reads.{read_piece};
+ghost use Rattle.vs_elab_pieces.specs.Pieces.{plain};
+ghost use Rattle.vs_elab_pieces.specs.Reads.{read_piece};
 ghost use Rattle.vs_widths.specs.Names.{meaning_of};
 ghost use Rattle.vs_scopes.specs.Ports.{said_in, kind_in, kind_among};
 ghost use Rattle.vs_scopes.specs.passes.Parts.{read_end};
@@ -9,7 +9,7 @@ ghost use Rattle.vs_scopes.specs.passes.Declared.{first_of, read_said, form_of, 
 
 use std::alloc::{AllocError, Global};
 use vs_design::SignalKind;
-use vs_pieces::Piece;
+use vs_elab_pieces::ScopePiece;
 use vs_syntax::{Declarator, Item, PortForm, Range};
 use vs_widths::Names;
 
@@ -72,13 +72,13 @@ fn add_item_forms<'s>(item: &'s Item, forms: &mut Names<'s, &'s PortForm>) -> Re
 /// What the first of some pieces says of each port by `input` or `output` (IEEE 1364-2005, clause 12.3.3).
 pub fn port_forms<'s>(
     alloc: Global,
-    pieces: &[Piece<'s>],
+    pieces: &[ScopePiece<'s>],
 ) -> Result<Names<'s, &'s PortForm>, AllocError>
     ensures { IfOk result (ArePortForms (map read_piece pieces.now)) }
 {
     let mut forms = Names::new(alloc);
     for piece in pieces {
-        let Piece::Plain(item) = *piece else {
+        let ScopePiece::Plain(item) = *piece else {
             continue;
         };
         add_item_forms(item, &mut forms)?;
@@ -141,13 +141,13 @@ fn add_item_kinds<'s>(item: &'s Item, kinds: &mut Names<'s, KindSaid<'s>>) -> Re
 /// What the first of some pieces declares each name as.
 pub fn kinds_said<'s>(
     alloc: Global,
-    pieces: &[Piece<'s>],
+    pieces: &[ScopePiece<'s>],
 ) -> Result<Names<'s, KindSaid<'s>>, AllocError>
     ensures { IfOk result (AreKinds (map read_piece pieces.now)) }
 {
     let mut kinds = Names::new(alloc);
     for piece in pieces {
-        let Piece::Plain(item) = *piece else {
+        let ScopePiece::Plain(item) = *piece else {
             continue;
         };
         add_item_kinds(item, &mut kinds)?;

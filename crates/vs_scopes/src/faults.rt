@@ -7,8 +7,8 @@ ghost use Rattle.vs_scopes.specs.passes.Answers.{body_fault};
 
 use std::alloc::{AllocError, AllocFailed};
 use thiserror::Error;
-use vs_selects::{WidthFault, WidthReason};
 use vs_strobe::FormatReason;
+use vs_width_selects::{WidthFault, WidthReason};
 
 /// Why there is no design, as it is printed.
 #[derive(Clone, Copy, PartialEq, Eq, Debug, Error)]
@@ -28,10 +28,11 @@ pub enum Reason {
     /// A scope declares a name twice, or two modules have one name.
     #[error("E5")]
     DeclaredTwice,
-    /// Two continuous assignments drive one net.
+    /// A bit of a net is driven twice, by two continuous assignments or by one.
     #[error("E6")]
     DrivenTwice,
-    /// More than 65,536 signals, 16,384 instances, 64 levels of them or 65,536 words of an array, or a delay of 2^62 ticks or more.
+    /// More than 65,536 signals, 16,384 instances, 64 levels of them, 65,536 turns of generate loops or 65,536 words of an array, or a delay of 2^62
+    /// ticks or more.
     #[error("E7")]
     Limit,
     /// An expression, an assignment or a delay has no meaning.

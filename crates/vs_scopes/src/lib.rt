@@ -20,7 +20,7 @@ pub use printed::{
 };
 pub use sizes::{INTEGER, Size, declared_bounds, declared_size, declared_words, port_size};
 pub use texts::fault_text;
-pub use vs_connections::{
+pub use vs_elab_connections::{
     Given, Parameter, block_parameters, ends, given_alone, given_to, module_parameters,
 };
 pub use words::WordCount;

@@ -1,16 +1,16 @@
 //! The ports of a module.
 ghost use Rattle.std.specs.Prelude.{◌≡◌, ℕ, List, map, Some, None, IfOk};
-ghost use Rattle.vs_pieces.specs.Pieces.{Piece as GivenPiece};
-ghost use Rattle.vs_pieces.specs.Reads.{read_piece};
+ghost use Rattle.vs_elab_pieces.specs.Pieces.{Piece as GivenPiece};
+ghost use Rattle.vs_elab_pieces.specs.Reads.{read_piece};
 ghost use Rattle.vs_scopes.specs.Ports.{kind_of_port, port_as, ports_from, port_said, kind_said, is_name_list, port_of_items, port_by_items, listed_ports};
 ghost use Rattle.vs_scopes.specs.passes.Parts.{read_end, read_port};
 ghost use Rattle.vs_scopes.specs.passes.Declared.{read_said, ArePortForms, AreKinds};
 
 use crate::declared::{KindSaid, kinds_said, port_forms};
 use std::alloc::{AllocError, Global};
-use vs_connections::said;
 use vs_design::SignalKind;
-use vs_pieces::Piece;
+use vs_elab_connections::said;
+use vs_elab_pieces::ScopePiece;
 use vs_syntax::{Direction, Expr, Module, Port, PortForm, PortKind, Range};
 use vs_widths::Names;
 
@@ -152,7 +152,7 @@ fn port_by_name<'s>(
 fn ports_by_name<'s>(
     alloc: Global,
     list: &'s [Port],
-    pieces: &[Piece<'s>],
+    pieces: &[ScopePiece<'s>],
 ) -> Result<Vec<ModulePort<'s>>, AllocError>
     ensures { IfOk result (λ v. map read_port v.items
         ≡ map (port_by_items (map read_piece pieces.now)) list.entry.now) }
@@ -180,7 +180,7 @@ fn is_name_list(list: &[Port]) -> bool
 pub fn module_ports<'s>(
     alloc: Global,
     module: &'s Module,
-    pieces: &[Piece<'s>],
+    pieces: &[ScopePiece<'s>],
 ) -> Result<Vec<ModulePort<'s>>, AllocError>
     ensures { IfOk result (λ v. map read_port v.items
         ≡ listed_ports (map read_piece pieces.now) «module».entry.now.ports) }

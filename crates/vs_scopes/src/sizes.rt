@@ -14,8 +14,8 @@ use crate::ports::ModulePort;
 use crate::words::WordCount;
 use std::alloc::Global;
 use vs_design::{Bounds, SignalKind};
-use vs_selects::{Shape, WidthReason};
 use vs_syntax::{Expr, Form, Range};
+use vs_width_selects::{Shape, WidthReason};
 use vs_widths::{Levels, constant};
 
 /// The size and sign of a signal, and its range.

@@ -5,8 +5,8 @@ ghost use Rattle.vs_scopes.specs.Texts.{reason_text, is_control, hexadecimal, sh
 
 use crate::faults::{ElabFault, Reason};
 use std::alloc::{AllocError, Global};
-use vs_selects::WidthReason;
 use vs_strobe::FormatReason;
+use vs_width_selects::WidthReason;
 
 /// The number of a fault.
 fn reason_text(reason: Reason) -> &'static [u8]

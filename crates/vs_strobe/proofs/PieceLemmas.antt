@@ -5,17 +5,17 @@ use Rattle.std.proofs.lemmas.Bool.Decides.{eqb_tells}
 use Rattle.std.proofs.lemmas.List.{append-nil, take_all, length-drop}
 use Rattle.std.specs.Prelude.{slice_get, option_map, MatchOption}
 use Rattle.std.specs.Borrow.{Bor}
-use Rattle.vs_strobe.specs.declared.piece.Piece.{Piece}
-use Rattle.vs_strobe.specs.declared.piece.Piece.TheVariants.{Byte, Path, Shown}
+use Rattle.vs_strobe.specs.declared.piece.FormatPiece.{FormatPiece}
+use Rattle.vs_strobe.specs.declared.piece.FormatPiece.TheVariants.{Byte, Path, Shown}
 use Rattle.vs_strobe.specs.declared.fault.FormatReason.TheVariants.{TooFewArguments, TooManyArguments}
 use Rattle.vs_strobe.specs.Pieces.{joined, wanted, fault_for, directive_of, pieces_of, pieces_from, behind_percent, behind_zero}
 
 -- pieces before others, where those are good
-abbrev pub behind : List Piece → Option (List Piece) → Option (List Piece)
+abbrev pub behind : List FormatPiece → Option (List FormatPiece) → Option (List FormatPiece)
 behind ps rest = option_map (λ qs. ps ++ qs) rest
 
 -- one more piece is read
-pub behind_more : (ps : List Piece) (p : Piece) (rest : Option (List Piece)) → behind ps (joined (Some p) rest) ≡ behind (ps ++ p ∷ []) rest
+pub behind_more : (ps : List FormatPiece) (p : FormatPiece) (rest : Option (List FormatPiece)) → behind ps (joined (Some p) rest) ≡ behind (ps ++ p ∷ []) rest
 behind_more ps p None = refl
 behind_more ps p (Some qs) = ap Some (sym (append_assoc ps (p ∷ []) qs))
 
@@ -26,19 +26,19 @@ drop_at (y ∷ ys) zero x h = cc
 drop_at (y ∷ ys) (suc i) x h = drop_at ys i x h
 
 -- no more arguments than pieces
-pub wanted-le : (ps : List Piece) → wanted ps ≤ length ps
+pub wanted-le : (ps : List FormatPiece) → wanted ps ≤ length ps
 wanted-le [] = omega arith
 wanted-le (Byte b ∷ ps) = omega (arith, wanted-le ps)
 wanted-le (Path ∷ ps) = omega (arith, wanted-le ps)
 wanted-le (Shown s b ∷ ps) = omega (arith, wanted-le ps)
 
 -- none before
-pub behind_none : (rest : Option (List Piece)) → rest ≡ behind [] rest
+pub behind_none : (rest : Option (List FormatPiece)) → rest ≡ behind [] rest
 behind_none None = refl
 behind_none (Some qs) = refl
 
 -- where no byte is left, the pieces before are all
-pub behind_all : (ps : List Piece) (rest : List ℕ) → (length rest == 0) ≡ true → behind ps (pieces_of rest) ≡ Some ps
+pub behind_all : (ps : List FormatPiece) (rest : List ℕ) → (length rest == 0) ≡ true → behind ps (pieces_of rest) ≡ Some ps
 behind_all ps [] h = ap Some (append-nil ps)
 behind_all ps (b ∷ bs) h = absurd (omega (arith, eqb-true (length (b ∷ bs)) 0 h))
 
@@ -66,7 +66,7 @@ plain_percent (b ∷ bs) some is =
     ∙ ap (pieces_from behind_percent) (sym (rest_at (b ∷ bs) 1))
 
 -- a piece behind a `%` is read
-pub percent_read : (bs : List ℕ) (read : Option (Piece × Bor (List ℕ))) → 1 ≤ length bs → get_or bs 0 0 ≡ 37 →
+pub percent_read : (bs : List ℕ) (read : Option (FormatPiece × Bor (List ℕ))) → 1 ≤ length bs → get_or bs 0 0 ≡ 37 →
     MatchOption read (pieces_from behind_percent (take (length bs - 1) (drop 1 bs)) ≡ None)
     (λ x. (pieces_from behind_percent (take (length bs - 1) (drop 1 bs)) ≡ joined (Some x.0) (pieces_of x.1.now)) × (length x.1.now ≤ length (take (length bs - 1) (drop 1 bs)))) →
     MatchOption read (pieces_of bs ≡ None) (λ x. (pieces_of bs ≡ joined (Some x.0) (pieces_of x.1.now)) × (length x.1.now < length bs))
@@ -114,14 +114,14 @@ letter (b ∷ bs) some other last =
 
 -- ---- what is wrong with pieces
 
-pub too_few : (ps : List Piece) (given : ℕ) → given < wanted ps → fault_for (Some ps) given ≡ Some TooFewArguments
+pub too_few : (ps : List FormatPiece) (given : ℕ) → given < wanted ps → fault_for (Some ps) given ≡ Some TooFewArguments
 too_few ps given less = ap (λ t. if t then Some TooFewArguments else (if nat_lt (wanted ps) given then Some TooManyArguments else None)) (lt-ltb given (wanted ps) less)
 
-not_few : (ps : List Piece) (given : ℕ) → wanted ps ≤ given → fault_for (Some ps) given ≡ (if nat_lt (wanted ps) given then Some TooManyArguments else None)
+not_few : (ps : List FormatPiece) (given : ℕ) → wanted ps ≤ given → fault_for (Some ps) given ≡ (if nat_lt (wanted ps) given then Some TooManyArguments else None)
 not_few ps given most = ap (λ t. if t then Some TooFewArguments else (if nat_lt (wanted ps) given then Some TooManyArguments else None)) (le-ltb given (wanted ps) most)
 
-pub too_many : (ps : List Piece) (given : ℕ) → wanted ps < given → fault_for (Some ps) given ≡ Some TooManyArguments
+pub too_many : (ps : List FormatPiece) (given : ℕ) → wanted ps < given → fault_for (Some ps) given ≡ Some TooManyArguments
 too_many ps given less = not_few ps given (omega arith) ∙ ap (λ t. if t then Some TooManyArguments else None) (lt-ltb (wanted ps) given less)
 
-pub no_fault : (ps : List Piece) (given : ℕ) → wanted ps ≤ given → given ≤ wanted ps → fault_for (Some ps) given ≡ None
+pub no_fault : (ps : List FormatPiece) (given : ℕ) → wanted ps ≤ given → given ≤ wanted ps → fault_for (Some ps) given ≡ None
 no_fault ps given most least = not_few ps given most ∙ ap (λ t. if t then Some TooManyArguments else None) (le-ltb (wanted ps) given least)

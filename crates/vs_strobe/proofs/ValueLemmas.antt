@@ -15,12 +15,7 @@ use Rattle.vs_strobe.specs.Values.{mark, group, group_count, by_groups, without_
 use Rattle.std.specs.List.{list_any}
 use Rattle.vs_logic4.specs.Vectors.{same_digit}
 use Rattle.vs_strobe.proofs.PieceLemmas.{drop_at}
-
-bit_of-lt : (d : Digit) → bit_of d < 2
-bit_of-lt Zero = omega arith
-bit_of-lt One = omega arith
-bit_of-lt X = omega arith
-bit_of-lt Z = omega arith
+use Rattle.vs_logic4.proofs.Numbers.{bit_of-lt}
 
 pub number-lt : (ds : List Digit) → number ds < 2 ^ length ds
 number-lt [] = omega arith

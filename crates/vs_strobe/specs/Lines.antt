@@ -7,14 +7,14 @@ use Rattle.vs_eval.specs.Values.{value_of}
 use Rattle.vs_design.specs.declared.statement.FormatArg.{FormatArg}
 use Rattle.vs_design.specs.declared.statement.FormatArg.TheVariants.{Value, Time}
 use Rattle.vs_design.specs.declared.statement.Call.{Call}
-use Rattle.vs_strobe.specs.declared.piece.Piece.{Piece}
-use Rattle.vs_strobe.specs.declared.piece.Piece.TheVariants.{Byte, Path, Shown}
+use Rattle.vs_strobe.specs.declared.piece.FormatPiece.{FormatPiece}
+use Rattle.vs_strobe.specs.declared.piece.FormatPiece.TheVariants.{Byte, Path, Shown}
 use Rattle.vs_strobe.specs.Pieces.{pieces_of}
 use Rattle.vs_strobe.specs.Values.{shown_text}
 
 -- a format: the pieces of its text, its arguments, the path that `%m` prints, and how many ticks a unit of time is
 pub record Format : Type 0 where
-  pub pieces : List Piece
+  pub pieces : List FormatPiece
   pub args : List FormatArg
   pub path : List ℕ
   pub ratio : ℕ
@@ -38,7 +38,7 @@ arg_value ratio (Value signed e) store time = value_of e store time
 arg_value ratio Time store time = of_number 64 (time / ratio)
 
 -- what pieces and their arguments print
-abbrev pub pieces_text : Format → Store → ℕ → List Piece → List FormatArg → List ℕ
+abbrev pub pieces_text : Format → Store → ℕ → List FormatPiece → List FormatArg → List ℕ
 pieces_text f store time [] args = []
 pieces_text f store time (Byte b ∷ ps) args = b ∷ pieces_text f store time ps args
 pieces_text f store time (Path ∷ ps) args = f.path ++ pieces_text f store time ps args

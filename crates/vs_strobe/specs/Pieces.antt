@@ -2,8 +2,8 @@
 use Rattle.std.specs.Prelude.{ℕ, ◌+◌, ◌==◌, ◌||◌, Bool, true, false, if◌then◌else◌, nat_lt, Option, Some, None, option_map, List, [], ◌∷◌, ◌≡◌}
 use Rattle.vs_strobe.specs.declared.piece.Show.{Show}
 use Rattle.vs_strobe.specs.declared.piece.Show.TheVariants.{Binary, Octal, Hex, Decimal, Time, Character, Text}
-use Rattle.vs_strobe.specs.declared.piece.Piece.{Piece}
-use Rattle.vs_strobe.specs.declared.piece.Piece.TheVariants.{Byte, Path, Shown}
+use Rattle.vs_strobe.specs.declared.piece.FormatPiece.{FormatPiece}
+use Rattle.vs_strobe.specs.declared.piece.FormatPiece.TheVariants.{Byte, Path, Shown}
 use Rattle.vs_strobe.specs.declared.fault.FormatReason.{FormatReason}
 use Rattle.vs_strobe.specs.declared.fault.FormatReason.TheVariants.{BadDirective, TooFewArguments, TooManyArguments}
 use Rattle.vs_strobe.specs.declared.fault.FormatFault.{FormatFault}
@@ -22,7 +22,7 @@ show_of b =
     else None))))))
 
 -- the directive of a letter, behind a `0` or not; `m` takes no argument (clause 17.1.1.2, table 17-2)
-abbrev pub directive_of : Bool → ℕ → Option Piece
+abbrev pub directive_of : Bool → ℕ → Option FormatPiece
 directive_of bare b = if b == 109 || b == 77 then Some Path else option_map (λ show. Shown show bare) (show_of b)
 
 -- where a byte of a text stands: among those printed as they are, behind a `%`, or behind a `%0`
@@ -32,12 +32,12 @@ pub data Standing : Type 0 where
   behind_zero : Standing
 
 -- a piece and those behind it, where both are good
-abbrev pub joined : Option Piece → Option (List Piece) → Option (List Piece)
+abbrev pub joined : Option FormatPiece → Option (List FormatPiece) → Option (List FormatPiece)
 joined (Some p) (Some ps) = Some (p ∷ ps)
 joined _ _ = None
 
 -- the pieces of a text from a byte on; none where it has a bad directive (clause 17.1.1; a width other than 0 is one: profile)
-abbrev pub pieces_from : Standing → List ℕ → Option (List Piece)
+abbrev pub pieces_from : Standing → List ℕ → Option (List FormatPiece)
 pieces_from plain [] = Some []
 pieces_from plain (b ∷ bs) = if b == 37 then pieces_from behind_percent bs else joined (Some (Byte b)) (pieces_from plain bs)
 pieces_from behind_percent [] = None
@@ -49,18 +49,18 @@ pieces_from behind_zero [] = None
 pieces_from behind_zero (b ∷ bs) = joined (directive_of true b) (pieces_from plain bs)
 
 -- the pieces of a text
-abbrev pub pieces_of : List ℕ → Option (List Piece)
+abbrev pub pieces_of : List ℕ → Option (List FormatPiece)
 pieces_of text = pieces_from plain text
 
 -- how many arguments pieces take: each that shows one takes one
-abbrev pub wanted : List Piece → ℕ
+abbrev pub wanted : List FormatPiece → ℕ
 wanted [] = 0
 wanted (Byte _ ∷ ps) = wanted ps
 wanted (Path ∷ ps) = wanted ps
 wanted (Shown _ _ ∷ ps) = wanted ps + 1
 
 -- what is wrong with pieces for so many arguments
-abbrev pub fault_for : Option (List Piece) → ℕ → Option FormatReason
+abbrev pub fault_for : Option (List FormatPiece) → ℕ → Option FormatReason
 fault_for None given = Some BadDirective
 fault_for (Some ps) given =
     if nat_lt given (wanted ps) then Some TooFewArguments else (if nat_lt (wanted ps) given then Some TooManyArguments else None)

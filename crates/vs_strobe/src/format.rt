@@ -4,14 +4,14 @@ ghost use Rattle.vs_strobe.specs.Pieces.{format_fault, Refuses};
 ghost use Rattle.vs_strobe.specs.Lines.{format_of, format_of_call};
 
 use crate::fault::FormatFault;
-use crate::piece::{Piece, any_pieces, checked_pieces};
+use crate::piece::{FormatPiece, any_pieces, checked_pieces};
 use std::alloc::{AllocError, Global};
 use std::marker::Model;
 use vs_design::{Call, FormatArg};
 
 /// What a `$display` or `$strobe` prints: its text, read once, and its arguments.
 pub struct Format<'a> {
-    pub(crate) pieces: Vec<Piece>,
+    pub(crate) pieces: Vec<FormatPiece>,
     pub(crate) args: &'a [FormatArg],
     pub(crate) path: &'a [u8],
     /// How many ticks a unit of time is.

@@ -7,7 +7,7 @@ use crate::argument::{arg_value, is_signed};
 use crate::decimals::{decimal_places, push_number, room};
 use crate::digits::{push_base, push_bytes, push_character};
 use crate::format::Format;
-use crate::piece::{Piece, Show};
+use crate::piece::{FormatPiece, Show};
 use std::alloc::{AllocError, Global};
 use vs_design::{FormatArg, Store};
 use vs_logic4::Vec4;
@@ -71,9 +71,9 @@ pub fn line(
     let mut next = 0;
     for piece in &format.pieces {
         match *piece {
-            Piece::Byte(byte) => text.push(byte)?,
-            Piece::Path => text.extend_from_slice(format.path)?,
-            Piece::Shown(show, bare) => {
+            FormatPiece::Byte(byte) => text.push(byte)?,
+            FormatPiece::Path => text.extend_from_slice(format.path)?,
+            FormatPiece::Shown(show, bare) => {
                 if let Some(arg) = format.args.get(next) {
                     push_arg(&mut text, show, bare, format.ratio, arg, store, time)?;
                     next += 1;

@@ -26,7 +26,7 @@ pub enum Show {
 
 /// A piece of a text.
 #[derive(Clone, Copy)]
-pub enum Piece {
+pub enum FormatPiece {
     /// A byte that is printed as it is; `%%` is one `%`.
     Byte(u8),
     /// `%m`
@@ -52,23 +52,23 @@ fn show_of(letter: u8) -> Option<Show>
 }
 
 /// The directive of a letter, behind a `0` or not.
-fn directive_of(bare: bool, letter: u8) -> Option<Piece>
+fn directive_of(bare: bool, letter: u8) -> Option<FormatPiece>
     ensures { result ≡ directive_of bare letter }
 {
     if letter == b'm' || letter == b'M' {
-        return Some(Piece::Path);
+        return Some(FormatPiece::Path);
     }
     let show = show_of(letter)?;
-    Some(Piece::Shown(show, bare))
+    Some(FormatPiece::Shown(show, bare))
 }
 
 /// The piece behind a `%`, and the bytes behind it; nothing where it is no directive.
-fn read_directive(bytes: &[u8]) -> Option<(Piece, &[u8])>
+fn read_directive(bytes: &[u8]) -> Option<(FormatPiece, &[u8])>
     ensures { MatchOption result (pieces_from behind_percent bytes.now ≡ None)
         (λ x. (pieces_from behind_percent bytes.now ≡ joined (Some x.0) (pieces_of x.1.now)) × (length x.1.now ≤ length bytes.now)) }
 {
     match bytes {
-        [b'%', rest @ ..] => Some((Piece::Byte(b'%'), rest)),
+        [b'%', rest @ ..] => Some((FormatPiece::Byte(b'%'), rest)),
         [b'0', letter, rest @ ..] => Some((directive_of(true, *letter)?, rest)),
         [letter, rest @ ..] => Some((directive_of(false, *letter)?, rest)),
         [] => None,
@@ -76,20 +76,20 @@ fn read_directive(bytes: &[u8]) -> Option<(Piece, &[u8])>
 }
 
 /// The piece that bytes begin with, and the bytes behind it; nothing where that is a bad directive.
-fn read_piece(bytes: &[u8]) -> Option<(Piece, &[u8])>
+fn read_piece(bytes: &[u8]) -> Option<(FormatPiece, &[u8])>
     requires { 0 < length bytes.now }
     ensures { MatchOption result (pieces_of bytes.now ≡ None)
         (λ x. (pieces_of bytes.now ≡ joined (Some x.0) (pieces_of x.1.now)) × (length x.1.now < length bytes.now)) }
 {
     match bytes {
         [b'%', behind @ ..] => read_directive(behind),
-        [first, behind @ ..] => Some((Piece::Byte(*first), behind)),
+        [first, behind @ ..] => Some((FormatPiece::Byte(*first), behind)),
         [] => None,
     }
 }
 
 /// The pieces of a text; nothing where it has a bad directive.
-fn read_pieces(alloc: Global, text: &[u8]) -> Result<Option<Vec<Piece>>, AllocError>
+fn read_pieces(alloc: Global, text: &[u8]) -> Result<Option<Vec<FormatPiece>>, AllocError>
     ensures { IfOk result (λ o. MatchOption o (pieces_of text.now ≡ None) (λ pieces. pieces_of text.now ≡ Some pieces.items)) }
 {
     let mut pieces = Vec::new(alloc);
@@ -105,7 +105,7 @@ fn read_pieces(alloc: Global, text: &[u8]) -> Result<Option<Vec<Piece>>, AllocEr
 }
 
 /// The pieces of a text; none of a text with a bad directive.
-pub(crate) fn any_pieces(alloc: Global, text: &[u8]) -> Result<Vec<Piece>, AllocError>
+pub(crate) fn any_pieces(alloc: Global, text: &[u8]) -> Result<Vec<FormatPiece>, AllocError>
     ensures { IfOk result (λ pieces. pieces.items ≡ unwrap_or (pieces_of text.now) []) }
 {
     match read_pieces(alloc, text)? {
@@ -115,13 +115,13 @@ pub(crate) fn any_pieces(alloc: Global, text: &[u8]) -> Result<Vec<Piece>, Alloc
 }
 
 /// How many arguments pieces take.
-fn wanted(pieces: &[Piece]) -> usize
+fn wanted(pieces: &[FormatPiece]) -> usize
     ensures is { result ≡ wanted pieces.now }
     ensures most { result ≤ length pieces.now }
 {
     let mut count = 0;
     for piece in pieces {
-        if let Piece::Shown(_, _) = piece {
+        if let FormatPiece::Shown(_, _) = piece {
             count += 1;
         }
     }
@@ -133,7 +133,7 @@ pub(crate) fn checked_pieces(
     alloc: Global,
     text: &[u8],
     given: usize,
-) -> Result<Vec<Piece>, FormatFault>
+) -> Result<Vec<FormatPiece>, FormatFault>
     ensures read { MatchResult result (λ pieces. (pieces_of text.now ≡ Some pieces.items) × (format_fault text.now given ≡ None))
         (Refuses (format_fault text.now given)) }
 {

@@ -2,18 +2,22 @@
 use Rattle.std.specs.Prelude.{◌≡◌, ℕ, Bool, true, false, List, [], refl}
 use Rattle.std.proofs.Common.{◌∙◌, ap}
 use Rattle.vs_syntax.specs.Symbols.{Symbol, no_token, first}
-use Rattle.vs_syntax.specs.Grammar.{Nonterminal, a_source, a_module, a_header_parameter, a_port, a_port_name, a_bare_name, a_generate_block, a_local, an_item, a_constant, an_instance, a_connection, a_net, a_variable, an_assignment, a_stmt, an_argument, a_dump_argument, a_case_item, an_event_expr, a_target, an_expr, a_level, Grammar, nothing, token, seq, either, many, part, node, chain, optional}
+use Rattle.vs_syntax.specs.Grammar.{Nonterminal, a_source, a_module, a_header_parameter, told_ports, net_ports, variable_ports, port_names, a_bare_name, a_generate_block, a_local, an_item, a_constant, an_instance, a_connection, a_net, a_variable, an_assignment, a_stmt, an_argument, a_dump_argument, a_case_item, an_event_expr, a_target, an_expr, a_level, Grammar, nothing, token, seq, either, many, part, node, chain, optional}
 use Rattle.vs_syntax.specs.Tables.{fronts_of, fronts, among, null, goes}
 use Rattle.vs_syntax.specs.Reading.{Stuck, stuck_here, stuck_deep, stuck_first, stuck_second, stuck_left, stuck_right, stuck_many, stuck_more, stuck_part, stuck_node, stuck_one, stuck_link, stuck_high, stuck_behind}
-use Rattle.vs_syntax.proofs.Fronts.{clash, and_false, goes-seq, goes-either, goes-node, goes-chain}
-use Rattle.vs_syntax.proofs.Least.{is_class, class_there, sound, rule_sound, and_left, and_right, sound_seq, sound_either, sound_many, sound_chain}
+use Rattle.vs_syntax.proofs.Fronts.{clash, goes-seq, goes-either, goes-node, goes-chain}
+use Rattle.std.proofs.lemmas.Bool.{and_right as and_false}
+use Rattle.vs_syntax.proofs.Least.{is_class, class_there, sound, rule_sound, sound_seq, sound_either, sound_many, sound_chain}
+use Rattle.vs_logic4.proofs.Basics.{and_left, and_right}
 
 part_there : (p : Nonterminal) → among no_token (fronts_of p) ≡ false
 part_there a_source = refl
 part_there a_module = refl
 part_there a_header_parameter = refl
-part_there a_port = refl
-part_there a_port_name = refl
+part_there told_ports = refl
+part_there net_ports = refl
+part_there variable_ports = refl
+part_there port_names = refl
 part_there a_bare_name = refl
 part_there a_generate_block = refl
 part_there a_local = refl
@@ -49,7 +53,7 @@ there_by : (g : Grammar) (ts : List Symbol) → sound g ≡ true → goes g ts �
 there_by g ts h i e = clash i (ap (λ c. among c (fronts g)) e ∙ end_begins_none g h)
 
 -- Where reading stopped since it is too deep, a token is next.
-pub stuck_there : {g : Grammar} {room : ℕ} {deep : Bool} {ts rest : List Symbol} → Stuck g room deep ts rest → sound g ≡ true → deep ≡ true → first rest ≡ no_token → ⊥
+pub stuck_there : {g : Grammar} {depth : ℕ} {deep : Bool} {ts rest : List Symbol} → Stuck g depth deep ts rest → sound g ≡ true → deep ≡ true → first rest ≡ no_token → ⊥
 stuck_there (stuck_here n h) i d e = clash d refl
 stuck_there (stuck_deep {a = a} {ts = ts} h n) i d e = there_by a ts i h e
 stuck_there (stuck_first {a = a} {b = b} s) i d e = stuck_there s (sound_seq a b i).0 d e

@@ -1,23 +1,26 @@
 -- Where reading stops since it would be too deep, the symbols up to the place begin a part of a deeper nesting.
 use Rattle.std.specs.Prelude.{◌≡◌, ℕ, zero, suc, max, ◌-◌, ◌<◌, ◌≤◌, Bool, true, false, not, ◌&&◌, ◌||◌, ◌⊎◌, List, [], ◌∷◌, ◌++◌, refl}
 use Rattle.std.proofs.Common.{sym, ◌∙◌, ap, subst, inl, inr, append_assoc, arith}
-use Rattle.vs_tokens.specs.declared.token.Mark.{Mark}
+use Rattle.vs_lex_tokens.specs.declared.token.Mark.{Mark}
 use Rattle.vs_syntax.specs.Symbols.{Symbol, Class, class_of, first, same_class}
-use Rattle.vs_syntax.specs.Grammar.{Nonterminal, a_source, a_module, a_header_parameter, a_port, a_port_name, a_bare_name, a_generate_block, a_local, an_item, a_constant, an_instance, a_connection, a_net, a_variable, an_assignment, a_stmt, an_argument, a_dump_argument, a_case_item, an_event_expr, a_target, an_expr, a_level, Grammar, nothing, token, seq, either, many, part, node, chain, optional, operands, levels, level_at, rule}
+use Rattle.vs_syntax.specs.Grammar.{Nonterminal, a_source, a_module, a_header_parameter, told_ports, net_ports, variable_ports, port_names, a_bare_name, a_generate_block, a_local, an_item, a_constant, an_instance, a_connection, a_net, a_variable, an_assignment, a_stmt, an_argument, a_dump_argument, a_case_item, an_event_expr, a_target, an_expr, a_level, Grammar, nothing, token, seq, either, many, part, node, chain, optional, operands, levels, level_at, rule}
 use Rattle.vs_syntax.specs.Tables.{Front, null_of, operand_fronts, fronts_of, null, low, fronts, among, goes}
 use Rattle.vs_syntax.specs.Derivation.{Tree, empty, leaf, both, down, tokens, height, Is, is_nothing, is_token, is_seq, is_right, is_stop, is_part, is_node, is_one, is_present, is_absent}
 use Rattle.vs_syntax.specs.Reading.{Gets, Stuck, stuck_here, stuck_deep, stuck_first, stuck_second, stuck_left, stuck_right, stuck_many, stuck_more, stuck_part, stuck_node, stuck_one, stuck_link, stuck_high, stuck_behind}
-use Rattle.vs_syntax.proofs.Fronts.{clash, or_false, or_left, or_right, goes-seq, goes-either, goes-node, goes-chain}
+use Rattle.vs_syntax.proofs.Fronts.{clash, goes-seq, goes-either, goes-node, goes-chain}
+use Rattle.std.proofs.lemmas.Bool.{or_parts as or_false, or_left, or_right}
 use Rattle.vs_syntax.proofs.Starts.{silent, goes_behind, seq_first, seq_second}
-use Rattle.vs_syntax.proofs.Least.{least, least_is, least-height, is_class, sound, rule_sound, sound_seq, sound_either, sound_many, sound_chain, and_left, and_right, not_true, first_nil}
+use Rattle.vs_syntax.proofs.Least.{least, least_is, least-height, is_class, sound, rule_sound, sound_seq, sound_either, sound_many, sound_chain, not_true, first_nil}
+use Rattle.vs_logic4.proofs.Basics.{and_left, and_right}
 use Rattle.vs_syntax.proofs.Refused.{front_of, front_text}
 use Rattle.vs_syntax.proofs.Viable.{Viable, viable_first, viable_second, viable_left, viable_right, viable_many, viable_more, viable_link, viable_behind}
 use Rattle.vs_syntax.proofs.Plainly.{same_class-true}
+use Rattle.vs_logic4.proofs.Basics.{or_parts as or_cases}
 
 -- The symbols begin a part of the grammar, of some nesting.
 pub record Begun (g : Grammar) (w : List Symbol) : Type 0 where
-  pub room : ℕ
-  pub viable : Viable g room w
+  pub depth : ℕ
+  pub viable : Viable g depth w
 
 raise : (g : Grammar) (r n : ℕ) (w : List Symbol) → Viable g r w → r ≤ n → Viable g n w
 raise g r n w v h = let f : height v.tree ≤ r = v.fits in record { tree = v.tree; tail = v.tail; is = v.is; fits = omega (arith, f, h); text = v.text }
@@ -28,53 +31,53 @@ raise_gets g r n ts rest x p h = let f : height x ≤ r = p.fits in record { is 
 -- The operators, without a bound on the nesting.
 begun_first : (a b : Grammar) (w : List Symbol) → sound (seq a b) ≡ true → Begun a w → Begun (seq a b) w
 begun_first a b w h v =
-    let n = max v.room (low (seq a b)) in
-    record { room = n; viable = viable_first a b n w h (omega arith) (raise a v.room n w v.viable (omega arith)) }
+    let n = max v.depth (low (seq a b)) in
+    record { depth = n; viable = viable_first a b n w h (omega arith) (raise a v.depth n w v.viable (omega arith)) }
 
 begun_second : (a b : Grammar) (r : ℕ) (ts mid w rest : List Symbol) (x : Tree) → sound (seq a b) ≡ true → Gets a r ts x mid → mid ≡ w ++ rest → Begun b w → Begun (seq a b) (tokens x ++ w)
 begun_second a b r ts mid w rest x h p t v =
-    let n = max (max r v.room) (low (seq a b)) in
-    record { room = n; viable = viable_second a b n ts mid w rest x h (omega arith) (raise_gets a r n ts mid x p (omega arith)) t (raise b v.room n w v.viable (omega arith)) }
+    let n = max (max r v.depth) (low (seq a b)) in
+    record { depth = n; viable = viable_second a b n ts mid w rest x h (omega arith) (raise_gets a r n ts mid x p (omega arith)) t (raise b v.depth n w v.viable (omega arith)) }
 
 begun_left : (a b : Grammar) (ts w rest : List Symbol) → sound (either a b) ≡ true → goes a ts ≡ true → ts ≡ w ++ rest → Begun a w → Begun (either a b) w
 begun_left a b ts w rest h i t v =
-    let n = max v.room (low (either a b)) in
-    record { room = n; viable = viable_left a b n ts w rest h (omega arith) i t (raise a v.room n w v.viable (omega arith)) }
+    let n = max v.depth (low (either a b)) in
+    record { depth = n; viable = viable_left a b n ts w rest h (omega arith) i t (raise a v.depth n w v.viable (omega arith)) }
 
 begun_right : (a b : Grammar) (ts w rest : List Symbol) → sound (either a b) ≡ true → goes a ts ≡ false → ts ≡ w ++ rest → Begun b w → Begun (either a b) w
 begun_right a b ts w rest h i t v =
-    let n = max v.room (low (either a b)) in
-    record { room = n; viable = viable_right a b n ts w rest h (omega arith) i t (raise b v.room n w v.viable (omega arith)) }
+    let n = max v.depth (low (either a b)) in
+    record { depth = n; viable = viable_right a b n ts w rest h (omega arith) i t (raise b v.depth n w v.viable (omega arith)) }
 
 begun_many : (a : Grammar) (ts w rest : List Symbol) → sound (many a) ≡ true → goes a ts ≡ true → ts ≡ w ++ rest → Begun a w → Begun (many a) w
-begun_many a ts w rest h i t v = record { room = v.room; viable = viable_many a v.room ts w rest h i t v.viable }
+begun_many a ts w rest h i t v = record { depth = v.depth; viable = viable_many a v.depth ts w rest h i t v.viable }
 
 begun_more : (a : Grammar) (r : ℕ) (ts mid w rest : List Symbol) (x : Tree) → sound (many a) ≡ true → goes a ts ≡ true → Gets a r ts x mid → mid ≡ w ++ rest → Begun (many a) w → Begun (many a) (tokens x ++ w)
 begun_more a r ts mid w rest x h i p t v =
-    let n = max r v.room in
-    record { room = n; viable = viable_more a n ts mid w rest x h i (raise_gets a r n ts mid x p (omega arith)) t (raise (many a) v.room n w v.viable (omega arith)) }
+    let n = max r v.depth in
+    record { depth = n; viable = viable_more a n ts mid w rest x h i (raise_gets a r n ts mid x p (omega arith)) t (raise (many a) v.depth n w v.viable (omega arith)) }
 
 begun_part : (p : Nonterminal) (w : List Symbol) → Begun (rule p) w → Begun (part p) w
-begun_part p w v = let u = v.viable in record { room = v.room; viable = record { tree = u.tree; tail = u.tail; is = is_part u.is; fits = u.fits; text = u.text } }
+begun_part p w v = let u = v.viable in record { depth = v.depth; viable = record { tree = u.tree; tail = u.tail; is = is_part u.is; fits = u.fits; text = u.text } }
 
 begun_node : (a : Grammar) (w : List Symbol) → Begun a w → Begun (node a) w
 begun_node a w v =
     let u = v.viable in
-    let f : height u.tree ≤ v.room = u.fits in
-    record { room = suc v.room; viable = record { tree = down u.tree; tail = u.tail; is = is_node u.is; fits = omega (arith, f); text = u.text } }
+    let f : height u.tree ≤ v.depth = u.fits in
+    record { depth = suc v.depth; viable = record { tree = down u.tree; tail = u.tail; is = is_node u.is; fits = omega (arith, f); text = u.text } }
 
 begun_one : (a b : Grammar) (w : List Symbol) → sound (chain a b) ≡ true → Begun a w → Begun (chain a b) w
-begun_one a b w h v = let u = v.viable in record { room = v.room; viable = record { tree = u.tree; tail = u.tail; is = is_one (sound_chain a b h).3 u.is; fits = u.fits; text = u.text } }
+begun_one a b w h v = let u = v.viable in record { depth = v.depth; viable = record { tree = u.tree; tail = u.tail; is = is_one (sound_chain a b h).3 u.is; fits = u.fits; text = u.text } }
 
 begun_link : (a b : Grammar) (r : ℕ) (ts mid w rest : List Symbol) (x : Tree) → sound (chain a b) ≡ true → Gets a r ts x mid → goes b mid ≡ true → mid ≡ w ++ rest → Begun b w → Begun (chain a b) (tokens x ++ w)
 begun_link a b r ts mid w rest x h p i t v =
-    let n = suc (max r v.room) in
+    let n = suc (max r v.depth) in
     let f : height x ≤ r = p.fits in
     let lower : height x < n = omega (arith, f) in
-    record { room = n; viable = viable_link a b n ts mid w rest x h (raise_gets a r n ts mid x p (omega arith)) lower i t (raise b v.room (n - 1) w v.viable (omega arith)) }
+    record { depth = n; viable = viable_link a b n ts mid w rest x h (raise_gets a r n ts mid x p (omega arith)) lower i t (raise b v.depth (n - 1) w v.viable (omega arith)) }
 
 begun_behind : (c : Class) (a : Grammar) (s : Symbol) (w : List Symbol) → class_of s ≡ c → Begun a w → Begun (optional c a) (s ∷ w)
-begun_behind c a s w e v = record { room = v.room; viable = viable_behind c a v.room s w e v.viable }
+begun_behind c a s w e v = record { depth = v.depth; viable = viable_behind c a v.depth s w e v.viable }
 
 -- A tree without tokens, where what comes next can't begin the grammar.
 record Nothing (g : Grammar) (m : List Symbol) : Type 0 where
@@ -86,8 +89,10 @@ part_nothing : (p : Nonterminal) → null_of p ≡ true → (m : List Symbol) �
 part_nothing a_source n m h = record { tree = empty; is = is_part (is_stop h); none = refl }
 part_nothing a_module n m h = absurd (clash n refl)
 part_nothing a_header_parameter n m h = absurd (clash n refl)
-part_nothing a_port n m h = absurd (clash n refl)
-part_nothing a_port_name n m h = absurd (clash n refl)
+part_nothing told_ports n m h = absurd (clash n refl)
+part_nothing net_ports n m h = absurd (clash n refl)
+part_nothing variable_ports n m h = absurd (clash n refl)
+part_nothing port_names n m h = absurd (clash n refl)
 part_nothing a_bare_name n m h = absurd (clash n refl)
 part_nothing a_generate_block n m h = absurd (clash n refl)
 part_nothing a_local n m h = absurd (clash n refl)
@@ -110,7 +115,7 @@ part_nothing (a_level k) n m h = absurd (clash n refl)
 or_other : (a b : Bool) → a ≡ false → (a || b) ≡ true → b ≡ true
 or_other a b p h = ap (λ u. u || b) (sym p) ∙ h
 
-either_none : (a b : Grammar) (m : List Symbol) → goes (either a b) m ≡ false → (goes a m ≡ false) × (goes b m ≡ false)
+pub either_none : (a b : Grammar) (m : List Symbol) → goes (either a b) m ≡ false → (goes a m ≡ false) × (goes b m ≡ false)
 either_none a b m h = or_false (goes a m) (goes b m) (sym (goes-either a b m) ∙ h)
 
 null_tree : (g : Grammar) → sound g ≡ true → null g ≡ true → (m : List Symbol) → goes g m ≡ false → Nothing g m
@@ -157,10 +162,6 @@ abbrev pub reach : ℕ → Class → Nonterminal → Bool
 reach zero c p = reach_level c p
 reach (suc n) c p = reach_level c p || reach_in (reach n c) (rule p) c
 
-or_cases : (a b : Bool) → (a || b) ≡ true → (a ≡ true) ⊎ (b ≡ true)
-or_cases true b h = inl refl
-or_cases false b h = inr h
-
 not_nil : (s : Symbol) (ss : List Symbol) → s ∷ ss ≡ [] → ⊥
 not_nil s ss e = cc
 
@@ -184,7 +185,7 @@ grown_seq a b s h n i v =
 -- A symbol that the grammar can begin with begins a part of it.
 grown_in : (r : Nonterminal → Bool) (s : Symbol) → ((q : Nonterminal) → r q ≡ true → Begun (part q) (s ∷ [])) → (g : Grammar) → sound g ≡ true → reach_in r g (class_of s) ≡ true → Begun g (s ∷ [])
 grown_in r s f nothing h k = absurd (clash k refl)
-grown_in r s f (token c) h k = record { room = 0; viable = record { tree = leaf s; tail = []; is = is_token (same_class-true (class_of s) c k); fits = omega arith; text = refl } }
+grown_in r s f (token c) h k = record { depth = 0; viable = record { tree = leaf s; tail = []; is = is_token (same_class-true (class_of s) c k); fits = omega arith; text = refl } }
 grown_in r s f (seq a b) h k =
     let t = sound_seq a b h in
     elim (or_cases (reach_in r a (class_of s)) (not (goes a (s ∷ [])) && (null a && reach_in r b (class_of s))) k) as (λ _. Begun (seq a b) (s ∷ [])) [
@@ -208,7 +209,7 @@ grown_in r s f (chain a b) h k = begun_one a b (s ∷ []) h (grown_in r s f a (s
 grown_in r s f (optional c a) h k =
     let e : height (least a) ≡ low a = least-height a in
     record {
-      room = low a;
+      depth = low a;
       viable = record { tree = both (leaf s) (least a); tail = tokens (least a); is = is_present (same_class-true (class_of s) c k) (least_is a (and_right (is_class c) (sound a) h)); fits = omega (arith, e); text = refl };
     }
 
@@ -256,8 +257,10 @@ rule_reach : (p : Nonterminal) → all_pass (λ c. reach 4 c p) (fronts_of p) �
 rule_reach a_source = refl
 rule_reach a_module = refl
 rule_reach a_header_parameter = refl
-rule_reach a_port = refl
-rule_reach a_port_name = refl
+rule_reach told_ports = refl
+rule_reach net_ports = refl
+rule_reach variable_ports = refl
+rule_reach port_names = refl
 rule_reach a_bare_name = refl
 rule_reach a_generate_block = refl
 rule_reach a_local = refl
@@ -323,22 +326,22 @@ moved : (g : Grammar) (x : Tree) (w : List Symbol) (s : Symbol) → Begun g (tok
 moved g x w s v = subst (λ (u : List Symbol). Begun g u) (sym (append_assoc (tokens x) w (s ∷ []))) v
 
 -- The symbols up to the place begin a part of the grammar, of some nesting.
-pub deeper : {g : Grammar} {room : ℕ} {deep : Bool} {ts rest : List Symbol} → (st : Stuck g room deep ts rest) → deep ≡ true → sound g ≡ true → (s : Symbol) (ss : List Symbol) → rest ≡ s ∷ ss → Begun g (front_of st ++ (s ∷ []))
+pub deeper : {g : Grammar} {depth : ℕ} {deep : Bool} {ts rest : List Symbol} → (st : Stuck g depth deep ts rest) → deep ≡ true → sound g ≡ true → (s : Symbol) (ss : List Symbol) → rest ≡ s ∷ ss → Begun g (front_of st ++ (s ∷ []))
 deeper (stuck_here n h) d i s ss e = absurd (clash d refl)
 deeper (stuck_deep {a = a} h n) d i s ss e = grown a s i (ap (λ u. among (first u) (fronts a)) (sym e) ∙ h)
 deeper (stuck_first {a = a} {b = b} st) d i s ss e = begun_first a b (front_of st ++ (s ∷ [])) i (deeper st d (sound_seq a b i).0 s ss e)
-deeper {room = room} (stuck_second {a = a} {b = b} {ts = ts} {mid = mid} {rest = rest} {x = x} p st) d i s ss e =
-    moved (seq a b) x (front_of st) s (begun_second a b room ts mid (front_of st ++ (s ∷ [])) ss x i p (on_to mid (front_of st) rest s ss (front_text st) e) (deeper st d (sound_seq a b i).1 s ss e))
+deeper {depth = depth} (stuck_second {a = a} {b = b} {ts = ts} {mid = mid} {rest = rest} {x = x} p st) d i s ss e =
+    moved (seq a b) x (front_of st) s (begun_second a b depth ts mid (front_of st ++ (s ∷ [])) ss x i p (on_to mid (front_of st) rest s ss (front_text st) e) (deeper st d (sound_seq a b i).1 s ss e))
 deeper (stuck_left {a = a} {b = b} {ts = ts} {rest = rest} h n st) d i s ss e = begun_left a b ts (front_of st ++ (s ∷ [])) ss i h (on_to ts (front_of st) rest s ss (front_text st) e) (deeper st d (sound_either a b i).0 s ss e)
 deeper (stuck_right {a = a} {b = b} {ts = ts} {rest = rest} h n st) d i s ss e = begun_right a b ts (front_of st ++ (s ∷ [])) ss i h (on_to ts (front_of st) rest s ss (front_text st) e) (deeper st d (sound_either a b i).1 s ss e)
 deeper (stuck_many {a = a} {ts = ts} {rest = rest} h n st) d i s ss e = begun_many a ts (front_of st ++ (s ∷ [])) ss i h (on_to ts (front_of st) rest s ss (front_text st) e) (deeper st d (sound_many a i).0 s ss e)
-deeper {room = room} (stuck_more {a = a} {ts = ts} {mid = mid} {rest = rest} {x = x} h p st) d i s ss e =
-    moved (many a) x (front_of st) s (begun_more a room ts mid (front_of st ++ (s ∷ [])) ss x i h p (on_to mid (front_of st) rest s ss (front_text st) e) (deeper st d i s ss e))
+deeper {depth = depth} (stuck_more {a = a} {ts = ts} {mid = mid} {rest = rest} {x = x} h p st) d i s ss e =
+    moved (many a) x (front_of st) s (begun_more a depth ts mid (front_of st ++ (s ∷ [])) ss x i h p (on_to mid (front_of st) rest s ss (front_text st) e) (deeper st d i s ss e))
 deeper (stuck_part {p = k} st) d i s ss e = begun_part k (front_of st ++ (s ∷ [])) (deeper st d (rule_sound k) s ss e)
 deeper (stuck_node {a = a} n st) d i s ss e = begun_node a (front_of st ++ (s ∷ [])) (deeper st d i s ss e)
 deeper (stuck_one {a = a} {b = b} st) d i s ss e = begun_one a b (front_of st ++ (s ∷ [])) i (deeper st d (sound_chain a b i).0 s ss e)
-deeper {room = room} (stuck_link {a = a} {b = b} {ts = ts} {mid = mid} {rest = rest} {x = x} p n h st) d i s ss e =
-    moved (chain a b) x (front_of st) s (begun_link a b room ts mid (front_of st ++ (s ∷ [])) ss x i p h (on_to mid (front_of st) rest s ss (front_text st) e) (deeper st d (sound_chain a b i).1 s ss e))
-deeper {room = room} (stuck_high {a = a} {b = b} {ts = ts} {mid = mid} {x = x} p h n) d i s ss e =
-    begun_link a b room ts mid (s ∷ []) ss x i p h e (grown b s (sound_chain a b i).1 (ap (λ u. among (first u) (fronts b)) (sym e) ∙ h))
+deeper {depth = depth} (stuck_link {a = a} {b = b} {ts = ts} {mid = mid} {rest = rest} {x = x} p n h st) d i s ss e =
+    moved (chain a b) x (front_of st) s (begun_link a b depth ts mid (front_of st ++ (s ∷ [])) ss x i p h (on_to mid (front_of st) rest s ss (front_text st) e) (deeper st d (sound_chain a b i).1 s ss e))
+deeper {depth = depth} (stuck_high {a = a} {b = b} {ts = ts} {mid = mid} {x = x} p h n) d i s ss e =
+    begun_link a b depth ts mid (s ∷ []) ss x i p h e (grown b s (sound_chain a b i).1 (ap (λ u. among (first u) (fronts b)) (sym e) ∙ h))
 deeper (stuck_behind {c = c} {a = a} {s = z} h n st) d i s ss e = begun_behind c a z (front_of st ++ (s ∷ [])) h (deeper st d (and_right (is_class c) (sound a) i) s ss e)

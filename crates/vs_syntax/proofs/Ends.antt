@@ -1,15 +1,17 @@
 -- What can go on behind a part: another token may follow a tree where none of its parts could go on with it.
 use Rattle.std.specs.Prelude.{◌≡◌, ℕ, zero, suc, Bool, true, false, not, ◌&&◌, ◌||◌, ◌⊎◌, List, [], ◌∷◌, ◌++◌, length, refl}
 use Rattle.std.proofs.Common.{sym, ◌∙◌, ap, inl, inr}
-use Rattle.vs_tokens.specs.declared.token.Mark.{Mark}
-use Rattle.vs_tokens.specs.declared.token.Mark.TheVariants as m
-use Rattle.vs_tokens.specs.declared.token.Word.TheVariants as w
+use Rattle.vs_lex_tokens.specs.declared.token.Mark.{Mark}
+use Rattle.vs_lex_tokens.specs.declared.token.Mark.TheVariants as m
+use Rattle.vs_lex_tokens.specs.declared.token.Word.TheVariants as w
 use Rattle.vs_syntax.specs.Symbols.{Symbol, Class, the_mark, the_word, the_directive, same_class, first}
-use Rattle.vs_syntax.specs.Grammar.{Nonterminal, a_source, a_module, a_header_parameter, a_port, a_port_name, a_bare_name, a_generate_block, a_local, an_item, a_constant, an_instance, a_connection, a_net, a_variable, an_assignment, a_stmt, an_argument, a_dump_argument, a_case_item, an_event_expr, a_target, an_expr, a_level, Grammar, nothing, token, seq, either, many, part, node, chain, optional, ◌·◌, one_or_more, one_mark, operands, a_condition, arm, levels, level_at, rule}
+use Rattle.vs_syntax.specs.Grammar.{Nonterminal, a_source, a_module, a_header_parameter, told_ports, net_ports, variable_ports, port_names, a_bare_name, a_generate_block, a_local, an_item, a_constant, an_instance, a_connection, a_net, a_variable, an_assignment, a_stmt, an_argument, a_dump_argument, a_case_item, an_event_expr, a_target, an_expr, a_level, Grammar, nothing, token, seq, either, many, part, node, chain, optional, ◌·◌, one_or_more, one_mark, operands, a_condition, arm, levels, level_at, rule}
 use Rattle.vs_syntax.specs.Tables.{Front, at_least, mark_fronts, null, fronts, among, goes}
 use Rattle.vs_syntax.specs.Derivation.{Tree, tokens, Is, is_nothing, is_token, is_seq, is_left, is_right, is_stop, is_more, is_part, is_node, is_one, is_chain, is_present, is_absent}
-use Rattle.vs_syntax.proofs.Fronts.{clash, or_false, goes_same, among-append, among-seq}
+use Rattle.vs_syntax.proofs.Fronts.{clash, goes_same, among-append, among-seq}
+use Rattle.std.proofs.lemmas.Bool.{or_parts as or_false}
 use Rattle.vs_syntax.proofs.Starts.{quiet, is_null}
+use Rattle.vs_logic4.proofs.Basics.{or_none as or_nothing}
 
 -- with what operands of so many levels can go on: the operators of these levels, and the selects of a name
 abbrev pub level_lasts : ℕ → List Front
@@ -25,13 +27,20 @@ abbrev pub stmt_lasts : Bool → List Front
 stmt_lasts true = []
 stmt_lasts false = at_least (the_word w.Else) 0 ∷ []
 
+-- with what ports can go on, of which the last may be a variable
+abbrev pub port_lasts : List Front
+port_lasts = at_least (the_mark m.Comma) 0 ∷ at_least (the_mark m.Assign) 0 ∷ expr_lasts
+
 -- With what a part can go on behind its last token; in the plain reading without the classes of optional parts at its end,
 -- since that reading says itself that no such token stands behind.
 abbrev pub lasts_of : Bool → Nonterminal → List Front
 lasts_of plain a_source = at_least (the_word w.Module) 0 ∷ at_least the_directive 0 ∷ []
 lasts_of plain a_header_parameter = expr_lasts
 lasts_of plain a_constant = expr_lasts
-lasts_of plain a_port = at_least (the_mark m.Assign) 0 ∷ expr_lasts
+lasts_of plain told_ports = port_lasts
+lasts_of plain net_ports = port_lasts
+lasts_of plain variable_ports = port_lasts
+lasts_of plain port_names = at_least (the_mark m.Comma) 0 ∷ []
 lasts_of plain a_generate_block = stmt_lasts plain
 lasts_of plain a_local = at_least (the_mark m.OpenBracket) 0 ∷ []
 lasts_of plain a_net = at_least (the_mark m.Assign) 0 ∷ expr_lasts
@@ -59,10 +68,6 @@ goes_on plain (part p) c = among c (lasts_of plain p)
 goes_on plain (node a) c = goes_on plain a c
 goes_on plain (chain a b) c = goes_on plain a c || (goes_on plain b c || among c (fronts b))
 goes_on plain (optional k a) c = goes_on plain a c || (not plain && same_class c k)
-
-or_nothing : (b : Bool) → (b || false) ≡ b
-or_nothing true = refl
-or_nothing false = refl
 
 -- a mark of several
 pub one_mark-null : (op : Mark) (ops : List Mark) → null (one_mark op ops) ≡ false
@@ -120,9 +125,20 @@ net_goes_on : (assign value : Bool) → (assign || value) ≡ false → ((value 
 net_goes_on false false h = refl
 net_goes_on _ _ h = cc
 
-port_goes_on : (assign value : Bool) → (assign || value) ≡ false → (((value || false) || (assign || false) || false) || false) ≡ false
-port_goes_on false false h = refl
-port_goes_on _ _ h = cc
+-- none of three
+none_of : (a b c : Bool) → (a || (b || c)) ≡ false → (a ≡ false) × (b ≡ false) × (c ≡ false)
+none_of false false false h = (refl, refl, refl)
+none_of _ _ _ h = cc
+
+ports_go_on : (all : Bool) → all ≡ false → ((((all || false) || false) || (((all || false) || false) || false)) || false) ≡ false
+ports_go_on all h = rw h refl
+
+net_ports_go_on : (all comma : Bool) → all ≡ false → comma ≡ false → ((((((all || (all || false)) || false) || (comma || false)) || false)) || false) ≡ false
+net_ports_go_on all comma h k = rw (h, k) refl
+
+variable_ports_go_on : (all comma assign value : Bool) → all ≡ false → comma ≡ false → assign ≡ false → value ≡ false →
+    (((((all || (all || false)) || false) || (comma || false)) || ((value || false) || (assign || false))) || false) ≡ false
+variable_ports_go_on all comma assign value h k l n = rw (h, k, l, n) refl
 
 variable_goes_on : (assign bracket value : Bool) → (assign || (bracket || value)) ≡ false → ((value || false) || ((bracket || false) || (assign || false)) || false) ≡ false
 variable_goes_on false false false h = refl
@@ -135,8 +151,13 @@ pub rule_goes_on : (plain : Bool) (p : Nonterminal) (c : Class) → among c (las
 rule_goes_on plain a_source c h = h
 rule_goes_on plain a_module c h = refl
 rule_goes_on plain a_header_parameter c h = kept_one (among c expr_lasts) h
-rule_goes_on plain a_port c h = port_goes_on (same_class c (the_mark m.Assign)) (among c expr_lasts) h
-rule_goes_on plain a_port_name c h = refl
+rule_goes_on plain told_ports c h = ports_go_on (among c port_lasts) h
+rule_goes_on plain net_ports c h =
+    net_ports_go_on (among c port_lasts) (same_class c (the_mark m.Comma)) h (none_of (same_class c (the_mark m.Comma)) (same_class c (the_mark m.Assign)) (among c expr_lasts) h).0
+rule_goes_on plain variable_ports c h =
+    let k = none_of (same_class c (the_mark m.Comma)) (same_class c (the_mark m.Assign)) (among c expr_lasts) h in
+    variable_ports_go_on (among c port_lasts) (same_class c (the_mark m.Comma)) (same_class c (the_mark m.Assign)) (among c expr_lasts) h k.0 k.1 k.2
+rule_goes_on plain port_names c h = rw (or_false (same_class c (the_mark m.Comma)) false h).0 refl
 rule_goes_on plain a_bare_name c h = refl
 rule_goes_on true a_generate_block c h = refl
 rule_goes_on false a_generate_block c h = rw (or_false (same_class c (the_word w.Else)) false h).0 refl

@@ -2,30 +2,16 @@
 use Rattle.std.specs.Prelude.{◌≡◌, ℕ, suc, max, ◌≤◌, Bool, true, false, cond, ◌&&◌, ◌||◌, List, [], ◌∷◌, ◌++◌, refl}
 use Rattle.std.proofs.Common.{sym, ◌∙◌, ap, arith}
 use denote.Enum.Bare.{true_same}
-use Rattle.vs_tokens.specs.contracts.token.Mark as marks
-use Rattle.vs_tokens.specs.contracts.token.Word as words
+use Rattle.vs_lex_tokens.specs.contracts.token.Mark as marks
+use Rattle.vs_lex_tokens.specs.contracts.token.Word as words
 use Rattle.vs_syntax.specs.Symbols.{Symbol, Class, class_of, no_token, the_mark, the_word, any_name, any_number, the_cast, any_text, the_print, the_finish, the_dump, the_time, the_directive, any_other, same_class, first}
 use Rattle.vs_syntax.specs.Grammar.{Grammar, seq, either, node, chain, optional}
 use Rattle.vs_syntax.specs.Tables.{Front, null, low, beside, above, fronts, among, need, goes}
+use Rattle.std.proofs.lemmas.Bool.{and_right as and_false, or_left, or_parts as or_false, or_right}
 
 -- a flag is not both
 pub clash : {b : Bool} → b ≡ true → b ≡ false → ⊥
 clash p q = cc
-
-pub or_false : (a b : Bool) → (a || b) ≡ false → (a ≡ false) × (b ≡ false)
-or_false true b p = absurd (clash refl p)
-or_false false b p = (refl, p)
-
-pub or_right : (a b : Bool) → b ≡ true → (a || b) ≡ true
-or_right true b p = refl
-or_right false b p = p
-
-pub or_left : (a b : Bool) → a ≡ true → (a || b) ≡ true
-or_left a b p = rw p refl
-
-pub and_false : (a b : Bool) → b ≡ false → (a && b) ≡ false
-and_false true b p = p
-and_false false b p = refl
 
 pub same_class-refl : (c : Class) → same_class c c ≡ true
 same_class-refl no_token = refl

@@ -3,21 +3,23 @@ use Rattle.std.specs.Prelude.{◌≡◌, ℕ, zero, suc, min, ◌==◌, nat_le, 
 use Rattle.std.proofs.Common.{sym, ◌∙◌, ap, inr, arith}
 use Rattle.std.proofs.lemmas.Bool.Decides.{nat_tests}
 use Rattle.std.proofs.lemmas.Bool.{eqb-true}
-use Rattle.vs_syntax.proofs.Fronts.{or_false, among-append}
+use Rattle.vs_syntax.proofs.Fronts.{among-append}
+use Rattle.std.proofs.lemmas.Bool.{or_parts as or_false}
 use Rattle.vs_logic4.specs.declared.digit.Digit.TheVariants.{Zero}
-use Rattle.vs_tokens.specs.declared.token.ImplicitNet.TheVariants.{Wire}
-use Rattle.vs_tokens.specs.declared.token.Directive.TheVariants.{DefaultNettype}
+use Rattle.vs_lex_tokens.specs.declared.token.ImplicitNet.TheVariants.{Wire}
+use Rattle.vs_lex_tokens.specs.declared.token.Directive.TheVariants.{DefaultNettype}
 use Rattle.vs_syntax.specs.declared.tree.PrintTask.TheVariants.{Display}
 use Rattle.vs_syntax.specs.declared.tree.DumpTask.TheVariants.{File}
-use Rattle.vs_tokens.specs.declared.token.Literal.{Literal}
-use Rattle.vs_tokens.specs.declared.token.Mark.{Mark}
-use Rattle.vs_tokens.specs.declared.token.Mark.TheVariants as m
-use Rattle.vs_tokens.specs.declared.token.Word.TheVariants as w
+use Rattle.vs_lex_tokens.specs.declared.token.Literal.{Literal}
+use Rattle.vs_lex_tokens.specs.declared.token.Mark.{Mark}
+use Rattle.vs_lex_tokens.specs.declared.token.Mark.TheVariants as m
+use Rattle.vs_lex_tokens.specs.declared.token.Word.TheVariants as w
 use Rattle.vs_syntax.specs.Symbols.{Symbol, a_mark, a_word, a_name, a_number, a_cast, a_text, a_print, a_finish, a_dump, a_time, a_directive, another, Class, no_token, the_mark, the_word, any_name, any_number, the_cast, any_text, the_print, the_finish, the_dump, the_time, the_directive, any_other, class_of, same_class, first}
-use Rattle.vs_syntax.specs.Grammar.{Nonterminal, a_source, a_module, a_header_parameter, a_port, a_port_name, a_bare_name, a_generate_block, a_local, an_item, a_constant, an_instance, a_connection, a_net, a_variable, an_assignment, a_stmt, an_argument, a_dump_argument, a_case_item, an_event_expr, a_target, an_expr, a_level, Grammar, nothing, token, seq, either, many, part, node, chain, optional, select, operands, levels, level_at, rule}
+use Rattle.vs_syntax.specs.Grammar.{Nonterminal, a_source, a_module, a_header_parameter, told_ports, net_ports, variable_ports, port_names, a_bare_name, a_generate_block, a_local, an_item, a_constant, an_instance, a_connection, a_net, a_variable, an_assignment, a_stmt, an_argument, a_dump_argument, a_case_item, an_event_expr, a_target, an_expr, a_level, Grammar, nothing, token, seq, either, many, part, node, chain, optional, select, operands, levels, level_at, rule}
 use Rattle.vs_syntax.specs.Tables.{low_of, mark_fronts, null, low, fronts, among, goes}
 use Rattle.vs_syntax.specs.Derivation.{Tree, empty, leaf, both, down, tokens, height, Is, is_nothing, is_token, is_seq, is_left, is_right, is_stop, is_part, is_node, is_one, is_absent}
 use Rattle.vs_syntax.proofs.Ends.{goes_on, again, level_lasts, link_fronts}
+use Rattle.vs_logic4.proofs.Basics.{and_left, and_right}
 
 -- a literal of 32 zeros
 abbrev pub zero_literal : Literal
@@ -63,6 +65,10 @@ sample-class any_other h = refl
 abbrev pub least_constant : Tree
 least_constant = both (leaf (sample any_name)) (both (leaf (a_mark m.Assign)) (leaf (sample any_number)))
 
+-- a least name of a port, with none behind it
+abbrev pub least_port : Tree
+least_port = both (leaf (sample any_name)) (both empty empty)
+
 -- a least statement
 abbrev pub least_stmt : Tree
 least_stmt = down (both (leaf (a_mark m.Semicolon)) empty)
@@ -72,8 +78,10 @@ abbrev pub least_of : Nonterminal → Tree
 least_of a_source = empty
 least_of a_module = both (leaf (a_word w.Module)) (both (leaf (sample any_name)) (both empty (both empty (both (leaf (a_mark m.Semicolon)) (both empty (leaf (a_word w.Endmodule)))))))
 least_of a_header_parameter = both empty least_constant
-least_of a_port = both empty (both (leaf (sample any_name)) empty)
-least_of a_port_name = both empty (both (leaf (sample any_name)) empty)
+least_of told_ports = both (leaf (a_word w.Input)) (both empty (both (both empty empty) least_port))
+least_of net_ports = least_port
+least_of variable_ports = least_port
+least_of port_names = least_port
 least_of a_bare_name = leaf (sample any_name)
 least_of a_generate_block = leaf (a_mark m.Semicolon)
 least_of a_local = both (leaf (sample any_name)) empty
@@ -122,6 +130,9 @@ target_least h = is_part (is_node (is_left refl (is_seq (is_token refl) (is_stop
 constant_least : Is (part a_constant) least_constant []
 constant_least = is_part (is_seq (is_token refl) (is_seq (is_token refl) expr_least))
 
+net_ports_least : Is (part net_ports) least_port []
+net_ports_least = is_part (is_seq (is_token refl) (is_seq is_nothing (is_right refl is_nothing)))
+
 stmt_least : Is (part a_stmt) least_stmt []
 stmt_least = is_part (is_node (is_right refl (is_left refl (is_seq (is_token refl) is_nothing))))
 
@@ -130,8 +141,10 @@ rule_least a_source = is_part (is_stop refl)
 rule_least a_module = is_part (is_seq (is_token refl) (is_seq (is_token refl) (is_seq (is_right refl is_nothing) (is_seq (is_right refl is_nothing)
     (is_seq (is_token refl) (is_seq (is_stop refl) (is_token refl)))))))
 rule_least a_header_parameter = is_part (is_seq (is_right refl is_nothing) constant_least)
-rule_least a_port = is_part (is_seq (is_right refl is_nothing) (is_seq (is_token refl) (is_right refl is_nothing)))
-rule_least a_port_name = is_part (is_seq is_nothing (is_seq (is_token refl) is_nothing))
+rule_least told_ports = is_part (is_seq (is_left refl (is_token refl)) (is_right refl (is_seq (is_right refl is_nothing) (is_seq (is_seq (is_right refl is_nothing) (is_right refl is_nothing)) net_ports_least))))
+rule_least net_ports = net_ports_least
+rule_least variable_ports = is_part (is_seq (is_token refl) (is_seq (is_right refl is_nothing) (is_right refl is_nothing)))
+rule_least port_names = is_part (is_seq (is_token refl) (is_seq is_nothing (is_right refl is_nothing)))
 rule_least a_bare_name = is_part (is_token refl)
 rule_least a_generate_block = is_part (is_left refl (is_token refl))
 rule_least a_local = is_part (is_seq (is_token refl) (is_right refl is_nothing))
@@ -156,8 +169,10 @@ least_of-height : (p : Nonterminal) → height (least_of p) ≡ low_of p
 least_of-height a_source = refl
 least_of-height a_module = refl
 least_of-height a_header_parameter = refl
-least_of-height a_port = refl
-least_of-height a_port_name = refl
+least_of-height told_ports = refl
+least_of-height net_ports = refl
+least_of-height variable_ports = refl
+least_of-height port_names = refl
 least_of-height a_bare_name = refl
 least_of-height a_generate_block = refl
 least_of-height a_local = refl
@@ -201,14 +216,6 @@ sound (node a) = sound a
 sound (chain a b) = sound a && (sound b && (not (goes_on false a no_token || among no_token (fronts b)) && (low b == 0 && not (null a))))
 sound (optional c a) = is_class c && sound a
 
-pub and_left : (a b : Bool) → (a && b) ≡ true → a ≡ true
-and_left true b h = refl
-and_left false b h = h
-
-pub and_right : (a b : Bool) → (a && b) ≡ true → b ≡ true
-and_right true b h = h
-and_right false b h = cc
-
 -- whether each level of the table passes, by its number
 abbrev pub rows_pass : (ℕ → List Mark → Bool) → List (List Mark) → Bool
 rows_pass p [] = true
@@ -224,8 +231,10 @@ pub rule_sound : (p : Nonterminal) → sound (rule p) ≡ true
 rule_sound a_source = refl
 rule_sound a_module = refl
 rule_sound a_header_parameter = refl
-rule_sound a_port = refl
-rule_sound a_port_name = refl
+rule_sound told_ports = refl
+rule_sound net_ports = refl
+rule_sound variable_ports = refl
+rule_sound port_names = refl
 rule_sound a_bare_name = refl
 rule_sound a_generate_block = refl
 rule_sound a_local = refl

@@ -4,7 +4,7 @@ use Rattle.std.proofs.Common.{sym, ◌∙◌, ap, subst, append_assoc, arith}
 use Rattle.std.proofs.lemmas.Bool.{eqb-false}
 use Rattle.std.specs.List.{flat_map}
 use Rattle.std.specs.declared.boxed.Box.{Box}
-use Rattle.vs_tokens.specs.declared.token.Directive.{Directive}
+use Rattle.vs_lex_tokens.specs.declared.token.Directive.{Directive}
 use Rattle.std.specs.Option.{option_map}
 use Rattle.std.specs.declared.vec.Vec.{Vec}
 use Rattle.std.specs.declared.alloc.Global.{Global}
@@ -35,11 +35,11 @@ use Rattle.vs_syntax.specs.declared.tree.ModuleItem.TheShapes.{former-ModuleItem
 use Rattle.vs_syntax.specs.declared.tree.ModuleItem.TheVariants.{rolls-Plain, rolls-Region, rolls-For, rolls-If, rolls-Null, rolls-Block}
 use Rattle.vs_syntax.specs.declared.tree.Module.{Module}
 use Rattle.vs_syntax.specs.declared.tree.Source.{Source}
-use Rattle.vs_tokens.specs.declared.token.Word.TheVariants as w
+use Rattle.vs_lex_tokens.specs.declared.token.Word.TheVariants as w
 use Rattle.vs_syntax.specs.Symbols.{Symbol, a_word, a_name}
-use Rattle.vs_syntax.specs.Derivation.{Tree, leaf, both, down, tokens}
+use Rattle.vs_syntax.specs.Derivation.{Tree, empty, leaf, both, down, tokens}
 use Rattle.vs_syntax.specs.Derives.{Derives}
-use Rattle.vs_syntax.specs.Views.{value_tree, told_tree, declarator_tree, form_tree, net_assignment_tree, parameter_form_tree, constant_tree, parameter_word_tree, header_parameter_tree, header_parameters_tree, direction_word, kind_tree, port_form_tree, port_tree, ports_tree, header_ports_tree, end_tree, connection_tree, connections_tree, overrides_tree, instance_tree, bare_name_tree, name_tree, item_symbol, item_tree, loop_tree, block_name_tree, else_tree, row_of, module_item_step, module_item_tree, module_tree, directive_tree, directed_trees, source_tree}
+use Rattle.vs_syntax.specs.Views.{value_tree, told_tree, declarator_tree, form_tree, net_assignment_tree, parameter_form_tree, constant_tree, parameter_word_tree, header_parameter_tree, header_parameters_tree, direction_word, kind_tree, port_form_tree, port_tree, more_ports_tree, ports_tree, header_ports_tree, end_tree, connection_tree, connections_tree, overrides_tree, instance_tree, bare_name_tree, name_tree, item_symbol, item_tree, loop_tree, block_name_tree, else_tree, row_of, module_item_step, module_item_tree, module_tree, directive_tree, directed_trees, source_tree}
 use Rattle.vs_syntax.specs.Same.{Pairwise, no_pair, pair_more, SameValue, same_no_value, same_value, SameDeclarator, SameRange, same_no_range, SameOption, both_absent, both_there, SameParameterForm, same_integer_word, same_vector, SameConstant, SameHeaderParameter, SamePortForm, SamePort, SamePorts, SameConnection, SameConnections, same_ordered, same_named, SameInstance, SameAssignment, SameName, SameItem, same_port_item, same_genvars, SameLoopHeader, SameModuleItem, same_plain, same_region, same_generate_loop, same_generate_if, same_no_content, same_generate_block, SameOther, same_no_other, same_other, SameModuleItems, same_no_module_item, same_more_module_items, same_wire, same_reg, same_integer, same_parameters, same_localparams, same_instances, same_assigns, same_initial, same_always, SameModule, SameSource}
 use Rattle.vs_syntax.proofs.Unique.{unique}
 use Rattle.vs_syntax.proofs.Sameness.{same_expr, expr_there, expr_alone}
@@ -122,26 +122,51 @@ kind_back (Some k.Integer) = refl
 same_kind : (x x' : Option PortKind) → kind_tree x ≡ kind_tree x' → x ≡ x'
 same_kind x x' h = sym (kind_back x) ∙ ap kind_at h ∙ kind_back x'
 
-same_port_form : (f f' : Option PortForm) → port_form_tree f ≡ port_form_tree f' → SameOption SamePortForm f f'
-same_port_form None None h = both_absent
-same_port_form None (Some f') h = cc
-same_port_form (Some f) None h = cc
-same_port_form (Some f) (Some f') h = both_there f f' (record { direction = same_direction f.direction f'.direction (cc); kind = same_kind f.kind f'.kind (cc); form = same_form f.form f'.form (cc) })
+same_behind : (n n' : Vec ℕ Global) (v v' : Option Expr) (rest rest' : Tree) → both (name_tree n.items) (both (value_tree v) rest) ≡ both (name_tree n'.items) (both (value_tree v') rest') → (n.items ≡ n'.items) × SameValue v v' × (rest ≡ rest')
+same_behind n n' v v' rest rest' h = (cc, same_option v v' (cc), cc)
 
-same_port : (x x' : Port) → port_tree x ≡ port_tree x' → SamePort x x'
-same_port x x' h = record { form = same_port_form x.form x'.form (cc); name = cc; value = same_option x.value x'.value (cc) }
+same_port_form : (f f' : Option PortForm) (n n' : List ℕ) (x x' : Tree) → port_form_tree f (both (name_tree n) x) ≡ port_form_tree f' (both (name_tree n') x') → SameOption SamePortForm f f' × (both (name_tree n) x ≡ both (name_tree n') x')
+same_port_form None None n n' x x' h = (both_absent, h)
+same_port_form None (Some f') n n' x x' h = cc
+same_port_form (Some f) None n n' x x' h = cc
+same_port_form (Some f) (Some f') n n' x x' h =
+    (both_there f f' (record { direction = same_direction f.direction f'.direction (cc); kind = same_kind f.kind f'.kind (cc); form = same_form f.form f'.form (cc) }), cc)
 
-same_port_list : (xs xs' : List Port) → ports_tree (map port_tree xs) ≡ ports_tree (map port_tree xs') → Pairwise SamePort xs xs'
+same_port : (x x' : Port) (rest rest' : Tree) → port_tree x rest ≡ port_tree x' rest' → SamePort x x' × (rest ≡ rest')
+same_port x x' rest rest' h =
+    let p = same_port_form x.form x'.form x.name.items x'.name.items (both (value_tree x.value) rest) (both (value_tree x'.value) rest') h in
+    let q = same_behind x.name x'.name x.value x'.value rest rest' p.1 in
+    (record { form = p.0; name = q.0; value = q.1 }, q.2)
+
+same_more_ports : (xs xs' : List Port) → more_ports_tree xs ≡ more_ports_tree xs' → Pairwise SamePort xs xs'
+same_more_ports [] [] h = no_pair
+same_more_ports [] (x' ∷ xs') h = cc
+same_more_ports (x ∷ xs) [] h = cc
+same_more_ports (x ∷ xs) (x' ∷ xs') h =
+    let p = same_port x x' (more_ports_tree xs) (more_ports_tree xs') (cc) in
+    pair_more x x' xs xs' p.0 (same_more_ports xs xs' p.1)
+
+port_form_there : (f : Option PortForm) (n : List ℕ) (x : Tree) → port_form_tree f (both (name_tree n) x) ≡ empty → ⊥
+port_form_there None n x h = cc
+port_form_there (Some f) n x h = cc
+
+-- a port has a token
+port_there : (x : Port) (rest : Tree) → port_tree x rest ≡ empty → ⊥
+port_there x rest h = port_form_there x.form x.name.items (both (value_tree x.value) rest) h
+
+same_port_list : (xs xs' : List Port) → ports_tree xs ≡ ports_tree xs' → Pairwise SamePort xs xs'
 same_port_list [] [] h = no_pair
-same_port_list [] (x' ∷ xs') h = cc
-same_port_list (x ∷ xs) [] h = cc
-same_port_list (x ∷ xs) (x' ∷ xs') h = pair_more x x' xs xs' (same_port x x' (cc)) (comma_pairs SamePort port_tree same_port xs xs' (cc))
+same_port_list [] (x' ∷ xs') h = absurd (port_there x' (more_ports_tree xs') (sym h))
+same_port_list (x ∷ xs) [] h = absurd (port_there x (more_ports_tree xs) h)
+same_port_list (x ∷ xs) (x' ∷ xs') h =
+    let p = same_port x x' (more_ports_tree xs) (more_ports_tree xs') h in
+    pair_more x x' xs xs' p.0 (same_more_ports xs xs' p.1)
 
--- the trees of ports
-abbrev port_trees : Vec Port Global → List Tree
-port_trees xs = map port_tree xs.items
+-- the ports of a list
+abbrev port_items : Vec Port Global → List Port
+port_items xs = xs.items
 
-same_ports : (x x' : Option (Vec Port Global)) → header_ports_tree (option_map port_trees x) ≡ header_ports_tree (option_map port_trees x') → SameOption SamePorts x x'
+same_ports : (x x' : Option (Vec Port Global)) → header_ports_tree (option_map port_items x) ≡ header_ports_tree (option_map port_items x') → SameOption SamePorts x x'
 same_ports None None h = both_absent
 same_ports None (Some xs') h = cc
 same_ports (Some xs) None h = cc

@@ -2,7 +2,7 @@
 use Rattle.std.proofs.Common.{◌≡◌, ℕ, Bool, true, false, true≢false, ◌&&◌, List, [], ◌∷◌, ◌++◌, Option, None, Some, map, refl, sym, ◌∙◌, ap, subst, append_assoc}
 use Rattle.std.specs.List.{flat_map, list_all}
 use Rattle.std.proofs.lemmas.List.Folds.{list_all-append}
-use Rattle.vs_tokens.specs.declared.token.Mark.TheVariants as m
+use Rattle.vs_lex_tokens.specs.declared.token.Mark.TheVariants as m
 use Rattle.vs_syntax.specs.declared.tree.Form.{Form}
 use Rattle.vs_syntax.specs.declared.tree.Declarator.{Declarator}
 use Rattle.std.specs.Option.{option_map}
@@ -11,11 +11,12 @@ use Rattle.std.specs.declared.alloc.Global.{Global}
 use Rattle.vs_syntax.specs.declared.tree.ParameterForm.{ParameterForm}
 use Rattle.vs_syntax.specs.declared.tree.HeaderParameter.{HeaderParameter}
 use Rattle.vs_syntax.specs.declared.tree.Constant.{Constant}
+use Rattle.vs_syntax.specs.declared.tree.PortForm.{PortForm}
 use Rattle.vs_syntax.specs.declared.tree.Port.{Port}
 use Rattle.vs_syntax.specs.declared.tree.Connections.{Connections}
 use Rattle.vs_syntax.specs.declared.tree.Instance.{Instance}
 use Rattle.std.specs.declared.boxed.Box.{Box}
-use Rattle.vs_tokens.specs.declared.token.Directive.{Directive}
+use Rattle.vs_lex_tokens.specs.declared.token.Directive.{Directive}
 use Rattle.vs_syntax.specs.declared.tree.CaseLabel.{CaseLabel}
 use Rattle.vs_syntax.specs.declared.tree.CaseLabel.TheVariants as n
 use Rattle.vs_syntax.specs.declared.tree.Local.{Local}
@@ -30,27 +31,17 @@ use Rattle.vs_syntax.specs.declared.tree.ModuleItem.TheShapes.{former-ModuleItem
 use Rattle.vs_syntax.specs.declared.tree.Item.{Item}
 use Rattle.vs_syntax.specs.declared.tree.Item.TheVariants as i
 use Rattle.vs_syntax.specs.declared.tree.Module.{Module}
-use Rattle.vs_tokens.specs.declared.token.Word.TheVariants as w
+use Rattle.vs_lex_tokens.specs.declared.token.Word.TheVariants as w
 use Rattle.vs_syntax.specs.Symbols.{Symbol, a_mark, a_name, a_word}
 use Rattle.vs_syntax.specs.Derivation.{Tree, leaf, both, down, tokens}
-use Rattle.vs_syntax.specs.Views.{row_of, name_tree, commas_tree, listed_tree, expr_tree, connections_tree, told_tree, declarator_tree, form_tree, declared_tree, parameter_form_tree, valued_tree, constant_tree, parameter_word_tree, header_parameter_tree, header_parameters_tree, port_form_tree, port_tree, ports_tree, header_ports_tree, overrides_tree, instance_tree, constants_tree, item_tree, value_tree, bare_name_tree, range_tree, local_tree, local_declaration_tree, labelled_tree, case_item_tree, some_tree, else_tree, stmt_step, stmt_tree, block_name_tree, module_item_step, module_item_tree, module_tree, directive_tree, directed_trees}
+use Rattle.vs_syntax.specs.Views.{row_of, name_tree, commas_tree, listed_tree, expr_tree, connections_tree, told_tree, declarator_tree, form_tree, declared_tree, parameter_form_tree, valued_tree, constant_tree, parameter_word_tree, header_parameter_tree, header_parameters_tree, direction_word, kind_tree, port_form_tree, port_tree, more_ports_tree, ports_tree, header_ports_tree, overrides_tree, instance_tree, constants_tree, item_tree, value_tree, bare_name_tree, range_tree, local_tree, local_declaration_tree, labelled_tree, case_item_tree, some_tree, else_tree, stmt_step, stmt_tree, block_name_tree, module_item_step, module_item_tree, module_tree, directive_tree, directed_trees}
 use Rattle.vs_syntax.specs.SourceNames.{NamesAreTokens, declarator_names, constant_names, instance_names, header_parameter_names, port_names, bare_names, local_names, else_names, stmt_names_step, stmt_names, item_names, block_names, module_item_names_step, module_item_names, module_names, declared_names}
+use Rattle.std.proofs.lemmas.Bool.{and_from as and_of}
+use Rattle.vs_logic4.proofs.Basics.{and_left as first_of, and_right as second_of}
 
 -- whether a test holds of each token of a tree
 abbrev holds : (Symbol → Bool) → Tree → Bool
 holds p x = list_all p (tokens x)
-
-first_of : (a b : Bool) → (a && b) ≡ true → a ≡ true
-first_of true b h = refl
-first_of false b h = h
-
-second_of : (a b : Bool) → (a && b) ≡ true → b ≡ true
-second_of true b h = h
-second_of false b h = absurd (true≢false (sym h))
-
-and_of : (a b : Bool) → a ≡ true → b ≡ true → (a && b) ≡ true
-and_of true b h k = k
-and_of false b h k = h
 
 left : (p : Symbol → Bool) (x y : Tree) → holds p (both x y) ≡ true → holds p x ≡ true
 left p x y h = first_of (holds p x) (holds p y) (sym (list_all-append p (tokens x) (tokens y)) ∙ h)
@@ -110,24 +101,38 @@ header_parameters_hold p (x ∷ xs) h =
     (λ y i. name_holds p y.name.items (both (leaf (a_mark m.Assign)) (expr_tree y.value)) (right p (parameter_word_tree y.form) (valued_tree y.name.items y.value) i)) x xs close
     (right p (leaf (a_mark m.Open)) inside (right p (leaf (a_mark m.Hash)) (both (leaf (a_mark m.Open)) inside) h))
 
-port_holds : (p : Symbol → Bool) (x : Port) → holds p (port_tree x) ≡ true → p (a_name x.name.items) ≡ true
-port_holds p x h = name_holds p x.name.items (value_tree x.value) (right p (port_form_tree x.form) (both (name_tree x.name.items) (value_tree x.value)) h)
+port_form_holds : (p : Symbol → Bool) (f : Option PortForm) (x : Tree) → holds p (port_form_tree f x) ≡ true → holds p x ≡ true
+port_form_holds p None x h = h
+port_form_holds p (Some f) x h =
+    let named = both (form_tree f.form) x in
+    right p (form_tree f.form) x (right p (kind_tree f.kind) named (right p (leaf (a_word (direction_word f.direction))) (both (kind_tree f.kind) named) h))
 
-port_list_holds : (p : Symbol → Bool) (xs : List Port) → holds p (ports_tree (map port_tree xs)) ≡ true → named p (map (λ (x : Port). x.name.items) xs) ≡ true
+port_holds : (p : Symbol → Bool) (x : Port) (rest : Tree) → holds p (port_tree x rest) ≡ true → (p (a_name x.name.items) ≡ true) × (holds p rest ≡ true)
+port_holds p x rest h =
+    let behind = both (value_tree x.value) rest in
+    let k = port_form_holds p x.form (both (name_tree x.name.items) behind) h in
+    (name_holds p x.name.items behind k, right p (value_tree x.value) rest (right p (name_tree x.name.items) behind k))
+
+more_ports_hold : (p : Symbol → Bool) (xs : List Port) → holds p (more_ports_tree xs) ≡ true → named p (map (λ (x : Port). x.name.items) xs) ≡ true
+more_ports_hold p [] h = refl
+more_ports_hold p (x ∷ xs) h =
+    let k = port_holds p x (more_ports_tree xs) (right p (leaf (a_mark m.Comma)) (port_tree x (more_ports_tree xs)) h) in
+    and_of (p (a_name x.name.items)) (named p (map (λ (y : Port). y.name.items) xs)) k.0 (more_ports_hold p xs k.1)
+
+port_list_holds : (p : Symbol → Bool) (xs : List Port) → holds p (ports_tree xs) ≡ true → named p (map (λ (x : Port). x.name.items) xs) ≡ true
 port_list_holds p [] h = refl
 port_list_holds p (x ∷ xs) h =
-    and_of (p (a_name x.name.items)) (named p (map (λ (y : Port). y.name.items) xs))
-    (port_holds p x (left p (port_tree x) (commas_tree (map port_tree xs)) h))
-    (rest_holds p port_tree (λ y. y.name.items) (port_holds p) xs (right p (port_tree x) (commas_tree (map port_tree xs)) h))
+    let k = port_holds p x (more_ports_tree xs) h in
+    and_of (p (a_name x.name.items)) (named p (map (λ (y : Port). y.name.items) xs)) k.0 (more_ports_hold p xs k.1)
 
 -- the ports of a module, where it has a list of them, as a tree
 abbrev listed_ports : Option (Vec Port Global) → Tree
-listed_ports o = header_ports_tree (option_map (λ (ps : Vec Port Global). map port_tree ps.items) o)
+listed_ports o = header_ports_tree (option_map (λ (ps : Vec Port Global). ps.items) o)
 
 ports_hold : (p : Symbol → Bool) (o : Option (Vec Port Global)) → holds p (listed_ports o) ≡ true → named p (port_names o) ≡ true
 ports_hold p None h = refl
 ports_hold p (Some xs) h =
-    let inside = ports_tree (map port_tree xs.items) in
+    let inside = ports_tree xs.items in
     let close = leaf (a_mark m.Close) in
     port_list_holds p xs.items (left p inside close (right p (leaf (a_mark m.Open)) (both inside close) h))
 

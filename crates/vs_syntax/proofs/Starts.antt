@@ -6,7 +6,9 @@ use Rattle.vs_syntax.specs.Grammar.{Nonterminal, Grammar, seq, part, chain, opti
 use Rattle.vs_syntax.specs.Tables.{Front, null, low, beside, above, fronts, among, need, goes}
 use Rattle.vs_syntax.specs.Derivation.{Tree, tokens, height, Is, is_nothing, is_token, is_seq, is_left, is_right, is_stop, is_more, is_part, is_node, is_one, is_chain, is_present, is_absent}
 use Rattle.vs_syntax.proofs.Checks.{rule_null, rule_low, rule_fronts}
-use Rattle.vs_syntax.proofs.Fronts.{clash, or_false, or_right, or_left, and_false, same_class-refl, goes-seq, goes-either, goes-node, goes-chain, among-beside, among-above, goes-present, need-append_le, need-beside_le, need-above_le}
+use Rattle.vs_syntax.proofs.Fronts.{clash, same_class-refl, goes-seq, goes-either, goes-node, goes-chain, among-beside, among-above, goes-present, need-append_le, need-beside_le, need-above_le}
+use Rattle.std.proofs.lemmas.Bool.{or_parts as or_false, or_right, or_left, and_right as and_false}
+use Rattle.std.proofs.lemmas.Bool.{and_from as and_both}
 
 -- parts of an empty list are empty
 pub nil_left : (xs ys : List Symbol) → xs ++ ys ≡ [] → xs ≡ []
@@ -53,9 +55,6 @@ quiet (is_chain {a = a} {b = b} {x = x} {y = y} {more = m} h p q) e =
     absurd (clash h (goes_behind b (tokens y) m ey ∙ quiet q ey))
 quiet (is_present h p) e = cc
 quiet (is_absent h) e = h
-
-and_both : (a b : Bool) → a ≡ true → b ≡ true → (a && b) ≡ true
-and_both a b p q = rw p q
 
 -- A tree without tokens stands only where the grammar allows none.
 pub is_null : {g : Grammar} {x : Tree} {m : List Symbol} → Is g x m → tokens x ≡ [] → null g ≡ true

@@ -1,9 +1,9 @@
 -- The grammar of a source (IEEE 1364-2005, annex A; profile).
 use Rattle.std.specs.Prelude.{ℕ, zero, suc, List, [], ◌∷◌, ◌++◌, length, map}
-use Rattle.vs_tokens.specs.declared.token.Mark.{Mark}
-use Rattle.vs_tokens.specs.declared.token.Mark.TheVariants as m
-use Rattle.vs_tokens.specs.declared.token.Word.{Word}
-use Rattle.vs_tokens.specs.declared.token.Word.TheVariants as w
+use Rattle.vs_lex_tokens.specs.declared.token.Mark.{Mark}
+use Rattle.vs_lex_tokens.specs.declared.token.Mark.TheVariants as m
+use Rattle.vs_lex_tokens.specs.declared.token.Word.{Word}
+use Rattle.vs_lex_tokens.specs.declared.token.Word.TheVariants as w
 use Rattle.vs_syntax.specs.Symbols.{Class, the_mark, the_word, any_name, any_number, the_cast, any_text, the_print, the_finish, the_dump, the_time, the_directive}
 
 -- the parts of a source that have a rule
@@ -13,10 +13,14 @@ pub data Nonterminal : Type 0 where
   a_module : Nonterminal
   -- a parameter in the header of a module, with the word or without (clauses A.1.3 and A.2.4)
   a_header_parameter : Nonterminal
-  -- a port in the header of a module, with its direction or without (clause A.1.3)
-  a_port : Nonterminal
-  -- a port in the header of a module, of which the header says nothing but the name (clause A.1.3)
-  a_port_name : Nonterminal
+  -- ports in the header of a module, the first with its direction (clause A.1.3)
+  told_ports : Nonterminal
+  -- a port that is a net, by its name, with those behind it (clause A.1.3)
+  net_ports : Nonterminal
+  -- a port that is a variable, by its name, with a declaration assignment or without, with those behind it (clauses A.1.3 and A.2.4)
+  variable_ports : Nonterminal
+  -- a port of which the header says nothing but the name, with those behind it (clause A.1.3)
+  port_names : Nonterminal
   -- a name of a declaration that says nothing of it but that (clauses A.2.1.2 and A.2.1.3)
   a_bare_name : Nonterminal
   -- what stands behind a generate `for`, `if` or `else` (clause A.4.2)
@@ -211,17 +215,29 @@ header_parameters = mark m.Hash · mark m.Open · ((word w.Parameter · paramete
 abbrev pub port_kind : Grammar
 port_kind = word w.Wire or word w.Reg or word w.Integer or nothing
 
--- what stands before the name of a port: its direction, its kind, its sign and its range (clause A.2.1.2)
-abbrev pub port_form : Grammar
-port_form = (word w.Input or word w.Output) · port_kind · form
+-- the word of the kind of a port that is a variable (clause A.2.1.2)
+abbrev pub variable_kind : Grammar
+variable_kind = word w.Reg or word w.Integer
+
+-- the word of the kind of a port that is a net, or nothing (clause A.2.1.2)
+abbrev pub net_kind : Grammar
+net_kind = word w.Wire or nothing
+
+-- the direction of a port (clause A.2.1.2)
+abbrev pub direction : Grammar
+direction = word w.Input or word w.Output
 
 -- a declaration assignment, or nothing (clause A.2.4)
 abbrev pub may_value : Grammar
 may_value = mark m.Assign · part an_expr or nothing
 
+-- the ports behind one: the next one with its direction, or its name alone, of which the same is said; or no more (clause A.1.3)
+abbrev pub more_ports : Nonterminal → Grammar
+more_ports p = mark m.Comma · (part told_ports or part p) or nothing
+
 -- the ports in the header of a module: the first with its direction, or all by their names alone (clause A.1.3; profile)
 abbrev pub header_ports : Grammar
-header_ports = mark m.Open · ((port_form · name · may_value) · many (mark m.Comma · part a_port) or part a_port_name · many (mark m.Comma · part a_port_name) or nothing) · mark m.Close
+header_ports = mark m.Open · (part told_ports or part port_names or nothing) · mark m.Close
 
 -- an expression, or nothing
 abbrev pub an_end : Grammar
@@ -351,8 +367,10 @@ rule a_source = many (part a_module or token the_directive)
 rule a_module = word w.Module · name · (header_parameters or nothing) · (header_ports or nothing) · mark m.Semicolon
     · many (part an_item) · word w.Endmodule
 rule a_header_parameter = (word w.Parameter · parameter_form or nothing) · part a_constant
-rule a_port = (port_form or nothing) · name · may_value
-rule a_port_name = nothing · name · nothing
+rule told_ports = direction · (variable_kind · form · part variable_ports or net_kind · form · part net_ports)
+rule net_ports = name · nothing · more_ports net_ports
+rule variable_ports = name · may_value · more_ports variable_ports
+rule port_names = name · nothing · (mark m.Comma · part port_names or nothing)
 rule a_bare_name = name
 rule a_generate_block = mark m.Semicolon or word w.Begin · block_name · many (part an_item) · word w.End or part an_item
 rule a_local = name · (range or nothing)

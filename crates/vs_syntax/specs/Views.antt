@@ -6,16 +6,16 @@ use Rattle.vs_logic4.specs.declared.operators.Unary.{Unary}
 use Rattle.vs_logic4.specs.declared.operators.Unary.TheVariants as u
 use Rattle.vs_logic4.specs.declared.operators.Binary.{Binary}
 use Rattle.vs_logic4.specs.declared.operators.Binary.TheVariants as b
-use Rattle.vs_tokens.specs.declared.token.Mark.{Mark}
-use Rattle.vs_tokens.specs.declared.token.Mark.TheVariants as m
-use Rattle.vs_tokens.specs.declared.token.Word.{Word}
-use Rattle.vs_tokens.specs.declared.token.Word.TheVariants as w
+use Rattle.vs_lex_tokens.specs.declared.token.Mark.{Mark}
+use Rattle.vs_lex_tokens.specs.declared.token.Mark.TheVariants as m
+use Rattle.vs_lex_tokens.specs.declared.token.Word.{Word}
+use Rattle.vs_lex_tokens.specs.declared.token.Word.TheVariants as w
 use Rattle.vs_logic4.specs.declared.case.CaseKind.{CaseKind}
 use Rattle.vs_logic4.specs.declared.case.CaseKind.TheVariants as h
 use Rattle.vs_logic4.specs.declared.edge.Edge.{Edge}
 use Rattle.vs_logic4.specs.declared.edge.Edge.TheVariants as g
-use Rattle.vs_tokens.specs.declared.token.Directive.{Directive}
-use Rattle.vs_tokens.specs.declared.token.Literal.{Literal}
+use Rattle.vs_lex_tokens.specs.declared.token.Directive.{Directive}
+use Rattle.vs_lex_tokens.specs.declared.token.Literal.{Literal}
 use Rattle.vs_syntax.specs.Symbols.{Symbol, a_mark, a_word, a_name, a_number, a_cast, a_text, a_print, a_finish, a_dump, a_time, a_directive}
 use Rattle.vs_syntax.specs.Derivation.{Tree, empty, leaf, both, down}
 use Rattle.vs_syntax.specs.declared.tree.Expr.{Expr, Expr-F, fold-Expr}
@@ -463,22 +463,27 @@ kind_tree (Some k.Wire) = leaf (a_word w.Wire)
 kind_tree (Some k.Reg) = leaf (a_word w.Reg)
 kind_tree (Some k.Integer) = leaf (a_word w.Integer)
 
--- what stands before the name of a port, where it is there
-abbrev pub port_form_tree : Option PortForm → Tree
-port_form_tree None = empty
-port_form_tree (Some f) = both (leaf (a_word (direction_word f.direction))) (both (kind_tree f.kind) (form_tree f.form))
+-- what stands before the name of a port, where it is there, and the name with what stands behind it
+abbrev pub port_form_tree : Option PortForm → Tree → Tree
+port_form_tree None rest = rest
+port_form_tree (Some f) rest = both (leaf (a_word (direction_word f.direction))) (both (kind_tree f.kind) (both (form_tree f.form) rest))
 
--- a port in the header of a module
-abbrev pub port_tree : Port → Tree
-port_tree p = both (port_form_tree p.form) (both (name_tree p.name.items) (value_tree p.value))
+-- a port in the header of a module, and those behind it
+abbrev pub port_tree : Port → Tree → Tree
+port_tree p rest = port_form_tree p.form (both (name_tree p.name.items) (both (value_tree p.value) rest))
+
+-- ports behind another one, each behind its comma
+abbrev pub more_ports_tree : List Port → Tree
+more_ports_tree [] = empty
+more_ports_tree (p ∷ ps) = both (leaf (a_mark m.Comma)) (port_tree p (more_ports_tree ps))
 
 -- ports with commas between
-abbrev pub ports_tree : List Tree → Tree
+abbrev pub ports_tree : List Port → Tree
 ports_tree [] = empty
-ports_tree (x ∷ xs) = both x (commas_tree xs)
+ports_tree (p ∷ ps) = port_tree p (more_ports_tree ps)
 
 -- the ports in the header of a module, where it has a list of them
-abbrev pub header_ports_tree : Option (List Tree) → Tree
+abbrev pub header_ports_tree : Option (List Port) → Tree
 header_ports_tree None = empty
 header_ports_tree (Some xs) = both (leaf (a_mark m.Open)) (both (ports_tree xs) (leaf (a_mark m.Close)))
 
@@ -576,7 +581,7 @@ directive_tree x = leaf (a_directive x)
 -- the parts of a module's header behind its name
 abbrev pub header_tree : Module → Tree → Tree
 header_tree x rest = both (header_parameters_tree (map header_parameter_tree x.parameters.items))
-    (both (header_ports_tree (option_map (λ (ps : Vec Port Global). map port_tree ps.items) x.ports)) rest)
+    (both (header_ports_tree (option_map (λ (ps : Vec Port Global). ps.items) x.ports)) rest)
 
 -- a module
 abbrev pub module_tree : Module → Tree

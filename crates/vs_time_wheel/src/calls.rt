@@ -2,7 +2,7 @@
 ghost use Rattle.std.specs.Prelude.{◌≡◌, ℕ, ◌≤◌, List, ◌++◌, take, length, IfOk, OnOk, OnErr};
 ghost use Rattle.vs_time_wheel.specs.Bag.{SameBag};
 ghost use Rattle.vs_time_wheel.specs.Calls.{IsAllowed, answer_of, bag_after, clock_after, IsAfterFirst, AnswerAlike, AreAllowed, answers_of, bag_in_the_end, clock_in_the_end};
-ghost use Rattle.vs_time_wheel.specs.declared.calls.Call.{Call};
+ghost use Rattle.vs_time_wheel.specs.declared.calls.QueueCall.{QueueCall};
 
 use crate::law::EventQueue;
 use crate::timing::Memory;
@@ -10,7 +10,7 @@ use std::alloc::Global;
 
 /// A call of an event queue.
 #[derive(Clone, Copy, Drop)]
-pub enum Call<E> {
+pub enum QueueCall<E> {
     /// `schedule`: the time in ticks, and the event.
     Schedule(u64, E),
     /// `next_time`.
@@ -35,7 +35,10 @@ pub enum Answer<E> {
 }
 
 // Makes one call.
-fn make_call<E: Drop, Q: EventQueue<E>>(queue: &mut Q, call: Call<E>) -> Result<Answer<E>, Memory>
+fn make_call<E: Drop, Q: EventQueue<E>>(
+    queue: &mut Q,
+    call: QueueCall<E>,
+) -> Result<Answer<E>, Memory>
     requires { IsAllowed call (Q.bag queue.old) (Q.clock queue.old) }
     ensures answer { IfOk result (λ answer. answer ≡ answer_of call (Q.bag queue.old) (Q.clock queue.old)) }
     ensures bag { OnOk result (SameBag (Q.bag queue.new) (bag_after call (Q.bag queue.old))) }
@@ -44,13 +47,13 @@ fn make_call<E: Drop, Q: EventQueue<E>>(queue: &mut Q, call: Call<E>) -> Result<
     ensures same_clock { OnErr result (Q.clock queue.new ≡ Q.clock queue.old) }
 {
     match call {
-        Call::Schedule(time, event) => match queue.schedule(time, event) {
+        QueueCall::Schedule(time, event) => match queue.schedule(time, event) {
             Ok(()) => Ok(Answer::Scheduled),
             Err(_) => Err(Memory),
         },
-        Call::NextTime => Ok(Answer::Next(queue.next_time())),
-        Call::TakeDue(time) => Ok(Answer::Due(queue.take_due(time))),
-        Call::Now => Ok(Answer::Clock(queue.now())),
+        QueueCall::NextTime => Ok(Answer::Next(queue.next_time())),
+        QueueCall::TakeDue(time) => Ok(Answer::Due(queue.take_due(time))),
+        QueueCall::Now => Ok(Answer::Clock(queue.now())),
     }
 }
 
@@ -59,7 +62,7 @@ fn make_call<E: Drop, Q: EventQueue<E>>(queue: &mut Q, call: Call<E>) -> Result<
 pub fn replay<E: Drop, Q: EventQueue<E>>(
     alloc: Global,
     queue: &mut Q,
-    calls: Vec<Call<E>>,
+    calls: Vec<QueueCall<E>>,
 ) -> Result<Vec<Answer<E>>, Memory>
     requires { AreAllowed calls.items (Q.bag queue.old) (Q.clock queue.old) }
     ensures answers { IfOk result (λ answers. answers.items ≡ answers_of calls.items (Q.bag queue.old) (Q.clock queue.old)) }
@@ -82,5 +85,5 @@ pub fn replay<E: Drop, Q: EventQueue<E>>(
 pub fn same_answers<E, P: EventQueue<E>, Q: EventQueue<E>>(first: &P, second: &Q)
     requires bag { SameBag (P.bag first.now) (Q.bag second.now) }
     requires clock { P.clock first.now ≡ Q.clock second.now }
-    ensures { (calls : List (Call E)) → AnswerAlike calls (P.bag first.now) (P.clock first.now) (Q.bag second.now) (Q.clock second.now) }
+    ensures { (all : List (QueueCall E)) → AnswerAlike all (P.bag first.now) (P.clock first.now) (Q.bag second.now) (Q.clock second.now) }
 {}

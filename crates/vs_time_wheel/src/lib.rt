@@ -17,7 +17,7 @@ mod timing;
 mod turn;
 mod wheel_queue;
 
-pub use calls::{Answer, Call, replay, same_answers};
+pub use calls::{Answer, QueueCall, replay, same_answers};
 pub use law::EventQueue;
 pub use list::ListQueue;
 pub use timing::{Full, Memory, Timed};

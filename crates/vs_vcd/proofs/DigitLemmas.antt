@@ -18,17 +18,13 @@ use Rattle.vs_logic4.specs.PlaneLaws.{at_bit, digits_of_planes-of, slice_get-dig
 use Rattle.vs_vcd.specs.Values.{digit_character, is_extension, shortened, value_change}
 use Rattle.vs_vcd.specs.Kept.{before_code}
 use Rattle.vs_vcd.proofs.ValueLemmas.{shortened-less, shortened-kept, shortened-one}
+use Rattle.vs_logic4.proofs.Basics.{bit_at-shr, bit_at-wrapped}
 
 -- the digit that two planes have at a place
 abbrev pub digit_at : ℕ → ℕ → ℕ → Digit
 digit_at value unknown k = digit_of_bits (bit_at value k) (bit_at unknown k)
 
 -- ---- the places whose digits are kept
-
-bit_at-wrapped : (p i : ℕ) → i < 64 → bit_at (p % 2 ^ 64) i ≡ bit_at p i
-bit_at-wrapped p i h =
-    let whole : p ≡ p / 2 ^ 64 * 2 ^ 64 + p % 2 ^ 64 = sym (shr_split p 64) in
-    sym (ap (λ q. bit_at q i) whole ∙ bit_at_cat_low (p / 2 ^ 64) 64 (p % 2 ^ 64) i h)
 
 bit_at-doubled : (p k : ℕ) → suc k < 64 → bit_at (p * 2 % 2 ^ 64) (suc k) ≡ bit_at p k
 bit_at-doubled p k h =
@@ -247,9 +243,6 @@ code_holds mid new code end codes least long =
     let front : length (take 66 mid) ≡ 66 = length-take-le 66 mid (omega arith) in
     let whole : 66 + (end - 66) ≡ end = omega arith in
     sym (drop-take 66 (end - 66) new) ∙ ap (λ n. drop 66 (take n new)) whole ∙ ap (drop 66) codes ∙ drop_at (take 66 mid) code 66 front
-
-bit_at-shr : (p n i : ℕ) → bit_at (p / 2 ^ n) i ≡ bit_at p (n + i)
-bit_at-shr p n i = ap (λ q. q % 2) (shr-shr p n i)
 
 -- eight more characters stand in the room, below those of the lower digits
 pub eight_more : (room lanes : List ℕ) (v u at done : ℕ) → length room ≡ 80 → length lanes ≡ 8 → at + 8 + done ≡ 65

@@ -11,7 +11,7 @@ use Rattle.vs_logic4.specs.Vectors.{same_digits}
 use Rattle.vs_logic4.specs.Sameness.{same_digits-true}
 use Rattle.vs_design.specs.Stores.{Store}
 use Rattle.vs_vcd.specs.declared.kept.Kept.{Kept}
-use Rattle.vs_vcd.specs.declared.kept.Change.{Change}
+use Rattle.vs_vcd.specs.declared.kept.DumpChange.{DumpChange}
 use Rattle.vs_vcd.specs.declared.marks.BlockRange.{BlockRange}
 use Rattle.vs_vcd.specs.Values.{shown_value}
 use Rattle.vs_vcd.specs.Marks.{is_marked, IsBlock, IsNextMark}
@@ -20,7 +20,7 @@ use Rattle.vs_vcd.specs.Progress.{Progress, Follows}
 use Rattle.vs_vcd.proofs.MarkLemmas.{marked_in, unmarked_before, unmarked_all}
 
 abbrev By : Type 0
-By = ℕ → Kept → List Change
+By = ℕ → Kept → List DumpChange
 
 -- ---- changes one after another
 
@@ -36,7 +36,7 @@ kept_more by first n (suc i) (y ∷ ys) x e get =
     ∙ sym (append_assoc (by first y) (kept_changes by (suc first) (take i ys)) (by n x))
 
 -- the changes of one signal more are listed
-pub signals_more : (old mid new : List Change) (by : By) (xs : List Kept) (i : ℕ) (x : Kept) → slice_get xs i ≡ Some x
+pub signals_more : (old mid new : List DumpChange) (by : By) (xs : List Kept) (i : ℕ) (x : Kept) → slice_get xs i ≡ Some x
     → mid ≡ old ++ kept_changes by 0 (take i xs) → new ≡ mid ++ by i x → new ≡ old ++ kept_changes by 0 (take (i + 1) xs)
 signals_more old mid new by xs i x get first second =
     second ∙ ap (λ l. l ++ by i x) first ∙ append_assoc old (kept_changes by 0 (take i xs)) (by i x)
@@ -56,7 +56,7 @@ skipped by k (suc a) (suc b) (x ∷ xs) order none =
     ap (λ l. by k x ++ l) (skipped by (suc k) a b xs (omega (arith, order)) (λ i e ge lt. none i e (omega (arith, ge)) (omega (arith, lt))))
 
 -- all changes are listed where the signals behind have none
-whole_listed : (old new : List Change) (by : By) (a : ℕ) (xs : List Kept) → ((i : ℕ) (e : Kept) → a ≤ i → i < length xs → by i e ≡ [])
+whole_listed : (old new : List DumpChange) (by : By) (a : ℕ) (xs : List Kept) → ((i : ℕ) (e : Kept) → a ≤ i → i < length xs → by i e ≡ [])
     → new ≡ old ++ kept_changes by 0 (take a xs) → new ≡ old ++ kept_changes by 0 xs
 whole_listed old new by a xs none so_far =
     elim (cases_lt a (length xs)) [
@@ -79,7 +79,7 @@ block_later marks store from block count r next is i e ge lt =
     cond-true (is_marked marks i) (later_change store i e) [] (marked_in marks block i next.1 (omega (arith, ge, is.0)) (omega (arith, lt, is.2)))
 
 -- up to a marked block nothing is added
-pub block_before : (marks : List ℕ) (store : Store) (from block count : ℕ) (r : BlockRange) (old new : List Change) (xs : List Kept) → IsNextMark marks from (Some block) → IsBlock block count (Some r)
+pub block_before : (marks : List ℕ) (store : Store) (from block count : ℕ) (r : BlockRange) (old new : List DumpChange) (xs : List Kept) → IsNextMark marks from (Some block) → IsBlock block count (Some r)
     → new ≡ old ++ kept_changes (chosen_change false marks store) 0 (take (8 * from) xs) → new ≡ old ++ kept_changes (chosen_change false marks store) 0 (take r.from xs)
 block_before marks store from block count r old new xs next is so_far =
     so_far ∙ ap (λ l. old ++ l)
@@ -94,20 +94,20 @@ take_min n xs =
     ]
 
 -- with a block the signals before the next one are listed
-pub block_listed : (by : By) (block : ℕ) (r : BlockRange) (old new : List Change) (xs : List Kept) → IsBlock block (length xs) (Some r)
+pub block_listed : (by : By) (block : ℕ) (r : BlockRange) (old new : List DumpChange) (xs : List Kept) → IsBlock block (length xs) (Some r)
     → new ≡ old ++ kept_changes by 0 (take r.to xs) → new ≡ old ++ kept_changes by 0 (take (8 * (block + 1)) xs)
 block_listed by block r old new xs is so_far =
     let at : 8 * block + 8 ≡ 8 * (block + 1) = omega arith in
     so_far ∙ ap (λ n. old ++ kept_changes by 0 (take n xs)) is.2 ∙ ap (λ l. old ++ kept_changes by 0 l) (take_min (8 * block + 8) xs ∙ ap (λ n. take n xs) at)
 
 -- no mark is left
-pub none_marked : (marks : List ℕ) (store : Store) (from : ℕ) (old new : List Change) (xs : List Kept) → IsNextMark marks from None
+pub none_marked : (marks : List ℕ) (store : Store) (from : ℕ) (old new : List DumpChange) (xs : List Kept) → IsNextMark marks from None
     → new ≡ old ++ kept_changes (chosen_change false marks store) 0 (take (8 * from) xs) → new ≡ old ++ kept_changes (chosen_change false marks store) 0 xs
 none_marked marks store from old new xs next so_far =
     whole_listed old new (chosen_change false marks store) (8 * from) xs (λ i e ge lt. unmarked_change marks store i e (unmarked_all marks from i next ge)) so_far
 
 -- the next marked block is past the signals
-pub none_within : (marks : List ℕ) (store : Store) (from block : ℕ) (old new : List Change) (xs : List Kept) → IsNextMark marks from (Some block) → IsBlock block (length xs) None
+pub none_within : (marks : List ℕ) (store : Store) (from block : ℕ) (old new : List DumpChange) (xs : List Kept) → IsNextMark marks from (Some block) → IsBlock block (length xs) None
     → new ≡ old ++ kept_changes (chosen_change false marks store) 0 (take (8 * from) xs) → new ≡ old ++ kept_changes (chosen_change false marks store) 0 xs
 none_within marks store from block old new xs next past so_far =
     whole_listed old new (chosen_change false marks store) (8 * from) xs (λ i e ge lt. unmarked_change marks store i e (unmarked_before marks from block i next ge (omega (arith, past, lt)))) so_far
@@ -125,31 +125,31 @@ length-with_value (x ∷ xs) zero value = refl
 length-with_value (x ∷ xs) (suc i) value = ap suc (length-with_value xs i value)
 
 -- changes leave the number of signals
-pub length-behind : (xs : List Kept) (cs : List Change) → length (kept_behind xs cs) ≡ length xs
+pub length-behind : (xs : List Kept) (cs : List DumpChange) → length (kept_behind xs cs) ≡ length xs
 length-behind xs [] = refl
 length-behind xs (c ∷ cs) = length-behind (with_value xs c.signal c.value) cs ∙ length-with_value xs c.signal c.value
 
 -- changes leave the codes
-codes_of-behind : (xs : List Kept) (cs : List Change) → codes_of (kept_behind xs cs) ≡ codes_of xs
+codes_of-behind : (xs : List Kept) (cs : List DumpChange) → codes_of (kept_behind xs cs) ≡ codes_of xs
 codes_of-behind xs [] = refl
 codes_of-behind xs (c ∷ cs) = codes_of-behind (with_value xs c.signal c.value) cs ∙ codes_of-with_value xs c.signal c.value
 
 -- one change more is kept
-pub keep_more : (first xs : List Kept) (cs : List Change) (i : ℕ) (c d : Change) → i < length cs → c ≡ get_or cs i d
+pub keep_more : (first xs : List Kept) (cs : List DumpChange) (i : ℕ) (c d : DumpChange) → i < length cs → c ≡ get_or cs i d
     → kept_behind xs (drop i cs) ≡ kept_behind first cs → kept_behind (with_value xs c.signal c.value) (drop (i + 1) cs) ≡ kept_behind first cs
 keep_more first xs cs i c d lt at so_far =
-    ap (λ (x : Change). kept_behind (with_value xs x.signal x.value) (drop (i + 1) cs)) at
+    ap (λ (x : DumpChange). kept_behind (with_value xs x.signal x.value) (drop (i + 1) cs)) at
     ∙ sym (ap (kept_behind xs) (drop_more cs i d lt)) ∙ so_far
 
 -- ---- what is kept behind the changes of a slot
 
 -- changes of the signal of a number: one or none
-abbrev AreOwn : ℕ → List Change → Type 0
+abbrev AreOwn : ℕ → List DumpChange → Type 0
 AreOwn n [] = Unit {0}
 AreOwn n (c ∷ []) = c.signal ≡ n
 AreOwn n (c ∷ d ∷ cs) = ⊥
 
-own_cond : (b : Bool) (n : ℕ) (xs ys : List Change) → AreOwn n xs → AreOwn n ys → AreOwn n (if b then xs else ys)
+own_cond : (b : Bool) (n : ℕ) (xs ys : List DumpChange) → AreOwn n xs → AreOwn n ys → AreOwn n (if b then xs else ys)
 own_cond true n xs ys p q = p
 own_cond false n xs ys p q = q
 
@@ -168,7 +168,7 @@ abbrev OwnEach : By → Type 0
 OwnEach by = (n : ℕ) (k : Kept) → AreOwn n (by n k)
 
 -- what is kept of a signal behind its changes
-abbrev after : List Change → Kept → Kept
+abbrev after : List DumpChange → Kept → Kept
 after [] k = k
 after (c ∷ cs) k = record k { value = c.value }
 
@@ -182,7 +182,7 @@ with_value-append [] x xs n value e = ap (λ m. with_value (x ∷ xs) m value) e
 with_value-append (f ∷ fs) x xs zero value e = absurd (omega (arith, e))
 with_value-append (f ∷ fs) x xs (suc n) value e = ap (λ l. f ∷ l) (with_value-append fs x xs n value (omega (arith, e)))
 
-step_each : (cs : List Change) (front : List Kept) (x : Kept) (xs : List Kept) (rest : List Change) (n : ℕ) → n ≡ length front → AreOwn n cs
+step_each : (cs : List DumpChange) (front : List Kept) (x : Kept) (xs : List Kept) (rest : List DumpChange) (n : ℕ) → n ≡ length front → AreOwn n cs
     → kept_behind (front ++ x ∷ xs) (cs ++ rest) ≡ kept_behind (front ++ after cs x ∷ xs) rest
 step_each [] front x xs rest n e own = refl
 step_each (c ∷ []) front x xs rest n e own = ap (λ l. kept_behind l rest) (with_value-append front x xs c.signal c.value (own ∙ e))
@@ -239,7 +239,7 @@ values_behind kept (Some t) all marks store i n k get has =
     value_chosen store i n (is_chosen all marks i) is.0 k (slice_get kept i) is.1.0 is.1.1 has
 
 -- a writer that keeps the changes of a slot follows
-pub follows : (old new : Progress) (all : Bool) (marks : List ℕ) (t : ℕ) (store : Store) (cs : List Change) → cs ≡ next_changes old.kept old.last all marks store
+pub follows : (old new : Progress) (all : Bool) (marks : List ℕ) (t : ℕ) (store : Store) (cs : List DumpChange) → cs ≡ next_changes old.kept old.last all marks store
     → new.kept ≡ kept_behind old.kept cs → new.last ≡ Some (time_kept old.kept old.last all marks t store) → Follows old new all marks t store
 follows old new all marks t store cs listed kept time =
     let is = kept ∙ ap (kept_behind old.kept) listed in record {
@@ -250,21 +250,21 @@ follows old new all marks t store cs listed kept time =
 
 -- ---- the signals of changes
 
-below_own : (cs : List Change) (n m : ℕ) → AreOwn n cs → n < m → All (λ (c : Change). c.signal < m) cs
-below_own [] n m own h = All-nil (λ (c : Change). c.signal < m)
-below_own (c ∷ []) n m own h = All-cons (λ (d : Change). d.signal < m) c [] (omega (arith, own, h)) (All-nil (λ (d : Change). d.signal < m))
+below_own : (cs : List DumpChange) (n m : ℕ) → AreOwn n cs → n < m → All (λ (c : DumpChange). c.signal < m) cs
+below_own [] n m own h = All-nil (λ (c : DumpChange). c.signal < m)
+below_own (c ∷ []) n m own h = All-cons (λ (d : DumpChange). d.signal < m) c [] (omega (arith, own, h)) (All-nil (λ (d : DumpChange). d.signal < m))
 below_own (c ∷ d ∷ cs) n m own h = absurd own
 
-below_each : (by : By) → OwnEach by → (n m : ℕ) (xs : List Kept) → n + length xs ≤ m → All (λ (c : Change). c.signal < m) (kept_changes by n xs)
-below_each by own n m [] h = All-nil (λ (c : Change). c.signal < m)
+below_each : (by : By) → OwnEach by → (n m : ℕ) (xs : List Kept) → n + length xs ≤ m → All (λ (c : DumpChange). c.signal < m) (kept_changes by n xs)
+below_each by own n m [] h = All-nil (λ (c : DumpChange). c.signal < m)
 below_each by own n m (x ∷ xs) h =
-    All-append (λ (c : Change). c.signal < m) (by n x) (kept_changes by (suc n) xs) (below_own (by n x) n m (own n x) (omega (arith, h))) (below_each by own (suc n) m xs (omega (arith, h)))
+    All-append (λ (c : DumpChange). c.signal < m) (by n x) (kept_changes by (suc n) xs) (below_own (by n x) n m (own n x) (omega (arith, h))) (below_each by own (suc n) m xs (omega (arith, h)))
 
-below_next : (kept : List Kept) (last : Option ℕ) (all : Bool) (marks : List ℕ) (store : Store) → All (λ (c : Change). c.signal < length kept) (next_changes kept last all marks store)
+below_next : (kept : List Kept) (last : Option ℕ) (all : Bool) (marks : List ℕ) (store : Store) → All (λ (c : DumpChange). c.signal < length kept) (next_changes kept last all marks store)
 below_next kept None all marks store = below_each (first_change store) (λ n k. own_first store n k.code) 0 (length kept) kept (omega arith)
 below_next kept (Some t) all marks store = below_each (chosen_change all marks store) (own_chosen all marks store) 0 (length kept) kept (omega arith)
 
 -- the changes of a slot are of signals that are kept
-pub changes_within : (kept : List Kept) (last : Option ℕ) (all : Bool) (marks : List ℕ) (store : Store) (cs : List Change) → cs ≡ next_changes kept last all marks store
-    → All (λ (c : Change). c.signal < length kept) cs
-changes_within kept last all marks store cs listed = subst (All (λ (c : Change). c.signal < length kept)) (sym listed) (below_next kept last all marks store)
+pub changes_within : (kept : List Kept) (last : Option ℕ) (all : Bool) (marks : List ℕ) (store : Store) (cs : List DumpChange) → cs ≡ next_changes kept last all marks store
+    → All (λ (c : DumpChange). c.signal < length kept) cs
+changes_within kept last all marks store cs listed = subst (All (λ (c : DumpChange). c.signal < length kept)) (sym listed) (below_next kept last all marks store)

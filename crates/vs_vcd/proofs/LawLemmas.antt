@@ -1,9 +1,10 @@
 -- A dump shows the values at the ends of its slots.
 use Rattle.std.proofs.Common.{◌≡◌, ℕ, true, Option, Some, None, IfSome, List, [], ◌∷◌, ◌++◌, length, reverse, refl, sym, ap, ◌∙◌, subst, append_assoc, inl, inr}
-use Rattle.std.proofs.lemmas.List.{length-reverse}
+use Rattle.std.proofs.lemmas.List.{length-reverse, reverse-reverse}
 use Rattle.std.proofs.lemmas.Bool.{cases_lt}
 use Rattle.std.specs.Prelude.{unwrap_or, slice_get}
 use Rattle.std.specs.List.{list_all, Contains}
+use Rattle.vs_logic4.specs.declared.digit.Digit.{Digit}
 use Rattle.vs_design.specs.declared.signal.Signal.{Signal}
 use Rattle.vs_design.specs.declared.design.Entry.{Entry}
 use Rattle.vs_design.specs.declared.design.Entry.TheVariants.{Enter, Declare, Leave}
@@ -12,7 +13,7 @@ use Rattle.vs_design.specs.Traces.{Slot, AreRising}
 use Rattle.vs_vcd.specs.Codes.{shown, place_of}
 use Rattle.vs_vcd.specs.Values.{shown_value}
 use Rattle.vs_vcd.specs.Text.{text_of, declared, entry_lines, outline_lines, end_of_definitions, header_lines, slots_lines}
-use Rattle.vs_vcd.specs.Shown.{dump_lines, body_lines, Shows, slot_at}
+use Rattle.vs_vcd.specs.Shown.{dump_lines, body_lines, extended, HasSize, Shows, ShowsOne, slot_at}
 use Rattle.vs_design.specs.OneLine.{is_one_line, HasNamesOfOneLine}
 use Rattle.vs_vcd.proofs.CodeTableLemmas.{place_found}
 use Rattle.vs_vcd.proofs.LineLemmas.{text_of-append}
@@ -56,30 +57,46 @@ body_of_text d slots ends names p q =
 -- the value of the last slot is shown
 shows_slots : (d : Parts) (text : List ℕ) (tail : List (List ℕ)) (slots : List Slot) (time signal : ℕ)
     → body_lines (dump_lines text) ≡ slots_lines (shown d) slots ++ tail → IsSilent tail → AreRising slots → Contains (shown d) signal
-    → IfSome (slot_at time slots) (λ s. Shows text d time signal (shown_value s.store signal))
+    → IfSome (slot_at time slots) (λ s. HasSize d s.store signal → Shows text d time signal (shown_value s.store signal))
 shows_slots d text tail [] time signal body quiet r k = tt
 shows_slots d text tail (s ∷ ss) time signal body quiet r k =
     elim (cases_lt time s.time) [
-      | inl early ↦ subst (λ o. IfSome o (λ (x : Slot). Shows text d time signal (shown_value x.store signal))) (sym (slot_at-before time s ss early r.1)) tt
+      | inl early ↦ subst (λ o. IfSome o (λ (x : Slot). HasSize d x.store signal → Shows text d time signal (shown_value x.store signal))) (sym (slot_at-before time s ss early r.1)) tt
       | inr there ↦
           let current = unwrap_or (slot_at time ss) s in
           let value = shown_value current.store signal in
           let place = place_found (shown d) signal k in
-          let all : Shows text d time signal value = record {
+          let all : HasSize d current.store signal → Shows text d time signal value = λ size. record {
             number = place.0;
             digits = written current.store signal;
             coded = place.1;
             last = ap (λ ls. told time place.0 0 ls) body ∙ told_whole time place.0 (shown d) signal s ss tail place.2 r quiet there;
+            size = size;
             extends = extended-shortened (length value) (reverse value) (sym (length-reverse value));
           } in
-          subst (λ o. IfSome o (λ (x : Slot). Shows text d time signal (shown_value x.store signal))) (sym (slot_at-cons time s ss there)) all
+          subst (λ o. IfSome o (λ (x : Slot). HasSize d x.store signal → Shows text d time signal (shown_value x.store signal))) (sym (slot_at-cons time s ss there)) all
     ]
 
 -- a text of a header, of slots and of lines that tell nothing
 pub shows_text : (d : Parts) (ends : List (List ℕ)) (slots : List Slot) (time signal : ℕ) → list_all is_one_line ends ≡ true → IsSilent (ends ++ [] ∷ [])
     → HasNamesOfOneLine d → AreRising slots → Contains (shown d) signal
-    → IfSome (slot_at time slots) (λ s. Shows (text_of (header_lines d) ++ text_of (slots_lines (shown d) slots) ++ text_of ends) d time signal (shown_value s.store signal))
+    → IfSome (slot_at time slots) (λ s. HasSize d s.store signal → Shows (text_of (header_lines d) ++ text_of (slots_lines (shown d) slots) ++ text_of ends) d time signal (shown_value s.store signal))
 shows_text d ends slots time signal plain quiet names r k =
     let numbers = shown d in
     shows_slots d (text_of (header_lines d) ++ text_of (slots_lines numbers slots) ++ text_of ends) (ends ++ [] ∷ []) slots time signal
     (body_of_text d (slots_lines numbers slots) ends names (slots_one_line numbers slots) plain) quiet r k
+
+-- ---- one value
+
+-- two values of one size to which the same digits extend
+one_extended : (a b ds : List Digit) → length a ≡ length b → extended (length a) ds ≡ reverse a → extended (length b) ds ≡ reverse b → a ≡ b
+one_extended a b ds size p q =
+    let same : reverse a ≡ reverse b = sym p ∙ ap (λ n. extended n ds) size ∙ q in
+    sym (reverse-reverse a) ∙ ap reverse same ∙ reverse-reverse b
+
+-- the number of a signal's code and the digits of its last change are one
+pub one_value : ShowsOne
+one_value text d time signal a b p q =
+    let number : p.number ≡ q.number = cc in
+    let digits : p.digits ≡ q.digits = cc in
+    one_extended a b p.digits (p.size ∙ sym q.size) p.extends (ap (extended (length b)) digits ∙ q.extends)

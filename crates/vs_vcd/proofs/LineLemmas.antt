@@ -3,7 +3,7 @@ use Rattle.std.proofs.Common.{◌≡◌, ℕ, ◌+◌, ◌<◌, List, [], ◌∷
 use Rattle.std.proofs.lemmas.List.{map-append, flat_map_more, take_more}
 use Rattle.std.specs.Prelude.{codes, decimal, ◌==◌}
 use Rattle.std.specs.List.{flat_map}
-use Rattle.vs_vcd.specs.declared.kept.Change.{Change}
+use Rattle.vs_vcd.specs.declared.kept.DumpChange.{DumpChange}
 use Rattle.vs_vcd.specs.Text.{text_of, time_line}
 use Rattle.vs_vcd.specs.Kept.{change_text, change_texts, slot_lines, slot_time}
 
@@ -37,21 +37,21 @@ first_written old a b c new time lines p q r s =
     text_more old c new (time_line time ∷ codes "$dumpvars" ∷ lines) (codes "$end" ∷ []) values s
 
 -- the lines of one change more
-pub changes_more : (old mid new : List ℕ) (cs : List Change) (i : ℕ) (c d : Change) → i < length cs → c ≡ get_or cs i d → mid ≡ old ++ text_of (change_texts (take i cs))
+pub changes_more : (old mid new : List ℕ) (cs : List DumpChange) (i : ℕ) (c d : DumpChange) → i < length cs → c ≡ get_or cs i d → mid ≡ old ++ text_of (change_texts (take i cs))
     → new ≡ mid ++ text_of (change_text c ∷ []) → new ≡ old ++ text_of (change_texts (take (i + 1) cs))
 changes_more old mid new cs i c d h item first second =
     text_more old mid new (change_texts (take i cs)) (change_text c ∷ []) first second
-    ∙ ap (λ (x : Change). old ++ text_of (change_texts (take i cs) ++ change_text x ∷ [])) item
+    ∙ ap (λ (x : DumpChange). old ++ text_of (change_texts (take i cs) ++ change_text x ∷ [])) item
     ∙ ap (λ l. old ++ text_of l) (sym (map-append change_text (take i cs) (get_or cs i d ∷ [])) ∙ ap change_texts (sym (take_more cs i d h)))
 
 -- where nothing has changed, a later slot has no line and no time
-pub slot_silent : (last : Option ℕ) (before time : ℕ) (cs : List Change) → last ≡ Some before → cs ≡ []
+pub slot_silent : (last : Option ℕ) (before time : ℕ) (cs : List DumpChange) → last ≡ Some before → cs ≡ []
     → ([] ≡ slot_lines last time (change_texts cs)) × (before ≡ slot_time last time (change_texts cs))
 slot_silent last before time cs is none =
     (ap₂ (λ l ds. slot_lines l time (change_texts ds)) (sym is) (sym none), ap₂ (λ l ds. slot_time l time (change_texts ds)) (sym is) (sym none))
 
 -- where something has changed, a later slot has its time
-pub slot_timed : (last : Option ℕ) (before time : ℕ) (cs : List Change) → last ≡ Some before → (length cs == 0) ≡ false
+pub slot_timed : (last : Option ℕ) (before time : ℕ) (cs : List DumpChange) → last ≡ Some before → (length cs == 0) ≡ false
     → (time_line time ∷ change_texts cs ≡ slot_lines last time (change_texts cs)) × (time ≡ slot_time last time (change_texts cs))
 slot_timed last before time [] is some = cc
 slot_timed last before time (c ∷ cs) is some =

@@ -16,7 +16,7 @@ use Rattle.vs_vcd.specs.Codes.{is_array, shown, shown_from}
 use Rattle.vs_vcd.specs.CodeTables.{code_table}
 use Rattle.vs_vcd.specs.Values.{shown_value}
 use Rattle.vs_vcd.specs.Text.{text_of, time_line, is_written, value_line, change_line, changed_line, coded_lines, timed, first_lines, later_lines, lines_after, slots_lines, last_time_after, vcd_slots}
-use Rattle.vs_vcd.specs.declared.kept.Change.{Change}
+use Rattle.vs_vcd.specs.declared.kept.DumpChange.{DumpChange}
 use Rattle.vs_vcd.specs.Kept.{codes_of, kept_changes, change_to, first_by, first_change, later_by, is_chosen, chosen_change, change_text, change_texts, next_kept, time_kept}
 use Rattle.vs_vcd.specs.Progress.{last_store_after, last_of, time_of, next_lines, time_after, vcd_slot, Progress, AreKept, AreLast, HasWritten, Covers, Follows, IsSlotAt, WritesPiece}
 use Rattle.vs_vcd.proofs.LineLemmas.{text_of-append}
@@ -77,7 +77,7 @@ abbrev coded : (ℕ → List (List ℕ)) → Option ℕ → List (List ℕ)
 coded lines None = []
 coded lines (Some number) = lines number
 
-texts_cond : (b : Bool) (c : Change) → change_texts (if b then [] else c ∷ []) ≡ (if b then [] else change_text c ∷ [])
+texts_cond : (b : Bool) (c : DumpChange) → change_texts (if b then [] else c ∷ []) ≡ (if b then [] else change_text c ∷ [])
 texts_cond true c = refl
 texts_cond false c = refl
 
@@ -117,7 +117,7 @@ not_empty true x y xs ys h = cc
 not_empty false x y xs ys h = cc
 
 -- the lines by what is kept are those by the signals that are shown
-shown_lines : (lines : ℕ → ℕ → List (List ℕ)) (by : ℕ → Kept → List Change) (first k : ℕ) (ss : List Signal) (kept : List Kept) → codes_of kept ≡ code_table first ss
+shown_lines : (lines : ℕ → ℕ → List (List ℕ)) (by : ℕ → Kept → List DumpChange) (first k : ℕ) (ss : List Signal) (kept : List Kept) → codes_of kept ≡ code_table first ss
     → ((i j : ℕ) (e : Kept) → j ≡ k + i → slice_get kept i ≡ Some e → change_texts (by j e) ≡ coded (λ n. lines n j) e.code)
     → change_texts (kept_changes by k kept) ≡ coded_lines lines first (shown_from k ss)
 shown_lines lines by first k [] [] table is = refl

@@ -5,7 +5,7 @@ use Rattle.vs_logic4.specs.declared.digit.Digit.{Digit}
 use Rattle.vs_logic4.specs.Vectors.{same_digits}
 use Rattle.vs_design.specs.Stores.{Store}
 use Rattle.vs_vcd.specs.declared.kept.Kept.{Kept}
-use Rattle.vs_vcd.specs.declared.kept.Change.{Change}
+use Rattle.vs_vcd.specs.declared.kept.DumpChange.{DumpChange}
 use Rattle.vs_vcd.specs.Codes.{code}
 use Rattle.vs_vcd.specs.Values.{digit_character, shortened, value_change, shown_value}
 use Rattle.vs_vcd.specs.Text.{time_line, timed, is_written}
@@ -22,39 +22,39 @@ with_value (k ∷ ks) zero value = record { code = k.code; value = value } ∷ k
 with_value (k ∷ ks) (suc signal) value = k ∷ with_value ks signal value
 
 -- what is kept behind changes
-abbrev pub kept_behind : List Kept → List Change → List Kept
+abbrev pub kept_behind : List Kept → List DumpChange → List Kept
 kept_behind kept [] = kept
 kept_behind kept (c ∷ cs) = kept_behind (with_value kept c.signal c.value) cs
 
 -- ---- changes
 
 -- the changes of signals one after another, where the first signal has this number
-abbrev pub kept_changes : (ℕ → Kept → List Change) → ℕ → List Kept → List Change
+abbrev pub kept_changes : (ℕ → Kept → List DumpChange) → ℕ → List Kept → List DumpChange
 kept_changes by signal [] = []
 kept_changes by signal (k ∷ ks) = by signal k ++ kept_changes by (suc signal) ks
 
 -- the change to the value of a signal in a store
-abbrev pub change_to : Store → ℕ → ℕ → Change
+abbrev pub change_to : Store → ℕ → ℕ → DumpChange
 change_to store signal number = record { signal = signal; number = number; value = shown_value store signal }
 
 -- the value of a signal in a store; none where the signal has no code
-abbrev pub first_by : Store → ℕ → Option ℕ → List Change
+abbrev pub first_by : Store → ℕ → Option ℕ → List DumpChange
 first_by store signal None = []
 first_by store signal (Some number) = change_to store signal number ∷ []
 
-abbrev pub first_change : Store → ℕ → Kept → List Change
+abbrev pub first_change : Store → ℕ → Kept → List DumpChange
 first_change store signal k = first_by store signal k.code
 
 -- the change of a signal from a value to that in a store, where there is one; none where the signal has no code
-abbrev pub later_by : Store → ℕ → List Digit → Option ℕ → List Change
+abbrev pub later_by : Store → ℕ → List Digit → Option ℕ → List DumpChange
 later_by store signal value None = []
 later_by store signal value (Some number) = if same_digits value (shown_value store signal) then [] else change_to store signal number ∷ []
 
-abbrev pub later_change : Store → ℕ → Kept → List Change
+abbrev pub later_change : Store → ℕ → Kept → List DumpChange
 later_change store signal k = later_by store signal k.value k.code
 
 -- the changes of the signals from one number on, below another, are those from the values kept
-abbrev pub AreLater : (ℕ → Kept → List Change) → Store → ℕ → ℕ → Type 0
+abbrev pub AreLater : (ℕ → Kept → List DumpChange) → Store → ℕ → ℕ → Type 0
 AreLater by store from to = (i : ℕ) (k : Kept) → from ≤ i → i < to → by i k ≡ later_change store i k
 
 -- whether a signal is looked at: each is, or those whose blocks are marked
@@ -62,11 +62,11 @@ abbrev pub is_chosen : Bool → List ℕ → ℕ → Bool
 is_chosen all marks signal = all || is_marked marks signal
 
 -- the change of a signal that is looked at
-abbrev pub chosen_change : Bool → List ℕ → Store → ℕ → Kept → List Change
+abbrev pub chosen_change : Bool → List ℕ → Store → ℕ → Kept → List DumpChange
 chosen_change all marks store signal k = if is_chosen all marks signal then later_change store signal k else []
 
 -- the changes of the next slot, where this was the last time written
-abbrev pub next_changes : List Kept → Option ℕ → Bool → List ℕ → Store → List Change
+abbrev pub next_changes : List Kept → Option ℕ → Bool → List ℕ → Store → List DumpChange
 next_changes kept None all marks store = kept_changes (first_change store) 0 kept
 next_changes kept (Some last) all marks store = kept_changes (chosen_change all marks store) 0 kept
 
@@ -78,10 +78,10 @@ before_code (d ∷ []) = digit_character d ∷ []
 before_code ds = codes "b" ++ map digit_character (shortened (reverse ds)) ++ codes " "
 
 -- the line of a change
-abbrev pub change_text : Change → List ℕ
+abbrev pub change_text : DumpChange → List ℕ
 change_text c = value_change c.value (code c.number)
 
-abbrev pub change_texts : List Change → List (List ℕ)
+abbrev pub change_texts : List DumpChange → List (List ℕ)
 change_texts changes = map change_text changes
 
 -- the lines of the next slot by those of its changes, where this was the last time written

@@ -1,6 +1,6 @@
 -- What a value change dump shows: the plain reading of its text.
 use Rattle.std.specs.Prelude.{◌≡◌, ℕ, ◌-◌, ◌==◌, ◌&&◌, nat_le, Bool, Option, Some, None, if◌then◌else◌}
-use Rattle.std.specs.Prelude.{List, [], ◌∷◌, ◌++◌, length, reverse, replicate}
+use Rattle.std.specs.Prelude.{List, [], ◌∷◌, ◌++◌, length, reverse, replicate, slice_get}
 use Rattle.std.specs.Option.{option_or}
 use Rattle.std.specs.List.{slice_split, cons_option}
 use Rattle.std.specs.Str.{bytes_eq}
@@ -8,9 +8,12 @@ use Rattle.std.specs.Str.Parse.{digits_value}
 use Rattle.vs_logic4.specs.declared.digit.Digit.{Digit}
 use Rattle.vs_logic4.specs.declared.digit.Digit.TheVariants.{Zero, One, X, Z}
 use Rattle.vs_design.specs.Parts.{Parts}
+use Rattle.vs_design.specs.Stores.{Store}
 use Rattle.vs_design.specs.Traces.{Slot}
+use Rattle.vs_design.specs.WellFormed.{width_at}
 use Rattle.vs_vcd.specs.Codes.{code, shown, place_of}
 use Rattle.vs_vcd.specs.Text.{end_of_definitions}
+use Rattle.vs_vcd.specs.Values.{shown_value}
 
 -- ---- lines
 
@@ -106,12 +109,13 @@ extended size [] = []
 extended size (d ∷ ds) = replicate (size - length (d ∷ ds)) (left_digit d) ++ d ∷ ds
 
 -- the text shows that a signal of a design has a value, given lowest digit first, at a time: the last change of its code
--- at or before the time, extended on the left to the value's size
+-- at or before the time, extended on the left to the signal's size
 pub record Shows (text : List ℕ) (d : Parts) (time signal : ℕ) (value : List Digit) : Type 0 where
   pub number : ℕ
   pub digits : List Digit
   pub coded : place_of (shown d) signal ≡ Some number
   pub last : last_change time (code number) (changes_of text) ≡ Some digits
+  pub size : length value ≡ width_at (slice_get d.signals signal)
   pub extends : extended (length value) digits ≡ reverse value
 
 -- ---- slots
@@ -120,3 +124,13 @@ pub record Shows (text : List ℕ) (d : Parts) (time signal : ℕ) (value : List
 abbrev pub slot_at : ℕ → List Slot → Option Slot
 slot_at time [] = None
 slot_at time (s ∷ ss) = option_or (slot_at time ss) (if nat_le s.time time then Some s else None)
+
+-- ---- what dumps show
+
+-- a value that a store shows of a signal has the signal's size
+abbrev pub HasSize : Parts → Store → ℕ → Type 0
+HasSize d store signal = length (shown_value store signal) ≡ width_at (slice_get d.signals signal)
+
+-- a text shows one value of a signal at a time
+abbrev pub ShowsOne : Type 0
+ShowsOne = (text : List ℕ) (d : Parts) (time signal : ℕ) (a b : List Digit) → Shows text d time signal a → Shows text d time signal b → a ≡ b

@@ -5,15 +5,15 @@ ghost use Rattle.vs_vcd.specs.Values.{shown_value};
 ghost use Rattle.vs_vcd.specs.Kept.{kept_changes, first_change, later_change, chosen_change, next_changes, AreLater};
 ghost use Rattle.vs_vcd.specs.Rooms.{IsRoom, IsCompared, AreCompared};
 
-use crate::kept::{Change, Kept, Written};
+use crate::kept::{DumpChange, Kept, Written};
 use crate::marks::{BLOCK, block_range, next_mark};
-use crate::room::{Room, shown};
+use crate::room::{LineRoom, shown};
 use std::alloc::AllocError;
 use vs_design::Store;
 
 /// Lists the value of a signal, where it has a code.
 fn list_value(
-    changes: &mut Vec<Change>,
+    changes: &mut Vec<DumpChange>,
     store: &Store,
     signal: usize,
     kept: Kept,
@@ -24,7 +24,7 @@ fn list_value(
         return Ok(());
     };
     let value = shown(store, signal);
-    changes.push(Change {
+    changes.push(DumpChange {
         signal,
         number,
         value,
@@ -34,8 +34,8 @@ fn list_value(
 
 /// Lists the change of a signal that has a code, where its value isn't the one kept.
 fn list_change(
-    changes: &mut Vec<Change>,
-    room: &Room,
+    changes: &mut Vec<DumpChange>,
+    room: &LineRoom,
     signal: usize,
     kept: Kept,
 ) -> Result<(), AllocError>
@@ -51,7 +51,7 @@ fn list_change(
         return Ok(());
     };
     let value = room.words.word(signal);
-    changes.push(Change {
+    changes.push(DumpChange {
         signal,
         number,
         value,
@@ -60,7 +60,11 @@ fn list_change(
 }
 
 /// Lists the values of the signals.
-fn list_values(changes: &mut Vec<Change>, store: &Store, kept: &Written) -> Result<(), AllocError>
+fn list_values(
+    changes: &mut Vec<DumpChange>,
+    store: &Store,
+    kept: &Written,
+) -> Result<(), AllocError>
     ensures { OnOk result (changes.new.items ≡ changes.old.items ++ kept_changes (first_change store.now) 0 kept.now) }
 {
     for signal in 0..kept.len() {
@@ -71,8 +75,8 @@ fn list_values(changes: &mut Vec<Change>, store: &Store, kept: &Written) -> Resu
 
 /// Lists the changes of the signals from one number on, below another, that were compared.
 fn list_compared(
-    changes: &mut Vec<Change>,
-    room: &Room,
+    changes: &mut Vec<DumpChange>,
+    room: &LineRoom,
     kept: &Written,
     from: usize,
     to: usize,
@@ -80,7 +84,7 @@ fn list_compared(
     requires order { from ≤ to }
     requires within { to ≤ length kept.now }
     requires room { IsRoom room.now (length kept.now) }
-    ensures { OnOk result ((start : List Change) (by : ℕ → Kept → List Change) (store : Store)
+    ensures { OnOk result ((start : List DumpChange) (by : ℕ → Kept → List DumpChange) (store : Store)
         → AreCompared room.now kept.now store from to → AreLater by store from to
         → changes.old.items ≡ start ++ kept_changes by 0 (take from kept.now)
         → changes.new.items ≡ start ++ kept_changes by 0 (take to kept.now)) }
@@ -93,8 +97,8 @@ fn list_compared(
 
 /// Lists the changes of the signals from one number on, below another.
 fn list_range(
-    changes: &mut Vec<Change>,
-    room: &mut Room,
+    changes: &mut Vec<DumpChange>,
+    room: &mut LineRoom,
     store: &Store,
     kept: &Written,
     from: usize,
@@ -104,7 +108,7 @@ fn list_range(
     requires within { to ≤ length kept.now }
     requires room { IsRoom room.old (length kept.now) }
     ensures room { IsRoom room.new (length kept.now) }
-    ensures changes { OnOk result ((start : List Change) (by : ℕ → Kept → List Change) → AreLater by store.now from to
+    ensures changes { OnOk result ((start : List DumpChange) (by : ℕ → Kept → List DumpChange) → AreLater by store.now from to
         → changes.old.items ≡ start ++ kept_changes by 0 (take from kept.now)
         → changes.new.items ≡ start ++ kept_changes by 0 (take to kept.now)) }
 {
@@ -114,8 +118,8 @@ fn list_range(
 
 /// Lists the changes of the signals whose blocks are marked. It looks at these alone.
 fn list_marked(
-    changes: &mut Vec<Change>,
-    room: &mut Room,
+    changes: &mut Vec<DumpChange>,
+    room: &mut LineRoom,
     store: &Store,
     kept: &Written,
     marks: &[u64],
@@ -142,8 +146,8 @@ fn list_marked(
 
 /// Lists the changes of the signals: of all, or of those whose blocks are marked.
 fn list_later(
-    changes: &mut Vec<Change>,
-    room: &mut Room,
+    changes: &mut Vec<DumpChange>,
+    room: &mut LineRoom,
     store: &Store,
     kept: &Written,
     all: bool,
@@ -165,8 +169,8 @@ fn list_later(
 /// Lists the changes of the next slot, and nothing else: at the first slot the values of all signals, later the changes of
 /// all, or of those whose blocks are marked.
 pub(crate) fn list_changes(
-    changes: &mut Vec<Change>,
-    room: &mut Room,
+    changes: &mut Vec<DumpChange>,
+    room: &mut LineRoom,
     store: &Store,
     kept: &Written,
     last: Option<u64>,

@@ -5,7 +5,7 @@ ghost use Rattle.vs_vcd.specs.Kept.{codes_of, kept_behind};
 ghost use Rattle.vs_vcd.specs.Rooms.{IsRoom, AreCompared};
 
 use crate::planes::Planes;
-use crate::room::{Room, gather};
+use crate::room::{LineRoom, gather};
 use std::alloc::{AllocError, Global};
 use std::marker::Model;
 use vs_design::Store;
@@ -20,7 +20,7 @@ pub(crate) struct Kept {
 
 /// A value to write: the signal, the number of its code, and the value.
 #[derive(Clone, Copy)]
-pub(crate) struct Change {
+pub(crate) struct DumpChange {
     pub signal: usize,
     pub number: usize,
     pub value: Vec4,
@@ -76,7 +76,7 @@ impl Written {
     }
 
     /// Compares the values of the signals from one number on, below another, with those that a store shows.
-    pub fn compare(&self, room: &mut Room, store: &Store, from: usize, to: usize)
+    pub fn compare(&self, room: &mut LineRoom, store: &Store, from: usize, to: usize)
         requires order { from ≤ to }
         requires within { to ≤ length self.now }
         requires room { IsRoom room.old (length self.now) }
@@ -95,7 +95,7 @@ impl Written {
     }
 
     /// Keeps the values of changes. It looks at these alone.
-    pub fn keep(&mut self, changes: &[Change])
+    pub fn keep(&mut self, changes: &[DumpChange])
         requires { All (λ c. c.signal < length self.old) changes.now }
         ensures { self.new ≡ kept_behind self.old changes.now }
     {

@@ -7,15 +7,22 @@ ghost use Rattle.vs_design.specs.Traces.{Slot, Trace, AreRising};
 ghost use Rattle.vs_vcd.specs.Codes.{shown};
 ghost use Rattle.vs_vcd.specs.Values.{shown_value};
 ghost use Rattle.vs_vcd.specs.Text.{vcd_text, vcd_header, vcd_slots};
-ghost use Rattle.vs_vcd.specs.Shown.{Shows, slot_at};
+ghost use Rattle.vs_vcd.specs.Shown.{HasSize, Shows, ShowsOne, slot_at};
 
-/// A dump shows of each signal that is no array, at each time, its value at the end of the last slot at or before that time.
-/// It does so with its end, and without it.
+/// A dump shows of each signal that is no array, at each time, its value at the end of the last slot at or before that time, where this has the
+/// signal's size. It does so with its end, and without it.
 pub fn shows_values_at_slot_ends()
     ensures whole { (d : Parts) (trace : Trace) (until time signal : ℕ)
         → HasNamesOfOneLine d → AreRising trace.slots → Contains (shown d) signal
-        → IfSome (slot_at time trace.slots) (λ s. Shows (vcd_text d trace until) d time signal (shown_value s.store signal)) }
+        → IfSome (slot_at time trace.slots)
+        (λ s. HasSize d s.store signal → Shows (vcd_text d trace until) d time signal (shown_value s.store signal)) }
     ensures begun { (d : Parts) (slots : List Slot) (time signal : ℕ)
         → HasNamesOfOneLine d → AreRising slots → Contains (shown d) signal
-        → IfSome (slot_at time slots) (λ s. Shows (vcd_header d ++ vcd_slots d slots) d time signal (shown_value s.store signal)) }
+        → IfSome (slot_at time slots)
+        (λ s. HasSize d s.store signal → Shows (vcd_header d ++ vcd_slots d slots) d time signal (shown_value s.store signal)) }
+{}
+
+/// A dump shows no two values of one signal at one time.
+pub fn shows_one_value()
+    ensures { ShowsOne }
 {}

@@ -17,7 +17,7 @@ mod value;
 mod writer;
 
 pub use fault::VcdFault;
-pub use law::shows_values_at_slot_ends;
+pub use law::{shows_one_value, shows_values_at_slot_ends};
 pub use marks::BLOCK;
 pub use sink::{Counted, Sink, WriteFault, write_all};
 pub use writer::Writer;

@@ -3,7 +3,7 @@ ghost use Rattle.std.specs.Prelude.{◌≡◌, ◌++◌, ◌∷◌, [], None, On
 ghost use Rattle.vs_vcd.specs.Text.{text_of, time_line};
 ghost use Rattle.vs_vcd.specs.Kept.{change_texts, slot_lines};
 
-use crate::kept::Change;
+use crate::kept::DumpChange;
 use crate::texts::push_texts;
 use crate::value::push_change;
 use itoa::Buffer;
@@ -18,7 +18,7 @@ pub(crate) fn push_time(text: &mut Vec<u8>, time: u64) -> Result<(), AllocError>
 }
 
 /// Appends the lines of changes.
-fn push_changes(text: &mut Vec<u8>, changes: &[Change]) -> Result<(), AllocError>
+fn push_changes(text: &mut Vec<u8>, changes: &[DumpChange]) -> Result<(), AllocError>
     ensures { OnOk result (text.new.items ≡ text.old.items ++ text_of (change_texts changes.now)) }
 {
     for change in changes {
@@ -30,7 +30,7 @@ fn push_changes(text: &mut Vec<u8>, changes: &[Change]) -> Result<(), AllocError
 /// Appends the first slot of a dump.
 pub(crate) fn push_first(
     text: &mut Vec<u8>,
-    changes: &[Change],
+    changes: &[DumpChange],
     time: u64,
 ) -> Result<(), AllocError>
     ensures { OnOk result (text.new.items ≡ text.old.items ++ text_of (slot_lines None time (change_texts changes.now))) }
@@ -45,7 +45,7 @@ pub(crate) fn push_first(
 /// Appends changes under their time.
 pub(crate) fn push_later(
     text: &mut Vec<u8>,
-    changes: &[Change],
+    changes: &[DumpChange],
     time: u64,
 ) -> Result<(), AllocError>
     ensures { OnOk result (text.new.items ≡ text.old.items ++ text_of (time_line time ∷ change_texts changes.now)) }

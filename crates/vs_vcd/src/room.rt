@@ -10,7 +10,7 @@ use vs_logic4::Vec4;
 
 /// The words that a store shows, and of each for each plane a flag: 0 where the plane is the one that was written last.
 #[derive(Drop)]
-pub(crate) struct Room {
+pub(crate) struct LineRoom {
     pub words: Planes,
     pub widths: Vec<u8>,
     pub values: Vec<u8>,
@@ -39,12 +39,12 @@ pub(crate) fn gather(now: &mut Planes, store: &Store, from: usize, to: usize)
     }
 }
 
-impl Room {
+impl LineRoom {
     /// Room for so many signals.
     pub fn new(alloc: Global, count: usize) -> Result<Self, AllocError>
         ensures { IfOk result (λ r. IsRoom r count) }
     {
-        Ok(Room {
+        Ok(LineRoom {
             words: Planes::unknown(alloc, count)?,
             widths: vec![in alloc; 0; count]?,
             values: vec![in alloc; 0; count]?,

@@ -12,9 +12,9 @@ use crate::changes::list_changes;
 use crate::codes::code_numbers;
 use crate::fault::VcdFault;
 use crate::header::header_text;
-use crate::kept::{Change, Written};
+use crate::kept::{DumpChange, Written};
 use crate::lines::{push_first, push_later, push_time};
-use crate::room::Room;
+use crate::room::LineRoom;
 use crate::sink::{Sink, write_all};
 use std::alloc::{AllocError, Global};
 use std::marker::Model;
@@ -23,7 +23,7 @@ use vs_design::{Design, Store};
 /// Appends the lines of a slot by its changes, and answers the last time written.
 fn push_slot(
     text: &mut Vec<u8>,
-    changes: &[Change],
+    changes: &[DumpChange],
     last: Option<u64>,
     time: u64,
 ) -> Result<u64, AllocError>
@@ -62,8 +62,8 @@ fn push_end(text: &mut Vec<u8>, last: Option<u64>, time: u64) -> Result<(), Allo
 fn write_slot<S: Sink>(
     sink: &mut S,
     text: &mut Vec<u8>,
-    changes: &mut Vec<Change>,
-    room: &mut Room,
+    changes: &mut Vec<DumpChange>,
+    room: &mut LineRoom,
     kept: &Written,
     last: Option<u64>,
     all: bool,
@@ -111,8 +111,8 @@ pub struct Writer {
     last: Option<u64>,
     // Room to work in: the text of a slot, its changes, and the values to compare.
     text: Vec<u8>,
-    changes: Vec<Change>,
-    room: Room,
+    changes: Vec<DumpChange>,
+    room: LineRoom,
 }
 
 impl Drop for Writer {
@@ -145,7 +145,7 @@ impl Writer {
         ensures codes { IfOk result (λ w. codes_of w.kept ≡ table.items) }
         ensures last { IfOk result (λ w. w.last ≡ None) }
     {
-        let room = Room::new(alloc, table.len())?;
+        let room = LineRoom::new(alloc, table.len())?;
         let kept = Written::new(alloc, table)?;
         Ok(Writer {
             kept,

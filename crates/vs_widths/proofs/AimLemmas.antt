@@ -16,40 +16,36 @@ use Rattle.vs_design.specs.declared.write.Part.{Part}
 use Rattle.vs_design.specs.Selects.{place_of, word_place}
 use Rattle.vs_design.specs.Uses.{all_words, aim_range}
 use Rattle.vs_design.specs.WellFormed.{aim_width, size_of}
-use Rattle.vs_selects.specs.declared.shape.Shape.{Shape}
-use Rattle.vs_selects.specs.Each.{Each, each_none, each_more}
-use Rattle.vs_selects.specs.Senses.{sense, IsFitted}
-use Rattle.vs_selects.specs.declared.bindings.Meaning.{Meaning}
-use Rattle.vs_selects.specs.declared.bindings.Binding.{Binding}
-use Rattle.vs_selects.specs.declared.bindings.Binding.TheVariants.{Signal, Constant, Pending, Other, Genvar}
-use Rattle.vs_selects.specs.declared.faults.WidthReason.{WidthReason}
-use Rattle.vs_selects.specs.declared.faults.WidthReason.TheVariants.{Unknown, NotConstant, WrongKind}
-use Rattle.vs_selects.specs.declared.faults.WidthFault.{WidthFault}
-use Rattle.vs_selects.specs.declared.faults.WidthFault.TheVariants.{Memory, Refused}
-use Rattle.vs_selects.specs.declared.places.ChosenBits.{ChosenBits}
-use Rattle.vs_selects.specs.Environment.{Environment}
-use Rattle.vs_selects.specs.Findings.{Finding, Has, Lacks, stands, unknown, wrong_kind, not_constant, together, alone, second, Refuses}
-use Rattle.vs_selects.specs.Meants.{Meant, own}
-use Rattle.vs_selects.specs.Constants.{where_none, constant_finding}
-use Rattle.vs_selects.specs.Selects.{Select, Named, named, of_words, span_of, stands_in}
-use Rattle.vs_selects.specs.passes.Measures.{meaning}
-use Rattle.vs_selects.specs.passes.Places.{IsPlaced, IsFixed}
-use Rattle.vs_selects.proofs.FixingLemmas.{fixed_range, fixed_reads, chosen_range}
+use Rattle.vs_width_selects.specs.declared.shape.Shape.{Shape}
+use Rattle.vs_width_selects.specs.Each.{Each, each_none, each_more}
+use Rattle.vs_width_selects.specs.Senses.{sense, IsFitted}
+use Rattle.vs_width_selects.specs.declared.bindings.Meaning.{Meaning}
+use Rattle.vs_width_selects.specs.declared.bindings.Binding.{Binding}
+use Rattle.vs_width_selects.specs.declared.bindings.Binding.TheVariants.{Signal, Constant, Pending, Other, Genvar}
+use Rattle.vs_width_selects.specs.declared.faults.WidthReason.{WidthReason}
+use Rattle.vs_width_selects.specs.declared.faults.WidthReason.TheVariants.{Unknown, NotConstant, WrongKind}
+use Rattle.vs_width_selects.specs.declared.faults.WidthFault.{WidthFault}
+use Rattle.vs_width_selects.specs.declared.faults.WidthFault.TheVariants.{Memory, Refused}
+use Rattle.vs_width_selects.specs.declared.places.ChosenBits.{ChosenBits}
+use Rattle.vs_width_selects.specs.Environment.{Environment}
+use Rattle.vs_width_selects.specs.Findings.{Finding, Has, Lacks, stands, unknown, wrong_kind, not_constant, together, alone, second, Refuses}
+use Rattle.vs_width_selects.specs.Meants.{Meant, own}
+use Rattle.vs_width_selects.specs.Constants.{where_none, constant_finding}
+use Rattle.vs_width_selects.specs.Selects.{Select, Named, named, of_words, span_of, stands_in}
+use Rattle.vs_width_selects.specs.passes.Measures.{meaning}
+use Rattle.vs_width_selects.specs.passes.Places.{IsPlaced, IsFixed}
+use Rattle.vs_width_selects.proofs.FixingLemmas.{fixed_range, fixed_reads, chosen_range}
 use Rattle.vs_widths.specs.declared.kinds.AssignmentKind.{AssignmentKind}
 use Rattle.vs_widths.specs.declared.kinds.AssignmentKind.TheVariants.{Procedural, Continuous, Event}
 use Rattle.vs_widths.specs.Lefts.{wanted, takes_bound, takes_reads, name_aimed}
 use Rattle.vs_widths.specs.Aiming.{is_none_read, is_fixed, IsPlace, IsTarget}
 use Rattle.vs_widths.specs.passes.Aims.{takes_aim, IsAim, IsTakenAim, select_passes, AreWithin}
+use Rattle.std.proofs.lemmas.Bool.{or_right}
+use Rattle.vs_logic4.proofs.Basics.{and_left, and_right}
+use Rattle.vs_width_selects.proofs.FixingLemmas.{both_empty}
+use Rattle.vs_width_selects.proofs.PlaceLemmas.{refused_by}
 
 -- ---- faults
-
-pub refused_by : (x y : Finding) (d : WidthFault) → ((r : WidthReason) → stands r x ≡ true → stands r y ≡ true) → Refuses x d → Refuses y d
-refused_by x y Memory h k = tt
-refused_by x y (Refused r) h k = h r k
-
-or_right : (x y : Bool) → y ≡ true → (x || y) ≡ true
-or_right true y h = refl
-or_right false y h = h
 
 stands_wanted : (faults : WidthReason → Bool) (b : Bool) (x : Finding) (r : WidthReason) → stands r x ≡ true → stands r (wanted faults b x) ≡ true
 stands_wanted faults true x r h = h
@@ -175,10 +171,6 @@ some_read : (rs : List BitRange) → (rs ≡ [] → ⊥) → false ≡ is_none_r
 some_read [] h = absurd (h refl)
 some_read (r ∷ rs) h = refl
 
-both_empty : (xs ys : List BitRange) → (xs ≡ [] → ys ≡ [] → ⊥) → xs ++ ys ≡ [] → ⊥
-both_empty [] ys h e = h refl e
-both_empty (x ∷ xs) ys h e = cc
-
 pub chosen_aim : (p : ChosenBits) (s : Selection) (word low : Typed) → IsFitted (sense p.word.form) p.word.shape.width p.word.shape.signed word →
     IsFitted (sense p.extent.index.form) p.extent.index.shape.width p.extent.index.shape.signed low →
     s.signal ≡ p.signal → s.words ≡ p.words → s.bits ≡ p.extent.axis → s.width ≡ p.extent.shape.width →
@@ -211,14 +203,6 @@ reads_taken Event (a.Chosen s word low) (r ∷ rs) e h = h
 
 pub taken_aim : (how : AssignmentKind) (b : Binding) (ss : List Select) (x : Aim) → takes_bound how (Some b) ≡ true → IsAim (named (Some b) ss) x → takes_aim how x ≡ true → IsTakenAim how b ss x
 taken_aim how b ss x h p k = record { is = p; taken = h; constant = reads_taken how x (named (Some b) ss).reads p.fixed k }
-
-and_left : (x y : Bool) → (x && y) ≡ true → x ≡ true
-and_left true y h = refl
-and_left false y h = h
-
-and_right : (x y : Bool) → (x && y) ≡ true → y ≡ true
-and_right true y h = h
-and_right false y h = cc
 
 signal_of : (w : Option Bounds) (m : Meaning) (k : ℕ) (ss : List Select) → (of_words w m k ss).signal ≡ k
 signal_of None m k ss = refl

@@ -4,6 +4,7 @@ use denote.Param.Weighed.{most, at_most}
 use Rattle.std.proofs.Math.Nat.{mul-le-mul_left}
 use Rattle.vs_logic4.specs.declared.operators.Binary.{Binary}
 use Rattle.vs_syntax.specs.declared.tree.Expr.{Expr, size-Expr}
+use Rattle.vs_logic4.proofs.Basics.{second_most as middle_most}
 
 -- the depth of the deepest of some expressions
 abbrev pub parts_depth : List Expr → ℕ
@@ -41,6 +42,3 @@ falls_within k depth xs i t n whole a h j l e m =
 
 pub second_most : (a b : ℕ) → b ≤ max a b
 second_most a b = omega arith
-
-pub middle_most : (a b : ℕ) → b ≤ max a (max b 0)
-middle_most a b = omega arith

@@ -10,10 +10,11 @@ use Rattle.vs_syntax.specs.declared.tree.Expr.TheVariants as e
 use Rattle.vs_syntax.specs.declared.tree.Expr.TheOpen as x
 use Rattle.vs_syntax.specs.declared.tree.Expr.TheShapes.{former-Expr-Select-1-at-5}
 use Rattle.vs_syntax.specs.declared.tree.PartSelect.{PartSelect}
-use Rattle.vs_selects.specs.Environment.{Environment}
+use Rattle.vs_width_selects.specs.Environment.{Environment}
 use Rattle.vs_widths.specs.Expressions.{meant_selects}
 use Rattle.vs_widths.specs.declared.kinds.AssignmentKind.{AssignmentKind}
 use Rattle.vs_widths.specs.Lefts.{Aimed, name_aimed, concat_aimed, is_left, is_left_step, bare_select, as_left_step, as_left}
+use Rattle.vs_logic4.proofs.Basics.{and_left, and_right}
 
 -- ---- the form
 
@@ -27,14 +28,6 @@ and_true p q h = rw h refl
 pub concat_is_left : (b : Box Expr Global) (es : Vec Expr Global) (first : Expr) (rest : List Expr) (p q : Bool) → p ≡ is_left first → q ≡ list_all is_left rest → first ≡ b.value → rest ≡ es.items → p ≡ true → q ≡ is_left (e.Concat b es)
 concat_is_left b es first rest p q h k m n t =
     k ∙ and_true p (list_all is_left rest) t ∙ ap (λ z. z && list_all is_left rest) h ∙ ap₂ (λ y z. is_left y && list_all is_left z) m n ∙ sym (is_left_Concat b es)
-
-and_left : (p q : Bool) → (p && q) ≡ true → p ≡ true
-and_left true q h = refl
-and_left false q h = h
-
-and_right : (p q : Bool) → (p && q) ≡ true → q ≡ true
-and_right true q h = h
-and_right false q h = cc
 
 left_in : (es : List Expr) (i : ℕ) (y : Expr) → i < length es → y ≡ get_or es i y → list_all is_left es ≡ true → is_left y ≡ true
 left_in [] i y h k t = absurd (omega arith)

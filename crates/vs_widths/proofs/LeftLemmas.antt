@@ -18,19 +18,21 @@ use Rattle.vs_syntax.specs.declared.tree.PartSelect.{PartSelect}
 use Rattle.vs_design.specs.declared.statement.Target.{Target}
 use Rattle.vs_design.specs.Uses.{aim_range}
 use Rattle.vs_design.specs.WellFormed.{aim_width}
-use Rattle.vs_selects.specs.Each.{Each, each_none, each_more}
-use Rattle.vs_selects.specs.declared.faults.WidthReason.{WidthReason}
-use Rattle.vs_selects.specs.declared.faults.WidthFault.{WidthFault}
-use Rattle.vs_selects.specs.Environment.{Environment}
-use Rattle.vs_selects.specs.Findings.{Finding, Has, Lacks, stands, together, unsigned, beside, Refuses}
-use Rattle.vs_selects.specs.Selects.{Select, Named, named_range, stands_in}
+use Rattle.vs_width_selects.specs.Each.{Each, each_none, each_more}
+use Rattle.vs_width_selects.specs.declared.faults.WidthReason.{WidthReason}
+use Rattle.vs_width_selects.specs.declared.faults.WidthFault.{WidthFault}
+use Rattle.vs_width_selects.specs.Environment.{Environment}
+use Rattle.vs_width_selects.specs.Findings.{Finding, Has, Lacks, stands, together, unsigned, beside, Refuses}
+use Rattle.vs_width_selects.specs.Selects.{Select, Named, named_range, stands_in}
 use Rattle.vs_widths.specs.Expressions.{meant_selects}
 use Rattle.vs_widths.specs.declared.kinds.AssignmentKind.{AssignmentKind}
 use Rattle.vs_widths.specs.Lefts.{Aimed, name_aimed, sum_found, from_last, concat_aimed, aimed_step, aimed}
 use Rattle.vs_widths.specs.Aiming.{IsPlace, IsTarget}
 use Rattle.vs_widths.specs.passes.Aims.{AreWithin, Aims, IsJoined}
 use Rattle.vs_widths.proofs.ReadLemmas.{reads_within}
-use Rattle.vs_widths.proofs.AimLemmas.{refused_by, stands_left, stands_right, selects_refused}
+use Rattle.vs_widths.proofs.AimLemmas.{stands_left, stands_right, selects_refused}
+use Rattle.vs_width_selects.proofs.PlaceLemmas.{refused_by}
+use Rattle.vs_logic4.proofs.Basics.{take_push as split_at}
 
 -- ---- faults of parts
 
@@ -55,9 +57,6 @@ from_last_push (ms ∷ nss) ns = ap (λ z. z ++ ms) (from_last_push nss ns) ∙ 
 
 sum_of_two : (xs ys : List ℕ) → sum (xs ++ ys) ≡ sum xs + sum ys
 sum_of_two xs ys = sum_by-append (λ x. x) xs ys
-
-split_at : {A : Type 0} (ls : List A) (i : ℕ) (m : A) → i < length ls → m ≡ get_or ls i m → take (i + 1) ls ≡ take i ls ++ m ∷ []
-split_at ls i m h k = take_more ls i m h ∙ ap (λ z. take i ls ++ z ∷ []) (sym k)
 
 split_front : {A : Type 0} (ls : List A) (i : ℕ) (m : A) → i < length ls → m ≡ get_or ls i m → ls ≡ take i ls ++ m ∷ drop (i + 1) ls
 split_front ls i m h k =

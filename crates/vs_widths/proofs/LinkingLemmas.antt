@@ -19,25 +19,22 @@ use Rattle.vs_design.specs.Stores.{Store}
 use Rattle.vs_design.specs.Uses.{joined}
 use Rattle.vs_design.specs.WellFormed.{sized_by, linked_size, chain_size}
 use Rattle.vs_eval.specs.Values.{left_side, right_side, linked, chained}
-use Rattle.vs_selects.specs.declared.shape.Shape.{Shape}
-use Rattle.vs_selects.specs.declared.forms.Form.{Form}
-use Rattle.vs_selects.specs.declared.forms.Form.TheVariants as v
-use Rattle.vs_selects.specs.declared.forms.Form.TheOpen as f
-use Rattle.vs_selects.specs.declared.forms.Measured.{Measured}
-use Rattle.vs_selects.specs.Findings.{Has, alike, linked_shape}
-use Rattle.vs_selects.specs.Meants.{Meant}
-use Rattle.vs_selects.specs.Operations.{operated}
-use Rattle.vs_selects.specs.Senses.{Sense, sense, open_size, open_link, open_value}
+use Rattle.vs_width_selects.specs.declared.shape.Shape.{Shape}
+use Rattle.vs_width_selects.specs.declared.forms.Sizable.{Sizable}
+use Rattle.vs_width_selects.specs.declared.forms.Sizable.TheVariants as v
+use Rattle.vs_width_selects.specs.declared.forms.Sizable.TheOpen as f
+use Rattle.vs_width_selects.specs.declared.forms.Measured.{Measured}
+use Rattle.vs_width_selects.specs.Findings.{Has, alike, linked_shape}
+use Rattle.vs_width_selects.specs.Meants.{Meant}
+use Rattle.vs_width_selects.specs.Operations.{operated}
+use Rattle.vs_width_selects.specs.Senses.{Sense, sense, open_size, open_link, open_value}
 use Rattle.vs_widths.specs.Expressions.{linked_value, linked_meant}
 use Rattle.vs_widths.specs.passes.Forms.{ends_in_test, IsOperated, IsTestLink, IsTested}
-use Rattle.vs_selects.specs.passes.Measures.{meaning, IsFlexible, IsMeasured, IsOwnPart}
-use Rattle.vs_selects.proofs.FittingLemmas.{layer, links_sensed, tests_sensed}
+use Rattle.vs_width_selects.specs.passes.Measures.{meaning, IsFlexible, IsMeasured, IsOwnPart}
+use Rattle.vs_width_selects.proofs.FittingLemmas.{layer, links_sensed, tests_sensed}
+use Rattle.vs_width_selects.proofs.FixingLemmas.{meant_same}
 
 -- ---- meanings
-
--- two meanings that agree at each point
-pub meant_same : (a b : Meant) → a.finding ≡ b.finding → a.reads ≡ b.reads → ((store : Store) (time width : ℕ) (signed : Bool) → a.at store time width signed ≡ b.at store time width signed) → a ≡ b
-meant_same a b p q h = λ i. record { finding = p i; reads = q i; at = λ store time width signed. h store time width signed i }
 
 -- ---- lists
 
@@ -47,24 +44,24 @@ joined_push g (y ∷ ys) x = ap (λ z. g y ++ z) (joined_push g ys x) ∙ sym (a
 
 -- ---- operands of one context
 
-open_size_push : (w : ℕ) (s : Option ℕ) (ls : List (Binary × Form)) (op : Binary) (x : Form) →
+open_size_push : (w : ℕ) (s : Option ℕ) (ls : List (Binary × Sizable)) (op : Binary) (x : Sizable) →
     open_size w s (map (λ (l : Binary × Sense). (l.0, l.1.size w)) (links_sensed (ls ++ (op, x) ∷ [])))
     ≡ open_link w (open_size w s (map (λ (l : Binary × Sense). (l.0, l.1.size w)) (links_sensed ls))) (op, (sense x).size w)
 open_size_push w s [] op x = refl
 open_size_push w s (l ∷ ls) op x = open_size_push w (open_link w s (l.0, (sense l.1).size w)) ls op x
 
-open_value_push : (w : ℕ) (g : Bool) (store : Store) (time : ℕ) (first : List Digit) (ls : List (Binary × Form)) (op : Binary) (x : Form) →
+open_value_push : (w : ℕ) (g : Bool) (store : Store) (time : ℕ) (first : List Digit) (ls : List (Binary × Sizable)) (op : Binary) (x : Sizable) →
     open_value w g first (map (λ (l : Binary × Sense). (l.0, l.1.at store time w g)) (links_sensed (ls ++ (op, x) ∷ [])))
     ≡ operated op w g (open_value w g first (map (λ (l : Binary × Sense). (l.0, l.1.at store time w g)) (links_sensed ls))) ((sense x).at store time w g)
 open_value_push w g store time first [] op x = refl
 open_value_push w g store time first (l ∷ ls) op x = open_value_push w g store time (operated l.0 w g first ((sense l.1).at store time w g)) ls op x
 
-links_read_push : (ls : List (Binary × Form)) (op : Binary) (x : Form) →
+links_read_push : (ls : List (Binary × Sizable)) (op : Binary) (x : Sizable) →
     joined (map (λ (l : Binary × Sense). l.1.reads) (links_sensed (ls ++ (op, x) ∷ []))) ≡ joined (map (λ (l : Binary × Sense). l.1.reads) (links_sensed ls)) ++ (sense x).reads
 links_read_push [] op x = append-nil (sense x).reads
 links_read_push (l ∷ ls) op x = ap (λ z. (sense l.1).reads ++ z) (links_read_push ls op x) ∙ sym (append_assoc (sense l.1).reads (joined (map (λ (l : Binary × Sense). l.1.reads) (links_sensed ls))) (sense x).reads)
 
-pub operated_more : (c : Box Form Global) (ls ns : Vec (Binary × Form) Global) (op : Binary) (right : Form) → ns.items ≡ ls.items ++ (op, right) ∷ [] → IsOperated (v.Chain c ls) op right (v.Chain c ns)
+pub operated_more : (c : Box Sizable Global) (ls ns : Vec (Binary × Sizable) Global) (op : Binary) (right : Sizable) → ns.items ≡ ls.items ++ (op, right) ∷ [] → IsOperated (v.Chain c ls) op right (v.Chain c ns)
 operated_more c ls ns op right k =
     let old = layer (f.Chain c ls) (v.Chain c ls) (v.rolls-Chain c ls) in
     let new = layer (f.Chain c ns) (v.Chain c ns) (v.rolls-Chain c ns) in
@@ -90,7 +87,7 @@ sized_shift : (z : Sizing) (w n : ℕ) → z ≡ Shift → sized_by z w w n ≡ 
 sized_shift z w n h = rw (h, eq-eqb w w refl) refl
 
 -- an operator whose operands have the size and sign of the context
-pub alike_measured : (left right : Measured) (op : Binary) (s : Shape) (y : Form) → sizing_of op ≡ Alike → IsFlexible left.form → IsFlexible right.form →
+pub alike_measured : (left right : Measured) (op : Binary) (s : Shape) (y : Sizable) → sizing_of op ≡ Alike → IsFlexible left.form → IsFlexible right.form →
     alike left.shape.width left.shape.signed right.shape.width right.shape.signed ≡ Has s.width s.signed → IsOperated left.form op right.form y →
     IsMeasured (linked_meant (meaning left) (op, meaning right)) (record { shape = s; form = y })
 alike_measured left right op s y h p q a o = record {
@@ -101,7 +98,7 @@ alike_measured left right op s y h p q a o = record {
 }
 
 -- a shift, whose amount has its own size and sign
-pub shift_measured : (left right : Measured) (op : Binary) (a y : Form) → sizing_of op ≡ Shift → IsFlexible left.form → IsFlexible right.form → IsOwnPart right a → IsOperated left.form op a y →
+pub shift_measured : (left right : Measured) (op : Binary) (a y : Sizable) → sizing_of op ≡ Shift → IsFlexible left.form → IsFlexible right.form → IsOwnPart right a → IsOperated left.form op a y →
     IsMeasured (linked_meant (meaning left) (op, meaning right)) (record { shape = left.shape; form = y })
 shift_measured left right op a y h p q k o = record {
   means = meant_same (linked_meant (meaning left) (op, meaning right)) (meaning (record { shape = left.shape; form = y }))
@@ -134,13 +131,13 @@ linked_one None (Some y) l h = tt
 linked_one (Some x) None l h = tt
 linked_one (Some x) (Some y) l h = sized_one (sizing_of l.operator) l.width x y h
 
-abbrev pub sizes_at : List (Link × Form) → List (Link × Option ℕ)
+abbrev pub sizes_at : List (Link × Sizable) → List (Link × Option ℕ)
 sizes_at ls = map (λ (l : Link × Sense). (l.0, l.1.size l.0.width)) (tests_sensed ls)
 
-abbrev pub values_at : Store → ℕ → List (Link × Form) → List (Link × List Digit)
+abbrev pub values_at : Store → ℕ → List (Link × Sizable) → List (Link × List Digit)
 values_at store time ls = map (λ (l : Link × Sense). (l.0, l.1.at store time l.0.width l.0.signed)) (tests_sensed ls)
 
-ends_one : (s : Option ℕ) (ls : List (Link × Form)) → ends_in_test ls ≡ true → IsOne (chain_size s (sizes_at ls))
+ends_one : (s : Option ℕ) (ls : List (Link × Sizable)) → ends_in_test ls ≡ true → IsOne (chain_size s (sizes_at ls))
 ends_one s [] h = cc
 ends_one s (l ∷ []) h = linked_one s ((sense l.1).size l.0.width) l.0 h
 ends_one s (l ∷ k ∷ ls) h = ends_one (linked_size s (l.0, (sense l.1).size l.0.width)) (k ∷ ls) h
@@ -179,26 +176,26 @@ binary_one b.Or g ds es h = cc
 binary_one b.LogicalAnd g ds es h = record { digit = _; is = refl }
 binary_one b.LogicalOr g ds es h = record { digit = _; is = refl }
 
-ends_digit : (store : Store) (time : ℕ) (first : List Digit) (ls : List (Link × Form)) → ends_in_test ls ≡ true → IsDigit (chained first (values_at store time ls))
+ends_digit : (store : Store) (time : ℕ) (first : List Digit) (ls : List (Link × Sizable)) → ends_in_test ls ≡ true → IsDigit (chained first (values_at store time ls))
 ends_digit store time first [] h = cc
 ends_digit store time first (l ∷ []) h = binary_one l.0.operator l.0.signed _ _ h
 ends_digit store time first (l ∷ k ∷ ls) h = ends_digit store time (linked first (l.0, (sense l.1).at store time l.0.width l.0.signed)) (k ∷ ls) h
 
-test_size_push : (s : Option ℕ) (ls : List (Link × Form)) (link : Link) (x : Form) → chain_size s (sizes_at (ls ++ (link, x) ∷ [])) ≡ linked_size (chain_size s (sizes_at ls)) (link, (sense x).size link.width)
+test_size_push : (s : Option ℕ) (ls : List (Link × Sizable)) (link : Link) (x : Sizable) → chain_size s (sizes_at (ls ++ (link, x) ∷ [])) ≡ linked_size (chain_size s (sizes_at ls)) (link, (sense x).size link.width)
 test_size_push s [] link x = refl
 test_size_push s (l ∷ ls) link x = test_size_push (linked_size s (l.0, (sense l.1).size l.0.width)) ls link x
 
-test_value_push : (store : Store) (time : ℕ) (first : List Digit) (ls : List (Link × Form)) (link : Link) (x : Form) →
+test_value_push : (store : Store) (time : ℕ) (first : List Digit) (ls : List (Link × Sizable)) (link : Link) (x : Sizable) →
     chained first (values_at store time (ls ++ (link, x) ∷ [])) ≡ linked (chained first (values_at store time ls)) (link, (sense x).at store time link.width link.signed)
 test_value_push store time first [] link x = refl
 test_value_push store time first (l ∷ ls) link x = test_value_push store time (linked first (l.0, (sense l.1).at store time l.0.width l.0.signed)) ls link x
 
-tests_read_push : (ls : List (Link × Form)) (link : Link) (x : Form) →
+tests_read_push : (ls : List (Link × Sizable)) (link : Link) (x : Sizable) →
     joined (map (λ (l : Link × Sense). l.1.reads) (tests_sensed (ls ++ (link, x) ∷ []))) ≡ joined (map (λ (l : Link × Sense). l.1.reads) (tests_sensed ls)) ++ (sense x).reads
 tests_read_push [] link x = append-nil (sense x).reads
 tests_read_push (l ∷ ls) link x = ap (λ z. (sense l.1).reads ++ z) (tests_read_push ls link x) ∙ sym (append_assoc (sense l.1).reads (joined (map (λ (l : Link × Sense). l.1.reads) (tests_sensed ls))) (sense x).reads)
 
-pub tested_more : (c : Box Form Global) (ls ns : Vec (Link × Form) Global) (s : Shape) (link : Link) (right : Form) → ns.items ≡ ls.items ++ (link, right) ∷ [] → s.signed ≡ false → s.width ≡ link.width → ends_in_test ls.items ≡ true →
+pub tested_more : (c : Box Sizable Global) (ls ns : Vec (Link × Sizable) Global) (s : Shape) (link : Link) (right : Sizable) → ns.items ≡ ls.items ++ (link, right) ∷ [] → s.signed ≡ false → s.width ≡ link.width → ends_in_test ls.items ≡ true →
     (sense (v.Tests c ls)).size s.width ≡ Some s.width → IsTestLink s.width link ((sense right).size link.width) → IsTested (v.Tests c ls) s link right (v.Tests c ns)
 tested_more c ls ns s link right k sign wide ends sized test =
     let old = layer (f.Tests c ls) (v.Tests c ls) (v.rolls-Tests c ls) in
@@ -243,7 +240,7 @@ logical_size z w l r h = rw h refl
 logical_same : (z : Sizing) (w : ℕ) (d : Digit) → z ≡ Logical → w ≡ 1 → left_side z w (resized false w (d ∷ [])) ≡ left_side z w (d ∷ [])
 logical_same z w d h k = rw (h, k) refl
 
-pub combines : (left : ℕ) (right : Measured) (op : Binary) (link : Link) (a : Form) → sizing_of op ≡ Logical → IsLinkOf link op 1 false → IsFlexible right.form → IsOwnPart right a → IsTestLink left link ((sense a).size link.width)
+pub combines : (left : ℕ) (right : Measured) (op : Binary) (link : Link) (a : Sizable) → sizing_of op ≡ Logical → IsLinkOf link op 1 false → IsFlexible right.form → IsOwnPart right a → IsTestLink left link ((sense a).size link.width)
 combines left right op link a h l q o =
     let z : sizing_of link.operator ≡ Logical = ap sizing_of l.operator ∙ h in
     let r : (sense a).size link.width ≡ Some right.shape.width = o.size link.width ∙ q right.shape.width in

@@ -13,7 +13,7 @@ use Rattle.vs_logic4.specs.declared.operators.Binary.{Binary}
 use Rattle.vs_logic4.specs.Operators.{sizing_of, gives_bit}
 use Rattle.vs_logic4.specs.Vectors.{resized}
 use Rattle.vs_logic4.specs.Parts.{replication}
-use Rattle.vs_tokens.specs.declared.token.Literal.{Literal}
+use Rattle.vs_lex_tokens.specs.declared.token.Literal.{Literal}
 use Rattle.vs_syntax.specs.declared.tree.Expr.{Expr, Expr-F, map-Expr, roll-Expr, fold-roll-Expr}
 use Rattle.vs_syntax.specs.declared.tree.Expr.TheVariants as e
 use Rattle.vs_syntax.specs.declared.tree.Expr.TheOpen as x
@@ -21,36 +21,31 @@ use Rattle.vs_design.specs.Stores.{Store}
 use Rattle.vs_design.specs.Uses.{joined}
 use Rattle.vs_design.specs.WellFormed.{choice_size, picked_size, sum_size, at_most_64}
 use Rattle.vs_eval.specs.Values.{chosen, concatenated}
-use Rattle.vs_selects.specs.declared.shape.Shape.{Shape}
-use Rattle.vs_selects.specs.declared.faults.WidthReason.{WidthReason}
-use Rattle.vs_selects.specs.declared.faults.WidthReason.TheVariants.{TooWide}
-use Rattle.vs_selects.specs.declared.faults.WidthFault.{WidthFault}
-use Rattle.vs_selects.specs.declared.faults.WidthFault.TheVariants.{Memory, Refused}
-use Rattle.vs_selects.specs.declared.forms.Form.{Form}
-use Rattle.vs_selects.specs.declared.forms.Form.TheVariants as v
-use Rattle.vs_selects.specs.declared.forms.Form.TheOpen as f
-use Rattle.vs_selects.specs.declared.forms.Measured.{Measured}
-use Rattle.vs_selects.specs.Environment.{Environment}
-use Rattle.vs_selects.specs.Findings.{Finding, Has, Lacks, stands, together, alone, alike, linked_shape, second, unsigned, beside, repeated, too_wide, Refuses}
-use Rattle.vs_selects.specs.Meants.{Meant, own}
+use Rattle.vs_width_selects.specs.declared.shape.Shape.{Shape}
+use Rattle.vs_width_selects.specs.declared.faults.WidthReason.{WidthReason}
+use Rattle.vs_width_selects.specs.declared.faults.WidthReason.TheVariants.{TooWide}
+use Rattle.vs_width_selects.specs.declared.faults.WidthFault.{WidthFault}
+use Rattle.vs_width_selects.specs.declared.faults.WidthFault.TheVariants.{Memory, Refused}
+use Rattle.vs_width_selects.specs.declared.forms.Sizable.{Sizable}
+use Rattle.vs_width_selects.specs.declared.forms.Sizable.TheVariants as v
+use Rattle.vs_width_selects.specs.declared.forms.Sizable.TheOpen as f
+use Rattle.vs_width_selects.specs.declared.forms.Measured.{Measured}
+use Rattle.vs_width_selects.specs.Environment.{Environment}
+use Rattle.vs_width_selects.specs.Findings.{Finding, Has, Lacks, stands, together, alone, alike, linked_shape, second, unsigned, beside, repeated, too_wide, Refuses}
+use Rattle.vs_width_selects.specs.Meants.{Meant, own}
 use Rattle.vs_widths.specs.Expressions.{meant, meant_step, number_meant, name_meant, unary_finding, unary_meant, cast_meant, linked_meant, chain_meant, choice_finding, choice_meant, sum_finding, joined_value, concat_meant, repeated_value, repeat_meant}
-use Rattle.vs_selects.specs.Constants.{where_none, where_some, constant_finding, count_finding, natural_of, positive}
-use Rattle.vs_selects.specs.Senses.{Sense, sense}
-use Rattle.vs_selects.specs.passes.Measures.{meaning, IsFlexible, IsMeasured, Measures, IsOwnPart, IsCount}
+use Rattle.vs_width_selects.specs.Constants.{where_none, where_some, constant_finding, count_finding, natural_of, positive}
+use Rattle.vs_width_selects.specs.Senses.{Sense, sense}
+use Rattle.vs_width_selects.specs.passes.Measures.{meaning, IsFlexible, IsMeasured, Measures, IsOwnPart, IsCount}
 use Rattle.vs_widths.specs.passes.Forms.{links_meant, pairs_meant, IsChoicePair, IsPartOf, AreJoined, IsRepetition, Repeats, Closes}
-use Rattle.vs_selects.specs.Each.{Each, each_none, each_more}
-use Rattle.vs_selects.proofs.FittingLemmas.{layer, pairs_sensed}
-use Rattle.vs_widths.proofs.LinkingLemmas.{meant_same}
+use Rattle.vs_width_selects.specs.Each.{Each, each_none, each_more}
+use Rattle.vs_width_selects.proofs.FittingLemmas.{layer, pairs_sensed}
+use Rattle.vs_width_selects.proofs.FixingLemmas.{meant_same}
+use Rattle.std.proofs.lemmas.Bool.{or_right}
+use Rattle.vs_logic4.proofs.Basics.{front_of}
+use Rattle.vs_width_selects.proofs.PlaceLemmas.{refused_by}
 
 -- ---- faults
-
-pub refused_by : (a b : Finding) (d : WidthFault) → ((r : WidthReason) → stands r a ≡ true → stands r b ≡ true) → Refuses a d → Refuses b d
-refused_by a b Memory h k = tt
-refused_by a b (Refused r) h k = h r k
-
-pub or_right : (a b : Bool) → b ≡ true → (a || b) ≡ true
-or_right true b h = refl
-or_right false b h = h
 
 pub stands_alone : (g : ℕ → Bool → Finding) (a : Finding) (r : WidthReason) → stands r a ≡ true → stands r (alone g a) ≡ true
 stands_alone g (Has w s) r h = cc
@@ -132,11 +127,6 @@ picked_same (Some n) w h = rw (eq-eqb w w refl) refl
 
 -- ---- operators of two operands
 
-front_of : {A : Type 0} (xs : List A) (i : ℕ) (a : A) → i < length xs → a ≡ get_or xs i a → drop i xs ≡ a ∷ drop (i + 1) xs
-front_of xs i a h k =
-    let next : suc i ≡ i + 1 = omega arith in
-    drop-cons xs i a h ∙ ap₂ (λ z n. z ∷ drop n xs) (sym k) next
-
 drop_end : {A : Type 0} (xs : List A) (i : ℕ) → length xs ≤ i → drop i xs ≡ []
 drop_end [] zero h = refl
 drop_end [] (suc i) h = refl
@@ -174,7 +164,7 @@ module _ (env : Environment) where
 
   -- ---- choices
 
-  pub pair_of : (p : Expr × Expr) (c o : Measured) (a : Form) → IsMeasured (meant env p.0) c → IsMeasured (meant env p.1) o → IsOwnPart c a → IsChoicePair env p (a, o.form)
+  pub pair_of : (p : Expr × Expr) (c o : Measured) (a : Sizable) → IsMeasured (meant env p.0) c → IsMeasured (meant env p.1) o → IsOwnPart c a → IsChoicePair env p (a, o.form)
   pair_of p c o a h k q = record {
     condition_size = λ w. subst IsSome (sym (q.size w ∙ h.flexible c.shape.width)) refl;
     condition_ranges = q.ranges ∙ sym (ap (λ z. z.reads) h.means);
@@ -225,24 +215,24 @@ module _ (env : Environment) where
       (λ r t. stands_right second (meant env p.0).finding more r (stands_right alike (Has old.width old.signed) (meant env p.1).finding r t)) bad
       )
 
-  pairs_size : (w : ℕ) (ps : List (Expr × Expr)) (qs : List (Form × Form)) → Each (IsChoicePair env) ps qs → choice_size (map (λ (q : Sense × Sense). (q.0.size w, q.1.size w)) (pairs_sensed qs)) (Some w) ≡ Some w
+  pairs_size : (w : ℕ) (ps : List (Expr × Expr)) (qs : List (Sizable × Sizable)) → Each (IsChoicePair env) ps qs → choice_size (map (λ (q : Sense × Sense). (q.0.size w, q.1.size w)) (pairs_sensed qs)) (Some w) ≡ Some w
   pairs_size w _ _ each_none = refl
   pairs_size w _ _ (each_more p q ps qs h r) =
       ap₂ (λ a b. picked_size ((sense q.0).size w) a b) (h.size w) (pairs_size w ps qs r) ∙ picked_same ((sense q.0).size w) w (h.condition_size w)
 
-  pairs_reads : (ps : List (Expr × Expr)) (qs : List (Form × Form)) → Each (IsChoicePair env) ps qs →
+  pairs_reads : (ps : List (Expr × Expr)) (qs : List (Sizable × Sizable)) → Each (IsChoicePair env) ps qs →
       joined (map (λ (q : Sense × Sense). q.0.reads ++ q.1.reads) (pairs_sensed qs)) ≡ joined (map (λ (p : Meant × Meant). p.0.reads ++ p.1.reads) (pairs_meant env ps))
   pairs_reads _ _ each_none = refl
   pairs_reads _ _ (each_more p q ps qs h r) = ap₂ (λ a b. a ++ b) (ap₂ (λ a b. a ++ b) h.condition_ranges h.ranges) (pairs_reads ps qs r)
 
-  pairs_value : (store : Store) (time w : ℕ) (g : Bool) (ps : List (Expr × Expr)) (qs : List (Form × Form)) → Each (IsChoicePair env) ps qs →
+  pairs_value : (store : Store) (time w : ℕ) (g : Bool) (ps : List (Expr × Expr)) (qs : List (Sizable × Sizable)) → Each (IsChoicePair env) ps qs →
       map {B = List Digit × List Digit} (λ (q : Sense × Sense). (q.0.at store time w g, q.1.at store time w g)) (pairs_sensed qs)
       ≡ map {B = List Digit × List Digit} (λ (p : Meant × Meant). (own p.0 store time, p.1.at store time w g)) (pairs_meant env ps)
   pairs_value store time w g _ _ each_none = refl
   pairs_value store time w g _ _ (each_more p q ps qs h r) =
       ap₂ (λ a b. a ∷ b) (ap₂ paired (h.condition_value store time w g) (h.value store time w g)) (pairs_value store time w g ps qs r)
 
-  pub pairs_end : (last : Measured) (s : Shape) (ps : List (Expr × Expr)) (i : ℕ) (qs : Vec (Form × Form) Global) (b : Box Form Global) → length ps ≤ i → b.value ≡ last.form → IsFlexible last.form →
+  pub pairs_end : (last : Measured) (s : Shape) (ps : List (Expr × Expr)) (i : ℕ) (qs : Vec (Sizable × Sizable) Global) (b : Box Sizable Global) → length ps ≤ i → b.value ≡ last.form → IsFlexible last.form →
       choice_finding (Has s.width s.signed) (pairs_meant env (drop i ps)) ≡ choice_finding (Has last.shape.width last.shape.signed) (pairs_meant env ps) → Each (IsChoicePair env) (take i ps) qs.items →
       IsMeasured (choice_meant (pairs_meant env ps) (meaning last)) (record { shape = s; form = v.Choice qs b })
   pairs_end last s ps i qs b h k p whole done =
@@ -281,10 +271,10 @@ sum_push (Some m ∷ sizes) n a h =
 pub sum_one : (n : ℕ) → sum_size (Some n ∷ []) ≡ Some n
 sum_one n = ap Some (omega arith)
 
-abbrev pub sizes_of : ℕ → List Form → List (Option ℕ)
+abbrev pub sizes_of : ℕ → List Sizable → List (Option ℕ)
 sizes_of w xs = map (λ (s : Sense). s.size w) (map sense xs)
 
-sizes_push : (w : ℕ) (xs : List Form) (y : Form) → sizes_of w (xs ++ y ∷ []) ≡ sizes_of w xs ++ (sense y).size w ∷ []
+sizes_push : (w : ℕ) (xs : List Sizable) (y : Sizable) → sizes_of w (xs ++ y ∷ []) ≡ sizes_of w xs ++ (sense y).size w ∷ []
 sizes_push w [] y = refl
 sizes_push w (x ∷ xs) y = ap (λ z. (sense x).size w ∷ z) (sizes_push w xs y)
 
@@ -292,7 +282,7 @@ at_most_is : (n : ℕ) → n ≤ 64 → at_most_64 (Some n) ≡ Some n
 at_most_is n h = rw (le-leb n 64 h) refl
 
 module _ (env : Environment) where
-  pub part_of : (m : Expr) (c : Measured) (a : Form) → IsMeasured (meant env m) c → IsOwnPart c a → IsPartOf env m a
+  pub part_of : (m : Expr) (c : Measured) (a : Sizable) → IsMeasured (meant env m) c → IsOwnPart c a → IsPartOf env m a
   part_of m c a h q = record {
     ranges = q.ranges ∙ sym (ap (λ z. z.reads) h.means);
     value = λ store time w g. q.value store time w g ∙ sym (ap (λ z. own z store time) h.means);
@@ -315,7 +305,7 @@ module _ (env : Environment) where
       ap (λ z. together beside (Has old false) z.finding) p.means ∙ ap unsigned (sym j) ∙ unsigned_fits new fits in
       ap (λ z. sum_finding z rest) (sym here) ∙ ap (λ z. sum_from old z) (sym (front_of es i m h k)) ∙ whole
 
-  pub size_step : (w s old new : ℕ) (xs ys : List Form) (c : Measured) (a : Form) → IsFlexible c.form → IsOwnPart c a → new ≡ old + c.shape.width → ys ≡ xs ++ a ∷ [] →
+  pub size_step : (w s old new : ℕ) (xs ys : List Sizable) (c : Measured) (a : Sizable) → IsFlexible c.form → IsOwnPart c a → new ≡ old + c.shape.width → ys ≡ xs ++ a ∷ [] →
       sum_size (Some s ∷ sizes_of w xs) ≡ Some old → sum_size (Some s ∷ sizes_of w ys) ≡ Some new
   size_step w s old new xs ys c a p q j k h =
       let last : (sense a).size w ≡ Some c.shape.width = q.size w ∙ p c.shape.width in
@@ -339,16 +329,16 @@ module _ (env : Environment) where
   part_too_wide old s es i m c h k p wide whole =
       part_stands old s es i m (Refused TooWide) h k whole (ap (λ z. stands TooWide (together beside (Has old false) z.finding)) p.means ∙ ap (stands TooWide) (unsigned_wide (old + c.shape.width) wide))
 
-  parts_reads : (es : List Expr) (xs : List Form) → Each (IsPartOf env) es xs → joined (map (λ (s : Sense). s.reads) (map sense xs)) ≡ joined (map (λ (m : Meant). m.reads) (map (meant env) es))
+  parts_reads : (es : List Expr) (xs : List Sizable) → Each (IsPartOf env) es xs → joined (map (λ (s : Sense). s.reads) (map sense xs)) ≡ joined (map (λ (m : Meant). m.reads) (map (meant env) es))
   parts_reads _ _ each_none = refl
   parts_reads _ _ (each_more m y ms ys h r) = ap₂ (λ a b. a ++ b) h.ranges (parts_reads ms ys r)
 
-  parts_value : (store : Store) (time w : ℕ) (g : Bool) (es : List Expr) (xs : List Form) → Each (IsPartOf env) es xs →
+  parts_value : (store : Store) (time w : ℕ) (g : Bool) (es : List Expr) (xs : List Sizable) → Each (IsPartOf env) es xs →
       map (λ (s : Sense). s.at store time w g) (map sense xs) ≡ map (λ (m : Meant). own m store time) (map (meant env) es)
   parts_value store time w g _ _ each_none = refl
   parts_value store time w g _ _ (each_more m y ms ys h r) = ap₂ (λ a b. a ∷ b) (h.value store time w g) (parts_value store time w g ms ys r)
 
-  pub parts_end : (first : Measured) (a : Form) (s : Shape) (n : ℕ) (es : List Expr) (i : ℕ) (xs : Vec Form Global) (b : Box Form Global) → length es ≤ i → b.value ≡ a → IsFlexible first.form → IsOwnPart first a → n ≤ 64 → s.signed ≡ false → s.width ≡ n →
+  pub parts_end : (first : Measured) (a : Sizable) (s : Shape) (n : ℕ) (es : List Expr) (i : ℕ) (xs : Vec Sizable Global) (b : Box Sizable Global) → length es ≤ i → b.value ≡ a → IsFlexible first.form → IsOwnPart first a → n ≤ 64 → s.signed ≡ false → s.width ≡ n →
       sum_from n (drop i es) ≡ sum_from first.shape.width es → ((w : ℕ) → sum_size (Some first.shape.width ∷ sizes_of w xs.items) ≡ Some n) → Each (IsPartOf env) (take i es) xs.items →
       AreJoined (meaning first) (map (meant env) es) (record { shape = s; form = v.Concat b xs })
   parts_end first a s n es i xs b h k p q fits sign wide whole sum done =

@@ -11,20 +11,18 @@ use Rattle.vs_design.specs.Uses.{joined}
 use Rattle.vs_syntax.specs.declared.tree.PartSelect.{PartSelect}
 use Rattle.vs_syntax.specs.declared.tree.PartSelect.TheVariants as p
 use Rattle.vs_design.specs.declared.signal.Bounds.{Bounds}
-use Rattle.vs_selects.specs.declared.shape.Shape.{Shape}
-use Rattle.vs_selects.specs.declared.bindings.Meaning.{Meaning}
-use Rattle.vs_selects.specs.declared.bindings.Binding.{Binding}
-use Rattle.vs_selects.specs.declared.bindings.Binding.TheVariants.{Signal, Constant, Pending, Other, Genvar}
-use Rattle.vs_selects.specs.declared.constants.Const.{Const}
-use Rattle.vs_selects.specs.Findings.{Finding, Has, Lacks}
-use Rattle.vs_selects.specs.Meants.{Meant}
-use Rattle.vs_selects.specs.Selects.{Select, select_span, span_of, constant_span, Named, in_array, of_words, range_by, named_reads, select_meant}
+use Rattle.vs_width_selects.specs.declared.shape.Shape.{Shape}
+use Rattle.vs_width_selects.specs.declared.bindings.Meaning.{Meaning}
+use Rattle.vs_width_selects.specs.declared.bindings.Binding.{Binding}
+use Rattle.vs_width_selects.specs.declared.bindings.Binding.TheVariants.{Signal, Constant, Pending, Other, Genvar}
+use Rattle.vs_width_selects.specs.declared.constants.Const.{Const}
+use Rattle.vs_width_selects.specs.Findings.{Finding, Has, Lacks}
+use Rattle.vs_width_selects.specs.Meants.{Meant}
+use Rattle.vs_width_selects.specs.Selects.{Select, select_span, span_of, constant_span, Named, in_array, of_words, range_by, named_reads, select_meant}
 use Rattle.vs_widths.specs.Typing.{HoldsOfSignals, ReadsNamed}
-use Rattle.vs_selects.specs.Environment.{Environment}
+use Rattle.vs_width_selects.specs.Environment.{Environment}
 use Rattle.vs_widths.specs.Expressions.{meant, meant_step, name_meant, linked_meant, chain_meant}
-
-both_true : (x y : Bool) → x ≡ true → y ≡ true → (x && y) ≡ true
-both_true x y h k = ap₂ (λ a b. a && b) h k
+use Rattle.std.proofs.lemmas.Bool.{and_from as both_true}
 
 module _ (test : ℕ → Bool) where
   -- ranges of signals that pass a test

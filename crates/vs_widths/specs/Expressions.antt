@@ -8,7 +8,7 @@ use Rattle.vs_logic4.specs.declared.operators.Sizing.TheVariants.{Alike, Shift, 
 use Rattle.vs_logic4.specs.Operators.{unary, gives_bit, sizing_of}
 use Rattle.vs_logic4.specs.Vectors.{resized}
 use Rattle.vs_logic4.specs.Parts.{replication}
-use Rattle.vs_tokens.specs.declared.token.Literal.{Literal}
+use Rattle.vs_lex_tokens.specs.declared.token.Literal.{Literal}
 use Rattle.vs_syntax.specs.declared.tree.Expr.{Expr}
 use Rattle.vs_syntax.specs.declared.tree.Expr.TheOpen.{Expr-F}
 use Rattle.vs_syntax.specs.declared.tree.Expr.TheOpen as f
@@ -19,15 +19,15 @@ use Rattle.vs_design.specs.declared.signal.Bounds.{Bounds}
 use Rattle.vs_design.specs.Stores.{Store, word_of}
 use Rattle.vs_design.specs.Uses.{whole, joined}
 use Rattle.vs_eval.specs.Values.{operand_value, chosen, concatenated}
-use Rattle.vs_selects.specs.Operations.{operated}
-use Rattle.vs_selects.specs.declared.shape.Shape.{Shape}
-use Rattle.vs_selects.specs.declared.bindings.Binding.{Binding}
-use Rattle.vs_selects.specs.declared.bindings.Binding.TheVariants.{Signal, Constant, Pending, Other, Genvar}
-use Rattle.vs_selects.specs.Environment.{Environment}
-use Rattle.vs_selects.specs.Findings.{Finding, Has, Lacks, unknown, wrong_kind, not_constant, together, alone, alike, linked_shape, second, beside, repeated, at_found}
-use Rattle.vs_selects.specs.Meants.{Meant, own}
-use Rattle.vs_selects.specs.Constants.{natural_of, positive, count_finding}
-use Rattle.vs_selects.specs.Selects.{Select, select_meant}
+use Rattle.vs_width_selects.specs.Operations.{operated}
+use Rattle.vs_width_selects.specs.declared.shape.Shape.{Shape}
+use Rattle.vs_width_selects.specs.declared.bindings.Binding.{Binding}
+use Rattle.vs_width_selects.specs.declared.bindings.Binding.TheVariants.{Signal, Constant, Pending, Other, Genvar}
+use Rattle.vs_width_selects.specs.Environment.{Environment}
+use Rattle.vs_width_selects.specs.Findings.{Finding, Has, Lacks, unknown, wrong_kind, not_constant, together, alone, alike, linked_shape, second, beside, repeated, at_found}
+use Rattle.vs_width_selects.specs.Meants.{Meant, own}
+use Rattle.vs_width_selects.specs.Constants.{natural_of, positive, count_finding}
+use Rattle.vs_width_selects.specs.Selects.{Select, select_meant}
 
 -- ---- names
 

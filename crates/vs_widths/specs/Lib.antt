@@ -1,11 +1,11 @@
-pub use Rattle.vs_selects.specs.Each
+pub use Rattle.vs_width_selects.specs.Each
 pub mod Lefts
 pub mod Aiming
-pub use Rattle.vs_selects.specs.Constants
-pub use Rattle.vs_selects.specs.Environment
-pub use Rattle.vs_selects.specs.Findings
-pub use Rattle.vs_selects.specs.Meants
-pub use Rattle.vs_selects.specs.Selects
+pub use Rattle.vs_width_selects.specs.Constants
+pub use Rattle.vs_width_selects.specs.Environment
+pub use Rattle.vs_width_selects.specs.Findings
+pub use Rattle.vs_width_selects.specs.Meants
+pub use Rattle.vs_width_selects.specs.Selects
 pub mod Names
 pub mod Expressions
 pub mod Typing

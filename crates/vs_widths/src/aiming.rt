@@ -2,8 +2,8 @@
 ghost use Rattle.std.specs.Prelude.{◌≡◌, ◌∷◌, true, [], Some, IfOk};
 ghost use Rattle.std.specs.List.{All};
 ghost use Rattle.vs_design.specs.WellFormed.{aim_width};
-ghost use Rattle.vs_selects.specs.Selects.{Named};
-ghost use Rattle.vs_selects.specs.passes.Places.{selects_meaning, IsFlexibleSelect, IsPlaced};
+ghost use Rattle.vs_width_selects.specs.Selects.{Named};
+ghost use Rattle.vs_width_selects.specs.passes.Places.{selects_meaning, IsFlexibleSelect, IsPlaced};
 ghost use Rattle.vs_widths.specs.Names.{meaning_of};
 ghost use Rattle.vs_widths.specs.Lefts.{takes_bound, name_aimed};
 ghost use Rattle.vs_widths.specs.passes.Aims.{takes_aim, IsAim, AimsAt, AreWithin, Aims};
@@ -12,10 +12,10 @@ use crate::kinds::{AssignmentKind, takes_kind};
 use crate::levels::Levels;
 use std::alloc::{AllocError, Global};
 use vs_design::{Aim, Target};
-use vs_selects::{
+use vs_syntax::PartSelect;
+use vs_width_selects::{
     Binding, ChosenBits, Measured, WidthFault, WidthReason, fitted, fixed, named, selection,
 };
-use vs_syntax::PartSelect;
 
 /// What a name with its selects names, as a place of a target.
 fn aim(alloc: Global, place: &ChosenBits) -> Result<Aim, AllocError>

@@ -1,7 +1,7 @@
 //! Left sides of assignments.
 ghost use Rattle.std.specs.Prelude.{◌≡◌, true, [], IfOk, IfErr, map};
 ghost use Rattle.std.specs.List.{list_all};
-ghost use Rattle.vs_selects.specs.Findings.{Refuses};
+ghost use Rattle.vs_width_selects.specs.Findings.{Refuses};
 ghost use Rattle.vs_widths.specs.Names.{meaning_of};
 ghost use Rattle.vs_widths.specs.Aiming.{IsTarget};
 ghost use Rattle.vs_widths.specs.Lefts.{Aimed, aimed, name_aimed, concat_aimed, is_left, as_left, expr_aimed};
@@ -13,8 +13,8 @@ use crate::levels::Levels;
 use crate::measuring::measured_selects;
 use std::alloc::Global;
 use vs_design::Target;
-use vs_selects::{WidthFault, WidthReason};
 use vs_syntax::{Expr, Left};
+use vs_width_selects::{WidthFault, WidthReason};
 
 /// What a left side means as a target of a design (IEEE 1364-2005, clauses 6.1 and 9.2).
 pub fn target(

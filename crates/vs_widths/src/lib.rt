@@ -19,4 +19,4 @@ pub use levels::Levels;
 pub use measuring::measured_selects;
 pub use names::Names;
 pub use selected::selected_target;
-pub use vs_selects::{Binding, Const, Meaning, Shape, WidthFault, WidthReason};
+pub use vs_width_selects::{Binding, Const, Meaning, Shape, WidthFault, WidthReason};

@@ -3,15 +3,15 @@ ghost use Rattle.std.specs.Prelude.{◌≡◌, Some, IfOk, true, false, max};
 ghost use Rattle.vs_logic4.specs.Operators.{sizing_of};
 ghost use Rattle.vs_logic4.specs.declared.operators.Sizing.TheVariants as sizing;
 ghost use Rattle.vs_widths.specs.Expressions.{linked_meant};
-ghost use Rattle.vs_selects.specs.Findings.{Has, alike};
-ghost use Rattle.vs_selects.specs.Senses.{sense};
-ghost use Rattle.vs_selects.specs.passes.Measures.{meaning, IsFlexible, IsMeasured, IsOwnPart};
+ghost use Rattle.vs_width_selects.specs.Findings.{Has, alike};
+ghost use Rattle.vs_width_selects.specs.Senses.{sense};
+ghost use Rattle.vs_width_selects.specs.passes.Measures.{meaning, IsFlexible, IsMeasured, IsOwnPart};
 ghost use Rattle.vs_widths.specs.passes.Forms.{ends_in_test, IsOperated, IsTestLink, IsTested};
 
 use std::alloc::{AllocError, Global};
 use vs_design::Link;
 use vs_logic4::{Binary, Sizing};
-use vs_selects::{BIT, Form, Measured, Shape};
+use vs_width_selects::{BIT, Measured, Shape, Sizable};
 
 /// The size and sign of two operands of one context (IEEE 1364-2005, clauses 5.4.1 and 5.5.1).
 pub fn joined_shape(left: Shape, right: Shape) -> Shape
@@ -25,10 +25,10 @@ pub fn joined_shape(left: Shape, right: Shape) -> Shape
 }
 
 /// A part at its own size and sign, whatever the context.
-pub fn own(alloc: Global, x: Measured) -> Result<Form, AllocError>
+pub fn own(alloc: Global, x: Measured) -> Result<Sizable, AllocError>
     ensures { IfOk result (λ y. IsOwnPart x y) }
 {
-    Ok(Form::Own(x.shape, Box::new(alloc, x.form)?))
+    Ok(Sizable::Own(x.shape, Box::new(alloc, x.form)?))
 }
 
 /// What an operator makes of an operand and the one behind it.
@@ -131,18 +131,23 @@ fn combined(
 }
 
 /// An operator between operands of one context, behind those before it.
-fn operated(alloc: Global, left: Form, operator: Binary, right: Form) -> Result<Form, AllocError>
+fn operated(
+    alloc: Global,
+    left: Sizable,
+    operator: Binary,
+    right: Sizable,
+) -> Result<Sizable, AllocError>
     ensures { IfOk result (λ y. IsOperated left operator right y) }
 {
     match left.into_chain() {
         Ok((first, others)) => {
             let mut links = others;
             links.push((operator, right))?;
-            Ok(Form::Chain(first, links))
+            Ok(Sizable::Chain(first, links))
         }
         Err(left) => {
             let links = vec![in alloc; (operator, right)]?;
-            Ok(Form::Chain(Box::new(alloc, left)?, links))
+            Ok(Sizable::Chain(Box::new(alloc, left)?, links))
         }
     }
 }
@@ -150,11 +155,11 @@ fn operated(alloc: Global, left: Form, operator: Binary, right: Form) -> Result<
 /// A comparison, `&&` or `||`, behind those before it where the left side is the result of such a one.
 fn tested(
     alloc: Global,
-    left: Form,
+    left: Sizable,
     shape: Shape,
     link: Link,
-    right: Form,
-) -> Result<Form, AllocError>
+    right: Sizable,
+) -> Result<Sizable, AllocError>
     requires sized { (sense left).size shape.width ≡ Some shape.width }
     requires test { IsTestLink shape.width link ((sense right).size link.width) }
     ensures { IfOk result (λ y. IsTested left shape link right y) }
@@ -164,9 +169,9 @@ fn tested(
             if continues(shape, link.width, &others) {
                 let mut links = others;
                 links.push((link, right))?;
-                return Ok(Form::Tests(first, links));
+                return Ok(Sizable::Tests(first, links));
             }
-            first_tested(alloc, Form::Tests(first, others), shape, link, right)
+            first_tested(alloc, Sizable::Tests(first, others), shape, link, right)
         }
         Err(left) => first_tested(alloc, left, shape, link, right),
     }
@@ -175,22 +180,22 @@ fn tested(
 /// A comparison, `&&` or `||` whose left side has its own size and sign.
 fn first_tested(
     alloc: Global,
-    left: Form,
+    left: Sizable,
     shape: Shape,
     link: Link,
-    right: Form,
-) -> Result<Form, AllocError>
+    right: Sizable,
+) -> Result<Sizable, AllocError>
     requires sized { (sense left).size shape.width ≡ Some shape.width }
     requires test { IsTestLink shape.width link ((sense right).size link.width) }
     ensures { IfOk result (λ y. IsTested left shape link right y) }
 {
-    let first = Form::Own(shape, Box::new(alloc, left)?);
+    let first = Sizable::Own(shape, Box::new(alloc, left)?);
     let links = vec![in alloc; (link, right)]?;
-    Ok(Form::Tests(Box::new(alloc, first)?, links))
+    Ok(Sizable::Tests(Box::new(alloc, first)?, links))
 }
 
 /// Whether a comparison, `&&` or `||` of this size can stand behind these operators, whose result has this size and sign.
-fn continues(shape: Shape, width: u32, links: &[(Link, Form)]) -> bool
+fn continues(shape: Shape, width: u32, links: &[(Link, Sizable)]) -> bool
     ensures unsigned { result ≡ true → shape.signed ≡ false }
     ensures width { result ≡ true → shape.width ≡ width }
     ensures ends { result ≡ true → ends_in_test links.now ≡ true }
@@ -199,7 +204,7 @@ fn continues(shape: Shape, width: u32, links: &[(Link, Form)]) -> bool
 }
 
 /// Whether the last of these operators gives one bit.
-fn ends_in_test(links: &[(Link, Form)]) -> bool
+fn ends_in_test(links: &[(Link, Sizable)]) -> bool
     ensures { result ≡ ends_in_test links.now }
 {
     let count = links.len();

@@ -3,13 +3,13 @@ ghost use Rattle.std.specs.Prelude.{◌≡◌, ◌<◌, ◌≤◌, false, List, 
 ghost use Rattle.vs_widths.specs.Names.{meaning_of};
 ghost use Rattle.vs_widths.specs.Expressions.{meant, meant_selects, digits_meant, name_meant, unary_meant};
 ghost use Rattle.vs_widths.specs.Expressions.{chain_meant, choice_meant, repeat_meant};
-ghost use Rattle.vs_selects.specs.declared.bindings.Binding.TheVariants.{Signal};
-ghost use Rattle.vs_selects.specs.declared.faults.WidthFault.TheVariants.{Memory};
+ghost use Rattle.vs_width_selects.specs.declared.bindings.Binding.TheVariants.{Signal};
+ghost use Rattle.vs_width_selects.specs.declared.faults.WidthFault.TheVariants.{Memory};
 ghost use Rattle.std.specs.List.{All};
-ghost use Rattle.vs_selects.specs.Meants.{Meant};
-ghost use Rattle.vs_selects.specs.Selects.{named, operand_meant, constant_span, excerpt_meant, select_meant};
-ghost use Rattle.vs_selects.specs.passes.Measures.{meaning, IsFlexible, IsMeasured, Measures};
-ghost use Rattle.vs_selects.specs.passes.Places.{selects_meaning, IsFlexibleSelect};
+ghost use Rattle.vs_width_selects.specs.Meants.{Meant};
+ghost use Rattle.vs_width_selects.specs.Selects.{named, operand_meant, constant_span, excerpt_meant, select_meant};
+ghost use Rattle.vs_width_selects.specs.passes.Measures.{meaning, IsFlexible, IsMeasured, Measures};
+ghost use Rattle.vs_width_selects.specs.passes.Places.{selects_meaning, IsFlexibleSelect};
 ghost use Rattle.vs_widths.specs.passes.Forms.{links_meant, pairs_meant, AddsPair, AddsPart, AreJoined, Joins, Repeats, Closes};
 ghost use Rattle.vs_widths.specs.passes.Selects.{MeasuresSelects};
 
@@ -18,11 +18,11 @@ use crate::linking::{joined_shape, linked, own};
 use std::alloc::{AllocError, Global};
 use vs_design::Count;
 use vs_logic4::{Binary, Unary, Vec4};
-use vs_selects::{
-    BIT, Binding, Const, Form, Meaning, Measured, Shape, WidthFault, WidthReason, bits_of_constant,
-    count_of, excerpt, named, operand,
-};
 use vs_syntax::{Expr, PartSelect};
+use vs_width_selects::{
+    BIT, Binding, Const, Meaning, Measured, Shape, Sizable, WidthFault, WidthReason,
+    bits_of_constant, count_of, excerpt, named, operand,
+};
 
 const TOO_WIDE: WidthFault = WidthFault::Refused(WidthReason::TooWide);
 
@@ -130,7 +130,7 @@ fn measured_pairs(
     }
     Ok(Measured {
         shape,
-        form: Form::Choice(done, Box::new(alloc, fallback.form)?),
+        form: Sizable::Choice(done, Box::new(alloc, fallback.form)?),
     })
 }
 
@@ -159,7 +159,7 @@ fn measured_parts(
     let highest = own(alloc, highest)?;
     Ok(Measured {
         shape: unsigned(width),
-        form: Form::Concat(Box::new(alloc, highest)?, done),
+        form: Sizable::Concat(Box::new(alloc, highest)?, done),
     })
 }
 
@@ -167,9 +167,9 @@ fn measured_parts(
 #[inline(never)]
 fn add_pair(
     alloc: Global,
-    done: &mut Vec<(Form, Form)>,
+    done: &mut Vec<(Sizable, Sizable)>,
     condition: Measured,
-    operand: Form,
+    operand: Sizable,
 ) -> Result<(), AllocError>
     ensures { OnOk result (AddsPair condition operand done.old.items done.new.items) }
 {
@@ -179,7 +179,7 @@ fn add_pair(
 
 /// A part, which has its own size and sign, added to those before it.
 #[inline(never)]
-fn add_part(alloc: Global, done: &mut Vec<Form>, part: Measured) -> Result<(), AllocError>
+fn add_part(alloc: Global, done: &mut Vec<Sizable>, part: Measured) -> Result<(), AllocError>
     ensures { OnOk result (AddsPart part done.old.items done.new.items) }
 {
     done.push(own(alloc, part)?)?;
@@ -208,7 +208,7 @@ fn of_digits(value: Vec4, signed: bool) -> Measured
             width: value.width(),
             signed,
         },
-        form: Form::Number(value),
+        form: Sizable::Number(value),
     }
 }
 
@@ -220,7 +220,7 @@ fn of_signal(meaning: Meaning, signal: usize) -> Result<Measured, WidthFault>
     match meaning.words {
         None => Ok(Measured {
             shape: meaning.shape,
-            form: Form::Signal(signal),
+            form: Sizable::Signal(signal),
         }),
         Some(_) => Err(WRONG_KIND),
     }
@@ -296,11 +296,11 @@ fn of_unary(alloc: Global, operator: Unary, x: Measured) -> Result<Measured, Wid
     requires flexible { IsFlexible x.form }
     ensures { Measures (unary_meant operator (meaning x)) result }
 {
-    let form = Form::Unary(operator, Box::new(alloc, x.form)?);
+    let form = Sizable::Unary(operator, Box::new(alloc, x.form)?);
     if operator.gives_bit() {
         return Ok(Measured {
             shape: BIT,
-            form: Form::Closed(x.shape, Box::new(alloc, form)?),
+            form: Sizable::Closed(x.shape, Box::new(alloc, form)?),
         });
     }
     Ok(Measured {
@@ -316,7 +316,7 @@ fn closed(alloc: Global, shape: Shape, x: Measured) -> Result<Measured, WidthFau
 {
     Ok(Measured {
         shape,
-        form: Form::Closed(x.shape, Box::new(alloc, x.form)?),
+        form: Sizable::Closed(x.shape, Box::new(alloc, x.form)?),
     })
 }
 
@@ -343,9 +343,9 @@ fn repeated(alloc: Global, times: u64, parts: Measured) -> Result<Measured, Widt
         times: times as u32,
     };
     let shape = unsigned(count.times * parts.shape.width);
-    let form = Form::Repeat(count, Box::new(alloc, parts.form)?);
+    let form = Sizable::Repeat(count, Box::new(alloc, parts.form)?);
     Ok(Measured {
         shape,
-        form: Form::Closed(shape, Box::new(alloc, form)?),
+        form: Sizable::Closed(shape, Box::new(alloc, form)?),
     })
 }

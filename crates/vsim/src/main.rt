@@ -3,7 +3,7 @@
 
 use std::process::ExitCode;
 use std::{env, io};
-use vs_sim::{program, refuse_start};
+use vs_program::{program, refuse_start};
 
 /// Runs the program on the words of the call and the standard streams, and answers its exit status.
 fn run(rt: &HostRuntime) -> io::Result<u8> {
@@ -13,7 +13,8 @@ fn run(rt: &HostRuntime) -> io::Result<u8> {
     for word in &words {
         texts.push(word.as_str())?;
     }
-    Ok(program(alloc, &texts, rt.stdin(), rt.stdout(), rt.stderr()))
+    let (status, _) = program(alloc, &texts, rt.stdin(), rt.stdout(), rt.stderr());
+    Ok(status)
 }
 
 fn main(rt: HostRuntime) -> ExitCode {

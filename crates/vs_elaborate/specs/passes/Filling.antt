@@ -10,26 +10,26 @@ use Rattle.vs_scopes.specs.declared.faults.Reason.TheVariants.{DrivenTwice}
 use Rattle.vs_scopes.specs.declared.faults.ElabFault.{ElabFault}
 use Rattle.vs_scopes.specs.declared.faults.ElabFault.TheVariants.{Memory, At}
 use Rattle.vs_syntax.specs.declared.tree.Expr.{Expr}
-use Rattle.vs_pieces.specs.Reads.{read_piece}
+use Rattle.vs_elab_pieces.specs.Reads.{read_piece}
 use Rattle.vs_scopes.specs.Ports.{ModulePort}
 use Rattle.vs_scopes.specs.Printed.{Path}
 use Rattle.vs_scopes.specs.Scopes.{Scope, environment, is_wrong_end, has_wrong_end}
 use Rattle.vs_scopes.specs.passes.Answers.{IsFaultAt, Told}
 use Rattle.vs_scopes.specs.passes.Names.{read_path}
 use Rattle.vs_scopes.specs.passes.Parts.{read_port, read_ends}
-use Rattle.vs_opened.specs.declared.opened.Opened.{Opened as FoundScope}
-use Rattle.vs_contents.specs.declared.contents.Contents.{Contents}
-use Rattle.vs_operands.specs.declared.faults.StatementFault.{StatementFault}
-use Rattle.vs_operands.specs.Members.{Assignment, PortDriver, Driver, of_text, Behavior, drivers_of, port_drivers_of}
-use Rattle.vs_operands.specs.Processes.{HasBehaviorFault}
-use Rattle.vs_operands.specs.Surroundings.{Surroundings}
-use Rattle.vs_operands.specs.passes.Views.{IsView, IsSite}
-use Rattle.vs_operands.specs.passes.Bodies.{BodyFails}
+use Rattle.vs_elab_listed.specs.declared.opened.ListedScope.{ListedScope as FoundScope}
+use Rattle.vs_elab_contents.specs.declared.contents.Contents.{Contents}
+use Rattle.vs_elab_operands.specs.declared.faults.StatementFault.{StatementFault}
+use Rattle.vs_elab_operands.specs.Members.{Assignment, PortDriver, Driver, of_text, Behavior, drivers_of, port_drivers_of}
+use Rattle.vs_elab_operands.specs.Processes.{HasBehaviorFault}
+use Rattle.vs_elab_operands.specs.Surroundings.{Surroundings}
+use Rattle.vs_elab_operands.specs.passes.Views.{IsView, IsSite}
+use Rattle.vs_elab_operands.specs.passes.Bodies.{BodyFails}
 use Rattle.vs_elaborate.specs.declared.frames.Frame.{Frame}
 use Rattle.vs_elaborate.specs.Drivers.{driver_fault, port_driver_fault}
 use Rattle.vs_elaborate.specs.Faults.{HasFault, HasPortFault}
 use Rattle.vs_elaborate.specs.DesignOf.{PartOf, port_part, parts_from, assigns_of, processes_of, IsProcess, IsAssign}
-use Rattle.vs_marks.specs.Marks.{SharesBit}
+use Rattle.vs_elab_contents.specs.Marks.{SharesBit}
 
 -- ---- frames
 

@@ -1,7 +1,7 @@
 -- What a pass answers.
 use Rattle.std.specs.Prelude.{◌≡◌, ℕ, Bool, true, false, List, ◌++◌, Result, Ok, Err, MatchResult}
-use Rattle.vs_selects.specs.declared.faults.WidthFault.{WidthFault}
-use Rattle.vs_selects.specs.declared.faults.WidthFault.TheVariants as width
+use Rattle.vs_width_selects.specs.declared.faults.WidthFault.{WidthFault}
+use Rattle.vs_width_selects.specs.declared.faults.WidthFault.TheVariants as width
 use Rattle.vs_scopes.specs.declared.faults.Reason.{Reason}
 use Rattle.vs_scopes.specs.declared.faults.Reason.TheVariants.{Width}
 use Rattle.vs_scopes.specs.declared.faults.BodyFault.{BodyFault}
@@ -9,7 +9,7 @@ use Rattle.vs_scopes.specs.declared.faults.BodyFault.TheVariants as b
 use Rattle.vs_scopes.specs.declared.faults.ElabFault.{ElabFault}
 use Rattle.vs_scopes.specs.declared.faults.ElabFault.TheVariants.{Memory, At}
 use Rattle.vs_scopes.specs.Printed.{Path, printed}
-pub use Rattle.vs_connections.specs.passes.Ends.{borrowed}
+pub use Rattle.vs_elab_connections.specs.passes.Ends.{borrowed}
 
 -- a fault of an expression as one of a part of a scope
 abbrev pub body_fault : WidthFault → BodyFault

@@ -3,9 +3,9 @@ use Rattle.vs_scopes.specs.Ports.{PortSource, by_header, by_item, by_items, by_n
 use Rattle.vs_scopes.specs.declared.ports.ModulePort.{ModulePort as FoundPort}
 use Rattle.vs_scopes.specs.declared.ports.PortSource.{PortSource as FoundSource}
 use Rattle.vs_scopes.specs.declared.ports.PortSource.TheVariants as q
-pub use Rattle.vs_connections.specs.declared.parameters.Parameter.{Parameter as FoundParameter}
-pub use Rattle.vs_connections.specs.declared.parameters.Given.{Given as FoundGiven}
-pub use Rattle.vs_connections.specs.passes.Ends.{read_end, read_ends, AreEnds, value_under, Gathers, IsSet, is_named_mismatch, GathersMore, GathersAll, read_parameter, read_given, AreOverrides, AreGiven}
+pub use Rattle.vs_elab_connections.specs.declared.parameters.Parameter.{Parameter as FoundParameter}
+pub use Rattle.vs_elab_connections.specs.declared.parameters.Given.{Given as FoundGiven}
+pub use Rattle.vs_elab_connections.specs.passes.Ends.{read_end, read_ends, AreEnds, value_under, Gathers, IsSet, is_named_mismatch, GathersMore, GathersAll, read_parameter, read_given, AreOverrides, AreGiven}
 
 -- what says which way a port goes
 abbrev pub read_source : FoundSource → PortSource

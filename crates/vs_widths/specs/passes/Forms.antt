@@ -10,17 +10,17 @@ use Rattle.vs_design.specs.declared.expression.Link.{Link}
 use Rattle.vs_design.specs.Stores.{Store}
 use Rattle.vs_design.specs.WellFormed.{linked_size, at_most_64}
 use Rattle.vs_eval.specs.Values.{left_side, linked}
-use Rattle.vs_selects.specs.declared.shape.Shape.{Shape}
-use Rattle.vs_selects.specs.declared.forms.Form.{Form}
-use Rattle.vs_selects.specs.declared.forms.Measured.{Measured}
-use Rattle.vs_selects.specs.Operations.{operated}
-use Rattle.vs_selects.specs.Senses.{sense, open_link}
-use Rattle.vs_selects.specs.declared.faults.WidthFault.{WidthFault}
-use Rattle.vs_selects.specs.declared.faults.WidthFault.TheVariants.{Memory}
-use Rattle.vs_selects.specs.Environment.{Environment}
-use Rattle.vs_selects.specs.Findings.{Has, unsigned, Refuses}
-use Rattle.vs_selects.specs.Meants.{Meant, own}
-use Rattle.vs_selects.specs.passes.Measures.{IsFlexible, IsOwnPart, IsClosedPart}
+use Rattle.vs_width_selects.specs.declared.shape.Shape.{Shape}
+use Rattle.vs_width_selects.specs.declared.forms.Sizable.{Sizable}
+use Rattle.vs_width_selects.specs.declared.forms.Measured.{Measured}
+use Rattle.vs_width_selects.specs.Operations.{operated}
+use Rattle.vs_width_selects.specs.Senses.{sense, open_link}
+use Rattle.vs_width_selects.specs.declared.faults.WidthFault.{WidthFault}
+use Rattle.vs_width_selects.specs.declared.faults.WidthFault.TheVariants.{Memory}
+use Rattle.vs_width_selects.specs.Environment.{Environment}
+use Rattle.vs_width_selects.specs.Findings.{Has, unsigned, Refuses}
+use Rattle.vs_width_selects.specs.Meants.{Meant, own}
+use Rattle.vs_width_selects.specs.passes.Measures.{IsFlexible, IsOwnPart, IsClosedPart}
 use Rattle.vs_widths.specs.Expressions.{meant, concat_meant, joined_value}
 
 -- whether the last of the operators gives one bit
@@ -40,7 +40,7 @@ abbrev pub pairs_meant : Environment → List (Expr × Expr) → List (Meant × 
 pairs_meant env ps = map (λ (p : Expr × Expr). (meant env p.0, meant env p.1)) ps
 
 -- an operator between two operands of one context, or a shift
-pub record IsOperated (left : Form) (op : Binary) (right y : Form) : Type 0 where
+pub record IsOperated (left : Sizable) (op : Binary) (right y : Sizable) : Type 0 where
   pub size : (width : ℕ) → (sense y).size width ≡ open_link width ((sense left).size width) (op, (sense right).size width)
   pub ranges : (sense y).reads ≡ (sense left).reads ++ (sense right).reads
   pub value : (store : Store) (time width : ℕ) (signed : Bool) →
@@ -57,7 +57,7 @@ pub record IsTestLink (size : ℕ) (link : Link) (right : Option ℕ) : Type 0 w
       ≡ left_side (sizing_of link.operator) link.width (d ∷ [])
 
 -- a comparison, `&&` or `||` of two operands, brought to the context
-pub record IsTested (left : Form) (at : Shape) (link : Link) (right y : Form) : Type 0 where
+pub record IsTested (left : Sizable) (at : Shape) (link : Link) (right y : Sizable) : Type 0 where
   pub size : (width : ℕ) → (sense y).size width ≡ Some width
   pub ranges : (sense y).reads ≡ (sense left).reads ++ (sense right).reads
   pub value : (store : Store) (time width : ℕ) (signed : Bool) →
@@ -68,7 +68,7 @@ pub record IsTested (left : Form) (at : Shape) (link : Link) (right y : Form) : 
 -- ---- parts of choices and concatenations
 
 -- a condition and the operand behind it
-pub record IsChoicePair (env : Environment) (p : Expr × Expr) (q : Form × Form) : Type 0 where
+pub record IsChoicePair (env : Environment) (p : Expr × Expr) (q : Sizable × Sizable) : Type 0 where
   pub condition_size : (width : ℕ) → IsSome ((sense q.0).size width)
   pub condition_ranges : (sense q.0).reads ≡ (meant env p.0).reads
   pub condition_value : (store : Store) (time width : ℕ) (signed : Bool) →
@@ -79,23 +79,23 @@ pub record IsChoicePair (env : Environment) (p : Expr × Expr) (q : Form × Form
       (sense q.1).at store time width signed ≡ (meant env p.1).at store time width signed
 
 -- a part of a concatenation
-pub record IsJoinedPart (m : Meant) (y : Form) : Type 0 where
+pub record IsJoinedPart (m : Meant) (y : Sizable) : Type 0 where
   pub ranges : (sense y).reads ≡ m.reads
   pub value : (store : Store) (time width : ℕ) (signed : Bool) → (sense y).at store time width signed ≡ own m store time
 
 -- the same of a part of a source
-abbrev pub IsPartOf : Environment → Expr → Form → Type 0
+abbrev pub IsPartOf : Environment → Expr → Sizable → Type 0
 IsPartOf env e y = IsJoinedPart (meant env e) y
 
 -- a condition at its own size and sign and the operand behind it, added to those before them
-pub record AddsPair (condition : Measured) (operand : Form) (before after : List (Form × Form)) : Type 0 where
-  pub part : Form
+pub record AddsPair (condition : Measured) (operand : Sizable) (before after : List (Sizable × Sizable)) : Type 0 where
+  pub part : Sizable
   pub own_part : IsOwnPart condition part
   pub added : after ≡ before ++ (part, operand) ∷ []
 
 -- a part at its own size and sign, added to those before it
-pub record AddsPart (x : Measured) (before after : List Form) : Type 0 where
-  pub part : Form
+pub record AddsPart (x : Measured) (before after : List Sizable) : Type 0 where
+  pub part : Sizable
   pub own_part : IsOwnPart x part
   pub added : after ≡ before ++ part ∷ []
 

@@ -17,6 +17,6 @@ returns-clause-reads_back c =
     let same = c.in_ok-to_value.ensures in
     let value = value_of c.args.certificate.now in
     IfOk-weaker c.to_vec.result _ _
-    (λ text h within short.
+    (λ text h own within short.
     let is = h (ap has_float same ∙ has_float-value_of c.args.certificate.now) ∙ ap compact_text same in
-    subst (λ bytes. Passes bytes value) (sym is) (reads_back c.args.certificate.now within (subst (λ bytes. length bytes ≤ max_len) is short))) c.to_vec.ensures.text
+    subst (λ bytes. Passes bytes value) (sym is) (reads_back c.args.certificate.now own within (subst (λ bytes. length bytes ≤ max_len) is short))) c.to_vec.ensures.text

@@ -3,10 +3,11 @@ use Rattle.std.proofs.lemmas.Result.{err_from_is_err_and}
 use Rattle.vs_scopes.specs.Scopes.{is_wrong_end}
 use Rattle.vs_scopes.specs.passes.Parts.{read_port, read_end}
 use Rattle.vs_scopes.proofs.AnswerLemmas.{kept_none}
-use Rattle.vs_operands.specs.Members.{port_driver, port_drivers}
+use Rattle.vs_elab_operands.specs.Members.{port_driver, port_drivers}
 use Rattle.vs_elaborate.specs.passes.Filling.{Connects, ConnectsNot}
 use Rattle.vs_elaborate.proofs.FillingLemmas.{connects_not_more}
-use Rattle.vs_elaborate.proofs.PortLemmas.{again, left_at, kept_to_more, kept_to_skip, kept_to_end, kept_to_fault}
+use Rattle.vs_elaborate.proofs.PortLemmas.{left_at, kept_to_more, kept_to_skip, kept_to_end, kept_to_fault}
+use Rattle.vs_logic4.proofs.Basics.{get_or_same as again}
 use Rattle.vs_elaborate.proofs.connecting.drive_ports.Goals as goal
 use Rattle.vs_elaborate.proofs.connecting.drive_ports.Goals.{in-Some+in_ok-drive_port, in_default}
 

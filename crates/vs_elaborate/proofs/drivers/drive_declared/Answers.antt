@@ -2,7 +2,7 @@ use Rattle.std.proofs.Common.{◌++◌, subst, arith}
 use Rattle.std.proofs.lemmas.List.{append-nil}
 use Rattle.std.proofs.lemmas.Result.{err_from_is_err_and}
 use Rattle.vs_syntax.specs.declared.tree.Declarator.{Declarator}
-use Rattle.vs_operands.specs.Members.{assignment_of, named_signal}
+use Rattle.vs_elab_operands.specs.Members.{assignment_of, named_signal}
 use Rattle.vs_scopes.specs.passes.Answers.{Told}
 use Rattle.vs_elaborate.specs.passes.Filling.{Drives, DrivesNot}
 use Rattle.vs_scopes.proofs.AnswerLemmas.{kept_more, kept_all, kept_fault}

@@ -22,6 +22,9 @@ returns-then-steps-eq0-clause-counters_kept c = c.in_default.ensures.counters_ke
 pub returns-then-steps-eq0-clause-store_kept : goal.returns-then-steps-eq0-clause-store_kept
 returns-then-steps-eq0-clause-store_kept c = c.in_default.ensures.store_kept ∙ c.loop-halt.invariant.store
 
+pub returns-then-steps-eq0-clause-changes_kept : goal.returns-then-steps-eq0-clause-changes_kept
+returns-then-steps-eq0-clause-changes_kept c = c.in_default.ensures.changes_kept ∙ c.loop-halt.invariant.changes
+
 pub returns-in_default-clause-code : goal.returns-in_default-clause-code
 returns-in_default-clause-code c = c.in_default.ensures.code
 

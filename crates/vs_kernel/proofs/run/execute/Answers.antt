@@ -2,13 +2,13 @@ use Rattle.std.proofs.Common.{◌≡◌, ◌∙◌, ◌+◌, ◌-◌, ◌≤◌,
 use Rattle.vs_process.specs.Executions.{is_combinational, is_complete}
 use Rattle.vs_process.specs.States.{State}
 use Rattle.vs_process.specs.Blocks.{inside_block}
-use Rattle.vs_turns.proofs.MarkingLemmas.{noted_first}
+use Rattle.vs_run_events.proofs.MarkingLemmas.{noted_first}
 use Rattle.vs_process.proofs.Effects.{on_err}
-use Rattle.vs_turns.proofs.Appending.{append_none, part_all}
+use Rattle.vs_run_events.proofs.Appending.{append_none, part_all}
 use Rattle.vs_kernel.proofs.RunsLemmas.{HasRun, begins, limited, incomplete, complete_past, complete_over, ended_run, header_failed, end_failed}
-use Rattle.vs_slots.proofs.WritingLemmas.{part_failed, first_failed, failed_as, failed_from}
-use Rattle.vs_turns.specs.Points.{Point, point}
-use Rattle.vs_turns.specs.Turns.{TurnedTo}
+use Rattle.vs_run_loop.proofs.WritingLemmas.{part_failed, first_failed, failed_as, failed_from}
+use Rattle.vs_run_events.specs.Points.{Point, point}
+use Rattle.vs_run_events.specs.Turns.{TurnedTo}
 use Rattle.vs_kernel.proofs.StandsLemmas.{StandsAt, all_failed, all_on}
 use Rattle.vs_kernel.proofs.run.execute.Goals as goal
 use Rattle.vs_kernel.proofs.run.execute.Goals.{then-loop-state-test+else-time-until, else-loop-state-test}
@@ -34,8 +34,8 @@ loop-state-init g c =
       line_failures = refl;
     }
 
-pub turn-requires : goal.turn-requires
-turn-requires g c = record {
+pub take_steps-requires : goal.take_steps-requires
+take_steps-requires g c = record {
   goes_on = λ process is. c.inside_goes_on.ensures c.args.design.now c.loop-state.state process (sym c.loop-state.invariant.inside ∙ is);
   steps = omega (arith, c.if-left-eq0.false);
   going = sym c.is_over.ensures ∙ c.loop-state-test.true;
@@ -50,7 +50,7 @@ loop-state-preserved g c =
     let old : Option (List ℕ) = g.V.Sink.bytes c.args.vcd.now in
     let lold : Option (List ℕ) = g.L.Sink.bytes c.args.lines.now in
     let p : Point = point c.loop-state.inside c.loop-state.state c.loop-state.writer (g.V.Sink.bytes c.loop-state.vcd) (g.L.Sink.bytes c.loop-state.lines) in
-    let q : Point = point c.in_ok-taken.taken.inside c.turn.new.state c.turn.new.writer (g.V.Sink.bytes c.turn.new.vcd) (g.L.Sink.bytes c.turn.new.lines) in
+    let q : Point = point c.in_ok-taken.taken.inside c.take_steps.new.state c.take_steps.new.writer (g.V.Sink.bytes c.take_steps.new.vcd) (g.L.Sink.bytes c.take_steps.new.lines) in
     let turned : TurnedTo c.loop-state.left c.in_ok-taken.taken.left c.deref.result.now p q = c.in_ok-taken.ensures.ok in
     let taken : ℕ = c.args.steps - c.loop-state.left in
     let before : StandsAt c.args.design.now c.args.until c.args.steps taken p old lold =

@@ -1,6 +1,6 @@
 use Rattle.std.proofs.Common.{◌≡◌, ◌-◌, ◌≤◌}
 use Rattle.vs_process.specs.Blocks.{inside_block}
-use Rattle.vs_turns.specs.Recording.{IsRecording}
+use Rattle.vs_run_events.specs.Recording.{IsRecording}
 use Rattle.vs_kernel.proofs.RunsLemmas.{HasRun}
 use Rattle.vs_kernel.proofs.run.execute.Given as goal
 

@@ -1,6 +1,8 @@
-use Rattle.std.proofs.Common.{◌≡◌, ◌<◌, ◌∙◌, sym, Some, length, slice_get, refl, arith}
+use Rattle.std.proofs.Common.{◌≡◌, ◌<◌, ◌∙◌, ap, sym, true, Some, length, slice_get, refl, arith}
 use Rattle.std.proofs.lemmas.Option.{slice_get_read}
 use Rattle.vs_regions.proofs.ActiveLemmas.{hidden_is_later, past_is_none, shown_is_first, shown_more, still_is_none}
+use Rattle.vs_regions.specs.Claims.{are_once}
+use Rattle.vs_regions.proofs.ClaimLemmas.{alone_is_first}
 use Rattle.vs_regions.proofs.active.is_first.Goals as goal
 
 pub returns-in_default : goal.returns-in_default
@@ -14,6 +16,18 @@ returns-then-not-is_active c =
     let within : c.args.index < length us = omega (arith, c.args.updates.now.ok.0, below) in
     let here : slice_get us c.args.index ≡ Some c.in-Some.update.now = slice_get_read us (length us) c.args.index c.in-Some.update.now refl within c.in-Some.ensures.lookup in
     still_is_none us c.args.index c.in-Some.update.now here (sym c.is_active.ensures ∙ c.if-not-is_active.true)
+
+pub returns-then-are_once : goal.returns-then-are_once
+returns-then-are_once c =
+    let us = c.args.updates.now.items in
+    let below = c.in-Some.ensures.variant.0 refl in
+    let within : c.args.index < length us = omega (arith, c.args.updates.now.ok.0, below) in
+    let here : slice_get us c.args.index ≡ Some c.in-Some.update.now = slice_get_read us (length us) c.args.index c.in-Some.update.now refl within c.in-Some.ensures.lookup in
+    let once : are_once c.args.claims.now c.in-Some.update.now.what ≡ true =
+    ap (λ w. are_once c.args.claims.now w) (sym c.what.ensures) ∙ sym c.are_once.ensures ∙ c.if-are_once.true
+    in
+    shown_is_first us c.args.index c.args.index c.in-Some.update.now here (sym c.is_active.ensures ∙ c.if-not-is_active.false) refl
+    (alone_is_first c.args.claims.now us c.args.index c.in-Some.update.now here once c.requires)
 
 pub loop-older-init : goal.loop-older-init
 loop-older-init c = refl

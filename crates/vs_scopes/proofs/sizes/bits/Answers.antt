@@ -3,7 +3,7 @@ use Rattle.std.proofs.lemmas.Result.{err_from_is_err_and}
 use Rattle.vs_widths.specs.Names.{meaning_of}
 use Rattle.vs_scopes.specs.Ranges.{bounds_fault, range_fault}
 use Rattle.vs_scopes.proofs.SizeLemmas.{width_refused}
-use Rattle.vs_connections.proofs.Folds.{left_true}
+use Rattle.std.proofs.lemmas.Bool.{or_left as left_true}
 use Rattle.vs_scopes.proofs.sizes.bits.Goals as goal
 
 pub returns-in_err-bounds : goal.returns-in_err-bounds

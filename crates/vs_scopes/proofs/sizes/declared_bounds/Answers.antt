@@ -4,7 +4,7 @@ use Rattle.vs_widths.specs.Names.{meaning_of}
 use Rattle.vs_scopes.specs.declared.faults.Reason.TheVariants.{Width}
 use Rattle.vs_scopes.specs.Ranges.{bound_fault, bounds_fault}
 use Rattle.vs_scopes.proofs.SizeLemmas.{no_faults, width_refused}
-use Rattle.vs_connections.proofs.Folds.{both_false, left_true, right_true}
+use Rattle.std.proofs.lemmas.Bool.{or_from as both_false, or_left as left_true, or_right as right_true}
 use Rattle.vs_scopes.proofs.sizes.declared_bounds.Goals as goal
 
 pub returns-in_err-left : goal.returns-in_err-left

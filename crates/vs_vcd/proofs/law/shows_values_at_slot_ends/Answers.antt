@@ -3,7 +3,7 @@ use Rattle.vs_design.specs.Traces.{Slot}
 use Rattle.vs_vcd.specs.Codes.{shown}
 use Rattle.vs_vcd.specs.Values.{shown_value}
 use Rattle.vs_vcd.specs.Text.{vcd_header, vcd_slots, last_time, end_time, end_lines}
-use Rattle.vs_vcd.specs.Shown.{Shows, slot_at}
+use Rattle.vs_vcd.specs.Shown.{HasSize, Shows, slot_at}
 use Rattle.vs_vcd.proofs.OneLineLemmas.{end_one_line}
 use Rattle.vs_vcd.proofs.ChangeLemmas.{silent_end, silent_nothing}
 use Rattle.vs_vcd.proofs.LawLemmas.{shows_text}
@@ -19,5 +19,5 @@ returns-clause-whole c =
 pub returns-clause-begun : goal.returns-clause-begun
 returns-clause-begun c =
     λ d slots time signal names rising within.
-    subst (λ l. IfSome (slot_at time slots) (λ (s : Slot). Shows l d time signal (shown_value s.store signal))) (append-nil (vcd_header d ++ vcd_slots d slots))
+    subst (λ l. IfSome (slot_at time slots) (λ (s : Slot). HasSize d s.store signal → Shows l d time signal (shown_value s.store signal))) (append-nil (vcd_header d ++ vcd_slots d slots))
     (shows_text d [] slots time signal refl silent_nothing names rising within)

@@ -1,10 +1,11 @@
-use Rattle.std.proofs.Common.{[], ◌∷◌, codes, refl}
 use Rattle.serde_json.specs.View.{view}
-use Rattle.vs_certificate.specs.JsonValue.{text_value, grain_value, list_value, edge_value, process_value, signal_value, whole_value}
 use Rattle.vs_certificate.specs.Shape.{is_natural}
-use Rattle.vs_certificate.proofs.Found.{certificate_parts, get-is_number}
-use Rattle.vs_certificate.proofs.Names.{object_from}
+use Rattle.vs_certificate.proofs.Found.{certificate_parts}
+use Rattle.vs_certificate.proofs.Versions.{value_from_members}
 use Rattle.vs_certificate.proofs.whole.CertificateJsonForm.from_value.Goals as goal
+
+pub version_from_value-requires : goal.version_from_value-requires
+version_from_value-requires c = (certificate_parts is_natural (view c.args.json.now) c.requires).version
 
 pub from_value_at-requires : goal.from_value_at-requires
 from_value_at-requires c = (certificate_parts is_natural (view c.args.json.now) c.requires).grain
@@ -26,14 +27,5 @@ from_value_at-requires-6 c = (certificate_parts is_natural (view c.args.json.now
 
 pub returns : goal.returns
 returns c =
-    let p = certificate_parts is_natural (view c.args.json.now) c.requires in
-    object_from (
-    (codes "edges", list_value edge_value c.in_ok-edges.edges.items)
-    ∷ (codes "grain", grain_value c.in_ok-grain.grain)
-    ∷ (codes "modulus", whole_value c.in_ok-modulus.modulus)
-    ∷ (codes "order", list_value text_value c.in_ok-order.order.items)
-    ∷ (codes "processes", list_value process_value c.in_ok-processes.processes.items)
-    ∷ (codes "signals", list_value signal_value c.in_ok-signals.signals.items)
-    ∷ (codes "version", whole_value 1)
-    ∷ []
-    ) (view c.args.json.now) p.names refl (c.in_ok-edges.ensures, (c.in_ok-grain.ensures, (c.in_ok-modulus.ensures, (c.in_ok-order.ensures, (c.in_ok-processes.ensures, (c.in_ok-signals.ensures, (get-is_number (codes "version") 1 (view c.args.json.now) p.version, tt)))))))
+    value_from_members c.in_ok-version.version _ (view c.args.json.now) c.in_ok-version.ensures
+    record { edges = c.in_ok-edges.ensures; grain = c.in_ok-grain.ensures; modulus = c.in_ok-modulus.ensures; order = c.in_ok-order.ensures; processes = c.in_ok-processes.ensures; signals = c.in_ok-signals.ensures }

@@ -3,7 +3,7 @@ use Rattle.std.proofs.Math.Numerals.{add-one}
 use Rattle.std.proofs.Math.Seq.{take-length}
 use Rattle.std.proofs.lemmas.List.{take_more, take_all, length-map}
 use Rattle.std.proofs.lemmas.Option.{slice_get_read}
-use Rattle.vs_design.specs.declared.extent.Extent.{Extent}
+use Rattle.vs_design.specs.declared.extent.Layout.{Layout}
 use Rattle.vs_design.specs.Drivers.{in_copies}
 use Rattle.vs_design.specs.passes.Planes.{ArePlanesOf, store_of, counts_of}
 use Rattle.vs_design.proofs.Drivers.{copies-more, length-in_copies}
@@ -30,7 +30,7 @@ loop-i-preserved c =
     let most : length w ≤ 64 = subst (λ n. n ≤ 64) width e.sized.1 in
     let first = next_first extents 0 (length vs) _ i e c.requires.in_turn c.loop-i.invariant.planes.in_turn at_extent in
     let next : take (i + 1) extents ≡ take i extents ++ e ∷ [] =
-    take_more extents i e c.loop-i-test.true ∙ ap (λ (x : Extent). take i extents ++ x ∷ []) (sym c.index-extents-i.is) in
+    take_more extents i e c.loop-i-test.true ∙ ap (λ (x : Layout). take i extents ++ x ∷ []) (sym c.index-extents-i.is) in
     record {
       planes = planes_grown (take i extents) (take (i + 1) extents) vs us c.fill.new.plane.items c.fill-in-loop-i.new.plane.items e e.count w
           next values unknowns c.loop-i.invariant.planes first refl width some most;
@@ -49,9 +49,9 @@ returns c =
     let counts = counts_of extents in
     let number : c.loop-i.i ≡ length extents = omega (arith, c.loop-i-test.false, c.loop-i.auto.i-end) in
     let whole : take c.loop-i.i extents ≡ extents = ap (λ n. take n extents) number ∙ take-length extents in
-    let same : length words ≡ length counts = same_number extents words c.requires.widths ∙ sym (length-map extents (λ (e : Extent). e.count)) in
+    let same : length words ≡ length counts = same_number extents words c.requires.widths ∙ sym (length-map extents (λ (e : Layout). e.count)) in
     let all : c.loop-i.i ≡ length (in_copies counts words) =
-    number ∙ sym (length-in_copies counts words same ∙ length-map extents (λ (e : Extent). e.count)) in
+    number ∙ sym (length-in_copies counts words same ∙ length-map extents (λ (e : Layout). e.count)) in
     subst (λ es. store_of es c.loop-i.values.items c.loop-i.unknowns.items ≡ in_copies counts words) whole
     (c.loop-i.invariant.store ∙ ap (λ n. take n (in_copies counts words)) all ∙ take-length (in_copies counts words))
 

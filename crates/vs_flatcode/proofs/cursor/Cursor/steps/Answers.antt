@@ -16,4 +16,5 @@ returns-in_err-halt c =
       some = on_err _ c.from_residual.result (ap (λ (t : Todo). has_nothing t) kept ∙ c.requires.some);
       place_kept = on_err _ c.from_residual.result kept;
       store_kept = on_err _ c.from_residual.result c.in_err-halt.ensures.store_kept;
+      changes_kept = on_err _ c.from_residual.result c.in_err-halt.ensures.changes_kept;
     }

@@ -14,7 +14,7 @@ use Rattle.vs_regions.proofs.regions.Regions.advance.Goals as goal
 
 pub take_due-requires-clause-none_before : goal.take_due-requires-clause-none_before
 take_due-requires-clause-none_before g c =
-    none_passed c.self.inside.updates.items c.self.inside.active.items c.self.inside.due.items (g.Q.EventQueue.bag c.self.inside.queue) (g.Q.EventQueue.clock c.self.inside.queue) c.self.invariant
+    none_passed c.self.inside.updates.items c.self.inside.active.items c.self.inside.due.items (g.Q.EventQueue.bag c.self.inside.queue) (g.Q.EventQueue.clock c.self.inside.queue) c.self.invariant.kept
     (subst (λ (w : Waiting). list_any is_active w.updates ≡ false) (sym c.self.view_is) c.requires.idle)
     (subst (λ (w : Waiting). list_any (is_due w.time) w.updates ≡ false) (sym c.self.view_is) c.requires.done) c.args.time
     (subst (λ (w : Waiting). ForSome (next_update (least_time w.sleepers) w.updates) (λ next. c.args.time ≤ next)) (sym c.self.view_is) c.requires.none_before)
@@ -22,8 +22,12 @@ take_due-requires-clause-none_before g c =
 pub invariant_of-self : goal.invariant_of-self
 invariant_of-self g c =
     let done = subst (λ (w : Waiting). list_any (is_due w.time) w.updates ≡ false) (sym c.self.view_is) c.requires.done in
-    subst (λ (n : ℕ). AreKept c.self.inside.updates.items c.self.inside.active.items c.take_due.new.due.items (g.Q.EventQueue.bag c.take_due.new.queue) n) (sym c.take_due.ensures.clock)
-    (kept_advanced c.args.time c.self.invariant done (c.take_due.ensures.due c.if-take_due.true) c.take_due.ensures.taken c.take_due.ensures.others)
+    record {
+      kept =
+          subst (λ (n : ℕ). AreKept c.self.inside.updates.items c.self.inside.active.items c.take_due.new.due.items (g.Q.EventQueue.bag c.take_due.new.queue) n) (sym c.take_due.ensures.clock)
+          (kept_advanced c.args.time c.self.invariant.kept done (c.take_due.ensures.due c.if-take_due.true) c.take_due.ensures.taken c.take_due.ensures.others);
+      claimed = c.self.invariant.claimed;
+    }
 
 pub returns-then-take_due-clause-woken : goal.returns-then-take_due-clause-woken
 returns-then-take_due-clause-woken g c =
@@ -41,9 +45,13 @@ returns-then-take_due-clause-others g c = λ t apart.
 pub invariant_of-self-2 : goal.invariant_of-self-2
 invariant_of-self-2 g c =
     let done = subst (λ (w : Waiting). list_any (is_due w.time) w.updates ≡ false) (sym c.self.view_is) c.requires.done in
-    subst (λ (us : List Update). AreKept us c.self.inside.active.items c.clear.new.self.items (g.Q.EventQueue.bag c.take_due.new.queue) (g.Q.EventQueue.clock c.take_due.new.queue)) (sym c.next-self-inside.ensures)
-    (subst (λ (n : ℕ). AreKept (filter (not_due c.args.time) c.self.inside.updates.items) c.self.inside.active.items c.clear.new.self.items (g.Q.EventQueue.bag c.take_due.new.queue) n) (sym c.take_due.ensures.clock)
-    (kept_lost c.args.time c.self.invariant done c.clear.ensures.items c.take_due.ensures.taken c.take_due.ensures.others))
+    record {
+      kept =
+          subst (λ (us : List Update). AreKept us c.self.inside.active.items c.clear.new.self.items (g.Q.EventQueue.bag c.take_due.new.queue) (g.Q.EventQueue.clock c.take_due.new.queue)) (sym c.next-self-inside.ensures)
+          (subst (λ (n : ℕ). AreKept (filter (not_due c.args.time) c.self.inside.updates.items) c.self.inside.active.items c.clear.new.self.items (g.Q.EventQueue.bag c.take_due.new.queue) n) (sym c.take_due.ensures.clock)
+          (kept_lost c.args.time c.self.invariant.kept done c.clear.ensures.items c.take_due.ensures.taken c.take_due.ensures.others));
+      claimed = c.self.invariant.claimed;
+    }
 
 pub returns-clause-taken : goal.returns-clause-taken
 returns-clause-taken g c = sleepers_at c.args.time (g.Q.EventQueue.bag c.take_due.new.queue) ∙ ap wakes c.take_due.ensures.taken

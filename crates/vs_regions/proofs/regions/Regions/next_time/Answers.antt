@@ -13,5 +13,5 @@ returns-clause-least g c =
     let idle = subst (λ (w : Waiting). list_any is_active w.updates ≡ false) (sym c.self.view_is) c.requires.idle in
     let done = subst (λ (w : Waiting). list_any (is_due w.time) w.updates ≡ false) (sym c.self.view_is) c.requires.done in
     c.next_time.ensures.least
-    ∙ least_waits c.self.inside.updates.items c.self.inside.active.items c.self.inside.due.items (g.Q.EventQueue.bag c.self.inside.queue) (g.Q.EventQueue.clock c.self.inside.queue) c.self.invariant idle done
+    ∙ least_waits c.self.inside.updates.items c.self.inside.active.items c.self.inside.due.items (g.Q.EventQueue.bag c.self.inside.queue) (g.Q.EventQueue.clock c.self.inside.queue) c.self.invariant.kept idle done
     ∙ ap (λ (w : Waiting). next_update (least_time w.sleepers) w.updates) c.self.view_is

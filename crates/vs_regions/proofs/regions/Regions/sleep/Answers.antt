@@ -12,8 +12,12 @@ returns-in-Err-clause-unchanged g c =
 
 pub invariant_of-self-2 : goal.invariant_of-self-2
 invariant_of-self-2 g c =
-    subst (λ (n : ℕ). AreKept c.self.inside.updates.items c.self.inside.active.items c.self.inside.due.items (g.Q.EventQueue.bag c.schedule.new.self) n) (sym c.in_default.ensures.same_clock)
-    (kept_slept c.args.until c.args.process c.self.invariant c.in_default.ensures.added)
+    record {
+      kept =
+          subst (λ (n : ℕ). AreKept c.self.inside.updates.items c.self.inside.active.items c.self.inside.due.items (g.Q.EventQueue.bag c.schedule.new.self) n) (sym c.in_default.ensures.same_clock)
+          (kept_slept c.args.until c.args.process c.self.invariant.kept c.in_default.ensures.added);
+      claimed = c.self.invariant.claimed;
+    }
 
 pub returns-clause-sleeps : goal.returns-clause-sleeps
 returns-clause-sleeps g c =

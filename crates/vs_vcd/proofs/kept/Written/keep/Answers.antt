@@ -1,6 +1,6 @@
 use Rattle.std.proofs.Common.{◌+◌, drop, length, length-set, refl, sym, ap, ◌∙◌, arith}
 use Rattle.std.proofs.Math.ListN.{drop_of_length-le}
-use Rattle.vs_vcd.specs.declared.kept.Change.{Change}
+use Rattle.vs_vcd.specs.declared.kept.DumpChange.{DumpChange}
 use Rattle.vs_vcd.specs.Kept.{kept_behind}
 use Rattle.vs_vcd.specs.Words.{kept_of}
 use Rattle.vs_vcd.proofs.KeptLemmas.{keep_more}
@@ -22,7 +22,7 @@ set-requires c =
     let change = c.change-item.result in
     omega (
       arith,
-      ap (λ (x : Change). x.signal) c.change-item.is,
+      ap (λ (x : DumpChange). x.signal) c.change-item.is,
       c.requires c.loop-change.change-index change c.loop-change-test.true,
       c.loop-change.invariant.long,
       length_of_words c.self.inside.codes.items c.self.inside.words c.args.self.now c.self.invariant c.self.view_is,

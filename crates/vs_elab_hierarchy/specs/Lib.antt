@@ -1,0 +1,12 @@
+pub use Rattle.vs_scopes.specs.Printed
+pub use Rattle.vs_scopes.specs.Ranges
+pub use Rattle.vs_scopes.specs.Connections
+pub use Rattle.vs_scopes.specs.Parameters
+pub use Rattle.vs_scopes.specs.Ports
+pub use Rattle.vs_scopes.specs.Declarations
+pub use Rattle.vs_scopes.specs.Generate
+pub use Rattle.vs_scopes.specs.Scopes
+pub use Rattle.vs_elab_listed.specs.Outlines
+pub use Rattle.vs_elab_listed.specs.ScopeFaults
+pub use Rattle.vs_elab_listed.specs.Opened
+pub mod passes

@@ -1,0 +1,94 @@
+//! The scopes inside a scope, in design order.
+ghost use Rattle.std.specs.Prelude.{◌≡◌, ◌<◌, List, Some, length, map, slice_get, MatchResult};
+ghost use Rattle.vs_syntax.specs.declared.tree.Module.{Module as Tree};
+ghost use Rattle.vs_elab_generate.specs.Reads.{read_inner};
+ghost use Rattle.vs_scopes.specs.Scopes.{Scope};
+ghost use Rattle.vs_scopes.specs.passes.Answers.{IsRefusal, Told};
+ghost use Rattle.vs_elab_listed.specs.Opened.{AreOpened, AreSeated};
+ghost use Rattle.vs_elab_listed.specs.ScopeFaults.{HasConstructFault};
+ghost use Rattle.vs_elab_hierarchy.specs.passes.Opens.{FindsInner, HasInner, HasInnerNot, IsReady, OpensInside, OpensInsideNot};
+
+use std::alloc::Global;
+use vs_design::Entry;
+use vs_elab_entered::NamedModule;
+use vs_elab_generate::{Inner, inners};
+use vs_elab_implicit_nets::check_blocks;
+use vs_elab_listed::{ListedScope, Numbering, names_around, scope_fault};
+use vs_elab_scope::add;
+use vs_scopes::{BodyFault, ElabFault};
+use vs_widths::{Levels, Names};
+
+/// A fault of a generate construct of the scope at a place.
+fn construct_fault(alloc: Global, list: &[ListedScope], place: usize, fault: BodyFault) -> ElabFault
+    requires place { place < length list.now }
+    requires seated { AreSeated list.now }
+    ensures { (ss : List Scope) (s : Scope) → AreOpened list.now ss → slice_get ss place ≡ Some s → IsRefusal s.path fault result }
+{
+    match fault {
+        BodyFault::Memory => ElabFault::Memory,
+        BodyFault::Refused(reason) => scope_fault(alloc, list, place, reason),
+    }
+}
+
+/// What opens scopes in the one at a place, in the order of the text (IEEE 1364-2005, clauses 9.8.3, 12.1.2 and 12.4).
+#[inline(never)]
+fn found_at<'s>(
+    alloc: Global,
+    list: &[ListedScope<'s>],
+    place: usize,
+) -> Result<Vec<Inner<'s>>, ElabFault>
+    requires place { place < length list.now }
+    requires seated { AreSeated list.now }
+    ensures { (ss : List Scope) (s : Scope) → AreOpened list.now ss → slice_get ss place ≡ Some s →
+        MatchResult result (λ v. FindsInner s (map read_inner v.items)) (Told (HasConstructFault s)) }
+{
+    let scope = &list[place];
+    let outer = names_around(alloc, list, scope.kind, scope.around)?;
+    let levels = Levels::new(&scope.names, &outer);
+    match inners(alloc, &levels, &scope.text, &scope.pieces) {
+        Ok(inner) => Ok(inner),
+        Err(fault) => Err(construct_fault(alloc, list, place, fault)),
+    }
+}
+
+/// The same, where no generate block has the name of an implicit net (IEEE 1364-2005, clauses 4.5 and 12.4.3). It stands apart, so that a level of scopes
+/// takes little stack.
+#[inline(never)]
+fn inner_at<'s>(
+    alloc: Global,
+    list: &[ListedScope<'s>],
+    place: usize,
+) -> Result<Vec<Inner<'s>>, ElabFault>
+    requires place { place < length list.now }
+    requires seated { AreSeated list.now }
+    ensures { (ss : List Scope) (s : Scope) → AreOpened list.now ss → slice_get ss place ≡ Some s →
+        MatchResult result (λ v. HasInner s (map read_inner v.items)) (Told (HasInnerNot s)) }
+{
+    let inner = found_at(alloc, list, place)?;
+    check_blocks(alloc, list, place, &inner)?;
+    Ok(inner)
+}
+
+/// Lists the scopes inside the scope at a place, which is the last one, down to so many levels, and closes it in the outline.
+pub fn open_inside<'s>(
+    alloc: Global,
+    modules: &Names<'s, NamedModule<'s>>,
+    room: u32,
+    place: usize,
+    list: &mut Vec<ListedScope<'s>>,
+    plan: &mut Numbering,
+) -> Result<(), ElabFault>
+    requires room { 0 < room }
+    requires ready { (ms : List Tree) × (ss : List Scope) × (s : Scope) × IsReady ms ss s modules.now list.old.items plan.old place room }
+    ensures { (ms : List Tree) (ss : List Scope) (s : Scope) → IsReady ms ss s modules.now list.old.items plan.old place room →
+        MatchResult result (λ _. OpensInside room ms ss s place list.old.items list.new.items plan.old plan.new)
+        (Told (OpensInsideNot room ms s)) }
+{
+    let inner = inner_at(alloc, list, place)?;
+    for one in &inner {
+        let next = add(alloc, modules, place, one, list, plan)?;
+        open_inside(alloc, modules, room - 1, next, list, plan)?;
+    }
+    plan.outline.push(Entry::Leave)?;
+    Ok(())
+}

@@ -1,0 +1,23 @@
+//! Laws of the designs that sources define: each is the contract of a function that does nothing.
+ghost use Rattle.std.specs.Prelude.{ℕ, List};
+ghost use Rattle.vs_syntax.specs.declared.tree.Source.{Source};
+ghost use Rattle.vs_syntax.specs.Same.{SameSource};
+ghost use Rattle.vs_design.specs.OneLine.{HasNamesOfOneLine};
+ghost use Rattle.vs_design.specs.Parts.{Parts};
+ghost use Rattle.vs_elaborate.specs.DesignOf.{DesignOf};
+ghost use Rattle.vs_elab_laws.specs.OneLine.{HasModulesOfOneLine};
+ghost use Rattle.vs_elab_laws.specs.Same.{SameDesign};
+
+/// Where no name that the modules of a source declare holds a line feed, no name of a design of the source does.
+pub fn names_of_one_line()
+    ensures { (s : Source) (top : List ℕ) (d : Parts) →
+        HasModulesOfOneLine s.modules.items → DesignOf s top d → HasNamesOfOneLine d }
+{}
+
+/// A source and a top define one design, but for where the parts of the two lie in memory.
+pub fn one_design()
+    ensures source { (s : Source) (top : List ℕ) (d d' : Parts) →
+        DesignOf s top d → DesignOf s top d' → SameDesign d d' }
+    ensures sources { (s s' : Source) (top : List ℕ) (d d' : Parts) → SameSource s s' →
+        DesignOf s top d → DesignOf s' top d' → SameDesign d d' }
+{}

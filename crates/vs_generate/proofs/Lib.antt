@@ -1,5 +1,0 @@
-pub mod FaultLemmas
-pub mod TurnsLemmas
-pub mod BranchesLemmas
-pub mod NumberingLemmas
-pub mod OpeningLemmas

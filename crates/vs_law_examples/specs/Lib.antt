@@ -1,0 +1,5 @@
+pub mod Race
+pub mod Carry
+pub mod Rise
+pub mod Mirror
+pub mod Lines

@@ -1,0 +1,320 @@
+-- Where a slot finds the processes.
+use Rattle.std.proofs.Common.{◌≡◌, ℕ, zero, suc, ◌+◌, ◌%◌, ◌<◌, ◌≤◌, ◌==◌, ◌⊎◌, Bool, true, false, Option, Some, None, List, [], ◌∷◌, map, get_or, refl, sym, ◌∙◌, ap, subst, inl, inr, arith, leb-true}
+use Rattle.std.proofs.Math.ListN.{get_or-map}
+use Rattle.std.proofs.lemmas.Bool.{cond_both, eqb-true, eqb-false, false≢true}
+use Rattle.vs_edges.specs.Waking.{wake_any}
+use Rattle.vs_design.specs.declared.design.Process.{Process}
+use Rattle.vs_design.specs.declared.statement.EventTerm.{EventTerm}
+use Rattle.vs_design.specs.Parts.{Parts}
+use Rattle.vs_design.specs.Stores.{Store}
+use Rattle.vs_flatcode.specs.declared.gait.Gait.{Gait}
+use Rattle.vs_flatcode.specs.declared.gait.Gait.TheVariants.{Woken, Fresh}
+use Rattle.vs_flatcode.specs.Nexts.{erased, erased_next}
+use Rattle.vs_flatcode.specs.Landings.{todo_behind}
+use Rattle.vs_flatcode.specs.Places.{Todo, Place, going, sleeping, inactive, waiting, ended, active_at, stepped_gait, start_place, flat, is_going, is_inactive, todo_of}
+use Rattle.vs_flatcode.specs.Steps.{Next, on, after, wait, step}
+use Rattle.vs_process.specs.declared.moves.Grain.{Grain}
+use Rattle.vs_process.specs.declared.moves.Move.{Move}
+use Rattle.vs_process.specs.declared.moves.Move.TheVariants.{Step, Evaluate, Propagate, Make, Rouse, Activate, EndSlot}
+use Rattle.vs_process.specs.States.{State, start, place_behind, paused, roused, woken_at, wakened}
+use Rattle.vs_process.specs.Executions.{after as reached, Legal, ends, next_time, slot_behind, places_at, time_at}
+use Rattle.vs_process.proofs.Times.{enabled_of}
+use Rattle.vs_independence.specs.Discipline.{IsAtStart, BeginsSlot}
+use Rattle.vs_law_threads.proofs.Threads.{is_stopped, stopped_from}
+use Rattle.vs_independence.proofs.Making.{none_get}
+use Rattle.vs_independence.proofs.Ends.{AtEnd, at_end}
+use Rattle.vs_independence.proofs.Times.{is_after}
+use Rattle.vs_rules.specs.Points.{Goes, Point, first_todo}
+use Rattle.vs_rules.proofs.Points.{erased_flat, step_follows}
+use Rattle.vs_rules.specs.Claims.{kind_of, Claims, Kind, IsEdge, IsDelay, HasLists, IsSequential}
+use Rattle.vs_rules.specs.Paths.{Path, begins, goes, is_zero_time, IsPoint, RunsBehind}
+use Rattle.vs_rules.specs.Slots.{Ends, HasSlot}
+use Rattle.vs_rules.specs.Rules.{K7, K8}
+use Rattle.vs_law_threads.specs.Threads.{is_timed}
+use Rattle.vs_law_rules.specs.Laws.{TimeRises}
+use Rattle.vs_law_rules.proofs.Boundary.{IsSteady, holds_after}
+use Rattle.vs_law_rules.proofs.Walks.{point_on, at_zero, at_later, Heard, Stands, Closed, stands_active, stands_step, stands_roused}
+use Rattle.vs_independence.proofs.Inner.{timed_active}
+
+-- ---- paths lead to points
+
+pub path_point : (d : Parts) (i : ℕ) (ok : Next → Bool) (from k : Todo) → IsPoint d i from → Path ok from k → IsPoint d i k
+path_point d i ok from k p begins = p
+path_point d i ok from k p (goes j l next path g may is) = subst (IsPoint d i) is (point_on d i j next (path_point d i ok from j p path) g)
+
+pub slot0_point : (d : Parts) (i : ℕ) (k : Todo) → Path is_zero_time (first_todo d i) k → IsPoint d i k
+slot0_point d i k path = path_point d i is_zero_time (first_todo d i) k Point.begins path
+
+pub runs_point : (d : Parts) (i : ℕ) (can_end : Next → ℕ → Type 0) (k : Todo) (r : ℕ) → RunsBehind d i can_end k r → IsPoint d i k
+runs_point d i can_end k r h = path_point d i _ (todo_behind h.next) k (point_on d i h.at h.next h.point h.goes) h.path
+
+-- ---- residues are closed
+
+closed_delay : (d : Parts) (c : Claims) (i : ℕ) (lists : List (List ℕ)) → HasLists d c i lists → K8 d c i → Closed d c i
+closed_delay d c i lists e r = record {
+  from_start = λ k l number ticks s g up.
+      subst (λ (kind : Option Kind). Ends d c i kind (after number ticks l) (ticks % c.modulus)) (sym e) (r.from_start lists k l number ticks e s g up);
+  from_residue = λ k l number ticks q h g.
+      subst (λ (kind : Option Kind). Ends d c i kind (after number ticks l) ((q + ticks) % c.modulus)) (sym e)
+      (r.from_residue lists k l number ticks q e (subst (λ (kind : Option Kind). RunsBehind d i (Ends d c i kind) k q) e h) g);
+}
+
+closed_edge : (d : Parts) (c : Claims) (i : ℕ) → IsEdge d c i → K7 d c i → Closed d c i
+closed_edge d c i e r = record {
+  from_start = λ k l number ticks s g up. absurd (r.no_delay k l number ticks e (slot0_point d i k s) g);
+  from_residue = λ k l number ticks q h g. absurd (r.no_delay k l number ticks e (runs_point d i (Ends d c i (kind_of d c i)) k q h) g);
+}
+
+pub closed_of : (d : Parts) (c : Claims) (i : ℕ) → IsSequential d c i → K7 d c i → K8 d c i → Closed d c i
+closed_of d c i (inl e) r7 r8 = closed_edge d c i e r7
+closed_of d c i (inr lists) r7 r8 = closed_delay d c i lists.0 lists.1 r8
+
+-- ---- a process of kind delay
+
+-- it stands where the rules say, and waits for no event
+pub record Waits (d : Parts) (c : Claims) (i time : ℕ) (p : Place) : Type 0 where
+  pub stands : Stands d c i time p
+  pub timed : is_timed p ≡ true
+
+timed_paused : (time ticks : ℕ) (k : Todo) → is_timed (paused time ticks k) ≡ true
+timed_paused time ticks k = cond_both (ticks == 0) (inactive k) (sleeping (time + ticks) k) (λ p. is_timed p ≡ true) (λ e. refl) (λ e. refl)
+
+timed_behind : (d : Parts) (c : Claims) (i time : ℕ) → ((k l : Todo) (number : ℕ) (terms : List EventTerm) → IsPoint d i k → Goes k (wait number terms l) → ⊥) →
+    (gait : Gait) (k : Todo) (next : Next) → IsPoint d i (erased k) → Goes (erased k) (erased_next next) → is_timed (place_behind (going gait k) time next) ≡ true
+timed_behind d c i time no_event gait k (on l) p g = timed_active (stepped_gait gait) l
+timed_behind d c i time no_event gait k (after number ticks l) p g = timed_paused time ticks l
+timed_behind d c i time no_event gait k (wait number terms l) p g = absurd (no_event (erased k) (erased l) number terms p g)
+
+timed_roused : (p : Place) → is_timed p ≡ true → is_timed (roused p) ≡ true
+timed_roused (going gait k) h = h
+timed_roused (inactive k) h = timed_active Woken k
+timed_roused (sleeping due k) h = h
+timed_roused (waiting terms k) h = h
+timed_roused ended h = h
+
+-- what has stopped, at the next slot
+woken_stands : (d : Parts) (c : Claims) (i time t : ℕ) (p : Place) → is_stopped p ≡ true → is_after t p ≡ true → Stands d c i time p → Stands d c i t (woken_at t p)
+woken_stands d c i time t (going gait k) still up h = absurd (false≢true still)
+woken_stands d c i time t (inactive k) still up h = absurd (false≢true still)
+woken_stands d c i time t (waiting terms k) still up h = h
+woken_stands d c i time t ended still up h = h
+woken_stands d c i time t (sleeping due k) still up h =
+    cond_both (due == t) (active_at Woken k) (sleeping due k) (Stands d c i t)
+    (λ e. let is : due ≡ t = eqb-true due t e in
+    let less : time < due = h.up in
+    let later : 0 < t = omega (arith, is, less) in
+    stands_active d c i t Woken k (record { point = h.point; at = at_later later h.late (subst (λ n. HasSlot d c i (erased k) (n % c.modulus)) is h.slot) }))
+    (λ e. let ne : due ≡ t → ⊥ = eqb-false due t e in
+    let le : t ≤ due = leb-true t due up in
+    record { point = h.point; up = omega (arith, ne, le); late = h.late; slot = h.slot })
+
+woken_timed : (t : ℕ) (p : Place) → is_timed p ≡ true → is_timed (woken_at t p) ≡ true
+woken_timed t (going gait k) h = h
+woken_timed t (inactive k) h = h
+woken_timed t (waiting terms k) h = h
+woken_timed t ended h = h
+woken_timed t (sleeping due k) h = cond_both (due == t) (active_at Woken k) (sleeping due k) (λ p. is_timed p ≡ true) (λ e. timed_active Woken k) (λ e. refl)
+
+wakened_timed : (d : Parts) (c : Claims) (i time : ℕ) (old new : Store) (p : Place) → Waits d c i time p → Waits d c i time (wakened old new p)
+wakened_timed d c i time old new (going gait k) h = h
+wakened_timed d c i time old new (inactive k) h = h
+wakened_timed d c i time old new (sleeping due k) h = h
+wakened_timed d c i time old new ended h = h
+wakened_timed d c i time old new (waiting terms k) h = absurd (false≢true h.timed)
+
+pub delay_steady : (d : Parts) (c : Claims) (i : ℕ) → IsDelay d c i → Closed d c i → K8 d c i → IsSteady (Waits d c i)
+delay_steady d c i kind closed r = record {
+  steps = λ time gait k store h. record {
+    stands = stands_step d c i closed time gait k store h.stands;
+    timed = timed_behind d c i time (λ k l number terms p g. r.no_event k l number terms kind p g) gait k (step k store time).next h.stands.point (step_follows k store time);
+  };
+  rouses = λ time p h. record { stands = stands_roused d c i time p h.stands; timed = timed_roused p h.timed };
+  wakes = λ time old new p h. wakened_timed d c i time old new p h;
+  goes_on = λ time t p still up h. record { stands = woken_stands d c i time t p still up h.stands; timed = woken_timed t p h.timed };
+}
+
+-- ---- a process of kind edge
+
+-- it is at a point of its text, and sleeps at no delay
+abbrev pub Placed : Parts → ℕ → ℕ → Place → Type 0
+Placed d i time (going gait k) = IsPoint d i (erased k)
+Placed d i time (inactive k) = ⊥
+Placed d i time (sleeping due k) = ⊥
+Placed d i time (waiting terms k) = Heard d i terms (erased k)
+Placed d i time ended = Unit {0}
+
+placed_active : (d : Parts) (i time : ℕ) (gait : Gait) (k : Todo) → IsPoint d i (erased k) → Placed d i time (active_at gait k)
+placed_active d i time gait [] p = tt
+placed_active d i time gait (x ∷ rest) p = p
+
+placed_behind : (d : Parts) (i time : ℕ) → ((k l : Todo) (number ticks : ℕ) → IsPoint d i k → Goes k (after number ticks l) → ⊥) →
+    (gait : Gait) (k : Todo) (next : Next) → IsPoint d i (erased k) → Goes (erased k) (erased_next next) → Placed d i time (place_behind (going gait k) time next)
+placed_behind d i time no_delay gait k (on l) p g = placed_active d i time (stepped_gait gait) l (point_on d i (erased k) (on (erased l)) p g)
+placed_behind d i time no_delay gait k (after number ticks l) p g = absurd (no_delay (erased k) (erased l) number ticks p g)
+placed_behind d i time no_delay gait k (wait number terms l) p g = record { control = erased k; number = number; point = p; way = g }
+
+placed_roused : (d : Parts) (i time : ℕ) (p : Place) → Placed d i time p → Placed d i time (roused p)
+placed_roused d i time (going gait k) h = h
+placed_roused d i time (inactive k) h = absurd h
+placed_roused d i time (sleeping due k) h = absurd h
+placed_roused d i time (waiting terms k) h = h
+placed_roused d i time ended h = h
+
+placed_wakened : (d : Parts) (i time : ℕ) (old new : Store) (p : Place) → Placed d i time p → Placed d i time (wakened old new p)
+placed_wakened d i time old new (going gait k) h = h
+placed_wakened d i time old new (inactive k) h = absurd h
+placed_wakened d i time old new (sleeping due k) h = absurd h
+placed_wakened d i time old new ended h = h
+placed_wakened d i time old new (waiting terms k) h =
+    cond_both (wake_any terms old new) (active_at Woken k) (waiting terms k) (Placed d i time)
+    (λ e. placed_active d i time Woken k (point_on d i h.control (wait h.number terms (erased k)) h.point h.way)) (λ e. h)
+
+placed_later : (d : Parts) (i time t : ℕ) (p : Place) → Placed d i time p → Placed d i t (woken_at t p)
+placed_later d i time t (going gait k) h = h
+placed_later d i time t (inactive k) h = absurd h
+placed_later d i time t (sleeping due k) h = absurd h
+placed_later d i time t (waiting terms k) h = h
+placed_later d i time t ended h = h
+
+pub placed_steady : (d : Parts) (i : ℕ) → ((k l : Todo) (number ticks : ℕ) → IsPoint d i k → Goes k (after number ticks l) → ⊥) → IsSteady (Placed d i)
+placed_steady d i no_delay = record {
+  steps = λ time gait k store h. placed_behind d i time no_delay gait k (step k store time).next h (step_follows k store time);
+  rouses = λ time p h. placed_roused d i time p h;
+  wakes = λ time old new p h. placed_wakened d i time old new p h;
+  goes_on = λ time t p still up h. placed_later d i time t p h;
+}
+
+edge_steady : (d : Parts) (c : Claims) (i : ℕ) → IsEdge d c i → K7 d c i → IsSteady (Placed d i)
+edge_steady d c i kind r = placed_steady d i (λ k l number ticks p g. r.no_delay k l number ticks kind p g)
+
+-- ---- the start
+
+-- a place at which a process can start: no turns are left, and nothing is waited for
+abbrev pub IsBeginning : Place → Type 0
+IsBeginning (going gait todo) = erased todo ≡ todo
+IsBeginning (sleeping due todo) = ⊥
+IsBeginning (inactive todo) = ⊥
+IsBeginning (waiting terms todo) = ⊥
+IsBeginning ended = Unit {0}
+
+active_begins : (gait : Gait) (k : Todo) → erased k ≡ k → IsBeginning (active_at gait k)
+active_begins gait [] h = tt
+active_begins gait (i ∷ rest) h = h
+
+pub start_begins : (ps : List Process) (i : ℕ) → IsBeginning (get_or (map (λ (p : Process). start_place p.body) ps) i ended)
+start_begins [] i = tt
+start_begins (p ∷ ps) zero = active_begins Fresh (flat p.body) (erased_flat p.body)
+start_begins (p ∷ ps) (suc i) = start_begins ps i
+
+beginning_stands : (d : Parts) (c : Claims) (i : ℕ) (p : Place) → get_or (start d).places i ended ≡ p → IsBeginning p → Stands d c i 0 p
+beginning_stands d c i (going gait k) e b =
+    let first : first_todo d i ≡ erased k = ap todo_of e ∙ sym b in
+    record { point = subst (IsPoint d i) first Point.begins; at = at_zero refl (subst (Path is_zero_time (first_todo d i)) first begins) }
+beginning_stands d c i (sleeping due k) e b = absurd b
+beginning_stands d c i (waiting terms k) e b = absurd b
+beginning_stands d c i (inactive k) e b = absurd b
+beginning_stands d c i ended e b = tt
+
+beginning_timed : (p : Place) → IsBeginning p → is_timed p ≡ true
+beginning_timed (going gait k) b = refl
+beginning_timed (sleeping due k) b = absurd b
+beginning_timed (waiting terms k) b = absurd b
+beginning_timed (inactive k) b = absurd b
+beginning_timed ended b = refl
+
+beginning_placed : (d : Parts) (c : Claims) (i : ℕ) (p : Place) → Stands d c i 0 p → IsBeginning p → Placed d i 0 p
+beginning_placed d c i (going gait k) h b = h.point
+beginning_placed d c i (sleeping due k) h b = absurd b
+beginning_placed d c i (waiting terms k) h b = absurd b
+beginning_placed d c i (inactive k) h b = absurd b
+beginning_placed d c i ended h b = tt
+
+pub start_stands : (d : Parts) (c : Claims) (i : ℕ) → Stands d c i 0 (get_or (start d).places i ended)
+start_stands d c i = beginning_stands d c i (get_or (start d).places i ended) refl (start_begins d.processes i)
+
+first_of : (d : Parts) (i : ℕ) (gait : Gait) (k : Todo) → get_or (start d).places i ended ≡ going gait k → IsBeginning (going gait k) → first_todo d i ≡ erased k
+first_of d i gait k e b = ap todo_of e ∙ sym b
+
+-- what a process does first
+pub start_first : (d : Parts) (i : ℕ) (gait : Gait) (k : Todo) → get_or (start d).places i ended ≡ going gait k → first_todo d i ≡ erased k
+start_first d i gait k e = first_of d i gait k e (subst IsBeginning e (start_begins d.processes i))
+
+pub start_placed : (d : Parts) (c : Claims) (i : ℕ) → Placed d i 0 (get_or (start d).places i ended)
+start_placed d c i = beginning_placed d c i (get_or (start d).places i ended) (start_stands d c i) (start_begins d.processes i)
+
+pub start_timed : (d : Parts) (i : ℕ) → is_timed (get_or (start d).places i ended) ≡ true
+start_timed d i = beginning_timed (get_or (start d).places i ended) (start_begins d.processes i)
+
+-- ---- where a slot begins
+
+-- all processes have stopped
+abbrev pub AllStopped : State → Type 0
+AllStopped b = (i : ℕ) → is_stopped (get_or b.places i ended) ≡ true
+
+pub record Beginning (d : Parts) (c : Claims) (b : State) : Type 0 where
+  pub delays : (i : ℕ) → IsDelay d c i → Waits d c i b.time (get_or b.places i ended)
+  pub edges : (i : ℕ) → IsEdge d c i → Placed d i b.time (get_or b.places i ended)
+  -- it is the first slot, or a later one, or all have stopped for good
+  pub first : (b ≡ start d) ⊎ ((0 < b.time) ⊎ AllStopped b)
+  -- above time 0 a process of kind edge has stopped
+  pub edges_rest : (i : ℕ) → IsEdge d c i → (b ≡ start d → ⊥) → is_stopped (get_or b.places i ended) ≡ true
+
+pub still_at_end : (s : State) → AtEnd s → AllStopped s
+still_at_end s e i = stopped_from (get_or s.places i ended) (none_get is_going s.places i ended refl e.quiet.going) (none_get is_inactive s.places i ended refl e.inactive)
+
+stopped_placed : (d : Parts) (i time : ℕ) (t : ℕ) (p : Place) → Placed d i time p → is_stopped p ≡ true → is_stopped (woken_at t p) ≡ true
+stopped_placed d i time t (going gait k) h s = absurd (false≢true s)
+stopped_placed d i time t (inactive k) h s = absurd h
+stopped_placed d i time t (sleeping due k) h s = absurd h
+stopped_placed d i time t (waiting terms k) h s = refl
+stopped_placed d i time t ended h s = refl
+
+pub end_rests : (d : Parts) (i : ℕ) (s : State) → AtEnd s → Placed d i s.time (get_or s.places i ended) → is_stopped (get_or (slot_behind s).places i ended) ≡ true
+end_rests d i s e h = at_next (ends s) (next_time s)
+  where
+    at_next : (over : Bool) (next : Option ℕ) → is_stopped (get_or (places_at over next s.places) i ended) ≡ true
+    at_next true next = still_at_end s e i
+    at_next false None = still_at_end s e i
+    at_next false (Some t) =
+        subst (λ p. is_stopped p ≡ true) (sym (get_or-map (woken_at t) s.places i ended)) (stopped_placed d i s.time t (get_or s.places i ended) h (still_at_end s e i))
+
+first_behind : (s : State) → AtEnd s → ((t : ℕ) → next_time s ≡ Some t → s.time < t) → (0 < (slot_behind s).time) ⊎ AllStopped (slot_behind s)
+first_behind s e up = at_next (ends s) (next_time s) refl
+  where
+    at_next : (over : Bool) (next : Option ℕ) → next_time s ≡ next → (0 < time_at over next s.time) ⊎ ((i : ℕ) → is_stopped (get_or (places_at over next s.places) i ended) ≡ true)
+    at_next true next is = inr (still_at_end s e)
+    at_next false None is = inr (still_at_end s e)
+    at_next false (Some t) is = let less : s.time < t = up t is in inl (omega (arith, less))
+
+begin_first : (grain : Grain) (d : Parts) → TimeRises grain d → (moves : List Move) → Legal grain d moves → IsAtStart moves → (reached d moves ≡ start d) ⊎ ((0 < (reached d moves).time) ⊎ AllStopped (reached d moves))
+begin_first grain d up [] l a = inl refl
+begin_first grain d up (Step i ∷ moves) l a = absurd a
+begin_first grain d up (Evaluate j ∷ moves) l a = absurd a
+begin_first grain d up (Propagate j ∷ moves) l a = absurd a
+begin_first grain d up (Make i ∷ moves) l a = absurd a
+begin_first grain d up (Rouse ∷ moves) l a = absurd a
+begin_first grain d up (Activate ∷ moves) l a = absurd a
+begin_first grain d up (EndSlot ∷ moves) l a = inr (first_behind (reached d moves) (at_end (reached d moves) (enabled_of grain d (reached d moves) EndSlot l.1).1) (λ t is. up moves t l is))
+
+begin_rests : (grain : Grain) (d : Parts) (c : Claims) (i : ℕ) → IsEdge d c i → K7 d c i → (moves : List Move) → Legal grain d moves → IsAtStart moves → (reached d moves ≡ start d → ⊥) →
+    is_stopped (get_or (reached d moves).places i ended) ≡ true
+begin_rests grain d c i kind r [] l a ne = absurd (ne refl)
+begin_rests grain d c i kind r (Step j ∷ moves) l a ne = absurd a
+begin_rests grain d c i kind r (Evaluate j ∷ moves) l a ne = absurd a
+begin_rests grain d c i kind r (Propagate j ∷ moves) l a ne = absurd a
+begin_rests grain d c i kind r (Make j ∷ moves) l a ne = absurd a
+begin_rests grain d c i kind r (Rouse ∷ moves) l a ne = absurd a
+begin_rests grain d c i kind r (Activate ∷ moves) l a ne = absurd a
+begin_rests grain d c i kind r (EndSlot ∷ moves) l a ne =
+    end_rests d i (reached d moves) (at_end (reached d moves) (enabled_of grain d (reached d moves) EndSlot l.1).1)
+    (holds_after grain d (Placed d i) (edge_steady d c i kind r) i (beginning_placed d c i (get_or (start d).places i ended) (start_stands d c i) (start_begins d.processes i)) moves l.0)
+
+pub beginning : (grain : Grain) (d : Parts) (c : Claims) → TimeRises grain d → ((i : ℕ) → K7 d c i) → ((i : ℕ) → K8 d c i) → (b : State) → BeginsSlot grain d b → Beginning d c b
+beginning grain d c up r7 r8 b h = subst (Beginning d c) h.is (record {
+  delays = λ i kind. holds_after grain d (Waits d c i) (delay_steady d c i kind (closed_of d c i (inr kind) (r7 i) (r8 i)) (r8 i)) i
+      (record { stands = start_stands d c i; timed = start_timed d i }) h.moves h.legal;
+  edges = λ i kind. holds_after grain d (Placed d i) (edge_steady d c i kind (r7 i)) i
+      (beginning_placed d c i (get_or (start d).places i ended) (start_stands d c i) (start_begins d.processes i)) h.moves h.legal;
+  first = begin_first grain d up h.moves h.legal h.at_start;
+  edges_rest = λ i kind ne. begin_rests grain d c i kind (r7 i) h.moves h.legal h.at_start ne;
+})

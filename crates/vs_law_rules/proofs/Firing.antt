@@ -1,0 +1,245 @@
+-- A process is fired above time 0 alone, and at firing slots of the term that wakes.
+use Rattle.std.proofs.Common.{◌≡◌, ℕ, zero, suc, ◌*◌, ◌%◌, ◌<◌, ◌⊎◌, true, false, Option, Some, None, option_map, List, map, slice_get, refl, sym, ◌∙◌, ap, subst, inl, inr}
+use Rattle.std.specs.Str.{bytes_eq}
+use Rattle.std.proofs.lemmas.Bool.{true≢false, false≢true}
+use Rattle.std.proofs.lemmas.Option.{same_Some}
+use Rattle.std.proofs.lemmas.Slice.Eq.{bytes_eq-Decides}
+use Rattle.std.proofs.Math.Nat.{mod-mod_of_dvd}
+use Rattle.std.proofs.lemmas.Nat.Gcd.{dvd_of_mod-eq-zero}
+use Rattle.vs_logic4.specs.declared.digit.Digit.{Digit}
+use Rattle.vs_logic4.specs.declared.digit.Digit.TheVariants.{X}
+use Rattle.vs_logic4.specs.Edges.{is_edge}
+use Rattle.vs_design.specs.declared.design.Process.{Process}
+use Rattle.vs_design.specs.declared.statement.EventTerm.{EventTerm}
+use Rattle.vs_design.specs.Parts.{Parts}
+use Rattle.vs_design.specs.Stores.{Store, start_store}
+use Rattle.vs_design.specs.WellFormed.{WellFormed}
+use Rattle.vs_eval.specs.Laws.{digit_of}
+use Rattle.vs_flatcode.specs.Places.{Todo, Place, going, sleeping, inactive, waiting, ended}
+use Rattle.vs_flatcode.specs.Steps.{step}
+use Rattle.vs_design.specs.Writes.{Write}
+use Rattle.vs_process.specs.Executions.{is_level}
+use Rattle.vs_process.specs.States.{State, start}
+use Rattle.vs_process.proofs.Lists.{distinct_place, map_at}
+use Rattle.vs_process.proofs.Stores.{shape, shape-put}
+use Rattle.vs_design.proofs.Stores.{slice_get-changed_at as changed_same}
+use Rattle.vs_law_threads.specs.Threads.{Thread, store_behind, turn_at, turn, iterate, writes}
+use Rattle.vs_rules.specs.Claims.{Name, names_process, writer_in, second_in}
+use Rattle.vs_rules.specs.Claims.{Claims, Kind, blocks_of, claim_of, IsWriter, IsSecond, IsDelay, signal_name, IsRootOf}
+use Rattle.vs_rules.specs.Paths.{WritesNow, HasTerm, RunsBehind}
+use Rattle.vs_rules.specs.Rules.{IsSoundRoot}
+use Rattle.vs_rules.specs.Slots.{InPhase, Fires, Ends}
+use Rattle.vs_law_threads.specs.Edges.{one_bit, IsBit, Copies}
+use Rattle.vs_law_threads.specs.Threads.{Fired, given, opening, IsTimed, Fires as Wakes}
+use Rattle.vs_law_rules.proofs.Beginning.{AllStopped}
+use Rattle.vs_law_rules.specs.Laws.{ClockTurns}
+use Rattle.vs_law_rules.proofs.Fire.{Begun, Walking, timed_writes, stopped_writes, closed, seq_found, stands_found, bit_shape, bit_digit, edge_of, edge_counts, edge_phase, zero_less}
+use Rattle.vs_law_threads.proofs.Links.{copies_bit, root_bit}
+use Rattle.vs_law_rules.proofs.Lasts.{Last, Bitwise, bit_iterate}
+use Rattle.vs_law_rules.proofs.Roots.{entry_root, one_root, copies_signal}
+use Rattle.vs_law_rules.proofs.Texts.{writes_now}
+use Rattle.vs_law_rules.proofs.Walks.{At, at_zero, at_later, Here, Stands}
+
+-- ---- writers
+
+-- the processes that a name is of are one
+pub same_named : (d : Parts) → WellFormed d → (o : Option Name) (i j : ℕ) → names_process o (slice_get d.processes i) ≡ true → names_process o (slice_get d.processes j) ≡ true → i ≡ j
+same_named d formed o i j hi hj = by_options o (slice_get d.processes i) (slice_get d.processes j) refl refl hi hj
+  where
+    by_options : (o : Option Name) (a b : Option Process) → slice_get d.processes i ≡ a → slice_get d.processes j ≡ b → names_process o a ≡ true → names_process o b ≡ true → i ≡ j
+    by_options None a b at_i at_j x y = absurd (false≢true x)
+    by_options (Some n) None b at_i at_j x y = absurd (false≢true x)
+    by_options (Some n) (Some p) None at_i at_j x y = absurd (false≢true y)
+    by_options (Some n) (Some p) (Some q) at_i at_j x y =
+        distinct_place bytes_eq (λ x z e. (bytes_eq-Decides x z).1 e) (map (λ (p : Process). p.name.items) d.processes) i j p.name.items q.name.items formed.names
+        (map_at (λ (p : Process). p.name.items) d.processes i p at_i) (map_at (λ (p : Process). p.name.items) d.processes j q at_j)
+        (sym ((bytes_eq-Decides n p.name.items).0 x) ∙ (bytes_eq-Decides n q.name.items).0 y)
+
+pub one_writer : (d : Parts) (c : Claims) → WellFormed d → (v i j : ℕ) → IsWriter d c v i → IsWriter d c v j → i ≡ j
+one_writer d c formed v i j = same_named d formed (writer_in (claim_of d c v)) i j
+
+pub one_second : (d : Parts) (c : Claims) → WellFormed d → (v i j : ℕ) → IsSecond d c v i → IsSecond d c v j → i ≡ j
+one_second d c formed v i j = same_named d formed (second_in (claim_of d c v)) i j
+
+-- above time 0 a process that writes a signal is its writer
+pub writes_as : (d : Parts) (c : Claims) (b : State) → Begun d c b → (time i v : ℕ) (k : Todo) → 0 < time → Here d c i time k → WritesNow d k v → IsWriter d c v i
+writes_as d c b g time i v k up here w = by_role ((g.rules.writers v).named i (writes_now d i k v here.point w)) here.at
+  where
+    by_role : IsWriter d c v i ⊎ IsSecond d c v i → At d c i time k → IsWriter d c v i
+    by_role (inl writer) at = writer
+    by_role (inr second) (at_zero z s) = absurd (zero_less time up z)
+    by_role (inr second) (at_later later late slot) = absurd ((g.rules.writers v).early i k second here.point (inl w) late)
+
+-- ---- the root of a signal
+
+-- the entry of a signal that an edge term names, and what it promises
+pub record Rooted (d : Parts) (c : Claims) (root v : ℕ) : Type 0 where
+  pub is : IsRootOf d c root v
+  pub sound : IsSoundRoot d c root
+
+pub rooted : (d : Parts) (c : Claims) (b : State) → Begun d c b → (i : ℕ) (t : EventTerm) → HasTerm d i t → is_level t ≡ false → (root : ℕ) → Copies d root t.range.signal → Rooted d c root t.range.signal
+rooted d c b g i t has level root copies =
+    let v = t.range.signal in
+    let s = copies_signal d root v copies in
+    let entry = entry_root d c g.rules v s.0.path.items (ap signal_name s.1) (record { process = i; term = t; has = has; edge = level; of = refl }) in
+    let r = g.rules.roots v in
+    let sound = r.root entry.0 entry.1 in
+    let same : root ≡ entry.0 = one_root d g.formed root entry.0 v copies (r.copies entry.0 entry.1) sound.variable in
+    record { is = subst (λ n. IsRootOf d c n v) (sym same) entry.1; sound = subst (IsSoundRoot d c) (sym same) sound }
+
+-- ---- firing
+
+-- what the last write of a root by a timed thread is
+record RootWrite (d : Parts) (c : Claims) (b : State) (root w : ℕ) (by : Thread) : Type 0 where
+  walking : Walking d c w b.time by
+  last : Last d c w b.time root by.view
+  old : Digit
+  digit : Digit
+  is : slice_get by.view root ≡ Some (one_bit digit)
+
+root_write : (d : Parts) (c : Claims) (b : State) → Begun d c b → (root w : ℕ) (by : Thread) (value : List (List Digit)) → IsBit d root → IsTimed (blocks_of d c) b w by → writes by root ≡ true →
+    slice_get by.view root ≡ Some value → (z : Digit) × (value ≡ one_bit z) → RootWrite d c b root w by
+root_write d c b g root w by value bit timed wrote is one =
+    let walking = timed_writes d c b g w root by timed wrote in
+    let found = bit_shape b.store (start_store d) root X g.assigns.shaped bit in
+    let first = opening (blocks_of d c) b w None in
+    let seq = walking.sequential in
+    let bits = subst (Bitwise d c w b.time root) timed.is
+    (bit_iterate d c w (closed d c b g w seq) b.time timed.count root first found.0 refl refl (subst (Stands d c w b.time) (sym (seq_found d c b w seq)) (stands_found d c b g w seq))
+    (bit_digit b.store root found.0 found.1)) in
+    record { walking = walking; last = bits.last wrote; old = found.0; digit = one.0; is = is ∙ ap (λ x. Some x) one.1 }
+
+behind_shape : (store : Store) (o : Option Write) → shape (store_behind store o) ≡ shape store
+behind_shape store None = refl
+behind_shape store (Some w) = shape-put store w
+
+turn_shape : (time i : ℕ) (p : Place) (th : Thread) → shape (turn_at time i p th).view ≡ shape th.view
+turn_shape time i (going gait k) th = behind_shape th.view (step k th.view time).write
+turn_shape time i (inactive k) th = refl
+turn_shape time i (sleeping due k) th = refl
+turn_shape time i (waiting terms k) th = refl
+turn_shape time i ended th = refl
+
+-- a thread keeps the shape of its store
+pub thread_shape : (time i n : ℕ) (th : Thread) → shape (iterate n (turn time i) th).view ≡ shape th.view
+thread_shape time i zero th = refl
+thread_shape time i (suc n) th = let one = iterate n (turn time i) th in turn_shape time i one.place one ∙ thread_shape time i n th
+
+-- what a timed thread has of a signal of one bit
+pub view_bit : (d : Parts) (c : Claims) (b : State) → Begun d c b → (v w : ℕ) (by : Thread) → IsBit d v → IsTimed (blocks_of d c) b w by → (z : Digit) × (slice_get by.view v ≡ Some (one_bit z))
+view_bit d c b g v w by bit timed =
+    bit_shape by.view (start_store d) v X
+    (ap (λ (t : Thread). shape t.view) (sym timed.is) ∙ thread_shape b.time w timed.count (opening (blocks_of d c) b w None) ∙ g.assigns.shaped) bit
+
+given_there : (f : Fired) (store : Store) (v : ℕ) (words : List (List Digit)) → v ≡ f.signal → slice_get store v ≡ Some words → slice_get (given f store) v ≡ Some f.value
+given_there f store v words e is =
+    subst (λ n. slice_get (given f store) n ≡ Some f.value) (sym e)
+    (changed_same (λ old. f.value) f.signal store ∙ ap (option_map (λ old. f.value)) (subst (λ n. slice_get store n ≡ Some words) e is))
+
+-- all that is known of a change that fires a process
+pub record Change (d : Parts) (c : Claims) (b : State) (t : EventTerm) (root w : ℕ) (by : Thread) : Type 0 where
+  pub rooted : Rooted d c root t.range.signal
+  pub walking : Walking d c w b.time by
+  pub last : Last d c w b.time root by.view
+  pub old : Digit
+  pub new : Digit
+  pub was : slice_get b.store t.range.signal ≡ Some (one_bit old)
+  pub has : digit_of by.view root 0 0 ≡ Some new
+  pub edge : is_edge t.edge old new ≡ true
+
+pub change_of : (d : Parts) (c : Claims) (b : State) → Begun d c b → (i : ℕ) (t : EventTerm) (f : Fired) → HasTerm d i t → is_level t ≡ false → (w : Wakes d (blocks_of d c) b t f) → Change d c b t w.root w.writer w.by
+change_of d c b g i t f has level w = record {
+  rooted = rooted d c b g i t has level w.root copies;
+  walking = write.walking;
+  last = write.last;
+  old = was.0;
+  new = view.0;
+  was = was.1;
+  has = bit_digit w.by.view w.root view.0 view.1;
+  edge = edge_of t b.store (given f b.store) was.0 view.0 level was.1
+      (given_there f b.store t.range.signal (one_bit was.0) w.term was.1 ∙ ap (λ x. Some x) value_is) w.wakes;
+}
+  where
+    copies : Copies d w.root t.range.signal
+    copies = subst (Copies d w.root) (sym w.term) w.copies
+
+    bit : IsBit d w.root
+    bit = root_bit d w.root t.range.signal copies
+
+    view : (z : Digit) × (slice_get w.by.view w.root ≡ Some (one_bit z))
+    view = view_bit d c b g w.root w.writer w.by bit w.timed
+
+    value_is : f.value ≡ one_bit view.0
+    value_is = same_Some f.value (one_bit view.0) (sym w.value ∙ view.1)
+
+    write : RootWrite d c b w.root w.writer w.by
+    write = root_write d c b g w.root w.writer w.by f.value bit w.timed w.writes w.value (view.0, value_is)
+
+    was : (z : Digit) × (slice_get b.store t.range.signal ≡ Some (one_bit z))
+    was = bit_shape b.store (start_store d) t.range.signal X g.assigns.shaped (copies_bit d w.root t.range.signal copies)
+
+pub same_digits : (store : Store) (v : ℕ) (x y : Digit) → digit_of store v 0 0 ≡ Some x → digit_of store v 0 0 ≡ Some y → x ≡ y
+same_digits store v x y hx hy = same_Some x y (sym hx ∙ hy)
+
+-- nothing is fired at time 0
+pub none_fires : (d : Parts) (c : Claims) (b : State) → Begun d c b → (i : ℕ) (t : EventTerm) (f : Fired) → HasTerm d i t → is_level t ≡ false → Wakes d (blocks_of d c) b t f → b.time ≡ 0 → ⊥
+none_fires d c b g i t f has level w zero_time = by_first g.begin.first
+  where
+    ch : Change d c b t w.root w.writer w.by
+    ch = change_of d c b g i t f has level w
+
+    old_x : b ≡ start d → ch.old ≡ X
+    old_x e =
+        let unknown : slice_get b.store t.range.signal ≡ Some (one_bit X) =
+        ap (λ (s : State). slice_get s.store t.range.signal) e ∙ copies_bit d w.root t.range.signal (subst (Copies d w.root) (sym w.term) w.copies) in
+        same_digits b.store t.range.signal ch.old X (bit_digit b.store t.range.signal ch.old ch.was) (bit_digit b.store t.range.signal X unknown)
+
+    silent : b ≡ start d → At d c w.writer b.time ch.last.k → ⊥
+    silent e (at_later up late slot) = zero_less b.time up zero_time
+    silent e (at_zero z s) =
+        let none = (g.rules.first_roots w.root).constant w.writer ch.last.k (t.range.signal, ch.rooted.is) s ch.last.writes in
+        let digit : ch.new ≡ none.digit = same_digits w.by.view w.root ch.new none.digit ch.has (ch.last.gave none.digit none.gives) in
+        true≢false (sym (subst (λ x. is_edge t.edge x none.digit ≡ true) (old_x e) (subst (λ x. is_edge t.edge ch.old x ≡ true) digit ch.edge)) ∙ none.silent i t has level ch.rooted.is)
+
+    by_first : (b ≡ start d) ⊎ ((0 < b.time) ⊎ AllStopped b) → ⊥
+    by_first (inl e) = silent e ch.last.here.at
+    by_first (inr (inl up)) = zero_less b.time up zero_time
+    by_first (inr (inr still)) = stopped_writes d c b g still w.writer w.root w.by w.timed w.writes
+
+-- a process is fired at firing slots of the term
+pub fires_at : (d : Parts) (c : Claims) (b : State) → Begun d c b → ClockTurns d c b → (i : ℕ) (t : EventTerm) (f : Fired) → HasTerm d i t → is_level t ≡ false → Wakes d (blocks_of d c) b t f → 0 < b.time →
+    Fires d c t (b.time % c.modulus)
+fires_at d c b g clocks i t f has level w up = by_at ch.last.here.at
+  where
+    ch : Change d c b t w.root w.writer w.by
+    ch = change_of d c b g i t f has level w
+
+    writer : IsWriter d c w.root w.writer
+    writer = writes_as d c b g b.time w.writer w.root ch.last.k up ch.last.here ch.last.writes
+
+    kind : IsDelay d c w.writer
+    kind =
+        let known = ch.rooted.sound.writer in
+        subst (IsDelay d c) (one_writer d c g.formed w.root known.0 w.writer known.1 writer) known.2
+
+    in_phase : InPhase d c w.root t.edge (b.time % c.modulus)
+    in_phase digit offset half clock divides =
+        let turns = clocks w.root w.writer w.by digit ch.new offset half w.timed writer w.writes (t.range.signal, ch.rooted.is) clock ch.has in
+        mod-mod_of_dvd (2 * half) b.time (dvd_of_mod-eq-zero (2 * half) divides) ∙ edge_phase t.edge ch.old ch.new digit offset half b.time turns.0 ch.edge level turns.1
+
+    by_at : At d c w.writer b.time ch.last.k → Fires d c t (b.time % c.modulus)
+    by_at (at_zero z s) = absurd (zero_less b.time up z)
+    by_at (at_later later late slot) = record {
+      root = w.root;
+      writer = w.writer;
+      lists = kind.0;
+      at = ch.last.k;
+      is_root = ch.rooted.is;
+      is_writer = writer;
+      kind = kind.1;
+      point = ch.last.here.point;
+      writes = inl ch.last.writes;
+      runs = subst (λ (o : Option Kind). RunsBehind d w.writer (Ends d c w.writer o) ch.last.k (b.time % c.modulus)) kind.1 slot;
+      counted = λ digit gives. edge_counts t.edge ch.old digit (subst (λ x. is_edge t.edge ch.old x ≡ true) (same_digits w.by.view w.root ch.new digit ch.has (ch.last.gave digit gives)) ch.edge);
+      in_phase = in_phase;
+    }

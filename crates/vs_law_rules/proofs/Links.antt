@@ -1,0 +1,185 @@
+-- The copies that the rules name are copies: an edge signal has the value of its root.
+use Rattle.std.proofs.Common.{◌≡◌, ℕ, zero, suc, ◌+◌, ◌==◌, ℤ, pos, Bool, true, false, Some, option_map, List, [], ◌∷◌, map, replicate, slice_get, refl, sym, ◌∙◌, ap, subst, inl, inr, arith}
+use Rattle.std.specs.Prelude.{sum}
+use Rattle.std.specs.List.{list_any, list_all}
+use Rattle.std.proofs.lemmas.Bool.{and_parts, cases_Bool, eqb-true, eqb-false, true≢false, false≢true}
+use Rattle.std.proofs.lemmas.Option.{none-some, same_Some}
+use Rattle.vs_logic4.specs.declared.digit.Digit.{Digit}
+use Rattle.vs_logic4.specs.declared.digit.Digit.TheVariants.{X}
+use Rattle.vs_logic4.specs.Parts.{selected}
+use Rattle.vs_logic4.specs.Vectors.{resized}
+use Rattle.vs_design.specs.declared.design.Assign.{Assign}
+use Rattle.vs_design.specs.declared.expression.Slice.{Slice}
+use Rattle.vs_design.specs.declared.expression.Typed.{Typed, Typed-F}
+use Rattle.vs_design.specs.declared.expression.Typed.TheOpen as t
+use Rattle.vs_design.specs.declared.expression.Typed.TheViews.{out-Typed}
+use Rattle.vs_design.specs.declared.expression.Typed.TheFolds.{fold_out-Typed, map-Typed}
+use Rattle.vs_design.specs.declared.signal.Signal.{Signal}
+use Rattle.vs_design.specs.declared.signal.SignalKind.{SignalKind}
+use Rattle.vs_design.specs.declared.signal.SignalKind.TheVariants.{Wire, Reg, Integer}
+use Rattle.vs_design.specs.declared.statement.Aim.{Aim}
+use Rattle.vs_design.specs.declared.statement.Aim.TheVariants.{Fixed}
+use Rattle.vs_design.specs.declared.statement.Target.{Target}
+use Rattle.vs_design.specs.declared.write.Part.{Part}
+use Rattle.vs_design.specs.Kinds.{is_variable}
+use Rattle.vs_design.specs.Parts.{Parts}
+use Rattle.vs_design.specs.Stores.{Store, changed_at, drives_bit, is_driven, overlaid, put, start_digit, start_digits, start_store, start_word, start_words, word_in}
+use Rattle.vs_design.specs.Uses.{aim_range, bits_from, covers, has_bit, is_of, slice_range, writes, writes_signal}
+use Rattle.vs_design.specs.WellFormed.{WellFormed, aim_width, is_net_aim, is_sound_assign, is_sound_target, is_source}
+use Rattle.vs_eval.specs.Targets.{part_at, parts_from}
+use Rattle.vs_eval.specs.Values.{target_value, value_of, value_step}
+use Rattle.vs_flatcode.specs.Steps.{assignment}
+use Rattle.vs_process.proofs.Lists.{all_slice}
+use Rattle.std.proofs.lemmas.Map.Keys.{any_passes_from_place as at_any}
+use Rattle.vs_design.proofs.Stores.{slice_get-changed_at as changed_same}
+use Rattle.vs_process.proofs.WellFormed.{variable_undriven}
+use Rattle.vs_rules.specs.Claims.{HasKind}
+use Rattle.vs_rules.specs.Constants.{IsWholeSlice, IsWholeLayer, IsWhole, IsWholeTarget}
+use Rattle.vs_rules.specs.Rules.{IsOneBit, IsCopy, CopiesRoot, itself, copy}
+use Rattle.vs_law_threads.specs.Edges.{one_bit, IsBit, IsLink, Copies}
+use Rattle.vs_law_threads.specs.Edges as a
+use Rattle.vs_law_rules.proofs.Roots.{whole_reads, whole_writes}
+use Rattle.vs_law_rules.proofs.Words.{lists_signal}
+use Rattle.vs_law_threads.proofs.Copying.{start_at}
+use Rattle.vs_logic4.proofs.Basics.{same_self}
+
+-- ---- the start of a signal of one bit
+
+one_start : (driven : ℕ → Bool) (kind : SignalKind) (count width : ℕ) → count ≡ 1 → width ≡ 1 → start_digit (driven 0) kind ≡ X → replicate count (start_digits driven kind 0 width) ≡ one_bit X
+one_start driven kind count width c w x =
+    ap (λ n. replicate n (start_digits driven kind 0 width)) c ∙ ap (λ n. start_digits driven kind 0 n ∷ []) w ∙ ap (λ y. one_bit y) x
+
+pub variable_start : (driven : Bool) (kind : SignalKind) → is_variable kind ≡ true → start_digit driven kind ≡ X
+variable_start driven Wire h = absurd (false≢true h)
+variable_start driven Reg h = refl
+variable_start driven Integer h = refl
+
+pub driven_start : (driven : Bool) (kind : SignalKind) → driven ≡ true → start_digit driven kind ≡ X
+driven_start true Wire h = refl
+driven_start true Reg h = refl
+driven_start true Integer h = refl
+driven_start false kind h = absurd (false≢true h)
+
+bit_starts : (d : Parts) (v : ℕ) (s : Signal) → slice_get d.signals v ≡ Some s → s.width ≡ 1 → s.count ≡ 1 → start_digit (drives_bit d.assigns (0 + v) 0) s.kind ≡ X → IsBit d v
+bit_starts d v s is width count x = start_at d.assigns 0 d.signals v s is ∙ ap (λ w. Some w) (one_start (drives_bit d.assigns (0 + v)) s.kind s.count s.width count width x)
+
+pub same_signal : (d : Parts) (v : ℕ) (s x : Signal) → slice_get d.signals v ≡ Some s → slice_get d.signals v ≡ Some x → s ≡ x
+same_signal d v s x a b = same_Some s x (sym a ∙ b)
+
+-- ---- a copy makes its net what it copies
+
+pub one_resized : (signed : Bool) (width : ℕ) (z : Digit) → width ≡ 1 → resized signed width (z ∷ []) ≡ z ∷ []
+one_resized signed width z e = ap (λ n. resized signed n (z ∷ [])) e
+
+pub one_selected : (low : ℤ) (width : ℕ) (z : Digit) → low ≡ pos 0 → width ≡ 1 → selected low width (z ∷ []) ≡ z ∷ []
+one_selected low width z l w = ap (λ n. selected n width (z ∷ [])) l ∙ ap (λ n. selected (pos 0) n (z ∷ [])) w
+
+pub whole_value : (d : Parts) (m : ℕ) (e : Typed) (store : Store) (time : ℕ) (z : Digit) → IsWhole d m e → IsOneBit d m → slice_get store m ≡ Some (one_bit z) → value_of e store time ≡ z ∷ []
+whole_value d m e store time z h one is = by_layer (out-Typed e) h (fold_out-Typed (List Digit) (value_step store time) e)
+  where
+    word : (n : ℕ) → n ≡ m → Rattle.vs_design.specs.Stores.word_of store n 0 ≡ Some (z ∷ [])
+    word n e = ap (λ k. word_in (slice_get store k) 0) e ∙ ap (λ o. word_in o 0) is
+
+    by_layer : (x : Typed-F Typed) → IsWholeLayer d m x → value_of e store time ≡ value_step store time (map-Typed Typed (List Digit) (λ y. value_of y store time) x) → value_of e store time ≡ z ∷ []
+    by_layer (t.Signal o) w step =
+        let width : o.width ≡ 1 = w.width ∙ ap (λ (s : Signal). s.width) (same_signal d m w.signal one.0 w.is one.1) ∙ one.2 in
+        step ∙ ap (Rattle.vs_eval.specs.Values.operand_value o.signed o.width) (word o.signal w.of) ∙ one_resized o.signed o.width z width
+    by_layer (t.Slice s) w step =
+        let width : s.width ≡ 1 = w.width ∙ ap (λ (s : Signal). s.width) (same_signal d m w.signal one.0 w.is one.1) ∙ one.2 in
+        step ∙ ap (λ n. Rattle.vs_eval.specs.Values.bits_value s.low s.width (Rattle.vs_design.specs.Stores.word_of store s.signal n)) w.word
+        ∙ ap (Rattle.vs_eval.specs.Values.bits_value s.low s.width) (word s.signal w.of) ∙ one_selected s.low s.width z w.low width
+    by_layer (t.Number digits) w step = absurd w
+    by_layer (t.Select s word low) w step = absurd w
+    by_layer (t.Excerpt s low) w step = absurd w
+    by_layer (t.Unary op x) w step = absurd w
+    by_layer (t.Chain x links) w step = absurd w
+    by_layer (t.Choice pairs last) w step = absurd w
+    by_layer (t.Concat x xs) w step = absurd w
+    by_layer (t.Repeat n x) w step = absurd w
+    by_layer (t.Resized size x) w step = absurd w
+
+pub put_one : (store : Store) (p : Part) (n : ℕ) (y z : Digit) → p.signal ≡ n → p.word ≡ 0 → p.low ≡ pos 0 → p.digits ≡ z ∷ [] → slice_get store n ≡ Some (one_bit y) → slice_get (put store (p ∷ [])) n ≡ Some (one_bit z)
+put_one store p n y z s w l digits is =
+    subst (λ k. slice_get (changed_at (changed_at (overlaid p.low p.digits) p.word) k store) n ≡ Some (one_bit z)) (sym s)
+    (changed_same (changed_at (overlaid p.low p.digits) p.word) n store ∙ ap (option_map (changed_at (overlaid p.low p.digits) p.word)) is
+    ∙ ap (λ k. Some (changed_at (overlaid p.low p.digits) k (one_bit y))) w ∙ ap (λ k. Some (overlaid k p.digits (y ∷ []) ∷ [])) l ∙ ap (λ ds. Some (overlaid (pos 0) ds (y ∷ []) ∷ [])) digits)
+
+pub target_width : (d : Parts) → WellFormed d → (j : ℕ) (x : Assign) → slice_get d.assigns j ≡ Some x → sum (map aim_width x.target.parts.items) ≡ x.target.width
+target_width d formed j x is =
+    let sound = all_slice (λ (x : Assign). is_sound_assign d.signals x ≡ true) d.assigns j x is formed.assigns in
+    let target = (and_parts (is_sound_target (is_net_aim d.signals) x.target) (is_source d.signals x.target x.source) sound).0 in
+    eqb-true (sum (map aim_width x.target.parts.items)) x.target.width (and_parts (list_all (is_net_aim d.signals) x.target.parts.items) (sum (map aim_width x.target.parts.items) == x.target.width) target).1
+
+copies_one : (d : Parts) → WellFormed d → (n m : ℕ) → IsOneBit d n → IsOneBit d m → (c : IsCopy d n m) → (store : Store) (time : ℕ) (y z : Digit) → slice_get store m ≡ Some (one_bit z) → slice_get store n ≡ Some (one_bit y) →
+    slice_get (put store (assignment c.assign.target c.assign.source store time)) n ≡ Some (one_bit z)
+copies_one d formed n m one_n one_m c store time y z hm hn =
+    subst (λ (parts : List Aim). slice_get (put store (parts_from 0 parts (target_value c.assign.target c.assign.source store time) store time)) n ≡ Some (one_bit z)) (sym c.whole.only)
+    (put_one store (part_at (Fixed s) (selected (pos 0) s.width (target_value c.assign.target c.assign.source store time)) store time) n y z c.whole.whole.of c.whole.whole.word c.whole.whole.low digits hn)
+  where
+    s : Slice
+    s = c.whole.slice
+
+    width : s.width ≡ 1
+    width = c.whole.whole.width ∙ ap (λ (x : Signal). x.width) (same_signal d n c.whole.whole.signal one_n.0 c.whole.whole.is one_n.1) ∙ one_n.2
+
+    total : c.assign.target.width ≡ 1
+    total =
+        let parts : sum (map aim_width (Fixed s ∷ [])) ≡ c.assign.target.width = subst (λ (ps : List Aim). sum (map aim_width ps) ≡ c.assign.target.width) c.whole.only (target_width d formed c.number c.assign c.is) in
+        let added : 0 + s.width ≡ c.assign.target.width = parts in
+        omega (arith, width, added)
+
+    value : target_value c.assign.target c.assign.source store time ≡ z ∷ []
+    value = ap (resized false c.assign.target.width) (whole_value d m c.assign.source store time z c.copies one_m hm) ∙ one_resized false c.assign.target.width z total
+
+    digits : selected (pos 0) s.width (target_value c.assign.target c.assign.source store time) ≡ z ∷ []
+    digits = ap (selected (pos 0) s.width) value ∙ one_selected (pos 0) s.width z refl width
+
+pub only_of : (d : Parts) (n v : ℕ) (target : Target) → IsWholeTarget d n target → writes_signal target v ≡ true → v ≡ n
+only_of d n v target h w = by_list (subst (λ (ps : List Aim). list_any (is_of v) (map aim_range ps) ≡ true) h.only w)
+  where
+    by_list : list_any (is_of v) (slice_range h.slice ∷ []) ≡ true → v ≡ n
+    by_list e = elim (cases_Bool (h.slice.signal == v)) [
+      | inl hit ↦ sym (eqb-true h.slice.signal v hit) ∙ h.whole.of
+      | inr miss ↦ absurd (true≢false (sym e ∙ rw miss refl))
+    ]
+
+link_of_copy : (d : Parts) → WellFormed d → (n m : ℕ) → IsOneBit d n → IsOneBit d m → IsCopy d n m → IsLink d m n
+link_of_copy d formed n m one_n one_m c =
+    let range = whole_reads d m c.assign.source c.copies in
+    record {
+      number = c.number;
+      assign = c.assign;
+      is = c.is;
+      range = range.0;
+      reads = range.1;
+      of_source = range.2;
+      writes = whole_writes d n c.assign.target c.whole;
+      only = λ v w. only_of d n v c.assign.target c.whole w;
+      alone = λ j x is w. c.alone j x is (lists_signal d (writes x.target) n w);
+      copies = λ store time y z hm hn. copies_one d formed n m one_n one_m c store time y z hm hn;
+    }
+
+root_one : (d : Parts) (root n : ℕ) → CopiesRoot d root n → IsOneBit d n
+root_one d root _ (itself one) = one
+root_one d root n (copy n' m one link more) = one
+
+-- a net that is a copy is driven
+net_driven : (d : Parts) (n m : ℕ) → IsOneBit d n → IsCopy d n m → drives_bit d.assigns (0 + n) 0 ≡ true
+net_driven d n m one c = at_any (λ (x : Assign). list_any (covers (0 + n) 0 0) (writes x.target)) d.assigns c.number c.assign c.is (subst (λ (ps : List Aim). list_any (covers (0 + n) 0 0) (map aim_range ps) ≡ true) (sym c.whole.only) (by_slice c.whole.slice c.whole.whole))
+  where
+    by_slice : (s : Slice) → IsWholeSlice d n s → list_any (covers (0 + n) 0 0) (slice_range s ∷ []) ≡ true
+    by_slice s w =
+        let plain : n ≡ 0 + n = omega arith in
+        let signal : (s.signal == 0 + n) ≡ true = same_self s.signal (0 + n) (w.of ∙ plain) in
+        let word : (s.word == 0) ≡ true = same_self s.word 0 w.word in
+        let width : s.width ≡ 1 = w.width ∙ ap (λ (x : Signal). x.width) (same_signal d n w.signal one.0 w.is one.1) ∙ one.2 in
+        let bit : has_bit (Some (bits_from s.low s.width)) 0 ≡ true = ap (λ l. has_bit (Some (bits_from l s.width)) 0) w.low ∙ ap (λ k. has_bit (Some (bits_from (pos 0) k)) 0) width in
+        rw (signal, word, bit) refl
+
+-- a signal that copies a root by the rules copies it
+pub copies_root : (d : Parts) → WellFormed d → (root n : ℕ) → HasKind true d root → CopiesRoot d root n → Copies d root n
+copies_root d formed root _ kind (itself one) =
+    a.itself (bit_starts d root one.0 one.1 one.2 one.3 (variable_start (drives_bit d.assigns (0 + root) 0) one.0.kind (ap (λ (s : Signal). is_variable s.kind) (same_signal d root one.0 kind.0 one.1 kind.1) ∙ kind.2))) (variable_undriven d formed root kind)
+copies_root d formed root n kind (copy n' m one link more) =
+    a.through m n (copies_root d formed root m kind more) (link_of_copy d formed n m one (root_one d root m more) link)
+    (bit_starts d n one.0 one.1 one.2 one.3 (driven_start (drives_bit d.assigns (0 + n) 0) one.0.kind (net_driven d n m one link)))

@@ -1,0 +1,206 @@
+-- Threads are where the rules say, fired ones too.
+use Rattle.std.proofs.Common.{◌≡◌, ℕ, zero, suc, ◌%◌, ◌<◌, ◌⊎◌, Bool, true, false, Option, Some, None, List, [], ◌∷◌, refl, sym, ◌∙◌, ap, subst, inl, inr, arith}
+use Rattle.std.specs.List.{Contains}
+use Rattle.std.proofs.lemmas.Bool.{false≢true}
+use Rattle.vs_design.specs.declared.range.BitRange.{BitRange}
+use Rattle.vs_design.specs.declared.statement.Call.{Call}
+use Rattle.vs_design.specs.declared.statement.CallKind.{CallKind}
+use Rattle.vs_design.specs.declared.statement.CallKind.TheVariants.{Display, Strobe}
+use Rattle.vs_design.specs.declared.statement.EventTerm.{EventTerm}
+use Rattle.vs_design.specs.declared.statement.Statement.{Statement}
+use Rattle.vs_design.specs.declared.statement.Statement.TheOpen.{Statement-F}
+use Rattle.vs_design.specs.declared.statement.Statement.TheViews.{out-Statement}
+use Rattle.vs_design.specs.Parts.{Parts}
+use Rattle.vs_flatcode.specs.declared.gait.Gait.TheVariants.{Woken}
+use Rattle.vs_flatcode.specs.Nexts.{erased}
+use Rattle.vs_flatcode.specs.Places.{perform, turns, Todo, Place, going, sleeping, inactive, waiting, ended}
+use Rattle.vs_flatcode.specs.Steps.{wait}
+use Rattle.vs_process.specs.Executions.{is_level}
+use Rattle.vs_process.specs.States.{State, triggered}
+use Rattle.vs_process.proofs.Lists.{none_at}
+use Rattle.vs_law_threads.specs.Threads.{Thread, turn, iterate, writes, any_names, own_shows, place_reads, place_shows, shown_by, todo_shows}
+use Rattle.vs_law_threads.proofs.Lists.{place_of}
+use Rattle.vs_law_threads.proofs.Threads.{is_stopped}
+use Rattle.vs_rules.proofs.Points.{erased_reads}
+use Rattle.vs_rules.specs.Claims.{Claims, Kind, blocks_of, IsEdge, IsSequential}
+use Rattle.vs_rules.specs.Paths.{begins, IsHot, HasTerm}
+use Rattle.vs_rules.specs.Paths as path
+use Rattle.vs_rules.specs.Rules.{Reads}
+use Rattle.vs_rules.specs.Slots.{Fires, Ends}
+use Rattle.vs_law_threads.specs.Threads.{Fired, found, opening, is_timed, Fires as Wakes, MayOpen, IsThread}
+use Rattle.vs_law_rules.specs.Laws.{ClockTurns}
+use Rattle.vs_law_rules.proofs.Fire.{Begun, Walking, role, seq_found, closed, stands_found, stopped_iterate}
+use Rattle.vs_law_rules.proofs.Firing.{none_fires, fires_at}
+use Rattle.vs_law_rules.proofs.Texts.{none_in}
+use Rattle.vs_law_rules.proofs.Walks.{point_on, at_later, Here, Heard, HotAt, Stands, Walked, walked_iterate, stands_active}
+
+-- ---- what waits
+
+pub ended_waits : (terms : List EventTerm) (k : Todo) → ended ≡ waiting terms k → ⊥
+ended_waits terms k e = cc e
+
+pub waiting_timed : (p : Place) (terms : List EventTerm) (k : Todo) → p ≡ waiting terms k → is_timed p ≡ true → ⊥
+waiting_timed p terms k e h = false≢true (subst (λ (q : Place). is_timed q ≡ true) e h)
+
+-- a term that a process waits for is one of its text
+pub heard_term : (d : Parts) (i : ℕ) (terms : List EventTerm) (k : Todo) (t : EventTerm) → Heard d i terms k → Contains terms t → HasTerm d i t
+heard_term d i terms k t h is = record { control = h.control; number = h.number; terms = terms; behind = k; point = h.point; goes = h.way; is = is }
+
+-- a process that waits for terms of its text is of kind edge, and they are edge terms
+pub heard_edge : (d : Parts) (c : Claims) (b : State) → Begun d c b → (i : ℕ) (terms : List EventTerm) (k : Todo) → IsSequential d c i → Heard d i terms k → IsEdge d c i
+heard_edge d c b g i terms k (inl edge) h = edge
+heard_edge d c b g i terms k (inr delay) h = absurd ((g.rules.residues i).no_event h.control k h.number terms delay h.point h.way)
+
+pub heard_level : (d : Parts) (c : Claims) (b : State) → Begun d c b → (i : ℕ) (terms : List EventTerm) (k : Todo) (t : EventTerm) → IsEdge d c i → Heard d i terms k → Contains terms t → is_level t ≡ false
+heard_level d c b g i terms k t edge h is =
+    let there = place_of terms t is in
+    none_at is_level terms there.0 t there.1 ((g.rules.edges i).events h.control k h.number terms edge h.point h.way)
+
+pub zero_or : (n : ℕ) → (n ≡ 0) ⊎ (0 < n)
+zero_or zero = inl refl
+zero_or (suc n) = inr (omega arith)
+
+-- ---- threads
+
+-- what fired a thread
+pub record Opened (d : Parts) (c : Claims) (b : State) (i : ℕ) (f : Fired) : Type 0 where
+  pub edge : IsEdge d c i
+  pub up : 0 < b.time
+  pub term : EventTerm
+  pub has : HasTerm d i term
+  pub of : term.range.signal ≡ f.signal
+  pub fires : Fires d c term (b.time % c.modulus)
+
+pub opened : (d : Parts) (c : Claims) (b : State) → Begun d c b → ClockTurns d c b → (i : ℕ) (f : Fired) → IsSequential d c i → (terms : List EventTerm) (k : Todo) (t : EventTerm) → Heard d i terms k → Contains terms t →
+    Wakes d (blocks_of d c) b t f → Opened d c b i f
+opened d c b g clocks i f seq terms k t h is w = at_time (zero_or b.time)
+  where
+    edge : IsEdge d c i
+    edge = heard_edge d c b g i terms k seq h
+
+    has : HasTerm d i t
+    has = heard_term d i terms k t h is
+
+    level : is_level t ≡ false
+    level = heard_level d c b g i terms k t edge h is
+
+    at_time : (b.time ≡ 0) ⊎ (0 < b.time) → Opened d c b i f
+    at_time (inl z) = absurd (none_fires d c b g i t f has level w z)
+    at_time (inr up) = record { edge = edge; up = up; term = t; has = has; of = w.term; fires = fires_at d c b g clocks i t f has level w up }
+
+triggered_stands : (d : Parts) (c : Claims) (b : State) → Begun d c b → ClockTurns d c b → (i : ℕ) (f : Fired) → IsSequential d c i → (p : Place) (terms : List EventTerm) (k : Todo) (t : EventTerm) → p ≡ waiting terms k →
+    Stands d c i b.time p → Contains terms t → Wakes d (blocks_of d c) b t f → Stands d c i b.time (triggered p)
+triggered_stands d c b g clocks i f seq p terms k t e stands is w =
+    subst (λ (q : Place). Stands d c i b.time (triggered q)) (sym e)
+    (stands_active d c i b.time Woken k (record {
+      point = point_on d i heard.control (wait heard.number terms (erased k)) heard.point heard.way;
+      at = at_later o.up
+          (record { at = heard.control; next = wait heard.number terms (erased k); point = heard.point; goes = heard.way; starts = refl; path = begins })
+          (record {
+            at = heard.control;
+            next = wait heard.number terms (erased k);
+            point = heard.point;
+            goes = heard.way;
+            starts = subst (λ (kind : Option Kind). Ends d c i kind (wait heard.number terms (erased k)) (b.time % c.modulus)) (sym o.edge)
+                (t, is, fires_at d c b g clocks i t f (heard_term d i terms (erased k) t heard is) (heard_level d c b g i terms (erased k) t o.edge heard is) w o.up);
+            path = begins;
+          });
+    }))
+  where
+    heard : Heard d i terms (erased k)
+    heard = subst (Stands d c i b.time) e stands
+
+    o : Opened d c b i f
+    o = opened d c b g clocks i f seq terms (erased k) t heard is w
+
+-- a thread walks, or has nothing to do
+pub thread_walks : (d : Parts) (c : Claims) (b : State) → Begun d c b → ClockTurns d c b → (i : ℕ) (th : Thread) → IsThread d (blocks_of d c) b i th → Walking d c i b.time th ⊎ (th ≡ opening (blocks_of d c) b i None) × (found (blocks_of d c) b i ≡ ended)
+thread_walks d c b g clocks i th is = by_role (role d c b g i)
+  where
+    blocks : ℕ → Bool
+    blocks = blocks_of d c
+
+    stands : IsSequential d c i → Stands d c i b.time (found blocks b i)
+    stands seq = subst (Stands d c i b.time) (sym (seq_found d c b i seq)) (stands_found d c b g i seq)
+
+    by_input : IsSequential d c i → (input : Option Fired) → MayOpen d blocks b i input → iterate is.count (turn b.time i) (opening blocks b i input) ≡ th → Walked d c i b.time th
+    by_input seq None may e = subst (Walked d c i b.time) e (walked_iterate d c i (closed d c b g i seq) b.time is.count (opening blocks b i None) refl refl (stands seq))
+    by_input seq (Some f) may e =
+        subst (Walked d c i b.time) e
+        (walked_iterate d c i (closed d c b g i seq) b.time is.count (opening blocks b i (Some f)) refl refl
+        (triggered_stands d c b g clocks i f seq (found blocks b i) may.terms may.todo may.term may.at (stands seq) may.is may.fires))
+
+    by_ended : found blocks b i ≡ ended → (input : Option Fired) → MayOpen d blocks b i input → iterate is.count (turn b.time i) (opening blocks b i input) ≡ th → th ≡ opening blocks b i None
+    by_ended h None may e = sym e ∙ stopped_iterate b.time i is.count (opening blocks b i None) (ap is_stopped h)
+    by_ended h (Some f) may e = absurd (ended_waits may.terms may.todo (sym h ∙ may.at))
+
+    by_role : IsSequential d c i ⊎ (found blocks b i ≡ ended) → Walking d c i b.time th ⊎ (th ≡ opening blocks b i None) × (found blocks b i ≡ ended)
+    by_role (inl seq) = inl (record { sequential = seq; walked = by_input seq is.input is.may is.is })
+    by_role (inr h) = inr (by_ended h is.input is.may is.is, h)
+
+-- a thread that writes, updates, reads or waits walks
+pub writes_walks : (d : Parts) (c : Claims) (b : State) → Begun d c b → ClockTurns d c b → (i v : ℕ) (th : Thread) → IsThread d (blocks_of d c) b i th → writes th v ≡ true → Walking d c i b.time th
+writes_walks d c b g clocks i v th is w = elim (thread_walks d c b g clocks i th is) [
+  | inl walking ↦ walking
+  | inr idle ↦ absurd (false≢true (subst (λ t. writes t v ≡ true) idle.0 w))
+]
+
+pub makes_walks : (d : Parts) (c : Claims) (b : State) → Begun d c b → ClockTurns d c b → (i v : ℕ) (th : Thread) → IsThread d (blocks_of d c) b i th → any_names th.made v ≡ true → Walking d c i b.time th
+makes_walks d c b g clocks i v th is w = elim (thread_walks d c b g clocks i th is) [
+  | inl walking ↦ walking
+  | inr idle ↦ absurd (false≢true (subst (λ (t : Thread). any_names t.made v ≡ true) idle.0 w))
+]
+
+-- what counts as read at a place: where the certificate says so, what is shown there too
+abbrev pub Looks : Claims → Place → BitRange → Type 0
+Looks c p r = Contains (place_reads p) r ⊎ ((c.displays ≡ true) × Contains (place_shows p) r)
+
+-- nothing at a place where no step is taken
+pub no_looks : (c : Claims) (r : BitRange) → Looks c ended r → ⊥
+no_looks c r (inl reads) = none_in r reads
+no_looks c r (inr shows) = none_in r shows.1
+
+pub reads_walks : (d : Parts) (c : Claims) (b : State) → Begun d c b → ClockTurns d c b → (i : ℕ) (r : BitRange) (th : Thread) → IsThread d (blocks_of d c) b i th → Looks c th.place r → Walking d c i b.time th
+reads_walks d c b g clocks i r th is looks = elim (thread_walks d c b g clocks i th is) [
+  | inl walking ↦ walking
+  | inr idle ↦ absurd (no_looks c r (subst (λ (p : Place). Looks c p r) (ap (λ (t : Thread). t.place) idle.0 ∙ idle.1) looks))
+]
+
+same_shown : (kind : CallKind) (c : Call) → path.shown_by kind c ≡ shown_by kind c
+same_shown Display c = refl
+same_shown Strobe c = refl
+
+same_shows : (f : Statement-F Statement) → path.statement_shows f ≡ own_shows f
+same_shows (Statement-F.Call n c) = same_shown c.kind c
+same_shows f = refl
+
+-- it shows the same in a text
+erased_shows : (k : Todo) → path.todo_shows (erased k) ≡ todo_shows k
+erased_shows [] = refl
+erased_shows (perform s ∷ rest) = same_shows (out-Statement s)
+erased_shows (turns n s ∷ rest) = refl
+
+-- a place that reads is one where the process can be
+pub record Reading (d : Parts) (c : Claims) (i time : ℕ) (r : BitRange) (p : Place) : Type 0 where
+  pub k : Todo
+  pub here : Here d c i time k
+  pub reads : Reads d c k r
+  pub hot : (u : ℕ) → HotAt d i u p → IsHot d i u k
+
+pub reading : (d : Parts) (c : Claims) (i time : ℕ) (r : BitRange) (p : Place) → Stands d c i time p → Looks c p r → Reading d c i time r p
+reading d c i time r (going gait k) h (inl reads) = record {
+  k = erased k;
+  here = h;
+  reads = inl (subst (λ rs. Contains rs r) (sym (erased_reads k)) reads, tt);
+  hot = λ u hot. hot;
+}
+reading d c i time r (going gait k) h (inr (displays, shows)) = record {
+  k = erased k;
+  here = h;
+  reads = inr (displays, (subst (λ rs. Contains rs r) (sym (erased_shows k)) shows, tt));
+  hot = λ u hot. hot;
+}
+reading d c i time r (sleeping due k) h looks = absurd (no_looks c r looks)
+reading d c i time r (inactive k) h looks = absurd (no_looks c r looks)
+reading d c i time r (waiting terms k) h looks = absurd (no_looks c r looks)
+reading d c i time r ended h looks = absurd (no_looks c r looks)

@@ -1,0 +1,11 @@
+pub mod Kept
+pub mod Certificates
+pub mod Texts
+pub mod Rise
+pub mod BlockPoints
+pub mod Block
+pub mod Race
+pub mod Swap
+pub mod SwapNow
+pub mod SwapPoints
+pub mod SwapLater

@@ -1,0 +1,10 @@
+//! Designs that keep the rules of a certificate, and designs that keep those of none.
+#![tactic(auto)]
+
+mod laws;
+
+pub use laws::{
+    a_block_at_a_net_keeps_the_rules, a_block_keeps_the_rules, a_clocked_design_keeps_the_rules,
+    a_race_keeps_no_rules, a_race_of_edges_keeps_no_rules, a_rise_keeps_the_rules,
+    a_wrong_mode_is_told,
+};

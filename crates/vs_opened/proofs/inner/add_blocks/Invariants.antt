@@ -1,9 +1,0 @@
-use Rattle.std.proofs.Common.{◌≡◌, ◌++◌, map, drop}
-use Rattle.vs_pieces.specs.Pieces.{NamedBlock}
-use Rattle.vs_pieces.specs.Reads.{read_block}
-use Rattle.vs_scopes.specs.passes.Answers.{borrowed}
-use Rattle.vs_opened.proofs.inner.add_blocks.Given as goal
-
-abbrev pub invariant-loop-block : goal.invariant-loop-block
-invariant-loop-block l =
-    borrowed l.names.items ++ map (λ (b : NamedBlock). b.name) (map read_block (drop l.block-index l.blocks)) ≡ borrowed l.fn.names.items ++ map (λ (b : NamedBlock). b.name) (map read_block l.blocks)

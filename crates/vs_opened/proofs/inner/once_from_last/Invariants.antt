@@ -1,7 +1,0 @@
-use Rattle.std.proofs.Common.{◌-◌, length, drop}
-use Rattle.vs_scopes.specs.passes.Answers.{borrowed}
-use Rattle.vs_opened.specs.passes.Naming.{KeepsOnce}
-use Rattle.vs_opened.proofs.inner.once_from_last.Given as goal
-
-abbrev pub invariant-loop-step : goal.invariant-loop-step
-invariant-loop-step l = KeepsOnce (borrowed (drop (length l.list - l.step) l.list)) l.there (borrowed l.kept.items)

@@ -1,0 +1,4 @@
+pub mod Declarations
+pub mod Headers
+pub mod InstanceLemmas
+pub mod PortLemmas

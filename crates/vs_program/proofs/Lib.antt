@@ -1,0 +1,5 @@
+mod Buffers
+mod Ends
+mod Given
+mod Inputs
+mod Rows

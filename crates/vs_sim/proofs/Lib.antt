@@ -1,4 +1,0 @@
-mod Ends
-mod Given
-mod Inputs
-mod Rows

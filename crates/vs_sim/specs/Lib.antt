@@ -1,7 +1,0 @@
-pub mod Asks
-pub mod Ends
-pub mod Given
-pub mod Inputs
-pub mod Options
-pub mod Statuses
-pub mod Texts

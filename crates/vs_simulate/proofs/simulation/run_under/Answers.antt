@@ -1,0 +1,10 @@
+use Rattle.vs_process.proofs.Effects.{on_err}
+use Rattle.vs_run_events.proofs.Appending.{append_none}
+use Rattle.vs_kernel.proofs.RunsLemmas.{header_failed}
+use Rattle.vs_simulate.proofs.simulation.run_under.Goals as goal
+
+pub returns-in_err-kernel-clause-begun : goal.returns-in_err-kernel-clause-begun
+returns-in_err-kernel-clause-begun g c = on_err _ (header_failed (0, append_none _))
+
+pub returns-in_default-clause-begun : goal.returns-in_default-clause-begun
+returns-in_default-clause-begun g c = header_failed (0, append_none _)

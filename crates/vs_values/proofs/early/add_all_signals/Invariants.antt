@@ -1,9 +1,0 @@
-use Rattle.std.proofs.Common.{None, map, take}
-use Rattle.std.specs.List.{flat_map}
-use Rattle.vs_pieces.specs.Reads.{read_piece}
-use Rattle.vs_scopes.specs.Declarations.{declared_in, unsized_names}
-use Rattle.vs_scopes.specs.passes.Declared.{AddsNames}
-use Rattle.vs_values.proofs.early.add_all_signals.Given as goal
-
-abbrev pub invariant-loop-piece : goal.invariant-loop-piece
-invariant-loop-piece l = AddsNames l.fn.names l.names (unsized_names (flat_map (declared_in (λ n. None)) (map read_piece (take l.piece-index l.pieces))))

@@ -1,8 +1,0 @@
-use Rattle.std.proofs.Common.{None, map, take}
-use Rattle.vs_scopes.specs.Ranges.{Sized}
-use Rattle.vs_scopes.specs.Declarations.{declared_local, unsized_names}
-use Rattle.vs_scopes.specs.passes.Declared.{AddsNames}
-use Rattle.vs_values.proofs.early.add_locals.Given as goal
-
-abbrev pub invariant-loop-one : goal.invariant-loop-one
-invariant-loop-one l = (z : Sized) → AddsNames l.fn.names l.names (unsized_names (map (declared_local (λ n. None) l.kind z) (take l.one-index l.locals)))

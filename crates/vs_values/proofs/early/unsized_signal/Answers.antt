@@ -1,5 +1,0 @@
-use Rattle.vs_values.proofs.EarlyLemmas.{unsized_is}
-use Rattle.vs_values.proofs.early.unsized_signal.Goals as goal
-
-pub returns : goal.returns
-returns c = unsized_is c.args.kind _ _

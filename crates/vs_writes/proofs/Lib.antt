@@ -1,5 +1,0 @@
-pub mod Among
-pub mod Filled
-mod Named
-mod Todos
-mod Writes
