@@ -3,7 +3,7 @@ use Rattle.std.specs.Prelude.{◌≡◌, ℕ, ◌+◌, ◌<◌, ◌^◌, Option,
 use Rattle.std.specs.Str.{bytes_eq}
 use Rattle.vs_design.specs.Stores.{Store}
 
--- a line of a strobe call, and the process that made the call (clause 17.1.2)
+-- a line of a call of `$display` or `$strobe`, and the process that made the call (clauses 17.1.1 and 17.1.2)
 pub record Line : Type 0 where
   pub by : ℕ
   pub text : List ℕ

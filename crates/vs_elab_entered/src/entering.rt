@@ -23,7 +23,7 @@ use std::alloc::Global;
 use std::slice;
 use vs_design::ScopeKind;
 use vs_elab_generate::{Inner, Use};
-use vs_elab_implicit_nets::{Surroundings, block_members, module_members};
+use vs_elab_implicit_nets::{Enclosing, block_members, module_members};
 use vs_elab_listed::{
     ListedScope, Numbering, connections, fault_at, named_fault, names_outward, path_inside,
     scope_fault,
@@ -158,7 +158,7 @@ fn module_scope<'s>(
     let Some(ends) = connections(alloc, one, &ports)? else {
         return Err(named_fault(alloc, list, place, one.name, Reason::PortMismatch));
     };
-    let around = Surroundings {
+    let around = Enclosing {
         list,
         kind: ScopeKind::Module,
         around: Some(place),
@@ -255,7 +255,7 @@ fn block_scope<'s>(
         Ok(values) => values,
         Err(fault) => return Err(block_refusal(alloc, list, place, title, fault)),
     };
-    let around = Surroundings {
+    let around = Enclosing {
         list,
         kind: ScopeKind::Begin,
         around: Some(place),

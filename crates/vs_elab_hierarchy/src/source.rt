@@ -20,7 +20,7 @@ use crate::opening::open_inside;
 use std::alloc::{AllocError, Global};
 use vs_design::ScopeKind;
 use vs_elab_entered::{NamedModule, plain_title};
-use vs_elab_implicit_nets::{Surroundings, module_members, permits_behind};
+use vs_elab_implicit_nets::{Enclosing, module_members, permits_behind};
 use vs_elab_listed::{DEEPEST, Hierarchy, ListedScope, Numbering, fault_at};
 use vs_elab_parameters::{ParameterValues, values};
 use vs_elab_pieces::{ScopePiece, pieces};
@@ -92,7 +92,7 @@ fn top_scope<'s>(alloc: Global, listed: NamedModule<'s>) -> Result<ListedScope<'
     let values = top_values(alloc, module, &ports, &pieces)?;
     let mut within = Vec::new(alloc);
     within.push(module.name.as_slice())?;
-    let around = Surroundings {
+    let around = Enclosing {
         list: &[],
         kind: ScopeKind::Module,
         around: None,

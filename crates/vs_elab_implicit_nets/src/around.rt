@@ -13,7 +13,7 @@ use vs_widths::Names;
 
 /// What is around a scope: the scopes before it, what it is, the place of the scope around it, and that of the piece there that opens it.
 #[derive(Clone, Copy)]
-pub struct Surroundings<'a, 's> {
+pub struct Enclosing<'a, 's> {
     /// The scopes.
     pub list: &'a [ListedScope<'s>],
     /// What it is.
@@ -36,7 +36,7 @@ fn is_declared(sight: Sight) -> bool
 }
 
 /// Whether a name is declared in a scope whose text declares these names, or stands declared around it.
-pub fn is_known(around: Surroundings, text: &Names<Binding>, name: &[u8]) -> bool
+pub fn is_known(around: Enclosing, text: &Names<Binding>, name: &[u8]) -> bool
     requires place { IsPlaced around }
     requires seated { AreSeated around.list.now }
     ensures { (ss : List Scope) (s : Scope) → IsAround ss around.entry s → result ≡ is_known text.now s.sight name.now }

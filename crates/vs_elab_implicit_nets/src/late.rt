@@ -8,7 +8,7 @@ ghost use Rattle.vs_scopes.specs.passes.Names.{read_path};
 ghost use Rattle.vs_elab_listed.specs.Opened.{AreSeated};
 ghost use Rattle.vs_elab_implicit_nets.specs.passes.Nets.{IsAround, IsPlaced, IsTold, IsLate, late_among};
 
-use crate::around::Surroundings;
+use crate::around::Enclosing;
 use std::alloc::Global;
 use vs_elab_listed::{Level, Sight, member_fault, named_fault, own_sight, sight_around};
 use vs_elab_pieces::{ScopePiece, names_used};
@@ -17,7 +17,7 @@ use vs_width_selects::Binding;
 use vs_widths::Names;
 
 /// Sees that a name, which the scope itself doesn't declare, is none of a net that is declared behind.
-fn check_outward(alloc: Global, around: Surroundings, name: &[u8]) -> Result<(), ElabFault>
+fn check_outward(alloc: Global, around: Enclosing, name: &[u8]) -> Result<(), ElabFault>
     requires place { IsPlaced around }
     requires seated { AreSeated around.list.now }
     ensures { (ss : List Scope) (s : Scope) → IsAround ss around.entry s →
@@ -40,7 +40,7 @@ fn check_outward(alloc: Global, around: Surroundings, name: &[u8]) -> Result<(),
 /// Sees that a name that the piece at a place uses is none of a net that is declared behind.
 fn check_name(
     alloc: Global,
-    around: Surroundings,
+    around: Enclosing,
     path: &[PathName],
     text: &Names<Binding>,
     told: &Names<usize>,
@@ -63,7 +63,7 @@ fn check_name(
 /// Sees that names that the piece at a place uses are none of nets that are declared behind.
 fn check_names(
     alloc: Global,
-    around: Surroundings,
+    around: Enclosing,
     path: &[PathName],
     text: &Names<Binding>,
     told: &Names<usize>,
@@ -85,7 +85,7 @@ fn check_names(
 /// Sees that no net is declared behind its use in these pieces, which are those of a scope of these names (IEEE 1364-2005, clause 4.5).
 pub fn check_late(
     alloc: Global,
-    around: Surroundings,
+    around: Enclosing,
     path: &[PathName],
     text: &Names<Binding>,
     told: &Names<usize>,

@@ -9,7 +9,7 @@ mod nets;
 mod permits;
 mod texts;
 
-pub use around::Surroundings;
+pub use around::Enclosing;
 pub use blocks::check_blocks;
 pub use late::check_late;
 pub use members::{Members, block_members, module_members};

@@ -10,7 +10,7 @@ ghost use Rattle.vs_scopes.specs.passes.Parts.{read_port};
 ghost use Rattle.vs_elab_listed.specs.Opened.{AreSeated};
 ghost use Rattle.vs_elab_implicit_nets.specs.passes.Nets.{MeansAs, IsAround, IsPlaced, AreMembers};
 
-use crate::around::Surroundings;
+use crate::around::Enclosing;
 use crate::nets::with_nets;
 use crate::texts::{block_text, module_text};
 use std::alloc::{AllocError, Global};
@@ -36,7 +36,7 @@ pub struct Members<'s> {
 fn gathered<'s>(
     alloc: Global,
     nets: bool,
-    around: Surroundings,
+    around: Enclosing,
     text: Names<'s, Binding>,
     pieces: Vec<ScopePiece<'s>>,
 ) -> Result<Members<'s>, AllocError>
@@ -54,7 +54,7 @@ fn gathered<'s>(
 pub fn module_members<'s>(
     alloc: Global,
     nets: bool,
-    around: Surroundings,
+    around: Enclosing,
     module: &'s Module,
     ports: &[ModulePort<'s>],
     pieces: Vec<ScopePiece<'s>>,
@@ -74,7 +74,7 @@ pub fn module_members<'s>(
 pub fn block_members<'s>(
     alloc: Global,
     nets: bool,
-    around: Surroundings,
+    around: Enclosing,
     constants: &[(&'s [u8], Const)],
     pieces: Vec<ScopePiece<'s>>,
 ) -> Result<Members<'s>, AllocError>

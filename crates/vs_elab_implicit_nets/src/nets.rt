@@ -8,7 +8,7 @@ ghost use Rattle.vs_scopes.specs.passes.Parts.{IsSet};
 ghost use Rattle.vs_elab_listed.specs.Opened.{AreSeated};
 ghost use Rattle.vs_elab_implicit_nets.specs.passes.Nets.{IsAround, IsPlaced, AddsNets};
 
-use crate::around::{Surroundings, is_known};
+use crate::around::{Enclosing, is_known};
 use std::alloc::{AllocError, Global};
 use vs_elab_pieces::{ScopePiece, names_used};
 use vs_width_selects::Binding;
@@ -16,7 +16,7 @@ use vs_widths::Names;
 
 /// Adds the net of a name that is used, where the name isn't known and wasn't used before.
 fn add_net<'s>(
-    around: Surroundings,
+    around: Enclosing,
     text: &Names<Binding>,
     name: &'s [u8],
     used: &mut Names<'s, bool>,
@@ -40,7 +40,7 @@ fn add_net<'s>(
 
 /// Adds the nets of names that are used.
 fn add_nets<'s>(
-    around: Surroundings,
+    around: Enclosing,
     text: &Names<Binding>,
     names: &[&'s [u8]],
     used: &mut Names<'s, bool>,
@@ -60,7 +60,7 @@ fn add_nets<'s>(
 /// Pieces, each behind the nets of the names that it is the first to use.
 fn all_nets<'s>(
     alloc: Global,
-    around: Surroundings,
+    around: Enclosing,
     text: &Names<Binding>,
     pieces: &[ScopePiece<'s>],
 ) -> Result<Vec<ScopePiece<'s>>, AllocError>
@@ -83,7 +83,7 @@ fn all_nets<'s>(
 pub fn with_nets<'s>(
     alloc: Global,
     nets: bool,
-    around: Surroundings,
+    around: Enclosing,
     text: &Names<Binding>,
     pieces: Vec<ScopePiece<'s>>,
 ) -> Result<Vec<ScopePiece<'s>>, AllocError>

@@ -15,7 +15,7 @@ ghost use Rattle.vs_elab_scope.specs.passes.Own.{HoldsOwn, IsFitting, HasFitting
 use std::alloc::{AllocError, Global};
 use vs_design::{Entry, ScopeKind};
 use vs_elab_generate::turns_behind;
-use vs_elab_implicit_nets::{Surroundings, check_late};
+use vs_elab_implicit_nets::{Enclosing, check_late};
 use vs_elab_listed::{
     Declared, LEVELS, ListedScope, Numbering, Site, bind_all, bind_constants, declare_pieces,
     declare_ports, fault_at, genvars, has_parameter, has_wrong_port, inner_names, member_fault,
@@ -235,7 +235,7 @@ fn check_nets(
     ensures { (ss : List Scope) (s : Scope) → AreOpened list.now ss → EntersLast ss scope.now s → read_path path.now ≡ s.path →
         MatchResult result (λ _. HasTimelyNets s) (Told (HoldsOwn s)) }
 {
-    let around = Surroundings {
+    let around = Enclosing {
         list,
         kind: scope.kind,
         around: scope.around,

@@ -6,6 +6,8 @@ ghost use Rattle.vs_elab_operands.specs.Surroundings.{Surroundings};
 ghost use Rattle.vs_elab_operands.specs.passes.Faults.{IsBelow};
 ghost use Rattle.vs_elab_operands.specs.passes.Views.{IsView, IsPlaced};
 ghost use Rattle.vs_elab_operands.specs.passes.Bodies.{Embodies};
+ghost use Rattle.vs_elab_pieces.specs.Pieces.{blocks_in};
+ghost use Rattle.vs_elab_statements.specs.Blocks.{HaveScopes};
 
 use crate::statements::statement;
 use std::alloc::Global;
@@ -29,9 +31,10 @@ pub fn set_body(
     Ok(Statement::Assign(0, target, source))
 }
 
-/// The body of a process that runs a statement once.
+/// The body of a process that runs a statement once. The named blocks in it have their scopes in the list.
 pub fn run_body(alloc: Global, view: &View, s: &Stmt) -> Result<Statement, StatementFault>
-    requires { IsPlaced view.now.list.now view.now.place }
+    requires placed { IsPlaced view.now.list.now view.now.place }
+    requires blocks { HaveScopes view.now.list.now view.now.place (blocks_in s.now) }
     ensures answer { (envs : Path → Surroundings) (p : Path) → IsView view.now envs p →
         Embodies view.now.list.now envs p (runs s.now) result }
     ensures below { IfErr result (IsBelow (length view.now.list.now)) }
@@ -40,9 +43,10 @@ pub fn run_body(alloc: Global, view: &View, s: &Stmt) -> Result<Statement, State
     statement(alloc, view, &mut next, s)
 }
 
-/// The body of a process that runs a statement for ever.
+/// The body of a process that runs a statement for ever. The named blocks in it have their scopes in the list.
 pub fn repeat_body(alloc: Global, view: &View, s: &Stmt) -> Result<Statement, StatementFault>
-    requires { IsPlaced view.now.list.now view.now.place }
+    requires placed { IsPlaced view.now.list.now view.now.place }
+    requires blocks { HaveScopes view.now.list.now view.now.place (blocks_in s.now) }
     ensures answer { (envs : Path → Surroundings) (p : Path) → IsView view.now envs p →
         Embodies view.now.list.now envs p (repeats s.now) result }
     ensures below { IfErr result (IsBelow (length view.now.list.now)) }

@@ -10,6 +10,9 @@ ghost use Rattle.vs_scopes.specs.Printed.{plainly, Path};
 ghost use Rattle.vs_elab_operands.specs.Surroundings.{Surroundings};
 ghost use Rattle.vs_elab_operands.specs.passes.Faults.{IsBelow};
 ghost use Rattle.vs_elab_operands.specs.passes.Views.{IsView, IsPlaced};
+ghost use Rattle.vs_elab_pieces.specs.Pieces.{blocks_among, blocks_in};
+ghost use Rattle.vs_elab_pieces.specs.passes.Parts.{blocks_in_items};
+ghost use Rattle.vs_elab_statements.specs.Blocks.{HasScope, HaveScopes};
 ghost use Rattle.vs_elab_operands.specs.passes.Bodies.{Answers, MeansStatement, MeansStatements, MeansElse, MeansItems, statement_burden, statements_burden, items_burden, named_burden, else_list};
 
 use std::alloc::Global;
@@ -33,7 +36,8 @@ pub fn statement(
     next: &mut u32,
     s: &Stmt,
 ) -> Result<Statement, StatementFault>
-    requires { IsPlaced view.now.list.now view.now.place }
+    requires placed { IsPlaced view.now.list.now view.now.place }
+    requires blocks { HaveScopes view.now.list.now view.now.place (blocks_in s.now) }
     ensures answer { (envs : Path → Surroundings) (p : Path) → IsView view.now envs p →
         Answers view.now.list.now envs p (statement_burden (envs p) next.old s.now)
         (λ d. MeansStatement envs p next.old s.now d next.new) result }
@@ -93,7 +97,8 @@ fn for_statement(
     x: &Box<Stmt>,
     head: &Box<ForHeader>,
 ) -> Result<Statement, StatementFault>
-    requires { IsPlaced view.now.list.now view.now.place }
+    requires placed { IsPlaced view.now.list.now view.now.place }
+    requires blocks { HaveScopes view.now.list.now view.now.place (blocks_in x.now.value) }
     ensures answer { (envs : Path → Surroundings) (p : Path) → IsView view.now envs p →
         Answers view.now.list.now envs p (statement_burden (envs p) next.old (form.For head.now x.now))
         (λ d. MeansStatement envs p next.old (form.For head.now x.now) d next.new) result }
@@ -112,7 +117,8 @@ fn statements(
     next: &mut u32,
     all: &[Stmt],
 ) -> Result<Vec<Statement>, StatementFault>
-    requires { IsPlaced view.now.list.now view.now.place }
+    requires placed { IsPlaced view.now.list.now view.now.place }
+    requires blocks { HaveScopes view.now.list.now view.now.place (blocks_among all.now) }
     ensures answer { (envs : Path → Surroundings) (p : Path) → IsView view.now envs p →
         Answers view.now.list.now envs p (statements_burden (envs p) next.old all.now)
         (λ d. MeansStatements envs p next.old all.now d.items next.new) result }
@@ -136,7 +142,8 @@ fn block(
     name: &[u8],
     all: &[Stmt],
 ) -> Result<Vec<Statement>, StatementFault>
-    requires { IsPlaced view.now.list.now view.now.place }
+    requires placed { IsPlaced view.now.list.now view.now.place }
+    requires blocks { HasScope view.now.list.now view.now.place name.now all.now }
     ensures answer { (envs : Path → Surroundings) (p : Path) (locals : List LocalDeclaration) → IsView view.now envs p →
         Answers view.now.list.now envs p (named_burden next.old (record { name = name.now; locals = locals; statements = all.now }))
         (λ d. MeansStatements envs (p ++ plainly name.now ∷ []) next.old all.now d.items next.new) result }
@@ -146,7 +153,7 @@ fn block(
     let here = view.place;
     let outer = &list[here];
     let Some(place) = outer.blocks.find(name) else {
-        return Err(StatementFault::Memory);
+        unreachable!()
     };
     let scope = &list[place];
     let around = names_around(alloc, list, scope.kind, scope.around)?;
@@ -171,7 +178,8 @@ fn behind(
     next: &mut u32,
     s: &Stmt,
 ) -> Result<(u32, Statement), StatementFault>
-    requires { IsPlaced view.now.list.now view.now.place }
+    requires placed { IsPlaced view.now.list.now view.now.place }
+    requires blocks { HaveScopes view.now.list.now view.now.place (blocks_in s.now) }
     ensures answer { (envs : Path → Surroundings) (p : Path) → IsView view.now envs p →
         Answers view.now.list.now envs p (statement_burden (envs p) (next.old + 1) s.now)
         (λ q. (q.0 ≡ next.old) × MeansStatement envs p (next.old + 1) s.now q.1 next.new) result }
@@ -190,7 +198,8 @@ fn otherwise(
     next: &mut u32,
     other: &Option<Box<Stmt>>,
 ) -> Result<Statement, StatementFault>
-    requires { IsPlaced view.now.list.now view.now.place }
+    requires placed { IsPlaced view.now.list.now view.now.place }
+    requires blocks { HaveScopes view.now.list.now view.now.place (blocks_among (else_list other.now)) }
     ensures answer { (envs : Path → Surroundings) (p : Path) → IsView view.now envs p →
         Answers view.now.list.now envs p (statements_burden (envs p) next.old (else_list other.now))
         (λ y. MeansElse envs p next.old other.now y next.new) result }
@@ -215,7 +224,8 @@ fn case_statement(
     kind: CaseKind,
     e: &Box<Expr>,
 ) -> Result<Statement, StatementFault>
-    requires { IsPlaced view.now.list.now view.now.place }
+    requires placed { IsPlaced view.now.list.now view.now.place }
+    requires blocks { HaveScopes view.now.list.now view.now.place (blocks_in_items all.now) }
     ensures answer { (envs : Path → Surroundings) (p : Path) (v : Vec (CaseLabel × Stmt) Global) → v.items ≡ all.now
         → IsView view.now envs p → Answers view.now.list.now envs p (statement_burden (envs p) next.old (form.Case kind e.now v))
         (λ d. MeansStatement envs p next.old (form.Case kind e.now v) d next.new) result }
@@ -236,7 +246,8 @@ fn items(
     shape: Shape,
     all: &[(CaseLabel, Stmt)],
 ) -> Result<Vec<(Vec<Typed>, Statement)>, StatementFault>
-    requires { IsPlaced view.now.list.now view.now.place }
+    requires placed { IsPlaced view.now.list.now view.now.place }
+    requires blocks { HaveScopes view.now.list.now view.now.place (blocks_in_items all.now) }
     ensures answer { (envs : Path → Surroundings) (p : Path) → IsView view.now envs p →
         Answers view.now.list.now envs p (items_burden (envs p) next.old all.now)
         (λ v. MeansItems envs p shape next.old all.now v.items next.new) result }

@@ -8,4 +8,5 @@ pub mod PartLemmas
 pub mod DriverLemmas
 pub mod SoundLemmas
 pub mod MadeLemmas
+pub mod BlockLemmas
 pub mod ScaleLemmas

@@ -151,19 +151,19 @@ paths_kept (x ∷ now) = ap (λ z. x.path.items ∷ z) (paths_kept now)
 
 module _ (source : Source) (top : List ℕ) (x : Hierarchy) (o : OpensAll source.modules.items top x) where
   -- a scope of the list has what the one that it stands for has
-  opened_at : (i : ℕ) (s : Scope) → slice_get (scopes_of source.modules.items top) i ≡ Some s → (y : FoundScope) × ((slice_get x.scopes.items i ≡ Some y) × IsOpened (scopes_of source.modules.items top) y s)
+  pub opened_at : (i : ℕ) (s : Scope) → slice_get (scopes_of source.modules.items top) i ≡ Some s → (y : FoundScope) × ((slice_get x.scopes.items i ≡ Some y) × IsOpened (scopes_of source.modules.items top) y s)
   opened_at i s h = zip_other (IsOpened (scopes_of source.modules.items top)) x.scopes.items (scopes_of source.modules.items top) i s o.scopes.each h
 
   none_at : (i : ℕ) (s : Scope) (r : Reason) (p : Path) → slice_get (scopes_of source.modules.items top) i ≡ Some s → HoldsOpening source.modules.items s r p → ⊥
   none_at i s r p h u = o.none r p (inr (opening_at source.modules.items (scopes_of source.modules.items top) i s r p h u))
 
-  named_once : (i : ℕ) (s : Scope) → slice_get (scopes_of source.modules.items top) i ≡ Some s → IsDistinct bytes_eq (all_names_of s)
+  pub named_once : (i : ℕ) (s : Scope) → slice_get (scopes_of source.modules.items top) i ≡ Some s → IsDistinct bytes_eq (all_names_of s)
   named_once i s h = distinct_from (all_names_of s) (λ n u. none_at i s DeclaredTwice (named s n) h (inl (record { name = n; repeated = u; path = refl })))
 
   once : DeclareOnce (scopes_of source.modules.items top)
   once = all_from (λ (s : Scope). IsDistinct bytes_eq (all_names_of s)) (scopes_of source.modules.items top) named_once
 
-  counted_at : (i : ℕ) (s : Scope) → slice_get (scopes_of source.modules.items top) i ≡ Some s → length s.pieces < 2 ^ 63
+  pub counted_at : (i : ℕ) (s : Scope) → slice_get (scopes_of source.modules.items top) i ≡ Some s → length s.pieces < 2 ^ 63
   counted_at i s h =
       let y = opened_at i s h in
       let ps = y.0.pieces in
@@ -179,14 +179,14 @@ module _ (source : Source) (top : List ℕ) (x : Hierarchy) (o : OpensAll source
   based : AreBased (scopes_of source.modules.items top)
   based i s h = (scopes_are_numbered source.modules.items top i s h).1
 
-  inside : AreInside (scopes_of source.modules.items top)
+  pub inside : AreInside (scopes_of source.modules.items top)
   inside i s h = (let y = opened_at i s h in by y.0.around y.1.1.entered.around)
     where
       by : (a : Option ℕ) → StandsAround (scopes_of source.modules.items top) a s → IsOutermost s ⊎ ((j : ℕ) × ((j < i) × IsWithin (scopes_of source.modules.items top) j s))
       by None u = inl u
       by (Some j) u = (let place = o.scopes.places i s h in let below : j < s.number = u.before in inr (j, (omega (arith, place, below), u)))
 
-  differ : IsDistinct same_path (scope_paths (scopes_of source.modules.items top)) × IsDistinct same_path (signal_paths (scopes_of source.modules.items top))
+  pub differ : IsDistinct same_path (scope_paths (scopes_of source.modules.items top)) × IsDistinct same_path (signal_paths (scopes_of source.modules.items top))
   differ = paths_differ source.modules.items top once few
 
   -- ---- what the scopes of the list must be
@@ -194,7 +194,7 @@ module _ (source : Source) (top : List ℕ) (x : Hierarchy) (o : OpensAll source
   pub sites : (ratio : ℕ) → AreSites x.scopes.items (scopes_of source.modules.items top) (surroundings_at ratio (scopes_of source.modules.items top))
   sites ratio = record { opened = o.scopes; blocks = o.blocks; ratio = ratio; names = names_found (scopes_of source.modules.items top) differ.0; ratios = λ place s e. refl }
 
-  long : length (scopes_of source.modules.items top) ≡ length x.scopes.items
+  pub long : length (scopes_of source.modules.items top) ≡ length x.scopes.items
   long = AllZip-long (IsOpened (scopes_of source.modules.items top)) x.scopes.items (scopes_of source.modules.items top) o.scopes.each
 
   blocks_within : (k : ℕ) (y : FoundScope) (n : List ℕ) (inner : ℕ) → slice_get x.scopes.items k ≡ Some y → meaning_of y.blocks n ≡ Some inner → inner < length x.scopes.items

@@ -10,7 +10,7 @@ ghost use Rattle.vs_elab_listed.specs.declared.opened.ListedScope.{ListedScope a
 ghost use Rattle.vs_elab_listed.specs.Opened.{AreOpened, AreSeated, StandsAround};
 ghost use Rattle.vs_elab_operands.specs.Surroundings.{Surroundings, surroundings_at};
 ghost use Rattle.vs_elab_operands.specs.passes.Views.{AreSites, IsPlaced};
-ghost use Rattle.vs_elaborate.specs.passes.Filling.{IsFrame, HasMembers, AreLefts, Fills, FillsNot, FillsOneNot, DrivesScope, FillsScope};
+ghost use Rattle.vs_elaborate.specs.passes.Filling.{IsFrame, HasMembers, AreLefts, HaveBlockScopes, Fills, FillsNot, FillsOneNot, DrivesScope, FillsScope};
 
 use crate::connecting::drive_ports;
 use crate::drivers::drive_pieces;
@@ -72,6 +72,7 @@ fn fill_frame(
 ) -> Result<(), ElabFault>
     requires placed { IsPlaced frame.now.view.list.now frame.now.view.place }
     requires lefts { AreLefts scope.now }
+    requires blocks { HaveBlockScopes frame.now.view.list.now frame.now.view.place scope.now.pieces.items }
     ensures { (envs : Path → Surroundings) (s : Scope) → IsFrame frame.now envs s → HasMembers scope.now s
         → meaning_of outer.now ≡ s.outer → MatchResult result (λ _. FillsScope envs s contents.old contents.new) (Told (FillsNot envs s)) }
 {
@@ -92,6 +93,7 @@ fn fill_named(
 ) -> Result<(), ElabFault>
     requires placed { IsPlaced list.now place }
     requires lefts { (o : FoundScope) → slice_get list.now place ≡ Some o → AreLefts o }
+    requires blocks { (o : FoundScope) → slice_get list.now place ≡ Some o → HaveBlockScopes list.now place o.pieces.items }
     ensures { (ss : List Scope) (s : Scope) → let envs = surroundings_at ratio.ticks ss in AreSites list.now ss envs
         → slice_get ss place ≡ Some s →
         meaning_of outer.now ≡ s.outer →
@@ -122,6 +124,7 @@ fn fill_within<'s>(
 ) -> Result<(), ElabFault>
     requires placed { IsPlaced list.now place }
     requires lefts { (o : FoundScope) → slice_get list.now place ≡ Some o → AreLefts o }
+    requires blocks { (o : FoundScope) → slice_get list.now place ≡ Some o → HaveBlockScopes list.now place o.pieces.items }
     requires nothing { nothing.now ≡ [] }
     ensures { (ss : List Scope) (s : Scope) → let envs = surroundings_at ratio.ticks ss in AreSites list.now ss envs
         → slice_get ss place ≡ Some s →
@@ -142,6 +145,7 @@ fn fill(
 ) -> Result<(), ElabFault>
     requires placed { IsPlaced list.now place }
     requires lefts { (o : FoundScope) → slice_get list.now place ≡ Some o → AreLefts o }
+    requires blocks { (o : FoundScope) → slice_get list.now place ≡ Some o → HaveBlockScopes list.now place o.pieces.items }
     ensures { (ss : List Scope) (s : Scope) → let envs = surroundings_at ratio.ticks ss in AreSites list.now ss envs
         → slice_get ss place ≡ Some s →
         MatchResult result (λ _. FillsScope envs s contents.old contents.new) (Told (FillsNot envs s)) }
@@ -154,6 +158,8 @@ fn fill(
 pub fn fill_all(alloc: Global, ratio: Ratio, list: &[ListedScope]) -> Result<Contents, ElabFault>
     requires placed { (place : ℕ) → place < length list.now → IsPlaced list.now place }
     requires lefts { (place : ℕ) (o : FoundScope) → slice_get list.now place ≡ Some o → AreLefts o }
+    requires blocks { (place : ℕ) (o : FoundScope) → slice_get list.now place ≡ Some o →
+        HaveBlockScopes list.now place o.pieces.items }
     ensures { (ss : List Scope) → let envs = surroundings_at ratio.ticks ss in AreSites list.now ss envs →
         MatchResult result (Fills envs ss) (Told (FillsOneNot envs ss)) }
 {

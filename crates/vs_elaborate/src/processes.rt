@@ -1,6 +1,7 @@
 //! The processes of a scope, as parts of a design.
 ghost use Rattle.std.specs.Prelude.{◌≡◌, ◌∷◌, [], Some, length, IfErr};
 ghost use Rattle.std.specs.List.{flat_map};
+ghost use Rattle.vs_elab_pieces.specs.Pieces.{blocks_of};
 ghost use Rattle.vs_elab_pieces.specs.Reads.{read_piece};
 ghost use Rattle.vs_scopes.specs.Printed.{Path};
 ghost use Rattle.vs_scopes.specs.Scopes.{Scope};
@@ -12,7 +13,8 @@ ghost use Rattle.vs_elab_operands.specs.Surroundings.{Surroundings};
 ghost use Rattle.vs_elab_operands.specs.passes.Bodies.{Embodies};
 ghost use Rattle.vs_elab_operands.specs.passes.Faults.{IsBelow};
 ghost use Rattle.vs_elab_operands.specs.passes.Views.{IsPlaced};
-ghost use Rattle.vs_elaborate.specs.passes.Filling.{IsFrame, Runs, RunsNot};
+ghost use Rattle.vs_elab_statements.specs.Blocks.{HaveScopes};
+ghost use Rattle.vs_elaborate.specs.passes.Filling.{IsFrame, Runs, RunsNot, HaveBlockScopes, process_blocks};
 
 use crate::frames::{Frame, process_fault};
 use std::alloc::Global;
@@ -113,7 +115,8 @@ fn run_item(
     item: &Item,
     contents: &mut Contents,
 ) -> Result<(), ElabFault>
-    requires { IsPlaced frame.now.view.list.now frame.now.view.place }
+    requires placed { IsPlaced frame.now.view.list.now frame.now.view.place }
+    requires blocks { HaveScopes frame.now.view.list.now frame.now.view.place (blocks_of item.now) }
     ensures { (envs : Path → Surroundings) (s : Scope) → IsFrame frame.now envs s →
         Grows (Runs envs s first contents.old) (Runs envs s first contents.new) (RunsNot envs s) (behaviors_by_item item.now) result }
 {
@@ -140,7 +143,8 @@ fn run_piece(
     piece: &ScopePiece,
     contents: &mut Contents,
 ) -> Result<(), ElabFault>
-    requires { IsPlaced frame.now.view.list.now frame.now.view.place }
+    requires placed { IsPlaced frame.now.view.list.now frame.now.view.place }
+    requires blocks { HaveScopes frame.now.view.list.now frame.now.view.place (process_blocks (read_piece piece.now)) }
     ensures { (envs : Path → Surroundings) (s : Scope) → IsFrame frame.now envs s →
         Grows (Runs envs s first contents.old) (Runs envs s first contents.new) (RunsNot envs s) (behaviors_in (read_piece piece.now)) result }
 {
@@ -158,7 +162,8 @@ pub fn run_pieces(
     pieces: &[ScopePiece],
     contents: &mut Contents,
 ) -> Result<(), ElabFault>
-    requires { IsPlaced frame.now.view.list.now frame.now.view.place }
+    requires placed { IsPlaced frame.now.view.list.now frame.now.view.place }
+    requires blocks { HaveBlockScopes frame.now.view.list.now frame.now.view.place pieces.now }
     ensures { (envs : Path → Surroundings) (s : Scope) → IsFrame frame.now envs s →
         Grows (Runs envs s first contents.old) (Runs envs s first contents.new) (RunsNot envs s)
         (flat_map (λ x. behaviors_in (read_piece x)) pieces.now) result }

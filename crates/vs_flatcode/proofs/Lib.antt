@@ -9,4 +9,5 @@ pub mod Numbers
 pub mod Quick
 pub mod Shapes
 pub mod Starts
+pub mod TextMaps
 pub mod Ways

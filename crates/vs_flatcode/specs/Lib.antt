@@ -4,9 +4,11 @@ pub mod Drafts
 pub mod Extras
 pub mod Landings
 pub mod Links
+pub mod Maps
 pub mod Nexts
 pub mod Numbers
 pub mod Places
 pub mod Steps
+pub mod Stops
 pub mod Ways
 pub mod Went

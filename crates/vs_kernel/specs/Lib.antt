@@ -5,4 +5,4 @@ pub use Rattle.vs_run_events.specs.Prints
 pub mod Runs
 pub mod Shows
 pub mod Stages
-pub mod VcdFaults
+pub mod WriterFaults

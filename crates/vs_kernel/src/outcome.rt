@@ -1,11 +1,11 @@
 //! How a run ended.
 ghost use Rattle.std.specs.Prelude.{◌≡◌};
-ghost use Rattle.vs_kernel.specs.VcdFaults.{fault_of};
+ghost use Rattle.vs_kernel.specs.WriterFaults.{fault_of};
 ghost use Rattle.vs_kernel.specs.declared.outcome.RunFault.TheVariants.{Memory};
 
 use std::alloc::AllocError;
 use thiserror::Error;
-use vs_vcd::VcdFault;
+use vs_vcd::WriterFault;
 
 /// Where a run ended.
 #[derive(Clone, Copy, PartialEq, Eq, Debug)]
@@ -45,13 +45,13 @@ impl From<AllocError> for RunFault {
     }
 }
 
-impl From<VcdFault> for RunFault {
+impl From<WriterFault> for RunFault {
     ghost from_gives = { λ cause fault. fault ≡ fault_of cause };
 
-    fn from(cause: VcdFault) -> RunFault {
+    fn from(cause: WriterFault) -> RunFault {
         match cause {
-            VcdFault::Memory => RunFault::Memory,
-            VcdFault::Write => RunFault::Write,
+            WriterFault::Memory => RunFault::Memory,
+            WriterFault::Write => RunFault::Write,
         }
     }
 }

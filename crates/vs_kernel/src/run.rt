@@ -22,7 +22,7 @@ use vs_run_loop::take_steps;
 use vs_run_state::State;
 use vs_run_wakes::no_marks;
 use vs_time_wheel::EventQueue;
-use vs_vcd::{Sink, VcdFault};
+use vs_vcd::{Sink, WriterFault};
 
 /// For each process whether it is a combinational block.
 fn blocks_of(alloc: Global, processes: &[Process]) -> Result<Vec<bool>, AllocError>
@@ -94,7 +94,7 @@ fn execute<'a, Q: EventQueue<Due>, P: Pick, V: Sink, L: Sink>(
     steps: u64,
     vcd: &mut V,
     lines: &mut L,
-) -> Result<Outcome, VcdFault>
+) -> Result<Outcome, WriterFault>
     requires start { state.old ≡ states.start design.now }
     requires early { until < 2 ^ 62 }
     ensures ran { IfOk result (λ outcome. RanTo design.now until steps outcome
@@ -153,7 +153,7 @@ fn execute_codes<Q: EventQueue<Due> + Drop, P: Pick, V: Sink, L: Sink>(
     steps: u64,
     vcd: &mut V,
     lines: &mut L,
-) -> Result<Outcome, VcdFault>
+) -> Result<Outcome, WriterFault>
     requires empty { Q.bag queue ≡ [] }
     requires at_zero { Q.clock queue ≡ 0 }
     requires codes { codes.now ≡ map (λ p. p.body) design.now.processes }
@@ -189,7 +189,7 @@ pub(crate) fn launch<Q: EventQueue<Due> + Drop, P: Pick, V: Sink, L: Sink>(
     steps: u64,
     vcd: &mut V,
     lines: &mut L,
-) -> Result<Outcome, VcdFault>
+) -> Result<Outcome, WriterFault>
     requires empty { Q.bag queue ≡ [] }
     requires at_zero { Q.clock queue ≡ 0 }
     requires early { until < 2 ^ 62 }

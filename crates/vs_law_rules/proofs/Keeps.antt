@@ -16,7 +16,7 @@ use Rattle.vs_rules.specs.Drivers.{Driver}
 use Rattle.vs_rules.specs.Drivers as x
 use Rattle.vs_rules.specs.Rules.{K1_Signal, K1_Assign, K1_Process, K2, K3, K4, K6, K7, K8, K9, K10_Signal, K10_Process}
 use Rattle.vs_rules.specs.Blocks.{K5, K11}
-use Rattle.vs_rules.specs.Verdict.{Rule, k1, k2, k3, k4, k5, k6, k7, k8, k9, k10, k11, signal, assign, process, listed, numbers, subjects, Keeps, Disciplined, Keeping}
+use Rattle.vs_rules.specs.Verdict.{Rule, k1, k2, k3, k4, k5, k6, k7, k8, k9, k10, k11, signal, assign, process, listed, numbers, subjects, Keeps, KeepsAll, Disciplined, Keeping}
 use Rattle.vs_law_rules.proofs.Beginning.{path_point}
 use Rattle.vs_law_rules.proofs.Texts.{none_in, writes_now}
 use Rattle.vs_law_rules.proofs.Variables.{writes_variable}
@@ -203,16 +203,31 @@ by_place P xs i there past = by (slice_get xs i) refl
     by None is = past is
     by (Some x) is = there x is
 
+-- a rule of continuous assignments, of drivers and of processes, of all numbers
+pub assigns_named : (d : Parts) (c : Claims) → KeepsAll d c k1 → (j : ℕ) → K1_Assign d c j
+assigns_named d c all j =
+    by_place (K1_Assign d c j) d.assigns j (λ a is. let at = assign_at d c j a is in all at.0 (assign j) at.1)
+    (λ none. record { listed = λ name is. absurd (no_assign d j name none is); no_edge = λ name is. absurd (no_assign d j name none is) })
+
+pub order_kept : (d : Parts) (c : Claims) → KeepsAll d c k4 → (y : Driver) → K4 d c y
+order_kept d c all (x.assign j) =
+    by_place (K4 d c (x.assign j)) d.assigns j (λ a is. let at = assign_at d c j a is in all at.0 (assign j) at.1) (past_4a d c j)
+order_kept d c all (x.block i) =
+    by_place (K4 d c (x.block i)) d.processes i (λ p is. let at = process_at d c i p is in all at.0 (process i) at.1) (past_4b d c i)
+
+pub blocks_kept : (d : Parts) (c : Claims) → KeepsAll d c k5 → (i : ℕ) → K5 d c i
+blocks_kept d c all i = by_place (K5 d c i) d.processes i (λ p is. let at = process_at d c i p is in all at.0 (process i) at.1) (past_5 d c i)
+
 pub keeping : (d : Parts) (c : Claims) → WellFormed d → Disciplined d c → Keeping d c
 keeping d c formed dis = record {
   names_signals = λ v. by_place (K1_Signal d c v) d.signals v (of_signal k1 v) (λ none name is. absurd (no_signal d v name none is));
-  names_assigns = λ j. by_place (K1_Assign d c j) d.assigns j (of_assign k1 j) (λ none. record { listed = λ name is. absurd (no_assign d j name none is); no_edge = λ name is. absurd (no_assign d j name none is) });
+  names_assigns = assigns_named d c (dis k1);
   names_processes = λ i. by_place (K1_Process d c i) d.processes i (of_process k1 i) (past_1p d c i);
   names_known = λ n name is. let a = name_at d c n name is in dis k1 a.0 (listed name) a.1;
   writers = λ v. by_place (K2 d c v) d.signals v (of_signal k2 v) (past_2 d c formed v);
   modes = λ v. by_place (K3 d c v) d.signals v (of_signal k3 v) (λ none mode is. absurd (none-some mode (sym (ap mode_in (past_claim d c v none)) ∙ is)));
-  order = λ y. by_driver y;
-  blocks = λ i. by_place (K5 d c i) d.processes i (of_process k5 i) (past_5 d c i);
+  order = order_kept d c (dis k4);
+  blocks = blocks_kept d c (dis k5);
   roots = λ v. by_place (K6 d c v) d.signals v (of_signal k6 v) (past_6 d c v);
   edges = λ i. by_place (K7 d c i) d.processes i (of_process k7 i) (past_7 d c i);
   residues = λ i. by_place (K8 d c i) d.processes i (of_process k8 i) (past_8 d c i);
@@ -225,12 +240,5 @@ keeping d c formed dis = record {
     of_signal : (k : Rule) (v : ℕ) (s : Signal) → slice_get d.signals v ≡ Some s → Keeps d c k (signal v)
     of_signal k v s is = let a = signal_at d c v s is in dis k a.0 (signal v) a.1
 
-    of_assign : (k : Rule) (j : ℕ) (a : Assign) → slice_get d.assigns j ≡ Some a → Keeps d c k (assign j)
-    of_assign k j s is = let a = assign_at d c j s is in dis k a.0 (assign j) a.1
-
     of_process : (k : Rule) (i : ℕ) (p : Process) → slice_get d.processes i ≡ Some p → Keeps d c k (process i)
     of_process k i s is = let a = process_at d c i s is in dis k a.0 (process i) a.1
-
-    by_driver : (y : Driver) → K4 d c y
-    by_driver (x.assign j) = by_place (K4 d c (x.assign j)) d.assigns j (of_assign k4 j) (past_4a d c j)
-    by_driver (x.block i) = by_place (K4 d c (x.block i)) d.processes i (of_process k4 i) (past_4b d c i)

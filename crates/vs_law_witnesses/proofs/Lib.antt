@@ -9,3 +9,5 @@ pub mod Swap
 pub mod SwapNow
 pub mod SwapPoints
 pub mod SwapLater
+pub mod MixerPoints
+pub mod Mixer

@@ -1,13 +1,14 @@
 -- What texts write and read, and their delay controls: one equation for each kind of statement in the designs here.
-use Rattle.std.proofs.Common.{◌≡◌, ◌==◌, ◌&&◌, ℕ, zero, suc, Bool, true, false, Option, Some, None, option_map, List, [], ◌∷◌, ◌++◌, refl, sym, ◌∙◌, ap, subst, append-nil, lit<, lit≤, arith}
+use Rattle.std.proofs.Common.{◌≡◌, ◌==◌, ◌&&◌, ℕ, zero, suc, Bool, true, false, Option, Some, None, option_map, List, [], ◌∷◌, ◌++◌, map, refl, sym, ◌∙◌, ap, subst, append-nil, lit<, lit≤, arith}
 use Rattle.std.proofs.lemmas.Bool.{eq-eqb, false≢true, true≢false}
-use Rattle.std.specs.List.{Contains}
+use Rattle.std.specs.List.{Contains, list_all}
 use Rattle.std.specs.Str.{bytes_eq}
 use Rattle.std.specs.declared.alloc.Global.{Global}
 use Rattle.std.specs.declared.vec.Vec.{Vec}
 use Rattle.vs_logic4.specs.declared.digit.Digit.{Digit}
+use Rattle.vs_logic4.specs.declared.operators.Binary.{Binary}
 use Rattle.vs_logic4.specs.declared.operators.Unary.TheVariants as u
-use Rattle.vs_logic4.specs.Operators.{unary}
+use Rattle.vs_logic4.specs.Operators.{sizing_of, unary}
 use Rattle.vs_design.specs.declared.expression.Typed.{Typed, fold-roll-Typed}
 use Rattle.vs_design.specs.declared.expression.Typed.TheVariants as e
 use Rattle.vs_design.specs.declared.expression.Typed.TheOpen as t
@@ -22,10 +23,11 @@ use Rattle.vs_design.specs.declared.statement.Target.{Target}
 use Rattle.vs_design.specs.declared.statement.Ticks.{Ticks}
 use Rattle.vs_design.specs.Statements.{assignment_reads}
 use Rattle.vs_design.specs.Stores.{Store, word_of}
-use Rattle.vs_design.specs.Uses.{reads, reads_step, whole, writes}
-use Rattle.vs_design.specs.WellFormed.{are_sound_terms, is_sound_assignment, is_sound_statement, numbers, numbers_step, size_of, size_step, sound_step}
-use Rattle.vs_eval.specs.Values.{operand_value, value_of, value_step}
+use Rattle.vs_design.specs.Uses.{joined, reads, reads_step, whole, writes}
+use Rattle.vs_design.specs.WellFormed.{are_sound_terms, is_sound_assignment, is_sound_statement, numbers, numbers_step, size_of, size_step, sized_by, sound_step}
+use Rattle.vs_eval.specs.Values.{chained, operand_value, value_of, value_step}
 use Rattle.vs_design.specs.Parts.{Parts}
+use Rattle.vs_process.specs.Examples.{between}
 use Rattle.vs_flatcode.specs.Landings.{todo_behind}
 use Rattle.vs_flatcode.specs.Places.{Todo}
 use Rattle.vs_flatcode.specs.Steps.{Next, on, after, wait}
@@ -48,6 +50,20 @@ differ m n h e = true≢false (sym (eq-eqb m n e) ∙ h)
 pub one_in : {A : Type 0} (x z : A) → Contains (x ∷ []) z → x ≡ z
 one_in x z (zero, within, is) = is
 one_in x z (suc k, within, is) = absurd (omega (arith, within))
+
+-- ---- lists whose elements are known
+
+-- each element passes
+abbrev pub Each : {A : Type 0} → (A → Type 0) → List A → Type 0
+Each P [] = Unit {0}
+Each P (x ∷ xs) = P x × Each P xs
+
+pub each_in : {A : Type 0} (P : A → Type 0) (xs : List A) → Each P xs → (z : A) → Contains xs z → P z
+each_in P [] all z has = absurd (none_in z has)
+each_in P (x ∷ xs) all z (zero, within, is) = subst P is all.0
+each_in P (x ∷ xs) all z (suc k, within, is) = each_in P xs all.1 z (k, omega (arith, within), is)
+
+-- ---- the one way on
 
 among_none : (n : Next) (xs : List Next) → xs ≡ [] → Among n xs → ⊥
 among_none n _ e (Among.first xs) = cc
@@ -108,6 +124,9 @@ writes_event g n terms s = ap statement_writes (sym (y.rolls-Event n terms (boxe
 pub writes_forever : (g : Global) (n : ℕ) (s : Statement) → statement_writes (y.Forever n (boxed g s)) ≡ statement_writes s
 writes_forever g n s = ap statement_writes (sym (y.rolls-Forever n (boxed g s))) ∙ fold-roll-Statement (List BitRange) statement_writes_step (f.Forever n (boxed g s))
 
+pub writes_block : (all : Vec Statement Global) → statement_writes (y.Block all) ≡ joined (map statement_writes all.items)
+writes_block all = ap statement_writes (sym (y.rolls-Block all)) ∙ fold-roll-Statement (List BitRange) statement_writes_step (f.Block all)
+
 -- ---- what texts read
 
 pub reads_assign : (n : ℕ) (x : Target) (v : Typed) → text_reads (y.Assign n x v) ≡ assignment_reads x v
@@ -127,7 +146,13 @@ reads_event g n terms s = ap text_reads (sym (y.rolls-Event n terms (boxed g s))
 pub reads_forever : (g : Global) (n : ℕ) (s : Statement) → text_reads (y.Forever n (boxed g s)) ≡ text_reads s
 reads_forever g n s = ap text_reads (sym (y.rolls-Forever n (boxed g s))) ∙ fold-roll-Statement (List BitRange) text_reads_step (f.Forever n (boxed g s))
 
+pub reads_block : (all : Vec Statement Global) → text_reads (y.Block all) ≡ joined (map text_reads all.items)
+reads_block all = ap text_reads (sym (y.rolls-Block all)) ∙ fold-roll-Statement (List BitRange) text_reads_step (f.Block all)
+
 -- ---- the delay controls of texts
+
+pub controls_block : (all : Vec Statement Global) → controls_in (y.Block all) ≡ joined (map controls_in all.items)
+controls_block all = ap controls_in (sym (y.rolls-Block all)) ∙ fold-roll-Statement (List ℕ) controls_step (f.Block all)
 
 pub controls_assign : (n : ℕ) (x : Target) (v : Typed) → controls_in (y.Assign n x v) ≡ []
 controls_assign n x v = ap controls_in (sym (y.rolls-Assign n x v)) ∙ fold-roll-Statement (List ℕ) controls_step (f.Assign n x v)
@@ -159,6 +184,20 @@ size_inverse g =
 pub reads_inverse : (g : Global) → reads (inverse g) ≡ whole 0 ∷ []
 reads_inverse g = ap reads (sym (e.rolls-Unary u.Not (boxed g (operand 0)))) ∙ fold-roll-Typed (List BitRange) reads_step (t.Unary u.Not (boxed g (operand 0))) ∙ reads_operand 0
 
+-- an operator of one bit between two signals of one bit
+pub value_between : (g : Global) (operator : Binary) (left right : ℕ) (store : Store) (time : ℕ) →
+    value_of (between g operator left right) store time
+    ≡ chained (value_of (operand left) store time) ((record { operator = operator; width = 1; signed = false; sized = (lit< tt, lit≤ tt) }, value_of (operand right) store time) ∷ [])
+value_between g operator left right store time = ap (λ x. value_of x store time) (sym (e.rolls-Chain _ _)) ∙ fold-roll-Typed (List Digit) (value_step store time) (t.Chain _ _)
+
+pub reads_between : (g : Global) (operator : Binary) (left right : ℕ) → reads (between g operator left right) ≡ whole left ∷ whole right ∷ []
+reads_between g operator left right =
+    ap reads (sym (e.rolls-Chain _ _)) ∙ fold-roll-Typed (List BitRange) reads_step (t.Chain _ _) ∙ rw (reads_operand left, reads_operand right) refl
+
+pub size_between : (g : Global) (operator : Binary) (left right : ℕ) → size_of (between g operator left right) ≡ sized_by (sizing_of operator) 1 1 1
+size_between g operator left right =
+    ap size_of (sym (e.rolls-Chain _ _)) ∙ fold-roll-Typed (Option ℕ) size_step (t.Chain _ _) ∙ rw (size_operand left, size_operand right) refl
+
 -- ---- sound texts
 
 pub sound_later : (ss : List Signal) (n : ℕ) (ticks : Ticks) (x : Target) (v : Typed) → is_sound_statement ss (y.Later n ticks x v) ≡ is_sound_assignment ss x v
@@ -175,6 +214,12 @@ sound_event ss g n terms s h =
 
 pub sound_forever : (ss : List Signal) (g : Global) (n : ℕ) (s : Statement) → is_sound_statement ss (y.Forever n (boxed g s)) ≡ is_sound_statement ss s
 sound_forever ss g n s = ap (is_sound_statement ss) (sym (y.rolls-Forever n (boxed g s))) ∙ fold-roll-Statement Bool (sound_step ss) (f.Forever n (boxed g s))
+
+pub sound_block : (ss : List Signal) (all : Vec Statement Global) → is_sound_statement ss (y.Block all) ≡ list_all (λ b. b) (map (is_sound_statement ss) all.items)
+sound_block ss all = ap (is_sound_statement ss) (sym (y.rolls-Block all)) ∙ fold-roll-Statement Bool (sound_step ss) (f.Block all)
+
+pub numbers_block : (all : Vec Statement Global) → numbers (y.Block all) ≡ joined (map numbers all.items)
+numbers_block all = ap numbers (sym (y.rolls-Block all)) ∙ fold-roll-Statement (List ℕ) numbers_step (f.Block all)
 
 pub numbers_later : (n : ℕ) (ticks : Ticks) (x : Target) (v : Typed) → numbers (y.Later n ticks x v) ≡ n ∷ []
 numbers_later n ticks x v = ap numbers (sym (y.rolls-Later n ticks x v)) ∙ fold-roll-Statement (List ℕ) numbers_step (f.Later n ticks x v)

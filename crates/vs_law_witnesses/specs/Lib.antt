@@ -4,3 +4,4 @@ pub mod Rise
 pub mod Block
 pub mod Race
 pub mod Swap
+pub mod Mixer

@@ -1,5 +1,6 @@
 //! Designs that keep the rules of a certificate, and designs that keep those of none.
 ghost use Rattle.vs_law_witnesses.specs.Block.{ABlockAtANetKeepsTheRules, ABlockKeepsTheRules};
+ghost use Rattle.vs_law_witnesses.specs.Mixer.{AMixerKeepsTheRules};
 ghost use Rattle.vs_law_witnesses.specs.Race.{ARaceKeepsNoRules};
 ghost use Rattle.vs_law_witnesses.specs.Rise.{ARiseKeepsTheRules, AWrongModeIsTold};
 ghost use Rattle.vs_law_witnesses.specs.Swap.{AClockedDesignKeepsTheRules, ARaceOfEdgesKeepsNoRules};
@@ -22,6 +23,11 @@ pub fn a_block_keeps_the_rules()
 /// So does one whose block waits for a net that copies the variable, with both starts that it can have then.
 pub fn a_block_at_a_net_keeps_the_rules()
     ensures { ABlockAtANetKeepsTheRules }
+{}
+
+/// So does one whose block writes two variables, and reads the first for the second, with the two starts of a certificate of version 1.
+pub fn a_mixer_keeps_the_rules()
+    ensures { AMixerKeepsTheRules }
 {}
 
 /// A well formed design of a clock and two processes that exchange two bits by `<=` at its rising edges keeps the rules of a certificate.

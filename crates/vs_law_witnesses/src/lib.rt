@@ -5,6 +5,6 @@ mod laws;
 
 pub use laws::{
     a_block_at_a_net_keeps_the_rules, a_block_keeps_the_rules, a_clocked_design_keeps_the_rules,
-    a_race_keeps_no_rules, a_race_of_edges_keeps_no_rules, a_rise_keeps_the_rules,
-    a_wrong_mode_is_told,
+    a_mixer_keeps_the_rules, a_race_keeps_no_rules, a_race_of_edges_keeps_no_rules,
+    a_rise_keeps_the_rules, a_wrong_mode_is_told,
 };

@@ -58,22 +58,22 @@ each-without P (x ∷ xs) (suc i) h = (h.0, each-without P xs i h.1)
 -- ---- what is due
 
 -- a delay ends after a time
-abbrev Later : ℕ → Place → Type 0
+abbrev pub Later : ℕ → Place → Type 0
 Later time (sleeping due todo) = time < due
 Later time _ = Unit {0}
 
-abbrev NotBefore : ℕ → Update → Type 0
+abbrev pub NotBefore : ℕ → Update → Type 0
 NotBefore time u = time ≤ u.due
 
 abbrev Past : ℕ → Update → Type 0
 Past time u = time < u.due
 
 -- delays end after a time, and updates are due at it or after it
-record TimedAt (time : ℕ) (ps : List Place) (us : List Update) : Type 0 where
-  places : Each (Later time) ps
-  updates : Each (NotBefore time) us
+pub record TimedAt (time : ℕ) (ps : List Place) (us : List Update) : Type 0 where
+  pub places : Each (Later time) ps
+  pub updates : Each (NotBefore time) us
 
-abbrev Timed : State → Type 0
+abbrev pub Timed : State → Type 0
 Timed s = TimedAt s.time s.places s.updates
 
 later_active : (time : ℕ) (gait : Gait) (todo : Todo) → Later time (active_at gait todo)
@@ -170,7 +170,7 @@ timed_make s i (Some u) h = record { places = later_all_wakened s.time s.store (
 -- ---- the least due time
 
 -- a time is after another, where there is one
-abbrev Above : ℕ → Option ℕ → Type 0
+abbrev pub Above : ℕ → Option ℕ → Type 0
 Above time None = Unit {0}
 Above time (Some t) = time < t
 
@@ -294,12 +294,12 @@ enabled_of grain d s m h =
     let second = and_parts (not s.over) (is_enabled s m) first.0 in
     (not-true s.over second.0, second.1)
 
-timed : (grain : Grain) (d : Parts) (moves : List Move) → Legal grain d moves → Timed (after d moves)
+pub timed : (grain : Grain) (d : Parts) (moves : List Move) → Legal grain d moves → Timed (after d moves)
 timed grain d [] h = record { places = later_start d.processes; updates = tt }
 timed grain d (m ∷ before) h = timed_applied m (after d before) (enabled_of grain d (after d before) m h.1).1 (timed grain d before h.0)
 
 -- a slot ends before the next one
-next_above : (s : State) → is_enabled s EndSlot ≡ true → Timed s → Above s.time (next_time s)
+pub next_above : (s : State) → is_enabled s EndSlot ≡ true → Timed s → Above s.time (next_time s)
 next_above s e h =
     let a = and_parts (not (is_busy s) && not (has_inactive s)) (not (has_due s)) e in
     let b = and_parts (not (is_busy s)) (not (has_inactive s)) a.0 in

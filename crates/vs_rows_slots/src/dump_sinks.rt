@@ -4,7 +4,7 @@ use std::alloc::Global;
 use std::io;
 use std::io::{ErrorKind, Write};
 use std::process::Abort;
-use vs_vcd::{Counted, Sink, VcdFault, write_all};
+use vs_vcd::{Counted, Sink, WriterFault, write_all};
 
 // A writer that takes at most three bytes at a time, and fails once it holds `room` bytes.
 #[derive(Drop)]
@@ -40,8 +40,8 @@ fn failures(alloc: Global, sink: &mut Counted<Narrow>) -> Option<u64> {
     }
     match write_dump(alloc, sink, false, &slots_of_a_dump(), 10) {
         Ok(()) => Some(0),
-        Err(VcdFault::Write) => Some(1),
-        Err(VcdFault::Memory) => None,
+        Err(WriterFault::Write) => Some(1),
+        Err(WriterFault::Memory) => None,
     }
 }
 

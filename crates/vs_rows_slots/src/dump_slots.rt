@@ -3,7 +3,7 @@ use crate::small_design::{put, three_signals};
 use std::alloc::Global;
 use vs_design::{Design, Store};
 use vs_logic4::Vec4;
-use vs_vcd::{Sink, VcdFault, Writer};
+use vs_vcd::{Sink, Writer, WriterFault};
 
 pub static DUMP: &[u8] =
     b"$timescale 10 ps $end\n$scope module t $end\n$var reg 1 ! a $end\n$var reg 4 \" b [-1:2] $end\n$upscope $end\n$enddefinitions $end\n#0\n$dumpvars\n0!\nbx \"\n$end\n#5\n1!\n#7\nb101 \"\n#10\n";
@@ -19,7 +19,7 @@ fn write_slots<S: Sink>(
     store: &mut Store,
     slots: &[Slot],
     end: u64,
-) -> Result<(), VcdFault> {
+) -> Result<(), WriterFault> {
     for (time, written) in slots {
         if let Some((signal, digits)) = written {
             put(alloc, store, *signal, *digits)?;
@@ -36,7 +36,7 @@ fn write_dump_of<S: Sink>(
     design: &Design,
     slots: &[Slot],
     end: u64,
-) -> Result<(), VcdFault> {
+) -> Result<(), WriterFault> {
     let mut store = Store::start(alloc, design)?;
     let writer = Writer::header(alloc, sink, design)?;
     write_slots(alloc, sink, writer, &mut store, slots, end)
@@ -49,7 +49,7 @@ pub fn write_dump<S: Sink>(
     wide: bool,
     slots: &[Slot],
     end: u64,
-) -> Result<(), VcdFault> {
+) -> Result<(), WriterFault> {
     let design = three_signals(alloc, wide)?;
     write_dump_of(alloc, sink, &design, slots, end)
 }

@@ -4,14 +4,14 @@ use std::alloc::Global;
 use std::process::Abort;
 use std::test::Fail;
 use vs_logic4::Vec4;
-use vs_vcd::{Counted, Sink, VcdFault, shows_values_at_slot_ends};
+use vs_vcd::{Counted, Sink, WriterFault, shows_values_at_slot_ends};
 
 // The dump of the module with these slots, up to an end.
-fn dump_of(alloc: Global, wide: bool, slots: &[Slot], end: u64) -> Result<Vec<u8>, VcdFault> {
+fn dump_of(alloc: Global, wide: bool, slots: &[Slot], end: u64) -> Result<Vec<u8>, WriterFault> {
     let mut sink = Counted::new(Vec::new(alloc));
     write_dump(alloc, &mut sink, wide, slots, end)?;
     if sink.failures() > 0 {
-        return Err(VcdFault::Write);
+        return Err(WriterFault::Write);
     }
     Ok(sink.into_inner())
 }
@@ -25,7 +25,7 @@ fn is_dumped(
     end: u64,
     before: &[u8],
     rest: &[u8],
-) -> Result<(), VcdFault> {
+) -> Result<(), WriterFault> {
     let dump = dump_of(alloc, wide, slots, end)?;
     assert!(rt; dump.strip_prefix(before) == Some(rest));
     Ok(())
@@ -117,7 +117,7 @@ static ROWS: [Row; 17] = [
 ];
 
 // The dump of one slot, at 0 where `b` is wide and else at 3, in which `b` has the digits of two planes.
-fn is_shown(rt: &impl Abort, alloc: Global, row: &Row) -> Result<(), VcdFault> {
+fn is_shown(rt: &impl Abort, alloc: Global, row: &Row) -> Result<(), WriterFault> {
     let &(wide, value, unknown, text) = row;
     let (width, time, header) = if wide {
         (64, 0, WIDE_HEADER)

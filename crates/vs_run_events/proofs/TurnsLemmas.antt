@@ -19,7 +19,7 @@ use Rattle.vs_run_wakes.specs.Touches.{HasSources}
 use Rattle.vs_run_wakes.specs.Waits.{HasTerms}
 use Rattle.vs_run_state.proofs.SilentLemmas.{reached_on, step_time}
 use Rattle.vs_run_wakes.proofs.TermsLemmas.{has_terms}
-use Rattle.vs_vcd.specs.declared.fault.VcdFault.{VcdFault}
+use Rattle.vs_vcd.specs.declared.fault.WriterFault.{WriterFault}
 use Rattle.vs_vcd.specs.Progress.{Progress}
 use Rattle.vs_vcd.specs.Sinks.{AppendsPart}
 use Rattle.vs_vcd.specs.Text.{vcd_slots}

@@ -18,7 +18,7 @@ use vs_regions::Due;
 use vs_run_agenda::{ActiveEvent, Agenda, Next};
 use vs_run_state::{Made, State, Taken};
 use vs_time_wheel::EventQueue;
-use vs_vcd::{Sink, VcdFault, write_all};
+use vs_vcd::{Sink, WriterFault, write_all};
 
 /// Room to work in, kept from move to move.
 pub struct Scratch<'a> {
@@ -36,7 +36,7 @@ impl Drop for Scratch<'_> {
 
 /// Writes a line, where there is one.
 #[inline(always)]
-fn print<L: Sink>(lines: &mut L, line: &Vec<u8>) -> Result<(), VcdFault>
+fn print<L: Sink>(lines: &mut L, line: &Vec<u8>) -> Result<(), WriterFault>
     ensures ok { OnOk result (Appends (L.bytes lines.old) (L.bytes lines.new) line.now.items) }
     ensures err { OnErr result (AppendsPart (L.bytes lines.old) (L.bytes lines.new) line.now.items) }
     ensures failures { L.failed lines.new ≡ failed_after (is_write_fault result) (L.failed lines.old) }
@@ -56,7 +56,7 @@ pub fn advance<'a, Q: EventQueue<Due>, L: Sink>(
     room: &mut Scratch<'a>,
     lines: &mut L,
     choice: Move,
-) -> Result<Made, VcdFault>
+) -> Result<Made, WriterFault>
     requires going { state.old.over ≡ false }
     requires enabled { executions.is_enabled state.old (told state.old choice) ≡ true }
     requires early { state.old.time < 2 ^ 62 }
@@ -87,7 +87,7 @@ fn advance_steps<'a, Q: EventQueue<Due>, L: Sink>(
     lines: &mut L,
     process: usize,
     limit: u64,
-) -> Result<Taken, VcdFault>
+) -> Result<Taken, WriterFault>
     requires limit { 0 < limit }
     requires enabled { executions.is_enabled state.old (Move.Step process) ≡ true }
     requires early { state.old.time < 2 ^ 62 }
@@ -147,7 +147,7 @@ fn evaluate<'a, Q: EventQueue<Due>>(
     assign: usize,
     next: Next,
     steps: u64,
-) -> Result<u64, VcdFault>
+) -> Result<u64, WriterFault>
     requires steps { 0 < steps }
     requires reached { IsReached design.now state.old }
     ensures within { IfOk result (λ made. made ≤ steps) }
@@ -190,7 +190,7 @@ fn make_event<'a, Q: EventQueue<Due>, L: Sink>(
     lines: &mut L,
     next: Next,
     steps: u64,
-) -> Result<Behind, VcdFault>
+) -> Result<Behind, WriterFault>
     requires steps { 0 < steps }
     requires going { state.old.over ≡ false }
     requires enabled { executions.is_enabled state.old (told state.old (move_of next.event)) ≡ true }
@@ -299,7 +299,7 @@ pub fn run_events<'a, Q: EventQueue<Due>, L: Sink>(
     lines: &mut L,
     first: Next,
     steps: u64,
-) -> Result<Ran, VcdFault>
+) -> Result<Ran, WriterFault>
     requires steps { 0 < steps }
     requires going { state.old.over ≡ false }
     requires enabled { executions.is_enabled state.old (told state.old (move_of first.event)) ≡ true }

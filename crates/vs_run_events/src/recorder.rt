@@ -10,7 +10,7 @@ ghost use Rattle.vs_vcd.specs.Text.{vcd_header, vcd_slots, vcd_end};
 use std::alloc::Global;
 use std::marker::Model;
 use vs_design::{Design, Store};
-use vs_vcd::{Sink, VcdFault, Writer};
+use vs_vcd::{Sink, Writer, WriterFault};
 
 /// The writer of a run's dump; none for a sink that keeps nothing. A contract sees how far it has come.
 pub struct Recorder {
@@ -34,7 +34,7 @@ impl Model for Recorder {
 
 impl Recorder {
     /// Writes the header of a design, unless the sink keeps nothing.
-    pub fn start<S: Sink>(alloc: Global, sink: &mut S, design: &Design) -> Result<Self, VcdFault>
+    pub fn start<S: Sink>(alloc: Global, sink: &mut S, design: &Design) -> Result<Self, WriterFault>
         ensures written { IfOk result (λ r. HasNoted r (S.bytes sink.new) design.now []) }
         ensures bytes { WritesPiece result (S.bytes sink.old) (S.bytes sink.new) (vcd_header design.now) }
         ensures failures { S.failed sink.new ≡ failed_after (is_write_fault result) (S.failed sink.old) }
@@ -64,7 +64,7 @@ impl Recorder {
         time: u64,
         store: &Store,
         marks: &[u64],
-    ) -> Result<(), VcdFault>
+    ) -> Result<(), WriterFault>
         requires few { length marks.now ≤ 2 ^ 57 }
         requires covers { CoversNoted marks.now self.old store.now }
         ensures written { OnOk result ((d : Parts) (slots : List Slot) (s : Slot)
@@ -86,7 +86,7 @@ impl Recorder {
     }
 
     /// Writes the end of the dump.
-    pub fn finish<S: Sink>(mut self, sink: &mut S, time: u64) -> Result<(), VcdFault>
+    pub fn finish<S: Sink>(mut self, sink: &mut S, time: u64) -> Result<(), WriterFault>
         ensures bytes { (d : Parts) (slots : List Slot) → HasNoted self (S.bytes sink.old) d slots
             → WritesPiece result (S.bytes sink.old) (S.bytes sink.new) (vcd_end d slots time) }
         ensures failures { S.failed sink.new ≡ failed_after (is_write_fault result) (S.failed sink.old) }

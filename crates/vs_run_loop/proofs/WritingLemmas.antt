@@ -10,8 +10,8 @@ use Rattle.vs_process.specs.Executions.{ended_slot, move_lines, strobe_line}
 use Rattle.vs_process.specs.States.{State}
 use Rattle.vs_vcd.specs.Progress.{Progress, is_write_fault, IsSlotAt, WritesPiece, vcd_slot}
 use Rattle.vs_vcd.specs.Sinks.{AppendsPart, failed_after}
-use Rattle.vs_vcd.specs.declared.fault.VcdFault.{VcdFault}
-use Rattle.vs_vcd.specs.declared.fault.VcdFault.TheVariants as fault
+use Rattle.vs_vcd.specs.declared.fault.WriterFault.{WriterFault}
+use Rattle.vs_vcd.specs.declared.fault.WriterFault.TheVariants as fault
 use Rattle.vs_vcd.specs.Text.{vcd_slots}
 use Rattle.vs_run_state.specs.Prints.{made_line, made_text}
 use Rattle.vs_run_loop.specs.Failures.{OneFailed}
@@ -26,7 +26,7 @@ abbrev pub ended_here : State → Slot
 ended_here s = record { time = s.time; store = s.store; lines = map (λ c. strobe_line c s.store s.time) s.calls }
 
 -- a piece that wasn't written whole
-pub part_failed : (cause : VcdFault) (old new : Option (List ℕ)) (piece : List ℕ) → WritesPiece {A = ℕ} (Err cause) old new piece → AppendsPart old new piece
+pub part_failed : (cause : WriterFault) (old new : Option (List ℕ)) (piece : List ℕ) → WritesPiece {A = ℕ} (Err cause) old new piece → AppendsPart old new piece
 part_failed fault.Memory old new piece h = (0, subst (λ (o : Option (List ℕ)). Appends old o []) (sym h) (append_none old))
 part_failed fault.Write old new piece h = h
 
@@ -52,7 +52,7 @@ line_printed old mid new m s ended h =
     subst (AppendsPart old new) (sym (move_prints m s)) (part_more old mid new (lines_text (slot_lines m s)) (made_text (made_line m s)) ended h)
 
 -- a slot that wasn't written whole
-pub slot_failed : (fault : VcdFault) (writer : Option Progress) (old new : Option (List ℕ)) (now : State) (m : Move) (time : ℕ) (store : Store) → m ≡ EndSlot → time ≡ now.time → store ≡ now.store →
+pub slot_failed : (fault : WriterFault) (writer : Option Progress) (old new : Option (List ℕ)) (now : State) (m : Move) (time : ℕ) (store : Store) → m ≡ EndSlot → time ≡ now.time → store ≡ now.store →
     ((d : Parts) (before : List Slot) (s : Slot) → HasNoted writer old d before → IsSlotAt s time store → WritesPiece {A = ℕ} (Err fault) old new (vcd_slot d before s)) →
     ((d : Parts) (before : List Slot) (s : Slot) → vcd_slots d (before ++ s ∷ []) ≡ vcd_slots d before ++ vcd_slot d before s) →
     (d : Parts) (before : List Slot) → HasNoted writer old d before → AppendsSlotsPart old new d before (ended_slot m now)
@@ -73,10 +73,10 @@ second_failed true old new lold lnew h k = inr (h, k)
 second_failed false old new lold lnew h k = (h, k)
 
 -- the fault is handed on
-pub failed_as : {A : Type 0} (r : Result A VcdFault) (e : VcdFault) (old new lold lnew : ℕ) → r ≡ Err e → OneFailed (is_write_fault {A = ℕ} (Err e)) old new lold lnew →
+pub failed_as : {A : Type 0} (r : Result A WriterFault) (e : WriterFault) (old new lold lnew : ℕ) → r ≡ Err e → OneFailed (is_write_fault {A = ℕ} (Err e)) old new lold lnew →
     OneFailed (is_write_fault r) old new lold lnew
-failed_as {A} r fault.Memory old new lold lnew is h = subst (λ (q : Result A VcdFault). OneFailed (is_write_fault q) old new lold lnew) (sym is) h
-failed_as {A} r fault.Write old new lold lnew is h = subst (λ (q : Result A VcdFault). OneFailed (is_write_fault q) old new lold lnew) (sym is) h
+failed_as {A} r fault.Memory old new lold lnew is h = subst (λ (q : Result A WriterFault). OneFailed (is_write_fault q) old new lold lnew) (sym is) h
+failed_as {A} r fault.Write old new lold lnew is h = subst (λ (q : Result A WriterFault). OneFailed (is_write_fault q) old new lold lnew) (sym is) h
 
 -- none failed before
 pub failed_from : (b : Bool) (old mid new lold lmid lnew : ℕ) → mid ≡ old → lmid ≡ lold → OneFailed b mid new lmid lnew → OneFailed b old new lold lnew

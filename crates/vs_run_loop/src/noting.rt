@@ -24,7 +24,7 @@ use vs_run_state::State;
 use vs_run_wakes::clear;
 use vs_strobe::full_line;
 use vs_time_wheel::EventQueue;
-use vs_vcd::{Sink, VcdFault, write_all};
+use vs_vcd::{Sink, WriterFault, write_all};
 
 /// Writes the lines of the calls of `$strobe` of a slot at its end, in the order of the calls (IEEE 1364-2005, clause 17.1.2).
 #[inline(always)]
@@ -32,7 +32,7 @@ fn print_calls<Q: EventQueue<Due>, L: Sink>(
     alloc: Global,
     lines: &mut L,
     state: &State<Q>,
-) -> Result<(), VcdFault>
+) -> Result<(), WriterFault>
     ensures ok { OnOk result (Appends (L.bytes lines.old) (L.bytes lines.new) (lines_text (executions.strobe_lines state.now))) }
     ensures err { OnErr result (AppendsPart (L.bytes lines.old) (L.bytes lines.new) (lines_text (executions.strobe_lines state.now))) }
     ensures failures { L.failed lines.new ≡ failed_after (is_write_fault result) (L.failed lines.old) }
@@ -55,7 +55,7 @@ fn note<Q: EventQueue<Due>, V: Sink, L: Sink>(
     marks: &mut Vec<u64>,
     state: &State<Q>,
     choice: Move,
-) -> Result<(), VcdFault>
+) -> Result<(), WriterFault>
     requires few { length marks.old.items ≤ 2 ^ 57 }
     requires covers { CoversNoted marks.old.items writer.old state.now.store }
     ensures recording { OnOk result ((d : Parts) → IsRecording d marks.old.items writer.old (V.bytes vcd.old) state.now.store
@@ -94,7 +94,7 @@ pub(crate) fn take_one<'a, Q: EventQueue<Due>, V: Sink, L: Sink>(
     next: Choice,
     vcd: &mut V,
     lines: &mut L,
-) -> Result<(), VcdFault>
+) -> Result<(), WriterFault>
     requires enabled { executions.is_enabled state.old (told state.old next.choice) ≡ true }
     requires going { state.old.over ≡ false }
     requires early { state.old.time < 2 ^ 62 }
@@ -123,7 +123,7 @@ pub(crate) fn end_slot<Q: EventQueue<Due>, V: Sink, L: Sink>(
     marks: &mut Vec<u64>,
     vcd: &mut V,
     lines: &mut L,
-) -> Result<(), VcdFault>
+) -> Result<(), WriterFault>
     requires enabled { executions.is_enabled state.old Move.EndSlot ≡ true }
     requires going { state.old.over ≡ false }
     requires few { length marks.old.items ≤ 2 ^ 57 }

@@ -26,7 +26,7 @@ use vs_run_agenda::{ActiveEvent, Agenda, Choice, Next, Pick};
 use vs_run_events::{Ran, Recorder, Scratch, inside_behind, run_events};
 use vs_run_state::State;
 use vs_time_wheel::EventQueue;
-use vs_vcd::{Sink, VcdFault};
+use vs_vcd::{Sink, WriterFault};
 
 /// The next move. A combinational block that has left its control goes on, which is no choice. Else it is what the policy chooses of the list,
 /// where that is enabled, and else a move that the state has.
@@ -93,7 +93,7 @@ fn advance_region<'a, Q: EventQueue<Due>, V: Sink, L: Sink>(
     room: &mut Scratch<'a>,
     vcd: &mut V,
     lines: &mut L,
-) -> Result<Moved, VcdFault>
+) -> Result<Moved, WriterFault>
     requires going { state.old.over ≡ false }
     requires early { state.old.time < 2 ^ 62 }
     requires reached { IsReached design.now state.old }
@@ -180,7 +180,7 @@ fn run_active<'a, Q: EventQueue<Due>, L: Sink>(
     lines: &mut L,
     inside: Option<usize>,
     steps: u64,
-) -> Result<Ran, VcdFault>
+) -> Result<Ran, WriterFault>
     requires goes_on { (process : ℕ) → inside ≡ Some process → executions.is_enabled state.old (Move.Step process) ≡ true }
     requires steps { 0 < steps }
     requires going { state.old.over ≡ false }
@@ -222,7 +222,7 @@ fn run_first<'a, Q: EventQueue<Due>, V: Sink, L: Sink>(
     steps: u64,
     vcd: &mut V,
     lines: &mut L,
-) -> Result<StepsLeft, VcdFault>
+) -> Result<StepsLeft, WriterFault>
     requires goes_on { (process : ℕ) → from ≡ Some process → executions.is_enabled state.old (Move.Step process) ≡ true }
     requires steps { 0 < steps }
     requires going { state.old.over ≡ false }
@@ -286,7 +286,7 @@ pub fn take_steps<'a, Q: EventQueue<Due>, P: Pick, V: Sink, L: Sink>(
     steps: u64,
     vcd: &mut V,
     lines: &mut L,
-) -> Result<StepsLeft, VcdFault>
+) -> Result<StepsLeft, WriterFault>
     requires goes_on { (process : ℕ) → inside ≡ Some process → executions.is_enabled state.old (Move.Step process) ≡ true }
     requires steps { 0 < steps }
     requires going { state.old.over ≡ false }

@@ -10,7 +10,7 @@ use Rattle.vs_design.specs.declared.signal.Signal.{Signal}
 use Rattle.vs_design.specs.Parts.{Parts}
 use Rattle.vs_design.specs.Stores.{Store}
 use Rattle.vs_design.specs.Traces.{Slot}
-use Rattle.vs_vcd.specs.declared.fault.VcdFault.{VcdFault}
+use Rattle.vs_vcd.specs.declared.fault.WriterFault.{WriterFault}
 use Rattle.vs_vcd.specs.declared.kept.Kept.{Kept}
 use Rattle.vs_vcd.specs.Codes.{is_array, shown, shown_from}
 use Rattle.vs_vcd.specs.CodeTables.{code_table}
@@ -162,7 +162,7 @@ piece_is w all marks t store d slots s h at unseen =
     ∙ ap (λ x. next_lines (shown d) (last_of (shown d) slots) x store) (sym at.time) ∙ ap (next_lines (shown d) (last_of (shown d) slots) s.time) (sym at.values))
 
 -- a call that wrote the lines of what is kept wrote one more slot
-pub piece_written : {A : Type 0} (result : Result A VcdFault) (old new : Option (List ℕ)) (w : Progress) (all : Bool) (marks : List ℕ) (t : ℕ) (store : Store) → Unseen all marks w.kept store
+pub piece_written : {A : Type 0} (result : Result A WriterFault) (old new : Option (List ℕ)) (w : Progress) (all : Bool) (marks : List ℕ) (t : ℕ) (store : Store) → Unseen all marks w.kept store
     → WritesPiece result old new (text_of (next_kept w.kept w.last all marks t store)) → (d : Parts) (slots : List Slot) (s : Slot) → HasWritten w d slots → IsSlotAt s t store
     → WritesPiece result old new (vcd_slot d slots s)
 piece_written result old new w all marks t store unseen wrote d slots s h at = subst (WritesPiece result old new) (piece_is w all marks t store d slots s h at unseen) wrote
@@ -188,14 +188,14 @@ written_more old new all marks t store unseen f d slots s h at =
       values = subst (AreLast new.kept) (sym push) (subst (AreKept new.kept) (sym at.values) (all_kept old new all marks t store unseen f));
     }
 
-pub slot_written : {A : Type 0} (result : Result A VcdFault) (old new : Progress) (all : Bool) (marks : List ℕ) (t : ℕ) (store : Store) → Unseen all marks old.kept store
+pub slot_written : {A : Type 0} (result : Result A WriterFault) (old new : Progress) (all : Bool) (marks : List ℕ) (t : ℕ) (store : Store) → Unseen all marks old.kept store
     → OnOk result (Follows old new all marks t store)
     → OnOk result ((d : Parts) (slots : List Slot) (s : Slot) → HasWritten old d slots → IsSlotAt s t store → HasWritten new d (slots ++ s ∷ []))
 slot_written (Ok x) old new all marks t store unseen f = written_more old new all marks t store unseen f
 slot_written (Err x) old new all marks t store unseen f = f
 
 -- behind a slot no signal need be marked
-pub slot_covered : {A : Type 0} (result : Result A VcdFault) (old new : Progress) (all : Bool) (marks : List ℕ) (t : ℕ) (store : Store) → Unseen all marks old.kept store
+pub slot_covered : {A : Type 0} (result : Result A WriterFault) (old new : Progress) (all : Bool) (marks : List ℕ) (t : ℕ) (store : Store) → Unseen all marks old.kept store
     → OnOk result (Follows old new all marks t store) → OnOk result (Covers [] new store)
 slot_covered (Ok x) old new all marks t store unseen f = λ u i n k last get code free. all_kept old new all marks t store unseen f i n k get code
 slot_covered (Err x) old new all marks t store unseen f = f

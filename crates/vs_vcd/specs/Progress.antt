@@ -5,8 +5,8 @@ use Rattle.std.specs.Io.KnownBytes.{Appends}
 use Rattle.vs_design.specs.Parts.{Parts}
 use Rattle.vs_design.specs.Stores.{Store}
 use Rattle.vs_design.specs.Traces.{Slot}
-use Rattle.vs_vcd.specs.declared.fault.VcdFault.{VcdFault}
-use Rattle.vs_vcd.specs.declared.fault.VcdFault.TheVariants.{Memory, Write}
+use Rattle.vs_vcd.specs.declared.fault.WriterFault.{WriterFault}
+use Rattle.vs_vcd.specs.declared.fault.WriterFault.TheVariants.{Memory, Write}
 use Rattle.vs_vcd.specs.declared.kept.Kept.{Kept}
 use Rattle.vs_vcd.specs.Codes.{shown}
 use Rattle.vs_vcd.specs.CodeTables.{code_table}
@@ -85,14 +85,14 @@ pub record IsSlotAt (s : Slot) (t : ℕ) (store : Store) : Type 0 where
   pub values : s.store ≡ store
 
 -- whether a call failed because the sink did
-abbrev pub is_write_fault : {A : Type 0} → Result A VcdFault → Bool
+abbrev pub is_write_fault : {A : Type 0} → Result A WriterFault → Bool
 is_write_fault (Ok x) = false
 is_write_fault (Err Memory) = false
 is_write_fault (Err Write) = true
 
 -- what a call that writes a piece did to the known bytes: appended it; without memory nothing; where the sink failed
 -- appended a beginning of it
-abbrev pub WritesPiece : {A : Type 0} → Result A VcdFault → Option (List ℕ) → Option (List ℕ) → List ℕ → Type 0
+abbrev pub WritesPiece : {A : Type 0} → Result A WriterFault → Option (List ℕ) → Option (List ℕ) → List ℕ → Type 0
 WritesPiece (Ok x) old new piece = Appends old new piece
 WritesPiece (Err Memory) old new piece = new ≡ old
 WritesPiece (Err Write) old new piece = AppendsPart old new piece

@@ -16,7 +16,7 @@ mod texts;
 mod value;
 mod writer;
 
-pub use fault::VcdFault;
+pub use fault::WriterFault;
 pub use law::{shows_one_value, shows_values_at_slot_ends};
 pub use marks::BLOCK;
 pub use sink::{Counted, Sink, WriteFault, write_all};

@@ -10,7 +10,7 @@ ghost use Rattle.vs_vcd.specs.Progress.{vcd_slot, HasWritten, Covers, Follows, I
 
 use crate::changes::list_changes;
 use crate::codes::code_numbers;
-use crate::fault::VcdFault;
+use crate::fault::WriterFault;
 use crate::header::header_text;
 use crate::kept::{DumpChange, Written};
 use crate::lines::{push_first, push_later, push_time};
@@ -70,7 +70,7 @@ fn write_slot<S: Sink>(
     marks: &[u64],
     time: u64,
     store: &Store,
-) -> Result<u64, VcdFault>
+) -> Result<u64, WriterFault>
     requires few { length marks.now ≤ 2 ^ 57 }
     requires room { IsRoom room.old (length kept.now) }
     ensures room { IsRoom room.new (length kept.now) }
@@ -93,7 +93,7 @@ fn write_end<S: Sink>(
     text: &mut Vec<u8>,
     last: Option<u64>,
     time: u64,
-) -> Result<(), VcdFault>
+) -> Result<(), WriterFault>
     ensures bytes { WritesPiece result (S.bytes sink.old) (S.bytes sink.new) (text_of (end_lines last time)) }
     ensures failures { S.failed sink.new ≡ failed_after (is_write_fault result) (S.failed sink.old) }
 {
@@ -157,7 +157,11 @@ impl Writer {
     }
 
     /// Writes the header of a design, and answers the writer of the slots. Where the sink fails, it holds a beginning of the header.
-    pub fn header<S: Sink>(alloc: Global, sink: &mut S, design: &Design) -> Result<Self, VcdFault>
+    pub fn header<S: Sink>(
+        alloc: Global,
+        sink: &mut S,
+        design: &Design,
+    ) -> Result<Self, WriterFault>
         ensures written { IfOk result (λ w. HasWritten w design.now []) }
         ensures bytes { WritesPiece result (S.bytes sink.old) (S.bytes sink.new) (vcd_header design.now) }
         ensures failures { S.failed sink.new ≡ failed_after (is_write_fault result) (S.failed sink.old) }
@@ -184,7 +188,7 @@ impl Writer {
         marks: &[u64],
         time: u64,
         store: &Store,
-    ) -> Result<(), VcdFault>
+    ) -> Result<(), WriterFault>
         requires few { length marks.now ≤ 2 ^ 57 }
         ensures follows { OnOk result (Follows self.old self.new all marks.now time store.now) }
         ensures bytes { WritesPiece result (S.bytes sink.old) (S.bytes sink.new)
@@ -219,7 +223,7 @@ impl Writer {
         sink: &mut S,
         time: u64,
         store: &Store,
-    ) -> Result<(), VcdFault>
+    ) -> Result<(), WriterFault>
         ensures written { OnOk result ((d : Parts) (slots : List Slot) (s : Slot)
             → HasWritten self.old d slots → IsSlotAt s time store.now
             → HasWritten self.new d (slots ++ s ∷ [])) }
@@ -246,7 +250,7 @@ impl Writer {
         time: u64,
         store: &Store,
         marks: &[u64],
-    ) -> Result<(), VcdFault>
+    ) -> Result<(), WriterFault>
         requires few { length marks.now ≤ 2 ^ 57 }
         requires covers { Covers marks.now self.old store.now }
         ensures written { OnOk result ((d : Parts) (slots : List Slot) (s : Slot)
@@ -267,7 +271,7 @@ impl Writer {
     }
 
     /// Writes the end of the dump: a time in ticks, unless it was the last one written.
-    pub fn finish<S: Sink>(mut self, sink: &mut S, time: u64) -> Result<(), VcdFault>
+    pub fn finish<S: Sink>(mut self, sink: &mut S, time: u64) -> Result<(), WriterFault>
         ensures bytes { (d : Parts) (slots : List Slot) → HasWritten self d slots
             → WritesPiece result (S.bytes sink.old) (S.bytes sink.new) (vcd_end d slots time) }
         ensures failures { S.failed sink.new ≡ failed_after (is_write_fault result) (S.failed sink.old) }

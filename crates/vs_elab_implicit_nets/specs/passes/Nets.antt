@@ -17,17 +17,17 @@ use Rattle.vs_scopes.specs.Scopes.{Scope, named, is_implicit, sight_in}
 use Rattle.vs_scopes.specs.passes.Parts.{IsSet}
 use Rattle.vs_elab_listed.specs.Opened.{AreOpened, HasSight}
 use Rattle.vs_elab_listed.specs.passes.Sites.{outward_place}
-use Rattle.vs_elab_implicit_nets.specs.declared.around.Surroundings.{Surroundings}
+use Rattle.vs_elab_implicit_nets.specs.declared.around.Enclosing.{Enclosing}
 use Rattle.vs_elab_implicit_nets.specs.declared.members.Members.{Members}
 
 -- what is around a scope, where these scopes stand before it
-pub record IsAround (ss : List Scope) (x : Surroundings) (s : Scope) : Type 0 where
+pub record IsAround (ss : List Scope) (x : Enclosing) (s : Scope) : Type 0 where
   pub opened : AreOpened x.list.now ss
   pub sight : HasSight ss x.around x.piece s
   pub kind : x.kind ≡ s.kind
 
 -- the scope whose names are seen in one is in the list
-abbrev pub IsPlaced : Surroundings → Type 0
+abbrev pub IsPlaced : Enclosing → Type 0
 IsPlaced x = (place : ℕ) → outward_place x.kind x.around ≡ Some place → place < length x.list.now
 
 -- names that mean what those do

@@ -10,7 +10,9 @@ use Rattle.vs_scopes.specs.declared.faults.Reason.TheVariants.{DrivenTwice}
 use Rattle.vs_scopes.specs.declared.faults.ElabFault.{ElabFault}
 use Rattle.vs_scopes.specs.declared.faults.ElabFault.TheVariants.{Memory, At}
 use Rattle.vs_syntax.specs.declared.tree.Expr.{Expr}
+use Rattle.vs_elab_pieces.specs.Pieces.{NamedBlock, Piece, blocks_of, plain}
 use Rattle.vs_elab_pieces.specs.Reads.{read_piece}
+use Rattle.vs_elab_pieces.specs.declared.scope.ScopePiece.{ScopePiece as FoundPiece}
 use Rattle.vs_scopes.specs.Ports.{ModulePort}
 use Rattle.vs_scopes.specs.Printed.{Path}
 use Rattle.vs_scopes.specs.Scopes.{Scope, environment, is_wrong_end, has_wrong_end}
@@ -25,6 +27,7 @@ use Rattle.vs_elab_operands.specs.Processes.{HasBehaviorFault}
 use Rattle.vs_elab_operands.specs.Surroundings.{Surroundings}
 use Rattle.vs_elab_operands.specs.passes.Views.{IsView, IsSite}
 use Rattle.vs_elab_operands.specs.passes.Bodies.{BodyFails}
+use Rattle.vs_elab_statements.specs.Blocks.{HaveScopes}
 use Rattle.vs_elaborate.specs.declared.frames.Frame.{Frame}
 use Rattle.vs_elaborate.specs.Drivers.{driver_fault, port_driver_fault}
 use Rattle.vs_elaborate.specs.Faults.{HasFault, HasPortFault}
@@ -163,6 +166,17 @@ IsLeftEnd p e = is_wrong_end p (Some e) ≡ false
 -- the outputs of the scopes of a list are connected to what can be the left side of an assignment
 abbrev pub AreLefts : FoundScope → Type 0
 AreLefts o = has_wrong_end (map read_port o.ports.items) (read_ends o.ends.items) ≡ false
+
+-- ---- named blocks
+
+-- the outermost named blocks of the process that a piece is, where it is one (clause 9.8.3)
+abbrev pub process_blocks : Piece → List NamedBlock
+process_blocks (plain x) = blocks_of x
+process_blocks _ = []
+
+-- the named blocks of the processes among these pieces have their scopes in the one at a place
+abbrev pub HaveBlockScopes : List FoundScope → ℕ → List FoundPiece → Type 0
+HaveBlockScopes list place ps = (k : ℕ) (x : FoundPiece) → slice_get ps k ≡ Some x → HaveScopes list place (process_blocks (read_piece x))
 
 -- ---- bits of nets
 

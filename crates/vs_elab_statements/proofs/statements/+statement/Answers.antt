@@ -1,13 +1,17 @@
-use Rattle.std.proofs.Common.{[], ◌∷◌, ◌++◌, ap, length, sym, arith, ◌≡◌, ◌<◌}
+use Rattle.std.proofs.Common.{[], ◌∷◌, ◌++◌, ◌∙◌, ap, length, refl, rules, subst, sym, arith, ◌≡◌, ◌<◌}
+use Rattle.std.proofs.lemmas.Grind.{common_steps}
 use Rattle.std.proofs.lemmas.Result.{err_from_is_err_and}
-use Rattle.vs_elab_pieces.specs.Pieces.{NamedBlock}
-use Rattle.vs_syntax.specs.declared.tree.Stmt.{size-Stmt}
+use Rattle.vs_elab_pieces.specs.Pieces.{NamedBlock, blocks_in}
+use Rattle.vs_syntax.specs.declared.tree.CaseLabel.{CaseLabel}
+use Rattle.vs_syntax.specs.declared.tree.Stmt.{Stmt, size-Stmt, the_lemmas}
 use Rattle.vs_syntax.specs.declared.tree.Stmt.TheVariants as s
 use Rattle.vs_scopes.specs.Printed.{plainly}
-use Rattle.vs_elab_operands.proofs.BlockLemmas.{got, placed_inside, site_inside, ratio_inside, names_at, inside_free, inside_fails, below_deeper}
+use Rattle.vs_elab_operands.proofs.BlockLemmas.{blocks_Delay, blocks_Event, blocks_For, blocks_Forever, blocks_Repeat, blocks_While, got, placed_inside, site_inside, ratio_inside, names_at, inside_free, inside_fails, below_deeper}
 use Rattle.vs_elab_operands.proofs.DepthLemmas.{items_depth, items_falls, item_within}
 use Rattle.vs_elab_operands.proofs.StatementLemmas.{begin_refused, behind_overfull, behind_refused, block_refused, case_overfull, case_refused_by, delay_inner, else_refused, event_inner, forever_inner, item_refused, items_refused, label_refused, listed_all, listed_more, listed_none, named_refused, otherwise_none, otherwise_some, repeat_inner, stated_all, stated_more, stated_none, statement_refused, states_Block, states_Case, states_Named, states_behind, then_refused, turn_refused, while_inner}
+use Rattle.vs_elab_statements.specs.Blocks.{HaveScopes}
 use Rattle.vs_elab_statements.proofs.BelowLemmas.{overfull_below, refused_below}
+use Rattle.vs_elab_statements.proofs.ScopeLemmas.{has_inside, has_place, have_at, in_around, in_block, in_case, in_else, in_named, in_other, in_then, stmt_within}
 use Rattle.vs_elab_statement_forms.proofs.NumberLemmas.{null_answers, finish_answers, dump_answers, none_below}
 use Rattle.vs_elab_statements.proofs.statements.+statement.Goals as goal
 
@@ -79,7 +83,7 @@ statement-case_statement-requires t c =
     let same : items_depth c.deref-in-Case.result.now ≡ items_depth c.in-Case.all.items = ap items_depth c.deref-in-Case.ensures.value in
     let whole : size-Stmt c.args.s.now ≡ size-Stmt (s.Case c.in-Case.kind c.in-Case.e c.in-Case.all) = ap size-Stmt c.in-Case.is in
     let below : items_depth c.in-Case.all.items < size-Stmt (s.Case c.in-Case.kind c.in-Case.e c.in-Case.all) = items_falls c.in-Case.kind c.in-Case.e c.in-Case.all in
-    (omega arith, c.requires)
+    (omega arith, (c.requires.placed, in_case c.args.view.now.list.now c.args.view.now.place c.args.s.now c.requires.blocks c.in-Case.kind c.in-Case.e c.in-Case.all c.deref-in-Case.result.now c.in-Case.is c.deref-in-Case.ensures.value))
 
 pub case_statement-returns-in_err-number-clause-answer : goal.case_statement-returns-in_err-number-clause-answer
 case_statement-returns-in_err-number-clause-answer t c envs p v same seen =
@@ -171,9 +175,9 @@ block-returns-in-Ok-clause-answer t c envs p locals v =
     let place = c.in-Some.place in
     let outer = c.index-list-here.result in
     let inner = c.index-list-place.result in
-    let at = got list here outer c.requires.within c.index-list-here.is in
+    let at = got list here outer c.requires.placed.within c.index-list-here.is in
     let found = sym c.in-Some.ensures in
-    let placed = placed_inside list here outer c.args.name.now place c.requires at found in
+    let placed = placed_inside list here outer c.args.name.now place c.requires.placed at found in
     let path = p ++ plainly c.args.name.now ∷ [] in
     let site = site_inside list envs here p outer c.args.name.now place v.site at found in
     let there = got list place inner placed.within c.index-list-place.is in
@@ -190,9 +194,9 @@ block-returns-clause-answer t c envs p locals v =
     let place = c.in-Some.place in
     let outer = c.index-list-here.result in
     let inner = c.index-list-place.result in
-    let at = got list here outer c.requires.within c.index-list-here.is in
+    let at = got list here outer c.requires.placed.within c.index-list-here.is in
     let found = sym c.in-Some.ensures in
-    let placed = placed_inside list here outer c.args.name.now place c.requires at found in
+    let placed = placed_inside list here outer c.args.name.now place c.requires.placed at found in
     let path = p ++ plainly c.args.name.now ∷ [] in
     let site = site_inside list envs here p outer c.args.name.now place v.site at found in
     let there = got list place inner placed.within c.index-list-place.is in
@@ -209,15 +213,16 @@ block-returns-clause-below t c =
     let place = c.in-Some.place in
     let outer = c.index-list-here.result in
     let inner = c.index-list-place.result in
-    let at = got list here outer c.requires.within c.index-list-here.is in
+    let at = got list here outer c.requires.placed.within c.index-list-here.is in
     let found = sym c.in-Some.ensures in
-    let placed = placed_inside list here outer c.args.name.now place c.requires at found in
+    let placed = placed_inside list here outer c.args.name.now place c.requires.placed at found in
     rw c.deeper.ensures (below_deeper (length list) place c.in-Err.fault placed.within c.in-Err.ensures.below)
 
 pub items-statement-requires : goal.items-statement-requires
 items-statement-requires t c =
     let below = item_within c.args.all.now c.loop-label.label-index c.loop-label-item.result (omega arith) c.loop-label-item.is in
-    (omega arith, c.requires)
+    let at = got c.args.all.now c.loop-label.label-index c.loop-label-item.result (omega arith) c.loop-label-item.is in
+    (omega arith, (c.requires.placed, have_at c.args.view.now.list.now c.args.view.now.place (λ (x : CaseLabel × Stmt). blocks_in x.1) c.args.all.now c.loop-label.label-index c.loop-label-item.result c.requires.blocks at))
 
 pub statement-returns-in-For-clause-answer : goal.statement-returns-in-For-clause-answer
 statement-returns-in-For-clause-answer t c envs p v = rw c.in-For.is (c.for_statement.ensures.answer envs p v)
@@ -428,3 +433,81 @@ statement-returns-in-Assign-clause-below t c = c.assign.ensures.below
 
 pub for_statement-returns-clause-below : goal.for_statement-returns-clause-below
 for_statement-returns-clause-below t c = c.for_around.ensures.below
+
+-- ---- named blocks have their scopes
+
+pub statement-statements-requires : goal.statement-statements-requires
+statement-statements-requires t c =
+    (search (rules, the_lemmas), (c.requires.placed, in_block c.args.view.now.list.now c.args.view.now.place c.args.s.now c.requires.blocks c.in-Block.inner c.deref.result.now c.in-Block.is c.deref.ensures.value))
+
+pub statement-block-requires : goal.statement-block-requires
+statement-block-requires t c = (
+  search (rules, the_lemmas),
+  (
+    c.requires.placed,
+    in_named c.args.view.now.list.now c.args.view.now.place c.args.s.now c.requires.blocks c.in-Named.name c.in-Named.field-1 c.in-Named.inner c.deref-in-Named.result.now c.deref-in-Named-2.result.now c.in-Named.is c.deref-in-Named.ensures.value c.deref-in-Named-2.ensures.value,
+  ),
+)
+
+pub statement-behind-requires : goal.statement-behind-requires
+statement-behind-requires t c =
+    (search (rules, the_lemmas), (c.requires.placed, in_then c.args.view.now.list.now c.args.view.now.place c.args.s.now c.requires.blocks c.in-If.e c.in-If.x c.in-If.other c.deref-in-If.result.now c.in-If.is c.deref-in-If.ensures))
+
+pub statement-otherwise-requires : goal.statement-otherwise-requires
+statement-otherwise-requires t c =
+    (search (rules, the_lemmas), (c.requires.placed, in_else c.args.view.now.list.now c.args.view.now.place c.args.s.now c.requires.blocks c.in-If.e c.in-If.x c.in-If.other c.in-If.is))
+
+pub statement-for_statement-requires : goal.statement-for_statement-requires
+statement-for_statement-requires t c =
+    (search (rules, the_lemmas), (c.requires.placed, in_around c.args.view.now.list.now c.args.view.now.place c.args.s.now c.requires.blocks (s.For c.in-For.head c.in-For.x) c.in-For.x.value c.in-For.x.value c.in-For.is (blocks_For c.in-For.head c.in-For.x) refl))
+
+pub statement-behind-requires-in-While : goal.statement-behind-requires-in-While
+statement-behind-requires-in-While t c =
+    (search (rules, the_lemmas), (c.requires.placed, in_around c.args.view.now.list.now c.args.view.now.place c.args.s.now c.requires.blocks (s.While c.in-While.e c.in-While.x) c.in-While.x.value c.deref-in-While.result.now c.in-While.is (blocks_While c.in-While.e c.in-While.x) c.deref-in-While.ensures))
+
+pub statement-behind-requires-in-Repeat : goal.statement-behind-requires-in-Repeat
+statement-behind-requires-in-Repeat t c =
+    (search (rules, the_lemmas), (c.requires.placed, in_around c.args.view.now.list.now c.args.view.now.place c.args.s.now c.requires.blocks (s.Repeat c.in-Repeat.e c.in-Repeat.x) c.in-Repeat.x.value c.deref-in-Repeat.result.now c.in-Repeat.is (blocks_Repeat c.in-Repeat.e c.in-Repeat.x) c.deref-in-Repeat.ensures))
+
+pub statement-behind-requires-in-Forever : goal.statement-behind-requires-in-Forever
+statement-behind-requires-in-Forever t c =
+    (search (rules, the_lemmas), (c.requires.placed, in_around c.args.view.now.list.now c.args.view.now.place c.args.s.now c.requires.blocks (s.Forever c.in-Forever.x) c.in-Forever.x.value c.deref-in-Forever.result.now c.in-Forever.is (blocks_Forever c.in-Forever.x) c.deref-in-Forever.ensures))
+
+pub statement-behind-requires-in-Delay : goal.statement-behind-requires-in-Delay
+statement-behind-requires-in-Delay t c =
+    (search (rules, the_lemmas), (c.requires.placed, in_around c.args.view.now.list.now c.args.view.now.place c.args.s.now c.requires.blocks (s.Delay c.in-Delay.value c.in-Delay.x) c.in-Delay.x.value c.deref-in-Delay.result.now c.in-Delay.is (blocks_Delay c.in-Delay.value c.in-Delay.x) c.deref-in-Delay.ensures))
+
+pub statement-behind-requires-in-Event : goal.statement-behind-requires-in-Event
+statement-behind-requires-in-Event t c =
+    (search (rules, the_lemmas), (c.requires.placed, in_around c.args.view.now.list.now c.args.view.now.place c.args.s.now c.requires.blocks (s.Event c.in-Event.control c.in-Event.x) c.in-Event.x.value c.deref-in-Event.result.now c.in-Event.is (blocks_Event c.in-Event.control c.in-Event.x) c.deref-in-Event.ensures))
+
+pub statements-statement-requires : goal.statements-statement-requires
+statements-statement-requires t c =
+    let at = got c.args.all.now c.loop-s.s-index c.s-item.result (omega arith) c.s-item.is in
+    let small = stmt_within c.args.all.now c.loop-s.s-index c.s-item.result (omega arith) c.s-item.is in
+    (first_of (omega (arith, small, c.decreases), search (rules, the_lemmas)), (c.requires.placed, have_at c.args.view.now.list.now c.args.view.now.place blocks_in c.args.all.now c.loop-s.s-index c.s-item.result c.requires.blocks at))
+
+pub block-unreachable-requires : goal.block-unreachable-requires
+block-unreachable-requires t c =
+    let list = c.args.view.now.list.now in
+    let here = c.args.view.now.place in
+    let there = has_place list here c.args.name.now c.args.all.now c.index-list-here.result c.requires.blocks (got list here c.index-list-here.result c.requires.placed.within c.index-list-here.is) in
+    c.in_default.not-Some there.0 (c.find.ensures ∙ there.1)
+
+pub block-statements-requires : goal.block-statements-requires
+block-statements-requires t c =
+    let list = c.args.view.now.list.now in
+    let here = c.args.view.now.place in
+    let place = c.in-Some.place in
+    let outer = c.index-list-here.result in
+    let at = got list here outer c.requires.placed.within c.index-list-here.is in
+    let found = sym c.in-Some.ensures in
+    (first_of (search rules, grind (arith, common_steps)), (placed_inside list here outer c.args.name.now place c.requires.placed at found, has_inside list here c.args.name.now c.args.all.now outer place c.requires.blocks at found))
+
+pub otherwise-statement-requires : goal.otherwise-statement-requires
+otherwise-statement-requires t c =
+    (first_of (search rules, grind (arith, common_steps)), (c.requires.placed, in_other c.args.view.now.list.now c.args.view.now.place c.args.other.now c.in-Some.s c.deref.result.now c.in-Some.is c.deref.ensures c.requires.blocks))
+
+pub for_statement-behind-requires : goal.for_statement-behind-requires
+for_statement-behind-requires t c =
+    (first_of (search rules, grind (arith, common_steps)), (c.requires.placed, subst (λ z. HaveScopes c.args.view.now.list.now c.args.view.now.place (blocks_in z)) (sym c.deref-3.ensures) c.requires.blocks))

@@ -32,3 +32,6 @@ pub returns : goal.returns
 returns c ss h =
     let long = AllZip-long (IsOpened ss) c.args.list.now ss h.opened.each in
     subst (λ z. Fills (surroundings_at c.args.ratio.ticks ss) z c.loop-place.contents) (take_all c.loop-place.place ss (omega (arith, long, c.loop-place-test.false))) (c.loop-place.invariant ss h)
+
+pub fill-requires-clause-blocks : goal.fill-requires-clause-blocks
+fill-requires-clause-blocks c = c.requires.blocks c.loop-place.place

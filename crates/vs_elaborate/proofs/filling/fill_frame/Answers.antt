@@ -24,3 +24,6 @@ returns c envs s f m o =
     fills_all envs s c.args.scope.now m c.len-first.result p0 p2 p4 c.run_pieces.result
     (c.in_ok-drive_frame.ensures envs s f m o)
     (rw c.deref-2.ensures.value at (c.run_pieces.ensures envs s f p2 _ runs))
+
+pub run_pieces-requires-clause-blocks : goal.run_pieces-requires-clause-blocks
+run_pieces-requires-clause-blocks c = rw c.deref-2.ensures.value c.requires.blocks

@@ -36,3 +36,6 @@ returns c ss s h e outer =
     })
     (record { ports = opened.entered.ports; ends = opened.entered.ends; pieces = opened.entered.pieces })
     outer
+
+pub fill_frame-requires-clause-blocks : goal.fill_frame-requires-clause-blocks
+fill_frame-requires-clause-blocks c = c.requires.blocks c.index-list-place.result (got c.args.list.now c.args.place c.index-list-place.result c.requires.placed.within c.index-list-place.is)

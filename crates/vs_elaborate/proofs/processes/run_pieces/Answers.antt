@@ -6,6 +6,7 @@ use Rattle.vs_elab_operands.specs.Members.{behaviors_in}
 use Rattle.vs_elaborate.specs.passes.Filling.{Runs, RunsNot}
 use Rattle.vs_scopes.proofs.AnswerLemmas.{kept_more, kept_all, kept_fault}
 use Rattle.vs_elaborate.proofs.FillingLemmas.{runs_not_more}
+use Rattle.vs_elab_operands.proofs.BlockLemmas.{got}
 use Rattle.vs_elaborate.proofs.processes.run_pieces.Goals as goal
 
 pub returns-in_err-run_piece : goal.returns-in_err-run_piece
@@ -20,3 +21,7 @@ returns c envs s f =
 pub loop-piece-preserved : goal.loop-piece-preserved
 loop-piece-preserved c envs s f =
     kept_more (λ (x : FoundPiece). behaviors_in (read_piece x)) (Runs envs s c.args.first c.args.contents.now) (Runs envs s c.args.first c.loop-piece.contents) (Runs envs s c.args.first c.run_piece.new.contents) c.args.pieces.now c.loop-piece.piece-index c.piece-item.result (omega arith) c.piece-item.is (c.loop-piece.invariant envs s f) (c.in_ok-run_piece.ensures envs s f)
+
+pub run_piece-requires-clause-blocks : goal.run_piece-requires-clause-blocks
+run_piece-requires-clause-blocks c =
+    c.requires.blocks c.loop-piece.piece-index c.piece-item.result (got c.args.pieces.now c.loop-piece.piece-index c.piece-item.result (omega arith) c.piece-item.is)

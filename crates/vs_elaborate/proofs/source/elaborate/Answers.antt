@@ -9,6 +9,7 @@ use Rattle.vs_elaborate.specs.Timescales.{timescale_of, ratio_of}
 use Rattle.vs_elaborate.specs.Faults.{surroundings_of}
 use Rattle.vs_elaborate.proofs.SoundLemmas.{opening_told, filling_told}
 use Rattle.vs_elaborate.proofs.MadeLemmas.{sites, placed, lefts, drivers_within, driving_stands, designed, well_formed}
+use Rattle.vs_elaborate.proofs.BlockLemmas.{block_scopes}
 use Rattle.vs_elaborate.proofs.source.elaborate.Goals as goal
 
 pub returns-in_err-opening : goal.returns-in_err-opening
@@ -22,7 +23,7 @@ fill_all-requires c =
     let ms = source.modules.items in
     let x = c.in_ok-opening.opening in
     let o : OpensAll ms c.args.top.now x = rw c.deref.ensures.value at c.in_ok-opening.ensures.opens in
-    rw c.deref-2.ensures.value (record { placed = placed source c.args.top.now x o c.in_ok-opening.ensures.seated; lefts = lefts source c.args.top.now x o })
+    rw c.deref-2.ensures.value (record { placed = placed source c.args.top.now x o c.in_ok-opening.ensures.seated; lefts = lefts source c.args.top.now x o; blocks = block_scopes source c.args.top.now x o })
 
 pub returns-in_err-contents : goal.returns-in_err-contents
 returns-in_err-contents c =

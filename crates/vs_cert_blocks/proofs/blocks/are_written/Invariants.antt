@@ -1,0 +1,6 @@
+use Rattle.std.proofs.Common.{ℕ, ◌<◌, get_or}
+use Rattle.vs_cert_blocks.specs.Blocks.{IsSignalFirst}
+use Rattle.vs_cert_blocks.proofs.blocks.are_written.Given as goal
+
+abbrev pub invariant-loop-signal : goal.invariant-loop-signal
+invariant-loop-signal l = (k : ℕ) → k < l.signal-index → IsSignalFirst l.design l.walks.tables.now (get_or l.signals k 0)

@@ -1,0 +1,4 @@
+pub mod Walks
+pub mod Corners
+pub mod Inside
+pub mod Blocks

@@ -1,0 +1,11 @@
+//! The rule K5, on combinational blocks.
+#![tactic(auto)]
+
+mod bits;
+mod blocks;
+mod corners;
+mod rule;
+mod walks;
+
+pub use blocks::keeps_process;
+pub use rule::{blocks_by_places, keeps_block};

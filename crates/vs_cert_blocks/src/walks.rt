@@ -1,0 +1,294 @@
+//! Walks of the map of a block on which nothing is sure to write a bit.
+ghost use Rattle.std.specs.Prelude.{ℕ, ◌≡◌, ◌++◌, ◌<◌, ◌↔◌, false, length, map, slice_index_or, IfOk, OnOk, IsTrue};
+ghost use Rattle.std.specs.List.{Contains};
+ghost use Rattle.vs_design.specs.Uses.{joined};
+ghost use Rattle.vs_design.specs.declared.statement.Statement.TheViews.{out-Statement};
+ghost use Rattle.vs_flatcode.specs.Stops.{LeadsIn, statement_view, stop_at, stop_statement};
+ghost use Rattle.vs_flatcode.specs.Ways.{none};
+ghost use Rattle.vs_slots_paths.specs.Reaches.{places, pause_at};
+ghost use Rattle.vs_slots_ranges.specs.Places.{bit};
+ghost use Rattle.vs_cert_blocks.specs.Inside.{open_in};
+ghost use Rattle.vs_slots_paths.specs.Ranges.{ranges_of, HasSignal};
+ghost use Rattle.vs_cert_blocks.specs.Walks.{bit_view, is_open, open_tos, row_at, fixed_range, statement_sure};
+ghost use Rattle.vs_cert_blocks.specs.Walks.{IsClear, IsWrittenFirst, AreWoken, AreReads, HaveSure, WakesFrom};
+
+use crate::bits::{Bit, slice_range, surely_at};
+use crate::corners::{alike_until, alike_words_until};
+use std::alloc::{AllocError, Global};
+use vs_design::{Aim, BitRange, Statement};
+use vs_reach::{Family, Graph, Rule, all_keep, gather, reach};
+use vs_slots_paths::{Pause, Tables};
+
+/// The statement that is done at a place, where there is one.
+pub(crate) fn statement_at<'a>(tables: &'a Tables<'a>, place: usize) -> Option<&'a Statement>
+    ensures { statement_view result ≡ stop_statement (stop_at tables.entry.now.stops place) }
+{
+    match tables.stop(place) {
+        None => None,
+        Some(stop) => stop.statement,
+    }
+}
+
+/// Whether all ways from a place go on through no control.
+pub(crate) fn is_at_once(tables: &Tables, place: usize) -> bool
+    ensures { IsTrue result ↔ (pause_at tables.entry.now place ≡ none) }
+{
+    match tables.pause(place) {
+        Pause::Nothing => true,
+        _ => false,
+    }
+}
+
+// Whether a walk goes on at once from a place whose statement isn't sure to write a bit.
+fn is_open<'a>(tables: &'a Tables<'a>, bit: Bit, place: usize) -> bool
+    ensures { result ≡ is_open (bit_view bit) (stop_statement (stop_at tables.entry.now.stops place)) }
+{
+    !surely_at(bit, statement_at(tables, place)) && is_at_once(tables, place)
+}
+
+/// The places of a map, and where it leads from each at once, but from those where a bit is sure to be written.
+#[derive(Drop)]
+struct Open<'a> {
+    tables: &'a Tables<'a>,
+    bit: Bit,
+    ghost within: { LeadsIn (places tables.now) tables.now.stops },
+}
+
+impl<'a> Graph for Open<'a> {
+    ghost count = { λ g. places g.tables.now };
+
+    ghost nexts = { λ g. open_tos (bit_view g.bit) g.tables.now.stops };
+
+    fn count(&self) -> usize {
+        self.tables.places()
+    }
+
+    fn put_nexts(&self, node: usize, todo: &mut Vec<usize>) -> Result<(), AllocError> {
+        if is_open(self.tables, self.bit, node) {
+            todo.extend_from_slice(self.tables.tos(node))?;
+        }
+        Ok(())
+    }
+
+    ghost inside = { λ g. open_in (bit_view g.bit) (places g.tables.now) g.tables.now.stops g.within };
+}
+
+// The places where the event control at a place leads, where it is a point.
+#[derive(Drop)]
+struct Wakes<'a> {
+    tables: &'a Tables<'a>,
+}
+
+impl<'a> Family for Wakes<'a> {
+    ghost has = { λ f p q. WakesFrom f.tables.now p q };
+
+    fn put(&self, _alloc: Global, i: usize, out: &mut Vec<usize>) -> Result<(), AllocError> {
+        if i >= self.tables.places() {
+            return Ok(());
+        }
+        if !self.tables.is_point(i) {
+            return Ok(());
+        }
+        match self.tables.pause(i) {
+            Pause::Event(_, _) => {
+                out.extend_from_slice(self.tables.tos(i))?;
+                Ok(())
+            }
+            _ => Ok(()),
+        }
+    }
+}
+
+/// The places to which event controls lead.
+pub(crate) fn woken<'a>(alloc: Global, tables: &'a Tables<'a>) -> Result<Vec<usize>, AllocError>
+    ensures { IfOk result (λ seeds. AreWoken tables.entry.now seeds.items) }
+{
+    gather(alloc, &Wakes { tables }, tables.places())
+}
+
+// Puts the range of a place of a target, where its indices are constant.
+fn push_fixed(out: &mut Vec<BitRange>, aim: &Aim) -> Result<(), AllocError>
+    ensures { OnOk result (out.new.items ≡ out.old.items ++ fixed_range aim.now) }
+{
+    match aim {
+        Aim::Fixed(slice) => Ok(out.push(slice_range(*slice))?),
+        Aim::Chosen(_, _, _) => Ok(()),
+    }
+}
+
+// Puts those of all places of a target.
+fn push_all_fixed(out: &mut Vec<BitRange>, aims: &[Aim]) -> Result<(), AllocError>
+    ensures { OnOk result (out.new.items ≡ out.old.items ++ joined (map fixed_range aims.now)) }
+{
+    for aim in aims {
+        push_fixed(out, aim)?;
+    }
+    Ok(())
+}
+
+// Puts the ranges that a statement is sure to write.
+fn push_statement_sure(out: &mut Vec<BitRange>, statement: &Statement) -> Result<(), AllocError>
+    ensures { OnOk result (out.new.items ≡ out.old.items ++ statement_sure (out-Statement statement.now)) }
+{
+    match statement {
+        Statement::Assign(_, target, _) => push_all_fixed(out, &target.parts),
+        _ => Ok(()),
+    }
+}
+
+// The same of a statement that may be there.
+fn push_sure(out: &mut Vec<BitRange>, statement: Option<&Statement>) -> Result<(), AllocError>
+    ensures { OnOk result (out.new.items ≡ out.old.items ++ ranges_of statement_sure (statement_view statement.entry)) }
+{
+    match statement {
+        None => Ok(()),
+        Some(s) => push_statement_sure(out, s),
+    }
+}
+
+/// The ranges that the statements of a map are sure to write.
+pub(crate) fn sure<'a>(alloc: Global, tables: &'a Tables<'a>) -> Result<Vec<BitRange>, AllocError>
+    ensures { IfOk result (λ ranges. HaveSure tables.entry.now ranges.items) }
+{
+    let mut out = Vec::new(alloc);
+    for p in 0..tables.places() {
+        push_sure(&mut out, statement_at(tables, p))?;
+    }
+    Ok(out)
+}
+
+// The row of a place.
+fn row(rows: &[Vec<BitRange>], place: usize) -> &[BitRange]
+    ensures { result.now ≡ row_at rows.entry.now place }
+{
+    if place >= rows.len() {
+        return &[];
+    }
+    &rows[place]
+}
+
+// Whether one of some ranges is of a signal.
+fn names(ranges: &[BitRange], signal: usize) -> bool
+    ensures { IsTrue result ↔ HasSignal ranges.now signal }
+{
+    for range in ranges {
+        if range.signal == signal {
+            return true;
+        }
+    }
+    false
+}
+
+/// What walks of the map of a block need.
+#[derive(Drop)]
+pub(crate) struct Walks<'a> {
+    /// The map.
+    pub(crate) tables: &'a Tables<'a>,
+    /// The places to which event controls lead.
+    pub(crate) seeds: &'a [usize],
+    /// The ranges that are read at each place.
+    pub(crate) reads: &'a [Vec<BitRange>],
+    /// The ranges that statements are sure to write.
+    pub(crate) sure: &'a [BitRange],
+    ghost within: { LeadsIn (places tables.now) tables.now.stops },
+    ghost reads_are: { AreReads tables.now reads.now },
+}
+
+// The places that are marked.
+#[derive(Drop)]
+struct Clear<'a> {
+    walks: &'a Walks<'a>,
+    marks: &'a [bool],
+    signal: usize,
+}
+
+impl<'a> Rule for Clear<'a> {
+    ghost keeps = { λ f p. IsTrue (slice_index_or f.marks.now p false) → IsClear f.walks.now.tables.now f.signal p };
+
+    fn test(&self, _alloc: Global, i: usize) -> Result<bool, AllocError> {
+        if i >= self.marks.len() {
+            return Ok(true);
+        }
+        if !self.marks[i] {
+            return Ok(true);
+        }
+        if names(row(self.walks.reads, i), self.signal) {
+            return Ok(false);
+        }
+        Ok(is_at_once(self.walks.tables, i))
+    }
+}
+
+impl<'a> Walks<'a> {
+    // Whether a bit is written on every path before a bit of its signal is read, and before the block is back at its control. It takes as long as
+    // the map has places and ways.
+    fn is_written_first(&self, alloc: Global, bit: Bit) -> Result<bool, AllocError>
+        requires { AreWoken self.now.tables.now self.now.seeds.now }
+        ensures { IfOk result (λ b. (IsTrue b ↔ IsWrittenFirst self.now.tables.now (bit_view bit))) }
+    {
+        let open = Open {
+            tables: self.tables,
+            bit,
+        };
+        let marks = reach(alloc, &open, self.seeds)?;
+        let clear = Clear {
+            walks: self,
+            marks: &marks,
+            signal: bit.signal,
+        };
+        let all = all_keep(alloc, &clear, marks.len())?;
+        Ok(all)
+    }
+
+    // The same of each bit of a word: once for those that behave alike.
+    fn word_is_written_first(
+        &self,
+        alloc: Global,
+        signal: usize,
+        word: usize,
+        width: u32,
+    ) -> Result<bool, AllocError>
+        requires woken { AreWoken self.now.tables.now self.now.seeds.now }
+        requires sure { HaveSure self.now.tables.now self.now.sure.now }
+        ensures { IfOk result (λ b. (IsTrue b ↔
+            ((n : ℕ) → n < width → IsWrittenFirst self.now.tables.now (bit signal word n)))) }
+    {
+        let mut place = 0;
+        while place < width {
+            let bit = Bit {
+                signal,
+                word,
+                place,
+            };
+            if !self.is_written_first(alloc, bit)? {
+                return Ok(false);
+            }
+            place = alike_until(self.sure, signal, word, width, place);
+        }
+        Ok(true)
+    }
+
+    /// Whether each bit of a signal is written on every path before a bit of the signal is read, and before the block is back at its control. For
+    /// the bits that behave alike, which are as many as the text has different selects of the signal, it takes as long as the text and its map.
+    pub(crate) fn signal_is_written_first(
+        &self,
+        alloc: Global,
+        signal: usize,
+        count: usize,
+        width: u32,
+    ) -> Result<bool, AllocError>
+        requires woken { AreWoken self.now.tables.now self.now.seeds.now }
+        requires sure { HaveSure self.now.tables.now self.now.sure.now }
+        ensures { IfOk result (λ b. (IsTrue b ↔
+            ((w n : ℕ) → w < count → n < width → IsWrittenFirst self.now.tables.now (bit signal w n)))) }
+    {
+        let mut word = 0;
+        while word < count {
+            if !self.word_is_written_first(alloc, signal, word, width)? {
+                return Ok(false);
+            }
+            word = alike_words_until(self.sure, signal, count, word);
+        }
+        Ok(true)
+    }
+}

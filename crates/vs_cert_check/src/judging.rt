@@ -1,0 +1,399 @@
+//! The verdict on a certificate: the least rule that is broken, and the first subject that breaks it.
+ghost use Rattle.std.specs.Prelude.{ℕ, ◌≡◌, ◌<◌, length, map, IfOk};
+ghost use Rattle.vs_cert_check.specs.Answers.{verdict_view};
+ghost use Rattle.vs_cert_check.specs.Marks.{marks_of};
+ghost use Rattle.vs_cert_check.specs.Means.{Means};
+ghost use Rattle.vs_cert_check.specs.Verdicts.{KeepsAt, AllKeptBelow};
+ghost use Rattle.vs_cert_facts.specs.Facts.{AreCharts, bodies};
+ghost use Rattle.vs_cert_names.specs.Subjects.{subject_view};
+ghost use Rattle.vs_cert_writers.specs.Writers.{texts_in};
+ghost use Rattle.vs_certificate.specs.JsonValue.{value_of};
+ghost use Rattle.vs_certificate.specs.Reading.{IsSound};
+ghost use Rattle.vs_reach.specs.Verdicts.{IsFirst, IsLeast};
+ghost use Rattle.vs_rules.specs.Blocks.{K5};
+ghost use Rattle.vs_rules.specs.Certificates.{claims_of};
+ghost use Rattle.vs_rules.specs.Limits.{IsCertificate};
+ghost use Rattle.vs_rules.specs.Verdict.{IsVerdict, subjects};
+ghost use Rattle.vs_slots_cones.specs.Wires.{wiring};
+ghost use Rattle.vs_slots_paths.specs.Reaches.{chart_of};
+
+use crate::laws::least_is_verdict;
+use crate::sheet::{Sheet, keeps, starts_well};
+use crate::verdict::Verdict;
+use std::alloc::{AllocError, Global};
+use vs_cert_facts::{Facts, codes, tables, texts};
+use vs_cert_first_slot::FirstSlot;
+use vs_cert_names::{Subject, all_subjects, name_of};
+use vs_cert_roots::{Entries, FirstWrites};
+use vs_cert_starts::in_order;
+use vs_certificate::Certificate;
+use vs_design::Design;
+use vs_flatcode::{Code, Text};
+use vs_law_rules::{rules_make_displays_alike, rules_make_independent};
+use vs_reach::{Book, Rule, first_broken, judge};
+use vs_rules::tested_are_certificates;
+use vs_slots::Slots;
+use vs_slots_cold::Beginning;
+use vs_slots_cones::Cones;
+use vs_slots_copies::Copies;
+use vs_slots_paths::Tables;
+use vs_slots_uses::Uses;
+
+/// How many rules there are before the last one.
+const BEFORE: usize = 10;
+
+// A rule before the last, by its number from 0 on, and the subjects in their order.
+#[derive(Drop)]
+struct OfRule<'a> {
+    sheet: &'a Sheet<'a>,
+    all: &'a [Subject<'a>],
+    rule: usize,
+    ghost before: { rule < 10 },
+    ghost are: { map subject_view all.now ≡ subjects sheet.now.facts.now.design sheet.now.facts.now.claims },
+}
+
+impl<'a> Rule for OfRule<'a> {
+    ghost keeps = { λ f i. KeepsAt f.sheet.now.facts.now.design f.sheet.now.facts.now.claims f.rule i };
+
+    fn test(&self, alloc: Global, i: usize) -> Result<bool, AllocError> {
+        if i >= self.all.len() {
+            return Ok(true);
+        }
+        keeps(alloc, self.sheet, self.rule, self.all[i])
+    }
+}
+
+// The last rule, of a design whose beginning is known.
+#[derive(Drop)]
+struct OfStarts<'a, 'b> {
+    sheet: &'b Sheet<'a>,
+    all: &'b [Subject<'a>],
+    beginning: &'b Beginning<'a>,
+    ghost of: { beginning.now ≡ sheet.now.facts.now.design },
+    ghost blocks: { (i : ℕ) → (K5 sheet.now.facts.now.design sheet.now.facts.now.claims i → ⊥) → ⊥ },
+    ghost are: { map subject_view all.now ≡ subjects sheet.now.facts.now.design sheet.now.facts.now.claims },
+}
+
+impl<'a, 'b> Rule for OfStarts<'a, 'b> {
+    ghost keeps = { λ f i. KeepsAt f.sheet.now.facts.now.design f.sheet.now.facts.now.claims 10 i };
+
+    fn test(&self, alloc: Global, i: usize) -> Result<bool, AllocError> {
+        if i >= self.all.len() {
+            return Ok(true);
+        }
+        starts_well(alloc, self.sheet, self.beginning, self.all[i])
+    }
+}
+
+// The rules before the last, and the subjects in their order.
+#[derive(Drop)]
+struct RulesBefore<'a> {
+    sheet: &'a Sheet<'a>,
+    all: &'a [Subject<'a>],
+    ghost are: { map subject_view all.now ≡ subjects sheet.now.facts.now.design sheet.now.facts.now.claims },
+}
+
+impl<'a> Book for RulesBefore<'a> {
+    ghost rules = { λ b. 10 };
+
+    ghost things = { λ b. length b.all.now };
+
+    ghost keeps = { λ b. KeepsAt b.sheet.now.facts.now.design b.sheet.now.facts.now.claims };
+
+    fn rules(&self) -> usize {
+        BEFORE
+    }
+
+    fn first(&self, alloc: Global, rule: usize) -> Result<Option<usize>, AllocError> {
+        let one = OfRule {
+            sheet: self.sheet,
+            all: self.all,
+            rule,
+        };
+        let first = first_broken(alloc, &one, self.all.len())?;
+        Ok(first)
+    }
+}
+
+// The first subject that breaks the last rule, where all keep those before.
+fn first_start<'a>(
+    alloc: Global,
+    sheet: &Sheet<'a>,
+    all: &[Subject<'a>],
+) -> Result<Option<usize>, AllocError>
+    requires are { map subject_view all.now ≡ subjects sheet.now.facts.now.design sheet.now.facts.now.claims }
+    requires kept { AllKeptBelow sheet.now.facts.now.design sheet.now.facts.now.claims 10 }
+    ensures { IfOk result (λ first. IsFirst (KeepsAt sheet.now.facts.now.design sheet.now.facts.now.claims 10)
+        (length all.now) first) }
+{
+    let order = in_order(alloc, sheet.facts)?;
+    let beginning = Beginning::new(alloc, sheet.facts.design(), &order)?;
+    let starts = OfStarts {
+        sheet,
+        all,
+        beginning: &beginning,
+    };
+    let first = first_broken(alloc, &starts, all.len())?;
+    Ok(first)
+}
+
+// The least rule that is broken, and the first subject that breaks it.
+fn least<'a>(
+    alloc: Global,
+    sheet: &'a Sheet<'a>,
+    all: &'a [Subject<'a>],
+) -> Result<Option<(usize, usize)>, AllocError>
+    requires are { map subject_view all.now ≡ subjects sheet.now.facts.now.design sheet.now.facts.now.claims }
+    ensures { IfOk result (λ least. IsLeast (KeepsAt sheet.entry.now.facts.now.design sheet.entry.now.facts.now.claims) 11
+        (length all.entry.now) least) }
+{
+    let before = RulesBefore { sheet, all };
+    match judge(alloc, &before)? {
+        Some(least) => Ok(Some(least)),
+        None => match first_start(alloc, sheet, all)? {
+            None => Ok(None),
+            Some(i) => Ok(Some((BEFORE, i))),
+        },
+    }
+}
+
+// The verdict that the least broken rule and the first subject that breaks it are.
+fn verdict_of<'a>(
+    alloc: Global,
+    facts: &Facts<'a>,
+    all: &[Subject<'a>],
+    least: Option<(usize, usize)>,
+) -> Result<Verdict, AllocError>
+    requires are { map subject_view all.now ≡ subjects facts.now.design facts.now.claims }
+    requires least { IsLeast (KeepsAt facts.now.design facts.now.claims) 11 (length all.now) least }
+    ensures { IfOk result (λ v. IsVerdict facts.entry.now.design facts.entry.now.claims (verdict_view v)) }
+{
+    least_is_verdict();
+    match least {
+        None => Ok(Verdict::Yes),
+        Some((rule, i)) => match name_of(facts, all[i]) {
+            None => unreachable!(),
+            Some(name) => {
+                let place = Vec::from_slice(alloc, name)?;
+                Ok(Verdict::No(rule as u8 + 1, place))
+            }
+        },
+    }
+}
+
+// For each process whether it is claimed to be a combinational block.
+fn block_marks(alloc: Global, facts: &Facts) -> Result<Vec<bool>, AllocError>
+    ensures { IfOk result (λ marks. marks.items ≡ marks_of facts.now.design facts.now.claims) }
+{
+    let mut marks = Vec::new(alloc);
+    for i in 0..facts.design().processes().len() {
+        marks.push(facts.is_block(i))?;
+    }
+    Ok(marks)
+}
+
+// The verdict, by all tables.
+fn by_sheet<'x>(
+    alloc: Global,
+    facts: &'x Facts<'x>,
+    sheet: &'x Sheet<'x>,
+) -> Result<Verdict, AllocError>
+    requires same { sheet.now.facts.now ≡ facts.now }
+    ensures { IfOk result (λ v. IsVerdict facts.entry.now.design facts.entry.now.claims (verdict_view v)) }
+{
+    let all = all_subjects(alloc, facts)?;
+    let least = least(alloc, sheet, &all)?;
+    verdict_of(alloc, facts, &all, least)
+}
+
+// The verdict, by the tables in which the rules look things up.
+fn by_tables<'x>(
+    alloc: Global,
+    facts: &'x Facts<'x>,
+    uses: &'x Uses<'x>,
+    cones: &'x Cones<'x>,
+    copies: &'x Copies<'x>,
+    entries: &'x Entries<'x>,
+    first_writes: &'x FirstWrites<'x>,
+    slots: &'x Slots<'x>,
+    first_slot: &'x FirstSlot<'x>,
+) -> Result<Verdict, AllocError>
+    requires uses { uses.now ≡ texts_in facts.now }
+    requires cones { cones.now ≡ wiring facts.now.design (marks_of facts.now.design facts.now.claims) }
+    requires copies { copies.now ≡ facts.now.design }
+    requires entries { entries.now ≡ facts.now }
+    requires first_writes { first_writes.now ≡ facts.now }
+    requires slots { slots.now ≡ facts.now }
+    requires first_slot { first_slot.now ≡ facts.now }
+    ensures { IfOk result (λ v. IsVerdict facts.entry.now.design facts.entry.now.claims (verdict_view v)) }
+{
+    let sheet = Sheet {
+        facts,
+        uses,
+        cones,
+        copies,
+        entries,
+        first_writes,
+        slots,
+        first_slot,
+    };
+    by_sheet(alloc, &*facts, &sheet)
+}
+
+// The verdict, by what is known of the first slot.
+fn by_entries<'x>(
+    alloc: Global,
+    facts: &'x Facts<'x>,
+    uses: &'x Uses<'x>,
+    cones: &'x Cones<'x>,
+    copies: &'x Copies<'x>,
+    entries: &'x Entries<'x>,
+) -> Result<Verdict, AllocError>
+    requires uses { uses.now ≡ texts_in facts.now }
+    requires cones { cones.now ≡ wiring facts.now.design (marks_of facts.now.design facts.now.claims) }
+    requires copies { copies.now ≡ facts.now.design }
+    requires entries { entries.now ≡ facts.now }
+    ensures { IfOk result (λ v. IsVerdict facts.entry.now.design facts.entry.now.claims (verdict_view v)) }
+{
+    let first_writes = FirstWrites::of(alloc, entries)?;
+    let slots = Slots::new(alloc, facts)?;
+    let first_slot = FirstSlot::new(alloc, facts, uses, cones)?;
+    by_tables(
+        alloc,
+        &*facts,
+        &*uses,
+        &*cones,
+        &*copies,
+        &*entries,
+        &first_writes,
+        &slots,
+        &first_slot,
+    )
+}
+
+// The verdict, by the facts of a design and its certificate.
+fn by_facts<'x>(
+    alloc: Global,
+    facts: &'x Facts<'x>,
+    certificate: &'x Certificate,
+    tables: &'x [Tables<'x>],
+    marks: &'x [bool],
+) -> Result<Verdict, AllocError>
+    requires certificate { claims_of certificate.now ≡ facts.now.claims }
+    requires tables { tables.now ≡ facts.now.charts }
+    requires marks { marks.now ≡ marks_of facts.now.design facts.now.claims }
+    ensures { IfOk result (λ v. IsVerdict facts.entry.now.design facts.entry.now.claims (verdict_view v)) }
+{
+    facts.maps();
+    let design = facts.design();
+    let cones = Cones::new(alloc, design, tables, marks)?;
+    let uses = Uses::new(alloc, design, tables)?;
+    let copies = Copies::of(alloc, design)?;
+    let entries = Entries::of(alloc, facts, certificate)?;
+    by_entries(alloc, &*facts, &uses, &cones, &copies, &entries)
+}
+
+// The verdict, by the tables of the processes.
+fn by_processes<'x>(
+    alloc: Global,
+    design: &'x Design,
+    certificate: &'x Certificate,
+    tables: &'x [Tables<'x>],
+) -> Result<Verdict, AllocError>
+    requires maps { AreCharts design.now tables.now }
+    requires certificate { IsCertificate (claims_of certificate.now) }
+    ensures { IfOk result (λ v. IsVerdict design.entry.now (claims_of certificate.entry.now) (verdict_view v)) }
+{
+    let facts = Facts::new(alloc, design, certificate, tables)?;
+    let marks = block_marks(alloc, &facts)?;
+    by_facts(alloc, &facts, &*certificate, &*tables, &marks)
+}
+
+// The verdict, by the maps of the texts of the processes.
+fn by_texts<'x>(
+    alloc: Global,
+    design: &'x Design,
+    certificate: &'x Certificate,
+    texts: &'x [Text<'x>],
+) -> Result<Verdict, AllocError>
+    requires maps { AreCharts design.now (map chart_of texts.now) }
+    requires certificate { IsCertificate (claims_of certificate.now) }
+    ensures { IfOk result (λ v. IsVerdict design.entry.now (claims_of certificate.entry.now) (verdict_view v)) }
+{
+    let tables = tables(alloc, design, texts)?;
+    by_processes(alloc, &*design, &*certificate, &tables)
+}
+
+// The verdict, by the codes of the processes.
+fn by_codes<'x>(
+    alloc: Global,
+    design: &Design,
+    certificate: &Certificate,
+    codes: &'x [Code<'x>],
+) -> Result<Verdict, AllocError>
+    requires codes { codes.now ≡ bodies design.now.processes }
+    requires certificate { IsCertificate (claims_of certificate.now) }
+    ensures { IfOk result (λ v. IsVerdict design.entry.now (claims_of certificate.entry.now) (verdict_view v)) }
+{
+    let texts = texts(alloc, design, codes)?;
+    by_texts(alloc, &*design, &*certificate, &texts)
+}
+
+// The same, of codes that are lent for a shorter time than what they are made of.
+fn by_lent_codes(
+    alloc: Global,
+    design: &Design,
+    certificate: &Certificate,
+    codes: &[Code],
+) -> Result<Verdict, AllocError>
+    requires codes { codes.now ≡ bodies design.now.processes }
+    requires certificate { IsCertificate (claims_of certificate.now) }
+    ensures { IfOk result (λ v. IsVerdict design.entry.now (claims_of certificate.entry.now) (verdict_view v)) }
+{
+    by_codes(alloc, design, certificate, &*codes)
+}
+
+// The verdict, by the design.
+fn by_design(
+    alloc: Global,
+    design: &Design,
+    certificate: &Certificate,
+) -> Result<Verdict, AllocError>
+    requires certificate { IsCertificate (claims_of certificate.now) }
+    ensures { IfOk result (λ v. IsVerdict design.entry.now (claims_of certificate.entry.now) (verdict_view v)) }
+{
+    let codes = codes(alloc, design)?;
+    by_lent_codes(alloc, design, certificate, &codes)
+}
+
+// What the rules of a design that keeps them all are for.
+fn tell_meaning(design: &Design, certificate: &Certificate, verdict: &Verdict)
+    requires { IsVerdict design.now (claims_of certificate.now) (verdict_view verdict.now) }
+    ensures { Means design.now (claims_of certificate.now) verdict.now }
+{
+    design.is_well_formed();
+    rules_make_independent();
+    rules_make_displays_alike();
+    let _ = certificate;
+    let _ = verdict;
+}
+
+/// The verdict on a certificate of a design: `Yes` exactly where the design keeps all rules K1 to K11; else the least rule that it breaks, and the
+/// first subject that breaks it: signals, continuous assignments and processes, each in design order, and then the names of the certificate's
+/// lists. No test of the certificate's form and limits may fail (C2 to C4), which its reader answers for. Where the verdict is `Yes`, the traces
+/// of the design's executions at the certificate's grain do not depend on the order of their steps (IEEE 1364-2005, clause 11.4.2). It runs no
+/// schedule, and of a block of start `cold` at most 10,000 steps of that block alone.
+pub fn check(
+    alloc: Global,
+    design: &Design,
+    certificate: &Certificate,
+) -> Result<Verdict, AllocError>
+    requires sound { IsSound (value_of certificate.now) }
+    ensures exact { IfOk result (λ v. IsVerdict design.entry.now (claims_of certificate.entry.now) (verdict_view v)) }
+    ensures meaning { IfOk result (λ v. Means design.entry.now (claims_of certificate.entry.now) v) }
+{
+    tested_are_certificates();
+    let verdict = by_design(alloc, design, certificate)?;
+    tell_meaning(design, certificate, &verdict);
+    Ok(verdict)
+}

@@ -1,0 +1,151 @@
+//! The rules of a design and its certificate, by their numbers and subjects.
+ghost use Rattle.std.specs.Prelude.{ℕ, ◌≡◌, ◌<◌, ◌↔◌, length, IfOk, IsTrue};
+ghost use Rattle.vs_cert_check.specs.Answers.{IsOfDesign};
+ghost use Rattle.vs_cert_check.specs.Verdicts.{rule_of};
+ghost use Rattle.vs_cert_names.specs.Subjects.{subject_view};
+ghost use Rattle.vs_cert_writers.specs.Writers.{texts_in};
+ghost use Rattle.vs_rules.specs.Rules.{K10_Process};
+ghost use Rattle.vs_rules.specs.Blocks.{K5};
+ghost use Rattle.vs_rules.specs.Verdict.{Keeps, k11};
+ghost use Rattle.vs_rules.specs.Verdict as verdict;
+ghost use Rattle.vs_cert_check.specs.Marks.{marks_of};
+ghost use Rattle.vs_slots_cones.specs.Wires.{wiring};
+
+use crate::delays::keeps_delays;
+use std::alloc::{AllocError, Global};
+use vs_cert_blocks::keeps_block;
+use vs_cert_edges::{keeps_edges, keeps_readings};
+use vs_cert_facts::Facts;
+use vs_cert_first_slot::FirstSlot;
+use vs_cert_names::{
+    Subject, keeps_assign_name, keeps_listed_name, keeps_process_name, keeps_signal_name,
+};
+use vs_cert_order::{keeps_assign_order, keeps_process_order};
+use vs_cert_roots::{Entries, FirstWrites, keeps_first_root, keeps_root};
+use vs_cert_starts::keeps_start;
+use vs_cert_writers::{keeps_mode, keeps_writers};
+use vs_slots::Slots;
+use vs_slots_cold::Beginning;
+use vs_slots_cones::Cones;
+use vs_slots_copies::Copies;
+use vs_slots_uses::Uses;
+
+/// A design and its certificate, with the tables in which the rules look things up.
+#[derive(Drop)]
+pub(crate) struct Sheet<'a> {
+    pub facts: &'a Facts<'a>,
+    pub uses: &'a Uses<'a>,
+    pub cones: &'a Cones<'a>,
+    pub copies: &'a Copies<'a>,
+    pub entries: &'a Entries<'a>,
+    pub first_writes: &'a FirstWrites<'a>,
+    pub slots: &'a Slots<'a>,
+    pub first_slot: &'a FirstSlot<'a>,
+    pub ghost uses_are: { uses.now ≡ texts_in facts.now },
+    pub ghost cones_are: { cones.now ≡ wiring facts.now.design (marks_of facts.now.design facts.now.claims) },
+    pub ghost copies_are: { copies.now ≡ facts.now.design },
+    pub ghost entries_are: { entries.now ≡ facts.now },
+    pub ghost first_writes_are: { first_writes.now ≡ facts.now },
+    pub ghost slots_are: { slots.now ≡ facts.now },
+    pub ghost first_slot_is: { first_slot.now ≡ facts.now },
+}
+
+// Whether a signal keeps a rule, by the rule's number from 0 on.
+fn keeps_of_signal(alloc: Global, sheet: &Sheet, rule: usize, v: usize) -> Result<bool, AllocError>
+    requires within { v < length sheet.now.facts.now.design.signals }
+    ensures { IfOk result (λ b. (IsTrue b ↔
+        Keeps sheet.now.facts.now.design sheet.now.facts.now.claims (rule_of rule) (verdict.signal v))) }
+{
+    match rule {
+        0 => Ok(keeps_signal_name(sheet.facts, v)),
+        1 => Ok(keeps_writers(sheet.facts, sheet.uses, v)),
+        2 => Ok(keeps_mode(sheet.facts, sheet.uses, v)),
+        5 => keeps_root(alloc, sheet.entries, sheet.copies, v),
+        9 => keeps_first_root(alloc, sheet.first_writes, v),
+        _ => Ok(true),
+    }
+}
+
+// Whether a continuous assignment does.
+fn keeps_of_assign(alloc: Global, sheet: &Sheet, rule: usize, j: usize) -> Result<bool, AllocError>
+    ensures { IfOk result (λ b. (IsTrue b ↔
+        Keeps sheet.now.facts.now.design sheet.now.facts.now.claims (rule_of rule) (verdict.assign j))) }
+{
+    match rule {
+        0 => Ok(keeps_assign_name(sheet.facts, j)),
+        3 => keeps_assign_order(alloc, sheet.facts, sheet.cones, j),
+        _ => Ok(true),
+    }
+}
+
+// Whether a process does, but for the last rule.
+fn keeps_of_process(alloc: Global, sheet: &Sheet, rule: usize, i: usize) -> Result<bool, AllocError>
+    requires rule { rule < 10 }
+    ensures { IfOk result (λ b. (IsTrue b ↔
+        Keeps sheet.now.facts.now.design sheet.now.facts.now.claims (rule_of rule) (verdict.process i))) }
+{
+    match rule {
+        0 => Ok(keeps_process_name(sheet.facts, i)),
+        3 => keeps_process_order(alloc, sheet.facts, sheet.cones, i),
+        4 => keeps_block(alloc, sheet.facts, i),
+        6 => keeps_edges(alloc, sheet.slots, i),
+        7 => keeps_delays(alloc, sheet.facts, i),
+        8 => keeps_readings(alloc, sheet.slots, sheet.cones, i),
+        9 => sheet.first_slot.keeps_first_slot(alloc, i),
+        _ => Ok(true),
+    }
+}
+
+// Whether a name of a list does.
+fn keeps_of_listed(sheet: &Sheet, rule: usize, name: &[u8]) -> bool
+    ensures { IsTrue result ↔
+        Keeps sheet.now.facts.now.design sheet.now.facts.now.claims (rule_of rule) (verdict.listed name.now) }
+{
+    match rule {
+        0 => keeps_listed_name(sheet.facts, name),
+        _ => true,
+    }
+}
+
+/// Whether a subject keeps a rule, by the rule's number from 0 on, but for the last rule.
+pub(crate) fn keeps(
+    alloc: Global,
+    sheet: &Sheet,
+    rule: usize,
+    subject: Subject,
+) -> Result<bool, AllocError>
+    requires rule { rule < 10 }
+    requires of { IsOfDesign sheet.now.facts.now.design (subject_view subject) }
+    ensures { IfOk result (λ b. (IsTrue b ↔
+        Keeps sheet.now.facts.now.design sheet.now.facts.now.claims (rule_of rule) (subject_view subject.entry))) }
+{
+    match subject {
+        Subject::Signal(v) => keeps_of_signal(alloc, sheet, rule, v),
+        Subject::Assign(j) => keeps_of_assign(alloc, sheet, rule, j),
+        Subject::Process(i) => keeps_of_process(alloc, sheet, rule, i),
+        Subject::Listed(name) => Ok(keeps_of_listed(sheet, rule, name)),
+    }
+}
+
+/// Whether a subject keeps the last rule, where it keeps the one on the shape of blocks.
+pub(crate) fn starts_well(
+    alloc: Global,
+    sheet: &Sheet,
+    beginning: &Beginning,
+    subject: Subject,
+) -> Result<bool, AllocError>
+    requires beginning { beginning.now ≡ sheet.now.facts.now.design }
+    requires shape { (i : ℕ) → (K5 sheet.now.facts.now.design sheet.now.facts.now.claims i → ⊥) → ⊥ }
+    ensures { IfOk result (λ b. (IsTrue b ↔
+        Keeps sheet.now.facts.now.design sheet.now.facts.now.claims k11 (subject_view subject.entry))) }
+{
+    match subject {
+        Subject::Process(i) => {
+            if !keeps_block(alloc, sheet.facts, i)? {
+                unreachable!();
+            }
+            keeps_start(alloc, sheet.facts, sheet.cones, sheet.copies, beginning, i)
+        }
+        _ => Ok(true),
+    }
+}

@@ -1,0 +1,2 @@
+pub mod EdgePlaces
+pub mod ReadingPlaces

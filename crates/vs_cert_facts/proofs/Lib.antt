@@ -1,0 +1,5 @@
+pub mod PlaceLemmas
+pub mod FactLemmas
+pub mod RootLemmas
+pub mod IndexLemmas
+pub mod MapLemmas

@@ -1,0 +1,3 @@
+pub mod Places
+pub mod Facts
+pub mod passes

@@ -1,0 +1,12 @@
+//! A design and its certificate by numbers, with the maps of the texts of its processes.
+#![tactic(auto)]
+
+mod facts;
+mod index;
+mod maps;
+mod names;
+mod words;
+
+pub use facts::Facts;
+pub use index::Index;
+pub use maps::{codes, tables, texts};

@@ -1,0 +1,3 @@
+mod HungLemmas
+mod PlaceLemmas
+mod SlotLemmas

@@ -1,0 +1,7 @@
+//! The rule K10 of processes.
+#![tactic(auto)]
+
+mod first_slot;
+mod hung;
+
+pub use first_slot::FirstSlot;

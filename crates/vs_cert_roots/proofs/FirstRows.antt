@@ -1,0 +1,249 @@
+-- Rows of roots and of what writes in the first slot.
+use Rattle.std.proofs.Common.{◌≡◌, ℕ, ◌+◌, ◌<◌, ◌≤◌, ◌⊎◌, ◌↔◌, ◌==◌, ◌∷◌, [], ◌++◌, inl, inr, Bool, true, false, not, IsTrue, Option, Some, None, List, length, get_or, take, slice_get, refl, sym, ◌∙◌, ap, subst, arith}
+use Rattle.std.specs.List.{Contains}
+use Rattle.std.specs.declared.vec.Vec.{Vec}
+use Rattle.std.specs.declared.alloc.Global.{Global}
+use Rattle.std.proofs.lemmas.Option.{same_Some, slice_get_within}
+use Rattle.std.proofs.lemmas.List.Elements.{Contains-append_cases}
+use Rattle.vs_logic4.specs.declared.digit.Digit.{Digit}
+use Rattle.vs_logic4.specs.declared.digit.Digit.TheVariants.{Zero, One, X, Z}
+use Rattle.vs_logic4.specs.Edges.{is_edge}
+use Rattle.vs_logic4.proofs.Basics.{take_push, get_or_same}
+use Rattle.vs_design.specs.declared.statement.EventTerm.{EventTerm}
+use Rattle.vs_design.specs.Parts.{Parts}
+use Rattle.vs_rules.specs.Claims.{Claims, EdgeClaim, IsRoot}
+use Rattle.vs_rules.specs.Constants.{IsKnown}
+use Rattle.vs_rules.specs.Constants as k
+use Rattle.vs_rules.specs.Constants.{bit_of}
+use Rattle.vs_slots_constants.specs.Givings.{given_here}
+use Rattle.vs_slots_paths.specs.Ranges.{statement_at}
+use Rattle.vs_slots_constants.specs.Clocks.{known}
+use Rattle.vs_slots_copies.proofs.ListLemmas.{contains_at}
+use Rattle.vs_flatcode.specs.Stops.{LeadsIn}
+use Rattle.vs_slots_copies.proofs.CopyLemmas.{reached_within}
+use Rattle.vs_slots_copies.specs.Copies.{IsOnly}
+use Rattle.vs_slots_paths.specs.declared.along.Along.TheVariants.{ZeroTime}
+use Rattle.vs_slots_paths.specs.Inside.{along_in}
+use Rattle.vs_slots_paths.specs.Ranges.{HasSignal, now_at, later_at}
+use Rattle.vs_slots_paths.specs.Reaches.{Chart, places, stops_along, InSlot0}
+use Rattle.vs_slots_paths.specs.Indexes.{AreRows, row_of}
+use Rattle.vs_cert_facts.specs.Facts.{AreCharts, IsRootAt}
+use Rattle.vs_cert_roots.specs.Entries.{AreTerms}
+use Rattle.vs_cert_roots.specs.First.{SiteAt, HasSite, IsSilent, NamesRoot, Wakes, StartsSilently, StartsWellIn, StartsWell}
+use Rattle.std.proofs.lemmas.Bool.{eqb-true, eqb-false, ne_eqb}
+use Rattle.vs_logic4.proofs.Basics.{same_self}
+use Rattle.vs_rules.specs.Rules.{K10_Signal}
+use Rattle.vs_cert_roots.proofs.FirstLemmas.{first_by_places}
+use Rattle.vs_cert_roots.proofs.EntryLemmas.{no_name}
+use Rattle.vs_cert_roots.proofs.ListLemmas.{in_one, nothing_more, appended}
+
+pub row_exact : (has : ℕ → ℕ → Type 0) (m n : ℕ) (table : List (Vec ℕ Global)) (v : ℕ) (row : List ℕ) → AreRows has m n table → ((i : ℕ) → has i v → i < m) → v < n → row_of table v ≡ row →
+    (i : ℕ) → (Contains row i ↔ has i v)
+row_exact has m n table v row are within h same i = (
+  λ c. ((are v i h).0 (subst (λ (l : List ℕ). Contains l i) (sym same) c)).1,
+  λ y. subst (λ (l : List ℕ). Contains l i) same ((are v i h).1 (within i y, y)),
+)
+
+pub root_within : (d : Parts) (edges : List EdgeClaim) (v place : ℕ) → NamesRoot d edges place v → place < length edges
+root_within d edges v place h = slice_get_within edges place h.1.entry h.1.is
+
+pub site_within : (d : Parts) (charts : List Chart) → AreCharts d charts → (v i : ℕ) → HasSite charts i v → i < length d.processes
+site_within d charts are v i h = subst (λ (n : ℕ). i < n) are.as_many (slice_get_within charts i h.0 h.1)
+
+-- a signal is a root where its row has an entry
+pub root_of_row : (d : Parts) (c : Claims) (v : ℕ) (row : List ℕ) → ((p : ℕ) → (Contains row p ↔ NamesRoot d c.edges p v)) → 0 < length row → IsRoot d c v
+root_of_row d c v row are some =
+    let y = (are (get_or row 0 0)).0 (contains_at row 0 some) in
+    (y.0, record { place = get_or row 0 0; entry = y.1.entry; is = y.1.is; signal = y.1.signal; root_is = y.1.root_is })
+
+pub row_of_root : (d : Parts) (c : Claims) (v : ℕ) (row : List ℕ) → ((p : ℕ) → (Contains row p ↔ NamesRoot d c.edges p v)) → IsRoot d c v → 0 < length row
+row_of_root d c v row are h =
+    let m = (are h.1.place).1 (h.0, record { entry = h.1.entry; is = h.1.is; signal = h.1.signal; root_is = h.1.root_is }) in
+    omega (arith, m.1)
+
+pub past_root : (d : Parts) (c : Claims) (v : ℕ) → length d.signals ≤ v → IsRoot d c v → ⊥
+past_root d c v past h = no_name d v h.1.entry.root past h.1.root_is
+
+-- ---- digits
+
+pub known_one : (o : Option Digit) (digit : Digit) → known o ≡ Some digit → (o ≡ Some digit) × IsKnown digit
+known_one None digit h = cc
+known_one (Some Zero) digit h = (h, subst IsKnown (same_Some Zero digit h) k.zero)
+known_one (Some One) digit h = (h, subst IsKnown (same_Some One digit h) k.one)
+known_one (Some X) digit h = cc
+known_one (Some Z) digit h = cc
+
+pub one_known : (o : Option Digit) (digit : Digit) → o ≡ Some digit → IsKnown digit → known o ≡ Some digit
+one_known o _ e k.zero = ap known e
+one_known o _ e k.one = ap known e
+
+-- ---- silent digits
+
+-- no term so far is woken
+abbrev pub NoneWoken : Parts → Claims → ℕ → Digit → List EventTerm → Type 0
+NoneWoken d c root digit terms = (t : EventTerm) → Contains terms t → Wakes d c root digit t → ⊥
+
+pub woken_more : (d : Parts) (c : Claims) (root : ℕ) (digit : Digit) (terms : List EventTerm) (i : ℕ) (t : EventTerm) → i < length terms → t ≡ get_or terms i t → NoneWoken d c root digit (take i terms) →
+    (Wakes d c root digit t → ⊥) → NoneWoken d c root digit (take (i + 1) terms)
+woken_more d c root digit terms i t h is before here x m w =
+    by (Contains-append_cases (take i terms) (t ∷ []) x (subst (λ (l : List EventTerm). Contains l x) (take_push terms i t h is) m)) where
+      by : Contains (take i terms) x ⊎ Contains (t ∷ []) x → ⊥
+      by (inl a) = before x a w
+      by (inr b) = here (subst (Wakes d c root digit) (sym (in_one t x b)) w)
+
+not_false : (b : Bool) → (b ≡ true → ⊥) → b ≡ false
+not_false true h = absurd (h refl)
+not_false false h = refl
+
+pub silent_is : (d : Parts) (c : Claims) (root : ℕ) (digit : Digit) (terms : List EventTerm) → AreTerms d terms → NoneWoken d c root digit terms → IsSilent d c root digit
+silent_is d c root digit terms are none j t has edge of = not_false (is_edge t.edge X digit) (λ e. none t ((are t).1 (j, has)) (edge, of, e))
+
+pub woken_not : (d : Parts) (c : Claims) (root : ℕ) (digit : Digit) (terms : List EventTerm) (t : EventTerm) → AreTerms d terms → Wakes d c root digit t → Contains terms t → IsSilent d c root digit → ⊥
+woken_not d c root digit terms t are w m silent =
+    let j = (are t).0 m in
+    let e : false ≡ true = sym (silent j.0 t j.1 w.0 w.1) ∙ w.2 in
+    cc
+
+-- ---- what is put
+
+pub slot0_within : (t : Chart) → LeadsIn (places t) t.stops → t.start < places t → (p : ℕ) → InSlot0 t p → p < places t
+slot0_within t leads start p h = reached_within (stops_along ZeroTime t.stops) (places t) t.start p (along_in ZeroTime (places t) t.stops leads) start h
+
+pub site_pushed : (t : Chart) (p : ℕ) → InSlot0 t p → (old mid new : List ℕ) → ((v : ℕ) → (Contains mid v ↔ (Contains old v ⊎ HasSignal (now_at t p) v))) →
+    ((v : ℕ) → (Contains new v ↔ (Contains mid v ⊎ HasSignal (later_at t p) v))) → (v : ℕ) → (Contains new v ↔ (Contains old v ⊎ SiteAt t v p))
+site_pushed t p early old mid new f g v = (λ h. there ((g v).0 h), λ h. (g v).1 (back h)) where
+  one : Contains old v ⊎ HasSignal (now_at t p) v → Contains old v ⊎ SiteAt t v p
+  one (inl a) = inl a
+  one (inr b) = inr (early, inl b)
+
+  there : Contains mid v ⊎ HasSignal (later_at t p) v → Contains old v ⊎ SiteAt t v p
+  there (inl a) = one ((f v).0 a)
+  there (inr b) = inr (early, inr b)
+
+  back : Contains old v ⊎ SiteAt t v p → Contains mid v ⊎ HasSignal (later_at t p) v
+  back (inl a) = inl ((f v).1 (inl a))
+  back (inr (e, inl b)) = inl ((f v).1 (inr b))
+  back (inr (e, inr b)) = inr b
+
+pub process_pushed : (charts : List Chart) (i : ℕ) (t : Chart) → slice_get charts i ≡ Some t → LeadsIn (places t) t.stops → t.start < places t → (old all new : List ℕ) → new ≡ old ++ all →
+    ((v : ℕ) → (Contains all v ↔ ((p : ℕ) × (p < places t) × ((p < places t) × SiteAt t v p)))) → (v : ℕ) → (Contains new v ↔ (Contains old v ⊎ HasSite charts i v))
+process_pushed charts i t at leads start old all new e f =
+    appended old all new (HasSite charts i) e (λ v. (
+      λ h. let y = (f v).0 h in (t, at, (y.0, y.2.1)),
+      λ h.
+          let same = same_Some h.0 t (sym h.1 ∙ at) in
+          let s = subst (λ (x : Chart). SiteAt x v h.2.0) same h.2.1 in
+          let l = slot0_within t leads start h.2.0 s.0 in
+          (f v).1 (h.2.0, l, (l, s)),
+    ))
+
+pub no_process_site : (charts : List Chart) (i : ℕ) → None ≡ slice_get charts i → (old : List ℕ) (v : ℕ) → (Contains old v ↔ (Contains old v ⊎ HasSite charts i v))
+no_process_site charts i e old = nothing_more old (HasSite charts i) (λ v h. let f : None ≡ Some h.0 = e ∙ h.1 in cc)
+
+pub no_claimed : (d : Parts) (edges : List EdgeClaim) (place : ℕ) → ((root v : ℕ) → (IsRootAt d edges place root v ↔ ◌≡◌ {A = Option (ℕ × ℕ)} None (Some (root, v)))) → (old : List ℕ) (r : ℕ) →
+    (Contains old r ↔ (Contains old r ⊎ NamesRoot d edges place r))
+no_claimed d edges place f old = nothing_more old (NamesRoot d edges place) (λ r h. let e : ◌≡◌ {A = Option (ℕ × ℕ)} None (Some (r, h.0)) = (f r h.0).0 h.1 in cc)
+
+pub one_claimed : (d : Parts) (edges : List EdgeClaim) (place a b : ℕ) → ((root v : ℕ) → (IsRootAt d edges place root v ↔ ◌≡◌ {A = Option (ℕ × ℕ)} (Some (a, b)) (Some (root, v)))) → (old new : List ℕ) → new ≡ old ++ a ∷ [] → (r : ℕ) →
+    (Contains new r ↔ (Contains old r ⊎ NamesRoot d edges place r))
+one_claimed d edges place a b f old new e =
+    appended old (a ∷ []) new (NamesRoot d edges place) e (λ r. (
+      λ h. (b, (f r b).1 (ap (λ (x : ℕ). Some (x, b)) (in_one a r h))),
+      λ h. subst (Contains (a ∷ [])) (ap (λ (x : ℕ × ℕ). x.0) (same_Some (a, b) (r, h.0) ((f r h.0).0 h.1))) (0, omega arith, refl),
+    ))
+
+-- ---- places that write
+
+pub sites_are : (t : Chart) (v : ℕ) → LeadsIn (places t) t.stops → t.start < places t → (sites : List ℕ) → ((q : ℕ) → (Contains sites q ↔ ((p : ℕ) × (p < places t) × ((p < places t) × SiteAt t v p × (p ≡ q))))) →
+    (q : ℕ) → (Contains sites q ↔ SiteAt t v q)
+sites_are t v leads start sites f q = (
+  λ h. let y = (f q).0 h in subst (SiteAt t v) y.2.2 y.2.1,
+  λ s. let l = slot0_within t leads start q s.0 in (f q).1 (q, l, (l, s, refl)),
+)
+
+only_same : (P Q : ℕ → Type 0) → ((q : ℕ) → (P q ↔ Q q)) → (x : ℕ) → (IsOnly P x ↔ IsOnly Q x)
+only_same P Q f x = ((λ o. ((f x).0 o.0, λ y h. o.1 y ((f y).1 h))), (λ o. ((f x).1 o.0, λ y h. o.1 y ((f y).0 h))))
+
+pub no_place : (d : Parts) (c : Claims) (t : Chart) (v : ℕ) (sites : List ℕ) → ((q : ℕ) → (Contains sites q ↔ SiteAt t v q)) → ((x : ℕ) → (IsOnly (λ y. Contains sites y) x ↔ None ≡ Some x)) →
+    StartsWellIn d c t v → ⊥
+no_place d c t v sites are only w = let e : None ≡ Some w.0 = (only w.0).0 ((only_same (λ y. Contains sites y) (SiteAt t v) are w.0).1 w.1) in cc
+
+pub one_site : (d : Parts) (c : Claims) (t : Chart) (v p : ℕ) (sites : List ℕ) → ((q : ℕ) → (Contains sites q ↔ SiteAt t v q)) → ((x : ℕ) → (IsOnly (λ y. Contains sites y) x ↔ Some p ≡ Some x)) →
+    (StartsSilently d c t v p ↔ StartsWellIn d c t v)
+one_site d c t v p sites are only = (
+  λ h. (p, (only_same (λ y. Contains sites y) (SiteAt t v) are p).0 ((only p).1 refl), h),
+  λ w. subst (StartsSilently d c t v) (sym (same_Some p w.0 ((only w.0).0 ((only_same (λ y. Contains sites y) (SiteAt t v) are w.0).1 w.1)))) w.2,
+)
+
+pub silently_is : (d : Parts) (c : Claims) (t : Chart) (v p : ℕ) (digit : Digit) → (HasSignal (later_at t p) v → ⊥) → known (given_here (statement_at t p) (bit_of v)) ≡ Some digit →
+    (IsSilent d c v digit ↔ StartsSilently d c t v p)
+silently_is d c t v p digit late e =
+    let k = known_one (given_here (statement_at t p) (bit_of v)) digit e in (
+      λ s. (late, (digit, k.1, k.0, s)),
+      λ w. subst (IsSilent d c v) (same_Some w.1.0 digit (sym w.1.2 ∙ k.0)) w.1.3,
+    )
+
+pub not_silently : (d : Parts) (c : Claims) (t : Chart) (v p : ℕ) → known (given_here (statement_at t p) (bit_of v)) ≡ None → StartsSilently d c t v p → ⊥
+not_silently d c t v p e w =
+    let f : None ≡ Some w.1.0 = sym e ∙ one_known (given_here (statement_at t p) (bit_of v)) w.1.0 w.1.2 w.1.1 in
+    cc
+
+pub well_at : (d : Parts) (c : Claims) (charts : List Chart) (j v : ℕ) (t : Chart) → slice_get charts j ≡ Some t → (StartsWellIn d c t v ↔ StartsWell d c charts j v)
+well_at d c charts j v t at = (λ h. (t, at, h), λ w. subst (λ (x : Chart). StartsWellIn d c x v) (same_Some w.0 t (sym w.1 ∙ at)) w.2)
+
+-- ---- the rule
+
+pub one_kept : (d : Parts) (c : Claims) (charts : List Chart) → AreCharts d charts → (v j : ℕ) (row : List ℕ) → ((i : ℕ) → (Contains row i ↔ HasSite charts i v)) →
+    ((x : ℕ) → (IsOnly (λ y. Contains row y) x ↔ Some j ≡ Some x)) → IsRoot d c v → (StartsWell d c charts j v ↔ K10_Signal d c v)
+one_kept d c charts are v j row exact only root =
+    first_by_places.one d c charts are v j ((only_same (λ y. Contains row y) (λ i. HasSite charts i v) exact j).0 ((only j).1 refl)) root
+
+pub none_kept : (d : Parts) (c : Claims) (charts : List Chart) → AreCharts d charts → (v : ℕ) (row : List ℕ) → ((i : ℕ) → (Contains row i ↔ HasSite charts i v)) →
+    ((x : ℕ) → (IsOnly (λ y. Contains row y) x ↔ None ≡ Some x)) → IsRoot d c v → (b : Bool) → b ≡ (length row == 0) → (IsTrue b ↔ K10_Signal d c v)
+none_kept d c charts are v row exact only root b e = (
+  λ t. first_by_places.none d c charts are v (λ i s. let m = (exact i).1 s in omega (arith, m.1, eqb-true (length row) 0 (sym e ∙ t))),
+  λ k. e ∙ same_self (length row) 0 (by (cases (length row)) k),
+) where
+  cases : (n : ℕ) → (n ≡ 0) ⊎ (0 < n)
+  cases n = grind arith
+
+  by : (length row ≡ 0) ⊎ (0 < length row) → K10_Signal d c v → length row ≡ 0
+  by (inl z) k = z
+  by (inr some) k =
+      let s = (exact (get_or row 0 0)).0 (contains_at row 0 some) in
+      let o = first_by_places.several d c charts are v (get_or row 0 0) root s k in
+      let f : None ≡ Some (get_or row 0 0) = (only (get_or row 0 0)).0 ((only_same (λ y. Contains row y) (λ i. HasSite charts i v) exact (get_or row 0 0)).1 o) in
+      cc
+
+pub within_of_root : (d : Parts) (c : Claims) (v : ℕ) → IsRoot d c v → v < length d.signals
+within_of_root d c v h = by (cases v (length d.signals)) where
+  cases : (a b : ℕ) → (a < b) ⊎ (b ≤ a)
+  cases a b = grind arith
+
+  by : (v < length d.signals) ⊎ (length d.signals ≤ v) → v < length d.signals
+  by (inl l) = l
+  by (inr g) = absurd (past_root d c v g h)
+
+pub contains_item : {A : Type 0} (xs : List A) (i : ℕ) (d : A) → i < length xs → Contains xs (get_or xs i d)
+contains_item xs i d h = (i, h, sym (get_or_same xs i d h))
+
+not_true : (b : Bool) → not b ≡ true → b ≡ false
+not_true true h = cc
+not_true false h = refl
+
+pub root_told : (d : Parts) (c : Claims) (v : ℕ) (row : List ℕ) (n : ℕ) (b : Bool) → ((p : ℕ) → (Contains row p ↔ NamesRoot d c.edges p v)) → n ≡ length row → b ≡ (n == 0) → (not b ≡ true ↔ IsRoot d c v)
+root_told d c v row n b are long told = (
+  λ t. root_of_row d c v row are (some (eqb-false n 0 (sym told ∙ not_true b t))),
+  λ r. ap not (told ∙ ne_eqb n 0 (none (row_of_root d c v row are r))),
+) where
+  some : (n ≡ 0 → ⊥) → 0 < length row
+  some h = by (cases n) where
+    cases : (m : ℕ) → (m ≡ 0) ⊎ (0 < m)
+    cases m = grind arith
+
+    by : (n ≡ 0) ⊎ (0 < n) → 0 < length row
+    by (inl z) = absurd (h z)
+    by (inr l) = omega (arith, l, long)
+
+  none : 0 < length row → n ≡ 0 → ⊥
+  none l z = omega (arith, l, long, z)

@@ -1,0 +1,7 @@
+pub mod Past
+pub mod EntryLemmas
+pub mod TermLemmas
+pub mod HotLemmas
+pub mod ListLemmas
+pub mod FirstLemmas
+pub mod FirstRows

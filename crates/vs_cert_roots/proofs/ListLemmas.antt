@@ -1,0 +1,63 @@
+-- Lists, and what all their elements do.
+use Rattle.std.proofs.Common.{◌≡◌, ℕ, ◌+◌, ◌<◌, ◌≤◌, ◌⊎◌, ◌↔◌, ◌++◌, ◌||◌, inl, inr, Bool, true, false, IsTrue, List, [], ◌∷◌, length, get_or, refl, sym, ◌∙◌, ap, subst, arith}
+use Rattle.std.specs.List.{Contains, list_any}
+use Rattle.std.proofs.lemmas.List.Elements.{Contains-append_left, Contains-append_right, Contains-append_cases}
+use Rattle.vs_slots_copies.proofs.ListLemmas.{same_read, contains_at}
+use Rattle.vs_slots_paths.proofs.RangeLemmas.{in_either}
+
+pub further : (P : ℕ → Type 0) (xs : List ℕ) (i : ℕ) → ((k : ℕ) → k < i → P (get_or xs k 0)) → P (get_or xs i 0) → (k : ℕ) → k < i + 1 → P (get_or xs k 0)
+further P xs i before here k h = elim (below k i h) [ inl l ↦ before k l | inr e ↦ subst (λ (n : ℕ). P (get_or xs n 0)) (sym e) here ] where
+  below : (k n : ℕ) → k < n + 1 → (k < n) ⊎ (k ≡ n)
+  below k n h = grind (arith, h)
+
+pub all_do : (P : ℕ → Type 0) (xs : List ℕ) (i : ℕ) → length xs ≤ i → ((k : ℕ) → k < i → P (get_or xs k 0)) → (IsTrue true ↔ ((r : ℕ) → Contains xs r → P r))
+all_do P xs i h all = (λ t r c. subst P (same_read xs c.0 0 r c.1 ∙ c.2) (all c.0 (omega (arith, h, c.1))), λ f. refl)
+
+pub one_not : (P : ℕ → Type 0) (xs : List ℕ) (i : ℕ) → i < length xs → (P (get_or xs i 0) → IsTrue false) → (IsTrue false ↔ ((r : ℕ) → Contains xs r → P r))
+one_not P xs i h not = (λ t. cc, λ f. not (f (get_or xs i 0) (contains_at xs i h)))
+
+or_true : (a b : Bool) → b ≡ true → a || b ≡ true
+or_true true b h = refl
+or_true false b h = h
+
+or_first : (a b : Bool) → a ≡ true → a || b ≡ true
+or_first a b h = ap (λ (x : Bool). x || b) h
+
+pub any_in : {A : Type 0} (p : A → Bool) (xs : List A) (x : A) → Contains xs x → p x ≡ true → list_any p xs ≡ true
+any_in p [] x c h = absurd (omega (arith, c.1))
+any_in {A = A} p (y ∷ ys) x c h = elim (in_either y ys x c) as (λ (e : (y ≡ x) ⊎ Contains ys x). p y || list_any p ys ≡ true)
+    [ inl e ↦ or_first (p y) (list_any p ys) (ap p e ∙ h) | inr d ↦ or_true (p y) (list_any p ys) (any_in p ys x d h) ]
+
+-- a list with more at its end has what both have
+pub appended : {A : Type 0} (old more new : List A) (P : A → Type 0) → new ≡ old ++ more → ((x : A) → (Contains more x ↔ P x)) → (x : A) → (Contains new x ↔ (Contains old x ⊎ P x))
+appended {A = A} old more new P e f x = (λ h. there (Contains-append_cases old more x (subst (λ (l : List A). Contains l x) e h)), λ h. subst (λ (l : List A). Contains l x) (sym e) (back h)) where
+  there : Contains old x ⊎ Contains more x → Contains old x ⊎ P x
+  there (inl a) = inl a
+  there (inr b) = inr ((f x).0 b)
+
+  back : Contains old x ⊎ P x → Contains (old ++ more) x
+  back (inl a) = Contains-append_left old more x a
+  back (inr b) = Contains-append_right old more x ((f x).1 b)
+
+-- a list has what it has where there is nothing more
+pub nothing_more : {A : Type 0} (old : List A) (P : A → Type 0) → ((x : A) → P x → ⊥) → (x : A) → (Contains old x ↔ (Contains old x ⊎ P x))
+nothing_more {A = A} old P not x = (λ h. inl h, λ h. by h) where
+  by : Contains old x ⊎ P x → Contains old x
+  by (inl a) = a
+  by (inr b) = absurd (not x b)
+
+pub in_one : {A : Type 0} (y x : A) → Contains (y ∷ []) x → y ≡ x
+in_one y x h = by (in_either y [] x h) where
+  by : (y ≡ x) ⊎ Contains [] x → y ≡ x
+  by (inl e) = e
+  by (inr c) = absurd (omega (arith, c.1))
+
+pub with_bound : (X A B C : Type 0) → B → (X ↔ (A ⊎ C)) → (X ↔ (A ⊎ (B × C)))
+with_bound X A B C b f = (λ x. into (f.0 x), λ y. f.1 (back y)) where
+  into : A ⊎ C → A ⊎ (B × C)
+  into (inl a) = inl a
+  into (inr c) = inr (b, c)
+
+  back : A ⊎ (B × C) → A ⊎ C
+  back (inl a) = inl a
+  back (inr y) = inr y.1

@@ -1,0 +1,25 @@
+use Rattle.std.proofs.Common.{◌<◌, ◌≤◌, ℕ, length, [], refl, sym, ◌∙◌, subst, arith}
+use Rattle.vs_slots_copies.proofs.ListLemmas.{row_at}
+use Rattle.vs_cert_facts.specs.Facts.{Case}
+use Rattle.vs_cert_roots.specs.Entries.{KeepsEntries}
+use Rattle.vs_cert_roots.proofs.EntryLemmas.{row_is, past_row}
+use Rattle.vs_cert_roots.proofs.entries.Entries.places.Goals as goal
+
+pub returns-then-v-len : goal.returns-then-v-len
+returns-then-v-len c =
+    let K = c.args.self.now in
+    let P = c.self.inside.places.items in
+    let T = c.self.inside.terms.items in
+    let inv : KeepsEntries K P T = subst (λ (k : Case). KeepsEntries k P T) c.self.view_is c.self.invariant in
+    let h : c.args.v < length P = omega (arith, c.len.ensures, c.self.inside.places.ok.0, c.if-v-len.true) in
+    row_is K.design K.claims.edges (length K.claims.edges) (length K.design.signals) P c.args.v c.deref.result.now inv.places_are refl
+    (subst (λ (n : ℕ). c.args.v < n) inv.long h) (row_at P c.args.v c.index.result.now h c.index.ensures ∙ sym c.deref.ensures.value)
+
+pub returns-else-v-len : goal.returns-else-v-len
+returns-else-v-len c =
+    let K = c.args.self.now in
+    let P = c.self.inside.places.items in
+    let T = c.self.inside.terms.items in
+    let inv : KeepsEntries K P T = subst (λ (k : Case). KeepsEntries k P T) c.self.view_is c.self.invariant in
+    let h : length P ≤ c.args.v = omega (arith, c.len.ensures, c.self.inside.places.ok.0, c.if-v-len.false) in
+    past_row K.design K.claims.edges c.args.v [] (subst (λ (n : ℕ). n ≤ c.args.v) inv.long h) refl

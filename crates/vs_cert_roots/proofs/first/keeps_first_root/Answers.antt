@@ -1,0 +1,31 @@
+use Rattle.std.proofs.Common.{◌↔◌, Bool, IsTrue, refl, subst}
+use Rattle.std.proofs.lemmas.Result.{IfOk-weaker}
+use Rattle.vs_cert_facts.specs.Facts.{Case, AreCharts}
+use Rattle.vs_cert_roots.specs.First.{StartsWell}
+use Rattle.vs_cert_roots.proofs.FirstLemmas.{no_root}
+use Rattle.vs_cert_roots.proofs.FirstRows.{none_kept, one_kept, within_of_root}
+use Rattle.vs_cert_roots.proofs.first.keeps_first_root.Goals as goal
+
+pub returns-then-not-is_root : goal.returns-then-not-is_root
+returns-then-not-is_root c = (λ t. no_root c.args.first.now.design c.args.first.now.claims c.args.v (λ r. let f = c.if-not-is_root.ensures.1 r in cc), λ k. refl)
+
+pub writers-writers-requires : goal.writers-writers-requires
+writers-writers-requires c = within_of_root c.args.first.now.design c.args.first.now.claims c.args.v (c.if-not-is_root.ensures.0 refl)
+
+pub returns-in-Some : goal.returns-in-Some
+returns-in-Some c =
+    let K = c.args.first.now in
+    let maps = subst (λ (k : Case). AreCharts k.design k.charts) c.first.view_is c.first.invariant.maps in
+    let root = c.if-not-is_root.ensures.0 refl in
+    let l = one_kept K.design K.claims K.charts maps c.args.v c.in-Some.j c.writers-writers.result.now c.writers-writers.ensures (λ x. c.in-Some.ensures x) root in
+    let same = λ (k : Case) (b : Bool). IsTrue b ↔ StartsWell k.design k.claims k.charts c.in-Some.j c.args.v in
+    IfOk-weaker _ (λ (b : Bool). same c.first.inside.entries.now b) _
+    (λ b e. let g = subst (λ (k : Case). same k b) c.first.view_is e in (λ t. l.0 (g.0 t), λ h. g.1 (l.1 h)))
+    c.starts_well.ensures
+
+pub returns-in-None : goal.returns-in-None
+returns-in-None c =
+    let K = c.args.first.now in
+    let maps = subst (λ (k : Case). AreCharts k.design k.charts) c.first.view_is c.first.invariant.maps in
+    let root = c.if-not-is_root.ensures.0 refl in
+    none_kept K.design K.claims K.charts maps c.args.v c.writers-writers.result.now c.writers-writers.ensures (λ x. c.in-None.ensures x) root c.is_empty.result c.is_empty.ensures

@@ -1,0 +1,19 @@
+use Rattle.std.proofs.Common.{◌↔◌, Bool, IsTrue, refl, sym}
+use Rattle.std.proofs.lemmas.Result.{IfOk-weaker}
+use Rattle.vs_cert_roots.specs.Roots.{NeverHotIn}
+use Rattle.vs_cert_roots.proofs.HotLemmas.{past_never_hot, roots_by_places}
+use Rattle.vs_cert_roots.proofs.TermLemmas.{chart_is, no_chart}
+use Rattle.vs_cert_roots.proofs.roots.never_hot.Goals as goal
+
+pub returns-in-None : goal.returns-in-None
+returns-in-None c =
+    let F = c.args.facts.now in
+    (λ t. past_never_hot F.design c.args.i c.args.v (no_chart F.design F.charts c.maps.ensures c.args.i c.in-None.ensures), λ h. refl)
+
+pub returns-in-Some : goal.returns-in-Some
+returns-in-Some c =
+    let F = c.args.facts.now in
+    let t = c.in-Some.tables.now in
+    let h = chart_is F.design F.charts c.maps.ensures c.args.i t (sym c.in-Some.ensures) in
+    let l = roots_by_places F.design c.args.i h.process t.stops t.start c.args.v h.is h.text in
+    IfOk-weaker _ (λ (b : Bool). (IsTrue b ↔ NeverHotIn t c.args.v)) _ (λ b e. (λ k. l.0 (e.0 k), λ k. e.1 (l.1 k))) c.never_hot_in.ensures

@@ -1,0 +1,40 @@
+-- The entries for the signals of edge terms, and the terms of the processes.
+use Rattle.std.specs.Prelude.{ℕ, ◌≡◌, ◌↔◌, ◌==◌, ◌&&◌, not, Bool, Some, List, length, slice_get}
+use Rattle.std.specs.List.{Contains}
+use Rattle.std.specs.declared.vec.Vec.{Vec}
+use Rattle.std.specs.declared.alloc.Global.{Global}
+use Rattle.vs_design.specs.declared.statement.EventTerm.{EventTerm}
+use Rattle.vs_design.specs.Parts.{Parts}
+use Rattle.vs_process.specs.Executions.{is_level}
+use Rattle.vs_rules.specs.Claims.{Name, Claims, EdgeClaim, IsSignalNamed, edge_signals, times_in}
+use Rattle.vs_rules.specs.Paths.{HasTerm}
+use Rattle.vs_rules.specs.Rules.{IsEdgeSignal}
+use Rattle.vs_slots_paths.specs.Indexes.{AreRows}
+use Rattle.vs_cert_facts.specs.Facts.{Case}
+
+-- the entry at a place is of this signal
+abbrev pub NamesEntry : Parts → List EdgeClaim → ℕ → ℕ → Type 0
+NamesEntry d edges place v = (e : EdgeClaim) × (slice_get edges place ≡ Some e) × IsSignalNamed d v e.signal
+
+-- the places of the entries, by their signals
+abbrev pub AreEntries : Case → List (Vec ℕ Global) → Type 0
+AreEntries k places = AreRows (NamesEntry k.design k.claims.edges) (length k.claims.edges) (length k.design.signals) places
+
+-- these are the terms of all processes
+abbrev pub AreTerms : Parts → List EventTerm → Type 0
+AreTerms d terms = (t : EventTerm) → (Contains terms t ↔ ((j : ℕ) × HasTerm d j t))
+
+-- whether a term waits for an edge of the signal
+abbrev pub is_edge_of : ℕ → EventTerm → Bool
+is_edge_of v t = not (is_level t) && (t.range.signal == v)
+
+-- what is kept
+pub record KeepsEntries (k : Case) (places : List (Vec ℕ Global)) (terms : List EventTerm) : Type 0 where
+  pub long : length places ≡ length k.design.signals
+  pub places_are : AreEntries k places
+  pub terms_are : AreTerms k.design terms
+
+-- a signal has one entry where an edge term names it, else none
+pub record HasEntries (d : Parts) (c : Claims) (v : ℕ) : Type 0 where
+  pub one : (name : Name) → IsSignalNamed d v name → IsEdgeSignal d v → times_in name (edge_signals c) ≡ 1
+  pub none : (name : Name) → IsSignalNamed d v name → (IsEdgeSignal d v → ⊥) → times_in name (edge_signals c) ≡ 0

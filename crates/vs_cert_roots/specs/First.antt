@@ -1,0 +1,83 @@
+-- What a root is given in the first slot, by the places of maps.
+use Rattle.std.specs.Prelude.{ℕ, ◌≡◌, ◌↔◌, true, false, Some, List, length, slice_get}
+use Rattle.std.specs.declared.vec.Vec.{Vec}
+use Rattle.std.specs.declared.alloc.Global.{Global}
+use Rattle.vs_logic4.specs.declared.digit.Digit.{Digit}
+use Rattle.vs_logic4.specs.declared.digit.Digit.TheVariants.{X}
+use Rattle.vs_logic4.specs.Edges.{is_edge}
+use Rattle.vs_design.specs.declared.statement.EventTerm.{EventTerm}
+use Rattle.vs_design.specs.Parts.{Parts}
+use Rattle.vs_process.specs.Executions.{is_level}
+use Rattle.vs_rules.specs.Claims.{Claims, EdgeClaim, IsRoot, IsRootOf}
+use Rattle.vs_rules.specs.Constants.{bit_of, IsKnown}
+use Rattle.vs_rules.specs.Paths.{HasTerm}
+use Rattle.vs_rules.specs.Rules.{K10_Signal}
+use Rattle.vs_slots_constants.specs.Givings.{given_here}
+use Rattle.vs_slots_copies.specs.Copies.{IsOnly}
+use Rattle.vs_slots_paths.specs.Indexes.{AreRows}
+use Rattle.vs_slots_paths.specs.Ranges.{HasSignal, later_at, statement_at}
+use Rattle.vs_slots_paths.specs.Reaches.{Chart, InSlot0}
+use Rattle.vs_cert_facts.specs.Facts.{Case, AreCharts, IsRootAt}
+use Rattle.vs_cert_roots.specs.Roots.{WritesAt}
+
+-- a place is done in the first slot, and writes the signal
+abbrev pub SiteAt : Chart → ℕ → ℕ → Type 0
+SiteAt t v p = InSlot0 t p × WritesAt t p v
+
+-- the map of a process has such a place
+abbrev pub HasSite : List Chart → ℕ → ℕ → Type 0
+HasSite charts i v = (t : Chart) × (slice_get charts i ≡ Some t) × ((p : ℕ) × SiteAt t v p)
+
+-- no edge term of a root is woken by a change from x to the digit
+abbrev pub IsSilent : Parts → Claims → ℕ → Digit → Type 0
+IsSilent d c root digit =
+    (j : ℕ) (t : EventTerm) → HasTerm d j t → is_level t ≡ false → IsRootOf d c root t.range.signal → is_edge t.edge X digit ≡ false
+
+-- a place doesn't write a root by `<=`, and gives it a constant 0 or 1 that wakes no edge term of it
+abbrev pub StartsSilently : Parts → Claims → Chart → ℕ → ℕ → Type 0
+StartsSilently d c t v p =
+    (HasSignal (later_at t p) v → ⊥)
+    × ((digit : Digit) × IsKnown digit × (given_here (statement_at t p) (bit_of v) ≡ Some digit) × IsSilent d c v digit)
+
+-- one place alone of a map writes a root in the first slot, and does so
+abbrev pub StartsWellIn : Parts → Claims → Chart → ℕ → Type 0
+StartsWellIn d c t v = (p : ℕ) × IsOnly (SiteAt t v) p × StartsSilently d c t v p
+
+abbrev pub StartsWell : Parts → Claims → List Chart → ℕ → ℕ → Type 0
+StartsWell d c charts j v = (t : Chart) × (slice_get charts j ≡ Some t) × StartsWellIn d c t v
+
+-- the processes that write signals in the first slot, by these signals
+abbrev pub AreFirstRows : Case → List (Vec ℕ Global) → Type 0
+AreFirstRows k table = AreRows (HasSite k.charts) (length k.design.processes) (length k.design.signals) table
+
+-- the entry of a place has the root
+abbrev pub NamesRoot : Parts → List EdgeClaim → ℕ → ℕ → Type 0
+NamesRoot d edges place root = (v : ℕ) × IsRootAt d edges place root v
+
+-- the places of entries, by their roots
+abbrev pub AreRootRows : Case → List (Vec ℕ Global) → Type 0
+AreRootRows k table = AreRows (NamesRoot k.design k.claims.edges) (length k.claims.edges) (length k.design.signals) table
+
+-- what is kept
+pub record KeepsFirst (k : Case) (claimed writers : List (Vec ℕ Global)) : Type 0 where
+  pub maps : AreCharts k.design k.charts
+  pub roots_long : length claimed ≡ length k.design.signals
+  pub roots_are : AreRootRows k claimed
+  pub long : length writers ≡ length k.design.signals
+  pub writers_are : AreFirstRows k writers
+
+-- an edge term of a root is woken by a change from x to the digit
+abbrev pub Wakes : Parts → Claims → ℕ → Digit → EventTerm → Type 0
+Wakes d c root digit t = (is_level t ≡ false) × IsRootOf d c root t.range.signal × (is_edge t.edge X digit ≡ true)
+
+-- the rule on what a root is given in the first slot is one of the places of maps
+pub record FirstByPlaces : Type 0 where
+  -- what no process writes then keeps it
+  pub none : (d : Parts) (c : Claims) (charts : List Chart) → AreCharts d charts → (v : ℕ) → ((i : ℕ) → HasSite charts i v → ⊥) →
+      K10_Signal d c v
+  -- what one process writes then keeps it where that does well
+  pub one : (d : Parts) (c : Claims) (charts : List Chart) → AreCharts d charts → (v j : ℕ) → IsOnly (λ i. HasSite charts i v) j → IsRoot d c v →
+      (StartsWell d c charts j v ↔ K10_Signal d c v)
+  -- what several write then breaks it
+  pub several : (d : Parts) (c : Claims) (charts : List Chart) → AreCharts d charts → (v j : ℕ) → IsRoot d c v → HasSite charts j v →
+      K10_Signal d c v → IsOnly (λ i. HasSite charts i v) j

@@ -1,0 +1,43 @@
+-- Roots, by the places of maps.
+use Rattle.std.specs.Prelude.{ℕ, ◌≡◌, ◌⊎◌, ◌↔◌, Bool, true, false, Option, Some, List, slice_get}
+use Rattle.vs_certificate.specs.declared.members.SignalMode.{SignalMode}
+use Rattle.vs_certificate.specs.declared.members.SignalMode.TheVariants as modes
+use Rattle.vs_design.specs.declared.design.Process.{Process}
+use Rattle.vs_design.specs.Parts.{Parts}
+use Rattle.vs_flatcode.specs.Places.{Todo}
+use Rattle.vs_flatcode.specs.Stops.{Stop, IsText}
+use Rattle.vs_rules.specs.Claims.{Claims, IsDelay, IsWriter}
+use Rattle.vs_rules.specs.Paths.{IsPoint, IsHot, WritesAny}
+use Rattle.vs_rules.specs.Rules.{HasWriter, CopiesRoot, IsSoundRoot}
+use Rattle.vs_slots_paths.specs.Ranges.{HasSignal, now_at, later_at}
+use Rattle.vs_slots_paths.specs.Reaches.{Chart, IsPlace}
+use Rattle.vs_slots_paths.specs.Walks.{InHot}
+
+-- the statement at a place writes the signal, by `=` or by `<=`
+abbrev pub WritesAt : Chart → ℕ → ℕ → Type 0
+WritesAt t p v = HasSignal (now_at t p) v ⊎ HasSignal (later_at t p) v
+
+-- a map has no place that writes the signal where it is hot
+abbrev pub NeverHotIn : Chart → ℕ → Type 0
+NeverHotIn t v = (p : ℕ) → IsPlace t p → WritesAt t p v → InHot t v p → ⊥
+
+-- a process has no such point
+abbrev pub NeverHot : Parts → ℕ → ℕ → Type 0
+NeverHot d i v = (k : Todo) → IsPoint d i k → WritesAny d k v → IsHot d i v k → ⊥
+
+abbrev pub RootsByPlaces : Type 0
+RootsByPlaces = (d : Parts) (i : ℕ) (q : Process) (stops : List Stop) (start v : ℕ) → slice_get d.processes i ≡ Some q →
+    IsText q.body stops start → (NeverHotIn (record { stops = stops; start = start }) v ↔ NeverHot d i v)
+
+-- a signal has a writer of kind delay, and its writer writes it nowhere where it is hot
+pub record IsSoundlyWritten (d : Parts) (c : Claims) (root : ℕ) : Type 0 where
+  pub writer : HasWriter d c root (IsDelay d c)
+  pub once : (i : ℕ) → IsWriter d c root i → NeverHot d i root
+
+-- a signal copies a root, and the root is sound
+abbrev pub IsRight : Parts → Claims → ℕ → ℕ → Type 0
+IsRight d c v root = CopiesRoot d root v × IsSoundRoot d c root
+
+abbrev pub is_blocking_mode : Option SignalMode → Bool
+is_blocking_mode (Some modes.Blocking) = true
+is_blocking_mode _ = false

@@ -1,0 +1,288 @@
+//! The entries of a certificate for the signals of edge terms, and the terms of the processes.
+ghost use Rattle.std.specs.Prelude.{ℕ, ◌≡◌, ◌<◌, ◌↔◌, ◌⊎◌, length, slice_index, IfOk, OnOk, IsTrue};
+ghost use Rattle.std.specs.List.{Contains, list_any};
+ghost use Rattle.vs_design.specs.declared.statement.EventTerm.{EventTerm};
+ghost use Rattle.vs_logic4.specs.declared.digit.Digit.TheVariants.{X};
+ghost use Rattle.vs_logic4.specs.Edges.{is_edge};
+ghost use Rattle.vs_process.specs.Executions.{is_level};
+ghost use Rattle.vs_rules.specs.Certificates.{claims_of};
+ghost use Rattle.vs_rules.specs.Claims.{IsRootOf};
+ghost use Rattle.vs_rules.specs.Paths.{HasTerm};
+ghost use Rattle.vs_rules.specs.Rules.{IsEdgeSignal};
+ghost use Rattle.vs_cert_facts.specs.Facts.{IsRootAt};
+ghost use Rattle.vs_cert_roots.specs.First.{IsSilent, Wakes};
+ghost use Rattle.vs_cert_roots.specs.Entries.{NamesEntry, AreTerms, HasEntries, is_edge_of};
+
+use std::alloc::{AllocError, Global};
+use std::marker::Model;
+use vs_cert_facts::Facts;
+use vs_certificate::Certificate;
+use vs_design::EventTerm;
+use vs_logic4::{Digit, Edge};
+use vs_reach::{Family, gather, has};
+use vs_slots_copies::only;
+use vs_slots_paths::{index_of, terms};
+
+// The signals of the entries.
+#[derive(Drop)]
+struct Signals<'a> {
+    facts: &'a Facts<'a>,
+    certificate: &'a Certificate,
+    ghost same: { claims_of certificate.now ≡ facts.now.claims },
+}
+
+impl<'a> Family for Signals<'a> {
+    ghost has = { λ f place v. NamesEntry f.facts.now.design f.facts.now.claims.edges place v };
+
+    fn put(&self, _alloc: Global, i: usize, out: &mut Vec<usize>) -> Result<(), AllocError> {
+        let certificate = self.certificate;
+        if i >= certificate.edges.len() {
+            return Ok(());
+        }
+        match self
+            .facts
+            .signal_named(certificate.edges[i].signal.as_bytes())
+        {
+            None => Ok(()),
+            Some(v) => Ok(out.push(v)?),
+        }
+    }
+}
+
+// Whether a term waits for any change.
+fn is_level(term: EventTerm) -> bool
+    ensures { result ≡ is_level term }
+{
+    match term.edge {
+        Edge::Any => true,
+        _ => false,
+    }
+}
+
+// Whether a term waits for an edge of a signal.
+fn is_edge_of(term: EventTerm, v: usize) -> bool
+    ensures { result ≡ is_edge_of v term }
+{
+    !is_level(term) && term.range.signal == v
+}
+
+// Whether one of some terms does.
+fn any_edge_of(terms: &[EventTerm], v: usize) -> bool
+    ensures { result ≡ list_any (is_edge_of v) terms.now }
+{
+    for term in terms {
+        if is_edge_of(*term, v) {
+            return true;
+        }
+    }
+    false
+}
+
+// Whether a change from x to a digit is an edge of this sort.
+fn is_edge_from_x(edge: Edge, digit: Digit) -> bool
+    ensures { result ≡ is_edge edge X digit }
+{
+    match edge {
+        Edge::Any => digit != Digit::X,
+        Edge::Posedge => digit == Digit::One,
+        Edge::Negedge => digit == Digit::Zero,
+    }
+}
+
+// Puts the terms of a process at a list's end.
+fn push_terms<'a>(
+    alloc: Global,
+    facts: &'a Facts<'a>,
+    i: usize,
+    out: &mut Vec<EventTerm>,
+) -> Result<(), AllocError>
+    ensures { OnOk result ((t : EventTerm) → (Contains out.new.items t ↔ (Contains out.old.items t ⊎ HasTerm facts.entry.now.design i t))) }
+{
+    facts.maps();
+    match facts.tables(i) {
+        None => Ok(()),
+        Some(tables) => {
+            let more = terms(alloc, tables)?;
+            out.extend_from_slice(&more)?;
+            Ok(())
+        }
+    }
+}
+
+// The terms of all processes.
+fn terms_of<'a>(alloc: Global, facts: &'a Facts<'a>) -> Result<Vec<EventTerm>, AllocError>
+    ensures { IfOk result (λ all. AreTerms facts.entry.now.design all.items) }
+{
+    let mut all = Vec::new(alloc);
+    for i in 0..facts.design().processes().len() {
+        push_terms(alloc, facts, i, &mut all)?;
+    }
+    Ok(all)
+}
+
+// The places of some entries, and a signal of which they may be.
+#[derive(Drop)]
+struct Roots<'a> {
+    facts: &'a Facts<'a>,
+    places: &'a [usize],
+    signal: usize,
+}
+
+impl<'a> Family for Roots<'a> {
+    ghost has = { λ f k r. (k < length f.places.now)
+        × IsRootAt f.facts.now.design f.facts.now.claims.edges (slice_index f.places.now k) r f.signal };
+
+    fn put(&self, _alloc: Global, i: usize, out: &mut Vec<usize>) -> Result<(), AllocError> {
+        if i >= self.places.len() {
+            return Ok(());
+        }
+        put_root(self.facts, self.places[i], self.signal, out)
+    }
+}
+
+// Puts the root of an entry, where the entry is of this signal.
+fn put_root(facts: &Facts, place: usize, v: usize, out: &mut Vec<usize>) -> Result<(), AllocError>
+    ensures { OnOk result ((r : ℕ) → (Contains out.new.items r ↔
+        (Contains out.old.items r ⊎ IsRootAt facts.entry.now.design facts.entry.now.claims.edges place r v))) }
+{
+    if let Some((root, of)) = facts.edge(place) {
+        if of == v {
+            out.push(root)?;
+        }
+    }
+    Ok(())
+}
+
+/// The entries of a certificate for the signals of edge terms, by the number of the signal, and the terms of all processes. A contract sees the
+/// design, what the certificate claims of it, and the maps of the texts of the processes.
+#[derive(Drop)]
+pub struct Entries<'a> {
+    facts: &'a Facts<'a>,
+    places: Vec<Vec<usize>>,
+    terms: Vec<EventTerm>,
+}
+
+impl<'a> Model for Entries<'a> {
+    ghost use Rattle.std.specs.Coded.{codes};
+    ghost use Rattle.vs_design.specs.contracts.expression.Typed as expression;
+    ghost use Rattle.vs_design.specs.contracts.statement.Statement as statement;
+    ghost use Rattle.vs_cert_facts.specs.Facts.{Case};
+    ghost use Rattle.vs_cert_roots.specs.First.{IsSilent, Wakes};
+    ghost use Rattle.vs_cert_roots.specs.Entries.{KeepsEntries};
+
+    ghost Value = { Case };
+
+    ghost coded = { Prim.hlevel (codes, statement.the_row.coded, expression.the_row.coded) };
+
+    ghost view = { λ e. e.facts.now };
+
+    ghost invariant = { λ e. KeepsEntries e.facts.now e.places.items e.terms.items };
+}
+
+impl<'a> Entries<'a> {
+    /// The entries of a certificate. It takes as long as there are entries, and as the texts of the processes.
+    pub fn of(
+        alloc: Global,
+        facts: &'a Facts<'a>,
+        certificate: &'a Certificate,
+    ) -> Result<Entries<'a>, AllocError>
+        requires { claims_of certificate.now ≡ facts.now.claims }
+        ensures { IfOk result (λ e. e ≡ facts.entry.now) }
+    {
+        let signals = Signals { facts, certificate };
+        let count = facts.design().signals().len();
+        let places = index_of(alloc, &signals, certificate.edges.len(), count)?;
+        let terms = terms_of(alloc, facts)?;
+        Ok(Entries {
+            facts,
+            places,
+            terms,
+        })
+    }
+
+    /// The facts of which they are.
+    pub fn facts(&self) -> &'a Facts<'a>
+        ensures { result.now ≡ self.now }
+    {
+        self.facts
+    }
+
+    /// Whether an edge term names a signal. It takes as long as there are terms.
+    pub fn is_edge_signal(&self, v: usize) -> bool
+        ensures { IsTrue result ↔ IsEdgeSignal self.now.design v }
+    {
+        any_edge_of(&self.terms, v)
+    }
+
+    // The places of the entries of a signal.
+    fn places(&self, v: usize) -> &[usize]
+        ensures { (place : ℕ) → (Contains result.now place ↔ NamesEntry self.now.design self.now.claims.edges place v) }
+    {
+        if v < self.places.len() {
+            &self.places[v]
+        } else {
+            &[]
+        }
+    }
+
+    /// The variables that a signal is claimed to copy.
+    pub fn roots(&self, alloc: Global, v: usize) -> Result<Vec<usize>, AllocError>
+        ensures { IfOk result (λ roots. (r : ℕ) → (Contains roots.items r ↔ IsRootOf self.now.design self.now.claims r v)) }
+    {
+        let places = self.places(v);
+        let roots = Roots {
+            facts: self.facts,
+            places,
+            signal: v,
+        };
+        gather(alloc, &roots, places.len())
+    }
+
+    /// Whether a signal has one entry where an edge term names it, else none.
+    pub fn has_right_entries(&self, v: usize) -> bool
+        ensures { IsTrue result ↔ HasEntries self.now.design self.now.claims v }
+    {
+        if v >= self.places.len() {
+            return true;
+        }
+        let places = self.places(v);
+        if self.is_edge_signal(v) {
+            only(places).is_some()
+        } else {
+            places.is_empty()
+        }
+    }
+
+    // Whether a term of a root is woken by a change from x to a digit.
+    fn wakes(
+        &self,
+        alloc: Global,
+        term: EventTerm,
+        root: usize,
+        digit: Digit,
+    ) -> Result<bool, AllocError>
+        ensures { IfOk result (λ b. (IsTrue b ↔ Wakes self.now.design self.now.claims root digit term)) }
+    {
+        if is_level(term) {
+            return Ok(false);
+        }
+        if !is_edge_from_x(term.edge, digit) {
+            return Ok(false);
+        }
+        let roots = self.roots(alloc, term.range.signal)?;
+        Ok(has(&roots, root))
+    }
+
+    /// Whether no edge term of a root is woken by a change from x to a digit. It takes as long as there are terms.
+    pub fn is_silent(&self, alloc: Global, root: usize, digit: Digit) -> Result<bool, AllocError>
+        ensures { IfOk result (λ b. (IsTrue b ↔ IsSilent self.now.design self.now.claims root digit)) }
+    {
+        for term in &self.terms {
+            let woken = self.wakes(alloc, *term, root, digit)?;
+            if woken {
+                return Ok(false);
+            }
+        }
+        Ok(true)
+    }
+}

@@ -1,0 +1,196 @@
+//! The rule K6, on the signals of edge terms and the variables that they copy.
+ghost use Rattle.std.specs.Prelude.{ℕ, ◌≡◌, ◌<◌, ◌↔◌, true, false, length, slice_index_or, IfOk, IsTrue};
+ghost use Rattle.std.specs.List.{Contains};
+ghost use Rattle.vs_rules.specs.Claims.{blocking, HasKind, HasMode, IsRootOf};
+ghost use Rattle.vs_rules.specs.Rules.{CopiesRoot, IsSoundRoot, K6};
+ghost use Rattle.vs_slots_paths.specs.Reaches.{places, IsPlace};
+ghost use Rattle.vs_slots_paths.specs.Walks.{InHot};
+ghost use Rattle.vs_cert_roots.specs.Roots.{WritesAt, NeverHotIn, NeverHot, IsSoundlyWritten, IsRight, is_blocking_mode};
+
+use crate::entries::Entries;
+use std::alloc::{AllocError, Global};
+use vs_cert_facts::Facts;
+use vs_certificate::SignalMode;
+use vs_design::{Design, SignalKind};
+use vs_reach::{Rule, all_keep};
+use vs_slots_copies::Copies;
+use vs_slots_paths::{Tables, hot};
+
+// The places of a text where it doesn't write a signal that is hot there.
+#[derive(Drop)]
+struct NotHot<'a> {
+    tables: &'a Tables<'a>,
+    marks: &'a [bool],
+    signal: usize,
+}
+
+impl<'a> Rule for NotHot<'a> {
+    ghost keeps = { λ f p. p < length f.marks.now → p < places f.tables.now → IsPlace f.tables.now p → WritesAt f.tables.now p f.signal →
+        IsTrue (slice_index_or f.marks.now p false) → ⊥ };
+
+    fn test(&self, _alloc: Global, i: usize) -> Result<bool, AllocError> {
+        if i >= self.marks.len() {
+            return Ok(true);
+        }
+        if i >= self.tables.places() {
+            return Ok(true);
+        }
+        if !self.marks[i] {
+            return Ok(true);
+        }
+        if !self.tables.is_point(i) {
+            return Ok(true);
+        }
+        if self.tables.writes_now(i, self.signal) {
+            return Ok(false);
+        }
+        Ok(!self.tables.writes_later(i, self.signal))
+    }
+}
+
+// Whether a text writes a signal nowhere where it is hot. It takes as long as the text.
+fn never_hot_in<'a>(alloc: Global, tables: &'a Tables<'a>, v: usize) -> Result<bool, AllocError>
+    ensures { IfOk result (λ b. (IsTrue b ↔ NeverHotIn tables.entry.now v)) }
+{
+    tables.leads_in();
+    let marks = hot(alloc, tables, v)?;
+    let rule = NotHot {
+        tables,
+        marks: &marks,
+        signal: v,
+    };
+    let all = all_keep(alloc, &rule, tables.places())?;
+    Ok(all)
+}
+
+// Whether a process writes a signal nowhere where it is hot.
+fn never_hot<'a>(
+    alloc: Global,
+    facts: &'a Facts<'a>,
+    i: usize,
+    v: usize,
+) -> Result<bool, AllocError>
+    ensures { IfOk result (λ b. (IsTrue b ↔ NeverHot facts.entry.now.design i v)) }
+{
+    facts.maps();
+    match facts.tables(i) {
+        None => Ok(true),
+        Some(tables) => never_hot_in(alloc, tables, v),
+    }
+}
+
+// Whether a signal has a writer of kind delay, which writes it nowhere where it is hot.
+fn is_soundly_written<'a>(
+    alloc: Global,
+    facts: &'a Facts<'a>,
+    root: usize,
+) -> Result<bool, AllocError>
+    ensures { IfOk result (λ b. (IsTrue b ↔ IsSoundlyWritten facts.entry.now.design facts.entry.now.claims root)) }
+{
+    let Some(i) = facts.writer(root) else {
+        return Ok(false);
+    };
+    if facts.is_delay(i) {
+        never_hot(alloc, facts, i, root)
+    } else {
+        Ok(false)
+    }
+}
+
+// Whether a signal is a variable.
+fn is_variable(design: &Design, v: usize) -> bool
+    ensures { IsTrue result ↔ HasKind true design.now v }
+{
+    match design.signals().get(v) {
+        None => false,
+        Some(signal) => match signal.kind {
+            SignalKind::Wire => false,
+            SignalKind::Reg | SignalKind::Integer => true,
+        },
+    }
+}
+
+fn is_blocking_mode(mode: Option<SignalMode>) -> bool
+    ensures { result ≡ is_blocking_mode mode }
+{
+    match mode {
+        Some(SignalMode::Blocking) => true,
+        _ => false,
+    }
+}
+
+// Whether the mode of a signal is blocking.
+fn is_blocking(facts: &Facts, v: usize) -> bool
+    ensures { IsTrue result ↔ HasMode facts.entry.now.design facts.entry.now.claims v blocking }
+{
+    is_blocking_mode(facts.mode(v))
+}
+
+// Whether a signal is a variable of mode blocking, with a writer of kind delay, and not hot where that writes it.
+fn is_sound_root<'a>(alloc: Global, facts: &'a Facts<'a>, root: usize) -> Result<bool, AllocError>
+    ensures { IfOk result (λ b. (IsTrue b ↔ IsSoundRoot facts.entry.now.design facts.entry.now.claims root)) }
+{
+    if !is_variable(facts.design(), root) {
+        return Ok(false);
+    }
+    if !is_blocking(facts, root) {
+        return Ok(false);
+    }
+    is_soundly_written(alloc, facts, root)
+}
+
+// Whether a signal copies a root, and the root is sound.
+fn is_right<'a>(
+    alloc: Global,
+    facts: &'a Facts<'a>,
+    copies: &Copies,
+    root: usize,
+    v: usize,
+) -> Result<bool, AllocError>
+    requires { copies.now ≡ facts.now.design }
+    ensures { IfOk result (λ b. (IsTrue b ↔ IsRight facts.entry.now.design facts.entry.now.claims v root)) }
+{
+    if copies.copies_root(alloc, root, v)? {
+        is_sound_root(alloc, facts, root)
+    } else {
+        Ok(false)
+    }
+}
+
+// Whether a signal copies each of some roots, and these are sound.
+fn are_right<'a>(
+    alloc: Global,
+    facts: &'a Facts<'a>,
+    copies: &Copies,
+    roots: &[usize],
+    v: usize,
+) -> Result<bool, AllocError>
+    requires { copies.now ≡ facts.now.design }
+    ensures { IfOk result (λ b. (IsTrue b ↔ ((r : ℕ) → Contains roots.now r → IsRight facts.entry.now.design facts.entry.now.claims v r))) }
+{
+    for root in roots {
+        if !is_right(alloc, facts, copies, *root, v)? {
+            return Ok(false);
+        }
+    }
+    Ok(true)
+}
+
+/// Whether a signal keeps the rule K6: it has one entry where an edge term names it, else none; and it copies the root of its entry, a variable of
+/// mode blocking, with a writer of kind delay, and not hot where that writes it. It takes as long as there are edge terms, and for the root as
+/// there are signals, and as the writer's text.
+pub fn keeps_root<'a>(
+    alloc: Global,
+    entries: &Entries<'a>,
+    copies: &Copies,
+    v: usize,
+) -> Result<bool, AllocError>
+    requires { copies.now ≡ entries.now.design }
+    ensures { IfOk result (λ b. (IsTrue b ↔ K6 entries.now.design entries.now.claims v)) }
+{
+    if !entries.has_right_entries(v) {
+        return Ok(false);
+    }
+    let roots = entries.roots(alloc, v)?;
+    are_right(alloc, entries.facts(), copies, &roots, v)
+}

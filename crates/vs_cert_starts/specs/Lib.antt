@@ -1,0 +1,6 @@
+pub mod Order
+pub mod Missing
+pub mod Inside
+pub mod Beginnings
+pub mod Started
+pub mod Starts

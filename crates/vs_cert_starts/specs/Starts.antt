@@ -1,0 +1,21 @@
+-- The starts of combinational blocks.
+use Rattle.std.specs.Prelude.{ℕ, ◌⊎◌, Bool, false, List, slice_index_or, IsTrue}
+use Rattle.std.specs.List.{Contains}
+use Rattle.vs_design.specs.declared.range.BitRange.{BitRange}
+use Rattle.vs_design.specs.declared.statement.EventTerm.{EventTerm}
+use Rattle.vs_design.specs.Parts.{Parts}
+use Rattle.vs_rules.specs.Claims.{Claims, starter, HasStart}
+use Rattle.vs_rules.specs.Drivers.{IsSource}
+use Rattle.vs_slots_paths.specs.Ranges.{HasSignal}
+
+-- a signal is a source, or one that is written
+abbrev pub IsFine : Parts → Claims → List BitRange → ℕ → Type 0
+IsFine d c written v = IsSource d c v ⊎ HasSignal written v
+
+-- of each term the signal is
+abbrev pub AreFine : Parts → Claims → List BitRange → List EventTerm → Type 0
+AreFine d c written terms = (t : EventTerm) → Contains terms t → IsFine d c written t.range.signal
+
+-- no process that is marked has start `starter`
+abbrev pub NoStarterIn : Parts → Claims → List Bool → Type 0
+NoStarterIn d c marks = (j : ℕ) → IsTrue (slice_index_or marks j false) → HasStart d c j starter → ⊥

@@ -1,0 +1,3 @@
+pub mod Here
+pub mod Parts
+pub mod Private

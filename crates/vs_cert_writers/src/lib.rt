@@ -1,0 +1,9 @@
+//! The rules K2 and K3, on the processes that write a signal.
+#![tactic(auto)]
+
+mod modes;
+mod points;
+mod writers;
+
+pub use modes::keeps_mode;
+pub use writers::keeps_writers;

@@ -1,0 +1,380 @@
+-- What is kept of run slots, and run slots of places.
+use Rattle.std.proofs.Common.{◌≡◌, ℕ, zero, suc, ◌+◌, ◌<◌, ◌≤◌, ◌⊎◌, ◌↔◌, inl, inr, true, Option, Some, None, List, [], ◌∷◌, ◌++◌, length, get_or, slice_get, refl, sym, ◌∙◌, ap, subst, arith}
+use Rattle.std.specs.List.{Contains}
+use Rattle.std.specs.declared.vec.Vec.{Vec}
+use Rattle.std.specs.declared.alloc.Global.{Global}
+use Rattle.std.proofs.lemmas.Bool.{false≢true}
+use Rattle.std.proofs.lemmas.Option.{none-some, same_Some, slice_get_within, slice_get-get_or}
+use Rattle.vs_logic4.specs.declared.digit.Digit.{Digit}
+use Rattle.vs_logic4.specs.declared.edge.Edge.{Edge}
+use Rattle.vs_logic4.specs.declared.edge.Edge.TheVariants.{Any, Posedge, Negedge}
+use Rattle.vs_design.specs.declared.design.Process.{Process}
+use Rattle.vs_design.specs.declared.signal.Signal.{Signal}
+use Rattle.vs_design.specs.declared.statement.EventTerm.{EventTerm}
+use Rattle.vs_design.specs.Parts.{Parts}
+use Rattle.vs_design.specs.Tables.{rows}
+use Rattle.vs_flatcode.specs.Places.{Todo}
+use Rattle.vs_flatcode.specs.Stops.{IsText}
+use Rattle.vs_flatcode.specs.Ways.{Pause, none, delay, event, next_by}
+use Rattle.vs_rules.specs.Claims.{Name, Claims, Kind, block, edges, delays, kind_of, names_process, writer_in, claim_for, claim_of, signal_name}
+use Rattle.vs_rules.specs.Claims.{HasLists, IsDelay, IsEdge, IsRootOf, IsWriter}
+use Rattle.vs_rules.specs.Constants.{IsClock}
+use Rattle.vs_rules.specs.Constants as k
+use Rattle.vs_rules.specs.Controls.{controls_at, controls_in, controls_of, list_of}
+use Rattle.vs_rules.specs.Paths.{WritesNow}
+use Rattle.vs_rules.specs.Slots.{EdgeEnds, Ends, HasSlot, HasWriteSlot}
+use Rattle.vs_slots_constants.specs.declared.clocks.Clock.{Clock}
+use Rattle.vs_slots_paths.specs.Ranges.{pause_terms}
+use Rattle.vs_slots_paths.specs.Reaches.{Chart, IsPlace, pause_at, places}
+use Rattle.vs_slots_paths.proofs.Texts.{place_of, place_back}
+use Rattle.vs_slots_paths.proofs.WalkLemmas.{place_below}
+use Rattle.vs_cert_facts.specs.Facts.{Case, AreCharts}
+use Rattle.vs_slots.specs.declared.roots.Firing.{Firing}
+use Rattle.vs_slots.specs.declared.runs.Runs.{Runs}
+use Rattle.vs_slots.specs.Firing.{RootFires}
+use Rattle.vs_slots.specs.Kept.{IsRunIn, AreAllRuns, AreBothRuns, AreClocks, AreFirings, AreTermsIn, AreWriteSlots, IsClockOf, IsFiring, IsFiringOf, IsKeptRun, IsPlaceWrite}
+use Rattle.vs_slots.specs.Kept.{IsTurned, IsWriteIn}
+use Rattle.vs_slots.specs.Lists.{row, IsOneOf}
+use Rattle.vs_slots.specs.Runs.{AreFiredRuns, AreListedRuns, AreRuns, DelayEndsBy, HasRun, PauseEnds}
+use Rattle.vs_slots.specs.Terms.{TermsFire}
+use Rattle.vs_slots.proofs.FiringLemmas.{firing_is_exact, now_exact, now_numbered}
+use Rattle.vs_slots.proofs.RunLemmas.{delay_ends, runs_are_exact, runs_by}
+
+-- ---- numbers within
+
+pub there_is : {A : Type 0} (xs : List A) (i : ℕ) → i < length xs → (x : A) × (slice_get xs i ≡ Some x)
+there_is [] i h = absurd (omega (arith, h))
+there_is (x ∷ xs) zero h = (x, refl)
+there_is (x ∷ xs) (suc i) h = there_is xs i (omega (arith, h))
+
+-- the process of a chart
+pub process_of : (f : Case) (i : ℕ) (t : Chart) → AreCharts f.design f.charts → slice_get f.charts i ≡ Some t → (q : Process) × (slice_get f.design.processes i ≡ Some q)
+process_of f i t maps is = there_is f.design.processes i (subst (λ (n : ℕ). i < n) maps.as_many (slice_get_within f.charts i t is))
+
+pub text_of : (f : Case) (i : ℕ) (q : Process) (t : Chart) → AreCharts f.design f.charts → slice_get f.design.processes i ≡ Some q → slice_get f.charts i ≡ Some t →
+    IsText q.body t.stops t.start
+text_of f i q t maps at is = maps.each i q t at is
+
+-- points are at places of a chart
+pub inside_of : (f : Case) (i : ℕ) (t : Chart) → AreCharts f.design f.charts → slice_get f.charts i ≡ Some t → (p : ℕ) → IsPlace t p → p < places t
+inside_of f i t maps is p place =
+    let q = process_of f i t maps is in
+    let x = text_of f i q.0 t maps q.1 is in
+    place_below (places t) t x.starts_in x.leads_in p place
+
+-- ---- run slots
+
+pub kept_runs : (kind : Parts → Claims → ℕ → Type 0) (f : Case) (runs : List Runs) (i : ℕ) (t : Chart) → AreCharts f.design f.charts → AreAllRuns kind f runs → kind f.design f.claims i →
+    slice_get f.charts i ≡ Some t → (p r : ℕ) → p < places t → (IsRunIn runs i p r ↔ HasRun f.design f.claims i t p r)
+kept_runs kind f runs i t maps all is_kind is p r within = (
+  λ y. (both y.0 y.1).0 y.2,
+  λ h. let y = there_is runs i (subst (λ (n : ℕ). i < n) (maps.as_many ∙ sym all.long) (slice_get_within f.charts i t is)) in (y.0, y.1, (both y.0 y.1).1 h),
+) where
+  both : (x : Runs) → slice_get runs i ≡ Some x → (IsOneOf (rows x.ends.items) (row (rows x.before.items) p) r ↔ HasRun f.design f.claims i t p r)
+  both x at = runs_by f.design f.claims i t (rows x.before.items) (rows x.ends.items) (all.each i x at t is_kind is) (inside_of f i t maps is) p r within
+
+-- a process of another kind has no run slots
+no_kind : (d : Parts) (c : Claims) (i : ℕ) (kind : Option Kind) (pause : Pause) (r : ℕ) → (kind ≡ Some edges → ⊥) → ((lists : List (List ℕ)) → kind ≡ Some (delays lists) → ⊥) →
+    Ends d c i kind (next_by pause []) r → ⊥
+no_kind d c i None pause r e l h = h
+no_kind d c i (Some (block start)) pause r e l h = h
+no_kind d c i (Some edges) pause r e l h = e refl
+no_kind d c i (Some (delays lists)) pause r e l h = l lists refl
+
+pub no_runs : (d : Parts) (c : Claims) (i : ℕ) (t : Chart) (p r : ℕ) → (IsEdge d c i → ⊥) → (IsDelay d c i → ⊥) → HasRun d c i t p r → ⊥
+no_runs d c i t p r e l h = no_kind d c i (kind_of d c i) (pause_at t h.from) r e (λ lists has. l (lists, has)) h.starts
+
+-- ---- runs by lists and by terms
+
+pub listed_are : (f : Case) (i : ℕ) (q : Process) (t : Chart) (lists : List (List ℕ)) (before ends : List (List ℕ)) → slice_get f.design.processes i ≡ Some q → HasLists f.design f.claims i lists →
+    AreListedRuns t (list_of (controls_in q.body) lists) before ends → AreRuns f.design f.claims i t before ends
+listed_are f i q t lists before ends is has h = record {
+  before_are = h.before_are;
+  ends_are = λ p r within.
+      let e : list_of (controls_of f.design i) lists ≡ list_of (controls_in q.body) lists = ap (λ (x : Option Process). list_of (controls_at x) lists) is in
+      let both = h.ends_are p r within in
+      let same = subst (λ (l : ℕ → List ℕ). (DelayEndsBy l (pause_at t p) r ↔ PauseEnds f.design f.claims i (pause_at t p) r)) e
+      (delay_ends f.design f.claims i lists (pause_at t p) r has) in
+      (λ x. let y = both.0 x in (y.0, same.0 y.1), λ y. both.1 (y.0, same.1 y.1));
+}
+
+terms_end : (d : Parts) (c : Claims) (pause : Pause) (r : ℕ) → (TermsFire d c (pause_terms pause) r ↔ EdgeEnds d c (next_by pause []) r)
+terms_end d c none r = (λ y. absurd (omega (arith, y.1.1)), λ h. absurd h)
+terms_end d c (delay number ticks) r = (λ y. absurd (omega (arith, y.1.1)), λ h. absurd h)
+terms_end d c (event number terms) r = (λ y. y, λ h. h)
+
+pub fired_are : (f : Case) (i : ℕ) (t : Chart) (before ends : List (List ℕ)) → IsEdge f.design f.claims i → AreFiredRuns f.design f.claims t before ends →
+    AreRuns f.design f.claims i t before ends
+fired_are f i t before ends is h = record {
+  before_are = h.before_are;
+  ends_are = λ p r within.
+      let both = h.ends_are p r within in
+      let same = subst (λ (k : Option Kind). (TermsFire f.design f.claims (pause_terms (pause_at t p)) r ↔ Ends f.design f.claims i k (next_by (pause_at t p) []) r)) (sym is)
+      (terms_end f.design f.claims (pause_at t p) r) in
+      (λ x. let y = both.0 x in (y.0, same.0 y.1), λ y. both.1 (y.0, same.1 y.1));
+}
+
+-- ---- writers
+
+writer_process : (n : Option Name) (p : Option Process) → names_process n p ≡ true → (q : Process) × (p ≡ Some q)
+writer_process None None h = absurd (false≢true h)
+writer_process None (Some q) h = absurd (false≢true h)
+writer_process (Some n) None h = absurd (false≢true h)
+writer_process (Some n) (Some q) h = (q, refl)
+
+claimed : (c : Claims) (s : Option Signal) (p : Option Process) → names_process (writer_in (claim_for c s)) p ≡ true → (x : Signal) × (s ≡ Some x)
+claimed c None None h = absurd (false≢true h)
+claimed c None (Some q) h = absurd (false≢true h)
+claimed c (Some x) p h = (x, refl)
+
+-- a variable with write slots is a signal of the design
+pub write_within : (d : Parts) (c : Claims) (u r : ℕ) → HasWriteSlot d c u r → u < length d.signals
+write_within d c u r h = let x = claimed c (slice_get d.signals u) (slice_get d.processes h.writer) h.is in slice_get_within d.signals u x.0 x.1
+
+-- a writer's process, and its chart
+record HasChart (f : Case) (i : ℕ) : Type 0 where
+  process : Process
+  is : slice_get f.design.processes i ≡ Some process
+  chart : Chart
+  chart_is : slice_get f.charts i ≡ Some chart
+
+chart_of_writer : (f : Case) (u i : ℕ) → AreCharts f.design f.charts → IsWriter f.design f.claims u i → HasChart f i
+chart_of_writer f u i maps w =
+    let q = writer_process (writer_in (claim_of f.design f.claims u)) (slice_get f.design.processes i) w in
+    let t = there_is f.charts i (subst (λ (n : ℕ). i < n) (sym maps.as_many) (slice_get_within f.design.processes i q.0 q.1)) in
+    record { process = q.0; is = q.1; chart = t.0; chart_is = t.1 }
+
+-- ---- run slots as both are kept
+
+edge_not_delay : (d : Parts) (c : Claims) (i : ℕ) → IsDelay d c i → IsEdge d c i → ⊥
+edge_not_delay d c i l e = let h : Some (delays l.0) ≡ Some edges = sym l.1 ∙ e in cc
+
+kind_of_ends : (d : Parts) (c : Claims) (i : ℕ) (kind : Option Kind) (pause : Pause) (r : ℕ) → Ends d c i kind (next_by pause []) r →
+    (kind ≡ Some edges) ⊎ ((lists : List (List ℕ)) × (kind ≡ Some (delays lists)))
+kind_of_ends d c i None pause r h = absurd h
+kind_of_ends d c i (Some (block start)) pause r h = absurd h
+kind_of_ends d c i (Some edges) pause r h = inl refl
+kind_of_ends d c i (Some (delays lists)) pause r h = inr (lists, refl)
+
+pub kept_run : (f : Case) (waiting fired : List Runs) (i : ℕ) (t : Chart) → AreCharts f.design f.charts → AreBothRuns f waiting fired → slice_get f.charts i ≡ Some t →
+    (p r : ℕ) → p < places t → (IsKeptRun f waiting fired i p r ↔ HasRun f.design f.claims i t p r)
+kept_run f waiting fired i t maps both is p r within = (there, back) where
+  there : IsKeptRun f waiting fired i p r → HasRun f.design f.claims i t p r
+  there (inl y) = (kept_runs IsEdge f fired i t maps both.fired_are y.0 is p r within).0 y.1
+  there (inr y) = (kept_runs IsDelay f waiting i t maps both.waiting_are y.1 is p r within).0 y.2
+
+  back : HasRun f.design f.claims i t p r → IsKeptRun f waiting fired i p r
+  back h = elim (kind_of_ends f.design f.claims i (kind_of f.design f.claims i) (pause_at t h.from) r h.starts) [
+    | inl e ↦ inl (e, (kept_runs IsEdge f fired i t maps both.fired_are e is p r within).1 h)
+    | inr l ↦ inr (edge_not_delay f.design f.claims i l, l, (kept_runs IsDelay f waiting i t maps both.waiting_are l is p r within).1 h)
+  ]
+
+-- ---- write slots
+
+pub writes_are : (f : Case) (waiting fired : List Runs) (u r : ℕ) → AreCharts f.design f.charts → AreBothRuns f waiting fired →
+    (IsWriteIn f waiting fired u r ↔ HasWriteSlot f.design f.claims u r)
+writes_are f waiting fired u r maps both = (there, back) where
+  at_place : (i : ℕ) (q : Process) (t : Chart) (x : IsText q.body t.stops t.start) → slice_get f.design.processes i ≡ Some q → slice_get f.charts i ≡ Some t → IsWriter f.design f.claims u i →
+      (p : ℕ) → p < places t → IsPlaceWrite f waiting fired t u i p r → HasWriteSlot f.design f.claims u r
+  at_place i q t x is chart writer p within y =
+      let w = (now_exact f.design q.body t.stops t.start x p u).0 y.2 in
+      let n = now_numbered (x.at p) w.range w.listed.0 in record {
+        writer = i;
+        at = x.at p;
+        is = writer;
+        point = place_back f.design i q t.stops t.start x is p y.1;
+        writes = w;
+        slot = (runs_are_exact f.design f.claims i q t.stops t.start is x p n.0 r n.1).0 ((kept_run f waiting fired i t maps both chart p r within).0 y.3);
+      }
+
+  there : IsWriteIn f waiting fired u r → HasWriteSlot f.design f.claims u r
+  there y =
+      let b = y.2 in
+      let e = b.2 in
+      let q = process_of f y.0 b.0 maps b.1 in
+      at_place y.0 q.0 b.0 (text_of f y.0 q.0 b.0 maps q.1 b.1) q.1 b.1 y.1 e.0 e.1 e.2
+
+  back : HasWriteSlot f.design f.claims u r → IsWriteIn f waiting fired u r
+  back h =
+      let i = h.writer in
+      let w = chart_of_writer f u i maps h.is in
+      let q = w.process in
+      let t = w.chart in
+      let x = text_of f i q t maps w.is w.chart_is in
+      let y = place_of f.design i q t.stops t.start x w.is h.at h.point in
+      let within = inside_of f i t maps w.chart_is y.0 y.1 in
+      let v : WritesNow f.design (x.at y.0) u = subst (λ (k : Todo). WritesNow f.design k u) (sym y.2) h.writes in
+      let n = now_numbered (x.at y.0) v.range v.listed.0 in
+      let run : HasSlot f.design f.claims i (x.at y.0) r = subst (λ (k : Todo). HasSlot f.design f.claims i k r) (sym y.2) h.slot in (
+        i,
+        h.is,
+        (
+          t,
+          w.chart_is,
+          (
+            y.0,
+            within,
+            (
+              within,
+              y.1,
+              (now_exact f.design q.body t.stops t.start x y.0 u).1 v,
+              (kept_run f waiting fired i t maps both w.chart_is y.0 r within).1 ((runs_are_exact f.design f.claims i q t.stops t.start w.is x y.0 n.0 r n.1).1 run),
+            ),
+          ),
+        ),
+      )
+
+below_or_past : (u n : ℕ) → (u < n) ⊎ (n ≤ u)
+below_or_past u n = grind arith
+
+row_past : (xs : List (Vec ℕ Global)) (u r : ℕ) → length xs ≤ u → Contains (row (rows xs) u) r → ⊥
+row_past [] u r h c = omega (arith, c.1)
+row_past (x ∷ xs) zero r h c = omega (arith, h)
+row_past (x ∷ xs) (suc u) r h c = row_past xs u r (omega (arith, h)) c
+
+-- of a signal past the end too
+pub write_slots_are : (f : Case) (table : List (Vec ℕ Global)) (u r : ℕ) → AreWriteSlots f table → (Contains (row (rows table) u) r ↔ HasWriteSlot f.design f.claims u r)
+write_slots_are f table u r h = elim (below_or_past u (length f.design.signals)) [
+  | inl l ↦ h.1 u r l
+  | inr p ↦ (λ c. absurd (row_past table u r (omega (arith, p, h.0)) c), λ w. absurd (omega (arith, p, write_within f.design f.claims u r w)))
+]
+
+-- ---- firing
+
+pub firing_are : (f : Case) (runs : List Runs) (clock : Option Clock) (root : ℕ) (edge : Edge) (r : ℕ) → AreCharts f.design f.charts → AreAllRuns IsDelay f runs → IsClockOf f root clock →
+    (IsFiringOf f runs clock root edge r ↔ RootFires f.design f.claims root edge r)
+firing_are f runs clock root edge r maps all is_clock = (there, back) where
+  there : IsFiringOf f runs clock root edge r → RootFires f.design f.claims root edge r
+  there z =
+      let i = z.0 in
+      let kind = z.2.0 in
+      let g = z.2.1 in
+      let t = g.0 in
+      let chart = g.1 in
+      let e = g.2 in
+      let y = e.2 in
+      let q = process_of f i t maps chart in (
+        i,
+        (firing_is_exact.roots f.design f.claims root edge i q.0 t.stops t.start r q.1 (text_of f i q.0 t maps q.1 chart) z.1 kind).0 (
+          e.0,
+          record {
+            is_place = y.1;
+            writes = y.2;
+            counted = y.3;
+            runs = (kept_runs IsDelay f runs i t maps all kind chart e.0 r e.1).0 y.4;
+            in_phase = λ digit offset half clocked. y.5 digit offset half ((is_clock digit offset half).0 clocked);
+          },
+        ),
+      )
+
+  back : RootFires f.design f.claims root edge r → IsFiringOf f runs clock root edge r
+  back z =
+      let i = z.0 in
+      let h = z.1 in
+      let w = chart_of_writer f root i maps h.is_writer in
+      let t = w.chart in
+      let y = (firing_is_exact.roots f.design f.claims root edge i w.process t.stops t.start r w.is (text_of f i w.process t maps w.is w.chart_is) h.is_writer h.kind).1 h in
+      let a = y.1 in
+      let within = inside_of f i t maps w.chart_is y.0 a.is_place in (
+        i,
+        h.is_writer,
+        (
+          h.kind,
+          (
+            t,
+            w.chart_is,
+            (
+              y.0,
+              within,
+              (
+                within,
+                a.is_place,
+                a.writes,
+                a.counted,
+                (kept_runs IsDelay f runs i t maps all h.kind w.chart_is y.0 r within).1 a.runs,
+                λ digit offset half e. a.in_phase digit offset half ((is_clock digit offset half).1 e),
+              ),
+            ),
+          ),
+        ),
+      )
+
+-- a clock is turned after some ticks
+half_above : (d : Parts) (c : Claims) (v : ℕ) (digit : Digit) (offset half : ℕ) → IsClock d c v digit offset half → 0 < half
+half_above d c v digit offset half (k.alone i w body) = body.body.turns.turns.above
+half_above d c v digit offset half (k.two i j w body other now only) = body.body.turns.above
+
+pub turned : (f : Case) (v : ℕ) (o : Option Clock) → IsClockOf f v o → IsTurned o
+turned f v o is x e = half_above f.design f.claims v x.digit x.offset x.half ((is x.digit x.offset x.half).1 e)
+
+each_or : (P : Option Clock → Type 0) → P None → (xs : List (Option Clock)) → ((v : ℕ) → v < length xs → P (get_or xs v None)) → (v : ℕ) → P (get_or xs v None)
+each_or P nothing [] h v = nothing
+each_or P nothing (x ∷ xs) h zero = h 0 (omega arith)
+each_or P nothing (x ∷ xs) h (suc v) = each_or P nothing xs (λ w l. h (suc w) (omega (arith, l))) v
+
+pub all_turned : (f : Case) (clocks : List (Option Clock)) → AreClocks f clocks → (v : ℕ) → IsTurned (get_or clocks v None)
+all_turned f clocks h = each_or IsTurned (λ x e. absurd (none-some x e)) clocks (λ v l. turned f v (get_or clocks v None) (h.1 v l))
+
+root_within : (d : Parts) (c : Claims) (root v : ℕ) → IsRootOf d c root v → root < length d.signals
+root_within d c root v h = named (slice_get d.signals root) (λ x e. slice_get_within d.signals root x e) h.root_is where
+  named : (s : Option Signal) → ((x : Signal) → s ≡ Some x → root < length d.signals) → signal_name s ≡ Some h.entry.root → root < length d.signals
+  named None all e = absurd (none-some h.entry.root e)
+  named (Some x) all e = all x refl
+
+-- terms fire as the tables of roots say
+pub terms_in : (f : Case) (x : Firing) (terms : List EventTerm) (r : ℕ) → AreFirings f x → (AreTermsIn f x terms r ↔ TermsFire f.design f.claims terms r)
+terms_in f x terms r are = (
+  λ y. let t = y.0 in let i = y.2 in
+      let b = (are t.edge i.0 r (root_within f.design f.claims i.0 t.range.signal i.1)).0 i.2 in
+      (t, y.1, (firing_is_exact.terms f.design f.claims t r).0 (i.0, i.1, b.1)),
+  λ y. let t = y.0 in let i = (firing_is_exact.terms f.design f.claims t r).1 y.2 in
+      (t, y.1, (i.0, i.1, (are t.edge i.0 r (root_within f.design f.claims i.0 t.range.signal i.1)).1 ((t.range.signal, i.1), i.2))),
+)
+
+-- ---- tables, row by row
+
+-- what holds of each element, and of one more
+pub each_more : {A : Type 0} (P : ℕ → A → Type 0) (xs : List A) (x : A) → ((k : ℕ) (y : A) → slice_get xs k ≡ Some y → P k y) → P (length xs) x →
+    (k : ℕ) (y : A) → slice_get (xs ++ x ∷ []) k ≡ Some y → P k y
+each_more P [] x before here zero y is = subst (P 0) (same_Some x y is) here
+each_more P [] x before here (suc k) y is = absurd (none-some y is)
+each_more P (z ∷ xs) x before here zero y is = before 0 y is
+each_more P (z ∷ xs) x before here (suc k) y is = each_more (λ n w. P (suc n) w) xs x (λ n w e. before (suc n) w e) here k y is
+
+-- the same of what is read, past the end too
+pub read_more : (P : ℕ → Option Clock → Type 0) (xs : List (Option Clock)) (x : Option Clock) → ((k : ℕ) → k < length xs → P k (get_or xs k None)) → P (length xs) x →
+    (k : ℕ) → k < length xs + 1 → P k (get_or (xs ++ x ∷ []) k None)
+read_more P [] x before here zero h = here
+read_more P [] x before here (suc k) h = absurd (omega (arith, h))
+read_more P (z ∷ xs) x before here zero h = before 0 (omega arith)
+read_more P (z ∷ xs) x before here (suc k) h = read_more (λ n w. P (suc n) w) xs x (λ n l. before (suc n) (omega (arith, l))) here k (omega (arith, h))
+
+-- an element at a place
+pub found : {A : Type 0} (xs : List A) (i : ℕ) (x : A) → i < length xs → x ≡ get_or xs i x → slice_get xs i ≡ Some x
+found xs i x h e = slice_get-get_or xs i x h ∙ ap Some (sym e)
+
+pub row_is : (ws : List (Vec ℕ Global)) (v : ℕ) (x : Vec ℕ Global) → v < length ws → row (rows ws) v ≡ (get_or ws v x).items
+row_is [] v x h = absurd (omega (arith, h))
+row_is (w ∷ ws) zero x h = refl
+row_is (w ∷ ws) (suc v) x h = row_is ws v x (omega (arith, h))
+
+-- what holds of an element at a place
+pub at_element : {A : Type 0} (P : A → Type 0) (xs : List A) (i : ℕ) (d : A) → i < length xs → (P (get_or xs i d) ↔ ((x : A) × (slice_get xs i ≡ Some x) × P x))
+at_element P xs i d h = (
+  λ p. (get_or xs i d, slice_get-get_or xs i d h, p),
+  λ y. subst P (same_Some y.0 (get_or xs i d) (sym y.1 ∙ slice_get-get_or xs i d h)) y.2,
+)
+
+-- what holds of one of the elements
+pub each_element : {A : Type 0} (P : A → Type 0) (xs : List A) →
+    (((i : ℕ) × (i < length xs) × ((x : A) × (slice_get xs i ≡ Some x) × P x)) ↔ ((x : A) × Contains xs x × P x))
+each_element P xs = (
+  λ y. let z = y.2 in (z.0, (y.0, y.1, same_Some (get_or xs y.0 z.0) z.0 (sym (slice_get-get_or xs y.0 z.0 y.1) ∙ z.1)), z.2),
+  λ y. let c = y.1 in (c.0, c.1, (y.0, slice_get-get_or xs c.0 y.0 c.1 ∙ ap Some c.2, y.2)),
+)
+
+-- the tables of the three sorts of edges
+pub firings : (f : Case) (x : Firing) → IsFiring f Any (rows x.any.items) → IsFiring f Posedge (rows x.posedge.items) → IsFiring f Negedge (rows x.negedge.items) → AreFirings f x
+firings f x a p n Any = a
+firings f x a p n Posedge = p
+firings f x a p n Negedge = n

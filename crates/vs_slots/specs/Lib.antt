@@ -1,0 +1,7 @@
+pub mod Lists
+pub mod Terms
+pub mod Runs
+pub mod Controls
+pub mod Firing
+pub mod Kept
+pub mod Places

@@ -1,0 +1,10 @@
+-- Run slots of places, as they are told.
+use Rattle.std.specs.Prelude.{ℕ, ◌≡◌, ◌<◌, ◌↔◌, Some, List, slice_get}
+use Rattle.std.specs.List.{Contains}
+use Rattle.vs_slots_paths.specs.Reaches.{Chart, places}
+use Rattle.vs_cert_facts.specs.Facts.{Case}
+use Rattle.vs_slots.specs.Runs.{HasRun}
+
+-- these are the run slots of a place of a process, by its number
+abbrev pub RunsOf : Case → ℕ → ℕ → List ℕ → Type 0
+RunsOf f i p all = (t : Chart) (r : ℕ) → slice_get f.charts i ≡ Some t → p < places t → (Contains all r ↔ HasRun f.design f.claims i t p r)

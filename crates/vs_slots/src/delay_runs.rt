@@ -1,0 +1,64 @@
+//! The run slots of processes of kind delay.
+ghost use Rattle.std.specs.Prelude.{IfOk, map};
+ghost use Rattle.vs_design.specs.Tables.{rows};
+ghost use Rattle.vs_rules.specs.Certificates.{residues_from};
+ghost use Rattle.vs_rules.specs.Claims.{IsDelay};
+ghost use Rattle.vs_rules.specs.Controls.{controls_in, list_of};
+ghost use Rattle.vs_slots.specs.Runs.{AreListedRuns};
+ghost use Rattle.vs_slots.specs.Kept.{RunsWhere, AreAllRuns};
+
+use crate::controls::{ControlLists, delay_ends};
+use crate::runs::Runs;
+use std::alloc::{AllocError, Global};
+use vs_cert_facts::Facts;
+use vs_design::Statement;
+use vs_slots_paths::{Tables, controls, controls_before};
+
+// The runs of a process of kind delay, by its text, its tables and its lists.
+fn listed_runs<'a>(
+    alloc: Global,
+    body: &Statement,
+    tables: &'a Tables<'a>,
+    lists: &[Vec<u64>],
+) -> Result<Runs, AllocError>
+    ensures { IfOk result (λ x. AreListedRuns tables.entry.now (list_of (controls_in body.now) (map residues_from lists.now))
+        (rows x.before.items) (rows x.ends.items)) }
+{
+    let controls = controls(alloc, body)?;
+    let lists = ControlLists {
+        controls: &controls,
+        lists,
+    };
+    let ends = delay_ends(alloc, &*tables, lists)?;
+    let before = controls_before(alloc, tables)?;
+    Ok(Runs { before, ends })
+}
+
+// The runs of a process, where it is of kind delay.
+fn runs_of_delays<'a>(alloc: Global, facts: &'a Facts<'a>, i: usize) -> Result<Runs, AllocError>
+    ensures { IfOk result (λ x. RunsWhere IsDelay facts.entry.now i x) }
+{
+    let processes = facts.design().processes();
+    if i >= processes.len() {
+        return Ok(Runs::none(alloc));
+    }
+    let Some(tables) = facts.tables(i) else {
+        return Ok(Runs::none(alloc));
+    };
+    let Some(lists) = facts.lists(i) else {
+        return Ok(Runs::none(alloc));
+    };
+    listed_runs(alloc, &processes[i].body, tables, lists)
+}
+
+/// The runs of all processes of kind delay, in their order; of others there are none.
+pub(crate) fn delay_runs<'a>(alloc: Global, facts: &'a Facts<'a>) -> Result<Vec<Runs>, AllocError>
+    ensures { IfOk result (λ runs. AreAllRuns IsDelay facts.entry.now runs.items) }
+{
+    let mut runs = Vec::new(alloc);
+    for i in 0..facts.design().processes().len() {
+        let own = runs_of_delays(alloc, &*facts, i)?;
+        runs.push(own)?;
+    }
+    Ok(runs)
+}

@@ -1,0 +1,109 @@
+//! The run slots of processes of kind edge.
+ghost use Rattle.std.specs.Prelude.{ℕ, ◌<◌, ◌↔◌, IfOk};
+ghost use Rattle.std.specs.List.{Contains};
+ghost use Rattle.vs_design.specs.Tables.{rows};
+ghost use Rattle.vs_rules.specs.Claims.{IsEdge};
+ghost use Rattle.vs_slots_paths.specs.Ranges.{pause_terms};
+ghost use Rattle.vs_slots_paths.specs.Reaches.{places, pause_at, pause_view, IsPlace};
+ghost use Rattle.vs_slots.specs.Kept.{AreAllRuns, AreFirings, AreTermsIn, RunsWhere};
+ghost use Rattle.vs_slots.specs.Runs.{AreFiredRuns};
+
+use crate::listing::{Listing, table_of};
+use crate::roots::Firing;
+use crate::runs::Runs;
+use std::alloc::{AllocError, Global};
+use vs_cert_facts::Facts;
+use vs_slots_paths::{Pause, Tables, controls_before};
+
+// The places of a process of kind edge, and when terms can fire.
+#[derive(Drop)]
+struct EdgeEnds<'a> {
+    facts: &'a Facts<'a>,
+    firing: &'a Firing,
+    tables: &'a Tables<'a>,
+}
+
+impl<'a> EdgeEnds<'a> {
+    // The residues at which what goes on so can end, where it is an event control.
+    fn of(&self, alloc: Global, pause: Pause) -> Result<Vec<u64>, AllocError>
+        ensures { IfOk result (λ all. (r : ℕ) → (Contains all.items r ↔
+            AreTermsIn self.now.facts.now self.now.firing.now (pause_terms (pause_view pause.entry)) r)) }
+    {
+        match pause {
+            Pause::Event(_, terms) => self.firing.of_terms(alloc, self.facts, terms),
+            Pause::Nothing | Pause::Delay(_, _) => Ok(Vec::new(alloc)),
+        }
+    }
+}
+
+impl<'a> Listing for EdgeEnds<'a> {
+    ghost has = { λ f q r. (q < places f.tables.now) × IsPlace f.tables.now q
+        × AreTermsIn f.facts.now f.firing.now (pause_terms (pause_at f.tables.now q)) r };
+
+    fn list(&self, alloc: Global, i: usize) -> Result<Vec<u64>, AllocError> {
+        if i >= self.tables.places() {
+            return Ok(Vec::new(alloc));
+        }
+        if !self.tables.is_point(i) {
+            return Ok(Vec::new(alloc));
+        }
+        self.of(alloc, self.tables.pause(i))
+    }
+}
+
+// The runs of a process of kind edge, by its tables.
+fn fired_runs<'a>(
+    alloc: Global,
+    facts: &'a Facts<'a>,
+    firing: &'a Firing,
+    tables: &'a Tables<'a>,
+) -> Result<Runs, AllocError>
+    requires { AreFirings facts.now firing.now }
+    ensures { IfOk result (λ x. AreFiredRuns facts.entry.now.design facts.entry.now.claims tables.entry.now
+        (rows x.before.items) (rows x.ends.items)) }
+{
+    let edges = EdgeEnds {
+        facts,
+        firing,
+        tables,
+    };
+    let ends = table_of(alloc, &edges, tables.places())?;
+    let before = controls_before(alloc, &*tables)?;
+    Ok(Runs { before, ends })
+}
+
+// The runs of a process, where it is of kind edge.
+fn runs_of_edges<'a>(
+    alloc: Global,
+    facts: &'a Facts<'a>,
+    firing: &'a Firing,
+    i: usize,
+) -> Result<Runs, AllocError>
+    requires { AreFirings facts.now firing.now }
+    ensures { IfOk result (λ x. RunsWhere IsEdge facts.entry.now i x) }
+{
+    if !facts.is_edge(i) {
+        return Ok(Runs::none(alloc));
+    }
+    match facts.tables(i) {
+        None => Ok(Runs::none(alloc)),
+        Some(tables) => fired_runs(alloc, facts, firing, tables),
+    }
+}
+
+/// The runs of all processes of kind edge, in their order; of others there are none.
+pub(crate) fn edge_runs<'a>(
+    alloc: Global,
+    facts: &'a Facts<'a>,
+    firing: &'a Firing,
+) -> Result<Vec<Runs>, AllocError>
+    requires { AreFirings facts.now firing.now }
+    ensures { IfOk result (λ runs. AreAllRuns IsEdge facts.entry.now runs.items) }
+{
+    let mut runs = Vec::new(alloc);
+    for i in 0..facts.design().processes().len() {
+        let own = runs_of_edges(alloc, &*facts, &*firing, i)?;
+        runs.push(own)?;
+    }
+    Ok(runs)
+}

@@ -1,0 +1,13 @@
+//! Laws of run slots and firing slots.
+ghost use Rattle.vs_slots.specs.Runs.{RunsAreExact};
+ghost use Rattle.vs_slots.specs.Firing.{FiringIsExact};
+
+/// A place where something is done has the run slots of its point.
+pub fn runs_are_exact()
+    ensures { RunsAreExact }
+{}
+
+/// An event term can fire where a place of the writer of its root can make it fire.
+pub fn firing_is_exact()
+    ensures { FiringIsExact }
+{}

@@ -1,0 +1,21 @@
+//! Run slots, write slots and firing slots: residues of times above 0.
+#![tactic(auto)]
+
+mod clocks;
+mod controls;
+mod delay_runs;
+mod edge_runs;
+mod firing;
+mod laws;
+mod listing;
+mod phases;
+mod residues;
+mod roots;
+mod runs;
+mod slots;
+
+pub use controls::ControlLists;
+pub use laws::{firing_is_exact, runs_are_exact};
+pub use listing::{Listing, table_of, union_of};
+pub use residues::are_apart;
+pub use slots::Slots;

@@ -1,0 +1,157 @@
+//! When edges of roots, and terms, can fire.
+ghost use Rattle.std.specs.Prelude.{ℕ, ◌≡◌, ◌↔◌, ◌⊎◌, None, get_or, IfOk, OnOk};
+ghost use Rattle.std.specs.List.{Contains};
+ghost use Rattle.vs_design.specs.Tables.{rows};
+ghost use Rattle.vs_rules.specs.Claims.{IsDelay, IsRoot};
+ghost use Rattle.vs_slots.specs.Kept.{AreAllRuns, AreClocks, AreFirings, AreTermsIn, IsFiring, IsFiringOf, IsTermIn, IsTurned, table_by};
+ghost use Rattle.vs_slots.specs.Lists.{row, IsOneOf};
+
+use crate::clocks::clocks;
+use crate::firing::fires_of;
+use crate::listing::{Listing, table_of};
+use crate::residues::{put_all, row_of};
+use crate::runs::Runs;
+use std::alloc::{AllocError, Global};
+use vs_cert_facts::Facts;
+use vs_design::EventTerm;
+use vs_logic4::Edge;
+use vs_slots_constants::Clock;
+
+// What a signal is as a clock; one past the end is none.
+fn clock_at(clocks: &[Option<Clock>], v: usize) -> Option<Clock>
+    ensures { result ≡ get_or clocks.now v None }
+{
+    if v < clocks.len() { clocks[v] } else { None }
+}
+
+// The roots, of which an edge may fire.
+#[derive(Drop)]
+struct RootFiring<'a> {
+    facts: &'a Facts<'a>,
+    runs: &'a [Runs],
+    clocks: &'a [Option<Clock>],
+    edge: Edge,
+    ghost turned: { (v : ℕ) → IsTurned (get_or clocks.now v None) },
+}
+
+impl<'a> Listing for RootFiring<'a> {
+    ghost has = { λ f root r. IsRoot f.facts.now.design f.facts.now.claims root
+        × IsFiringOf f.facts.now f.runs.now (get_or f.clocks.now root None) root f.edge r };
+
+    fn list(&self, alloc: Global, i: usize) -> Result<Vec<u64>, AllocError> {
+        if !self.facts.is_root(i) {
+            return Ok(Vec::new(alloc));
+        }
+        let clock = clock_at(self.clocks, i);
+        fires_of(alloc, self.facts, self.runs, clock, i, self.edge)
+    }
+}
+
+/// The residues at which an edge of a root can fire, by the number of the root: one table for each sort of edges.
+#[derive(Drop)]
+pub(crate) struct Firing {
+    /// Any change.
+    pub(crate) any: Vec<Vec<u64>>,
+    /// `posedge`.
+    pub(crate) posedge: Vec<Vec<u64>>,
+    /// `negedge`.
+    pub(crate) negedge: Vec<Vec<u64>>,
+}
+
+// The residues at which this edge of each root can fire.
+fn table_for<'a>(
+    alloc: Global,
+    facts: &'a Facts<'a>,
+    runs: &'a [Runs],
+    clocks: &'a [Option<Clock>],
+    edge: Edge,
+) -> Result<Vec<Vec<u64>>, AllocError>
+    requires runs { AreAllRuns IsDelay facts.now runs.now }
+    requires clocks { AreClocks facts.now clocks.now }
+    ensures { IfOk result (λ table. IsFiring facts.entry.now edge (rows table.items)) }
+{
+    facts.maps();
+    let roots = RootFiring {
+        facts,
+        runs,
+        clocks,
+        edge,
+    };
+    let table = table_of(alloc, &roots, facts.design().signals().len())?;
+    Ok(table)
+}
+
+impl Firing {
+    /// When edges of the roots can fire, of the runs of the processes of kind delay.
+    pub(crate) fn of<'a>(
+        alloc: Global,
+        facts: &'a Facts<'a>,
+        runs: &'a [Runs],
+    ) -> Result<Firing, AllocError>
+        requires { AreAllRuns IsDelay facts.now runs.now }
+        ensures { IfOk result (λ x. AreFirings facts.entry.now x) }
+    {
+        let clocks = clocks(alloc, &*facts)?;
+        let any = table_for(alloc, &*facts, &*runs, &clocks, Edge::Any)?;
+        let posedge = table_for(alloc, &*facts, &*runs, &clocks, Edge::Posedge)?;
+        let negedge = table_for(alloc, &*facts, &*runs, &clocks, Edge::Negedge)?;
+        Ok(Firing {
+            any,
+            posedge,
+            negedge,
+        })
+    }
+
+    // The residues at which an edge of a root can fire.
+    fn list(&self, edge: Edge, root: usize) -> &[u64]
+        ensures { result.now ≡ row (table_by self.now edge) root }
+    {
+        match edge {
+            Edge::Any => row_of(&self.any, root),
+            Edge::Posedge => row_of(&self.posedge, root),
+            Edge::Negedge => row_of(&self.negedge, root),
+        }
+    }
+
+    // Puts the residues at which an edge of one of some roots can fire at a list's end.
+    fn put(&self, out: &mut Vec<u64>, edge: Edge, roots: &[usize]) -> Result<(), AllocError>
+        ensures { OnOk result ((r : ℕ) → (Contains out.new.items r ↔
+            (Contains out.old.items r ⊎ IsOneOf (table_by self.now edge) roots.now r))) }
+    {
+        for root in roots {
+            put_all(out, self.list(edge, *root))?;
+        }
+        Ok(())
+    }
+
+    // Puts those at which a term can fire.
+    fn put_term<'a>(
+        &self,
+        alloc: Global,
+        facts: &'a Facts<'a>,
+        out: &mut Vec<u64>,
+        term: EventTerm,
+    ) -> Result<(), AllocError>
+        ensures { OnOk result ((r : ℕ) → (Contains out.new.items r ↔
+            (Contains out.old.items r ⊎ IsTermIn facts.entry.now self.now term r))) }
+    {
+        let roots = facts.roots(alloc, term.range.signal)?;
+        self.put(out, term.edge, &roots)
+    }
+
+    /// The residues at which one of some terms can fire.
+    pub(crate) fn of_terms<'a>(
+        &self,
+        alloc: Global,
+        facts: &'a Facts<'a>,
+        terms: &[EventTerm],
+    ) -> Result<Vec<u64>, AllocError>
+        ensures { IfOk result (λ all. (r : ℕ) → (Contains all.items r ↔ AreTermsIn facts.entry.now self.now terms.now r)) }
+    {
+        let mut all = Vec::new(alloc);
+        for i in 0..terms.len() {
+            self.put_term(alloc, &*facts, &mut all, terms[i])?;
+        }
+        Ok(all)
+    }
+}

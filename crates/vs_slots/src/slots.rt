@@ -1,0 +1,209 @@
+//! The run slots, write slots and firing slots of a design and a certificate.
+ghost use Rattle.std.specs.Prelude.{ℕ, ◌≡◌, ◌↔◌, IfOk};
+ghost use Rattle.std.specs.List.{Contains};
+ghost use Rattle.vs_rules.specs.Slots.{HasWriteSlot};
+ghost use Rattle.vs_slots.specs.Kept.{AreBothRuns, AreWriteSlots, IsKeptRun, IsPlaceWrite, IsWriteBy, IsWriteIn};
+ghost use Rattle.vs_slots.specs.Places.{RunsOf};
+ghost use Rattle.vs_slots.specs.Terms.{TermsFire};
+
+use crate::delay_runs::delay_runs;
+use crate::edge_runs::edge_runs;
+use crate::listing::{Listing, table_of, union_of};
+use crate::residues::row_of;
+use crate::roots::Firing;
+use crate::runs::{Runs, runs_at};
+use std::alloc::{AllocError, Global};
+use std::marker::Model;
+use vs_cert_facts::Facts;
+use vs_design::EventTerm;
+use vs_slots_paths::Tables;
+
+// The run slots of a place of a process of kind edge or delay; of another one there are none.
+fn run_slots<'a>(
+    alloc: Global,
+    facts: &'a Facts<'a>,
+    delays: &[Runs],
+    edges: &[Runs],
+    i: usize,
+    place: usize,
+) -> Result<Vec<u64>, AllocError>
+    ensures { IfOk result (λ all. (r : ℕ) → (Contains all.items r ↔ IsKeptRun facts.entry.now delays.now edges.now i place r)) }
+{
+    if facts.is_edge(i) {
+        return runs_at(alloc, edges, i, place);
+    }
+    if facts.is_delay(i) {
+        return runs_at(alloc, delays, i, place);
+    }
+    Ok(Vec::new(alloc))
+}
+
+// The places of the writer of a variable.
+#[derive(Drop)]
+struct PlaceWrites<'a> {
+    facts: &'a Facts<'a>,
+    tables: &'a Tables<'a>,
+    delays: &'a [Runs],
+    edges: &'a [Runs],
+    writer: usize,
+    variable: usize,
+}
+
+impl<'a> Listing for PlaceWrites<'a> {
+    ghost has = { λ f p r. IsPlaceWrite f.facts.now f.delays.now f.edges.now f.tables.now f.variable f.writer p r };
+
+    fn list(&self, alloc: Global, i: usize) -> Result<Vec<u64>, AllocError> {
+        if i >= self.tables.places() {
+            return Ok(Vec::new(alloc));
+        }
+        if !self.tables.is_point(i) {
+            return Ok(Vec::new(alloc));
+        }
+        if !self.tables.writes_now(i, self.variable) {
+            return Ok(Vec::new(alloc));
+        }
+        run_slots(alloc, self.facts, self.delays, self.edges, self.writer, i)
+    }
+}
+
+// The variables of a design.
+#[derive(Drop)]
+struct Variables<'a> {
+    facts: &'a Facts<'a>,
+    delays: &'a [Runs],
+    edges: &'a [Runs],
+}
+
+impl<'a> Variables<'a> {
+    // The residues at which a process writes a variable.
+    fn written_by(
+        &self,
+        alloc: Global,
+        variable: usize,
+        writer: usize,
+    ) -> Result<Vec<u64>, AllocError>
+        ensures { IfOk result (λ all. (r : ℕ) → (Contains all.items r ↔
+            IsWriteBy self.now.facts.now self.now.delays.now self.now.edges.now variable writer r)) }
+    {
+        match self.facts.tables(writer) {
+            None => Ok(Vec::new(alloc)),
+            Some(tables) => {
+                let places = PlaceWrites {
+                    facts: self.facts,
+                    tables,
+                    delays: self.delays,
+                    edges: self.edges,
+                    writer,
+                    variable,
+                };
+                union_of(alloc, &places, tables.places())
+            }
+        }
+    }
+}
+
+impl<'a> Listing for Variables<'a> {
+    ghost has = { λ f u r. IsWriteIn f.facts.now f.delays.now f.edges.now u r };
+
+    fn list(&self, alloc: Global, i: usize) -> Result<Vec<u64>, AllocError> {
+        match self.facts.writer(i) {
+            None => Ok(Vec::new(alloc)),
+            Some(writer) => self.written_by(alloc, i, writer),
+        }
+    }
+}
+
+// The write slots of all variables.
+fn write_slots<'a>(
+    alloc: Global,
+    facts: &'a Facts<'a>,
+    delays: &'a [Runs],
+    edges: &'a [Runs],
+) -> Result<Vec<Vec<u64>>, AllocError>
+    requires { AreBothRuns facts.now delays.now edges.now }
+    ensures { IfOk result (λ table. AreWriteSlots facts.entry.now table.items) }
+{
+    facts.maps();
+    let variables = Variables {
+        facts,
+        delays,
+        edges,
+    };
+    let table = table_of(alloc, &variables, facts.design().signals().len())?;
+    Ok(table)
+}
+
+/// The run slots, write slots and firing slots of a design and a certificate. A contract sees the facts of which they are.
+#[derive(Drop)]
+pub struct Slots<'a> {
+    facts: &'a Facts<'a>,
+    firing: Firing,
+    delays: Vec<Runs>,
+    edges: Vec<Runs>,
+    writes: Vec<Vec<u64>>,
+}
+
+impl<'a> Model for Slots<'a> {
+    ghost use Rattle.std.specs.Coded.{codes};
+    ghost use Rattle.vs_design.specs.contracts.expression.Typed as expression;
+    ghost use Rattle.vs_design.specs.contracts.statement.Statement as statement;
+    ghost use Rattle.vs_cert_facts.specs.Facts.{Case};
+    ghost use Rattle.vs_slots.specs.Kept.{AreSlots};
+
+    ghost Value = { Case };
+
+    ghost coded = { Prim.hlevel (codes, statement.the_row.coded, expression.the_row.coded) };
+
+    ghost view = { λ x. x.facts.now };
+
+    ghost invariant = { λ x. AreSlots x.facts.now x.firing x.delays.items x.edges.items x.writes.items };
+}
+
+impl<'a> Slots<'a> {
+    /// The slots of a design and a certificate. It takes as long as the texts of the processes of kind edge and delay, for each control of one and
+    /// for each variable that it writes.
+    pub fn new(alloc: Global, facts: &'a Facts<'a>) -> Result<Slots<'a>, AllocError>
+        ensures { IfOk result (λ x. x ≡ facts.entry.now) }
+    {
+        facts.maps();
+        let delays = delay_runs(alloc, &*facts)?;
+        let firing = Firing::of(alloc, &*facts, &delays)?;
+        let edges = edge_runs(alloc, &*facts, &firing)?;
+        let writes = write_slots(alloc, &*facts, &delays, &edges)?;
+        Ok(Slots {
+            facts,
+            firing,
+            delays,
+            edges,
+            writes,
+        })
+    }
+
+    /// The facts.
+    pub fn facts(&self) -> &'a Facts<'a>
+        ensures { result.now ≡ self.now }
+    {
+        self.facts
+    }
+
+    /// The run slots of a place of a process, each once. It takes as long as the lists of the controls before the place.
+    pub fn run_slots(&self, alloc: Global, i: usize, place: usize) -> Result<Vec<u64>, AllocError>
+        ensures { IfOk result (λ all. RunsOf self.now i place all.items) }
+    {
+        run_slots(alloc, self.facts, &self.delays, &self.edges, i, place)
+    }
+
+    /// The write slots of a variable, each once.
+    pub fn write_slots(&self, u: usize) -> &[u64]
+        ensures { (r : ℕ) → (Contains result.now r ↔ HasWriteSlot self.now.design self.now.claims u r) }
+    {
+        row_of(&self.writes, u)
+    }
+
+    /// The residues at which one of some terms can fire, each once.
+    pub fn firing_slots(&self, alloc: Global, terms: &[EventTerm]) -> Result<Vec<u64>, AllocError>
+        ensures { IfOk result (λ all. (r : ℕ) → (Contains all.items r ↔ TermsFire self.now.design self.now.claims terms.now r)) }
+    {
+        self.firing.of_terms(alloc, self.facts, terms)
+    }
+}

@@ -1,0 +1,5 @@
+pub mod SettledLemmas
+pub mod AloneLemmas
+pub mod ControlLemmas
+pub mod OutputLemmas
+pub mod ColdLemmas

@@ -1,0 +1,10 @@
+pub mod ConeLemmas
+mod DriverLemmas
+pub mod Lists
+pub mod NameLemmas
+pub mod Numbers
+pub mod Past
+mod Rows
+mod Tables
+pub mod WalkLemmas
+mod WireLemmas

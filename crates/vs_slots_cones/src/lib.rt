@@ -1,0 +1,15 @@
+//! Drivers, and the cones of what they drive.
+#![tactic(auto)]
+
+mod assigned;
+mod common;
+mod cones;
+mod drivers;
+mod names;
+mod walks;
+mod wires;
+mod writers;
+
+pub use common::meets;
+pub use cones::Cones;
+pub use writers::Written;

@@ -1,0 +1,6 @@
+pub mod ConstantLemmas
+pub mod Nothing
+pub mod OtherLemmas
+pub mod WholeLemmas
+pub mod Cores
+pub mod ClockLemmas

@@ -1,0 +1,116 @@
+-- Clocks, by the forms of statements.
+use Rattle.std.specs.Prelude.{ℕ, ◌≡◌, ◌==◌, ◌<◌, ◌⊎◌, ◌↔◌, ◌&&◌, Bool, true, false, Option, Some, None, List, [], ◌∷◌, if◌then◌else◌}
+use Rattle.std.specs.List.{Contains}
+use Rattle.vs_logic4.specs.declared.digit.Digit.{Digit}
+use Rattle.vs_logic4.specs.declared.digit.Digit.TheVariants.{Zero, One}
+use Rattle.vs_design.specs.declared.design.ProcessKind.TheVariants.{Initial, Always}
+use Rattle.vs_design.specs.declared.expression.Typed.{Typed}
+use Rattle.vs_design.specs.declared.expression.Typed.TheViews.{out-Typed}
+use Rattle.vs_design.specs.declared.statement.Statement.{Statement}
+use Rattle.vs_design.specs.declared.statement.Statement.TheOpen.{Statement-F}
+use Rattle.vs_design.specs.declared.statement.Statement.TheViews.{out-Statement}
+use Rattle.vs_design.specs.declared.statement.Target.{Target}
+use Rattle.vs_design.specs.Parts.{Parts}
+use Rattle.vs_rules.specs.Claims.{Claims, IsWriter}
+use Rattle.vs_rules.specs.Constants.{bit_of, given, IsWholeTarget, IsInverse, IsBare, Sets, Turns, SetsAfter, TurnsForever, SetsAndTurns, HasBody, IsClock}
+use Rattle.vs_rules.specs.Paths.{Writes}
+use Rattle.vs_slots_constants.specs.Wholes.{whole_parts, inverse_layer}
+
+abbrev pub is_one : {A : Type 0} → List A → Bool
+is_one (x ∷ []) = true
+is_one _ = false
+
+-- whether a statement is `begin` and `end` round one statement, by its outermost layer
+abbrev pub is_single : Statement-F Statement → Bool
+is_single (Statement-F.Block all) = is_one all.items
+is_single _ = false
+
+-- what a statement is without `begin` and `end` round one statement
+pub record IsCore (s core : Statement) : Type 0 where
+  pub bare : IsBare s (out-Statement core)
+  pub end : is_single (out-Statement core) ≡ false
+
+abbrev pub is_it : Option ℕ → ℕ → Bool
+is_it None v = false
+is_it (Some u) v = u == v
+
+-- a digit, where it is known
+abbrev pub known : Option Digit → Option Digit
+known (Some Zero) = Some Zero
+known (Some One) = Some One
+known _ = None
+
+-- the 0 or 1 to which an assignment sets the whole of a signal
+abbrev pub setting : Parts → ℕ → Target → Typed → Option Digit
+setting d v target value = if is_it (whole_parts d target.parts.items) v then known (given target value (bit_of v)) else None
+
+abbrev pub setting_layer : Parts → ℕ → Statement-F Statement → Option Digit
+setting_layer d v (Statement-F.Assign n target value) = setting d v target value
+setting_layer d v _ = None
+
+-- whether an assignment is `u = ~u`
+abbrev pub turning : Parts → ℕ → Target → Typed → Bool
+turning d v target value = is_it (whole_parts d target.parts.items) v && is_it (inverse_layer d (out-Typed value)) v
+
+abbrev pub turning_layer : Parts → ℕ → Statement-F Statement → Bool
+turning_layer d v (Statement-F.Assign n target value) = turning d v target value
+turning_layer d v _ = false
+
+-- a statement, but for `begin` and `end` round it, is `u = ~u`
+pub record IsTurning (d : Parts) (v : ℕ) (s : Statement) : Type 0 where
+  pub number : ℕ
+  pub target : Target
+  pub value : Typed
+  pub is : IsBare s (Statement-F.Assign number target value)
+  pub whole : IsWholeTarget d v target
+  pub inverse : IsInverse d v value
+
+-- a layer is `#h u = ~u`, with h above 0
+abbrev pub TurnsLayer : Parts → ℕ → ℕ → Statement-F Statement → Type 0
+TurnsLayer d v half (Statement-F.Delay n ticks inner) = (ticks.count ≡ half) × (0 < half) × IsTurning d v inner.value
+TurnsLayer d v half _ = ⊥
+
+-- it is `forever #h u = ~u`
+abbrev pub ForeverLayer : Parts → ℕ → ℕ → Statement-F Statement → Type 0
+ForeverLayer d v half (Statement-F.Forever n inner) = Turns d v half inner.value
+ForeverLayer d v half _ = ⊥
+
+-- it is `[#o] u = c`
+abbrev pub BeginsLayer : Parts → ℕ → ℕ → Digit → Statement-F Statement → Type 0
+BeginsLayer d v offset digit (Statement-F.Assign n target value) = (offset ≡ 0) × (setting d v target value ≡ Some digit)
+BeginsLayer d v offset digit (Statement-F.Delay n ticks inner) = (ticks.count ≡ offset) × Sets d v digit inner.value
+BeginsLayer d v offset digit _ = ⊥
+
+-- a statement is `[#o] u = c`
+abbrev pub Begins : Parts → ℕ → ℕ → Digit → Statement → Type 0
+Begins d v offset digit s = ((offset ≡ 0) × Sets d v digit s) ⊎ SetsAfter d v offset digit s
+
+-- two statements are `[#o] u = c; forever #h u = ~u;`
+abbrev pub ArePair : Parts → ℕ → ℕ → ℕ → Digit → List Statement → Type 0
+ArePair d v offset half digit (first ∷ second ∷ []) = Begins d v offset digit first × TurnsForever d v half second
+ArePair d v offset half digit _ = ⊥
+
+abbrev pub PairLayer : Parts → ℕ → ℕ → ℕ → Digit → Statement-F Statement → Type 0
+PairLayer d v offset half digit (Statement-F.Block all) = ArePair d v offset half digit all.items
+PairLayer d v offset half digit _ = ⊥
+
+-- the one other number of a list
+abbrev pub IsOther : List ℕ → ℕ → ℕ → Type 0
+IsOther xs i j = Contains xs j × (j ≡ i → ⊥) × ((k : ℕ) → Contains xs k → (k ≡ i) ⊎ (k ≡ j))
+
+-- an `always` process with such a body turns a signal that the one other process that writes it sets at the start
+abbrev pub IsTurnedBy : Parts → ℕ → ℕ → Statement → ℕ → ℕ → Digit → Type 0
+IsTurnedBy d v i body offset half digit =
+    (offset ≡ 0) × TurnsForever d v half body
+    × ((j : ℕ) × HasBody d j Initial (Sets d v digit) × ((k : ℕ) → Writes d k v → (k ≡ i) ⊎ (k ≡ j)))
+
+-- a clock, by the number of its writer
+pub data IsClockBy (d : Parts) (v : ℕ) (writer : Option ℕ) (digit : Digit) (offset half : ℕ) : Type 0 where
+  alone : (i : ℕ) → writer ≡ Some i → HasBody d i Initial (SetsAndTurns d v offset half digit) → IsClockBy d v writer digit offset half
+  two : (i j : ℕ) → writer ≡ Some i → HasBody d i Always (TurnsForever d v half) → HasBody d j Initial (Sets d v digit) → (offset ≡ 0) →
+      ((k : ℕ) → Writes d k v → (k ≡ i) ⊎ (k ≡ j)) → IsClockBy d v writer digit offset half
+
+-- a clock is one by the number of the process that is claimed to be its writer
+abbrev pub ClocksByWriters : Type 0
+ClocksByWriters = (d : Parts) (c : Claims) (v : ℕ) (writer : Option ℕ) → ((i : ℕ) → (IsWriter d c v i ↔ writer ≡ Some i)) →
+    (digit : Digit) (offset half : ℕ) → (IsClockBy d v writer digit offset half ↔ IsClock d c v digit offset half)

@@ -1,0 +1,3 @@
+pub mod Givings
+pub mod Wholes
+pub mod Clocks

@@ -1,0 +1,12 @@
+//! Assignments of constants, whole signals, and clocks.
+#![tactic(auto)]
+
+mod clocks;
+mod constants;
+mod laws;
+mod wholes;
+
+pub use clocks::{Clock, clock_of, sets, turns};
+pub use constants::{Bit, given, given_by};
+pub use laws::gives_by_places;
+pub use wholes::{inverse, is_plain, whole, whole_target};

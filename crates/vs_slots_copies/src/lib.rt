@@ -1,0 +1,8 @@
+//! Nets that copy whole signals.
+#![tactic(auto)]
+
+mod copies;
+mod lists;
+
+pub use copies::Copies;
+pub use lists::{only, push_signals};

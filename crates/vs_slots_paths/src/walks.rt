@@ -1,0 +1,209 @@
+//! Walks once a way of some sort has been gone, and what the points of a text have.
+ghost use Rattle.std.specs.Prelude.{ℕ, ◌≡◌, ◌↔◌, ◌⊎◌, false, length, slice_index_or, IfOk, OnOk, IsTrue};
+ghost use Rattle.std.specs.List.{Contains};
+ghost use Rattle.vs_flatcode.specs.Stops.{stops_tos};
+ghost use Rattle.vs_slots_paths.specs.Reaches.{places, pause_view, IsPlace};
+ghost use Rattle.vs_slots_paths.specs.Ranges.{HasSignal, HasTermAt, now_at, pause_terms};
+ghost use Rattle.vs_slots_paths.specs.Walks.{WalkFrom, AreMarked, HasControl, InLate, InHot, IsControlBefore, is_control};
+ghost use Rattle.vs_slots_paths.specs.Indexes.{AreRows};
+ghost use Rattle.vs_design.specs.declared.statement.EventTerm.{EventTerm};
+
+use crate::along::Along;
+use crate::indexes::index_of;
+use crate::pauses::Pause;
+use crate::tables::Tables;
+use std::alloc::{AllocError, Global};
+use vs_design::EventTerm;
+use vs_reach::{Family, Rule, gather};
+
+/// Marks which of the things below a number keep a rule.
+pub fn marks_of<R: Rule>(alloc: Global, rule: &R, n: usize) -> Result<Vec<bool>, AllocError>
+    ensures len { IfOk result (λ marks. length marks.items ≡ n) }
+    ensures exact { IfOk result (λ marks. AreMarked (R.keeps rule.now) n marks.items) }
+{
+    let mut marks = Vec::new(alloc);
+    for i in 0..n {
+        let keeps = rule.test(alloc, i)?;
+        marks.push(keeps)?;
+    }
+    Ok(marks)
+}
+
+// Whether a pause is a control.
+fn is_control(pause: Pause) -> bool
+    ensures { result ≡ is_control (pause_view pause.entry) }
+{
+    match pause {
+        Pause::Nothing => false,
+        Pause::Delay(_, _) | Pause::Event(_, _) => true,
+    }
+}
+
+// The terms for one of which a pause waits.
+fn pause_terms<'a>(pause: Pause<'a>) -> &'a [EventTerm]
+    ensures { result.now ≡ pause_terms (pause_view pause.entry) }
+{
+    match pause {
+        Pause::Event(_, terms) => terms,
+        Pause::Nothing | Pause::Delay(_, _) => &[],
+    }
+}
+
+// Controls.
+#[derive(Drop)]
+struct Controls<'a> {
+    tables: &'a Tables<'a>,
+}
+
+impl<'a> Rule for Controls<'a> {
+    ghost keeps = { λ f p. HasControl f.tables.now p };
+
+    fn test(&self, _alloc: Global, i: usize) -> Result<bool, AllocError> {
+        Ok(is_control(self.tables.pause(i)))
+    }
+}
+
+// Writes of a signal by `=`.
+#[derive(Drop)]
+struct Writes<'a> {
+    tables: &'a Tables<'a>,
+    signal: usize,
+}
+
+impl<'a> Rule for Writes<'a> {
+    ghost keeps = { λ f p. HasSignal (now_at f.tables.now p) f.signal };
+
+    fn test(&self, _alloc: Global, i: usize) -> Result<bool, AllocError> {
+        Ok(self.tables.writes_now(i, self.signal))
+    }
+}
+
+// The places where the ways of points that are marked lead.
+#[derive(Drop)]
+struct Starts<'a> {
+    tables: &'a Tables<'a>,
+    marks: &'a [bool],
+    ghost long: { length marks.now ≡ places tables.now },
+}
+
+impl<'a> Family for Starts<'a> {
+    ghost has = { λ f p s.
+        (IsPlace f.tables.now p × IsTrue (slice_index_or f.marks.now p false)) × Contains (stops_tos f.tables.now.stops p) s };
+
+    fn put(&self, _alloc: Global, i: usize, out: &mut Vec<usize>) -> Result<(), AllocError> {
+        if i >= self.marks.len() {
+            return Ok(());
+        }
+        if self.marks[i] && self.tables.is_point(i) {
+            out.extend_from_slice(self.tables.tos(i))?;
+        }
+        Ok(())
+    }
+}
+
+/// The places to which walks along the ways that count lead, once a way from one of the points that keep a rule has been gone: a mark for each
+/// place. It takes as long as there are places and ways.
+pub fn walks_from<'a, R: Rule>(
+    alloc: Global,
+    tables: &'a Tables<'a>,
+    along: Along,
+    rule: &R,
+) -> Result<Vec<bool>, AllocError>
+    ensures len { IfOk result (λ marks. length marks.items ≡ places tables.entry.now) }
+    ensures exact { IfOk result (λ marks.
+        AreMarked (WalkFrom tables.entry.now along (R.keeps rule.now)) (places tables.entry.now) marks.items) }
+{
+    tables.leads_in();
+    let marks = marks_of(alloc, rule, tables.places())?;
+    let starts = Starts {
+        tables: &*tables,
+        marks: &marks,
+    };
+    let seeds = gather(alloc, &starts, tables.places())?;
+    tables.along(alloc, along, &seeds)
+}
+
+/// The places to which a path leads once a control has been passed, one of zero ticks too: a mark for each.
+pub fn late<'a>(alloc: Global, tables: &'a Tables<'a>) -> Result<Vec<bool>, AllocError>
+    ensures len { IfOk result (λ marks. length marks.items ≡ places tables.entry.now) }
+    ensures exact { IfOk result (λ marks. AreMarked (InLate tables.entry.now) (places tables.entry.now) marks.items) }
+{
+    walks_from(alloc, tables, Along::Any, &Controls { tables })
+}
+
+/// The places to which a path that takes no time leads from a write of a signal by `=`: a mark for each.
+pub fn hot<'a>(
+    alloc: Global,
+    tables: &'a Tables<'a>,
+    signal: usize,
+) -> Result<Vec<bool>, AllocError>
+    ensures len { IfOk result (λ marks. length marks.items ≡ places tables.entry.now) }
+    ensures exact { IfOk result (λ marks.
+        AreMarked (InHot tables.entry.now signal) (places tables.entry.now) marks.items) }
+{
+    walks_from(alloc, tables, Along::ZeroTime, &Writes { tables, signal })
+}
+
+// Puts the places that are marked at a list's end.
+fn push_marked(out: &mut Vec<usize>, marks: &[bool]) -> Result<(), AllocError>
+    ensures { OnOk result ((p : ℕ) → (Contains out.new.items p ↔ (Contains out.old.items p ⊎ IsTrue (slice_index_or marks.now p false)))) }
+{
+    for p in 0..marks.len() {
+        if marks[p] {
+            out.push(p)?;
+        }
+    }
+    Ok(())
+}
+
+// The places to which a walk without a further control leads from a control.
+#[derive(Drop)]
+struct Ends<'a> {
+    tables: &'a Tables<'a>,
+}
+
+impl<'a> Family for Ends<'a> {
+    ghost has = { λ f q p. IsControlBefore f.tables.now q p };
+
+    fn put(&self, alloc: Global, i: usize, out: &mut Vec<usize>) -> Result<(), AllocError> {
+        self.tables.leads_in();
+        if i >= self.tables.places() {
+            return Ok(());
+        }
+        if !self.tables.is_point(i) {
+            return Ok(());
+        }
+        if !is_control(self.tables.pause(i)) {
+            return Ok(());
+        }
+        let marks = self.tables.along(alloc, Along::Plain, self.tables.tos(i))?;
+        push_marked(out, &marks)
+    }
+}
+
+/// For each place the controls from which a walk without a further control leads to it. For each control it takes as long as there are places and
+/// ways.
+pub fn controls_before<'a>(
+    alloc: Global,
+    tables: &'a Tables<'a>,
+) -> Result<Vec<Vec<usize>>, AllocError>
+    ensures len { IfOk result (λ table. length table.items ≡ places tables.entry.now) }
+    ensures exact { IfOk result (λ table.
+        AreRows (IsControlBefore tables.entry.now) (places tables.entry.now) (places tables.entry.now) table.items) }
+{
+    index_of(alloc, &Ends { tables }, tables.places(), tables.places())
+}
+
+/// The terms of all event controls of a text (IEEE 1364-2005, clause 9.7.2).
+pub fn terms<'a>(alloc: Global, tables: &'a Tables<'a>) -> Result<Vec<EventTerm>, AllocError>
+    ensures { IfOk result (λ all. (term : EventTerm) → (Contains all.items term ↔ HasTermAt tables.entry.now term)) }
+{
+    tables.leads_in();
+    let mut all = Vec::new(alloc);
+    for p in 0..tables.places() {
+        if tables.is_point(p) {
+            all.extend_from_slice(pause_terms(tables.pause(p)))?;
+        }
+    }
+    Ok(all)
+}

@@ -1,0 +1,3 @@
+pub mod SignalLemmas
+pub mod SiteLemmas
+pub mod LateLemmas

@@ -1,0 +1,9 @@
+//! Which texts write, read and wait for a signal, and at which of their points.
+#![tactic(auto)]
+
+mod families;
+mod sites;
+mod uses;
+
+pub use sites::{Site, SiteRule};
+pub use uses::Uses;
