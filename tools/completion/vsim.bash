@@ -11,13 +11,15 @@ _vsim() {
   case $before in
     --policy) words='fifo lifo' ;;
     --out) words='lines vcd' ;;
+    --grain) words='block statement' ;;
     --top | --until | --steps | '<' | '>' | '>>') ;;
     *)
       case $COMP_CWORD:${COMP_WORDS[1]} in
-        1:*) words='run elab help --help' ;;
-        2:help) words='run elab' ;;
-        *:run) words='--top --until --steps --policy --out --help' ;;
-        *:elab) words='--top --help' ;;
+        1:*) words='run check certify elab help --help --version' ;;
+        2:help) words='run check certify elab' ;;
+        *:run) words='--top --until --steps --policy --out --cert --explain --help' ;;
+        *:certify) words='--top --grain --explain --help' ;;
+        *:check | *:elab) words='--top --explain --help' ;;
       esac
       ;;
   esac

@@ -2,11 +2,5 @@ pub mod Meaning
 pub mod Wired
 pub mod Judged
 pub mod SubjectLemmas
-pub mod ByNumber
 pub mod Verdicts
-pub mod ResidueLemmas
-pub mod Shifts
 pub mod ByPlaces
-pub mod Kept
-pub mod ListLemmas
-pub mod Here

@@ -1,6 +1,6 @@
 //! The verdict on a certificate: the least rule that is broken, and the first subject that breaks it.
 ghost use Rattle.std.specs.Prelude.{ℕ, ◌≡◌, ◌<◌, length, map, IfOk};
-ghost use Rattle.vs_cert_check.specs.Answers.{verdict_view};
+ghost use Rattle.vs_cert_check.specs.Answers.{verdict_view, HasNumber, IsTold};
 ghost use Rattle.vs_cert_check.specs.Marks.{marks_of};
 ghost use Rattle.vs_cert_check.specs.Means.{Means};
 ghost use Rattle.vs_cert_check.specs.Verdicts.{KeepsAt, AllKeptBelow};
@@ -28,7 +28,7 @@ use vs_cert_roots::{Entries, FirstWrites};
 use vs_cert_starts::in_order;
 use vs_certificate::Certificate;
 use vs_design::Design;
-use vs_flatcode::{Code, Text};
+use vs_flatcode::{Code, TextMap};
 use vs_law_rules::{rules_make_displays_alike, rules_make_independent};
 use vs_reach::{Book, Rule, first_broken, judge};
 use vs_rules::tested_are_certificates;
@@ -44,15 +44,15 @@ const BEFORE: usize = 10;
 
 // A rule before the last, by its number from 0 on, and the subjects in their order.
 #[derive(Drop)]
-struct OfRule<'a> {
-    sheet: &'a Sheet<'a>,
-    all: &'a [Subject<'a>],
+struct OfRule<'a, 'b> {
+    sheet: &'b Sheet<'a>,
+    all: &'b [Subject<'a>],
     rule: usize,
     ghost before: { rule < 10 },
     ghost are: { map subject_view all.now ≡ subjects sheet.now.facts.now.design sheet.now.facts.now.claims },
 }
 
-impl<'a> Rule for OfRule<'a> {
+impl<'a, 'b> Rule for OfRule<'a, 'b> {
     ghost keeps = { λ f i. KeepsAt f.sheet.now.facts.now.design f.sheet.now.facts.now.claims f.rule i };
 
     fn test(&self, alloc: Global, i: usize) -> Result<bool, AllocError> {
@@ -87,13 +87,13 @@ impl<'a, 'b> Rule for OfStarts<'a, 'b> {
 
 // The rules before the last, and the subjects in their order.
 #[derive(Drop)]
-struct RulesBefore<'a> {
-    sheet: &'a Sheet<'a>,
-    all: &'a [Subject<'a>],
+struct RulesBefore<'a, 'b> {
+    sheet: &'b Sheet<'a>,
+    all: &'b [Subject<'a>],
     ghost are: { map subject_view all.now ≡ subjects sheet.now.facts.now.design sheet.now.facts.now.claims },
 }
 
-impl<'a> Book for RulesBefore<'a> {
+impl<'a, 'b> Book for RulesBefore<'a, 'b> {
     ghost rules = { λ b. 10 };
 
     ghost things = { λ b. length b.all.now };
@@ -138,10 +138,10 @@ fn first_start<'a>(
 }
 
 // The least rule that is broken, and the first subject that breaks it.
-fn least<'a>(
+fn least<'a, 'b>(
     alloc: Global,
-    sheet: &'a Sheet<'a>,
-    all: &'a [Subject<'a>],
+    sheet: &'b Sheet<'a>,
+    all: &'b [Subject<'a>],
 ) -> Result<Option<(usize, usize)>, AllocError>
     requires are { map subject_view all.now ≡ subjects sheet.now.facts.now.design sheet.now.facts.now.claims }
     ensures { IfOk result (λ least. IsLeast (KeepsAt sheet.entry.now.facts.now.design sheet.entry.now.facts.now.claims) 11
@@ -166,7 +166,7 @@ fn verdict_of<'a>(
 ) -> Result<Verdict, AllocError>
     requires are { map subject_view all.now ≡ subjects facts.now.design facts.now.claims }
     requires least { IsLeast (KeepsAt facts.now.design facts.now.claims) 11 (length all.now) least }
-    ensures { IfOk result (λ v. IsVerdict facts.entry.now.design facts.entry.now.claims (verdict_view v)) }
+    ensures { IfOk result (λ v. IsTold facts.entry.now.design facts.entry.now.claims v) }
 {
     least_is_verdict();
     match least {
@@ -193,17 +193,12 @@ fn block_marks(alloc: Global, facts: &Facts) -> Result<Vec<bool>, AllocError>
 }
 
 // The verdict, by all tables.
-fn by_sheet<'x>(
-    alloc: Global,
-    facts: &'x Facts<'x>,
-    sheet: &'x Sheet<'x>,
-) -> Result<Verdict, AllocError>
-    requires same { sheet.now.facts.now ≡ facts.now }
-    ensures { IfOk result (λ v. IsVerdict facts.entry.now.design facts.entry.now.claims (verdict_view v)) }
+fn by_sheet<'a>(alloc: Global, sheet: &Sheet<'a>) -> Result<Verdict, AllocError>
+    ensures { IfOk result (λ v. IsTold sheet.entry.now.facts.now.design sheet.entry.now.facts.now.claims v) }
 {
-    let all = all_subjects(alloc, facts)?;
-    let least = least(alloc, sheet, &all)?;
-    verdict_of(alloc, facts, &all, least)
+    let all = all_subjects(alloc, sheet.facts)?;
+    let least = least(alloc, &*sheet, &all)?;
+    verdict_of(alloc, sheet.facts, &all, least)
 }
 
 // The verdict, by the tables in which the rules look things up.
@@ -225,7 +220,7 @@ fn by_tables<'x>(
     requires first_writes { first_writes.now ≡ facts.now }
     requires slots { slots.now ≡ facts.now }
     requires first_slot { first_slot.now ≡ facts.now }
-    ensures { IfOk result (λ v. IsVerdict facts.entry.now.design facts.entry.now.claims (verdict_view v)) }
+    ensures { IfOk result (λ v. IsTold facts.entry.now.design facts.entry.now.claims v) }
 {
     let sheet = Sheet {
         facts,
@@ -237,7 +232,7 @@ fn by_tables<'x>(
         slots,
         first_slot,
     };
-    by_sheet(alloc, &*facts, &sheet)
+    by_sheet(alloc, &sheet)
 }
 
 // The verdict, by what is known of the first slot.
@@ -253,7 +248,7 @@ fn by_entries<'x>(
     requires cones { cones.now ≡ wiring facts.now.design (marks_of facts.now.design facts.now.claims) }
     requires copies { copies.now ≡ facts.now.design }
     requires entries { entries.now ≡ facts.now }
-    ensures { IfOk result (λ v. IsVerdict facts.entry.now.design facts.entry.now.claims (verdict_view v)) }
+    ensures { IfOk result (λ v. IsTold facts.entry.now.design facts.entry.now.claims v) }
 {
     let first_writes = FirstWrites::of(alloc, entries)?;
     let slots = Slots::new(alloc, facts)?;
@@ -282,7 +277,7 @@ fn by_facts<'x>(
     requires certificate { claims_of certificate.now ≡ facts.now.claims }
     requires tables { tables.now ≡ facts.now.charts }
     requires marks { marks.now ≡ marks_of facts.now.design facts.now.claims }
-    ensures { IfOk result (λ v. IsVerdict facts.entry.now.design facts.entry.now.claims (verdict_view v)) }
+    ensures { IfOk result (λ v. IsTold facts.entry.now.design facts.entry.now.claims v) }
 {
     facts.maps();
     let design = facts.design();
@@ -302,7 +297,7 @@ fn by_processes<'x>(
 ) -> Result<Verdict, AllocError>
     requires maps { AreCharts design.now tables.now }
     requires certificate { IsCertificate (claims_of certificate.now) }
-    ensures { IfOk result (λ v. IsVerdict design.entry.now (claims_of certificate.entry.now) (verdict_view v)) }
+    ensures { IfOk result (λ v. IsTold design.entry.now (claims_of certificate.entry.now) v) }
 {
     let facts = Facts::new(alloc, design, certificate, tables)?;
     let marks = block_marks(alloc, &facts)?;
@@ -314,11 +309,11 @@ fn by_texts<'x>(
     alloc: Global,
     design: &'x Design,
     certificate: &'x Certificate,
-    texts: &'x [Text<'x>],
+    texts: &'x [TextMap<'x>],
 ) -> Result<Verdict, AllocError>
     requires maps { AreCharts design.now (map chart_of texts.now) }
     requires certificate { IsCertificate (claims_of certificate.now) }
-    ensures { IfOk result (λ v. IsVerdict design.entry.now (claims_of certificate.entry.now) (verdict_view v)) }
+    ensures { IfOk result (λ v. IsTold design.entry.now (claims_of certificate.entry.now) v) }
 {
     let tables = tables(alloc, design, texts)?;
     by_processes(alloc, &*design, &*certificate, &tables)
@@ -333,7 +328,7 @@ fn by_codes<'x>(
 ) -> Result<Verdict, AllocError>
     requires codes { codes.now ≡ bodies design.now.processes }
     requires certificate { IsCertificate (claims_of certificate.now) }
-    ensures { IfOk result (λ v. IsVerdict design.entry.now (claims_of certificate.entry.now) (verdict_view v)) }
+    ensures { IfOk result (λ v. IsTold design.entry.now (claims_of certificate.entry.now) v) }
 {
     let texts = texts(alloc, design, codes)?;
     by_texts(alloc, &*design, &*certificate, &texts)
@@ -348,7 +343,7 @@ fn by_lent_codes(
 ) -> Result<Verdict, AllocError>
     requires codes { codes.now ≡ bodies design.now.processes }
     requires certificate { IsCertificate (claims_of certificate.now) }
-    ensures { IfOk result (λ v. IsVerdict design.entry.now (claims_of certificate.entry.now) (verdict_view v)) }
+    ensures { IfOk result (λ v. IsTold design.entry.now (claims_of certificate.entry.now) v) }
 {
     by_codes(alloc, design, certificate, &*codes)
 }
@@ -360,7 +355,7 @@ fn by_design(
     certificate: &Certificate,
 ) -> Result<Verdict, AllocError>
     requires certificate { IsCertificate (claims_of certificate.now) }
-    ensures { IfOk result (λ v. IsVerdict design.entry.now (claims_of certificate.entry.now) (verdict_view v)) }
+    ensures { IfOk result (λ v. IsTold design.entry.now (claims_of certificate.entry.now) v) }
 {
     let codes = codes(alloc, design)?;
     by_lent_codes(alloc, design, certificate, &codes)
@@ -390,6 +385,7 @@ pub fn check(
 ) -> Result<Verdict, AllocError>
     requires sound { IsSound (value_of certificate.now) }
     ensures exact { IfOk result (λ v. IsVerdict design.entry.now (claims_of certificate.entry.now) (verdict_view v)) }
+    ensures numbered { IfOk result (λ v. HasNumber v) }
     ensures meaning { IfOk result (λ v. Means design.entry.now (claims_of certificate.entry.now) v) }
 {
     tested_are_certificates();

@@ -1,15 +1,12 @@
 //! The verdict on a certificate.
 #![tactic(auto)]
 
-mod delays;
 mod judging;
 mod laws;
-mod residues;
 mod sheet;
 mod verdict;
 
-pub use delays::keeps_delays;
 pub use judging::check;
-pub use laws::{closed_are_kept, least_is_verdict, residues_by_places, rules_by_places};
-pub use residues::keeps_residues;
+pub use laws::{least_is_verdict, rules_by_places};
 pub use verdict::Verdict;
+pub use vs_cert_delays::{closed_are_kept, keeps_delays, keeps_residues, residues_by_places};

@@ -11,9 +11,9 @@ ghost use Rattle.vs_rules.specs.Verdict as verdict;
 ghost use Rattle.vs_cert_check.specs.Marks.{marks_of};
 ghost use Rattle.vs_slots_cones.specs.Wires.{wiring};
 
-use crate::delays::keeps_delays;
 use std::alloc::{AllocError, Global};
 use vs_cert_blocks::keeps_block;
+use vs_cert_delays::keeps_delays;
 use vs_cert_edges::{keeps_edges, keeps_readings};
 use vs_cert_facts::Facts;
 use vs_cert_first_slot::FirstSlot;

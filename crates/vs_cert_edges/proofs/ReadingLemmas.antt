@@ -10,9 +10,9 @@ use Rattle.vs_design.specs.Parts.{Parts}
 use Rattle.vs_flatcode.specs.Places.{perform, turns, Todo}
 use Rattle.vs_flatcode.specs.Numbers.{number_next}
 use Rattle.vs_flatcode.specs.Stops.{Stop, IsText}
-use Rattle.vs_law_threads.specs.Threads.{todo_reads}
+use Rattle.vs_law_threads.specs.Threads.{todo_reads, own_shows, todo_shows}
 use Rattle.vs_rules.specs.Claims.{Claims, IsRootOf, IsSequential, edges, delays}
-use Rattle.vs_rules.specs.Paths.{IsHot, todo_shows, statement_shows}
+use Rattle.vs_rules.specs.Paths.{IsHot}
 use Rattle.vs_rules.specs.Rules.{K9, Reads, IsOwnRead, IsOwnEdge, AreApart}
 use Rattle.vs_slots_paths.specs.Reaches.{Chart, IsPlace}
 use Rattle.vs_slots_paths.proofs.EachPoint.{reads_here, shows_here, reads_numbered}
@@ -30,7 +30,7 @@ use Rattle.vs_cert_edges.proofs.EdgeLemmas.{edges_are_by_places, has_chart}
 
 shows_numbered : (k : Todo) (r : BitRange) → Contains (todo_shows k) r → (n : ℕ) × (number_next k ≡ Some n)
 shows_numbered [] r h = absurd (omega (arith, h.1))
-shows_numbered (perform s ∷ rest) r h = numbered_layer statement_shows (λ all. refl) (out-Statement s) r h
+shows_numbered (perform s ∷ rest) r h = numbered_layer own_shows (λ all. refl) (out-Statement s) r h
 shows_numbered (turns n s ∷ rest) r h = absurd (omega (arith, h.1))
 
 numbered : (d : Parts) (c : Claims) (k : Todo) (r : BitRange) → Reads d c k r → (n : ℕ) × (number_next k ≡ Some n)

@@ -8,7 +8,7 @@ use Rattle.vs_design.specs.declared.design.Process.{Process}
 use Rattle.vs_design.specs.declared.statement.Statement.{Statement}
 use Rattle.vs_design.specs.Parts.{Parts}
 use Rattle.vs_design.specs.WellFormed.{WellFormed, is_sound_process, is_sound_statement, counts_from, numbers, is_body_of}
-use Rattle.vs_flatcode.specs.declared.stops.Text as h
+use Rattle.vs_flatcode.specs.declared.stops.TextMap as h
 use Rattle.vs_flatcode.specs.Stops.{IsText}
 use Rattle.vs_slots_paths.specs.Reaches.{Chart, chart_of}
 use Rattle.vs_cert_facts.specs.Facts.{AreCharts, bodies}
@@ -55,10 +55,10 @@ at_snoc [] x y (suc k) h = absurd (cc)
 at_snoc (z ∷ xs) x y zero h = inl h
 at_snoc (z ∷ xs) x y (suc k) h = elim (at_snoc xs x y k h) [ inl a ↦ inl a | inr a ↦ inr (ap suc a.0, a.1) ]
 
-pub none_first : (bs : List Statement) (ts : List h.Text) → ts ≡ [] → AreFirst bs (map chart_of ts) 0
-none_first bs ts e = subst (λ (ts : List h.Text). AreFirst bs (map chart_of ts) 0) (sym e) (record { as_many = refl; each = λ k b t one other. absurd (cc) })
+pub none_first : (bs : List Statement) (ts : List h.TextMap) → ts ≡ [] → AreFirst bs (map chart_of ts) 0
+none_first bs ts e = subst (λ (ts : List h.TextMap). AreFirst bs (map chart_of ts) 0) (sym e) (record { as_many = refl; each = λ k b t one other. absurd (cc) })
 
-pub more_first : (bs : List Statement) (ts new : List h.Text) (n : ℕ) (b : Statement) (x : h.Text) → AreFirst bs (map chart_of ts) n → n < length bs →
+pub more_first : (bs : List Statement) (ts new : List h.TextMap) (n : ℕ) (b : Statement) (x : h.TextMap) → AreFirst bs (map chart_of ts) n → n < length bs →
     b ≡ get_or bs n b → IsText b (chart_of x).stops (chart_of x).start → new ≡ ts ++ x ∷ [] → AreFirst bs (map chart_of new) (n + 1)
 more_first bs ts new n b x h l is text pushed =
     subst (λ (ts : List Chart). AreFirst bs ts (n + 1)) (sym (ap (map chart_of) pushed ∙ map-append chart_of ts (x ∷ []))) (record {
@@ -74,7 +74,7 @@ more_first bs ts new n b x h l is text pushed =
             subst (λ (t : Chart). IsText c t.stops t.start) a.1 (subst (λ (b : Statement). IsText b (chart_of x).stops (chart_of x).start) same text)
       ]
 
-pub all_first : (d : Parts) (bs : List Statement) (ts : List h.Text) (n : ℕ) → bs ≡ bodies d.processes → AreFirst bs (map chart_of ts) n → length bs ≤ n →
+pub all_first : (d : Parts) (bs : List Statement) (ts : List h.TextMap) (n : ℕ) → bs ≡ bodies d.processes → AreFirst bs (map chart_of ts) n → length bs ≤ n →
     n ≤ length bs → AreCharts d (map chart_of ts)
 all_first d bs ts n are h past within = record {
   as_many = h.as_many ∙ many ∙ ap length are ∙ length-map d.processes (λ (p : Process). p.body);
@@ -85,7 +85,7 @@ all_first d bs ts n are h past within = record {
   many = omega (arith, past, within)
 
 -- the map of a text leads to places of it
-pub chart_at : (d : Parts) (ts : List h.Text) → AreCharts d (map chart_of ts) → (i : ℕ) (t : h.Text) → i < length ts → t ≡ get_or ts i t →
+pub chart_at : (d : Parts) (ts : List h.TextMap) → AreCharts d (map chart_of ts) → (i : ℕ) (t : h.TextMap) → i < length ts → t ≡ get_or ts i t →
     (q : Process) × IsText q.body (chart_of t).stops (chart_of t).start
 chart_at d ts h i t l is =
     let many = sym (length-map ts chart_of) ∙ h.as_many in

@@ -1,5 +1,5 @@
 -- Names in lists, by their places.
-use Rattle.std.specs.Prelude.{ℕ, suc, Bool, Option, Some, None, List, [], ◌∷◌, map, option_map, if◌then◌else◌}
+use Rattle.std.specs.Prelude.{ℕ, suc, Option, Some, None, List, [], ◌∷◌, map, option_map, if◌then◌else◌}
 use Rattle.std.specs.Str.{bytes_eq}
 use Rattle.std.specs.Borrow.{Bor}
 use Rattle.vs_rules.specs.Claims.{Name}
@@ -12,7 +12,3 @@ place_in (n ∷ ns) name = if bytes_eq n name then Some 0 else option_map suc (p
 -- names as they are kept
 abbrev pub texts : List (Bor Name) → List Name
 texts names = map (λ (n : Bor Name). n.now) names
-
--- what a name counts, where it is the one that is counted
-abbrev pub one_if : Bool → ℕ
-one_if b = if b then 1 else 0

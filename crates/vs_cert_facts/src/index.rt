@@ -1,42 +1,69 @@
 //! Names in order, where each stands first, and how often.
-ghost use Rattle.std.specs.Prelude.{◌≡◌, ◌+◌, ◌<◌, ◌^◌, IfOk, length, slice_get};
+ghost use Rattle.std.specs.Prelude.{◌≡◌, IfOk, length, slice_get};
+ghost use Rattle.std.specs.List.Sorted.{IsSorted};
 ghost use Rattle.std.specs.Option.{option_copied};
-ghost use Rattle.std.specs.Str.{bytes_eq};
 ghost use Rattle.vs_rules.specs.Claims.{times_in};
-ghost use Rattle.vs_cert_facts.specs.Places.{one_if, place_in, texts};
+ghost use Rattle.vs_cert_facts.specs.Places.{place_in, texts};
+ghost use Rattle.vs_cert_facts.specs.passes.Placed.{placed_from, placed_cmp, AreBelow, AreUpTo};
 
 use std::alloc::{AllocError, Global};
 use std::marker::Model;
 
-/// Names in order. A contract sees them as a list. A look-up takes as long as there are names.
+/// Names in order. A contract sees them as a list. A look-up takes as long as the logarithm of how many there are.
 #[derive(Drop)]
 pub struct Index<'a> {
     names: Vec<&'a [u8]>,
+    // The same names in ascending order, each with its place.
+    sorted: Vec<(&'a [u8], usize)>,
 }
 
 impl<'a> Model for Index<'a> {
     ghost use Rattle.std.specs.Prelude.{List, ℕ};
     ghost use Rattle.vs_cert_facts.specs.Places.{texts};
+    ghost use Rattle.vs_cert_facts.specs.passes.Placed.{AreInOrder};
 
     ghost Value = { List (List ℕ) };
 
     ghost view = { λ x. texts x.names.items };
+
+    ghost invariant = { λ x. AreInOrder x.names.items x.sorted.items };
 }
 
-// How often a name is there, with one name more.
-fn counted(times: usize, n: &[u8], name: &[u8]) -> usize
-    requires { times + 1 < 2 ^ 64 }
-    ensures { result ≡ times + one_if (bytes_eq n.now name.now) }
+// The names of a list, each with its place.
+fn with_places<'a>(alloc: Global, names: &[&'a [u8]]) -> Result<Vec<(&'a [u8], usize)>, AllocError>
+    ensures { IfOk result (λ r. r.items ≡ placed_from 0 names.now) }
 {
-    if n == name { times + 1 } else { times }
+    let mut found = Vec::new(alloc);
+    for i in 0..names.len() {
+        found.push((names[i], i))?;
+    }
+    Ok(found)
+}
+
+// How many have a name below this one.
+fn below(sorted: &[(&[u8], usize)], name: &[u8]) -> usize
+    requires { IsSorted placed_cmp sorted.now }
+    ensures { AreBelow sorted.now name.now result }
+{
+    sorted.partition_point(|m| m.0 < name)
+}
+
+// How many have this name, or one below it.
+fn up_to(sorted: &[(&[u8], usize)], name: &[u8]) -> usize
+    requires { IsSorted placed_cmp sorted.now }
+    ensures { AreUpTo sorted.now name.now result }
+{
+    sorted.partition_point(|m| m.0 <= name)
 }
 
 impl<'a> Index<'a> {
     /// The names of a list.
-    pub fn of(_alloc: Global, names: Vec<&'a [u8]>) -> Result<Index<'a>, AllocError>
+    pub fn of(alloc: Global, names: Vec<&'a [u8]>) -> Result<Index<'a>, AllocError>
         ensures { IfOk result (λ x. x ≡ texts names.entry.items) }
     {
-        Ok(Index { names })
+        let mut sorted = with_places(alloc, &names)?;
+        sorted.sort_unstable();
+        Ok(Index { names, sorted })
     }
 
     /// How many they are.
@@ -60,22 +87,18 @@ impl<'a> Index<'a> {
     pub fn find(&self, name: &[u8]) -> Option<usize>
         ensures { result ≡ place_in self.now name.now }
     {
-        for i in 0..self.names.len() {
-            if self.names[i] == name {
-                return Some(i);
-            }
+        let first = below(&self.sorted, name);
+        if first >= self.sorted.len() {
+            return None;
         }
-        None
+        let (found, place) = self.sorted[first];
+        if found == name { Some(place) } else { None }
     }
 
     /// How often a name is there.
     pub fn times(&self, name: &[u8]) -> usize
         ensures { result ≡ times_in name.now self.now }
     {
-        let mut times = 0;
-        for i in 0..self.names.len() {
-            times = counted(times, self.names[i], name);
-        }
-        times
+        up_to(&self.sorted, name) - below(&self.sorted, name)
     }
 }

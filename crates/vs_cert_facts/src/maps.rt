@@ -5,7 +5,7 @@ ghost use Rattle.vs_cert_facts.specs.Facts.{AreCharts, bodies};
 
 use std::alloc::{AllocError, Global};
 use vs_design::Design;
-use vs_flatcode::{Code, Text, compile};
+use vs_flatcode::{Code, TextMap, compile};
 use vs_slots_paths::Tables;
 
 /// The flat codes of the processes of a design, in design order.
@@ -24,14 +24,14 @@ pub fn texts<'a>(
     alloc: Global,
     design: &Design,
     codes: &'a [Code<'a>],
-) -> Result<Vec<Text<'a>>, AllocError>
+) -> Result<Vec<TextMap<'a>>, AllocError>
     requires { codes.now ≡ bodies design.now.processes }
     ensures { IfOk result (λ texts. AreCharts design.now (map chart_of texts.items)) }
 {
     design.is_well_formed();
     let mut texts = Vec::new(alloc);
     for code in codes {
-        texts.push(Text::of(alloc, code)?)?;
+        texts.push(TextMap::of(alloc, code)?)?;
     }
     Ok(texts)
 }
@@ -40,7 +40,7 @@ pub fn texts<'a>(
 pub fn tables<'a>(
     alloc: Global,
     design: &Design,
-    texts: &'a [Text<'a>],
+    texts: &'a [TextMap<'a>],
 ) -> Result<Vec<Tables<'a>>, AllocError>
     requires { AreCharts design.now (map chart_of texts.now) }
     ensures are { IfOk result (λ tables. tables.items ≡ map chart_of texts.entry.now) }

@@ -8,7 +8,8 @@ use Rattle.vs_design.specs.Parts.{Parts}
 use Rattle.vs_flatcode.specs.Places.{Todo}
 use Rattle.vs_rules.specs.Claims.{Claims, IsBlock}
 use Rattle.vs_rules.specs.Drivers.{block, DriverNeeds, InCone}
-use Rattle.vs_rules.specs.Paths.{IsPoint, todo_shows}
+use Rattle.vs_law_threads.specs.Threads.{todo_shows}
+use Rattle.vs_rules.specs.Paths.{IsPoint}
 use Rattle.vs_rules.specs.Rules.{BlockNeeds}
 use Rattle.vs_rules.specs.Rules as rules
 use Rattle.vs_slots_paths.specs.Ranges.{shows_at}

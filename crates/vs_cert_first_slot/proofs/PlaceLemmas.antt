@@ -9,9 +9,9 @@ use Rattle.vs_design.specs.declared.signal.Signal.{Signal}
 use Rattle.vs_design.specs.Kinds.{is_variable}
 use Rattle.vs_design.specs.Parts.{Parts}
 use Rattle.vs_flatcode.specs.Stops.{Stop, stop_at, stop_statement}
-use Rattle.vs_law_threads.specs.Threads.{own_reads}
+use Rattle.vs_law_threads.specs.Threads.{own_reads, own_shows}
 use Rattle.vs_rules.specs.Claims.{Claims}
-use Rattle.vs_rules.specs.Paths.{Writes, statement_now, statement_shows}
+use Rattle.vs_rules.specs.Paths.{Writes, statement_now}
 use Rattle.vs_slots_paths.specs.Ranges.{ranges_of, now_at, reads_at, shows_at}
 use Rattle.vs_slots_paths.specs.Reaches.{Chart, places}
 use Rattle.vs_cert_first_slot.specs.FirstSlot.{IsOwn, AreOwn, Hangs, NoneHangs, ReadsOwn}
@@ -126,7 +126,7 @@ none_own d i rs is r c = absurd (let h = subst (λ (l : List BitRange). Contains
 pub reads_past : (d : Parts) (c : Claims) (i : ℕ) (t : Chart) (p : ℕ) → places t ≤ p → ReadsOwn d c i t p
 reads_past d c i t p past = record {
   reads = none_own d i (reads_at t p) (ap (ranges_of own_reads) (nothing t p past));
-  shows = λ displays. none_own d i (shows_at t p) (ap (ranges_of statement_shows) (nothing t p past));
+  shows = λ displays. none_own d i (shows_at t p) (ap (ranges_of own_shows) (nothing t p past));
 }
 
 pub writes_past : (d : Parts) (c : Claims) (t : Chart) (p : ℕ) → places t ≤ p → NoneHangs d c (now_at t p)

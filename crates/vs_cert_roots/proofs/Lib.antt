@@ -1,4 +1,3 @@
-pub mod Past
 pub mod EntryLemmas
 pub mod TermLemmas
 pub mod HotLemmas

@@ -18,7 +18,7 @@ use Rattle.vs_slots_paths.proofs.EachWalk.{terms_exact}
 use Rattle.vs_cert_facts.specs.Facts.{AreCharts}
 use Rattle.vs_cert_roots.specs.Entries.{AreTerms, is_edge_of}
 use Rattle.vs_cert_roots.proofs.ListLemmas.{any_in}
-use Rattle.vs_cert_roots.proofs.Past.{past_points, end_next}
+use Rattle.vs_rules.proofs.Past.{past_points, end_next}
 
 -- the process of a chart
 pub record HasChart (d : Parts) (i : ℕ) (t : Chart) : Type 0 where

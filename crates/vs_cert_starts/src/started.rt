@@ -10,7 +10,7 @@ ghost use Rattle.vs_cert_starts.specs.Started.{StartsFor};
 use crate::begins::starts_surely;
 use std::alloc::{AllocError, Global};
 use vs_design::{BitRange, Design};
-use vs_flatcode::{Code, Text, compile};
+use vs_flatcode::{Code, TextMap, compile};
 use vs_slots_paths::Tables;
 
 fn on_tables(
@@ -30,7 +30,7 @@ fn on_tables(
 fn on_text(
     alloc: Global,
     design: &Design,
-    text: &Text,
+    text: &TextMap,
     named: &[BitRange],
     g: usize,
 ) -> Result<bool, AllocError>
@@ -53,7 +53,7 @@ fn on_code(
     ensures { IfOk result (λ b. (i w : ℕ) (q : declared.Process) → AreNamed design.now i g named.now →
         slice_get design.now.processes w ≡ Some q → q.body ≡ code.now → (IsTrue b ↔ StartsFor design.now i g w)) }
 {
-    let text = Text::of(alloc, code)?;
+    let text = TextMap::of(alloc, code)?;
     on_text(alloc, design, &text, named, g)
 }
 

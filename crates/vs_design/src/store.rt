@@ -43,7 +43,7 @@ impl<'a> Store<'a> {
     {
         let signals = design.signals();
         let mut first = undriven_words(alloc, signals)?;
-        drive_all(&mut first, design.assigns());
+        fill_all(&mut first, design.assigns());
         Store::copies(alloc, design.extents(), &first)
     }
 
@@ -223,7 +223,7 @@ fn driven_word(word: Vec4, aim: &Aim) -> Vec4
 }
 
 /// Puts x into the bits that a place of a target has; a signal past the end is none of the table.
-fn drive(words: &mut Vec<Vec4>, aim: &Aim)
+fn fill_x(words: &mut Vec<Vec4>, aim: &Aim)
     ensures { words.new.items ≡ driven_at aim.now words.old.items }
 {
     let signal = aim_range(aim).signal;
@@ -233,19 +233,19 @@ fn drive(words: &mut Vec<Vec4>, aim: &Aim)
     }
 }
 
-fn drive_each(words: &mut Vec<Vec4>, aims: &[Aim])
+fn fill_each(words: &mut Vec<Vec4>, aims: &[Aim])
     ensures { words.new.items ≡ driven_by aims.now words.old.items }
 {
     for aim in aims {
-        drive(words, aim);
+        fill_x(words, aim);
     }
 }
 
 /// Puts x into the bits that continuous assignments drive (IEEE 1364-2005, clause 6.1).
-fn drive_all(words: &mut Vec<Vec4>, assigns: &[Assign])
+fn fill_all(words: &mut Vec<Vec4>, assigns: &[Assign])
     ensures { words.new.items ≡ all_driven assigns.now words.old.items }
 {
     for assign in assigns {
-        drive_each(words, &assign.target.parts);
+        fill_each(words, &assign.target.parts);
     }
 }

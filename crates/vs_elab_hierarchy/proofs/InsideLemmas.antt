@@ -74,59 +74,59 @@ inner_more xs i x h e = ap (map read_inner) (take_push xs i x h e) ∙ map-appen
 inner_split : (xs : List FoundInner) (i : ℕ) (x : FoundInner) → i < length xs → x ≡ get_or xs i x → (map read_inner (take i xs) ++ read_inner x ∷ []) ++ map read_inner (drop (i + 1) xs) ≡ map read_inner xs
 inner_split xs i x h e = ap (λ z. z ++ map read_inner (drop (i + 1) xs)) (sym (inner_more xs i x h e)) ∙ sym (map-append read_inner (take (i + 1) xs) (drop (i + 1) xs)) ∙ ap (map read_inner) (front_back xs (i + 1))
 
-module _ (room : ℕ) (some : 0 < room) (ms : List Module) (ss : List Scope) (s : Scope) (place : ℕ) (modules : List (List ℕ × NamedModule)) (list0 : List FoundScope) (p0 : Numbering) (ready : IsReady ms ss s modules list0 p0 place room) where
-  one_level : suc (room - 1) ≡ room
+module _ (depth_left : ℕ) (some : 0 < depth_left) (ms : List Module) (ss : List Scope) (s : Scope) (place : ℕ) (modules : List (List ℕ × NamedModule)) (list0 : List FoundScope) (p0 : Numbering) (ready : IsReady ms ss s modules list0 p0 place depth_left) where
+  one_level : suc (depth_left - 1) ≡ depth_left
   one_level = omega (arith, some)
 
-  pub holding_start : HoldsInner (room - 1) ms ss s place [] list0 list0 p0 p0
-  holding_start = holding_none (room - 1) ms ss s place list0 p0 ready.planned
+  pub holding_start : HoldsInner (depth_left - 1) ms ss s place [] list0 list0 p0 p0
+  holding_start = holding_none (depth_left - 1) ms ss s place list0 p0 ready.planned
 
   module _ (items : List FoundInner) (inner : HasInner s (map read_inner items)) where
     -- all of them
-    pub holding_end : (i : ℕ) (list : List FoundScope) (p1 p2 : Numbering) → length items ≤ i → HoldsInner (room - 1) ms ss s place (map read_inner (take i items)) list0 list p0 p1 →
-        p2.instances ≡ p1.instances → p2.turns ≡ p1.turns → p2.signals ≡ p1.signals → p2.outline.items ≡ p1.outline.items ++ Leave ∷ [] → OpensInside room ms ss s place list0 list p0 p2
+    pub holding_end : (i : ℕ) (list : List FoundScope) (p1 p2 : Numbering) → length items ≤ i → HoldsInner (depth_left - 1) ms ss s place (map read_inner (take i items)) list0 list p0 p1 →
+        p2.instances ≡ p1.instances → p2.turns ≡ p1.turns → p2.signals ≡ p1.signals → p2.outline.items ≡ p1.outline.items ++ Leave ∷ [] → OpensInside depth_left ms ss s place list0 list p0 p2
     holding_end i list p1 p2 l h a b c d =
-        let all : HoldsInner (room - 1) ms ss s place (map read_inner items) list0 list p0 p1 = subst (λ z. HoldsInner (room - 1) ms ss s place (map read_inner z) list0 list p0 p1) (take_all i items l) h in
-        subst (λ r. OpensInside r ms ss s place list0 list p0 p2) one_level (holding_all (room - 1) ms ss s place (map read_inner items) list0 list p0 p1 p2 inner all a b c d)
+        let all : HoldsInner (depth_left - 1) ms ss s place (map read_inner items) list0 list p0 p1 = subst (λ z. HoldsInner (depth_left - 1) ms ss s place (map read_inner z) list0 list p0 p1) (take_all i items l) h in
+        subst (λ r. OpensInside r ms ss s place list0 list p0 p2) one_level (holding_all (depth_left - 1) ms ss s place (map read_inner items) list0 list p0 p1 p2 inner all a b c d)
 
-    module _ (i : ℕ) (x : FoundInner) (l : i < length items) (e : x ≡ get_or items i x) (list1 : List FoundScope) (p1 : Numbering) (holds : HoldsInner (room - 1) ms ss s place (map read_inner (take i items)) list0 list1 p0 p1) where
+    module _ (i : ℕ) (x : FoundInner) (l : i < length items) (e : x ≡ get_or items i x) (list1 : List FoundScope) (p1 : Numbering) (holds : HoldsInner (depth_left - 1) ms ss s place (map read_inner (take i items)) list0 list1 p0 p1) where
       -- the scopes that are listed
       abbrev pub so_far : List Scope
-      so_far = ss ++ below ms (scopes_within (room - 1) ms) s (within_first s) (map read_inner (take i items))
+      so_far = ss ++ below ms (scopes_within (depth_left - 1) ms) s (within_first s) (map read_inner (take i items))
 
-      pub holding_here : IsHolding ms (ss ++ below ms (scopes_within (room - 1) ms) s (within_first s) (map read_inner (take i items))) s modules list1 p1 place
+      pub holding_here : IsHolding ms (ss ++ below ms (scopes_within (depth_left - 1) ms) s (within_first s) (map read_inner (take i items))) s modules list1 p1 place
       holding_here = record {
         lists = ready.lists;
         planned = holds.planned;
-        stands = slice_front ss (below ms (scopes_within (room - 1) ms) s (within_first s) (map read_inner (take i items))) place s ready.stands;
+        stands = slice_front ss (below ms (scopes_within (depth_left - 1) ms) s (within_first s) (map read_inner (take i items))) place s ready.stands;
       }
 
       whole : (map read_inner (take i items) ++ read_inner x ∷ []) ++ map read_inner (drop (i + 1) items) ≡ inner_of s
       whole = inner_split items i x l e ∙ inner.found.same
 
-      here : before_next list1 p1 ≡ behind (within_first s) (below ms (scopes_within (room - 1) ms) s (within_first s) (map read_inner (take i items)))
-      here = planned_behind list0 list1 p0 p1 ss (below ms (scopes_within (room - 1) ms) s (within_first s) (map read_inner (take i items))) (within_first s) ready.planned ready.next holds.planned
+      here : before_next list1 p1 ≡ behind (within_first s) (below ms (scopes_within (depth_left - 1) ms) s (within_first s) (map read_inner (take i items)))
+      here = planned_behind list0 list1 p0 p1 ss (below ms (scopes_within (depth_left - 1) ms) s (within_first s) (map read_inner (take i items))) (within_first s) ready.planned ready.next holds.planned
 
       -- one that isn't added
-      pub add_told : (f : ElabFault) → Told (AddsInnerNot ms s (before_next list1 p1) (read_inner x)) f → Told (OpensInsideNot room ms s) f
+      pub add_told : (f : ElabFault) → Told (AddsInnerNot ms s (before_next list1 p1) (read_inner x)) f → Told (OpensInsideNot depth_left ms s) f
       add_told f h =
           subst (λ r. Told (HoldsOpeningIn ms (scopes_within r ms s)) f) one_level
-          (adds_told (room - 1) ms s (map read_inner (take i items)) (read_inner x) (map read_inner (drop (i + 1) items)) whole (before_next list1 p1) here f h)
+          (adds_told (depth_left - 1) ms s (map read_inner (take i items)) (read_inner x) (map read_inner (drop (i + 1) items)) whole (before_next list1 p1) here f h)
 
-      module _ (list2 : List FoundScope) (p2 : Numbering) (next : ℕ) (adds : AddsInnerAt ms (ss ++ below ms (scopes_within (room - 1) ms) s (within_first s) (map read_inner (take i items))) s place (before_next list1 p1) (read_inner x) list1 list2 p1 p2 next) where
+      module _ (list2 : List FoundScope) (p2 : Numbering) (next : ℕ) (adds : AddsInnerAt ms (ss ++ below ms (scopes_within (depth_left - 1) ms) s (within_first s) (map read_inner (take i items))) s place (before_next list1 p1) (read_inner x) list1 list2 p1 p2 next) where
         longer : length adds.1.inner.path ≡ suc (length s.path)
         longer = (opened_before ms s (before_next list1 p1) (read_inner x) adds.1.inner adds.1.opens).1
 
-        pub next_stands : slice_get ((ss ++ below ms (scopes_within (room - 1) ms) s (within_first s) (map read_inner (take i items))) ++ adds.1.inner ∷ []) next ≡ Some adds.1.inner
-        next_stands = ap (slice_get ((ss ++ below ms (scopes_within (room - 1) ms) s (within_first s) (map read_inner (take i items))) ++ adds.1.inner ∷ [])) adds.0 ∙ slice_end so_far adds.1.inner
+        pub next_stands : slice_get ((ss ++ below ms (scopes_within (depth_left - 1) ms) s (within_first s) (map read_inner (take i items))) ++ adds.1.inner ∷ []) next ≡ Some adds.1.inner
+        next_stands = ap (slice_get ((ss ++ below ms (scopes_within (depth_left - 1) ms) s (within_first s) (map read_inner (take i items))) ++ adds.1.inner ∷ [])) adds.0 ∙ slice_end so_far adds.1.inner
 
-        pub room_inside : 0 < room - 1
+        pub room_inside : 0 < depth_left - 1
         room_inside =
             let own : IsSoundOwn adds.1.inner = all_at IsSoundOwn (so_far ++ adds.1.inner ∷ []) next adds.1.inner adds.1.adds.planned.sound next_stands in
             let small = is_deep adds.1.inner own.few in
             omega (arith, small, longer, ready.levels)
 
-        pub ready_inside : IsReady ms ((ss ++ below ms (scopes_within (room - 1) ms) s (within_first s) (map read_inner (take i items))) ++ adds.1.inner ∷ []) adds.1.inner modules list2 p2 next (room - 1)
+        pub ready_inside : IsReady ms ((ss ++ below ms (scopes_within (depth_left - 1) ms) s (within_first s) (map read_inner (take i items))) ++ adds.1.inner ∷ []) adds.1.inner modules list2 p2 next (depth_left - 1)
         ready_inside = record {
           lists = ready.lists;
           planned = adds.1.adds.planned;
@@ -137,15 +137,15 @@ module _ (room : ℕ) (some : 0 < room) (ms : List Module) (ss : List Scope) (s 
         }
 
         -- a fault inside it
-        pub inside_told : (f : ElabFault) → Told (OpensInsideNot (room - 1) ms adds.1.inner) f → Told (OpensInsideNot room ms s) f
+        pub inside_told : (f : ElabFault) → Told (OpensInsideNot (depth_left - 1) ms adds.1.inner) f → Told (OpensInsideNot depth_left ms s) f
         inside_told f h =
             subst (λ r. Told (HoldsOpeningIn ms (scopes_within r ms s)) f) one_level
-            (inner_told (room - 1) ms s (map read_inner (take i items)) (read_inner x) (map read_inner (drop (i + 1) items)) whole (before_next list1 p1) here adds.1.inner f adds.1.opens h)
+            (inner_told (depth_left - 1) ms s (map read_inner (take i items)) (read_inner x) (map read_inner (drop (i + 1) items)) whole (before_next list1 p1) here adds.1.inner f adds.1.opens h)
 
         -- one more
-        pub holding_next : (list3 : List FoundScope) (p3 : Numbering) → OpensInside (room - 1) ms ((ss ++ below ms (scopes_within (room - 1) ms) s (within_first s) (map read_inner (take i items))) ++ adds.1.inner ∷ []) adds.1.inner next list2 list3 p2 p3 →
-            HoldsInner (room - 1) ms ss s place (map read_inner (take (i + 1) items)) list0 list3 p0 p3
+        pub holding_next : (list3 : List FoundScope) (p3 : Numbering) → OpensInside (depth_left - 1) ms ((ss ++ below ms (scopes_within (depth_left - 1) ms) s (within_first s) (map read_inner (take i items))) ++ adds.1.inner ∷ []) adds.1.inner next list2 list3 p2 p3 →
+            HoldsInner (depth_left - 1) ms ss s place (map read_inner (take (i + 1) items)) list0 list3 p0 p3
         holding_next list3 p3 o =
-            let at : OpensInside (room - 1) ms (so_far ++ adds.1.inner ∷ []) adds.1.inner (length so_far) list2 list3 p2 p3 = subst (λ z. OpensInside (room - 1) ms (so_far ++ adds.1.inner ∷ []) adds.1.inner z list2 list3 p2 p3) adds.0 o in
-            subst (λ z. HoldsInner (room - 1) ms ss s place z list0 list3 p0 p3) (sym (inner_more items i x l e))
-            (holding_more (room - 1) ms ss s place (map read_inner (take i items)) (read_inner x) list0 list1 list2 p0 p1 p2 ready.last ready.planned ready.next holds adds.1 list3 p3 at)
+            let at : OpensInside (depth_left - 1) ms (so_far ++ adds.1.inner ∷ []) adds.1.inner (length so_far) list2 list3 p2 p3 = subst (λ z. OpensInside (depth_left - 1) ms (so_far ++ adds.1.inner ∷ []) adds.1.inner z list2 list3 p2 p3) adds.0 o in
+            subst (λ z. HoldsInner (depth_left - 1) ms ss s place z list0 list3 p0 p3) (sym (inner_more items i x l e))
+            (holding_more (depth_left - 1) ms ss s place (map read_inner (take i items)) (read_inner x) list0 list1 list2 p0 p1 p2 ready.last ready.planned ready.next holds adds.1 list3 p3 at)

@@ -62,16 +62,16 @@ module _ (ms : List Module) (top : List ℕ) (m : Module) (found : module_named 
   top_own e h = opening_told ms top m found nets permits fine e (own_told deepest ms (top_scope nets m) e h)
 
   -- so many levels may be inside the top
-  pub ready_with : (room : ℕ) (names : List (List ℕ × NamedModule)) (list0 list : List FoundScope) (p0 p1 : Numbering) (o : FoundScope) → room ≡ deepest → Lists ms names → AddsScope [] (top_scope nets m) o list0 list p0 p1 → IsReady ms (top_scope nets m ∷ []) (top_scope nets m) names list p1 0 room
-  ready_with room names list0 list p0 p1 o e l h = subst (IsReady ms (top_scope nets m ∷ []) (top_scope nets m) names list p1 0) (sym e) (top_ready ms top m found nets permits fine names list0 list p0 p1 o l h)
+  pub ready_with : (depth_left : ℕ) (names : List (List ℕ × NamedModule)) (list0 list : List FoundScope) (p0 p1 : Numbering) (o : FoundScope) → depth_left ≡ deepest → Lists ms names → AddsScope [] (top_scope nets m) o list0 list p0 p1 → IsReady ms (top_scope nets m ∷ []) (top_scope nets m) names list p1 0 depth_left
+  ready_with depth_left names list0 list p0 p1 o e l h = subst (IsReady ms (top_scope nets m ∷ []) (top_scope nets m) names list p1 0) (sym e) (top_ready ms top m found nets permits fine names list0 list p0 p1 o l h)
 
-  pub made_with : (room : ℕ) (names : List (List ℕ × NamedModule)) (list0 list1 list : List FoundScope) (p0 p1 plan : Numbering) (o : FoundScope) → room ≡ deepest → Lists ms names → p0.outline.items ≡ [] → AddsScope [] (top_scope nets m) o list0 list1 p0 p1 →
-      OpensInside room ms (top_scope nets m ∷ []) (top_scope nets m) 0 list1 list p1 plan → Made ms top list plan
-  made_with room names list0 list1 list p0 p1 plan o e l empty a h =
+  pub made_with : (depth_left : ℕ) (names : List (List ℕ × NamedModule)) (list0 list1 list : List FoundScope) (p0 p1 plan : Numbering) (o : FoundScope) → depth_left ≡ deepest → Lists ms names → p0.outline.items ≡ [] → AddsScope [] (top_scope nets m) o list0 list1 p0 p1 →
+      OpensInside depth_left ms (top_scope nets m ∷ []) (top_scope nets m) 0 list1 list p1 plan → Made ms top list plan
+  made_with depth_left names list0 list1 list p0 p1 plan o e l empty a h =
       top_made ms top m found nets permits fine names list0 list1 list p0 p1 plan o l empty a (subst (λ k. OpensInside k ms (top_scope nets m ∷ []) (top_scope nets m) 0 list1 list p1 plan) e h)
 
-  pub opening_with : (room : ℕ) (e : ElabFault) → room ≡ deepest → Told (OpensInsideNot room ms (top_scope nets m)) e → Told (StandsOpening ms top) e
-  opening_with room e k h = opening_told ms top m found nets permits fine e (subst (λ n. Told (OpensInsideNot n ms (top_scope nets m)) e) k h)
+  pub opening_with : (depth_left : ℕ) (e : ElabFault) → depth_left ≡ deepest → Told (OpensInsideNot depth_left ms (top_scope nets m)) e → Told (StandsOpening ms top) e
+  opening_with depth_left e k h = opening_told ms top m found nets permits fine e (subst (λ n. Told (OpensInsideNot n ms (top_scope nets m)) e) k h)
 
 -- ---- the index
 

@@ -73,21 +73,21 @@ fn inner_at<'s>(
 pub fn open_inside<'s>(
     alloc: Global,
     modules: &Names<'s, NamedModule<'s>>,
-    room: u32,
+    depth_left: u32,
     place: usize,
     list: &mut Vec<ListedScope<'s>>,
     plan: &mut Numbering,
 ) -> Result<(), ElabFault>
-    requires room { 0 < room }
-    requires ready { (ms : List Tree) × (ss : List Scope) × (s : Scope) × IsReady ms ss s modules.now list.old.items plan.old place room }
-    ensures { (ms : List Tree) (ss : List Scope) (s : Scope) → IsReady ms ss s modules.now list.old.items plan.old place room →
-        MatchResult result (λ _. OpensInside room ms ss s place list.old.items list.new.items plan.old plan.new)
-        (Told (OpensInsideNot room ms s)) }
+    requires depth_left { 0 < depth_left }
+    requires ready { (ms : List Tree) × (ss : List Scope) × (s : Scope) × IsReady ms ss s modules.now list.old.items plan.old place depth_left }
+    ensures { (ms : List Tree) (ss : List Scope) (s : Scope) → IsReady ms ss s modules.now list.old.items plan.old place depth_left →
+        MatchResult result (λ _. OpensInside depth_left ms ss s place list.old.items list.new.items plan.old plan.new)
+        (Told (OpensInsideNot depth_left ms s)) }
 {
     let inner = inner_at(alloc, list, place)?;
     for one in &inner {
         let next = add(alloc, modules, place, one, list, plan)?;
-        open_inside(alloc, modules, room - 1, next, list, plan)?;
+        open_inside(alloc, modules, depth_left - 1, next, list, plan)?;
     }
     plan.outline.push(Entry::Leave)?;
     Ok(())

@@ -6,7 +6,7 @@ ghost use Rattle.vs_elaborate.specs.passes.Scales.{listed, first_of};
 
 use vs_design::{DEFAULT_TIMESCALE, Magnitude, TimeSpan, TimeUnit, Timescale};
 use vs_elab_operands::Ratio;
-use vs_lexer::{Directive, Magnitude as TextMagnitude, Time, TimeUnit as TextUnit};
+use vs_lexer::{Directive, TextMagnitude, TextUnit, Time};
 use vs_syntax::Source;
 
 /// The number of a time of a text.

@@ -20,6 +20,7 @@ pub mod Owed
 pub mod Starters
 pub mod ThreadSteps
 pub mod Inner
+pub mod InnerMoves
 pub mod Ends
 pub mod Told
 pub mod Whole

@@ -16,7 +16,8 @@ use Rattle.vs_independence.specs.Discipline.{BeginsSlot}
 use Rattle.vs_independence.specs.Displays.{DisciplineMakesDisplaysAlike, DisplaySlot, SameDisplays, SameDisplaySlot, ShowsApart, display_slots, displayed, displays, ended_display, is_display_by, lines_of_process, lines_so_far}
 use Rattle.vs_independence.proofs.Running.{Apart}
 use Rattle.vs_independence.proofs.Times.{goes_on}
-use Rattle.vs_independence.proofs.Ends.{Alike, IsInner, all_future, same_threads, stopped_of, sure}
+use Rattle.vs_independence.proofs.InnerMoves.{IsInner, sure}
+use Rattle.vs_independence.proofs.Ends.{Alike, all_future, same_threads, stopped_of}
 use Rattle.vs_independence.proofs.Tells.{Tells, one_telling, tells_alike, tells_opens}
 use Rattle.vs_independence.proofs.Told.{Tale, Told, inner_tale, tale_ends}
 use Rattle.vs_independence.proofs.Whole.{Fits, IsComplete, LastSlot, NoSlot, behind_runs, complete_from, count, cut, cut_legal, cut_starts, further, holds, is_past, last_ends, last_legal, last_slot, ran_after, same_so_far, setting, slot_later, start_runs}

@@ -29,7 +29,7 @@ use Rattle.vs_independence.proofs.BlockSteps.{block_runs}
 use Rattle.vs_independence.proofs.BlocksAt.{BlocksAt, block_made, text_at}
 use Rattle.vs_independence.proofs.Making.{GoesFrom, GoesOn, Making, activate_makes, block_makes, evaluate_makes, is_settled, make_makes, none_makes, propagate_makes, stopped_at}
 use Rattle.vs_independence.proofs.Inner.{Setting}
-use Rattle.vs_independence.proofs.Ends.{AtActivate, AtEnd, AtRouse, IsInner, all_idle, at_activate, at_end, at_rouse, block_active, going_place}
+use Rattle.vs_independence.proofs.InnerMoves.{AtActivate, AtEnd, AtRouse, IsInner, all_idle, at_activate, at_end, at_rouse, block_active, going_place}
 use Rattle.vs_logic4.proofs.Basics.{all_at as all_get, pending_of}
 use Rattle.vs_process.proofs.Permitted.{some_of}
 use Rattle.vs_independence.proofs.Tells.{Tells, place_lines, tells_fired, tells_rouses, tells_turns, turn_lines}

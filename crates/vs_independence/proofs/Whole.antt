@@ -25,7 +25,8 @@ use Rattle.vs_law_threads.proofs.Threads.{thread_opens}
 use Rattle.vs_independence.proofs.Running.{WithinSlot, Apart, Stands, Running, BlockBare, is_waiting, by_start, by_rest}
 use Rattle.vs_law_threads.proofs.Calls.{SameCalls, same_lines}
 use Rattle.vs_independence.proofs.Making.{Making, none_get}
-use Rattle.vs_independence.proofs.Ends.{IsInner, inner_kept, Ends, slot_ends, all_future, Alike, SameRan, same_calls, ends_unique, behind_alike, ends_rested, late_behind, ran_behind, sure, KeepsOut}
+use Rattle.vs_independence.proofs.InnerMoves.{IsInner, inner_kept, late_behind, ran_behind, sure, KeepsOut}
+use Rattle.vs_independence.proofs.Ends.{Ends, slot_ends, all_future, Alike, SameRan, same_calls, ends_unique, behind_alike, ends_rested}
 use Rattle.vs_independence.proofs.Times.{is_later, all_from_get, later_thread, later_start, goes_on}
 use Rattle.vs_law_threads.proofs.Events.{after_heard, heard_at}
 use Rattle.vs_law_threads.proofs.Links.{copies_start, copies_settled}

@@ -22,7 +22,7 @@ use Rattle.vs_process.proofs.Times.{enabled_of}
 use Rattle.vs_independence.specs.Discipline.{IsAtStart, BeginsSlot}
 use Rattle.vs_law_threads.proofs.Threads.{is_stopped, stopped_from}
 use Rattle.vs_independence.proofs.Making.{none_get}
-use Rattle.vs_independence.proofs.Ends.{AtEnd, at_end}
+use Rattle.vs_independence.proofs.InnerMoves.{AtEnd, at_end}
 use Rattle.vs_independence.proofs.Times.{is_after}
 use Rattle.vs_rules.specs.Points.{Goes, Point, first_todo}
 use Rattle.vs_rules.proofs.Points.{erased_flat, step_follows}

@@ -20,7 +20,7 @@ use Rattle.vs_process.specs.Executions.{after, Legal, ends, next_time, slot_behi
 use Rattle.vs_process.proofs.Times.{enabled_of}
 use Rattle.vs_law_threads.proofs.Threads.{is_stopped, stopped_from}
 use Rattle.vs_independence.proofs.Making.{none_get}
-use Rattle.vs_independence.proofs.Ends.{AtEnd, at_end}
+use Rattle.vs_independence.proofs.InnerMoves.{AtEnd, at_end}
 use Rattle.vs_process.proofs.Permitted.{some_of}
 use Rattle.vs_independence.proofs.Times.{is_after, after_next, get_from_all}
 

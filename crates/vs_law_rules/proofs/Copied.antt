@@ -8,7 +8,7 @@ use Rattle.std.specs.List.{Contains, list_any}
 use Rattle.std.specs.Prelude.{sum}
 use Rattle.vs_law_rules.proofs.Links.{driven_start, only_of, same_signal, target_width, variable_start}
 use Rattle.vs_law_threads.proofs.Copying.{start_at}
-use Rattle.vs_law_rules.proofs.Roots.{whole_writes}
+use Rattle.vs_law_rules.proofs.Roots.{selects_whole, whole_writes}
 use Rattle.vs_law_rules.proofs.Words.{lists_signal}
 use Rattle.vs_rules.specs.Blocks.{CopiesWhole, copy, itself}
 use Rattle.vs_rules.specs.Claims.{Claims, HasKind}
@@ -81,15 +81,10 @@ whole_covers d v w p e h bit = by_layer (out-Typed e) h (fold_out-Typed (List Bi
         (range : BitRange) × (reads e ≡ range ∷ []) × (range.signal ≡ v) × (covers v w p range ≡ true)
     by_layer (t.Signal o) h is = (whole o.signal, is, h.of, name_covers d v w p o.signal h.signal h.is h.count h.of bit)
     by_layer (t.Slice s) h is = (slice_range s, is, h.of, slice_covers d v w p s h bit)
-    by_layer (t.Number digits) h is = absurd h
-    by_layer (t.Select s word low) h is = absurd h
-    by_layer (t.Excerpt s low) h is = absurd h
-    by_layer (t.Unary op x) h is = absurd h
-    by_layer (t.Chain x links) h is = absurd h
-    by_layer (t.Choice pairs last) h is = absurd h
-    by_layer (t.Concat x xs) h is = absurd h
-    by_layer (t.Repeat n x) h is = absurd h
-    by_layer (t.Resized size x) h is = absurd h
+    by_layer (t.Resized size x) h is =
+        let s = selects_whole d v size.width x.value h in
+        (slice_range s.slice, is ∙ s.reads_it, s.whole.of, slice_covers d v w p s.slice s.whole bit)
+    by_layer _ h is = absurd h
 
 -- what a whole signal is of: one word
 whole_signal : (d : Parts) (v : ℕ) (e : Typed) → IsWhole d v e → (s : Signal) × (slice_get d.signals v ≡ Some s) × (s.count ≡ 1)
@@ -98,15 +93,8 @@ whole_signal d v e h = by_layer (out-Typed e) h
     by_layer : (x : Typed-F Typed) → IsWholeLayer d v x → (s : Signal) × (slice_get d.signals v ≡ Some s) × (s.count ≡ 1)
     by_layer (t.Signal o) h = (h.signal, h.is, h.count)
     by_layer (t.Slice s) h = (h.signal, h.is, h.count)
-    by_layer (t.Number digits) h = absurd h
-    by_layer (t.Select s word low) h = absurd h
-    by_layer (t.Excerpt s low) h = absurd h
-    by_layer (t.Unary op x) h = absurd h
-    by_layer (t.Chain x links) h = absurd h
-    by_layer (t.Choice pairs last) h = absurd h
-    by_layer (t.Concat x xs) h = absurd h
-    by_layer (t.Repeat n x) h = absurd h
-    by_layer (t.Resized size x) h = absurd h
+    by_layer (t.Resized size x) h = let s = selects_whole d v size.width x.value h in (s.whole.signal, s.whole.is, s.whole.count)
+    by_layer _ h = absurd h
 
 -- the value of a whole signal is its word
 whole_word : (d : Parts) (v : ℕ) (e : Typed) (store : Store) (time : ℕ) (s : Signal) (word : List Digit) → IsWhole d v e → slice_get d.signals v ≡ Some s → slice_get store v ≡ Some (word ∷ []) → length word ≡ s.width → value_of e store time ≡ word
@@ -115,23 +103,24 @@ whole_word d v e store time s word h at is size = by_layer (out-Typed e) h (fold
     found : (n : ℕ) → n ≡ v → word_of store n 0 ≡ Some word
     found n e = ap (λ k. word_in (slice_get store k) 0) e ∙ ap (λ o. word_in o 0) is
 
+    long : (z : Slice) → IsWholeSlice d v z → length word ≡ z.width
+    long z w = size ∙ sym (w.width ∙ ap (λ (s : Signal). s.width) (same_signal d v w.signal s w.is at))
+
+    bits : (z : Slice) → IsWholeSlice d v z → bits_value z.low z.width (word_of store z.signal z.word) ≡ word
+    bits z w =
+        ap (λ n. bits_value z.low z.width (word_of store z.signal n)) w.word ∙ ap (bits_value z.low z.width) (found z.signal w.of)
+        ∙ ap (λ n. selected n z.width word) w.low ∙ sym (selected_whole z.width word (long z w))
+
     by_layer : (x : Typed-F Typed) → IsWholeLayer d v x → value_of e store time ≡ value_step store time (map-Typed Typed (List Digit) (λ y. value_of y store time) x) → value_of e store time ≡ word
     by_layer (t.Signal o) w step =
         let width : o.width ≡ length word = w.width ∙ ap (λ (s : Signal). s.width) (same_signal d v w.signal s w.is at) ∙ sym size in
         step ∙ ap (operand_value o.signed o.width) (found o.signal w.of) ∙ ap (λ n. resized o.signed n word) width ∙ resized-own_width o.signed word
-    by_layer (t.Slice z) w step =
-        let width : length word ≡ z.width = size ∙ sym (w.width ∙ ap (λ (s : Signal). s.width) (same_signal d v w.signal s w.is at)) in
-        step ∙ ap (λ n. bits_value z.low z.width (word_of store z.signal n)) w.word
-        ∙ ap (bits_value z.low z.width) (found z.signal w.of) ∙ ap (λ n. selected n z.width word) w.low ∙ sym (selected_whole z.width word width)
-    by_layer (t.Number digits) w step = absurd w
-    by_layer (t.Select s word low) w step = absurd w
-    by_layer (t.Excerpt s low) w step = absurd w
-    by_layer (t.Unary op x) w step = absurd w
-    by_layer (t.Chain x links) w step = absurd w
-    by_layer (t.Choice pairs last) w step = absurd w
-    by_layer (t.Concat x xs) w step = absurd w
-    by_layer (t.Repeat n x) w step = absurd w
-    by_layer (t.Resized size x) w step = absurd w
+    by_layer (t.Slice z) w step = step ∙ bits z w
+    by_layer (t.Resized size x) w step =
+        let s = selects_whole d v size.width x.value w in
+        step ∙ ap (resized size.signed size.width) (s.value store time ∙ bits s.slice s.whole)
+        ∙ ap (λ n. resized size.signed n word) (sym s.size ∙ sym (long s.slice s.whole)) ∙ resized-own_width size.signed word
+    by_layer _ w step = absurd w
 
 -- ---- what starts
 

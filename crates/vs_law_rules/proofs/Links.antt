@@ -23,11 +23,11 @@ use Rattle.vs_design.specs.declared.statement.Target.{Target}
 use Rattle.vs_design.specs.declared.write.Part.{Part}
 use Rattle.vs_design.specs.Kinds.{is_variable}
 use Rattle.vs_design.specs.Parts.{Parts}
-use Rattle.vs_design.specs.Stores.{Store, changed_at, drives_bit, is_driven, overlaid, put, start_digit, start_digits, start_store, start_word, start_words, word_in}
+use Rattle.vs_design.specs.Stores.{Store, changed_at, drives_bit, is_driven, overlaid, put, start_digit, start_digits, start_store, start_word, start_words, word_in, word_of}
 use Rattle.vs_design.specs.Uses.{aim_range, bits_from, covers, has_bit, is_of, slice_range, writes, writes_signal}
 use Rattle.vs_design.specs.WellFormed.{WellFormed, aim_width, is_net_aim, is_sound_assign, is_sound_target, is_source}
 use Rattle.vs_eval.specs.Targets.{part_at, parts_from}
-use Rattle.vs_eval.specs.Values.{target_value, value_of, value_step}
+use Rattle.vs_eval.specs.Values.{bits_value, operand_value, target_value, value_of, value_step}
 use Rattle.vs_flatcode.specs.Steps.{assignment}
 use Rattle.vs_process.proofs.Lists.{all_slice}
 use Rattle.std.proofs.lemmas.Map.Keys.{any_passes_from_place as at_any}
@@ -38,7 +38,7 @@ use Rattle.vs_rules.specs.Constants.{IsWholeSlice, IsWholeLayer, IsWhole, IsWhol
 use Rattle.vs_rules.specs.Rules.{IsOneBit, IsCopy, CopiesRoot, itself, copy}
 use Rattle.vs_law_threads.specs.Edges.{one_bit, IsBit, IsLink, Copies}
 use Rattle.vs_law_threads.specs.Edges as a
-use Rattle.vs_law_rules.proofs.Roots.{whole_reads, whole_writes}
+use Rattle.vs_law_rules.proofs.Roots.{selects_whole, whole_reads, whole_writes}
 use Rattle.vs_law_rules.proofs.Words.{lists_signal}
 use Rattle.vs_law_threads.proofs.Copying.{start_at}
 use Rattle.vs_logic4.proofs.Basics.{same_self}
@@ -77,26 +77,26 @@ one_selected low width z l w = ap (λ n. selected n width (z ∷ [])) l ∙ ap (
 pub whole_value : (d : Parts) (m : ℕ) (e : Typed) (store : Store) (time : ℕ) (z : Digit) → IsWhole d m e → IsOneBit d m → slice_get store m ≡ Some (one_bit z) → value_of e store time ≡ z ∷ []
 whole_value d m e store time z h one is = by_layer (out-Typed e) h (fold_out-Typed (List Digit) (value_step store time) e)
   where
-    word : (n : ℕ) → n ≡ m → Rattle.vs_design.specs.Stores.word_of store n 0 ≡ Some (z ∷ [])
+    word : (n : ℕ) → n ≡ m → word_of store n 0 ≡ Some (z ∷ [])
     word n e = ap (λ k. word_in (slice_get store k) 0) e ∙ ap (λ o. word_in o 0) is
+
+    bit_wide : (s : Slice) → IsWholeSlice d m s → s.width ≡ 1
+    bit_wide s w = w.width ∙ ap (λ (s : Signal). s.width) (same_signal d m w.signal one.0 w.is one.1) ∙ one.2
+
+    bits : (s : Slice) → IsWholeSlice d m s → bits_value s.low s.width (word_of store s.signal s.word) ≡ z ∷ []
+    bits s w =
+        ap (λ n. bits_value s.low s.width (word_of store s.signal n)) w.word ∙ ap (bits_value s.low s.width) (word s.signal w.of)
+        ∙ one_selected s.low s.width z w.low (bit_wide s w)
 
     by_layer : (x : Typed-F Typed) → IsWholeLayer d m x → value_of e store time ≡ value_step store time (map-Typed Typed (List Digit) (λ y. value_of y store time) x) → value_of e store time ≡ z ∷ []
     by_layer (t.Signal o) w step =
         let width : o.width ≡ 1 = w.width ∙ ap (λ (s : Signal). s.width) (same_signal d m w.signal one.0 w.is one.1) ∙ one.2 in
-        step ∙ ap (Rattle.vs_eval.specs.Values.operand_value o.signed o.width) (word o.signal w.of) ∙ one_resized o.signed o.width z width
-    by_layer (t.Slice s) w step =
-        let width : s.width ≡ 1 = w.width ∙ ap (λ (s : Signal). s.width) (same_signal d m w.signal one.0 w.is one.1) ∙ one.2 in
-        step ∙ ap (λ n. Rattle.vs_eval.specs.Values.bits_value s.low s.width (Rattle.vs_design.specs.Stores.word_of store s.signal n)) w.word
-        ∙ ap (Rattle.vs_eval.specs.Values.bits_value s.low s.width) (word s.signal w.of) ∙ one_selected s.low s.width z w.low width
-    by_layer (t.Number digits) w step = absurd w
-    by_layer (t.Select s word low) w step = absurd w
-    by_layer (t.Excerpt s low) w step = absurd w
-    by_layer (t.Unary op x) w step = absurd w
-    by_layer (t.Chain x links) w step = absurd w
-    by_layer (t.Choice pairs last) w step = absurd w
-    by_layer (t.Concat x xs) w step = absurd w
-    by_layer (t.Repeat n x) w step = absurd w
-    by_layer (t.Resized size x) w step = absurd w
+        step ∙ ap (operand_value o.signed o.width) (word o.signal w.of) ∙ one_resized o.signed o.width z width
+    by_layer (t.Slice s) w step = step ∙ bits s w
+    by_layer (t.Resized size x) w step =
+        let s = selects_whole d m size.width x.value w in
+        step ∙ ap (resized size.signed size.width) (s.value store time ∙ bits s.slice s.whole) ∙ one_resized size.signed size.width z (sym s.size ∙ bit_wide s.slice s.whole)
+    by_layer _ w step = absurd w
 
 pub put_one : (store : Store) (p : Part) (n : ℕ) (y z : Digit) → p.signal ≡ n → p.word ≡ 0 → p.low ≡ pos 0 → p.digits ≡ z ∷ [] → slice_get store n ≡ Some (one_bit y) → slice_get (put store (p ∷ [])) n ≡ Some (one_bit z)
 put_one store p n y z s w l digits is =

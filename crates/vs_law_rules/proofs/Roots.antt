@@ -6,6 +6,7 @@ use Rattle.std.proofs.lemmas.Bool.{cases_Bool, eqb-false, true≢false}
 use Rattle.std.proofs.lemmas.Option.{none-some, same_Some}
 use Rattle.std.proofs.lemmas.Slice.Eq.{bytes_eq-Decides}
 use Rattle.vs_design.specs.declared.design.Assign.{Assign}
+use Rattle.vs_design.specs.declared.expression.Slice.{Slice}
 use Rattle.vs_design.specs.declared.expression.Typed.{Typed, Typed-F}
 use Rattle.vs_design.specs.declared.expression.Typed.TheOpen as t
 use Rattle.vs_design.specs.declared.expression.Typed.TheViews.{out-Typed}
@@ -15,15 +16,17 @@ use Rattle.vs_design.specs.declared.signal.Signal.{Signal}
 use Rattle.vs_design.specs.declared.statement.Target.{Target}
 use Rattle.vs_design.specs.Kinds.{is_variable}
 use Rattle.vs_design.specs.Parts.{Parts}
-use Rattle.vs_design.specs.Stores.{start_words}
+use Rattle.vs_design.specs.Stores.{Store, start_words, word_of}
 use Rattle.vs_design.specs.Uses.{aim_range, reads, reads_step, is_of, whole, slice_range, writes, writes_signal}
 use Rattle.vs_design.specs.WellFormed.{WellFormed}
+use Rattle.vs_eval.specs.Values.{bits_value, value_of, value_step}
+use Rattle.vs_logic4.specs.declared.digit.Digit.{Digit}
 use Rattle.vs_process.proofs.Assigns.{driven}
 use Rattle.vs_process.proofs.WellFormed.{net_of}
 use Rattle.vs_rules.specs.Claims.{Name, times_in}
 use Rattle.vs_rules.specs.Claims.{Claims, EdgeClaim, IsSignalNamed, edge_names, names_of_edge, signal_names, process_names, HasKind, IsRootOf}
 use Rattle.vs_rules.specs.Paths.{ListsSignal}
-use Rattle.vs_rules.specs.Constants.{IsWhole, IsWholeLayer, IsWholeTarget}
+use Rattle.vs_rules.specs.Constants.{IsWhole, IsWholeLayer, IsWholeSelect, IsWholeSlice, IsWholeTarget}
 use Rattle.vs_rules.specs.Rules.{K1_Name, IsEdgeSignal, IsCopy, CopiesRoot, itself, copy}
 use Rattle.vs_law_threads.specs.Edges.{IsBit, IsLink, Copies}
 use Rattle.vs_law_threads.specs.Edges as a
@@ -121,6 +124,22 @@ whole_writes d v target h = subst (λ parts. list_any (is_of v) (map aim_range p
       | inr miss ↦ absurd (eqb-false h.slice.signal v miss e)
     ]
 
+-- a select of all bits of a signal: the bits, what it reads and its value
+pub record SelectsWhole (d : Parts) (v width : ℕ) (e : Typed) : Type 0 where
+  pub slice : Slice
+  pub whole : IsWholeSlice d v slice
+  pub size : slice.width ≡ width
+  pub reads_it : reads e ≡ slice_range slice ∷ []
+  pub value : (store : Store) (time : ℕ) → value_of e store time ≡ bits_value slice.low slice.width (word_of store slice.signal slice.word)
+
+pub selects_whole : (d : Parts) (v width : ℕ) (e : Typed) → IsWholeSelect d v width (out-Typed e) → SelectsWhole d v width e
+selects_whole d v width e h = by_layer (out-Typed e) h (fold_out-Typed (List BitRange) reads_step e) (λ store time. fold_out-Typed (List Digit) (value_step store time) e)
+  where
+    by_layer : (x : Typed-F Typed) → IsWholeSelect d v width x → reads e ≡ reads_step (map-Typed Typed (List BitRange) reads x) →
+        ((store : Store) (time : ℕ) → value_of e store time ≡ value_step store time (map-Typed Typed (List Digit) (λ y. value_of y store time) x)) → SelectsWhole d v width e
+    by_layer (t.Slice s) w reads_is value_is = record { slice = s; whole = w.0; size = w.1; reads_it = reads_is; value = value_is }
+    by_layer _ w reads_is value_is = absurd w
+
 -- a whole signal is what it reads
 pub whole_reads : (d : Parts) (u : ℕ) (e : Typed) → IsWhole d u e → (range : BitRange) × (reads e ≡ range ∷ []) × (range.signal ≡ u)
 whole_reads d u e h = by_layer (out-Typed e) h (fold_out-Typed (List BitRange) reads_step e)
@@ -128,15 +147,8 @@ whole_reads d u e h = by_layer (out-Typed e) h (fold_out-Typed (List BitRange) r
     by_layer : (x : Typed-F Typed) → IsWholeLayer d u x → reads e ≡ reads_step (map-Typed Typed (List BitRange) reads x) → (range : BitRange) × (reads e ≡ range ∷ []) × (range.signal ≡ u)
     by_layer (t.Signal o) w is = (whole o.signal, is, w.of)
     by_layer (t.Slice s) w is = (slice_range s, is, w.of)
-    by_layer (t.Number digits) w is = absurd w
-    by_layer (t.Select s word low) w is = absurd w
-    by_layer (t.Excerpt s low) w is = absurd w
-    by_layer (t.Unary op x) w is = absurd w
-    by_layer (t.Chain x links) w is = absurd w
-    by_layer (t.Choice pairs last) w is = absurd w
-    by_layer (t.Concat x xs) w is = absurd w
-    by_layer (t.Repeat n x) w is = absurd w
-    by_layer (t.Resized size x) w is = absurd w
+    by_layer (t.Resized size x) w is = let s = selects_whole d u size.width x.value w in (slice_range s.slice, is ∙ s.reads_it, s.whole.of)
+    by_layer _ w is = absurd w
 
 lists_writes : (d : Parts) (target : Target) (v : ℕ) → writes_signal target v ≡ true → ListsSignal d (writes target) v
 lists_writes d target v h = lists_signal d (writes target) v h

@@ -15,7 +15,7 @@ use Rattle.vs_process.specs.Executions.{after as reached, Legal}
 use Rattle.vs_process.proofs.Idle.{after_sound}
 use Rattle.vs_process.proofs.Times.{enabled_of}
 use Rattle.vs_independence.specs.Discipline.{IsAtStart, BeginsSlot}
-use Rattle.vs_independence.proofs.Ends.{at_end, all_idle}
+use Rattle.vs_independence.proofs.InnerMoves.{at_end, all_idle}
 use Rattle.vs_law_threads.proofs.Settle.{AllIdle}
 use Rattle.vs_law_threads.proofs.Threads.{is_stopped}
 use Rattle.vs_rules.specs.Claims.{Claims, blocks_of, kind_of, IsBlock, IsSequential, signal_name}

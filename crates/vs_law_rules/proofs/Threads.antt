@@ -3,13 +3,7 @@ use Rattle.std.proofs.Common.{◌≡◌, ℕ, zero, suc, ◌%◌, ◌<◌, ◌�
 use Rattle.std.specs.List.{Contains}
 use Rattle.std.proofs.lemmas.Bool.{false≢true}
 use Rattle.vs_design.specs.declared.range.BitRange.{BitRange}
-use Rattle.vs_design.specs.declared.statement.Call.{Call}
-use Rattle.vs_design.specs.declared.statement.CallKind.{CallKind}
-use Rattle.vs_design.specs.declared.statement.CallKind.TheVariants.{Display, Strobe}
 use Rattle.vs_design.specs.declared.statement.EventTerm.{EventTerm}
-use Rattle.vs_design.specs.declared.statement.Statement.{Statement}
-use Rattle.vs_design.specs.declared.statement.Statement.TheOpen.{Statement-F}
-use Rattle.vs_design.specs.declared.statement.Statement.TheViews.{out-Statement}
 use Rattle.vs_design.specs.Parts.{Parts}
 use Rattle.vs_flatcode.specs.declared.gait.Gait.TheVariants.{Woken}
 use Rattle.vs_flatcode.specs.Nexts.{erased}
@@ -18,13 +12,12 @@ use Rattle.vs_flatcode.specs.Steps.{wait}
 use Rattle.vs_process.specs.Executions.{is_level}
 use Rattle.vs_process.specs.States.{State, triggered}
 use Rattle.vs_process.proofs.Lists.{none_at}
-use Rattle.vs_law_threads.specs.Threads.{Thread, turn, iterate, writes, any_names, own_shows, place_reads, place_shows, shown_by, todo_shows}
+use Rattle.vs_law_threads.specs.Threads.{Thread, turn, iterate, writes, any_names, place_reads, place_shows, todo_shows}
 use Rattle.vs_law_threads.proofs.Lists.{place_of}
 use Rattle.vs_law_threads.proofs.Threads.{is_stopped}
 use Rattle.vs_rules.proofs.Points.{erased_reads}
 use Rattle.vs_rules.specs.Claims.{Claims, Kind, blocks_of, IsEdge, IsSequential}
 use Rattle.vs_rules.specs.Paths.{begins, IsHot, HasTerm}
-use Rattle.vs_rules.specs.Paths as path
 use Rattle.vs_rules.specs.Rules.{Reads}
 use Rattle.vs_rules.specs.Slots.{Fires, Ends}
 use Rattle.vs_law_threads.specs.Threads.{Fired, found, opening, is_timed, Fires as Wakes, MayOpen, IsThread}
@@ -166,18 +159,10 @@ reads_walks d c b g clocks i r th is looks = elim (thread_walks d c b g clocks i
   | inr idle ↦ absurd (no_looks c r (subst (λ (p : Place). Looks c p r) (ap (λ (t : Thread). t.place) idle.0 ∙ idle.1) looks))
 ]
 
-same_shown : (kind : CallKind) (c : Call) → path.shown_by kind c ≡ shown_by kind c
-same_shown Display c = refl
-same_shown Strobe c = refl
-
-same_shows : (f : Statement-F Statement) → path.statement_shows f ≡ own_shows f
-same_shows (Statement-F.Call n c) = same_shown c.kind c
-same_shows f = refl
-
 -- it shows the same in a text
-erased_shows : (k : Todo) → path.todo_shows (erased k) ≡ todo_shows k
+erased_shows : (k : Todo) → todo_shows (erased k) ≡ todo_shows k
 erased_shows [] = refl
-erased_shows (perform s ∷ rest) = same_shows (out-Statement s)
+erased_shows (perform s ∷ rest) = refl
 erased_shows (turns n s ∷ rest) = refl
 
 -- a place that reads is one where the process can be

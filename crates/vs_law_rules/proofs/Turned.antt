@@ -31,37 +31,23 @@ use Rattle.vs_eval.specs.Values.{target_value, value_of, value_step}
 use Rattle.vs_flatcode.specs.Steps.{assignment}
 use Rattle.vs_law_threads.specs.Edges.{one_bit}
 use Rattle.vs_rules.proofs.Points.{mod_sum}
-use Rattle.vs_rules.specs.Constants.{IsBare, itself, inside, IsKnown, IsInverse, IsInverseLayer, IsWhole, IsWholeTarget, TurnsForever}
+use Rattle.vs_rules.specs.Constants.{IsBare, itself, inside, IsKnown, IsInverse, IsInverseLayer, IsNameLayer, IsWholeLayer, IsWholeTarget, TurnsForever}
 use Rattle.vs_rules.specs.Constants as k
 use Rattle.vs_rules.specs.Rules.{IsOneBit}
 use Rattle.vs_law_rules.proofs.Links.{put_one, whole_value, one_resized, one_selected, same_signal}
 
 -- ---- `~u`
 
+name_whole : (d : Parts) (v : ℕ) (x : Typed-F Typed) → IsNameLayer d v x → IsWholeLayer d v x
+name_whole d v (t.Signal o) h = h
+name_whole d v _ h = absurd h
+
 inverse_value : (d : Parts) (v : ℕ) (e : Typed) (store : Store) (time : ℕ) (z : Digit) → IsInverse d v e → IsOneBit d v → slice_get store v ≡ Some (one_bit z) → value_of e store time ≡ not_digit z ∷ []
 inverse_value d v e store time z h one is = by_layer (out-Typed e) h (fold_out-Typed (List Digit) (value_step store time) e)
   where
     by_layer : (x : Typed-F Typed) → IsInverseLayer d v x → value_of e store time ≡ value_step store time (map-Typed Typed (List Digit) (λ y. value_of y store time) x) → value_of e store time ≡ not_digit z ∷ []
-    by_layer (t.Unary u.Not x) w step = step ∙ ap (unary u.Not) (whole_value d v x.value store time z w one is)
-    by_layer (t.Unary u.Plus x) w step = absurd w
-    by_layer (t.Unary u.Minus x) w step = absurd w
-    by_layer (t.Unary u.LogicalNot x) w step = absurd w
-    by_layer (t.Unary u.ReduceAnd x) w step = absurd w
-    by_layer (t.Unary u.ReduceNand x) w step = absurd w
-    by_layer (t.Unary u.ReduceOr x) w step = absurd w
-    by_layer (t.Unary u.ReduceNor x) w step = absurd w
-    by_layer (t.Unary u.ReduceXor x) w step = absurd w
-    by_layer (t.Unary u.ReduceXnor x) w step = absurd w
-    by_layer (t.Signal o) w step = absurd w
-    by_layer (t.Slice s) w step = absurd w
-    by_layer (t.Number digits) w step = absurd w
-    by_layer (t.Select s word low) w step = absurd w
-    by_layer (t.Excerpt s low) w step = absurd w
-    by_layer (t.Chain x links) w step = absurd w
-    by_layer (t.Choice pairs last) w step = absurd w
-    by_layer (t.Concat x xs) w step = absurd w
-    by_layer (t.Repeat n x) w step = absurd w
-    by_layer (t.Resized size x) w step = absurd w
+    by_layer (t.Unary u.Not x) w step = step ∙ ap (unary u.Not) (whole_value d v x.value store time z (name_whole d v (out-Typed x.value) w) one is)
+    by_layer _ w step = absurd w
 
 -- the turn gives the bit the other digit
 pub turned : (d : Parts) (v : ℕ) (target : Target) (value : Typed) → IsOneBit d v → IsWholeTarget d v target → IsInverse d v value → sum (map aim_width target.parts.items) ≡ target.width →

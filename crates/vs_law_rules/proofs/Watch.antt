@@ -27,7 +27,7 @@ use Rattle.vs_law_threads.specs.Threads.{store_behind}
 use Rattle.vs_law_rules.specs.Laws.{TimeRises}
 use Rattle.vs_law_threads.proofs.Threads.{is_stopped, stopped_from}
 use Rattle.vs_independence.proofs.Making.{none_get}
-use Rattle.vs_independence.proofs.Ends.{AtEnd, at_end}
+use Rattle.vs_independence.proofs.InnerMoves.{AtEnd, at_end}
 use Rattle.vs_process.proofs.Permitted.{some_of}
 use Rattle.vs_independence.proofs.Times.{is_after, after_next, get_from_all}
 use Rattle.vs_process.proofs.Times.{behind_time as same_time}

@@ -19,5 +19,5 @@ pub use refusal::Refusal;
 pub use runs::{ByteClass, first_and_rest, first_two_and_rest, is_white, split_run, starts_name};
 pub use texts::read_text;
 pub use token::{
-    Directive, ImplicitNet, Kind, Literal, Magnitude, Mark, Time, TimeUnit, Token, Word,
+    Directive, ImplicitNet, Kind, Literal, Mark, TextMagnitude, TextUnit, Time, Token, Word,
 };

@@ -239,8 +239,8 @@ pub enum ImplicitNet {
 /// A time of `` `timescale ``: 1, 10 or 100 of a unit (clause 19.8).
 #[derive(Clone, Copy, PartialEq, Eq, Debug)]
 pub struct Time {
-    pub number: Magnitude,
-    pub unit: TimeUnit,
+    pub number: TextMagnitude,
+    pub unit: TextUnit,
 }
 
 impl Time {
@@ -250,17 +250,17 @@ impl Time {
         ensures small { result ≤ 17 }
     {
         let unit = match self.unit {
-            TimeUnit::Seconds => 15,
-            TimeUnit::Milliseconds => 12,
-            TimeUnit::Microseconds => 9,
-            TimeUnit::Nanoseconds => 6,
-            TimeUnit::Picoseconds => 3,
-            TimeUnit::Femtoseconds => 0,
+            TextUnit::Seconds => 15,
+            TextUnit::Milliseconds => 12,
+            TextUnit::Microseconds => 9,
+            TextUnit::Nanoseconds => 6,
+            TextUnit::Picoseconds => 3,
+            TextUnit::Femtoseconds => 0,
         };
         let number = match self.number {
-            Magnitude::One => 0,
-            Magnitude::Ten => 1,
-            Magnitude::Hundred => 2,
+            TextMagnitude::One => 0,
+            TextMagnitude::Ten => 1,
+            TextMagnitude::Hundred => 2,
         };
         unit + number
     }
@@ -268,7 +268,7 @@ impl Time {
 
 /// The number of a time.
 #[derive(Clone, Copy, PartialEq, Eq, Debug)]
-pub enum Magnitude {
+pub enum TextMagnitude {
     One,
     Ten,
     Hundred,
@@ -276,7 +276,7 @@ pub enum Magnitude {
 
 /// The unit of a time.
 #[derive(Clone, Copy, PartialEq, Eq, Debug)]
-pub enum TimeUnit {
+pub enum TextUnit {
     Seconds,
     Milliseconds,
     Microseconds,

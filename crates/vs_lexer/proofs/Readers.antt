@@ -7,11 +7,11 @@ use borrow.Author.Tests.{eqb-true}
 use Rattle.vs_lex_tokens.specs.declared.token.Directive.{Directive}
 use Rattle.vs_lex_tokens.specs.declared.token.Directive.TheVariants as d
 use Rattle.vs_lex_tokens.specs.declared.token.ImplicitNet.TheVariants as i
-use Rattle.vs_lex_tokens.specs.declared.token.Magnitude.{Magnitude}
-use Rattle.vs_lex_tokens.specs.declared.token.Magnitude.TheVariants as m
+use Rattle.vs_lex_tokens.specs.declared.token.TextMagnitude.{TextMagnitude}
+use Rattle.vs_lex_tokens.specs.declared.token.TextMagnitude.TheVariants as m
 use Rattle.vs_lex_tokens.specs.declared.token.Time.{Time}
-use Rattle.vs_lex_tokens.specs.declared.token.TimeUnit.{TimeUnit}
-use Rattle.vs_lex_tokens.specs.declared.token.TimeUnit.TheVariants as t
+use Rattle.vs_lex_tokens.specs.declared.token.TextUnit.{TextUnit}
+use Rattle.vs_lex_tokens.specs.declared.token.TextUnit.TheVariants as t
 use Rattle.vs_lex_tokens.specs.declared.refusal.Refusal.TheVariants as r
 use Rattle.vs_lex_tokens.specs.declared.piece.Piece.TheVariants.{Token, Refused}
 use Rattle.vs_lex_tokens.specs.declared.piece.Lexed.{Lexed}
@@ -277,16 +277,16 @@ module _ {A : Type 0} (b c : ℕ) (cs : List ℕ) (x : A) (q : Reader A) (strong
   firm_word : Firm (by_next (next_is b) (text (c ∷ cs) (done x)) q)
   firm_word = firm_by_next (next_is b) (next_is_local b) (text (c ∷ cs) (done x)) q (firm_text c cs (done x)) firm_q
 
-abbrev from_pico : Reader TimeUnit
+abbrev from_pico : Reader TextUnit
 from_pico = by_next (next_is 112) (text (codes "ps") (done t.Picoseconds)) (text (codes "fs") (done t.Femtoseconds))
 
-abbrev from_nano : Reader TimeUnit
+abbrev from_nano : Reader TextUnit
 from_nano = by_next (next_is 110) (text (codes "ns") (done t.Nanoseconds)) from_pico
 
-abbrev from_micro : Reader TimeUnit
+abbrev from_micro : Reader TextUnit
 from_micro = by_next (next_is 117) (text (codes "us") (done t.Microseconds)) from_nano
 
-abbrev from_milli : Reader TimeUnit
+abbrev from_milli : Reader TextUnit
 from_milli = by_next (next_is 109) (text (codes "ms") (done t.Milliseconds)) from_micro
 
 strong_femto : Strong (text (codes "fs") (done t.Femtoseconds))
@@ -327,7 +327,7 @@ firm_unit : Firm unit_at
 unfolding unit_at
 firm_unit = firm_word 115 115 [] t.Seconds from_milli strong_milli firm_milli
 
-abbrev unit_behind : Magnitude → Reader Time
+abbrev unit_behind : TextMagnitude → Reader Time
 unit_behind number = white unit_at then λ unit. done (record { number = number; unit = unit })
 
 strong_time : Strong time_at

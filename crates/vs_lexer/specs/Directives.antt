@@ -3,11 +3,11 @@ use Rattle.std.specs.Prelude.{ℕ, ◌==◌, Bool, List, [], ◌∷◌, Option, 
 use Rattle.vs_lex_tokens.specs.declared.token.Directive.{Directive}
 use Rattle.vs_lex_tokens.specs.declared.token.Directive.TheVariants as d
 use Rattle.vs_lex_tokens.specs.declared.token.ImplicitNet.TheVariants as i
-use Rattle.vs_lex_tokens.specs.declared.token.Magnitude.{Magnitude}
-use Rattle.vs_lex_tokens.specs.declared.token.Magnitude.TheVariants as m
+use Rattle.vs_lex_tokens.specs.declared.token.TextMagnitude.{TextMagnitude}
+use Rattle.vs_lex_tokens.specs.declared.token.TextMagnitude.TheVariants as m
 use Rattle.vs_lex_tokens.specs.declared.token.Time.{Time}
-use Rattle.vs_lex_tokens.specs.declared.token.TimeUnit.{TimeUnit}
-use Rattle.vs_lex_tokens.specs.declared.token.TimeUnit.TheVariants as t
+use Rattle.vs_lex_tokens.specs.declared.token.TextUnit.{TextUnit}
+use Rattle.vs_lex_tokens.specs.declared.token.TextUnit.TheVariants as t
 use Rattle.vs_lex_tokens.specs.Bytes.{is_white, begins, after_run}
 use Rattle.vs_lex_tokens.specs.Times.{exponent}
 
@@ -71,12 +71,12 @@ abbrev pub ◌then◌ : {A B : Type 0} → Reader A → (A → Reader B) → Rea
 ◌then◌ part next bytes = follow (part bytes) next
 
 -- the number of a time: 1, 10 or 100 (clause 19.8)
-unfoldable pub number_at : Reader Magnitude
+unfoldable pub number_at : Reader TextMagnitude
 number_at =
     text (codes "1") (by_next (next_is 48) (text (codes "0") (by_next (next_is 48) (text (codes "0") (done m.Hundred)) (done m.Ten))) (done m.One))
 
 -- the unit of a time (clause 19.8)
-unfoldable pub unit_at : Reader TimeUnit
+unfoldable pub unit_at : Reader TextUnit
 unit_at =
     by_next (next_is 115) (text (codes "s") (done t.Seconds))
     (by_next (next_is 109) (text (codes "ms") (done t.Milliseconds))

@@ -7,7 +7,7 @@ ghost use Rattle.vs_lex_tokens.specs.Times.{exponent};
 ghost use Rattle.vs_lexer.specs.Taking.{Gives};
 
 use vs_lex_tokens::{
-    ByteClass, Directive, ImplicitNet, Kind, Lexed, Magnitude, Piece, Refusal, Time, TimeUnit,
+    ByteClass, Directive, ImplicitNet, Kind, Lexed, Piece, Refusal, TextMagnitude, TextUnit, Time,
     first_and_rest, is_white, split_run,
 };
 
@@ -68,41 +68,41 @@ fn spelled<'s, T: Copy>(spelling: &[u8], meaning: T, bytes: &'s [u8]) -> Option<
 
 /// Reads the number of a time.
 #[tactic(auto, unfolding(crate::specs::Directives::number_at))]
-fn number_at(bytes: &[u8]) -> Option<(Magnitude, &[u8])>
+fn number_at(bytes: &[u8]) -> Option<(TextMagnitude, &[u8])>
     ensures { Gives number_at bytes.now result }
 {
     let one = behind(b"1", bytes)?;
     if !next_is(one, b'0') {
-        return Some((Magnitude::One, one));
+        return Some((TextMagnitude::One, one));
     }
     let ten = behind(b"0", one)?;
     if !next_is(ten, b'0') {
-        return Some((Magnitude::Ten, ten));
+        return Some((TextMagnitude::Ten, ten));
     }
-    spelled(b"0", Magnitude::Hundred, ten)
+    spelled(b"0", TextMagnitude::Hundred, ten)
 }
 
 /// Reads the unit of a time.
 #[tactic(auto, unfolding(crate::specs::Directives::unit_at))]
-fn unit_at(bytes: &[u8]) -> Option<(TimeUnit, &[u8])>
+fn unit_at(bytes: &[u8]) -> Option<(TextUnit, &[u8])>
     ensures { Gives unit_at bytes.now result }
 {
     if next_is(bytes, b's') {
-        return spelled(b"s", TimeUnit::Seconds, bytes);
+        return spelled(b"s", TextUnit::Seconds, bytes);
     }
     if next_is(bytes, b'm') {
-        return spelled(b"ms", TimeUnit::Milliseconds, bytes);
+        return spelled(b"ms", TextUnit::Milliseconds, bytes);
     }
     if next_is(bytes, b'u') {
-        return spelled(b"us", TimeUnit::Microseconds, bytes);
+        return spelled(b"us", TextUnit::Microseconds, bytes);
     }
     if next_is(bytes, b'n') {
-        return spelled(b"ns", TimeUnit::Nanoseconds, bytes);
+        return spelled(b"ns", TextUnit::Nanoseconds, bytes);
     }
     if next_is(bytes, b'p') {
-        return spelled(b"ps", TimeUnit::Picoseconds, bytes);
+        return spelled(b"ps", TextUnit::Picoseconds, bytes);
     }
-    spelled(b"fs", TimeUnit::Femtoseconds, bytes)
+    spelled(b"fs", TextUnit::Femtoseconds, bytes)
 }
 
 /// Reads a number and a unit.

@@ -15,5 +15,6 @@ pub use fault::LexFault;
 pub use laws::{names_of_one_line, no_spelling_of_refused, one_refusal, one_spelling};
 pub use lexing::lex;
 pub use vs_lex_tokens::{
-    Directive, ImplicitNet, Kind, Literal, Magnitude, Mark, Refusal, Time, TimeUnit, Token, Word,
+    Directive, ImplicitNet, Kind, Literal, Mark, Refusal, TextMagnitude, TextUnit, Time, Token,
+    Word,
 };

@@ -8,12 +8,12 @@ use Rattle.vs_syntax.specs.Derivation.{height}
 use Rattle.vs_syntax.specs.Reading.{Stuck, stuck_deep}
 use Rattle.vs_syntax.specs.Views.{expr_tree}
 use Rattle.vs_parse_expressions.specs.declared.expression.Nested.{Nested}
-use Rattle.vs_parse_expressions.specs.declared.reading.Stop.{Stop}
-use Rattle.vs_parse_expressions.specs.declared.reading.Stop.TheVariants as stop
+use Rattle.vs_parse_expressions.specs.declared.reading.ReadFault.{ReadFault}
+use Rattle.vs_parse_expressions.specs.declared.reading.ReadFault.TheVariants as stop
 use Rattle.vs_parse_expressions.specs.Answers.{seen, FailsToRead, Nests, Measured}
 
 -- an inner part stopped, so the outer one does
-pub fails_by : (a b : Grammar) (r r' : ℕ) (ts ts' : List Symbol) → ((deep : Bool) (at : List Symbol) → Stuck a r deep ts at → Stuck b r' deep ts' at) → (e : Stop) → FailsToRead a r ts e → FailsToRead b r' ts' e
+pub fails_by : (a b : Grammar) (r r' : ℕ) (ts ts' : List Symbol) → ((deep : Bool) (at : List Symbol) → Stuck a r deep ts at → Stuck b r' deep ts' at) → (e : ReadFault) → FailsToRead a r ts e → FailsToRead b r' ts' e
 fails_by a b r r' ts ts' f stop.Memory p = tt
 fails_by a b r r' ts ts' f (stop.Unexpected at) p = f false (seen at.now) p
 fails_by a b r r' ts ts' f (stop.TooDeep at) p = f true (seen at.now) p
@@ -27,6 +27,6 @@ pub goes_at : (g : Grammar) (ts : List Symbol) (c : Class) (b : Bool) → first 
 goes_at g ts c b e h = ap (λ u. among u (fronts g)) e ∙ h
 
 -- an expression that was read, and its nesting
-pub measured_by : (a : Grammar) (depth : ℕ) (ts : List Symbol) (r : Result Nested Stop) → Nests a depth ts r → IfOk r (λ x. x.height ≡ height (expr_tree x.tree)) → Measured a depth ts r
+pub measured_by : (a : Grammar) (depth : ℕ) (ts : List Symbol) (r : Result Nested ReadFault) → Nests a depth ts r → IfOk r (λ x. x.height ≡ height (expr_tree x.tree)) → Measured a depth ts r
 measured_by a depth ts (Ok x) p h = (p, h)
 measured_by a depth ts (Err e) p h = p

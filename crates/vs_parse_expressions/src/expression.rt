@@ -10,7 +10,7 @@ ghost use Rattle.vs_parse_expressions.specs.Answers.{seen, ReadsTree, Measures, 
 
 use crate::head::{OperandHead, operand_head};
 use crate::operator::{LEVELS, binary_at};
-use crate::reading::{Parsed, Stop};
+use crate::reading::{Parsed, ReadFault};
 use crate::token::{expect_mark, expect_name, literal, mark_at, next, part_select_at};
 use std::alloc::Global;
 use vs_lexer::{Mark, Token};
@@ -56,7 +56,7 @@ pub fn expr<'t, 's>(
     alloc: Global,
     depth: u32,
     tokens: &'t [Token<'s>],
-) -> Result<Parsed<'t, 's, Expr>, Stop<'t, 's>>
+) -> Result<Parsed<'t, 's, Expr>, ReadFault<'t, 's>>
     ensures { ReadsTree (part an_expr) depth tokens.now expr_tree result }
 {
     let read = nested_expr(alloc, depth, tokens)?;
@@ -72,7 +72,7 @@ fn nested_expr<'t, 's>(
     alloc: Global,
     depth: u32,
     tokens: &'t [Token<'s>],
-) -> Result<Nested<'t, 's>, Stop<'t, 's>>
+) -> Result<Nested<'t, 's>, ReadFault<'t, 's>>
     ensures { Measured (part an_expr) depth (seen tokens.now) result }
 {
     let first = operands(alloc, depth, tokens, LEVELS)?;
@@ -86,7 +86,7 @@ fn choice<'t, 's>(
     alloc: Global,
     depth: u32,
     first: Nested<'t, 's>,
-) -> Result<Nested<'t, 's>, Stop<'t, 's>>
+) -> Result<Nested<'t, 's>, ReadFault<'t, 's>>
     requires { first.height ≡ height (expr_tree first.tree) }
     ensures { (ts : _) → Gets (part a_condition) depth ts (expr_tree first.entry.tree) (seen first.entry.rest.now)
         → Measured (part an_expr) depth ts result }
@@ -95,7 +95,7 @@ fn choice<'t, 's>(
         return Ok(first);
     };
     if first.height >= depth {
-        return Err(Stop::TooDeep(first.rest));
+        return Err(ReadFault::TooDeep(first.rest));
     }
     let mut height = first.height;
     // All of them, but from a call: so the borrow checker can join it with what the loop sets.
@@ -126,7 +126,7 @@ fn operands<'t, 's>(
     depth: u32,
     tokens: &'t [Token<'s>],
     top: usize,
-) -> Result<Nested<'t, 's>, Stop<'t, 's>>
+) -> Result<Nested<'t, 's>, ReadFault<'t, 's>>
     ensures { Measured (part (a_level top)) depth (seen tokens.now) result }
 {
     let mut read = operand(alloc, depth, tokens)?;
@@ -144,7 +144,7 @@ fn chain<'t, 's>(
     depth: u32,
     first: Nested<'t, 's>,
     level: usize,
-) -> Result<Nested<'t, 's>, Stop<'t, 's>>
+) -> Result<Nested<'t, 's>, ReadFault<'t, 's>>
     requires { first.height ≡ height (expr_tree first.tree) }
     ensures { (ts : _) → Gets (part (a_level level)) depth ts (expr_tree first.entry.tree) (seen first.entry.rest.now)
         → Measured (part (a_level (suc level))) depth ts result }
@@ -153,7 +153,7 @@ fn chain<'t, 's>(
         return Ok(first);
     };
     if first.height >= depth {
-        return Err(Stop::TooDeep(first.rest));
+        return Err(ReadFault::TooDeep(first.rest));
     }
     let mut height = first.height;
     // All of them, but from a call: so the borrow checker can join it with what the loop sets.
@@ -179,11 +179,11 @@ fn operand<'t, 's>(
     alloc: Global,
     depth: u32,
     tokens: &'t [Token<'s>],
-) -> Result<Nested<'t, 's>, Stop<'t, 's>>
+) -> Result<Nested<'t, 's>, ReadFault<'t, 's>>
     ensures { Measured (part an_operand) depth (seen tokens.now) result }
 {
     let Some(head) = operand_head(tokens) else {
-        return Err(Stop::Unexpected(tokens));
+        return Err(ReadFault::Unexpected(tokens));
     };
     match head {
         OperandHead::Number => number(tokens),
@@ -196,16 +196,16 @@ fn operand<'t, 's>(
 }
 
 /// Reads a number. It has no nodes.
-fn number<'t, 's>(tokens: &'t [Token<'s>]) -> Result<Nested<'t, 's>, Stop<'t, 's>>
+fn number<'t, 's>(tokens: &'t [Token<'s>]) -> Result<Nested<'t, 's>, ReadFault<'t, 's>>
     requires { first (seen tokens.now) ≡ any_number }
     ensures reads { (depth : ℕ) → Nests (part an_operand) depth (seen tokens.now) result }
     ensures height { IfOk result (λ x. x.height ≡ height (expr_tree x.tree)) }
 {
     let Some((first, rest)) = next(tokens) else {
-        return Err(Stop::Unexpected(tokens));
+        return Err(ReadFault::Unexpected(tokens));
     };
     let Some(number) = literal(first.kind) else {
-        return Err(Stop::Unexpected(tokens));
+        return Err(ReadFault::Unexpected(tokens));
     };
     Ok(Nested {
         tree: Expr::Number(number),
@@ -220,7 +220,7 @@ fn named<'t, 's>(
     alloc: Global,
     depth: u32,
     tokens: &'t [Token<'s>],
-) -> Result<Nested<'t, 's>, Stop<'t, 's>>
+) -> Result<Nested<'t, 's>, ReadFault<'t, 's>>
     requires { first (seen tokens.now) ≡ any_name }
     ensures { Measured (part an_operand) depth (seen tokens.now) result }
 {
@@ -233,7 +233,7 @@ fn named<'t, 's>(
         });
     };
     if depth == 0 {
-        return Err(Stop::TooDeep(start));
+        return Err(ReadFault::TooDeep(start));
     }
     let read = selects(alloc, depth - 1, start)?;
     Ok(Nested {
@@ -249,7 +249,7 @@ pub(crate) fn selects<'t, 's>(
     alloc: Global,
     depth: u32,
     tokens: &'t [Token<'s>],
-) -> Result<ReadSelects<'t, 's>, Stop<'t, 's>>
+) -> Result<ReadSelects<'t, 's>, ReadFault<'t, 's>>
     ensures { Measures (many select) depth (seen tokens.now)
         (λ x. row_of (map chosen_tree x.tree.items)) (λ x. x.height) (λ x. seen x.rest.now) result }
 {
@@ -273,7 +273,7 @@ fn chosen<'t, 's>(
     depth: u32,
     tokens: &'t [Token<'s>],
     after: &'t [Token<'s>],
-) -> Result<ReadSelect<'t, 's>, Stop<'t, 's>>
+) -> Result<ReadSelect<'t, 's>, ReadFault<'t, 's>>
     requires { seen tokens.now ≡ a_mark m.OpenBracket ∷ seen after.now }
     ensures { Measures select depth (seen tokens.now)
         (λ x. chosen_tree x.tree) (λ x. x.height) (λ x. seen x.rest.now) result }
@@ -303,12 +303,12 @@ fn prefixed<'t, 's>(
     tokens: &'t [Token<'s>],
     operator: Unary,
     after: &'t [Token<'s>],
-) -> Result<Nested<'t, 's>, Stop<'t, 's>>
+) -> Result<Nested<'t, 's>, ReadFault<'t, 's>>
     requires { seen tokens.now ≡ a_mark (unary_mark operator) ∷ seen after.now }
     ensures { Measured (part an_operand) depth (seen tokens.now) result }
 {
     if depth == 0 {
-        return Err(Stop::TooDeep(tokens));
+        return Err(ReadFault::TooDeep(tokens));
     }
     let inner = operand(alloc, depth - 1, after)?;
     let part = Box::new(alloc, inner.tree)?;
@@ -326,12 +326,12 @@ fn group<'t, 's>(
     depth: u32,
     tokens: &'t [Token<'s>],
     after: &'t [Token<'s>],
-) -> Result<Nested<'t, 's>, Stop<'t, 's>>
+) -> Result<Nested<'t, 's>, ReadFault<'t, 's>>
     requires { seen tokens.now ≡ a_mark m.Open ∷ seen after.now }
     ensures { Measured (part an_operand) depth (seen tokens.now) result }
 {
     if depth == 0 {
-        return Err(Stop::TooDeep(tokens));
+        return Err(ReadFault::TooDeep(tokens));
     }
     let inner = closed(alloc, depth - 1, after, Mark::Close)?;
     let part = Box::new(alloc, inner.tree)?;
@@ -350,12 +350,12 @@ fn cast<'t, 's>(
     tokens: &'t [Token<'s>],
     signed: bool,
     after: &'t [Token<'s>],
-) -> Result<Nested<'t, 's>, Stop<'t, 's>>
+) -> Result<Nested<'t, 's>, ReadFault<'t, 's>>
     requires { seen tokens.now ≡ a_cast signed ∷ seen after.now }
     ensures { Measured (part an_operand) depth (seen tokens.now) result }
 {
     if depth == 0 {
-        return Err(Stop::TooDeep(tokens));
+        return Err(ReadFault::TooDeep(tokens));
     }
     let opened = expect_mark(after, Mark::Open)?;
     let inner = closed(alloc, depth - 1, opened, Mark::Close)?;
@@ -374,7 +374,7 @@ fn closed<'t, 's>(
     depth: u32,
     tokens: &'t [Token<'s>],
     end: Mark,
-) -> Result<Nested<'t, 's>, Stop<'t, 's>>
+) -> Result<Nested<'t, 's>, ReadFault<'t, 's>>
     ensures { Measures (part an_expr · mark end) depth (seen tokens.now)
         (λ x. both (expr_tree x.tree) (leaf (a_mark end))) (λ x. x.height) (λ x. seen x.rest.now) result }
 {
@@ -394,12 +394,12 @@ fn braces<'t, 's>(
     depth: u32,
     tokens: &'t [Token<'s>],
     after: &'t [Token<'s>],
-) -> Result<Nested<'t, 's>, Stop<'t, 's>>
+) -> Result<Nested<'t, 's>, ReadFault<'t, 's>>
     requires { seen tokens.now ≡ a_mark m.OpenBrace ∷ seen after.now }
     ensures { Measured (part an_operand) depth (seen tokens.now) result }
 {
     if depth == 0 {
-        return Err(Stop::TooDeep(tokens));
+        return Err(ReadFault::TooDeep(tokens));
     }
     let first = nested_expr(alloc, depth - 1, after)?;
     let head = Box::new(alloc, first.tree)?;
@@ -428,7 +428,7 @@ fn others<'t, 's>(
     alloc: Global,
     depth: u32,
     tokens: &'t [Token<'s>],
-) -> Result<ReadOthers<'t, 's>, Stop<'t, 's>>
+) -> Result<ReadOthers<'t, 's>, ReadFault<'t, 's>>
     ensures { Measures (other_parts an_expr) depth (seen tokens.now)
         (λ x. others_tree (map expr_tree x.tree.items)) (λ x. x.height) (λ x. seen x.rest.now) result }
 {

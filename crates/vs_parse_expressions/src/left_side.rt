@@ -8,7 +8,7 @@ ghost use Rattle.vs_parse_expressions.specs.Answers.{seen, ReadsTree};
 
 use crate::expression::selects;
 use crate::head::{LeftHead, left_head};
-use crate::reading::{Parsed, Stop};
+use crate::reading::{Parsed, ReadFault};
 use crate::token::{expect_mark, expect_name, mark_at};
 use std::alloc::Global;
 use vs_lexer::{Mark, Token};
@@ -20,11 +20,11 @@ pub fn left<'t, 's>(
     alloc: Global,
     depth: u32,
     tokens: &'t [Token<'s>],
-) -> Result<Parsed<'t, 's, Left>, Stop<'t, 's>>
+) -> Result<Parsed<'t, 's, Left>, ReadFault<'t, 's>>
     ensures { ReadsTree (part a_target) depth tokens.now left_tree result }
 {
     let Some(head) = left_head(tokens) else {
-        return Err(Stop::Unexpected(tokens));
+        return Err(ReadFault::Unexpected(tokens));
     };
     match head {
         LeftHead::Name => place(alloc, depth, tokens),
@@ -37,12 +37,12 @@ fn place<'t, 's>(
     alloc: Global,
     depth: u32,
     tokens: &'t [Token<'s>],
-) -> Result<Parsed<'t, 's, Left>, Stop<'t, 's>>
+) -> Result<Parsed<'t, 's, Left>, ReadFault<'t, 's>>
     requires { first (seen tokens.now) ≡ any_name }
     ensures { ReadsTree (part a_target) depth tokens.now left_tree result }
 {
     if depth == 0 {
-        return Err(Stop::TooDeep(tokens));
+        return Err(ReadFault::TooDeep(tokens));
     }
     let (name, after_name) = expect_name(alloc, tokens)?;
     let read = selects(alloc, depth - 1, after_name)?;
@@ -57,7 +57,7 @@ pub fn name_selects<'t, 's>(
     alloc: Global,
     depth: u32,
     tokens: &'t [Token<'s>],
-) -> Result<Parsed<'t, 's, Vec<(Expr, Option<(PartSelect, Expr)>)>>, Stop<'t, 's>>
+) -> Result<Parsed<'t, 's, Vec<(Expr, Option<(PartSelect, Expr)>)>>, ReadFault<'t, 's>>
     ensures { ReadsTree (many select) depth tokens.now (λ xs. row_of (map chosen_tree xs.items)) result }
 {
     let read = selects(alloc, depth, tokens)?;
@@ -74,12 +74,12 @@ fn places<'t, 's>(
     depth: u32,
     tokens: &'t [Token<'s>],
     after: &'t [Token<'s>],
-) -> Result<Parsed<'t, 's, Left>, Stop<'t, 's>>
+) -> Result<Parsed<'t, 's, Left>, ReadFault<'t, 's>>
     requires { seen tokens.now ≡ a_mark m.OpenBrace ∷ seen after.now }
     ensures { ReadsTree (part a_target) depth tokens.now left_tree result }
 {
     if depth < 2 {
-        return Err(Stop::TooDeep(tokens));
+        return Err(ReadFault::TooDeep(tokens));
     }
     let first = left(alloc, depth - 1, after)?;
     let mut others = Vec::new(alloc);

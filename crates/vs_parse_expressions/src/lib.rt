@@ -11,7 +11,7 @@ mod token;
 pub use expression::expr;
 pub use head::begins_expr;
 pub use left_side::{left, name_selects};
-pub use reading::{Parsed, Stop};
+pub use reading::{Parsed, ReadFault};
 pub use token::{
     SystemName, expect_mark, expect_name, expect_word, literal, mark_at, next, system_name, word_at,
 };

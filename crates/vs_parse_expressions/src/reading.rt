@@ -1,6 +1,6 @@
 //! What each function that reads a part of a source answers.
 ghost use Rattle.std.specs.Prelude.{◌≡◌};
-ghost use Rattle.vs_parse_expressions.specs.declared.reading.Stop.TheVariants.{Memory};
+ghost use Rattle.vs_parse_expressions.specs.declared.reading.ReadFault.TheVariants.{Memory};
 
 use std::alloc::{AllocError, AllocFailed};
 use vs_lexer::Token;
@@ -14,7 +14,7 @@ pub struct Parsed<'t, 's, T> {
 
 /// Why reading stopped, and the tokens from the place on.
 #[derive(Drop)]
-pub enum Stop<'t, 's> {
+pub enum ReadFault<'t, 's> {
     /// Memory ran out.
     Memory,
     /// No source goes on with the next token, or ends there.
@@ -23,18 +23,18 @@ pub enum Stop<'t, 's> {
     TooDeep(&'t [Token<'s>]),
 }
 
-impl<'t, 's> From<AllocError> for Stop<'t, 's> {
+impl<'t, 's> From<AllocError> for ReadFault<'t, 's> {
     ghost from_gives = { λ _ e. e ≡ Memory };
 
-    fn from(_error: AllocError) -> Stop<'t, 's> {
-        Stop::Memory
+    fn from(_error: AllocError) -> ReadFault<'t, 's> {
+        ReadFault::Memory
     }
 }
 
-impl<'t, 's, T: Drop> From<AllocFailed<T>> for Stop<'t, 's> {
+impl<'t, 's, T: Drop> From<AllocFailed<T>> for ReadFault<'t, 's> {
     ghost from_gives = { λ _ e. e ≡ Memory };
 
-    fn from(_error: AllocFailed<T>) -> Stop<'t, 's> {
-        Stop::Memory
+    fn from(_error: AllocFailed<T>) -> ReadFault<'t, 's> {
+        ReadFault::Memory
     }
 }

@@ -10,7 +10,7 @@ ghost use Rattle.vs_syntax.specs.Views.{name_tree, part_mark};
 ghost use Rattle.vs_parse_expressions.specs.Answers.{seen, Answers};
 ghost use Rattle.vs_parse_expressions.specs.Heads.{NoNumber, system_spelled};
 
-use crate::reading::Stop;
+use crate::reading::ReadFault;
 use std::alloc::Global;
 use vs_lexer::{Kind, Literal, Mark, Token, Word};
 use vs_syntax::{DumpTask, PartSelect, PrintTask};
@@ -109,13 +109,13 @@ pub fn word_at<'t, 's>(tokens: &'t [Token<'s>], wanted: Word) -> Option<&'t [Tok
 pub fn expect_mark<'t, 's>(
     tokens: &'t [Token<'s>],
     wanted: Mark,
-) -> Result<&'t [Token<'s>], Stop<'t, 's>>
+) -> Result<&'t [Token<'s>], ReadFault<'t, 's>>
     ensures { (depth : ℕ) → Answers (mark wanted) depth (seen tokens.now)
         (λ _. leaf (a_mark wanted)) (λ rest. seen rest.now) result }
 {
     match mark_at(tokens, wanted) {
         Some(rest) => Ok(rest),
-        None => Err(Stop::Unexpected(tokens)),
+        None => Err(ReadFault::Unexpected(tokens)),
     }
 }
 
@@ -123,13 +123,13 @@ pub fn expect_mark<'t, 's>(
 pub fn expect_word<'t, 's>(
     tokens: &'t [Token<'s>],
     wanted: Word,
-) -> Result<&'t [Token<'s>], Stop<'t, 's>>
+) -> Result<&'t [Token<'s>], ReadFault<'t, 's>>
     ensures { (depth : ℕ) → Answers (word wanted) depth (seen tokens.now)
         (λ _. leaf (a_word wanted)) (λ rest. seen rest.now) result }
 {
     match word_at(tokens, wanted) {
         Some(rest) => Ok(rest),
-        None => Err(Stop::Unexpected(tokens)),
+        None => Err(ReadFault::Unexpected(tokens)),
     }
 }
 
@@ -137,16 +137,16 @@ pub fn expect_word<'t, 's>(
 pub fn expect_name<'t, 's>(
     alloc: Global,
     tokens: &'t [Token<'s>],
-) -> Result<(Vec<u8>, &'t [Token<'s>]), Stop<'t, 's>>
+) -> Result<(Vec<u8>, &'t [Token<'s>]), ReadFault<'t, 's>>
     ensures { (depth : ℕ) → Answers name depth (seen tokens.now)
         (λ x. name_tree x.0.items) (λ x. seen x.1.now) result }
 {
     let Some((first, rest)) = next(tokens) else {
-        return Err(Stop::Unexpected(tokens));
+        return Err(ReadFault::Unexpected(tokens));
     };
     match first.kind {
         Kind::Name => Ok((Vec::from_slice(alloc, first.name())?, rest)),
-        _ => Err(Stop::Unexpected(tokens)),
+        _ => Err(ReadFault::Unexpected(tokens)),
     }
 }
 

@@ -13,7 +13,7 @@ use Rattle.vs_syntax.specs.Views.{range_tree, told_tree}
 use Rattle.vs_syntax.specs.declared.tree.Range.{Range}
 use Rattle.vs_syntax.proofs.Gets.{gets_token, gets_seq, gets_left, gets_right, gets_part}
 use Rattle.vs_parse_expressions.specs.declared.reading.Parsed.{Parsed}
-use Rattle.vs_parse_expressions.specs.declared.reading.Stop.{Stop}
+use Rattle.vs_parse_expressions.specs.declared.reading.ReadFault.{ReadFault}
 use Rattle.vs_parse_expressions.specs.Answers.{seen, ReadsTree}
 use Rattle.vs_parse_expressions.proofs.Exits.{fails_by}
 use Rattle.vs_parse_lists.specs.Parts.{ReadsWithin, Beyond}
@@ -53,12 +53,12 @@ pub beyond_present : (s : Symbol) (g : Grammar) (depth : ℕ) (ts after : List S
 beyond_present s g depth ts after n e = record { reads = λ y at p. present_read s g depth ts after at y e p; stops = λ deep at k. present_stuck s g depth deep ts after at n e k }
 
 -- a whole, by what reading its last part answers
-pub within_beyond : {X : Type 0} (a g : Grammar) (tree : X → Tree) (w : Tree → Tree) (depth : ℕ) (ts mid : List Token) (r : Result (Parsed X) Stop) → Beyond a g w depth (seen ts) (seen mid) → ReadsWithin tree w a depth mid r → ReadsTree g depth ts tree r
+pub within_beyond : {X : Type 0} (a g : Grammar) (tree : X → Tree) (w : Tree → Tree) (depth : ℕ) (ts mid : List Token) (r : Result (Parsed X) ReadFault) → Beyond a g w depth (seen ts) (seen mid) → ReadsWithin tree w a depth mid r → ReadsTree g depth ts tree r
 within_beyond a g tree w depth ts mid (Ok x) b p = subst (λ (u : Tree). Gets g depth (seen ts) u (seen x.rest.now)) (sym p.whole) (b.reads p.inner (seen x.rest.now) p.gets)
 within_beyond a g tree w depth ts mid (Err e) b f = beyond_fails a g w depth (seen ts) (seen mid) e b f
 
 -- a part, by what reading its rule answers
-pub part_answers : {X : Type 0} (p : Nonterminal) (tree : X → Tree) (depth : ℕ) (ts : List Token) (r : Result (Parsed X) Stop) → ReadsTree (rule p) depth ts tree r → ReadsTree (part p) depth ts tree r
+pub part_answers : {X : Type 0} (p : Nonterminal) (tree : X → Tree) (depth : ℕ) (ts : List Token) (r : Result (Parsed X) ReadFault) → ReadsTree (rule p) depth ts tree r → ReadsTree (part p) depth ts tree r
 part_answers p tree depth ts (Ok x) q = gets_part q
 part_answers p tree depth ts (Err e) f = fails_by (rule p) (part p) depth depth (seen ts) (seen ts) (λ deep at s. stuck_part s) e f
 

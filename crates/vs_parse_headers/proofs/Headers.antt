@@ -16,7 +16,7 @@ use Rattle.vs_syntax.specs.declared.tree.HeaderParameter.{HeaderParameter}
 use Rattle.vs_syntax.specs.declared.tree.ParameterForm.{ParameterForm}
 use Rattle.vs_syntax.proofs.Gets.{gets_nothing, gets_token, gets_seq, gets_right}
 use Rattle.vs_parse_expressions.specs.declared.reading.Parsed.{Parsed}
-use Rattle.vs_parse_expressions.specs.declared.reading.Stop.{Stop}
+use Rattle.vs_parse_expressions.specs.declared.reading.ReadFault.{ReadFault}
 use Rattle.vs_parse_expressions.specs.Answers.{seen, ReadsTree}
 use Rattle.vs_parse_headers.proofs.Declarations.{beyond_present, within_beyond}
 use Rattle.vs_parse_lists.specs.Lists.{behind_commas, Grown}
@@ -55,7 +55,7 @@ inside_beyond depth ts after inside e p =
 pub word_beyond : (depth : ℕ) (ts after : List Symbol) → ts ≡ a_word w.Parameter ∷ after → Beyond parameter_form (word w.Parameter · parameter_form) (both (leaf (a_word w.Parameter))) depth ts after
 word_beyond depth ts after e = beyond_part (word w.Parameter) parameter_form depth ts after (leaf (a_word w.Parameter)) (rw e (gets_token refl))
 
-pub parameter_answers : (front : Grammar) (depth : ℕ) (ts mid : List Token) (after : List Symbol) (f : ParameterForm) (r : Result (Parsed HeaderParameter) Stop) → Beyond parameter_form front (both (leaf (a_word w.Parameter))) depth (seen ts) after → Gets parameter_form depth after (parameter_form_tree f) (seen mid) →
+pub parameter_answers : (front : Grammar) (depth : ℕ) (ts mid : List Token) (after : List Symbol) (f : ParameterForm) (r : Result (Parsed HeaderParameter) ReadFault) → Beyond parameter_form front (both (leaf (a_word w.Parameter))) depth (seen ts) after → Gets parameter_form depth after (parameter_form_tree f) (seen mid) →
     ReadsWithin header_parameter_tree (λ y. both (parameter_word_tree (Some f)) y) (part a_constant) depth mid r → ReadsTree (front · part a_constant) depth ts header_parameter_tree r
 parameter_answers front depth ts mid after f r b p w =
     within_beyond (part a_constant) (front · part a_constant) header_parameter_tree _ depth ts mid r

@@ -12,7 +12,7 @@ use Rattle.vs_syntax.specs.Views.{connections_tree}
 use Rattle.vs_syntax.specs.declared.tree.Connections.{Connections}
 use Rattle.vs_syntax.proofs.Gets.{gets_nothing, gets_left, gets_right}
 use Rattle.vs_parse_expressions.specs.declared.reading.Parsed.{Parsed}
-use Rattle.vs_parse_expressions.specs.declared.reading.Stop.{Stop}
+use Rattle.vs_parse_expressions.specs.declared.reading.ReadFault.{ReadFault}
 use Rattle.vs_parse_expressions.specs.Answers.{seen, ReadsTree}
 use Rattle.vs_parse_expressions.proofs.Exits.{fails_by, goes_at}
 use Rattle.vs_parse_lists.specs.Lists.{behind_commas}
@@ -32,14 +32,14 @@ named_goes : (ts after : List Symbol) → ts ≡ a_mark m.Dot ∷ after → goes
 named_goes ts after e = goes_at named ts (the_mark m.Dot) true (ap first e) refl
 
 -- connections, by what reading them by name answers
-pub named_answers : (depth : ℕ) (ts : List Token) (after : List Symbol) (r : Result (Parsed Connections) Stop) → seen ts ≡ a_mark m.Dot ∷ after → ReadsTree named depth ts connections_tree r → ReadsTree connections depth ts connections_tree r
+pub named_answers : (depth : ℕ) (ts : List Token) (after : List Symbol) (r : Result (Parsed Connections) ReadFault) → seen ts ≡ a_mark m.Dot ∷ after → ReadsTree named depth ts connections_tree r → ReadsTree connections depth ts connections_tree r
 named_answers depth ts after (Ok x) e p = gets_left (named_goes (seen ts) after e) p
 named_answers depth ts after (Err s) e p =
     let none : 0 ≤ depth = omega arith in
     fails_by named connections depth depth (seen ts) (seen ts) (λ deep at t. stuck_left (named_goes (seen ts) after e) none t) s p
 
 -- the same in order
-pub ordered_answers : (depth : ℕ) (ts : List Token) (r : Result (Parsed Connections) Stop) → goes (mark m.Dot) (seen ts) ≡ false → ReadsTree ordered depth ts connections_tree r → ReadsTree connections depth ts connections_tree r
+pub ordered_answers : (depth : ℕ) (ts : List Token) (r : Result (Parsed Connections) ReadFault) → goes (mark m.Dot) (seen ts) ≡ false → ReadsTree ordered depth ts connections_tree r → ReadsTree connections depth ts connections_tree r
 ordered_answers depth ts (Ok x) h p = gets_right h p
 ordered_answers depth ts (Err s) h p =
     let none : 0 ≤ depth = omega arith in

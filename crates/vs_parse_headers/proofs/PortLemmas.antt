@@ -25,7 +25,7 @@ use Rattle.vs_syntax.proofs.Fronts.{goes-either}
 use Rattle.std.proofs.lemmas.Bool.{or_parts as or_false}
 use Rattle.vs_syntax.proofs.Gets.{gets_nothing, gets_token, gets_seq, gets_left, gets_right, gets_part}
 use Rattle.vs_parse_expressions.specs.declared.reading.Parsed.{Parsed}
-use Rattle.vs_parse_expressions.specs.declared.reading.Stop.{Stop}
+use Rattle.vs_parse_expressions.specs.declared.reading.ReadFault.{ReadFault}
 use Rattle.vs_parse_expressions.specs.Answers.{seen, FailsToRead, ReadsTree}
 use Rattle.vs_parse_expressions.proofs.Exits.{fails_by, goes_at}
 use Rattle.vs_parse_lists.specs.Parts.{Beyond, Leads}
@@ -121,7 +121,7 @@ form_beyond depth d o f ts after mid rest e h p =
     beyond_behind named (variable_form or net_form) (part told_ports) (λ y. both (kind_tree o) (both (form_tree f) y)) (both (leaf (a_word (direction_word d)))) depth ts after rest (direction_beyond depth d ts after e)
     (beyond_behind named (form · named) (variable_form or net_form) (both (form_tree f)) (both (kind_tree o)) depth after mid rest (kind_beyond depth o after mid h) (beyond_part form named depth mid rest (form_tree f) p))
 
-pub form_fails : (depth : ℕ) (d : Direction) (o : Option PortKind) (ts after mid : List Symbol) (e : Stop) → ts ≡ a_word (direction_word d) ∷ after → IsKind after o mid → FailsToRead form depth mid e → FailsToRead (part told_ports) depth ts e
+pub form_fails : (depth : ℕ) (d : Direction) (o : Option PortKind) (ts after mid : List Symbol) (e : ReadFault) → ts ≡ a_word (direction_word d) ∷ after → IsKind after o mid → FailsToRead form depth mid e → FailsToRead (part told_ports) depth ts e
 form_fails depth d o ts after mid e i h f =
     fails_by form (part told_ports) depth depth mid ts (λ deep at s. (direction_beyond depth d ts after i).stops deep at ((kind_beyond depth o after mid h).stops deep at (stuck_first s))) e f
 
@@ -165,7 +165,7 @@ form_shorter depth d o x ts after mid rest e h p =
     omega (arith, ap length e, gets_length port_kind depth after mid (kind_tree o) (kind_gets depth o after mid h), gets_length form depth mid rest x p)
 
 -- what is shorter behind a part, behind one that stands before it too
-pub still_shorter : (ts mid : List Symbol) (r : Result (Parsed Port) Stop) → length mid < length ts → IfOk r (λ x. length (seen x.rest.now) < length mid) → IfOk r (λ x. length (seen x.rest.now) < length ts)
+pub still_shorter : (ts mid : List Symbol) (r : Result (Parsed Port) ReadFault) → length mid < length ts → IfOk r (λ x. length (seen x.rest.now) < length mid) → IfOk r (λ x. length (seen x.rest.now) < length ts)
 still_shorter ts mid (Ok x) h k = omega (arith, h, k)
 still_shorter ts mid (Err e) h k = k
 
@@ -175,7 +175,7 @@ comma_shorter ts after rest e h = omega (arith, ap length e, h)
 
 -- ---- a port
 
-pub told_leads : (said : Said) (depth : ℕ) (ts mid : List Token) (f : PortForm) (r : Result (Parsed Port) Stop) → Beyond (part (named_by (said_of f.kind))) (part told_ports) (port_form_tree (Some f)) depth (seen ts) (seen mid) →
+pub told_leads : (said : Said) (depth : ℕ) (ts mid : List Token) (f : PortForm) (r : Result (Parsed Port) ReadFault) → Beyond (part (named_by (said_of f.kind))) (part told_ports) (port_form_tree (Some f)) depth (seen ts) (seen mid) →
     Leads (others_by (said_of f.kind)) (part (named_by (said_of f.kind))) named_port_tree depth mid r → IfOk r (λ x. x.tree.form ≡ Some f) → LeadsOn said (part told_ports) depth ts r
 told_leads said depth ts mid f (Ok x) b l e =
     subst (λ (u : Option PortForm). Beyond (others_by (said_after said u)) (part told_ports) (λ y. port_form_tree u (named_port_tree x.tree y)) depth (seen ts) (seen x.rest.now)) (sym e)
@@ -186,21 +186,21 @@ told_leads said depth ts mid f (Err e) b l h = beyond_fails (part (named_by (sai
 alone_beyond : (a g : Grammar) (depth : ℕ) (ts rest : List Symbol) (x : Port) → x.form ≡ None → Beyond a g (named_port_tree x) depth ts rest → Beyond a g (port_tree x) depth ts rest
 alone_beyond a g depth ts rest x e b = subst (λ (u : Option PortForm). Beyond a g (λ y. port_form_tree u (named_port_tree x y)) depth ts rest) (sym e) b
 
-pub alone_leads : (said : Said) (depth : ℕ) (ts : List Token) (r : Result (Parsed Port) Stop) → Leads (others_by said) (part (named_by said)) named_port_tree depth ts r → IfOk r (λ x. x.tree.form ≡ None) → LeadsOn said (part (named_by said)) depth ts r
+pub alone_leads : (said : Said) (depth : ℕ) (ts : List Token) (r : Result (Parsed Port) ReadFault) → Leads (others_by said) (part (named_by said)) named_port_tree depth ts r → IfOk r (λ x. x.tree.form ≡ None) → LeadsOn said (part (named_by said)) depth ts r
 alone_leads said depth ts (Ok x) l e =
     subst (λ (u : Option PortForm). Beyond (others_by (said_after said u)) (part (named_by said)) (λ y. port_form_tree u (named_port_tree x.tree y)) depth (seen ts) (seen x.rest.now)) (sym e) l
 alone_leads said depth ts (Err e) l h = l
 
-pub leads_left : (said : Said) (a b : Grammar) (depth : ℕ) (ts : List Token) (r : Result (Parsed Port) Stop) → goes a (seen ts) ≡ true → low a ≤ depth → LeadsOn said a depth ts r → LeadsOn said (a or b) depth ts r
+pub leads_left : (said : Said) (a b : Grammar) (depth : ℕ) (ts : List Token) (r : Result (Parsed Port) ReadFault) → goes a (seen ts) ≡ true → low a ≤ depth → LeadsOn said a depth ts r → LeadsOn said (a or b) depth ts r
 leads_left said a b depth ts (Ok x) h n l = record { reads = λ y at q. gets_left h (l.reads y at q); stops = λ deep at s. stuck_left h n (l.stops deep at s) }
 leads_left said a b depth ts (Err e) h n l = fails_by a (a or b) depth depth (seen ts) (seen ts) (λ deep at s. stuck_left h n s) e l
 
-pub leads_right : (said : Said) (a b : Grammar) (depth : ℕ) (ts : List Token) (r : Result (Parsed Port) Stop) → goes a (seen ts) ≡ false → low b ≤ depth → LeadsOn said b depth ts r → LeadsOn said (a or b) depth ts r
+pub leads_right : (said : Said) (a b : Grammar) (depth : ℕ) (ts : List Token) (r : Result (Parsed Port) ReadFault) → goes a (seen ts) ≡ false → low b ≤ depth → LeadsOn said b depth ts r → LeadsOn said (a or b) depth ts r
 leads_right said a b depth ts (Ok x) h n l = record { reads = λ y at q. gets_right h (l.reads y at q); stops = λ deep at s. stuck_right h n (l.stops deep at s) }
 leads_right said a b depth ts (Err e) h n l = fails_by b (a or b) depth depth (seen ts) (seen ts) (λ deep at s. stuck_right h n s) e l
 
 -- a port with its direction, where a name alone may stand too, and the other way round
-pub told_first : (said : Said) (depth : ℕ) (d : Direction) (ts : List Token) (after : List Symbol) (r : Result (Parsed Port) Stop) → seen ts ≡ a_word (direction_word d) ∷ after → LeadsOn said (part told_ports) depth ts r → LeadsOn said (part told_ports or part (named_by said)) depth ts r
+pub told_first : (said : Said) (depth : ℕ) (d : Direction) (ts : List Token) (after : List Symbol) (r : Result (Parsed Port) ReadFault) → seen ts ≡ a_word (direction_word d) ∷ after → LeadsOn said (part told_ports) depth ts r → LeadsOn said (part told_ports or part (named_by said)) depth ts r
 told_first said depth d ts after r e l =
     let none : 0 ≤ depth = omega arith in
     leads_left said (part told_ports) (part (named_by said)) depth ts r (direction_goes d (seen ts) after e) none l
@@ -210,7 +210,7 @@ low_by s.Nothing = refl
 low_by s.Net = refl
 low_by s.Variable = refl
 
-pub named_second : (said : Said) (depth : ℕ) (ts : List Token) (r : Result (Parsed Port) Stop) → goes direction (seen ts) ≡ false → LeadsOn said (part (named_by said)) depth ts r → LeadsOn said (part told_ports or part (named_by said)) depth ts r
+pub named_second : (said : Said) (depth : ℕ) (ts : List Token) (r : Result (Parsed Port) ReadFault) → goes direction (seen ts) ≡ false → LeadsOn said (part (named_by said)) depth ts r → LeadsOn said (part told_ports or part (named_by said)) depth ts r
 named_second said depth ts r h l =
     let none : low (part (named_by said)) ≤ depth = omega (arith, low_by said) in
     leads_right said (part told_ports) (part (named_by said)) depth ts r h none l
@@ -259,18 +259,18 @@ joined_all before said depth start rest x xs j h = record {
 
 -- ---- the whole list
 
-followed_answers : (a g : Grammar) (depth : ℕ) (ts mid : List Token) (x : Port) (r : Result (Parsed (Vec Port Global)) Stop) → Beyond a g (port_tree x) depth (seen ts) (seen mid) →
+followed_answers : (a g : Grammar) (depth : ℕ) (ts mid : List Token) (x : Port) (r : Result (Parsed (Vec Port Global)) ReadFault) → Beyond a g (port_tree x) depth (seen ts) (seen mid) →
     MatchResult r (λ y. Followed a depth (seen mid) (seen y.rest.now) x y.tree.items) (λ e. FailsToRead a depth (seen mid) e) → ReadsTree g depth ts (λ ps. ports_tree ps.items) r
 followed_answers a g depth ts mid x (Ok y) b f = subst (λ (u : List Port). Gets g depth (seen ts) (ports_tree u) (seen y.rest.now)) (sym f.all_are) (b.reads (more_ports_tree f.others) (seen y.rest.now) f.gets)
 followed_answers a g depth ts mid x (Err e) b f = beyond_fails a g (port_tree x) depth (seen ts) (seen mid) e b f
 
-told_within : (depth : ℕ) (ts : List Token) (r : Result (Parsed (Vec Port Global)) Stop) → goes (part told_ports) (seen ts) ≡ true → ReadsTree (part told_ports) depth ts (λ ps. ports_tree ps.items) r → ReadsTree ports_within depth ts (λ ps. ports_tree ps.items) r
+told_within : (depth : ℕ) (ts : List Token) (r : Result (Parsed (Vec Port Global)) ReadFault) → goes (part told_ports) (seen ts) ≡ true → ReadsTree (part told_ports) depth ts (λ ps. ports_tree ps.items) r → ReadsTree ports_within depth ts (λ ps. ports_tree ps.items) r
 told_within depth ts (Ok y) h q = gets_left h q
 told_within depth ts (Err s) h q =
     let none : 0 ≤ depth = omega arith in
     fails_by (part told_ports) ports_within depth depth (seen ts) (seen ts) (λ deep at t. stuck_left h none t) s q
 
-pub told_answers : (depth : ℕ) (d : Direction) (ts mid : List Token) (after : List Symbol) (x : Port) (r : Result (Parsed (Vec Port Global)) Stop) → seen ts ≡ a_word (direction_word d) ∷ after →
+pub told_answers : (depth : ℕ) (d : Direction) (ts mid : List Token) (after : List Symbol) (x : Port) (r : Result (Parsed (Vec Port Global)) ReadFault) → seen ts ≡ a_word (direction_word d) ∷ after →
     Beyond (others_by (said_after s.Nothing x.form)) (part told_ports) (port_tree x) depth (seen ts) (seen mid) →
     MatchResult r (λ y. Followed (others_by (said_after s.Nothing x.form)) depth (seen mid) (seen y.rest.now) x y.tree.items) (λ e. FailsToRead (others_by (said_after s.Nothing x.form)) depth (seen mid) e) →
     ReadsTree ports_within depth ts (λ ps. ports_tree ps.items) r
@@ -289,11 +289,11 @@ names_stuck depth deep ts at d h s =
     let none : 0 ≤ depth = omega arith in
     stuck_right d none (stuck_left h none s)
 
-names_within : (depth : ℕ) (ts : List Token) (r : Result (Parsed (Vec Port Global)) Stop) → goes direction (seen ts) ≡ false → goes name (seen ts) ≡ true → ReadsTree (part port_names) depth ts (λ ps. ports_tree ps.items) r → ReadsTree ports_within depth ts (λ ps. ports_tree ps.items) r
+names_within : (depth : ℕ) (ts : List Token) (r : Result (Parsed (Vec Port Global)) ReadFault) → goes direction (seen ts) ≡ false → goes name (seen ts) ≡ true → ReadsTree (part port_names) depth ts (λ ps. ports_tree ps.items) r → ReadsTree ports_within depth ts (λ ps. ports_tree ps.items) r
 names_within depth ts (Ok y) d h q = gets_right d (gets_left h q)
 names_within depth ts (Err s) d h q = fails_by (part port_names) ports_within depth depth (seen ts) (seen ts) (λ deep at t. names_stuck depth deep (seen ts) at d h t) s q
 
-pub names_answers : (depth : ℕ) (ts mid : List Token) (x : Port) (r : Result (Parsed (Vec Port Global)) Stop) → goes direction (seen ts) ≡ false → goes name (seen ts) ≡ true → x.form ≡ None →
+pub names_answers : (depth : ℕ) (ts mid : List Token) (x : Port) (r : Result (Parsed (Vec Port Global)) ReadFault) → goes direction (seen ts) ≡ false → goes name (seen ts) ≡ true → x.form ≡ None →
     Beyond (others_by s.Nothing) (part port_names) (named_port_tree x) depth (seen ts) (seen mid) →
     MatchResult r (λ y. Followed (others_by s.Nothing) depth (seen mid) (seen y.rest.now) x y.tree.items) (λ e. FailsToRead (others_by s.Nothing) depth (seen mid) e) →
     ReadsTree ports_within depth ts (λ ps. ports_tree ps.items) r

@@ -15,7 +15,7 @@ use Rattle.vs_syntax.specs.declared.tree.PortKind.TheVariants as k
 use Rattle.vs_syntax.specs.declared.tree.PortForm.{PortForm}
 use Rattle.vs_syntax.specs.declared.tree.Port.{Port}
 use Rattle.vs_parse_expressions.specs.declared.reading.Parsed.{Parsed}
-use Rattle.vs_parse_expressions.specs.declared.reading.Stop.{Stop}
+use Rattle.vs_parse_expressions.specs.declared.reading.ReadFault.{ReadFault}
 use Rattle.vs_parse_expressions.specs.Answers.{seen, FailsToRead}
 use Rattle.vs_parse_lists.specs.Parts.{Beyond}
 use Rattle.vs_parse_headers.specs.declared.port.Said.{Said}
@@ -83,12 +83,12 @@ abbrev pub named_port_tree : Port → Tree → Tree
 named_port_tree p rest = both (name_tree p.name.items) (both (value_tree p.value) rest)
 
 -- a port, or why and where reading it stopped, behind one of which this is said
-abbrev pub LeadsOn : Said → Grammar → ℕ → List Token → Result (Parsed Port) Stop → Type 0
+abbrev pub LeadsOn : Said → Grammar → ℕ → List Token → Result (Parsed Port) ReadFault → Type 0
 LeadsOn said g depth ts (Ok r) = Beyond (others_by (said_after said r.tree.form)) g (port_tree r.tree) depth (seen ts) (seen r.rest.now)
 LeadsOn said g depth ts (Err e) = FailsToRead g depth (seen ts) e
 
 -- what stands before the name of a port, or why and where reading it stopped
-abbrev pub LeadsToName : ℕ → List Token → Result (Parsed PortForm) Stop → Type 0
+abbrev pub LeadsToName : ℕ → List Token → Result (Parsed PortForm) ReadFault → Type 0
 LeadsToName depth ts (Ok r) = Beyond (part (named_by (said_of r.tree.kind))) (part told_ports) (port_form_tree (Some r.tree)) depth (seen ts) (seen r.rest.now)
 LeadsToName depth ts (Err e) = FailsToRead (part told_ports) depth (seen ts) e
 

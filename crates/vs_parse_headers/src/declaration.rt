@@ -9,7 +9,7 @@ ghost use Rattle.vs_parse_lists.specs.Parts.{ReadsWithin};
 
 use std::alloc::Global;
 use vs_lexer::{Mark, Token};
-use vs_parse_expressions::{Parsed, Stop, expect_mark, expect_name, expr, left, mark_at};
+use vs_parse_expressions::{Parsed, ReadFault, expect_mark, expect_name, expr, left, mark_at};
 use vs_parse_lists::{Element, declared_range};
 use vs_syntax::{Declarator, NetAssignment};
 
@@ -36,7 +36,7 @@ impl Element for Net {
         alloc: Global,
         depth: u32,
         tokens: &'t [Token<'s>],
-    ) -> Result<Parsed<'t, 's, Declarator>, Stop<'t, 's>> {
+    ) -> Result<Parsed<'t, 's, Declarator>, ReadFault<'t, 's>> {
         let (name, after_name) = expect_name(alloc, tokens)?;
         let Some(after) = mark_at(after_name, Mark::Assign) else {
             return Ok(Parsed {
@@ -63,7 +63,7 @@ impl Element for Variable {
         alloc: Global,
         depth: u32,
         tokens: &'t [Token<'s>],
-    ) -> Result<Parsed<'t, 's, Declarator>, Stop<'t, 's>> {
+    ) -> Result<Parsed<'t, 's, Declarator>, ReadFault<'t, 's>> {
         let (name, after_name) = expect_name(alloc, tokens)?;
         let Some(after) = mark_at(after_name, Mark::Assign) else {
             let words = declared_range(alloc, depth, after_name)?;
@@ -91,7 +91,7 @@ impl Element for BareName {
         alloc: Global,
         _room: u32,
         tokens: &'t [Token<'s>],
-    ) -> Result<Parsed<'t, 's, Vec<u8>>, Stop<'t, 's>> {
+    ) -> Result<Parsed<'t, 's, Vec<u8>>, ReadFault<'t, 's>> {
         let (name, rest) = expect_name(alloc, tokens)?;
         Ok(Parsed { tree: name, rest })
     }
@@ -108,7 +108,7 @@ impl Element for Assignment {
         alloc: Global,
         depth: u32,
         tokens: &'t [Token<'s>],
-    ) -> Result<Parsed<'t, 's, NetAssignment>, Stop<'t, 's>> {
+    ) -> Result<Parsed<'t, 's, NetAssignment>, ReadFault<'t, 's>> {
         let target = left(alloc, depth, tokens)?;
         let after_sign = expect_mark(target.rest, Mark::Assign)?;
         let value = expr(alloc, depth, after_sign)?;
@@ -128,7 +128,7 @@ fn initialised<'t, 's>(
     depth: u32,
     name: Vec<u8>,
     tokens: &'t [Token<'s>],
-) -> Result<Parsed<'t, 's, Declarator>, Stop<'t, 's>>
+) -> Result<Parsed<'t, 's, Declarator>, ReadFault<'t, 's>>
     ensures { ReadsWithin declarator_tree (λ y. both (name_tree name.items) (both (leaf (a_mark m.Assign)) y)) (part an_expr)
         depth tokens.now result }
 {

@@ -17,7 +17,7 @@ ghost use Rattle.vs_parse_lists.specs.Parts.{ReadsWithin};
 use crate::parameter::{ParameterList, parameter_form};
 use std::alloc::Global;
 use vs_lexer::{Mark, Token, Word};
-use vs_parse_expressions::{Parsed, Stop, expect_mark, mark_at, word_at};
+use vs_parse_expressions::{Parsed, ReadFault, expect_mark, mark_at, word_at};
 use vs_parse_lists::{Element, ended, others};
 use vs_syntax::{HeaderParameter, ParameterForm};
 
@@ -35,7 +35,7 @@ impl Element for OtherParameter {
         alloc: Global,
         depth: u32,
         tokens: &'t [Token<'s>],
-    ) -> Result<Parsed<'t, 's, HeaderParameter>, Stop<'t, 's>> {
+    ) -> Result<Parsed<'t, 's, HeaderParameter>, ReadFault<'t, 's>> {
         match word_at(tokens, Word::Parameter) {
             Some(after) => told_parameter(alloc, depth, tokens, after),
             None => parameter(alloc, depth, tokens, None),
@@ -48,7 +48,7 @@ pub fn header_parameters<'t, 's>(
     alloc: Global,
     depth: u32,
     tokens: &'t [Token<'s>],
-) -> Result<Parsed<'t, 's, Vec<HeaderParameter>>, Stop<'t, 's>>
+) -> Result<Parsed<'t, 's, Vec<HeaderParameter>>, ReadFault<'t, 's>>
     ensures { ReadsTree (g.header_parameters or nothing) depth tokens.now
         (λ xs. header_parameters_tree (map header_parameter_tree xs.items)) result }
 {
@@ -67,7 +67,7 @@ fn parameters_within<'t, 's>(
     alloc: Global,
     depth: u32,
     inside: &'t [Token<'s>],
-) -> Result<Parsed<'t, 's, Vec<HeaderParameter>>, Stop<'t, 's>>
+) -> Result<Parsed<'t, 's, Vec<HeaderParameter>>, ReadFault<'t, 's>>
     ensures { ReadsWithin (λ (xs : Vec HeaderParameter Global). header_parameters_tree (map header_parameter_tree xs.items))
         (λ y. both (leaf (a_mark m.Hash)) (both (leaf (a_mark m.Open)) y))
         (((word w.Parameter · parameter_form) · part a_constant) · behind_commas (part a_header_parameter) · mark m.Close)
@@ -83,13 +83,13 @@ fn first_parameter<'t, 's>(
     alloc: Global,
     depth: u32,
     tokens: &'t [Token<'s>],
-) -> Result<Parsed<'t, 's, HeaderParameter>, Stop<'t, 's>>
+) -> Result<Parsed<'t, 's, HeaderParameter>, ReadFault<'t, 's>>
     ensures { ReadsTree ((word w.Parameter · parameter_form) · part a_constant) depth tokens.now
         header_parameter_tree result }
 {
     match word_at(tokens, Word::Parameter) {
         Some(after) => told_parameter(alloc, depth, tokens, after),
-        None => Err(Stop::Unexpected(tokens)),
+        None => Err(ReadFault::Unexpected(tokens)),
     }
 }
 
@@ -99,7 +99,7 @@ fn told_parameter<'t, 's>(
     depth: u32,
     tokens: &'t [Token<'s>],
     after: &'t [Token<'s>],
-) -> Result<Parsed<'t, 's, HeaderParameter>, Stop<'t, 's>>
+) -> Result<Parsed<'t, 's, HeaderParameter>, ReadFault<'t, 's>>
     requires { seen tokens.now ≡ a_word w.Parameter ∷ seen after.now }
     ensures first { ReadsTree ((word w.Parameter · parameter_form) · part a_constant) depth tokens.now
         header_parameter_tree result }
@@ -115,7 +115,7 @@ fn parameter<'t, 's>(
     depth: u32,
     tokens: &'t [Token<'s>],
     form: Option<ParameterForm>,
-) -> Result<Parsed<'t, 's, HeaderParameter>, Stop<'t, 's>>
+) -> Result<Parsed<'t, 's, HeaderParameter>, ReadFault<'t, 's>>
     ensures { ReadsWithin header_parameter_tree (λ y. both (parameter_word_tree form) y) (part a_constant) depth tokens.now result }
 {
     let constant = ParameterList::read(alloc, depth, tokens)?;
@@ -134,7 +134,7 @@ fn with_others<'t, 's, T: Element>(
     alloc: Global,
     depth: u32,
     first: Parsed<'t, 's, T::Syntax>,
-) -> Result<Parsed<'t, 's, Vec<T::Syntax>>, Stop<'t, 's>>
+) -> Result<Parsed<'t, 's, Vec<T::Syntax>>, ReadFault<'t, 's>>
     requires { low T.grammar ≤ depth }
     ensures { MatchResult result
         (λ r. Grown T.grammar depth T.tree_of (seen first.entry.rest.now) (seen r.rest.now) (first.entry.tree ∷ []) r.tree.items)

@@ -12,7 +12,9 @@ ghost use Rattle.vs_parse_lists.specs.Lists.{behind_commas};
 
 use std::alloc::Global;
 use vs_lexer::{Mark, Token};
-use vs_parse_expressions::{Parsed, Stop, begins_expr, expect_mark, expect_name, expr, mark_at};
+use vs_parse_expressions::{
+    Parsed, ReadFault, begins_expr, expect_mark, expect_name, expr, mark_at,
+};
 use vs_parse_lists::{Element, ended, listed, others};
 use vs_syntax::{Connection, Connections, Expr, Instance};
 
@@ -39,7 +41,7 @@ impl Element for Named {
         alloc: Global,
         depth: u32,
         tokens: &'t [Token<'s>],
-    ) -> Result<Parsed<'t, 's, Connection>, Stop<'t, 's>> {
+    ) -> Result<Parsed<'t, 's, Connection>, ReadFault<'t, 's>> {
         let after_dot = expect_mark(tokens, Mark::Dot)?;
         let (name, after_name) = expect_name(alloc, after_dot)?;
         let value = enclosed::<Ordered>(alloc, depth, after_name)?;
@@ -64,7 +66,7 @@ impl Element for Ordered {
         alloc: Global,
         depth: u32,
         tokens: &'t [Token<'s>],
-    ) -> Result<Parsed<'t, 's, Option<Expr>>, Stop<'t, 's>> {
+    ) -> Result<Parsed<'t, 's, Option<Expr>>, ReadFault<'t, 's>> {
         if begins_expr(tokens) {
             let value = expr(alloc, depth, tokens)?;
             Ok(Parsed {
@@ -91,7 +93,7 @@ impl Element for Connected {
         alloc: Global,
         depth: u32,
         tokens: &'t [Token<'s>],
-    ) -> Result<Parsed<'t, 's, Connections>, Stop<'t, 's>> {
+    ) -> Result<Parsed<'t, 's, Connections>, ReadFault<'t, 's>> {
         match mark_at(tokens, Mark::Dot) {
             Some(_) => by_name(alloc, depth, tokens),
             None => in_order(alloc, depth, tokens),
@@ -110,7 +112,7 @@ impl Element for Placed {
         alloc: Global,
         depth: u32,
         tokens: &'t [Token<'s>],
-    ) -> Result<Parsed<'t, 's, Instance>, Stop<'t, 's>> {
+    ) -> Result<Parsed<'t, 's, Instance>, ReadFault<'t, 's>> {
         let (name, after_name) = expect_name(alloc, tokens)?;
         let ports = enclosed::<Connected>(alloc, depth, after_name)?;
         Ok(Parsed {
@@ -129,7 +131,7 @@ pub fn instances<'t, 's>(
     alloc: Global,
     depth: u32,
     tokens: &'t [Token<'s>],
-) -> Result<Parsed<'t, 's, (Option<Connections>, Vec<Instance>)>, Stop<'t, 's>>
+) -> Result<Parsed<'t, 's, (Option<Connections>, Vec<Instance>)>, ReadFault<'t, 's>>
     ensures { ReadsTree g.instances depth tokens.now
         (λ x. both (overrides_tree x.0) (listed_tree (map instance_tree x.1.items))) result }
 {
@@ -146,7 +148,7 @@ fn overrides<'t, 's>(
     alloc: Global,
     depth: u32,
     tokens: &'t [Token<'s>],
-) -> Result<Parsed<'t, 's, Option<Connections>>, Stop<'t, 's>>
+) -> Result<Parsed<'t, 's, Option<Connections>>, ReadFault<'t, 's>>
     ensures { ReadsTree (mark m.Hash · mark m.Open · connections · mark m.Close or nothing) depth tokens.now
         overrides_tree result }
 {
@@ -168,7 +170,7 @@ fn enclosed<'t, 's, T: Element>(
     alloc: Global,
     depth: u32,
     tokens: &'t [Token<'s>],
-) -> Result<Parsed<'t, 's, T::Syntax>, Stop<'t, 's>>
+) -> Result<Parsed<'t, 's, T::Syntax>, ReadFault<'t, 's>>
     requires { low T.grammar ≤ depth }
     ensures { ReadsTree (mark m.Open · T.grammar · mark m.Close) depth tokens.now
         (λ x. both (leaf (a_mark m.Open)) (both (T.tree_of x) (leaf (a_mark m.Close)))) result }
@@ -183,7 +185,7 @@ fn by_name<'t, 's>(
     alloc: Global,
     depth: u32,
     tokens: &'t [Token<'s>],
-) -> Result<Parsed<'t, 's, Connections>, Stop<'t, 's>>
+) -> Result<Parsed<'t, 's, Connections>, ReadFault<'t, 's>>
     ensures { ReadsTree (part a_connection · behind_commas (part a_connection)) depth tokens.now
         connections_tree result }
 {
@@ -200,7 +202,7 @@ fn in_order<'t, 's>(
     alloc: Global,
     depth: u32,
     tokens: &'t [Token<'s>],
-) -> Result<Parsed<'t, 's, Connections>, Stop<'t, 's>>
+) -> Result<Parsed<'t, 's, Connections>, ReadFault<'t, 's>>
     ensures { ReadsTree (an_end · behind_commas an_end) depth tokens.now connections_tree result }
 {
     let first = Ordered::read(alloc, depth, tokens)?;

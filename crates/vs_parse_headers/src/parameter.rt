@@ -7,7 +7,7 @@ ghost use Rattle.vs_parse_expressions.specs.Answers.{ReadsTree};
 
 use std::alloc::Global;
 use vs_lexer::{Mark, Token, Word};
-use vs_parse_expressions::{Parsed, Stop, expect_mark, expect_name, expr, word_at};
+use vs_parse_expressions::{Parsed, ReadFault, expect_mark, expect_name, expr, word_at};
 use vs_parse_lists::{Element, declared_form, listed};
 use vs_syntax::{Constant, ParameterForm};
 
@@ -25,7 +25,7 @@ impl Element for ParameterList {
         alloc: Global,
         depth: u32,
         tokens: &'t [Token<'s>],
-    ) -> Result<Parsed<'t, 's, Constant>, Stop<'t, 's>> {
+    ) -> Result<Parsed<'t, 's, Constant>, ReadFault<'t, 's>> {
         let (name, after_name) = expect_name(alloc, tokens)?;
         let after_sign = expect_mark(after_name, Mark::Assign)?;
         let value = expr(alloc, depth, after_sign)?;
@@ -44,7 +44,7 @@ pub fn parameters<'t, 's>(
     alloc: Global,
     depth: u32,
     tokens: &'t [Token<'s>],
-) -> Result<Parsed<'t, 's, (ParameterForm, Vec<Constant>)>, Stop<'t, 's>>
+) -> Result<Parsed<'t, 's, (ParameterForm, Vec<Constant>)>, ReadFault<'t, 's>>
     ensures { ReadsTree (g.parameter_form · g.listed a_constant) depth tokens.now
         (λ x. constants_tree x.0 x.1.items) result }
 {
@@ -61,7 +61,7 @@ pub(crate) fn parameter_form<'t, 's>(
     alloc: Global,
     depth: u32,
     tokens: &'t [Token<'s>],
-) -> Result<Parsed<'t, 's, ParameterForm>, Stop<'t, 's>>
+) -> Result<Parsed<'t, 's, ParameterForm>, ReadFault<'t, 's>>
     ensures { ReadsTree g.parameter_form depth tokens.now parameter_form_tree result }
 {
     let Some(behind) = word_at(tokens, Word::Integer) else {

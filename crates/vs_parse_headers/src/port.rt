@@ -17,7 +17,7 @@ use crate::declaration::BareName;
 use crate::head::{begins_name, direction_at, kind_at};
 use std::alloc::Global;
 use vs_lexer::{Mark, Token};
-use vs_parse_expressions::{Parsed, Stop, expect_name, expr, mark_at};
+use vs_parse_expressions::{Parsed, ReadFault, expect_name, expr, mark_at};
 use vs_parse_lists::{declared, declared_form, ended};
 use vs_syntax::{Direction, Expr, Port, PortForm, PortKind};
 
@@ -59,7 +59,7 @@ pub fn header_ports<'t, 's>(
     alloc: Global,
     depth: u32,
     tokens: &'t [Token<'s>],
-) -> Result<Parsed<'t, 's, Option<Vec<Port>>>, Stop<'t, 's>>
+) -> Result<Parsed<'t, 's, Option<Vec<Port>>>, ReadFault<'t, 's>>
     ensures { ReadsTree (g.header_ports or nothing) depth tokens.now
         (λ o. header_ports_tree (option_map (λ (ps : Vec Port Global). ps.items) o)) result }
 {
@@ -82,7 +82,7 @@ fn ports<'t, 's>(
     alloc: Global,
     depth: u32,
     tokens: &'t [Token<'s>],
-) -> Result<Parsed<'t, 's, Vec<Port>>, Stop<'t, 's>>
+) -> Result<Parsed<'t, 's, Vec<Port>>, ReadFault<'t, 's>>
     ensures { ReadsTree ports_within depth tokens.now (λ ps. ports_tree ps.items) result }
 {
     if let Some((direction, after)) = direction_at(tokens) {
@@ -106,7 +106,7 @@ fn others<'t, 's>(
     depth: u32,
     first: Parsed<'t, 's, Port>,
     said: Said,
-) -> Result<Parsed<'t, 's, Vec<Port>>, Stop<'t, 's>>
+) -> Result<Parsed<'t, 's, Vec<Port>>, ReadFault<'t, 's>>
     ensures { MatchResult result
         (λ r. Followed (others_by said) depth (seen first.entry.rest.now) (seen r.rest.now) first.entry.tree r.tree.items)
         (λ e. FailsToRead (others_by said) depth (seen first.entry.rest.now) e) }
@@ -131,7 +131,7 @@ fn other_port<'t, 's>(
     depth: u32,
     tokens: &'t [Token<'s>],
     said: Said,
-) -> Result<Parsed<'t, 's, Port>, Stop<'t, 's>>
+) -> Result<Parsed<'t, 's, Port>, ReadFault<'t, 's>>
     ensures reads { LeadsOn said (other_by said) depth tokens.now result }
     ensures shorter { IfOk result (λ r. length (seen r.rest.now) < length (seen tokens.now)) }
 {
@@ -148,7 +148,7 @@ fn told_or_named<'t, 's>(
     depth: u32,
     tokens: &'t [Token<'s>],
     said: Said,
-) -> Result<Parsed<'t, 's, Port>, Stop<'t, 's>>
+) -> Result<Parsed<'t, 's, Port>, ReadFault<'t, 's>>
     ensures reads { LeadsOn said (part told_ports or part (named_by said)) depth tokens.now result }
     ensures shorter { IfOk result (λ r. length (seen r.rest.now) < length (seen tokens.now)) }
 {
@@ -165,7 +165,7 @@ fn told_port<'t, 's>(
     tokens: &'t [Token<'s>],
     direction: Direction,
     after: &'t [Token<'s>],
-) -> Result<Parsed<'t, 's, Port>, Stop<'t, 's>>
+) -> Result<Parsed<'t, 's, Port>, ReadFault<'t, 's>>
     requires { seen tokens.now ≡ a_word (direction_word direction) ∷ seen after.now }
     ensures reads { (said : Said) → LeadsOn said (part told_ports) depth tokens.now result }
     ensures shorter { IfOk result (λ r. length (seen r.rest.now) < length (seen tokens.now)) }
@@ -182,7 +182,7 @@ fn port<'t, 's>(
     tokens: &'t [Token<'s>],
     form: Option<PortForm>,
     said: Said,
-) -> Result<Parsed<'t, 's, Port>, Stop<'t, 's>>
+) -> Result<Parsed<'t, 's, Port>, ReadFault<'t, 's>>
     ensures reads { Leads (others_by said) (part (named_by said)) named_port_tree depth tokens.now result }
     ensures form { IfOk result (λ r. r.tree.form ≡ form) }
     ensures shorter { IfOk result (λ r. length (seen r.rest.now) < length (seen tokens.now)) }
@@ -205,7 +205,7 @@ fn port_value<'t, 's>(
     depth: u32,
     tokens: &'t [Token<'s>],
     said: Said,
-) -> Result<Parsed<'t, 's, Option<Expr>>, Stop<'t, 's>>
+) -> Result<Parsed<'t, 's, Option<Expr>>, ReadFault<'t, 's>>
     ensures { ReadsTree (value_by said) depth tokens.now value_tree result }
 {
     match said {
@@ -220,7 +220,7 @@ fn declared_value<'t, 's>(
     alloc: Global,
     depth: u32,
     tokens: &'t [Token<'s>],
-) -> Result<Parsed<'t, 's, Option<Expr>>, Stop<'t, 's>>
+) -> Result<Parsed<'t, 's, Option<Expr>>, ReadFault<'t, 's>>
     ensures { ReadsTree may_value depth tokens.now value_tree result }
 {
     let Some(after) = mark_at(tokens, Mark::Assign) else {
@@ -252,7 +252,7 @@ fn port_form<'t, 's>(
     tokens: &'t [Token<'s>],
     direction: Direction,
     after: &'t [Token<'s>],
-) -> Result<Parsed<'t, 's, PortForm>, Stop<'t, 's>>
+) -> Result<Parsed<'t, 's, PortForm>, ReadFault<'t, 's>>
     requires { seen tokens.now ≡ a_word (direction_word direction) ∷ seen after.now }
     ensures reads { LeadsToName depth tokens.now result }
     ensures shorter { IfOk result (λ r. length (seen r.rest.now) < length (seen tokens.now)) }
@@ -285,7 +285,7 @@ pub fn declared_ports<'t, 's>(
     depth: u32,
     tokens: &'t [Token<'s>],
     direction: Direction,
-) -> Result<Parsed<'t, 's, (PortForm, Vec<Vec<u8>>)>, Stop<'t, 's>>
+) -> Result<Parsed<'t, 's, (PortForm, Vec<Vec<u8>>)>, ReadFault<'t, 's>>
     ensures reads { ReadsTree behind_direction depth tokens.now
         (λ x. both (kind_tree x.0.kind) (both (form_tree x.0.form) (listed_tree (map bare_name_tree x.1.items)))) result }
     ensures direction { IfOk result (λ x. x.tree.0.direction ≡ direction) }

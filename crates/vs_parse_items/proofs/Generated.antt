@@ -15,7 +15,7 @@ use Rattle.vs_syntax.proofs.Fronts.{clash}
 use Rattle.std.proofs.lemmas.Bool.{or_parts as or_false}
 use Rattle.vs_syntax.proofs.Gets.{gets_token, gets_seq, gets_left, gets_right, gets_part, gets_present}
 use Rattle.vs_parse_expressions.specs.declared.reading.Parsed.{Parsed}
-use Rattle.vs_parse_expressions.specs.declared.reading.Stop.{Stop}
+use Rattle.vs_parse_expressions.specs.declared.reading.ReadFault.{ReadFault}
 use Rattle.vs_parse_expressions.specs.Answers.{seen, ReadsTree}
 use Rattle.vs_parse_expressions.proofs.Exits.{fails_by}
 use Rattle.vs_parse_lists.specs.Parts.{ReadsWithin, headed}
@@ -24,7 +24,7 @@ use Rattle.vs_parse_items.specs.Heads.{generate_word, construct_of}
 use Rattle.vs_parse_items.specs.Generated.{begun, block_rest}
 
 -- a word that is known
-pub construct_is : (k k' : GenerateWord) (depth : ℕ) (ts : List Token) (r : Result (Parsed ModuleItem) Stop) → k ≡ k' → ReadsWithin module_item_tree (headed (a_word (generate_word k'))) (construct_of k') depth ts r → ReadsWithin module_item_tree (headed (a_word (generate_word k))) (construct_of k) depth ts r
+pub construct_is : (k k' : GenerateWord) (depth : ℕ) (ts : List Token) (r : Result (Parsed ModuleItem) ReadFault) → k ≡ k' → ReadsWithin module_item_tree (headed (a_word (generate_word k'))) (construct_of k') depth ts r → ReadsWithin module_item_tree (headed (a_word (generate_word k))) (construct_of k) depth ts r
 construct_is k k' depth ts r e p = subst (λ (u : GenerateWord). ReadsWithin module_item_tree (headed (a_word (generate_word u))) (construct_of u) depth ts r) (sym e) p
 
 -- one more item
@@ -64,7 +64,7 @@ block_stuck depth deep ts after at e s =
     let none : 0 ≤ depth = omega arith in
     rw e (stuck_part (stuck_right refl none (stuck_left refl none (stuck_second (gets_token refl) s))))
 
-pub block_answers : (depth : ℕ) (ts us : List Token) (r : Result (Parsed ModuleItem) Stop) → seen ts ≡ a_word w.Begin ∷ seen us → ReadsWithin module_item_tree begun block_rest depth us r → ReadsTree (part a_generate_block) depth ts module_item_tree r
+pub block_answers : (depth : ℕ) (ts us : List Token) (r : Result (Parsed ModuleItem) ReadFault) → seen ts ≡ a_word w.Begin ∷ seen us → ReadsWithin module_item_tree begun block_rest depth us r → ReadsTree (part a_generate_block) depth ts module_item_tree r
 block_answers depth ts us (Ok x) e p = rw p.whole (block_read depth (seen ts) (seen us) (seen x.rest.now) p.inner e p.gets)
 block_answers depth ts us (Err f) e p =
     fails_by block_rest (part a_generate_block) depth depth (seen us) (seen ts) (λ deep at s. block_stuck depth deep (seen ts) (seen us) at e s) f p
@@ -89,7 +89,7 @@ item_stuck depth deep ts at h i (stuck_part (stuck_node n s)) =
     let none : 0 ≤ depth = omega arith in
     stuck_part (stuck_right h none (stuck_right i (omega (arith, n)) (stuck_part (stuck_node n s))))
 
-pub item_answers : (depth : ℕ) (ts : List Token) (r : Result (Parsed ModuleItem) Stop) → goes (mark m.Semicolon) (seen ts) ≡ false → goes (word w.Begin) (seen ts) ≡ false → ReadsTree (part an_item) depth ts module_item_tree r → ReadsTree (part a_generate_block) depth ts module_item_tree r
+pub item_answers : (depth : ℕ) (ts : List Token) (r : Result (Parsed ModuleItem) ReadFault) → goes (mark m.Semicolon) (seen ts) ≡ false → goes (word w.Begin) (seen ts) ≡ false → ReadsTree (part an_item) depth ts module_item_tree r → ReadsTree (part a_generate_block) depth ts module_item_tree r
 item_answers depth ts (Ok x) h i p = gets_part (gets_right h (gets_right i p))
 item_answers depth ts (Err f) h i p =
     fails_by (part an_item) (part a_generate_block) depth depth (seen ts) (seen ts) (λ deep at s. item_stuck depth deep (seen ts) at h i s) f p

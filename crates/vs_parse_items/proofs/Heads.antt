@@ -24,7 +24,7 @@ use Rattle.vs_parse_items.specs.declared.head.GenerateWord.TheVariants as g
 use Rattle.vs_parse_items.specs.declared.head.DeclarationWord.{DeclarationWord}
 use Rattle.vs_parse_items.specs.declared.head.DeclarationWord.TheVariants as d
 use Rattle.vs_parse_expressions.specs.declared.reading.Parsed.{Parsed}
-use Rattle.vs_parse_expressions.specs.declared.reading.Stop.{Stop}
+use Rattle.vs_parse_expressions.specs.declared.reading.ReadFault.{ReadFault}
 use Rattle.vs_parse_expressions.specs.Answers.{seen, FailsToRead, ReadsTree}
 use Rattle.vs_parse_lists.specs.Parts.{Within, ReadsWithin, headed}
 use Rattle.vs_parse_items.specs.Heads.{word_of, generate_word, plain_symbol, symbol_of, declaration_of, construct_of, plain_body, body_of}
@@ -113,7 +113,7 @@ item_stuck depth deep ts after at (i.Plain p.Always) h n e s = word_stuck (plain
 item_stuck depth deep ts after at (i.Generate k) h n e s = word_stuck (construct_of k) depth deep (generate_word k) ts after at h n e (construct_branch k) s
 
 -- an item, by what was read behind its first symbol
-pub item_answers : (depth : ℕ) (ts us : List Token) (k : ItemHead) (r : Result (Parsed ModuleItem) Stop) → seen ts ≡ symbol_of k ∷ seen us → need (class_of (symbol_of k)) (fronts_of an_item) ≤ depth → ReadsWithin module_item_tree (headed (symbol_of k)) (body_of k) (depth - 1) us r → ReadsTree (part an_item) depth ts module_item_tree r
+pub item_answers : (depth : ℕ) (ts us : List Token) (k : ItemHead) (r : Result (Parsed ModuleItem) ReadFault) → seen ts ≡ symbol_of k ∷ seen us → need (class_of (symbol_of k)) (fronts_of an_item) ≤ depth → ReadsWithin module_item_tree (headed (symbol_of k)) (body_of k) (depth - 1) us r → ReadsTree (part an_item) depth ts module_item_tree r
 item_answers depth ts us k (Ok x) e h q =
     let n : low (body_of k) < depth = body_low depth k h in
     rw q.whole (item_read depth (seen ts) (seen us) (seen x.rest.now) k q.inner (omega (arith, n)) e q.gets)
@@ -133,7 +133,7 @@ pub plain_within : (k : PlainHead) (depth : ℕ) (ts rest : List Symbol) (x : It
 plain_within k depth ts rest x q e = record { inner = body_tree x; whole = tree_Plain x ∙ ap (λ u. headed u (body_tree x)) e; gets = q }
 
 -- a beginning that is known
-pub plain_fails : (k k' : PlainHead) (depth : ℕ) (ts : List Symbol) (e : Stop) → k ≡ k' → FailsToRead (plain_body k') depth ts e → FailsToRead (plain_body k) depth ts e
+pub plain_fails : (k k' : PlainHead) (depth : ℕ) (ts : List Symbol) (e : ReadFault) → k ≡ k' → FailsToRead (plain_body k') depth ts e → FailsToRead (plain_body k) depth ts e
 plain_fails k k' depth ts e i f = subst (λ (u : PlainHead). FailsToRead (plain_body u) depth ts e) (sym i) f
 
 pub plain_is : (k k' : PlainHead) (depth : ℕ) (ts rest : List Symbol) (x : Item) → k ≡ k' → Gets (plain_body k') depth ts (body_tree x) rest → item_symbol x ≡ plain_symbol k' → Within module_item_tree (headed (plain_symbol k)) (plain_body k) depth ts (v.Plain x) rest

@@ -17,7 +17,7 @@ use crate::item::plain_item;
 use std::alloc::Global;
 use vs_lexer::{Mark, Token, Word};
 use vs_parse_expressions::{
-    Parsed, Stop, expect_mark, expect_name, expect_word, expr, mark_at, word_at,
+    Parsed, ReadFault, expect_mark, expect_name, expect_word, expr, mark_at, word_at,
 };
 use vs_parse_lists::ended;
 use vs_parse_statements::{expr_until, guard};
@@ -31,12 +31,12 @@ fn item<'t, 's>(
     tokens: &'t [Token<'s>],
     head: ItemHead<'s>,
     after: &'t [Token<'s>],
-) -> Result<Parsed<'t, 's, ModuleItem>, Stop<'t, 's>>
+) -> Result<Parsed<'t, 's, ModuleItem>, ReadFault<'t, 's>>
     requires { BeginsItem (seen tokens.now) head (seen after.now) }
     ensures { ReadsTree (part an_item) depth tokens.now module_item_tree result }
 {
     if depth < least_item(head) {
-        return Err(Stop::TooDeep(tokens));
+        return Err(ReadFault::TooDeep(tokens));
     }
     let below = depth - 1;
     match head {
@@ -56,7 +56,7 @@ pub fn items<'t, 's>(
     alloc: Global,
     depth: u32,
     tokens: &'t [Token<'s>],
-) -> Result<Parsed<'t, 's, Vec<ModuleItem>>, Stop<'t, 's>>
+) -> Result<Parsed<'t, 's, Vec<ModuleItem>>, ReadFault<'t, 's>>
     ensures { ReadsTree (many (part an_item)) depth tokens.now (λ xs. row_of (map module_item_tree xs.items)) result }
 {
     let mut tree = Vec::new(alloc);
@@ -77,7 +77,7 @@ fn region<'t, 's>(
     alloc: Global,
     depth: u32,
     tokens: &'t [Token<'s>],
-) -> Result<Parsed<'t, 's, ModuleItem>, Stop<'t, 's>>
+) -> Result<Parsed<'t, 's, ModuleItem>, ReadFault<'t, 's>>
     ensures { ReadsWithin module_item_tree (headed (a_word w.Generate)) (many (part an_item) · word w.Endgenerate) depth tokens.now result }
 {
     let inner = items(alloc, depth, tokens)?;
@@ -95,7 +95,7 @@ fn generate_for<'t, 's>(
     alloc: Global,
     depth: u32,
     tokens: &'t [Token<'s>],
-) -> Result<Parsed<'t, 's, ModuleItem>, Stop<'t, 's>>
+) -> Result<Parsed<'t, 's, ModuleItem>, ReadFault<'t, 's>>
     ensures { ReadsWithin module_item_tree (headed (a_word w.For)) generate_loop depth tokens.now result }
 {
     let header = loop_header(alloc, depth, tokens)?;
@@ -114,7 +114,7 @@ fn generate_if<'t, 's>(
     alloc: Global,
     depth: u32,
     tokens: &'t [Token<'s>],
-) -> Result<Parsed<'t, 's, ModuleItem>, Stop<'t, 's>>
+) -> Result<Parsed<'t, 's, ModuleItem>, ReadFault<'t, 's>>
     ensures { ReadsWithin module_item_tree (headed (a_word w.If)) (guarded generate_branches) depth tokens.now result }
 {
     let condition = guard(alloc, depth, tokens)?;
@@ -133,7 +133,7 @@ fn alternative<'t, 's>(
     alloc: Global,
     depth: u32,
     tokens: &'t [Token<'s>],
-) -> Result<Parsed<'t, 's, Option<Box<ModuleItem>>>, Stop<'t, 's>>
+) -> Result<Parsed<'t, 's, Option<Box<ModuleItem>>>, ReadFault<'t, 's>>
     ensures { ReadsTree (optional (the_word w.Else) (part a_generate_block)) depth tokens.now other_item_tree result }
 {
     let Some(after) = word_at(tokens, Word::Else) else {
@@ -156,7 +156,7 @@ fn boxed<'t, 's>(
     alloc: Global,
     depth: u32,
     tokens: &'t [Token<'s>],
-) -> Result<Parsed<'t, 's, Box<ModuleItem>>, Stop<'t, 's>>
+) -> Result<Parsed<'t, 's, Box<ModuleItem>>, ReadFault<'t, 's>>
     ensures { ReadsTree (part a_generate_block) depth tokens.now boxed_item_tree result }
 {
     let inner = generated(alloc, depth, tokens)?;
@@ -171,7 +171,7 @@ fn generated<'t, 's>(
     alloc: Global,
     depth: u32,
     tokens: &'t [Token<'s>],
-) -> Result<Parsed<'t, 's, ModuleItem>, Stop<'t, 's>>
+) -> Result<Parsed<'t, 's, ModuleItem>, ReadFault<'t, 's>>
     ensures { ReadsTree (part a_generate_block) depth tokens.now module_item_tree result }
 {
     if let Some(rest) = mark_at(tokens, Mark::Semicolon) {
@@ -185,7 +185,7 @@ fn generated<'t, 's>(
     }
     match item_head(tokens) {
         Some((head, after)) => item(alloc, depth, tokens, head, after),
-        None => Err(Stop::Unexpected(tokens)),
+        None => Err(ReadFault::Unexpected(tokens)),
     }
 }
 
@@ -196,7 +196,7 @@ fn block<'t, 's>(
     alloc: Global,
     depth: u32,
     tokens: &'t [Token<'s>],
-) -> Result<Parsed<'t, 's, ModuleItem>, Stop<'t, 's>>
+) -> Result<Parsed<'t, 's, ModuleItem>, ReadFault<'t, 's>>
     ensures { ReadsWithin module_item_tree begun block_rest depth tokens.now result }
 {
     let name = block_name(alloc, tokens)?;
@@ -212,7 +212,7 @@ fn block<'t, 's>(
 fn block_name<'t, 's>(
     alloc: Global,
     tokens: &'t [Token<'s>],
-) -> Result<Parsed<'t, 's, Option<Vec<u8>>>, Stop<'t, 's>>
+) -> Result<Parsed<'t, 's, Option<Vec<u8>>>, ReadFault<'t, 's>>
     ensures { (depth : ℕ) → ReadsTree block_name depth tokens.now block_name_tree result }
 {
     let Some(after) = mark_at(tokens, Mark::Colon) else {
@@ -233,7 +233,7 @@ fn named_value<'t, 's>(
     alloc: Global,
     depth: u32,
     tokens: &'t [Token<'s>],
-) -> Result<Parsed<'t, 's, Constant>, Stop<'t, 's>>
+) -> Result<Parsed<'t, 's, Constant>, ReadFault<'t, 's>>
     ensures { ReadsTree named_value depth tokens.now constant_tree result }
 {
     let (name, after_name) = expect_name(alloc, tokens)?;
@@ -254,7 +254,7 @@ fn named_value_until<'t, 's>(
     depth: u32,
     tokens: &'t [Token<'s>],
     end: Mark,
-) -> Result<Parsed<'t, 's, Constant>, Stop<'t, 's>>
+) -> Result<Parsed<'t, 's, Constant>, ReadFault<'t, 's>>
     ensures { (a : Grammar) → Leads a (named_value · mark end · a)
         (λ x y. both (constant_tree x) (marked end y)) depth tokens.now result }
 {
@@ -267,7 +267,7 @@ fn loop_header<'t, 's>(
     alloc: Global,
     depth: u32,
     tokens: &'t [Token<'s>],
-) -> Result<Parsed<'t, 's, LoopHeader>, Stop<'t, 's>>
+) -> Result<Parsed<'t, 's, LoopHeader>, ReadFault<'t, 's>>
     ensures { Leads (part a_generate_block) generate_loop loop_tree depth tokens.now result }
 {
     let inside = expect_mark(tokens, Mark::Open)?;

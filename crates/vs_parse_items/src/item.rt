@@ -10,7 +10,7 @@ ghost use Rattle.vs_parse_items.specs.Heads.{word_of, plain_symbol, declaration_
 use crate::head::{DeclarationWord, PlainHead};
 use std::alloc::Global;
 use vs_lexer::Token;
-use vs_parse_expressions::{Parsed, Stop};
+use vs_parse_expressions::{Parsed, ReadFault};
 use vs_parse_headers::{
     Assignment, BareName, Net, Variable, declared_ports, instances, parameters,
 };
@@ -25,7 +25,7 @@ pub(crate) fn plain_item<'t, 's>(
     depth: u32,
     tokens: &'t [Token<'s>],
     head: PlainHead<'s>,
-) -> Result<Parsed<'t, 's, ModuleItem>, Stop<'t, 's>>
+) -> Result<Parsed<'t, 's, ModuleItem>, ReadFault<'t, 's>>
     requires { low (plain_body head) ≤ depth }
     ensures { ReadsWithin module_item_tree (headed (plain_symbol head.entry)) (plain_body head.entry) depth tokens.now result }
 {
@@ -67,7 +67,7 @@ fn declared_item<'t, 's>(
     depth: u32,
     tokens: &'t [Token<'s>],
     word: DeclarationWord,
-) -> Result<Parsed<'t, 's, Item>, Stop<'t, 's>>
+) -> Result<Parsed<'t, 's, Item>, ReadFault<'t, 's>>
     ensures reads { ReadsTree (declaration_of word) depth tokens.now body_tree result }
     ensures symbol { IfOk result (λ x. item_symbol x.tree ≡ a_word (word_of word)) }
 {

@@ -19,7 +19,7 @@ use Rattle.std.proofs.lemmas.Bool.{or_left}
 use Rattle.vs_syntax.proofs.Gets.{gets_nothing, gets_token, gets_seq, gets_left, gets_right, gets_part}
 use Rattle.vs_parse_expressions.specs.Answers.{seen}
 use Rattle.vs_parse_expressions.specs.declared.reading.Parsed.{Parsed}
-use Rattle.vs_parse_expressions.specs.declared.reading.Stop.{Stop}
+use Rattle.vs_parse_expressions.specs.declared.reading.ReadFault.{ReadFault}
 use Rattle.vs_parse_expressions.proofs.Exits.{fails_by}
 use Rattle.vs_parse_expressions.proofs.Tokens.{seen_kind, read_token, system_class}
 use Rattle.vs_parse_lists.specs.Lists.{behind_commas}
@@ -87,7 +87,7 @@ pub count_read : (depth : ℕ) (ts after mid rest : List Symbol) (x : Tree) → 
 count_read depth ts after mid rest x e p q = present_read (a_mark m.Open) counted depth ts after rest (both x (leaf (a_mark m.Close))) e (gets_seq p q)
 
 -- what stands behind `$finish`, by its number
-pub finish_within : (depth : ℕ) (ts mid : List Token) (n : Option Literal) (r : Result (Parsed Stmt) Stop) → Gets finish_argument depth (seen ts) (finish_tree n) (seen mid) → ReadsWithin stmt_tree (λ y. headed a_finish (both (finish_tree n) y)) (mark m.Semicolon) depth mid r → ReadsWithin stmt_tree (headed a_finish) (finish_argument · mark m.Semicolon) depth ts r
+pub finish_within : (depth : ℕ) (ts mid : List Token) (n : Option Literal) (r : Result (Parsed Stmt) ReadFault) → Gets finish_argument depth (seen ts) (finish_tree n) (seen mid) → ReadsWithin stmt_tree (λ y. headed a_finish (both (finish_tree n) y)) (mark m.Semicolon) depth mid r → ReadsWithin stmt_tree (headed a_finish) (finish_argument · mark m.Semicolon) depth ts r
 finish_within depth ts mid n (Ok x) p w = record { inner = both (finish_tree n) w.inner; whole = w.whole; gets = gets_seq p w.gets }
 finish_within depth ts mid n (Err e) p f =
     fails_by (mark m.Semicolon) (finish_argument · mark m.Semicolon) depth depth (seen mid) (seen ts) (λ deep at s. stuck_second p s) e f

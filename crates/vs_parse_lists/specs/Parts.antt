@@ -16,7 +16,7 @@ use Rattle.vs_syntax.specs.declared.tree.Expr.{Expr}
 use Rattle.vs_syntax.specs.declared.tree.Left.{Left}
 use Rattle.vs_syntax.specs.declared.tree.Stmt.{Stmt}
 use Rattle.vs_parse_expressions.specs.declared.reading.Parsed.{Parsed}
-use Rattle.vs_parse_expressions.specs.declared.reading.Stop.{Stop}
+use Rattle.vs_parse_expressions.specs.declared.reading.ReadFault.{ReadFault}
 use Rattle.vs_parse_expressions.specs.Answers.{seen, FailsToRead}
 
 -- A part's tree is made of what was read behind its first symbol.
@@ -27,7 +27,7 @@ pub record Within {X : Type 0} (tree : X → Tree) (wrap : Tree → Tree) (g : G
   pub gets : Gets g depth ts inner rest
 
 -- what stands behind the first symbol of a part, or why and where reading it stopped
-abbrev pub ReadsWithin : {X : Type 0} → (X → Tree) → (Tree → Tree) → Grammar → ℕ → List Token → Result (Parsed X) Stop → Type 0
+abbrev pub ReadsWithin : {X : Type 0} → (X → Tree) → (Tree → Tree) → Grammar → ℕ → List Token → Result (Parsed X) ReadFault → Type 0
 ReadsWithin tree wrap g depth ts (Ok r) = Within tree wrap g depth (seen ts) r.tree (seen r.rest.now)
 ReadsWithin tree wrap g depth ts (Err e) = FailsToRead g depth (seen ts) e
 
@@ -37,7 +37,7 @@ pub record Beyond (a g : Grammar) (wrap : Tree → Tree) (depth : ℕ) (ts rest 
   pub stops : (deep : Bool) (at : List Symbol) → Stuck a depth deep rest at → Stuck g depth deep ts at
 
 -- what stands before a part, or why and where reading it stopped
-abbrev pub Leads : {X : Type 0} → Grammar → Grammar → (X → Tree → Tree) → ℕ → List Token → Result (Parsed X) Stop → Type 0
+abbrev pub Leads : {X : Type 0} → Grammar → Grammar → (X → Tree → Tree) → ℕ → List Token → Result (Parsed X) ReadFault → Type 0
 Leads a g wrap depth ts (Ok r) = Beyond a g (wrap r.tree) depth (seen ts) (seen r.rest.now)
 Leads a g wrap depth ts (Err e) = FailsToRead g depth (seen ts) e
 

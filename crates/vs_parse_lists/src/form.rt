@@ -13,7 +13,7 @@ ghost use Rattle.vs_parse_lists.specs.Lists.{behind_commas};
 use crate::list::{Element, ended, listed};
 use std::alloc::Global;
 use vs_lexer::{Mark, Token, Word};
-use vs_parse_expressions::{Parsed, Stop, expect_mark, expr, mark_at, word_at};
+use vs_parse_expressions::{Parsed, ReadFault, expect_mark, expr, mark_at, word_at};
 use vs_syntax::{Form, Range};
 
 /// Reads what a declaration says of its names, and they, and the semicolon behind them, in at most `depth`
@@ -22,7 +22,7 @@ pub fn declared<'t, 's, T: Element>(
     alloc: Global,
     depth: u32,
     tokens: &'t [Token<'s>],
-) -> Result<Parsed<'t, 's, (Form, Vec<T::Syntax>)>, Stop<'t, 's>>
+) -> Result<Parsed<'t, 's, (Form, Vec<T::Syntax>)>, ReadFault<'t, 's>>
     requires { low T.grammar ≤ depth }
     ensures { ReadsTree (form · T.grammar · behind_commas T.grammar · mark m.Semicolon) depth tokens.now
         (λ x. both (form_tree x.0) (listed_tree (map T.tree_of x.1.items))) result }
@@ -40,7 +40,7 @@ pub fn declared_form<'t, 's>(
     alloc: Global,
     depth: u32,
     tokens: &'t [Token<'s>],
-) -> Result<Parsed<'t, 's, Form>, Stop<'t, 's>>
+) -> Result<Parsed<'t, 's, Form>, ReadFault<'t, 's>>
     ensures { ReadsTree form depth tokens.now form_tree result }
 {
     let (signed, after) = signed_at(tokens);
@@ -70,7 +70,7 @@ pub fn declared_range<'t, 's>(
     alloc: Global,
     depth: u32,
     tokens: &'t [Token<'s>],
-) -> Result<Parsed<'t, 's, Option<Range>>, Stop<'t, 's>>
+) -> Result<Parsed<'t, 's, Option<Range>>, ReadFault<'t, 's>>
     ensures { ReadsTree (range or nothing) depth tokens.now range_tree result }
 {
     let Some(after) = mark_at(tokens, Mark::OpenBracket) else {

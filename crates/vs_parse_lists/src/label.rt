@@ -11,7 +11,7 @@ ghost use Rattle.vs_parse_lists.specs.Parts.{Beyond, Leads};
 use crate::list::{Element, ended, others};
 use std::alloc::Global;
 use vs_lexer::{Mark, Token, Word};
-use vs_parse_expressions::{Parsed, Stop, expr, mark_at, word_at};
+use vs_parse_expressions::{Parsed, ReadFault, expr, mark_at, word_at};
 use vs_syntax::{CaseLabel, Expr};
 
 /// An expression in a list of them.
@@ -28,7 +28,7 @@ impl Element for CaseItem {
         alloc: Global,
         depth: u32,
         tokens: &'t [Token<'s>],
-    ) -> Result<Parsed<'t, 's, Expr>, Stop<'t, 's>> {
+    ) -> Result<Parsed<'t, 's, Expr>, ReadFault<'t, 's>> {
         expr(alloc, depth, tokens)
     }
 }
@@ -38,7 +38,7 @@ pub fn case_label<'t, 's>(
     alloc: Global,
     depth: u32,
     tokens: &'t [Token<'s>],
-) -> Result<Parsed<'t, 's, CaseLabel>, Stop<'t, 's>>
+) -> Result<Parsed<'t, 's, CaseLabel>, ReadFault<'t, 's>>
     requires { 1 ≤ depth }
     ensures { Leads (part a_stmt) (part a_case_item) labelled_tree depth tokens.now result }
 {
@@ -74,7 +74,7 @@ fn choices<'t, 's>(
     alloc: Global,
     depth: u32,
     tokens: &'t [Token<'s>],
-) -> Result<Parsed<'t, 's, CaseLabel>, Stop<'t, 's>>
+) -> Result<Parsed<'t, 's, CaseLabel>, ReadFault<'t, 's>>
     requires depth { 1 ≤ depth }
     requires first { goes (word w.Default) (seen tokens.now) ≡ false }
     ensures { Leads (part a_stmt) (part a_case_item) labelled_tree depth tokens.now result }

@@ -11,7 +11,7 @@ ghost use Rattle.vs_parse_lists.specs.Lists.{behind_commas, Grown};
 
 use std::alloc::Global;
 use vs_lexer::{Mark, Token};
-use vs_parse_expressions::{Parsed, Stop, expect_mark, mark_at};
+use vs_parse_expressions::{Parsed, ReadFault, expect_mark, mark_at};
 
 /// What stands in a list with commas.
 pub trait Element {
@@ -29,7 +29,7 @@ pub trait Element {
         alloc: Global,
         depth: u32,
         tokens: &'t [Token<'s>],
-    ) -> Result<Parsed<'t, 's, Self::Syntax>, Stop<'t, 's>>
+    ) -> Result<Parsed<'t, 's, Self::Syntax>, ReadFault<'t, 's>>
         requires { low grammar ≤ depth }
         ensures { ReadsTree grammar depth tokens.now tree_of result };
 }
@@ -41,7 +41,7 @@ pub fn others<'t, 's, T: Element>(
     depth: u32,
     tokens: &'t [Token<'s>],
     mut tree: Vec<T::Syntax>,
-) -> Result<Parsed<'t, 's, Vec<T::Syntax>>, Stop<'t, 's>>
+) -> Result<Parsed<'t, 's, Vec<T::Syntax>>, ReadFault<'t, 's>>
     requires { low T.grammar ≤ depth }
     ensures { MatchResult result
         (λ r. Grown T.grammar depth T.tree_of (seen tokens.now) (seen r.rest.now) tree.items r.tree.items)
@@ -63,7 +63,7 @@ pub fn listed<'t, 's, T: Element>(
     alloc: Global,
     depth: u32,
     tokens: &'t [Token<'s>],
-) -> Result<Parsed<'t, 's, Vec<T::Syntax>>, Stop<'t, 's>>
+) -> Result<Parsed<'t, 's, Vec<T::Syntax>>, ReadFault<'t, 's>>
     requires { low T.grammar ≤ depth }
     ensures { ReadsTree (T.grammar · behind_commas T.grammar · mark m.Semicolon) depth tokens.now
         (λ xs. listed_tree (map T.tree_of xs.items)) result }
@@ -79,7 +79,7 @@ pub fn listed<'t, 's, T: Element>(
 pub fn ended<'t, 's, T: Drop>(
     read: Parsed<'t, 's, T>,
     end: Mark,
-) -> Result<Parsed<'t, 's, T>, Stop<'t, 's>>
+) -> Result<Parsed<'t, 's, T>, ReadFault<'t, 's>>
     ensures tree { IfOk result (λ r. r.tree ≡ read.entry.tree) }
     ensures mark { (n : ℕ) → Answers (mark end) n (seen read.entry.rest.now) (λ _. leaf (a_mark end)) (λ r. seen r.rest.now) result }
 {

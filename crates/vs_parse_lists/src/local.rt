@@ -13,7 +13,7 @@ use crate::form::{declared, declared_range};
 use crate::list::{Element, listed};
 use std::alloc::Global;
 use vs_lexer::{Kind, Mark, Token, Word};
-use vs_parse_expressions::{Parsed, Stop, expect_name, mark_at, next};
+use vs_parse_expressions::{Parsed, ReadFault, expect_name, mark_at, next};
 use vs_syntax::{Local, LocalDeclaration};
 
 /// The word that a declaration in a block begins with.
@@ -48,7 +48,7 @@ impl Element for LocalVariable {
         alloc: Global,
         depth: u32,
         tokens: &'t [Token<'s>],
-    ) -> Result<Parsed<'t, 's, Local>, Stop<'t, 's>> {
+    ) -> Result<Parsed<'t, 's, Local>, ReadFault<'t, 's>> {
         let (name, after_name) = expect_name(alloc, tokens)?;
         let words = declared_range(alloc, depth, after_name)?;
         Ok(Parsed {
@@ -67,7 +67,7 @@ pub fn naming<'t, 's>(
     alloc: Global,
     depth: u32,
     tokens: &'t [Token<'s>],
-) -> Result<Parsed<'t, 's, Option<BlockName>>, Stop<'t, 's>>
+) -> Result<Parsed<'t, 's, Option<BlockName>>, ReadFault<'t, 's>>
     ensures { ReadsTree block_head depth tokens.now naming_tree result }
 {
     let Some(after) = mark_at(tokens, Mark::Colon) else {
@@ -84,7 +84,7 @@ fn named<'t, 's>(
     alloc: Global,
     depth: u32,
     tokens: &'t [Token<'s>],
-) -> Result<Parsed<'t, 's, Option<BlockName>>, Stop<'t, 's>>
+) -> Result<Parsed<'t, 's, Option<BlockName>>, ReadFault<'t, 's>>
     ensures { ReadsWithin naming_tree (marked m.Colon) (name · many local_declaration) depth tokens.now result }
 {
     let (name, after_name) = expect_name(alloc, tokens)?;
@@ -103,7 +103,7 @@ fn locals<'t, 's>(
     alloc: Global,
     depth: u32,
     tokens: &'t [Token<'s>],
-) -> Result<Parsed<'t, 's, Vec<LocalDeclaration>>, Stop<'t, 's>>
+) -> Result<Parsed<'t, 's, Vec<LocalDeclaration>>, ReadFault<'t, 's>>
     ensures { ReadsTree (many local_declaration) depth tokens.now
         (λ xs. row_of (map local_declaration_tree xs.items)) result }
 {
@@ -141,7 +141,7 @@ fn declaration<'t, 's>(
     tokens: &'t [Token<'s>],
     word: LocalWord,
     after: &'t [Token<'s>],
-) -> Result<Parsed<'t, 's, LocalDeclaration>, Stop<'t, 's>>
+) -> Result<Parsed<'t, 's, LocalDeclaration>, ReadFault<'t, 's>>
     requires { seen tokens.now ≡ a_word (local_word word) ∷ seen after.now }
     ensures { ReadsTree local_declaration depth tokens.now local_declaration_tree result }
 {

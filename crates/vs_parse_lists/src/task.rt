@@ -14,7 +14,7 @@ use crate::list::{Element, ended, others};
 use std::alloc::Global;
 use vs_lexer::{Kind, Literal, Mark, Token};
 use vs_parse_expressions::{
-    Parsed, Stop, SystemName, expect_mark, expr, literal, mark_at, next, system_name,
+    Parsed, ReadFault, SystemName, expect_mark, expr, literal, mark_at, next, system_name,
 };
 use vs_syntax::{Argument, DumpArgument, DumpTask, PrintArguments, PrintTask, Stmt};
 
@@ -32,7 +32,7 @@ impl Element for Printed {
         alloc: Global,
         depth: u32,
         tokens: &'t [Token<'s>],
-    ) -> Result<Parsed<'t, 's, Argument>, Stop<'t, 's>> {
+    ) -> Result<Parsed<'t, 's, Argument>, ReadFault<'t, 's>> {
         match time_at(tokens) {
             Some(rest) => Ok(Parsed {
                 tree: Argument::Time,
@@ -63,7 +63,7 @@ impl Element for Dumped {
         alloc: Global,
         depth: u32,
         tokens: &'t [Token<'s>],
-    ) -> Result<Parsed<'t, 's, DumpArgument>, Stop<'t, 's>> {
+    ) -> Result<Parsed<'t, 's, DumpArgument>, ReadFault<'t, 's>> {
         if begins_text(tokens) {
             let (text, rest) = expect_text(alloc, tokens)?;
             return Ok(Parsed {
@@ -97,16 +97,16 @@ fn begins_text(tokens: &[Token]) -> bool
 fn expect_text<'t, 's>(
     alloc: Global,
     tokens: &'t [Token<'s>],
-) -> Result<(Vec<u8>, &'t [Token<'s>]), Stop<'t, 's>>
+) -> Result<(Vec<u8>, &'t [Token<'s>]), ReadFault<'t, 's>>
     ensures { (depth : ℕ) → Answers (token any_text) depth (seen tokens.now)
         (λ x. leaf (a_text x.0.items)) (λ x. seen x.1.now) result }
 {
     let Some((first, rest)) = next(tokens) else {
-        return Err(Stop::Unexpected(tokens));
+        return Err(ReadFault::Unexpected(tokens));
     };
     match first.kind {
         Kind::Text => Ok((first.text(alloc)?, rest)),
-        _ => Err(Stop::Unexpected(tokens)),
+        _ => Err(ReadFault::Unexpected(tokens)),
     }
 }
 
@@ -129,7 +129,7 @@ fn print_list<'t, 's>(
     alloc: Global,
     depth: u32,
     tokens: &'t [Token<'s>],
-) -> Result<Parsed<'t, 's, PrintArguments>, Stop<'t, 's>>
+) -> Result<Parsed<'t, 's, PrintArguments>, ReadFault<'t, 's>>
     ensures { ReadsWithin print_tree (marked m.Open) printed depth tokens.now result }
 {
     if begins_text(tokens) {
@@ -153,7 +153,7 @@ fn print_arguments<'t, 's>(
     alloc: Global,
     depth: u32,
     tokens: &'t [Token<'s>],
-) -> Result<Parsed<'t, 's, PrintArguments>, Stop<'t, 's>>
+) -> Result<Parsed<'t, 's, PrintArguments>, ReadFault<'t, 's>>
     ensures { ReadsTree print_arguments depth tokens.now print_tree result }
 {
     let Some(inside) = mark_at(tokens, Mark::Open) else {
@@ -172,7 +172,7 @@ pub fn print_stmt<'t, 's>(
     depth: u32,
     tokens: &'t [Token<'s>],
     task: PrintTask,
-) -> Result<Parsed<'t, 's, Stmt>, Stop<'t, 's>>
+) -> Result<Parsed<'t, 's, Stmt>, ReadFault<'t, 's>>
     ensures { ReadsWithin stmt_tree (headed (a_print task)) (print_arguments · mark m.Semicolon) depth tokens.now result }
 {
     let arguments = print_arguments(alloc, depth, tokens)?;
@@ -187,7 +187,7 @@ pub fn print_stmt<'t, 's>(
 fn finished<'t, 's>(
     tokens: &'t [Token<'s>],
     number: Option<Literal>,
-) -> Result<Parsed<'t, 's, Stmt>, Stop<'t, 's>>
+) -> Result<Parsed<'t, 's, Stmt>, ReadFault<'t, 's>>
     ensures { (depth : ℕ) → ReadsWithin stmt_tree (λ y. headed a_finish (both (finish_tree number) y)) (mark m.Semicolon)
         depth tokens.now result }
 {
@@ -200,17 +200,19 @@ fn finished<'t, 's>(
 
 /// Reads what stands behind `$finish`, and the semicolon.
 #[inline(never)]
-pub fn finish_stmt<'t, 's>(tokens: &'t [Token<'s>]) -> Result<Parsed<'t, 's, Stmt>, Stop<'t, 's>>
+pub fn finish_stmt<'t, 's>(
+    tokens: &'t [Token<'s>],
+) -> Result<Parsed<'t, 's, Stmt>, ReadFault<'t, 's>>
     ensures { (depth : ℕ) → ReadsWithin stmt_tree (headed a_finish) (finish_argument · mark m.Semicolon) depth tokens.now result }
 {
     let Some(inside) = mark_at(tokens, Mark::Open) else {
         return finished(tokens, None);
     };
     let Some((first, after)) = next(inside) else {
-        return Err(Stop::Unexpected(inside));
+        return Err(ReadFault::Unexpected(inside));
     };
     let Some(found) = literal(first.kind) else {
-        return Err(Stop::Unexpected(inside));
+        return Err(ReadFault::Unexpected(inside));
     };
     let rest = expect_mark(after, Mark::Close)?;
     finished(rest, Some(found))
@@ -221,7 +223,7 @@ fn dump_list<'t, 's>(
     alloc: Global,
     depth: u32,
     tokens: &'t [Token<'s>],
-) -> Result<Parsed<'t, 's, Option<(DumpArgument, Vec<DumpArgument>)>>, Stop<'t, 's>>
+) -> Result<Parsed<'t, 's, Option<(DumpArgument, Vec<DumpArgument>)>>, ReadFault<'t, 's>>
     ensures { ReadsWithin dump_tree (marked m.Open) dumped depth tokens.now result }
 {
     let first = Dumped::read(alloc, depth, tokens)?;
@@ -238,7 +240,7 @@ fn dump_arguments<'t, 's>(
     alloc: Global,
     depth: u32,
     tokens: &'t [Token<'s>],
-) -> Result<Parsed<'t, 's, Option<(DumpArgument, Vec<DumpArgument>)>>, Stop<'t, 's>>
+) -> Result<Parsed<'t, 's, Option<(DumpArgument, Vec<DumpArgument>)>>, ReadFault<'t, 's>>
     ensures { ReadsTree dump_arguments depth tokens.now dump_tree result }
 {
     let Some(inside) = mark_at(tokens, Mark::Open) else {
@@ -257,7 +259,7 @@ pub fn dump_stmt<'t, 's>(
     depth: u32,
     tokens: &'t [Token<'s>],
     task: DumpTask,
-) -> Result<Parsed<'t, 's, Stmt>, Stop<'t, 's>>
+) -> Result<Parsed<'t, 's, Stmt>, ReadFault<'t, 's>>
     ensures { ReadsWithin stmt_tree (headed (a_dump task)) (dump_arguments · mark m.Semicolon) depth tokens.now result }
 {
     let arguments = dump_arguments(alloc, depth, tokens)?;

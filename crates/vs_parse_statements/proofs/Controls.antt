@@ -19,7 +19,7 @@ use Rattle.vs_parse_statements.specs.declared.head.EventHead.{EventHead}
 use Rattle.vs_parse_statements.specs.Heads.{BeginsDelay, BeginsEvent, separator_symbol, edge_word}
 use Rattle.vs_parse_lists.specs.Parts.{ReadsWithin, marked}
 use Rattle.vs_parse_expressions.specs.declared.reading.Parsed.{Parsed}
-use Rattle.vs_parse_expressions.specs.declared.reading.Stop.{Stop}
+use Rattle.vs_parse_expressions.specs.declared.reading.ReadFault.{ReadFault}
 use Rattle.vs_parse_expressions.specs.Answers.{seen, ReadsTree}
 use Rattle.vs_parse_expressions.proofs.Exits.{fails_by, goes_at}
 
@@ -89,7 +89,7 @@ event_group_stuck depth deep ts after at e s =
 event_group_read : (depth : ℕ) (ts after rest : List Symbol) (x : Tree) → ts ≡ a_mark m.Open ∷ after → Gets grouped depth after x rest → Gets event depth ts (marked m.Open x) rest
 event_group_read depth ts after rest x e p = rw e (gets_right refl (gets_right refl (gets_seq (gets_token refl) p)))
 
-pub event_group : (depth : ℕ) (ts after : List Token) (r : Result (Parsed EventControl) Stop) → seen ts ≡ a_mark m.Open ∷ seen after → ReadsWithin event_tree (marked m.Open) grouped depth after r → ReadsTree event depth ts event_tree r
+pub event_group : (depth : ℕ) (ts after : List Token) (r : Result (Parsed EventControl) ReadFault) → seen ts ≡ a_mark m.Open ∷ seen after → ReadsWithin event_tree (marked m.Open) grouped depth after r → ReadsTree event depth ts event_tree r
 event_group depth ts after (Ok x) e p = rw p.whole (event_group_read depth (seen ts) (seen after) (seen x.rest.now) p.inner e p.gets)
 event_group depth ts after (Err f) e p =
     fails_by grouped event depth depth (seen after) (seen ts) (λ deep at s. event_group_stuck depth deep (seen ts) (seen after) at e s) f p

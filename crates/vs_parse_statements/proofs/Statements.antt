@@ -25,7 +25,7 @@ use Rattle.vs_parse_lists.specs.Parts.{Within, ReadsWithin, headed}
 use Rattle.vs_parse_statements.proofs.Heads.{word_branch, word_need}
 use Rattle.vs_parse_lists.proofs.Trees.{tree_Null}
 use Rattle.vs_parse_expressions.specs.declared.reading.Parsed.{Parsed}
-use Rattle.vs_parse_expressions.specs.declared.reading.Stop.{Stop}
+use Rattle.vs_parse_expressions.specs.declared.reading.ReadFault.{ReadFault}
 use Rattle.vs_parse_expressions.specs.Answers.{seen, ReadsTree}
 use Rattle.vs_parse_expressions.proofs.Exits.{fails_by}
 use Rattle.vs_parse_expressions.proofs.Choices.{choice_read, choice_stuck}
@@ -53,7 +53,7 @@ word_stuck k depth deep ts after at e h l p =
     rw e (stuck_part (stuck_node h (stuck_right (word_apart k after) none (choice_stuck statements (behind_of k) (depth - 1) deep (symbol_of k) after at (word_branch k) l p))))
 
 -- what was read behind the first symbol makes the statement
-pub word_stmt : (k : StatementWord) (depth : ℕ) (ts after : List Token) (r : Result (Parsed Stmt) Stop) → seen ts ≡ symbol_of k ∷ seen after → low (behind_of k) < depth → ReadsWithin stmt_tree (headed (symbol_of k)) (behind_of k) (depth - 1) after r → ReadsTree (part a_stmt) depth ts stmt_tree r
+pub word_stmt : (k : StatementWord) (depth : ℕ) (ts after : List Token) (r : Result (Parsed Stmt) ReadFault) → seen ts ≡ symbol_of k ∷ seen after → low (behind_of k) < depth → ReadsWithin stmt_tree (headed (symbol_of k)) (behind_of k) (depth - 1) after r → ReadsTree (part a_stmt) depth ts stmt_tree r
 word_stmt k depth ts after (Ok x) e h p = rw p.whole (word_read k depth (seen ts) (seen after) (seen x.rest.now) p.inner e (omega (arith, h)) p.gets)
 word_stmt k depth ts after (Err f) e h p =
     fails_by (behind_of k) (part a_stmt) (depth - 1) depth (seen after) (seen ts)
@@ -86,7 +86,7 @@ pub null_read : (k : StatementWord) (depth : ℕ) (ts : List Symbol) → k ≡ s
 null_read k depth ts e = subst (λ (u : StatementWord). Within stmt_tree (headed (symbol_of u)) (behind_of u) depth ts v.Null ts) (sym e) (record { inner = empty; whole = tree_Null; gets = gets_nothing })
 
 -- a word that is known
-pub word_is : (k k' : StatementWord) (depth : ℕ) (ts : List Token) (r : Result (Parsed Stmt) Stop) → k ≡ k' → ReadsWithin stmt_tree (headed (symbol_of k')) (behind_of k') depth ts r → ReadsWithin stmt_tree (headed (symbol_of k)) (behind_of k) depth ts r
+pub word_is : (k k' : StatementWord) (depth : ℕ) (ts : List Token) (r : Result (Parsed Stmt) ReadFault) → k ≡ k' → ReadsWithin stmt_tree (headed (symbol_of k')) (behind_of k') depth ts r → ReadsWithin stmt_tree (headed (symbol_of k)) (behind_of k) depth ts r
 word_is k k' depth ts r e p = subst (λ (u : StatementWord). ReadsWithin stmt_tree (headed (symbol_of u)) (behind_of u) depth ts r) (sym e) p
 
 pub room_of : (k k' : StatementWord) (depth : ℕ) → k ≡ k' → low (behind_of k) ≤ depth → low (behind_of k') ≤ depth

@@ -12,7 +12,7 @@ ghost use Rattle.vs_parse_statements.specs.Timings.{timing, timing_tree};
 use crate::control::delay_value;
 use std::alloc::{AllocError, Global};
 use vs_lexer::{Mark, Token};
-use vs_parse_expressions::{Parsed, Stop, expect_mark, expr, left, mark_at};
+use vs_parse_expressions::{Parsed, ReadFault, expect_mark, expr, left, mark_at};
 use vs_parse_lists::ended;
 use vs_syntax::{DelayValue, Expr, ForHeader, Left, Stmt};
 
@@ -30,7 +30,7 @@ pub(crate) fn assigned_stmt<'t, 's>(
     alloc: Global,
     depth: u32,
     tokens: &'t [Token<'s>],
-) -> Result<Parsed<'t, 's, Stmt>, Stop<'t, 's>>
+) -> Result<Parsed<'t, 's, Stmt>, ReadFault<'t, 's>>
     requires depth { 2 ≤ depth }
     requires first { goes (part a_target) (seen tokens.now) ≡ true }
     ensures { ReadsTree (part a_stmt) depth tokens.now stmt_tree result }
@@ -62,7 +62,7 @@ fn sign<'t, 's>(
     alloc: Global,
     depth: u32,
     tokens: &'t [Token<'s>],
-) -> Result<Parsed<'t, 's, Timing>, Stop<'t, 's>>
+) -> Result<Parsed<'t, 's, Timing>, ReadFault<'t, 's>>
     ensures { ReadsTree timing depth tokens.now timing_tree result }
 {
     if let Some(rest) = mark_at(tokens, Mark::Assign) {
@@ -91,7 +91,7 @@ pub fn expr_until<'t, 's>(
     depth: u32,
     tokens: &'t [Token<'s>],
     end: Mark,
-) -> Result<Parsed<'t, 's, Expr>, Stop<'t, 's>>
+) -> Result<Parsed<'t, 's, Expr>, ReadFault<'t, 's>>
     ensures { (a : Grammar) → Leads a (part an_expr · mark end · a)
         (λ x y. both (expr_tree x) (marked end y)) depth tokens.now result }
 {
@@ -104,7 +104,7 @@ pub fn guard<'t, 's>(
     alloc: Global,
     depth: u32,
     tokens: &'t [Token<'s>],
-) -> Result<Parsed<'t, 's, Expr>, Stop<'t, 's>>
+) -> Result<Parsed<'t, 's, Expr>, ReadFault<'t, 's>>
     ensures { (a : Grammar) → Leads a (guarded a) (λ x y. guarded_tree (expr_tree x) y) depth tokens.now result }
 {
     let inside = expect_mark(tokens, Mark::Open)?;
@@ -117,7 +117,7 @@ fn sides_until<'t, 's>(
     depth: u32,
     tokens: &'t [Token<'s>],
     end: Mark,
-) -> Result<Parsed<'t, 's, (Left, Expr)>, Stop<'t, 's>>
+) -> Result<Parsed<'t, 's, (Left, Expr)>, ReadFault<'t, 's>>
     ensures { (a : Grammar) → Leads a (assignment · mark end · a)
         (λ x y. both (sides_tree x) (marked end y)) depth tokens.now result }
 {
@@ -136,7 +136,7 @@ pub(crate) fn for_header<'t, 's>(
     alloc: Global,
     depth: u32,
     tokens: &'t [Token<'s>],
-) -> Result<Parsed<'t, 's, ForHeader>, Stop<'t, 's>>
+) -> Result<Parsed<'t, 's, ForHeader>, ReadFault<'t, 's>>
     ensures { Leads (part a_stmt) for_parts
         (λ x y. for_tree x.first.0 x.first.1 x.condition x.step.0 x.step.1 y) depth tokens.now result }
 {

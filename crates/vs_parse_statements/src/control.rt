@@ -11,7 +11,9 @@ ghost use Rattle.vs_parse_lists.specs.Parts.{ReadsWithin, marked};
 use crate::head::{DelayHead, EventHead, delay_head, edge_at, event_head, separator_at};
 use std::alloc::Global;
 use vs_lexer::{Mark, Token};
-use vs_parse_expressions::{Parsed, Stop, expect_name, expr, literal, mark_at, name_selects, next};
+use vs_parse_expressions::{
+    Parsed, ReadFault, expect_name, expr, literal, mark_at, name_selects, next,
+};
 use vs_parse_lists::ended;
 use vs_syntax::{DelayValue, EventControl, EventExpr, Separator};
 
@@ -20,11 +22,11 @@ pub(crate) fn delay_value<'t, 's>(
     alloc: Global,
     depth: u32,
     tokens: &'t [Token<'s>],
-) -> Result<Parsed<'t, 's, DelayValue>, Stop<'t, 's>>
+) -> Result<Parsed<'t, 's, DelayValue>, ReadFault<'t, 's>>
     ensures { ReadsTree delay depth tokens.now delay_tree result }
 {
     let Some((head, after)) = delay_head(tokens) else {
-        return Err(Stop::Unexpected(tokens));
+        return Err(ReadFault::Unexpected(tokens));
     };
     match head {
         DelayHead::Number => delay_number(tokens),
@@ -48,15 +50,17 @@ pub(crate) fn delay_value<'t, 's>(
 }
 
 /// Reads a delay that is a number.
-fn delay_number<'t, 's>(tokens: &'t [Token<'s>]) -> Result<Parsed<'t, 's, DelayValue>, Stop<'t, 's>>
+fn delay_number<'t, 's>(
+    tokens: &'t [Token<'s>],
+) -> Result<Parsed<'t, 's, DelayValue>, ReadFault<'t, 's>>
     requires { first (seen tokens.now) ≡ any_number }
     ensures { (depth : ℕ) → ReadsTree delay depth tokens.now delay_tree result }
 {
     let Some((first, rest)) = next(tokens) else {
-        return Err(Stop::Unexpected(tokens));
+        return Err(ReadFault::Unexpected(tokens));
     };
     let Some(time) = literal(first.kind) else {
-        return Err(Stop::Unexpected(tokens));
+        return Err(ReadFault::Unexpected(tokens));
     };
     Ok(Parsed {
         tree: DelayValue::Number(time),
@@ -69,11 +73,11 @@ pub(crate) fn event_control<'t, 's>(
     alloc: Global,
     depth: u32,
     tokens: &'t [Token<'s>],
-) -> Result<Parsed<'t, 's, EventControl>, Stop<'t, 's>>
+) -> Result<Parsed<'t, 's, EventControl>, ReadFault<'t, 's>>
     ensures { ReadsTree event depth tokens.now event_tree result }
 {
     let Some((head, after)) = event_head(tokens) else {
-        return Err(Stop::Unexpected(tokens));
+        return Err(ReadFault::Unexpected(tokens));
     };
     match head {
         EventHead::Star => Ok(Parsed {
@@ -96,7 +100,7 @@ fn event_group<'t, 's>(
     alloc: Global,
     depth: u32,
     tokens: &'t [Token<'s>],
-) -> Result<Parsed<'t, 's, EventControl>, Stop<'t, 's>>
+) -> Result<Parsed<'t, 's, EventControl>, ReadFault<'t, 's>>
     ensures { ReadsWithin event_tree (marked m.Open) ((mark m.Star or event_exprs) · mark m.Close)
         depth tokens.now result }
 {
@@ -126,7 +130,7 @@ fn other_terms<'t, 's>(
     alloc: Global,
     depth: u32,
     tokens: &'t [Token<'s>],
-) -> Result<Parsed<'t, 's, Vec<(Separator, EventExpr)>>, Stop<'t, 's>>
+) -> Result<Parsed<'t, 's, Vec<(Separator, EventExpr)>>, ReadFault<'t, 's>>
     ensures { ReadsTree (many ((word w.Or or mark m.Comma) · part an_event_expr)) depth tokens.now
         (λ xs. row_of (map other_event_tree xs.items)) result }
 {
@@ -146,7 +150,7 @@ fn event_term<'t, 's>(
     alloc: Global,
     depth: u32,
     tokens: &'t [Token<'s>],
-) -> Result<Parsed<'t, 's, EventExpr>, Stop<'t, 's>>
+) -> Result<Parsed<'t, 's, EventExpr>, ReadFault<'t, 's>>
     ensures { ReadsTree (part an_event_expr) depth tokens.now event_expr_tree result }
 {
     let (edge, after_edge) = edge_at(tokens);

@@ -20,7 +20,7 @@ use crate::head::{
 use std::alloc::Global;
 use vs_lexer::{Token, Word};
 use vs_logic4::CaseKind;
-use vs_parse_expressions::{Parsed, Stop, expect_word, word_at};
+use vs_parse_expressions::{Parsed, ReadFault, expect_word, word_at};
 use vs_parse_lists::{BlockName, case_label, dump_stmt, finish_stmt, naming, print_stmt};
 use vs_syntax::{CaseLabel, Expr, Stmt};
 
@@ -30,11 +30,11 @@ pub fn stmt<'t, 's>(
     alloc: Global,
     depth: u32,
     tokens: &'t [Token<'s>],
-) -> Result<Parsed<'t, 's, Stmt>, Stop<'t, 's>>
+) -> Result<Parsed<'t, 's, Stmt>, ReadFault<'t, 's>>
     ensures { ReadsTree (part a_stmt) depth tokens.now stmt_tree result }
 {
     let Some((head, after)) = statement_head(tokens) else {
-        return Err(Stop::Unexpected(tokens));
+        return Err(ReadFault::Unexpected(tokens));
     };
     headed(alloc, depth, tokens, head, after)
 }
@@ -47,12 +47,12 @@ fn headed<'t, 's>(
     tokens: &'t [Token<'s>],
     head: StatementHead,
     after: &'t [Token<'s>],
-) -> Result<Parsed<'t, 's, Stmt>, Stop<'t, 's>>
+) -> Result<Parsed<'t, 's, Stmt>, ReadFault<'t, 's>>
     requires { BeginsStatement (seen tokens.now) head (seen after.now) }
     ensures { ReadsTree (part a_stmt) depth tokens.now stmt_tree result }
 {
     if depth < least_statement(head) {
-        return Err(Stop::TooDeep(tokens));
+        return Err(ReadFault::TooDeep(tokens));
     }
     match head {
         StatementHead::Name => assigned_stmt(alloc, depth, tokens),
@@ -68,7 +68,7 @@ fn behind<'t, 's>(
     depth: u32,
     tokens: &'t [Token<'s>],
     word: StatementWord,
-) -> Result<Parsed<'t, 's, Stmt>, Stop<'t, 's>>
+) -> Result<Parsed<'t, 's, Stmt>, ReadFault<'t, 's>>
     requires { low (behind_of word) ≤ depth }
     ensures { ReadsWithin stmt_tree (headed (symbol_of word)) (behind_of word) depth tokens.now result }
 {
@@ -101,7 +101,7 @@ fn boxed<'t, 's>(
     alloc: Global,
     depth: u32,
     tokens: &'t [Token<'s>],
-) -> Result<Parsed<'t, 's, Box<Stmt>>, Stop<'t, 's>>
+) -> Result<Parsed<'t, 's, Box<Stmt>>, ReadFault<'t, 's>>
     ensures { ReadsTree (part a_stmt) depth tokens.now boxed_tree result }
 {
     let inner = stmt(alloc, depth, tokens)?;
@@ -117,7 +117,7 @@ fn block<'t, 's>(
     alloc: Global,
     depth: u32,
     tokens: &'t [Token<'s>],
-) -> Result<Parsed<'t, 's, Stmt>, Stop<'t, 's>>
+) -> Result<Parsed<'t, 's, Stmt>, ReadFault<'t, 's>>
     ensures { ReadsWithin stmt_tree (headed (a_word w.Begin)) (block_head · many (part a_stmt) · word w.End) depth tokens.now result }
 {
     let naming = naming(alloc, depth, tokens)?;
@@ -155,7 +155,7 @@ fn conditional<'t, 's>(
     alloc: Global,
     depth: u32,
     tokens: &'t [Token<'s>],
-) -> Result<Parsed<'t, 's, Stmt>, Stop<'t, 's>>
+) -> Result<Parsed<'t, 's, Stmt>, ReadFault<'t, 's>>
     requires { 1 ≤ depth }
     ensures { ReadsWithin stmt_tree (headed (a_word w.If)) (guarded branches) depth tokens.now result }
 {
@@ -183,7 +183,7 @@ fn case_stmt<'t, 's>(
     depth: u32,
     tokens: &'t [Token<'s>],
     kind: CaseKind,
-) -> Result<Parsed<'t, 's, Stmt>, Stop<'t, 's>>
+) -> Result<Parsed<'t, 's, Stmt>, ReadFault<'t, 's>>
     requires { 1 ≤ depth }
     ensures { ReadsWithin stmt_tree (headed (a_word (case_word kind))) (guarded case_items) depth tokens.now result }
 {
@@ -203,13 +203,13 @@ fn items<'t, 's>(
     alloc: Global,
     depth: u32,
     tokens: &'t [Token<'s>],
-) -> Result<Parsed<'t, 's, Vec<(CaseLabel, Stmt)>>, Stop<'t, 's>>
+) -> Result<Parsed<'t, 's, Vec<(CaseLabel, Stmt)>>, ReadFault<'t, 's>>
     requires { 1 ≤ depth }
     ensures { ReadsTree case_items depth tokens.now
         (λ xs. both (some_tree (map labelled_stmt_tree xs.items)) (leaf (a_word w.Endcase))) result }
 {
     if !begins_case_item(tokens) {
-        return Err(Stop::Unexpected(tokens));
+        return Err(ReadFault::Unexpected(tokens));
     }
     let mut tree = Vec::new(alloc);
     // All of them, but from a call: so the borrow checker can join it with what the loop sets.
@@ -231,7 +231,7 @@ fn for_stmt<'t, 's>(
     alloc: Global,
     depth: u32,
     tokens: &'t [Token<'s>],
-) -> Result<Parsed<'t, 's, Stmt>, Stop<'t, 's>>
+) -> Result<Parsed<'t, 's, Stmt>, ReadFault<'t, 's>>
     ensures { ReadsWithin stmt_tree (headed (a_word w.For)) for_parts depth tokens.now result }
 {
     let read = for_header(alloc, depth, tokens)?;
@@ -251,7 +251,7 @@ fn loop_stmt<'t, 's>(
     depth: u32,
     tokens: &'t [Token<'s>],
     counted: bool,
-) -> Result<Parsed<'t, 's, Stmt>, Stop<'t, 's>>
+) -> Result<Parsed<'t, 's, Stmt>, ReadFault<'t, 's>>
     ensures { ReadsWithin stmt_tree (headed (a_word (loop_word counted))) (guarded (part a_stmt)) depth tokens.now result }
 {
     let condition = guard(alloc, depth, tokens)?;
@@ -281,7 +281,7 @@ fn forever_stmt<'t, 's>(
     alloc: Global,
     depth: u32,
     tokens: &'t [Token<'s>],
-) -> Result<Parsed<'t, 's, Stmt>, Stop<'t, 's>>
+) -> Result<Parsed<'t, 's, Stmt>, ReadFault<'t, 's>>
     ensures { ReadsWithin stmt_tree (headed (a_word w.Forever)) (part a_stmt) depth tokens.now result }
 {
     let inner = boxed(alloc, depth, tokens)?;
@@ -298,7 +298,7 @@ fn delayed_stmt<'t, 's>(
     alloc: Global,
     depth: u32,
     tokens: &'t [Token<'s>],
-) -> Result<Parsed<'t, 's, Stmt>, Stop<'t, 's>>
+) -> Result<Parsed<'t, 's, Stmt>, ReadFault<'t, 's>>
     ensures { ReadsWithin stmt_tree (headed (a_mark m.Hash)) (delay · part a_stmt) depth tokens.now result }
 {
     let time = delay_value(alloc, depth, tokens)?;
@@ -316,7 +316,7 @@ fn event_stmt<'t, 's>(
     alloc: Global,
     depth: u32,
     tokens: &'t [Token<'s>],
-) -> Result<Parsed<'t, 's, Stmt>, Stop<'t, 's>>
+) -> Result<Parsed<'t, 's, Stmt>, ReadFault<'t, 's>>
     ensures { ReadsWithin stmt_tree (headed (a_mark m.At)) (event · part a_stmt) depth tokens.now result }
 {
     let control = event_control(alloc, depth, tokens)?;

@@ -18,8 +18,8 @@ use Rattle.vs_syntax.proofs.Refused.{front_of, front_text, refused}
 use Rattle.vs_syntax.proofs.Viable.{viable}
 use Rattle.vs_syntax.proofs.Beginnings.{stuck_there}
 use Rattle.vs_syntax.proofs.Deeper.{deeper}
-use Rattle.vs_parse_expressions.specs.declared.reading.Stop.{Stop}
-use Rattle.vs_parse_expressions.specs.declared.reading.Stop.TheVariants as stop
+use Rattle.vs_parse_expressions.specs.declared.reading.ReadFault.{ReadFault}
+use Rattle.vs_parse_expressions.specs.declared.reading.ReadFault.TheVariants as stop
 use Rattle.vs_parse_expressions.specs.Answers.{seen, FailsToRead}
 use Rattle.vs_parser.specs.declared.fault.ParseFault.{ParseFault}
 use Rattle.vs_parser.specs.declared.fault.ParseFault.TheVariants as f
@@ -56,7 +56,7 @@ halts deep ts rest s =
           (b.depth, record { tree = v.tree; tail = v.tail; source = record { is = v.is; nesting = v.fits }; text = v.text });
     }
 
-pub halts_by : (ts : List Symbol) (e : Stop) → FailsToRead (part a_source) 256 ts e → StopsAt ts e
+pub halts_by : (ts : List Symbol) (e : ReadFault) → FailsToRead (part a_source) 256 ts e → StopsAt ts e
 halts_by ts stop.Memory p = tt
 halts_by ts (stop.Unexpected at) p = halts false ts (seen at.now) p
 halts_by ts (stop.TooDeep at) p = halts true ts (seen at.now) p

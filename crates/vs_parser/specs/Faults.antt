@@ -7,8 +7,8 @@ use Rattle.vs_syntax.specs.Derivation.{Tree, tokens, height, Is}
 use Rattle.vs_syntax.specs.Derives.{IsSource, BeginsSource}
 use Rattle.vs_parser.specs.declared.fault.ParseFault.{ParseFault}
 use Rattle.vs_parser.specs.declared.fault.ParseFault.TheVariants as f
-use Rattle.vs_parse_expressions.specs.declared.reading.Stop.{Stop}
-use Rattle.vs_parse_expressions.specs.declared.reading.Stop.TheVariants as stop
+use Rattle.vs_parse_expressions.specs.declared.reading.ReadFault.{ReadFault}
+use Rattle.vs_parse_expressions.specs.declared.reading.ReadFault.TheVariants as stop
 use Rattle.vs_parse_expressions.specs.Answers.{seen}
 use Rattle.vs_parser.specs.LeftOut.{is_left_out}
 
@@ -64,7 +64,7 @@ pub record Halts (deep : Bool) (ts rest : List Symbol) : Type 0 where
   pub deeper : deep ≡ true → (s : Symbol) (ss : List Symbol) → rest ≡ s ∷ ss → (most : ℕ) × BeginsSource most (front ++ s ∷ [])
 
 -- why and where reading a whole source stopped
-abbrev pub StopsAt : List Symbol → Stop → Type 0
+abbrev pub StopsAt : List Symbol → ReadFault → Type 0
 StopsAt ts stop.Memory = Unit {0}
 StopsAt ts (stop.Unexpected at) = Halts false ts (seen at.now)
 StopsAt ts (stop.TooDeep at) = Halts true ts (seen at.now)

@@ -13,7 +13,7 @@ use crate::fault::{ParseFault, left_out};
 use crate::source::source;
 use std::alloc::Global;
 use vs_lexer::Token;
-use vs_parse_expressions::{Stop, next};
+use vs_parse_expressions::{ReadFault, next};
 use vs_syntax::Source;
 
 /// The deepest nesting, in nodes below one another.
@@ -36,25 +36,25 @@ pub fn parse<'s>(alloc: Global, tokens: &[Token<'s>]) -> Result<Source, ParseFau
 }
 
 /// Reads a source that is all of the tokens.
-fn whole<'t, 's>(alloc: Global, tokens: &'t [Token<'s>]) -> Result<Source, Stop<'t, 's>>
+fn whole<'t, 's>(alloc: Global, tokens: &'t [Token<'s>]) -> Result<Source, ReadFault<'t, 's>>
     ensures { MatchResult result (λ s. Derives (seen tokens.now) s) (λ e. StopsAt (seen tokens.now) e) }
 {
     let read = source(alloc, NESTING, tokens)?;
     let Some((_first, _others)) = next(read.rest) else {
         return Ok(read.tree);
     };
-    Err(Stop::Unexpected(read.rest))
+    Err(ReadFault::Unexpected(read.rest))
 }
 
 /// The fault of tokens at which reading stopped so.
-fn fault_of<'s>(tokens: &[Token<'s>], stop: Stop<'_, 's>) -> ParseFault<'s>
+fn fault_of<'s>(tokens: &[Token<'s>], stop: ReadFault<'_, 's>) -> ParseFault<'s>
     requires { StopsAt (seen tokens.now) stop }
     ensures { IsRefused (lexemes tokens.now) result }
 {
     match stop {
-        Stop::Memory => ParseFault::Memory,
-        Stop::Unexpected(rest) => unexpected(tokens, rest),
-        Stop::TooDeep(rest) => too_deep(tokens, rest),
+        ReadFault::Memory => ParseFault::Memory,
+        ReadFault::Unexpected(rest) => unexpected(tokens, rest),
+        ReadFault::TooDeep(rest) => too_deep(tokens, rest),
     }
 }
 

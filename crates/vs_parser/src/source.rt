@@ -9,7 +9,7 @@ ghost use Rattle.vs_parse_expressions.specs.Answers.{seen, ReadsTree};
 use crate::head::{SourceHead, source_head};
 use std::alloc::Global;
 use vs_lexer::{Directive, Mark, Token, Word};
-use vs_parse_expressions::{Parsed, Stop, expect_mark, expect_name, expect_word};
+use vs_parse_expressions::{Parsed, ReadFault, expect_mark, expect_name, expect_word};
 use vs_parse_headers::{header_parameters, header_ports};
 use vs_parse_items::items;
 use vs_syntax::{Module, Source};
@@ -21,7 +21,7 @@ fn module<'t, 's>(
     tokens: &'t [Token<'s>],
     after: &'t [Token<'s>],
     directives: Vec<Directive>,
-) -> Result<Parsed<'t, 's, Module>, Stop<'t, 's>>
+) -> Result<Parsed<'t, 's, Module>, ReadFault<'t, 's>>
     requires { seen tokens.now ≡ a_word w.Module ∷ seen after.now }
     ensures reads { ReadsTree (part a_module) depth tokens.now module_tree result }
     ensures directives { IfOk result (λ x. x.tree.directives ≡ directives) }
@@ -49,7 +49,7 @@ pub(crate) fn source<'t, 's>(
     alloc: Global,
     depth: u32,
     tokens: &'t [Token<'s>],
-) -> Result<Parsed<'t, 's, Source>, Stop<'t, 's>>
+) -> Result<Parsed<'t, 's, Source>, ReadFault<'t, 's>>
     ensures { ReadsTree (part a_source) depth tokens.now source_tree result }
 {
     let mut modules = Vec::new(alloc);

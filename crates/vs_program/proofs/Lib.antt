@@ -1,5 +1,5 @@
 mod Buffers
 mod Ends
-mod Given
+mod Fails
 mod Inputs
-mod Rows
+mod Reading

@@ -1,78 +1,172 @@
 -- How the program ends: its exit status (profile).
-use Rattle.std.specs.Prelude.{ℕ, ◌≡◌, ◌⊎◌, true, false, Option, None, Some, List}
-use Rattle.std.specs.Io.KnownBytes.{Keeps, append_known}
-use Rattle.vs_kernel.specs.declared.outcome.Outcome.{Outcome}
-use Rattle.vs_simulate.specs.declared.fault.SimFault.{SimFault}
-use Rattle.vs_program.specs.declared.words.Request.{Request}
-use Rattle.vs_program.specs.declared.words.Subcommand.{Subcommand}
-use Rattle.vs_program.specs.declared.words.Subcommand.TheVariants.{Run, Elab}
-use Rattle.vs_program.specs.declared.words.OutputText.{OutputText}
-use Rattle.vs_program.specs.declared.words.OutputText.TheVariants.{Lines, Dump}
+use Rattle.std.specs.Prelude.{ℕ, ◌≡◌, ◌⊎◌, true, false, Option, None, List}
+use Rattle.std.specs.Io.KnownBytes.{Appends, Keeps, append_known}
 use Rattle.clap.specs.declared.error.kind.ErrorKind.{ErrorKind}
-use Rattle.vs_program.specs.Asks.{HaveFault, WordsAsk}
-use Rattle.vs_simulate.specs.Honesty.{IsRun, HasBegunRun, SimulationFails, is_refusal}
-use Rattle.vs_program.specs.Inputs.{IsKept}
+use Rattle.vs_certificate.specs.declared.members.ClaimedGrain.{ClaimedGrain}
+use Rattle.vs_design.specs.Parts.{Parts}
+use Rattle.vs_vcd.specs.Sinks.{AppendsPart}
+use Rattle.vs_kernel.specs.declared.outcome.Outcome.{Outcome}
+use Rattle.vs_cert_check.specs.declared.verdict.Verdict.{Verdict}
+use Rattle.vs_propose.specs.declared.proposal.Proposal.{Proposal}
+use Rattle.vs_propose.specs.Proposals.{IsProposal}
+use Rattle.vs_simulate.specs.Honesty.{Defines, IsRun, HasBegunRun, SimulationFails}
 use Rattle.vs_simulate.specs.Listing.{IsListed, HasBegunListing}
-use Rattle.vs_program.specs.Statuses.{outcome_status, fault_status, words_status}
+use Rattle.vs_certified.specs.Certified.{IsCertifiedRun, HasBegunCertifiedRun, CertifyingFails, is_before_run}
+use Rattle.vs_certified.specs.Judged.{IsJudged}
+use Rattle.vs_certified.specs.declared.fault.CertifiedFault.{CertifiedFault}
+use Rattle.vs_certified.specs.declared.fault.CertifiedFault.TheVariants.{Simulation, Rejected}
+use Rattle.vs_program_words.specs.declared.words.Call as asked
+use Rattle.vs_program_words.specs.declared.words.Request.{Request}
+use Rattle.vs_program_words.specs.declared.words.Subcommand.{Subcommand}
+use Rattle.vs_program_words.specs.declared.words.Subcommand.TheVariants.{Run, RunCertified, Check, Certify, Elab}
+use Rattle.vs_program_words.specs.declared.words.OutputText.{OutputText}
+use Rattle.vs_program_words.specs.declared.words.OutputText.TheVariants.{Lines, Dump}
+use Rattle.vs_program.specs.declared.doing.Done.{Done}
+use Rattle.vs_program.specs.declared.doing.Done.TheVariants.{Ran, Judged, Proposed, Listed}
+use Rattle.vs_program_words.specs.Asks.{HaveFault, WordsAsk, WordsAskForBoth}
+use Rattle.vs_program.specs.Inputs.{AreKept, IsKept}
+use Rattle.vs_program.specs.Statuses.{outcome_status, proposal_status, refusal_status, verdict_status, words_status}
+use Rattle.vs_program.specs.Texts.{proposal_line, verdict_line}
+
+-- ---- what a call wrote
 
 -- what a run wrote to the writer of the text that was asked for: the value change dump, or the lines; nothing keeps the bytes of the other one
 abbrev pub Wrote : OutputText → List ℕ → Request → Outcome → Option (List ℕ) → Option (List ℕ) → Type 0
 Wrote Dump bytes q outcome old new = IsRun bytes q.top.now q.until.count q.steps.count outcome old new None None
 Wrote Lines bytes q outcome old new = IsRun bytes q.top.now q.until.count q.steps.count outcome None None old new
 
--- the top that a call asks for
-abbrev pub top_of : Subcommand → List ℕ
-top_of (Run q) = q.top.now
-top_of (Elab top) = top.now
+-- the same of a run of a design whose certificate is accepted, with the text of the certificate
+abbrev pub WroteCertified : OutputText → List ℕ → List ℕ → Request → Outcome → Option (List ℕ) → Option (List ℕ) → Type 0
+WroteCertified Dump bytes certificate q outcome old new =
+    IsCertifiedRun bytes q.top.now certificate q.until.count q.steps.count outcome old new None None
+WroteCertified Lines bytes certificate q outcome old new =
+    IsCertifiedRun bytes q.top.now certificate q.until.count q.steps.count outcome None None old new
 
--- what a call wrote to the writer
-abbrev pub HasWritten : List ℕ → Subcommand → Option Outcome → Option (List ℕ) → Option (List ℕ) → Type 0
-HasWritten bytes (Run q) (Some outcome) old new = Wrote q.text bytes q outcome old new
-HasWritten bytes (Elab top) None old new = IsListed bytes top.now old new
-HasWritten bytes call _ old new = ⊥
+-- the line of the verdict on a certificate was written
+pub record WroteVerdict (bytes top certificate : List ℕ) (v : Verdict) (old new : Option (List ℕ)) : Type 0 where
+  pub judged : IsJudged bytes top certificate v
+  pub written : Appends old new (verdict_line v)
+
+-- what is proposed for the design that bytes and a top define, at a grain
+pub record IsProposed (bytes top : List ℕ) (grain : ClaimedGrain) (p : Proposal) : Type 0 where
+  pub design : Parts
+  pub defined : Defines bytes top design
+  pub proposal : IsProposal design grain p
+
+-- the line of what is proposed was written
+pub record WroteProposal (bytes top : List ℕ) (grain : ClaimedGrain) (p : Proposal) (old new : Option (List ℕ)) : Type 0 where
+  pub proposed : IsProposed bytes top grain p
+  pub written : Appends old new (proposal_line p)
+
+-- what a call wrote to the writer, with the bytes of the source and those of the certificate
+abbrev pub HasWritten : List ℕ → List ℕ → Subcommand → Done → Option (List ℕ) → Option (List ℕ) → Type 0
+HasWritten bytes certificate (Run q) (Ran outcome) old new = Wrote q.text bytes q outcome old new
+HasWritten bytes certificate (RunCertified q) (Ran outcome) old new = WroteCertified q.text bytes certificate q outcome old new
+HasWritten bytes certificate (Check top) (Judged v) old new = WroteVerdict bytes top.now certificate v old new
+HasWritten bytes certificate (Certify top grain) (Proposed p) old new = WroteProposal bytes top.now grain p old new
+HasWritten bytes certificate (Elab top) Listed old new = IsListed bytes top.now old new
+HasWritten bytes certificate call _ old new = ⊥
 
 -- the status of what was done
-abbrev pub done_status : Option Outcome → ℕ
-done_status None = 0
-done_status (Some outcome) = outcome_status outcome
+abbrev pub done_status : Done → ℕ
+done_status (Ran outcome) = outcome_status outcome
+done_status (Judged v) = verdict_status v
+done_status (Proposed p) = proposal_status p
+done_status Listed = 0
+
+-- ---- what a call wrote that failed
 
 -- what a run wrote that failed: a beginning of the text that was asked for
 abbrev pub HasBegunText : OutputText → List ℕ → Request → Option (List ℕ) → Option (List ℕ) → Type 0
 HasBegunText Dump bytes q old new = HasBegunRun bytes q.top.now q.until.count q.steps.count old new None None
 HasBegunText Lines bytes q old new = HasBegunRun bytes q.top.now q.until.count q.steps.count None None old new
 
--- what a call wrote that failed: a beginning of its text
-abbrev pub HasBegunWriting : List ℕ → Subcommand → Option (List ℕ) → Option (List ℕ) → Type 0
-HasBegunWriting bytes (Run q) old new = HasBegunText q.text bytes q old new
-HasBegunWriting bytes (Elab top) old new = HasBegunListing bytes top.now old new
+-- the same of a run of a design whose certificate is accepted
+abbrev pub HasBegunCertifiedText : OutputText → List ℕ → List ℕ → Request → Option (List ℕ) → Option (List ℕ) → Type 0
+HasBegunCertifiedText Dump bytes certificate q old new =
+    HasBegunCertifiedRun bytes q.top.now certificate q.until.count q.steps.count old new None None
+HasBegunCertifiedText Lines bytes certificate q old new =
+    HasBegunCertifiedRun bytes q.top.now certificate q.until.count q.steps.count None None old new
 
--- what a call that gave a fault leaves at the writer: where the source is refused, all is as it was; else a beginning of its text, but for bytes at its end
-pub record HasLeft (bytes : List ℕ) (call : Subcommand) (fault : SimFault) (old new : Option (List ℕ)) : Type 0 where
-  pub refused : is_refusal fault ≡ true → Keeps old new
-  pub begun : is_refusal fault ≡ false → (lost : List ℕ) × HasBegunWriting bytes call old (append_known new lost)
+-- a beginning of the line of the verdict on a certificate
+pub record HasBegunVerdict (bytes top certificate : List ℕ) (old new : Option (List ℕ)) : Type 0 where
+  pub verdict : Verdict
+  pub judged : IsJudged bytes top certificate verdict
+  pub begun : AppendsPart old new (verdict_line verdict)
+
+-- a beginning of the line of what is proposed
+pub record HasBegunProposal (bytes top : List ℕ) (grain : ClaimedGrain) (old new : Option (List ℕ)) : Type 0 where
+  pub proposal : Proposal
+  pub proposed : IsProposed bytes top grain proposal
+  pub begun : AppendsPart old new (proposal_line proposal)
+
+-- what a call wrote that failed: a beginning of its text
+abbrev pub HasBegunWriting : List ℕ → List ℕ → Subcommand → Option (List ℕ) → Option (List ℕ) → Type 0
+HasBegunWriting bytes certificate (Run q) old new = HasBegunText q.text bytes q old new
+HasBegunWriting bytes certificate (RunCertified q) old new = HasBegunCertifiedText q.text bytes certificate q old new
+HasBegunWriting bytes certificate (Check top) old new = HasBegunVerdict bytes top.now certificate old new
+HasBegunWriting bytes certificate (Certify top grain) old new = HasBegunProposal bytes top.now grain old new
+HasBegunWriting bytes certificate (Elab top) old new = HasBegunListing bytes top.now old new
+
+-- ---- why a call failed
+
+-- what a fault says of a call that takes no certificate
+abbrev pub SourceFails : List ℕ → List ℕ → CertifiedFault → Type 0
+SourceFails bytes top (Simulation fault) = SimulationFails bytes top fault
+SourceFails bytes top _ = ⊥
+
+-- what a fault says where a verdict is asked for, which a no is none of
+abbrev pub CheckingFails : List ℕ → List ℕ → List ℕ → CertifiedFault → Type 0
+CheckingFails bytes top certificate (Rejected number place) = ⊥
+CheckingFails bytes top certificate fault = CertifyingFails bytes top certificate fault
+
+-- what a fault says of a call: the source is refused, or then the certificate where the call takes one, or then the design where it is to run; and what
+-- is written fails for memory or a write alone
+abbrev pub CallFails : List ℕ → List ℕ → Subcommand → CertifiedFault → Type 0
+CallFails bytes certificate (Run q) fault = SourceFails bytes q.top.now fault
+CallFails bytes certificate (RunCertified q) fault = CertifyingFails bytes q.top.now certificate fault
+CallFails bytes certificate (Check top) fault = CheckingFails bytes top.now certificate fault
+CallFails bytes certificate (Certify top grain) fault = SourceFails bytes top.now fault
+CallFails bytes certificate (Elab top) fault = SourceFails bytes top.now fault
+
+-- what a call that gave a fault leaves at the writer: where it is refused, all is as it was; else a beginning of its text, but for bytes at its end
+pub record HasLeft (bytes certificate : List ℕ) (call : Subcommand) (fault : CertifiedFault) (old new : Option (List ℕ)) : Type 0 where
+  pub refused : is_before_run fault ≡ true → Keeps old new
+  pub begun : is_before_run fault ≡ false → (lost : List ℕ) × HasBegunWriting bytes certificate call old (append_known new lost)
 
 -- the writer holds a text that was gathered, and the status is that of what was done; or a write failed, and it lacks bytes at the end
 abbrev pub IsFinished : Option (List ℕ) → Option (List ℕ) → ℕ → ℕ → Type 0
 IsFinished text new done status = (Keeps text new × (status ≡ done)) ⊎ ((lost : List ℕ) × Keeps text (append_known new lost) × (status ≡ 3))
 
+-- ---- how a call ends
+
+-- the bytes that a call keeps of its input: those of a source, or those of a certificate and those of a source
+abbrev pub IsKeptFor : Subcommand → Option (List ℕ) → List ℕ → List ℕ → Type 0
+IsKeptFor (Run q) input certificate bytes = IsKept input bytes
+IsKeptFor (RunCertified q) input certificate bytes = AreKept input certificate bytes
+IsKeptFor (Check top) input certificate bytes = AreKept input certificate bytes
+IsKeptFor (Certify top grain) input certificate bytes = IsKept input bytes
+IsKeptFor (Elab top) input certificate bytes = IsKept input bytes
+
 -- how a call that was asked for ends, with the bytes kept of the input and with what the writer holds before and after it: by what it did, by its fault,
 -- or with 3 where a device or memory failed
 pub data EndsCall (input : Option (List ℕ)) (call : Subcommand) (old new : Option (List ℕ)) (status : ℕ) : Type 0 where
-  by_doing : (bytes : List ℕ) (done : Option Outcome) → IsKept input bytes → HasWritten bytes call done old new → status ≡ done_status done →
-      EndsCall input call old new status
-  by_fault : (bytes : List ℕ) (fault : SimFault) → IsKept input bytes → SimulationFails bytes (top_of call) fault → HasLeft bytes call fault old new →
-      (status ≡ fault_status fault) ⊎ (status ≡ 3) → EndsCall input call old new status
-  by_write : (bytes : List ℕ) (done : Option Outcome) (lost : List ℕ) → IsKept input bytes → HasWritten bytes call done old (append_known new lost) →
-      status ≡ 3 → EndsCall input call old new status
+  by_doing : (certificate bytes : List ℕ) (done : Done) → IsKeptFor call input certificate bytes → HasWritten bytes certificate call done old new →
+      status ≡ done_status done → EndsCall input call old new status
+  by_fault : (certificate bytes : List ℕ) (fault : CertifiedFault) → IsKeptFor call input certificate bytes → CallFails bytes certificate call fault →
+      HasLeft bytes certificate call fault old new → (status ≡ refusal_status fault) ⊎ (status ≡ 3) → EndsCall input call old new status
+  by_write : (certificate bytes : List ℕ) (done : Done) (lost : List ℕ) → IsKeptFor call input certificate bytes →
+      HasWritten bytes certificate call done old (append_known new lost) → status ≡ 3 → EndsCall input call old new status
   by_device : Keeps old new → status ≡ 3 → EndsCall input call old new status
 
--- how the program ends where the words ask for nothing: by the fault that they have, a call for help among them, or with 3 where a device or memory failed;
--- only help is written to the writer
+-- how the program ends where the words ask for nothing: by the fault that they have, a call for help or for the version among them, or since they ask for
+-- a certified run in the order `Lifo`, or with 3 where a device or memory failed; only help and the version are written to the writer
 pub data EndsWords (words : List (List ℕ)) (old new : Option (List ℕ)) (status : ℕ) : Type 0 where
   by_kind : (k : ErrorKind) → HaveFault words k → (words_status k ≡ 0) ⊎ Keeps old new → status ≡ words_status k → EndsWords words old new status
+  by_order : WordsAskForBoth words → Keeps old new → status ≡ 64 → EndsWords words old new status
   unheard : status ≡ 3 → EndsWords words old new status
 
 -- how the program ends, with these words, this input, and what the writer holds before and after it
 pub data Ends (words : List (List ℕ)) (input old new : Option (List ℕ)) (status : ℕ) : Type 0 where
   without_call : EndsWords words old new status → Ends words input old new status
-  with_call : (call : Subcommand) → WordsAsk words call → EndsCall input call old new status → Ends words input old new status
+  with_call : (call : asked.Call) → WordsAsk words call → EndsCall input call.subcommand old new status → Ends words input old new status

@@ -1,8 +1,8 @@
-pub mod Asks
+pub use Rattle.vs_program_words.specs.Asks
+pub use Rattle.vs_program_words.specs.Options
 pub mod Buffers
 pub mod Ends
-pub mod Given
 pub mod Inputs
-pub mod Options
 pub mod Statuses
 pub mod Texts
+pub mod passes

@@ -14,6 +14,14 @@ use Rattle.vs_kernel.specs.declared.outcome.Outcome.{Outcome}
 use Rattle.vs_kernel.specs.declared.outcome.Outcome.TheVariants as o
 use Rattle.vs_simulate.specs.declared.fault.SimFault.{SimFault}
 use Rattle.vs_simulate.specs.declared.fault.SimFault.TheVariants.{Lex, Parse, Elab, Run, Memory}
+use Rattle.vs_certificate.specs.declared.fault.CertFault.{CertFault}
+use Rattle.vs_certificate.specs.declared.fault.CertFault.TheVariants as certificate
+use Rattle.vs_certified.specs.declared.fault.CertifiedFault.{CertifiedFault}
+use Rattle.vs_certified.specs.declared.fault.CertifiedFault.TheVariants.{Simulation, Certificate, Rejected}
+use Rattle.vs_cert_check.specs.declared.verdict.Verdict.{Verdict}
+use Rattle.vs_cert_check.specs.declared.verdict.Verdict.TheVariants.{Yes, No}
+use Rattle.vs_propose.specs.declared.proposal.Proposal.{Proposal}
+use Rattle.vs_propose.specs.declared.proposal.Proposal.TheVariants.{Made, NotMade}
 
 -- whether a number is a status: 0 done, 1 refused, 2 step limit, 3 memory or a device's fault, 64 command line
 abbrev pub is_status : ℕ → Bool
@@ -58,3 +66,24 @@ fault_status (Parse fault) = parse_status fault
 fault_status (Elab fault) = elab_status fault
 fault_status (Run fault) = 3
 fault_status Memory = 3
+
+-- the status of a fault of a certificate
+abbrev pub certificate_status : CertFault → ℕ
+certificate_status certificate.Memory = 3
+certificate_status _ = 1
+
+-- the status of a fault where a certificate may be given: a refusal of the source, of the certificate or of the design, or memory or a device
+abbrev pub refusal_status : CertifiedFault → ℕ
+refusal_status (Simulation fault) = fault_status fault
+refusal_status (Certificate fault) = certificate_status fault
+refusal_status (Rejected number place) = 1
+
+-- the status of a verdict
+abbrev pub verdict_status : Verdict → ℕ
+verdict_status Yes = 0
+verdict_status (No number place) = 1
+
+-- the status of a proposal
+abbrev pub proposal_status : Proposal → ℕ
+proposal_status (Made certificate) = 0
+proposal_status (NotMade number place) = 1

@@ -1,5 +1,16 @@
--- The texts that the program prints of faults (profile).
-use Rattle.std.specs.Prelude.{ℕ, List, codes}
+-- The texts that the program prints (profile).
+use Rattle.std.specs.Prelude.{ℕ, List, [], ◌∷◌, ◌++◌, codes, decimal}
+use Rattle.std.specs.List.{flat_map}
+use Rattle.serde_json.specs.Written.{compact_text}
+use Rattle.vs_certificate.specs.JsonValue.{value_of}
+use Rattle.vs_certificate.specs.Reading as certificates
+use Rattle.vs_scopes.specs.Texts.{shown_byte}
+use Rattle.vs_certified.specs.declared.fault.CertifiedFault.{CertifiedFault}
+use Rattle.vs_certified.specs.declared.fault.CertifiedFault.TheVariants.{Simulation, Certificate, Rejected}
+use Rattle.vs_cert_check.specs.declared.verdict.Verdict.{Verdict}
+use Rattle.vs_cert_check.specs.declared.verdict.Verdict.TheVariants.{Yes, No}
+use Rattle.vs_propose.specs.declared.proposal.Proposal.{Proposal}
+use Rattle.vs_propose.specs.declared.proposal.Proposal.TheVariants.{Made, NotMade}
 use Rattle.vs_lexer.specs.Faults as lexer
 use Rattle.vs_parser.specs.Faults as parser
 use Rattle.vs_scopes.specs.Texts as elaborate
@@ -17,3 +28,23 @@ fault_text (Run run.Failed) = codes "failed"
 fault_text (Run run.Done) = codes "done"
 fault_text (Run run.Memory) = codes "memory"
 fault_text Memory = codes "memory"
+
+-- a broken rule, by its number, and the subject that breaks it, by its name
+abbrev pub rule_text : ℕ → List ℕ → List ℕ
+rule_text number place = codes "K" ++ decimal number ++ codes " at " ++ flat_map shown_byte place
+
+-- the text of a fault where a certificate may be given
+abbrev pub refusal_text : CertifiedFault → List ℕ
+refusal_text (Simulation fault) = fault_text fault
+refusal_text (Certificate fault) = certificates.fault_text fault
+refusal_text (Rejected number place) = rule_text number place.items
+
+-- the line of a verdict
+abbrev pub verdict_line : Verdict → List ℕ
+verdict_line Yes = codes "yes" ++ 10 ∷ []
+verdict_line (No number place) = codes "no " ++ rule_text number place.items ++ 10 ∷ []
+
+-- the line of a proposal: the certificate's compact text, or why none was made
+abbrev pub proposal_line : Proposal → List ℕ
+proposal_line (Made c) = compact_text (value_of c) ++ 10 ∷ []
+proposal_line (NotMade number place) = codes "not made " ++ rule_text number place.items ++ 10 ∷ []

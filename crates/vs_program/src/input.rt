@@ -1,14 +1,18 @@
-//! The source that a program is given.
-ghost use Rattle.std.specs.Prelude.{◌≡◌, IfOk};
-ghost use Rattle.vs_program.specs.Inputs.{IsKept};
+//! The input that a program is given: a source, and a certificate in front of it where a call takes one.
+ghost use Rattle.std.specs.Prelude.{◌≡◌, ◌++◌, ℕ, List, [], ◌∷◌, IfOk, OnOk, take};
+ghost use Rattle.vs_program.specs.Inputs.{AreKept, IsKept};
+ghost use Rattle.vs_program.specs.passes.Reading.{HasKept};
 
-use std::alloc::Global;
-use std::io::{self, ErrorKind, Read};
+use std::alloc::{AllocError, Global};
+use std::io::{self, BufReader, ErrorKind, Read};
 
 /// How many bytes of a source are kept at most: one more than a source may have (4 MiB).
-const KEPT_LIMIT: u64 = 4194305;
+const SOURCE_LIMIT: u64 = 4194305;
 
-/// Why no source was read.
+/// How many bytes of a certificate are kept at most: one more than a certificate may have (16 MiB).
+const CERTIFICATE_LIMIT: u64 = 16777217;
+
+/// Why no input was read.
 #[derive(Clone, Copy, PartialEq, Eq)]
 pub(crate) enum InputFault {
     /// A growth of memory was refused.
@@ -27,14 +31,84 @@ impl From<io::Error> for InputFault {
     }
 }
 
+impl From<AllocError> for InputFault {
+    fn from(_error: AllocError) -> InputFault {
+        InputFault::Memory
+    }
+}
+
+/// What is kept of an input.
+#[derive(Drop)]
+pub(crate) struct Kept {
+    /// The bytes of a certificate: the first ones of the first line, where a call takes one.
+    pub(crate) certificate: Vec<u8>,
+    /// The bytes of a source: the first ones of what follows.
+    pub(crate) source: Vec<u8>,
+    // Whether the first line has ended.
+    line_ended: bool,
+}
+
+// Keeps one more byte of a text, unless it has its most bytes already.
+fn keep(text: &mut Vec<u8>, byte: u8, most: u64) -> Result<(), AllocError>
+    ensures { (all : List ℕ) → text.old.items ≡ take most all → OnOk result (text.new.items ≡ take most (all ++ byte ∷ [])) }
+{
+    if (text.len() as u64) < most {
+        text.push(byte)?;
+    }
+    Ok(())
+}
+
+impl Kept {
+    // Nothing.
+    fn new(alloc: Global) -> Self
+        ensures { HasKept [] result }
+    {
+        Kept {
+            certificate: Vec::new(alloc),
+            source: Vec::new(alloc),
+            line_ended: false,
+        }
+    }
+
+    // One more byte was read.
+    fn take_byte(&mut self, byte: u8) -> Result<(), AllocError>
+        ensures { (seen : List ℕ) → HasKept seen self.old → OnOk result (HasKept (seen ++ byte ∷ []) self.new) }
+    {
+        if self.line_ended {
+            keep(&mut self.source, byte, SOURCE_LIMIT)
+        } else if byte == b'\n' {
+            self.line_ended = true;
+            Ok(())
+        } else {
+            keep(&mut self.certificate, byte, CERTIFICATE_LIMIT)
+        }
+    }
+}
+
 /// Reads an input to its end, and answers its first 4,194,305 bytes: a source that has more is refused by its length alone.
-pub(crate) fn read_source<R: Read + Drop>(alloc: Global, input: R) -> Result<Vec<u8>, InputFault>
-    ensures kept { IfOk result (λ source. IsKept (R.remaining input) source.items) }
+pub(crate) fn read_source<R: Read + Drop>(alloc: Global, input: R) -> Result<Kept, InputFault>
+    ensures kept { IfOk result (λ kept. IsKept (R.remaining input) kept.source.items) }
 {
     let mut source = Vec::new(alloc);
-    let mut kept = input.take(KEPT_LIMIT);
+    let mut kept = input.take(SOURCE_LIMIT);
     kept.read_to_end(&mut source)?;
     let mut rest = kept.into_inner();
     io::copy(&mut rest, &mut io::sink())?;
-    Ok(source)
+    Ok(Kept {
+        certificate: Vec::new(alloc),
+        source,
+        line_ended: true,
+    })
+}
+
+/// Reads an input to its end, and answers the first 16,777,217 bytes of its first line, and the first 4,194,305 bytes of what follows it: a certificate
+/// or a source that has more is refused by its length alone.
+pub(crate) fn read_both<R: Read + Drop>(alloc: Global, input: R) -> Result<Kept, InputFault>
+    ensures kept { IfOk result (λ kept. AreKept (R.remaining input) kept.certificate.items kept.source.items) }
+{
+    let mut kept = Kept::new(alloc);
+    for byte in BufReader::new(alloc, input)?.bytes() {
+        kept.take_byte(byte?)?;
+    }
+    Ok(kept)
 }

@@ -1,22 +1,28 @@
-//! What the program tells of a fault: a text and an exit status.
-ghost use Rattle.std.specs.Prelude.{◌≡◌, IfOk};
+//! What the program tells: texts and exit statuses.
+ghost use Rattle.std.specs.Prelude.{◌≡◌, ◌<◌, ◌++◌, [], ◌∷◌, IfOk, OnOk};
+ghost use Rattle.std.specs.List.{flat_map};
 ghost use Rattle.clap.specs.Words.{kind_of};
-ghost use Rattle.vs_program.specs.Statuses.{fault_status, words_status};
-ghost use Rattle.vs_program.specs.Texts.{fault_text};
+ghost use Rattle.vs_scopes.specs.Texts.{hexadecimal, is_control, shown_byte};
+ghost use Rattle.vs_program.specs.Statuses.{fault_status, refusal_status, words_status};
+ghost use Rattle.vs_program.specs.Texts.{fault_text, proposal_line, refusal_text, rule_text, verdict_line};
 
 use clap::Error;
 use clap::error::ErrorKind;
 use std::alloc::{AllocError, Global};
+use vs_cert_check::Verdict;
+use vs_certificate::{CertFault, to_json};
+use vs_certified::CertifiedFault;
 use vs_elaborate::ElabFault;
 use vs_kernel::RunFault;
 use vs_lexer::LexFault;
 use vs_parser::ParseFault;
+use vs_propose::Proposal;
 use vs_simulate::SimFault;
 
-/// Done, or help.
+/// Done, a yes, or help.
 pub(crate) const DONE: u8 = 0;
-/// A refusal of the source.
-const REFUSED: u8 = 1;
+/// A refusal, a no, or no certificate made.
+pub(crate) const REFUSED: u8 = 1;
 /// The step limit.
 pub(crate) const LIMITED: u8 = 2;
 /// Memory ran out, or a device failed.
@@ -24,7 +30,7 @@ pub(crate) const FAILED: u8 = 3;
 /// A fault of the command line.
 pub(crate) const MISUSED: u8 = 64;
 
-/// The text that the program prints of a fault, behind `vsim: `: its number and its place, or what failed.
+/// The text that the program prints of a fault, after `vsim: `: its number and its place, or what failed.
 pub fn fault_text(alloc: Global, fault: &SimFault) -> Result<Vec<u8>, AllocError>
     ensures { IfOk result (λ text. text.items ≡ fault_text fault.now) }
 {
@@ -40,8 +46,104 @@ pub fn fault_text(alloc: Global, fault: &SimFault) -> Result<Vec<u8>, AllocError
     }
 }
 
-/// The exit status of a fault: 1 for a refusal of the source, 3 for memory or a device.
-pub(crate) fn fault_status(fault: &SimFault) -> u8
+// Whether a byte is no printed character of its own.
+fn is_control_byte(c: u8) -> bool
+    ensures { result ≡ is_control c }
+{
+    c < 32 || c == 127
+}
+
+// A hexadecimal digit.
+fn hexadecimal_digit(d: u8) -> u8
+    requires { d < 16 }
+    ensures { result ≡ hexadecimal d }
+{
+    if d < 10 { 48 + d } else { 87 + d }
+}
+
+// Appends a byte as it is told: a control byte as a backslash, `x` and two hexadecimal digits.
+fn push_byte(text: &mut Vec<u8>, c: u8) -> Result<(), AllocError>
+    ensures { OnOk result (text.new.items ≡ text.old.items ++ shown_byte c) }
+{
+    if is_control_byte(c) {
+        text.extend_from_slice(&[
+            b'\\',
+            b'x',
+            hexadecimal_digit(c / 16),
+            hexadecimal_digit(c % 16),
+        ])
+    } else {
+        text.extend_from_slice(&[c])
+    }
+}
+
+// Appends bytes as they are told.
+fn push_bytes(text: &mut Vec<u8>, bytes: &[u8]) -> Result<(), AllocError>
+    ensures { OnOk result (text.new.items ≡ text.old.items ++ flat_map shown_byte bytes.now) }
+{
+    for c in bytes {
+        push_byte(text, *c)?;
+    }
+    Ok(())
+}
+
+// A broken rule, by its number, and the subject that breaks it, by its name. It is one line whatever the name: a control byte of it is told as `\x0a`.
+fn rule_text(alloc: Global, number: u8, place: &[u8]) -> Result<Vec<u8>, AllocError>
+    ensures { IfOk result (λ text. text.items ≡ rule_text number place.now) }
+{
+    let mut text = format!(in alloc; "K{number} at ")?.into_bytes();
+    push_bytes(&mut text, place)?;
+    Ok(text)
+}
+
+// A line with a broken rule, after some words.
+fn rule_line(alloc: Global, words: &[u8], number: u8, place: &[u8]) -> Result<Vec<u8>, AllocError>
+    ensures { IfOk result (λ text. text.items ≡ words.now ++ rule_text number place.now ++ 10 ∷ []) }
+{
+    let rule = rule_text(alloc, number, place)?;
+    let mut line = Vec::from_slice(alloc, words)?;
+    line.extend_from_slice(&rule)?;
+    line.push(b'\n')?;
+    Ok(line)
+}
+
+/// The text that the program prints of a fault, after `vsim: `, where a certificate may be given.
+pub(crate) fn refusal_text(alloc: Global, fault: &CertifiedFault) -> Result<Vec<u8>, AllocError>
+    ensures { IfOk result (λ text. text.items ≡ refusal_text fault.now) }
+{
+    match fault {
+        CertifiedFault::Simulation(cause) => fault_text(alloc, cause),
+        CertifiedFault::Certificate(cause) => Vec::from_slice(alloc, cause.text().as_bytes()),
+        CertifiedFault::Rejected(number, place) => rule_text(alloc, *number, place),
+    }
+}
+
+/// The line of a verdict: `yes`, or `no K3 at t.a`.
+pub(crate) fn verdict_line(alloc: Global, verdict: &Verdict) -> Result<Vec<u8>, AllocError>
+    ensures { IfOk result (λ line. line.items ≡ verdict_line verdict.now) }
+{
+    match verdict {
+        Verdict::Yes => Vec::from_slice(alloc, b"yes\n"),
+        Verdict::No(number, place) => rule_line(alloc, b"no ", *number, place),
+    }
+}
+
+/// The line of a proposal: the certificate, or `not made K5 at m#p1`.
+pub(crate) fn proposal_line(alloc: Global, proposal: &Proposal) -> Result<Vec<u8>, AllocError>
+    ensures { IfOk result (λ line. line.items ≡ proposal_line proposal.now) }
+{
+    match proposal {
+        Proposal::Made(certificate) => {
+            let mut line = to_json(alloc, certificate)?;
+            line.push(b'\n')?;
+            Ok(line)
+        }
+        Proposal::NotMade(number, place) => rule_line(alloc, b"not made ", *number, place),
+    }
+}
+
+// The exit status of a fault: 1 for a refusal of the source, 3 for memory or a device.
+fn fault_status(fault: &SimFault) -> u8
     ensures { result ≡ fault_status fault.now }
 {
     match fault {
@@ -56,7 +158,19 @@ pub(crate) fn fault_status(fault: &SimFault) -> u8
     }
 }
 
-/// The exit status that an error of the words ends with: 0 for a call for help, 3 where memory ran out, 64 for a fault of the words.
+/// The exit status of a fault where a certificate may be given: 1 for a refusal, 3 for memory or a device.
+pub(crate) fn refusal_status(fault: &CertifiedFault) -> u8
+    ensures { result ≡ refusal_status fault.now }
+{
+    match fault {
+        CertifiedFault::Simulation(cause) => fault_status(cause),
+        CertifiedFault::Certificate(CertFault::Memory) => FAILED,
+        CertifiedFault::Certificate(_) => REFUSED,
+        CertifiedFault::Rejected(_, _) => REFUSED,
+    }
+}
+
+/// The exit status that an error of the words ends with: 0 for a call for help or for the version, 3 where memory ran out, 64 for a fault of the words.
 pub fn words_status(error: &Error) -> u8
     ensures { result ≡ words_status (kind_of error.now) }
 {

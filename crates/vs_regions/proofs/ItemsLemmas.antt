@@ -4,7 +4,7 @@ use Rattle.std.specs.Prelude.{nat_eq}
 use Rattle.std.specs.Option.{ForSome, IfSome}
 use Rattle.vs_time_wheel.specs.declared.timing.Timed.{Timed}
 use Rattle.vs_time_wheel.specs.Bag.{events_at, least_time, SameBag, IsFrom, oldest_at, without_oldest}
-use Rattle.vs_time_wheel.specs.Turn.{first_of}
+use Rattle.vs_time_wheel.specs.Rotation.{first_of}
 use Rattle.vs_time_wheel.proofs.Bags.{least_time-from_time, oldest_at-first, events_at-without_oldest, events_at-without_other}
 use Rattle.vs_process.specs.States.{Update}
 use Rattle.vs_regions.specs.declared.item.Due.{Due}

@@ -98,6 +98,22 @@ fn called_on_pieces(words: &str, pieces: &str, text: &mut Text) {
     }
 }
 
+/// A source for which a certificate is to be made at grain block: the verdict on what is made, or why it isn't.
+fn made(top: &str, source: &[u8], text: &mut Text) {
+    let certificate = run(text.alloc(), &["vsim", "certify", "--top", top], source);
+    if certificate.status != 0 {
+        return put_answer(&certificate, text);
+    }
+    let mut both = certificate.out;
+    if both.extend_from_slice(source).is_err() {
+        return text.leave_out();
+    }
+    put_answer(
+        &run(text.alloc(), &["vsim", "check", "--top", top], &both),
+        text,
+    );
+}
+
 impl Answers for Calls {
     fn answer(&self, words: &str, question: &str, text: &mut Text) {
         let (kind, rest) = words.split_once(' ').unwrap_or((words, ""));
@@ -106,6 +122,7 @@ impl Answers for Calls {
             "pieces" => called_on_pieces(rest, question, text),
             "refused" => refused(question.as_bytes(), text),
             "cut" => cut(question.as_bytes(), text),
+            "made" => made(rest, question.as_bytes(), text),
             _ => expressions::answer(words, question, text),
         }
     }

@@ -58,11 +58,11 @@ fn readers(rt: HostRuntime) -> Result<(), Fail> {
 fn is_cut(
     rt: &impl Abort,
     alloc: Global,
-    call_of: &Call,
+    call_of: &CallRow,
     left: usize,
     fails: bool,
 ) -> Result<(), AllocError> {
-    let Call {
+    let CallRow {
         words,
         source,
         text,
@@ -83,25 +83,25 @@ fn is_cut(
 }
 
 /// A call, its source, and the text that it writes.
-struct Call {
+struct CallRow {
     words: &'static str,
     source: &'static str,
     text: &'static str,
 }
 
 /// A run whose dump is asked for, one whose lines are, and a listing.
-static CALLS: [Call; 3] = [
-    Call {
+static CALLS: [CallRow; 3] = [
+    CallRow {
         words: WORDS,
         source: SOURCE,
         text: ONE,
     },
-    Call {
+    CallRow {
         words: "vsim run --top t --until 10",
         source: "module t; reg a = 0; initial $strobe(\"p %b\", a); initial $strobe(\"q %0d\", a); endmodule",
         text: "p 0\nq 0\n",
     },
-    Call {
+    CallRow {
         words: "vsim elab --top t",
         source: SOURCE,
         text: "t.a reg 1 unsigned 1\nt#p0 initial\n",
@@ -123,7 +123,7 @@ fn writers(rt: HostRuntime) -> Result<(), Fail> {
 fn is_answered(
     rt: &impl Abort,
     alloc: Global,
-    call_of: &Call,
+    call_of: &CallRow,
     interrupted: bool,
 ) -> Result<(), AllocError> {
     let mut out = Short::new(alloc, usize::MAX, true);

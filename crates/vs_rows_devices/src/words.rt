@@ -11,6 +11,12 @@ const MISUSED: &[&str] = &[
     "vsim run --top t --until 4611686018427387904",
     "vsim run --top t --top t --until 1",
     "vsim run --top t --until 1 --out dump",
+    "vsim run --top t --until 1 --cert --policy lifo",
+    "vsim run --top t --until 1 --cert --cert",
+    "vsim check",
+    "vsim check --top t --until 1",
+    "vsim certify --top t --grain process",
+    "vsim certify --top t --cert",
 ];
 
 #[test]
@@ -21,10 +27,28 @@ fn command_lines(rt: HostRuntime) -> Result<(), Fail> {
         assert_eq!(rt; answer.out.len(), 0, "{words}");
         assert_ne!(rt; answer.err.len(), 0, "{words}");
     }
-    let shown = run(rt.alloc(), "vsim run --help", b"")?;
-    assert_eq!(rt; shown.status, 0);
-    assert_eq!(rt; shown.err.len(), 0);
-    assert_ne!(rt; shown.out.len(), 0);
+    Ok(())
+}
+
+const SHOWN: &[&str] = &[
+    "vsim --help",
+    "vsim help check",
+    "vsim run --help",
+    "vsim check -h",
+    "vsim certify --help",
+    "vsim elab --help",
+    "vsim --version",
+    "vsim -V",
+];
+
+#[test]
+fn help_and_the_version(rt: HostRuntime) -> Result<(), Fail> {
+    for words in SHOWN {
+        let shown = run(rt.alloc(), words, b"")?;
+        assert_eq!(rt; shown.status, 0, "{words}");
+        assert_eq!(rt; shown.err.len(), 0, "{words}");
+        assert_ne!(rt; shown.out.len(), 0, "{words}");
+    }
     Ok(())
 }
 

@@ -1,6 +1,6 @@
 //! A kernel whose sink fails, or that has run.
 
-use crate::running::{Room, design_of};
+use crate::running::{LimitedWriter, design_of};
 use std::alloc::Global;
 use std::process::Abort;
 use std::test::Fail;
@@ -14,8 +14,8 @@ use vs_vcd::Counted;
 fn is_failed(rt: &impl Abort, alloc: Global, design: &Design, left: usize) -> Result<(), Fail> {
     let queue = Wheel::<Due>::new(alloc).ok().ok_or("memory")?;
     let mut kernel = Kernel::new(alloc, design, queue, Fifo)?;
-    let mut dump = Counted::new(Room::new(alloc, left, true));
-    let mut lines = Room::for_all(alloc);
+    let mut dump = Counted::new(LimitedWriter::new(alloc, left, true));
+    let mut lines = LimitedWriter::for_all(alloc);
     let first = kernel.run(10, 100, &mut dump, &mut lines);
     let second = kernel.run(10, 100, &mut dump, &mut lines);
     let wanted = if left < 128 {
@@ -42,8 +42,8 @@ fn failures(rt: HostRuntime) -> Result<(), Fail> {
 fn has_cut_lines(rt: &impl Abort, alloc: Global, design: &Design, left: usize) -> Result<(), Fail> {
     let queue = Wheel::<Due>::new(alloc).ok().ok_or("memory")?;
     let mut kernel = Kernel::new(alloc, design, queue, Fifo)?;
-    let mut dump = Room::for_all(alloc);
-    let mut lines = Counted::new(Room::new(alloc, left, true));
+    let mut dump = LimitedWriter::for_all(alloc);
+    let mut lines = Counted::new(LimitedWriter::new(alloc, left, true));
     let first = kernel.run(10, 100, &mut dump, &mut lines);
     let second = kernel.run(10, 100, &mut dump, &mut lines);
     let wanted = (Err(RunFault::Write), Err(RunFault::Failed));

@@ -8,7 +8,7 @@ use vs_kernel::Outcome;
 use vs_program::Policy;
 
 /// A source, the choices of the policy, and the dump.
-struct Order {
+struct OrderRow {
     choices: &'static [usize],
     until: u32,
     source: &'static str,
@@ -16,37 +16,37 @@ struct Order {
     out: &'static [&'static str],
 }
 
-const ORDERS: &[Order] = &[
+const ORDERS: &[OrderRow] = &[
     // At 3 the second process goes first, so the first one reads what it wrote.
-    Order {
+    OrderRow {
         choices: &[0, 0, 0, 1, 0],
         until: 3,
         source: "module t; reg a; reg b; initial begin a = 0; #3 b = a; end initial #3 a = 1; endmodule",
         out: &[VARIABLES, "#0\n$dumpvars\n0!\nx\"\n$end\n#3\n1!\n1\"\n"],
     },
     // At 0 the second process goes to sleep first, so it wakes first.
-    Order {
+    OrderRow {
         choices: &[1],
         until: 3,
         source: "module t; reg a; reg b; initial begin a = 0; #3 b = a; end initial #3 a = 1; endmodule",
         out: &[VARIABLES, "#0\n$dumpvars\n0!\nx\"\n$end\n#3\n1!\n1\"\n"],
     },
     // The second process is inactive first, so it is active first.
-    Order {
+    OrderRow {
         choices: &[1],
         until: 0,
         source: "module t; reg a, b; initial begin a = 0; #0 b = a; end initial #0 a = 1; endmodule",
         out: &[VARIABLES, "#0\n$dumpvars\n1!\n1\"\n$end\n"],
     },
     // The second process makes the older update.
-    Order {
+    OrderRow {
         choices: &[1],
         until: 0,
         source: "module t; reg a; initial a <= 0; initial a <= 1; endmodule",
         out: &[ONE_VARIABLE, "#0\n$dumpvars\n0!\n$end\n"],
     },
     // The newer update of `a` isn't offered beside the older one, so the second choice is that of `b`; those of `a` keep their order.
-    Order {
+    OrderRow {
         choices: &[0, 0, 0, 1],
         until: 0,
         source: "module t; reg a, b; initial begin a <= 0; a <= 1; b <= 1; end endmodule",
@@ -54,7 +54,7 @@ const ORDERS: &[Order] = &[
     },
     // The change of `a` lists the assigns of `x` and `z`, and then that of `b` lists the one of `y`; the last process, which waits at the front, reads
     // behind the first update, that of `x`.
-    Order {
+    OrderRow {
         choices: &[0, 0, 0, 0, 0, 1, 1, 1, 1, 0, 0, 0],
         until: 0,
         source: "module t; reg a, b, c, d, e; wire x, y, z; assign x = b ^ a; assign y = b; assign z = ~a; initial a = 1; initial b = 0; initial begin c = x; d = y; e = z; end endmodule",
@@ -64,7 +64,7 @@ const ORDERS: &[Order] = &[
         ],
     },
     // The same, and it reads behind the second update, that of `z`.
-    Order {
+    OrderRow {
         choices: &[0, 0, 0, 0, 0, 1, 1, 1, 1, 1, 0, 0, 0],
         until: 0,
         source: "module t; reg a, b, c, d, e; wire x, y, z; assign x = b ^ a; assign y = b; assign z = ~a; initial a = 1; initial b = 0; initial begin c = x; d = y; e = z; end endmodule",
@@ -74,14 +74,14 @@ const ORDERS: &[Order] = &[
         ],
     },
     // The second value of `x` waits at the place of the first, before the value of `y`.
-    Order {
+    OrderRow {
         choices: &[0, 0, 0, 2, 0, 3, 0, 3, 1, 0, 0],
         until: 0,
         source: "module t; reg a, b, c, d; wire x, y; assign x = a; assign y = b; initial begin a = 1; b = 1; a = 0; end initial begin c = x; d = y; end endmodule",
         out: &[SIX, "#0\n$dumpvars\n0!\n1\"\n0#\nx$\n0%\n1&\n$end\n"],
     },
     // At 1 one edge wakes both processes: the second one goes first, so both variables are then 0.
-    Order {
+    OrderRow {
         choices: &[0, 0, 0, 0, 0, 0, 0, 0, 1, 0],
         until: 1,
         source: "module t; reg c, a, b; initial begin a = 0; b = 1; #1 c = 1; end always @(posedge c) a = b; always @(posedge c) b = a; endmodule",
@@ -91,7 +91,7 @@ const ORDERS: &[Order] = &[
         ],
     },
     // The block that `a = 1` wakes goes first, and runs to its control before `a = 0`.
-    Order {
+    OrderRow {
         choices: &[0, 0, 0, 0, 1, 0, 0],
         until: 1,
         source: "module t; reg a, t, y; always @* begin t = a; y = t ^ a; end initial begin #1 a = 1; a = 0; end endmodule",
@@ -105,7 +105,7 @@ const ORDERS: &[Order] = &[
 #[test]
 fn orders(rt: HostRuntime) -> Result<(), Fail> {
     for order in ORDERS {
-        let Order {
+        let OrderRow {
             choices,
             until,
             source,

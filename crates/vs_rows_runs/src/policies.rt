@@ -6,31 +6,31 @@ use std::test::Fail;
 use vs_program::Policy;
 
 /// A source, the choices that are made, and the body of the dump.
-struct Listed {
+struct ListedRow {
     choices: &'static [usize],
     source: &'static str,
     body: &'static str,
 }
 
-const LISTED: &[Listed] = &[
+const LISTED: &[ListedRow] = &[
     // No choice is left: the first item.
-    Listed {
+    ListedRow {
         choices: &[],
         source: "module t; reg a, b; initial a = 1; initial b = a; endmodule",
         body: "#0\n$dumpvars\n1!\n1\"\n$end\n",
     },
-    Listed {
+    ListedRow {
         choices: &[1],
         source: "module t; reg a, b; initial a = 1; initial b = a; endmodule",
         body: "#0\n$dumpvars\n1!\nx\"\n$end\n",
     },
     // A number counts modulo how many items there are.
-    Listed {
+    ListedRow {
         choices: &[5],
         source: "module t; reg a, b; initial a = 1; initial b = a; endmodule",
         body: "#0\n$dumpvars\n1!\nx\"\n$end\n",
     },
-    Listed {
+    ListedRow {
         choices: &[4],
         source: "module t; reg a, b; initial a = 1; initial b = a; endmodule",
         body: "#0\n$dumpvars\n1!\n1\"\n$end\n",

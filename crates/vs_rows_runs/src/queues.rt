@@ -1,7 +1,7 @@
 //! Event queues: a run over the wheel and one over the plain list give the same outcome, and write the same dump and the same lines.
 ghost use Rattle.std.specs.Prelude.{◌≡◌, []};
 
-use crate::running::{Answer, Room, design_of};
+use crate::running::{LimitedWriter, RunAnswer, design_of};
 use std::alloc::Global;
 use std::process::Abort;
 use std::test::Fail;
@@ -60,18 +60,18 @@ fn run_over<Q: EventQueue<Due> + Drop, P: Pick + Drop>(
     design: &Design,
     queue: Q,
     policy: P,
-) -> Result<Answer, Fail>
+) -> Result<RunAnswer, Fail>
     requires empty { Q.bag queue ≡ [] }
     requires at_zero { Q.clock queue ≡ 0 }
 {
     let mut kernel = Kernel::new(alloc, design, queue, policy)?;
-    let mut dump = Room::for_all(alloc);
-    let mut lines = Room::for_all(alloc);
+    let mut dump = LimitedWriter::for_all(alloc);
+    let mut lines = LimitedWriter::for_all(alloc);
     let outcome = kernel
         .run(3000, 100_000, &mut dump, &mut lines)
         .ok()
         .ok_or("run")?;
-    Ok(Answer {
+    Ok(RunAnswer {
         outcome: Some(outcome),
         dump: dump.into_inner().taken,
         lines: lines.into_inner().taken,

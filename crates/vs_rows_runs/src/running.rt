@@ -13,16 +13,16 @@ use vs_vcd::Counted;
 
 /// A writer that takes so many bytes, and behind these fails, or takes none.
 #[derive(Drop)]
-pub struct Room {
+pub struct LimitedWriter {
     pub taken: Vec<u8>,
     left: usize,
     fails: bool,
 }
 
-impl Room {
+impl LimitedWriter {
     /// A writer with room for `left` bytes.
     pub fn new(alloc: Global, left: usize, fails: bool) -> Self {
-        Room {
+        LimitedWriter {
             taken: Vec::new(alloc),
             left,
             fails,
@@ -30,12 +30,12 @@ impl Room {
     }
 
     /// A sink with room for all that is written to it.
-    pub fn for_all(alloc: Global) -> Counted<Room> {
-        Counted::new(Room::new(alloc, usize::MAX, true))
+    pub fn for_all(alloc: Global) -> Counted<LimitedWriter> {
+        Counted::new(LimitedWriter::new(alloc, usize::MAX, true))
     }
 }
 
-impl Write for Room {
+impl Write for LimitedWriter {
     fn write(&mut self, buf: &[u8]) -> io::Result<usize> {
         let n = buf.len().min(self.left);
         if n == 0 && self.fails && !buf.is_empty() {
@@ -53,7 +53,7 @@ impl Write for Room {
 
 /// What a run answers and writes.
 #[derive(Drop)]
-pub struct Answer {
+pub struct RunAnswer {
     /// The outcome, or `None` where a sink failed.
     pub outcome: Option<Outcome>,
     pub dump: Vec<u8>,
@@ -66,10 +66,10 @@ pub fn run(
     source: &str,
     policy: &Policy,
     limits: (u32, u32),
-    lines: Room,
-) -> Result<Answer, Fail> {
+    lines: LimitedWriter,
+) -> Result<RunAnswer, Fail> {
     let (until, steps) = limits;
-    let mut dump = Room::for_all(alloc);
+    let mut dump = LimitedWriter::for_all(alloc);
     let mut lines = Counted::new(lines);
     let answered = simulate(
         alloc,
@@ -85,7 +85,7 @@ pub fn run(
         Err(SimFault::Run(RunFault::Write)) => None,
         other => Some(other.ok().ok_or("the source is refused")?),
     };
-    Ok(Answer {
+    Ok(RunAnswer {
         outcome,
         dump: dump.into_inner().taken,
         lines: lines.into_inner().taken,
@@ -98,13 +98,13 @@ pub fn run_whole(
     source: &str,
     policy: &Policy,
     limits: (u32, u32),
-) -> Result<Answer, Fail> {
+) -> Result<RunAnswer, Fail> {
     run(
         alloc,
         source,
         policy,
         limits,
-        Room::new(alloc, usize::MAX, true),
+        LimitedWriter::new(alloc, usize::MAX, true),
     )
 }
 

@@ -1,6 +1,6 @@
 //! Sinks of lines that fail.
 
-use crate::running::{Answer, Room, run};
+use crate::running::{LimitedWriter, RunAnswer, run};
 use std::alloc::Global;
 use std::process::Abort;
 use std::test::Fail;
@@ -8,13 +8,13 @@ use vs_kernel::Outcome;
 use vs_program::Policy;
 
 // A run to 10 whose sink of lines takes so many bytes.
-fn cut_run(alloc: Global, source: &str, left: usize, fails: bool) -> Result<Answer, Fail> {
+fn cut_run(alloc: Global, source: &str, left: usize, fails: bool) -> Result<RunAnswer, Fail> {
     run(
         alloc,
         source,
         &Policy::Fifo,
         (10, 100),
-        Room::new(alloc, left, fails),
+        LimitedWriter::new(alloc, left, fails),
     )
 }
 

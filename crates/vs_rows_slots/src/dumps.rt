@@ -49,9 +49,9 @@ fn whole_dumps(rt: HostRuntime) -> Result<(), Fail> {
 
 // Whether `b` has 64 digits, not four, the planes of its values and of its unknown digits, in which x is in both and z in the second alone, and what
 // the dump says behind the header: left digits are dropped.
-type Row = (bool, u64, u64, &'static [u8]);
+type PlanesRow = (bool, u64, u64, &'static [u8]);
 
-static ROWS: [Row; 17] = [
+static ROWS: [PlanesRow; 17] = [
     (
         false,
         0b0111,
@@ -117,7 +117,7 @@ static ROWS: [Row; 17] = [
 ];
 
 // The dump of one slot, at 0 where `b` is wide and else at 3, in which `b` has the digits of two planes.
-fn is_shown(rt: &impl Abort, alloc: Global, row: &Row) -> Result<(), WriterFault> {
+fn is_shown(rt: &impl Abort, alloc: Global, row: &PlanesRow) -> Result<(), WriterFault> {
     let &(wide, value, unknown, text) = row;
     let (width, time, header) = if wide {
         (64, 0, WIDE_HEADER)

@@ -3,7 +3,7 @@ ghost use Rattle.std.specs.Prelude.{◌≡◌, ◌<◌, ◌≤◌, []};
 
 use std::alloc::Global;
 use std::process::Abort;
-use vs_time_wheel::{Answer, EventQueue, ListQueue, QueueCall, Wheel, replay, same_answers};
+use vs_time_wheel::{EventQueue, ListQueue, QueueAnswer, QueueCall, Wheel, replay, same_answers};
 
 // A linear congruential generator of 64 bits.
 fn next_random(state: u64) -> u64 {
@@ -102,27 +102,27 @@ static CALLS: [QueueCall<u8>; 20] = [
 ];
 
 // What the law says of those calls.
-static ANSWERS: [Answer<u8>; 20] = [
-    Answer::Next(None),
-    Answer::Scheduled,
-    Answer::Scheduled,
-    Answer::Scheduled,
-    Answer::Scheduled,
-    Answer::Next(Some(5)),
-    Answer::Due(None),
-    Answer::Due(Some(1)),
-    Answer::Clock(5),
-    Answer::Due(Some(3)),
-    Answer::Due(None),
-    Answer::Next(Some(261)),
-    Answer::Scheduled,
-    Answer::Due(Some(2)),
-    Answer::Due(Some(5)),
-    Answer::Next(Some(1000)),
-    Answer::Due(Some(4)),
-    Answer::Next(None),
-    Answer::Due(None),
-    Answer::Clock(5000),
+static ANSWERS: [QueueAnswer<u8>; 20] = [
+    QueueAnswer::Next(None),
+    QueueAnswer::Scheduled,
+    QueueAnswer::Scheduled,
+    QueueAnswer::Scheduled,
+    QueueAnswer::Scheduled,
+    QueueAnswer::Next(Some(5)),
+    QueueAnswer::Due(None),
+    QueueAnswer::Due(Some(1)),
+    QueueAnswer::Clock(5),
+    QueueAnswer::Due(Some(3)),
+    QueueAnswer::Due(None),
+    QueueAnswer::Next(Some(261)),
+    QueueAnswer::Scheduled,
+    QueueAnswer::Due(Some(2)),
+    QueueAnswer::Due(Some(5)),
+    QueueAnswer::Next(Some(1000)),
+    QueueAnswer::Due(Some(4)),
+    QueueAnswer::Next(None),
+    QueueAnswer::Due(None),
+    QueueAnswer::Clock(5000),
 ];
 
 // A queue answers the calls as the law says.

@@ -1,7 +1,7 @@
 //! Tables of rows: sources and texts of certificates, each with what is told of it.
 
 use crate::certificate_answers::told;
-use crate::token_texts::{View, shown};
+use crate::token_texts::{TokenAspect, shown};
 use std::alloc::{AllocError, Global};
 use std::process::Abort;
 use std::test::Fail;
@@ -10,7 +10,7 @@ use std::test::Fail;
 #[derive(Clone, Copy)]
 pub enum Asked {
     /// The tokens of a source.
-    Tokens(View),
+    Tokens(TokenAspect),
     /// How a certificate reads.
     Certificate,
 }

@@ -5,7 +5,7 @@ use vs_lexer::{Kind, LexFault, Literal, Mark, Token, lex};
 
 /// What is shown of the tokens of a source.
 #[derive(Clone, Copy)]
-pub enum View {
+pub enum TokenAspect {
     /// Their kinds and places in each beginning.
     Beginnings,
     /// Their kinds and places, and the values of numbers.
@@ -93,10 +93,10 @@ fn meaning(alloc: Global, token: &Token, line: &mut Line) {
 }
 
 // Writes what is shown of a token.
-fn token(alloc: Global, view: View, token: &Token, line: &mut Line) {
+fn token(alloc: Global, view: TokenAspect, token: &Token, line: &mut Line) {
     match (view, token.kind) {
-        (View::Meanings, _) => meaning(alloc, token, line),
-        (View::Values, Kind::Number(literal)) => {
+        (TokenAspect::Meanings, _) => meaning(alloc, token, line),
+        (TokenAspect::Values, Kind::Number(literal)) => {
             line.push_place(token);
             number(literal, line);
         }
@@ -105,7 +105,7 @@ fn token(alloc: Global, view: View, token: &Token, line: &mut Line) {
 }
 
 // Writes what is shown of tokens.
-fn tokens(alloc: Global, view: View, list: &[Token], line: &mut Line) {
+fn tokens(alloc: Global, view: TokenAspect, list: &[Token], line: &mut Line) {
     let mut between = "";
     for each in list {
         line.push(between);
@@ -115,7 +115,7 @@ fn tokens(alloc: Global, view: View, list: &[Token], line: &mut Line) {
 }
 
 // Writes what is shown of a source's tokens, or its refusal.
-fn read(alloc: Global, view: View, source: &[u8], line: &mut Line) {
+fn read(alloc: Global, view: TokenAspect, source: &[u8], line: &mut Line) {
     match lex(alloc, source) {
         Ok(list) => tokens(alloc, view, &list, line),
         Err(LexFault::Memory) => line.is_whole = false,
@@ -126,19 +126,19 @@ fn read(alloc: Global, view: View, source: &[u8], line: &mut Line) {
 // Writes the same of each beginning of a source, with `|` behind it.
 fn beginnings(alloc: Global, source: &[u8], line: &mut Line) {
     for last in 0..source.len() {
-        read(alloc, View::Beginnings, &source[..=last], line);
+        read(alloc, TokenAspect::Beginnings, &source[..=last], line);
         line.push("|");
     }
 }
 
 /// What is shown of a source.
-pub fn shown(alloc: Global, view: View, source: &[u8]) -> Result<String, AllocError> {
+pub fn shown(alloc: Global, view: TokenAspect, source: &[u8]) -> Result<String, AllocError> {
     let mut line = Line {
         text: String::new(alloc),
         is_whole: true,
     };
     match view {
-        View::Beginnings => beginnings(alloc, source, &mut line),
+        TokenAspect::Beginnings => beginnings(alloc, source, &mut line),
         _ => read(alloc, view, source, &mut line),
     }
     if line.is_whole {

@@ -1,7 +1,7 @@
 //! Sources with their tokens or their refusal, by hand: what the standard and the profile say of them.
 
 use crate::tables::{Asked, LongRow, all_long_same, all_same, same};
-use crate::token_texts::View;
+use crate::token_texts::TokenAspect;
 use std::test::Fail;
 
 // Sources with their tokens, the values of numbers among them, or with their refusal. A comment, which has no tokens, says what the rows behind it
@@ -181,9 +181,19 @@ const BEGINNINGS: &str = "
 
 #[test]
 fn rows(rt: HostRuntime) -> Result<(), Fail> {
-    all_same(&rt, rt.alloc(), Asked::Tokens(View::Values), VALUES)?;
-    all_same(&rt, rt.alloc(), Asked::Tokens(View::Meanings), MEANINGS)?;
-    all_same(&rt, rt.alloc(), Asked::Tokens(View::Beginnings), BEGINNINGS)
+    all_same(&rt, rt.alloc(), Asked::Tokens(TokenAspect::Values), VALUES)?;
+    all_same(
+        &rt,
+        rt.alloc(),
+        Asked::Tokens(TokenAspect::Meanings),
+        MEANINGS,
+    )?;
+    all_same(
+        &rt,
+        rt.alloc(),
+        Asked::Tokens(TokenAspect::Beginnings),
+        BEGINNINGS,
+    )
 }
 
 // What each byte alone is, by the letters of `say`.
@@ -218,7 +228,7 @@ fn single_bytes(rt: HostRuntime) -> Result<(), Fail> {
         same(
             &rt,
             rt.alloc(),
-            Asked::Tokens(View::Beginnings),
+            Asked::Tokens(TokenAspect::Beginnings),
             &[byte],
             wanted,
         )?;
@@ -241,5 +251,5 @@ static LIMITS: [LongRow; 9] = [
 
 #[test]
 fn limits(rt: HostRuntime) -> Result<(), Fail> {
-    all_long_same(&rt, rt.alloc(), Asked::Tokens(View::Values), &LIMITS)
+    all_long_same(&rt, rt.alloc(), Asked::Tokens(TokenAspect::Values), &LIMITS)
 }

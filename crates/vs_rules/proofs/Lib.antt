@@ -1,3 +1,4 @@
 pub mod Points
+pub mod Past
 pub mod Places
 pub mod Tested

@@ -121,18 +121,29 @@ pub record IsWholeName (d : Parts) (v : ℕ) (o : Operand) : Type 0 where
   pub of : o.signal ≡ v
   pub width : o.width ≡ signal.width
 
--- an expression that is a whole signal, by its outermost layer: its name alone, or a select of all its bits
+-- a select of all bits of a signal, by its outermost layer, that has this size
+abbrev pub IsWholeSelect : Parts → ℕ → ℕ → Typed-F Typed → Type 0
+IsWholeSelect d v width (t.Slice s) = IsWholeSlice d v s × (s.width ≡ width)
+IsWholeSelect d v width _ = ⊥
+
+-- an expression that is a whole signal, by its outermost layer: its name alone, or a select of all its bits, brought to the size that it has
 abbrev pub IsWholeLayer : Parts → ℕ → Typed-F Typed → Type 0
 IsWholeLayer d v (t.Signal o) = IsWholeName d v o
 IsWholeLayer d v (t.Slice s) = IsWholeSlice d v s
+IsWholeLayer d v (t.Resized size x) = IsWholeSelect d v size.width (out-Typed x.value)
 IsWholeLayer d v _ = ⊥
 
 abbrev pub IsWhole : Parts → ℕ → Typed → Type 0
 IsWhole d v e = IsWholeLayer d v (out-Typed e)
 
+-- its name alone
+abbrev pub IsNameLayer : Parts → ℕ → Typed-F Typed → Type 0
+IsNameLayer d v (t.Signal o) = IsWholeName d v o
+IsNameLayer d v _ = ⊥
+
 -- `~u`
 abbrev pub IsInverseLayer : Parts → ℕ → Typed-F Typed → Type 0
-IsInverseLayer d v (t.Unary u.Not x) = IsWhole d v x.value
+IsInverseLayer d v (t.Unary u.Not x) = IsNameLayer d v (out-Typed x.value)
 IsInverseLayer d v _ = ⊥
 
 abbrev pub IsInverse : Parts → ℕ → Typed → Type 0

@@ -6,9 +6,6 @@ use Rattle.std.specs.declared.alloc.Global.{Global}
 use Rattle.vs_design.specs.declared.design.Process.{Process}
 use Rattle.vs_design.specs.declared.expression.Typed.{Typed}
 use Rattle.vs_design.specs.declared.range.BitRange.{BitRange}
-use Rattle.vs_design.specs.declared.statement.Call.{Call}
-use Rattle.vs_design.specs.declared.statement.CallKind.{CallKind}
-use Rattle.vs_design.specs.declared.statement.CallKind.TheVariants.{Display, Strobe}
 use Rattle.vs_design.specs.declared.statement.EventTerm.{EventTerm}
 use Rattle.vs_design.specs.declared.statement.Statement.{Statement}
 use Rattle.vs_design.specs.declared.statement.Statement.TheOpen.{Statement-F}
@@ -16,14 +13,14 @@ use Rattle.vs_design.specs.declared.statement.Statement.TheOpen as f
 use Rattle.vs_design.specs.declared.statement.Statement.TheFolds.{fold-Statement}
 use Rattle.vs_design.specs.declared.statement.Statement.TheViews.{out-Statement}
 use Rattle.vs_design.specs.Parts.{Parts}
-use Rattle.vs_design.specs.Statements.{all_reads, assignment_reads, call_reads}
+use Rattle.vs_design.specs.Statements.{all_reads, assignment_reads}
 use Rattle.vs_design.specs.Uses.{covers, joined, reads, writes}
 use Rattle.vs_flatcode.specs.Landings.{todo_behind}
 use Rattle.vs_flatcode.specs.Places.{perform, Todo}
 use Rattle.vs_flatcode.specs.Steps.{Next, on, after, wait}
 use Rattle.vs_law_threads.specs.Bits.{HasBit, meet_in}
 use Rattle.vs_law_threads.specs.Blocks.{outputs}
-use Rattle.vs_law_threads.specs.Threads.{todo_reads}
+use Rattle.vs_law_threads.specs.Threads.{todo_reads, todo_shows}
 use Rattle.vs_rules.specs.Points.{Goes, first_todo, Point}
 
 -- ---- bits
@@ -73,15 +70,6 @@ abbrev pub statement_later : Statement-F Statement → List BitRange
 statement_later (Statement-F.Later n ticks t e) = writes t
 statement_later _ = []
 
--- those that the arguments of a call read, where it is a `$display`
-abbrev pub shown_by : CallKind → Call → List BitRange
-shown_by Display c = call_reads c
-shown_by Strobe c = []
-
-abbrev pub statement_shows : Statement-F Statement → List BitRange
-statement_shows (Statement-F.Call n c) = shown_by c.kind c
-statement_shows _ = []
-
 abbrev pub todo_now : Todo → List BitRange
 todo_now (perform s ∷ rest) = statement_now (out-Statement s)
 todo_now _ = []
@@ -89,10 +77,6 @@ todo_now _ = []
 abbrev pub todo_later : Todo → List BitRange
 todo_later (perform s ∷ rest) = statement_later (out-Statement s)
 todo_later _ = []
-
-abbrev pub todo_shows : Todo → List BitRange
-todo_shows (perform s ∷ rest) = statement_shows (out-Statement s)
-todo_shows _ = []
 
 -- the statement at a point has a target that names the signal, by `=`, by `<=`, by either
 abbrev pub WritesNow : Parts → Todo → ℕ → Type 0

@@ -156,7 +156,7 @@ fn evaluate<'a, Q: EventQueue<Due>>(
     ensures memory { OnErr result (is_write_fault result ≡ false) }
 {
     if steps > 1 && agenda.is_alone(next.listed) {
-        let updated = state.drive(design, assign, marks)?;
+        let updated = state.evaluate_and_update(design, assign, marks)?;
         if updated {
             agenda.pass(next.listed);
             return Ok(2);

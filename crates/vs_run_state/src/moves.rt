@@ -284,7 +284,7 @@ impl<'a, Q: EventQueue<Due>> State<'a, Q> {
     /// The evaluation of a continuous assignment and then its update, where it has one and its target is one fixed place: as one call, since the update
     /// often is the only event that is left. The answer is whether the update was made. What it wakes is noted, and what it changes marked, as `make` does.
     #[inline(never)]
-    pub fn drive(
+    pub fn evaluate_and_update(
         &mut self,
         design: &Design,
         number: usize,

@@ -2,9 +2,11 @@
 #![tactic(auto)]
 
 mod fault;
+mod laws;
 mod listing;
 mod simulation;
 
 pub use fault::SimFault;
+pub use laws::names_of_one_line;
 pub use listing::list_design;
-pub use simulation::{Policy, simulate};
+pub use simulation::{Policy, design_of, run_design, simulate};

@@ -7,17 +7,15 @@ ghost use Rattle.vs_process.specs.Permitted.{NeverStuck};
 ghost use Rattle.vs_simulate.specs.Honesty.{Defines, DefinesNone, IsRun, HasBegunRun, SimulationFails, is_refusal, is_write};
 
 use crate::fault::SimFault;
+use crate::laws::names_of_one_line;
 use std::alloc::Global;
 use vs_design::Design;
-use vs_elab_laws::names_of_one_line as defined_of_one_line;
-use vs_elab_pieces::used_are_tokens;
 use vs_elaborate::elaborate;
 use vs_kernel::{Fifo, Kernel, Lifo, Listed, Outcome, Pick, RunFault, dumps_show_slot_ends};
-use vs_lexer::{lex, names_of_one_line as spelled_of_one_line};
+use vs_lexer::lex;
 use vs_parser::parse;
 use vs_process::never_stuck;
 use vs_regions::Due;
-use vs_syntax::names_are_tokens;
 use vs_time_wheel::Wheel;
 use vs_vcd::Sink;
 
@@ -32,12 +30,8 @@ pub enum Policy<'v> {
     Listed(&'v [usize]),
 }
 
-// The design that a source and a top define.
-pub(crate) fn design_of<'s>(
-    alloc: Global,
-    source: &'s [u8],
-    top: &[u8],
-) -> Result<Design, SimFault<'s>>
+/// The design that a source and the name of a top module define, or why they define none.
+pub fn design_of<'s>(alloc: Global, source: &'s [u8], top: &[u8]) -> Result<Design, SimFault<'s>>
     ensures { MatchResult result (λ d. Defines source.entry.now top.now d)
         (λ fault. DefinesNone source.entry.now top.now fault) }
 {
@@ -75,8 +69,9 @@ fn run_under<P: Pick + Drop, V: Sink, L: Sink>(
     kernel.run(until, steps, vcd, lines)
 }
 
-// Runs a design under one of the policies.
-fn run_design<V: Sink, L: Sink>(
+/// Runs a design under one of the policies, until its time is past `until`, in ticks, no event is left or `$finish` took effect, in at most `steps`
+/// steps. The value change dump is written to `vcd` and the lines to `lines`, as by `simulate`.
+pub fn run_design<V: Sink, L: Sink>(
     alloc: Global,
     design: &Design,
     policy: &Policy,
@@ -135,10 +130,7 @@ pub fn simulate<'s, V: Sink, L: Sink>(
 {
     never_stuck();
     dumps_show_slot_ends();
-    spelled_of_one_line();
-    names_are_tokens();
-    used_are_tokens();
-    defined_of_one_line();
+    names_of_one_line();
     let design = design_of(alloc, source, top)?;
     let outcome = run_design(alloc, &design, policy, until, steps, vcd, lines)?;
     Ok(outcome)

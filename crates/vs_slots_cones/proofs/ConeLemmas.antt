@@ -24,7 +24,7 @@ use Rattle.vs_slots_cones.specs.Walks.{Passed, Named}
 use Rattle.vs_slots_cones.specs.Wires.{Wiring, OfWiring, Drives, IsFree, WritesAt, NeedsAt, driver_at, drivers}
 use Rattle.vs_slots_cones.proofs.Lists.{split, none_in, head_in, tail_in}
 use Rattle.vs_slots_cones.proofs.Numbers.{AreMarks, of_own, drives_on, drives_back, free_is, driver_cases, block_at}
-use Rattle.vs_slots_cones.proofs.Past.{past_points}
+use Rattle.vs_rules.proofs.Past.{past_points}
 use Rattle.vs_slots_cones.proofs.WalkLemmas.{cones_are, passes_are}
 
 -- ---- signals that are written by `=`

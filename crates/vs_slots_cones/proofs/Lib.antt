@@ -3,7 +3,6 @@ mod DriverLemmas
 pub mod Lists
 pub mod NameLemmas
 pub mod Numbers
-pub mod Past
 mod Rows
 mod Tables
 pub mod WalkLemmas

@@ -14,8 +14,8 @@ use Rattle.vs_design.specs.declared.statement.Aim.{Aim}
 use Rattle.vs_design.specs.declared.statement.Aim.TheVariants.{Fixed, Chosen}
 use Rattle.vs_design.specs.declared.statement.Target.{Target}
 use Rattle.vs_design.specs.Parts.{Parts}
-use Rattle.vs_rules.specs.Constants.{IsWholeSlice, IsWholeName, IsWholeLayer, IsInverseLayer, IsWholeTarget}
-use Rattle.vs_slots_constants.specs.Wholes.{is_absent, is_plain, is_zero, whole_slice, whole_name, whole_layer, inverse_layer, whole_parts}
+use Rattle.vs_rules.specs.Constants.{IsWholeSlice, IsWholeName, IsWholeSelect, IsWholeLayer, IsNameLayer, IsInverseLayer, IsWholeTarget}
+use Rattle.vs_slots_constants.specs.Wholes.{is_absent, is_plain, is_zero, whole_slice, whole_name, whole_select, whole_layer, name_layer, inverse_layer, whole_parts}
 
 -- ---- choices
 
@@ -25,6 +25,10 @@ chosen false x v h = cc
 
 pub chose : (b : Bool) (x v : ℕ) → b ≡ true → x ≡ v → (if b then Some x else None) ≡ Some v
 chose b x v e f = ap (λ (c : Bool). if c then Some x else None) e ∙ ap Some f
+
+taken : (b : Bool) (o : Option ℕ) (v : ℕ) → (if b then o else None) ≡ Some v → (b ≡ true) × (o ≡ Some v)
+taken true o v h = (refl, h)
+taken false o v h = cc
 
 -- ---- signals that are no arrays
 
@@ -111,13 +115,27 @@ name_is d o v = (there, back) where
         width = sym plain.width_is;
       }
 
+select_is : (d : Parts) (v width : ℕ) (x : Typed-F Typed) → (IsWholeSelect d v width x ↔ whole_select d width x ≡ Some v)
+select_is d v width (t.Slice s) = (there, back) where
+  there : IsWholeSlice d v s × (s.width ≡ width) → whole_select d width (t.Slice s) ≡ Some v
+  there h = ap (λ (b : Bool). if b then whole_slice d s else None) (same_self s.width width h.1) ∙ (slice_is d s v).0 h.0
+
+  back : whole_select d width (t.Slice s) ≡ Some v → IsWholeSlice d v s × (s.width ≡ width)
+  back h = let c = taken (s.width == width) (whole_slice d s) v h in ((slice_is d s v).1 c.1, eqb-true s.width width c.0)
+select_is d v width _ = (λ h. absurd h, λ h. cc)
+
 pub layer_is : (d : Parts) (v : ℕ) (x : Typed-F Typed) → (IsWholeLayer d v x ↔ whole_layer d x ≡ Some v)
 layer_is d v (t.Signal o) = name_is d o v
 layer_is d v (t.Slice s) = slice_is d s v
+layer_is d v (t.Resized size x) = select_is d v size.width _
 layer_is d v _ = (λ h. absurd h, λ h. cc)
 
+named_is : (d : Parts) (v : ℕ) (x : Typed-F Typed) → (IsNameLayer d v x ↔ name_layer d x ≡ Some v)
+named_is d v (t.Signal o) = name_is d o v
+named_is d v _ = (λ h. absurd h, λ h. cc)
+
 pub inverse_is : (d : Parts) (v : ℕ) (x : Typed-F Typed) → (IsInverseLayer d v x ↔ inverse_layer d x ≡ Some v)
-inverse_is d v (t.Unary u.Not x) = layer_is d v _
+inverse_is d v (t.Unary u.Not x) = named_is d v _
 inverse_is d v _ = (λ h. absurd h, λ h. cc)
 
 parts_back : (d : Parts) (v : ℕ) (aims : List Aim) → whole_parts d aims ≡ Some v → (s : Slice) × (aims ≡ Fixed s ∷ []) × IsWholeSlice d v s

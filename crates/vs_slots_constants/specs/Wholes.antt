@@ -34,14 +34,25 @@ whole_slice d s = if (s.word == 0) && is_zero s.low && is_plain (slice_get d.sig
 abbrev pub whole_name : Parts → Operand → Option ℕ
 whole_name d o = if is_plain (slice_get d.signals o.signal) o.width then Some o.signal else None
 
+-- the signal that a select of a size is the whole of
+abbrev pub whole_select : Parts → ℕ → Typed-F Typed → Option ℕ
+whole_select d width (t.Slice s) = if s.width == width then whole_slice d s else None
+whole_select d width _ = None
+
 -- the signal that an expression is, whole
 abbrev pub whole_layer : Parts → Typed-F Typed → Option ℕ
 whole_layer d (t.Signal o) = whole_name d o
 whole_layer d (t.Slice s) = whole_slice d s
+whole_layer d (t.Resized size x) = whole_select d size.width (out-Typed x.value)
 whole_layer d _ = None
 
+-- the signal whose name alone an expression is
+abbrev pub name_layer : Parts → Typed-F Typed → Option ℕ
+name_layer d (t.Signal o) = whole_name d o
+name_layer d _ = None
+
 abbrev pub inverse_under : Parts → Unary → Typed → Option ℕ
-inverse_under d u.Not e = whole_layer d (out-Typed e)
+inverse_under d u.Not e = name_layer d (out-Typed e)
 inverse_under d _ e = None
 
 -- the signal `u` of which an expression is `~u`

@@ -2,7 +2,7 @@
 ghost use Rattle.std.specs.Prelude.{ℕ, ◌≡◌, ◌↔◌, Some, slice_get, IsTrue};
 ghost use Rattle.vs_design.specs.declared.expression.Typed.TheViews.{out-Typed};
 ghost use Rattle.vs_rules.specs.Constants.{IsWhole, IsInverse, IsWholeTarget};
-ghost use Rattle.vs_slots_constants.specs.Wholes.{is_plain, whole_name, whole_slice, whole_layer, inverse_layer, whole_parts};
+ghost use Rattle.vs_slots_constants.specs.Wholes.{is_plain, whole_name, whole_slice, whole_select, whole_layer, name_layer, inverse_layer, whole_parts};
 
 use vs_design::{Aim, Design, Operand, Slice, Target, Typed};
 use vs_logic4::Unary;
@@ -39,28 +39,55 @@ fn whole_name(design: &Design, o: Operand) -> Option<usize>
     }
 }
 
-pub(crate) fn whole_layer(design: &Design, e: &Typed) -> Option<usize>
+// The signal that a select is the whole of, where it has this size.
+fn whole_select(design: &Design, width: u32, e: &Typed) -> Option<usize>
+    ensures { result ≡ whole_select design.now width (out-Typed e.now) }
+{
+    match e {
+        Typed::Slice(s) => {
+            if s.width == width {
+                whole_slice(design, *s)
+            } else {
+                None
+            }
+        }
+        _ => None,
+    }
+}
+
+fn whole_layer(design: &Design, e: &Typed) -> Option<usize>
     ensures { result ≡ whole_layer design.now (out-Typed e.now) }
 {
     match e {
         Typed::Signal(o) => whole_name(design, *o),
         Typed::Slice(s) => whole_slice(design, *s),
+        Typed::Resized(size, x) => whole_select(design, size.width, x),
         _ => None,
     }
 }
 
-/// The signal that an expression is, whole: its name alone, or a select of all its bits.
+/// The signal that an expression is, whole: its name alone, or a select of all its bits, brought to the size that it has.
 pub fn whole(design: &Design, e: &Typed) -> Option<usize>
     ensures { (v : ℕ) → (IsWhole design.now v e.now ↔ result ≡ Some v) }
 {
     whole_layer(design, e)
 }
 
+// The signal whose name alone an expression is.
+fn name_layer(design: &Design, e: &Typed) -> Option<usize>
+    ensures { result ≡ name_layer design.now (out-Typed e.now) }
+{
+    match e {
+        Typed::Signal(o) => whole_name(design, *o),
+        _ => None,
+    }
+}
+
 pub(crate) fn inverse_layer(design: &Design, e: &Typed) -> Option<usize>
     ensures { result ≡ inverse_layer design.now (out-Typed e.now) }
 {
     match e {
-        Typed::Unary(Unary::Not, x) => whole_layer(design, x),
+        Typed::Unary(Unary::Not, x) => name_layer(design, x),
         _ => None,
     }
 }

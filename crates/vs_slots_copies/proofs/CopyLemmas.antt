@@ -17,7 +17,7 @@ use Rattle.vs_design.specs.Parts.{Parts}
 use Rattle.vs_design.specs.Uses.{aim_range, slice_range, writes}
 use Rattle.vs_reach.specs.Reached.{Reached, AreReached, begins, goes_on}
 use Rattle.vs_rules.specs.Claims.{HasKind}
-use Rattle.vs_rules.specs.Constants.{IsWhole, IsWholeLayer, IsWholeTarget}
+use Rattle.vs_rules.specs.Constants.{IsWhole, IsWholeSelect, IsWholeLayer, IsWholeTarget}
 use Rattle.vs_rules.specs.Rules.{IsCopy, IsOneBit, CopiesRoot}
 use Rattle.vs_rules.specs.Rules as r
 use Rattle.vs_rules.specs.Blocks.{CopiesWhole, itself, copy}
@@ -29,9 +29,14 @@ use Rattle.vs_slots_copies.specs.Copies.{IsOnly, NamesTarget, AreDrivers, AreSou
 
 -- ---- whole signals
 
+select_within : (d : Parts) (u width : ℕ) (x : Typed-F Typed) → IsWholeSelect d u width x → u < length d.signals
+select_within d u width (t.Slice s) h = slice_get_within d.signals u h.0.signal h.0.is
+select_within d u width _ h = absurd h
+
 layer_within : (d : Parts) (u : ℕ) (x : Typed-F Typed) → IsWholeLayer d u x → u < length d.signals
 layer_within d u (t.Signal o) h = slice_get_within d.signals u h.signal h.is
 layer_within d u (t.Slice s) h = slice_get_within d.signals u h.signal h.is
+layer_within d u (t.Resized size x) h = select_within d u size.width (out-Typed x.value) h
 layer_within d u _ h = absurd h
 
 pub whole_names : (d : Parts) (v : ℕ) (target : Target) → IsWholeTarget d v target → HasSignal (writes target) v

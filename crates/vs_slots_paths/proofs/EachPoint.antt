@@ -10,8 +10,8 @@ use Rattle.vs_design.specs.Parts.{Parts}
 use Rattle.vs_flatcode.specs.Places.{perform, turns, Todo}
 use Rattle.vs_flatcode.specs.Numbers.{number_next, number_of}
 use Rattle.vs_flatcode.specs.Stops.{Stop, stop_at, stop_statement, next_statement, IsText}
-use Rattle.vs_law_threads.specs.Threads.{todo_reads, own_reads}
-use Rattle.vs_rules.specs.Paths.{IsPoint, todo_now, todo_later, todo_shows, statement_now, statement_later, statement_shows}
+use Rattle.vs_law_threads.specs.Threads.{todo_reads, own_reads, own_shows, todo_shows}
+use Rattle.vs_rules.specs.Paths.{IsPoint, todo_now, todo_later, statement_now, statement_later}
 use Rattle.vs_slots_paths.specs.Ranges.{ranges_of}
 use Rattle.vs_slots_paths.specs.Reaches.{IsPlace}
 use Rattle.vs_slots_paths.proofs.Texts.{place_of, place_back}
@@ -38,7 +38,7 @@ later_told [] = refl
 later_told (perform s ∷ rest) = refl
 later_told (turns n s ∷ rest) = refl
 
-shows_told : (k : Todo) → todo_shows k ≡ ranges_of statement_shows (next_statement k)
+shows_told : (k : Todo) → todo_shows k ≡ ranges_of own_shows (next_statement k)
 shows_told [] = refl
 shows_told (perform s ∷ rest) = refl
 shows_told (turns n s ∷ rest) = refl
@@ -55,8 +55,8 @@ now_here body stops start t p = now_told (t.at p) ∙ ap (ranges_of statement_no
 pub later_here : (body : Statement) (stops : List Stop) (start : ℕ) (t : IsText body stops start) (p : ℕ) → todo_later (t.at p) ≡ ranges_of statement_later (stop_statement (stop_at stops p))
 later_here body stops start t p = later_told (t.at p) ∙ ap (ranges_of statement_later) (t.says p)
 
-pub shows_here : (body : Statement) (stops : List Stop) (start : ℕ) (t : IsText body stops start) (p : ℕ) → todo_shows (t.at p) ≡ ranges_of statement_shows (stop_statement (stop_at stops p))
-shows_here body stops start t p = shows_told (t.at p) ∙ ap (ranges_of statement_shows) (t.says p)
+pub shows_here : (body : Statement) (stops : List Stop) (start : ℕ) (t : IsText body stops start) (p : ℕ) → todo_shows (t.at p) ≡ ranges_of own_shows (stop_statement (stop_at stops p))
+shows_here body stops start t p = shows_told (t.at p) ∙ ap (ranges_of own_shows) (t.says p)
 
 pub reads_here : (body : Statement) (stops : List Stop) (start : ℕ) (t : IsText body stops start) (p : ℕ) → todo_reads (t.at p) ≡ ranges_of own_reads (stop_statement (stop_at stops p))
 reads_here body stops start t p = reads_told (t.at p) ∙ ap (ranges_of own_reads) (t.says p)

@@ -3,7 +3,7 @@ use Rattle.std.proofs.Common.{◌≡◌, ℕ, suc, ◌<◌, ◌≤◌, ◌⊎◌
 use Rattle.std.specs.List.{Contains}
 use Rattle.std.proofs.lemmas.List.{length-map, get_or_past}
 use Rattle.std.proofs.lemmas.Bool.{false≢true}
-use Rattle.vs_flatcode.specs.declared.stops.Text as h
+use Rattle.vs_flatcode.specs.declared.stops.TextMap as h
 use Rattle.vs_flatcode.specs.Stops.{LeadsIn, stop_at, stop_statement, stops_tos, stops_behind, stop_view}
 use Rattle.vs_reach.specs.Reached.{Reached, AreReached, begins, goes_on}
 use Rattle.vs_slots_paths.specs.declared.along.Along.{Along}
@@ -25,7 +25,7 @@ pub place_below : (n : ℕ) (t : Chart) → t.start < n → LeadsIn n t.stops �
 place_below n t starts leads p h =
     reached_below n (stops_steps t.stops) (t.start ∷ []) (steps_in n t.stops leads) (λ q m. subst (λ (x : ℕ). x < n) (only t.start q m) starts) p h
 
-pub places_in : (x : h.Text) (t : Chart) → chart_of x ≡ t → (chart_of x).start < suc (length x.stops.items) → LeadsIn (suc (length x.stops.items)) (chart_of x).stops →
+pub places_in : (x : h.TextMap) (t : Chart) → chart_of x ≡ t → (chart_of x).start < suc (length x.stops.items) → LeadsIn (suc (length x.stops.items)) (chart_of x).stops →
     (p : ℕ) → IsPlace t p → p < places t
 places_in x t is starts leads =
     subst (λ (t : Chart). (p : ℕ) → IsPlace t p → p < places t) is

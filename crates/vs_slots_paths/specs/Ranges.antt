@@ -8,8 +8,8 @@ use Rattle.vs_design.specs.declared.statement.Statement.TheOpen.{Statement-F}
 use Rattle.vs_design.specs.declared.statement.Statement.TheViews.{out-Statement}
 use Rattle.vs_flatcode.specs.Stops.{stop_at, stop_statement}
 use Rattle.vs_flatcode.specs.Ways.{Pause, event}
-use Rattle.vs_law_threads.specs.Threads.{own_reads}
-use Rattle.vs_rules.specs.Paths.{statement_now, statement_later, statement_shows}
+use Rattle.vs_law_threads.specs.Threads.{own_reads, own_shows}
+use Rattle.vs_rules.specs.Paths.{statement_now, statement_later}
 use Rattle.vs_slots_paths.specs.Reaches.{Chart, IsPlace, pause_at}
 
 -- ranges by the statement that is done next
@@ -34,7 +34,7 @@ reads_at t p = ranges_of own_reads (statement_at t p)
 
 -- what it shows by `$display`
 abbrev pub shows_at : Chart → ℕ → List BitRange
-shows_at t p = ranges_of statement_shows (statement_at t p)
+shows_at t p = ranges_of own_shows (statement_at t p)
 
 -- one of some ranges is of the signal
 abbrev pub HasSignal : List BitRange → ℕ → Type 0

@@ -6,7 +6,7 @@ use Rattle.vs_flatcode.specs.Ways.{Pause, none, delay, event}
 use Rattle.vs_flatcode.specs.Maps.{statement_pause}
 use denote.Ref.{Bor}
 use Rattle.vs_flatcode.specs.declared.stops.Stop as k
-use Rattle.vs_flatcode.specs.declared.stops.Text as h
+use Rattle.vs_flatcode.specs.declared.stops.TextMap as h
 use Rattle.vs_flatcode.specs.Stops.{LeadsIn, Stop, stop_view, stop_at, stop_statement, stops_tos, stops_behind}
 use Rattle.vs_reach.specs.Reached.{Reached, AreReached}
 use Rattle.vs_slots_paths.specs.declared.along.Along.{Along}
@@ -59,7 +59,7 @@ pub record Chart : Type 0 where
   pub start : ℕ
 
 -- of a map as it is kept
-abbrev pub chart_of : h.Text → Chart
+abbrev pub chart_of : h.TextMap → Chart
 chart_of t = record { stops = map stop_view t.stops.items; start = t.start }
 
 -- how many places it has, the end among them

@@ -5,8 +5,8 @@ ghost use Rattle.vs_design.specs.Uses.{aim_range, is_of, joined, reads, writes_s
 ghost use Rattle.vs_design.specs.Statements.{all_reads};
 ghost use Rattle.vs_design.specs.declared.statement.Statement.TheViews.{out-Statement};
 ghost use Rattle.vs_flatcode.specs.Stops.{statement_view};
-ghost use Rattle.vs_law_threads.specs.Threads.{item_reads, own_reads};
-ghost use Rattle.vs_rules.specs.Paths.{statement_now, statement_later, statement_shows};
+ghost use Rattle.vs_law_threads.specs.Threads.{item_reads, own_reads, own_shows};
+ghost use Rattle.vs_rules.specs.Paths.{statement_now, statement_later};
 ghost use Rattle.vs_slots_paths.specs.Ranges.{ranges_of, HasSignal};
 ghost use Rattle.vs_slots_paths.specs.Ranges as ranges;
 
@@ -77,7 +77,7 @@ fn own_reads(alloc: Global, s: &Statement) -> Result<Vec<BitRange>, AllocError>
 }
 
 fn statement_shows(alloc: Global, s: &Statement) -> Result<Vec<BitRange>, AllocError>
-    ensures { IfOk result (λ rs. rs.items ≡ statement_shows (out-Statement s.now)) }
+    ensures { IfOk result (λ rs. rs.items ≡ own_shows (out-Statement s.now)) }
 {
     match s {
         Statement::Call(_, call) => {
@@ -160,7 +160,7 @@ fn reads_of(alloc: Global, s: Option<&Statement>) -> Result<Vec<BitRange>, Alloc
 }
 
 fn shows_of(alloc: Global, s: Option<&Statement>) -> Result<Vec<BitRange>, AllocError>
-    ensures { IfOk result (λ rs. rs.items ≡ ranges_of statement_shows (statement_view s.entry)) }
+    ensures { IfOk result (λ rs. rs.items ≡ ranges_of own_shows (statement_view s.entry)) }
 {
     match s {
         None => Ok(Vec::new(alloc)),

@@ -7,12 +7,12 @@ use crate::paths::{places_along, points, stop_at};
 use crate::pauses::{Pause, pause_of};
 use std::alloc::{AllocError, Global};
 use std::marker::Model;
-use vs_flatcode::{Stop, Text};
+use vs_flatcode::{Stop, TextMap};
 
 /// What paths of the text of a process lead to. A contract sees the map of the text.
 #[derive(Drop)]
 pub struct Tables<'a> {
-    text: &'a Text<'a>,
+    text: &'a TextMap<'a>,
     points: Vec<bool>,
     slot0: Vec<bool>,
     prologue: Vec<bool>,
@@ -41,7 +41,7 @@ impl<'a> Tables<'a> {
     ghost use Rattle.vs_slots_paths.specs.Reaches.{IsPlace, InSlot0, InPrologue};
 
     /// The tables of a map.
-    pub fn new(alloc: Global, text: &'a Text<'a>) -> Result<Tables<'a>, AllocError>
+    pub fn new(alloc: Global, text: &'a TextMap<'a>) -> Result<Tables<'a>, AllocError>
         requires within { LeadsIn (places (chart_of text.now)) (chart_of text.now).stops }
         requires start { text.now.start < places (chart_of text.now) }
         ensures { IfOk result (λ t. t ≡ chart_of text.entry.now) }

@@ -11,7 +11,7 @@ use Rattle.vs_logic4.specs.Parts.{selected}
 use Rattle.std.specs.Fmt.{signed_decimal}
 use Rattle.vs_logic4.specs.Comparisons.{is_known}
 use Rattle.vs_logic4.specs.Arithmetic.{bit_of, number, integer, known_number}
-use Rattle.vs_strobe.specs.Values.{mark, group, group_count, by_groups, without_zeros, without_zero_bytes, number_text}
+use Rattle.vs_strobe.specs.Values.{unknown_letter, group, group_count, by_groups, without_zeros, without_zero_bytes, number_text}
 use Rattle.std.specs.List.{list_any}
 use Rattle.vs_logic4.specs.Vectors.{same_digit}
 use Rattle.vs_strobe.proofs.PieceLemmas.{drop_at}
@@ -132,4 +132,4 @@ number_shown_if false z n p other h = cc
 
 pub number_shown : (factor : ℕ) (signed : Bool) (ds : List Digit) (n : ℤ) → Some n ≡ cond (is_known ds) (Some (integer signed ds)) None
     → signed_decimal (n *ℤ pos factor) ≡ number_text factor signed ds
-number_shown factor signed ds n h = number_shown_if (is_known ds) (integer signed ds) n (pos factor) (mark ds ∷ []) h
+number_shown factor signed ds n h = number_shown_if (is_known ds) (integer signed ds) n (pos factor) (unknown_letter ds ∷ []) h

@@ -11,8 +11,8 @@ use Rattle.vs_strobe.specs.declared.piece.Show.{Show}
 use Rattle.vs_strobe.specs.declared.piece.Show.TheVariants.{Binary, Octal, Hex, Decimal, Time, Character, Text}
 
 -- what stands for digits that aren't all known: `x` for x alone, `z` for z alone, `X` where there is an x, else `Z` (clause 17.1.1.4)
-abbrev pub mark : List Digit → ℕ
-mark ds =
+abbrev pub unknown_letter : List Digit → ℕ
+unknown_letter ds =
     if same_digits ds (all_unknown (length ds)) then 120
     else (if same_digits ds (all_high_impedance (length ds)) then 122
     else (if list_any (same_digit X) ds then 88
@@ -39,7 +39,7 @@ by_groups f size (suc count) ds = f (group size count ds) ∷ by_groups f size c
 
 -- the character of a group (clause 17.1.1.4)
 abbrev pub group_character : List Digit → ℕ
-group_character ds = if is_known ds then hex_character (number ds) else mark ds
+group_character ds = if is_known ds then hex_character (number ds) else unknown_letter ds
 
 -- characters without the zeros on their left, but for the last character
 abbrev pub without_zeros : List ℕ → List ℕ
@@ -60,7 +60,7 @@ base_text false size ds = digits_text size ds
 
 -- the number of digits times a factor, in decimal; one letter where they aren't all known (clause 17.1.1.4)
 abbrev pub number_text : ℕ → Bool → List Digit → List ℕ
-number_text factor signed ds = if is_known ds then signed_decimal (integer signed ds *ℤ pos factor) else mark ds ∷ []
+number_text factor signed ds = if is_known ds then signed_decimal (integer signed ds *ℤ pos factor) else unknown_letter ds ∷ []
 
 -- how many places the greatest number of a size has; a signed one has a place for its sign besides (clause 17.1.1.3; signed: profile)
 abbrev pub decimal_places : Bool → ℕ → ℕ

@@ -4,7 +4,7 @@ ghost use Rattle.vs_logic4.specs.Comparisons.{is_known};
 ghost use Rattle.vs_logic4.specs.Arithmetic.{integer};
 ghost use Rattle.vs_strobe.specs.Values.{decimal_places, room, justified, number_text};
 
-use crate::digits::mark;
+use crate::digits::unknown_letter;
 use itoa::Buffer;
 use std::alloc::AllocError;
 use vs_logic4::Vec4;
@@ -90,6 +90,6 @@ pub(crate) fn push_number(
                 buffer.format(number * factor as i128).as_bytes(),
             )
         }
-        None => push_justified(text, places, &[mark(value)]),
+        None => push_justified(text, places, &[unknown_letter(value)]),
     }
 }

@@ -4,7 +4,7 @@ ghost use Rattle.std.specs.List.{list_any};
 ghost use Rattle.vs_logic4.specs.declared.digit.Digit.TheVariants.{X};
 ghost use Rattle.vs_logic4.specs.Vectors.{same_digit};
 ghost use Rattle.vs_logic4.specs.Arithmetic.{bit_of, number};
-ghost use Rattle.vs_strobe.specs.Values.{mark, hex_character, group, group_count, by_groups, group_character, without_zeros, digits_text, base_text};
+ghost use Rattle.vs_strobe.specs.Values.{unknown_letter, hex_character, group, group_count, by_groups, group_character, without_zeros, digits_text, base_text};
 ghost use Rattle.vs_strobe.specs.Values.{without_zero_bytes, bytes_text, character_text};
 
 use std::alloc::AllocError;
@@ -23,8 +23,8 @@ fn has_x(value: Vec4) -> bool
 }
 
 /// The letter of digits that aren't all known (IEEE 1364-2005, clause 17.1.1.4).
-pub(crate) fn mark(value: Vec4) -> u8
-    ensures { result ≡ mark value }
+pub(crate) fn unknown_letter(value: Vec4) -> u8
+    ensures { result ≡ unknown_letter value }
 {
     if value == Vec4::unknown(value.width()) {
         b'x'
@@ -78,7 +78,7 @@ fn group_character(group: Vec4) -> u8
 {
     match group.to_number() {
         Some(number) => hex_character(number as u8),
-        None => mark(group),
+        None => unknown_letter(group),
     }
 }
 

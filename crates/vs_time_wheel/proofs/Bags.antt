@@ -4,7 +4,7 @@ use Rattle.std.specs.Prelude.{nat_eq}
 use Rattle.std.proofs.lemmas.Bool.{eqb-true, eq-eqb, ne_eqb, cases_lt, cases_eq, cond-true, cond-false}
 use Rattle.std.specs.Option.{ForSome, IfSome}
 use Rattle.vs_time_wheel.specs.declared.timing.Timed.{Timed}
-use Rattle.vs_time_wheel.specs.Turn.{first_of}
+use Rattle.vs_time_wheel.specs.Rotation.{first_of}
 use Rattle.vs_time_wheel.specs.Bag.{events_at, SameBag, IsFrom, oldest_at, without_oldest, sooner, least_time}
 
 -- ---- one bag

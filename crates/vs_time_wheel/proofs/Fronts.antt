@@ -4,7 +4,7 @@ use Rattle.std.specs.Prelude.{nat_eq}
 use Rattle.std.proofs.lemmas.Bool.{cases_eq, eq-eqb, ne_eqb, cond-true, cond-false}
 use Rattle.std.specs.Option.{ForSome, is_some, option_eq}
 use Rattle.std.specs.Result.{OnOk, OnErr}
-use Rattle.vs_time_wheel.specs.Turn.{first_of}
+use Rattle.vs_time_wheel.specs.Rotation.{first_of}
 use Rattle.vs_time_wheel.specs.declared.timing.Timed.{Timed}
 use Rattle.vs_time_wheel.specs.Bag.{events_at, SameBag, IsFrom, oldest_at, without_oldest, least_time, sooner}
 use Rattle.vs_time_wheel.specs.Front.{front, IsAhead, IsDue, MakesWay}

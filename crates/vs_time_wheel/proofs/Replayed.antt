@@ -6,8 +6,8 @@ use Rattle.std.proofs.Math.Seq.{take-append_seam}
 use Rattle.vs_time_wheel.specs.declared.timing.Timed.{Timed}
 use Rattle.vs_time_wheel.specs.declared.calls.QueueCall.{QueueCall}
 use Rattle.vs_time_wheel.specs.declared.calls.QueueCall.TheVariants.{Schedule, NextTime, TakeDue, Now}
-use Rattle.vs_time_wheel.specs.declared.calls.Answer.{Answer}
-use Rattle.vs_time_wheel.specs.declared.calls.Answer.TheVariants.{Next, Due}
+use Rattle.vs_time_wheel.specs.declared.calls.QueueAnswer.{QueueAnswer}
+use Rattle.vs_time_wheel.specs.declared.calls.QueueAnswer.TheVariants.{Next, Due}
 use Rattle.vs_time_wheel.specs.Bag.{SameBag}
 use Rattle.vs_time_wheel.specs.Calls.{IsAllowed, answer_of, bag_after, clock_after, AreAllowed, answers_of, bag_in_the_end, clock_in_the_end, AnswerAlike, IsAfterFirst}
 use Rattle.vs_time_wheel.proofs.Bags.{SameBag-sym, SameBag-trans, least_time-same, oldest_at-same, SameBag-append, SameBag-without_oldest}
@@ -86,7 +86,7 @@ after_first calls first rest bag clock bag' clock' e same time =
     }
 
 -- the next of the calls that are left
-pub next_told : {E : Type 0} (answers answers' : List (Answer E)) (answer : Answer E) (call : QueueCall E) (left rest : List (QueueCall E)) (now now' : List (Timed E)) (clock clock' : ℕ) (all : List (Answer E)) →
+pub next_told : {E : Type 0} (answers answers' : List (QueueAnswer E)) (answer : QueueAnswer E) (call : QueueCall E) (left rest : List (QueueCall E)) (now now' : List (Timed E)) (clock clock' : ℕ) (all : List (QueueAnswer E)) →
     answers ++ answers_of left now clock ≡ all → left ≡ call ∷ rest → answer ≡ answer_of call now clock → answers' ≡ answers ++ answer ∷ [] →
     SameBag now' (bag_after call now) → clock' ≡ clock_after call clock → answers' ++ answers_of rest now' clock' ≡ all
 next_told answers answers' answer call left rest now now' clock clock' all told next is more same time =
@@ -109,6 +109,6 @@ pub all_made : {E : Type 0} (yielded left calls : List (QueueCall E)) → yielde
 all_made yielded [] calls all none = sym (append-nil yielded) ∙ all
 all_made yielded (call ∷ left) calls all none = absurd (omega arith)
 
-pub all_told : {E : Type 0} (answers : List (Answer E)) (left : List (QueueCall E)) (now : List (Timed E)) (clock : ℕ) (all : List (Answer E)) → answers ++ answers_of left now clock ≡ all → length left ≡ 0 → answers ≡ all
+pub all_told : {E : Type 0} (answers : List (QueueAnswer E)) (left : List (QueueCall E)) (now : List (Timed E)) (clock : ℕ) (all : List (QueueAnswer E)) → answers ++ answers_of left now clock ≡ all → length left ≡ 0 → answers ≡ all
 all_told answers [] now clock all told none = sym (append-nil answers) ∙ told
 all_told answers (call ∷ left) now clock all told none = absurd (omega arith)

@@ -5,7 +5,7 @@ use Rattle.std.proofs.lemmas.Bool.Decides.{eqb_tells}
 use Rattle.std.proofs.lemmas.Grind.{get_or-set_at}
 use Rattle.std.proofs.lemmas.List.{get_or_read, length-set, get_or-set_other}
 use Rattle.vs_time_wheel.specs.Busy.{flag_at}
-use Rattle.vs_time_wheel.specs.Turn.{slot_at, flag_of, IsFlagged}
+use Rattle.vs_time_wheel.specs.Rotation.{slot_at, flag_of, IsFlagged}
 
 -- ---- slots without an event
 zeros : (k : ℕ) → get_or {A = ℕ} (0 ∷ 0 ∷ 0 ∷ 0 ∷ []) k 0 ≡ 0

@@ -11,7 +11,7 @@ use Rattle.std.proofs.lemmas.Bool.{cases_eq, cond-true, cond-false}
 use Rattle.std.proofs.lemmas.Bool.Decides.{nat_tests}
 use Rattle.std.proofs.lemmas.Map.Keys.{sorted_head, sorted_tail}
 use Rattle.vs_time_wheel.specs.Bag.{events_at}
-use Rattle.vs_time_wheel.specs.Turn.{slot_at}
+use Rattle.vs_time_wheel.specs.Rotation.{slot_at}
 use Rattle.vs_time_wheel.specs.Window.{due_at, turn_bag, later_bag}
 use Rattle.vs_time_wheel.proofs.Bags.{events_at-append, events_at-here, events_at-apart}
 

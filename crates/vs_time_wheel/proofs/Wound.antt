@@ -9,7 +9,7 @@ use Rattle.std.proofs.lemmas.Bool.{cases_lt, cases_eq}
 use Rattle.std.proofs.lemmas.List.{get_or-set_same, get_or-set_other}
 use Rattle.vs_time_wheel.specs.declared.timing.Timed.{Timed}
 use Rattle.vs_time_wheel.specs.Bag.{IsFrom, events_at, least_time, SameBag, oldest_at, without_oldest}
-use Rattle.vs_time_wheel.specs.Turn.{slot_at, first_of, AllFree}
+use Rattle.vs_time_wheel.specs.Rotation.{slot_at, first_of, AllFree}
 use Rattle.vs_time_wheel.specs.Window.{due_at, turn_bag, later_bag, calendar_bag, IsWound, IsLoose, later_at, Postpones, Loses, NoneBefore}
 use Rattle.vs_time_wheel.proofs.Bags.{events_at-append, events_at-here, events_at-apart, events_at-without_oldest, events_at-without_other, oldest_at-first, least_time-from}
 use Rattle.vs_time_wheel.proofs.Windows.{turn_before, turn_within, turn_past, events_at-later}

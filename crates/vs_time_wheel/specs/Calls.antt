@@ -4,8 +4,8 @@ use Rattle.std.specs.Option.{ForSome}
 use Rattle.vs_time_wheel.specs.declared.timing.Timed.{Timed}
 use Rattle.vs_time_wheel.specs.declared.calls.QueueCall.{QueueCall}
 use Rattle.vs_time_wheel.specs.declared.calls.QueueCall.TheVariants.{Schedule, NextTime, TakeDue, Now}
-use Rattle.vs_time_wheel.specs.declared.calls.Answer.{Answer}
-use Rattle.vs_time_wheel.specs.declared.calls.Answer.TheVariants.{Scheduled, Next, Due, Clock}
+use Rattle.vs_time_wheel.specs.declared.calls.QueueAnswer.{QueueAnswer}
+use Rattle.vs_time_wheel.specs.declared.calls.QueueAnswer.TheVariants.{Scheduled, Next, Due, Clock}
 use Rattle.vs_time_wheel.specs.Bag.{SameBag, least_time, oldest_at, without_oldest}
 
 -- a call may be made: its time isn't over, and nothing that is due is passed over
@@ -16,7 +16,7 @@ IsAllowed (TakeDue time) bag clock = (clock ≤ time) × ForSome (least_time bag
 IsAllowed Now bag clock = Unit {0}
 
 -- the answer to a call
-abbrev pub answer_of : {E : Type 0} → QueueCall E → List (Timed E) → ℕ → Answer E
+abbrev pub answer_of : {E : Type 0} → QueueCall E → List (Timed E) → ℕ → QueueAnswer E
 answer_of (Schedule time event) bag clock = Scheduled
 answer_of NextTime bag clock = Next (least_time bag)
 answer_of (TakeDue time) bag clock = Due (oldest_at time bag)
@@ -36,13 +36,13 @@ clock_after NextTime clock = clock
 clock_after (TakeDue time) clock = time
 clock_after Now clock = clock
 
--- the calls may be made, each in its turn
+-- the calls may be made, each in its rotation
 abbrev pub AreAllowed : {E : Type 0} → List (QueueCall E) → List (Timed E) → ℕ → Type 0
 AreAllowed [] bag clock = Unit {0}
 AreAllowed (call ∷ calls) bag clock = IsAllowed call bag clock × AreAllowed calls (bag_after call bag) (clock_after call clock)
 
 -- the answer to each call, in their order
-abbrev pub answers_of : {E : Type 0} → List (QueueCall E) → List (Timed E) → ℕ → List (Answer E)
+abbrev pub answers_of : {E : Type 0} → List (QueueCall E) → List (Timed E) → ℕ → List (QueueAnswer E)
 answers_of [] bag clock = []
 answers_of (call ∷ calls) bag clock = answer_of call bag clock ∷ answers_of calls (bag_after call bag) (clock_after call clock)
 

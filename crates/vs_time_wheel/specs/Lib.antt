@@ -2,7 +2,7 @@ pub mod Bag
 pub mod Queue
 pub mod Calls
 pub mod Busy
-pub mod Turn
+pub mod Rotation
 pub mod Window
 pub mod Front
 pub mod Links

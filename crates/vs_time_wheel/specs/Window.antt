@@ -5,7 +5,7 @@ use Rattle.std.specs.Option.{unwrap_or}
 use Rattle.std.specs.Ordering.{nat_cmp}
 use Rattle.vs_time_wheel.specs.declared.timing.Timed.{Timed}
 use Rattle.vs_time_wheel.specs.Bag.{events_at}
-use Rattle.vs_time_wheel.specs.Turn.{slot_at}
+use Rattle.vs_time_wheel.specs.Rotation.{slot_at}
 
 -- events that are all due at one time
 abbrev pub due_at : {E : Type 0} → ℕ → List E → List (Timed E)

@@ -9,8 +9,8 @@ ghost use Rattle.vs_time_wheel.specs.Window.{calendar_bag, IsWound, IsLoose, Non
 use crate::busy::SLOTS;
 use crate::law::EventQueue;
 use crate::pool::{Chain, Pool};
+use crate::rotation::Rotation;
 use crate::timing::{Full, Memory};
-use crate::turn::Turn;
 use std::alloc::Global;
 use std::collections::BTreeMap;
 use std::marker::Model;
@@ -23,7 +23,7 @@ type Later<E> = BTreeMap<u64, Chain<E>>;
 /// each event moves at most once from the map to its slot.
 #[derive(Drop)]
 pub struct Calendar<E> {
-    turn: Turn<E>,
+    rotation: Rotation<E>,
     later: Later<E>,
     pool: Pool<E>,
     now: u64,
@@ -32,9 +32,9 @@ pub struct Calendar<E> {
 impl<E> Model for Calendar<E> {
     ghost Value = { Queue E };
 
-    ghost view = { λ w. record { bag = calendar_bag w.turn w.later w.now; clock = w.now } };
+    ghost view = { λ w. record { bag = calendar_bag w.rotation w.later w.now; clock = w.now } };
 
-    ghost invariant = { λ w. IsWound w.turn w.later w.now };
+    ghost invariant = { λ w. IsWound w.rotation w.later w.now };
 }
 
 impl<E: Drop> Calendar<E> {
@@ -43,9 +43,9 @@ impl<E: Drop> Calendar<E> {
         ensures empty { IfOk result (λ calendar. calendar.bag ≡ []) }
         ensures at_zero { IfOk result (λ calendar. calendar.clock ≡ 0) }
     {
-        let turn = Turn::new(alloc)?;
+        let rotation = Rotation::new(alloc)?;
         Ok(Calendar {
-            turn,
+            rotation,
             later: BTreeMap::new(alloc),
             pool: Pool::new(alloc),
             now: 0,
@@ -108,13 +108,13 @@ fn take_near<E>(later: &mut Later<E>, now: u64) -> Option<(u64, Chain<E>)>
 }
 
 // Moves the events of the times that have come near to their slots.
-fn bring_near<E: Drop>(turn: &mut Turn<E>, later: &mut Later<E>, now: u64)
-    requires { IsLoose turn.old later.old now }
-    ensures wound { IsWound turn.new later.new now }
-    ensures same_bag { SameBag (calendar_bag turn.new later.new now) (calendar_bag turn.old later.old now) }
+fn bring_near<E: Drop>(rotation: &mut Rotation<E>, later: &mut Later<E>, now: u64)
+    requires { IsLoose rotation.old later.old now }
+    ensures wound { IsWound rotation.new later.new now }
+    ensures same_bag { SameBag (calendar_bag rotation.new later.new now) (calendar_bag rotation.old later.old now) }
 {
     while let Some((time, chain)) = take_near(later, now) {
-        turn.put((time % 256) as usize, chain);
+        rotation.put((time % 256) as usize, chain);
     }
 }
 
@@ -126,13 +126,15 @@ impl<E: Drop> EventQueue<E> for Calendar<E> {
     #[inline(always)]
     fn schedule(&mut self, time: u64, event: E) -> Result<(), Full<E>> {
         if time - self.now < SLOTS as u64 {
-            return self.turn.push(&mut self.pool, (time % 256) as usize, event);
+            return self
+                .rotation
+                .push(&mut self.pool, (time % 256) as usize, event);
         }
         postpone(&mut self.later, &mut self.pool, time, event)
     }
 
     fn next_time(&self) -> Option<u64> {
-        match self.turn.next((self.now % 256) as usize) {
+        match self.rotation.next((self.now % 256) as usize) {
             Some(ahead) => Some(self.now + ahead as u64),
             None => first_time(&self.later),
         }
@@ -140,8 +142,8 @@ impl<E: Drop> EventQueue<E> for Calendar<E> {
 
     fn take_due(&mut self, time: u64) -> Option<E> {
         self.now = time;
-        bring_near(&mut self.turn, &mut self.later, time);
-        self.turn.pop(&mut self.pool, (time % 256) as usize)
+        bring_near(&mut self.rotation, &mut self.later, time);
+        self.rotation.pop(&mut self.pool, (time % 256) as usize)
     }
 
     fn now(&self) -> u64 {

@@ -23,7 +23,7 @@ pub enum QueueCall<E> {
 
 /// The answer to a call.
 #[derive(Clone, Copy, PartialEq, Eq, Drop)]
-pub enum Answer<E> {
+pub enum QueueAnswer<E> {
     /// The event was scheduled.
     Scheduled,
     /// What `next_time` answered.
@@ -38,7 +38,7 @@ pub enum Answer<E> {
 fn make_call<E: Drop, Q: EventQueue<E>>(
     queue: &mut Q,
     call: QueueCall<E>,
-) -> Result<Answer<E>, Memory>
+) -> Result<QueueAnswer<E>, Memory>
     requires { IsAllowed call (Q.bag queue.old) (Q.clock queue.old) }
     ensures answer { IfOk result (λ answer. answer ≡ answer_of call (Q.bag queue.old) (Q.clock queue.old)) }
     ensures bag { OnOk result (SameBag (Q.bag queue.new) (bag_after call (Q.bag queue.old))) }
@@ -48,12 +48,12 @@ fn make_call<E: Drop, Q: EventQueue<E>>(
 {
     match call {
         QueueCall::Schedule(time, event) => match queue.schedule(time, event) {
-            Ok(()) => Ok(Answer::Scheduled),
+            Ok(()) => Ok(QueueAnswer::Scheduled),
             Err(_) => Err(Memory),
         },
-        QueueCall::NextTime => Ok(Answer::Next(queue.next_time())),
-        QueueCall::TakeDue(time) => Ok(Answer::Due(queue.take_due(time))),
-        QueueCall::Now => Ok(Answer::Clock(queue.now())),
+        QueueCall::NextTime => Ok(QueueAnswer::Next(queue.next_time())),
+        QueueCall::TakeDue(time) => Ok(QueueAnswer::Due(queue.take_due(time))),
+        QueueCall::Now => Ok(QueueAnswer::Clock(queue.now())),
     }
 }
 
@@ -63,7 +63,7 @@ pub fn replay<E: Drop, Q: EventQueue<E>>(
     alloc: Global,
     queue: &mut Q,
     calls: Vec<QueueCall<E>>,
-) -> Result<Vec<Answer<E>>, Memory>
+) -> Result<Vec<QueueAnswer<E>>, Memory>
     requires { AreAllowed calls.items (Q.bag queue.old) (Q.clock queue.old) }
     ensures answers { IfOk result (λ answers. answers.items ≡ answers_of calls.items (Q.bag queue.old) (Q.clock queue.old)) }
     ensures bag { OnOk result (SameBag (Q.bag queue.new) (bag_in_the_end calls.items (Q.bag queue.old))) }

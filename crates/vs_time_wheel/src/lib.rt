@@ -13,11 +13,11 @@ mod law;
 mod list;
 mod nodes;
 mod pool;
+mod rotation;
 mod timing;
-mod turn;
 mod wheel_queue;
 
-pub use calls::{Answer, QueueCall, replay, same_answers};
+pub use calls::{QueueAnswer, QueueCall, replay, same_answers};
 pub use law::EventQueue;
 pub use list::ListQueue;
 pub use timing::{Full, Memory, Timed};

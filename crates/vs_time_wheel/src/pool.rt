@@ -8,7 +8,7 @@ use std::alloc::Global;
 use std::marker::Model;
 
 /// A node that holds no event.
-type Room<E> = Vacant<Node<E, Global>, Global>;
+type FreeNode<E> = Vacant<Node<E, Global>, Global>;
 
 /// Events in linked nodes, the oldest first.
 pub struct Chain<E> {
@@ -50,7 +50,7 @@ impl<E> Chain<E> {
     }
 
     // Links a node at the end.
-    fn link(&mut self, room: Room<E>, event: E)
+    fn link(&mut self, room: FreeNode<E>, event: E)
         requires { length self.old + 1 < 2 ^ 64 }
         ensures { self.new ≡ self.old ++ event ∷ [] }
     {
@@ -63,7 +63,7 @@ impl<E> Chain<E> {
     }
 
     // Unlinks the first node.
-    fn unlink(&mut self) -> Option<(E, Room<E>)>
+    fn unlink(&mut self) -> Option<(E, FreeNode<E>)>
         ensures { MatchOption result ((self.old ≡ []) × (self.new ≡ [])) (λ first. self.old ≡ first.0 ∷ self.new) }
     {
         if self.len == 0 {
@@ -86,7 +86,7 @@ impl<E: Drop> Drop for Chain<E> {
 
 /// Where nodes are taken from, and where they go back to. A node that goes back is taken again later.
 pub struct Pool<E> {
-    spare: Vec<Room<E>>,
+    spare: Vec<FreeNode<E>>,
     made: usize,
     alloc: Global,
 }
@@ -102,7 +102,7 @@ impl<E> Pool<E> {
     }
 
     // Takes a node: one that went back, or else a new one, and room to keep it once it goes back.
-    fn take(&mut self) -> Option<Room<E>> {
+    fn take(&mut self) -> Option<FreeNode<E>> {
         if let Some(room) = self.spare.pop() {
             return Some(room);
         }
@@ -114,7 +114,7 @@ impl<E> Pool<E> {
     }
 
     // Takes a node back. It takes no memory.
-    fn give_back(&mut self, room: Room<E>) {
+    fn give_back(&mut self, room: FreeNode<E>) {
         if self.spare.len() < self.spare.capacity() {
             if let Err(refused) = self.spare.push(room) {
                 refused.value.free();

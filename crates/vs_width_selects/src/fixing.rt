@@ -28,11 +28,11 @@ fn alone(alloc: Global, x: &Measured) -> Result<Option<Vec4>, AllocError>
 }
 
 /// The bits of a place whose indices read nothing.
-pub fn fixed(alloc: Global, place: &ChosenBits) -> Result<Option<Slice>, AllocError>
-    ensures { IfOk result (λ s. Fixes place.now s) }
+pub fn fixed(alloc: Global, chosen_bits: &ChosenBits) -> Result<Option<Slice>, AllocError>
+    ensures { IfOk result (λ s. Fixes chosen_bits.now s) }
 {
-    let extent = &place.extent;
-    let Some(word) = alone(alloc, &place.word)? else {
+    let extent = &chosen_bits.extent;
+    let Some(word) = alone(alloc, &chosen_bits.word)? else {
         return Ok(None);
     };
     let Some(low) = alone(alloc, &extent.index)? else {
@@ -40,25 +40,25 @@ pub fn fixed(alloc: Global, place: &ChosenBits) -> Result<Option<Slice>, AllocEr
     };
     let width = extent.shape.width;
     Ok(Some(Slice {
-        signal: place.signal,
-        word: word_place(place.words, word),
+        signal: chosen_bits.signal,
+        word: word_place(chosen_bits.words, word),
         low: place_of(extent.axis, width, low) as i32,
         width,
     }))
 }
 
-/// The bits of a place whose indices aren't constant.
-pub fn selection(place: &ChosenBits) -> Selection
-    ensures signal { result.signal ≡ place.now.signal }
-    ensures words { result.words ≡ place.now.words }
-    ensures bits { result.bits ≡ place.now.extent.axis }
-    ensures width { result.width ≡ place.now.extent.shape.width }
+/// The bits of a chosen_bits whose indices aren't constant.
+pub fn selection(chosen_bits: &ChosenBits) -> Selection
+    ensures signal { result.signal ≡ chosen_bits.now.signal }
+    ensures words { result.words ≡ chosen_bits.now.words }
+    ensures bits { result.bits ≡ chosen_bits.now.extent.axis }
+    ensures width { result.width ≡ chosen_bits.now.extent.shape.width }
 {
     Selection {
-        signal: place.signal,
-        words: place.words,
-        bits: place.extent.axis,
-        width: place.extent.shape.width,
+        signal: chosen_bits.signal,
+        words: chosen_bits.words,
+        bits: chosen_bits.extent.axis,
+        width: chosen_bits.extent.shape.width,
     }
 }
 
@@ -71,27 +71,27 @@ fn own(alloc: Global, x: Measured) -> Result<Box<Sizable>, AllocError>
 }
 
 /// The bits of a place, before they are brought to a context.
-fn chosen(alloc: Global, place: ChosenBits) -> Result<Sizable, AllocError>
-    ensures { IfOk result (λ y. (n : Named) → IsPlaced n place → IsChosen n y) }
+fn chosen(alloc: Global, chosen_bits: ChosenBits) -> Result<Sizable, AllocError>
+    ensures { IfOk result (λ y. (n : Named) → IsPlaced n chosen_bits → IsChosen n y) }
 {
-    match fixed(alloc, &place)? {
+    match fixed(alloc, &chosen_bits)? {
         Some(slice) => Ok(Sizable::Slice(slice)),
         None => {
-            let selection = selection(&place);
-            let word = own(alloc, place.word)?;
-            let low = own(alloc, place.extent.index)?;
+            let selection = selection(&chosen_bits);
+            let word = own(alloc, chosen_bits.word)?;
+            let low = own(alloc, chosen_bits.extent.index)?;
             let selection = Box::new(alloc, selection)?;
             Ok(Sizable::Select(selection, word, low))
         }
     }
 }
 
-/// The bits of a place as an operand.
-pub fn operand(alloc: Global, place: ChosenBits) -> Result<Measured, AllocError>
-    ensures { IfOk result (λ y. (n : Named) → IsPlaced n place → IsMeasured (operand_meant n) y) }
+/// The bits of a chosen_bits as an operand.
+pub fn operand(alloc: Global, chosen_bits: ChosenBits) -> Result<Measured, AllocError>
+    ensures { IfOk result (λ y. (n : Named) → IsPlaced n chosen_bits → IsMeasured (operand_meant n) y) }
 {
-    let shape = place.extent.shape;
-    let form = chosen(alloc, place)?;
+    let shape = chosen_bits.extent.shape;
+    let form = chosen(alloc, chosen_bits)?;
     Ok(Measured {
         shape,
         form: Sizable::Closed(shape, Box::new(alloc, form)?),

@@ -18,21 +18,21 @@ use vs_width_selects::{
 };
 
 /// What a name with its selects names, as a place of a target.
-fn aim(alloc: Global, place: &ChosenBits) -> Result<Aim, AllocError>
-    ensures { IfOk result (λ a. (n : Named) → IsPlaced n place.now → IsAim n a) }
+fn aim(alloc: Global, chosen_bits: &ChosenBits) -> Result<Aim, AllocError>
+    ensures { IfOk result (λ a. (n : Named) → IsPlaced n chosen_bits.now → IsAim n a) }
 {
-    match fixed(alloc, place)? {
+    match fixed(alloc, chosen_bits)? {
         Some(slice) => Ok(Aim::Fixed(slice)),
         None => {
-            let index = &place.extent.index;
-            let word = fitted(alloc, &place.word.form, place.word.shape)?;
+            let index = &chosen_bits.extent.index;
+            let word = fitted(alloc, &chosen_bits.word.form, chosen_bits.word.shape)?;
             let low = fitted(alloc, &index.form, index.shape)?;
-            Ok(Aim::Chosen(selection(place), word, low))
+            Ok(Aim::Chosen(selection(chosen_bits), word, low))
         }
     }
 }
 
-/// Whether the target of an assignment of a kind may have such a place: that of a continuous one has constant indices alone
+/// Whether the target of an assignment of a kind may have such a chosen_bits: that of a continuous one has constant indices alone
 /// (IEEE 1364-2005, clause 6.1).
 fn takes_aim(how: AssignmentKind, aim: &Aim) -> bool
     ensures { result ≡ takes_aim how aim.now }

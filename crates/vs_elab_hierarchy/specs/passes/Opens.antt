@@ -54,21 +54,21 @@ lines_inside zero ms s = leave ∷ []
 lines_inside (suc n) ms s = outline_below ms (scopes_within n ms) (outline_within n ms) s (within_first s) (inner_of s) ++ leave ∷ []
 
 -- The last of these scopes is about to be opened: so many levels may be inside.
-pub record IsReady (ms : List Module) (ss : List Scope) (s : Scope) (modules : List (List ℕ × NamedModule)) (list : List FoundScope) (plan : Numbering) (place room : ℕ) : Type 0 where
+pub record IsReady (ms : List Module) (ss : List Scope) (s : Scope) (modules : List (List ℕ × NamedModule)) (list : List FoundScope) (plan : Numbering) (place depth_left : ℕ) : Type 0 where
   pub lists : Lists ms modules
   pub planned : IsPlanned list plan ss
   pub stands : slice_get ss place ≡ Some s
   pub last : length ss ≡ suc place
   pub next : before_next list plan ≡ within_first s
-  pub levels : length s.path + room ≡ 16449
+  pub levels : length s.path + depth_left ≡ 16449
 
 -- the scopes inside the scope at a place were listed behind these
-pub record OpensInside (room : ℕ) (ms : List Module) (ss : List Scope) (s : Scope) (place : ℕ) (start list : List FoundScope) (old new : Numbering) : Type 0 where
-  pub planned : IsPlanned list new (ss ++ scopes_inside room ms s)
-  pub sound : All (IsSoundInside ms) (s ∷ scopes_inside room ms s)
-  pub named : AreNamed list place (s ∷ scopes_inside room ms s)
+pub record OpensInside (depth_left : ℕ) (ms : List Module) (ss : List Scope) (s : Scope) (place : ℕ) (start list : List FoundScope) (old new : Numbering) : Type 0 where
+  pub planned : IsPlanned list new (ss ++ scopes_inside depth_left ms s)
+  pub sound : All (IsSoundInside ms) (s ∷ scopes_inside depth_left ms s)
+  pub named : AreNamed list place (s ∷ scopes_inside depth_left ms s)
   pub extends : Extends start list
-  pub lines : AddsLines (lines_inside room ms s) old new
+  pub lines : AddsLines (lines_inside depth_left ms s) old new
 
 -- the first instances and blocks in the scope at a place were opened
 pub record HoldsInner (n : ℕ) (ms : List Module) (ss : List Scope) (s : Scope) (place : ℕ) (done : List Inner) (start list : List FoundScope) (old new : Numbering) : Type 0 where
@@ -82,7 +82,7 @@ pub record HoldsInner (n : ℕ) (ms : List Module) (ss : List Scope) (s : Scope)
 
 -- why they weren't: a fault stands in one of them
 abbrev pub OpensInsideNot : ℕ → List Module → Scope → Reason → Path → Type 0
-OpensInsideNot room ms s r p = HoldsOpeningIn ms (scopes_within room ms s) r p
+OpensInsideNot depth_left ms s r p = HoldsOpeningIn ms (scopes_within depth_left ms s) r p
 
 -- ---- the top
 

@@ -39,20 +39,20 @@ module _ (E : Bx) where
   abbrev pub Node : RattleType
   Node = Block.the_row (R E) (P E)
 
-  abbrev pub Room : RattleType
-  Room = Vacant E.al Node
+  abbrev pub FreeNode : RattleType
+  FreeNode = Vacant E.al Node
 
   abbrev pub ended : Ended
-  ended = record { signature = record { lifetimes = 1; outlives = []; params = RefMutOf (0 ∷ []) tt (plain (λ _. Nr E)) (λ _. tt) ∷ plain (λ _. Room) ∷ plain (λ _. R E) ∷ []; result = plain (λ _. unit) }; kept = (yes, (no, (no, tt))) }
+  ended = record { signature = record { lifetimes = 1; outlives = []; params = RefMutOf (0 ∷ []) tt (plain (λ _. Nr E)) (λ _. tt) ∷ plain (λ _. FreeNode) ∷ plain (λ _. R E) ∷ []; result = plain (λ _. unit) }; kept = (yes, (no, (no, tt))) }
 
   abbrev pub stayed : Stays ended.signature.params ended.kept
-  stayed = (stay_ref (0 ∷ []) tt (plain (λ _. Nr E)), (stay_dropped (plain (λ _. Room)) no, (stay_dropped (plain (λ _. R E)) no, tt)))
+  stayed = (stay_ref (0 ∷ []) tt (plain (λ _. Nr E)), (stay_dropped (plain (λ _. FreeNode)) no, (stay_dropped (plain (λ _. R E)) no, tt)))
 
   -- the clauses by what is asked of the nodes, and what is given of the nodes, the event and the nodes then
   abbrev pub spec : (D E → Type 0) → (D E → X E → D E → Type 0) → {M : Type 1} {𝓤 : Ura M} (𝓛 : Logic 𝓤) → Clauses 𝓤 ended
   spec Asks Gives {𝓤 = 𝓤} 𝓛 κs a = record { ghost = Unit {0}; requires = λ _. fact 𝓤 (Asks a.0.now); ensures = λ _ r w. fact 𝓤 (Gives a.0.now a.1.1.0 w.0.now) }
 
-module _ (E : Bx) (Asks : D E → Type 0) (Gives : D E → X E → D E → Type 0) {M : Type 1} {𝓤 : Ura M} (𝓛 : Logic 𝓤) (κ : Lft) (q : Share) (rb ro : ℕ) (γ : GName) (d : D E) (room : (Room E).Denot) (x : X E) (ps us vs : List Val) where
+module _ (E : Bx) (Asks : D E → Type 0) (Gives : D E → X E → D E → Type 0) {M : Type 1} {𝓤 : Ura M} (𝓛 : Logic 𝓤) (κ : Lft) (q : Share) (rb ro : ℕ) (γ : GName) (d : D E) (room : (FreeNode E).Denot) (x : X E) (ps us vs : List Val) where
   open 𝓛 use {H, A}
 
   abbrev self : MutBor (D E)
@@ -82,16 +82,16 @@ module _ (E : Bx) (Asks : D E → Type 0) (Gives : D E → X E → D E → Type 
       → (ps ≡ vptr rb ro ∷ [] → Asks d → (b o : ℕ) (hv v : Val) → Fits E.al hv → Good (τ E) v → ent 𝓤 (⋆ 𝓛 (Had b o hv v)) (WpFn 𝓤 H C Λ function (vptr rb ro ∷ vacant_val hv b o ∷ v ∷ []) Post))
       → Asks d → ent 𝓤 (on_entry 𝓛 (ended E).signature (κ, tt) (q, tt) (self, (room, (x, tt))) (ps, (us, (vs, tt)))) (WpFn 𝓤 H C Λ function (ps ++ (us ++ (vs ++ []))) Post)
   entry C Λ function walk asked =
-      qed 𝓛 ((‵ (flft κ q) ⊛ ‵ ftrue) ∷ ‵ (owns (MutRef (named 0) κ (Nr E) ∷ Room E ∷ R E ∷ []) (self, (room, (x, tt))) (ps, (us, (vs, tt)))) ∷ []) ∵ split ! $ move ! (2 ∷ []) $ fsplit3 ! $ fsplit3 ! $ feq_l ! (λ e.
+      qed 𝓛 ((‵ (flft κ q) ⊛ ‵ ftrue) ∷ ‵ (owns (MutRef (named 0) κ (Nr E) ∷ FreeNode E ∷ R E ∷ []) (self, (room, (x, tt))) (ps, (us, (vs, tt)))) ∷ []) ∵ split ! $ move ! (2 ∷ []) $ fsplit3 ! $ fsplit3 ! $ feq_l ! (λ e.
       move ! (3 ∷ []) $ fsplit ! $ el_tells E ! x vs (λ v g good. move ! (4 ∷ []) $ Vacant-had E.al (Node E) ! room us (λ b o hv at f fa. keep ! (5 ∷ 6 ∷ 7 ∷ 0 ∷ 1 ∷ 2 ∷ 3 ∷ []) $
       by ! (subst (λ (ws : List Val × List Val × List Val). ent 𝓤 (⋆ 𝓛 (Had b o hv v)) (WpFn 𝓤 H C Λ function (ws.0 ++ (ws.1 ++ (ws.2 ++ []))) Post)) (λ j. (sym e j, sym f j, sym g j)) (walk e asked b o hv v fa good)))))
 
 pub linking_meets : (E : Bx) (Asks : D E → Type 0) (Gives : D E → X E → D E → Type 0) {M : Type 1} {𝓤 : Ura M} (𝓛 : Logic 𝓤) (𝓣 : Tables 𝓤 𝓛.H) (function : Fn)
-    → ((κ : Lft) (q : Share) (rb ro : ℕ) (γ : GName) (d : D E) (room : (Room E).Denot) (x : X E) (ps us vs : List Val) → ps ≡ vptr rb ro ∷ [] → Asks d → (b o : ℕ) (hv v : Val) → Fits E.al hv → Good (τ E) v
+    → ((κ : Lft) (q : Share) (rb ro : ℕ) (γ : GName) (d : D E) (room : (FreeNode E).Denot) (x : X E) (ps us vs : List Val) → ps ≡ vptr rb ro ∷ [] → Asks d → (b o : ℕ) (hv v : Val) → Fits E.al hv → Good (τ E) v
     → ent 𝓤 (⋆ 𝓛 (Had E Asks Gives 𝓛 κ q rb ro γ d room x ps us vs b o hv v)) (WpFn 𝓤 𝓛.H 𝓣.C 𝓣.Λ function (vptr rb ro ∷ vacant_val hv b o ∷ v ∷ []) (Post E Asks Gives 𝓛 κ q rb ro γ d room x ps us vs)))
     → Meets 𝓛 (ended E).signature (WpFn 𝓤 𝓛.H 𝓣.C 𝓣.Λ function) (closing 𝓛 (ended E) (spec E Asks Gives 𝓛))
 linking_meets E Asks Gives {𝓤 = 𝓤} 𝓛 𝓣 function walk =
-    walk_Meets 𝓛 (ended E) (stayed E) (Goes-ref 𝓛 1 0 tt (plain (λ _. Nr E)), (Goes-blank 𝓛 1 (plain (λ _. Room E)) no (λ κs x f. tt), (Goes-dropped 𝓛 1 (plain (λ _. R E)) no (λ κs x f. refl), tt))) (spec E Asks Gives 𝓛) (WpFn 𝓤 𝓛.H 𝓣.C 𝓣.Λ function) (WpFn-mono 𝓤 𝓛.H 𝓛.laws 𝓣 function)
+    walk_Meets 𝓛 (ended E) (stayed E) (Goes-ref 𝓛 1 0 tt (plain (λ _. Nr E)), (Goes-blank 𝓛 1 (plain (λ _. FreeNode E)) no (λ κs x f. tt), (Goes-dropped 𝓛 1 (plain (λ _. R E)) no (λ κs x f. refl), tt))) (spec E Asks Gives 𝓛) (WpFn 𝓤 𝓛.H 𝓣.C 𝓣.Λ function) (WpFn-mono 𝓤 𝓛.H 𝓛.laws 𝓣 function)
     (λ z. let a = z.0.3 in let vss = z.0.4 in
     needs 𝓤 (Asks a.0.now) _ (entry E Asks Gives 𝓛 z.0.0.0 z.0.1.0 a.0.ref_ptr.0 a.0.ref_ptr.1 a.0.ghost_name a.0.now a.1.0 a.1.1.0 vss.0 vss.1.0 vss.1.1.0 𝓣.C 𝓣.Λ function
     (walk z.0.0.0 z.0.1.0 a.0.ref_ptr.0 a.0.ref_ptr.1 a.0.ghost_name a.0.now a.1.0 a.1.1.0 vss.0 vss.1.0 vss.1.1.0)))

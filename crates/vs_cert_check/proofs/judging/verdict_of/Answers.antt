@@ -33,4 +33,7 @@ returns-in_ok-place-in-Some-name_of c =
     let whole = subst (λ many. IsLeast (KeepsAt d n) 11 many (Some (c.in-Some.rule, c.in-Some.i))) (as_many d n c.args.all.now c.requires.are) least in
     let breaks = c.least_is_verdict.ensures.no d n c.in-Some.rule c.in-Some.i (subject_view x) c.in_ok-place-in-Some-name_of.place.items whole at told in
     let same : c.in-Some.rule + 1 - 1 ≡ c.in-Some.rule = omega arith in
-    subst (λ (m : ℕ). Breaks d n (rule_of m) c.in_ok-place-in-Some-name_of.place.items) (sym same) breaks
+    record {
+      exact = subst (λ (m : ℕ). Breaks d n (rule_of m) c.in_ok-place-in-Some-name_of.place.items) (sym same) breaks;
+      numbered = (omega arith, omega (arith, least.0));
+    }

@@ -20,10 +20,10 @@ pub returns-in_err-inner : goal.returns-in_err-inner
 returns-in_err-inner n c = λ ms ss s h.
     (let p = err_from_is_err_and c.from_residual.result c.from_residual.ensures.1 in
     let one : AreOpened c.deref.result.now ss = subst (λ z. AreOpened z ss) (sym c.deref.ensures.value) h.planned.opened in
-    rw (p.1, p.2) (inner_not_told c.args.room ms s c.in_err-inner.field-0.0 (c.in_err-inner.ensures ss s one h.stands)))
+    rw (p.1, p.2) (inner_not_told c.args.depth_left ms s c.in_err-inner.field-0.0 (c.in_err-inner.ensures ss s one h.stands)))
 
 pub loop-one-init : goal.loop-one-init
-loop-one-init n c = λ ms ss s h. holding_start c.args.room c.requires.room ms ss s c.args.place c.args.modules.now c.args.list.now.items c.args.plan.now h
+loop-one-init n c = λ ms ss s h. holding_start c.args.depth_left c.requires.depth_left ms ss s c.args.place c.args.modules.now c.args.list.now.items c.args.plan.now h
 
 pub add-requires : goal.add-requires
 add-requires n c =
@@ -42,8 +42,8 @@ add-requires n c =
     let p1 = c.loop-one.plan in
     let i = c.loop-one.one-index in
     let x = c.one-item.result in
-    let far = so_far c.args.room c.requires.room ms ss s c.args.place c.args.modules.now list0 p0 h items found i x c.loop-one-test.true c.one-item.is list1 p1 holds in
-    let here = holding_here c.args.room c.requires.room ms ss s c.args.place c.args.modules.now list0 p0 h items found i x c.loop-one-test.true c.one-item.is list1 p1 holds in
+    let far = so_far c.args.depth_left c.requires.depth_left ms ss s c.args.place c.args.modules.now list0 p0 h items found i x c.loop-one-test.true c.one-item.is list1 p1 holds in
+    let here = holding_here c.args.depth_left c.requires.depth_left ms ss s c.args.place c.args.modules.now list0 p0 h items found i x c.loop-one-test.true c.one-item.is list1 p1 holds in
     (ms, far, s, here)
 
 pub returns-in_err-next : goal.returns-in_err-next
@@ -60,9 +60,9 @@ returns-in_err-next n c = λ ms ss s h.
     let p1 = c.loop-one.plan in
     let i = c.loop-one.one-index in
     let x = c.one-item.result in
-    let far = so_far c.args.room c.requires.room ms ss s c.args.place c.args.modules.now list0 p0 h items found i x c.loop-one-test.true c.one-item.is list1 p1 holds in
-    let here = holding_here c.args.room c.requires.room ms ss s c.args.place c.args.modules.now list0 p0 h items found i x c.loop-one-test.true c.one-item.is list1 p1 holds in
-    rw (p.1, p.2) (add_told c.args.room c.requires.room ms ss s c.args.place c.args.modules.now list0 p0 h items found i x c.loop-one-test.true c.one-item.is list1 p1 holds c.in_err-next.field-0.0 (c.in_err-next.ensures ms far s here)))
+    let far = so_far c.args.depth_left c.requires.depth_left ms ss s c.args.place c.args.modules.now list0 p0 h items found i x c.loop-one-test.true c.one-item.is list1 p1 holds in
+    let here = holding_here c.args.depth_left c.requires.depth_left ms ss s c.args.place c.args.modules.now list0 p0 h items found i x c.loop-one-test.true c.one-item.is list1 p1 holds in
+    rw (p.1, p.2) (add_told c.args.depth_left c.requires.depth_left ms ss s c.args.place c.args.modules.now list0 p0 h items found i x c.loop-one-test.true c.one-item.is list1 p1 holds c.in_err-next.field-0.0 (c.in_err-next.ensures ms far s here)))
 
 pub open_inside-requires : goal.open_inside-requires
 open_inside-requires n c =
@@ -81,14 +81,14 @@ open_inside-requires n c =
     let p1 = c.loop-one.plan in
     let i = c.loop-one.one-index in
     let x = c.one-item.result in
-    let far = so_far c.args.room c.requires.room ms ss s c.args.place c.args.modules.now list0 p0 h items found i x c.loop-one-test.true c.one-item.is list1 p1 holds in
-    let here = holding_here c.args.room c.requires.room ms ss s c.args.place c.args.modules.now list0 p0 h items found i x c.loop-one-test.true c.one-item.is list1 p1 holds in
+    let far = so_far c.args.depth_left c.requires.depth_left ms ss s c.args.place c.args.modules.now list0 p0 h items found i x c.loop-one-test.true c.one-item.is list1 p1 holds in
+    let here = holding_here c.args.depth_left c.requires.depth_left ms ss s c.args.place c.args.modules.now list0 p0 h items found i x c.loop-one-test.true c.one-item.is list1 p1 holds in
     let adds = c.in_ok-next.ensures ms far s here in
     let list2 = c.add.new.list.items in
     let p2 = c.add.new.plan in
     let next = c.in_ok-next.next in
-    let ready = ready_inside c.args.room c.requires.room ms ss s c.args.place c.args.modules.now list0 p0 h items found i x c.loop-one-test.true c.one-item.is list1 p1 holds list2 p2 next adds in
-    (omega (arith, c.decreases, c.requires.room), (room_inside c.args.room c.requires.room ms ss s c.args.place c.args.modules.now list0 p0 h items found i x c.loop-one-test.true c.one-item.is list1 p1 holds list2 p2 next adds, (ms, far ++ adds.1.inner ∷ [], adds.1.inner, ready)))
+    let ready = ready_inside c.args.depth_left c.requires.depth_left ms ss s c.args.place c.args.modules.now list0 p0 h items found i x c.loop-one-test.true c.one-item.is list1 p1 holds list2 p2 next adds in
+    (omega (arith, c.decreases, c.requires.depth_left), (room_inside c.args.depth_left c.requires.depth_left ms ss s c.args.place c.args.modules.now list0 p0 h items found i x c.loop-one-test.true c.one-item.is list1 p1 holds list2 p2 next adds, (ms, far ++ adds.1.inner ∷ [], adds.1.inner, ready)))
 
 pub returns-in_err-open_inside : goal.returns-in_err-open_inside
 returns-in_err-open_inside n c = λ ms ss s h.
@@ -104,14 +104,14 @@ returns-in_err-open_inside n c = λ ms ss s h.
     let p1 = c.loop-one.plan in
     let i = c.loop-one.one-index in
     let x = c.one-item.result in
-    let far = so_far c.args.room c.requires.room ms ss s c.args.place c.args.modules.now list0 p0 h items found i x c.loop-one-test.true c.one-item.is list1 p1 holds in
-    let here = holding_here c.args.room c.requires.room ms ss s c.args.place c.args.modules.now list0 p0 h items found i x c.loop-one-test.true c.one-item.is list1 p1 holds in
+    let far = so_far c.args.depth_left c.requires.depth_left ms ss s c.args.place c.args.modules.now list0 p0 h items found i x c.loop-one-test.true c.one-item.is list1 p1 holds in
+    let here = holding_here c.args.depth_left c.requires.depth_left ms ss s c.args.place c.args.modules.now list0 p0 h items found i x c.loop-one-test.true c.one-item.is list1 p1 holds in
     let adds = c.in_ok-next.ensures ms far s here in
     let list2 = c.add.new.list.items in
     let p2 = c.add.new.plan in
     let next = c.in_ok-next.next in
-    let ready = ready_inside c.args.room c.requires.room ms ss s c.args.place c.args.modules.now list0 p0 h items found i x c.loop-one-test.true c.one-item.is list1 p1 holds list2 p2 next adds in
-    rw (p.1, p.2) (inside_told c.args.room c.requires.room ms ss s c.args.place c.args.modules.now list0 p0 h items found i x c.loop-one-test.true c.one-item.is list1 p1 holds list2 p2 next adds c.in_err-open_inside.field-0.0 (c.in_err-open_inside.ensures ms (far ++ adds.1.inner ∷ []) adds.1.inner ready)))
+    let ready = ready_inside c.args.depth_left c.requires.depth_left ms ss s c.args.place c.args.modules.now list0 p0 h items found i x c.loop-one-test.true c.one-item.is list1 p1 holds list2 p2 next adds in
+    rw (p.1, p.2) (inside_told c.args.depth_left c.requires.depth_left ms ss s c.args.place c.args.modules.now list0 p0 h items found i x c.loop-one-test.true c.one-item.is list1 p1 holds list2 p2 next adds c.in_err-open_inside.field-0.0 (c.in_err-open_inside.ensures ms (far ++ adds.1.inner ∷ []) adds.1.inner ready)))
 
 pub loop-one-preserved : goal.loop-one-preserved
 loop-one-preserved n c = λ ms ss s h.
@@ -126,14 +126,14 @@ loop-one-preserved n c = λ ms ss s h.
     let p1 = c.loop-one.plan in
     let i = c.loop-one.one-index in
     let x = c.one-item.result in
-    let far = so_far c.args.room c.requires.room ms ss s c.args.place c.args.modules.now list0 p0 h items found i x c.loop-one-test.true c.one-item.is list1 p1 holds in
-    let here = holding_here c.args.room c.requires.room ms ss s c.args.place c.args.modules.now list0 p0 h items found i x c.loop-one-test.true c.one-item.is list1 p1 holds in
+    let far = so_far c.args.depth_left c.requires.depth_left ms ss s c.args.place c.args.modules.now list0 p0 h items found i x c.loop-one-test.true c.one-item.is list1 p1 holds in
+    let here = holding_here c.args.depth_left c.requires.depth_left ms ss s c.args.place c.args.modules.now list0 p0 h items found i x c.loop-one-test.true c.one-item.is list1 p1 holds in
     let adds = c.in_ok-next.ensures ms far s here in
     let list2 = c.add.new.list.items in
     let p2 = c.add.new.plan in
     let next = c.in_ok-next.next in
-    let ready = ready_inside c.args.room c.requires.room ms ss s c.args.place c.args.modules.now list0 p0 h items found i x c.loop-one-test.true c.one-item.is list1 p1 holds list2 p2 next adds in
-    holding_next c.args.room c.requires.room ms ss s c.args.place c.args.modules.now list0 p0 h items found i x c.loop-one-test.true c.one-item.is list1 p1 holds list2 p2 next adds c.open_inside.new.list.items c.open_inside.new.plan (c.in_ok-open_inside.ensures ms (far ++ adds.1.inner ∷ []) adds.1.inner ready))
+    let ready = ready_inside c.args.depth_left c.requires.depth_left ms ss s c.args.place c.args.modules.now list0 p0 h items found i x c.loop-one-test.true c.one-item.is list1 p1 holds list2 p2 next adds in
+    holding_next c.args.depth_left c.requires.depth_left ms ss s c.args.place c.args.modules.now list0 p0 h items found i x c.loop-one-test.true c.one-item.is list1 p1 holds list2 p2 next adds c.open_inside.new.list.items c.open_inside.new.plan (c.in_ok-open_inside.ensures ms (far ++ adds.1.inner ∷ []) adds.1.inner ready))
 
 pub returns : goal.returns
 returns n c = λ ms ss s h.
@@ -146,4 +146,4 @@ returns n c = λ ms ss s h.
     let list1 = c.loop-one.list.items in
     let p0 = c.args.plan.now in
     let p1 = c.loop-one.plan in
-    holding_end c.args.room c.requires.room ms ss s c.args.place c.args.modules.now list0 p0 h items found c.loop-one.one-index list1 p1 _ c.loop-one-test.false holds refl refl refl c.in_ok-push.ensures.items)
+    holding_end c.args.depth_left c.requires.depth_left ms ss s c.args.place c.args.modules.now list0 p0 h items found c.loop-one.one-index list1 p1 _ c.loop-one-test.false holds refl refl refl c.in_ok-push.ensures.items)

@@ -9,7 +9,7 @@ use Rattle.vs_parse_expressions.specs.Answers.{seen}
 use Rattle.vs_parse_expressions.proofs.Exits.{fails_by}
 use Rattle.vs_parse_expressions.proofs.Rows.{along_start, along_push, shorter, all_read}
 use Rattle.std.specs.Prelude.{Err}
-use Rattle.vs_parse_expressions.specs.declared.reading.Stop.TheVariants as stop
+use Rattle.vs_parse_expressions.specs.declared.reading.ReadFault.TheVariants as stop
 use Rattle.vs_parse_items.specs.declared.head.ItemHead.TheVariants as i
 use Rattle.vs_parse_items.specs.Generated.{block_rest}
 use Rattle.vs_parse_items.proofs.Heads.{item_goes, item_deep, begins_of, need_of}

@@ -4,20 +4,28 @@ use Rattle.std.specs.Io.KnownBytes.{Keeps}
 use Rattle.clap.specs.Words.{kind_of}
 use Rattle.clap.specs.declared.error.Error.{Error}
 use Rattle.vs_program.specs.Statuses.{words_status}
-use Rattle.vs_program.specs.Asks.{WordsFail}
-use Rattle.vs_program.specs.Ends.{EndsWords, by_kind, unheard, with_call, without_call}
+use Rattle.vs_program_words.specs.Asks.{WordsFail}
+use Rattle.vs_program.specs.Ends.{EndsWords, by_kind, by_order, unheard, with_call, without_call}
+use Rattle.vs_program.specs.passes.Telling.{TellsWords}
+use Rattle.vs_program_words.specs.declared.words.WordsFault.{WordsFault}
+use Rattle.vs_program_words.specs.declared.words.WordsFault.TheVariants.{Memory, OrderOfCertified, Refused}
 use Rattle.vs_program.proofs.command.program.Goals as goal
 
--- what is told of an error of the words
-told_fault : (words : List (List ℕ)) (e : Error) (old new : Option (List ℕ)) (status : ℕ) → WordsFail words e → (status ≡ 3) ⊎ (status ≡ words_status (kind_of e)) →
+-- what is told of an error of `clap`
+told_error : (words : List (List ℕ)) (e : Error) (old new : Option (List ℕ)) (status : ℕ) → WordsFail words (Refused e) → (status ≡ 3) ⊎ (status ≡ words_status (kind_of e)) →
     (words_status (kind_of e) ≡ 0) ⊎ Keeps old new → EndsWords words old new status
-told_fault words e old new status fails (inl device) kept = unheard device
-told_fault words e old new status (inl memory) (inr is) kept = unheard (is ∙ ap words_status memory)
-told_fault words e old new status (inr fault) (inr is) kept = by_kind (kind_of e) fault kept is
+told_error words e old new status fails (inl device) kept = unheard device
+told_error words e old new status (inl memory) (inr is) kept = unheard (is ∙ ap words_status memory)
+told_error words e old new status (inr fault) (inr is) kept = by_kind (kind_of e) fault kept is
+
+-- what is told of a fault of the words
+told_fault : (words : List (List ℕ)) (f : WordsFault) (old new : Option (List ℕ)) (status : ℕ) → WordsFail words f → TellsWords f old new status → EndsWords words old new status
+told_fault words (Refused e) old new status fails told = told_error words e old new status fails told.0 told.1
+told_fault words OrderOfCertified old new status fails told = by_order fails told.0 told.1
+told_fault words Memory old new status fails told = unheard told
 
 pub returns-in-Ok : goal.returns-in-Ok
 returns-in-Ok g c = with_call c.in-Ok.call c.in-Ok.ensures.ok c.answer.ensures
 
 pub returns-in-Err : goal.returns-in-Err
-returns-in-Err g c =
-    without_call (told_fault _ c.in-Err.error _ _ c.tell_words.result.0 c.in-Err.ensures.err c.tell_words.ensures.status c.tell_words.ensures.kept)
+returns-in-Err g c = without_call (told_fault _ c.in-Err.fault _ _ c.tell_words.result.0 c.in-Err.ensures.err c.tell_words.ensures)

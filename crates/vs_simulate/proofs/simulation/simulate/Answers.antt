@@ -1,5 +1,4 @@
 use Rattle.vs_process.specs.declared.moves.Grain.TheVariants.{Statement}
-use Rattle.vs_simulate.proofs.NameLemmas.{names_hold}
 use Rattle.vs_simulate.proofs.simulation.simulate.Goals as goal
 
 pub returns-clause-honest : goal.returns-clause-honest
@@ -7,7 +6,7 @@ returns-clause-honest g c =
     let d = c.in_ok-design.design in
     let defined = c.in_ok-design.ensures in
     let ran = c.in_ok-outcome.ensures.ran in
-    let names = names_hold c.names_of_one_line.ensures c.names_are_tokens.ensures c.used_are_tokens.ensures c.names_of_one_line-2.ensures c.args.source.now c.args.top.now d defined in
+    let names = c.names_of_one_line.ensures c.args.source.now c.args.top.now d defined in
     record {
       design = d;
       defined = defined;

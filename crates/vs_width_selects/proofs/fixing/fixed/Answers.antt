@@ -7,7 +7,7 @@ use Rattle.vs_width_selects.proofs.fixing.fixed.Goals as goal
 
 pub overflow_cast-result : goal.overflow_cast-result
 overflow_cast-result c =
-    let place = c.args.place.now in
+    let place = c.args.chosen_bits.now in
     let z = c.place_of.result in
     let z64 : SFits w64 z = search rules in
     let z32 : SFits w32 z = cast_fits z place.extent.axis place.extent.shape c.in-Some-2.low c.place_of.ensures in
@@ -15,7 +15,7 @@ overflow_cast-result c =
 
 pub returns : goal.returns
 returns c =
-    let place = c.args.place.now in
+    let place = c.args.chosen_bits.now in
     let z = c.place_of.result in
     let z64 : SFits w64 z = search rules in
     let z32 : SFits w32 z = cast_fits z place.extent.axis place.extent.shape c.in-Some-2.low c.place_of.ensures in

@@ -1,31 +1,27 @@
-use Rattle.std.proofs.Common.{◌≡◌, [], List, true, false, get_or, sym, ◌∙◌, ap, arith}
-use Rattle.std.specs.Str.{bytes_eq}
-use Rattle.std.proofs.lemmas.List.{length-map}
-use Rattle.std.specs.Borrow.{Bor}
+use Rattle.std.proofs.Common.{◌<◌, List, length, sym, ◌∙◌, ap, subst, arith}
 use Rattle.vs_rules.specs.Claims.{Name}
-use Rattle.vs_cert_facts.specs.Places.{place_in, texts}
-use Rattle.vs_cert_facts.proofs.IndexLemmas.{found, missing, none_more, text_at}
+use Rattle.vs_cert_facts.specs.Places.{place_in}
+use Rattle.vs_cert_facts.specs.passes.Placed.{Placed, AreInOrder, AreBelow}
+use Rattle.vs_cert_facts.proofs.IndexLemmas.{found_at, missing_at}
 use Rattle.vs_cert_facts.proofs.index.Index.find.Goals as goal
+
+pub returns-then-first-len : goal.returns-then-first-len
+returns-then-first-len c =
+    let xs = c.deref.result.now in
+    let as_many = ap (λ (xs : List Placed). length xs) c.deref.ensures.value in
+    let order = subst (λ (xs : List Placed). AreInOrder c.self.inside.names.items xs) (sym c.deref.ensures.value) c.self.invariant in
+    sym (missing_at c.self.inside.names.items xs order c.args.name.now c.below-first.result c.below-first.ensures (λ l. absurd (omega (arith, l, as_many))))
+    ∙ ap (λ (ns : List Name). place_in ns c.args.name.now) c.self.view_is
 
 pub returns-then-eq : goal.returns-then-eq
 returns-then-eq c =
-    let ns = texts c.self.inside.names.items in
-    let name = c.args.name.now in
-    let within = length-map c.self.inside.names.items (λ (n : Bor Name). n.now) in
-    let read = text_at c.self.inside.names.items c.loop-i.i c.index.result.now (omega arith) c.index.ensures in
-    let here : bytes_eq (get_or ns c.loop-i.i []) name ≡ true = ap (λ (n : Name). bytes_eq n name) read ∙ sym c.eq.ensures ∙ c.if-eq.true in
-    sym (found ns name c.loop-i.i c.loop-i.invariant (omega arith) here) ∙ ap (λ (ns : List Name). place_in ns name) c.self.view_is
+    let few : c.below-first.result < length c.self.inside.sorted.items = omega arith in
+    let below = subst (λ (xs : List Placed). AreBelow xs c.args.name.now c.below-first.result) c.deref.ensures.value c.below-first.ensures in
+    sym (found_at c.self.inside.names.items c.self.inside.sorted.items c.self.invariant c.args.name.now c.below-first.result c.index.result.now below few c.index.ensures (sym c.eq.ensures ∙ c.if-eq.true))
+    ∙ ap (λ (ns : List Name). place_in ns c.args.name.now) c.self.view_is
 
-pub loop-i-preserved : goal.loop-i-preserved
-loop-i-preserved c =
-    let ns = texts c.self.inside.names.items in
-    let name = c.args.name.now in
-    let read = text_at c.self.inside.names.items c.loop-i.i c.index.result.now (omega arith) c.index.ensures in
-    let here : bytes_eq (get_or ns c.loop-i.i []) name ≡ false = ap (λ (n : Name). bytes_eq n name) read ∙ sym c.eq.ensures ∙ c.if-eq.false in
-    none_more ns name c.loop-i.i c.loop-i.invariant here
-
-pub returns : goal.returns
-returns c =
-    let ns = texts c.self.inside.names.items in
-    let within = length-map c.self.inside.names.items (λ (n : Bor Name). n.now) in
-    sym (missing ns c.args.name.now c.loop-i.i c.loop-i.invariant (omega arith)) ∙ ap (λ (ns : List Name). place_in ns c.args.name.now) c.self.view_is
+pub returns-else-eq : goal.returns-else-eq
+returns-else-eq c =
+    let below = subst (λ (xs : List Placed). AreBelow xs c.args.name.now c.below-first.result) c.deref.ensures.value c.below-first.ensures in
+    sym (missing_at c.self.inside.names.items c.self.inside.sorted.items c.self.invariant c.args.name.now c.below-first.result below (λ l. (c.index.result.now, c.index.ensures, sym c.eq.ensures ∙ c.if-eq.false)))
+    ∙ ap (λ (ns : List Name). place_in ns c.args.name.now) c.self.view_is

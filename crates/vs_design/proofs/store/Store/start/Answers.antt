@@ -11,7 +11,7 @@ pub copies-requires-clause-widths : goal.copies-requires-clause-widths
 copies-requires-clause-widths c =
     let signals = c.signals-signals.result.now in
     let assigns = c.assigns.result.now in
-    let words = c.deref.ensures.value ∙ c.drive_all.ensures ∙ ap (all_driven assigns) c.in_ok-first.ensures in
+    let words = c.deref.ensures.value ∙ c.fill_all.ensures ∙ ap (all_driven assigns) c.in_ok-first.ensures in
     ap (map length) words ∙ lengths-start assigns signals ∙ ap (map (λ (s : Signal). s.width)) c.signals-signals.ensures ∙ sym c.extents.ensures.widths
 
 pub returns : goal.returns
@@ -19,7 +19,7 @@ returns c =
     let signals = c.args.design.now.signals in
     let assigns = c.args.design.now.assigns in
     let given = c.in_ok-first.ensures ∙ ap (map undriven_word) c.signals-signals.ensures in
-    let first = c.deref.ensures.value ∙ c.drive_all.ensures ∙ ap₂ all_driven c.assigns.ensures given in
+    let first = c.deref.ensures.value ∙ c.fill_all.ensures ∙ ap₂ all_driven c.assigns.ensures given in
     let all : in_copies (counts_of c.extents.result.now) c.deref.result.now ≡ start_words assigns 0 signals =
     ap₂ in_copies c.extents.ensures.counts first ∙ start_is assigns signals in
     IfOk-weaker c.copies.result _ _ (λ s is. is ∙ all) c.copies.ensures

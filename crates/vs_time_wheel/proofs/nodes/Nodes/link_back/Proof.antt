@@ -29,7 +29,7 @@ use denote.Struct.Struct.{as_fields}
 use Rattle.std.proofs.alloc.Calls.{α, Fits}
 use Rattle.std.proofs.RawLayout.{as_written}
 use Rattle.std.proofs.BoxSteps.Form.{Bx, args, X, τ, R, P}
-use Rattle.vs_time_wheel.proofs.NodeMemory.Linking.{Node, Room, ended, spec, Post, Had, exits, linking_meets}
+use Rattle.vs_time_wheel.proofs.NodeMemory.Linking.{Node, FreeNode, ended, spec, Post, Had, exits, linking_meets}
 use Rattle.vs_time_wheel.proofs.NodeMemory.OfVacant.{vacant_val, vacant_typed}
 use Rattle.vs_time_wheel.specs.contracts.nodes.Node as Block
 use Rattle.vs_time_wheel.specs.Links.{Link, links_of, IsChained}
@@ -49,7 +49,7 @@ module _ (E : Bx) where
   abbrev Gives : D E → X E → D E → Type 0
   Gives d x e = e.events ≡ d.events ++ x ∷ []
 
-module _ (E : Bx) {M : Type 1} {𝓤 : Ura M} (𝓛 : Logic 𝓤) (C : Calls 𝓤 𝓛.H) (Λ : Loops 𝓤 𝓛.H) (κ : Lft) (q : Share) (rb ro : ℕ) (γ : GName) (d : D E) (room : (Room E).Denot) (x : X E) (ps us vs : List Val) where
+module _ (E : Bx) {M : Type 1} {𝓤 : Ura M} (𝓛 : Logic 𝓤) (C : Calls 𝓤 𝓛.H) (Λ : Loops 𝓤 𝓛.H) (κ : Lft) (q : Share) (rb ro : ℕ) (γ : GName) (d : D E) (room : (FreeNode E).Denot) (x : X E) (ps us vs : List Val) where
   open 𝓛 use {H, A}
 
   abbrev h : Hd E

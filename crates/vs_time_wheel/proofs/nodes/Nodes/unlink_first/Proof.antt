@@ -55,11 +55,11 @@ module _ (E : Bx) where
   abbrev Node : RattleType
   Node = Block.the_row (R E) (P E)
 
-  abbrev Room : RattleType
-  Room = Vacant E.al Node
+  abbrev FreeNode : RattleType
+  FreeNode = Vacant E.al Node
 
   abbrev Out : RattleType
-  Out = Tuple (R E ∷ Room ∷ [])
+  Out = Tuple (R E ∷ FreeNode ∷ [])
 
   abbrev ended : Ended
   ended = record { signature = record { lifetimes = 1; outlives = []; params = RefMutOf (0 ∷ []) tt (plain (λ _. Nr E)) (λ _. tt) ∷ []; result = plain (λ _. Out) }; kept = (yes, tt) }
@@ -114,7 +114,7 @@ module _ (E : Bx) {M : Type 1} {𝓤 : Ura M} (𝓛 : Logic 𝓤) (C : Calls �
       one_opens E ! m.0 m.1 x (λ b o e. node_unmade E ! b o m.0.1 m.1 x (λ v hv good fa.
       let room = vacant_typed E.al (Node E) hv b o fa in
       let both = pair_Typed (τ E) (vacant_ty E.al (Node E)) v (vacant_val hv b o) good room in
-      let made : (Room E).Denot = record { ptr = block_ptr b o; alloc = m.1 } in
+      let made : (FreeNode E).Denot = record { ptr = block_ptr b o; alloc = m.1 } in
       -- [the node, in seven; the others; the words; the open borrow; obs; auth]
       sets ! (is ! (of_opd ! (load ! (through ! refl (fld ! refl (stop !))) (look_in ! 8 (sub ! 0 refl (whole !))))) (ap ptr_val (linked.0 ∙ e))) refl (tt, tt) $ sets ! (of_opd ! (get ! refl)) refl (tt, tt) $
       first ! $ blocks ! $
@@ -125,7 +125,7 @@ module _ (E : Bx) {M : Type 1} {𝓤 : Ura M} (𝓛 : Logic 𝓤) (C : Calls �
       sets ! (of_opd ! (get ! refl)) refl good $ sets ! (of_opd ! (get ! refl)) refl fa $ sets ! (agg ! (and_then ! (get ! refl) (and_then ! (get ! refl) (no_more !)))) refl room $
       sets_last ! (agg ! (and_then ! (get ! refl) (and_then ! (get ! refl) (no_more !)))) refl both $ exec ! C Λ En (after 3 (function E).body) (at_ret En Post) $ sets ! (of_opd ! (get ! refl)) refl both $
       block_back E ! b o m.0.1 v hv $ Vacant-made E.al (Node E) ! m.1 b o $ move ! (1 ∷ 0 ∷ []) $
-      use2 𝓛 (‵ ((Out E).own_val (x, made) (pair_val v (vacant_val hv b o) ∷ []))) (pair_of 𝓛 (R E) (Room E) x made v (vacant_val hv b o)) $
+      use2 𝓛 (‵ ((Out E).own_val (x, made) (pair_val v (vacant_val hv b o) ∷ []))) (pair_of 𝓛 (R E) (FreeNode E) x made v (vacant_val hv b o)) $
       move ! (1 ∷ 2 ∷ 3 ∷ 4 ∷ 5 ∷ []) $ nodes_closes E ! tt new rb ro $
       returns ! (look_at ! 0 refl) $ free_all ! refl $ keep ! (0 ∷ 1 ∷ 2 ∷ 3 ∷ []) $ by ! (exits passed (x, made) (pair_val v (vacant_val hv b o)) new xs.2))))
 

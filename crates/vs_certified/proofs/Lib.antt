@@ -1,0 +1,3 @@
+mod CertifiedLemmas
+mod LinesLemmas
+mod TraceLemmas

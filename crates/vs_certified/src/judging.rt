@@ -1,0 +1,28 @@
+//! The verdict on a certificate, from bytes.
+ghost use Rattle.std.specs.Prelude.{IfOk, IfErr};
+ghost use Rattle.vs_certified.specs.Judged.{IsJudged, JudgingFails};
+
+use crate::fault::CertifiedFault;
+use std::alloc::Global;
+use vs_cert_check::{Verdict, check};
+use vs_certificate::from_json;
+use vs_simulate::design_of;
+
+/// The verdict on a certificate, which is given by its JSON text, of the design that a source and the name of a top module define: `Yes` exactly
+/// where the design keeps all rules K1 to K11, else the least rule that it breaks, and the first subject that breaks it. Where it is `Yes`, the
+/// traces of the design's executions at the certificate's grain do not depend on the order of their steps (IEEE 1364-2005, clause 11.4.2). The
+/// source is read first, and then the certificate. Nothing is run.
+pub fn judge<'s>(
+    alloc: Global,
+    source: &'s [u8],
+    top: &[u8],
+    certificate: &[u8],
+) -> Result<Verdict, CertifiedFault<'s>>
+    ensures judged { IfOk result (λ v. IsJudged source.entry.now top.now certificate.now v) }
+    ensures fault { IfErr result (λ fault. JudgingFails source.entry.now top.now certificate.now fault) }
+{
+    let design = design_of(alloc, source, top)?;
+    let claimed = from_json(alloc, certificate)?;
+    let verdict = check(alloc, &design, &claimed)?;
+    Ok(verdict)
+}

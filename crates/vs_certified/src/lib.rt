@@ -1,0 +1,10 @@
+//! Verdicts and certified runs, from the bytes of a source and those of a certificate.
+#![tactic(auto)]
+
+mod certifying;
+mod fault;
+mod judging;
+
+pub use certifying::certified;
+pub use fault::CertifiedFault;
+pub use judging::judge;

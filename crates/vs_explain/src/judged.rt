@@ -1,0 +1,89 @@
+//! Designs that break a rule of certificates, and runs that take too many steps.
+
+use std::alloc::{AllocError, Global};
+use vs_certificate::{CertFault, Certificate, ClaimedGrain, Version, from_json};
+use vs_design::Design;
+use vs_elaborate::{ElabFault, elaborate};
+use vs_explain_outline::{Page, SourceText};
+use vs_explain_rules::{explain_broken, explain_steps};
+use vs_lexer::{LexFault, lex};
+use vs_parser::{ParseFault, parse};
+
+/// The design that a source and a top define, where they define one.
+fn design_of(alloc: Global, source: &[u8], top: &[u8]) -> Result<Option<Design>, AllocError> {
+    let tokens = match lex(alloc, source) {
+        Ok(tokens) => tokens,
+        Err(LexFault::Memory) => return Err(AllocError),
+        Err(_) => return Ok(None),
+    };
+    let tree = match parse(alloc, &tokens) {
+        Ok(tree) => tree,
+        Err(ParseFault::Memory) => return Err(AllocError),
+        Err(_) => return Ok(None),
+    };
+    match elaborate(alloc, &tree, top) {
+        Ok(design) => Ok(Some(design)),
+        Err(ElabFault::Memory) => Err(AllocError),
+        Err(_) => Ok(None),
+    }
+}
+
+/// A certificate that says nothing.
+fn no_claims(alloc: Global) -> Certificate {
+    Certificate {
+        version: Version::One,
+        grain: ClaimedGrain::Block,
+        modulus: 1,
+        edges: Vec::new(alloc),
+        order: Vec::new(alloc),
+        processes: Vec::new(alloc),
+        signals: Vec::new(alloc),
+    }
+}
+
+/// The certificate that a text has; one that says nothing, where it is none.
+fn certificate_of(alloc: Global, bytes: &[u8]) -> Result<Certificate, AllocError> {
+    match from_json(alloc, bytes) {
+        Ok(certificate) => Ok(certificate),
+        Err(CertFault::Memory) => Err(AllocError),
+        Err(_) => Ok(no_claims(alloc)),
+    }
+}
+
+/// The text that explains why a design breaks a rule of certificates: the rule of this number, at this place of the design. Bytes that are no certificate
+/// claim nothing: so it can be told why none was made.
+pub fn explain_rule(
+    alloc: Global,
+    source: &[u8],
+    top: &[u8],
+    certificate: &[u8],
+    number: u8,
+    place: &[u8],
+) -> Result<Vec<u8>, AllocError> {
+    let mut page = Page::new(alloc);
+    let text = SourceText::read(alloc, source)?;
+    let design = design_of(alloc, source, top)?;
+    let claimed = certificate_of(alloc, certificate)?;
+    if let (Some(text), Some(design)) = (&text, &design) {
+        explain_broken(&mut page, text, design, &claimed, number, place);
+    }
+    page.finish()
+}
+
+/// The text that explains a run which took its most steps: how many, the time of its slot in ticks, and what may go round there.
+pub fn explain_limit(
+    alloc: Global,
+    source: &[u8],
+    top: &[u8],
+    _lifo: bool,
+    steps: u64,
+    time: u64,
+) -> Result<Vec<u8>, AllocError> {
+    let mut page = Page::new(alloc);
+    let text = SourceText::read(alloc, source)?;
+    let design = design_of(alloc, source, top)?;
+    if let (Some(text), Some(design)) = (&text, &design) {
+        explain_steps(&mut page, text, design, steps, time);
+    }
+    page.finish()
+}

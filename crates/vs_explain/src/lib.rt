@@ -1,0 +1,12 @@
+//! What is said of a refusal after its first line: where it is in the text, what is wrong there, and what mends it.
+//!
+//! None of these texts has a contract. Each call takes the bytes of the source and finds by itself what it says; where it finds nothing, the text is empty.
+#![tactic(auto)]
+
+mod certificates;
+mod judged;
+mod sources;
+
+pub use certificates::explain_certificate;
+pub use judged::{explain_limit, explain_rule};
+pub use sources::explain;

@@ -1,0 +1,128 @@
+//! Texts of `$display` and `$strobe`.
+
+use std::alloc::AllocError;
+use vs_explain_outline::{LandmarkKind, Page, SourceText, is_marked};
+use vs_lexer::{Kind, Mark, Token};
+use vs_strobe::FormatReason;
+
+/// What a text asks for.
+#[derive(Clone, Copy)]
+struct Asked {
+    /// How many arguments its directives take.
+    taken: usize,
+    /// Whether a `%` has no directive after it.
+    is_bad: bool,
+}
+
+/// Whether a letter is that of a directive that takes an argument.
+fn takes_argument(letter: u8) -> bool {
+    matches!(
+        letter.to_ascii_lowercase(),
+        b'b' | b'o' | b'h' | b'd' | b't' | b'c' | b's'
+    )
+}
+
+/// What a text asks for.
+fn asked_by(bytes: &[u8]) -> Asked {
+    let mut taken = 0usize;
+    let mut is_bad = false;
+    let mut open = false;
+    let mut zero = false;
+    for byte in bytes {
+        if !open {
+            open = *byte == b'%';
+            zero = false;
+        } else if *byte == b'0' && !zero {
+            zero = true;
+        } else {
+            open = false;
+            if takes_argument(*byte) {
+                taken = taken.saturating_add(1);
+            } else if byte.to_ascii_lowercase() != b'm' && (*byte != b'%' || zero) {
+                is_bad = true;
+            }
+        }
+    }
+    Asked {
+        taken,
+        is_bad: is_bad || open,
+    }
+}
+
+/// How many arguments stand after the text of a call whose name is this token.
+fn arguments_at(tokens: &[Token], call: usize) -> usize {
+    let mut depth = 0usize;
+    let mut commas = 0usize;
+    for index in call.saturating_add(1)..tokens.len() {
+        let Some(token) = tokens.get(index) else {
+            return commas;
+        };
+        match token.kind {
+            Kind::Mark(Mark::Open) | Kind::Mark(Mark::OpenBracket) | Kind::Mark(Mark::OpenBrace) =>
+                depth = depth.saturating_add(1),
+            Kind::Mark(Mark::Close)
+            | Kind::Mark(Mark::CloseBracket)
+            | Kind::Mark(Mark::CloseBrace) => depth = depth.saturating_sub(1),
+            Kind::Mark(Mark::Comma) if depth == 1 => commas = commas.saturating_add(1),
+            _ => {}
+        }
+        if depth == 0 {
+            return commas;
+        }
+    }
+    commas
+}
+
+/// Whether a call has this fault.
+fn has_fault(asked: Asked, given: usize, why: FormatReason) -> bool {
+    match why {
+        FormatReason::BadDirective => asked.is_bad,
+        FormatReason::TooFewArguments => !asked.is_bad && asked.taken > given,
+        FormatReason::TooManyArguments => !asked.is_bad && asked.taken < given,
+    }
+}
+
+/// Says what is wrong with a call.
+fn put_fault(page: &mut Page, asked: Asked, given: usize, why: FormatReason) {
+    if why == FormatReason::BadDirective {
+        page.put(
+            "A `%` of this text has no directive after it. Write `%%` for a percent sign; a width other than 0 isn't read.\n",
+        );
+        return;
+    }
+    page.put("The directives of this text take ");
+    page.put_shown(asked.taken);
+    page.put(" arguments, and ");
+    page.put_shown(given);
+    page.put(" stand after it.\n");
+}
+
+/// The text of a call has a bad directive, or its directives don't fit its arguments.
+pub(crate) fn bad_format(
+    page: &mut Page,
+    text: &SourceText,
+    why: FormatReason,
+    path: &[u8],
+) -> Result<(), AllocError> {
+    let marked = text.regions_at(page.alloc(), path)?;
+    for landmark in &text.outline.landmarks {
+        if landmark.kind != LandmarkKind::Print || !is_marked(&marked, landmark.region) {
+            continue;
+        }
+        let Some(token) = text.tokens.get(landmark.token.saturating_add(2)) else {
+            continue;
+        };
+        if token.kind != Kind::Text {
+            continue;
+        }
+        let bytes = token.text(page.alloc())?;
+        let asked = asked_by(&bytes);
+        let given = arguments_at(&text.tokens, landmark.token);
+        if has_fault(asked, given, why) {
+            page.put_place(text.bytes, token.place);
+            put_fault(page, asked, given, why);
+            return Ok(());
+        }
+    }
+    Ok(())
+}

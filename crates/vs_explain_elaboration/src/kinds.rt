@@ -1,0 +1,175 @@
+//! Expressions and assignments without a meaning.
+
+use crate::declared::{Visible, has_range, is_array, is_mark, is_net, is_variable};
+use crate::limits::literal_range;
+use crate::names::{put_region, unknown_name};
+use std::alloc::AllocError;
+use vs_explain_outline::{
+    DeclaredKind, Landmark, LandmarkKind, Page, SourceText, UseRole, is_marked,
+};
+use vs_lexer::Mark;
+use vs_width_selects::WidthReason;
+
+/// The most bits of a value.
+const WIDTH_LIMIT: u64 = 64;
+
+/// An expression, an assignment or a delay has no meaning.
+pub(crate) fn no_meaning(
+    page: &mut Page,
+    text: &SourceText,
+    why: WidthReason,
+    path: &[u8],
+) -> Result<(), AllocError> {
+    match why {
+        WidthReason::Unknown => unknown_name(page, text, path),
+        WidthReason::TooWide => too_wide(page, text, path),
+        WidthReason::NotConstant => not_constant(page, text, path),
+        WidthReason::WrongKind => wrong_kind(page, text, path),
+    }
+}
+
+fn too_wide(page: &mut Page, text: &SourceText, path: &[u8]) -> Result<(), AllocError> {
+    let marked = text.regions_at(page.alloc(), path)?;
+    for landmark in &text.outline.landmarks {
+        if landmark.kind == LandmarkKind::Constant && is_marked(&marked, landmark.region) {
+            if let Some(bits) = literal_range(text, landmark.token) {
+                if bits > WIDTH_LIMIT {
+                    page.put_place(text.bytes, text.place_at(landmark.token));
+                    page.put("This range has ");
+                    page.put_shown(bits);
+                    page.put(" bits, and a signal has at most 64. Cut it into parts.\n");
+                    return Ok(());
+                }
+            }
+        }
+    }
+    if put_region(page, text, path)? {
+        page.put(
+            "In the scope that begins here a range, a concatenation, a replication or a part-select has more than 64 bits. Cut it into parts.\n",
+        );
+    }
+    Ok(())
+}
+
+/// Whether a used name stands where a constant is wanted.
+fn wants_constant(text: &SourceText, token: usize) -> bool {
+    let before = token.saturating_sub(1);
+    let next = token.saturating_add(1);
+    let is_count = is_mark(text, before, Mark::OpenBrace) && is_mark(text, next, Mark::OpenBrace);
+    let is_left = is_mark(text, before, Mark::OpenBracket) && is_mark(text, next, Mark::Colon);
+    let is_right = is_mark(text, before, Mark::Colon) && is_mark(text, next, Mark::CloseBracket);
+    let is_width = is_mark(text, before, Mark::PlusColon)
+        || is_mark(text, before, Mark::MinusColon);
+    is_count || is_left || is_right || is_width || is_mark(text, before, Mark::Hash)
+}
+
+/// What is wrong with the kind of a used name: the words after it.
+fn wrong_use(text: &SourceText, used: &Landmark, declared: &Landmark) -> Option<&'static str> {
+    let next = used.token.saturating_add(1);
+    let selected = is_mark(text, next, Mark::OpenBracket);
+    if used.kind == LandmarkKind::Used(UseRole::Written) && is_net(declared.kind) {
+        return Some(
+            " is a net, and a process assigns to it. Declare it as `reg`, or drive it by `assign`.\n",
+        );
+    }
+    if used.kind == LandmarkKind::Used(UseRole::Driven) && is_variable(declared.kind) {
+        return Some(
+            " is a variable, and an `assign` drives it. Declare it as `wire`, or assign to it in a process.\n",
+        );
+    }
+    let is_constant = declared.kind == LandmarkKind::Declared(DeclaredKind::Constant);
+    if is_constant && used.kind == LandmarkKind::Used(UseRole::Written) {
+        return Some(" is a parameter, and nothing assigns to one.\n");
+    }
+    if declared.kind == LandmarkKind::Instance {
+        return Some(" is an instance, and has no value. Name a signal of this scope.\n");
+    }
+    let is_signal = is_net(declared.kind) || is_variable(declared.kind);
+    if is_signal && is_array(text, declared.token) && !selected {
+        return Some(" is an array: choose a word of it by an index.\n");
+    }
+    let is_bit = is_signal && !is_array(text, declared.token) && !has_range(text, declared.token);
+    if is_bit && selected {
+        return Some(" has no range, so there are no bits to choose.\n");
+    }
+    None
+}
+
+/// Puts the first use in a region whose kind is wrong. Whether there is one.
+fn put_wrong_use(page: &mut Page, text: &SourceText, region: usize) -> Result<bool, AllocError> {
+    let visible = Visible::from(page.alloc(), text, region)?;
+    for used in &text.outline.landmarks {
+        if used.region == region && matches!(used.kind, LandmarkKind::Used(_)) {
+            let name = text.name_at(used.token);
+            if let Some(declared) = visible.declaration(text, name) {
+                if let Some(words) = wrong_use(text, used, &declared) {
+                    page.put_place(text.bytes, text.place_at(used.token));
+                    page.put_name(name);
+                    put_declared(page, text, &declared);
+                    page.put(words);
+                    return Ok(true);
+                }
+            }
+        }
+    }
+    Ok(false)
+}
+
+/// Puts where a name is declared.
+fn put_declared(page: &mut Page, text: &SourceText, declared: &Landmark) {
+    page.put(", declared at ");
+    page.put_spot(text.bytes, text.place_at(declared.token));
+    page.put(",");
+}
+
+fn wrong_kind(page: &mut Page, text: &SourceText, path: &[u8]) -> Result<(), AllocError> {
+    let marked = text.regions_at(page.alloc(), path)?;
+    for region in 0..text.outline.regions.len() {
+        if is_marked(&marked, region) && put_wrong_use(page, text, region)? {
+            return Ok(());
+        }
+    }
+    if put_region(page, text, path)? {
+        page.put(
+            "In the scope that begins here a name is of the wrong kind: a net that a process assigns to, a variable that `assign` drives, an array without an index, or a select of what has no range.\n",
+        );
+    }
+    Ok(())
+}
+
+/// Puts the first signal of a region where a constant is wanted. Whether there is one.
+fn put_signal(page: &mut Page, text: &SourceText, region: usize) -> Result<bool, AllocError> {
+    let visible = Visible::from(page.alloc(), text, region)?;
+    for used in &text.outline.landmarks {
+        if used.region == region && wants_constant(text, used.token) {
+            let name = text.name_at(used.token);
+            if let Some(declared) = visible.declaration(text, name) {
+                if is_net(declared.kind) || is_variable(declared.kind) {
+                    page.put_place(text.bytes, text.place_at(used.token));
+                    page.put_name(name);
+                    put_declared(page, text, &declared);
+                    page.put(
+                        " is a signal, and here a constant is wanted: a number, a parameter or a genvar.\n",
+                    );
+                    return Ok(true);
+                }
+            }
+        }
+    }
+    Ok(false)
+}
+
+fn not_constant(page: &mut Page, text: &SourceText, path: &[u8]) -> Result<(), AllocError> {
+    let marked = text.regions_at(page.alloc(), path)?;
+    for region in 0..text.outline.regions.len() {
+        if is_marked(&marked, region) && put_signal(page, text, region)? {
+            return Ok(());
+        }
+    }
+    if put_region(page, text, path)? {
+        page.put(
+            "In the scope that begins here something has to be a constant in its bounds and isn't: a range, a delay, a width, a count or a parameter.\n",
+        );
+    }
+    Ok(())
+}

@@ -1,0 +1,199 @@
+//! Names of modules and names that aren't declared.
+
+use crate::declared::{Visible, implicit_in, may_declare};
+use crate::nearest::Nearest;
+use std::alloc::AllocError;
+use vs_explain_outline::{
+    LandmarkKind, Page, Region, RegionKind, SourceText, first_part, is_marked, last_name, scope_of,
+};
+
+/// How many names are compared for the nearest one, and how many modules are told.
+const COMPARED: usize = 2000;
+
+const TOLD: usize = 8;
+
+/// Puts the place of an instance, where its path leads to one. Whether it does.
+pub(crate) fn put_instance(
+    page: &mut Page,
+    text: &SourceText,
+    path: &[u8],
+) -> Result<bool, AllocError> {
+    let marked = text.regions_at(page.alloc(), scope_of(path))?;
+    match text.instance_in(&marked, last_name(path)) {
+        Some(instance) => {
+            page.put_place(text.bytes, text.place_at(instance.token));
+            Ok(true)
+        }
+        None => Ok(false),
+    }
+}
+
+/// Puts the place of the first region that a path may mean. Whether there is one.
+pub(crate) fn put_region(
+    page: &mut Page,
+    text: &SourceText,
+    path: &[u8],
+) -> Result<bool, AllocError> {
+    let marked = text.regions_at(page.alloc(), path)?;
+    for (number, mark) in marked.iter().enumerate() {
+        if *mark {
+            if let Some(region) = text.region(number) {
+                page.put_place(text.bytes, text.place_at(region.first));
+                return Ok(true);
+            }
+        }
+    }
+    Ok(false)
+}
+
+/// Whether a region is a module.
+fn is_module(region: &Region) -> bool {
+    region.kind == RegionKind::Module
+}
+
+/// Puts the modules of a source, and the one whose name is nearest.
+fn put_modules(page: &mut Page, text: &SourceText, name: &[u8]) -> Result<(), AllocError> {
+    let mut nearest = Nearest::to(page.alloc(), name);
+    let mut count = 0usize;
+    page.put("The source has ");
+    for region in &text.outline.regions {
+        if is_module(region) {
+            let other = text.region_name(region);
+            if count < TOLD {
+                page.put(if count == 0 { "the modules " } else { ", " });
+                page.put_name(other);
+            }
+            if count < COMPARED {
+                nearest.look_at(other)?;
+            }
+            count = count.saturating_add(1);
+        }
+    }
+    page.put(match count {
+        0 => "no module",
+        count if count > TOLD => ", and more",
+        _ => "",
+    });
+    page.put(".");
+    put_nearest(page, &nearest);
+    page.put("\n");
+    Ok(())
+}
+
+/// Puts the nearest name, where there is one.
+pub(crate) fn put_nearest(page: &mut Page, nearest: &Nearest) {
+    if let Some(name) = nearest.found() {
+        page.put(" The nearest name is ");
+        page.put_name(name);
+        page.put(".");
+    }
+}
+
+/// There is no module of the top's or of an instance's name.
+pub(crate) fn no_module(page: &mut Page, text: &SourceText, path: &[u8]) -> Result<(), AllocError> {
+    let scope = scope_of(path);
+    let mut name = last_name(path);
+    if !scope.is_empty() {
+        let marked = text.regions_at(page.alloc(), scope)?;
+        if let Some(instance) = text.instance_in(&marked, name) {
+            page.put_place(text.bytes, text.place_at(instance.of));
+            name = text.name_at(instance.of);
+        }
+    }
+    page.put("There is no module ");
+    page.put_name(name);
+    page.put(". ");
+    put_modules(page, text, name)
+}
+
+/// A module is instantiated inside itself.
+pub(crate) fn inside_itself(
+    page: &mut Page,
+    text: &SourceText,
+    path: &[u8],
+) -> Result<(), AllocError> {
+    let marked = text.regions_at(page.alloc(), scope_of(path))?;
+    let Some(instance) = text.instance_in(&marked, last_name(path)) else {
+        return Ok(());
+    };
+    page.put_place(text.bytes, text.place_at(instance.token));
+    let name = text.name_at(instance.of);
+    page.put("This is an instance of ");
+    page.put_name(name);
+    page.put(" inside an instance of the same module");
+    if let Some(region) = text
+        .module_named(name)
+        .and_then(|number| text.region(number))
+    {
+        page.put(", which begins at ");
+        page.put_spot(text.bytes, text.place_at(region.first));
+    }
+    page.put(", so there would be no end of them.\n");
+    Ok(())
+}
+
+/// The first use in a region of a name that can't be seen there.
+fn unseen_use(text: &SourceText, region: usize, visible: &Visible) -> Option<usize> {
+    let implicit = implicit_in(text, region);
+    for landmark in &text.outline.landmarks {
+        let used = matches!(landmark.kind, LandmarkKind::Used(_));
+        let declares = implicit && may_declare(landmark.kind);
+        if landmark.region == region && used && !declares {
+            if !visible.has(text.name_at(landmark.token)) {
+                return Some(landmark.token);
+            }
+        }
+    }
+    None
+}
+
+/// Says that a name isn't declared, and which is the nearest that is.
+fn put_unseen(
+    page: &mut Page,
+    text: &SourceText,
+    token: usize,
+    visible: &Visible,
+) -> Result<(), AllocError> {
+    let name = text.name_at(token);
+    let mut nearest = Nearest::to(page.alloc(), name);
+    for (index, (other, _)) in visible.names().iter().enumerate() {
+        if index < COMPARED {
+            nearest.look_at(other)?;
+        }
+    }
+    page.put_place(text.bytes, text.place_at(token));
+    page.put_name(name);
+    page.put(" isn't declared here, nor in a scope around.");
+    put_nearest(page, &nearest);
+    page.put("\n");
+    Ok(())
+}
+
+/// A name isn't declared.
+pub(crate) fn unknown_name(
+    page: &mut Page,
+    text: &SourceText,
+    path: &[u8],
+) -> Result<(), AllocError> {
+    let marked = text.regions_at(page.alloc(), path)?;
+    for region in 0..text.outline.regions.len() {
+        if is_marked(&marked, region) {
+            let visible = Visible::from(page.alloc(), text, region)?;
+            if let Some(token) = unseen_use(text, region, &visible) {
+                return put_unseen(page, text, token, &visible);
+            }
+        }
+    }
+    if put_region(page, text, path)? {
+        page.put("In the scope that begins here a name is used that isn't declared.\n");
+    }
+    Ok(())
+}
+
+/// The first part of a path alone.
+pub(crate) fn is_top(path: &[u8]) -> bool {
+    match first_part(path) {
+        Some(part) => part.rest.is_empty(),
+        None => true,
+    }
+}

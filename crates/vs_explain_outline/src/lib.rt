@@ -1,0 +1,16 @@
+//! Where the parts of a source stand: lines and columns, the names that it declares and uses, its processes and its assignments.
+#![tactic(auto)]
+
+mod outline;
+mod page;
+mod paths;
+mod places;
+mod scan;
+mod source;
+
+pub use outline::{DeclaredKind, Landmark, LandmarkKind, Outline, Region, RegionKind, UseRole};
+pub use page::Page;
+pub use paths::{PathPart, first_part, last_name, ordinal_of, scope_of};
+pub use places::{Spot, spot_of};
+pub use scan::outline_of;
+pub use source::{SourceText, is_marked};

@@ -1,0 +1,88 @@
+//! What a certificate claims of a name.
+
+use vs_certificate::{Certificate, ClaimedKind, ProcessEntry, SignalEntry, SignalMode, Start};
+
+/// The entry of a signal.
+pub(crate) fn entry_of<'c>(certificate: &'c Certificate, path: &[u8]) -> Option<&'c SignalEntry> {
+    for entry in &certificate.signals {
+        if entry.name.as_bytes() == path {
+            return Some(entry);
+        }
+    }
+    None
+}
+
+/// The entry of a process.
+pub(crate) fn process_of<'c>(
+    certificate: &'c Certificate,
+    name: &[u8],
+) -> Option<&'c ProcessEntry> {
+    for entry in &certificate.processes {
+        if entry.name.as_bytes() == name {
+            return Some(entry);
+        }
+    }
+    None
+}
+
+/// The root that is claimed for a signal of an edge term; the signal itself where there is none.
+pub(crate) fn root_of<'c>(certificate: &'c Certificate, path: &'c [u8]) -> &'c [u8] {
+    for entry in &certificate.edges {
+        if entry.signal.as_bytes() == path {
+            return entry.root.as_bytes();
+        }
+    }
+    path
+}
+
+/// The word of a mode.
+pub(crate) fn mode_word(mode: SignalMode) -> &'static str {
+    match mode {
+        SignalMode::Net => "net",
+        SignalMode::Unwritten => "unwritten",
+        SignalMode::Combinational => "comb",
+        SignalMode::Nonblocking => "nonblocking",
+        SignalMode::Blocking => "blocking",
+        SignalMode::Private => "private",
+    }
+}
+
+/// The word of a kind.
+pub(crate) fn kind_word(kind: &ClaimedKind) -> &'static str {
+    match kind {
+        ClaimedKind::Combinational(_) => "comb",
+        ClaimedKind::Edge => "edge",
+        ClaimedKind::Delay(_) => "delay",
+    }
+}
+
+/// The word of a start.
+pub(crate) fn start_word(kind: &ClaimedKind) -> &'static str {
+    match kind {
+        ClaimedKind::Combinational(Start::Cold) => "cold",
+        ClaimedKind::Combinational(Start::Sources) => "sources",
+        ClaimedKind::Combinational(Start::Starter) => "starter",
+        _ => "none",
+    }
+}
+
+/// How often a name stands in `signals`, `processes`, `order` and `edges`.
+pub(crate) fn times_named(certificate: &Certificate, name: &[u8]) -> [usize; 4] {
+    let mut signals = 0usize;
+    for entry in &certificate.signals {
+        signals = signals.saturating_add(usize::from(entry.name.as_bytes() == name));
+    }
+    let mut processes = 0usize;
+    for entry in &certificate.processes {
+        processes = processes.saturating_add(usize::from(entry.name.as_bytes() == name));
+    }
+    let mut order = 0usize;
+    for entry in &certificate.order {
+        order = order.saturating_add(usize::from(entry.as_bytes() == name));
+    }
+    let mut edges = 0usize;
+    for entry in &certificate.edges {
+        edges = edges.saturating_add(usize::from(entry.signal.as_bytes() == name));
+    }
+    [signals, processes, order, edges]
+}

@@ -1,0 +1,3 @@
+mod Commands
+mod Given
+mod Rows

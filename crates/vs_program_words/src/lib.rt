@@ -1,0 +1,7 @@
+//! The words of the program's command line: the table of its options, and what words ask for by it.
+#![tactic(auto)]
+
+mod options;
+mod words;
+
+pub use words::{Call, Order, OutputText, Request, Subcommand, WordsFault, read_words};

@@ -1,0 +1,293 @@
+//! The options of the command line.
+ghost use Rattle.std.specs.Prelude.{◌≡◌, All, IfOk, IsOkAnd, false, fold, map, true};
+ghost use Rattle.clap.specs.Words.{app_of, new_app, rule_of, shape_of, with_rule, with_subcommand};
+ghost use Rattle.vs_program_words.specs.Options.{AreOptions, certify_options, check_options, choice_option, elab_options};
+ghost use Rattle.vs_program_words.specs.Options.{bare_options, explain_option, flag_option, number_option, option_of, run_options, run_rules, steps_option, top_option, until_option};
+
+use clap::{Arg, ArgAction, Command};
+use std::alloc::{AllocError, Global};
+
+/// What `--version` prints: the version, and the line of the kit that builds the program.
+const VERSION: &str = "0.1.0\nrattle-kit-13f logic dac8208d650f15bf";
+
+/// What stands below the list of the subcommands.
+const AFTER: &str = "A design is read from standard input, as in
+
+  vsim run --top tb --until 100 <tb.v
+  vsim certify --top tb <tb.v >tb.cert
+  cat tb.cert tb.v | vsim run --top tb --until 100 --cert
+
+Exit status: 0 done, 1 refused (or `no`, or `not made`), 2 step limit,
+3 memory or a device's fault, 64 command line.";
+
+/// What stands below the options of `run`.
+const AFTER_RUN: &str = "--out lines prints what `$display` and `$strobe` print, a line each;
+--out vcd prints the value change dump of all signals that are no arrays.
+
+Example: vsim run --top tb --until 100 --out vcd <tb.v >tb.vcd
+
+Exit status: 0 done, 1 refused, 2 step limit, 3 memory or a device's fault,
+64 command line.";
+
+/// What stands below the options of `check`.
+const AFTER_CHECK: &str = "Example: cat tb.cert tb.v | vsim check --top tb
+
+Exit status: 0 yes, 1 no or refused, 3 memory or a device's fault,
+64 command line.";
+
+/// What stands below the options of `certify`.
+const AFTER_CERTIFY: &str = "Example: vsim certify --top tb <tb.v >tb.cert
+
+Exit status: 0 done, 1 not made or refused, 3 memory or a device's fault,
+64 command line.";
+
+/// What stands below the options of `elab`.
+const AFTER_ELAB: &str = "Example: vsim elab --top tb <tb.v
+
+Exit status: 0 done, 1 refused, 3 memory or a device's fault, 64 command line.";
+
+static ORDERS: [&str; 2] = ["fifo", "lifo"];
+
+static TEXTS: [&str; 2] = ["lines", "vcd"];
+
+static GRAINS: [&str; 2] = ["block", "statement"];
+
+// An option `--name` with one value.
+fn option<'a>(alloc: Global, name: &'a str, help: &'a str) -> Arg<'a>
+    ensures option { rule_of result ≡ option_of name.entry.now }
+    ensures local { result.global ≡ false }
+{
+    Arg::new(alloc, name)
+        .long(name)
+        .help(help)
+        .action(ArgAction::Set)
+}
+
+// A flag `--name`.
+fn flag<'a>(alloc: Global, name: &'a str, help: &'a str) -> Arg<'a>
+    ensures option { rule_of result ≡ flag_option name.entry.now }
+    ensures local { result.global ≡ false }
+{
+    Arg::new(alloc, name)
+        .long(name)
+        .help(help)
+        .action(ArgAction::SetTrue)
+}
+
+// An option with a number from 0 to 2^62 - 1.
+fn number<'a>(alloc: Global, name: &'a str, help: &'a str) -> Arg<'a>
+    ensures option { rule_of result ≡ number_option name.entry.now }
+    ensures local { result.global ≡ false }
+{
+    option(alloc, name, help)
+        .value_name("N")
+        .value_parser(clap::value_parser!(u64).range(0..=4611686018427387903))
+}
+
+// The option with the moment.
+fn until<'a>(alloc: Global) -> Arg<'a>
+    ensures option { rule_of result ≡ until_option }
+    ensures local { result.global ≡ false }
+{
+    number(alloc, "until", "The moment up to which it runs, in ticks").required(true)
+}
+
+// The option with the step limit.
+fn steps<'a>(alloc: Global) -> Arg<'a>
+    ensures option { rule_of result ≡ steps_option }
+    ensures local { result.global ≡ false }
+{
+    number(alloc, "steps", "The most steps that the run may take").default_value("10000000")
+}
+
+// An option whose value is one of some words, and one of them where it is left out.
+fn choice<'a>(
+    alloc: Global,
+    name: &'a str,
+    help: &'a str,
+    words: &'a [&'a str],
+    default: &'a str,
+) -> Arg<'a>
+    ensures option { rule_of result ≡ choice_option name.entry.now words.entry default.entry.now }
+    ensures local { result.global ≡ false }
+{
+    option(alloc, name, help)
+        .value_parser(words)
+        .default_value(default)
+}
+
+// The option with the name of the top module.
+fn top<'a>(alloc: Global) -> Arg<'a>
+    ensures option { rule_of result ≡ top_option }
+    ensures local { result.global ≡ false }
+{
+    option(alloc, "top", "The top module")
+        .value_name("NAME")
+        .required(true)
+}
+
+// The flag that asks for what a refusal means.
+fn explain<'a>(alloc: Global) -> Arg<'a>
+    ensures option { rule_of result ≡ explain_option }
+    ensures local { result.global ≡ false }
+{
+    flag(
+        alloc,
+        "explain",
+        "Also say what a refusal means, and where it stands",
+    )
+}
+
+// A subcommand with these options.
+fn command_of<'a>(
+    alloc: Global,
+    name: &'a str,
+    about: &'a str,
+    after: &'a str,
+    options: Vec<Arg<'a>>,
+) -> Result<Command<'a>, AllocError>
+    requires { All (λ a. a.global ≡ false) options.items }
+    ensures { IfOk result (λ c. shape_of c ≡ (fold with_rule (new_app name.entry.now) (map rule_of options.entry.items)).top) }
+{
+    Command::new(alloc, name)
+        .about(about)
+        .after_help(after)
+        .args(options)
+}
+
+// `elab`.
+fn elab_command<'a>(alloc: Global) -> Result<Command<'a>, AllocError>
+    ensures { IfOk result (λ c. shape_of c ≡ elab_options) }
+{
+    let options = vec![in alloc; top(alloc), explain(alloc)]?;
+    command_of(
+        alloc,
+        "elab",
+        "Lists the signals, assignments and processes of a design that standard input has",
+        AFTER_ELAB,
+        options,
+    )
+}
+
+// `check`.
+fn check_command<'a>(alloc: Global) -> Result<Command<'a>, AllocError>
+    ensures { IfOk result (λ c. shape_of c ≡ check_options) }
+{
+    let options = vec![in alloc; top(alloc), explain(alloc)]?;
+    command_of(
+        alloc,
+        "check",
+        "Checks a certificate, the first line of standard input, of the design that the rest has",
+        AFTER_CHECK,
+        options,
+    )
+}
+
+// `certify`, with the words that its option takes.
+fn certify_command<'a>(alloc: Global, grains: &'a [&'a str]) -> Result<Command<'a>, AllocError>
+    ensures { IfOk result (λ c. shape_of c ≡ certify_options grains.entry) }
+{
+    let grain = choice(
+        alloc,
+        "grain",
+        "How finely processes may be interleaved",
+        grains,
+        "block",
+    );
+    let options = vec![in alloc; top(alloc), grain, explain(alloc)]?;
+    command_of(
+        alloc,
+        "certify",
+        "Makes a certificate of a design that standard input has",
+        AFTER_CERTIFY,
+        options,
+    )
+}
+
+// The options of `run`, with the words that they take.
+fn run_list<'a>(
+    alloc: Global,
+    orders: &'a [&'a str],
+    texts: &'a [&'a str],
+) -> Result<Vec<Arg<'a>>, AllocError>
+    ensures rules { IfOk result (λ list. map rule_of list.items ≡ run_rules orders.entry texts.entry) }
+    ensures local { IfOk result (λ list. All (λ a. a.global ≡ false) list.items) }
+{
+    let policy = choice(
+        alloc,
+        "policy",
+        "Which enabled item is next",
+        orders,
+        "fifo",
+    );
+    let out = choice(alloc, "out", "The text to write", texts, "lines");
+    let cert = flag(
+        alloc,
+        "cert",
+        "The first line of standard input is a certificate: run only if it is accepted",
+    );
+    let list = vec![in alloc;
+        top(alloc),
+        until(alloc),
+        steps(alloc),
+        policy,
+        out,
+        cert,
+        explain(alloc),
+    ]?;
+    Ok(list)
+}
+
+// `run`, with the words that its options take.
+fn run_command<'a>(
+    alloc: Global,
+    orders: &'a [&'a str],
+    texts: &'a [&'a str],
+) -> Result<Command<'a>, AllocError>
+    ensures { IfOk result (λ c. shape_of c ≡ run_options orders.entry texts.entry) }
+{
+    let options = run_list(alloc, orders, texts)?;
+    command_of(
+        alloc,
+        "run",
+        "Runs a design that standard input has",
+        AFTER_RUN,
+        options,
+    )
+}
+
+// A command with one more subcommand.
+fn with_command<'a>(
+    command: Command<'a>,
+    made: Result<Command<'a>, AllocError>,
+) -> Result<Command<'a>, AllocError>
+    requires { IfOk made (λ s. (shape_of s).is_plain ≡ true) }
+    ensures { IfOk result (λ c. IsOkAnd made.entry (λ s. app_of c ≡ with_subcommand (app_of command.entry) (shape_of s))) }
+{
+    command.subcommand(made?)
+}
+
+// The program without its subcommands.
+fn bare_command<'a>(alloc: Global) -> Command<'a>
+    ensures { app_of result ≡ bare_options }
+{
+    Command::new(alloc, "vsim")
+        .about("Simulates a Verilog design, and checks that its run is no choice of the simulator")
+        .version(VERSION)
+        .after_help(AFTER)
+        .subcommand_required(true)
+}
+
+/// The program, with its subcommands.
+pub(crate) fn vsim_command<'a>(alloc: Global) -> Result<Command<'a>, AllocError>
+    ensures { IfOk result (λ c. AreOptions (app_of c)) }
+{
+    let command = bare_command(alloc);
+    let command = with_command(
+        command,
+        run_command(alloc, ORDERS.as_slice(), TEXTS.as_slice()),
+    )?;
+    let command = with_command(command, check_command(alloc))?;
+    let command = with_command(command, certify_command(alloc, GRAINS.as_slice()))?;
+    with_command(command, elab_command(alloc))
+}

@@ -1,0 +1,37 @@
+-- What is proposed for a design.
+use Rattle.std.specs.Prelude.{ℕ, ◌-◌, ◌≡◌, true, Option, Some, None, List}
+use Rattle.vs_cert_check.specs.Verdicts.{rule_of}
+use Rattle.vs_certificate.specs.declared.members.Certificate.{Certificate}
+use Rattle.vs_certificate.specs.declared.members.ClaimedGrain.{ClaimedGrain}
+use Rattle.vs_certificate.specs.JsonValue.{value_of}
+use Rattle.vs_certificate.specs.Reading.{IsSound}
+use Rattle.vs_certificate.specs.Versions.{has_own_kinds}
+use Rattle.vs_design.specs.Parts.{Parts}
+use Rattle.vs_rules.specs.Certificates.{claims_of}
+use Rattle.vs_rules.specs.Verdict.{Disciplined, IsVerdict, no_verdict}
+use Rattle.vs_propose.specs.declared.proposal.Proposal.{Proposal}
+use Rattle.vs_propose.specs.declared.proposal.Proposal.TheVariants.{Made, NotMade}
+
+-- a certificate of this grain of which no test of its form and limits fails, under which the design keeps all rules
+pub record IsMade (d : Parts) (grain : ClaimedGrain) (c : Certificate) : Type 0 where
+  pub grain_is : c.grain ≡ grain
+  pub sound : IsSound (value_of c)
+  pub own_kinds : has_own_kinds c ≡ true
+  pub kept : Disciplined d (claims_of c)
+
+-- under some certificate of this grain, of which no such test fails, this is the least rule that the design breaks, and the first subject that breaks it
+pub record IsRefused (d : Parts) (grain : ClaimedGrain) (number : ℕ) (place : List ℕ) : Type 0 where
+  pub certificate : Certificate
+  pub grain_is : certificate.grain ≡ grain
+  pub sound : IsSound (value_of certificate)
+  pub verdict : IsVerdict d (claims_of certificate) (no_verdict (rule_of (number - 1)) place)
+
+-- what is proposed is true of the design
+abbrev pub IsProposal : Parts → ClaimedGrain → Proposal → Type 0
+IsProposal d grain (Made c) = IsMade d grain c
+IsProposal d grain (NotMade number place) = IsRefused d grain number place.items
+
+-- the same of what may be there
+abbrev pub MayBeProposal : Parts → ClaimedGrain → Option Proposal → Type 0
+MayBeProposal d grain None = Unit {0}
+MayBeProposal d grain (Some p) = IsProposal d grain p

@@ -1,0 +1,8 @@
+//! A certificate for a design, where one is found.
+#![tactic(auto)]
+
+mod proposal;
+mod search;
+
+pub use proposal::Proposal;
+pub use search::propose;

@@ -1,0 +1,171 @@
+//! The search for a certificate.
+ghost use Rattle.std.specs.Prelude.{◌≡◌, IfOk, IsSome};
+ghost use Rattle.vs_cert_check.specs.Answers.{verdict_view};
+ghost use Rattle.vs_certificate.specs.JsonValue.{value_of};
+ghost use Rattle.vs_certificate.specs.Reading.{IsSound};
+ghost use Rattle.vs_rules.specs.Certificates.{claims_of};
+ghost use Rattle.vs_rules.specs.Verdict.{IsVerdict};
+ghost use Rattle.vs_propose.specs.Proposals.{IsProposal, MayBeProposal};
+
+use crate::proposal::Proposal;
+use std::alloc::{AllocError, Global};
+use vs_cert_check::{Verdict, check};
+use vs_certificate::{Certificate, ClaimedGrain, Version};
+use vs_design::Design;
+use vs_propose_plan::{Plan, certificate_of, moduli_of, plan_of};
+
+// What the verdict on a certificate comes to.
+fn proposal_of(
+    design: &Design,
+    grain: ClaimedGrain,
+    certificate: Certificate,
+    verdict: Verdict,
+) -> Proposal
+    requires grain { certificate.grain ≡ grain }
+    requires sound { IsSound (value_of certificate) }
+    requires verdict { IsVerdict design.now (claims_of certificate) (verdict_view verdict) }
+    ensures { IsProposal design.now grain result }
+{
+    let _ = design;
+    let _ = grain;
+    match verdict {
+        Verdict::Yes => Proposal::Made(certificate),
+        Verdict::No(number, place) => Proposal::NotMade(number, place),
+    }
+}
+
+// What the checker says of a certificate; nothing, where a test of its form or its limits fails.
+fn tried(
+    alloc: Global,
+    design: &Design,
+    grain: ClaimedGrain,
+    certificate: Certificate,
+) -> Result<Option<Proposal>, AllocError>
+    requires { certificate.grain ≡ grain }
+    ensures is { IfOk result (MayBeProposal design.now grain) }
+    ensures some { IsSound (value_of certificate) → IfOk result IsSome }
+{
+    if !certificate.is_sound() {
+        return Ok(None);
+    }
+    let verdict = check(alloc, design, &certificate)?;
+    Ok(Some(proposal_of(design, grain, certificate, verdict)))
+}
+
+// What it says of the certificate of a plan, by a modulus; nothing, where that has none.
+fn tried_by(
+    alloc: Global,
+    design: &Design,
+    plan: &Plan,
+    grain: ClaimedGrain,
+    modulus: u64,
+) -> Result<Option<Proposal>, AllocError>
+    ensures { IfOk result (MayBeProposal design.now grain) }
+{
+    match certificate_of(alloc, design, plan, grain, modulus)? {
+        None => Ok(None),
+        Some(certificate) => tried(alloc, design, grain, certificate),
+    }
+}
+
+// A certificate that claims nothing.
+fn no_claims(alloc: Global, grain: ClaimedGrain) -> Certificate
+    ensures grain { result.grain ≡ grain }
+    ensures sound { IsSound (value_of result) }
+{
+    Certificate {
+        version: Version::One,
+        grain,
+        modulus: 1,
+        edges: Vec::new(alloc),
+        order: Vec::new(alloc),
+        processes: Vec::new(alloc),
+        signals: Vec::new(alloc),
+    }
+}
+
+// What the checker says of a certificate that claims nothing.
+fn tried_without_claims(
+    alloc: Global,
+    design: &Design,
+    grain: ClaimedGrain,
+) -> Result<Proposal, AllocError>
+    ensures { IfOk result (IsProposal design.now grain) }
+{
+    match tried(alloc, design, grain, no_claims(alloc, grain))? {
+        Some(proposal) => Ok(proposal),
+        None => unreachable!(),
+    }
+}
+
+// How good a proposal is: the number of the rule that is broken, or one above all.
+fn rank(proposal: &Proposal) -> u8 {
+    match proposal {
+        Proposal::Made(_) => u8::MAX,
+        Proposal::NotMade(number, _) => *number,
+    }
+}
+
+// Whether another modulus may give a better proposal: the rules K7 to K9 alone speak of residues.
+fn may_improve(proposal: &Proposal) -> bool {
+    let number = rank(proposal);
+    7 <= number && number <= 9
+}
+
+// The better one of two proposals, the first of two that are as good as each other.
+fn better(design: &Design, grain: ClaimedGrain, best: Option<Proposal>, other: Proposal) -> Proposal
+    requires best { MayBeProposal design.now grain best }
+    requires other { IsProposal design.now grain other }
+    ensures { IsProposal design.now grain result }
+{
+    let _ = design;
+    let _ = grain;
+    match best {
+        None => other,
+        Some(proposal) => {
+            if rank(&other) > rank(&proposal) {
+                other
+            } else {
+                proposal
+            }
+        }
+    }
+}
+
+// The best of what the checker says of the certificates of a plan by some moduli, which are tried in order until no other one may be better.
+fn best_of(
+    alloc: Global,
+    design: &Design,
+    plan: &Plan,
+    grain: ClaimedGrain,
+    moduli: &[u64],
+) -> Result<Option<Proposal>, AllocError>
+    ensures { IfOk result (MayBeProposal design.now grain) }
+{
+    let mut best = None;
+    for modulus in moduli {
+        if let Some(proposal) = tried_by(alloc, design, plan, grain, *modulus)? {
+            let goes_on = may_improve(&proposal);
+            best = Some(better(design, grain, best, proposal));
+            if !goes_on {
+                return Ok(best);
+            }
+        }
+    }
+    Ok(best)
+}
+
+/// A certificate of a grain for a design, where one is found: `Made` with one under which the design keeps all rules K1 to K11, of which no test of C2 to C4
+/// fails; else the verdict on the best one that was tried. It need not find one where there is one, but for designs without processes. It makes a plan of
+/// who writes each signal and how, of what runs each process and of an order in which drivers settle, and tries it by moduli that the delays of the texts
+/// suggest, at most 40 of them: each takes as long as one verdict.
+pub fn propose(alloc: Global, design: &Design, grain: ClaimedGrain) -> Result<Proposal, AllocError>
+    ensures is { IfOk result (IsProposal design.now grain) }
+{
+    let plan = plan_of(alloc, design)?;
+    let moduli = moduli_of(alloc, &plan.texts)?;
+    match best_of(alloc, design, &plan, grain, &moduli)? {
+        Some(best) => Ok(best),
+        None => tried_without_claims(alloc, design, grain),
+    }
+}

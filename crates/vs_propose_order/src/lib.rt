@@ -1,0 +1,6 @@
+//! An order of things of which some need others.
+#![tactic(auto)]
+
+mod sorting;
+
+pub use sorting::sorted;

@@ -1,0 +1,224 @@
+//! An order in which drivers settle.
+
+use std::alloc::{AllocError, Global};
+use vs_design::{BitRange, Design, SignalKind, reads, writes};
+use vs_law_writes::statement_writes;
+use vs_propose_order::sorted;
+use vs_propose_texts::{TextFacts, TextKind};
+use vs_slots_paths::text_reads;
+use vs_slots_ranges::share;
+
+// A range that a driver writes.
+#[derive(Clone, Copy)]
+struct Written {
+    driver: usize,
+    range: BitRange,
+}
+
+// Whether a signal is a net.
+fn is_net(design: &Design, v: usize) -> bool {
+    match design.signals().get(v) {
+        None => false,
+        Some(signal) => match signal.kind {
+            SignalKind::Wire => true,
+            SignalKind::Reg | SignalKind::Integer => false,
+        },
+    }
+}
+
+// Every bit of a signal.
+fn all_of(signal: usize) -> BitRange {
+    BitRange {
+        signal,
+        word: None,
+        bits: None,
+    }
+}
+
+// Notes a range that a driver writes, where it has bits of the design. A variable counts whole, once for each driver.
+fn note(
+    design: &Design,
+    table: &mut Vec<Vec<Written>>,
+    driver: usize,
+    range: BitRange,
+) -> Result<(), AllocError> {
+    let is_net = is_net(design, range.signal);
+    let Some(row) = table.get_mut(range.signal) else {
+        return Ok(());
+    };
+    if is_net {
+        if share(design, range, range) {
+            row.push(Written { driver, range })?;
+        }
+        return Ok(());
+    }
+    let is_there = match row.last() {
+        None => false,
+        Some(last) => last.driver == driver,
+    };
+    if !is_there {
+        row.push(Written {
+            driver,
+            range: all_of(range.signal),
+        })?;
+    }
+    Ok(())
+}
+
+// What a driver writes: a continuous assignment, or else a process.
+fn written_by(
+    alloc: Global,
+    design: &Design,
+    texts: &[TextFacts],
+    driver: usize,
+) -> Result<Vec<BitRange>, AllocError> {
+    let assigns = design.assigns();
+    if driver < assigns.len() {
+        return writes(alloc, &assigns[driver].target);
+    }
+    match design.processes().get(driver - assigns.len()) {
+        None => Ok(Vec::new(alloc)),
+        Some(process) => {
+            if is_block(texts, driver - assigns.len()) {
+                statement_writes(alloc, &process.body)
+            } else {
+                Ok(Vec::new(alloc))
+            }
+        }
+    }
+}
+
+// What a driver reads.
+fn read_by(
+    alloc: Global,
+    design: &Design,
+    texts: &[TextFacts],
+    driver: usize,
+) -> Result<Vec<BitRange>, AllocError> {
+    let assigns = design.assigns();
+    if driver < assigns.len() {
+        return reads(alloc, &assigns[driver].source);
+    }
+    match design.processes().get(driver - assigns.len()) {
+        None => Ok(Vec::new(alloc)),
+        Some(process) => {
+            if is_block(texts, driver - assigns.len()) {
+                text_reads(alloc, &process.body)
+            } else {
+                Ok(Vec::new(alloc))
+            }
+        }
+    }
+}
+
+/// Whether a process is a combinational block.
+pub(crate) fn is_block(texts: &[TextFacts], i: usize) -> bool {
+    match texts.get(i) {
+        None => false,
+        Some(text) => text.kind == TextKind::Block,
+    }
+}
+
+// How many drivers there are at most.
+fn count_of(design: &Design) -> usize {
+    design
+        .assigns()
+        .len()
+        .saturating_add(design.processes().len())
+}
+
+// For each signal what drivers write of it.
+fn table_of(
+    alloc: Global,
+    design: &Design,
+    texts: &[TextFacts],
+) -> Result<Vec<Vec<Written>>, AllocError> {
+    let mut table = Vec::new(alloc);
+    for _ in 0..design.signals().len() {
+        table.push(Vec::new(alloc))?;
+    }
+    for driver in 0..count_of(design) {
+        for range in written_by(alloc, design, texts, driver)? {
+            note(design, &mut table, driver, range)?;
+        }
+    }
+    Ok(table)
+}
+
+// Puts the drivers, but for the reader itself where it is a block, that write a bit which a range has.
+fn put_needed(
+    design: &Design,
+    row: &[Written],
+    reader: usize,
+    range: BitRange,
+    out: &mut Vec<usize>,
+) -> Result<(), AllocError> {
+    for written in row {
+        let is_self = written.driver == reader && reader >= design.assigns().len();
+        if !is_self && share(design, range, written.range) {
+            out.push(written.driver)?;
+        }
+    }
+    Ok(())
+}
+
+// For each driver those that write a bit that it reads.
+fn needs_of(
+    alloc: Global,
+    design: &Design,
+    texts: &[TextFacts],
+) -> Result<Vec<Vec<usize>>, AllocError> {
+    let table = table_of(alloc, design, texts)?;
+    let mut needs = Vec::new(alloc);
+    for driver in 0..count_of(design) {
+        let mut needed = Vec::new(alloc);
+        for range in read_by(alloc, design, texts, driver)? {
+            if let Some(row) = table.get(range.signal) {
+                put_needed(design, row, driver, range, &mut needed)?;
+            }
+        }
+        needs.push(needed)?;
+    }
+    Ok(needs)
+}
+
+// Whether a number is that of a driver.
+fn is_driver(design: &Design, texts: &[TextFacts], driver: usize) -> bool {
+    let assigns = design.assigns().len();
+    driver < assigns || is_block(texts, driver - assigns)
+}
+
+// Puts a driver at the end of an order, where it doesn't stand there.
+fn put_once(
+    design: &Design,
+    texts: &[TextFacts],
+    order: &mut Vec<usize>,
+    marks: &mut Vec<bool>,
+    driver: usize,
+) -> Result<(), AllocError> {
+    if driver >= marks.len() || marks[driver] || !is_driver(design, texts, driver) {
+        return Ok(());
+    }
+    order.push(driver)?;
+    marks[driver] = true;
+    Ok(())
+}
+
+/// The drivers of a design, each after those that write a bit which it reads; those that can't be ordered so come last.
+pub(crate) fn driver_order(
+    alloc: Global,
+    design: &Design,
+    texts: &[TextFacts],
+) -> Result<Vec<usize>, AllocError> {
+    let needs = needs_of(alloc, design, texts)?;
+    let placed = sorted(alloc, &needs)?;
+    let mut marks = vec![in alloc; false; needs.len()]?;
+    let mut order = Vec::new(alloc);
+    for driver in &placed {
+        put_once(design, texts, &mut order, &mut marks, *driver)?;
+    }
+    for driver in 0..needs.len() {
+        put_once(design, texts, &mut order, &mut marks, driver)?;
+    }
+    Ok(order)
+}

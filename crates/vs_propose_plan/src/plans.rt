@@ -1,0 +1,96 @@
+//! What is to be claimed of a design, but for residues.
+
+use crate::copied::edge_plans;
+use crate::drivers::driver_order;
+use crate::modes::signal_plans;
+use crate::starts::kind_plans;
+use crate::writers::writers_of;
+use std::alloc::{AllocError, Global};
+use vs_certificate::{SignalMode, Start};
+use vs_design::Design;
+use vs_propose_texts::{TextFacts, text_facts};
+
+/// What is to be claimed of a signal. Processes go by their numbers.
+#[derive(Clone, Copy)]
+pub struct SignalPlan {
+    /// How it is written.
+    pub mode: SignalMode,
+    /// The process that writes it.
+    pub writer: Option<usize>,
+    /// The process that writes it at the start alone.
+    pub second: Option<usize>,
+    /// Whether version 1 has no such claim.
+    pub is_new: bool,
+}
+
+/// What is to be claimed of a process, but for residues.
+#[derive(Clone, Copy, PartialEq, Eq)]
+pub enum KindPlan {
+    /// A combinational block, and how its first outputs are explained.
+    Block(Start),
+    /// It waits for edges alone.
+    Edge,
+    /// It waits for times alone.
+    Delay,
+}
+
+/// A signal of an edge term, and the variable that it copies, by their numbers.
+#[derive(Clone, Copy)]
+pub struct EdgePlan {
+    /// The variable.
+    pub root: usize,
+    /// The signal.
+    pub signal: usize,
+}
+
+/// What is to be claimed of a design, but for residues.
+#[derive(Drop)]
+pub struct Plan {
+    /// Of each signal.
+    pub signals: Vec<SignalPlan>,
+    /// Of each process.
+    pub kinds: Vec<KindPlan>,
+    /// The signals of the edge terms, in design order.
+    pub edges: Vec<EdgePlan>,
+    /// The numbers of drivers, in an order in which they settle: those of continuous assignments come first, then those of processes.
+    pub order: Vec<usize>,
+    /// What the texts of the processes do.
+    pub texts: Vec<TextFacts>,
+}
+
+impl Plan {
+    /// Whether version 1 has no such claims.
+    pub fn is_new(&self) -> bool {
+        self.signals.iter().any(|s| s.is_new)
+            || self
+                .kinds
+                .iter()
+                .any(|kind| matches!(kind, KindPlan::Block(Start::Starter)))
+    }
+}
+
+// What the texts of the processes do.
+fn texts_of(alloc: Global, design: &Design) -> Result<Vec<TextFacts>, AllocError> {
+    let mut texts = Vec::new(alloc);
+    for i in 0..design.processes().len() {
+        texts.push(text_facts(alloc, design, i)?)?;
+    }
+    Ok(texts)
+}
+
+/// What is to be claimed of a design. It takes as long as its texts are, and for a block whose control names nets the steps of one run.
+pub fn plan_of(alloc: Global, design: &Design) -> Result<Plan, AllocError> {
+    let texts = texts_of(alloc, design)?;
+    let writers = writers_of(alloc, &texts, design.signals().len())?;
+    let signals = signal_plans(alloc, design, &texts, &writers)?;
+    let order = driver_order(alloc, design, &texts)?;
+    let kinds = kind_plans(alloc, design, &texts, &signals, &order)?;
+    let edges = edge_plans(alloc, design, &order)?;
+    Ok(Plan {
+        signals,
+        kinds,
+        edges,
+        order,
+        texts,
+    })
+}

@@ -1,0 +1,11 @@
+pub mod CutLemmas
+pub mod CodeLemmas
+pub mod NumberLemmas
+pub mod NameLemmas
+pub mod WordLemmas
+pub mod LineLemmas
+pub mod VariableLemmas
+pub mod ValueLemmas
+pub mod ChangeLemmas
+pub mod DeclarationLemmas
+pub mod LawLemmas

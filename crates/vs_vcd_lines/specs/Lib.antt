@@ -1,0 +1,5 @@
+pub mod Cuts
+pub mod Names
+pub mod Lines
+pub mod Parts
+pub mod Laws

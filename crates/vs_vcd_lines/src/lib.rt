@@ -1,0 +1,24 @@
+//! The lines of value change dumps of the layout in `docs/vcd.md`, read one by one (IEEE 1364-2005, clause 18).
+#![tactic(auto)]
+
+mod changes;
+mod codes;
+mod cuts;
+mod declarations;
+mod dump;
+mod ends;
+mod laws;
+mod lines;
+mod names;
+mod numbers;
+mod values;
+mod variables;
+mod words;
+
+pub use changes::change_of;
+pub use codes::number_of;
+pub use declarations::declaration_of;
+pub use dump::{Declaration, ValueChange, Variable};
+pub use laws::variable_lines_are_one;
+pub use lines::{scope_of, span_of, time_of};
+pub use variables::variable_of;
