@@ -156,9 +156,9 @@ fn best_of(
 }
 
 /// A certificate of a grain for a design, where one is found: `Made` with one under which the design keeps all rules K1 to K11, of which no test of C2 to C4
-/// fails; else the verdict on the best one that was tried. It need not find one where there is one, but for designs without processes. It makes a plan of
-/// who writes each signal and how, of what runs each process and of an order in which drivers settle, and tries it by moduli that the delays of the texts
-/// suggest, at most 40 of them: each takes as long as one verdict.
+/// fails; else the verdict on the best one that was tried. It need not find one where there is one. It makes a plan of who writes each signal and how, of
+/// what runs each process and of an order in which drivers settle, and tries it by moduli that the delays of the texts suggest, at most 40 of them: each
+/// takes as long as one verdict.
 pub fn propose(alloc: Global, design: &Design, grain: ClaimedGrain) -> Result<Proposal, AllocError>
     ensures is { IfOk result (IsProposal design.now grain) }
 {
