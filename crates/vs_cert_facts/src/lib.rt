@@ -4,6 +4,7 @@
 mod facts;
 mod index;
 mod maps;
+mod named;
 mod names;
 mod words;
 

@@ -1,13 +1,12 @@
 //! The names of a design and of a certificate, each list in its order.
-ghost use Rattle.std.specs.Prelude.{◌≡◌, IfOk, map};
-ghost use Rattle.vs_rules.specs.Certificates.{name_from};
-ghost use Rattle.vs_cert_facts.specs.passes.Kept.{paths, named_processes, named_assigns, signal_entries, process_entries};
+ghost use Rattle.std.specs.Prelude.{◌≡◌, IfOk};
 ghost use Rattle.vs_cert_facts.specs.passes.Kept.{edge_roots, edge_signals, AreDesignNames, AreClaimedNames, AreEdgeNames, AreNames};
 
 use crate::index::Index;
+use crate::named::names_of;
 use std::alloc::{AllocError, Global};
-use vs_certificate::{Certificate, EdgeSignal, ProcessEntry, SignalEntry};
-use vs_design::{Assign, Design, Process, Signal};
+use vs_certificate::{Certificate, EdgeSignal};
+use vs_design::Design;
 
 /// The names of a design, each list in design order.
 #[derive(Drop)]
@@ -51,75 +50,6 @@ pub(crate) struct Names<'a> {
     pub(crate) edges: EdgeNames<'a>,
 }
 
-// The paths of signals.
-fn paths<'a>(alloc: Global, signals: &'a [Signal]) -> Result<Index<'a>, AllocError>
-    ensures { IfOk result (λ names. names ≡ paths signals.entry.now) }
-{
-    let mut names = Vec::new(alloc);
-    for s in signals {
-        let name: &'a [u8] = &s.path;
-        names.push(name)?;
-    }
-    Index::of(alloc, names)
-}
-
-// The names of processes.
-fn named_processes<'a>(alloc: Global, processes: &'a [Process]) -> Result<Index<'a>, AllocError>
-    ensures { IfOk result (λ names. names ≡ named_processes processes.entry.now) }
-{
-    let mut names = Vec::new(alloc);
-    for p in processes {
-        let name: &'a [u8] = &p.name;
-        names.push(name)?;
-    }
-    Index::of(alloc, names)
-}
-
-// The names of continuous assignments.
-fn named_assigns<'a>(alloc: Global, assigns: &'a [Assign]) -> Result<Index<'a>, AllocError>
-    ensures { IfOk result (λ names. names ≡ named_assigns assigns.entry.now) }
-{
-    let mut names = Vec::new(alloc);
-    for a in assigns {
-        let name: &'a [u8] = &a.name;
-        names.push(name)?;
-    }
-    Index::of(alloc, names)
-}
-
-// The names of an order.
-fn ordered<'a>(alloc: Global, order: &'a [String]) -> Result<Index<'a>, AllocError>
-    ensures { IfOk result (λ names. names ≡ map name_from order.entry.now) }
-{
-    let mut names = Vec::new(alloc);
-    for name in order {
-        names.push(name.as_bytes())?;
-    }
-    Index::of(alloc, names)
-}
-
-// The names of the entries of signals.
-fn signal_entries<'a>(alloc: Global, entries: &'a [SignalEntry]) -> Result<Index<'a>, AllocError>
-    ensures { IfOk result (λ names. names ≡ signal_entries entries.entry.now) }
-{
-    let mut names = Vec::new(alloc);
-    for e in entries {
-        names.push(e.name.as_bytes())?;
-    }
-    Index::of(alloc, names)
-}
-
-// The names of the entries of processes.
-fn process_entries<'a>(alloc: Global, entries: &'a [ProcessEntry]) -> Result<Index<'a>, AllocError>
-    ensures { IfOk result (λ names. names ≡ process_entries entries.entry.now) }
-{
-    let mut names = Vec::new(alloc);
-    for e in entries {
-        names.push(e.name.as_bytes())?;
-    }
-    Index::of(alloc, names)
-}
-
 // The names of the roots of edge signals.
 fn edge_roots<'a>(alloc: Global, edges: &'a [EdgeSignal]) -> Result<Index<'a>, AllocError>
     ensures { IfOk result (λ names. names ≡ edge_roots edges.entry.now) }
@@ -146,9 +76,9 @@ fn edge_signals<'a>(alloc: Global, edges: &'a [EdgeSignal]) -> Result<Index<'a>,
 fn design_names<'a>(alloc: Global, design: &'a Design) -> Result<DesignNames<'a>, AllocError>
     ensures { IfOk result (λ n. AreDesignNames design.entry.now n) }
 {
-    let signals = paths(alloc, design.signals())?;
-    let processes = named_processes(alloc, design.processes())?;
-    let assigns = named_assigns(alloc, design.assigns())?;
+    let signals = names_of(alloc, design.signals())?;
+    let processes = names_of(alloc, design.processes())?;
+    let assigns = names_of(alloc, design.assigns())?;
     Ok(DesignNames {
         signals,
         processes,
@@ -163,9 +93,9 @@ fn claimed_names<'a>(
 ) -> Result<ClaimedNames<'a>, AllocError>
     ensures { IfOk result (λ n. AreClaimedNames certificate.entry.now n) }
 {
-    let order = ordered(alloc, &certificate.order)?;
-    let signals = signal_entries(alloc, &certificate.signals)?;
-    let processes = process_entries(alloc, &certificate.processes)?;
+    let order = names_of(alloc, &certificate.order)?;
+    let signals = names_of(alloc, &certificate.signals)?;
+    let processes = names_of(alloc, &certificate.processes)?;
     Ok(ClaimedNames {
         order,
         signals,

@@ -4,14 +4,12 @@ use Rattle.std.specs.List.{Contains}
 use Rattle.std.specs.declared.vec.Vec.{Vec}
 use Rattle.std.specs.declared.alloc.Global.{Global}
 use Rattle.std.proofs.lemmas.Option.{same_Some, slice_get_within}
-use Rattle.std.proofs.lemmas.List.Elements.{Contains-append_cases}
 use Rattle.vs_logic4.specs.declared.digit.Digit.{Digit}
 use Rattle.vs_logic4.specs.declared.digit.Digit.TheVariants.{Zero, One, X, Z}
 use Rattle.vs_logic4.specs.Edges.{is_edge}
-use Rattle.vs_logic4.proofs.Basics.{take_push, get_or_same}
 use Rattle.vs_design.specs.declared.statement.EventTerm.{EventTerm}
 use Rattle.vs_design.specs.Parts.{Parts}
-use Rattle.vs_rules.specs.Claims.{Claims, EdgeClaim, IsRoot}
+use Rattle.vs_rules.specs.Claims.{Claims, EdgeClaim, IsRoot, IsRootOf}
 use Rattle.vs_rules.specs.Constants.{IsKnown}
 use Rattle.vs_rules.specs.Constants as k
 use Rattle.vs_rules.specs.Constants.{bit_of}
@@ -28,8 +26,7 @@ use Rattle.vs_slots_paths.specs.Ranges.{HasSignal, now_at, later_at}
 use Rattle.vs_slots_paths.specs.Reaches.{Chart, places, stops_along, InSlot0}
 use Rattle.vs_slots_paths.specs.Indexes.{AreRows, row_of}
 use Rattle.vs_cert_facts.specs.Facts.{AreCharts, IsRootAt}
-use Rattle.vs_cert_roots.specs.Entries.{AreTerms}
-use Rattle.vs_cert_roots.specs.First.{SiteAt, HasSite, IsSilent, NamesRoot, Wakes, StartsSilently, StartsWellIn, StartsWell}
+use Rattle.vs_cert_roots.specs.First.{SiteAt, HasSite, IsSilent, NamesRoot, WakesSignal, WakesEntry, StartsSilently, StartsWellIn, StartsWell}
 use Rattle.std.proofs.lemmas.Bool.{eqb-true, eqb-false, ne_eqb}
 use Rattle.vs_logic4.proofs.Basics.{same_self}
 use Rattle.vs_rules.specs.Rules.{K10_Signal}
@@ -50,17 +47,6 @@ root_within d edges v place h = slice_get_within edges place h.1.entry h.1.is
 pub site_within : (d : Parts) (charts : List Chart) → AreCharts d charts → (v i : ℕ) → HasSite charts i v → i < length d.processes
 site_within d charts are v i h = subst (λ (n : ℕ). i < n) are.as_many (slice_get_within charts i h.0 h.1)
 
--- a signal is a root where its row has an entry
-pub root_of_row : (d : Parts) (c : Claims) (v : ℕ) (row : List ℕ) → ((p : ℕ) → (Contains row p ↔ NamesRoot d c.edges p v)) → 0 < length row → IsRoot d c v
-root_of_row d c v row are some =
-    let y = (are (get_or row 0 0)).0 (contains_at row 0 some) in
-    (y.0, record { place = get_or row 0 0; entry = y.1.entry; is = y.1.is; signal = y.1.signal; root_is = y.1.root_is })
-
-pub row_of_root : (d : Parts) (c : Claims) (v : ℕ) (row : List ℕ) → ((p : ℕ) → (Contains row p ↔ NamesRoot d c.edges p v)) → IsRoot d c v → 0 < length row
-row_of_root d c v row are h =
-    let m = (are h.1.place).1 (h.0, record { entry = h.1.entry; is = h.1.is; signal = h.1.signal; root_is = h.1.root_is }) in
-    omega (arith, m.1)
-
 pub past_root : (d : Parts) (c : Claims) (v : ℕ) → length d.signals ≤ v → IsRoot d c v → ⊥
 past_root d c v past h = no_name d v h.1.entry.root past h.1.root_is
 
@@ -79,30 +65,58 @@ one_known o _ e k.one = ap known e
 
 -- ---- silent digits
 
--- no term so far is woken
-abbrev pub NoneWoken : Parts → Claims → ℕ → Digit → List EventTerm → Type 0
-NoneWoken d c root digit terms = (t : EventTerm) → Contains terms t → Wakes d c root digit t → ⊥
-
-pub woken_more : (d : Parts) (c : Claims) (root : ℕ) (digit : Digit) (terms : List EventTerm) (i : ℕ) (t : EventTerm) → i < length terms → t ≡ get_or terms i t → NoneWoken d c root digit (take i terms) →
-    (Wakes d c root digit t → ⊥) → NoneWoken d c root digit (take (i + 1) terms)
-woken_more d c root digit terms i t h is before here x m w =
-    by (Contains-append_cases (take i terms) (t ∷ []) x (subst (λ (l : List EventTerm). Contains l x) (take_push terms i t h is) m)) where
-      by : Contains (take i terms) x ⊎ Contains (t ∷ []) x → ⊥
-      by (inl a) = before x a w
-      by (inr b) = here (subst (Wakes d c root digit) (sym (in_one t x b)) w)
-
 not_false : (b : Bool) → (b ≡ true → ⊥) → b ≡ false
 not_false true h = absurd (h refl)
 not_false false h = refl
 
-pub silent_is : (d : Parts) (c : Claims) (root : ℕ) (digit : Digit) (terms : List EventTerm) → AreTerms d terms → NoneWoken d c root digit terms → IsSilent d c root digit
-silent_is d c root digit terms are none j t has edge of = not_false (is_edge t.edge X digit) (λ e. none t ((are t).1 (j, has)) (edge, of, e))
+-- a root is silent exactly where no entry of it has a signal that is woken
+pub silent_is : (d : Parts) (c : Claims) (root : ℕ) (digit : Digit) (row : List ℕ) → ((p : ℕ) → (Contains row p ↔ NamesRoot d c.edges p root)) →
+    (((p : ℕ) → Contains row p → WakesEntry d c p root digit → ⊥) ↔ IsSilent d c root digit)
+silent_is d c root digit row are = (into, back) where
+  into : ((p : ℕ) → Contains row p → WakesEntry d c p root digit → ⊥) → IsSilent d c root digit
+  into none j t has edge of =
+      let v = t.range.signal in
+      let at : IsRootAt d c.edges of.place root v = record { entry = of.entry; is = of.is; signal = of.signal; root_is = of.root_is } in
+      not_false (is_edge t.edge X digit)
+      (λ e. none of.place ((are of.place).1 (v, at)) (v, at, record { process = j; term = t; has = has; edge = edge; of = refl; wakes = e }))
 
-pub woken_not : (d : Parts) (c : Claims) (root : ℕ) (digit : Digit) (terms : List EventTerm) (t : EventTerm) → AreTerms d terms → Wakes d c root digit t → Contains terms t → IsSilent d c root digit → ⊥
-woken_not d c root digit terms t are w m silent =
-    let j = (are t).0 m in
-    let e : false ≡ true = sym (silent j.0 t j.1 w.0 w.1) ∙ w.2 in
-    cc
+  back : IsSilent d c root digit → (p : ℕ) → Contains row p → WakesEntry d c p root digit → ⊥
+  back silent p m w =
+      let y = w.2 in
+      let here : IsRootOf d c root w.0 = record { place = p; entry = w.1.entry; is = w.1.is; signal = w.1.signal; root_is = w.1.root_is } in
+      let e : false ≡ true = sym (silent y.process y.term y.has y.edge (subst (IsRootOf d c root) (sym y.of) here)) ∙ y.wakes in
+      cc
+
+-- an entry of a place whose root and signal are told
+pub no_entry_calm : (d : Parts) (c : Claims) (place root : ℕ) (digit : Digit) → ((r v : ℕ) → (IsRootAt d c.edges place r v ↔ ◌≡◌ {A = Option (ℕ × ℕ)} None (Some (r, v)))) →
+    WakesEntry d c place root digit → ⊥
+no_entry_calm d c place root digit f w = let e : ◌≡◌ {A = Option (ℕ × ℕ)} None (Some (root, w.0)) = (f root w.0).0 w.1 in cc
+
+pub other_root_calm : (d : Parts) (c : Claims) (place root of v : ℕ) (digit : Digit) → ((r u : ℕ) → (IsRootAt d c.edges place r u ↔ ◌≡◌ {A = Option (ℕ × ℕ)} (Some (of, v)) (Some (r, u)))) →
+    (of ≡ root → ⊥) → WakesEntry d c place root digit → ⊥
+other_root_calm d c place root of v digit f other w = other (ap (λ (x : ℕ × ℕ). x.0) (same_Some (of, v) (root, w.0) ((f root w.0).0 w.1)))
+
+pub entry_calm : (d : Parts) (c : Claims) (place root of v : ℕ) (digit : Digit) → ((r u : ℕ) → (IsRootAt d c.edges place r u ↔ ◌≡◌ {A = Option (ℕ × ℕ)} (Some (of, v)) (Some (r, u)))) →
+    of ≡ root → ((WakesSignal d v digit → ⊥) ↔ (WakesEntry d c place root digit → ⊥))
+entry_calm d c place root of v digit f same = (
+  λ none w. none (subst (λ (u : ℕ). WakesSignal d u digit) (sym (ap (λ (x : ℕ × ℕ). x.1) (same_Some (of, v) (root, w.0) ((f root w.0).0 w.1)))) w.2),
+  λ none w. none (v, (f root v).1 (ap (λ (x : ℕ). Some (x, v)) same), w),
+)
+
+pub entry_within : (d : Parts) (edges : List EdgeClaim) (place root v : ℕ) → IsRootAt d edges place root v → v < length d.signals
+entry_within d edges place root v h = by (cases v (length d.signals)) where
+  cases : (a b : ℕ) → (a < b) ⊎ (b ≤ a)
+  cases a b = grind arith
+
+  by : (v < length d.signals) ⊎ (length d.signals ≤ v) → v < length d.signals
+  by (inl l) = l
+  by (inr g) = absurd (no_name d v h.entry.signal g h.signal)
+
+pub past_claims : (d : Parts) (edges : List EdgeClaim) (root : ℕ) → length d.signals ≤ root → (row : List ℕ) → row ≡ [] → (place : ℕ) → (Contains row place ↔ NamesRoot d edges place root)
+past_claims d edges root past row e place = (
+  λ c. absurd (omega (arith, (subst (λ (l : List ℕ). Contains l place) e c).1)),
+  λ h. absurd (no_name d root h.1.entry.root past h.1.root_is),
+)
 
 -- ---- what is put
 
@@ -224,17 +238,16 @@ within_of_root d c v h = by (cases v (length d.signals)) where
   by (inl l) = l
   by (inr g) = absurd (past_root d c v g h)
 
-pub contains_item : {A : Type 0} (xs : List A) (i : ℕ) (d : A) → i < length xs → Contains xs (get_or xs i d)
-contains_item xs i d h = (i, h, sym (get_or_same xs i d h))
-
 not_true : (b : Bool) → not b ≡ true → b ≡ false
 not_true true h = cc
 not_true false h = refl
 
-pub root_told : (d : Parts) (c : Claims) (v : ℕ) (row : List ℕ) (n : ℕ) (b : Bool) → ((p : ℕ) → (Contains row p ↔ NamesRoot d c.edges p v)) → n ≡ length row → b ≡ (n == 0) → (not b ≡ true ↔ IsRoot d c v)
-root_told d c v row n b are long told = (
-  λ t. root_of_row d c v row are (some (eqb-false n 0 (sym told ∙ not_true b t))),
-  λ r. ap not (told ∙ ne_eqb n 0 (none (row_of_root d c v row are r))),
+-- a row that isn't empty tells what all of its numbers do
+pub row_told : (P : ℕ → Type 0) (A : Type 0) (row : List ℕ) (n : ℕ) (b : Bool) → ((k : ℕ) → (Contains row k ↔ P k)) → ((k : ℕ) → P k → A) → (A → (k : ℕ) × P k) → n ≡ length row → b ≡ (n == 0) →
+    (not b ≡ true ↔ A)
+row_told P A row n b are into back long told = (
+  λ t. into (get_or row 0 0) ((are (get_or row 0 0)).0 (contains_at row 0 (some (eqb-false n 0 (sym told ∙ not_true b t))))),
+  λ a. let y = back a in let m = (are y.0).1 y.1 in ap not (told ∙ ne_eqb n 0 (λ z. omega (arith, m.1, long, z))),
 ) where
   some : (n ≡ 0 → ⊥) → 0 < length row
   some h = by (cases n) where
@@ -245,5 +258,9 @@ root_told d c v row n b are long told = (
     by (inl z) = absurd (h z)
     by (inr l) = omega (arith, l, long)
 
-  none : 0 < length row → n ≡ 0 → ⊥
-  none l z = omega (arith, l, long, z)
+pub root_told : (d : Parts) (c : Claims) (v : ℕ) (row : List ℕ) (n : ℕ) (b : Bool) → ((p : ℕ) → (Contains row p ↔ NamesRoot d c.edges p v)) → n ≡ length row → b ≡ (n == 0) → (not b ≡ true ↔ IsRoot d c v)
+root_told d c v row n b are long told =
+    row_told (λ p. NamesRoot d c.edges p v) (IsRoot d c v) row n b are
+    (λ p y. (y.0, record { place = p; entry = y.1.entry; is = y.1.is; signal = y.1.signal; root_is = y.1.root_is }))
+    (λ h. (h.1.place, (h.0, record { entry = h.1.entry; is = h.1.is; signal = h.1.signal; root_is = h.1.root_is })))
+    long told

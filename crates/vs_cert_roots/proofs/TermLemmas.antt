@@ -1,8 +1,8 @@
 -- The terms of processes.
-use Rattle.std.proofs.Common.{◌≡◌, ℕ, ◌+◌, ◌<◌, ◌≤◌, ◌⊎◌, ◌↔◌, ◌==◌, not, inl, inr, Bool, true, false, Some, None, List, [], length, slice_get, refl, sym, ◌∙◌, ap, subst, arith}
+use Rattle.std.proofs.Common.{◌≡◌, ℕ, ◌+◌, ◌<◌, ◌≤◌, ◌⊎◌, ◌↔◌, ◌==◌, not, inl, inr, Bool, true, false, Some, None, List, [], length, get_or, ◌∷◌, ◌++◌, slice_get, refl, sym, ◌∙◌, ap, subst, arith}
 use Rattle.std.specs.List.{Contains, list_any}
 use Rattle.std.proofs.lemmas.Bool.{and_parts, and_from, eqb-true}
-use Rattle.std.proofs.lemmas.Option.{slice_get_within, get_or_from_slice_get}
+use Rattle.std.proofs.lemmas.Option.{same_Some, slice_get_within, slice_get-get_or, get_or_from_slice_get}
 use Rattle.vs_logic4.proofs.Basics.{element_of, same_self, there}
 use Rattle.vs_design.specs.declared.design.Process.{Process}
 use Rattle.vs_design.specs.declared.statement.EventTerm.{EventTerm}
@@ -16,8 +16,12 @@ use Rattle.vs_slots_paths.specs.Reaches.{Chart}
 use Rattle.vs_slots_paths.specs.Ranges.{HasTermAt}
 use Rattle.vs_slots_paths.proofs.EachWalk.{terms_exact}
 use Rattle.vs_cert_facts.specs.Facts.{AreCharts}
-use Rattle.vs_cert_roots.specs.Entries.{AreTerms, is_edge_of}
-use Rattle.vs_cert_roots.proofs.ListLemmas.{any_in}
+use Rattle.vs_logic4.specs.declared.digit.Digit.{Digit}
+use Rattle.vs_logic4.specs.declared.digit.Digit.TheVariants.{X}
+use Rattle.vs_logic4.specs.Edges.{is_edge}
+use Rattle.vs_cert_roots.specs.Entries.{AreTerms, NamesTerm, WakesAt, is_edge_of}
+use Rattle.vs_cert_roots.specs.First.{WakesSignal}
+use Rattle.vs_cert_roots.proofs.ListLemmas.{any_in, appended, in_one, nothing_more}
 use Rattle.vs_rules.proofs.Past.{past_points, end_next}
 
 -- the process of a chart
@@ -101,3 +105,88 @@ edge_signal_is d terms are v = (there_is, back) where
   back h =
       any_in (is_edge_of v) terms h.term ((are h.term).1 (h.process, h.has))
       (and_from (not (is_level h.term)) (h.term.range.signal == v) (ap not h.edge) (same_self h.term.range.signal v h.of))
+
+-- ---- edge terms by their signals
+
+pub past_term : (terms : List EventTerm) (k : ℕ) → length terms ≤ k → (old : List ℕ) (v : ℕ) → (Contains old v ↔ (Contains old v ⊎ NamesTerm terms k v))
+past_term terms k past old = nothing_more old (NamesTerm terms k) (λ v h. absurd (omega (arith, past, slice_get_within terms k h.0 h.1)))
+
+-- a term that waits for any change names none
+pub level_named : (terms : List EventTerm) (k : ℕ) (x : EventTerm) → slice_get terms k ≡ Some x → is_level x ≡ true → (old : List ℕ) (v : ℕ) → (Contains old v ↔ (Contains old v ⊎ NamesTerm terms k v))
+level_named terms k x at level old = nothing_more old (NamesTerm terms k) none where
+  none : (v : ℕ) → NamesTerm terms k v → ⊥
+  none v h =
+      let edge : is_level h.0 ≡ false = not_level (is_level h.0) (and_parts (not (is_level h.0)) (h.0.range.signal == v) h.2).0 in
+      let same : x ≡ h.0 = same_Some x h.0 (sym at ∙ h.1) in
+      let f : true ≡ false = sym level ∙ ap is_level same ∙ edge in
+      cc
+
+-- another one names its signal
+pub edge_named : (terms : List EventTerm) (k : ℕ) (x : EventTerm) → slice_get terms k ≡ Some x → is_level x ≡ false → (old new : List ℕ) → new ≡ old ++ x.range.signal ∷ [] → (v : ℕ) →
+    (Contains new v ↔ (Contains old v ⊎ NamesTerm terms k v))
+edge_named terms k x at edge old new e = appended old (x.range.signal ∷ []) new (NamesTerm terms k) e (λ v. (into v, back v)) where
+  into : (v : ℕ) → Contains (x.range.signal ∷ []) v → NamesTerm terms k v
+  into v c = (x, at, and_from (not (is_level x)) (x.range.signal == v) (ap not edge) (same_self x.range.signal v (in_one x.range.signal v c)))
+
+  back : (v : ℕ) → NamesTerm terms k v → Contains (x.range.signal ∷ []) v
+  back v h =
+      let same : x ≡ h.0 = same_Some x h.0 (sym at ∙ h.1) in
+      let of : h.0.range.signal ≡ v = eqb-true h.0.range.signal v (and_parts (not (is_level h.0)) (h.0.range.signal == v) h.2).1 in
+      subst (Contains (x.range.signal ∷ [])) (ap (λ (t : EventTerm). t.range.signal) same ∙ of) (0, omega arith, refl)
+
+-- the same of a term as it is read
+pub level_read : (terms : List EventTerm) (k : ℕ) (x : EventTerm) → k < length terms → is_level (get_or terms k x) ≡ true → (old : List ℕ) (v : ℕ) → (Contains old v ↔ (Contains old v ⊎ NamesTerm terms k v))
+level_read terms k x h level old = level_named terms k (get_or terms k x) (slice_get-get_or terms k x h) level old
+
+pub edge_read : (terms : List EventTerm) (k : ℕ) (x : EventTerm) → k < length terms → is_level (get_or terms k x) ≡ false → (old new : List ℕ) → new ≡ old ++ (get_or terms k x).range.signal ∷ [] → (v : ℕ) →
+    (Contains new v ↔ (Contains old v ⊎ NamesTerm terms k v))
+edge_read terms k x h edge old new e = edge_named terms k (get_or terms k x) (slice_get-get_or terms k x h) edge old new e
+
+pub wakes_read : (terms : List EventTerm) (k : ℕ) (x : EventTerm) (digit : Digit) (b : Bool) → k < length terms → b ≡ is_edge (get_or terms k x).edge X digit → (b ≡ true ↔ WakesAt terms k digit)
+wakes_read terms k x digit b h told = (
+  λ t. (get_or terms k x, slice_get-get_or terms k x h, sym told ∙ t),
+  λ w. told ∙ ap (λ (t : EventTerm). is_edge t.edge X digit) (same_Some (get_or terms k x) w.0 (sym (slice_get-get_or terms k x h) ∙ w.1)) ∙ w.2,
+)
+
+pub past_wakes : (terms : List EventTerm) (k : ℕ) (digit : Digit) → length terms ≤ k → (false ≡ true ↔ WakesAt terms k digit)
+past_wakes terms k digit past = (λ t. cc, λ w. absurd (omega (arith, past, slice_get_within terms k w.0 w.1)))
+
+pub term_within : (terms : List EventTerm) (v k : ℕ) → NamesTerm terms k v → k < length terms
+term_within terms v k h = slice_get_within terms k h.0 h.1
+
+pub signal_named : (d : Parts) (terms : List EventTerm) → AreTerms d terms → (v k : ℕ) → NamesTerm terms k v → IsEdgeSignal d v
+signal_named d terms are v k h =
+    let both = and_parts (not (is_level h.0)) (h.0.range.signal == v) h.2 in
+    let p = (are h.0).0 (k, slice_get_within terms k h.0 h.1, get_or_from_slice_get terms k h.0 h.0 h.1) in
+    record { process = p.0; term = h.0; has = p.1; edge = not_level (is_level h.0) both.0; of = eqb-true h.0.range.signal v both.1 }
+
+pub named_signal : (d : Parts) (terms : List EventTerm) → AreTerms d terms → (v : ℕ) → IsEdgeSignal d v → (k : ℕ) × NamesTerm terms k v
+named_signal d terms are v h =
+    let m = (are h.term).1 (h.process, h.has) in
+    (m.0, (h.term, slice_get-get_or terms m.0 h.term m.1 ∙ ap Some m.2, and_from (not (is_level h.term)) (h.term.range.signal == v) (ap not h.edge) (same_self h.term.range.signal v h.of)))
+
+-- no edge term of a signal is woken where none of those numbers is
+pub calm_is : (d : Parts) (terms : List EventTerm) → AreTerms d terms → (v : ℕ) (digit : Digit) (row : List ℕ) → ((k : ℕ) → (Contains row k ↔ NamesTerm terms k v)) →
+    (((k : ℕ) → Contains row k → WakesAt terms k digit → ⊥) ↔ (WakesSignal d v digit → ⊥))
+calm_is d terms are v digit row rows = (into, back) where
+  into : ((k : ℕ) → Contains row k → WakesAt terms k digit → ⊥) → WakesSignal d v digit → ⊥
+  into none w =
+      let m = (are w.term).1 (w.process, w.has) in
+      let at : slice_get terms m.0 ≡ Some w.term = slice_get-get_or terms m.0 w.term m.1 ∙ ap Some m.2 in
+      let named = and_from (not (is_level w.term)) (w.term.range.signal == v) (ap not w.edge) (same_self w.term.range.signal v w.of) in
+      none m.0 ((rows m.0).1 (w.term, at, named)) (w.term, at, w.wakes)
+
+  back : (WakesSignal d v digit → ⊥) → (k : ℕ) → Contains row k → WakesAt terms k digit → ⊥
+  back none k c w =
+      let h = (rows k).0 c in
+      let both = and_parts (not (is_level h.0)) (h.0.range.signal == v) h.2 in
+      let p = (are h.0).0 (k, slice_get_within terms k h.0 h.1, get_or_from_slice_get terms k h.0 h.0 h.1) in
+      let same : w.0 ≡ h.0 = same_Some w.0 h.0 (sym w.1 ∙ h.1) in
+      none (record {
+        process = p.0;
+        term = h.0;
+        has = p.1;
+        edge = not_level (is_level h.0) both.0;
+        of = eqb-true h.0.range.signal v both.1;
+        wakes = sym (ap (λ (t : EventTerm). is_edge t.edge X digit) same) ∙ w.2;
+      })

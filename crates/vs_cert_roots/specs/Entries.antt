@@ -1,8 +1,11 @@
 -- The entries for the signals of edge terms, and the terms of the processes.
-use Rattle.std.specs.Prelude.{ℕ, ◌≡◌, ◌↔◌, ◌==◌, ◌&&◌, not, Bool, Some, List, length, slice_get}
+use Rattle.std.specs.Prelude.{ℕ, ◌≡◌, ◌↔◌, ◌==◌, ◌&&◌, not, Bool, true, Some, List, length, slice_get}
 use Rattle.std.specs.List.{Contains}
 use Rattle.std.specs.declared.vec.Vec.{Vec}
 use Rattle.std.specs.declared.alloc.Global.{Global}
+use Rattle.vs_logic4.specs.declared.digit.Digit.{Digit}
+use Rattle.vs_logic4.specs.declared.digit.Digit.TheVariants.{X}
+use Rattle.vs_logic4.specs.Edges.{is_edge}
 use Rattle.vs_design.specs.declared.statement.EventTerm.{EventTerm}
 use Rattle.vs_design.specs.Parts.{Parts}
 use Rattle.vs_process.specs.Executions.{is_level}
@@ -28,11 +31,25 @@ AreTerms d terms = (t : EventTerm) → (Contains terms t ↔ ((j : ℕ) × HasTe
 abbrev pub is_edge_of : ℕ → EventTerm → Bool
 is_edge_of v t = not (is_level t) && (t.range.signal == v)
 
+-- the term of a number waits for an edge of the signal
+abbrev pub NamesTerm : List EventTerm → ℕ → ℕ → Type 0
+NamesTerm terms k v = (t : EventTerm) × (slice_get terms k ≡ Some t) × (is_edge_of v t ≡ true)
+
+-- the numbers of the edge terms, by their signals
+abbrev pub AreEdges : Parts → List EventTerm → List (Vec ℕ Global) → Type 0
+AreEdges d terms edges = AreRows (NamesTerm terms) (length terms) (length d.signals) edges
+
+-- the term of a number is woken by a change from x to the digit
+abbrev pub WakesAt : List EventTerm → ℕ → Digit → Type 0
+WakesAt terms k digit = (t : EventTerm) × (slice_get terms k ≡ Some t) × (is_edge t.edge X digit ≡ true)
+
 -- what is kept
-pub record KeepsEntries (k : Case) (places : List (Vec ℕ Global)) (terms : List EventTerm) : Type 0 where
+pub record KeepsEntries (k : Case) (places : List (Vec ℕ Global)) (terms : List EventTerm) (edges : List (Vec ℕ Global)) : Type 0 where
   pub long : length places ≡ length k.design.signals
   pub places_are : AreEntries k places
   pub terms_are : AreTerms k.design terms
+  pub edges_long : length edges ≡ length k.design.signals
+  pub edges_are : AreEdges k.design terms edges
 
 -- a signal has one entry where an edge term names it, else none
 pub record HasEntries (d : Parts) (c : Claims) (v : ℕ) : Type 0 where

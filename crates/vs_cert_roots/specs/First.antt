@@ -66,9 +66,18 @@ pub record KeepsFirst (k : Case) (claimed writers : List (Vec ℕ Global)) : Typ
   pub long : length writers ≡ length k.design.signals
   pub writers_are : AreFirstRows k writers
 
--- an edge term of a root is woken by a change from x to the digit
-abbrev pub Wakes : Parts → Claims → ℕ → Digit → EventTerm → Type 0
-Wakes d c root digit t = (is_level t ≡ false) × IsRootOf d c root t.range.signal × (is_edge t.edge X digit ≡ true)
+-- an edge term of a signal is woken by a change from x to the digit
+pub record WakesSignal (d : Parts) (v : ℕ) (digit : Digit) : Type 0 where
+  pub process : ℕ
+  pub term : EventTerm
+  pub has : HasTerm d process term
+  pub edge : is_level term ≡ false
+  pub of : term.range.signal ≡ v
+  pub wakes : is_edge term.edge X digit ≡ true
+
+-- the entry of a place has the root, and an edge term of its signal is so woken
+abbrev pub WakesEntry : Parts → Claims → ℕ → ℕ → Digit → Type 0
+WakesEntry d c place root digit = (v : ℕ) × IsRootAt d c.edges place root v × WakesSignal d v digit
 
 -- the rule on what a root is given in the first slot is one of the places of maps
 pub record FirstByPlaces : Type 0 where

@@ -10,8 +10,8 @@ ghost use Rattle.vs_rules.specs.Claims.{IsRootOf};
 ghost use Rattle.vs_rules.specs.Paths.{HasTerm};
 ghost use Rattle.vs_rules.specs.Rules.{IsEdgeSignal};
 ghost use Rattle.vs_cert_facts.specs.Facts.{IsRootAt};
-ghost use Rattle.vs_cert_roots.specs.First.{IsSilent, Wakes};
-ghost use Rattle.vs_cert_roots.specs.Entries.{NamesEntry, AreTerms, HasEntries, is_edge_of};
+ghost use Rattle.vs_cert_roots.specs.First.{WakesSignal};
+ghost use Rattle.vs_cert_roots.specs.Entries.{NamesEntry, NamesTerm, WakesAt, AreTerms, HasEntries, is_edge_of};
 
 use std::alloc::{AllocError, Global};
 use std::marker::Model;
@@ -19,7 +19,7 @@ use vs_cert_facts::Facts;
 use vs_certificate::Certificate;
 use vs_design::EventTerm;
 use vs_logic4::{Digit, Edge};
-use vs_reach::{Family, gather, has};
+use vs_reach::{Family, gather};
 use vs_slots_copies::only;
 use vs_slots_paths::{index_of, terms};
 
@@ -89,6 +89,28 @@ fn is_edge_from_x(edge: Edge, digit: Digit) -> bool
     }
 }
 
+// Whether a change from x to a digit is an edge for which the term of a number waits.
+fn wakes(terms: &[EventTerm], k: usize, digit: Digit) -> bool
+    ensures { IsTrue result ↔ WakesAt terms.now k digit }
+{
+    if k >= terms.len() {
+        return false;
+    }
+    is_edge_from_x(terms[k].edge, digit)
+}
+
+// Whether it is one for which none of some terms by their numbers waits.
+fn none_wakes(terms: &[EventTerm], numbers: &[usize], digit: Digit) -> bool
+    ensures { IsTrue result ↔ ((k : ℕ) → Contains numbers.now k → WakesAt terms.now k digit → ⊥) }
+{
+    for k in numbers {
+        if wakes(terms, *k, digit) {
+            return false;
+        }
+    }
+    true
+}
+
 // Puts the terms of a process at a list's end.
 fn push_terms<'a>(
     alloc: Global,
@@ -118,6 +140,27 @@ fn terms_of<'a>(alloc: Global, facts: &'a Facts<'a>) -> Result<Vec<EventTerm>, A
         push_terms(alloc, facts, i, &mut all)?;
     }
     Ok(all)
+}
+
+// The terms of all processes, and the signals for edges of which they wait.
+#[derive(Drop)]
+struct EdgeTerms<'a> {
+    terms: &'a [EventTerm],
+}
+
+impl<'a> Family for EdgeTerms<'a> {
+    ghost has = { λ f k v. NamesTerm f.terms.now k v };
+
+    fn put(&self, _alloc: Global, i: usize, out: &mut Vec<usize>) -> Result<(), AllocError> {
+        if i >= self.terms.len() {
+            return Ok(());
+        }
+        if is_level(self.terms[i]) {
+            return Ok(());
+        }
+        out.push(self.terms[i].range.signal)?;
+        Ok(())
+    }
 }
 
 // The places of some entries, and a signal of which they may be.
@@ -160,6 +203,8 @@ pub struct Entries<'a> {
     facts: &'a Facts<'a>,
     places: Vec<Vec<usize>>,
     terms: Vec<EventTerm>,
+    // For each signal the numbers of its edge terms.
+    edges: Vec<Vec<usize>>,
 }
 
 impl<'a> Model for Entries<'a> {
@@ -167,7 +212,6 @@ impl<'a> Model for Entries<'a> {
     ghost use Rattle.vs_design.specs.contracts.expression.Typed as expression;
     ghost use Rattle.vs_design.specs.contracts.statement.Statement as statement;
     ghost use Rattle.vs_cert_facts.specs.Facts.{Case};
-    ghost use Rattle.vs_cert_roots.specs.First.{IsSilent, Wakes};
     ghost use Rattle.vs_cert_roots.specs.Entries.{KeepsEntries};
 
     ghost Value = { Case };
@@ -176,7 +220,7 @@ impl<'a> Model for Entries<'a> {
 
     ghost view = { λ e. e.facts.now };
 
-    ghost invariant = { λ e. KeepsEntries e.facts.now e.places.items e.terms.items };
+    ghost invariant = { λ e. KeepsEntries e.facts.now e.places.items e.terms.items e.edges.items };
 }
 
 impl<'a> Entries<'a> {
@@ -193,10 +237,12 @@ impl<'a> Entries<'a> {
         let count = facts.design().signals().len();
         let places = index_of(alloc, &signals, certificate.edges.len(), count)?;
         let terms = terms_of(alloc, facts)?;
+        let edges = index_of(alloc, &EdgeTerms { terms: &terms }, terms.len(), count)?;
         Ok(Entries {
             facts,
             places,
             terms,
+            edges,
         })
     }
 
@@ -207,11 +253,22 @@ impl<'a> Entries<'a> {
         self.facts
     }
 
-    /// Whether an edge term names a signal. It takes as long as there are terms.
+    /// Whether an edge term names a signal. For one past the last of the design it takes as long as there are terms.
     pub fn is_edge_signal(&self, v: usize) -> bool
         ensures { IsTrue result ↔ IsEdgeSignal self.now.design v }
     {
-        any_edge_of(&self.terms, v)
+        if v >= self.edges.len() {
+            return any_edge_of(&self.terms, v);
+        }
+        !self.edges[v].is_empty()
+    }
+
+    /// Whether a change of a signal from x to a digit wakes no edge term of it. It takes as long as the signal has edge terms.
+    pub(crate) fn is_calm(&self, v: usize, digit: Digit) -> bool
+        requires { v < length self.now.design.signals }
+        ensures { IsTrue result ↔ (WakesSignal self.now.design v digit → ⊥) }
+    {
+        none_wakes(&self.terms, &self.edges[v], digit)
     }
 
     // The places of the entries of a signal.
@@ -251,38 +308,5 @@ impl<'a> Entries<'a> {
         } else {
             places.is_empty()
         }
-    }
-
-    // Whether a term of a root is woken by a change from x to a digit.
-    fn wakes(
-        &self,
-        alloc: Global,
-        term: EventTerm,
-        root: usize,
-        digit: Digit,
-    ) -> Result<bool, AllocError>
-        ensures { IfOk result (λ b. (IsTrue b ↔ Wakes self.now.design self.now.claims root digit term)) }
-    {
-        if is_level(term) {
-            return Ok(false);
-        }
-        if !is_edge_from_x(term.edge, digit) {
-            return Ok(false);
-        }
-        let roots = self.roots(alloc, term.range.signal)?;
-        Ok(has(&roots, root))
-    }
-
-    /// Whether no edge term of a root is woken by a change from x to a digit. It takes as long as there are terms.
-    pub fn is_silent(&self, alloc: Global, root: usize, digit: Digit) -> Result<bool, AllocError>
-        ensures { IfOk result (λ b. (IsTrue b ↔ IsSilent self.now.design self.now.claims root digit)) }
-    {
-        for term in &self.terms {
-            let woken = self.wakes(alloc, *term, root, digit)?;
-            if woken {
-                return Ok(false);
-            }
-        }
-        Ok(true)
     }
 }

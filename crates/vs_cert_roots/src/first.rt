@@ -8,7 +8,7 @@ ghost use Rattle.vs_slots_constants.specs.Clocks.{known};
 ghost use Rattle.vs_slots_constants.specs.Givings.{given_here};
 ghost use Rattle.vs_slots_paths.specs.Ranges.{HasSignal, now_at, later_at, statement_at};
 ghost use Rattle.vs_slots_paths.specs.Reaches.{places};
-ghost use Rattle.vs_cert_roots.specs.First.{SiteAt, HasSite, StartsSilently, StartsWellIn, StartsWell, NamesRoot};
+ghost use Rattle.vs_cert_roots.specs.First.{SiteAt, HasSite, IsSilent, StartsSilently, StartsWellIn, StartsWell, NamesRoot, WakesEntry};
 
 use crate::entries::Entries;
 use std::alloc::{AllocError, Global};
@@ -212,57 +212,6 @@ fn digit_at<'a>(
     }
 }
 
-// Whether a place doesn't write a root by `<=`, and gives it a constant 0 or 1 that wakes no edge term of it.
-fn starts_silently<'a>(
-    alloc: Global,
-    entries: &Entries,
-    tables: &'a Tables<'a>,
-    v: usize,
-    p: usize,
-) -> Result<bool, AllocError>
-    ensures { IfOk result (λ b. (IsTrue b ↔ StartsSilently entries.entry.now.design entries.entry.now.claims tables.entry.now v p)) }
-{
-    if tables.writes_later(p, v) {
-        return Ok(false);
-    }
-    match digit_at(alloc, tables, v, p)? {
-        None => Ok(false),
-        Some(digit) => entries.is_silent(alloc, v, digit),
-    }
-}
-
-// Whether one place alone of a text writes a root in the first slot, and does so.
-fn starts_well_in<'a>(
-    alloc: Global,
-    entries: &Entries,
-    tables: &'a Tables<'a>,
-    v: usize,
-) -> Result<bool, AllocError>
-    ensures { IfOk result (λ b. (IsTrue b ↔ StartsWellIn entries.entry.now.design entries.entry.now.claims tables.entry.now v)) }
-{
-    tables.leads_in();
-    let sites = gather(alloc, &Places { tables, signal: v }, tables.places())?;
-    match only(&sites) {
-        None => Ok(false),
-        Some(p) => starts_silently(alloc, entries, tables, v, p),
-    }
-}
-
-// The same of a process.
-fn starts_well<'a>(
-    alloc: Global,
-    entries: &Entries<'a>,
-    j: usize,
-    v: usize,
-) -> Result<bool, AllocError>
-    ensures { IfOk result (λ b. (IsTrue b ↔ StartsWell entries.entry.now.design entries.entry.now.claims entries.entry.now.charts j v)) }
-{
-    match entries.facts().tables(j) {
-        None => Ok(false),
-        Some(tables) => starts_well_in(alloc, entries, tables, v),
-    }
-}
-
 impl<'a> FirstWrites<'a> {
     /// What the entries of a certificate say of the first slot. It takes as long as the texts of the processes, and as there are entries.
     pub fn of(alloc: Global, entries: &'a Entries<'a>) -> Result<FirstWrites<'a>, AllocError>
@@ -281,15 +230,57 @@ impl<'a> FirstWrites<'a> {
         })
     }
 
+    // The places of the entries with a root.
+    fn claims_of(&self, root: usize) -> &[usize]
+        ensures { (place : ℕ) → (Contains result.now place ↔ NamesRoot self.now.design self.now.claims.edges place root) }
+    {
+        if root < self.claimed.len() {
+            &self.claimed[root]
+        } else {
+            &[]
+        }
+    }
+
     // Whether a signal is the root of an entry.
     fn is_root(&self, v: usize) -> bool
         ensures { IsTrue result ↔ IsRoot self.now.design self.now.claims v }
     {
-        if v < self.claimed.len() {
-            !self.claimed[v].is_empty()
-        } else {
-            false
+        !self.claims_of(v).is_empty()
+    }
+
+    // Whether the entry of a place is not of a root, or a change from x to a digit wakes no edge term of its signal.
+    fn is_calm(&self, place: usize, root: usize, digit: Digit) -> bool
+        ensures { IsTrue result ↔ (WakesEntry self.now.design self.now.claims place root digit → ⊥) }
+    {
+        match self.entries.facts().edge(place) {
+            None => true,
+            Some((of, v)) => {
+                if of != root {
+                    return true;
+                }
+                self.entries.is_calm(v, digit)
+            }
         }
+    }
+
+    // Whether this is so of the entries of some places.
+    fn are_calm(&self, places: &[usize], root: usize, digit: Digit) -> bool
+        ensures { IsTrue result ↔ ((place : ℕ) → Contains places.now place →
+            WakesEntry self.now.design self.now.claims place root digit → ⊥) }
+    {
+        for place in places {
+            if !self.is_calm(*place, root, digit) {
+                return false;
+            }
+        }
+        true
+    }
+
+    /// Whether no edge term of a root is woken by a change from x to a digit. It takes as long as the signals that copy the root have edge terms.
+    pub fn is_silent(&self, root: usize, digit: Digit) -> bool
+        ensures { IsTrue result ↔ IsSilent self.now.design self.now.claims root digit }
+    {
+        self.are_calm(self.claims_of(root), root, digit)
     }
 
     // The processes that write a signal in the first slot.
@@ -301,17 +292,69 @@ impl<'a> FirstWrites<'a> {
     }
 }
 
+// Whether a place doesn't write a root by `<=`, and gives it a constant 0 or 1 that wakes no edge term of it.
+fn starts_silently<'a>(
+    alloc: Global,
+    first: &FirstWrites,
+    tables: &'a Tables<'a>,
+    v: usize,
+    p: usize,
+) -> Result<bool, AllocError>
+    ensures { IfOk result (λ b. (IsTrue b ↔ StartsSilently first.entry.now.design first.entry.now.claims tables.entry.now v p)) }
+{
+    if tables.writes_later(p, v) {
+        return Ok(false);
+    }
+    match digit_at(alloc, tables, v, p)? {
+        None => Ok(false),
+        Some(digit) => Ok(first.is_silent(v, digit)),
+    }
+}
+
+// Whether one place alone of a text writes a root in the first slot, and does so.
+fn starts_well_in<'a>(
+    alloc: Global,
+    first: &FirstWrites,
+    tables: &'a Tables<'a>,
+    v: usize,
+) -> Result<bool, AllocError>
+    ensures { IfOk result (λ b. (IsTrue b ↔ StartsWellIn first.entry.now.design first.entry.now.claims tables.entry.now v)) }
+{
+    tables.leads_in();
+    let sites = gather(alloc, &Places { tables, signal: v }, tables.places())?;
+    match only(&sites) {
+        None => Ok(false),
+        Some(p) => starts_silently(alloc, first, tables, v, p),
+    }
+}
+
+// The same of a process.
+fn starts_well<'a>(
+    alloc: Global,
+    first: &FirstWrites<'a>,
+    j: usize,
+    v: usize,
+) -> Result<bool, AllocError>
+    ensures { IfOk result (λ b. (IsTrue b ↔ StartsWell first.entry.now.design first.entry.now.claims first.entry.now.charts j v)) }
+{
+    match first.entries.facts().tables(j) {
+        None => Ok(false),
+        Some(tables) => starts_well_in(alloc, first, tables, v),
+    }
+}
+
 /// Whether a signal keeps the rule K10: where it is a root, one statement at most of all processes writes it in the first slot, by `=`, and gives it
-/// a constant 0 or 1, which from x wakes no edge term of it. It takes as long as the text of the process that writes it, and as there are terms.
+/// a constant 0 or 1, which from x wakes no edge term of it. It takes as long as the text of the process that writes it, and as it has edge terms.
 pub fn keeps_first_root(alloc: Global, first: &FirstWrites, v: usize) -> Result<bool, AllocError>
     ensures { IfOk result (λ b. (IsTrue b ↔ K10_Signal first.entry.now.design first.entry.now.claims v)) }
 {
+    let _ = &first.writers;
     if !first.is_root(v) {
         return Ok(true);
     }
     let writers = first.writers(v);
     match only(writers) {
-        Some(j) => starts_well(alloc, first.entries, j, v),
+        Some(j) => starts_well(alloc, first, j, v),
         None => Ok(writers.is_empty()),
     }
 }

@@ -177,8 +177,8 @@ fn are_right<'a>(
 }
 
 /// Whether a signal keeps the rule K6: it has one entry where an edge term names it, else none; and it copies the root of its entry, a variable of
-/// mode blocking, with a writer of kind delay, and not hot where that writes it. It takes as long as there are edge terms, and for the root as
-/// there are signals, and as the writer's text.
+/// mode blocking, with a writer of kind delay, and not hot where that writes it. It takes for the root as long as there are signals, and as the
+/// writer's text.
 pub fn keeps_root<'a>(
     alloc: Global,
     entries: &Entries<'a>,

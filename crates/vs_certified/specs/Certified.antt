@@ -9,10 +9,10 @@ use Rattle.vs_design.specs.Parts.{Parts}
 use Rattle.vs_design.specs.Traces.{Line, SameTrace, Slot, Trace, times_in}
 use Rattle.vs_process.specs.declared.moves.Move.{Move}
 use Rattle.vs_process.specs.Executions.{after, Legal, is_complete, trace}
-use Rattle.vs_vcd.specs.Codes.{shown}
-use Rattle.vs_vcd.specs.Shown.{Shows, slot_at}
-use Rattle.vs_vcd.specs.Text.{vcd_text}
-use Rattle.vs_vcd.specs.Values.{shown_value}
+use Rattle.vs_vcd_writing.specs.Codes.{shown}
+use Rattle.vs_vcd_writing.specs.Shown.{Shows, slot_at}
+use Rattle.vs_vcd_writing.specs.Text.{vcd_text}
+use Rattle.vs_vcd_writing.specs.Values.{shown_value}
 use Rattle.vs_independence.specs.Displays.{DisplaySlot, SameDisplays, displays}
 use Rattle.vs_rules.specs.Certificates.{claims_of}
 use Rattle.vs_rules.specs.Claims.{Claims, blocks_of}

@@ -79,7 +79,8 @@ pub fn open_inside<'s>(
     plan: &mut Numbering,
 ) -> Result<(), ElabFault>
     requires depth_left { 0 < depth_left }
-    requires ready { (ms : List Tree) × (ss : List Scope) × (s : Scope) × IsReady ms ss s modules.now list.old.items plan.old place depth_left }
+    requires ready { (ms : List Tree) × (ss : List Scope) × (s : Scope) ×
+        IsReady ms ss s modules.now list.old.items plan.old place depth_left }
     ensures { (ms : List Tree) (ss : List Scope) (s : Scope) → IsReady ms ss s modules.now list.old.items plan.old place depth_left →
         MatchResult result (λ _. OpensInside depth_left ms ss s place list.old.items list.new.items plan.old plan.new)
         (Told (OpensInsideNot depth_left ms s)) }

@@ -5,7 +5,8 @@ use vs_certificate::{CertFault, Certificate, ClaimedGrain, Version, from_json};
 use vs_design::Design;
 use vs_elaborate::{ElabFault, elaborate};
 use vs_explain_outline::{Page, SourceText};
-use vs_explain_rules::{explain_broken, explain_steps};
+use vs_explain_rules::{Taken, explain_broken, explain_steps};
+use vs_explain_steps::last_steps;
 use vs_lexer::{LexFault, lex};
 use vs_parser::{ParseFault, parse};
 
@@ -70,12 +71,13 @@ pub fn explain_rule(
     page.finish()
 }
 
-/// The text that explains a run which took its most steps: how many, the time of its slot in ticks, and what may go round there.
+/// The text that explains a run which took its most steps: how many, the time of its slot in ticks, and who took the last of them. The run is made again for
+/// it, so it takes as long.
 pub fn explain_limit(
     alloc: Global,
     source: &[u8],
     top: &[u8],
-    _lifo: bool,
+    lifo: bool,
     steps: u64,
     time: u64,
 ) -> Result<Vec<u8>, AllocError> {
@@ -83,7 +85,14 @@ pub fn explain_limit(
     let text = SourceText::read(alloc, source)?;
     let design = design_of(alloc, source, top)?;
     if let (Some(text), Some(design)) = (&text, &design) {
-        explain_steps(&mut page, text, design, steps, time);
+        let last = last_steps(alloc, design, lifo, steps)?;
+        let taken = Taken {
+            steps: last.steps,
+            from: last.from,
+            processes: &last.processes,
+            assigns: &last.assigns,
+        };
+        explain_steps(&mut page, text, design, steps, time, taken);
     }
     page.finish()
 }

@@ -10,5 +10,5 @@ mod rules;
 mod slots;
 mod uses;
 
-pub use limit::explain_steps;
+pub use limit::{Taken, explain_steps};
 pub use rules::explain_broken;

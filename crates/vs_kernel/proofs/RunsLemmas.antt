@@ -16,9 +16,9 @@ use Rattle.vs_flatcode.specs.Places.{Place}
 use Rattle.vs_process.specs.Blocks.{BlocksExclude, InsideFollows, inside_behind, inside_block, is_inside_at, is_inside_number, is_step_of_any}
 use Rattle.vs_run_events.specs.Insides.{inside_told, is_told}
 use Rattle.vs_process.specs.States.{State, start}
-use Rattle.vs_vcd.specs.Progress.{Progress}
-use Rattle.vs_vcd.specs.Sinks.{AppendsPart}
-use Rattle.vs_vcd.specs.Text.{vcd_header, vcd_slots, vcd_end, vcd_text}
+use Rattle.vs_vcd_writing.specs.Progress.{Progress}
+use Rattle.vs_vcd_writing.specs.Sinks.{AppendsPart}
+use Rattle.vs_vcd_writing.specs.Text.{vcd_header, vcd_slots, vcd_end, vcd_text}
 use Rattle.vs_kernel.specs.Ends.{end_in, outcome_in}
 use Rattle.vs_run_events.specs.Recording.{HasNoted}
 use Rattle.vs_run_events.specs.Prints.{lines_text}

@@ -6,8 +6,8 @@ use Rattle.vs_process.specs.declared.moves.Grain.TheVariants.{Statement, Block}
 use Rattle.vs_process.specs.declared.moves.Move.{Move}
 use Rattle.vs_process.specs.Executions.{after, Legal, lines_of, slots, trace, is_complete}
 use Rattle.vs_process.specs.States.{State}
-use Rattle.vs_vcd.specs.Sinks.{AppendsPart}
-use Rattle.vs_vcd.specs.Text.{vcd_header, vcd_slots, vcd_text}
+use Rattle.vs_vcd_writing.specs.Sinks.{AppendsPart}
+use Rattle.vs_vcd_writing.specs.Text.{vcd_header, vcd_slots, vcd_text}
 use Rattle.vs_run_events.specs.Prints.{lines_text}
 use Rattle.vs_kernel.specs.declared.outcome.Outcome.{Outcome}
 use Rattle.vs_kernel.specs.declared.outcome.Outcome.TheVariants.{Reached, Quiet, Finished, StepLimit}

@@ -6,9 +6,9 @@ use Rattle.vs_design.specs.Parts.{Parts}
 use Rattle.vs_process.specs.declared.moves.Grain.{Grain}
 use Rattle.vs_process.specs.declared.moves.Move.{Move}
 use Rattle.vs_process.specs.Executions.{Legal, slots}
-use Rattle.vs_vcd.specs.Codes.{shown}
-use Rattle.vs_vcd.specs.Shown.{Shows, slot_at}
-use Rattle.vs_vcd.specs.Values.{shown_value}
+use Rattle.vs_vcd_writing.specs.Codes.{shown}
+use Rattle.vs_vcd_writing.specs.Shown.{Shows, slot_at}
+use Rattle.vs_vcd_writing.specs.Values.{shown_value}
 use Rattle.vs_kernel.specs.Runs.{StopsAt, text_so_far}
 
 -- the value change dump of an execution so far shows, of each signal that is no array, at each time, its value at the end of the last slot at or

@@ -14,7 +14,7 @@ use vs_process::never_stuck;
 use vs_regions::Due;
 use vs_run_agenda::Pick;
 use vs_time_wheel::EventQueue;
-use vs_vcd::Sink;
+use vs_vcd_writing::Sink;
 
 /// Whether a kernel may run.
 #[derive(Clone, Copy, PartialEq, Eq, Debug)]

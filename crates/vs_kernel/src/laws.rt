@@ -2,7 +2,7 @@
 ghost use Rattle.vs_kernel.specs.Shows.{DumpsShow};
 
 use vs_process::{stores_are_sized, times_rise};
-use vs_vcd::shows_values_at_slot_ends;
+use vs_vcd_writing::shows_values_at_slot_ends;
 
 /// The value change dump of an execution so far shows, of each signal that is no array, at each time, its value at the end of the last slot at
 /// or before that time.

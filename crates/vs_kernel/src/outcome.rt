@@ -5,7 +5,7 @@ ghost use Rattle.vs_kernel.specs.declared.outcome.RunFault.TheVariants.{Memory};
 
 use std::alloc::AllocError;
 use thiserror::Error;
-use vs_vcd::WriterFault;
+use vs_vcd_writing::WriterFault;
 
 /// Where a run ended.
 #[derive(Clone, Copy, PartialEq, Eq, Debug)]

@@ -6,7 +6,7 @@ ghost use Rattle.vs_kernel.specs.Runs.{RanTo, HasBegun};
 ghost use Rattle.vs_run_events.specs.Recording.{HasRoom};
 ghost use Rattle.vs_process.specs.Executions as executions;
 ghost use Rattle.vs_process.specs.States as states;
-ghost use Rattle.vs_vcd.specs.Progress.{is_write_fault};
+ghost use Rattle.vs_vcd_writing.specs.Progress.{is_write_fault};
 
 use crate::outcome::Outcome;
 use std::alloc::{AllocError, Global};
@@ -22,7 +22,7 @@ use vs_run_loop::take_steps;
 use vs_run_state::State;
 use vs_run_wakes::no_marks;
 use vs_time_wheel::EventQueue;
-use vs_vcd::{Sink, WriterFault};
+use vs_vcd_writing::{Sink, WriterFault};
 
 /// For each process whether it is a combinational block.
 fn blocks_of(alloc: Global, processes: &[Process]) -> Result<Vec<bool>, AllocError>

@@ -4,7 +4,7 @@ use Rattle.std.specs.Io.KnownBytes.{Appends, Keeps, append_known}
 use Rattle.clap.specs.declared.error.kind.ErrorKind.{ErrorKind}
 use Rattle.vs_certificate.specs.declared.members.ClaimedGrain.{ClaimedGrain}
 use Rattle.vs_design.specs.Parts.{Parts}
-use Rattle.vs_vcd.specs.Sinks.{AppendsPart}
+use Rattle.vs_vcd_writing.specs.Sinks.{AppendsPart}
 use Rattle.vs_kernel.specs.declared.outcome.Outcome.{Outcome}
 use Rattle.vs_cert_check.specs.declared.verdict.Verdict.{Verdict}
 use Rattle.vs_propose.specs.declared.proposal.Proposal.{Proposal}

@@ -5,7 +5,7 @@ ghost use Rattle.vs_certified.specs.Certified.{CertifyingFails, is_before_run};
 ghost use Rattle.vs_simulate.specs.Honesty.{SimulationFails, is_refusal};
 ghost use Rattle.vs_simulate.specs.declared.fault.SimFault.TheVariants.{Run};
 ghost use Rattle.vs_kernel.specs.declared.outcome.RunFault.TheVariants.{Write};
-ghost use Rattle.vs_vcd.specs.Sinks.{AppendsPart};
+ghost use Rattle.vs_vcd_writing.specs.Sinks.{AppendsPart};
 ghost use Rattle.vs_program.specs.Ends.{CallFails, CheckingFails, HasWritten, Wrote, WroteCertified, WroteProposal, WroteVerdict};
 ghost use Rattle.vs_program.specs.Ends.{HasBegunCertifiedText, HasBegunProposal, HasBegunText, HasBegunVerdict, HasBegunWriting};
 
@@ -19,7 +19,7 @@ use vs_kernel::{Outcome, RunFault};
 use vs_program_words::{Order, OutputText, Request, Subcommand};
 use vs_propose::{Proposal, propose};
 use vs_simulate::{Policy, SimFault, design_of, list_design, simulate};
-use vs_vcd::{Sink, WriteFault, write_all};
+use vs_vcd_writing::{Sink, WriteFault, write_all};
 
 /// What a call did.
 #[derive(Drop)]

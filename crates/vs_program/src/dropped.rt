@@ -2,7 +2,7 @@
 ghost use Rattle.std.specs.Prelude.{ℕ, List, None};
 
 use std::io;
-use vs_vcd::Sink;
+use vs_vcd_writing::Sink;
 
 /// A sink that takes every byte and keeps none.
 #[derive(Clone, Copy, Debug)]

@@ -1,8 +1,6 @@
 //! What the program tells: texts and exit statuses.
-ghost use Rattle.std.specs.Prelude.{◌≡◌, ◌<◌, ◌++◌, [], ◌∷◌, IfOk, OnOk};
-ghost use Rattle.std.specs.List.{flat_map};
+ghost use Rattle.std.specs.Prelude.{◌≡◌, ◌++◌, [], ◌∷◌, IfOk, OnOk};
 ghost use Rattle.clap.specs.Words.{kind_of};
-ghost use Rattle.vs_scopes.specs.Texts.{hexadecimal, is_control, shown_byte};
 ghost use Rattle.vs_program.specs.Statuses.{fault_status, refusal_status, words_status};
 ghost use Rattle.vs_program.specs.Texts.{fault_text, proposal_line, refusal_text, rule_text, verdict_line};
 
@@ -17,6 +15,7 @@ use vs_kernel::RunFault;
 use vs_lexer::LexFault;
 use vs_parser::ParseFault;
 use vs_propose::Proposal;
+use vs_scopes::push_bytes;
 use vs_simulate::SimFault;
 
 /// Done, a yes, or help.
@@ -44,47 +43,6 @@ pub fn fault_text(alloc: Global, fault: &SimFault) -> Result<Vec<u8>, AllocError
         SimFault::Run(RunFault::Memory) => Vec::from_slice(alloc, b"memory"),
         SimFault::Memory => Vec::from_slice(alloc, b"memory"),
     }
-}
-
-// Whether a byte is no printed character of its own.
-fn is_control_byte(c: u8) -> bool
-    ensures { result ≡ is_control c }
-{
-    c < 32 || c == 127
-}
-
-// A hexadecimal digit.
-fn hexadecimal_digit(d: u8) -> u8
-    requires { d < 16 }
-    ensures { result ≡ hexadecimal d }
-{
-    if d < 10 { 48 + d } else { 87 + d }
-}
-
-// Appends a byte as it is told: a control byte as a backslash, `x` and two hexadecimal digits.
-fn push_byte(text: &mut Vec<u8>, c: u8) -> Result<(), AllocError>
-    ensures { OnOk result (text.new.items ≡ text.old.items ++ shown_byte c) }
-{
-    if is_control_byte(c) {
-        text.extend_from_slice(&[
-            b'\\',
-            b'x',
-            hexadecimal_digit(c / 16),
-            hexadecimal_digit(c % 16),
-        ])
-    } else {
-        text.extend_from_slice(&[c])
-    }
-}
-
-// Appends bytes as they are told.
-fn push_bytes(text: &mut Vec<u8>, bytes: &[u8]) -> Result<(), AllocError>
-    ensures { OnOk result (text.new.items ≡ text.old.items ++ flat_map shown_byte bytes.now) }
-{
-    for c in bytes {
-        push_byte(text, *c)?;
-    }
-    Ok(())
 }
 
 // A broken rule, by its number, and the subject that breaks it, by its name. It is one line whatever the name: a control byte of it is told as `\x0a`.

@@ -1,5 +1,5 @@
 -- Certificates that are proposed.
-use Rattle.std.proofs.Common.{◌≡◌, ℕ, true, List, [], refl, sym, ap, subst, codes, ◌∷◌}
+use Rattle.std.proofs.Common.{◌≡◌, ◌-◌, ℕ, true, List, [], refl, sym, ap, subst, codes, ◌∷◌}
 use Rattle.std.specs.List.{list_all}
 use Rattle.std.specs.declared.alloc.Global.{Global}
 use Rattle.std.specs.declared.vec.Vec.{Vec}
@@ -14,14 +14,16 @@ use Rattle.vs_certificate.specs.declared.members.Version.TheVariants as versions
 use Rattle.vs_certificate.specs.JsonValue.{value_of, object_with, list_value, edge_value, grain_value, process_value, signal_value, text_value, whole_value}
 use Rattle.vs_certificate.specs.Limits.{is_within_limits}
 use Rattle.vs_certificate.specs.Reading.{IsSound}
-use Rattle.vs_certificate.specs.Versions.{has_kind, has_own_kinds}
+use Rattle.vs_certificate.specs.Versions.{has_kind}
 use Rattle.vs_certificate.proofs.Law.{sound_value, own_kinds}
 use Rattle.vs_cert_check.specs.Answers.{verdict_view}
+use Rattle.vs_cert_check.specs.Verdicts.{rule_of}
 use Rattle.vs_cert_check.specs.declared.verdict.Verdict.{Verdict}
 use Rattle.vs_cert_check.specs.declared.verdict.Verdict.TheVariants as verdicts
 use Rattle.vs_design.specs.Parts.{Parts}
 use Rattle.vs_rules.specs.Certificates.{claims_of}
-use Rattle.vs_rules.specs.Verdict.{IsVerdict}
+use Rattle.vs_rules.specs.Claims.{Claims}
+use Rattle.vs_rules.specs.Verdict.{Breaks, Disciplined, IsVerdict}
 use Rattle.vs_propose.specs.Proposals.{IsMade, IsRefused}
 
 pub made : (d : Parts) (grain : ClaimedGrain) (c : Certificate) (v : Verdict) → c.grain ≡ grain → IsSound (value_of c) → IsVerdict d (claims_of c) (verdict_view v) → v ≡ verdicts.Yes → IsMade d grain c
@@ -40,6 +42,12 @@ refused d grain c v number place same sound verdict is = record {
   sound = sound;
   verdict = subst (λ w. IsVerdict d (claims_of c) (verdict_view w)) is verdict;
 }
+
+-- a design that keeps all rules breaks none
+pub not_refused : (d : Parts) (c : Claims) (v : Verdict) (number : ℕ) (place : Vec ℕ Global) → IsVerdict d c (verdict_view v) → v ≡ verdicts.No number place → Disciplined d c → ⊥
+not_refused d c v number place verdict is kept =
+    let b : Breaks d c (rule_of (number - 1)) place.items = subst (λ w. IsVerdict d c (verdict_view w)) is verdict in
+    b.broken (kept (rule_of (number - 1)) b.n b.subject b.is)
 
 -- ---- a certificate that claims nothing
 

@@ -1,1 +1,2 @@
 pub mod Proposals
+pub use Rattle.vs_propose_assigns.specs.Settling

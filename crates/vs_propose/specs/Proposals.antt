@@ -35,3 +35,13 @@ IsProposal d grain (NotMade number place) = IsRefused d grain number place.items
 abbrev pub MayBeProposal : Parts → ClaimedGrain → Option Proposal → Type 0
 MayBeProposal d grain None = Unit {0}
 MayBeProposal d grain (Some p) = IsProposal d grain p
+
+-- it is a certificate that is proposed
+abbrev pub AnswersMade : Proposal → Type 0
+AnswersMade (Made c) = Unit {0}
+AnswersMade (NotMade number place) = ⊥
+
+-- the same of what may be there
+abbrev pub HasMade : Option Proposal → Type 0
+HasMade None = ⊥
+HasMade (Some p) = AnswersMade p

@@ -1,18 +1,21 @@
 //! The search for a certificate.
-ghost use Rattle.std.specs.Prelude.{◌≡◌, IfOk, IsSome};
+ghost use Rattle.std.specs.Prelude.{◌≡◌, [], IfOk, IfSome, IsSome};
 ghost use Rattle.vs_cert_check.specs.Answers.{verdict_view};
 ghost use Rattle.vs_certificate.specs.JsonValue.{value_of};
 ghost use Rattle.vs_certificate.specs.Reading.{IsSound};
+ghost use Rattle.vs_propose_assigns.specs.Settling.{CanSettle};
 ghost use Rattle.vs_rules.specs.Certificates.{claims_of};
-ghost use Rattle.vs_rules.specs.Verdict.{IsVerdict};
-ghost use Rattle.vs_propose.specs.Proposals.{IsProposal, MayBeProposal};
+ghost use Rattle.vs_rules.specs.Verdict.{Disciplined, IsVerdict};
+ghost use Rattle.vs_propose.specs.Proposals.{IsMade, IsProposal, MayBeProposal, AnswersMade, HasMade};
 
 use crate::proposal::Proposal;
 use std::alloc::{AllocError, Global};
 use vs_cert_check::{Verdict, check};
 use vs_certificate::{Certificate, ClaimedGrain, Version};
 use vs_design::Design;
+use vs_propose_assigns::certificate_of_assigns;
 use vs_propose_plan::{Plan, certificate_of, moduli_of, plan_of};
+use vs_rules::tested_are_certificates;
 
 // What the verdict on a certificate comes to.
 fn proposal_of(
@@ -24,7 +27,8 @@ fn proposal_of(
     requires grain { certificate.grain ≡ grain }
     requires sound { IsSound (value_of certificate) }
     requires verdict { IsVerdict design.now (claims_of certificate) (verdict_view verdict) }
-    ensures { IsProposal design.now grain result }
+    ensures is { IsProposal design.now grain result }
+    ensures made { Disciplined design.now (claims_of certificate) → AnswersMade result }
 {
     let _ = design;
     let _ = grain;
@@ -44,6 +48,7 @@ fn tried(
     requires { certificate.grain ≡ grain }
     ensures is { IfOk result (MayBeProposal design.now grain) }
     ensures some { IsSound (value_of certificate) → IfOk result IsSome }
+    ensures made { IsSound (value_of certificate) → Disciplined design.now (claims_of certificate) → IfOk result HasMade }
 {
     if !certificate.is_sound() {
         return Ok(None);
@@ -155,17 +160,63 @@ fn best_of(
     Ok(best)
 }
 
-/// A certificate of a grain for a design, where one is found: `Made` with one under which the design keeps all rules K1 to K11, of which no test of C2 to C4
-/// fails; else the verdict on the best one that was tried. It need not find one where there is one. It makes a plan of who writes each signal and how, of
-/// what runs each process and of an order in which drivers settle, and tries it by moduli that the delays of the texts suggest, at most 40 of them: each
-/// takes as long as one verdict.
-pub fn propose(alloc: Global, design: &Design, grain: ClaimedGrain) -> Result<Proposal, AllocError>
-    ensures is { IfOk result (IsProposal design.now grain) }
+// What the checker says of the certificates of a plan.
+fn searched(alloc: Global, design: &Design, grain: ClaimedGrain) -> Result<Proposal, AllocError>
+    ensures { IfOk result (IsProposal design.now grain) }
 {
     let plan = plan_of(alloc, design)?;
     let moduli = moduli_of(alloc, &plan.texts)?;
     match best_of(alloc, design, &plan, grain, &moduli)? {
         Some(best) => Ok(best),
         None => tried_without_claims(alloc, design, grain),
+    }
+}
+
+// What the checker says of the certificate of a design without processes by which its continuous assignments settle.
+fn tried_by_assigns(
+    alloc: Global,
+    design: &Design,
+    grain: ClaimedGrain,
+) -> Result<Option<Proposal>, AllocError>
+    requires { design.now.processes ≡ [] }
+    ensures is { IfOk result (MayBeProposal design.now grain) }
+    ensures made { CanSettle design.now → IfOk result HasMade }
+{
+    tested_are_certificates();
+    let certificate = certificate_of_assigns(alloc, design, grain)?;
+    tried(alloc, design, grain, certificate)
+}
+
+// The certificate that is proposed of a design without processes, where its continuous assignments settle.
+fn settled(
+    alloc: Global,
+    design: &Design,
+    grain: ClaimedGrain,
+) -> Result<Option<Certificate>, AllocError>
+    ensures is { IfOk result (λ o. IfSome o (IsMade design.now grain)) }
+    ensures some { CanSettle design.now → IfOk result IsSome }
+{
+    if !design.processes().is_empty() {
+        return Ok(None);
+    }
+    match tried_by_assigns(alloc, design, grain)? {
+        Some(Proposal::Made(certificate)) => Ok(Some(certificate)),
+        _ => Ok(None),
+    }
+}
+
+/// A certificate of a grain for a design, where one is found: `Made` with one under which the design keeps all rules K1 to K11, of which no test of
+/// C2 to C4 fails; else the verdict on the best one that was tried. Of a design without processes it finds one wherever there is one: wherever its
+/// names, and an order of its continuous assignments, keep the rules K1 and K4 under some certificate of which no such test fails. (Such a
+/// certificate has at most 65,536 signals, and as many continuous assignments.) Of other designs it need not find one where there is one. It makes a
+/// plan of who writes each signal and how, of what runs each process and of an order in which drivers settle, and tries it by moduli that the delays
+/// of the texts suggest, at most 40 of them: each takes as long as one verdict.
+pub fn propose(alloc: Global, design: &Design, grain: ClaimedGrain) -> Result<Proposal, AllocError>
+    ensures is { IfOk result (IsProposal design.now grain) }
+    ensures complete { CanSettle design.now → IfOk result AnswersMade }
+{
+    match settled(alloc, design, grain)? {
+        Some(certificate) => Ok(Proposal::Made(certificate)),
+        None => searched(alloc, design, grain),
     }
 }

@@ -1,9 +1,15 @@
 //! An order in which each thing stands after those that it needs.
+ghost use Rattle.std.specs.Prelude.{ℕ, ◌≡◌, ◌<◌, true, false, length, slice_index_or, IfOk, OnOk};
+ghost use Rattle.std.specs.List.{Contains};
+ghost use Rattle.vs_propose_order.specs.Order.{IsSorted};
+ghost use Rattle.vs_propose_order.specs.Sorting.{IsPlaced, AreSorted, LacksOne, IsPlacing, ArePlacing, AreTriedAt, IsNoted, AreNoted, AreUsers};
 
 use std::alloc::{AllocError, Global};
 
 // Notes a thing with one that it needs; one past the end is none of the table.
-fn note(users: &mut Vec<Vec<usize>>, x: usize, needed: usize) -> Result<(), AllocError> {
+fn note(users: &mut Vec<Vec<usize>>, x: usize, needed: usize) -> Result<(), AllocError>
+    ensures { OnOk result (IsNoted users.old.items users.new.items x needed) }
+{
     if let Some(row) = users.get_mut(needed) {
         row.push(x)?;
     }
@@ -11,7 +17,9 @@ fn note(users: &mut Vec<Vec<usize>>, x: usize, needed: usize) -> Result<(), Allo
 }
 
 // Notes a thing with those that it needs.
-fn note_all(users: &mut Vec<Vec<usize>>, x: usize, needed: &[usize]) -> Result<(), AllocError> {
+fn note_all(users: &mut Vec<Vec<usize>>, x: usize, needed: &[usize]) -> Result<(), AllocError>
+    ensures { OnOk result (AreNoted users.old.items users.new.items x needed.now) }
+{
     for y in needed {
         note(users, x, *y)?;
     }
@@ -19,7 +27,9 @@ fn note_all(users: &mut Vec<Vec<usize>>, x: usize, needed: &[usize]) -> Result<(
 }
 
 // For each thing those that need it.
-fn users_of(alloc: Global, needs: &[Vec<usize>]) -> Result<Vec<Vec<usize>>, AllocError> {
+fn users_of(alloc: Global, needs: &[Vec<usize>]) -> Result<Vec<Vec<usize>>, AllocError>
+    ensures { IfOk result (λ users. AreUsers needs.now users.items) }
+{
     let mut users = Vec::new(alloc);
     for _ in 0..needs.len() {
         users.push(Vec::new(alloc))?;
@@ -31,12 +41,17 @@ fn users_of(alloc: Global, needs: &[Vec<usize>]) -> Result<Vec<Vec<usize>>, Allo
 }
 
 // Whether a thing is placed.
-fn is_placed(placed: &[bool], x: usize) -> bool {
+fn is_placed(placed: &[bool], x: usize) -> bool
+    ensures { result ≡ slice_index_or placed.now x false }
+{
     x < placed.len() && placed[x]
 }
 
 // Whether all of some things are.
-fn are_placed(placed: &[bool], needed: &[usize]) -> bool {
+fn are_placed(placed: &[bool], needed: &[usize]) -> bool
+    ensures all { result ≡ true → (y : ℕ) → Contains needed.now y → IsPlaced placed.now y }
+    ensures lacks { result ≡ false → LacksOne placed.now needed.now }
+{
     for y in needed {
         if !is_placed(placed, *y) {
             return false;
@@ -51,7 +66,10 @@ fn place(
     placed: &mut Vec<bool>,
     needs: &[Vec<usize>],
     x: usize,
-) -> Result<(), AllocError> {
+) -> Result<(), AllocError>
+    requires { AreSorted needs.now order.old.items placed.old.items }
+    ensures { OnOk result (IsPlacing needs.now x order.old.items order.new.items placed.new.items) }
+{
     if x >= needs.len() || x >= placed.len() || placed[x] {
         return Ok(());
     }
@@ -68,7 +86,10 @@ fn place_all(
     placed: &mut Vec<bool>,
     needs: &[Vec<usize>],
     things: &[usize],
-) -> Result<(), AllocError> {
+) -> Result<(), AllocError>
+    requires { AreSorted needs.now order.old.items placed.old.items }
+    ensures { OnOk result (ArePlacing needs.now things.now order.old.items order.new.items placed.new.items) }
+{
     for x in things {
         place(order, placed, needs, *x)?;
     }
@@ -80,7 +101,11 @@ fn place_first(
     order: &mut Vec<usize>,
     placed: &mut Vec<bool>,
     needs: &[Vec<usize>],
-) -> Result<(), AllocError> {
+) -> Result<(), AllocError>
+    requires { AreSorted needs.now order.old.items placed.old.items }
+    ensures sorted { OnOk result (AreSorted needs.now order.new.items placed.new.items) }
+    ensures tried { OnOk result (AreTriedAt needs.now order.new.items placed.new.items 0) }
+{
     for x in 0..needs.len() {
         place(order, placed, needs, x)?;
     }
@@ -89,7 +114,9 @@ fn place_first(
 
 /// Things, by the lists of those that each needs, in an order in which each stands after those that it needs. Things that can't be ordered so are
 /// left out: each of them needs another one that is. For each thing it takes as long as what it needs, as often as it needs one.
-pub fn sorted(alloc: Global, needs: &[Vec<usize>]) -> Result<Vec<usize>, AllocError> {
+pub fn sorted(alloc: Global, needs: &[Vec<usize>]) -> Result<Vec<usize>, AllocError>
+    ensures { IfOk result (λ order. IsSorted needs.now order.items) }
+{
     let users = users_of(alloc, needs)?;
     let mut placed = vec![in alloc; false; needs.len()]?;
     let mut order = Vec::new(alloc);

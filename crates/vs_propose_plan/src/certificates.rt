@@ -7,15 +7,8 @@ use vs_certificate::{
     Certificate, ClaimedGrain, ClaimedKind, EdgeSignal, ProcessEntry, SignalEntry, Version,
 };
 use vs_design::{Design, Process, Signal};
+use vs_propose_assigns::text_of;
 use vs_propose_texts::text_lists;
-
-// A name as the text of a certificate: nothing, where its bytes are no text.
-fn text_of(alloc: Global, name: &[u8]) -> Result<String, AllocError> {
-    match std::str::from_utf8(name) {
-        Ok(text) => String::from_str(alloc, text),
-        Err(_) => Ok(String::new(alloc)),
-    }
-}
 
 // The path of a signal.
 fn signal_name(alloc: Global, design: &Design, v: usize) -> Result<String, AllocError> {

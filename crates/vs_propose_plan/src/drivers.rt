@@ -1,7 +1,7 @@
 //! An order in which drivers settle.
 
 use std::alloc::{AllocError, Global};
-use vs_design::{BitRange, Design, SignalKind, reads, writes};
+use vs_design::{Assign, BitRange, Design, SignalKind, Statement, reads, writes};
 use vs_law_writes::statement_writes;
 use vs_propose_order::sorted;
 use vs_propose_texts::{TextFacts, TextKind};
@@ -65,49 +65,43 @@ fn note(
     Ok(())
 }
 
-// What a driver writes: a continuous assignment, or else a process.
-fn written_by(
-    alloc: Global,
-    design: &Design,
-    texts: &[TextFacts],
-    driver: usize,
-) -> Result<Vec<BitRange>, AllocError> {
+// A driver: a continuous assignment, or the text of a combinational block.
+#[derive(Clone, Copy)]
+enum Driver<'a> {
+    Assign(&'a Assign),
+    Block(&'a Statement),
+}
+
+// The driver of a number: those of continuous assignments come first, then those of processes.
+fn driver_at<'a>(design: &'a Design, texts: &[TextFacts], driver: usize) -> Option<Driver<'a>> {
     let assigns = design.assigns();
     if driver < assigns.len() {
-        return writes(alloc, &assigns[driver].target);
+        return Some(Driver::Assign(&assigns[driver]));
     }
-    match design.processes().get(driver - assigns.len()) {
-        None => Ok(Vec::new(alloc)),
-        Some(process) => {
-            if is_block(texts, driver - assigns.len()) {
-                statement_writes(alloc, &process.body)
-            } else {
-                Ok(Vec::new(alloc))
-            }
-        }
+    let i = driver - assigns.len();
+    let process = design.processes().get(i)?;
+    if is_block(texts, i) {
+        Some(Driver::Block(&process.body))
+    } else {
+        None
     }
 }
 
-// What a driver reads.
-fn read_by(
-    alloc: Global,
-    design: &Design,
-    texts: &[TextFacts],
-    driver: usize,
-) -> Result<Vec<BitRange>, AllocError> {
-    let assigns = design.assigns();
-    if driver < assigns.len() {
-        return reads(alloc, &assigns[driver].source);
-    }
-    match design.processes().get(driver - assigns.len()) {
+// What a driver writes, where there is one.
+fn written_by(alloc: Global, driver: Option<Driver>) -> Result<Vec<BitRange>, AllocError> {
+    match driver {
         None => Ok(Vec::new(alloc)),
-        Some(process) => {
-            if is_block(texts, driver - assigns.len()) {
-                text_reads(alloc, &process.body)
-            } else {
-                Ok(Vec::new(alloc))
-            }
-        }
+        Some(Driver::Assign(assign)) => writes(alloc, &assign.target),
+        Some(Driver::Block(body)) => statement_writes(alloc, body),
+    }
+}
+
+// What it reads.
+fn read_by(alloc: Global, driver: Option<Driver>) -> Result<Vec<BitRange>, AllocError> {
+    match driver {
+        None => Ok(Vec::new(alloc)),
+        Some(Driver::Assign(assign)) => reads(alloc, &assign.source),
+        Some(Driver::Block(body)) => text_reads(alloc, body),
     }
 }
 
@@ -138,7 +132,7 @@ fn table_of(
         table.push(Vec::new(alloc))?;
     }
     for driver in 0..count_of(design) {
-        for range in written_by(alloc, design, texts, driver)? {
+        for range in written_by(alloc, driver_at(design, texts, driver))? {
             note(design, &mut table, driver, range)?;
         }
     }
@@ -172,7 +166,7 @@ fn needs_of(
     let mut needs = Vec::new(alloc);
     for driver in 0..count_of(design) {
         let mut needed = Vec::new(alloc);
-        for range in read_by(alloc, design, texts, driver)? {
+        for range in read_by(alloc, driver_at(design, texts, driver))? {
             if let Some(row) = table.get(range.signal) {
                 put_needed(design, row, driver, range, &mut needed)?;
             }
@@ -180,12 +174,6 @@ fn needs_of(
         needs.push(needed)?;
     }
     Ok(needs)
-}
-
-// Whether a number is that of a driver.
-fn is_driver(design: &Design, texts: &[TextFacts], driver: usize) -> bool {
-    let assigns = design.assigns().len();
-    driver < assigns || is_block(texts, driver - assigns)
 }
 
 // Puts a driver at the end of an order, where it doesn't stand there.
@@ -196,7 +184,7 @@ fn put_once(
     marks: &mut Vec<bool>,
     driver: usize,
 ) -> Result<(), AllocError> {
-    if driver >= marks.len() || marks[driver] || !is_driver(design, texts, driver) {
+    if driver >= marks.len() || marks[driver] || driver_at(design, texts, driver).is_none() {
         return Ok(());
     }
     order.push(driver)?;

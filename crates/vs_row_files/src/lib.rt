@@ -1,6 +1,6 @@
 //! Files of rows: questions with the answers that are wanted, and how what is answered is compared with these.
 //!
-//! A file has groups. A group begins with a line `==== TITLE` and a line of words, which say how its questions are meant. Behind these stand a line `----`,
+//! A file has groups. A group begins with a line `==== TITLE` and a line of words, which say how its questions are meant. After these stand a line `----`,
 //! one question of any length, a line `----` and its answer, exactly, with a line feed at its end (or no line, for an empty answer); or rows of a line each,
 //! `QUESTION => ANSWER`, whose answers end with a line feed too.
 #![tactic(auto)]
@@ -15,7 +15,7 @@ pub use text::Text;
 
 /// Who answers the questions of a file.
 pub trait Answers {
-    /// Puts the answer to a question that is asked with these words behind the text.
+    /// Puts the answer to a question, asked with these words, after the text.
     fn answer(&self, words: &str, question: &str, text: &mut Text);
 }
 
@@ -79,12 +79,12 @@ fn compare_row<A: Answers>(answers: &A, row: Row, comparison: &mut Comparison) {
     }
 }
 
-/// What stands before the first such separator, and what stands behind it.
-fn first_and_rest<'t>(text: &'t str, separator: &str) -> (&'t str, &'t str) {
+/// What stands before the first such separator, and what stands after it; where there is none, the whole text and nothing.
+pub fn first_and_rest<'t>(text: &'t str, separator: &str) -> (&'t str, &'t str) {
     text.split_once(separator).unwrap_or((text, ""))
 }
 
-/// The row of a question between lines `----`, with its answer behind it.
+/// The row of a question between lines `----`, with its answer after it.
 fn long_row<'t>(title: &'t str, words: &'t str, text: &'t str) -> Row<'t> {
     let (question, tail) = first_and_rest(text, "\n----");
     Row {
@@ -106,7 +106,7 @@ fn short_row<'t>(title: &'t str, words: &'t str, line: &'t str) -> Row<'t> {
     }
 }
 
-/// Compares the rows of a group, whose text stands behind `==== `.
+/// Compares the rows of a group, whose text stands after `==== `.
 fn compare_group<A: Answers>(answers: &A, group: &str, comparison: &mut Comparison) {
     let (title, rest) = first_and_rest(group, "\n");
     let (words, body) = first_and_rest(rest, "\n");

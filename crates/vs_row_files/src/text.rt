@@ -28,28 +28,28 @@ impl Text {
         self.alloc
     }
 
-    /// Puts bytes behind the text.
+    /// Puts bytes after the text.
     pub fn put(&mut self, piece: &[u8]) {
         if self.bytes.extend_from_slice(piece).is_err() {
             self.is_short = true;
         }
     }
 
-    /// Puts words behind the text, one behind the other.
+    /// Puts words after the text, one after the other.
     pub fn put_all(&mut self, words: &[&str]) {
         for word in words {
             self.put(word.as_bytes());
         }
     }
 
-    /// Puts what is shown of a value behind the text: the decimal digits of a number, a letter, a word.
+    /// Puts what is shown of a value after the text: the decimal digits of a number, a letter, a word.
     pub fn put_shown<T: Display + Drop>(&mut self, value: T) {
         if write!(self.bytes, "{value}").is_err() {
             self.is_short = true;
         }
     }
 
-    /// Puts a piece behind the text that itself took memory, if there was enough.
+    /// Puts a piece after the text that itself took memory, if there was enough.
     pub fn put_made(&mut self, piece: Result<Vec<u8>, AllocError>) {
         match piece {
             Ok(bytes) => self.put(&bytes),
@@ -57,7 +57,7 @@ impl Text {
         }
     }
 
-    /// Puts another text behind this one; where that one isn't whole, this one isn't either.
+    /// Puts another text after this one; where that one isn't whole, this one isn't either.
     pub fn append(&mut self, other: &Text) {
         self.put(&other.bytes);
         if other.is_short {

@@ -3,21 +3,14 @@
 #![tactic(auto)]
 
 mod checking;
+mod executions;
 mod races;
 mod running;
 mod schedules;
 
 use crate::running::Case;
 use std::io;
-use vs_row_files::{Answers, Text, compare_files};
-
-/// The two sides of the first such character in a text; all of it and nothing, where there is none.
-fn sides(text: &str, at: char) -> (&str, &str) {
-    match text.split_once(at) {
-        Some(found) => found,
-        None => (text, ""),
-    }
-}
+use vs_row_files::{Answers, Text, compare_files, first_and_rest};
 
 /// The answer of a kind of question.
 fn put_answer(kind: &str, rest: &str, case: Case, text: &mut Text) {
@@ -25,6 +18,7 @@ fn put_answer(kind: &str, rest: &str, case: Case, text: &mut Text) {
         "schedules" => schedules::answer(case, true, text),
         "dumps" => schedules::answer(case, false, text),
         "race" => races::answer(case, rest, text),
+        "executions" => executions::answer(case, rest, text),
         _ => text.put(b"no such question\n"),
     }
 }
@@ -35,10 +29,10 @@ struct CertifiedRuns;
 
 impl Answers for CertifiedRuns {
     fn answer(&self, words: &str, question: &str, text: &mut Text) {
-        let (kind, rest) = sides(words, ' ');
-        let (top, rest) = sides(rest, ' ');
-        let (until, rest) = sides(rest, ' ');
-        let (certificate, source) = sides(question, '\n');
+        let (kind, rest) = first_and_rest(words, " ");
+        let (top, rest) = first_and_rest(rest, " ");
+        let (until, rest) = first_and_rest(rest, " ");
+        let (certificate, source) = first_and_rest(question, "\n");
         let case = Case {
             certificate,
             source,

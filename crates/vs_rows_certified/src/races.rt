@@ -3,7 +3,7 @@
 use crate::checking::put_verdict;
 use crate::running::{Case, run};
 use vs_program::Policy;
-use vs_row_files::Text;
+use vs_row_files::{Text, first_and_rest};
 
 /// The code of a signal of the top module in a dump.
 fn code_of<'d>(dump: &'d str, signal: &str) -> Option<&'d str> {
@@ -56,7 +56,7 @@ fn put_value(case: Case, signal: &str, policy: &Policy, text: &mut Text) {
 /// The verdict on a case, and the values of a signal at the end of the last slot under `Fifo` and under another policy: `lifo`, or `listed` for the
 /// choices 0 and 1.
 pub fn answer(case: Case, words: &str, text: &mut Text) {
-    let (signal, other) = words.split_once(" ").unwrap_or((words, ""));
+    let (signal, other) = first_and_rest(words, " ");
     put_verdict(case, text);
     text.put(b"fifo ");
     put_value(case, signal, &Policy::Fifo, text);

@@ -3,7 +3,7 @@
 use std::alloc::Global;
 use vs_kernel::Outcome;
 use vs_program::{Policy, simulate};
-use vs_vcd::Counted;
+use vs_vcd_writing::Counted;
 
 /// How many steps a run may take.
 const STEPS: u64 = 10_000;

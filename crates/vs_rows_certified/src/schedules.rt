@@ -16,7 +16,7 @@ const CHOICES: usize = 400;
 const DECLARED: &str = "$enddefinitions $end\n";
 
 /// The choices of a list, by its number: upper halves of x, where the next x is 1,664,525 x + 1,013,904,223 modulo 2^32.
-fn choices(alloc: Global, number: u32) -> Result<Vec<usize>, AllocError> {
+pub fn choices(alloc: Global, number: u32) -> Result<Vec<usize>, AllocError> {
     let mut x = number;
     let mut list = Vec::new(alloc);
     for _ in 0..CHOICES {
@@ -92,12 +92,19 @@ fn count_alike(alloc: Global, case: Case, lines: bool, first: &Written) -> Resul
     Ok(alike)
 }
 
+/// The body of a dump.
+pub fn body_of(written: &Written) -> &str {
+    let dump = str::from_utf8(&written.dump).unwrap_or("");
+    match dump.split_once(DECLARED) {
+        Some((_, body)) => body,
+        None => dump,
+    }
+}
+
 /// Puts what a run under `Fifo` writes, and how many schedules write the same.
 fn put_schedules(case: Case, lines: bool, first: &Written, text: &mut Text) {
     let alloc = text.alloc();
-    let dump = str::from_utf8(&first.dump).unwrap_or("");
-    let (_, body) = dump.split_once(DECLARED).unwrap_or(("", dump));
-    text.put(body.as_bytes());
+    text.put(body_of(first).as_bytes());
     text.put(&first.lines);
     match count_alike(alloc, case, lines, first) {
         Ok(alike) => {

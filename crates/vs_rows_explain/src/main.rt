@@ -5,21 +5,13 @@ use std::alloc::{AllocError, Global};
 use std::io;
 use vs_certificate::from_json;
 use vs_explain::{explain, explain_certificate, explain_limit, explain_rule};
-use vs_row_files::{Answers, Text, compare_files};
+use vs_row_files::{Answers, Text, compare_files, first_and_rest};
 use vs_simulate::list_design;
-use vs_vcd::Counted;
+use vs_vcd_writing::Counted;
 
 /// Who explains.
 #[derive(Clone, Copy)]
 struct Explains;
-
-/// The two sides of the first such character in a text; all of it and nothing, where there is none.
-fn sides(text: &str, at: char) -> (&str, &str) {
-    match text.split_once(at) {
-        Some(found) => found,
-        None => (text, ""),
-    }
-}
 
 /// What is said of a source that is refused; nothing of one that isn't.
 fn refused(alloc: Global, top: &str, source: &str) -> Result<Vec<u8>, AllocError> {
@@ -32,9 +24,9 @@ fn refused(alloc: Global, top: &str, source: &str) -> Result<Vec<u8>, AllocError
 
 /// What is said of a certificate, on the first line, whose rule of this number is broken at a place of the source after it.
 fn broken(alloc: Global, words: &str, question: &str) -> Result<Vec<u8>, AllocError> {
-    let (certificate, source) = sides(question, '\n');
-    let (number, rest) = sides(words, ' ');
-    let (top, place) = sides(rest, ' ');
+    let (certificate, source) = first_and_rest(question, "\n");
+    let (number, rest) = first_and_rest(words, " ");
+    let (top, place) = first_and_rest(rest, " ");
     explain_rule(
         alloc,
         source.as_bytes(),
@@ -55,8 +47,8 @@ fn malformed(alloc: Global, question: &str) -> Result<Vec<u8>, AllocError> {
 
 /// What is said of a run that took its most steps, so many, up to a time.
 fn limited(alloc: Global, words: &str, question: &str) -> Result<Vec<u8>, AllocError> {
-    let (top, rest) = sides(words, ' ');
-    let (steps, time) = sides(rest, ' ');
+    let (top, rest) = first_and_rest(words, " ");
+    let (steps, time) = first_and_rest(rest, " ");
     explain_limit(
         alloc,
         question.as_bytes(),
@@ -70,7 +62,7 @@ fn limited(alloc: Global, words: &str, question: &str) -> Result<Vec<u8>, AllocE
 impl Answers for Explains {
     fn answer(&self, words: &str, question: &str, text: &mut Text) {
         let alloc = text.alloc();
-        let (kind, rest) = sides(words, ' ');
+        let (kind, rest) = first_and_rest(words, " ");
         let explained = match kind {
             "rule" => broken(alloc, rest, question),
             "certificate" => malformed(alloc, question),

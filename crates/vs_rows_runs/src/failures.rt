@@ -8,7 +8,7 @@ use vs_design::Design;
 use vs_kernel::{Fifo, Kernel, Outcome, RunFault};
 use vs_regions::Due;
 use vs_time_wheel::Wheel;
-use vs_vcd::Counted;
+use vs_vcd_writing::Counted;
 
 // The dump has 128 bytes. A run whose sink fails has failed for good; one with an outcome is done.
 fn is_failed(rt: &impl Abort, alloc: Global, design: &Design, left: usize) -> Result<(), Fail> {

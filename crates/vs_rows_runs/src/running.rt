@@ -9,7 +9,7 @@ use vs_kernel::{Outcome, RunFault};
 use vs_lexer::lex;
 use vs_parser::parse;
 use vs_program::{Policy, SimFault, simulate};
-use vs_vcd::Counted;
+use vs_vcd_writing::Counted;
 
 /// A writer that takes so many bytes, and behind these fails, or takes none.
 #[derive(Drop)]

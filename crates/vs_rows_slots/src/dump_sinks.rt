@@ -4,7 +4,7 @@ use std::alloc::Global;
 use std::io;
 use std::io::{ErrorKind, Write};
 use std::process::Abort;
-use vs_vcd::{Counted, Sink, WriterFault, write_all};
+use vs_vcd_writing::{Counted, Sink, WriterFault, write_all};
 
 // A writer that takes at most three bytes at a time, and fails once it holds `room` bytes.
 #[derive(Drop)]

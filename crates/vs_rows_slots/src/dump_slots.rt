@@ -3,7 +3,7 @@ use crate::small_design::{put, three_signals};
 use std::alloc::Global;
 use vs_design::{Design, Store};
 use vs_logic4::Vec4;
-use vs_vcd::{Sink, Writer, WriterFault};
+use vs_vcd_writing::{Sink, Writer, WriterFault};
 
 pub static DUMP: &[u8] =
     b"$timescale 10 ps $end\n$scope module t $end\n$var reg 1 ! a $end\n$var reg 4 \" b [-1:2] $end\n$upscope $end\n$enddefinitions $end\n#0\n$dumpvars\n0!\nbx \"\n$end\n#5\n1!\n#7\nb101 \"\n#10\n";

@@ -4,7 +4,7 @@ use std::alloc::Global;
 use std::process::Abort;
 use std::test::Fail;
 use vs_logic4::Vec4;
-use vs_vcd::{Counted, Sink, WriterFault, shows_values_at_slot_ends};
+use vs_vcd_writing::{Counted, Sink, WriterFault, shows_values_at_slot_ends};
 
 // The dump of the module with these slots, up to an end.
 fn dump_of(alloc: Global, wide: bool, slots: &[Slot], end: u64) -> Result<Vec<u8>, WriterFault> {

@@ -2,7 +2,7 @@
 use Rattle.std.proofs.Common.{◌≡◌, ℕ, ◌+◌, Option, Some, None, List, [], ◌∷◌, ◌++◌, take, zero, zero-add, length, refl, sym, ◌∙◌, ap, subst, arith, append_assoc, suc}
 use Rattle.std.specs.Io.KnownBytes.{Appends}
 use Rattle.std.proofs.lemmas.List.{append-nil}
-use Rattle.vs_vcd.specs.Sinks.{AppendsPart}
+use Rattle.vs_vcd_writing.specs.Sinks.{AppendsPart}
 
 pub append_none : (old : Option (List ℕ)) → Appends old old []
 append_none None = tt

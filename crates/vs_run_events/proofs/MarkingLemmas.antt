@@ -10,10 +10,10 @@ use Rattle.vs_design.specs.Parts.{Parts}
 use Rattle.vs_design.specs.Stores.{Store, word_in}
 use Rattle.vs_design.specs.Traces.{Slot}
 use Rattle.vs_run_wakes.specs.Changes.{MarkChanges}
-use Rattle.vs_vcd.specs.Codes.{is_array}
-use Rattle.vs_vcd.specs.CodeTables.{code_table}
+use Rattle.vs_vcd_writing.specs.Codes.{is_array}
+use Rattle.vs_vcd_writing.specs.CodeTables.{code_table}
 use Rattle.vs_run_wakes.proofs.MarkingLemmas.{unmarked}
-use Rattle.vs_vcd.specs.Progress.{Covers, HasWritten, Progress}
+use Rattle.vs_vcd_writing.specs.Progress.{Covers, HasWritten, Progress}
 use Rattle.vs_run_events.specs.Recording.{CoversNoted, HasNoted, HasRoom, IsRecording}
 
 -- ---- the marks cover what changes

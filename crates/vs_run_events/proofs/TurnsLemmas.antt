@@ -19,10 +19,10 @@ use Rattle.vs_run_wakes.specs.Touches.{HasSources}
 use Rattle.vs_run_wakes.specs.Waits.{HasTerms}
 use Rattle.vs_run_state.proofs.SilentLemmas.{reached_on, step_time}
 use Rattle.vs_run_wakes.proofs.TermsLemmas.{has_terms}
-use Rattle.vs_vcd.specs.declared.fault.WriterFault.{WriterFault}
-use Rattle.vs_vcd.specs.Progress.{Progress}
-use Rattle.vs_vcd.specs.Sinks.{AppendsPart}
-use Rattle.vs_vcd.specs.Text.{vcd_slots}
+use Rattle.vs_vcd_writing.specs.declared.fault.WriterFault.{WriterFault}
+use Rattle.vs_vcd_writing.specs.Progress.{Progress}
+use Rattle.vs_vcd_writing.specs.Sinks.{AppendsPart}
+use Rattle.vs_vcd_writing.specs.Text.{vcd_slots}
 use Rattle.vs_run_events.specs.Insides.{inside_told, is_told}
 use Rattle.vs_run_events.specs.Points.{Point, point}
 use Rattle.vs_run_events.specs.Recording.{CoversNoted, HasNoted}

@@ -3,7 +3,7 @@ use Rattle.std.specs.Prelude.{◌≡◌, ◌<◌, ◌≤◌, ◌*◌, ◌^◌, �
 use Rattle.vs_design.specs.Parts.{Parts}
 use Rattle.vs_design.specs.Stores.{Store}
 use Rattle.vs_design.specs.Traces.{Slot}
-use Rattle.vs_vcd.specs.Progress.{Covers, HasWritten, Progress}
+use Rattle.vs_vcd_writing.specs.Progress.{Covers, HasWritten, Progress}
 
 -- these slots are recorded in the known bytes of a sink: written, or nothing is, where no bytes are known
 abbrev pub HasNoted : Option Progress → Option (List ℕ) → Parts → List Slot → Type 0

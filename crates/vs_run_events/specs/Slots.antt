@@ -3,8 +3,8 @@ use Rattle.std.specs.Prelude.{ℕ, ◌≡◌, Option, List, ◌++◌}
 use Rattle.std.specs.Io.KnownBytes.{Appends}
 use Rattle.vs_design.specs.Parts.{Parts}
 use Rattle.vs_design.specs.Traces.{Slot}
-use Rattle.vs_vcd.specs.Sinks.{AppendsPart}
-use Rattle.vs_vcd.specs.Text.{vcd_slots}
+use Rattle.vs_vcd_writing.specs.Sinks.{AppendsPart}
+use Rattle.vs_vcd_writing.specs.Text.{vcd_slots}
 
 -- what slots add to a value change dump was appended to the known bytes
 abbrev pub AppendsSlots : Option (List ℕ) → Option (List ℕ) → Parts → List Slot → List Slot → Type 0

@@ -12,8 +12,8 @@ use Rattle.vs_run_state.specs.Driven.{IsDriven}
 use Rattle.vs_run_state.specs.Prints.{made_line, made_text}
 use Rattle.vs_run_state.specs.Silent.{AreSilent, Steps}
 use Rattle.vs_run_state.specs.Told.{told}
-use Rattle.vs_vcd.specs.Progress.{Progress}
-use Rattle.vs_vcd.specs.Sinks.{AppendsPart}
+use Rattle.vs_vcd_writing.specs.Progress.{Progress}
+use Rattle.vs_vcd_writing.specs.Sinks.{AppendsPart}
 use Rattle.vs_run_events.specs.Insides.{inside_told}
 use Rattle.vs_run_events.specs.Points.{Point, point}
 use Rattle.vs_run_events.specs.Prints.{lines_text}

@@ -9,8 +9,8 @@ ghost use Rattle.vs_run_state.specs.Silent.{IsReached};
 ghost use Rattle.vs_run_state.specs.Prints.{made_line, made_text};
 ghost use Rattle.vs_run_state.specs.Told.{told};
 ghost use Rattle.vs_process.specs.Executions as executions;
-ghost use Rattle.vs_vcd.specs.Progress.{is_write_fault};
-ghost use Rattle.vs_vcd.specs.Sinks.{AppendsPart, failed_after};
+ghost use Rattle.vs_vcd_writing.specs.Progress.{is_write_fault};
+ghost use Rattle.vs_vcd_writing.specs.Sinks.{AppendsPart, failed_after};
 
 use vs_design::Design;
 use vs_process::{Effect, Move};
@@ -18,7 +18,7 @@ use vs_regions::Due;
 use vs_run_agenda::{ActiveEvent, Agenda, Next};
 use vs_run_state::{Made, State, Taken};
 use vs_time_wheel::EventQueue;
-use vs_vcd::{Sink, WriterFault, write_all};
+use vs_vcd_writing::{Sink, WriterFault, write_all};
 
 /// Room to work in, kept from move to move.
 pub struct Scratch<'a> {

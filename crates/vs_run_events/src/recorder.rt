@@ -3,14 +3,14 @@ ghost use Rattle.std.specs.Prelude.{◌≡◌, ◌≤◌, ◌^◌, ◌++◌, ◌
 ghost use Rattle.vs_design.specs.Parts.{Parts};
 ghost use Rattle.vs_design.specs.Traces.{Slot};
 ghost use Rattle.vs_run_events.specs.Recording.{HasNoted, CoversNoted};
-ghost use Rattle.vs_vcd.specs.Progress.{vcd_slot, IsSlotAt, is_write_fault, WritesPiece};
-ghost use Rattle.vs_vcd.specs.Sinks.{failed_after};
-ghost use Rattle.vs_vcd.specs.Text.{vcd_header, vcd_slots, vcd_end};
+ghost use Rattle.vs_vcd_writing.specs.Progress.{vcd_slot, IsSlotAt, is_write_fault, WritesPiece};
+ghost use Rattle.vs_vcd_writing.specs.Sinks.{failed_after};
+ghost use Rattle.vs_vcd_writing.specs.Text.{vcd_header, vcd_slots, vcd_end};
 
 use std::alloc::Global;
 use std::marker::Model;
 use vs_design::{Design, Store};
-use vs_vcd::{Sink, Writer, WriterFault};
+use vs_vcd_writing::{Sink, Writer, WriterFault};
 
 /// The writer of a run's dump; none for a sink that keeps nothing. A contract sees how far it has come.
 pub struct Recorder {
@@ -25,7 +25,7 @@ impl Drop for Recorder {
 
 impl Model for Recorder {
     ghost use Rattle.std.specs.Prelude.{Option};
-    ghost use Rattle.vs_vcd.specs.Progress.{Progress};
+    ghost use Rattle.vs_vcd_writing.specs.Progress.{Progress};
 
     ghost Value = { Option Progress };
 

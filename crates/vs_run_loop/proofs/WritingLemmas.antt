@@ -8,11 +8,11 @@ use Rattle.vs_process.specs.declared.moves.Move.{Move}
 use Rattle.vs_process.specs.declared.moves.Move.TheVariants.{EndSlot}
 use Rattle.vs_process.specs.Executions.{ended_slot, move_lines, strobe_line}
 use Rattle.vs_process.specs.States.{State}
-use Rattle.vs_vcd.specs.Progress.{Progress, is_write_fault, IsSlotAt, WritesPiece, vcd_slot}
-use Rattle.vs_vcd.specs.Sinks.{AppendsPart, failed_after}
-use Rattle.vs_vcd.specs.declared.fault.WriterFault.{WriterFault}
-use Rattle.vs_vcd.specs.declared.fault.WriterFault.TheVariants as fault
-use Rattle.vs_vcd.specs.Text.{vcd_slots}
+use Rattle.vs_vcd_writing.specs.Progress.{Progress, is_write_fault, IsSlotAt, WritesPiece, vcd_slot}
+use Rattle.vs_vcd_writing.specs.Sinks.{AppendsPart, failed_after}
+use Rattle.vs_vcd_writing.specs.declared.fault.WriterFault.{WriterFault}
+use Rattle.vs_vcd_writing.specs.declared.fault.WriterFault.TheVariants as fault
+use Rattle.vs_vcd_writing.specs.Text.{vcd_slots}
 use Rattle.vs_run_state.specs.Prints.{made_line, made_text}
 use Rattle.vs_run_loop.specs.Failures.{OneFailed}
 use Rattle.vs_run_events.specs.Recording.{HasNoted}

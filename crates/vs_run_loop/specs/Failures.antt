@@ -1,6 +1,6 @@
 -- Failed writes to two sinks.
 use Rattle.std.specs.Prelude.{ℕ, ◌≡◌, ◌⊎◌, Bool, true, false}
-use Rattle.vs_vcd.specs.Sinks.{one_more}
+use Rattle.vs_vcd_writing.specs.Sinks.{one_more}
 
 -- the counts of failed writes of two sinks behind a call that failed because a sink did, or didn't: one of them rose by one, or none
 abbrev pub OneFailed : Bool → ℕ → ℕ → ℕ → ℕ → Type 0

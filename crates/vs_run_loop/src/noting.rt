@@ -11,8 +11,8 @@ ghost use Rattle.vs_run_events.specs.Turns.{Took, TookPart};
 ghost use Rattle.vs_process.specs.Executions as executions;
 ghost use Rattle.vs_run_state.specs.Silent.{IsReached};
 ghost use Rattle.vs_run_state.specs.Told.{told};
-ghost use Rattle.vs_vcd.specs.Progress.{is_write_fault};
-ghost use Rattle.vs_vcd.specs.Sinks.{AppendsPart, failed_after};
+ghost use Rattle.vs_vcd_writing.specs.Progress.{is_write_fault};
+ghost use Rattle.vs_vcd_writing.specs.Sinks.{AppendsPart, failed_after};
 
 use std::alloc::Global;
 use vs_design::Design;
@@ -24,7 +24,7 @@ use vs_run_state::State;
 use vs_run_wakes::clear;
 use vs_strobe::full_line;
 use vs_time_wheel::EventQueue;
-use vs_vcd::{Sink, WriterFault, write_all};
+use vs_vcd_writing::{Sink, WriterFault, write_all};
 
 /// Writes the lines of the calls of `$strobe` of a slot at its end, in the order of the calls (IEEE 1364-2005, clause 17.1.2).
 #[inline(always)]

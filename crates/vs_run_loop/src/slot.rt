@@ -12,10 +12,10 @@ ghost use Rattle.vs_process.specs.Executions as executions;
 ghost use Rattle.vs_run_wakes.specs.Changes.{MarkChanges};
 ghost use Rattle.vs_run_state.specs.Silent.{IsReached};
 ghost use Rattle.vs_run_agenda.specs.ActiveEvents.{move_of};
-ghost use Rattle.vs_vcd.specs.Progress.{Progress};
+ghost use Rattle.vs_vcd_writing.specs.Progress.{Progress};
 ghost use Rattle.vs_run_state.specs.Told.{told};
-ghost use Rattle.vs_vcd.specs.Progress.{is_write_fault};
-ghost use Rattle.vs_vcd.specs.Sinks.{failed_after};
+ghost use Rattle.vs_vcd_writing.specs.Progress.{is_write_fault};
+ghost use Rattle.vs_vcd_writing.specs.Sinks.{failed_after};
 
 use crate::noting::{end_slot, take_one};
 use std::alloc::{AllocError, Global};
@@ -26,7 +26,7 @@ use vs_run_agenda::{ActiveEvent, Agenda, Choice, Next, Pick};
 use vs_run_events::{Ran, Recorder, Scratch, inside_behind, run_events};
 use vs_run_state::State;
 use vs_time_wheel::EventQueue;
-use vs_vcd::{Sink, WriterFault};
+use vs_vcd_writing::{Sink, WriterFault};
 
 /// The next move. A combinational block that has left its control goes on, which is no choice. Else it is what the policy chooses of the list,
 /// where that is enabled, and else a move that the state has.

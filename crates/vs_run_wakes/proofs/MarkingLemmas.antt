@@ -13,7 +13,7 @@ use Rattle.vs_design.specs.Stores.{Store}
 use Rattle.vs_flatcode.specs.declared.changes.Change.{Change}
 use Rattle.vs_flatcode.specs.Changes.{changed_word}
 use Rattle.std.specs.Prelude.{Some}
-use Rattle.vs_vcd.specs.Marks.{is_block_marked, is_marked}
+use Rattle.vs_vcd_writing.specs.Marks.{is_block_marked, is_marked}
 use Rattle.vs_run_wakes.specs.Changes.{MarkChanges, MarkWords}
 use Rattle.vs_run_wakes.proofs.ChangesLemmas.{is_among}
 

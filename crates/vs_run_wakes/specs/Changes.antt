@@ -3,7 +3,7 @@ use Rattle.std.specs.Prelude.{ℕ, ◌==◌, ◌≡◌, ◌<◌, ◌*◌, false,
 use Rattle.std.specs.List.{list_any}
 use Rattle.vs_design.specs.Stores.{Store}
 use Rattle.vs_flatcode.specs.declared.changes.Change.{Change}
-use Rattle.vs_vcd.specs.Marks.{is_marked}
+use Rattle.vs_vcd_writing.specs.Marks.{is_marked}
 
 -- each word has one size before and behind
 abbrev pub HaveSizes : List Change → Type 0

@@ -1,9 +1,9 @@
 //! The marks of the blocks of signals that were written since the last slot of the value change dump.
 ghost use Rattle.std.specs.Prelude.{◌≡◌, ◌<◌, ◌≤◌, ◌*◌, ◌^◌, ℕ, true, false, length, IfOk};
-ghost use Rattle.vs_vcd.specs.Marks.{is_marked};
+ghost use Rattle.vs_vcd_writing.specs.Marks.{is_marked};
 
 use std::alloc::{AllocError, Global};
-use vs_vcd::BLOCK;
+use vs_vcd_writing::BLOCK;
 
 /// Marks for so many signals; none is set.
 pub fn no_marks(alloc: Global, signals: usize) -> Result<Vec<u64>, AllocError>

@@ -19,7 +19,7 @@ pub use printed::{
     print_port_part, print_title,
 };
 pub use sizes::{INTEGER, Size, declared_bounds, declared_size, declared_words, port_size};
-pub use texts::fault_text;
+pub use texts::{fault_text, push_bytes};
 pub use vs_elab_connections::{
     Given, Parameter, block_parameters, ends, given_alone, given_to, module_parameters,
 };

@@ -64,8 +64,8 @@ fn push_byte(text: &mut Vec<u8>, c: u8) -> Result<(), AllocError>
     }
 }
 
-/// Appends bytes as they are told.
-fn push_bytes(text: &mut Vec<u8>, bytes: &[u8]) -> Result<(), AllocError>
+/// Appends bytes as they are told: a control byte as a backslash, `x` and two hexadecimal digits.
+pub fn push_bytes(text: &mut Vec<u8>, bytes: &[u8]) -> Result<(), AllocError>
     ensures { OnOk result (text.new.items ≡ text.old.items ++ flat_map shown_byte bytes.now) }
 {
     for c in bytes {

@@ -17,7 +17,7 @@ use vs_parser::parse;
 use vs_process::never_stuck;
 use vs_regions::Due;
 use vs_time_wheel::Wheel;
-use vs_vcd::Sink;
+use vs_vcd_writing::Sink;
 
 /// Which enabled item is next.
 #[derive(Clone, Copy)]

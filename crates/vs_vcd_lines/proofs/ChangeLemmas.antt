@@ -7,9 +7,9 @@ use Rattle.vs_logic4.specs.declared.digit.Digit.TheVariants.{Zero, One, X, Z}
 use Rattle.std.specs.Prelude.{nat_lt}
 use Rattle.std.proofs.lemmas.Bool.{cases_lt}
 use Rattle.std.proofs.lemmas.Bool.Decides.{Decides-ltb}
-use Rattle.vs_vcd.specs.Codes.{code}
-use Rattle.vs_vcd.proofs.CodeLemmas.{code-injective}
-use Rattle.vs_vcd.specs.Values.{digit_character, shortened, value_change}
+use Rattle.vs_vcd_writing.specs.Codes.{code}
+use Rattle.vs_vcd_writing.proofs.CodeLemmas.{code-injective}
+use Rattle.vs_vcd_writing.specs.Values.{digit_character, shortened, value_change}
 use Rattle.vs_vcd_lines.specs.declared.dump.ValueChange.{ValueChange}
 use Rattle.vs_vcd_lines.specs.Cuts.{lacks, IsCut}
 use Rattle.vs_vcd_lines.specs.Lines.{change_line, are_sizes, IsSized, IsValue}

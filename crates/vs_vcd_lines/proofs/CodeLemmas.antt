@@ -1,8 +1,8 @@
 -- Identifier codes, taken apart.
 use Rattle.std.proofs.Common.{Bool, true, Option, Some, None, MatchOption, ◌≡◌, ℕ, ◌+◌, ◌-◌, ◌*◌, ◌/◌, ◌%◌, ◌^◌, ◌<◌, ◌≤◌, ◌⊎◌, List, [], ◌∷◌, length, get_or, take, drop, take_all, sym, ap, ◌∙◌, arith, inl, inr}
 use Rattle.std.proofs.lemmas.Bool.{cases_lt}
-use Rattle.vs_vcd.specs.Codes.{code}
-use Rattle.vs_vcd.proofs.CodeLemmas.{code-short, code-long, length-code-least, code-injective}
+use Rattle.vs_vcd_writing.specs.Codes.{code}
+use Rattle.vs_vcd_writing.proofs.CodeLemmas.{code-short, code-long, length-code-least, code-injective}
 
 -- what stands after the first byte
 abbrev pub rest_of : List ℕ → List ℕ

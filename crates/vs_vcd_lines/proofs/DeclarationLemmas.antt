@@ -1,7 +1,7 @@
 -- The lines of declarations.
 use Rattle.std.proofs.Common.{◌≡◌, ℕ, List, codes}
 use Rattle.vs_design.specs.declared.design.ScopeKind.{ScopeKind}
-use Rattle.vs_vcd.specs.Text.{scope_line}
+use Rattle.vs_vcd_writing.specs.Text.{scope_line}
 use Rattle.vs_vcd_lines.specs.declared.dump.Declaration.{Declaration}
 use Rattle.vs_vcd_lines.specs.declared.dump.Declaration.TheVariants as d
 use Rattle.vs_vcd_lines.specs.declared.dump.Variable.{Variable}

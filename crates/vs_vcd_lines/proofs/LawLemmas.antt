@@ -8,9 +8,9 @@ use Rattle.std.proofs.lemmas.List.{append_cancel_right, append-nil, reverse-appe
 use Rattle.vs_design.specs.declared.signal.Bounds.{Bounds}
 use Rattle.vs_design.specs.declared.signal.SignalKind.{SignalKind}
 use Rattle.vs_design.specs.declared.signal.SignalKind.TheVariants.{Wire, Reg, Integer}
-use Rattle.vs_vcd.specs.Codes.{code}
-use Rattle.vs_vcd.specs.Text.{kind_word, range_text}
-use Rattle.vs_vcd.proofs.CodeLemmas.{code-injective}
+use Rattle.vs_vcd_writing.specs.Codes.{code}
+use Rattle.vs_vcd_writing.specs.Text.{kind_word, range_text}
+use Rattle.vs_vcd_writing.proofs.CodeLemmas.{code-injective}
 use Rattle.vs_vcd_lines.specs.declared.dump.Variable.{Variable}
 use Rattle.vs_vcd_lines.specs.Cuts.{lacks}
 use Rattle.vs_vcd_lines.specs.Names.{is_first, is_further, is_simple, IsEscaped, IsName, IsShort}
@@ -33,7 +33,7 @@ kind_back Wire = refl
 kind_back Reg = refl
 kind_back Integer = refl
 
-kind_once : (j k : SignalKind) → kind_word j ≡ kind_word k → j ≡ k
+pub kind_once : (j k : SignalKind) → kind_word j ≡ kind_word k → j ≡ k
 kind_once j k e = sym (kind_back j) ∙ ap kind_by e ∙ kind_back k
 
 -- ---- names and ranges
@@ -82,7 +82,7 @@ ranged_once text m n a b h k =
     (signed_decimal b.left ++ (58 ∷ signed_decimal b.right)) (range_lacks a h.left h.right) (range_lacks b k.left k.right) same in
     (end_once 32 m n parts.0, bounds_once a b h.left h.right k.left k.right parts.1)
 
-named_once : (m n : List ℕ) (a b : Option Bounds) → IsName m → IsName n → IsRange a → IsRange b → m ++ range_text a ≡ n ++ range_text b → (m ≡ n) × (a ≡ b)
+pub named_once : (m n : List ℕ) (a b : Option Bounds) → IsName m → IsName n → IsRange a → IsRange b → m ++ range_text a ≡ n ++ range_text b → (m ≡ n) × (a ≡ b)
 named_once m n None None h k x y e = (sym (append-nil m) ∙ e ∙ append-nil n, refl)
 named_once m n (Some a) None h k x y e =
     let r : IsRanged (m ++ range_text (Some a)) m a = record { named = h; left = x.0; right = x.1; is = refl } in

@@ -3,7 +3,7 @@ use Rattle.std.proofs.Common.{◌≡◌, ℕ, ◌<◌, ◌^◌, Option, Some, No
 use Rattle.std.proofs.lemmas.List.{append_cancel_left, append_cancel_right}
 use Rattle.vs_design.specs.declared.design.ScopeKind.{ScopeKind}
 use Rattle.vs_design.specs.declared.timescale.TimeSpan.{TimeSpan}
-use Rattle.vs_vcd.specs.Text.{scope_word, magnitude_word, unit_word, span_text, scope_line, time_line}
+use Rattle.vs_vcd_writing.specs.Text.{scope_word, magnitude_word, unit_word, span_text, scope_line, time_line}
 use Rattle.vs_design.specs.declared.design.ScopeKind.TheVariants.{Module, Begin}
 use Rattle.vs_vcd_lines.specs.Cuts.{IsCut}
 use Rattle.vs_vcd_lines.specs.Names.{IsScopeName}

@@ -7,8 +7,8 @@ use Rattle.std.proofs.lemmas.Option.{get_or_from_slice_get}
 use Rattle.vs_logic4.specs.declared.digit.Digit.{Digit}
 use Rattle.vs_logic4.specs.declared.digit.Digit.TheVariants.{Zero, One, X, Z}
 use Rattle.vs_logic4.specs.Vectors.{extension_digit, top_digit, resized}
-use Rattle.vs_vcd.specs.Shown.{digit_of, extended, left_digit}
-use Rattle.vs_vcd.specs.Values.{digit_character, is_extension, shortened}
+use Rattle.vs_vcd_writing.specs.Shown.{digit_of, extended, left_digit}
+use Rattle.vs_vcd_writing.specs.Values.{digit_character, is_extension, shortened}
 use Rattle.vs_vcd_lines.specs.Lines.{IsValue}
 use Rattle.vs_vcd_lines.specs.Parts.{IsSpelled}
 use Rattle.vs_vcd_lines.proofs.CodeLemmas.{parts_of, rest_of}

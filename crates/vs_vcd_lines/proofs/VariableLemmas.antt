@@ -5,8 +5,8 @@ use Rattle.std.specs.Int.{IsInRange}
 use Rattle.std.proofs.lemmas.List.{append_cancel_left, append_cancel_right, append-nil}
 use Rattle.vs_design.specs.declared.signal.Bounds.{Bounds}
 use Rattle.vs_design.specs.declared.signal.SignalKind.{SignalKind}
-use Rattle.vs_vcd.specs.Codes.{code}
-use Rattle.vs_vcd.specs.Text.{kind_word, range_text}
+use Rattle.vs_vcd_writing.specs.Codes.{code}
+use Rattle.vs_vcd_writing.specs.Text.{kind_word, range_text}
 use Rattle.vs_vcd_lines.specs.declared.dump.Variable.{Variable}
 use Rattle.vs_vcd_lines.specs.Cuts.{lacks, IsCut, IsCutLast}
 use Rattle.vs_vcd_lines.specs.Names.{IsName, IsShort}
@@ -138,7 +138,7 @@ ranged_named text front name b last h =
 
 -- ---- lines
 
-line_assoc : (p k w c n r e : List ℕ) → p ++ k ++ codes " " ++ w ++ codes " " ++ c ++ codes " " ++ n ++ r ++ e
+pub line_assoc : (p k w c n r e : List ℕ) → p ++ k ++ codes " " ++ w ++ codes " " ++ c ++ codes " " ++ n ++ r ++ e
     ≡ p ++ (k ++ (32 ∷ (w ++ (32 ∷ (c ++ (32 ∷ ((n ++ r) ++ e)))))))
 line_assoc p k w c n r e =
     let s = codes " " in

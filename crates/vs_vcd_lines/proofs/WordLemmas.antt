@@ -10,8 +10,8 @@ use Rattle.vs_design.specs.declared.design.ScopeKind.{ScopeKind}
 use Rattle.vs_design.specs.declared.design.ScopeKind.TheVariants.{Module, Begin}
 use Rattle.vs_design.specs.declared.timescale.Magnitude.{Magnitude}
 use Rattle.vs_design.specs.declared.timescale.Magnitude.TheVariants.{One, Ten, Hundred}
-use Rattle.vs_vcd.specs.Codes.{code, code_with_fuel}
-use Rattle.vs_vcd.specs.Text.{kind_word, scope_word, magnitude_word}
+use Rattle.vs_vcd_writing.specs.Codes.{code, code_with_fuel}
+use Rattle.vs_vcd_writing.specs.Text.{kind_word, scope_word, magnitude_word}
 use Rattle.vs_vcd_lines.specs.Cuts.{lacks, IsCut}
 use Rattle.vs_vcd_lines.specs.Parts.{AreThree, IsSize}
 use Rattle.vs_vcd_lines.proofs.CutLemmas.{cut_once, lacks_more}

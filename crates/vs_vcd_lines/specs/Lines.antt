@@ -5,9 +5,9 @@ use Rattle.std.specs.List.{list_all}
 use Rattle.vs_logic4.specs.declared.digit.Digit.{Digit}
 use Rattle.vs_design.specs.declared.signal.Bounds.{Bounds}
 use Rattle.vs_design.specs.declared.timescale.TimeSpan.{TimeSpan}
-use Rattle.vs_vcd.specs.Codes.{code}
-use Rattle.vs_vcd.specs.Text.{span_text, kind_word, range_text, scope_line}
-use Rattle.vs_vcd.specs.Values.{digit_character, shortened, value_change}
+use Rattle.vs_vcd_writing.specs.Codes.{code}
+use Rattle.vs_vcd_writing.specs.Text.{span_text, kind_word, range_text, scope_line}
+use Rattle.vs_vcd_writing.specs.Values.{digit_character, shortened, value_change}
 use Rattle.vs_vcd_lines.specs.declared.dump.Declaration.{Declaration}
 use Rattle.vs_vcd_lines.specs.declared.dump.Declaration.TheVariants as d
 use Rattle.vs_vcd_lines.specs.declared.dump.ValueChange.{ValueChange}

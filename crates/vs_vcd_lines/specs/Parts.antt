@@ -4,9 +4,9 @@ use Rattle.std.specs.Fmt.{signed_decimal}
 use Rattle.vs_design.specs.declared.signal.Bounds.{Bounds}
 use Rattle.vs_design.specs.declared.signal.SignalKind.{SignalKind}
 use Rattle.vs_logic4.specs.declared.digit.Digit.{Digit}
-use Rattle.vs_vcd.specs.Codes.{code}
-use Rattle.vs_vcd.specs.Values.{digit_character}
-use Rattle.vs_vcd.specs.Text.{kind_word, range_text}
+use Rattle.vs_vcd_writing.specs.Codes.{code}
+use Rattle.vs_vcd_writing.specs.Values.{digit_character}
+use Rattle.vs_vcd_writing.specs.Text.{kind_word, range_text}
 use Rattle.vs_vcd_lines.specs.Cuts.{lacks}
 use Rattle.vs_vcd_lines.specs.Names.{IsName, IsShort}
 use Rattle.vs_vcd_lines.specs.Lines.{IsRange}

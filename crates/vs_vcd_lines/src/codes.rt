@@ -1,6 +1,6 @@
 //! Identifier codes.
 ghost use Rattle.std.specs.Prelude.{◌≡◌, ℕ, ◌+◌, ◌*◌, ◌<◌, ◌≤◌, ◌^◌, length, IsTrue, ◌↔◌, MatchOption};
-ghost use Rattle.vs_vcd.specs.Codes.{code};
+ghost use Rattle.vs_vcd_writing.specs.Codes.{code};
 
 /// Whether a text is the identifier code of this number.
 pub(crate) fn is_code(text: &[u8], number: usize) -> bool

@@ -2,7 +2,7 @@
 ghost use Rattle.std.specs.Prelude.{◌≡◌, ℕ, ◌++◌, ◌<◌, ◌^◌, List, MatchOption};
 ghost use Rattle.vs_design.specs.declared.design.ScopeKind.{ScopeKind};
 ghost use Rattle.vs_design.specs.declared.timescale.TimeSpan.{TimeSpan};
-ghost use Rattle.vs_vcd.specs.Text.{scope_line, time_line};
+ghost use Rattle.vs_vcd_writing.specs.Text.{scope_line, time_line};
 ghost use Rattle.vs_vcd_lines.specs.Lines.{span_line};
 ghost use Rattle.vs_vcd_lines.specs.Names.{IsScopeName};
 

@@ -2,8 +2,8 @@
 ghost use Rattle.std.specs.Prelude.{◌≡◌, ℕ, ◌-◌, ◌<◌, ◌≤◌, Some, List, length, slice_get, reverse, false, MatchOption};
 ghost use Rattle.vs_logic4.specs.declared.digit.Digit.{Digit};
 ghost use Rattle.vs_logic4.specs.Vectors.{extension_digit};
-ghost use Rattle.vs_vcd.specs.Shown.{extended, left_digit};
-ghost use Rattle.vs_vcd.specs.Values.{digit_character, is_extension, shortened};
+ghost use Rattle.vs_vcd_writing.specs.Shown.{extended, left_digit};
+ghost use Rattle.vs_vcd_writing.specs.Values.{digit_character, is_extension, shortened};
 ghost use Rattle.vs_vcd_lines.specs.Lines.{IsValue};
 ghost use Rattle.vs_vcd_lines.specs.Parts.{IsSpelled};
 

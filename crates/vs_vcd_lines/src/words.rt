@@ -6,7 +6,7 @@ ghost use Rattle.vs_design.specs.declared.timescale.Magnitude.{Magnitude};
 ghost use Rattle.vs_design.specs.declared.timescale.TimeUnit.{TimeUnit};
 ghost use Rattle.vs_design.specs.declared.timescale.TimeUnit.TheVariants.{Second, Millisecond, Microsecond};
 ghost use Rattle.vs_design.specs.declared.timescale.TimeUnit.TheVariants.{Nanosecond, Picosecond, Femtosecond};
-ghost use Rattle.vs_vcd.specs.Text.{kind_word, scope_word, magnitude_word, unit_word};
+ghost use Rattle.vs_vcd_writing.specs.Text.{kind_word, scope_word, magnitude_word, unit_word};
 ghost use Rattle.vs_vcd_lines.specs.Parts.{AreThree, IsSize};
 
 use crate::cuts::cut;

@@ -18,10 +18,7 @@ returns-in-Some c =
     let maps = subst (λ (k : Case). AreCharts k.design k.charts) c.first.view_is c.first.invariant.maps in
     let root = c.if-not-is_root.ensures.0 refl in
     let l = one_kept K.design K.claims K.charts maps c.args.v c.in-Some.j c.writers-writers.result.now c.writers-writers.ensures (λ x. c.in-Some.ensures x) root in
-    let same = λ (k : Case) (b : Bool). IsTrue b ↔ StartsWell k.design k.claims k.charts c.in-Some.j c.args.v in
-    IfOk-weaker _ (λ (b : Bool). same c.first.inside.entries.now b) _
-    (λ b e. let g = subst (λ (k : Case). same k b) c.first.view_is e in (λ t. l.0 (g.0 t), λ h. g.1 (l.1 h)))
-    c.starts_well.ensures
+    IfOk-weaker _ (λ (b : Bool). (IsTrue b ↔ StartsWell K.design K.claims K.charts c.in-Some.j c.args.v)) _ (λ b g. (λ t. l.0 (g.0 t), λ h. g.1 (l.1 h))) c.starts_well.ensures
 
 pub returns-in-None : goal.returns-in-None
 returns-in-None c =

@@ -7,7 +7,7 @@ use Rattle.vs_cert_roots.proofs.first.starts_well_in.Goals as goal
 
 pub returns-in-None : goal.returns-in-None
 returns-in-None c =
-    let K = c.args.entries.now in
+    let K = c.args.first.now in
     let t = c.args.tables.now in
     let v = c.args.v in
     let f = c.in_ok-sites.ensures in
@@ -22,7 +22,7 @@ returns-in-None c =
 
 pub returns : goal.returns
 returns c =
-    let K = c.args.entries.now in
+    let K = c.args.first.now in
     let t = c.args.tables.now in
     let v = c.args.v in
     let f = c.in_ok-sites.ensures in

@@ -3,7 +3,7 @@ use Rattle.std.specs.Prelude.{Result, Ok, Err}
 use Rattle.vs_process.specs.declared.moves.Grain.TheVariants.{Statement}
 use Rattle.vs_rules.specs.Certificates.{claims_of}
 use Rattle.vs_rules.specs.Verdict.{IsVerdict}
-use Rattle.vs_cert_check.specs.Answers.{verdict_view}
+use Rattle.vs_cert_check.specs.Answers.{verdict_view, HasNumber}
 use Rattle.vs_cert_check.specs.Means.{Means}
 use Rattle.vs_certified.specs.Certified.{is_before_run}
 use Rattle.vs_certified.proofs.CertifiedLemmas.{stands_for}
@@ -53,5 +53,6 @@ returns-clause-fault g c =
       defined = c.in_ok-design.ensures;
       claimed = c.in_ok-claimed.claimed;
       passes = c.in_ok-claimed.ensures.ok;
+      numbered = subst HasNumber c.in-No.is c.in_ok-verdict.ensures.numbered;
       broken = subst (λ v. IsVerdict c.in_ok-design.design n (verdict_view v)) c.in-No.is c.in_ok-verdict.ensures.exact;
     }

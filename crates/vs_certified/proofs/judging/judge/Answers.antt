@@ -7,5 +7,6 @@ returns-clause-judged c = record {
   claimed = c.in_ok-claimed.claimed;
   passes = c.in_ok-claimed.ensures.ok;
   exact = c.in_ok-verdict.ensures.exact;
+  numbered = c.in_ok-verdict.ensures.numbered;
   meaning = c.in_ok-verdict.ensures.meaning;
 }

@@ -2,9 +2,9 @@ use Rattle.std.proofs.Common.{◌≡◌, true, false, List, ◌++◌, subst}
 use Rattle.std.specs.Prelude.{IfSome, filter, if◌then◌else◌}
 use Rattle.vs_design.specs.Traces.{Slot, AreRising}
 use Rattle.vs_process.specs.Executions.{after, slots, trace, is_by, is_complete}
-use Rattle.vs_vcd.specs.Shown.{HasSize, Shows, slot_at}
-use Rattle.vs_vcd.specs.Text.{vcd_header, vcd_slots, vcd_text}
-use Rattle.vs_vcd.specs.Values.{shown_value}
+use Rattle.vs_vcd_writing.specs.Shown.{HasSize, Shows, slot_at}
+use Rattle.vs_vcd_writing.specs.Text.{vcd_header, vcd_slots, vcd_text}
+use Rattle.vs_vcd_writing.specs.Values.{shown_value}
 use Rattle.vs_kernel.specs.Runs.{text_so_far}
 use Rattle.vs_kernel.proofs.RunsLemmas.{all_kept}
 use Rattle.vs_kernel.proofs.ShowsLemmas.{shown_sized}

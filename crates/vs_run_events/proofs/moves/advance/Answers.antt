@@ -1,7 +1,7 @@
 use Rattle.std.proofs.Common.{sym, ◌∙◌, subst}
 use Rattle.std.specs.Io.KnownBytes.{Appends}
 use Rattle.vs_run_state.specs.Prints.{made_line, made_text}
-use Rattle.vs_vcd.specs.Sinks.{AppendsPart}
+use Rattle.vs_vcd_writing.specs.Sinks.{AppendsPart}
 use Rattle.vs_process.proofs.Effects.{on_err}
 use Rattle.vs_run_events.proofs.Appending.{append_none}
 use Rattle.vs_run_events.proofs.TurnsLemmas.{reached_sources, reached_terms}

@@ -5,10 +5,10 @@ use Rattle.vs_design.specs.Traces.{Slot}
 use Rattle.vs_process.specs.declared.moves.Move.{Move}
 use Rattle.vs_process.specs.Executions.{ended_slot}
 use Rattle.vs_design.specs.Parts.{Parts}
-use Rattle.vs_vcd.specs.Progress.{is_write_fault, vcd_slot}
+use Rattle.vs_vcd_writing.specs.Progress.{is_write_fault, vcd_slot}
 use Rattle.vs_run_events.specs.Recording.{CoversNoted, HasNoted}
-use Rattle.vs_vcd.specs.Text.{vcd_slots}
-use Rattle.vs_vcd.specs.Sinks.{AppendsPart, failed_after}
+use Rattle.vs_vcd_writing.specs.Text.{vcd_slots}
+use Rattle.vs_vcd_writing.specs.Sinks.{AppendsPart, failed_after}
 use Rattle.vs_run_events.specs.Slots.{AppendsSlots, AppendsSlotsPart}
 use Rattle.vs_run_events.specs.Prints.{lines_text, slot_lines}
 use Rattle.vs_run_events.proofs.MarkingLemmas.{noted_clear, room_on}

@@ -6,7 +6,7 @@ use Rattle.vs_design.specs.Traces.{Line}
 use Rattle.vs_process.specs.Executions.{strobe_line}
 use Rattle.vs_process.specs.States.{Called}
 use Rattle.vs_strobe.specs.Lines.{Format, full_line}
-use Rattle.vs_vcd.specs.Sinks.{AppendsPart}
+use Rattle.vs_vcd_writing.specs.Sinks.{AppendsPart}
 use Rattle.vs_run_events.specs.Prints.{lines_text}
 use Rattle.vs_run_events.proofs.PrintsLemmas.{calls_more, calls_front}
 use Rattle.vs_process.proofs.Effects.{on_err}

@@ -1,6 +1,6 @@
 use Rattle.std.proofs.Common.{◌≡◌, ◌∙◌, ℕ, Option, Bool, false, rules, refl, ap, sym, subst}
-use Rattle.vs_vcd.specs.Progress.{is_write_fault}
-use Rattle.vs_vcd.specs.Sinks.{failed_after}
+use Rattle.vs_vcd_writing.specs.Progress.{is_write_fault}
+use Rattle.vs_vcd_writing.specs.Sinks.{failed_after}
 use Rattle.vs_run_loop.specs.Failures.{OneFailed}
 use Rattle.vs_run_events.specs.Insides.{inside_told}
 use Rattle.vs_run_events.specs.Points.{Point, point}

@@ -1,5 +1,5 @@
 use Rattle.std.proofs.Common.{◌≡◌, ℕ, ◌*◌, ◌<◌, false, length, drop}
-use Rattle.vs_vcd.specs.Marks.{is_marked}
+use Rattle.vs_vcd_writing.specs.Marks.{is_marked}
 use Rattle.vs_run_wakes.proofs.ChangesLemmas.{is_among}
 use Rattle.vs_run_wakes.proofs.changes.mark_signals.Given as goal
 

@@ -1,7 +1,7 @@
 use Rattle.std.proofs.Common.{◌∷◌, ◌++◌, map, reverse, sym, ◌∙◌, length, arith}
 use Rattle.std.proofs.lemmas.Option.{slice_get_within}
-use Rattle.vs_vcd.specs.Codes.{code}
-use Rattle.vs_vcd.specs.Values.{digit_character, shortened}
+use Rattle.vs_vcd_writing.specs.Codes.{code}
+use Rattle.vs_vcd_writing.specs.Values.{digit_character, shortened}
 use Rattle.vs_vcd_lines.proofs.ChangeLemmas.{wide_text, wide_rest, wide_parts, wide_made, number_once, sized_is, sized_made, sizes_at}
 use Rattle.vs_vcd_lines.proofs.changes.wide_change.Goals as goal
 

@@ -1,5 +1,5 @@
 use Rattle.std.proofs.Common.{sym, ◌∙◌, arith}
-use Rattle.vs_vcd.proofs.CodeLemmas.{code-injective}
+use Rattle.vs_vcd_writing.proofs.CodeLemmas.{code-injective}
 use Rattle.vs_vcd_lines.proofs.codes.number_of.Goals as goal
 
 pub returns-in_default : goal.returns-in_default

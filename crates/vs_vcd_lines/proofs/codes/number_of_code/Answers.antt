@@ -1,5 +1,5 @@
 use Rattle.std.proofs.Common.{ap, length, arith}
-use Rattle.vs_vcd.proofs.CodeLemmas.{length-code}
+use Rattle.vs_vcd_writing.proofs.CodeLemmas.{length-code}
 use Rattle.vs_vcd_lines.proofs.codes.number_of_code.Goals as goal
 
 pub returns-then-text-gt10 : goal.returns-then-text-gt10

@@ -1,6 +1,6 @@
 use Rattle.std.proofs.Common.{◌∷◌, ◌++◌, codes, sym, ◌∙◌}
 use Rattle.std.proofs.lemmas.Bool.{false≢true}
-use Rattle.vs_vcd.specs.Text.{scope_word}
+use Rattle.vs_vcd_writing.specs.Text.{scope_word}
 use Rattle.vs_vcd_lines.proofs.LineLemmas.{scope_assoc, scope_middle, scope_parts, scope_made, scope_named}
 use Rattle.vs_vcd_lines.proofs.lines.scope_of.Goals as goal
 

@@ -1,4 +1,4 @@
-use Rattle.vs_vcd.specs.Text.{magnitude_word, unit_word, span_text}
+use Rattle.vs_vcd_writing.specs.Text.{magnitude_word, unit_word, span_text}
 use Rattle.vs_vcd_lines.proofs.LineLemmas.{span_middle, span_parts, span_made}
 use Rattle.vs_vcd_lines.proofs.lines.span_of.Goals as goal
 

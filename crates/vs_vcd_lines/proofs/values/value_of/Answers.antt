@@ -1,6 +1,6 @@
 use Rattle.std.proofs.Common.{reverse, sym, ◌∙◌, arith}
 use Rattle.std.proofs.lemmas.Bool.{false≢true}
-use Rattle.vs_vcd.specs.Values.{shortened}
+use Rattle.vs_vcd_writing.specs.Values.{shortened}
 use Rattle.vs_vcd_lines.proofs.ValueLemmas.{value_made, value_spelled, value_short, value_kept}
 use Rattle.vs_vcd_lines.proofs.values.value_of.Goals as goal
 

@@ -1,6 +1,6 @@
 use Rattle.std.proofs.Common.{◌++◌, sym, ◌∙◌}
 use Rattle.std.proofs.lemmas.Bool.{false≢true}
-use Rattle.vs_vcd.specs.Text.{range_text}
+use Rattle.vs_vcd_writing.specs.Text.{range_text}
 use Rattle.vs_vcd_lines.proofs.VariableLemmas.{plain_or_ranged, plain_made, ranged_named}
 use Rattle.vs_vcd_lines.proofs.variables.named_of.Goals as goal
 

@@ -1,7 +1,7 @@
 use Rattle.std.proofs.Common.{◌∷◌, ◌++◌, decimal, sym, ◌∙◌}
 use Rattle.std.proofs.lemmas.Bool.{false≢true}
-use Rattle.vs_vcd.specs.Codes.{code}
-use Rattle.vs_vcd.specs.Text.{kind_word}
+use Rattle.vs_vcd_writing.specs.Codes.{code}
+use Rattle.vs_vcd_writing.specs.Text.{kind_word}
 use Rattle.vs_vcd_lines.proofs.VariableLemmas.{shape_three, shape_parts, shape_made}
 use Rattle.vs_vcd_lines.proofs.variables.shape_of.Goals as goal
 

@@ -10,7 +10,8 @@ returns-then-v-len c =
     let K = c.args.self.now in
     let P = c.self.inside.places.items in
     let T = c.self.inside.terms.items in
-    let inv : KeepsEntries K P T = subst (λ (k : Case). KeepsEntries k P T) c.self.view_is c.self.invariant in
+    let E = c.self.inside.edges.items in
+    let inv : KeepsEntries K P T E = subst (λ (k : Case). KeepsEntries k P T E) c.self.view_is c.self.invariant in
     let h : c.args.v < length P = omega (arith, c.len.ensures, c.self.inside.places.ok.0, c.if-v-len.true) in
     row_is K.design K.claims.edges (length K.claims.edges) (length K.design.signals) P c.args.v c.deref.result.now inv.places_are refl
     (subst (λ (n : ℕ). c.args.v < n) inv.long h) (row_at P c.args.v c.index.result.now h c.index.ensures ∙ sym c.deref.ensures.value)
@@ -20,6 +21,7 @@ returns-else-v-len c =
     let K = c.args.self.now in
     let P = c.self.inside.places.items in
     let T = c.self.inside.terms.items in
-    let inv : KeepsEntries K P T = subst (λ (k : Case). KeepsEntries k P T) c.self.view_is c.self.invariant in
+    let E = c.self.inside.edges.items in
+    let inv : KeepsEntries K P T E = subst (λ (k : Case). KeepsEntries k P T E) c.self.view_is c.self.invariant in
     let h : length P ≤ c.args.v = omega (arith, c.len.ensures, c.self.inside.places.ok.0, c.if-v-len.false) in
     past_row K.design K.claims.edges c.args.v [] (subst (λ (n : ℕ). n ≤ c.args.v) inv.long h) refl

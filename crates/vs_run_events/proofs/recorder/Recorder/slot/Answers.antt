@@ -1,4 +1,4 @@
-use Rattle.vs_vcd.proofs.ProgressLemmas.{vcd_slots-push}
+use Rattle.vs_vcd_writing.proofs.ProgressLemmas.{vcd_slots-push}
 use Rattle.vs_run_events.proofs.recorder.Recorder.slot.Goals as goal
 
 pub returns-clause-pieces : goal.returns-clause-pieces

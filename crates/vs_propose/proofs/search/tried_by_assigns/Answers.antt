@@ -1,0 +1,10 @@
+use Rattle.vs_propose_assigns.specs.Settling.{CanSettle}
+use Rattle.vs_propose.proofs.search.tried_by_assigns.Goals as goal
+
+pub returns : goal.returns
+returns c = record {
+  is = c.tried.ensures.is;
+  made = λ (can : CanSettle c.args.design.now).
+      let a = c.in_ok-certificate.ensures.accepted can in
+      c.tried.ensures.made ((c.tested_are_certificates.ensures c.in_ok-certificate.certificate).1 a.certificate) a.rules;
+}

@@ -1,0 +1,5 @@
+pub mod Places
+pub mod Settled
+pub mod Rules
+pub mod Gathered
+pub mod Written

@@ -1,0 +1,7 @@
+//! Certificates of designs without processes: one is found wherever there is one.
+#![tactic(auto)]
+
+mod claims;
+mod order;
+
+pub use claims::{certificate_of_assigns, text_of};

@@ -1,6 +1,0 @@
-use Rattle.std.proofs.Common.{◌≡◌, ◌++◌, take}
-use Rattle.vs_vcd.specs.Text.{text_of, outline_lines}
-use Rattle.vs_vcd.proofs.header.push_outline.Given as goal
-
-abbrev pub invariant-loop-entry : goal.invariant-loop-entry
-invariant-loop-entry l = l.text.items ≡ l.initial.text.items ++ text_of (outline_lines l.design (take l.entry-index l.design.outline))

@@ -1,5 +1,0 @@
-use Rattle.vs_vcd.proofs.LawLemmas.{one_value}
-use Rattle.vs_vcd.proofs.law.shows_one_value.Goals as goal
-
-pub returns : goal.returns
-returns c = one_value

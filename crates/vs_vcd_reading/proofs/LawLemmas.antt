@@ -1,0 +1,32 @@
+-- A text is one dump, or has faults.
+use Rattle.std.proofs.Common.{◌≡◌, ℕ, List, [], ◌∷◌, ◌++◌, refl, sym, subst, ◌∙◌, append_assoc}
+use Rattle.vs_vcd_writing.specs.Text.{text_of}
+use Rattle.vs_vcd_reading.specs.declared.fault.VcdFault.TheVariants as f
+use Rattle.vs_vcd_reading.specs.Layout.{IsLayout}
+use Rattle.vs_vcd_reading.specs.Faults.{IsBadLine, IsNoDump}
+use Rattle.vs_vcd_reading.specs.Laws.{DumpsAreOne, FaultsAreOfNone}
+use Rattle.vs_vcd_reading.specs.Steps.{items_of}
+use Rattle.vs_vcd_reading.specs.Steps.{Place as p}
+use Rattle.vs_vcd_reading.proofs.DumpLemmas.{dump_text_is, items_once}
+use Rattle.vs_vcd_reading.proofs.FollowLemmas.{same_items}
+use Rattle.vs_vcd_reading.proofs.WayLemmas.{dump_end}
+
+pub dumps_once : DumpsAreOne
+dumps_once text x y h k =
+    let first = dump_end text x h in
+    let second = dump_end text y k in
+    items_once x y
+    (same_items p.Start first.last second.last (items_of x) (items_of y) first.steps second.steps (sym (dump_text_is x) ∙ sym h.is ∙ k.is ∙ dump_text_is y))
+
+bad_is_none : (text : List ℕ) (before : List (List ℕ)) (line : List ℕ) → IsBadLine text before line → IsNoDump text
+bad_is_none text before line h = λ x k.
+    let whole : text ≡ (text_of before ++ line ++ 10 ∷ []) ++ h.rest = h.is ∙ sym (append_assoc (text_of before ++ line) (10 ∷ []) h.rest) in
+    h.bad (record { rest = h.rest; dump = x; is = subst (λ l. IsLayout l x) whole k })
+
+pub faults_of_none : FaultsAreOfNone
+faults_of_none text f.Memory h other = absurd (other refl)
+faults_of_none text f.Header h other = bad_is_none text h.before h.line h.bad
+faults_of_none text f.Time h other = bad_is_none text h.before h.line h.bad
+faults_of_none text f.Code h other = bad_is_none text h.before h.line h.bad
+faults_of_none text f.Line h other = bad_is_none text h.before h.line h.bad
+faults_of_none text f.Cut h other = h.none
