@@ -5,4 +5,11 @@ pub mod OneLineLemmas
 pub mod OnceLemmas
 pub mod FollowLemmas
 pub mod DumpLemmas
+pub mod BeginLemmas
+pub mod FaultLemmas
 pub mod LawLemmas
+pub mod KindLemmas
+pub mod HeaderLemmas
+pub mod BodyLemmas
+pub mod NoneLemmas
+pub mod ReadLemmas

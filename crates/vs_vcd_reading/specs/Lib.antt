@@ -4,3 +4,7 @@ pub mod Faults
 pub mod Laws
 pub mod Walks
 pub mod Steps
+pub mod Stops
+pub mod Kinds
+pub mod Headers
+pub mod Bodies

@@ -1,0 +1,355 @@
+-- Why the reader stops is a fault of the text.
+use Rattle.std.proofs.Common.{◌≡◌, ◌⊎◌, inl, inr, ℕ, suc, Bool, true, false, List, [], ◌∷◌, ◌++◌, length, map, refl, sym, ap, subst, ◌∙◌, append_assoc, arith}
+use Rattle.std.proofs.lemmas.Bool.{false≢true}
+use Rattle.std.proofs.lemmas.List.{append-nil}
+use Rattle.vs_vcd_writing.specs.Text.{end_of_definitions}
+use Rattle.vs_vcd_lines.specs.Cuts.{lacks, IsCut}
+use Rattle.vs_vcd_reading.specs.declared.fault.VcdFault.{VcdFault}
+use Rattle.vs_vcd_reading.specs.declared.fault.VcdFault.TheVariants as f
+use Rattle.vs_vcd_reading.specs.Plain.{PlainDeclaration, PlainDump, PlainMoment}
+use Rattle.vs_vcd_reading.specs.Plain.{PlainDeclaration as d}
+use Rattle.vs_vcd_reading.specs.Layout.{IsLayout, widths_of}
+use Rattle.vs_vcd_lines.specs.declared.dump.ValueChange.{ValueChange}
+use Rattle.vs_vcd_reading.specs.Faults.{IsBadInBody, IsBadInHeader, IsBadLine, IsBody, IsFault, IsOfNoCode, IsOfTime}
+use Rattle.vs_vcd_reading.specs.Steps.{Item, Place, Step, Steps, Follows, IsLast, body_items, change_items, declared_items, items_of, later_items, line_of, text_from}
+use Rattle.vs_vcd_reading.specs.Steps.{Item as i, Place as p, Step as s, Steps as t}
+use Rattle.vs_vcd_reading.specs.Stops.{IsBodyKind, IsKindAt, IsOfOtherCode, IsStop, IsStopped, IsToldAt}
+use Rattle.vs_vcd_reading.specs.Stops.{IsStop as stop}
+use Rattle.vs_vcd_reading.proofs.BeginLemmas.{begun, place_widths}
+use Rattle.vs_vcd_reading.proofs.DumpLemmas.{dump_text_is, no_dump_cut, no_dump_ended}
+use Rattle.vs_vcd_reading.proofs.FollowLemmas.{all_lines, same_way, steps_append, text_from-append}
+use Rattle.vs_vcd_reading.proofs.OnceLemmas.{other_letter}
+use Rattle.vs_vcd_reading.proofs.WayLemmas.{dump_end}
+
+-- ---- the header and the body
+
+abbrev in_body : Place → Bool
+in_body p.Start = false
+in_body p.Top = false
+in_body (p.Header ws depth own) = false
+in_body (p.Zero ws) = true
+in_body (p.First ws) = true
+in_body (p.Values ws vs) = true
+in_body (p.Later ws vs last from bare) = true
+
+step_out : (here : Place) (x : Item) (next : Place) → Step here x next → in_body next ≡ false → in_body here ≡ false
+step_out _ _ _ (s.tick span) h = refl
+step_out _ _ _ (s.top name named) h = refl
+step_out _ _ _ (s.scope ws depth own kind name named) h = refl
+step_out _ _ _ (s.variable ws depth v is) h = refl
+step_out _ _ _ (s.upscope ws depth own) h = refl
+step_out _ _ _ (s.definitions ws own) h = refl
+step_out _ _ _ (s.at_zero ws) h = absurd (false≢true (sym h))
+step_out _ _ _ (s.values ws) h = absurd (false≢true (sym h))
+step_out _ _ _ (s.value ws vs c numbered sized) h = absurd (false≢true (sym h))
+step_out _ _ _ (s.end ws vs full) h = absurd (false≢true (sym h))
+step_out _ _ _ (s.time ws vs last from time after small) h = absurd (false≢true (sym h))
+step_out _ _ _ (s.change ws vs last from bare c least is) h = absurd (false≢true (sym h))
+
+steps_out : (here there : Place) (xs : List Item) → Steps here xs there → in_body there ≡ false → in_body here ≡ false
+steps_out here _ _ (t.stay _) h = h
+steps_out here there _ (t.go _ x next xs _ step more) h = step_out here x next step (steps_out next there xs more h)
+
+no_end_line : (here : Place) (x : Item) (next : Place) → Step here x next → in_body next ≡ false → line_of x ≡ end_of_definitions → ⊥
+no_end_line _ _ _ (s.tick span) h e = other_letter _ _ e (λ k. omega (arith, k))
+no_end_line _ _ _ (s.top name named) h e = other_letter _ _ e (λ k. omega (arith, k))
+no_end_line _ _ _ (s.scope ws depth own kind name named) h e = other_letter _ _ e (λ k. omega (arith, k))
+no_end_line _ _ _ (s.variable ws depth v is) h e = other_letter _ _ e (λ k. omega (arith, k))
+no_end_line _ _ _ (s.upscope ws depth own) h e = other_letter _ _ e (λ k. omega (arith, k))
+no_end_line _ _ _ (s.definitions ws own) h e = false≢true (sym h)
+no_end_line _ _ _ (s.at_zero ws) h e = false≢true (sym h)
+no_end_line _ _ _ (s.values ws) h e = false≢true (sym h)
+no_end_line _ _ _ (s.value ws vs c numbered sized) h e = false≢true (sym h)
+no_end_line _ _ _ (s.end ws vs full) h e = false≢true (sym h)
+no_end_line _ _ _ (s.time ws vs last from time after small) h e = false≢true (sym h)
+no_end_line _ _ _ (s.change ws vs last from bare c least is) h e = false≢true (sym h)
+
+no_body_by : (here there : Place) (xs : List Item) (earlier later : List (List ℕ)) → Steps here xs there → in_body there ≡ false
+    → map line_of xs ≡ earlier ++ end_of_definitions ∷ later → ⊥
+no_body_by here _ _ [] later (t.stay _) h e = cc
+no_body_by here _ _ (l ∷ ls) later (t.stay _) h e = cc
+no_body_by here there _ [] later (t.go _ x next xs _ step more) h e =
+    let first : line_of x ≡ end_of_definitions = cc in no_end_line here x next step (steps_out next there xs more h) first
+no_body_by here there _ (l ∷ ls) later (t.go _ x next xs _ step more) h e =
+    let rest : map line_of xs ≡ ls ++ end_of_definitions ∷ later = cc in no_body_by next there xs ls later more h rest
+
+no_body : (there : Place) (xs : List Item) → Steps p.Start xs there → in_body there ≡ false → IsBody (map line_of xs) → ⊥
+no_body there xs steps h b = no_body_by p.Start there xs b.earlier b.later steps h b.is
+
+body_after : (x : Item) (lines : List (List ℕ)) → IsBody lines → IsBody (line_of x ∷ lines)
+body_after x lines b = record { earlier = line_of x ∷ b.earlier; later = b.later; is = ap (λ l. line_of x ∷ l) b.is }
+
+step_in : (here : Place) (x : Item) (next : Place) → Step here x next → in_body here ≡ false → (x ≡ i.Definitions) ⊎ (in_body next ≡ false)
+step_in _ _ _ (s.tick span) h = inr refl
+step_in _ _ _ (s.top name named) h = inr refl
+step_in _ _ _ (s.scope ws depth own kind name named) h = inr refl
+step_in _ _ _ (s.variable ws depth v is) h = inr refl
+step_in _ _ _ (s.upscope ws depth own) h = inr refl
+step_in _ _ _ (s.definitions ws own) h = inl refl
+step_in _ _ _ (s.at_zero ws) h = absurd (false≢true (sym h))
+step_in _ _ _ (s.values ws) h = absurd (false≢true (sym h))
+step_in _ _ _ (s.value ws vs c numbered sized) h = absurd (false≢true (sym h))
+step_in _ _ _ (s.end ws vs full) h = absurd (false≢true (sym h))
+step_in _ _ _ (s.time ws vs last from time after small) h = absurd (false≢true (sym h))
+step_in _ _ _ (s.change ws vs last from bare c least is) h = absurd (false≢true (sym h))
+
+body_by : (here there : Place) (xs : List Item) → Steps here xs there → in_body here ≡ false → in_body there ≡ true → IsBody (map line_of xs)
+body_by here _ _ (t.stay _) h k = absurd (false≢true (sym h ∙ k))
+body_by here there _ (t.go _ x next xs _ step more) h k =
+    elim (step_in here x next step h) [
+      | inl last ↦ record { earlier = []; later = map line_of xs; is = ap (λ y. line_of y ∷ map line_of xs) last }
+      | inr out ↦ body_after x (map line_of xs) (body_by next there xs more out k)
+    ]
+
+-- ---- sizes
+
+abbrev widths_by : List Item → List ℕ
+widths_by [] = []
+widths_by (i.Variable v n ∷ xs) = v.width ∷ widths_by xs
+widths_by (i.Scope kind name ∷ xs) = widths_by xs
+widths_by (i.Upscope ∷ xs) = widths_by xs
+widths_by (i.Tick span ∷ xs) = widths_by xs
+widths_by (i.Definitions ∷ xs) = widths_by xs
+widths_by (i.Time time ∷ xs) = widths_by xs
+widths_by (i.Values ∷ xs) = widths_by xs
+widths_by (i.Change c ∷ xs) = widths_by xs
+widths_by (i.End ∷ xs) = widths_by xs
+
+widths-append : (xs ys : List Item) → widths_by (xs ++ ys) ≡ widths_by xs ++ widths_by ys
+widths-append [] ys = refl
+widths-append (i.Variable v n ∷ xs) ys = ap (λ l. v.width ∷ l) (widths-append xs ys)
+widths-append (i.Scope kind name ∷ xs) ys = widths-append xs ys
+widths-append (i.Upscope ∷ xs) ys = widths-append xs ys
+widths-append (i.Tick span ∷ xs) ys = widths-append xs ys
+widths-append (i.Definitions ∷ xs) ys = widths-append xs ys
+widths-append (i.Time time ∷ xs) ys = widths-append xs ys
+widths-append (i.Values ∷ xs) ys = widths-append xs ys
+widths-append (i.Change c ∷ xs) ys = widths-append xs ys
+widths-append (i.End ∷ xs) ys = widths-append xs ys
+
+step_widths : (here : Place) (x : Item) (next : Place) → Step here x next → place_widths next ≡ place_widths here ++ widths_by (x ∷ [])
+step_widths _ _ _ (s.tick span) = refl
+step_widths _ _ _ (s.top name named) = refl
+step_widths _ _ _ (s.scope ws depth own kind name named) = sym (append-nil ws)
+step_widths _ _ _ (s.variable ws depth v is) = refl
+step_widths _ _ _ (s.upscope ws depth own) = sym (append-nil ws)
+step_widths _ _ _ (s.definitions ws own) = sym (append-nil ws)
+step_widths _ _ _ (s.at_zero ws) = sym (append-nil ws)
+step_widths _ _ _ (s.values ws) = sym (append-nil ws)
+step_widths _ _ _ (s.value ws vs c numbered sized) = sym (append-nil ws)
+step_widths _ _ _ (s.end ws vs full) = sym (append-nil ws)
+step_widths _ _ _ (s.time ws vs last from time after small) = sym (append-nil ws)
+step_widths _ _ _ (s.change ws vs last from bare c least is) = sym (append-nil ws)
+
+steps_widths : (here there : Place) (xs : List Item) → Steps here xs there → place_widths there ≡ place_widths here ++ widths_by xs
+steps_widths here _ _ (t.stay _) = sym (append-nil (place_widths here))
+steps_widths here there _ (t.go _ x next xs _ step more) =
+    steps_widths next there xs more ∙ ap (λ l. l ++ widths_by xs) (step_widths here x next step)
+    ∙ append_assoc (place_widths here) (widths_by (x ∷ [])) (widths_by xs) ∙ ap (λ l. place_widths here ++ l) (sym (widths-append (x ∷ []) xs))
+
+-- in the body the sizes stay
+step_body : (here : Place) (x : Item) (next : Place) → Step here x next → in_body here ≡ true → (place_widths next ≡ place_widths here) × (in_body next ≡ true)
+step_body _ _ _ (s.tick span) h = absurd (false≢true h)
+step_body _ _ _ (s.top name named) h = absurd (false≢true h)
+step_body _ _ _ (s.scope ws depth own kind name named) h = absurd (false≢true h)
+step_body _ _ _ (s.variable ws depth v is) h = absurd (false≢true h)
+step_body _ _ _ (s.upscope ws depth own) h = absurd (false≢true h)
+step_body _ _ _ (s.definitions ws own) h = absurd (false≢true h)
+step_body _ _ _ (s.at_zero ws) h = (refl, refl)
+step_body _ _ _ (s.values ws) h = (refl, refl)
+step_body _ _ _ (s.value ws vs c numbered sized) h = (refl, refl)
+step_body _ _ _ (s.end ws vs full) h = (refl, refl)
+step_body _ _ _ (s.time ws vs last from time after small) h = (refl, refl)
+step_body _ _ _ (s.change ws vs last from bare c least is) h = (refl, refl)
+
+body_widths : (here there : Place) (xs : List Item) → Steps here xs there → in_body here ≡ true → place_widths there ≡ place_widths here
+body_widths here _ _ (t.stay _) h = refl
+body_widths here there _ (t.go _ x next xs _ step more) h =
+    let both = step_body here x next step h in body_widths next there xs more both.1 ∙ both.0
+
+declared_widths : (n : ℕ) (ds : List PlainDeclaration) → widths_by (declared_items n ds) ≡ widths_of ds
+declared_widths n [] = refl
+declared_widths n (d.Scope kind name ∷ ds) = declared_widths n ds
+declared_widths n (d.Variable v ∷ ds) = ap (λ l. v.width ∷ l) (declared_widths (suc n) ds)
+declared_widths n (d.Upscope ∷ ds) = declared_widths n ds
+
+changed_widths : (cs : List ValueChange) (rest : List Item) → widths_by rest ≡ [] → widths_by (change_items cs ++ rest) ≡ []
+changed_widths [] rest h = h
+changed_widths (c ∷ cs) rest h = changed_widths cs rest h
+
+later_widths : (ms : List PlainMoment) → widths_by (later_items ms) ≡ []
+later_widths [] = refl
+later_widths (m ∷ ms) = changed_widths m.changes (later_items ms) (later_widths ms)
+
+moments_widths : (ms : List PlainMoment) → widths_by (body_items ms) ≡ []
+moments_widths [] = refl
+moments_widths (m ∷ ms) = changed_widths m.changes (i.End ∷ later_items ms) (later_widths ms)
+
+dump_widths : (x : PlainDump) → widths_by (items_of x) ≡ widths_of x.declarations
+dump_widths x =
+    widths-append (declared_items 0 x.declarations) (i.Definitions ∷ body_items x.moments)
+    ∙ ap (λ l. widths_by (declared_items 0 x.declarations) ++ l) (moments_widths x.moments)
+    ∙ append-nil (widths_by (declared_items 0 x.declarations)) ∙ declared_widths 0 x.declarations
+
+-- each dump that begins so has these sizes
+same_widths : (items : List Item) (place : Place) (rest : List ℕ) (x : PlainDump) → Steps p.Start items place → in_body place ≡ true → IsLayout (text_from items ++ rest) x
+    → widths_of x.declarations ≡ place_widths place
+same_widths items place rest x steps body h =
+    let way = dump_end (text_from items ++ rest) x h in
+    let after = same_way p.Start place items (items_of x) way.last rest steps way.steps (h.is ∙ dump_text_is x) in
+    sym (dump_widths x) ∙ sym (steps_widths p.Start way.last (items_of x) way.steps) ∙ body_widths place way.last after.items after.steps body
+
+-- ---- faults
+
+-- a line stands after lines from the start, and can't
+record IsRefused (text : List ℕ) (items : List Item) (place : Place) (line rest : List ℕ) : Type 0 where
+  pub steps : Steps p.Start items place
+  pub is : text ≡ text_from items ++ (line ++ 10 ∷ rest)
+  pub one_line : lacks 10 line ≡ true
+  pub bad : Follows place line → ⊥
+
+bad_line : (text : List ℕ) (items : List Item) (place : Place) (line rest : List ℕ) → IsRefused text items place line rest → IsBadLine text (map line_of items) line
+bad_line text items place line rest h = record {
+  rest = rest;
+  is = h.is ∙ sym (append_assoc (text_from items) line (10 ∷ rest));
+  lines = all_lines p.Start place items h.steps;
+  one_line = h.one_line;
+  begun = begun items place h.steps;
+  bad = λ b.
+      let whole : (text_from items ++ line ++ 10 ∷ []) ++ b.rest ≡ text_from items ++ (line ++ 10 ∷ b.rest) =
+      append_assoc (text_from items ++ line) (10 ∷ []) b.rest ∙ append_assoc (text_from items) line (10 ∷ b.rest) in
+      no_dump_ended ((text_from items ++ line ++ 10 ∷ []) ++ b.rest) items place line b.rest h.steps whole h.one_line h.bad b.dump b.is;
+}
+
+in_header : (text : List ℕ) (items : List Item) (place : Place) (line rest : List ℕ) → IsRefused text items place line rest → in_body place ≡ false → IsBadInHeader text
+in_header text items place line rest h out = record {
+  before = map line_of items;
+  line = line;
+  bad = bad_line text items place line rest h;
+  header = no_body place items h.steps out;
+}
+
+in_the_body : (text : List ℕ) (items : List Item) (place : Place) (line rest : List ℕ) (K : List (List ℕ) → List ℕ → Type 0) → IsRefused text items place line rest
+    → in_body place ≡ true → K (map line_of items) line → IsBadInBody text K
+in_the_body text items place line rest K h within kind = record {
+  before = map line_of items;
+  line = line;
+  bad = bad_line text items place line rest h;
+  body = body_by p.Start place items h.steps refl within;
+  kind = kind;
+}
+
+other_code : (items : List Item) (place : Place) (line : List ℕ) → Steps p.Start items place → in_body place ≡ true → IsOfOtherCode (length (place_widths place)) line
+    → IsOfNoCode (map line_of items) line
+other_code items place line steps body h = record {
+  number = h.number;
+  shaped = h.shaped;
+  undeclared = λ rest x k.
+      let same = ap length (same_widths items place rest x steps body k) in
+      let least = h.least in
+      omega (arith, same, least);
+}
+
+no_code : (items : List Item) (place : Place) (line : List ℕ) → Steps p.Start items place → in_body place ≡ true → IsOfNoCode (map line_of items) line
+    → IsOfOtherCode (length (place_widths place)) line
+no_code items place line steps body h =
+    let b = begun items place steps in
+    let same = ap length (same_widths items place b.rest b.dump steps body b.is) in
+    let most = h.undeclared b.rest b.dump b.is in
+    record { number = h.number; shaped = h.shaped; least = omega (arith, same, most) }
+
+body_fault_is : (text : List ℕ) (items : List Item) (place : Place) (line rest : List ℕ) (fault : VcdFault) → IsRefused text items place line rest → in_body place ≡ true
+    → IsBodyKind (length (place_widths place)) line fault → IsFault text fault
+body_fault_is text items place line rest f.Memory h body kind = tt
+body_fault_is text items place line rest f.Header h body kind = absurd kind
+body_fault_is text items place line rest f.Cut h body kind = absurd kind
+body_fault_is text items place line rest f.Time h body kind = in_the_body text items place line rest (λ before l. IsOfTime l) h body kind
+body_fault_is text items place line rest f.Code h body kind =
+    in_the_body text items place line rest (λ before l. IsOfNoCode before l) h body (other_code items place line h.steps body kind)
+body_fault_is text items place line rest f.Line h body kind =
+    in_the_body text items place line rest (λ before l. (IsOfTime l → ⊥) × (IsOfNoCode before l → ⊥)) h body
+    (kind.0, λ k. kind.1 (no_code items place line h.steps body k))
+
+header_fault_is : (text : List ℕ) (items : List Item) (place : Place) (line rest : List ℕ) (fault : VcdFault) → IsRefused text items place line rest → in_body place ≡ false
+    → fault ≡ f.Header → IsFault text fault
+header_fault_is text items place line rest fault h out is = subst (IsFault text) (sym is) (in_header text items place line rest h out)
+
+fault_at : (text : List ℕ) (items : List Item) (place : Place) (line rest : List ℕ) (fault : VcdFault) → IsRefused text items place line rest → IsKindAt place line fault
+    → IsFault text fault
+fault_at text items p.Start line rest fault h kind = header_fault_is text items p.Start line rest fault h refl kind
+fault_at text items p.Top line rest fault h kind = header_fault_is text items p.Top line rest fault h refl kind
+fault_at text items (p.Header ws depth own) line rest fault h kind = header_fault_is text items (p.Header ws depth own) line rest fault h refl kind
+fault_at text items (p.Zero ws) line rest fault h kind = body_fault_is text items (p.Zero ws) line rest fault h refl kind
+fault_at text items (p.First ws) line rest fault h kind = body_fault_is text items (p.First ws) line rest fault h refl kind
+fault_at text items (p.Values ws vs) line rest fault h kind = body_fault_is text items (p.Values ws vs) line rest fault h refl kind
+fault_at text items (p.Later ws vs last from bare) line rest fault h kind = body_fault_is text items (p.Later ws vs last from bare) line rest fault h refl kind
+
+stop_is : (text : List ℕ) (items : List Item) (place : Place) (rest : List ℕ) (fault : VcdFault) → Steps p.Start items place → text ≡ text_from items ++ rest
+    → IsStop place rest fault → IsFault text fault
+stop_is text items place rest _ steps is (stop.bad line after fault cut bad kind) =
+    fault_at text items place line after fault
+    (record { steps = steps; is = is ∙ ap (λ l. text_from items ++ l) cut.is; one_line = cut.first; bad = bad }) kind
+stop_is text items place rest _ steps is (stop.cut one none) = record {
+  before = map line_of items;
+  last = rest;
+  is = is;
+  lines = all_lines p.Start place items steps;
+  one_line = one;
+  begun = begun items place steps;
+  none = no_dump_cut text items place rest steps is one none;
+}
+
+stopped_is : (text : List ℕ) (fault : VcdFault) → IsStopped p.Start text fault → IsFault text fault
+stopped_is text fault h = stop_is text h.items h.next h.rest fault h.steps h.is h.stop
+
+pub fault_is : (text : List ℕ) (fault : VcdFault) → IsToldAt p.Start text fault → IsFault text fault
+fault_is text f.Memory h = tt
+fault_is text f.Header h = stopped_is text f.Header h
+fault_is text f.Line h = stopped_is text f.Line h
+fault_is text f.Code h = stopped_is text f.Code h
+fault_is text f.Time h = stopped_is text f.Time h
+fault_is text f.Cut h = stopped_is text f.Cut h
+
+-- ---- stops after lines
+
+stopped_later : (here next : Place) (text rest : List ℕ) (items : List Item) (fault : VcdFault) → Steps here items next → text ≡ text_from items ++ rest
+    → IsStopped next rest fault → IsStopped here text fault
+stopped_later here next text rest items fault steps is h = record {
+  items = items ++ h.items;
+  next = h.next;
+  rest = h.rest;
+  steps = steps_append here next h.next items h.items steps h.steps;
+  is =
+      is ∙ ap (λ l. text_from items ++ l) h.is ∙ sym (append_assoc (text_from items) (text_from h.items) h.rest)
+      ∙ ap (λ l. l ++ h.rest) (sym (text_from-append items h.items));
+  stop = h.stop;
+}
+
+pub told_later : (here next : Place) (text rest : List ℕ) (items : List Item) (fault : VcdFault) → Steps here items next → text ≡ text_from items ++ rest
+    → IsToldAt next rest fault → IsToldAt here text fault
+told_later here next text rest items f.Memory steps is h = tt
+told_later here next text rest items f.Header steps is h = stopped_later here next text rest items f.Header steps is h
+told_later here next text rest items f.Line steps is h = stopped_later here next text rest items f.Line steps is h
+told_later here next text rest items f.Code steps is h = stopped_later here next text rest items f.Code steps is h
+told_later here next text rest items f.Time steps is h = stopped_later here next text rest items f.Time steps is h
+told_later here next text rest items f.Cut steps is h = stopped_later here next text rest items f.Cut steps is h
+
+told : (here : Place) (text : List ℕ) (fault : VcdFault) → IsStopped here text fault → IsToldAt here text fault
+told here text f.Memory h = tt
+told here text f.Header h = h
+told here text f.Line h = h
+told here text f.Code h = h
+told here text f.Time h = h
+told here text f.Cut h = h
+
+pub told_here : (here : Place) (text : List ℕ) (fault : VcdFault) → IsStop here text fault → IsToldAt here text fault
+told_here here text fault h = told here text fault (record { items = []; next = here; rest = text; steps = t.stay here; is = refl; stop = h })
+
+-- the text is cut at this place
+pub told_cut : (here : Place) (text : List ℕ) → lacks 10 text ≡ true → (text ≡ [] → IsLast here → ⊥) → IsToldAt here text f.Cut
+told_cut here text one none = told_here here text f.Cut (stop.cut one none)
+
+-- its first line is bad
+pub told_bad : (here : Place) (text line rest : List ℕ) (fault : VcdFault) → IsCut 10 text line rest → (Follows here line → ⊥) → IsKindAt here line fault
+    → IsToldAt here text fault
+told_bad here text line rest fault cut bad kind = told_here here text fault (stop.bad line rest fault cut bad kind)
