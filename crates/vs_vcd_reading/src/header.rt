@@ -51,7 +51,8 @@ fn own_after(own: bool, declaration: &Declaration) -> bool
 
 /// Puts the size of a declared variable to those of the earlier ones.
 fn push_width(widths: &mut Vec<u32>, declaration: &Declaration) -> Result<(), VcdFault>
-    ensures { MatchResult result (λ _. widths.new.items ≡ widths.old.items ++ widths_of (plain_declaration declaration.now ∷ [])) (λ f. f ≡ Memory) }
+    ensures { MatchResult result
+        (λ _. widths.new.items ≡ widths.old.items ++ widths_of (plain_declaration declaration.now ∷ [])) (λ f. f ≡ Memory) }
 {
     match declaration {
         Declaration::Variable(variable) => widths.push(variable.width)?,
