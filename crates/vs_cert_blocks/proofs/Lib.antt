@@ -4,3 +4,4 @@ pub mod Open
 pub mod SignalLemmas
 pub mod BlockLemmas
 pub mod Points
+pub mod EarlyLemmas

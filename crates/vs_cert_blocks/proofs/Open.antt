@@ -42,7 +42,7 @@ layer_sure b (Statement-F.While n e body) = refl
 layer_sure b (Statement-F.Repeat n signed e body) = refl
 layer_sure b (Statement-F.Forever n body) = refl
 
-sure_is : (b : Bit) (s : Option Statement) → surely_at b s ≡ list_any (covers b.signal b.word b.place) (ranges_of statement_sure s)
+pub sure_is : (b : Bit) (s : Option Statement) → surely_at b s ≡ list_any (covers b.signal b.word b.place) (ranges_of statement_sure s)
 sure_is b None = refl
 sure_is b (Some s) = layer_sure b (out-Statement s)
 

@@ -1,4 +1,5 @@
 pub mod Walks
+pub mod Early
 pub mod Corners
 pub mod Inside
 pub mod Blocks

@@ -2,7 +2,7 @@
 ghost use Rattle.std.specs.Prelude.{◌≡◌};
 ghost use Rattle.std.specs.List.{list_any};
 ghost use Rattle.vs_design.specs.declared.statement.Statement.TheViews.{out-Statement};
-ghost use Rattle.vs_design.specs.Uses.{slice_range};
+ghost use Rattle.vs_design.specs.Uses.{covers, slice_range};
 ghost use Rattle.vs_flatcode.specs.Stops.{statement_view};
 ghost use Rattle.vs_rules.specs.Blocks.{is_sure, statement_surely, is_late_effect};
 ghost use Rattle.vs_cert_blocks.specs.Walks.{bit_view, surely_at, has_late_effect_at};
@@ -88,4 +88,13 @@ pub(crate) fn has_late_effect(statement: Option<&Statement>) -> bool
         None => false,
         Some(s) => is_late_effect(s),
     }
+}
+
+/// Whether one of some ranges has a bit.
+pub(crate) fn any_has(ranges: &[BitRange], bit: Bit) -> bool
+    ensures { result ≡ list_any (covers bit.signal bit.word bit.place) ranges.now }
+{
+    ranges
+        .iter()
+        .any(|range| has(*range, bit.signal, bit.word, bit.place))
 }

@@ -11,6 +11,7 @@ ghost use Rattle.vs_cert_blocks.specs.Blocks.{IsQuiet, AreOfOrNamed, IsSignalFir
 ghost use Rattle.vs_cert_blocks.specs.Walks.{has_late_effect_at, AreReads, AreWoken, HaveSure};
 
 use crate::bits::has_late_effect;
+use crate::early::early_ranges;
 use crate::walks::{Walks, statement_at, sure, woken};
 use std::alloc::{AllocError, Global};
 use vs_design::{BitRange, Design, EventTerm, Process};
@@ -170,11 +171,13 @@ fn are_written_first<'a>(
     let seeds = woken(alloc, tables)?;
     let reads = reads(alloc, tables)?;
     let sure = sure(alloc, tables)?;
+    let first = early_ranges(alloc, tables, &seeds, &reads)?;
     let walks = Walks {
         tables,
         seeds: &seeds,
         reads: &reads,
         sure: &sure,
+        early: &first,
     };
     let all = are_written(alloc, design, &walks, signals)?;
     Ok(all)
@@ -212,7 +215,8 @@ fn keeps_text<'a>(
 /// Whether a combinational block keeps the rule K5, by its process and its map: the grain is `block`; it is an `always` with one control of level
 /// terms before a statement without timing control; it has no `<=`, no `$strobe` and no `$finish`; its control names each bit that it reads, but
 /// for its outputs; and on every path each bit of its outputs is written before a bit of that output is read, and before the end. It takes as
-/// long as the text and its map for each select of an output in it.
+/// long as the text and its map for each select of an output in it; but for those that are written before the paths part, as long as the text has
+/// selects.
 pub fn keeps_process<'a>(
     alloc: Global,
     design: &Design,

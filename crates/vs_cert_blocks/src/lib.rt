@@ -4,6 +4,7 @@
 mod bits;
 mod blocks;
 mod corners;
+mod early;
 mod rule;
 mod walks;
 

@@ -7,12 +7,13 @@ ghost use Rattle.vs_flatcode.specs.Stops.{LeadsIn, statement_view, stop_at, stop
 ghost use Rattle.vs_flatcode.specs.Ways.{none};
 ghost use Rattle.vs_slots_paths.specs.Reaches.{places, pause_at};
 ghost use Rattle.vs_slots_ranges.specs.Places.{bit};
+ghost use Rattle.vs_cert_blocks.specs.Early.{AreEarly};
 ghost use Rattle.vs_cert_blocks.specs.Inside.{open_in};
 ghost use Rattle.vs_slots_paths.specs.Ranges.{ranges_of, HasSignal};
 ghost use Rattle.vs_cert_blocks.specs.Walks.{bit_view, is_open, open_tos, row_at, fixed_range, statement_sure};
 ghost use Rattle.vs_cert_blocks.specs.Walks.{IsClear, IsWrittenFirst, AreWoken, AreReads, HaveSure, WakesFrom};
 
-use crate::bits::{Bit, slice_range, surely_at};
+use crate::bits::{Bit, any_has, slice_range, surely_at};
 use crate::corners::{alike_until, alike_words_until};
 use std::alloc::{AllocError, Global};
 use vs_design::{Aim, BitRange, Statement};
@@ -136,8 +137,11 @@ fn push_statement_sure(out: &mut Vec<BitRange>, statement: &Statement) -> Result
     }
 }
 
-// The same of a statement that may be there.
-fn push_sure(out: &mut Vec<BitRange>, statement: Option<&Statement>) -> Result<(), AllocError>
+/// The same of a statement that may be there.
+pub(crate) fn push_sure(
+    out: &mut Vec<BitRange>,
+    statement: Option<&Statement>,
+) -> Result<(), AllocError>
     ensures { OnOk result (out.new.items ≡ out.old.items ++ ranges_of statement_sure (statement_view statement.entry)) }
 {
     match statement {
@@ -157,8 +161,8 @@ pub(crate) fn sure<'a>(alloc: Global, tables: &'a Tables<'a>) -> Result<Vec<BitR
     Ok(out)
 }
 
-// The row of a place.
-fn row(rows: &[Vec<BitRange>], place: usize) -> &[BitRange]
+/// The row of a place.
+pub(crate) fn row(rows: &[Vec<BitRange>], place: usize) -> &[BitRange]
     ensures { result.now ≡ row_at rows.entry.now place }
 {
     if place >= rows.len() {
@@ -190,8 +194,11 @@ pub(crate) struct Walks<'a> {
     pub(crate) reads: &'a [Vec<BitRange>],
     /// The ranges that statements are sure to write.
     pub(crate) sure: &'a [BitRange],
+    /// Ranges that are sure to be written first.
+    pub(crate) early: &'a [BitRange],
     ghost within: { LeadsIn (places tables.now) tables.now.stops },
     ghost reads_are: { AreReads tables.now reads.now },
+    ghost early_are: { AreEarly tables.now early.now },
 }
 
 // The places that are marked.
@@ -220,12 +227,15 @@ impl<'a> Rule for Clear<'a> {
 }
 
 impl<'a> Walks<'a> {
-    // Whether a bit is written on every path before a bit of its signal is read, and before the block is back at its control. It takes as long as
-    // the map has places and ways.
+    // Whether a bit is written on every path before a bit of its signal is read, and before the block is back at its control. Of one that is known
+    // to be it takes as long as there are such ranges; else as the map has places and ways.
     fn is_written_first(&self, alloc: Global, bit: Bit) -> Result<bool, AllocError>
         requires { AreWoken self.now.tables.now self.now.seeds.now }
         ensures { IfOk result (λ b. (IsTrue b ↔ IsWrittenFirst self.now.tables.now (bit_view bit))) }
     {
+        if any_has(self.early, bit) {
+            return Ok(true);
+        }
         let open = Open {
             tables: self.tables,
             bit,

@@ -25,7 +25,7 @@ use vs_cert_facts::{Facts, codes, tables, texts};
 use vs_cert_first_slot::FirstSlot;
 use vs_cert_names::{Subject, all_subjects, name_of};
 use vs_cert_roots::{Entries, FirstWrites};
-use vs_cert_starts::in_order;
+use vs_cert_starts::{Starts, in_order};
 use vs_certificate::Certificate;
 use vs_design::Design;
 use vs_flatcode::{Code, TextMap};
@@ -68,7 +68,9 @@ impl<'a, 'b> Rule for OfRule<'a, 'b> {
 struct OfStarts<'a, 'b> {
     sheet: &'b Sheet<'a>,
     all: &'b [Subject<'a>],
+    starts: &'b Starts<'a>,
     beginning: &'b Beginning<'a>,
+    ghost starts_are: { starts.now ≡ sheet.now.facts.now },
     ghost of: { beginning.now ≡ sheet.now.facts.now.design },
     ghost blocks: { (i : ℕ) → (K5 sheet.now.facts.now.design sheet.now.facts.now.claims i → ⊥) → ⊥ },
     ghost are: { map subject_view all.now ≡ subjects sheet.now.facts.now.design sheet.now.facts.now.claims },
@@ -81,7 +83,7 @@ impl<'a, 'b> Rule for OfStarts<'a, 'b> {
         if i >= self.all.len() {
             return Ok(true);
         }
-        starts_well(alloc, self.sheet, self.beginning, self.all[i])
+        starts_well(alloc, self.sheet, self.starts, self.beginning, self.all[i])
     }
 }
 
@@ -128,9 +130,11 @@ fn first_start<'a>(
 {
     let order = in_order(alloc, sheet.facts)?;
     let beginning = Beginning::new(alloc, sheet.facts.design(), &order)?;
+    let of_blocks = Starts::of(alloc, sheet.facts, sheet.cones)?;
     let starts = OfStarts {
         sheet,
         all,
+        starts: &of_blocks,
         beginning: &beginning,
     };
     let first = first_broken(alloc, &starts, all.len())?;

@@ -22,7 +22,7 @@ use vs_cert_names::{
 };
 use vs_cert_order::{keeps_assign_order, keeps_process_order};
 use vs_cert_roots::{Entries, FirstWrites, keeps_first_root, keeps_root};
-use vs_cert_starts::keeps_start;
+use vs_cert_starts::{Starts, keeps_start_by};
 use vs_cert_writers::{keeps_mode, keeps_writers};
 use vs_slots::Slots;
 use vs_slots_cold::Beginning;
@@ -131,9 +131,11 @@ pub(crate) fn keeps(
 pub(crate) fn starts_well(
     alloc: Global,
     sheet: &Sheet,
+    starts: &Starts,
     beginning: &Beginning,
     subject: Subject,
 ) -> Result<bool, AllocError>
+    requires starts { starts.now ≡ sheet.now.facts.now }
     requires beginning { beginning.now ≡ sheet.now.facts.now.design }
     requires shape { (i : ℕ) → (K5 sheet.now.facts.now.design sheet.now.facts.now.claims i → ⊥) → ⊥ }
     ensures { IfOk result (λ b. (IsTrue b ↔
@@ -144,7 +146,7 @@ pub(crate) fn starts_well(
             if !keeps_block(alloc, sheet.facts, i)? {
                 unreachable!();
             }
-            keeps_start(alloc, sheet.facts, sheet.cones, sheet.copies, beginning, i)
+            keeps_start_by(alloc, starts, sheet.cones, sheet.copies, beginning, i)
         }
         _ => Ok(true),
     }

@@ -1,2 +1,3 @@
 pub mod Residues
 pub mod Closed
+pub mod Places

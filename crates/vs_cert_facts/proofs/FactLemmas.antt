@@ -18,11 +18,11 @@ use Rattle.vs_rules.specs.Claims.{Name, Claims, SignalClaim, ProcessClaim, EdgeC
 use Rattle.vs_rules.specs.Claims.{IsSignalNamed, IsProcessNamed, IsAssignNamed, signal_name, process_name, assign_name}
 use Rattle.vs_slots_paths.specs.Reaches.{Chart}
 use Rattle.vs_cert_facts.specs.declared.names.Names.{Names}
-use Rattle.vs_cert_facts.specs.Places.{place_in}
+use Rattle.vs_cert_index.specs.Places.{place_in}
 use Rattle.vs_cert_facts.specs.Facts.{Case, case_of}
 use Rattle.vs_cert_facts.specs.passes.Kept.{AreFacts, paths, named_processes, named_assigns, signal_entries, process_entries, edge_roots}
 use Rattle.vs_cert_facts.specs.passes.Kept as kept
-use Rattle.vs_cert_facts.proofs.PlaceLemmas.{at_place, named_is, none_rest}
+use Rattle.vs_cert_index.proofs.PlaceLemmas.{at_place, named_is, none_rest}
 
 -- ---- entries by name
 

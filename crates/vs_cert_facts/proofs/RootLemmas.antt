@@ -13,11 +13,11 @@ use Rattle.vs_rules.specs.Certificates.{edge_claim, name_from}
 use Rattle.vs_rules.specs.Claims.{Name, Claims, EdgeClaim, signal_name, edge_signals, times_in, IsSignalNamed, IsRootOf, IsRoot}
 use Rattle.vs_slots_paths.specs.Reaches.{Chart}
 use Rattle.vs_cert_facts.specs.declared.names.Names.{Names}
-use Rattle.vs_cert_facts.specs.Places.{place_in}
+use Rattle.vs_cert_index.specs.Places.{place_in}
 use Rattle.vs_cert_facts.specs.Facts.{Case, case_of, IsRootAt}
 use Rattle.vs_cert_facts.specs.passes.Kept.{AreFacts}
 use Rattle.vs_cert_facts.proofs.FactLemmas.{signal_named_is}
-use Rattle.vs_cert_facts.proofs.PlaceLemmas.{nowhere, one_place}
+use Rattle.vs_cert_index.proofs.PlaceLemmas.{nowhere, one_place}
 
 -- both numbers, where both are there
 abbrev pub pair_of : Option ℕ → Option ℕ → Option (ℕ × ℕ)

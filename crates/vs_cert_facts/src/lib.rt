@@ -2,12 +2,10 @@
 #![tactic(auto)]
 
 mod facts;
-mod index;
 mod maps;
 mod named;
 mod names;
 mod words;
 
 pub use facts::Facts;
-pub use index::Index;
 pub use maps::{codes, tables, texts};

@@ -2,8 +2,8 @@
 ghost use Rattle.std.specs.Prelude.{◌≡◌, ℕ, List, IfOk, map};
 ghost use Rattle.vs_rules.specs.Certificates.{name_from};
 
-use crate::index::Index;
 use std::alloc::{AllocError, Global};
+use vs_cert_index::Index;
 use vs_certificate::{ProcessEntry, SignalEntry};
 use vs_design::{Assign, Process, Signal};
 

@@ -2,9 +2,9 @@
 ghost use Rattle.std.specs.Prelude.{◌≡◌, IfOk};
 ghost use Rattle.vs_cert_facts.specs.passes.Kept.{edge_roots, edge_signals, AreDesignNames, AreClaimedNames, AreEdgeNames, AreNames};
 
-use crate::index::Index;
 use crate::named::names_of;
 use std::alloc::{AllocError, Global};
+use vs_cert_index::Index;
 use vs_certificate::{Certificate, EdgeSignal};
 use vs_design::Design;
 

@@ -4,7 +4,7 @@ ghost use Rattle.vs_rules.specs.Claims.{signal_name, assign_name, process_name};
 ghost use Rattle.vs_rules.specs.Verdict.{numbers, subjects, place_of};
 ghost use Rattle.vs_rules.specs.Verdict as verdict;
 ghost use Rattle.vs_cert_facts.specs.Facts.{seen};
-ghost use Rattle.vs_cert_facts.specs.Places.{texts};
+ghost use Rattle.vs_cert_index.specs.Places.{texts};
 ghost use Rattle.vs_cert_names.specs.Subjects.{subject_view};
 
 use crate::listed::all_names;

@@ -1,7 +1,8 @@
 -- The starts of combinational blocks.
-use Rattle.std.proofs.Common.{◌≡◌, ◌↔◌, ℕ, zero, suc, ◌+◌, ◌<◌, ◌≤◌, ◌⊎◌, Bool, true, false, IsTrue, Option, Some, None, List, [], ◌∷◌, length, slice_get, slice_index_or, refl, sym, ◌∙◌, ap, subst, inl, inr, arith}
+use Rattle.std.proofs.Common.{◌≡◌, ◌↔◌, ℕ, zero, suc, ◌+◌, ◌<◌, ◌≤◌, ◌⊎◌, Bool, true, false, IsTrue, Option, Some, None, List, [], ◌∷◌, ◌++◌, length, slice_get, slice_index_or, refl, sym, ◌∙◌, ap, subst, inl, inr, arith}
 use Rattle.std.specs.List.{Contains}
 use Rattle.std.proofs.lemmas.Bool.{cases_lt}
+use Rattle.std.proofs.lemmas.List.Elements.{Contains-append_left, Contains-append_right, Contains-append_cases}
 use Rattle.std.proofs.lemmas.Option.{none-some, same_Some, slice_get_within, slice_get_past}
 use Rattle.vs_design.specs.declared.design.Process.{Process}
 use Rattle.vs_design.specs.declared.range.BitRange.{BitRange}
@@ -10,7 +11,7 @@ use Rattle.vs_design.specs.Parts.{Parts}
 use Rattle.vs_law_threads.specs.Blocks.{outputs_for}
 use Rattle.vs_law_threads.proofs.Lists.{contains_at, place_of}
 use Rattle.vs_law_writes.specs.Writes.{statement_writes}
-use Rattle.vs_rules.specs.Claims.{Claims, Kind, Start, block, starter, kind_of, kind_for, HasStart, IsBlock}
+use Rattle.vs_rules.specs.Claims.{Claims, Kind, Start, block, cold, starter, kind_of, kind_for, HasStart, IsBlock}
 use Rattle.vs_rules.specs.Paths.{Writes}
 use Rattle.vs_rules.specs.Drivers.{block as driver, DriverNeeds, IsSource, Passes}
 use Rattle.vs_rules.specs.Blocks.{K11, IsCold, Starts, WaitsForSources}
@@ -21,7 +22,7 @@ use Rattle.vs_slots_cold.specs.Cold.{StaysAtEach}
 use Rattle.vs_slots_cones.specs.Wires.{IsWiringOf, Wiring, OfWiring}
 use Rattle.vs_cert_facts.specs.Facts.{AreCharts}
 use Rattle.vs_cert_starts.specs.Started.{AreTerms}
-use Rattle.vs_cert_starts.specs.Starts.{IsFine, AreFine, NoStarterIn}
+use Rattle.vs_cert_starts.specs.Starts.{AreApart, IsFine, AreFine, NeedsCold, NoStarterIn}
 
 pub false_not : (IsTrue false) → ⊥
 false_not t = grind (arith, t)
@@ -90,16 +91,16 @@ one_marked d c marks j h = (λ t. absurd (false_not t), λ f. absurd (f j h.0 h.
 
 -- ---- starts by kinds
 
-pub starter_is : (d : Parts) (c : Claims) (j : ℕ) (kind : Option Kind) (o : Option Start) (start : Start) → kind ≡ kind_of d c j → ((s : Start) → ((kind ≡ Some (block s)) ↔ (o ≡ Some s))) → o ≡ Some start →
-    (t : Bool) → (IsTrue t ↔ (start ≡ starter)) → (IsTrue t ↔ HasStart d c j starter)
-starter_is d c j kind o start same all is t told = (
-  λ h. sym same ∙ (all starter).1 (is ∙ ap (λ s. Some s) (told.0 h)),
-  λ has. told.1 (same_Some start starter (sym is ∙ (all starter).0 (same ∙ has))),
+pub start_is : (d : Parts) (c : Claims) (j : ℕ) (kind : Option Kind) (o : Option Start) (start s : Start) → kind ≡ kind_of d c j → ((s : Start) → ((kind ≡ Some (block s)) ↔ (o ≡ Some s))) → o ≡ Some start →
+    (t : Bool) → (IsTrue t ↔ (start ≡ s)) → (IsTrue t ↔ HasStart d c j s)
+start_is d c j kind o start s same all is t told = (
+  λ h. sym same ∙ (all s).1 (is ∙ ap (λ x. Some x) (told.0 h)),
+  λ has. told.1 (same_Some start s (sym is ∙ (all s).0 (same ∙ has))),
 )
 
-pub starter_not : (d : Parts) (c : Claims) (j : ℕ) (kind : Option Kind) (o : Option Start) → kind ≡ kind_of d c j → ((s : Start) → ((kind ≡ Some (block s)) ↔ (o ≡ Some s))) → o ≡ None →
-    (IsTrue false ↔ HasStart d c j starter)
-starter_not d c j kind o same all is = (λ t. absurd (false_not t), λ has. absurd (none-some starter (sym is ∙ (all starter).0 (same ∙ has))))
+pub start_not : (d : Parts) (c : Claims) (j : ℕ) (kind : Option Kind) (o : Option Start) (s : Start) → kind ≡ kind_of d c j → ((s : Start) → ((kind ≡ Some (block s)) ↔ (o ≡ Some s))) → o ≡ None →
+    (IsTrue false ↔ HasStart d c j s)
+start_not d c j kind o s same all is = (λ t. absurd (false_not t), λ has. absurd (none-some s (sym is ∙ (all s).0 (same ∙ has))))
 
 pub claimed : (d : Parts) (c : Claims) (j : ℕ) (kind : Option Kind) (o p : Option Start) → kind ≡ kind_of d c j → ((s : Start) → ((kind ≡ Some (block s)) ↔ (o ≡ Some s))) → o ≡ p →
     (s : Start) → (HasStart d c j s ↔ p ≡ Some s)
@@ -178,3 +179,59 @@ one_claim d c i start one b told = (
   λ h s has. subst (Starts d c i) (same_Some start s ((one s).0 has)) (told.0 h),
   λ k. told.1 (k start ((one start).1 refl)),
 )
+
+-- ---- what blocks of start `cold` need
+
+more_or : (i n : ℕ) → i < n + 1 → (i < n) ⊎ (i ≡ n)
+more_or i n h = grind (arith, h)
+
+-- what those below a number need
+abbrev pub AreNeedsBelow : Parts → Claims → ℕ → List BitRange → Type 0
+AreNeedsBelow d c n all = (r : BitRange) → (Contains all r ↔ ((i : ℕ) × (i < n) × NeedsCold d c i r))
+
+pub no_needs_yet : (d : Parts) (c : Claims) (all : List BitRange) → all ≡ [] → AreNeedsBelow d c 0 all
+no_needs_yet d c all e r = (λ h. absurd (omega (arith, (subst (λ (l : List BitRange). Contains l r) e h).1)), λ h. absurd (omega (arith, h.1)))
+
+pub needs_more : (d : Parts) (c : Claims) (n : ℕ) (old new : List BitRange) → AreNeedsBelow d c n old → ((r : BitRange) → (Contains new r ↔ (Contains old r ⊎ NeedsCold d c n r))) → AreNeedsBelow d c (n + 1) new
+needs_more d c n old new so more r = (λ h. into ((more r).0 h), λ h. (more r).1 (back h (more_or h.0 n h.1))) where
+  into : Contains old r ⊎ NeedsCold d c n r → (i : ℕ) × (i < n + 1) × NeedsCold d c i r
+  into (inl a) = let y = (so r).0 a in (y.0, omega (arith, y.1), y.2)
+  into (inr b) = (n, omega arith, b)
+
+  back : (h : (i : ℕ) × (i < n + 1) × NeedsCold d c i r) → (h.0 < n) ⊎ (h.0 ≡ n) → Contains old r ⊎ NeedsCold d c n r
+  back h (inl l) = inl ((so r).1 (h.0, l, h.2))
+  back h (inr e) = inr (subst (λ (i : ℕ). NeedsCold d c i r) e h.2)
+
+pub needs_all : (d : Parts) (c : Claims) (n : ℕ) (all : List BitRange) → length d.processes ≤ n → AreNeedsBelow d c n all → (r : BitRange) → (Contains all r ↔ ((i : ℕ) × NeedsCold d c i r))
+needs_all d c n all past so r = (
+  λ h. let y = (so r).0 h in (y.0, y.2),
+  λ h. (so r).1 (h.0, omega (arith, is_block_of d c h.0 (cold, h.1.0), past), h.1),
+)
+
+-- nothing more
+pub not_cold : (d : Parts) (c : Claims) (i : ℕ) (old : List BitRange) → (HasStart d c i cold → ⊥) → (r : BitRange) → (Contains old r ↔ (Contains old r ⊎ NeedsCold d c i r))
+not_cold d c i old never r = (λ h. inl h, λ h. elim h [ inl a ↦ a | inr b ↦ absurd (never b.0) ])
+
+pub cold_more : (d : Parts) (c : Claims) (i : ℕ) (old needs new : List BitRange) → HasStart d c i cold → new ≡ old ++ needs → ((r : BitRange) → (Contains needs r ↔ (IsBlock d c i × DriverNeeds d (driver i) r))) →
+    (r : BitRange) → (Contains new r ↔ (Contains old r ⊎ NeedsCold d c i r))
+cold_more d c i old needs new has e are r = (
+  λ h. elim (Contains-append_cases old needs r (subst (λ (l : List BitRange). Contains l r) e h)) [ inl a ↦ inl a | inr b ↦ inr (has, ((are r).0 b).1) ],
+  λ h. subst (λ (l : List BitRange). Contains l r) (sym e) (elim h [ inl a ↦ Contains-append_left old needs r a | inr b ↦ Contains-append_right old needs r ((are r).1 ((cold, has), b.1)) ]),
+)
+
+-- no driver that is passed through has start `starter` exactly where all are apart
+pub apart_is : (d : Parts) (c : Claims) (x : Wiring) → IsWiringOf d c x → (needs one : List BitRange) (marks other : List Bool) → one ≡ needs → other ≡ marks → ((r : BitRange) → (Contains needs r ↔ ((i : ℕ) × NeedsCold d c i r))) →
+    OfWiring x (λ d c. (j : ℕ) → (IsTrue (slice_index_or marks j false) ↔ ((r : BitRange) × Contains one r × Passes d c (driver j) r))) →
+    (b : Bool) → (IsTrue b ↔ NoStarterIn d c other) → (IsTrue b ↔ AreApart d c)
+apart_is d c x wiring needs one marks other same also are passed b told = (
+  λ h i j r need passes has.
+      told.0 h j (subst (λ (l : List Bool). IsTrue (slice_index_or l j false)) (sym also) ((passed d c wiring j).1 (r, subst (λ (l : List BitRange). Contains l r) (sym same) ((are r).1 (i, need)), passes))) has,
+  λ k. told.1 (λ j mark has.
+      let y = (passed d c wiring j).0 (subst (λ (l : List Bool). IsTrue (slice_index_or l j false)) also mark) in
+      let z = (are y.0).0 (subst (λ (l : List BitRange). Contains l y.0) same y.1) in
+      k z.0 j y.0 z.1 y.2 has),
+)
+
+-- a block that is apart
+pub cold_apart : (d : Parts) (c : Claims) (i : ℕ) → HasStart d c i cold → StaysAtEach d i → AreApart d c → (IsTrue true ↔ IsCold d c i)
+cold_apart d c i has stays apart = (λ t. record { stays = stays; no_starter = λ j r need passes. apart i j r (has, need) passes }, λ k. true_here)

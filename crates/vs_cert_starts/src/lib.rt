@@ -1,6 +1,7 @@
 //! The rule K11, on the starts of combinational blocks.
 #![tactic(auto)]
 
+mod apart;
 mod begins;
 mod missing;
 mod order;
@@ -8,5 +9,6 @@ mod started;
 mod starter;
 mod starts;
 
+pub use apart::Starts;
 pub use order::in_order;
-pub use starts::keeps_start;
+pub use starts::{keeps_start, keeps_start_by};

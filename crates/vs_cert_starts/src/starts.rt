@@ -6,14 +6,16 @@ ghost use Rattle.vs_law_writes.specs.Writes.{statement_writes};
 ghost use Rattle.vs_law_threads.specs.Blocks.{outputs};
 ghost use Rattle.vs_rules.specs.Certificates.{kind_from, start_from};
 ghost use Rattle.vs_rules.specs.Claims as claims;
-ghost use Rattle.vs_rules.specs.Claims.{block, starter, HasStart, IsBlock};
-ghost use Rattle.vs_rules.specs.Blocks.{K5, K11, IsCold, WaitsForSources, HasStarter, Starts};
+ghost use Rattle.vs_rules.specs.Claims.{block, cold, starter, HasStart, IsBlock};
+ghost use Rattle.vs_rules.specs.Blocks as rules;
+ghost use Rattle.vs_rules.specs.Blocks.{K5, K11, IsCold, WaitsForSources, HasStarter};
 ghost use Rattle.vs_slots_paths.specs.Ranges.{HasSignal};
 ghost use Rattle.vs_slots_cones.specs.Wires.{IsWiringOf};
 ghost use Rattle.vs_cert_facts.specs.Facts.{kind_seen};
 ghost use Rattle.vs_cert_starts.specs.Started.{AreTerms};
-ghost use Rattle.vs_cert_starts.specs.Starts.{IsFine, AreFine, NoStarterIn};
+ghost use Rattle.vs_cert_starts.specs.Starts.{AreApart, IsFine, AreFine, NoStarterIn};
 
+use crate::apart::Starts;
 use crate::starter::has_starter;
 use std::alloc::{AllocError, Global};
 use vs_cert_facts::Facts;
@@ -36,8 +38,8 @@ fn kind_start(kind: &ClaimedKind) -> Option<Start>
     }
 }
 
-// The start of a kind, where it is that of a combinational block.
-fn start_of(kind: Option<&ClaimedKind>) -> Option<Start>
+/// The start of a kind, where it is that of a combinational block.
+pub(crate) fn start_of(kind: Option<&ClaimedKind>) -> Option<Start>
     ensures { (s : claims.Start) → ((kind_seen kind.entry ≡ Some (block s)) ↔ (option_map start_from result ≡ Some s)) }
 {
     match kind {
@@ -109,8 +111,8 @@ fn is_passed(facts: &Facts, marked: bool, j: usize) -> bool
     has_start(facts, j)
 }
 
-// Whether no process that is marked has it.
-fn no_starter_in(facts: &Facts, marks: &[bool]) -> bool
+/// Whether no process that is marked has start `starter`.
+pub(crate) fn no_starter_in(facts: &Facts, marks: &[bool]) -> bool
     ensures { IsTrue result ↔ NoStarterIn facts.now.design facts.now.claims marks.now }
 {
     for j in 0..marks.len() {
@@ -122,23 +124,28 @@ fn no_starter_in(facts: &Facts, marks: &[bool]) -> bool
 }
 
 // Whether a block that never ran has the outputs that a run on the settled first store gives it, and none of the drivers that its cone passes through
-// has start `starter`.
+// has start `starter`; where all blocks of start `cold` are apart from these, its cone is left out.
 fn is_cold(
     alloc: Global,
     facts: &Facts,
     cones: &Cones,
     beginning: &Beginning,
+    apart: bool,
     i: usize,
 ) -> Result<bool, AllocError>
     requires wiring { IsWiringOf facts.now.design facts.now.claims cones.now }
     requires beginning { beginning.now ≡ facts.now.design }
+    requires apart { IsTrue apart → AreApart facts.now.design facts.now.claims }
     requires shape { K5 facts.now.design facts.now.claims i }
-    requires block { IsBlock facts.now.design facts.now.claims i }
+    requires start { HasStart facts.now.design facts.now.claims i cold }
     ensures { IfOk result (λ b. (IsTrue b ↔ IsCold facts.now.design facts.now.claims i)) }
 {
     let stays = beginning.stays_cold(alloc, i)?;
     if !stays {
         return Ok(false);
+    }
+    if apart {
+        return Ok(true);
     }
     let passed = cones.passed_by(alloc, cones.block_needs(i))?;
     Ok(no_starter_in(facts, &passed))
@@ -189,28 +196,80 @@ fn starts_as(
     cones: &Cones,
     copies: &Copies,
     beginning: &Beginning,
+    apart: bool,
     i: usize,
     start: Start,
 ) -> Result<bool, AllocError>
     requires wiring { IsWiringOf facts.now.design facts.now.claims cones.now }
     requires copies { copies.now ≡ facts.now.design }
     requires beginning { beginning.now ≡ facts.now.design }
+    requires apart { IsTrue apart → AreApart facts.now.design facts.now.claims }
     requires shape { K5 facts.now.design facts.now.claims i }
-    requires block { IsBlock facts.now.design facts.now.claims i }
+    requires start { HasStart facts.now.design facts.now.claims i (start_from start) }
     requires within { i < length facts.now.design.processes }
-    ensures { IfOk result (λ b. (IsTrue b ↔ Starts facts.now.design facts.now.claims i (start_from start))) }
+    ensures { IfOk result (λ b. (IsTrue b ↔ rules.Starts facts.now.design facts.now.claims i (start_from start))) }
 {
     match start {
-        Start::Cold => is_cold(alloc, facts, cones, beginning, i),
+        Start::Cold => is_cold(alloc, facts, cones, beginning, apart, i),
         Start::Sources => waits_for_sources(alloc, facts, cones, i),
         Start::Starter => starts_moved(alloc, facts, copies, i),
     }
 }
 
+// Whether a process keeps the rule K11, by whether blocks of start `cold` are apart from those of start `starter`.
+fn keeps_start_of(
+    alloc: Global,
+    facts: &Facts,
+    cones: &Cones,
+    copies: &Copies,
+    beginning: &Beginning,
+    apart: bool,
+    i: usize,
+) -> Result<bool, AllocError>
+    requires wiring { IsWiringOf facts.now.design facts.now.claims cones.now }
+    requires copies { copies.now ≡ facts.now.design }
+    requires beginning { beginning.now ≡ facts.now.design }
+    requires apart { IsTrue apart → AreApart facts.now.design facts.now.claims }
+    requires shape { K5 facts.now.design facts.now.claims i }
+    ensures { IfOk result (λ b. (IsTrue b ↔ K11 facts.now.design facts.now.claims i)) }
+{
+    match start_of(facts.kind(i)) {
+        None => Ok(true),
+        Some(start) => starts_as(alloc, facts, cones, copies, beginning, apart, i, start),
+    }
+}
+
 /// Whether a process keeps the rule K11: a combinational block that never ran has the outputs that a run would give it. The rules K1, K4 and K5 have to
 /// hold before: K1 and K4 make the beginning, and K5 gives a block its shape. It takes, of a block of start `cold`, as long as the design has words, the
-/// text of the block, 10,000 steps and the cone of what it needs; of start `sources` the text of the block; and of start `starter` as there are
-/// signals, and for each variable of mode nonblocking that a process of kind delay writes, the text of that process.
+/// text of the block and 10,000 steps, and where some such block needs what one of start `starter` gives, the cone of what it needs; of start `sources`
+/// the text of the block; and of start `starter` as there are signals, and for each variable of mode nonblocking that a process of kind delay writes,
+/// the text of that process.
+pub fn keeps_start_by(
+    alloc: Global,
+    starts: &Starts,
+    cones: &Cones,
+    copies: &Copies,
+    beginning: &Beginning,
+    i: usize,
+) -> Result<bool, AllocError>
+    requires wiring { IsWiringOf starts.now.design starts.now.claims cones.now }
+    requires copies { copies.now ≡ starts.now.design }
+    requires beginning { beginning.now ≡ starts.now.design }
+    requires shape { K5 starts.now.design starts.now.claims i }
+    ensures exact { IfOk result (λ b. (IsTrue b ↔ K11 starts.now.design starts.now.claims i)) }
+{
+    keeps_start_of(
+        alloc,
+        starts.facts,
+        cones,
+        copies,
+        beginning,
+        starts.apart,
+        i,
+    )
+}
+
+/// The same by the facts alone: of a block of start `cold` it takes besides as long as the cone of what it needs.
 pub fn keeps_start(
     alloc: Global,
     facts: &Facts,
@@ -225,8 +284,5 @@ pub fn keeps_start(
     requires shape { K5 facts.now.design facts.now.claims i }
     ensures exact { IfOk result (λ b. (IsTrue b ↔ K11 facts.now.design facts.now.claims i)) }
 {
-    match start_of(facts.kind(i)) {
-        None => Ok(true),
-        Some(start) => starts_as(alloc, facts, cones, copies, beginning, i, start),
-    }
+    keeps_start_of(alloc, facts, cones, copies, beginning, false, i)
 }

@@ -1,10 +1,11 @@
 pub mod Drivers
 mod ExtentLemmas
+pub mod InOrderLemmas
 mod Kept
 pub mod LoopLemmas
 mod PlanesLemmas
 mod Quick
 pub mod StatementLemmas
 pub mod Stores
-mod Tables
+pub mod Tables
 pub mod UsesLemmas

@@ -1,5 +1,6 @@
 pub mod Behind
 pub mod Drivers
+pub mod InOrder
 pub mod Kinds
 pub mod Laws
 pub mod Listeners

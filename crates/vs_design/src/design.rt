@@ -1,5 +1,6 @@
 //! A design.
-ghost use Rattle.std.specs.Prelude.{◌≡◌, IfOk};
+ghost use Rattle.std.specs.Prelude.{◌≡◌, ◌≤◌, IfOk, MatchOption, length};
+ghost use Rattle.vs_design.specs.InOrder.{words_before};
 ghost use Rattle.vs_design.specs.Listeners.{listeners};
 ghost use Rattle.vs_design.specs.Readers.{readers};
 ghost use Rattle.vs_design.specs.Tables.{AreExtents};
@@ -230,6 +231,16 @@ impl Design {
         match self.listeners.get(signal) {
             Some(row) => row,
             None => &[],
+        }
+    }
+
+    /// The number of the first word of a signal, where the words of all signals are counted in design order.
+    pub fn first_word(&self, signal: usize) -> Option<usize>
+        ensures { MatchOption result (length self.now.signals ≤ signal) (λ n. n ≡ words_before self.now.signals signal) }
+    {
+        match self.extents.get(signal) {
+            Some(extent) => Some(extent.first),
+            None => None,
         }
     }
 

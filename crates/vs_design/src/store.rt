@@ -1,6 +1,8 @@
 //! Stores.
 ghost use Rattle.std.specs.Prelude.{◌≡◌, Some, None, IfOk, IfSome, MatchOption, length, map};
 ghost use Rattle.vs_design.specs.Stores.{word_of, put, put_part, overlaid, changes_nothing, start_store};
+ghost use Rattle.vs_logic4.specs.Planes.{value_plane, unknown_plane};
+ghost use Rattle.vs_design.specs.InOrder.{numbered_word};
 ghost use Rattle.vs_design.specs.Behind.{behind, keeps};
 ghost use Rattle.vs_design.specs.Drivers.{undriven_word, driven_word, driven_at, driven_by, all_driven, in_copies};
 ghost use Rattle.vs_design.specs.passes.Planes.{AreInTurn, counts_of, widths_of};
@@ -76,6 +78,20 @@ impl<'a> Store<'a> {
         match spot(self.extents, signal, word) {
             Some(at) => Some(word_at(&self.values, &self.unknowns, at)),
             None => None,
+        }
+    }
+
+    /// The value plane and the unknown plane of the word of a number, which counts the words of all signals in design order; past the end
+    /// both are empty.
+    #[inline(always)]
+    pub fn planes_of(&self, number: usize) -> (u64, u64)
+        ensures value { result.0 ≡ value_plane (numbered_word self.now number) }
+        ensures unknown { result.1 ≡ unknown_plane (numbered_word self.now number) }
+    {
+        if number < self.values.len() {
+            (self.values[number], self.unknowns[number])
+        } else {
+            (0, 0)
         }
     }
 

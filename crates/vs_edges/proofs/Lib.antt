@@ -1,4 +1,5 @@
 pub mod DifferencesLemmas
 mod Edges
+pub mod MasksLemmas
 pub mod StoresLemmas
 pub mod WakingLemmas

@@ -1,2 +1,4 @@
 pub mod Differences
+pub mod Masks
 pub mod Waking
+pub mod passes

@@ -6,10 +6,12 @@
 mod bits;
 mod differences;
 mod laws;
+mod masks;
 mod sensitivity;
 mod waking;
 
 pub use differences::{difference, sees};
 pub use laws::waking_by_words;
+pub use masks::{WordChange, WordMask};
 pub use sensitivity::Sensitivity;
 pub use waking::woken;

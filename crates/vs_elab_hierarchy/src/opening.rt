@@ -51,8 +51,8 @@ fn found_at<'s>(
     }
 }
 
-/// The same, where no generate block has the name of an implicit net (IEEE 1364-2005, clauses 4.5 and 12.4.3). It stands apart, so that a level of scopes
-/// takes little stack.
+/// The same, where no generate block has the name of an implicit net (IEEE 1364-2005, clauses 4.5 and 12.4.3). It stands apart, so that a
+/// level of scopes takes little stack.
 #[inline(never)]
 fn inner_at<'s>(
     alloc: Global,

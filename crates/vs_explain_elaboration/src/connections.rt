@@ -1,12 +1,10 @@
 //! Connections and overrides of instances.
 
 use crate::declared::{is_mark, word_of};
-use crate::names::{put_nearest, put_region};
+use crate::names::{instance_of, put_nearest, put_region};
 use crate::nearest::Nearest;
-use std::alloc::AllocError;
-use vs_explain_outline::{
-    DeclaredKind, Landmark, LandmarkKind, Page, SourceText, last_name, scope_of,
-};
+use std::alloc::{AllocError, Global};
+use vs_explain_outline::{DeclaredKind, Landmark, LandmarkKind, Page, SourceText};
 use vs_lexer::{Kind, Mark, Word};
 
 /// What stands in the parentheses of an instance.
@@ -35,12 +33,12 @@ fn is_parameter(text: &SourceText, landmark: &Landmark) -> bool {
 
 /// The names of the ports of a module, or of the parameters that may be overridden, each once.
 fn names_of<'s>(
-    page: &Page,
+    alloc: Global,
     text: &SourceText<'s>,
     module: usize,
     ports: bool,
 ) -> Result<Vec<&'s [u8]>, AllocError> {
-    let mut names: Vec<&'s [u8]> = Vec::new(page.alloc());
+    let mut names: Vec<&'s [u8]> = Vec::new(alloc);
     for landmark in &text.outline.landmarks {
         let wanted = if ports {
             is_port(landmark.kind)
@@ -69,8 +67,8 @@ fn depth_after(depth: usize, kind: Kind) -> usize {
 }
 
 /// What stands in the parentheses that open at a token.
-fn given_at(page: &Page, text: &SourceText, open: usize) -> Result<Given, AllocError> {
-    let mut names = Vec::new(page.alloc());
+fn given_at(alloc: Global, text: &SourceText, open: usize) -> Result<Given, AllocError> {
+    let mut names = Vec::new(alloc);
     let mut commas = 0usize;
     let mut depth = 0usize;
     let empty = is_mark(text, open.saturating_add(1), Mark::Close);
@@ -108,27 +106,35 @@ fn put_names(page: &mut Page, names: &[&[u8]]) {
     page.put(if names.is_empty() { "none.\n" } else { ".\n" });
 }
 
+/// Puts a name that is given and that there isn't, and the nearest one.
+fn put_missing<'s>(page: &mut Page, text: &SourceText<'s>, token: usize, names: &[&'s [u8]]) {
+    let name = text.name_at(token);
+    let mut nearest = Nearest::to(page.alloc(), name);
+    for other in names {
+        if nearest.look_at(*other).is_err() {
+            page.leave_out();
+        }
+    }
+    page.put_place(text.bytes, text.place_at(token));
+    page.put("There is no ");
+    page.put_name(name);
+    page.put(" in its module.");
+    put_nearest(page, &nearest);
+    page.put("\n");
+}
+
 /// Puts the first name that is given and that there isn't, or that is given twice. Whether there is one.
 fn put_wrong_name<'s>(
     page: &mut Page,
     text: &SourceText<'s>,
     given: &Given,
     names: &[&'s [u8]],
-) -> Result<bool, AllocError> {
+) -> bool {
     for (index, token) in given.names.iter().enumerate() {
         let name = text.name_at(*token);
         if !names.contains(&name) {
-            let mut nearest = Nearest::to(page.alloc(), name);
-            for other in names {
-                nearest.look_at(*other)?;
-            }
-            page.put_place(text.bytes, text.place_at(*token));
-            page.put("There is no ");
-            page.put_name(name);
-            page.put(" in its module.");
-            put_nearest(page, &nearest);
-            page.put("\n");
-            return Ok(true);
+            put_missing(page, text, *token, names);
+            return true;
         }
         for earlier in given.names.get(..index).unwrap_or(&[]) {
             if text.name_at(*earlier) == name {
@@ -136,94 +142,75 @@ fn put_wrong_name<'s>(
                 page.put_place(text.bytes, text.place_at(*token));
                 page.put_name(name);
                 page.put(" is given at both places. Leave one out.\n");
-                return Ok(true);
+                return true;
             }
         }
     }
-    Ok(false)
+    false
+}
+
+/// Puts what may be wrong with an instance whose names are right.
+fn put_unfit(page: &mut Page, ordered: usize, count: usize, ports: bool) {
+    if ordered > count {
+        page.put_shown(ordered);
+        page.put(" are given in order, and its module has ");
+        page.put_shown(count);
+        page.put(".\n");
+    } else {
+        page.put(if ports {
+            "Its ports don't fit: an output drives what can't be driven, or its module declares a port badly. An output drives a net, bits of one, or a concatenation of these; an input is no variable.\n"
+        } else {
+            "Its overrides don't fit, or a `parameter` stands in a generate block of its module: write `localparam` there.\n"
+        });
+    }
 }
 
 /// Puts what differs between what an instance gives at a token and the names of its module.
-fn put_given(
-    page: &mut Page,
-    text: &SourceText,
-    instance: &Landmark,
-    open: usize,
-    ports: bool,
-) -> Result<(), AllocError> {
+fn put_given(page: &mut Page, text: &SourceText, instance: &Landmark, open: usize, ports: bool) {
+    let alloc = page.alloc();
     let Some(module) = text.module_named(text.name_at(instance.of)) else {
-        return Ok(());
+        return;
     };
-    let names = names_of(page, text, module, ports)?;
-    let given = given_at(page, text, open)?;
-    if !put_wrong_name(page, text, &given, &names)? {
+    let (Ok(names), Ok(given)) = (
+        names_of(alloc, text, module, ports),
+        given_at(alloc, text, open),
+    ) else {
+        return page.leave_out();
+    };
+    if !put_wrong_name(page, text, &given, &names) {
         page.put_place(text.bytes, text.place_at(instance.token));
-        if given.ordered > names.len() {
-            page.put_shown(given.ordered);
-            page.put(" are given in order, and its module has ");
-            page.put_shown(names.len());
-            page.put(".\n");
-        } else if ports {
-            page.put(
-                "Its ports don't fit: an output drives what can't be driven, or its module declares a port badly. An output drives a net, bits of one, or a concatenation of these; an input is no variable.\n",
-            );
-        } else {
-            page.put(
-                "Its overrides don't fit, or a `parameter` stands in a generate block of its module: write `localparam` there.\n",
-            );
-        }
+        put_unfit(page, given.ordered, names.len(), ports);
     }
-    page.put("The ");
-    page.put(if ports { "ports" } else { "parameters" });
-    page.put(" of ");
+    page.put(if ports {
+        "The ports of "
+    } else {
+        "The parameters of "
+    });
     page.put_name(text.name_at(instance.of));
     page.put(" are ");
     put_names(page, &names);
-    Ok(())
-}
-
-/// The instance of a path.
-fn instance_at(
-    page: &Page,
-    text: &SourceText,
-    path: &[u8],
-) -> Result<Option<Landmark>, AllocError> {
-    let marked = text.regions_at(page.alloc(), scope_of(path))?;
-    Ok(text.instance_in(&marked, last_name(path)))
 }
 
 /// Connections don't fit the ports of a module, or its ports are badly declared.
-pub(crate) fn ports_differ(
-    page: &mut Page,
-    text: &SourceText,
-    path: &[u8],
-) -> Result<(), AllocError> {
-    if let Some(instance) = instance_at(page, text, path)? {
+pub(crate) fn ports_differ(page: &mut Page, text: &SourceText, path: &[u8]) {
+    if let Some(instance) = instance_of(page, text, path) {
         let open = instance.token.saturating_add(1);
-        return put_given(page, text, &instance, open, true);
-    }
-    if put_region(page, text, path)? {
+        put_given(page, text, &instance, open, true);
+    } else if put_region(page, text, path) {
         page.put(
             "The ports of this module are badly declared: one in the header without a direction, one that the header lacks, or an input that is a variable.\n",
         );
     }
-    Ok(())
 }
 
 /// Overrides don't fit the parameters of a module, or a parameter stands in a generate block.
-pub(crate) fn parameters_differ(
-    page: &mut Page,
-    text: &SourceText,
-    path: &[u8],
-) -> Result<(), AllocError> {
-    if let Some(instance) = instance_at(page, text, path)? {
+pub(crate) fn parameters_differ(page: &mut Page, text: &SourceText, path: &[u8]) {
+    if let Some(instance) = instance_of(page, text, path) {
         let open = instance.of.saturating_add(2);
-        return put_given(page, text, &instance, open, false);
-    }
-    if put_region(page, text, path)? {
+        put_given(page, text, &instance, open, false);
+    } else if put_region(page, text, path) {
         page.put(
             "A `parameter` stands in a generate block of this module: write `localparam` there.\n",
         );
     }
-    Ok(())
 }

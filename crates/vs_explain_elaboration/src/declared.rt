@@ -1,7 +1,7 @@
 //! The names that can be seen in a region.
 
 use std::alloc::{AllocError, Global};
-use vs_explain_outline::{DeclaredKind, Landmark, LandmarkKind, SourceText, UseRole};
+use vs_explain_outline::{DeclaredKind, Landmark, LandmarkKind, Page, SourceText, UseRole};
 use vs_lexer::{Directive, ImplicitNet, Kind, Mark, Word};
 
 /// How many tokens are looked back for the word of a declaration.
@@ -64,8 +64,22 @@ pub(crate) fn may_declare(kind: LandmarkKind) -> bool {
 }
 
 impl<'s> Visible<'s> {
+    /// The names that can be seen in a region; none where there is no room for them, which the page remembers.
+    pub(crate) fn seen_from(page: &mut Page, text: &SourceText<'s>, region: usize) -> Visible<'s> {
+        let alloc = page.alloc();
+        match Visible::from(alloc, text, region) {
+            Ok(visible) => visible,
+            Err(_) => {
+                page.leave_out();
+                Visible {
+                    names: Vec::new(alloc),
+                }
+            }
+        }
+    }
+
     /// The names that can be seen in a region.
-    pub(crate) fn from(
+    fn from(
         alloc: Global,
         text: &SourceText<'s>,
         region: usize,

@@ -1,7 +1,7 @@
 //! Nets with two drivers.
 
-use crate::names::{put_instance, put_region};
-use std::alloc::AllocError;
+use crate::names::{put_instance, put_region, regions_of};
+use std::alloc::{AllocError, Global};
 use vs_explain_outline::{
     Landmark, LandmarkKind, Page, SourceText, UseRole, is_marked, last_name, scope_of,
 };
@@ -23,12 +23,12 @@ fn may_drive(text: &SourceText, landmark: &Landmark, modules: &[bool], name: &[u
 
 /// The tokens at which a net of this name may be driven in the modules of marked regions, each once.
 fn driven_at(
-    page: &Page,
+    alloc: Global,
     text: &SourceText,
     marked: &[bool],
     name: &[u8],
 ) -> Result<Vec<usize>, AllocError> {
-    let mut modules = Vec::new(page.alloc());
+    let mut modules = Vec::new(alloc);
     for _ in 0..text.outline.regions.len() {
         modules.push(false)?;
     }
@@ -39,7 +39,7 @@ fn driven_at(
             }
         }
     }
-    let mut tokens: Vec<usize> = Vec::new(page.alloc());
+    let mut tokens: Vec<usize> = Vec::new(alloc);
     for landmark in &text.outline.landmarks {
         let is_new = tokens.last() != Some(&landmark.token);
         if is_new && may_drive(text, landmark, &modules, name) {
@@ -50,22 +50,20 @@ fn driven_at(
 }
 
 /// A bit of a net is driven twice.
-pub(crate) fn driven_twice(
-    page: &mut Page,
-    text: &SourceText,
-    path: &[u8],
-) -> Result<(), AllocError> {
+pub(crate) fn driven_twice(page: &mut Page, text: &SourceText, path: &[u8]) {
     let name = last_name(path);
-    let marked = text.regions_at(page.alloc(), scope_of(path))?;
-    let tokens = driven_at(page, text, &marked, name)?;
+    let marked = regions_of(page, text, scope_of(path));
+    let Ok(tokens) = driven_at(page.alloc(), text, &marked, name) else {
+        return page.leave_out();
+    };
     for (index, token) in tokens.iter().enumerate() {
         if index < TOLD {
             page.put_place(text.bytes, text.place_at(*token));
         }
     }
-    let through_port = tokens.len() < 2 && put_instance(page, text, scope_of(path))?;
-    if tokens.is_empty() && !through_port && !put_region(page, text, scope_of(path))? {
-        return Ok(());
+    let through_port = tokens.len() < 2 && put_instance(page, text, scope_of(path));
+    if tokens.is_empty() && !through_port && !put_region(page, text, scope_of(path)) {
+        return;
     }
     page.put("A bit of the net ");
     page.put_name(name);
@@ -75,5 +73,4 @@ pub(crate) fn driven_twice(
         (false, false) => " has two drivers.",
     });
     page.put(" Give each bit one driver: join them by an operator or by `? :`.\n");
-    Ok(())
 }

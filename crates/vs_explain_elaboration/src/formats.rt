@@ -1,6 +1,6 @@
 //! Texts of `$display` and `$strobe`.
 
-use std::alloc::AllocError;
+use crate::names::regions_of;
 use vs_explain_outline::{LandmarkKind, Page, SourceText, is_marked};
 use vs_lexer::{Kind, Mark, Token};
 use vs_strobe::FormatReason;
@@ -97,32 +97,32 @@ fn put_fault(page: &mut Page, asked: Asked, given: usize, why: FormatReason) {
     page.put(" stand after it.\n");
 }
 
+/// The text of a call whose name is this token.
+fn text_of<'t, 's>(text: &'t SourceText<'s>, call: usize) -> Option<&'t Token<'s>> {
+    match text.tokens.get(call.saturating_add(2)) {
+        Some(token) if token.kind == Kind::Text => Some(token),
+        _ => None,
+    }
+}
+
 /// The text of a call has a bad directive, or its directives don't fit its arguments.
-pub(crate) fn bad_format(
-    page: &mut Page,
-    text: &SourceText,
-    why: FormatReason,
-    path: &[u8],
-) -> Result<(), AllocError> {
-    let marked = text.regions_at(page.alloc(), path)?;
+pub(crate) fn bad_format(page: &mut Page, text: &SourceText, why: FormatReason, path: &[u8]) {
+    let marked = regions_of(page, text, path);
     for landmark in &text.outline.landmarks {
         if landmark.kind != LandmarkKind::Print || !is_marked(&marked, landmark.region) {
             continue;
         }
-        let Some(token) = text.tokens.get(landmark.token.saturating_add(2)) else {
+        let Some(token) = text_of(text, landmark.token) else {
             continue;
         };
-        if token.kind != Kind::Text {
-            continue;
-        }
-        let bytes = token.text(page.alloc())?;
+        let Ok(bytes) = token.text(page.alloc()) else {
+            return page.leave_out();
+        };
         let asked = asked_by(&bytes);
         let given = arguments_at(&text.tokens, landmark.token);
         if has_fault(asked, given, why) {
             page.put_place(text.bytes, token.place);
-            put_fault(page, asked, given, why);
-            return Ok(());
+            return put_fault(page, asked, given, why);
         }
     }
-    Ok(())
 }

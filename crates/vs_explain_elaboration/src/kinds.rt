@@ -2,8 +2,7 @@
 
 use crate::declared::{Visible, has_range, is_array, is_mark, is_net, is_variable};
 use crate::limits::literal_range;
-use crate::names::{put_region, unknown_name};
-use std::alloc::AllocError;
+use crate::names::{put_region, regions_of, unknown_name};
 use vs_explain_outline::{
     DeclaredKind, Landmark, LandmarkKind, Page, SourceText, UseRole, is_marked,
 };
@@ -14,12 +13,7 @@ use vs_width_selects::WidthReason;
 const WIDTH_LIMIT: u64 = 64;
 
 /// An expression, an assignment or a delay has no meaning.
-pub(crate) fn no_meaning(
-    page: &mut Page,
-    text: &SourceText,
-    why: WidthReason,
-    path: &[u8],
-) -> Result<(), AllocError> {
+pub(crate) fn no_meaning(page: &mut Page, text: &SourceText, why: WidthReason, path: &[u8]) {
     match why {
         WidthReason::Unknown => unknown_name(page, text, path),
         WidthReason::TooWide => too_wide(page, text, path),
@@ -28,8 +22,8 @@ pub(crate) fn no_meaning(
     }
 }
 
-fn too_wide(page: &mut Page, text: &SourceText, path: &[u8]) -> Result<(), AllocError> {
-    let marked = text.regions_at(page.alloc(), path)?;
+fn too_wide(page: &mut Page, text: &SourceText, path: &[u8]) {
+    let marked = regions_of(page, text, path);
     for landmark in &text.outline.landmarks {
         if landmark.kind == LandmarkKind::Constant && is_marked(&marked, landmark.region) {
             if let Some(bits) = literal_range(text, landmark.token) {
@@ -38,17 +32,16 @@ fn too_wide(page: &mut Page, text: &SourceText, path: &[u8]) -> Result<(), Alloc
                     page.put("This range has ");
                     page.put_shown(bits);
                     page.put(" bits, and a signal has at most 64. Cut it into parts.\n");
-                    return Ok(());
+                    return;
                 }
             }
         }
     }
-    if put_region(page, text, path)? {
+    if put_region(page, text, path) {
         page.put(
             "In the scope that begins here a range, a concatenation, a replication or a part-select has more than 64 bits. Cut it into parts.\n",
         );
     }
-    Ok(())
 }
 
 /// Whether a used name stands where a constant is wanted.
@@ -96,8 +89,8 @@ fn wrong_use(text: &SourceText, used: &Landmark, declared: &Landmark) -> Option<
 }
 
 /// Puts the first use in a region whose kind is wrong. Whether there is one.
-fn put_wrong_use(page: &mut Page, text: &SourceText, region: usize) -> Result<bool, AllocError> {
-    let visible = Visible::from(page.alloc(), text, region)?;
+fn put_wrong_use(page: &mut Page, text: &SourceText, region: usize) -> bool {
+    let visible = Visible::seen_from(page, text, region);
     for used in &text.outline.landmarks {
         if used.region == region && matches!(used.kind, LandmarkKind::Used(_)) {
             let name = text.name_at(used.token);
@@ -107,12 +100,12 @@ fn put_wrong_use(page: &mut Page, text: &SourceText, region: usize) -> Result<bo
                     page.put_name(name);
                     put_declared(page, text, &declared);
                     page.put(words);
-                    return Ok(true);
+                    return true;
                 }
             }
         }
     }
-    Ok(false)
+    false
 }
 
 /// Puts where a name is declared.
@@ -122,24 +115,23 @@ fn put_declared(page: &mut Page, text: &SourceText, declared: &Landmark) {
     page.put(",");
 }
 
-fn wrong_kind(page: &mut Page, text: &SourceText, path: &[u8]) -> Result<(), AllocError> {
-    let marked = text.regions_at(page.alloc(), path)?;
+fn wrong_kind(page: &mut Page, text: &SourceText, path: &[u8]) {
+    let marked = regions_of(page, text, path);
     for region in 0..text.outline.regions.len() {
-        if is_marked(&marked, region) && put_wrong_use(page, text, region)? {
-            return Ok(());
+        if is_marked(&marked, region) && put_wrong_use(page, text, region) {
+            return;
         }
     }
-    if put_region(page, text, path)? {
+    if put_region(page, text, path) {
         page.put(
             "In the scope that begins here a name is of the wrong kind: a net that a process assigns to, a variable that `assign` drives, an array without an index, or a select of what has no range.\n",
         );
     }
-    Ok(())
 }
 
 /// Puts the first signal of a region where a constant is wanted. Whether there is one.
-fn put_signal(page: &mut Page, text: &SourceText, region: usize) -> Result<bool, AllocError> {
-    let visible = Visible::from(page.alloc(), text, region)?;
+fn put_signal(page: &mut Page, text: &SourceText, region: usize) -> bool {
+    let visible = Visible::seen_from(page, text, region);
     for used in &text.outline.landmarks {
         if used.region == region && wants_constant(text, used.token) {
             let name = text.name_at(used.token);
@@ -151,25 +143,24 @@ fn put_signal(page: &mut Page, text: &SourceText, region: usize) -> Result<bool,
                     page.put(
                         " is a signal, and here a constant is wanted: a number, a parameter or a genvar.\n",
                     );
-                    return Ok(true);
+                    return true;
                 }
             }
         }
     }
-    Ok(false)
+    false
 }
 
-fn not_constant(page: &mut Page, text: &SourceText, path: &[u8]) -> Result<(), AllocError> {
-    let marked = text.regions_at(page.alloc(), path)?;
+fn not_constant(page: &mut Page, text: &SourceText, path: &[u8]) {
+    let marked = regions_of(page, text, path);
     for region in 0..text.outline.regions.len() {
-        if is_marked(&marked, region) && put_signal(page, text, region)? {
-            return Ok(());
+        if is_marked(&marked, region) && put_signal(page, text, region) {
+            return;
         }
     }
-    if put_region(page, text, path)? {
+    if put_region(page, text, path) {
         page.put(
             "In the scope that begins here something has to be a constant in its bounds and isn't: a range, a delay, a width, a count or a parameter.\n",
         );
     }
-    Ok(())
 }

@@ -16,7 +16,7 @@ use vs_scopes::Reason;
 
 /// Says why a source and a top define no design: the reason, and the printed path that it names.
 pub fn explain_design(page: &mut Page, text: &SourceText, reason: Reason, path: &[u8]) {
-    let explained = match reason {
+    match reason {
         Reason::NoModule => names::no_module(page, text, path),
         Reason::Inside => names::inside_itself(page, text, path),
         Reason::PortMismatch => connections::ports_differ(page, text, path),
@@ -29,8 +29,5 @@ pub fn explain_design(page: &mut Page, text: &SourceText, reason: Reason, path: 
         Reason::Unnamed => limits::unnamed(page, text, path),
         Reason::Timescales => limits::timescales(page, text),
         Reason::Format(why) => formats::bad_format(page, text, why, path),
-    };
-    if explained.is_err() {
-        page.leave_out();
     }
 }

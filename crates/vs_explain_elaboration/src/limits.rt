@@ -1,7 +1,6 @@
 //! Limits, loops without an end, blocks without a name, time scales.
 
-use crate::names::{put_instance, put_region};
-use std::alloc::AllocError;
+use crate::names::{put_instance, put_region, regions_of};
 use vs_explain_outline::{
     Landmark, LandmarkKind, Page, RegionKind, SourceText, first_part, is_marked,
 };
@@ -78,17 +77,13 @@ fn put_array(page: &mut Page, text: &SourceText, marked: &[bool]) -> bool {
 }
 
 /// A limit is passed.
-pub(crate) fn limit_passed(
-    page: &mut Page,
-    text: &SourceText,
-    path: &[u8],
-) -> Result<(), AllocError> {
-    let marked = text.regions_at(page.alloc(), path)?;
+pub(crate) fn limit_passed(page: &mut Page, text: &SourceText, path: &[u8]) {
+    let marked = regions_of(page, text, path);
     if put_array(page, text, &marked) {
-        return Ok(());
+        return;
     }
     let levels = parts_of(path);
-    if put_instance(page, text, path)? {
+    if put_instance(page, text, path) {
         if levels > LEVELS_LIMIT {
             page.put(
                 "Instances stand in one another more than 64 levels deep, the top among them.\n",
@@ -98,14 +93,13 @@ pub(crate) fn limit_passed(
                 "There are more than 16,384 instances, or a limit is passed inside this one: 65,536 signals of a design, 65,536 words of an array, 65,536 turns of all generate loops.\n",
             );
         }
-        return Ok(());
+        return;
     }
-    if put_region(page, text, path)? {
+    if put_region(page, text, path) {
         page.put(
             "In the scope that begins here a limit is passed: 65,536 signals of a design, 65,536 words of an array, 65,536 turns of all generate loops, or delays below 4611686018427387904 ticks.\n",
         );
     }
-    Ok(())
 }
 
 /// The first generate loop of marked regions.
@@ -126,20 +120,19 @@ fn first_loop(text: &SourceText, marked: &[bool]) -> Option<Landmark> {
 }
 
 /// A generate loop doesn't end.
-pub(crate) fn endless(page: &mut Page, text: &SourceText, path: &[u8]) -> Result<(), AllocError> {
-    let marked = text.regions_at(page.alloc(), path)?;
+pub(crate) fn endless(page: &mut Page, text: &SourceText, path: &[u8]) {
+    let marked = regions_of(page, text, path);
     if let Some(landmark) = first_loop(text, &marked) {
         page.put_place(text.bytes, text.place_at(landmark.token));
         page.put(
             "This generate loop, or another one of the same scope, goes on after 65,536 turns. Mend its condition or its step.\n",
         );
     }
-    Ok(())
 }
 
 /// An unnamed block has no free name.
-pub(crate) fn unnamed(page: &mut Page, text: &SourceText, path: &[u8]) -> Result<(), AllocError> {
-    let marked = text.regions_at(page.alloc(), path)?;
+pub(crate) fn unnamed(page: &mut Page, text: &SourceText, path: &[u8]) {
+    let marked = regions_of(page, text, path);
     for region in &text.outline.regions {
         let inside = match region.around {
             Some(around) => is_marked(&marked, around),
@@ -150,14 +143,13 @@ pub(crate) fn unnamed(page: &mut Page, text: &SourceText, path: &[u8]) -> Result
             page.put(
                 "This block has no name, and each name `genblk` with its number and zeros before it is taken. Write `begin : name`.\n",
             );
-            return Ok(());
+            return;
         }
     }
-    Ok(())
 }
 
 /// Two time scales differ.
-pub(crate) fn timescales(page: &mut Page, text: &SourceText) -> Result<(), AllocError> {
+pub(crate) fn timescales(page: &mut Page, text: &SourceText) {
     let mut first: Option<usize> = None;
     for (index, token) in text.tokens.iter().enumerate() {
         if !matches!(token.kind, Kind::Directive(Directive::Timescale { .. })) {
@@ -175,8 +167,7 @@ pub(crate) fn timescales(page: &mut Page, text: &SourceText) -> Result<(), Alloc
             page.put_place(text.bytes, text.place_at(other));
             page.put_place(text.bytes, token.place);
             page.put("These time scales differ. Use one for all files.\n");
-            return Ok(());
+            return;
         }
     }
-    Ok(())
 }

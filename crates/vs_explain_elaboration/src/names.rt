@@ -2,9 +2,9 @@
 
 use crate::declared::{Visible, implicit_in, may_declare};
 use crate::nearest::Nearest;
-use std::alloc::AllocError;
 use vs_explain_outline::{
-    LandmarkKind, Page, Region, RegionKind, SourceText, first_part, is_marked, last_name, scope_of,
+    Landmark, LandmarkKind, Page, Region, RegionKind, SourceText, first_part, is_marked, last_name,
+    scope_of,
 };
 
 /// How many names are compared for the nearest one, and how many modules are told.
@@ -12,38 +12,47 @@ const COMPARED: usize = 2000;
 
 const TOLD: usize = 8;
 
+/// The regions that a path may mean; none where there is no room for them, which the page remembers.
+pub(crate) fn regions_of(page: &mut Page, text: &SourceText, path: &[u8]) -> Vec<bool> {
+    let alloc = page.alloc();
+    match text.regions_at(alloc, path) {
+        Ok(marked) => marked,
+        Err(_) => {
+            page.leave_out();
+            Vec::new(alloc)
+        }
+    }
+}
+
+/// The instance that a path leads to.
+pub(crate) fn instance_of(page: &mut Page, text: &SourceText, path: &[u8]) -> Option<Landmark> {
+    let marked = regions_of(page, text, scope_of(path));
+    text.instance_in(&marked, last_name(path))
+}
+
 /// Puts the place of an instance, where its path leads to one. Whether it does.
-pub(crate) fn put_instance(
-    page: &mut Page,
-    text: &SourceText,
-    path: &[u8],
-) -> Result<bool, AllocError> {
-    let marked = text.regions_at(page.alloc(), scope_of(path))?;
-    match text.instance_in(&marked, last_name(path)) {
+pub(crate) fn put_instance(page: &mut Page, text: &SourceText, path: &[u8]) -> bool {
+    match instance_of(page, text, path) {
         Some(instance) => {
             page.put_place(text.bytes, text.place_at(instance.token));
-            Ok(true)
+            true
         }
-        None => Ok(false),
+        None => false,
     }
 }
 
 /// Puts the place of the first region that a path may mean. Whether there is one.
-pub(crate) fn put_region(
-    page: &mut Page,
-    text: &SourceText,
-    path: &[u8],
-) -> Result<bool, AllocError> {
-    let marked = text.regions_at(page.alloc(), path)?;
+pub(crate) fn put_region(page: &mut Page, text: &SourceText, path: &[u8]) -> bool {
+    let marked = regions_of(page, text, path);
     for (number, mark) in marked.iter().enumerate() {
         if *mark {
             if let Some(region) = text.region(number) {
                 page.put_place(text.bytes, text.place_at(region.first));
-                return Ok(true);
+                return true;
             }
         }
     }
-    Ok(false)
+    false
 }
 
 /// Whether a region is a module.
@@ -52,7 +61,7 @@ fn is_module(region: &Region) -> bool {
 }
 
 /// Puts the modules of a source, and the one whose name is nearest.
-fn put_modules(page: &mut Page, text: &SourceText, name: &[u8]) -> Result<(), AllocError> {
+fn put_modules(page: &mut Page, text: &SourceText, name: &[u8]) {
     let mut nearest = Nearest::to(page.alloc(), name);
     let mut count = 0usize;
     page.put("The source has ");
@@ -63,8 +72,8 @@ fn put_modules(page: &mut Page, text: &SourceText, name: &[u8]) -> Result<(), Al
                 page.put(if count == 0 { "the modules " } else { ", " });
                 page.put_name(other);
             }
-            if count < COMPARED {
-                nearest.look_at(other)?;
+            if count < COMPARED && nearest.look_at(other).is_err() {
+                page.leave_out();
             }
             count = count.saturating_add(1);
         }
@@ -77,7 +86,6 @@ fn put_modules(page: &mut Page, text: &SourceText, name: &[u8]) -> Result<(), Al
     page.put(".");
     put_nearest(page, &nearest);
     page.put("\n");
-    Ok(())
 }
 
 /// Puts the nearest name, where there is one.
@@ -90,12 +98,10 @@ pub(crate) fn put_nearest(page: &mut Page, nearest: &Nearest) {
 }
 
 /// There is no module of the top's or of an instance's name.
-pub(crate) fn no_module(page: &mut Page, text: &SourceText, path: &[u8]) -> Result<(), AllocError> {
-    let scope = scope_of(path);
+pub(crate) fn no_module(page: &mut Page, text: &SourceText, path: &[u8]) {
     let mut name = last_name(path);
-    if !scope.is_empty() {
-        let marked = text.regions_at(page.alloc(), scope)?;
-        if let Some(instance) = text.instance_in(&marked, name) {
+    if !scope_of(path).is_empty() {
+        if let Some(instance) = instance_of(page, text, path) {
             page.put_place(text.bytes, text.place_at(instance.of));
             name = text.name_at(instance.of);
         }
@@ -107,14 +113,9 @@ pub(crate) fn no_module(page: &mut Page, text: &SourceText, path: &[u8]) -> Resu
 }
 
 /// A module is instantiated inside itself.
-pub(crate) fn inside_itself(
-    page: &mut Page,
-    text: &SourceText,
-    path: &[u8],
-) -> Result<(), AllocError> {
-    let marked = text.regions_at(page.alloc(), scope_of(path))?;
-    let Some(instance) = text.instance_in(&marked, last_name(path)) else {
-        return Ok(());
+pub(crate) fn inside_itself(page: &mut Page, text: &SourceText, path: &[u8]) {
+    let Some(instance) = instance_of(page, text, path) else {
+        return;
     };
     page.put_place(text.bytes, text.place_at(instance.token));
     let name = text.name_at(instance.of);
@@ -129,7 +130,6 @@ pub(crate) fn inside_itself(
         page.put_spot(text.bytes, text.place_at(region.first));
     }
     page.put(", so there would be no end of them.\n");
-    Ok(())
 }
 
 /// The first use in a region of a name that can't be seen there.
@@ -148,17 +148,12 @@ fn unseen_use(text: &SourceText, region: usize, visible: &Visible) -> Option<usi
 }
 
 /// Says that a name isn't declared, and which is the nearest that is.
-fn put_unseen(
-    page: &mut Page,
-    text: &SourceText,
-    token: usize,
-    visible: &Visible,
-) -> Result<(), AllocError> {
+fn put_unseen(page: &mut Page, text: &SourceText, token: usize, visible: &Visible) {
     let name = text.name_at(token);
     let mut nearest = Nearest::to(page.alloc(), name);
     for (index, (other, _)) in visible.names().iter().enumerate() {
-        if index < COMPARED {
-            nearest.look_at(other)?;
+        if index < COMPARED && nearest.look_at(other).is_err() {
+            page.leave_out();
         }
     }
     page.put_place(text.bytes, text.place_at(token));
@@ -166,28 +161,22 @@ fn put_unseen(
     page.put(" isn't declared here, nor in a scope around.");
     put_nearest(page, &nearest);
     page.put("\n");
-    Ok(())
 }
 
 /// A name isn't declared.
-pub(crate) fn unknown_name(
-    page: &mut Page,
-    text: &SourceText,
-    path: &[u8],
-) -> Result<(), AllocError> {
-    let marked = text.regions_at(page.alloc(), path)?;
+pub(crate) fn unknown_name(page: &mut Page, text: &SourceText, path: &[u8]) {
+    let marked = regions_of(page, text, path);
     for region in 0..text.outline.regions.len() {
         if is_marked(&marked, region) {
-            let visible = Visible::from(page.alloc(), text, region)?;
+            let visible = Visible::seen_from(page, text, region);
             if let Some(token) = unseen_use(text, region, &visible) {
                 return put_unseen(page, text, token, &visible);
             }
         }
     }
-    if put_region(page, text, path)? {
+    if put_region(page, text, path) {
         page.put("In the scope that begins here a name is used that isn't declared.\n");
     }
-    Ok(())
 }
 
 /// The first part of a path alone.

@@ -1,15 +1,15 @@
 //! What is declared twice.
 
 use crate::declared::may_declare;
-use crate::names::{is_top, put_region};
-use std::alloc::AllocError;
+use crate::names::{is_top, put_region, regions_of};
+use std::alloc::{AllocError, Global};
 use vs_explain_outline::{
     Landmark, LandmarkKind, Page, RegionKind, SourceText, is_marked, last_name, scope_of,
 };
 
 /// The tokens of the modules of a name.
-fn modules_named(page: &Page, text: &SourceText, name: &[u8]) -> Result<Vec<usize>, AllocError> {
-    let mut tokens = Vec::new(page.alloc());
+fn modules_named(alloc: Global, text: &SourceText, name: &[u8]) -> Result<Vec<usize>, AllocError> {
+    let mut tokens = Vec::new(alloc);
     for region in &text.outline.regions {
         if region.kind == RegionKind::Module && text.region_name(region) == name {
             tokens.push(region.name.unwrap_or(region.first))?;
@@ -20,12 +20,12 @@ fn modules_named(page: &Page, text: &SourceText, name: &[u8]) -> Result<Vec<usiz
 
 /// The tokens that declare a name in marked regions, of blocks and instances too.
 fn declared_at(
-    page: &Page,
+    alloc: Global,
     text: &SourceText,
     marked: &[bool],
     name: &[u8],
 ) -> Result<Vec<usize>, AllocError> {
-    let mut tokens = Vec::new(page.alloc());
+    let mut tokens = Vec::new(alloc);
     for landmark in &text.outline.landmarks {
         let declares = matches!(
             landmark.kind,
@@ -104,12 +104,15 @@ fn early_use(text: &SourceText, name: &[u8], declared: usize) -> Option<usize> {
 }
 
 /// A name that is declared in a scope.
-fn declared_in_scope(page: &mut Page, text: &SourceText, path: &[u8]) -> Result<bool, AllocError> {
+fn declared_in_scope(page: &mut Page, text: &SourceText, path: &[u8]) -> bool {
     let name = last_name(path);
-    let marked = text.regions_at(page.alloc(), scope_of(path))?;
-    let tokens = declared_at(page, text, &marked, name)?;
+    let marked = regions_of(page, text, scope_of(path));
+    let Ok(tokens) = declared_at(page.alloc(), text, &marked, name) else {
+        page.leave_out();
+        return true;
+    };
     let Some(first) = tokens.first() else {
-        return Ok(false);
+        return false;
     };
     if let (Some(token), true) = (early_use(text, name, *first), tokens.len() == 1) {
         page.put_place(text.bytes, text.place_at(token));
@@ -118,10 +121,10 @@ fn declared_in_scope(page: &mut Page, text: &SourceText, path: &[u8]) -> Result<
         page.put(
             " is used at the first place, where an undeclared name is a net, and declared at the second. Declare it before.\n",
         );
-        return Ok(true);
+        return true;
     }
     if tokens.len() < 2 {
-        return Ok(false);
+        return false;
     }
     put_two(
         page,
@@ -129,41 +132,41 @@ fn declared_in_scope(page: &mut Page, text: &SourceText, path: &[u8]) -> Result<
         &tokens,
         " is declared at each of these places, in one scope. Rename one.\n",
     );
-    Ok(true)
+    true
+}
+
+/// A name of several modules. Whether there are several.
+fn several_modules(page: &mut Page, text: &SourceText, name: &[u8]) -> bool {
+    let Ok(modules) = modules_named(page.alloc(), text, name) else {
+        page.leave_out();
+        return true;
+    };
+    if modules.len() < 2 {
+        return false;
+    }
+    put_two(
+        page,
+        text,
+        &modules,
+        " is the name of several modules. Rename one.\n",
+    );
+    true
 }
 
 /// A scope, or the source, declares a name twice.
-pub(crate) fn declared_twice(
-    page: &mut Page,
-    text: &SourceText,
-    path: &[u8],
-) -> Result<(), AllocError> {
-    if is_top(path) {
-        let modules = modules_named(page, text, last_name(path))?;
-        if modules.len() > 1 {
-            put_two(
-                page,
-                text,
-                &modules,
-                " is the name of several modules. Rename one.\n",
-            );
-            return Ok(());
-        }
+pub(crate) fn declared_twice(page: &mut Page, text: &SourceText, path: &[u8]) {
+    let name = last_name(path);
+    if is_top(path) && several_modules(page, text, name) || declared_in_scope(page, text, path) {
+        return;
     }
-    if declared_in_scope(page, text, path)? {
-        return Ok(());
-    }
-    let marked = text.regions_at(page.alloc(), path)?;
+    let marked = regions_of(page, text, path);
     if let Some((first, second)) = two_defaults(text, &marked) {
         page.put_place(text.bytes, text.place_at(first));
         page.put_place(text.bytes, text.place_at(second));
         page.put("Both are `default` of one `case`. Leave one out.\n");
-        return Ok(());
-    }
-    if put_region(page, text, scope_of(path))? {
+    } else if put_region(page, text, scope_of(path)) {
         page.put("In the scope that begins here ");
-        page.put_name(last_name(path));
+        page.put_name(name);
         page.put(" is declared twice.\n");
     }
-    Ok(())
 }

@@ -66,23 +66,28 @@ pub(crate) fn start_word(kind: &ClaimedKind) -> &'static str {
     }
 }
 
+/// A count, and one more where an entry has the name.
+fn counted(count: usize, entry: &str, name: &[u8]) -> usize {
+    count.saturating_add(usize::from(entry.as_bytes() == name))
+}
+
 /// How often a name stands in `signals`, `processes`, `order` and `edges`.
 pub(crate) fn times_named(certificate: &Certificate, name: &[u8]) -> [usize; 4] {
-    let mut signals = 0usize;
+    let mut signals = 0;
     for entry in &certificate.signals {
-        signals = signals.saturating_add(usize::from(entry.name.as_bytes() == name));
+        signals = counted(signals, &entry.name, name);
     }
-    let mut processes = 0usize;
+    let mut processes = 0;
     for entry in &certificate.processes {
-        processes = processes.saturating_add(usize::from(entry.name.as_bytes() == name));
+        processes = counted(processes, &entry.name, name);
     }
-    let mut order = 0usize;
+    let mut order = 0;
     for entry in &certificate.order {
-        order = order.saturating_add(usize::from(entry.as_bytes() == name));
+        order = counted(order, entry, name);
     }
-    let mut edges = 0usize;
+    let mut edges = 0;
     for entry in &certificate.edges {
-        edges = edges.saturating_add(usize::from(entry.signal.as_bytes() == name));
+        edges = counted(edges, &entry.signal, name);
     }
     [signals, processes, order, edges]
 }

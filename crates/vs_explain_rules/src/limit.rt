@@ -1,6 +1,6 @@
 //! What is said of a run that took its most steps.
 
-use crate::places::{put_marked, token_of};
+use crate::places::{found, put_marked};
 use crate::uses::{driven_by, read_by};
 use std::alloc::{AllocError, Global};
 use vs_design::{Assign, Design, Statement, has_control};
@@ -54,9 +54,9 @@ fn one_goes_round(all: &[Statement]) -> bool {
 }
 
 /// Whether an assignment reads a signal that it drives.
-fn reads_itself(page: &Page, assign: &Assign) -> Result<bool, AllocError> {
-    let driven = driven_by(page.alloc(), assign)?;
-    for read in &read_by(page.alloc(), assign)? {
+fn reads_itself(alloc: Global, assign: &Assign) -> Result<bool, AllocError> {
+    let driven = driven_by(alloc, assign)?;
+    for read in &read_by(alloc, assign)? {
         if driven.contains(read) {
             return Ok(true);
         }
@@ -141,35 +141,28 @@ fn name_of<'a>(design: &'a Design, part: Part) -> &'a [u8] {
 }
 
 /// What is said of a part whose text shows that it goes round in one slot.
-fn circle_of(page: &Page, design: &Design, part: Part) -> Result<Option<&'static str>, AllocError> {
+fn circle_of(page: &mut Page, design: &Design, part: Part) -> Option<&'static str> {
     match part {
         Part::Process(number) => match design.processes().get(number) {
-            Some(process) if goes_round(&process.body) => Ok(Some(ENDLESS)),
-            _ => Ok(None),
+            Some(process) if goes_round(&process.body) => Some(ENDLESS),
+            _ => None,
         },
         Part::Assign(number) => match design.assigns().get(number) {
             Some(assign) => {
-                if reads_itself(page, assign)? {
-                    return Ok(Some(OWN_READER));
+                let is_own = reads_itself(page.alloc(), assign);
+                match found(page, is_own) {
+                    Some(true) => Some(OWN_READER),
+                    _ => None,
                 }
-                Ok(None)
             }
-            None => Ok(None),
+            None => None,
         },
     }
 }
 
 /// Puts where a part stands, and how many of the last steps it took.
-fn put_taker(
-    page: &mut Page,
-    text: &SourceText,
-    name: &[u8],
-    steps: u64,
-    of: u64,
-) -> Result<(), AllocError> {
-    if token_of(page, text, name)?.is_some() {
-        put_marked(page, text, name)?;
-    } else {
+fn put_taker(page: &mut Page, text: &SourceText, name: &[u8], steps: u64, of: u64) {
+    if !put_marked(page, text, name) {
         page.put_name(name);
         page.put(":\n");
     }
@@ -178,7 +171,6 @@ fn put_taker(
     page.put(" of the last ");
     page.put_shown(of);
     page.put(" steps.\n");
-    Ok(())
 }
 
 /// What was told of the parts that took most of the last steps: how many they are, and whether the text of one of them goes round.
@@ -193,9 +185,9 @@ fn put_takers(
     page: &mut Page,
     text: &SourceText,
     design: &Design,
-    taken: Taken,
-) -> Result<Told, AllocError> {
-    let takers = takers_of(page.alloc(), taken)?;
+    takers: &[Taker],
+    of: u64,
+) -> Told {
     let mut told = Told {
         count: 0,
         is_circle: false,
@@ -203,7 +195,7 @@ fn put_takers(
     let mut most = 0u64;
     let mut before = None;
     for _ in 0..TOLD {
-        let Some((index, taker)) = next_taker(&takers, before) else {
+        let Some((index, taker)) = next_taker(takers, before) else {
             break;
         };
         most = most.max(taker.steps);
@@ -211,20 +203,14 @@ fn put_takers(
             break;
         }
         before = Some((taker.steps, index));
-        put_taker(
-            page,
-            text,
-            name_of(design, taker.part),
-            taker.steps,
-            taken.steps,
-        )?;
-        if let Some(sentence) = circle_of(page, design, taker.part)? {
+        put_taker(page, text, name_of(design, taker.part), taker.steps, of);
+        if let Some(sentence) = circle_of(page, design, taker.part) {
             page.put(sentence);
             told.is_circle = true;
         }
         told.count = told.count.saturating_add(1);
     }
-    Ok(told)
+    told
 }
 
 /// Puts what the last steps did to the time.
@@ -260,9 +246,12 @@ pub fn explain_steps(
     page.put(" steps, and was in the slot of the time ");
     page.put_shown(time);
     page.put(".\n");
-    match put_takers(page, text, design, taken) {
-        Ok(told) if !told.is_circle && steps > 0 => put_progress(page, taken, told.count, time),
-        Ok(_) => {}
-        Err(_) => page.leave_out(),
+    let takers = takers_of(page.alloc(), taken);
+    let Some(takers) = found(page, takers) else {
+        return;
+    };
+    let told = put_takers(page, text, design, &takers, taken.steps);
+    if !told.is_circle && steps > 0 {
+        put_progress(page, taken, told.count, time);
     }
 }

@@ -1,7 +1,7 @@
 //! Which variable a process reads that another one can write at the same time.
 
 use crate::places::{put_marked, put_named};
-use crate::slots::{common, put_residues, residues_of};
+use crate::slots::{common_residues, put_residues, residues_of};
 use crate::uses::{Doing, driven_by, read_by};
 use std::alloc::{AllocError, Global};
 use vs_certificate::Certificate;
@@ -70,30 +70,47 @@ fn first_written(doing: &Doing, marked: &[bool]) -> Option<usize> {
     None
 }
 
-/// The first variable among marked ones that another process writes by `=`, and the number of that process, where both can run at one residue; where the
-/// certificate says nothing of processes, one that waits for something.
-fn race_of(
+/// A variable that a process reads and another one writes by `=`.
+#[derive(Drop)]
+struct Race<'d> {
+    /// The number of the variable.
+    signal: usize,
+    /// The process that reads it, or what hangs on it.
+    reader: &'d Process,
+    /// The process that writes it.
+    writer: &'d Process,
+    /// The residues at which both can run; none where the certificate says nothing of processes.
+    both: Vec<u64>,
+}
+
+/// The first variable on which what a process reads hangs and that another process writes by `=`, where both can run at one residue; where the certificate says
+/// nothing of processes, one whose writer waits for something.
+fn race_of<'d>(
     alloc: Global,
-    design: &Design,
+    design: &'d Design,
     certificate: &Certificate,
     all: &[Doing],
-    reader: usize,
-    marked: &[bool],
-) -> Result<Option<(usize, usize)>, AllocError> {
-    let Some(process) = design.processes().get(reader) else {
+    place: usize,
+) -> Result<Option<Race<'d>>, AllocError> {
+    let (Some(doing), Some(reader)) = (all.get(place), design.processes().get(place)) else {
         return Ok(None);
     };
-    let own = residues_of(alloc, certificate, design, process)?;
-    for (number, (other, doing)) in design.processes().iter().zip(all).enumerate() {
-        if number == reader {
+    let marked = cone_of_reads(alloc, design, doing)?;
+    let own = residues_of(alloc, certificate, design, reader)?;
+    for (number, (writer, doing)) in design.processes().iter().zip(all).enumerate() {
+        if number == place {
             continue;
         }
-        if let Some(signal) = first_written(doing, marked) {
-            let theirs = residues_of(alloc, certificate, design, other)?;
-            let meet = !common(alloc, &own, &theirs)?.is_empty();
-            let may_meet = certificate.processes.is_empty() && has_control(&other.body);
-            if meet || may_meet {
-                return Ok(Some((signal, number)));
+        if let Some(signal) = first_written(doing, &marked) {
+            let both = common_residues(alloc, certificate, design, writer, &own)?;
+            let may_meet = certificate.processes.is_empty() && has_control(&writer.body);
+            if may_meet || !both.is_empty() {
+                return Ok(Some(Race {
+                    signal,
+                    reader,
+                    writer,
+                    both,
+                }));
             }
         }
     }
@@ -101,35 +118,23 @@ fn race_of(
 }
 
 /// Puts which variable a process reads that another one writes, and at which residues both run.
-fn put_pair(
-    page: &mut Page,
-    text: &SourceText,
-    design: &Design,
-    certificate: &Certificate,
-    reader: &Process,
-    writer: &Process,
-    signal: usize,
-) -> Result<(), AllocError> {
-    let alloc = page.alloc();
-    let own = residues_of(alloc, certificate, design, reader)?;
-    let theirs = residues_of(alloc, certificate, design, writer)?;
-    put_marked(page, text, &writer.name)?;
-    put_named(page, text, &reader.name)?;
+fn put_pair(page: &mut Page, text: &SourceText, design: &Design, modulus: u64, race: &Race) {
+    let writer = &race.writer.name;
+    put_marked(page, text, writer);
+    put_named(page, text, &race.reader.name);
     page.put(" reads what hangs on ");
-    if let Some(signal) = design.signals().get(signal) {
-        put_named(page, text, &signal.path)?;
+    if let Some(signal) = design.signals().get(race.signal) {
+        put_named(page, text, &signal.path);
     }
     page.put(", which ");
-    put_named(page, text, &writer.name)?;
-    let both = common(alloc, &own, &theirs)?;
-    if both.is_empty() {
+    put_named(page, text, writer);
+    if race.both.is_empty() {
         page.put(" writes by `=`. Both may run at one time.\n");
-        return Ok(());
+    } else {
+        page.put(" writes by `=`. Both can run at ");
+        put_residues(page, &race.both, modulus);
+        page.put(".\n");
     }
-    page.put(" writes by `=`. Both can run at ");
-    put_residues(page, &both, certificate.modulus);
-    page.put(".\n");
-    Ok(())
 }
 
 /// Puts the race of a process that reads.
@@ -140,21 +145,12 @@ pub(crate) fn put_race(
     certificate: &Certificate,
     all: &[Doing],
     reader: usize,
-) -> Result<(), AllocError> {
-    let alloc = page.alloc();
-    let (Some(doing), Some(process)) = (all.get(reader), design.processes().get(reader)) else {
-        return Ok(());
-    };
-    let marked = cone_of_reads(alloc, design, doing)?;
-    let race = race_of(alloc, design, certificate, all, reader, &marked)?;
-    let Some((signal, number)) = race else {
-        page.put(
+) {
+    match race_of(page.alloc(), design, certificate, all, reader) {
+        Ok(Some(race)) => put_pair(page, text, design, certificate.modulus, &race),
+        Ok(None) => page.put(
             "It reads what itself writes by `=` and what hangs on it by way of assignments, or a variable whose writer runs at the same times.\n",
-        );
-        return Ok(());
-    };
-    match design.processes().get(number) {
-        Some(writer) => put_pair(page, text, design, certificate, process, writer, signal),
-        None => Ok(()),
+        ),
+        Err(_) => page.leave_out(),
     }
 }

@@ -1,14 +1,14 @@
 //! What is said of a broken rule.
 
 use crate::claims::{entry_of, kind_word, mode_word, process_of, root_of, start_word, times_named};
-use crate::places::{put_marked, put_named};
+use crate::places::{found, put_marked, put_named};
 use crate::races::put_race;
 use crate::remedies::{remedy_of, sentence_of};
 use crate::slots::{push_edge, put_residues};
 use crate::uses::{Doing, all_doing, driven_by, read_by};
-use std::alloc::AllocError;
-use vs_certificate::{Certificate, ClaimedGrain, ClaimedKind};
-use vs_design::{Design, EventTerm, Process, event_terms};
+use std::alloc::{AllocError, Global};
+use vs_certificate::{Certificate, ClaimedGrain, ClaimedKind, SignalEntry};
+use vs_design::{Assign, Design, EventTerm, Process, event_terms};
 use vs_explain_outline::{Page, SourceText};
 use vs_logic4::Edge;
 
@@ -55,65 +55,49 @@ pub fn explain_broken(
     number: u8,
     place: &[u8],
 ) {
-    if put_broken(page, text, design, certificate, number, place).is_err() {
-        page.leave_out();
-    }
-}
-
-fn put_broken(
-    page: &mut Page,
-    text: &SourceText,
-    design: &Design,
-    certificate: &Certificate,
-    number: u8,
-    place: &[u8],
-) -> Result<(), AllocError> {
-    put_marked(page, text, place)?;
+    put_marked(page, text, place);
     page.put(sentence_of(number));
     page.put("\n");
-    let all = all_doing(page.alloc(), design)?;
-    let question = Question {
-        design,
-        certificate,
-        all: &all,
-        place,
-    };
-    put_details(page, text, question, number)?;
+    match all_doing(page.alloc(), design) {
+        Ok(all) => {
+            let question = Question {
+                design,
+                certificate,
+                all: &all,
+                place,
+            };
+            put_details(page, text, question, number);
+        }
+        Err(_) => page.leave_out(),
+    }
     page.put(remedy_of(number));
     page.put("\n");
-    Ok(())
 }
 
 /// Puts what can be said of the subject.
-fn put_details(
-    page: &mut Page,
-    text: &SourceText,
-    question: Question,
-    number: u8,
-) -> Result<(), AllocError> {
+fn put_details(page: &mut Page, text: &SourceText, question: Question, number: u8) {
     match number {
-        1 => {
-            put_times(page, question);
-            Ok(())
-        }
+        1 => put_times(page, question),
         2 | 3 => put_writers(page, text, question),
         4 => put_driver(page, text, question),
         5 | 11 => put_block(page, text, question),
         6 => put_root(page, text, question),
         7 | 8 => put_times_of_process(page, question),
-        9 => match process_named(question.design, question.place) {
-            Some(reader) => {
-                let Question {
-                    design,
-                    certificate,
-                    all,
-                    ..
-                } = question;
-                put_race(page, text, design, certificate, all, reader)
-            }
-            None => Ok(()),
-        },
+        9 => put_reads(page, text, question),
         _ => put_first_reads(page, text, question),
+    }
+}
+
+/// Puts the race of a process that reads.
+fn put_reads(page: &mut Page, text: &SourceText, question: Question) {
+    if let Some(reader) = process_named(question.design, question.place) {
+        let Question {
+            design,
+            certificate,
+            all,
+            ..
+        } = question;
+        put_race(page, text, design, certificate, all, reader);
     }
 }
 
@@ -140,29 +124,37 @@ fn put_claimed(page: &mut Page, name: &[u8]) {
     }
 }
 
-/// Puts the processes that write a signal, and what the certificate says of it.
-fn put_writers(page: &mut Page, text: &SourceText, question: Question) -> Result<(), AllocError> {
-    if let Some(entry) = entry_of(question.certificate, question.place) {
-        page.put("The certificate says: mode `");
-        page.put(mode_word(entry.mode));
-        page.put("`, writer ");
-        put_claimed(page, entry.writer.as_bytes());
-        page.put(", second ");
-        put_claimed(page, entry.second.as_bytes());
-        page.put(".\n");
-    }
-    let Some(signal) = signal_named(question.design, question.place) else {
-        return Ok(());
-    };
+/// Puts what a certificate says of a signal.
+fn put_entry(page: &mut Page, entry: &SignalEntry) {
+    page.put("The certificate says: mode `");
+    page.put(mode_word(entry.mode));
+    page.put("`, writer ");
+    put_claimed(page, entry.writer.as_bytes());
+    page.put(", second ");
+    put_claimed(page, entry.second.as_bytes());
+    page.put(".\n");
+}
+
+/// Puts the processes that write a signal, and how.
+fn put_writes(page: &mut Page, text: &SourceText, question: Question, signal: usize) {
     let mut count = 0usize;
     for (process, doing) in question.design.processes().iter().zip(question.all) {
         if doing.writes_signal(signal, false) && count < TOLD {
             count = count.saturating_add(1);
-            put_marked(page, text, &process.name)?;
+            put_marked(page, text, &process.name);
             put_how(page, doing, signal);
         }
     }
-    Ok(())
+}
+
+/// Puts the processes that write a signal, and what the certificate says of it.
+fn put_writers(page: &mut Page, text: &SourceText, question: Question) {
+    if let Some(entry) = entry_of(question.certificate, question.place) {
+        put_entry(page, entry);
+    }
+    if let Some(signal) = signal_named(question.design, question.place) {
+        put_writes(page, text, question, signal);
+    }
 }
 
 /// Puts how a process writes a signal.
@@ -178,17 +170,26 @@ fn put_how(page: &mut Page, doing: &Doing, signal: usize) {
     });
 }
 
-/// The signals that the subject reads, an assignment or a process.
-fn reads_of_subject(page: &Page, question: Question) -> Result<Vec<usize>, AllocError> {
-    for assign in question.design.assigns() {
-        if assign.name.as_slice() == question.place {
-            return read_by(page.alloc(), assign);
+/// The assignment of a name.
+fn assign_named<'d>(design: &'d Design, name: &[u8]) -> Option<&'d Assign> {
+    for assign in design.assigns() {
+        if assign.name.as_slice() == name {
+            return Some(assign);
         }
     }
-    let mut signals = Vec::new(page.alloc());
-    let number = process_named(question.design, question.place);
-    if let Some(doing) = number.and_then(|number| question.all.get(number)) {
-        signals.extend_from_slice(&doing.reads)?;
+    None
+}
+
+/// The signals that the subject reads, an assignment or a process.
+fn reads_of_subject(alloc: Global, question: Question) -> Result<Vec<usize>, AllocError> {
+    if let Some(assign) = assign_named(question.design, question.place) {
+        return read_by(alloc, assign);
+    }
+    let mut signals = Vec::new(alloc);
+    if let Some(number) = process_named(question.design, question.place) {
+        if let Some(doing) = question.all.get(number) {
+            signals.extend_from_slice(&doing.reads)?;
+        }
     }
     Ok(signals)
 }
@@ -213,66 +214,87 @@ fn in_both(left: &[usize], right: &[usize]) -> Option<usize> {
     None
 }
 
-/// The name of a driver and a signal that it drives and the subject reads, where it doesn't stand before the subject in the order.
-fn late_driver<'q>(
-    page: &Page,
+/// A driver, and a signal that it drives.
+#[derive(Clone, Copy)]
+struct Driver<'q> {
+    name: &'q [u8],
+    signal: usize,
+}
+
+/// The first assignment from a place in the order on that drives one of the signals.
+fn late_assign<'q>(
+    alloc: Global,
     question: Question<'q>,
-) -> Result<Option<(&'q [u8], usize)>, AllocError> {
-    let reads = reads_of_subject(page, question)?;
-    let own = place_in_order(question.certificate, question.place);
+    reads: &[usize],
+    place: usize,
+) -> Result<Option<Driver<'q>>, AllocError> {
     for assign in question.design.assigns() {
-        let driven = driven_by(page.alloc(), assign)?;
-        if let Some(signal) = in_both(&driven, &reads) {
-            if place_in_order(question.certificate, &assign.name) >= own {
-                return Ok(Some((&assign.name, signal)));
-            }
-        }
-    }
-    for (process, doing) in question.design.processes().iter().zip(question.all) {
-        let late = place_in_order(question.certificate, &process.name) >= own;
-        if late && is_block(page, question.certificate, process)? {
-            for read in &reads {
-                if doing.writes_signal(*read, false) {
-                    return Ok(Some((&process.name, *read)));
-                }
+        let name = assign.name.as_slice();
+        if place_in_order(question.certificate, name) >= place {
+            let driven = driven_by(alloc, assign)?;
+            if let Some(signal) = in_both(&driven, reads) {
+                return Ok(Some(Driver { name, signal }));
             }
         }
     }
     Ok(None)
 }
 
+/// The first combinational block from a place in the order on that writes one of the signals.
+fn late_block<'q>(
+    alloc: Global,
+    question: Question<'q>,
+    reads: &[usize],
+    place: usize,
+) -> Result<Option<Driver<'q>>, AllocError> {
+    for (process, doing) in question.design.processes().iter().zip(question.all) {
+        let name = process.name.as_slice();
+        if let Some(signal) = written_of(reads, doing, false) {
+            let is_late = place_in_order(question.certificate, name) >= place;
+            if is_late && is_block(alloc, question.certificate, process)? {
+                return Ok(Some(Driver { name, signal }));
+            }
+        }
+    }
+    Ok(None)
+}
+
+/// A driver of what the subject reads that doesn't stand before the subject in the order.
+fn late_driver(alloc: Global, question: Question) -> Result<Option<Driver>, AllocError> {
+    let reads = reads_of_subject(alloc, question)?;
+    let place = place_in_order(question.certificate, question.place);
+    match late_assign(alloc, question, &reads, place)? {
+        Some(driver) => Ok(Some(driver)),
+        None => late_block(alloc, question, &reads, place),
+    }
+}
+
 /// Puts a driver that drives what the subject reads and doesn't stand before it in the order.
-fn put_driver(page: &mut Page, text: &SourceText, question: Question) -> Result<(), AllocError> {
-    let late = late_driver(page, question)?;
-    let Some((driver, number)) = late else {
-        page.put(
+fn put_driver(page: &mut Page, text: &SourceText, question: Question) {
+    match late_driver(page.alloc(), question) {
+        Ok(Some(driver)) => {
+            if let Some(signal) = question.design.signals().get(driver.signal) {
+                put_driven(page, text, question, driver.name, &signal.path);
+            }
+        }
+        Ok(None) => page.put(
             "It reads a bit that is neither driven, nor of a net, nor of a variable that no driver writes.\n",
-        );
-        return Ok(());
-    };
-    match question.design.signals().get(number) {
-        Some(signal) => put_driven(page, text, question, driver, &signal.path),
-        None => Ok(()),
+        ),
+        Err(_) => page.leave_out(),
     }
 }
 
 /// Puts which driver drives what the subject reads.
-fn put_driven(
-    page: &mut Page,
-    text: &SourceText,
-    question: Question,
-    driver: &[u8],
-    path: &[u8],
-) -> Result<(), AllocError> {
+fn put_driven(page: &mut Page, text: &SourceText, question: Question, driver: &[u8], path: &[u8]) {
     if driver == question.place {
         page.put("It reads ");
-        put_named(page, text, path)?;
+        put_named(page, text, path);
         page.put(", which it drives itself.\n");
-        return Ok(());
+        return;
     }
-    put_marked(page, text, driver)?;
+    put_marked(page, text, driver);
     page.put("It drives ");
-    put_named(page, text, path)?;
+    put_named(page, text, path);
     page.put(", which ");
     page.put_name(question.place);
     page.put(if question.certificate.order.is_empty() {
@@ -280,19 +302,18 @@ fn put_driven(
     } else {
         " reads, and stands later in the certificate's `order`.\n"
     });
-    Ok(())
 }
 
 /// Puts what a combinational block reads and doesn't wait for, and what it writes by `<=`.
-fn put_block(page: &mut Page, text: &SourceText, question: Question) -> Result<(), AllocError> {
+fn put_block(page: &mut Page, text: &SourceText, question: Question) {
     if question.certificate.grain == ClaimedGrain::Statement {
         page.put(
             "The certificate's grain is `statement`, at which there are no combinational blocks.\n",
         );
-        return Ok(());
+        return;
     }
     let Some(number) = process_named(question.design, question.place) else {
-        return Ok(());
+        return;
     };
     if let Some(entry) = process_of(question.certificate, question.place) {
         page.put("The certificate says: start `");
@@ -303,9 +324,23 @@ fn put_block(page: &mut Page, text: &SourceText, question: Question) -> Result<(
         question.design.processes().get(number),
         question.all.get(number),
     ) else {
-        return Ok(());
+        return;
     };
     put_unawaited(page, text, question.design, process, doing)
+}
+
+/// The first signal that a block reads and neither waits for nor writes.
+fn unawaited_of(doing: &Doing, terms: &[EventTerm]) -> Option<usize> {
+    for read in &doing.reads {
+        let mut is_awaited = doing.writes_signal(*read, false);
+        for term in terms {
+            is_awaited = is_awaited || term.range.signal == *read;
+        }
+        if !is_awaited {
+            return Some(*read);
+        }
+    }
+    None
 }
 
 /// Puts the first signal that a block reads and neither waits for nor writes, and what it writes by `<=`.
@@ -315,94 +350,96 @@ fn put_unawaited(
     design: &Design,
     process: &Process,
     doing: &Doing,
-) -> Result<(), AllocError> {
-    let terms = event_terms(page.alloc(), &process.body)?;
+) {
     for written in &doing.writes {
         if !written.blocking {
-            page.put("It writes by `<=`, and a combinational block writes by `=`.\n");
-            return Ok(());
+            return page.put("It writes by `<=`, and a combinational block writes by `=`.\n");
         }
     }
-    for read in &doing.reads {
-        let mut awaited = doing.writes_signal(*read, false);
-        for term in &terms {
-            awaited = awaited || term.range.signal == *read;
-        }
-        if let (false, Some(signal)) = (awaited, design.signals().get(*read)) {
+    let terms = event_terms(page.alloc(), &process.body);
+    let Some(terms) = found(page, terms) else {
+        return;
+    };
+    let unawaited = unawaited_of(doing, &terms).and_then(|read| design.signals().get(read));
+    match unawaited {
+        Some(signal) => {
             page.put("It reads ");
-            put_named(page, text, &signal.path)?;
+            put_named(page, text, &signal.path);
             page.put(", which its control doesn't name.\n");
-            return Ok(());
         }
+        None => put_outputs(page, text, design, doing),
     }
-    put_outputs(page, text, design, doing)
 }
 
 /// Puts the signals that a block writes.
-fn put_outputs(
-    page: &mut Page,
-    text: &SourceText,
-    design: &Design,
-    doing: &Doing,
-) -> Result<(), AllocError> {
+fn put_outputs(page: &mut Page, text: &SourceText, design: &Design, doing: &Doing) {
     let mut told: Vec<usize> = Vec::new(page.alloc());
     for written in &doing.writes {
         if told.len() < TOLD && !told.contains(&written.signal) {
             if let Some(signal) = design.signals().get(written.signal) {
                 page.put(if told.is_empty() { "It writes " } else { ", " });
-                put_named(page, text, &signal.path)?;
-                told.push(written.signal)?;
+                put_named(page, text, &signal.path);
+                if told.push(written.signal).is_err() {
+                    page.leave_out();
+                }
             }
         }
     }
     page.put(if told.is_empty() { "" } else { ".\n" });
-    Ok(())
+}
+
+/// Puts the mode and the writer of a root.
+fn put_root_entry(page: &mut Page, text: &SourceText, entry: &SignalEntry) {
+    page.put(", of mode `");
+    page.put(mode_word(entry.mode));
+    page.put("`");
+    if !entry.writer.is_empty() {
+        page.put(", which ");
+        put_named(page, text, entry.writer.as_bytes());
+        page.put(" writes");
+    }
 }
 
 /// Puts the root of a signal of an edge term, and who writes it.
-fn put_root(page: &mut Page, text: &SourceText, question: Question) -> Result<(), AllocError> {
+fn put_root(page: &mut Page, text: &SourceText, question: Question) {
     if question.certificate.edges.is_empty() {
         return put_writers(page, text, question);
     }
     let root = root_of(question.certificate, question.place);
     page.put("The certificate says: its root is ");
-    put_named(page, text, root)?;
+    put_named(page, text, root);
     if let Some(entry) = entry_of(question.certificate, root) {
-        page.put(", of mode `");
-        page.put(mode_word(entry.mode));
-        page.put("`");
-        if !entry.writer.is_empty() {
-            page.put(", which ");
-            put_named(page, text, entry.writer.as_bytes())?;
-            page.put(" writes");
-        }
+        put_root_entry(page, text, entry);
     }
     page.put(".\n");
-    Ok(())
+}
+
+/// Puts at which residues the delays of a process can end.
+fn put_delays(page: &mut Page, lists: &[Vec<u64>], modulus: u64) {
+    for (index, list) in lists.iter().enumerate() {
+        page.put("Delay ");
+        page.put_shown(index.saturating_add(1));
+        page.put(" can end at ");
+        put_residues(page, list, modulus);
+        page.put(".\n");
+    }
 }
 
 /// Puts the lists of a process, or the residues at which its edges fire.
-fn put_times_of_process(page: &mut Page, question: Question) -> Result<(), AllocError> {
+fn put_times_of_process(page: &mut Page, question: Question) {
     let certificate = question.certificate;
     let Some(number) = process_named(question.design, question.place) else {
-        return Ok(());
+        return;
     };
     let Some(process) = question.design.processes().get(number) else {
-        return Ok(());
+        return;
     };
     if let Some(entry) = process_of(certificate, question.place) {
         page.put("The certificate says: kind `");
         page.put(kind_word(&entry.kind));
         page.put("`.\n");
         if let ClaimedKind::Delay(lists) = &entry.kind {
-            for (index, list) in lists.iter().enumerate() {
-                page.put("Delay ");
-                page.put_shown(index.saturating_add(1));
-                page.put(" can end at ");
-                put_residues(page, list, certificate.modulus);
-                page.put(".\n");
-            }
-            return Ok(());
+            return put_delays(page, lists, certificate.modulus);
         }
     }
     put_edge_signals(page, question.design, certificate, process)
@@ -414,26 +451,35 @@ fn put_edge_signals(
     design: &Design,
     certificate: &Certificate,
     process: &Process,
-) -> Result<(), AllocError> {
-    for term in &event_terms(page.alloc(), &process.body)? {
-        let Some(signal) = design.signals().get(term.range.signal) else {
-            continue;
-        };
-        let mut residues = Vec::new(page.alloc());
-        push_edge(&mut residues, certificate, &signal.path)?;
-        page.put(match term.edge {
-            Edge::Any => "It waits for any change of ",
-            Edge::Posedge => "It waits for `posedge` of ",
-            Edge::Negedge => "It waits for `negedge` of ",
-        });
-        page.put_name(&signal.path);
-        if !residues.is_empty() {
-            page.put(", written through its root at ");
-            put_residues(page, &residues, certificate.modulus);
+) {
+    let terms = event_terms(page.alloc(), &process.body);
+    let Some(terms) = found(page, terms) else {
+        return;
+    };
+    for term in &terms {
+        if let Some(signal) = design.signals().get(term.range.signal) {
+            page.put(match term.edge {
+                Edge::Any => "It waits for any change of ",
+                Edge::Posedge => "It waits for `posedge` of ",
+                Edge::Negedge => "It waits for `negedge` of ",
+            });
+            page.put_name(&signal.path);
+            put_edge_times(page, certificate, &signal.path);
+            page.put(".\n");
         }
-        page.put(".\n");
     }
-    Ok(())
+}
+
+/// Puts the residues at which an edge of a signal can come, where there are any.
+fn put_edge_times(page: &mut Page, certificate: &Certificate, path: &[u8]) {
+    let mut residues = Vec::new(page.alloc());
+    if push_edge(&mut residues, certificate, path).is_err() {
+        page.leave_out();
+    }
+    if !residues.is_empty() {
+        page.put(", written through its root at ");
+        put_residues(page, &residues, certificate.modulus);
+    }
 }
 
 /// Puts a process that writes what another one reads, and what that is.
@@ -444,24 +490,23 @@ fn put_write(
     signal: usize,
     writer: &Process,
     reader: &Process,
-) -> Result<(), AllocError> {
+) {
     let Some(signal) = design.signals().get(signal) else {
-        return Ok(());
+        return;
     };
-    put_marked(page, text, &writer.name)?;
+    put_marked(page, text, &writer.name);
     page.put("It writes ");
-    put_named(page, text, &signal.path)?;
+    put_named(page, text, &signal.path);
     page.put(", which ");
-    put_named(page, text, &reader.name)?;
+    put_named(page, text, &reader.name);
     page.put(" reads.\n");
-    Ok(())
 }
 
-/// The first signal that one process reads and another one writes.
-fn read_of(reader: &Doing, writer: &Doing, blocking: bool) -> Option<usize> {
-    for read in &reader.reads {
-        if writer.writes_signal(*read, blocking) {
-            return Some(*read);
+/// The first of these signals that a process writes, by `=` or at all.
+fn written_of(signals: &[usize], doing: &Doing, blocking: bool) -> Option<usize> {
+    for signal in signals {
+        if doing.writes_signal(*signal, blocking) {
+            return Some(*signal);
         }
     }
     None
@@ -478,9 +523,13 @@ fn are_levels(terms: &[EventTerm]) -> bool {
 }
 
 /// Whether a process is a combinational block by a certificate, or where that says nothing of processes, by what it waits for.
-fn is_block(page: &Page, certificate: &Certificate, process: &Process) -> Result<bool, AllocError> {
+fn is_block(
+    alloc: Global,
+    certificate: &Certificate,
+    process: &Process,
+) -> Result<bool, AllocError> {
     if certificate.processes.is_empty() {
-        let terms = event_terms(page.alloc(), &process.body)?;
+        let terms = event_terms(alloc, &process.body)?;
         return Ok(are_levels(&terms));
     }
     match process_of(certificate, &process.name) {
@@ -490,11 +539,7 @@ fn is_block(page: &Page, certificate: &Certificate, process: &Process) -> Result
 }
 
 /// Puts a variable that a process reads and another one writes, or that it writes before a block waits for it; of a root the processes that write it.
-fn put_first_reads(
-    page: &mut Page,
-    text: &SourceText,
-    question: Question,
-) -> Result<(), AllocError> {
+fn put_first_reads(page: &mut Page, text: &SourceText, question: Question) {
     let design = question.design;
     let processes = design.processes();
     let Some(number) = process_named(design, question.place) else {
@@ -502,20 +547,20 @@ fn put_first_reads(
         return put_writers(page, text, question);
     };
     let (Some(own), Some(doing)) = (processes.get(number), question.all.get(number)) else {
-        return Ok(());
+        return;
     };
     for (other, (process, their)) in processes.iter().zip(question.all).enumerate() {
         if other == number {
             continue;
         }
-        if let Some(signal) = read_of(doing, their, false) {
+        if let Some(signal) = written_of(&doing.reads, their, false) {
             return put_write(page, text, design, signal, process, own);
         }
-        if is_block(page, question.certificate, process)? {
-            if let Some(signal) = read_of(their, doing, true) {
+        if let Some(signal) = written_of(&their.reads, doing, true) {
+            let is_block = is_block(page.alloc(), question.certificate, process);
+            if matches!(found(page, is_block), Some(true)) {
                 return put_write(page, text, design, signal, own, process);
             }
         }
     }
-    Ok(())
 }

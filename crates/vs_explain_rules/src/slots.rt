@@ -83,7 +83,7 @@ pub(crate) fn residues_of(
 }
 
 /// The residues that two lists have in common.
-pub(crate) fn common(alloc: Global, left: &[u64], right: &[u64]) -> Result<Vec<u64>, AllocError> {
+fn common(alloc: Global, left: &[u64], right: &[u64]) -> Result<Vec<u64>, AllocError> {
     let mut both = Vec::new(alloc);
     for residue in left {
         if right.contains(residue) {
@@ -91,6 +91,18 @@ pub(crate) fn common(alloc: Global, left: &[u64], right: &[u64]) -> Result<Vec<u
         }
     }
     Ok(both)
+}
+
+/// The residues of a list at which a process can run too.
+pub(crate) fn common_residues(
+    alloc: Global,
+    certificate: &Certificate,
+    design: &Design,
+    process: &Process,
+    own: &[u64],
+) -> Result<Vec<u64>, AllocError> {
+    let theirs = residues_of(alloc, certificate, design, process)?;
+    common(alloc, own, &theirs)
 }
 
 /// Puts residues, as `0 and 5 modulo 10`.

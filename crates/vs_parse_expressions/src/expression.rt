@@ -1,5 +1,5 @@
 //! Reading expressions.
-ghost use Rattle.std.specs.Prelude.{◌≡◌, ℕ, suc, ◌∷◌, map, IfOk};
+ghost use Rattle.std.specs.Prelude.{◌≡◌, [], ℕ, suc, ◌∷◌, map, IfOk};
 ghost use Rattle.vs_lex_tokens.specs.declared.token.Mark.TheVariants as m;
 ghost use Rattle.vs_syntax.specs.Symbols.{a_mark, a_cast, any_name, any_number, first};
 ghost use Rattle.vs_syntax.specs.Grammar.{◌·◌, part, many, mark, a_level, a_condition, an_expr, an_operand, other_parts, select};
@@ -12,7 +12,7 @@ use crate::head::{OperandHead, operand_head};
 use crate::operator::{LEVELS, binary_at};
 use crate::reading::{Parsed, ReadFault};
 use crate::token::{expect_mark, expect_name, literal, mark_at, next, part_select_at};
-use std::alloc::Global;
+use std::alloc::{AllocError, Global};
 use vs_lexer::{Mark, Token};
 use vs_logic4::Unary;
 use vs_syntax::{Expr, PartSelect};
@@ -243,6 +243,19 @@ fn named<'t, 's>(
     })
 }
 
+/// Room for the selects that are next. Most operands have one: it takes no room for others.
+fn room_for_selects<'s>(
+    alloc: Global,
+    tokens: &[Token<'s>],
+) -> Result<Vec<(Expr, Option<(PartSelect, Expr)>)>, AllocError>
+    ensures { IfOk result (λ room. room.items ≡ []) }
+{
+    if mark_at(tokens, Mark::OpenBracket).is_some() {
+        return Vec::with_capacity(alloc, 1);
+    }
+    Ok(Vec::new(alloc))
+}
+
 /// Reads the selects that are next, in at most `depth` nodes below one another.
 #[cycle(expr)]
 pub(crate) fn selects<'t, 's>(
@@ -256,7 +269,7 @@ pub(crate) fn selects<'t, 's>(
     let mut height: u32 = 0;
     // All of them, but from a call: so the borrow checker can join it with what the loop sets.
     let (_none, mut rest) = tokens.split_at(0);
-    let mut tree = Vec::new(alloc);
+    let mut tree = room_for_selects(alloc, tokens)?;
     while let Some(after) = mark_at(rest, Mark::OpenBracket) {
         let read = chosen(alloc, depth, rest, after)?;
         height = height.max(read.height);

@@ -6,6 +6,7 @@ use Rattle.std.proofs.KnownBytes.{Appends-kept}
 use Rattle.vs_design.specs.Parts.{Parts}
 use Rattle.vs_process.specs.declared.moves.Move.{Move}
 use Rattle.vs_rules.specs.Claims.{Claims}
+use Rattle.vs_kernel.specs.Runs.{HasBegun, RanTo}
 use Rattle.vs_kernel.specs.declared.outcome.Outcome.{Outcome}
 use Rattle.vs_certified.specs.Certified.{HasBegunCertifiedRun, IsCertifiedRun, StandsFor, is_before_run}
 use Rattle.vs_certified.specs.declared.fault.CertifiedFault.{CertifiedFault}
@@ -25,38 +26,38 @@ use Rattle.vs_program.specs.Statuses.{refusal_status}
 
 -- of a run, where the two sinks keep what they held
 module _ (old mid new lines_old lines_mid lines_new : Option (List ℕ)) (kept : Keeps mid new) (lines_kept : Keeps lines_mid lines_new) where
+  -- what a run came to
+  abbrev ran_kept : {d : Parts} {until steps : ℕ} {o : Outcome} → RanTo d until steps o old mid lines_old lines_mid
+      → RanTo d until steps o old new lines_old lines_new
+  ran_kept h = record {
+    moves = h.moves;
+    statement = h.statement;
+    block = h.block;
+    stops = h.stops;
+    end = h.end;
+    text = Appends-kept old mid new _ h.text kept;
+    lines = Appends-kept lines_old lines_mid lines_new _ h.lines lines_kept;
+  }
+
+  -- what a run left that failed
+  left_kept : {d : Parts} {until steps : ℕ} → HasBegun d until steps old mid lines_old lines_mid → HasBegun d until steps old new lines_old lines_new
+  left_kept h = record {
+    moves = h.moves;
+    statement = h.statement;
+    block = h.block;
+    stops = h.stops;
+    within = h.within;
+    text = (h.text.0, Appends-kept old mid new _ h.text.1 kept);
+    lines = (h.lines.0, Appends-kept lines_old lines_mid lines_new _ h.lines.1 lines_kept);
+  }
+
   run_kept : (bytes top : List ℕ) (until steps : ℕ) (o : Outcome) → IsRun bytes top until steps o old mid lines_old lines_mid
       → IsRun bytes top until steps o old new lines_old lines_new
-  run_kept bytes top until steps o h = record {
-    design = h.design;
-    defined = h.defined;
-    ran = record {
-      moves = h.ran.moves;
-      statement = h.ran.statement;
-      block = h.ran.block;
-      stops = h.ran.stops;
-      end = h.ran.end;
-      text = Appends-kept old mid new _ h.ran.text kept;
-      lines = Appends-kept lines_old lines_mid lines_new _ h.ran.lines lines_kept;
-    };
-    shows = h.shows;
-  }
+  run_kept bytes top until steps o h = record { design = h.design; defined = h.defined; ran = ran_kept h.ran; shows = h.shows }
 
   begun_run_kept : (bytes top : List ℕ) (until steps : ℕ) → HasBegunRun bytes top until steps old mid lines_old lines_mid
       → HasBegunRun bytes top until steps old new lines_old lines_new
-  begun_run_kept bytes top until steps h = record {
-    design = h.design;
-    defined = h.defined;
-    begun = record {
-      moves = h.begun.moves;
-      statement = h.begun.statement;
-      block = h.begun.block;
-      stops = h.begun.stops;
-      within = h.begun.within;
-      text = (h.begun.text.0, Appends-kept old mid new _ h.begun.text.1 kept);
-      lines = (h.begun.lines.0, Appends-kept lines_old lines_mid lines_new _ h.begun.lines.1 lines_kept);
-    };
-  }
+  begun_run_kept bytes top until steps h = record { design = h.design; defined = h.defined; begun = left_kept h.begun }
 
   stands_kept : (d : Parts) (c : Claims) (until : ℕ) (moves xs : List Move) → StandsFor d c until moves old mid lines_old lines_mid xs
       → StandsFor d c until moves old new lines_old lines_new xs
@@ -79,15 +80,7 @@ module _ (old mid new lines_old lines_mid lines_new : Option (List ℕ)) (kept :
     passes = h.passes;
     disciplined = h.disciplined;
     independent = h.independent;
-    ran = record {
-      moves = h.ran.moves;
-      statement = h.ran.statement;
-      block = h.ran.block;
-      stops = h.ran.stops;
-      end = h.ran.end;
-      text = Appends-kept old mid new _ h.ran.text kept;
-      lines = Appends-kept lines_old lines_mid lines_new _ h.ran.lines lines_kept;
-    };
+    ran = ran_kept h.ran;
     shows = h.shows;
     every = λ whole xs legal complete. stands_kept h.design _ until h.ran.moves xs (h.every whole xs legal complete);
   }
@@ -100,15 +93,7 @@ module _ (old mid new lines_old lines_mid lines_new : Option (List ℕ)) (kept :
     claimed = h.claimed;
     passes = h.passes;
     disciplined = h.disciplined;
-    begun = record {
-      moves = h.begun.moves;
-      statement = h.begun.statement;
-      block = h.begun.block;
-      stops = h.begun.stops;
-      within = h.begun.within;
-      text = (h.begun.text.0, Appends-kept old mid new _ h.begun.text.1 kept);
-      lines = (h.begun.lines.0, Appends-kept lines_old lines_mid lines_new _ h.begun.lines.1 lines_kept);
-    };
+    begun = left_kept h.begun;
   }
 
 -- of a call

@@ -160,11 +160,12 @@ pub data EndsCall (input : Option (List ℕ)) (call : Subcommand) (old new : Opt
   by_device : Keeps old new → status ≡ 3 → EndsCall input call old new status
 
 -- how the program ends where the words ask for nothing: by the fault that they have, a call for help or for the version among them, or since they ask for
--- a certified run in the order `Lifo`, or with 3 where a device or memory failed; only help and the version are written to the writer
+-- a certified run in the order `Lifo`, or with 3 where memory or, at help and the version, a device failed; these two alone are written to the writer
 pub data EndsWords (words : List (List ℕ)) (old new : Option (List ℕ)) (status : ℕ) : Type 0 where
   by_kind : (k : ErrorKind) → HaveFault words k → (words_status k ≡ 0) ⊎ Keeps old new → status ≡ words_status k → EndsWords words old new status
   by_order : WordsAskForBoth words → Keeps old new → status ≡ 64 → EndsWords words old new status
-  unheard : status ≡ 3 → EndsWords words old new status
+  by_memory : Keeps old new → status ≡ 3 → EndsWords words old new status
+  by_help : (k : ErrorKind) → HaveFault words k → words_status k ≡ 0 → status ≡ 3 → EndsWords words old new status
 
 -- how the program ends, with these words, this input, and what the writer holds before and after it
 pub data Ends (words : List (List ℕ)) (input old new : Option (List ℕ)) (status : ℕ) : Type 0 where

@@ -16,7 +16,7 @@ use Rattle.vs_certificate.specs.Limits.{is_within_limits}
 use Rattle.vs_certificate.specs.Reading.{IsSound}
 use Rattle.vs_certificate.specs.Versions.{has_kind}
 use Rattle.vs_certificate.proofs.Law.{sound_value, own_kinds}
-use Rattle.vs_cert_check.specs.Answers.{verdict_view}
+use Rattle.vs_cert_check.specs.Answers.{verdict_view, HasNumber}
 use Rattle.vs_cert_check.specs.Verdicts.{rule_of}
 use Rattle.vs_cert_check.specs.declared.verdict.Verdict.{Verdict}
 use Rattle.vs_cert_check.specs.declared.verdict.Verdict.TheVariants as verdicts
@@ -35,11 +35,12 @@ made d grain c v same sound verdict is = record {
 }
 
 pub refused : (d : Parts) (grain : ClaimedGrain) (c : Certificate) (v : Verdict) (number : ℕ) (place : Vec ℕ Global) → c.grain ≡ grain → IsSound (value_of c) →
-    IsVerdict d (claims_of c) (verdict_view v) → v ≡ verdicts.No number place → IsRefused d grain number place.items
-refused d grain c v number place same sound verdict is = record {
+    IsVerdict d (claims_of c) (verdict_view v) → HasNumber v → v ≡ verdicts.No number place → IsRefused d grain number place.items
+refused d grain c v number place same sound verdict numbered is = record {
   certificate = c;
   grain_is = same;
   sound = sound;
+  numbered = subst HasNumber is numbered;
   verdict = subst (λ w. IsVerdict d (claims_of c) (verdict_view w)) is verdict;
 }
 

@@ -1,5 +1,5 @@
 -- What is proposed for a design.
-use Rattle.std.specs.Prelude.{ℕ, ◌-◌, ◌≡◌, true, Option, Some, None, List}
+use Rattle.std.specs.Prelude.{ℕ, ◌-◌, ◌≡◌, ◌≤◌, true, Option, Some, None, List}
 use Rattle.vs_cert_check.specs.Verdicts.{rule_of}
 use Rattle.vs_certificate.specs.declared.members.Certificate.{Certificate}
 use Rattle.vs_certificate.specs.declared.members.ClaimedGrain.{ClaimedGrain}
@@ -19,11 +19,13 @@ pub record IsMade (d : Parts) (grain : ClaimedGrain) (c : Certificate) : Type 0 
   pub own_kinds : has_own_kinds c ≡ true
   pub kept : Disciplined d (claims_of c)
 
--- under some certificate of this grain, of which no such test fails, this is the least rule that the design breaks, and the first subject that breaks it
+-- under some certificate of this grain, of which no such test fails, the rule of this number, from 1 to 11, is the least that the design breaks, and
+-- this is the name of the first subject that breaks it
 pub record IsRefused (d : Parts) (grain : ClaimedGrain) (number : ℕ) (place : List ℕ) : Type 0 where
   pub certificate : Certificate
   pub grain_is : certificate.grain ≡ grain
   pub sound : IsSound (value_of certificate)
+  pub numbered : (1 ≤ number) × (number ≤ 11)
   pub verdict : IsVerdict d (claims_of certificate) (no_verdict (rule_of (number - 1)) place)
 
 -- what is proposed is true of the design

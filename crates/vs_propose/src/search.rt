@@ -1,6 +1,6 @@
 //! The search for a certificate.
 ghost use Rattle.std.specs.Prelude.{◌≡◌, [], IfOk, IfSome, IsSome};
-ghost use Rattle.vs_cert_check.specs.Answers.{verdict_view};
+ghost use Rattle.vs_cert_check.specs.Answers.{verdict_view, HasNumber};
 ghost use Rattle.vs_certificate.specs.JsonValue.{value_of};
 ghost use Rattle.vs_certificate.specs.Reading.{IsSound};
 ghost use Rattle.vs_propose_assigns.specs.Settling.{CanSettle};
@@ -27,6 +27,7 @@ fn proposal_of(
     requires grain { certificate.grain ≡ grain }
     requires sound { IsSound (value_of certificate) }
     requires verdict { IsVerdict design.now (claims_of certificate) (verdict_view verdict) }
+    requires numbered { HasNumber verdict }
     ensures is { IsProposal design.now grain result }
     ensures made { Disciplined design.now (claims_of certificate) → AnswersMade result }
 {

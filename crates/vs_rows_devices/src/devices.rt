@@ -14,6 +14,11 @@ const WORDS: &str = "vsim run --top t --until 10 --out vcd";
 
 const SOURCE: &str = "module t; reg a; initial begin a = 0; #5 a = 1; end endmodule";
 
+/// A certificate of that source, and the source.
+const CERTIFIED: &str =
+    r#"{"edges":[],"grain":"block","modulus":1,"order":[],"processes":[{"kind":"delay","name":"t#p0","slots":[[0]],"start":"none"}],"signals":[{"mode":"blocking","name":"t.a","second":"","writer":"t#p0"}],"version":1}
+module t; reg a; initial begin a = 0; #5 a = 1; end endmodule"#;
+
 // The reader gives this input and fails, or ends: what the program answers, and that the input was read to its end.
 fn is_read(
     rt: &impl Abort,
@@ -89,8 +94,8 @@ struct CallRow {
     text: &'static str,
 }
 
-/// A run whose dump is asked for, one whose lines are, and a listing.
-static CALLS: [CallRow; 3] = [
+/// A run whose dump is asked for, one whose lines are, a listing, a certificate, a verdict, and a certified run.
+static CALLS: [CallRow; 6] = [
     CallRow {
         words: WORDS,
         source: SOURCE,
@@ -105,6 +110,22 @@ static CALLS: [CallRow; 3] = [
         words: "vsim elab --top t",
         source: SOURCE,
         text: "t.a reg 1 unsigned 1\nt#p0 initial\n",
+    },
+    CallRow {
+        words: "vsim certify --top t",
+        source: "module t; endmodule",
+        text: r#"{"edges":[],"grain":"block","modulus":1,"order":[],"processes":[],"signals":[],"version":1}
+"#,
+    },
+    CallRow {
+        words: "vsim check --top t",
+        source: CERTIFIED,
+        text: "yes\n",
+    },
+    CallRow {
+        words: "vsim run --top t --until 10 --out vcd --cert",
+        source: CERTIFIED,
+        text: ONE,
     },
 ];
 

@@ -127,6 +127,10 @@ claimed c None None h = absurd (false≢true h)
 claimed c None (Some q) h = absurd (false≢true h)
 claimed c (Some x) p h = (x, refl)
 
+-- a variable with a writer is a signal of the design
+pub writer_within : (d : Parts) (c : Claims) (u i : ℕ) → IsWriter d c u i → u < length d.signals
+writer_within d c u i h = let x = claimed c (slice_get d.signals u) (slice_get d.processes i) h in slice_get_within d.signals u x.0 x.1
+
 -- a variable with write slots is a signal of the design
 pub write_within : (d : Parts) (c : Claims) (u r : ℕ) → HasWriteSlot d c u r → u < length d.signals
 write_within d c u r h = let x = claimed c (slice_get d.signals u) (slice_get d.processes h.writer) h.is in slice_get_within d.signals u x.0 x.1

@@ -5,3 +5,4 @@ pub mod ListLemmas
 pub mod TableLemmas
 pub mod KeptLemmas
 pub mod SignalLemmas
+pub mod WrittenLemmas

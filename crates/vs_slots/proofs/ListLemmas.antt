@@ -41,3 +41,7 @@ pub none_more : (ns : List ℕ) (number i : ℕ) → NoneYet ns number i → (ge
 none_more ns number i before here k l = elim (at k l) [ inl below ↦ before k below | inr e ↦ subst (λ (n : ℕ). (get_or ns n 0 == number) ≡ false) (sym e) here ] where
   at : (k : ℕ) → k < i + 1 → (k < i) ⊎ (k ≡ i)
   at k l = grind (arith, l)
+
+-- the lists of the same controls
+pub list_for : {cs ds : List ℕ} (ls : List (Vec ℕ Global)) → cs ≡ ds → list_of cs (map residues_from ls) ≡ list_of ds (map residues_from ls)
+list_for ls e = ap (λ (c : List ℕ). list_of c (map residues_from ls)) e

@@ -60,3 +60,7 @@ alone base now some never e = (λ n. elim (e.0 n) [ inl b ↦ absurd (never b) |
 
 pub same_either : (a b c now : Type 0) → (now ↔ (a ⊎ b)) → (b ↔ c) → (now ↔ (a ⊎ c))
 same_either a b c now e f = (λ n. elim (e.0 n) [ inl x ↦ inl x | inr y ↦ inr (f.0 y) ], λ y. elim y [ inl x ↦ e.1 (inl x) | inr z ↦ e.1 (inr (f.1 z)) ])
+
+-- of a list with the same elements
+pub same_as : (kept told some : Type 0) → (told ↔ kept) → (kept ↔ some) → (told ↔ some)
+same_as kept told some a b = (λ x. b.0 (a.0 x), λ y. a.1 (b.1 y))

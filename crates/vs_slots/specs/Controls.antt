@@ -6,4 +6,4 @@ use Rattle.vs_slots.specs.declared.controls.ControlLists as l
 
 -- the list of a control, by its number, as lists are kept
 abbrev pub list_by : l.ControlLists → ℕ → List ℕ
-list_by x number = list_of x.controls.now (map residues_from x.lists.now) number
+list_by x number = list_of x.controls (map residues_from x.lists.now) number

@@ -16,6 +16,7 @@ use Rattle.vs_rules.specs.Slots.{HasWriteSlot}
 use Rattle.vs_slots_constants.specs.declared.clocks.Clock.{Clock}
 use Rattle.vs_slots_paths.specs.Ranges.{HasSignal, now_at}
 use Rattle.vs_slots_paths.specs.Reaches.{Chart, IsPlace, places}
+use Rattle.vs_slots_uses.specs.Written.{IsWrittenAt, StandsIn}
 use Rattle.vs_cert_facts.specs.Facts.{Case, AreCharts}
 use Rattle.vs_slots.specs.declared.roots.Firing.{Firing}
 use Rattle.vs_slots.specs.declared.runs.Runs.{Runs}
@@ -100,6 +101,11 @@ pub record AreBothRuns (f : Case) (waiting fired : List Runs) : Type 0 where
 abbrev pub IsKeptRun : Case → List Runs → List Runs → ℕ → ℕ → ℕ → Type 0
 IsKeptRun f waiting fired i p r = (IsEdge f.design f.claims i × IsRunIn fired i p r)
     ⊎ ((IsEdge f.design f.claims i → ⊥) × IsDelay f.design f.claims i × IsRunIn waiting i p r)
+
+-- no place at which a signal is written is missing in the row of the signal
+abbrev pub AreWrittenPlaces : Case → List (Vec ℕ Global) → Type 0
+AreWrittenPlaces f table = (i p v : ℕ) (t : Chart) → slice_get f.charts i ≡ Some t → v < length f.design.signals → p < places t →
+    IsWrittenAt t p v → (StandsIn table v p → ⊥) → ⊥
 
 -- at a place of a process a variable is written at a residue
 abbrev pub IsPlaceWrite : Case → List Runs → List Runs → Chart → ℕ → ℕ → ℕ → ℕ → Type 0

@@ -1,7 +1,9 @@
 //! The residues at which delay controls can end.
-ghost use Rattle.std.specs.Prelude.{ℕ, ◌≡◌, ◌<◌, ◌↔◌, length, IfOk, IsTrue};
+ghost use Rattle.std.specs.Prelude.{ℕ, ◌≡◌, ◌<◌, ◌↔◌, map, IfOk};
 ghost use Rattle.std.specs.List.{Contains};
 ghost use Rattle.vs_design.specs.Tables.{rows};
+ghost use Rattle.vs_rules.specs.Certificates.{residues_from};
+ghost use Rattle.vs_rules.specs.Controls.{list_of};
 ghost use Rattle.vs_slots_paths.specs.Reaches.{places, pause_at, pause_view, IsPlace};
 ghost use Rattle.vs_slots.specs.Lists.{row};
 ghost use Rattle.vs_slots.specs.Controls.{list_by};
@@ -10,36 +12,47 @@ ghost use Rattle.vs_slots.specs.Runs.{DelayEndsBy};
 use crate::listing::{Listing, table_of};
 use std::alloc::{AllocError, Global};
 use vs_slots_paths::{Pause, Tables};
+use vs_slots_residues::Numbers;
 
 /// The lists of residues of a process of kind delay: one for each delay control of its text, in the order of the text.
-#[derive(Clone, Copy)]
+#[derive(Drop)]
 pub struct ControlLists<'a> {
     /// The numbers of the controls in the process's text.
-    pub controls: &'a [u32],
+    pub controls: Numbers<'a>,
     /// The lists.
     pub lists: &'a [Vec<u64>],
 }
 
 impl<'a> ControlLists<'a> {
-    /// The list of a control, by its number. It takes as long as there are controls.
+    /// The lists of these controls, the first of the first one. It takes as long as there are controls.
+    pub fn new(controls: &'a [u32], lists: &'a [Vec<u64>]) -> ControlLists<'a>
+        ensures { list_by result ≡ list_of controls.entry.now (map residues_from lists.entry.now) }
+    {
+        let controls = Numbers::of(controls);
+        ControlLists { controls, lists }
+    }
+
+    /// The list of a control, by its number. It takes as long as the logarithm of how many controls there are, where their numbers rise, as
+    /// elaboration gives them.
     pub fn of(&self, number: u32) -> &'a [u64]
         ensures { result.now ≡ list_by self.now number }
     {
-        for i in 0..self.controls.len() {
-            if i >= self.lists.len() {
-                return &[];
-            }
-            if self.controls[i] == number {
-                return &self.lists[i];
+        match self.controls.place(number) {
+            None => &[],
+            Some(i) => {
+                if i < self.lists.len() {
+                    &self.lists[i]
+                } else {
+                    &[]
+                }
             }
         }
-        &[]
     }
 }
 
 // The residues at which a place that goes on so can end, where it is a delay control.
-fn pause_ends<'a>(pause: Pause<'a>, lists: ControlLists<'a>) -> &'a [u64]
-    ensures { (r : ℕ) → (Contains result.now r ↔ DelayEndsBy (list_by lists.entry) (pause_view pause.entry) r) }
+fn pause_ends<'a>(pause: Pause<'a>, lists: &'a ControlLists<'a>) -> &'a [u64]
+    ensures { (r : ℕ) → (Contains result.now r ↔ DelayEndsBy (list_by lists.entry.now) (pause_view pause.entry) r) }
 {
     match pause {
         Pause::Delay(number, _) => lists.of(number),
@@ -51,11 +64,11 @@ fn pause_ends<'a>(pause: Pause<'a>, lists: ControlLists<'a>) -> &'a [u64]
 #[derive(Drop)]
 struct DelayEnds<'a> {
     tables: &'a Tables<'a>,
-    lists: ControlLists<'a>,
+    lists: &'a ControlLists<'a>,
 }
 
 impl<'a> Listing for DelayEnds<'a> {
-    ghost has = { λ f q r. (q < places f.tables.now) × IsPlace f.tables.now q × DelayEndsBy (list_by f.lists) (pause_at f.tables.now q) r };
+    ghost has = { λ f q r. (q < places f.tables.now) × IsPlace f.tables.now q × DelayEndsBy (list_by f.lists.now) (pause_at f.tables.now q) r };
 
     fn list(&self, alloc: Global, i: usize) -> Result<Vec<u64>, AllocError> {
         if i >= self.tables.places() {
@@ -68,14 +81,14 @@ impl<'a> Listing for DelayEnds<'a> {
     }
 }
 
-/// For each place of a process of kind delay the residues at which its control can end. It takes as long as there are controls, for each.
+/// For each place of a process of kind delay the residues at which its control can end. It takes as long as their lists.
 pub(crate) fn delay_ends<'a>(
     alloc: Global,
     tables: &'a Tables<'a>,
-    lists: ControlLists<'a>,
+    lists: &'a ControlLists<'a>,
 ) -> Result<Vec<Vec<u64>>, AllocError>
     ensures { IfOk result (λ ends. (q r : ℕ) → q < places tables.entry.now → (Contains (row (rows ends.items) q) r ↔
-        (IsPlace tables.entry.now q × DelayEndsBy (list_by lists.entry) (pause_at tables.entry.now q) r))) }
+        (IsPlace tables.entry.now q × DelayEndsBy (list_by lists.entry.now) (pause_at tables.entry.now q) r))) }
 {
     let ends = DelayEnds { tables, lists };
     table_of(alloc, &ends, tables.places())

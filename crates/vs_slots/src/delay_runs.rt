@@ -25,11 +25,8 @@ fn listed_runs<'a>(
         (rows x.before.items) (rows x.ends.items)) }
 {
     let controls = controls(alloc, body)?;
-    let lists = ControlLists {
-        controls: &controls,
-        lists,
-    };
-    let ends = delay_ends(alloc, &*tables, lists)?;
+    let lists = ControlLists::new(&controls, lists);
+    let ends = delay_ends(alloc, &*tables, &lists)?;
     let before = controls_before(alloc, tables)?;
     Ok(Runs { before, ends })
 }

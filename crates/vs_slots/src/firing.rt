@@ -1,16 +1,16 @@
 //! The residues at which edges of roots can fire.
-ghost use Rattle.std.specs.Prelude.{ℕ, ◌≡◌, ◌<◌, ◌↔◌, ◌⊎◌, IfOk, OnOk, IsTrue};
+ghost use Rattle.std.specs.Prelude.{ℕ, ◌≡◌, ◌<◌, ◌↔◌, ◌⊎◌, Some, length, slice_get, IfOk, OnOk, IsTrue};
 ghost use Rattle.std.specs.List.{Contains};
 ghost use Rattle.vs_flatcode.specs.Stops.{statement_view};
 ghost use Rattle.vs_rules.specs.Constants.{bit_of};
 ghost use Rattle.vs_slots_constants.specs.Givings.{given_here};
 ghost use Rattle.vs_slots_paths.specs.Ranges.{statement_at};
 ghost use Rattle.vs_slots.specs.Firing.{CountsAt, InPhaseOf, WritesAt};
-ghost use Rattle.vs_slots.specs.Kept.{IsFiringBy, IsFiringOf, IsPlaceFiring, IsTurned};
+ghost use Rattle.vs_slots.specs.Kept.{AreWrittenPlaces, IsFiringBy, IsFiringOf, IsPlaceFiring, IsTurned};
 
 use crate::listing::{Listing, union_of};
 use crate::phases::{is_in_phase, write_counts};
-use crate::runs::{Runs, runs_at};
+use crate::runs::{Runs, numbers_of, runs_at};
 use std::alloc::{AllocError, Global};
 use vs_cert_facts::Facts;
 use vs_design::Statement;
@@ -104,7 +104,7 @@ fn phased(
     Ok(all)
 }
 
-// The places of the writer of a root, at which an edge of it may fire.
+// The writer of a root, and places at which an edge of it may fire.
 #[derive(Drop)]
 struct PlaceFiring<'a> {
     tables: &'a Tables<'a>,
@@ -114,6 +114,7 @@ struct PlaceFiring<'a> {
     edge: Edge,
     clock: Option<Clock>,
     modulus: u64,
+    places: &'a [usize],
     ghost turned: { IsTurned clock },
 }
 
@@ -129,23 +130,35 @@ impl<'a> PlaceFiring<'a> {
         let given = given_at(alloc, self.tables, place, self.root)?;
         Ok(write_counts(self.edge, given))
     }
+
+    // The residues at which an edge of the root can fire at a place.
+    fn at(&self, alloc: Global, place: usize) -> Result<Vec<u64>, AllocError>
+        ensures { IfOk result (λ list. (r : ℕ) → (Contains list.items r ↔ IsPlaceFiring self.now.tables.now self.now.runs.now self.now.clock
+            self.now.modulus self.now.root self.now.edge self.now.writer place r)) }
+    {
+        if place >= self.tables.places() {
+            return Ok(Vec::new(alloc));
+        }
+        if !self.tables.is_point(place) {
+            return Ok(Vec::new(alloc));
+        }
+        if !self.writes(alloc, place)? {
+            return Ok(Vec::new(alloc));
+        }
+        let runs = runs_at(alloc, self.runs, self.writer, place)?;
+        phased(alloc, &runs, self.clock, self.edge, self.modulus)
+    }
 }
 
 impl<'a> Listing for PlaceFiring<'a> {
-    ghost has = { λ f p r. IsPlaceFiring f.tables.now f.runs.now f.clock f.modulus f.root f.edge f.writer p r };
+    ghost has = { λ f i r. (p : ℕ) × (slice_get f.places.now i ≡ Some p)
+        × IsPlaceFiring f.tables.now f.runs.now f.clock f.modulus f.root f.edge f.writer p r };
 
     fn list(&self, alloc: Global, i: usize) -> Result<Vec<u64>, AllocError> {
-        if i >= self.tables.places() {
+        if i >= self.places.len() {
             return Ok(Vec::new(alloc));
         }
-        if !self.tables.is_point(i) {
-            return Ok(Vec::new(alloc));
-        }
-        if !self.writes(alloc, i)? {
-            return Ok(Vec::new(alloc));
-        }
-        let runs = runs_at(alloc, self.runs, self.writer, i)?;
-        phased(alloc, &runs, self.clock, self.edge, self.modulus)
+        self.at(alloc, self.places[i])
     }
 }
 
@@ -157,9 +170,12 @@ fn fires_by<'a>(
     clock: Option<Clock>,
     root: usize,
     edge: Edge,
+    written: &'a [Vec<usize>],
     writer: usize,
 ) -> Result<Vec<u64>, AllocError>
-    requires { IsTurned clock }
+    requires turned { IsTurned clock }
+    requires known { AreWrittenPlaces facts.now written.now }
+    requires root { root < length facts.now.design.signals }
     ensures { IfOk result (λ all. (r : ℕ) → (Contains all.items r ↔ IsFiringBy facts.entry.now runs.entry.now clock root edge writer r)) }
 {
     if !facts.is_delay(writer) {
@@ -176,8 +192,9 @@ fn fires_by<'a>(
         edge,
         clock,
         modulus: facts.modulus(),
+        places: numbers_of(written, root),
     };
-    union_of(alloc, &firing, tables.places())
+    union_of(alloc, &firing, firing.places.len())
 }
 
 /// The residues at which an edge of a signal can fire, which may be a clock, by the runs of the processes of kind delay.
@@ -188,12 +205,14 @@ pub(crate) fn fires_of<'a>(
     clock: Option<Clock>,
     root: usize,
     edge: Edge,
+    written: &'a [Vec<usize>],
 ) -> Result<Vec<u64>, AllocError>
-    requires { IsTurned clock }
+    requires turned { IsTurned clock }
+    requires known { AreWrittenPlaces facts.now written.now }
     ensures { IfOk result (λ all. (r : ℕ) → (Contains all.items r ↔ IsFiringOf facts.entry.now runs.entry.now clock root edge r)) }
 {
     match facts.writer(root) {
         None => Ok(Vec::new(alloc)),
-        Some(writer) => fires_by(alloc, facts, runs, clock, root, edge, writer),
+        Some(writer) => fires_by(alloc, facts, runs, clock, root, edge, written, writer),
     }
 }

@@ -13,9 +13,10 @@ mod residues;
 mod roots;
 mod runs;
 mod slots;
+mod written;
 
 pub use controls::ControlLists;
 pub use laws::{firing_is_exact, runs_are_exact};
 pub use listing::{Listing, table_of, union_of};
-pub use residues::are_apart;
 pub use slots::Slots;
+pub use vs_slots_residues::are_apart;

@@ -4,8 +4,8 @@ ghost use Rattle.std.specs.List.{Contains};
 ghost use Rattle.vs_design.specs.Tables.{rows};
 ghost use Rattle.vs_slots.specs.Lists.{row};
 
-use crate::residues::put_all;
 use std::alloc::{AllocError, Global};
+use vs_slots_residues::Gathered;
 
 /// A list of residues for each number.
 pub trait Listing {
@@ -33,14 +33,15 @@ pub fn table_of<L: Listing>(
     Ok(table)
 }
 
-/// The residues that are in the list of one of the numbers below one, each once. It takes as long as the lists, times how many residues there are.
+/// The residues that are in the list of one of the numbers below one, each once. It takes as long as the lists, times the logarithm of how many
+/// residues there are.
 pub fn union_of<L: Listing>(alloc: Global, listing: &L, n: usize) -> Result<Vec<u64>, AllocError>
     ensures { IfOk result (λ all. (r : ℕ) → (Contains all.items r ↔ ((i : ℕ) × (i < n) × L.has listing.now i r))) }
 {
-    let mut all = Vec::new(alloc);
+    let mut all = Gathered::none(alloc);
     for i in 0..n {
         let list = listing.list(alloc, i)?;
-        put_all(&mut all, &list)?;
+        all.put(&list)?;
     }
-    Ok(all)
+    Ok(all.list())
 }

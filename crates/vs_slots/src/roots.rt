@@ -3,19 +3,20 @@ ghost use Rattle.std.specs.Prelude.{ℕ, ◌≡◌, ◌↔◌, ◌⊎◌, None, 
 ghost use Rattle.std.specs.List.{Contains};
 ghost use Rattle.vs_design.specs.Tables.{rows};
 ghost use Rattle.vs_rules.specs.Claims.{IsDelay, IsRoot};
-ghost use Rattle.vs_slots.specs.Kept.{AreAllRuns, AreClocks, AreFirings, AreTermsIn, IsFiring, IsFiringOf, IsTermIn, IsTurned, table_by};
+ghost use Rattle.vs_slots.specs.Kept.{AreAllRuns, AreClocks, AreFirings, AreTermsIn, AreWrittenPlaces, IsFiring, IsFiringOf, IsTermIn, IsTurned, table_by};
 ghost use Rattle.vs_slots.specs.Lists.{row, IsOneOf};
 
 use crate::clocks::clocks;
 use crate::firing::fires_of;
 use crate::listing::{Listing, table_of};
-use crate::residues::{put_all, row_of};
+use crate::residues::row_of;
 use crate::runs::Runs;
 use std::alloc::{AllocError, Global};
 use vs_cert_facts::Facts;
 use vs_design::EventTerm;
 use vs_logic4::Edge;
 use vs_slots_constants::Clock;
+use vs_slots_residues::Gathered;
 
 // What a signal is as a clock; one past the end is none.
 fn clock_at(clocks: &[Option<Clock>], v: usize) -> Option<Clock>
@@ -31,7 +32,9 @@ struct RootFiring<'a> {
     runs: &'a [Runs],
     clocks: &'a [Option<Clock>],
     edge: Edge,
+    written: &'a [Vec<usize>],
     ghost turned: { (v : ℕ) → IsTurned (get_or clocks.now v None) },
+    ghost known: { AreWrittenPlaces facts.now written.now },
 }
 
 impl<'a> Listing for RootFiring<'a> {
@@ -43,7 +46,15 @@ impl<'a> Listing for RootFiring<'a> {
             return Ok(Vec::new(alloc));
         }
         let clock = clock_at(self.clocks, i);
-        fires_of(alloc, self.facts, self.runs, clock, i, self.edge)
+        fires_of(
+            alloc,
+            self.facts,
+            self.runs,
+            clock,
+            i,
+            self.edge,
+            self.written,
+        )
     }
 }
 
@@ -65,9 +76,11 @@ fn table_for<'a>(
     runs: &'a [Runs],
     clocks: &'a [Option<Clock>],
     edge: Edge,
+    written: &'a [Vec<usize>],
 ) -> Result<Vec<Vec<u64>>, AllocError>
     requires runs { AreAllRuns IsDelay facts.now runs.now }
     requires clocks { AreClocks facts.now clocks.now }
+    requires written { AreWrittenPlaces facts.now written.now }
     ensures { IfOk result (λ table. IsFiring facts.entry.now edge (rows table.items)) }
 {
     facts.maps();
@@ -76,25 +89,28 @@ fn table_for<'a>(
         runs,
         clocks,
         edge,
+        written,
     };
     let table = table_of(alloc, &roots, facts.design().signals().len())?;
     Ok(table)
 }
 
 impl Firing {
-    /// When edges of the roots can fire, of the runs of the processes of kind delay.
+    /// When edges of the roots can fire, by the runs of the processes of kind delay, and the places at which each signal is written.
     pub(crate) fn of<'a>(
         alloc: Global,
         facts: &'a Facts<'a>,
         runs: &'a [Runs],
+        written: &'a [Vec<usize>],
     ) -> Result<Firing, AllocError>
-        requires { AreAllRuns IsDelay facts.now runs.now }
+        requires runs { AreAllRuns IsDelay facts.now runs.now }
+        requires written { AreWrittenPlaces facts.now written.now }
         ensures { IfOk result (λ x. AreFirings facts.entry.now x) }
     {
         let clocks = clocks(alloc, &*facts)?;
-        let any = table_for(alloc, &*facts, &*runs, &clocks, Edge::Any)?;
-        let posedge = table_for(alloc, &*facts, &*runs, &clocks, Edge::Posedge)?;
-        let negedge = table_for(alloc, &*facts, &*runs, &clocks, Edge::Negedge)?;
+        let any = table_for(alloc, &*facts, &*runs, &clocks, Edge::Any, &*written)?;
+        let posedge = table_for(alloc, &*facts, &*runs, &clocks, Edge::Posedge, &*written)?;
+        let negedge = table_for(alloc, &*facts, &*runs, &clocks, Edge::Negedge, &*written)?;
         Ok(Firing {
             any,
             posedge,
@@ -113,13 +129,13 @@ impl Firing {
         }
     }
 
-    // Puts the residues at which an edge of one of some roots can fire at a list's end.
-    fn put(&self, out: &mut Vec<u64>, edge: Edge, roots: &[usize]) -> Result<(), AllocError>
-        ensures { OnOk result ((r : ℕ) → (Contains out.new.items r ↔
-            (Contains out.old.items r ⊎ IsOneOf (table_by self.now edge) roots.now r))) }
+    // Puts the residues at which an edge of one of some roots can fire to others.
+    fn put(&self, out: &mut Gathered, edge: Edge, roots: &[usize]) -> Result<(), AllocError>
+        ensures { OnOk result ((r : ℕ) → (Contains out.new r ↔
+            (Contains out.old r ⊎ IsOneOf (table_by self.now edge) roots.now r))) }
     {
         for root in roots {
-            put_all(out, self.list(edge, *root))?;
+            out.put(self.list(edge, *root))?;
         }
         Ok(())
     }
@@ -129,11 +145,11 @@ impl Firing {
         &self,
         alloc: Global,
         facts: &'a Facts<'a>,
-        out: &mut Vec<u64>,
+        out: &mut Gathered,
         term: EventTerm,
     ) -> Result<(), AllocError>
-        ensures { OnOk result ((r : ℕ) → (Contains out.new.items r ↔
-            (Contains out.old.items r ⊎ IsTermIn facts.entry.now self.now term r))) }
+        ensures { OnOk result ((r : ℕ) → (Contains out.new r ↔
+            (Contains out.old r ⊎ IsTermIn facts.entry.now self.now term r))) }
     {
         let roots = facts.roots(alloc, term.range.signal)?;
         self.put(out, term.edge, &roots)
@@ -148,10 +164,10 @@ impl Firing {
     ) -> Result<Vec<u64>, AllocError>
         ensures { IfOk result (λ all. (r : ℕ) → (Contains all.items r ↔ AreTermsIn facts.entry.now self.now terms.now r)) }
     {
-        let mut all = Vec::new(alloc);
+        let mut all = Gathered::none(alloc);
         for i in 0..terms.len() {
             self.put_term(alloc, &*facts, &mut all, terms[i])?;
         }
-        Ok(all)
+        Ok(all.list())
     }
 }

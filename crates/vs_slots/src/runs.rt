@@ -17,15 +17,11 @@ pub(crate) struct Runs {
     pub(crate) ends: Vec<Vec<u64>>,
 }
 
-// The controls before a place; of one past the end, none.
-fn row_before(before: &[Vec<usize>], place: usize) -> &[usize]
-    ensures { result.now ≡ row (rows before.now) place }
+/// The numbers in a row of a table; of one past the end, none.
+pub(crate) fn numbers_of(table: &[Vec<usize>], i: usize) -> &[usize]
+    ensures { result.now ≡ row (rows table.now) i }
 {
-    if place < before.len() {
-        &before[place]
-    } else {
-        &[]
-    }
+    if i < table.len() { &table[i] } else { &[] }
 }
 
 impl Runs {
@@ -37,12 +33,13 @@ impl Runs {
         }
     }
 
-    /// The run slots of a place, each once. It takes as long as the lists of the controls before it, times how many residues there are.
+    /// The run slots of a place, each once. It takes as long as the lists of the controls before it, times the logarithm of how many residues there
+    /// are.
     pub(crate) fn at(&self, alloc: Global, place: usize) -> Result<Vec<u64>, AllocError>
         ensures { IfOk result (λ all. (r : ℕ) → (Contains all.items r ↔
             IsOneOf (rows self.now.ends.items) (row (rows self.now.before.items) place) r)) }
     {
-        residues_of(alloc, &self.ends, row_before(&self.before, place))
+        residues_of(alloc, &self.ends, numbers_of(&self.before, place))
     }
 }
 

@@ -1,8 +1,8 @@
 //! The run slots, write slots and firing slots of a design and a certificate.
-ghost use Rattle.std.specs.Prelude.{ℕ, ◌≡◌, ◌↔◌, IfOk};
+ghost use Rattle.std.specs.Prelude.{ℕ, ◌≡◌, ◌<◌, ◌↔◌, Some, length, slice_get, IfOk};
 ghost use Rattle.std.specs.List.{Contains};
 ghost use Rattle.vs_rules.specs.Slots.{HasWriteSlot};
-ghost use Rattle.vs_slots.specs.Kept.{AreBothRuns, AreWriteSlots, IsKeptRun, IsPlaceWrite, IsWriteBy, IsWriteIn};
+ghost use Rattle.vs_slots.specs.Kept.{AreBothRuns, AreWriteSlots, AreWrittenPlaces, IsKeptRun, IsPlaceWrite, IsWriteBy, IsWriteIn};
 ghost use Rattle.vs_slots.specs.Places.{RunsOf};
 ghost use Rattle.vs_slots.specs.Terms.{TermsFire};
 
@@ -11,7 +11,8 @@ use crate::edge_runs::edge_runs;
 use crate::listing::{Listing, table_of, union_of};
 use crate::residues::row_of;
 use crate::roots::Firing;
-use crate::runs::{Runs, runs_at};
+use crate::runs::{Runs, numbers_of, runs_at};
+use crate::written::written_places;
 use std::alloc::{AllocError, Global};
 use std::marker::Model;
 use vs_cert_facts::Facts;
@@ -38,7 +39,7 @@ fn run_slots<'a>(
     Ok(Vec::new(alloc))
 }
 
-// The places of the writer of a variable.
+// The writer of a variable, and places at which it may write that.
 #[derive(Drop)]
 struct PlaceWrites<'a> {
     facts: &'a Facts<'a>,
@@ -47,31 +48,55 @@ struct PlaceWrites<'a> {
     edges: &'a [Runs],
     writer: usize,
     variable: usize,
+    places: &'a [usize],
 }
 
-impl<'a> Listing for PlaceWrites<'a> {
-    ghost has = { λ f p r. IsPlaceWrite f.facts.now f.delays.now f.edges.now f.tables.now f.variable f.writer p r };
-
-    fn list(&self, alloc: Global, i: usize) -> Result<Vec<u64>, AllocError> {
-        if i >= self.tables.places() {
+impl<'a> PlaceWrites<'a> {
+    // The residues at which the variable is written at a place.
+    fn at(&self, alloc: Global, place: usize) -> Result<Vec<u64>, AllocError>
+        ensures { IfOk result (λ list. (r : ℕ) → (Contains list.items r ↔ IsPlaceWrite self.now.facts.now self.now.delays.now self.now.edges.now
+            self.now.tables.now self.now.variable self.now.writer place r)) }
+    {
+        if place >= self.tables.places() {
             return Ok(Vec::new(alloc));
         }
-        if !self.tables.is_point(i) {
+        if !self.tables.is_point(place) {
             return Ok(Vec::new(alloc));
         }
-        if !self.tables.writes_now(i, self.variable) {
+        if !self.tables.writes_now(place, self.variable) {
             return Ok(Vec::new(alloc));
         }
-        run_slots(alloc, self.facts, self.delays, self.edges, self.writer, i)
+        run_slots(
+            alloc,
+            self.facts,
+            self.delays,
+            self.edges,
+            self.writer,
+            place,
+        )
     }
 }
 
-// The variables of a design.
+impl<'a> Listing for PlaceWrites<'a> {
+    ghost has = { λ f i r. (p : ℕ) × (slice_get f.places.now i ≡ Some p)
+        × IsPlaceWrite f.facts.now f.delays.now f.edges.now f.tables.now f.variable f.writer p r };
+
+    fn list(&self, alloc: Global, i: usize) -> Result<Vec<u64>, AllocError> {
+        if i >= self.places.len() {
+            return Ok(Vec::new(alloc));
+        }
+        self.at(alloc, self.places[i])
+    }
+}
+
+// The variables of a design, and at which places each is written.
 #[derive(Drop)]
 struct Variables<'a> {
     facts: &'a Facts<'a>,
     delays: &'a [Runs],
     edges: &'a [Runs],
+    written: &'a [Vec<usize>],
+    ghost known: { AreWrittenPlaces facts.now written.now },
 }
 
 impl<'a> Variables<'a> {
@@ -82,6 +107,7 @@ impl<'a> Variables<'a> {
         variable: usize,
         writer: usize,
     ) -> Result<Vec<u64>, AllocError>
+        requires { variable < length self.now.facts.now.design.signals }
         ensures { IfOk result (λ all. (r : ℕ) → (Contains all.items r ↔
             IsWriteBy self.now.facts.now self.now.delays.now self.now.edges.now variable writer r)) }
     {
@@ -95,8 +121,9 @@ impl<'a> Variables<'a> {
                     edges: self.edges,
                     writer,
                     variable,
+                    places: numbers_of(self.written, variable),
                 };
-                union_of(alloc, &places, tables.places())
+                union_of(alloc, &places, places.places.len())
             }
         }
     }
@@ -119,8 +146,10 @@ fn write_slots<'a>(
     facts: &'a Facts<'a>,
     delays: &'a [Runs],
     edges: &'a [Runs],
+    written: &'a [Vec<usize>],
 ) -> Result<Vec<Vec<u64>>, AllocError>
-    requires { AreBothRuns facts.now delays.now edges.now }
+    requires runs { AreBothRuns facts.now delays.now edges.now }
+    requires written { AreWrittenPlaces facts.now written.now }
     ensures { IfOk result (λ table. AreWriteSlots facts.entry.now table.items) }
 {
     facts.maps();
@@ -128,6 +157,7 @@ fn write_slots<'a>(
         facts,
         delays,
         edges,
+        written,
     };
     let table = table_of(alloc, &variables, facts.design().signals().len())?;
     Ok(table)
@@ -160,16 +190,17 @@ impl<'a> Model for Slots<'a> {
 }
 
 impl<'a> Slots<'a> {
-    /// The slots of a design and a certificate. It takes as long as the texts of the processes of kind edge and delay, for each control of one and
-    /// for each variable that it writes.
+    /// The slots of a design and a certificate. It takes as long as the texts of the processes, and for each place of one of kind edge or delay as
+    /// long as the lists of the controls before it.
     pub fn new(alloc: Global, facts: &'a Facts<'a>) -> Result<Slots<'a>, AllocError>
         ensures { IfOk result (λ x. x ≡ facts.entry.now) }
     {
         facts.maps();
         let delays = delay_runs(alloc, &*facts)?;
-        let firing = Firing::of(alloc, &*facts, &delays)?;
+        let written = written_places(alloc, &*facts)?;
+        let firing = Firing::of(alloc, &*facts, &delays, &written)?;
         let edges = edge_runs(alloc, &*facts, &firing)?;
-        let writes = write_slots(alloc, &*facts, &delays, &edges)?;
+        let writes = write_slots(alloc, &*facts, &delays, &edges, &written)?;
         Ok(Slots {
             facts,
             firing,

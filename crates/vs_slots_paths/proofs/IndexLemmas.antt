@@ -51,7 +51,7 @@ changed_other f zero (suc s) (x ∷ t) h = refl
 changed_other f (suc r) zero (x ∷ t) h = refl
 changed_other f (suc r) (suc s) (x ∷ t) h = changed_other f r s t (λ e. h (ap suc e))
 
-put_length : (i : ℕ) (rs : List ℕ) (t : List (List ℕ)) → length (all_put i rs t) ≡ length t
+pub put_length : (i : ℕ) (rs : List ℕ) (t : List (List ℕ)) → length (all_put i rs t) ≡ length t
 put_length i [] t = refl
 put_length i (r ∷ rs) t = put_length i rs (changed_at (λ row. row ++ i ∷ []) r t) ∙ changed_length (λ row. row ++ i ∷ []) r t
 

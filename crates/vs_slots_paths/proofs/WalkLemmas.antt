@@ -1,8 +1,7 @@
 -- Walks once a way of some sort has been gone.
-use Rattle.std.proofs.Common.{◌≡◌, ℕ, suc, ◌<◌, ◌≤◌, ◌⊎◌, ◌↔◌, inl, inr, Bool, false, IsTrue, List, [], ◌∷◌, length, slice_index_or, refl, sym, ◌∙◌, subst, arith}
+use Rattle.std.proofs.Common.{◌≡◌, ℕ, suc, ◌<◌, ◌↔◌, Bool, false, IsTrue, List, [], ◌∷◌, length, slice_index_or, refl, sym, subst}
 use Rattle.std.specs.List.{Contains}
-use Rattle.std.proofs.lemmas.List.{length-map, get_or_past}
-use Rattle.std.proofs.lemmas.Bool.{false≢true}
+use Rattle.std.proofs.lemmas.List.{length-map}
 use Rattle.vs_flatcode.specs.declared.stops.TextMap as h
 use Rattle.vs_flatcode.specs.Stops.{LeadsIn, stop_at, stop_statement, stops_tos, stops_behind, stop_view}
 use Rattle.vs_reach.specs.Reached.{Reached, AreReached, begins, goes_on}
@@ -87,24 +86,12 @@ walks_are t along sort n seeds marks all reached k less =
     let f = from_seeds t along sort seeds all k in
     let r = reached k less in (λ m. f.0 (r.0 m), λ w. r.1 (f.1 w))
 
-below_cases : (i n : ℕ) → (i < n) ⊎ (n ≤ i)
-below_cases i n = grind arith
-
 -- what a walk without a further control leads to from a control
-pub before_is : (t : Chart) (q : ℕ) (tos : List ℕ) (marks : List Bool) → ((p : ℕ) → IsPlace t p → p < places t) → IsPlace t q → HasControl t q → tos ≡ stops_tos t.stops q →
-    length marks ≡ places t → AreReached (stops_along Plain t.stops) tos (places t) marks → (r : ℕ) → (IsTrue (slice_index_or marks r false) ↔ IsControlBefore t q r)
-before_is t q tos marks within place control are long reached r = (
-  λ m. elim (below_cases r (places t)) [
-    | inl l ↦ f.0 ((reached r l).0 m)
-    | inr past ↦ absurd (false≢true (sym (get_or_past marks r false (omega (arith, long, past))) ∙ m))
-  ],
-  λ w. (reached r (within r (walk_place t Plain (λ x. (x ≡ q) × HasControl t x) r w))).1 (f.1 w),
-) where
+pub before_from : (t : Chart) (q : ℕ) (tos : List ℕ) → IsPlace t q → HasControl t q → tos ≡ stops_tos t.stops q → (r : ℕ) →
+    (Reached (stops_along Plain t.stops) tos r ↔ IsControlBefore t q r)
+before_from t q tos place control are r = from_seeds t Plain (λ x. (x ≡ q) × HasControl t x) tos all r where
   all : AreSeeds t (λ x. (x ≡ q) × HasControl t x) tos
   all s = (
     λ c. (q, place, (refl, control), subst (λ l. Contains l s) are c),
     λ y. subst (λ l. Contains l s) (sym are) (subst (λ p. Contains (stops_tos t.stops p) s) y.2.0 y.3),
   )
-
-  f : Reached (stops_along Plain t.stops) tos r ↔ IsControlBefore t q r
-  f = from_seeds t Plain (λ x. (x ≡ q) × HasControl t x) tos all r

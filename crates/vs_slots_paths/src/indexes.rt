@@ -7,8 +7,8 @@ ghost use Rattle.vs_slots_paths.specs.Indexes.{all_put, AreRows};
 use std::alloc::{AllocError, Global};
 use vs_reach::Family;
 
-// So many empty rows.
-fn empty_rows(alloc: Global, n: usize) -> Result<Vec<Vec<usize>>, AllocError>
+/// So many empty rows.
+pub fn empty_rows(alloc: Global, n: usize) -> Result<Vec<Vec<usize>>, AllocError>
     ensures { IfOk result (λ table. rows table.items ≡ replicate n []) }
 {
     let mut table = Vec::new(alloc);
@@ -28,8 +28,8 @@ fn put(table: &mut Vec<Vec<usize>>, i: usize, r: usize) -> Result<(), AllocError
     Ok(())
 }
 
-// Puts a thing at the end of the rows of some numbers.
-fn put_all(table: &mut Vec<Vec<usize>>, i: usize, rs: &[usize]) -> Result<(), AllocError>
+/// Puts a thing at the end of the rows of some numbers.
+pub fn put_all(table: &mut Vec<Vec<usize>>, i: usize, rs: &[usize]) -> Result<(), AllocError>
     ensures { OnOk result (rows table.new.items ≡ all_put i rs.now (rows table.old.items)) }
 {
     for r in rs {

@@ -14,7 +14,7 @@ mod walks;
 
 pub use along::Along;
 pub use delays::controls;
-pub use indexes::index_of;
+pub use indexes::{empty_rows, index_of, put_all};
 pub use laws::{maps_are_exact, texts_are_exact};
 pub use pauses::Pause;
 pub use readings::text_reads;

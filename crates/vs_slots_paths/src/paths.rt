@@ -1,8 +1,9 @@
 //! What walks on a map lead to.
-ghost use Rattle.std.specs.Prelude.{ℕ, ◌≡◌, ◌<◌, ◌++◌, ◌∷◌, [], suc, map, length, IfOk, OnOk, List};
+ghost use Rattle.std.specs.Prelude.{ℕ, ◌≡◌, ◌<◌, ◌↔◌, ◌++◌, ◌∷◌, [], suc, map, length, IfOk, OnOk, List};
 ghost use Rattle.std.specs.List.{Contains};
 ghost use Rattle.vs_flatcode.specs.Stops.{LeadsIn, stop_view, stop_at};
-ghost use Rattle.vs_reach.specs.Reached.{AreReached};
+ghost use Rattle.vs_reach.specs.Reached.{Reached, AreReached};
+ghost use Rattle.vs_reach_local.specs.Clear.{AreClear};
 ghost use Rattle.vs_slots_paths.specs.Reaches.{stops_along, stops_steps, stop_seen};
 ghost use Rattle.vs_slots_paths.specs.Inside.{along_in, steps_in};
 
@@ -11,6 +12,7 @@ use crate::pauses::{passes, pause_of};
 use std::alloc::{AllocError, Global};
 use vs_flatcode::Stop;
 use vs_reach::{Graph, reach};
+use vs_reach_local::walk;
 
 /// The places of a map, and those to which it leads from each by the ways that count.
 #[derive(Drop)]
@@ -74,6 +76,27 @@ pub(crate) fn places_along<'a>(
     let ways = Ways { stops, along };
     let marks = reach(alloc, &ways, seeds)?;
     Ok(marks)
+}
+
+/// The places of a map to which walks along the ways that count lead from one of these. It takes as long as these places are and their ways: the
+/// marks, of which none is set, are as they were at the end.
+pub(crate) fn places_from<'a>(
+    alloc: Global,
+    stops: &'a [Stop<'a>],
+    along: Along,
+    seeds: &[usize],
+    marks: &mut Vec<bool>,
+) -> Result<Vec<usize>, AllocError>
+    requires within { LeadsIn (suc (length stops.now)) (map stop_view stops.now) }
+    requires seeds { (s : ℕ) → Contains seeds.now s → s < suc (length stops.now) }
+    requires marks { AreClear (suc (length stops.now)) marks.old.items }
+    ensures clear { OnOk result (AreClear (suc (length stops.entry.now)) marks.new.items) }
+    ensures exact { IfOk result (λ places. (p : ℕ) →
+        (Contains places.items p ↔ Reached (stops_along along (map stop_view stops.entry.now)) seeds.now p)) }
+{
+    let ways = Ways { stops, along };
+    let places = walk(alloc, &ways, seeds, marks)?;
+    Ok(places)
 }
 
 /// The places of a map, and where it leads from each, by a way or by leaving out what is done there.

@@ -1,9 +1,9 @@
 //! The tables of a process.
-ghost use Rattle.std.specs.Prelude.{ℕ, ◌≡◌, ◌<◌, ◌↔◌, length, IfOk, IsTrue};
+ghost use Rattle.std.specs.Prelude.{ℕ, ◌≡◌, ◌<◌, ◌↔◌, length, IfOk, OnOk, IsTrue};
 ghost use Rattle.std.specs.List.{Contains};
 
 use crate::along::Along;
-use crate::paths::{places_along, points, stop_at};
+use crate::paths::{places_along, places_from, points, stop_at};
 use crate::pauses::{Pause, pause_of};
 use std::alloc::{AllocError, Global};
 use std::marker::Model;
@@ -36,7 +36,8 @@ impl<'a> Model for Tables<'a> {
 
 impl<'a> Tables<'a> {
     ghost use Rattle.vs_flatcode.specs.Stops.{LeadsIn, stop_at, stops_tos};
-    ghost use Rattle.vs_reach.specs.Reached.{AreReached};
+    ghost use Rattle.vs_reach.specs.Reached.{Reached, AreReached};
+    ghost use Rattle.vs_reach_local.specs.Clear.{AreClear};
     ghost use Rattle.vs_slots_paths.specs.Reaches.{chart_of, places, pause_at, pause_view, stop_seen, stops_along};
     ghost use Rattle.vs_slots_paths.specs.Reaches.{IsPlace, InSlot0, InPrologue};
 
@@ -138,5 +139,21 @@ impl<'a> Tables<'a> {
         ensures exact { IfOk result (λ marks. AreReached (stops_along along self.now.stops) seeds.now (places self.now) marks.items) }
     {
         places_along(alloc, &self.text.stops, along, seeds)
+    }
+
+    /// The same places as a list. It takes as long as they are and their ways: the marks, of which none is set, are as they were at the end.
+    pub(crate) fn places_from(
+        &self,
+        alloc: Global,
+        along: Along,
+        seeds: &[usize],
+        marks: &mut Vec<bool>,
+    ) -> Result<Vec<usize>, AllocError>
+        requires seeds { (s : ℕ) → Contains seeds.now s → s < places self.now }
+        requires marks { AreClear (places self.now) marks.old.items }
+        ensures clear { OnOk result (AreClear (places self.now) marks.new.items) }
+        ensures exact { IfOk result (λ all. (p : ℕ) → (Contains all.items p ↔ Reached (stops_along along self.now.stops) seeds.now p)) }
+    {
+        places_from(alloc, &self.text.stops, along, seeds, marks)
     }
 }

@@ -1,7 +1,8 @@
 //! Walks once a way of some sort has been gone, and what the points of a text have.
-ghost use Rattle.std.specs.Prelude.{ℕ, ◌≡◌, ◌↔◌, ◌⊎◌, false, length, slice_index_or, IfOk, OnOk, IsTrue};
+ghost use Rattle.std.specs.Prelude.{ℕ, ◌≡◌, ◌↔◌, false, length, slice_index_or, IfOk, OnOk, IsTrue};
 ghost use Rattle.std.specs.List.{Contains};
 ghost use Rattle.vs_flatcode.specs.Stops.{stops_tos};
+ghost use Rattle.vs_reach_local.specs.Clear.{AreClear};
 ghost use Rattle.vs_slots_paths.specs.Reaches.{places, pause_view, IsPlace};
 ghost use Rattle.vs_slots_paths.specs.Ranges.{HasSignal, HasTermAt, now_at, pause_terms};
 ghost use Rattle.vs_slots_paths.specs.Walks.{WalkFrom, AreMarked, HasControl, InLate, InHot, IsControlBefore, is_control};
@@ -9,12 +10,13 @@ ghost use Rattle.vs_slots_paths.specs.Indexes.{AreRows};
 ghost use Rattle.vs_design.specs.declared.statement.EventTerm.{EventTerm};
 
 use crate::along::Along;
-use crate::indexes::index_of;
+use crate::indexes::{empty_rows, put_all};
 use crate::pauses::Pause;
 use crate::tables::Tables;
 use std::alloc::{AllocError, Global};
 use vs_design::EventTerm;
 use vs_reach::{Family, Rule, gather};
+use vs_reach_local::clear_marks;
 
 /// Marks which of the things below a number keep a rule.
 pub fn marks_of<R: Rule>(alloc: Global, rule: &R, n: usize) -> Result<Vec<bool>, AllocError>
@@ -144,45 +146,32 @@ pub fn hot<'a>(
     walks_from(alloc, tables, Along::ZeroTime, &Writes { tables, signal })
 }
 
-// Puts the places that are marked at a list's end.
-fn push_marked(out: &mut Vec<usize>, marks: &[bool]) -> Result<(), AllocError>
-    ensures { OnOk result ((p : ℕ) → (Contains out.new.items p ↔ (Contains out.old.items p ⊎ IsTrue (slice_index_or marks.now p false)))) }
-{
-    for p in 0..marks.len() {
-        if marks[p] {
-            out.push(p)?;
-        }
-    }
-    Ok(())
-}
-
-// The places to which a walk without a further control leads from a control.
-#[derive(Drop)]
-struct Ends<'a> {
+// The places to which a walk without a further control leads from a place, where that is a control.
+fn places_after<'a>(
+    alloc: Global,
     tables: &'a Tables<'a>,
-}
-
-impl<'a> Family for Ends<'a> {
-    ghost has = { λ f q p. IsControlBefore f.tables.now q p };
-
-    fn put(&self, alloc: Global, i: usize, out: &mut Vec<usize>) -> Result<(), AllocError> {
-        self.tables.leads_in();
-        if i >= self.tables.places() {
-            return Ok(());
-        }
-        if !self.tables.is_point(i) {
-            return Ok(());
-        }
-        if !is_control(self.tables.pause(i)) {
-            return Ok(());
-        }
-        let marks = self.tables.along(alloc, Along::Plain, self.tables.tos(i))?;
-        push_marked(out, &marks)
+    control: usize,
+    marks: &mut Vec<bool>,
+) -> Result<Vec<usize>, AllocError>
+    requires { AreClear (places tables.now) marks.old.items }
+    ensures clear { OnOk result (AreClear (places tables.entry.now) marks.new.items) }
+    ensures exact { IfOk result (λ all. (p : ℕ) → (Contains all.items p ↔ IsControlBefore tables.entry.now control p)) }
+{
+    tables.leads_in();
+    if control >= tables.places() {
+        return Ok(Vec::new(alloc));
     }
+    if !tables.is_point(control) {
+        return Ok(Vec::new(alloc));
+    }
+    if !is_control(tables.pause(control)) {
+        return Ok(Vec::new(alloc));
+    }
+    tables.places_from(alloc, Along::Plain, tables.tos(control), marks)
 }
 
-/// For each place the controls from which a walk without a further control leads to it. For each control it takes as long as there are places and
-/// ways.
+/// For each place the controls from which a walk without a further control leads to it. It takes as long as these rows are, and the ways of their
+/// places.
 pub fn controls_before<'a>(
     alloc: Global,
     tables: &'a Tables<'a>,
@@ -191,7 +180,14 @@ pub fn controls_before<'a>(
     ensures exact { IfOk result (λ table.
         AreRows (IsControlBefore tables.entry.now) (places tables.entry.now) (places tables.entry.now) table.items) }
 {
-    index_of(alloc, &Ends { tables }, tables.places(), tables.places())
+    let count = tables.places();
+    let mut table = empty_rows(alloc, count)?;
+    let mut marks = clear_marks(alloc, count)?;
+    for q in 0..count {
+        let after = places_after(alloc, &*tables, q, &mut marks)?;
+        put_all(&mut table, q, &after)?;
+    }
+    Ok(table)
 }
 
 /// The terms of all event controls of a text (IEEE 1364-2005, clause 9.7.2).

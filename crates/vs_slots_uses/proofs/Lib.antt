@@ -1,3 +1,4 @@
 pub mod SignalLemmas
 pub mod SiteLemmas
 pub mod LateLemmas
+pub mod WrittenLemmas

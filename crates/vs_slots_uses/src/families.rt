@@ -13,8 +13,8 @@ use vs_law_writes::statement_writes;
 use vs_reach::Family;
 use vs_slots_paths::{Tables, terms, text_reads};
 
-// Puts the signals of ranges at a list's end.
-fn push_signals(out: &mut Vec<usize>, ranges: &[BitRange]) -> Result<(), AllocError>
+/// Puts the signals of ranges at a list's end.
+pub(crate) fn push_signals(out: &mut Vec<usize>, ranges: &[BitRange]) -> Result<(), AllocError>
     ensures { OnOk result ((v : ℕ) → (Contains out.new.items v ↔ (Contains out.old.items v ⊎ HasSignal ranges.now v))) }
 {
     for r in ranges {

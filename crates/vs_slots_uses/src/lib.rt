@@ -4,6 +4,8 @@
 mod families;
 mod sites;
 mod uses;
+mod written;
 
 pub use sites::{Site, SiteRule};
 pub use uses::Uses;
+pub use written::put_writes;

@@ -1,6 +1,7 @@
 //! Value change dumps (IEEE 1364-2005, clause 18), written and read back.
 #![tactic(auto)]
 
+pub use vs_vcd_law::{dumps_give_values, faults_are_one, written_dumps_are_read};
 pub use vs_vcd_reading::{
     Declaration, Dump, Moment, ValueChange, Variable, VcdFault, dumps_are_one, faults_are_of_none,
     read,

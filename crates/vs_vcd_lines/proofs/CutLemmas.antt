@@ -6,7 +6,7 @@ use Rattle.std.proofs.lemmas.List.{take-append-drop, get_or-take, get_or-drop}
 use Rattle.std.proofs.Math.Seq.{drop-cons, get_or-append_seam}
 use Rattle.std.proofs.Common.{take_all, length-drop, length-take, length-append}
 use Rattle.std.specs.List.{list_all}
-use Rattle.vs_vcd_lines.specs.Cuts.{lacks, IsCut, IsCutLast, IsWithout}
+use Rattle.vs_vcd_lines.specs.Cuts.{lacks, IsCut, IsCutLast}
 
 pub eqb_is : (a b : ℕ) → a ≡ b → eqb a b ≡ true
 eqb_is a b e = (Decides-eqb a b).1 e
@@ -43,6 +43,10 @@ cut_once byte (c ∷ cs) (d ∷ ds) r s p q e =
 lacks_not : (byte : ℕ) (a r : List ℕ) → lacks byte (a ++ byte ∷ r) ≡ true → ⊥
 lacks_not byte [] r h = (lacks_head byte byte r h).0 refl
 lacks_not byte (c ∷ cs) r h = lacks_not byte cs r (lacks_head byte c (cs ++ byte ∷ r) h).1
+
+-- a byte that a text lacks divides it nowhere
+pub lacks_cut : (byte : ℕ) (text before after : List ℕ) → lacks byte text ≡ true → text ≡ before ++ byte ∷ after → ⊥
+lacks_cut byte text before after none is = lacks_not byte before after (ap (lacks byte) (sym is) ∙ none)
 
 -- a text is cut at the last of a byte in one way
 pub cut_last_once : (byte : ℕ) (a b r s : List ℕ) → lacks byte r ≡ true → lacks byte s ≡ true → a ++ byte ∷ r ≡ b ++ byte ∷ s → (a ≡ b) × (r ≡ s)
@@ -91,12 +95,6 @@ cut_last_at byte text k within at none =
       last = ap (lacks byte) rest ∙ lacks_by_index byte (drop (k + 1) text) (λ j below e.
           none (k + 1 + j) (omega arith) (omega (arith, below, size)) (sym (get_or-drop (k + 1) text j 0) ∙ e));
     }
-
--- a byte that stands at no place divides no text
-pub without_by_index : (byte : ℕ) (text : List ℕ) → ((j : ℕ) → j < length text → get_or text j 0 ≡ byte → ⊥) → IsWithout byte text
-without_by_index byte text none before after is =
-    let size = ap length is ∙ length-append before (byte ∷ after) in
-    none (length before) (omega (arith, size)) (ap (λ l. get_or l (length before) 0) is ∙ get_or-append_seam before byte after 0)
 
 pub and_true : (a b : Bool) → (a && b) ≡ true → (a ≡ true) × (b ≡ true)
 and_true true true h = (refl, refl)

@@ -5,10 +5,10 @@ use Rattle.std.specs.Int.{IsInRange}
 use Rattle.std.specs.Str.Parse.{AllDigits}
 use Rattle.std.proofs.lemmas.Str.Parse.{numerals_by_value, tells_digits, not_in_digits}
 use Rattle.std.proofs.lemmas.Fmt.{decimal_is_IsNumeral}
-use Rattle.vs_vcd_lines.specs.Cuts.{lacks, IsCutLast, IsWithout}
+use Rattle.vs_vcd_lines.specs.Cuts.{lacks, IsCutLast}
 use Rattle.vs_vcd_lines.specs.Names.{is_body, IsEscaped, IsName, IsNumber, IsShort, IsTurn}
 use Rattle.vs_vcd_lines.specs.Names.IsShort.{short, negative}
-use Rattle.vs_vcd_lines.proofs.CutLemmas.{cut_last_once, lacks_by_index, lacks_more}
+use Rattle.vs_vcd_lines.proofs.CutLemmas.{cut_last_once, lacks_by_index, lacks_cut, lacks_more}
 
 -- what stands before an end, once
 pub end_once : (byte : ℕ) (a b : List ℕ) → a ++ byte ∷ [] ≡ b ++ byte ∷ [] → a ≡ b
@@ -75,5 +75,5 @@ turn_is text front name number r last parts h = (
 pub no_end : (text : List ℕ) → ((front : List ℕ) → text ≡ front ++ codes "]" → ⊥) → IsTurn text → ⊥
 no_end text none t = none (t.name ++ 91 ∷ signed_decimal t.value) (t.is ∙ sym (brackets t.name (signed_decimal t.value)))
 
-pub no_start : (text front : List ℕ) → text ≡ front ++ codes "]" → IsWithout 91 front → IsTurn text → ⊥
-no_start text front last none t = none t.name (signed_decimal t.value) (turn_parts text front last t)
+pub no_start : (text front : List ℕ) → text ≡ front ++ codes "]" → lacks 91 front ≡ true → IsTurn text → ⊥
+no_start text front last none t = lacks_cut 91 front t.name (signed_decimal t.value) none (turn_parts text front last t)

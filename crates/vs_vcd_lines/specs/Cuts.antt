@@ -15,7 +15,3 @@ pub record IsCut (byte : ℕ) (text before after : List ℕ) : Type 0 where
 pub record IsCutLast (byte : ℕ) (text before after : List ℕ) : Type 0 where
   pub is : text ≡ before ++ byte ∷ after
   pub last : lacks byte after ≡ true
-
--- a text has a byte nowhere
-abbrev pub IsWithout : ℕ → List ℕ → Type 0
-IsWithout byte text = (before after : List ℕ) → text ≡ before ++ byte ∷ after → ⊥

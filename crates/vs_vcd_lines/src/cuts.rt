@@ -1,12 +1,12 @@
 //! Texts cut at a byte.
-ghost use Rattle.std.specs.Prelude.{◌≡◌, MatchOption};
-ghost use Rattle.vs_vcd_lines.specs.Cuts.{IsCut, IsCutLast, IsWithout};
+ghost use Rattle.std.specs.Prelude.{◌≡◌, true, MatchOption};
+ghost use Rattle.vs_vcd_lines.specs.Cuts.{lacks, IsCut, IsCutLast};
 
 use memchr::{memchr, memrchr};
 
-/// What stands in a text before the first of a byte, and what stands after it.
-pub(crate) fn cut(text: &[u8], byte: u8) -> Option<(&[u8], &[u8])>
-    ensures { MatchOption result (IsWithout byte text.now) (λ parts. IsCut byte text.now parts.0.now parts.1.now) }
+/// What stands in a text before the first of a byte, and what stands after it; none where the text has no such byte.
+pub fn cut(text: &[u8], byte: u8) -> Option<(&[u8], &[u8])>
+    ensures { MatchOption result (lacks byte text.now ≡ true) (λ parts. IsCut byte text.now parts.0.now parts.1.now) }
 {
     match memchr(byte, text) {
         Some(place) => Some((&text[..place], &text[place + 1..])),
@@ -14,9 +14,9 @@ pub(crate) fn cut(text: &[u8], byte: u8) -> Option<(&[u8], &[u8])>
     }
 }
 
-/// What stands in a text before the last of a byte, and what stands after it.
+/// What stands in a text before the last of a byte, and what stands after it; none where the text has no such byte.
 pub(crate) fn cut_last(text: &[u8], byte: u8) -> Option<(&[u8], &[u8])>
-    ensures { MatchOption result (IsWithout byte text.now) (λ parts. IsCutLast byte text.now parts.0.now parts.1.now) }
+    ensures { MatchOption result (lacks byte text.now ≡ true) (λ parts. IsCutLast byte text.now parts.0.now parts.1.now) }
 {
     match memrchr(byte, text) {
         Some(place) => Some((&text[..place], &text[place + 1..])),

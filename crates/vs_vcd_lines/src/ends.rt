@@ -16,7 +16,7 @@ pub(crate) fn before<'t>(text: &'t [u8], end: &[u8]) -> Option<&'t [u8]>
 }
 
 /// Whether two texts are one.
-pub(crate) fn is_same(text: &[u8], other: &[u8]) -> bool
+pub fn is_same(text: &[u8], other: &[u8]) -> bool
     ensures { IsTrue result ↔ (text.now ≡ other.now) }
 {
     text == other

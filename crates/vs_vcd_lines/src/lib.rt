@@ -17,8 +17,10 @@ mod words;
 
 pub use changes::change_of;
 pub use codes::number_of;
+pub use cuts::cut;
 pub use declarations::declaration_of;
 pub use dump::{Declaration, ValueChange, Variable};
+pub use ends::is_same;
 pub use laws::variable_lines_are_one;
 pub use lines::{scope_of, span_of, time_of};
 pub use variables::variable_of;

@@ -7,9 +7,9 @@ ghost use Rattle.vs_vcd_reading.specs.Stops.{IsToldAt};
 
 use crate::fault::VcdFault;
 use crate::kinds::body_fault;
-use crate::text::{first_line, is_same};
+use crate::text::first_line;
 use std::alloc::Global;
-use vs_vcd_lines::{ValueChange, change_of};
+use vs_vcd_lines::{ValueChange, change_of, is_same};
 
 /// What stands after the first line of a text, which is the wanted one, where there are so many variables.
 fn expected<'t>(text: &'t [u8], wanted: &[u8], count: usize) -> Result<&'t [u8], VcdFault>

@@ -9,10 +9,10 @@ ghost use Rattle.vs_vcd_reading.specs.Steps.{Item as i, Place as p, text_from};
 ghost use Rattle.vs_vcd_reading.specs.Stops.{IsToldAt};
 
 use crate::fault::VcdFault;
-use crate::text::{first_line, is_same};
+use crate::text::first_line;
 use std::alloc::Global;
 use vs_design::{ScopeKind, TimeSpan};
-use vs_vcd_lines::{Declaration, declaration_of, scope_of, span_of};
+use vs_vcd_lines::{Declaration, declaration_of, is_same, scope_of, span_of};
 
 /// Whether a declaration may stand where a variable may or may not.
 fn may_stand(own: bool, declaration: &Declaration) -> bool

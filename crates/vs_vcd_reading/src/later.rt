@@ -1,5 +1,5 @@
 //! The later times of a dump.
-ghost use Rattle.std.specs.Prelude.{◌≡◌, ◌<◌, ◌≤◌, ◌^◌, ℕ, ◌∷◌, ◌++◌, [], false, true, length, IsTrue, ◌↔◌, MatchResult};
+ghost use Rattle.std.specs.Prelude.{◌≡◌, ◌<◌, ◌≤◌, ◌^◌, ℕ, false, true, length, IsTrue, ◌↔◌, MatchResult};
 ghost use Rattle.vs_vcd_writing.specs.Text.{time_line};
 ghost use Rattle.vs_vcd_lines.specs.Lines.{change_line, are_sizes};
 ghost use Rattle.vs_vcd_reading.specs.Layout.{with_change, IsChange};

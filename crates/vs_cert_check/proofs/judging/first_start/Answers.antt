@@ -1,4 +1,6 @@
-use Rattle.std.proofs.Common.{arith}
+use Rattle.std.proofs.Common.{sym, subst, arith}
+use Rattle.vs_slots_cones.specs.Wires.{IsWiringOf}
+use Rattle.vs_cert_check.proofs.Wired.{wired}
 use Rattle.vs_law_rules.proofs.Keeps.{assigns_named, blocks_kept, order_kept}
 use Rattle.vs_cert_check.proofs.Judged.{kept_all}
 use Rattle.vs_cert_check.proofs.judging.first_start.Goals as goal
@@ -20,3 +22,8 @@ invariant_of-starts-clause-blocks c =
     let d = c.args.sheet.now.facts.now.design in
     let n = c.args.sheet.now.facts.now.claims in
     λ i no. no (blocks_kept d n (kept_all d n 10 4 c.requires.kept (omega arith)) i)
+
+pub of-requires : goal.of-requires
+of-requires c =
+    let f = c.args.sheet.now in
+    subst (IsWiringOf f.facts.now.design f.facts.now.claims) (sym f.cones_are) (wired f.facts.now.design f.facts.now.claims)

@@ -8,6 +8,6 @@ use Rattle.vs_cert_delays.proofs.residues.ends_well.Goals as goal
 
 pub returns-in-Delay : goal.returns-in-Delay
 returns-in-Delay c =
-    subst (λ (p : Pause). (IsTrue c.all_shifted.result ↔ PauseEnds (pause_view p) (list_by c.args.lists) c.args.from.now c.args.modulus)) (sym c.in-Delay.is)
+    subst (λ (p : Pause). (IsTrue c.all_shifted.result ↔ PauseEnds (pause_view p) (list_by c.args.lists.now) c.args.from.now c.args.modulus)) (sym c.in-Delay.is)
     (subst (λ (l : List ℕ). (IsTrue c.all_shifted.result ↔ ((r : ℕ) → Contains c.args.from.now r → Contains l ((r + c.in-Delay.ticks) % c.args.modulus))))
     c.of.ensures c.all_shifted.ensures)

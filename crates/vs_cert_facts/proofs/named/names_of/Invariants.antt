@@ -1,5 +1,5 @@
 use Rattle.std.proofs.Common.{◌≡◌, map, take}
-use Rattle.vs_cert_facts.specs.Places.{texts}
+use Rattle.vs_cert_index.specs.Places.{texts}
 use Rattle.vs_cert_facts.proofs.named.names_of.Given as goal
 
 abbrev pub invariant-loop-thing : goal.invariant-loop-thing

@@ -2,8 +2,12 @@ use Rattle.std.proofs.Common.{◌↔◌, IsTrue, sym, subst}
 use Rattle.std.specs.Result.{IfOk}
 use Rattle.vs_certificate.specs.declared.members.Start.{Start}
 use Rattle.vs_rules.specs.Blocks.{Starts}
+use Rattle.vs_rules.specs.Claims.{HasStart}
 use Rattle.vs_rules.specs.Certificates.{start_from}
 use Rattle.vs_cert_starts.proofs.starts.starts_as.Goals as goal
+
+pub is_cold-requires-clause-start : goal.is_cold-requires-clause-start
+is_cold-requires-clause-start c = subst (λ (s : Start). HasStart c.args.facts.now.design c.args.facts.now.claims c.args.i (start_from s)) c.in-Cold.is c.requires.start
 
 pub returns-in-Cold : goal.returns-in-Cold
 returns-in-Cold c =

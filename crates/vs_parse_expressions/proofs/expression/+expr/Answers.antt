@@ -271,8 +271,8 @@ named-overflow_sub-depth t c = omega arith
 
 pub selects-loop-after-init : goal.selects-loop-after-init
 selects-loop-after-init t c = record {
-  along = along_start select c.args.depth c.args.tokens.now _ chosen_tree _ c.split_at.ensures.back c.new-tree.ensures.items;
-  height = sym (height_none chosen_tree _ c.new-tree.ensures.items);
+  along = along_start select c.args.depth c.args.tokens.now _ chosen_tree _ c.split_at.ensures.back c.in_ok-tree.ensures;
+  height = sym (height_none chosen_tree _ c.in_ok-tree.ensures);
 }
 
 pub selects-chosen-requires : goal.selects-chosen-requires
@@ -280,7 +280,7 @@ selects-chosen-requires t c = (omega arith, c.in-Some.ensures)
 
 pub selects-returns-in_err-read : goal.selects-returns-in_err-read
 selects-returns-in_err-read t c =
-    let p = err_from_is_err_and c.from_residual.result c.from_residual.ensures.1 in
+    let p = err_from_is_err_and c.from_residual-in_err-read.result c.from_residual-in_err-read.ensures.1 in
     rw (p.1, p.2) (fails_by select (many select) c.args.depth c.args.depth (seen c.loop-after.rest.now) (seen c.args.tokens.now)
     (λ deep at s. selects_stuck c.args.depth deep _ _ _ at _ c.loop-after.invariant.along c.in-Some.ensures s)
     c.in_err-read.field-0.0 c.in_err-read.ensures)

@@ -3,7 +3,12 @@ use Rattle.std.specs.List.{Contains}
 use Rattle.std.proofs.lemmas.Option.{same_Some}
 use Rattle.std.proofs.lemmas.Result.{IfOk-weaker}
 use Rattle.vs_slots.specs.Kept.{IsFiringBy, IsFiringOf}
+use Rattle.vs_slots.proofs.KeptLemmas.{writer_within}
 use Rattle.vs_slots.proofs.firing.fires_of.Goals as goal
+
+pub fires_by-requires-clause-root : goal.fires_by-requires-clause-root
+fires_by-requires-clause-root c =
+    writer_within c.args.facts.now.design c.args.facts.now.claims c.args.root c.in-Some.writer ((c.in-Some.ensures c.in-Some.writer).1 refl)
 
 pub returns-in-Some : goal.returns-in-Some
 returns-in-Some c =

@@ -3,4 +3,4 @@ use Rattle.std.specs.List.{Contains}
 use Rattle.vs_slots.proofs.listing.union_of.Given as goal
 
 abbrev pub invariant-loop-i : goal.invariant-loop-i
-invariant-loop-i g l = (r : ℕ) → (Contains l.all.items r ↔ ((i : ℕ) × (i < l.i) × g.L.Listing.has l.listing i r))
+invariant-loop-i g l = (r : ℕ) → (Contains l.all r ↔ ((i : ℕ) × (i < l.i) × g.L.Listing.has l.listing i r))

@@ -6,4 +6,4 @@ use Rattle.vs_slots.proofs.Unions.{SomeBefore}
 use Rattle.vs_slots.proofs.residues.residues_of.Given as goal
 
 abbrev pub invariant-loop-i : goal.invariant-loop-i
-invariant-loop-i l = (r : ℕ) → (Contains l.all.items r ↔ (⊥ ⊎ SomeBefore l.numbers l.i-index (λ (i : ℕ). Contains (row (rows l.table) i) r)))
+invariant-loop-i l = (r : ℕ) → (Contains l.all r ↔ (⊥ ⊎ SomeBefore l.numbers l.i-index (λ (i : ℕ). Contains (row (rows l.table) i) r)))

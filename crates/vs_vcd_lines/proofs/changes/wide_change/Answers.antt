@@ -2,6 +2,7 @@ use Rattle.std.proofs.Common.{◌∷◌, ◌++◌, map, reverse, sym, ◌∙◌,
 use Rattle.std.proofs.lemmas.Option.{slice_get_within}
 use Rattle.vs_vcd_writing.specs.Codes.{code}
 use Rattle.vs_vcd_writing.specs.Values.{digit_character, shortened}
+use Rattle.vs_vcd_lines.proofs.CutLemmas.{lacks_cut}
 use Rattle.vs_vcd_lines.proofs.ChangeLemmas.{wide_text, wide_rest, wide_parts, wide_made, number_once, sized_is, sized_made, sizes_at}
 use Rattle.vs_vcd_lines.proofs.changes.wide_change.Goals as goal
 
@@ -11,7 +12,7 @@ returns-in_default c = λ x wide sized is.
 
 pub returns-in_default-cut : goal.returns-in_default-cut
 returns-in_default-cut c = λ x wide sized is.
-    c.in_default-cut.ensures (map digit_character (shortened (reverse x.value))) (code x.number)
+    lacks_cut 32 c.in-Some.rest.now (map digit_character (shortened (reverse x.value))) (code x.number) c.in_default-cut.ensures
     (wide_rest c.args.line.now c.in-Some.rest.now x c.in-Some.ensures wide is)
 
 pub returns-in_default-number_of : goal.returns-in_default-number_of

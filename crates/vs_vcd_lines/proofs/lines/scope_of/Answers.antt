@@ -1,6 +1,7 @@
 use Rattle.std.proofs.Common.{◌∷◌, ◌++◌, codes, sym, ◌∙◌}
 use Rattle.std.proofs.lemmas.Bool.{false≢true}
 use Rattle.vs_vcd_writing.specs.Text.{scope_word}
+use Rattle.vs_vcd_lines.proofs.CutLemmas.{lacks_cut}
 use Rattle.vs_vcd_lines.proofs.LineLemmas.{scope_assoc, scope_middle, scope_parts, scope_made, scope_named}
 use Rattle.vs_vcd_lines.proofs.lines.scope_of.Goals as goal
 
@@ -10,7 +11,7 @@ returns-in_default c = λ kind name named is.
 
 pub returns-in_default-cut : goal.returns-in_default-cut
 returns-in_default-cut c = λ kind name named is.
-    c.in_default-cut.ensures (scope_word kind) name (scope_middle c.args.line.now c.in-Some.middle.now kind name c.in-Some.ensures is)
+    lacks_cut 32 c.in-Some.middle.now (scope_word kind) name c.in_default-cut.ensures (scope_middle c.args.line.now c.in-Some.middle.now kind name c.in-Some.ensures is)
 
 pub returns-in_default-scope_kind_of : goal.returns-in_default-scope_kind_of
 returns-in_default-scope_kind_of c = λ kind name named is.

@@ -1,4 +1,5 @@
 use Rattle.vs_vcd_writing.specs.Text.{magnitude_word, unit_word, span_text}
+use Rattle.vs_vcd_lines.proofs.CutLemmas.{lacks_cut}
 use Rattle.vs_vcd_lines.proofs.LineLemmas.{span_middle, span_parts, span_made}
 use Rattle.vs_vcd_lines.proofs.lines.span_of.Goals as goal
 
@@ -7,7 +8,7 @@ returns-in_default c = λ span is. c.in_default.ensures (span_text span) is
 
 pub returns-in_default-cut : goal.returns-in_default-cut
 returns-in_default-cut c = λ span is.
-    c.in_default-cut.ensures (magnitude_word span.magnitude) (unit_word span.unit) (span_middle c.args.line.now c.in-Some.middle.now span c.in-Some.ensures is)
+    lacks_cut 32 c.in-Some.middle.now (magnitude_word span.magnitude) (unit_word span.unit) c.in_default-cut.ensures (span_middle c.args.line.now c.in-Some.middle.now span c.in-Some.ensures is)
 
 pub returns-in_default-magnitude_of : goal.returns-in_default-magnitude_of
 returns-in_default-magnitude_of c = λ span is.

@@ -1,9 +1,10 @@
 use Rattle.std.specs.Fmt.{signed_decimal}
+use Rattle.vs_vcd_lines.proofs.CutLemmas.{lacks_cut}
 use Rattle.vs_vcd_lines.proofs.VariableLemmas.{bounds_parts}
 use Rattle.vs_vcd_lines.proofs.variables.bounds_of.Goals as goal
 
 pub returns-in_default : goal.returns-in_default
-returns-in_default c = λ b h. c.in_default.ensures (signed_decimal b.left) (signed_decimal b.right) h.is
+returns-in_default c = λ b h. lacks_cut 58 c.args.text.now (signed_decimal b.left) (signed_decimal b.right) c.in_default.ensures h.is
 
 pub returns-in_default-signed_of : goal.returns-in_default-signed_of
 returns-in_default-signed_of c = λ b h.

@@ -1,6 +1,7 @@
 use Rattle.std.proofs.Common.{◌∷◌, ◌++◌, codes, sym, ◌∙◌}
 use Rattle.std.specs.Fmt.{signed_decimal}
 use Rattle.std.proofs.lemmas.Bool.{false≢true}
+use Rattle.vs_vcd_lines.proofs.CutLemmas.{lacks_cut}
 use Rattle.vs_vcd_lines.proofs.VariableLemmas.{opened, ranged_whole, ranged_open, ranged_parts, ranged_name, ranged_bounds, ranged_made}
 use Rattle.vs_vcd_lines.proofs.variables.ranged_of.Goals as goal
 
@@ -9,7 +10,7 @@ returns-in_default c = λ name b h. c.in_default.ensures (opened name b) (ranged
 
 pub returns-in_default-cut_last : goal.returns-in_default-cut_last
 returns-in_default-cut_last c = λ name b h.
-    c.in_default-cut_last.ensures (name ++ codes " ") (signed_decimal b.left ++ (58 ∷ signed_decimal b.right))
+    lacks_cut 91 c.in-Some.front.now (name ++ codes " ") (signed_decimal b.left ++ (58 ∷ signed_decimal b.right)) c.in_default-cut_last.ensures
     (ranged_open c.args.text.now c.in-Some.front.now name b c.in-Some.ensures h)
 
 pub returns-in_default-before : goal.returns-in_default-before

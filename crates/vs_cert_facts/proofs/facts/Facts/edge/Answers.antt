@@ -1,6 +1,6 @@
 use Rattle.std.proofs.Common.{None, Some, refl, ap, arith, ◌∙◌, string_bytes}
 use Rattle.std.proofs.lemmas.Option.{slice_get_read}
-use Rattle.vs_cert_facts.specs.Places.{place_in}
+use Rattle.vs_cert_index.specs.Places.{place_in}
 use Rattle.vs_cert_facts.proofs.RootLemmas.{edge_is}
 use Rattle.vs_cert_facts.proofs.facts.Facts.edge.Goals as goal
 

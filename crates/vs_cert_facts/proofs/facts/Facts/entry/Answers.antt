@@ -1,7 +1,7 @@
 use Rattle.std.proofs.Common.{◌≡◌, List, Some, slice_get, refl, sym, ◌∙◌, ap, subst, arith}
 use Rattle.std.proofs.lemmas.Option.{slice_get_read}
 use Rattle.vs_design.specs.declared.signal.Signal.{Signal}
-use Rattle.vs_cert_facts.specs.Places.{place_in}
+use Rattle.vs_cert_index.specs.Places.{place_in}
 use Rattle.vs_cert_facts.proofs.FactLemmas.{entry_within, no_entry, entry_is}
 use Rattle.vs_cert_facts.proofs.facts.Facts.entry.Goals as goal
 

@@ -2,7 +2,7 @@ use Rattle.std.proofs.Common.{◌≡◌, List, Some, slice_get, refl, sym, ◌�
 use Rattle.std.proofs.lemmas.Option.{slice_get_read}
 use Rattle.vs_design.specs.declared.signal.Signal.{Signal}
 use Rattle.vs_cert_facts.specs.Facts.{Case}
-use Rattle.vs_cert_facts.specs.Places.{place_in}
+use Rattle.vs_cert_index.specs.Places.{place_in}
 use Rattle.vs_cert_facts.proofs.FactLemmas.{edge_roots_are}
 use Rattle.vs_cert_facts.proofs.RootLemmas.{no_such_root}
 use Rattle.vs_cert_facts.proofs.facts.Facts.is_root.Goals as goal

@@ -1,7 +1,7 @@
 use Rattle.std.proofs.Common.{◌≡◌, List, Some, slice_get, refl, sym, ◌∙◌, ap, subst, arith}
 use Rattle.std.proofs.lemmas.Option.{slice_get_read}
 use Rattle.vs_design.specs.declared.design.Process.{Process}
-use Rattle.vs_cert_facts.specs.Places.{place_in}
+use Rattle.vs_cert_index.specs.Places.{place_in}
 use Rattle.vs_cert_facts.proofs.FactLemmas.{kind_within, no_kind, kind_is}
 use Rattle.vs_cert_facts.proofs.facts.Facts.kind.Goals as goal
 

@@ -1,25 +1,17 @@
-use Rattle.std.proofs.Common.{ℕ, ◌<◌, ◌↔◌, List, refl, sym, subst, arith}
+use Rattle.std.proofs.Common.{◌≡◌, ℕ, ◌↔◌, Some, get_or, slice_get, arith}
 use Rattle.std.specs.List.{Contains}
 use Rattle.std.proofs.lemmas.Result.{IfOk-weaker}
-use Rattle.vs_slots_paths.specs.Reaches.{IsPlace, places}
-use Rattle.vs_slots.specs.Firing.{InPhaseOf}
 use Rattle.vs_slots.specs.Kept.{IsPlaceFiring}
+use Rattle.vs_slots.proofs.KeptLemmas.{at_element}
 use Rattle.vs_slots.proofs.firing.PlaceFiringListing.list.Goals as goal
 
 pub returns : goal.returns
 returns c =
     let s = c.args.self.now in
-    let t = s.tables.now in
-    let i = c.args.i in
-    let within : i < places t = subst (λ (n : ℕ). i < n) c.places.ensures (omega (arith, c.if-i-places.false)) in
-    let place : IsPlace t i = c.if-not-is_point.ensures.0 refl in
-    let writes = c.in_ok-writes.ensures.0 c.if-not-branch.false in
-    IfOk-weaker c.phased.result
-    (λ list. (r : ℕ) → (Contains list.items r ↔ (Contains c.deref.result.now r × InPhaseOf s.clock s.edge s.modulus r)))
-    (λ list. (r : ℕ) → (Contains list.items r ↔ IsPlaceFiring t s.runs.now s.clock s.modulus s.root s.edge s.writer i r))
-    (λ list h r. (
-      λ x. let y = (h r).0 x in
-          (within, place, writes.0, writes.1, (c.in_ok-runs.ensures r).0 (subst (λ (l : List ℕ). Contains l r) c.deref.ensures.value y.0), y.1),
-      λ y. (h r).1 (subst (λ (l : List ℕ). Contains l r) (sym c.deref.ensures.value) ((c.in_ok-runs.ensures r).1 y.4), y.5),
-    ))
-    c.phased.ensures
+    let P = λ (p : ℕ) (r : ℕ). IsPlaceFiring s.tables.now s.runs.now s.clock s.modulus s.root s.edge s.writer p r in
+    IfOk-weaker c.at.result
+    (λ list. (r : ℕ) → (Contains list.items r ↔ P (get_or s.places.now c.args.i 0) r))
+    (λ list. (r : ℕ) → (Contains list.items r ↔ ((p : ℕ) × (slice_get s.places.now c.args.i ≡ Some p) × P p r)))
+    (λ list h r. let both = at_element (λ (p : ℕ). P p r) s.places.now c.args.i 0 (omega (arith, c.if-i-self.false)) in
+    (λ x. both.0 ((h r).0 x), λ y. (h r).1 (both.1 y)))
+    c.at.ensures

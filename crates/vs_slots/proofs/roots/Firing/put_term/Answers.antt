@@ -12,7 +12,7 @@ returns c =
     let x = c.args.self.now in
     let t = c.args.term in
     on_ok_weaker c.put.result
-    (λ h r. same_either (Contains c.args.out.now.items r) (IsOneOf (table_by x t.edge) c.deref.result.now r) (IsTermIn f x t r) (Contains c.put.new.out.items r) (h r) (
+    (λ h r. same_either (Contains c.args.out.now r) (IsOneOf (table_by x t.edge) c.deref.result.now r) (IsTermIn f x t r) (Contains c.put.new.out r) (h r) (
       λ y. (y.0, (c.in_ok-roots.ensures y.0).0 (subst (λ (l : List ℕ). Contains l y.0) c.deref.ensures.value y.1), y.2),
       λ y. (y.0, subst (λ (l : List ℕ). Contains l y.0) (sym c.deref.ensures.value) ((c.in_ok-roots.ensures y.0).1 y.1), y.2),
     ))

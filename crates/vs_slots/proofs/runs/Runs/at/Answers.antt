@@ -10,9 +10,9 @@ use Rattle.vs_slots.proofs.runs.Runs.at.Goals as goal
 pub returns : goal.returns
 returns c =
     IfOk-weaker c.residues_of.result
-    (λ all. (r : ℕ) → (Contains all.items r ↔ IsOneOf (rows c.deref.result.now) c.row_before.result.now r))
+    (λ all. (r : ℕ) → (Contains all.items r ↔ IsOneOf (rows c.deref.result.now) c.numbers_of.result.now r))
     (λ all. (r : ℕ) → (Contains all.items r ↔ IsOneOf (rows c.args.self.now.ends.items) (row (rows c.args.self.now.before.items) c.args.place) r))
     (λ all h r. subst (λ (ns : List ℕ). (Contains all.items r ↔ IsOneOf (rows c.args.self.now.ends.items) ns r))
-    (c.row_before.ensures ∙ ap (λ (l : List (Vec ℕ Global)). row (rows l) c.args.place) c.deref-2.ensures.value)
-    (subst (λ (l : List (Vec ℕ Global)). (Contains all.items r ↔ IsOneOf (rows l) c.row_before.result.now r)) c.deref.ensures.value (h r)))
+    (c.numbers_of.ensures ∙ ap (λ (l : List (Vec ℕ Global)). row (rows l) c.args.place) c.deref-2.ensures.value)
+    (subst (λ (l : List (Vec ℕ Global)). (Contains all.items r ↔ IsOneOf (rows l) c.numbers_of.result.now r)) c.deref.ensures.value (h r)))
     c.residues_of.ensures

@@ -3,7 +3,12 @@ use Rattle.std.specs.List.{Contains}
 use Rattle.std.proofs.lemmas.Option.{same_Some}
 use Rattle.std.proofs.lemmas.Result.{IfOk-weaker}
 use Rattle.vs_slots.specs.Kept.{IsWriteBy, IsWriteIn}
+use Rattle.vs_slots.proofs.KeptLemmas.{writer_within}
 use Rattle.vs_slots.proofs.slots.VariablesListing.list.Goals as goal
+
+pub written_by-requires : goal.written_by-requires
+written_by-requires c =
+    writer_within c.args.self.now.facts.now.design c.args.self.now.facts.now.claims c.args.i c.in-Some.writer ((c.in-Some.ensures c.in-Some.writer).1 refl)
 
 pub returns-in-Some : goal.returns-in-Some
 returns-in-Some c =

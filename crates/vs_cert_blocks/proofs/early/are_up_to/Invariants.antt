@@ -1,0 +1,5 @@
+use Rattle.std.proofs.Common.{ℕ, ◌<◌, ◌≤◌, get_or}
+use Rattle.vs_cert_blocks.proofs.early.are_up_to.Given as goal
+
+abbrev pub invariant-loop-x : goal.invariant-loop-x
+invariant-loop-x l = (k : ℕ) → k < l.x-index → get_or l.xs k 0 ≤ l.most

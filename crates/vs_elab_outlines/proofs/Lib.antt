@@ -1,0 +1,4 @@
+pub mod NumberLemmas
+pub mod NestLemmas
+pub mod TopLemmas
+pub mod OutlineLemmas

@@ -1,0 +1,6 @@
+//! Walks in graphs that take as long as what they lead to.
+#![tactic(auto)]
+
+mod walks;
+
+pub use walks::{clear_marks, walk};

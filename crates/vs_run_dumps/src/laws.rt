@@ -1,0 +1,16 @@
+//! Dumps of executions, read back.
+ghost use Rattle.vs_run_dumps.specs.ReadBack.{DumpsReadBack};
+
+use vs_process::{stores_are_sized, times_rise};
+use vs_vcd_law::{dumps_give_values, written_dumps_are_read};
+
+/// The value change dump of an execution so far, of which a slot has ended, is of the layout. The values of the variables in it, in the order of
+/// their codes, are at each time those that the signals have in the store at the end of the last slot at or before that time.
+pub fn run_dumps_are_read()
+    ensures { DumpsReadBack }
+{
+    written_dumps_are_read();
+    dumps_give_values();
+    times_rise();
+    stores_are_sized();
+}

@@ -1,5 +1,0 @@
-use Rattle.vs_slots.proofs.ListLemmas.{NoneYet}
-use Rattle.vs_slots.proofs.controls.ControlLists.of.Given as goal
-
-abbrev pub invariant-loop-i : goal.invariant-loop-i
-invariant-loop-i l = NoneYet l.self.controls.now l.number l.i

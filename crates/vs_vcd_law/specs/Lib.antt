@@ -1,0 +1,4 @@
+pub mod Said
+pub mod Values
+pub mod Conditions
+pub mod OneFault
