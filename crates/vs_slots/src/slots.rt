@@ -54,8 +54,8 @@ struct PlaceWrites<'a> {
 impl<'a> PlaceWrites<'a> {
     // The residues at which the variable is written at a place.
     fn at(&self, alloc: Global, place: usize) -> Result<Vec<u64>, AllocError>
-        ensures { IfOk result (λ list. (r : ℕ) → (Contains list.items r ↔ IsPlaceWrite self.now.facts.now self.now.delays.now self.now.edges.now
-            self.now.tables.now self.now.variable self.now.writer place r)) }
+        ensures { IfOk result (λ list. (r : ℕ) → (Contains list.items r ↔ IsPlaceWrite self.now.facts.now self.now.delays.now
+            self.now.edges.now self.now.tables.now self.now.variable self.now.writer place r)) }
     {
         if place >= self.tables.places() {
             return Ok(Vec::new(alloc));

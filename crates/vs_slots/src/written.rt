@@ -17,8 +17,8 @@ fn put_process<'a>(
     i: usize,
 ) -> Result<(), AllocError>
     ensures grown { OnOk result (HasGrown table.old.items table.new.items) }
-    ensures there { OnOk result ((t : Chart) (p v : ℕ) → slice_get facts.entry.now.charts i ≡ Some t → p < places t → v < length table.old.items →
-        IsWrittenAt t p v → StandsIn table.new.items v p) }
+    ensures there { OnOk result ((t : Chart) (p v : ℕ) → slice_get facts.entry.now.charts i ≡ Some t → p < places t
+        → v < length table.old.items → IsWrittenAt t p v → StandsIn table.new.items v p) }
 {
     match facts.tables(i) {
         None => Ok(()),
