@@ -15,6 +15,8 @@ use Rattle.vs_slots_paths.specs.Reaches.{Chart}
 use Rattle.vs_slots_paths.proofs.RangeLemmas.{first_in, later_in, in_either}
 use Rattle.vs_slots_ranges.specs.Places.{bit}
 use Rattle.vs_slots_ranges.specs.Ranges.{Cover}
+use Rattle.vs_slots_ranges.proofs.Words.{parted}
+use Rattle.vs_slots_signals.specs.Signals.{AreOf}
 use Rattle.vs_cert_blocks.specs.Blocks.{IsNamed, AreNamed, AreWrittenFirst, AreOfOrNamed, IsSignalFirst, AreSignalsFirst, KeepsText}
 use Rattle.vs_cert_blocks.specs.Walks.{IsWrittenFirst}
 
@@ -51,12 +53,36 @@ named_back d t terms named are e r h b is has =
       has = x.2;
     }
 
-pub named_is : (d : Parts) (t : Chart) (signals : List ℕ) (read : List BitRange) (terms : List EventTerm) (named : List BitRange) →
-    ((term : EventTerm) → (Contains terms term ↔ HasTermAt t term)) → named ≡ map (λ (t : EventTerm). t.range) terms → (good : Bool) →
-    (IsTrue good ↔ ((r : BitRange) → Contains read r → Contains signals r.signal ⊎ Cover d named r)) → (IsTrue good ↔ AreOfOrNamed d t signals read)
-named_is d t signals read terms named are e good h = (
-  λ y r c. elim (h.0 y r c) [ inl s ↦ inl s | inr n ↦ inr (named_on d t terms named are e r n) ],
-  λ all. h.1 (λ r c. elim (all r c) [ inl s ↦ inl s | inr n ↦ inr (named_back d t terms named are e r n) ]),
+-- ranges in another order, and those of one signal alone
+pub cover_same : (d : Parts) (all some : List BitRange) (r : BitRange) → ((q : BitRange) → (Contains some q ↔ Contains all q)) → (Cover d some r ↔ Cover d all r)
+cover_same d all some r are = (
+  λ h b is has. let x = h b is has in record { range = x.range; listed = (are x.range).0 x.listed; has = x.has },
+  λ h b is has. let x = h b is has in record { range = x.range; listed = (are x.range).1 x.listed; has = x.has },
+)
+
+pub cover_part : (d : Parts) (all some : List BitRange) (r : BitRange) → AreOf all r.signal some → (Cover d some r ↔ Cover d all r)
+cover_part d all some r are = (
+  λ h b is has. let x = h b is has in record { range = x.range; listed = ((are x.range).0 x.listed).0; has = x.has },
+  λ h b is has.
+      let x = h b is has in
+      let one = (parted x.range b.signal b.word b.place x.has).of in
+      let other = (parted r b.signal b.word b.place has).of in
+      record { range = x.range; listed = (are x.range).1 (x.listed, one ∙ sym other); has = x.has },
+)
+
+pub named_is : (d : Parts) (t : Chart) (signals set : List ℕ) (read : List BitRange) (terms : List EventTerm) (ranges named : List BitRange) →
+    ((term : EventTerm) → (Contains terms term ↔ HasTermAt t term)) → ranges ≡ map (λ (t : EventTerm). t.range) terms →
+    ((r : BitRange) → (Contains named r ↔ Contains ranges r)) → ((v : ℕ) → (Contains set v ↔ Contains signals v)) → (good : Bool) →
+    (IsTrue good ↔ ((r : BitRange) → Contains read r → Contains set r.signal ⊎ Cover d named r)) → (IsTrue good ↔ AreOfOrNamed d t signals read)
+named_is d t signals set read terms ranges named are e same put good h = (
+  λ y r c. elim (h.0 y r c) [
+    | inl s ↦ inl ((put r.signal).0 s)
+    | inr n ↦ inr (named_on d t terms ranges are e r ((cover_same d ranges named r same).0 n))
+  ],
+  λ all. h.1 (λ r c. elim (all r c) [
+    | inl s ↦ inl ((put r.signal).1 s)
+    | inr n ↦ inr ((cover_same d ranges named r same).1 (named_back d t terms ranges are e r n))
+  ]),
 )
 
 -- ---- signals

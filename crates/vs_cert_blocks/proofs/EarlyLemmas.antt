@@ -1,8 +1,8 @@
 -- Ranges that a block is sure to write first.
-use Rattle.std.proofs.Common.{◌≡◌, ℕ, zero, suc, ◌+◌, ◌-◌, ◌<◌, ◌≤◌, ◌⊎◌, ◌++◌, ◌||◌, ◌&&◌, not, inl, inr, Bool, true, false, List, [], ◌∷◌, length, get_or, refl, sym, ◌∙◌, ap, subst, arith, if◌then◌else◌}
+use Rattle.std.proofs.Common.{◌≡◌, ℕ, suc, ◌+◌, ◌<◌, ◌≤◌, ◌⊎◌, ◌↔◌, ◌++◌, ◌||◌, ◌&&◌, not, inl, inr, Bool, true, false, List, [], ◌∷◌, length, get_or, refl, sym, ◌∙◌, ap, subst, arith, if◌then◌else◌}
 use Rattle.std.specs.List.{Contains, list_any}
 use Rattle.std.proofs.lemmas.List.{get_or_default}
-use Rattle.std.proofs.lemmas.List.Elements.{Contains-push_cases, Contains-append_left, Contains-push, Contains-get_or}
+use Rattle.std.proofs.lemmas.List.Elements.{Contains-push_cases, Contains-get_or}
 use Rattle.std.proofs.lemmas.Option.{slice_get_within, get_or_from_slice_get}
 use Rattle.vs_logic4.proofs.Basics.{element_of}
 use Rattle.vs_design.specs.declared.range.BitRange.{BitRange}
@@ -14,18 +14,19 @@ use Rattle.vs_slots_paths.specs.Reaches.{Chart, pause_at, pause_of}
 use Rattle.vs_slots_paths.specs.Ranges.{ranges_of, reads_at, HasSignal}
 use Rattle.vs_slots_paths.proofs.RangeLemmas.{in_either}
 use Rattle.vs_slots_ranges.proofs.Words.{parted}
+use Rattle.vs_slots_signals.specs.Signals.{AreOf}
 use Rattle.vs_cert_blocks.specs.Early.{AreEarly, IsScanned, IsUnseen}
-use Rattle.vs_cert_blocks.specs.Walks.{surely_at, is_at_once, open_tos, statement_sure, sure_at, AreWoken, IsWoken, IsUnwritten, begins, goes_on, IsClear, IsWrittenFirst}
+use Rattle.vs_cert_blocks.specs.Walks.{surely_at, is_at_once, open_tos, statement_sure, sure_at, AreWoken, IsUnwritten, begins, goes_on, IsClear, IsWrittenFirst}
 use Rattle.vs_cert_blocks.proofs.CornerLemmas.{below_or}
 use Rattle.vs_cert_blocks.proofs.Open.{sure_is}
 
 -- ---- walks of a span
 
-chosen_in : (x : Bool) (xs : List ℕ) (q : ℕ) → Contains (if x then xs else []) q → Contains xs q
+pub chosen_in : (x : Bool) (xs : List ℕ) (q : ℕ) → Contains (if x then xs else []) q → Contains xs q
 chosen_in true xs q c = c
 chosen_in false xs q c = absurd (omega (arith, c.1))
 
-at_or_after : (a p : ℕ) → p ≤ a → (a ≡ p) ⊎ (suc p ≤ a)
+pub at_or_after : (a p : ℕ) → p ≤ a → (a ≡ p) ⊎ (suc p ≤ a)
 at_or_after a p h = grind (arith, h)
 
 closed : (t : Chart) (b : Bit) (p q : ℕ) → surely_at b (stop_statement (stop_at t.stops p)) ≡ true → Contains (open_tos b t.stops p) q → ⊥
@@ -103,13 +104,13 @@ scan_more t high p least less seen more so calm noted up few each = record {
   ];
 }
 
-pub early_more : (t : Chart) (high p least : ℕ) (seen more one : List ℕ) (old new : List BitRange) → IsScanned t high (suc p) least seen → pause_at t p ≡ none →
-    ((v : ℕ) → Contains seen v ⊎ HasSignal (reads_at t p) v → Contains more v) → one ≡ more → AreEarly t old →
-    ((r : BitRange) → Contains new r → (Contains old r ⊎ ((p ≤ least) × IsUnseen (sure_at t p) one r))) → AreEarly t new
-early_more t high p least seen more one old new so calm noted same before put r b c has = by (put r c) where
-  by : Contains old r ⊎ ((p ≤ least) × IsUnseen (sure_at t p) one r) → IsWrittenFirst t b
+pub early_more : (t : Chart) (high p least : ℕ) (seen more : List ℕ) (old new : List BitRange) → IsScanned t high (suc p) least seen → pause_at t p ≡ none →
+    ((v : ℕ) → Contains seen v ⊎ HasSignal (reads_at t p) v → Contains more v) → AreEarly t old →
+    ((r : BitRange) → Contains new r → (Contains old r ⊎ ((p ≤ least) × IsUnseen (sure_at t p) more r))) → AreEarly t new
+early_more t high p least seen more old new so calm noted before put r b c has = by (put r c) where
+  by : Contains old r ⊎ ((p ≤ least) × IsUnseen (sure_at t p) more r) → IsWrittenFirst t b
   by (inl a) = before r b a has
-  by (inr y) = early_here t high p least seen more so calm noted y.0 r (subst (λ (l : List ℕ). IsUnseen (sure_at t p) l r) same y.1) b has
+  by (inr y) = early_here t high p least seen more so calm noted y.0 r y.1 b has
 
 pub none_early : (t : Chart) (rs : List BitRange) → rs ≡ [] → AreEarly t rs
 none_early t rs e r b c has = absurd (omega (arith, (subst (λ (l : List BitRange). Contains l r) e c).1))
@@ -128,26 +129,16 @@ pub record NotedSoFar (ranges : List BitRange) (i : ℕ) (old now : List ℕ) : 
   pub kept : (v : ℕ) → Contains old v → Contains now v
   pub noted : (k : ℕ) (q : BitRange) → k < i → get_or ranges k q ≡ q → Contains now q.signal
 
-pub noted_same : (ranges : List BitRange) (i : ℕ) (z : BitRange) (old now seen new : List ℕ) → i < length ranges → NotedSoFar ranges i old now → seen ≡ now → new ≡ now → Contains seen (get_or ranges i z).signal →
-    NotedSoFar ranges (i + 1) old new
-noted_same ranges i z old now seen new within so e f here = subst (NotedSoFar ranges (i + 1) old) (sym f) (record {
-  kept = so.kept;
+pub noted_more : (ranges : List BitRange) (i : ℕ) (z : BitRange) (old now new : List ℕ) → i < length ranges → NotedSoFar ranges i old now →
+    ((v : ℕ) → (Contains new v ↔ (Contains now v ⊎ (v ≡ (get_or ranges i z).signal)))) → NotedSoFar ranges (i + 1) old new
+noted_more ranges i z old now new within so put = record {
+  kept = λ v c. (put v).1 (inl (so.kept v c));
   noted = λ k q less is. elim (below_or k i less) [
-    | inl l ↦ so.noted k q l is
-    | inr same ↦ subst (λ (x : BitRange). Contains now x.signal) (get_or_default ranges i z q within ∙ ap (λ (m : ℕ). get_or ranges m q) (sym same) ∙ is)
-        (subst (λ (l : List ℕ). Contains l (get_or ranges i z).signal) e here)
+    | inl l ↦ (put q.signal).1 (inl (so.noted k q l is))
+    | inr same ↦ (put q.signal).1 (inr (ap (λ (x : BitRange). x.signal)
+        (sym (get_or_default ranges i z q within ∙ ap (λ (m : ℕ). get_or ranges m q) (sym same) ∙ is))))
   ];
-})
-
-pub noted_more : (ranges : List BitRange) (i : ℕ) (z : BitRange) (old now new : List ℕ) → i < length ranges → NotedSoFar ranges i old now → new ≡ now ++ (get_or ranges i z).signal ∷ [] → NotedSoFar ranges (i + 1) old new
-noted_more ranges i z old now new within so e = subst (NotedSoFar ranges (i + 1) old) (sym e) (record {
-  kept = λ v c. Contains-append_left now ((get_or ranges i z).signal ∷ []) v (so.kept v c);
-  noted = λ k q less is. elim (below_or k i less) [
-    | inl l ↦ Contains-append_left now ((get_or ranges i z).signal ∷ []) q.signal (so.noted k q l is)
-    | inr same ↦ subst (λ (x : BitRange). Contains (now ++ (get_or ranges i z).signal ∷ []) x.signal)
-        (get_or_default ranges i z q within ∙ ap (λ (m : ℕ). get_or ranges m q) (sym same) ∙ is) (Contains-push now (get_or ranges i z).signal)
-  ];
-})
+}
 
 pub noted_all : (ranges : List BitRange) (i : ℕ) (old now : List ℕ) → length ranges ≤ i → NotedSoFar ranges i old now → (v : ℕ) → Contains old v ⊎ HasSignal ranges v → Contains now v
 noted_all ranges i old now past so v h = by h where
@@ -161,3 +152,10 @@ pub early_has : (t : Chart) (rs : List BitRange) → AreEarly t rs → (b : Bit)
 early_has t rs are b h =
     let y = element_of (covers b.signal b.word b.place) rs h in
     are y.1 b (y.0, slice_get_within rs y.0 y.1 y.2, get_or_from_slice_get rs y.0 y.1 y.1 y.2) y.3
+
+-- of the ranges of one signal, and of the same ranges in another order
+pub early_of : (t : Chart) (all some : List BitRange) (v : ℕ) → AreEarly t all → AreOf all v some → AreEarly t some
+early_of t all some v early are r b c has = early r b ((are r).0 c).0 has
+
+pub early_same : (t : Chart) (all some : List BitRange) → AreEarly t all → ((r : BitRange) → (Contains some r ↔ Contains all r)) → AreEarly t some
+early_same t all some early are r b c has = early r b ((are r).0 c) has

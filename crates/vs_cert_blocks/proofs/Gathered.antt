@@ -39,6 +39,10 @@ sure_all t i all past before p r h = elim (below_all p i) [
   below_all : (k i : ℕ) → (k < i) ⊎ (i ≤ k)
   below_all k i = grind arith
 
+-- in another order
+pub sure_same : (t : Chart) (all some : List BitRange) → HaveSure t all → ((r : BitRange) → (Contains some r ↔ Contains all r)) → HaveSure t some
+sure_same t all some have are p r c = (are r).1 (have p r c)
+
 -- ---- event controls
 
 -- a control is at one of the places

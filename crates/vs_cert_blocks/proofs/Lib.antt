@@ -5,3 +5,5 @@ pub mod SignalLemmas
 pub mod BlockLemmas
 pub mod Points
 pub mod EarlyLemmas
+pub mod StartLemmas
+pub mod ClearLemmas

@@ -1,5 +1,6 @@
 pub mod Walks
 pub mod Early
+pub mod Starts
 pub mod Corners
 pub mod Inside
 pub mod Blocks

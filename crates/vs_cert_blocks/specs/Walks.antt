@@ -104,3 +104,7 @@ sure_at t p = ranges_of statement_sure (statement_at t p)
 -- ranges have all those among them
 abbrev pub HaveSure : Chart → List BitRange → Type 0
 HaveSure t rs = (p : ℕ) (r : BitRange) → Contains (sure_at t p) r → Contains rs r
+
+-- and all those of a signal
+abbrev pub HaveSureOf : Chart → ℕ → List BitRange → Type 0
+HaveSureOf t v rs = (p : ℕ) (r : BitRange) → Contains (sure_at t p) r → r.signal ≡ v → Contains rs r

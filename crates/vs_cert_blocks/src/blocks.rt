@@ -1,6 +1,7 @@
 //! Whether a combinational block keeps the rule K5, by its process and its map.
-ghost use Rattle.std.specs.Prelude.{ℕ, ◌≡◌, ◌↔◌, ◌⊎◌, false, map, IfOk, IsTrue};
+ghost use Rattle.std.specs.Prelude.{ℕ, ◌≡◌, ◌↔◌, ◌⊎◌, false, map, IfOk, OnOk, IsTrue};
 ghost use Rattle.std.specs.List.{Contains};
+ghost use Rattle.vs_reach_local.specs.Clear.{AreClear};
 ghost use Rattle.vs_process.specs.declared.moves.Grain.TheVariants as g;
 ghost use Rattle.vs_slots_paths.specs.Ranges.{HasSignal, statement_at};
 ghost use Rattle.vs_slots_paths.specs.Reaches.{places, IsPlace};
@@ -12,14 +13,17 @@ ghost use Rattle.vs_cert_blocks.specs.Walks.{has_late_effect_at, AreReads, AreWo
 
 use crate::bits::has_late_effect;
 use crate::early::early_ranges;
+use crate::starts::starts;
 use crate::walks::{Walks, statement_at, sure, woken};
 use std::alloc::{AllocError, Global};
 use vs_design::{BitRange, Design, EventTerm, Process};
 use vs_law_writes::statement_writes;
 use vs_process::{Grain, is_combinational};
-use vs_reach::{Rule, all_keep, has};
+use vs_reach::{Rule, all_keep};
+use vs_reach_local::clear_marks;
 use vs_slots_paths::{Tables, terms, text_reads};
 use vs_slots_ranges::covers;
+use vs_slots_signals::{BySignal, SignalSet};
 
 // The places of a map.
 #[derive(Drop)]
@@ -52,16 +56,24 @@ fn is_quiet<'a>(alloc: Global, tables: &'a Tables<'a>) -> Result<bool, AllocErro
     Ok(all)
 }
 
-// The signals that ranges are of, each once. It takes as long as there are ranges, for each signal.
-fn signals_of(alloc: Global, ranges: &[BitRange]) -> Result<Vec<usize>, AllocError>
-    ensures { IfOk result (λ signals. (v : ℕ) → (Contains signals.items v ↔ HasSignal ranges.now v)) }
+// The signals of ranges, one after another.
+fn all_signals(alloc: Global, ranges: &[BitRange]) -> Result<Vec<usize>, AllocError>
+    ensures { IfOk result (λ signals. signals.items ≡ map (λ (r : BitRange). r.signal) ranges.now) }
 {
     let mut signals = Vec::new(alloc);
     for range in ranges {
-        if !has(&signals, range.signal) {
-            signals.push(range.signal)?;
-        }
+        signals.push(range.signal)?;
     }
+    Ok(signals)
+}
+
+// The signals that ranges are of, each once.
+fn signals_of(alloc: Global, ranges: &[BitRange]) -> Result<Vec<usize>, AllocError>
+    ensures { IfOk result (λ signals. (v : ℕ) → (Contains signals.items v ↔ HasSignal ranges.now v)) }
+{
+    let mut signals = all_signals(alloc, ranges)?;
+    signals.sort_unstable();
+    signals.dedup();
     Ok(signals)
 }
 
@@ -88,19 +100,19 @@ fn reads<'a>(alloc: Global, tables: &'a Tables<'a>) -> Result<Vec<Vec<BitRange>>
     Ok(rows)
 }
 
-// Whether each of some ranges is of one of some signals, or other ranges cover it. For each range it takes as long as there are signals and
-// other ranges.
+// Whether each of some ranges is of one of some signals, or other ranges cover it. For each range it takes as long as there are other ranges of
+// its signal, and the logarithm of how many there are in all.
 fn are_of_or_covered(
     design: &Design,
-    signals: &[usize],
-    named: &[BitRange],
+    signals: &SignalSet,
+    named: &BySignal,
     read: &[BitRange],
 ) -> bool
     ensures { IsTrue result ↔
         ((r : BitRange) → Contains read.now r → Contains signals.now r.signal ⊎ Cover design.now named.now r) }
 {
     for range in read {
-        if !has(signals, range.signal) && !covers(design, named, *range) {
+        if !signals.has(range.signal) && !covers(design, named.of_signal(range.signal), *range) {
             return false;
         }
     }
@@ -118,8 +130,10 @@ fn are_named<'a>(
     ensures { IfOk result (λ b. (IsTrue b ↔ AreOfOrNamed design.now tables.entry.now signals.now read.now)) }
 {
     let terms = terms(alloc, tables)?;
-    let named = term_ranges(alloc, &terms)?;
-    Ok(are_of_or_covered(design, signals, &named, read))
+    let ranges = term_ranges(alloc, &terms)?;
+    let named = BySignal::of(ranges);
+    let written = SignalSet::of(alloc, signals)?;
+    Ok(are_of_or_covered(design, &written, &named, read))
 }
 
 // Whether each bit of a signal is written first.
@@ -128,14 +142,17 @@ fn signal_is_written<'a>(
     design: &Design,
     walks: &Walks<'a>,
     signal: usize,
+    marks: &mut Vec<bool>,
 ) -> Result<bool, AllocError>
     requires woken { AreWoken walks.now.tables.now walks.now.seeds.now }
     requires sure { HaveSure walks.now.tables.now walks.now.sure.now }
-    ensures { IfOk result (λ b. (IsTrue b ↔ IsSignalFirst design.now walks.now.tables.now signal)) }
+    requires marks { AreClear (places walks.now.tables.now) marks.old.items }
+    ensures clear { OnOk result (AreClear (places walks.now.tables.now) marks.new.items) }
+    ensures exact { IfOk result (λ b. (IsTrue b ↔ IsSignalFirst design.now walks.now.tables.now signal)) }
 {
     match design.signals().get(signal) {
         None => Ok(true),
-        Some(s) => walks.signal_is_written_first(alloc, signal, s.count as usize, s.width),
+        Some(s) => walks.signal_is_written_first(alloc, signal, s.count as usize, s.width, marks),
     }
 }
 
@@ -145,13 +162,15 @@ fn are_written<'a>(
     design: &Design,
     walks: &Walks<'a>,
     signals: &[usize],
+    marks: &mut Vec<bool>,
 ) -> Result<bool, AllocError>
     requires woken { AreWoken walks.now.tables.now walks.now.seeds.now }
     requires sure { HaveSure walks.now.tables.now walks.now.sure.now }
+    requires marks { AreClear (places walks.now.tables.now) marks.old.items }
     ensures { IfOk result (λ b. (IsTrue b ↔ AreSignalsFirst design.now walks.now.tables.now signals.now)) }
 {
     for signal in signals {
-        if !signal_is_written(alloc, design, walks, *signal)? {
+        if !signal_is_written(alloc, design, walks, *signal, marks)? {
             return Ok(false);
         }
     }
@@ -170,16 +189,21 @@ fn are_written_first<'a>(
     tables.leads_in();
     let seeds = woken(alloc, tables)?;
     let reads = reads(alloc, tables)?;
-    let sure = sure(alloc, tables)?;
+    let ranges = sure(alloc, tables)?;
+    let sure = BySignal::of(ranges);
     let first = early_ranges(alloc, tables, &seeds, &reads)?;
+    let early = BySignal::of(first);
+    let starts = starts(alloc, tables, &seeds, &reads)?;
     let walks = Walks {
         tables,
         seeds: &seeds,
         reads: &reads,
         sure: &sure,
-        early: &first,
+        early: &early,
+        starts: &starts,
     };
-    let all = are_written(alloc, design, &walks, signals)?;
+    let mut marks = clear_marks(alloc, tables.places())?;
+    let all = are_written(alloc, design, &walks, signals, &mut marks)?;
     Ok(all)
 }
 
@@ -215,8 +239,8 @@ fn keeps_text<'a>(
 /// Whether a combinational block keeps the rule K5, by its process and its map: the grain is `block`; it is an `always` with one control of level
 /// terms before a statement without timing control; it has no `<=`, no `$strobe` and no `$finish`; its control names each bit that it reads, but
 /// for its outputs; and on every path each bit of its outputs is written before a bit of that output is read, and before the end. It takes as
-/// long as the text and its map for each select of an output in it; but for those that are written before the paths part, as long as the text has
-/// selects.
+/// long as the text, up to a logarithm, and for each select of an output as long as its map from where the signal is first written up to where the
+/// select is on all paths; of one signal it takes the square of its different selects.
 pub fn keeps_process<'a>(
     alloc: Global,
     design: &Design,

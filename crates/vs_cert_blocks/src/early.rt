@@ -9,11 +9,11 @@ ghost use Rattle.vs_cert_blocks.specs.Walks.{sure_at, AreReads, AreWoken};
 use crate::walks::{is_at_once, push_sure, row, statement_at};
 use std::alloc::{AllocError, Global};
 use vs_design::BitRange;
-use vs_reach::has;
 use vs_slots_paths::Tables;
+use vs_slots_signals::SignalSet;
 
-// The least of some numbers and another one.
-fn least_of(xs: &[usize], start: usize) -> usize
+/// The least of some numbers and another one.
+pub(crate) fn least_of(xs: &[usize], start: usize) -> usize
     ensures few { result ≤ start }
     ensures each { (x : ℕ) → Contains xs.now x → result ≤ x }
 {
@@ -24,8 +24,8 @@ fn least_of(xs: &[usize], start: usize) -> usize
     least
 }
 
-// The greatest of some numbers, or 0.
-fn greatest_of(xs: &[usize]) -> usize
+/// The greatest of some numbers, or 0.
+pub(crate) fn greatest_of(xs: &[usize]) -> usize
     ensures { (x : ℕ) → Contains xs.now x → x ≤ result }
 {
     let mut greatest = 0;
@@ -35,8 +35,8 @@ fn greatest_of(xs: &[usize]) -> usize
     greatest
 }
 
-// Whether all of some numbers are another one at most.
-fn are_up_to(xs: &[usize], most: usize) -> bool
+/// Whether all of some numbers are another one at most.
+pub(crate) fn are_up_to(xs: &[usize], most: usize) -> bool
     ensures { IsTrue result ↔ ((x : ℕ) → Contains xs.now x → x ≤ most) }
 {
     for x in xs {
@@ -47,15 +47,13 @@ fn are_up_to(xs: &[usize], most: usize) -> bool
     true
 }
 
-// Some signals, and those of ranges.
-fn noted(seen: Vec<usize>, ranges: &[BitRange]) -> Result<Vec<usize>, AllocError>
-    ensures { IfOk result (λ new. (v : ℕ) → Contains seen.items v ⊎ HasSignal ranges.now v → Contains new.items v) }
+/// Some signals, and those of ranges.
+pub(crate) fn noted(seen: SignalSet, ranges: &[BitRange]) -> Result<SignalSet, AllocError>
+    ensures { IfOk result (λ new. (v : ℕ) → Contains seen v ⊎ HasSignal ranges.now v → Contains new v) }
 {
     let mut all = seen;
     for range in ranges {
-        if !has(&all, range.signal) {
-            all.push(range.signal)?;
-        }
+        all.put(range.signal)?;
     }
     Ok(all)
 }
@@ -64,13 +62,13 @@ fn noted(seen: Vec<usize>, ranges: &[BitRange]) -> Result<Vec<usize>, AllocError
 fn push_unseen(
     out: &mut Vec<BitRange>,
     ranges: &[BitRange],
-    seen: &[usize],
+    seen: &SignalSet,
 ) -> Result<(), AllocError>
     ensures { OnOk result ((r : range.BitRange) → Contains out.new.items r →
         (Contains out.old.items r ⊎ IsUnseen ranges.now seen.now r)) }
 {
     for range in ranges {
-        if !has(seen, range.signal) {
+        if !seen.has(range.signal) {
             out.push(*range)?;
         }
     }
@@ -83,7 +81,7 @@ fn push_early<'a>(
     tables: &'a Tables<'a>,
     place: usize,
     least: usize,
-    seen: &[usize],
+    seen: &SignalSet,
     out: &mut Vec<BitRange>,
 ) -> Result<(), AllocError>
     ensures { OnOk result ((r : range.BitRange) → Contains out.new.items r → (Contains out.old.items r
@@ -99,7 +97,7 @@ fn push_early<'a>(
 
 /// Ranges that are sure to be written on every path of a map before a bit of their signals is read, and before a control: of the places from the
 /// one to which event controls lead, as long as no control stands there, those to which all paths come back. It takes as long as there are places
-/// and ways, and for each read as many signals as were read before it.
+/// and ways, and for each read and write the logarithm of how many signals are read.
 pub(crate) fn early_ranges<'a>(
     alloc: Global,
     tables: &'a Tables<'a>,
@@ -112,7 +110,7 @@ pub(crate) fn early_ranges<'a>(
 {
     let high = greatest_of(seeds);
     let mut least = least_of(seeds, high);
-    let mut seen = Vec::new(alloc);
+    let mut seen = SignalSet::none(alloc);
     let mut out = Vec::new(alloc);
     for back in 0..tables.places() {
         if back > high {

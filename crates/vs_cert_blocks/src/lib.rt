@@ -6,6 +6,7 @@ mod blocks;
 mod corners;
 mod early;
 mod rule;
+mod starts;
 mod walks;
 
 pub use blocks::keeps_process;

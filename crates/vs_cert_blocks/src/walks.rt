@@ -1,5 +1,5 @@
 //! Walks of the map of a block on which nothing is sure to write a bit.
-ghost use Rattle.std.specs.Prelude.{ℕ, ◌≡◌, ◌++◌, ◌<◌, ◌↔◌, false, length, map, slice_index_or, IfOk, OnOk, IsTrue};
+ghost use Rattle.std.specs.Prelude.{ℕ, ◌≡◌, ◌++◌, ◌<◌, ◌↔◌, map, IfOk, OnOk, IsTrue};
 ghost use Rattle.std.specs.List.{Contains};
 ghost use Rattle.vs_design.specs.Uses.{joined};
 ghost use Rattle.vs_design.specs.declared.statement.Statement.TheViews.{out-Statement};
@@ -8,6 +8,8 @@ ghost use Rattle.vs_flatcode.specs.Ways.{none};
 ghost use Rattle.vs_slots_paths.specs.Reaches.{places, pause_at};
 ghost use Rattle.vs_slots_ranges.specs.Places.{bit};
 ghost use Rattle.vs_cert_blocks.specs.Early.{AreEarly};
+ghost use Rattle.vs_cert_blocks.specs.Starts.{AreStarts, IsClearFrom};
+ghost use Rattle.vs_reach_local.specs.Clear.{AreClear};
 ghost use Rattle.vs_cert_blocks.specs.Inside.{open_in};
 ghost use Rattle.vs_slots_paths.specs.Ranges.{ranges_of, HasSignal};
 ghost use Rattle.vs_cert_blocks.specs.Walks.{bit_view, is_open, open_tos, row_at, fixed_range, statement_sure};
@@ -16,9 +18,12 @@ ghost use Rattle.vs_cert_blocks.specs.Walks.{IsClear, IsWrittenFirst, AreWoken, 
 use crate::bits::{Bit, any_has, slice_range, surely_at};
 use crate::corners::{alike_until, alike_words_until};
 use std::alloc::{AllocError, Global};
+use std::collections::BTreeMap;
 use vs_design::{Aim, BitRange, Statement};
-use vs_reach::{Family, Graph, Rule, all_keep, gather, reach};
+use vs_reach::{Family, Graph, gather};
+use vs_reach_local::walk;
 use vs_slots_paths::{Pause, Tables};
+use vs_slots_signals::BySignal;
 
 /// The statement that is done at a place, where there is one.
 pub(crate) fn statement_at<'a>(tables: &'a Tables<'a>, place: usize) -> Option<&'a Statement>
@@ -193,61 +198,100 @@ pub(crate) struct Walks<'a> {
     /// The ranges that are read at each place.
     pub(crate) reads: &'a [Vec<BitRange>],
     /// The ranges that statements are sure to write.
-    pub(crate) sure: &'a [BitRange],
+    pub(crate) sure: &'a BySignal,
     /// Ranges that are sure to be written first.
-    pub(crate) early: &'a [BitRange],
+    pub(crate) early: &'a BySignal,
+    /// For signals, a place from which walks decide of their bits.
+    pub(crate) starts: &'a BTreeMap<usize, usize>,
     ghost within: { LeadsIn (places tables.now) tables.now.stops },
     ghost reads_are: { AreReads tables.now reads.now },
     ghost early_are: { AreEarly tables.now early.now },
-}
-
-// The places that are marked.
-#[derive(Drop)]
-struct Clear<'a> {
-    walks: &'a Walks<'a>,
-    marks: &'a [bool],
-    signal: usize,
-}
-
-impl<'a> Rule for Clear<'a> {
-    ghost keeps = { λ f p. IsTrue (slice_index_or f.marks.now p false) → IsClear f.walks.now.tables.now f.signal p };
-
-    fn test(&self, _alloc: Global, i: usize) -> Result<bool, AllocError> {
-        if i >= self.marks.len() {
-            return Ok(true);
-        }
-        if !self.marks[i] {
-            return Ok(true);
-        }
-        if names(row(self.walks.reads, i), self.signal) {
-            return Ok(false);
-        }
-        Ok(is_at_once(self.walks.tables, i))
-    }
+    ghost starts_are: { AreStarts tables.now starts.now },
 }
 
 impl<'a> Walks<'a> {
-    // Whether a bit is written on every path before a bit of its signal is read, and before the block is back at its control. Of one that is known
-    // to be it takes as long as there are such ranges; else as the map has places and ways.
-    fn is_written_first(&self, alloc: Global, bit: Bit) -> Result<bool, AllocError>
-        requires { AreWoken self.now.tables.now self.now.seeds.now }
-        ensures { IfOk result (λ b. (IsTrue b ↔ IsWrittenFirst self.now.tables.now (bit_view bit))) }
+    // Whether at a place no bit of a signal is read, and there is no control.
+    fn is_clear(&self, place: usize, signal: usize) -> bool
+        ensures { IsTrue result ↔ IsClear self.now.tables.now signal place }
     {
-        if any_has(self.early, bit) {
-            return Ok(true);
+        if names(row(self.reads, place), signal) {
+            return false;
         }
+        is_at_once(self.tables, place)
+    }
+
+    // Whether it is so at some places.
+    fn are_clear(&self, places: &[usize], signal: usize) -> bool
+        ensures { IsTrue result ↔ ((p : ℕ) → Contains places.now p → IsClear self.now.tables.now signal p) }
+    {
+        for place in places {
+            if !self.is_clear(*place, signal) {
+                return false;
+            }
+        }
+        true
+    }
+
+    // Whether it is so wherever walks lead from some places, on which nothing is sure to write a bit of that signal. It takes as long as there are
+    // such places and their ways.
+    fn is_clear_from(
+        &self,
+        alloc: Global,
+        bit: Bit,
+        seeds: &[usize],
+        marks: &mut Vec<bool>,
+    ) -> Result<bool, AllocError>
+        requires seeds { (s : ℕ) → Contains seeds.now s → s < places self.now.tables.now }
+        requires marks { AreClear (places self.now.tables.now) marks.old.items }
+        ensures clear { OnOk result (AreClear (places self.now.tables.now) marks.new.items) }
+        ensures exact { IfOk result (λ b. (IsTrue b ↔ IsClearFrom self.now.tables.now (bit_view bit) seeds.now)) }
+    {
         let open = Open {
             tables: self.tables,
             bit,
         };
-        let marks = reach(alloc, &open, self.seeds)?;
-        let clear = Clear {
-            walks: self,
-            marks: &marks,
-            signal: bit.signal,
-        };
-        let all = all_keep(alloc, &clear, marks.len())?;
-        Ok(all)
+        let found = walk(alloc, &open, seeds, marks)?;
+        Ok(self.are_clear(&found, bit.signal))
+    }
+
+    // Whether walks from the place where it is enough to begin for its signal tell that a bit is written first.
+    fn is_told(&self, alloc: Global, bit: Bit, marks: &mut Vec<bool>) -> Result<bool, AllocError>
+        requires marks { AreClear (places self.now.tables.now) marks.old.items }
+        ensures clear { OnOk result (AreClear (places self.now.tables.now) marks.new.items) }
+        ensures told { IfOk result (λ b. IsTrue b → IsWrittenFirst self.now.tables.now (bit_view bit)) }
+    {
+        match self.starts.get(&bit.signal) {
+            None => Ok(false),
+            Some(start) => {
+                if *start >= self.tables.places() {
+                    return Ok(false);
+                }
+                self.is_clear_from(alloc, bit, &[*start], marks)
+            }
+        }
+    }
+
+    // Whether a bit is written on every path before a bit of its signal is read, and before the block is back at its control. Of one that is known
+    // to be it takes as long as there are such ranges of its signal; of one that walks from the place where its signal begins tell of, as long as
+    // they have places; else as the map has places and ways.
+    fn is_written_first(
+        &self,
+        alloc: Global,
+        bit: Bit,
+        marks: &mut Vec<bool>,
+    ) -> Result<bool, AllocError>
+        requires woken { AreWoken self.now.tables.now self.now.seeds.now }
+        requires marks { AreClear (places self.now.tables.now) marks.old.items }
+        ensures clear { OnOk result (AreClear (places self.now.tables.now) marks.new.items) }
+        ensures exact { IfOk result (λ b. (IsTrue b ↔ IsWrittenFirst self.now.tables.now (bit_view bit))) }
+    {
+        if any_has(self.early.of_signal(bit.signal), bit) {
+            return Ok(true);
+        }
+        if self.is_told(alloc, bit, marks)? {
+            return Ok(true);
+        }
+        self.is_clear_from(alloc, bit, self.seeds, marks)
     }
 
     // The same of each bit of a word: once for those that behave alike.
@@ -257,10 +301,13 @@ impl<'a> Walks<'a> {
         signal: usize,
         word: usize,
         width: u32,
+        marks: &mut Vec<bool>,
     ) -> Result<bool, AllocError>
         requires woken { AreWoken self.now.tables.now self.now.seeds.now }
         requires sure { HaveSure self.now.tables.now self.now.sure.now }
-        ensures { IfOk result (λ b. (IsTrue b ↔
+        requires marks { AreClear (places self.now.tables.now) marks.old.items }
+        ensures clear { OnOk result (AreClear (places self.now.tables.now) marks.new.items) }
+        ensures exact { IfOk result (λ b. (IsTrue b ↔
             ((n : ℕ) → n < width → IsWrittenFirst self.now.tables.now (bit signal word n)))) }
     {
         let mut place = 0;
@@ -270,10 +317,10 @@ impl<'a> Walks<'a> {
                 word,
                 place,
             };
-            if !self.is_written_first(alloc, bit)? {
+            if !self.is_written_first(alloc, bit, marks)? {
                 return Ok(false);
             }
-            place = alike_until(self.sure, signal, word, width, place);
+            place = alike_until(self.sure.of_signal(signal), signal, word, width, place);
         }
         Ok(true)
     }
@@ -286,18 +333,21 @@ impl<'a> Walks<'a> {
         signal: usize,
         count: usize,
         width: u32,
+        marks: &mut Vec<bool>,
     ) -> Result<bool, AllocError>
         requires woken { AreWoken self.now.tables.now self.now.seeds.now }
         requires sure { HaveSure self.now.tables.now self.now.sure.now }
-        ensures { IfOk result (λ b. (IsTrue b ↔
+        requires marks { AreClear (places self.now.tables.now) marks.old.items }
+        ensures clear { OnOk result (AreClear (places self.now.tables.now) marks.new.items) }
+        ensures exact { IfOk result (λ b. (IsTrue b ↔
             ((w n : ℕ) → w < count → n < width → IsWrittenFirst self.now.tables.now (bit signal w n)))) }
     {
         let mut word = 0;
         while word < count {
-            if !self.word_is_written_first(alloc, signal, word, width)? {
+            if !self.word_is_written_first(alloc, signal, word, width, marks)? {
                 return Ok(false);
             }
-            word = alike_words_until(self.sure, signal, count, word);
+            word = alike_words_until(self.sure.of_signal(signal), signal, count, word);
         }
         Ok(true)
     }

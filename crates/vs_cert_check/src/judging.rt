@@ -36,6 +36,7 @@ use vs_slots::Slots;
 use vs_slots_cold::Beginning;
 use vs_slots_cones::Cones;
 use vs_slots_copies::Copies;
+use vs_slots_fanout::WriteClasses;
 use vs_slots_paths::Tables;
 use vs_slots_uses::Uses;
 
@@ -215,6 +216,7 @@ fn by_tables<'x>(
     entries: &'x Entries<'x>,
     first_writes: &'x FirstWrites<'x>,
     slots: &'x Slots<'x>,
+    classes: &'x WriteClasses<'x>,
     first_slot: &'x FirstSlot<'x>,
 ) -> Result<Verdict, AllocError>
     requires uses { uses.now ≡ texts_in facts.now }
@@ -223,6 +225,7 @@ fn by_tables<'x>(
     requires entries { entries.now ≡ facts.now }
     requires first_writes { first_writes.now ≡ facts.now }
     requires slots { slots.now ≡ facts.now }
+    requires classes { classes.now ≡ slots.now }
     requires first_slot { first_slot.now ≡ facts.now }
     ensures { IfOk result (λ v. IsTold facts.entry.now.design facts.entry.now.claims v) }
 {
@@ -234,6 +237,7 @@ fn by_tables<'x>(
         entries,
         first_writes,
         slots,
+        classes,
         first_slot,
     };
     by_sheet(alloc, &sheet)
@@ -256,6 +260,7 @@ fn by_entries<'x>(
 {
     let first_writes = FirstWrites::of(alloc, entries)?;
     let slots = Slots::new(alloc, facts)?;
+    let classes = WriteClasses::of(alloc, &slots, cones)?;
     let first_slot = FirstSlot::new(alloc, facts, uses, cones)?;
     by_tables(
         alloc,
@@ -266,6 +271,7 @@ fn by_entries<'x>(
         &*entries,
         &first_writes,
         &slots,
+        &classes,
         &first_slot,
     )
 }

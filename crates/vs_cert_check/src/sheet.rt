@@ -28,6 +28,7 @@ use vs_slots::Slots;
 use vs_slots_cold::Beginning;
 use vs_slots_cones::Cones;
 use vs_slots_copies::Copies;
+use vs_slots_fanout::WriteClasses;
 use vs_slots_uses::Uses;
 
 /// A design and its certificate, with the tables in which the rules look things up.
@@ -40,6 +41,7 @@ pub(crate) struct Sheet<'a> {
     pub entries: &'a Entries<'a>,
     pub first_writes: &'a FirstWrites<'a>,
     pub slots: &'a Slots<'a>,
+    pub classes: &'a WriteClasses<'a>,
     pub first_slot: &'a FirstSlot<'a>,
     pub ghost uses_are: { uses.now ≡ texts_in facts.now },
     pub ghost cones_are: { cones.now ≡ wiring facts.now.design (marks_of facts.now.design facts.now.claims) },
@@ -47,6 +49,7 @@ pub(crate) struct Sheet<'a> {
     pub ghost entries_are: { entries.now ≡ facts.now },
     pub ghost first_writes_are: { first_writes.now ≡ facts.now },
     pub ghost slots_are: { slots.now ≡ facts.now },
+    pub ghost classes_are: { classes.now ≡ slots.now },
     pub ghost first_slot_is: { first_slot.now ≡ facts.now },
 }
 
@@ -90,7 +93,7 @@ fn keeps_of_process(alloc: Global, sheet: &Sheet, rule: usize, i: usize) -> Resu
         4 => keeps_block(alloc, sheet.facts, i),
         6 => keeps_edges(alloc, sheet.slots, i),
         7 => keeps_delays(alloc, sheet.facts, i),
-        8 => keeps_readings(alloc, sheet.slots, sheet.cones, i),
+        8 => keeps_readings(alloc, sheet.slots, sheet.classes, sheet.cones, i),
         9 => sheet.first_slot.keeps_first_slot(alloc, i),
         _ => Ok(true),
     }

@@ -4,6 +4,7 @@ ghost use Rattle.std.specs.List.{Contains};
 ghost use Rattle.vs_design.specs.declared.range.BitRange as range;
 ghost use Rattle.vs_design.specs.declared.statement.EventTerm as statement;
 ghost use Rattle.vs_rules.specs.Claims.{IsWriter};
+ghost use Rattle.vs_rules.specs.Drivers.{InCone};
 ghost use Rattle.vs_rules.specs.Rules.{K9};
 ghost use Rattle.vs_slots_cones.specs.Wires.{IsWiringOf};
 ghost use Rattle.vs_slots_paths.specs.Ranges.{HasTermAt};
@@ -18,6 +19,7 @@ use vs_logic4::Edge;
 use vs_reach::{Rule, all_keep};
 use vs_slots::{Slots, are_apart};
 use vs_slots_cones::Cones;
+use vs_slots_fanout::WriteClasses;
 use vs_slots_paths::{Tables, hot, terms};
 
 // Whether a root isn't written at a residue at which a term of another root can fire.
@@ -107,12 +109,14 @@ fn has_edge(terms: &[EventTerm], v: usize) -> bool
     false
 }
 
-// A process of kind edge or delay: its number and its tables, with the slots of the whole.
+// A process of kind edge or delay: its number and its tables, with the slots of the whole and their classes.
 #[derive(Drop)]
 struct Reader<'a> {
     slots: &'a Slots<'a>,
+    classes: &'a WriteClasses<'a>,
     tables: &'a Tables<'a>,
     process: usize,
+    ghost classes_are: { classes.now ≡ slots.now },
 }
 
 impl<'a> Reader<'a> {
@@ -243,6 +247,28 @@ impl<'a> Reader<'a> {
         Ok(true)
     }
 
+    // Whether the classes of residues tell that no variable in the cone of a range of a signal, which some driver writes, is written at a run slot
+    // of a place.
+    fn is_clear<'b>(
+        &self,
+        alloc: Global,
+        cones: &'b Cones<'b>,
+        place: usize,
+        v: usize,
+    ) -> Result<bool, AllocError>
+        requires is_chart { slice_get self.now.slots.now.charts self.now.process ≡ Some self.now.tables.now }
+        requires place { place < places self.now.tables.now }
+        ensures { IfOk result (λ b. IsTrue b → (u : ℕ) (r : range.BitRange) → r.signal ≡ v →
+            InCone self.now.slots.now.design self.now.slots.now.claims u r →
+            ApartAt self.now.slots.now.design self.now.slots.now.claims self.now.process self.now.tables.now place u) }
+    {
+        if cones.writers(v).is_empty() {
+            return Ok(false);
+        }
+        let runs = self.slots.run_slots(alloc, self.process, place)?;
+        Ok(self.classes.are_clear(v, &runs))
+    }
+
     // Whether it may read a range at a place.
     fn may_read_range<'b>(
         &self,
@@ -257,6 +283,10 @@ impl<'a> Reader<'a> {
         ensures { IfOk result (λ b. (IsTrue b ↔
             MayReadRange self.now.slots.now.design self.now.slots.now.claims self.now.process self.now.tables.now place range)) }
     {
+        let clear = self.is_clear(alloc, &*cones, place, range.signal)?;
+        if clear {
+            return Ok(true);
+        }
         let sources = cones.blocking_of(alloc, range)?;
         let all = self.may_read_all(alloc, place, range.signal, &sources)?;
         Ok(all)
@@ -334,15 +364,18 @@ impl<'a> Reader<'a> {
 }
 
 /// Whether a process keeps the rule K9: where it is of kind edge or delay, what it reads at a place of a blocking source is its own, is a signal of
-/// its edge terms, or is written at other residues than the place runs at. For each range that it reads it takes as long as the cone of the range,
-/// and for each blocking source there as long as the residues at which that is written and the place runs.
+/// its edge terms, or is written at other residues than the place runs at. For each range that it reads it takes as long as there are residues at
+/// which the place runs, and where a variable on which the range's signal hangs is written in a class of one of them, as the cone of the range, and
+/// for each blocking source there as the residues at which that is written and the place runs.
 pub fn keeps_readings<'a, 'b>(
     alloc: Global,
     slots: &'a Slots<'a>,
+    classes: &'a WriteClasses<'a>,
     cones: &'b Cones<'b>,
     i: usize,
 ) -> Result<bool, AllocError>
-    requires { IsWiringOf slots.now.design slots.now.claims cones.now }
+    requires wiring { IsWiringOf slots.now.design slots.now.claims cones.now }
+    requires classes { classes.now ≡ slots.now }
     ensures exact { IfOk result (λ b. (IsTrue b ↔ K9 slots.entry.now.design slots.entry.now.claims i)) }
 {
     let facts = slots.facts();
@@ -355,6 +388,7 @@ pub fn keeps_readings<'a, 'b>(
         Some(tables) => {
             let reader = Reader {
                 slots,
+                classes,
                 tables,
                 process: i,
             };

@@ -4,3 +4,5 @@ pub mod HotLemmas
 pub mod ListLemmas
 pub mod FirstLemmas
 pub mod FirstRows
+pub mod RankLemmas
+pub mod WriteLemmas

@@ -1,3 +1,4 @@
 pub mod Entries
 pub mod Roots
 pub mod First
+pub mod Ranks

@@ -13,6 +13,7 @@ ghost use Rattle.vs_cert_facts.specs.Facts.{IsRootAt};
 ghost use Rattle.vs_cert_roots.specs.First.{WakesSignal};
 ghost use Rattle.vs_cert_roots.specs.Entries.{NamesEntry, NamesTerm, WakesAt, AreTerms, HasEntries, is_edge_of};
 
+use crate::writes::Writes;
 use std::alloc::{AllocError, Global};
 use std::marker::Model;
 use vs_cert_facts::Facts;
@@ -196,11 +197,11 @@ fn put_root(facts: &Facts, place: usize, v: usize, out: &mut Vec<usize>) -> Resu
     Ok(())
 }
 
-/// The entries of a certificate for the signals of edge terms, by the number of the signal, and the terms of all processes. A contract sees the
-/// design, what the certificate claims of it, and the maps of the texts of the processes.
+/// The entries of a certificate for the signals of edge terms, by the number of the signal, the terms of all processes, and where their writers write
+/// signals. A contract sees the design, what the certificate claims of it, and the maps of the texts of the processes.
 #[derive(Drop)]
 pub struct Entries<'a> {
-    facts: &'a Facts<'a>,
+    writes: Writes<'a>,
     places: Vec<Vec<usize>>,
     terms: Vec<EventTerm>,
     // For each signal the numbers of its edge terms.
@@ -218,9 +219,9 @@ impl<'a> Model for Entries<'a> {
 
     ghost coded = { Prim.hlevel (codes, statement.the_row.coded, expression.the_row.coded) };
 
-    ghost view = { λ e. e.facts.now };
+    ghost view = { λ e. e.writes };
 
-    ghost invariant = { λ e. KeepsEntries e.facts.now e.places.items e.terms.items e.edges.items };
+    ghost invariant = { λ e. KeepsEntries e.writes e.places.items e.terms.items e.edges.items };
 }
 
 impl<'a> Entries<'a> {
@@ -238,8 +239,9 @@ impl<'a> Entries<'a> {
         let places = index_of(alloc, &signals, certificate.edges.len(), count)?;
         let terms = terms_of(alloc, facts)?;
         let edges = index_of(alloc, &EdgeTerms { terms: &terms }, terms.len(), count)?;
+        let writes = Writes::of(alloc, facts)?;
         Ok(Entries {
-            facts,
+            writes,
             places,
             terms,
             edges,
@@ -250,7 +252,14 @@ impl<'a> Entries<'a> {
     pub fn facts(&self) -> &'a Facts<'a>
         ensures { result.now ≡ self.now }
     {
-        self.facts
+        self.writes.facts()
+    }
+
+    // Where their writers write signals.
+    pub(crate) fn writes(&self) -> &Writes<'a>
+        ensures { result.now ≡ self.now }
+    {
+        &self.writes
     }
 
     /// Whether an edge term names a signal. For one past the last of the design it takes as long as there are terms.
@@ -286,9 +295,10 @@ impl<'a> Entries<'a> {
     pub fn roots(&self, alloc: Global, v: usize) -> Result<Vec<usize>, AllocError>
         ensures { IfOk result (λ roots. (r : ℕ) → (Contains roots.items r ↔ IsRootOf self.now.design self.now.claims r v)) }
     {
+        let facts = self.facts();
         let places = self.places(v);
         let roots = Roots {
-            facts: self.facts,
+            facts,
             places,
             signal: v,
         };

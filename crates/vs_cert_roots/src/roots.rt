@@ -1,13 +1,14 @@
 //! The rule K6, on the signals of edge terms and the variables that they copy.
-ghost use Rattle.std.specs.Prelude.{ℕ, ◌≡◌, ◌<◌, ◌↔◌, true, false, length, slice_index_or, IfOk, IsTrue};
+ghost use Rattle.std.specs.Prelude.{ℕ, ◌≡◌, ◌<◌, ◌↔◌, true, false, Some, length, slice_get, slice_index_or, IfOk, IsTrue};
 ghost use Rattle.std.specs.List.{Contains};
-ghost use Rattle.vs_rules.specs.Claims.{blocking, HasKind, HasMode, IsRootOf};
+ghost use Rattle.vs_rules.specs.Claims.{blocking, HasKind, HasMode, IsDelay, IsRootOf, IsWriter};
 ghost use Rattle.vs_rules.specs.Rules.{CopiesRoot, IsSoundRoot, K6};
 ghost use Rattle.vs_slots_paths.specs.Reaches.{places, IsPlace};
 ghost use Rattle.vs_slots_paths.specs.Walks.{InHot};
 ghost use Rattle.vs_cert_roots.specs.Roots.{WritesAt, NeverHotIn, NeverHot, IsSoundlyWritten, IsRight, is_blocking_mode};
 
 use crate::entries::Entries;
+use crate::writes::Writes;
 use std::alloc::{AllocError, Global};
 use vs_cert_facts::Facts;
 use vs_certificate::SignalMode;
@@ -63,19 +64,42 @@ fn never_hot_in<'a>(alloc: Global, tables: &'a Tables<'a>, v: usize) -> Result<b
     Ok(all)
 }
 
-// Whether a process writes a signal nowhere where it is hot.
-fn never_hot<'a>(
+// Whether a text, that of the writer of a signal, writes it nowhere where it is hot: the ranks of its places tell that, or else a walk does.
+fn never_hot_by<'a>(
     alloc: Global,
-    facts: &'a Facts<'a>,
+    writes: &Writes<'a>,
+    tables: &'a Tables<'a>,
     i: usize,
     v: usize,
 ) -> Result<bool, AllocError>
+    requires text { slice_get writes.now.charts i ≡ Some tables.now }
+    requires delay { IsDelay writes.now.design writes.now.claims i }
+    requires writer { IsWriter writes.now.design writes.now.claims v i }
+    ensures { IfOk result (λ b. (IsTrue b ↔ NeverHotIn tables.entry.now v)) }
+{
+    if writes.are_apart(tables, i, v) {
+        return Ok(true);
+    }
+    never_hot_in(alloc, tables, v)
+}
+
+// Whether a process of kind delay, the writer of a signal, writes it nowhere where it is hot.
+fn never_hot<'a>(
+    alloc: Global,
+    facts: &'a Facts<'a>,
+    writes: &Writes<'a>,
+    i: usize,
+    v: usize,
+) -> Result<bool, AllocError>
+    requires writes { writes.now ≡ facts.now }
+    requires delay { IsDelay facts.now.design facts.now.claims i }
+    requires writer { IsWriter facts.now.design facts.now.claims v i }
     ensures { IfOk result (λ b. (IsTrue b ↔ NeverHot facts.entry.now.design i v)) }
 {
     facts.maps();
     match facts.tables(i) {
         None => Ok(true),
-        Some(tables) => never_hot_in(alloc, tables, v),
+        Some(tables) => never_hot_by(alloc, writes, tables, i, v),
     }
 }
 
@@ -83,15 +107,17 @@ fn never_hot<'a>(
 fn is_soundly_written<'a>(
     alloc: Global,
     facts: &'a Facts<'a>,
+    writes: &Writes<'a>,
     root: usize,
 ) -> Result<bool, AllocError>
+    requires { writes.now ≡ facts.now }
     ensures { IfOk result (λ b. (IsTrue b ↔ IsSoundlyWritten facts.entry.now.design facts.entry.now.claims root)) }
 {
     let Some(i) = facts.writer(root) else {
         return Ok(false);
     };
     if facts.is_delay(i) {
-        never_hot(alloc, facts, i, root)
+        never_hot(alloc, facts, writes, i, root)
     } else {
         Ok(false)
     }
@@ -127,7 +153,13 @@ fn is_blocking(facts: &Facts, v: usize) -> bool
 }
 
 // Whether a signal is a variable of mode blocking, with a writer of kind delay, and not hot where that writes it.
-fn is_sound_root<'a>(alloc: Global, facts: &'a Facts<'a>, root: usize) -> Result<bool, AllocError>
+fn is_sound_root<'a>(
+    alloc: Global,
+    facts: &'a Facts<'a>,
+    writes: &Writes<'a>,
+    root: usize,
+) -> Result<bool, AllocError>
+    requires { writes.now ≡ facts.now }
     ensures { IfOk result (λ b. (IsTrue b ↔ IsSoundRoot facts.entry.now.design facts.entry.now.claims root)) }
 {
     if !is_variable(facts.design(), root) {
@@ -136,22 +168,24 @@ fn is_sound_root<'a>(alloc: Global, facts: &'a Facts<'a>, root: usize) -> Result
     if !is_blocking(facts, root) {
         return Ok(false);
     }
-    is_soundly_written(alloc, facts, root)
+    is_soundly_written(alloc, facts, writes, root)
 }
 
 // Whether a signal copies a root, and the root is sound.
 fn is_right<'a>(
     alloc: Global,
     facts: &'a Facts<'a>,
+    writes: &Writes<'a>,
     copies: &Copies,
     root: usize,
     v: usize,
 ) -> Result<bool, AllocError>
-    requires { copies.now ≡ facts.now.design }
+    requires writes { writes.now ≡ facts.now }
+    requires copies { copies.now ≡ facts.now.design }
     ensures { IfOk result (λ b. (IsTrue b ↔ IsRight facts.entry.now.design facts.entry.now.claims v root)) }
 {
     if copies.copies_root(alloc, root, v)? {
-        is_sound_root(alloc, facts, root)
+        is_sound_root(alloc, facts, writes, root)
     } else {
         Ok(false)
     }
@@ -161,15 +195,17 @@ fn is_right<'a>(
 fn are_right<'a>(
     alloc: Global,
     facts: &'a Facts<'a>,
+    writes: &Writes<'a>,
     copies: &Copies,
     roots: &[usize],
     v: usize,
 ) -> Result<bool, AllocError>
-    requires { copies.now ≡ facts.now.design }
+    requires writes { writes.now ≡ facts.now }
+    requires copies { copies.now ≡ facts.now.design }
     ensures { IfOk result (λ b. (IsTrue b ↔ ((r : ℕ) → Contains roots.now r → IsRight facts.entry.now.design facts.entry.now.claims v r))) }
 {
     for root in roots {
-        if !is_right(alloc, facts, copies, *root, v)? {
+        if !is_right(alloc, facts, writes, copies, *root, v)? {
             return Ok(false);
         }
     }
@@ -177,8 +213,8 @@ fn are_right<'a>(
 }
 
 /// Whether a signal keeps the rule K6: it has one entry where an edge term names it, else none; and it copies the root of its entry, a variable of
-/// mode blocking, with a writer of kind delay, and not hot where that writes it. It takes for the root as long as there are signals, and as the
-/// writer's text.
+/// mode blocking, with a writer of kind delay, and not hot where that writes it. It takes for the root as long as there are signals, and as there
+/// are places at which the writer writes it; as the writer's text, where their ranks don't tell.
 pub fn keeps_root<'a>(
     alloc: Global,
     entries: &Entries<'a>,
@@ -192,5 +228,5 @@ pub fn keeps_root<'a>(
         return Ok(false);
     }
     let roots = entries.roots(alloc, v)?;
-    are_right(alloc, entries.facts(), copies, &roots, v)
+    are_right(alloc, entries.facts(), entries.writes(), copies, &roots, v)
 }

@@ -1,8 +1,10 @@
+mod GoodNameLemmas
+mod GoodPieceLemmas
+mod GoodScopeLemmas
+mod GoodTextLemmas
 mod ItselfLemmas
 mod LayerLemmas
 mod OneLineLemmas
-mod OneLineNameLemmas
-mod OneLinePieceLemmas
 mod OneLineTextLemmas
 mod PairLemmas
 mod SameDesignLemmas
@@ -16,3 +18,4 @@ mod SameScopeLemmas
 mod SameStatementLemmas
 mod SameTargetLemmas
 mod SameTypedLemmas
+mod TokenLemmas

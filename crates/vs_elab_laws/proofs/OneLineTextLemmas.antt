@@ -1,28 +1,13 @@
 -- Printed names hold no line feed where the names of the text don't.
-use Rattle.std.proofs.Common.{◌≡◌, ℕ, zero, suc, ◌+◌, ◌<◌, ℤ, pos, negsuc, Bool, true, false, cond, not, List, [], ◌∷◌, ◌++◌, Option, Some, None, length, refl, sym, ◌∙◌, arith}
+use Rattle.std.proofs.Common.{◌≡◌, ℕ, zero, suc, ◌+◌, ◌<◌, ℤ, pos, negsuc, Bool, true, false, cond, not, List, [], ◌∷◌, ◌++◌, Option, Some, None, refl, arith}
 use Rattle.std.specs.Prelude.{◌==◌, ◌/◌, ◌%◌, nat_lt, codes, decimal, replicate}
 use Rattle.std.specs.Fmt.{digits, digits_onto, digit_glyph, signed_decimal}
-use Rattle.std.specs.List.{list_all, list_any, flat_map, AllByRecursion}
-use Rattle.std.specs.Str.{bytes_eq}
+use Rattle.std.specs.List.{flat_map}
 use Rattle.std.proofs.lemmas.Bool.{and_parts, and_from, cond_both, eqb-true}
-use Rattle.std.proofs.lemmas.List.Folds.{list_all-append}
 use Rattle.vs_lexer.specs.NameLines.{is_one_line}
 use Rattle.vs_scopes.specs.Printed.{is_simple, escaped_byte, printed_name, PathName, printed_turn, printed_part}
-use Rattle.vs_scopes.specs.Generate.{numbered_name, free_name, name_of_block}
-
-pub both : {A : Type 0} (p : A → Bool) (xs ys : List A) → list_all p xs ≡ true → list_all p ys ≡ true → list_all p (xs ++ ys) ≡ true
-both p xs ys h k = list_all-append p xs ys ∙ and_from (list_all p xs) (list_all p ys) h k
-
-pub halves : {A : Type 0} (p : A → Bool) (xs ys : List A) → list_all p (xs ++ ys) ≡ true → (list_all p xs ≡ true) × (list_all p ys ≡ true)
-halves p xs ys h = and_parts (list_all p xs) (list_all p ys) (sym (list_all-append p xs ys) ∙ h)
-
-pub each_append : {A : Type 0} (P : A → Type 0) (xs ys : List A) → AllByRecursion P xs → AllByRecursion P ys → AllByRecursion P (xs ++ ys)
-each_append P [] ys h k = k
-each_append P (x ∷ xs) ys h k = (h.0, each_append P xs ys h.1 k)
-
--- names without line feed
-abbrev pub AreOneLine : List (List ℕ) → Type 0
-AreOneLine ns = list_all is_one_line ns ≡ true
+use Rattle.vs_scopes.specs.Generate.{numbered_name}
+use Rattle.vs_elab_laws.proofs.GoodTextLemmas.{both}
 
 -- ---- names as they are printed
 
@@ -83,25 +68,6 @@ zeros_one_line : (n : ℕ) → is_one_line (replicate n 48) ≡ true
 zeros_one_line zero = refl
 zeros_one_line (suc n) = zeros_one_line n
 
-numbered_one_line : (padding k : ℕ) → is_one_line (numbered_name padding k) ≡ true
+pub numbered_one_line : (padding k : ℕ) → is_one_line (numbered_name padding k) ≡ true
 numbered_one_line padding k =
     both (λ b. not (b == 10)) (codes "genblk" ++ replicate padding 48) (decimal k) (both (λ b. not (b == 10)) (codes "genblk") (replicate padding 48) refl (zeros_one_line padding)) (decimal_one_line k)
-
--- a name without line feed, where there is one
-abbrev pub HasOneLine : Option (List ℕ) → Type 0
-HasOneLine None = Unit {0}
-HasOneLine (Some n) = is_one_line n ≡ true
-
-free_one_line : (room : ℕ) (names : List (List ℕ)) (padding k : ℕ) → HasOneLine (free_name room names padding k)
-unfolding free_name
-free_one_line zero names padding k = tt
-free_one_line (suc room) names padding k = by (nat_lt 1024 (length (numbered_name padding k))) (list_any (bytes_eq (numbered_name padding k)) names) (free_one_line room names (suc padding) k)
-  where
-    by : (a b : Bool) → HasOneLine (free_name room names (suc padding) k) → HasOneLine (cond a None (cond b (free_name room names (suc padding) k) (Some (numbered_name padding k))))
-    by true b rest = tt
-    by false true rest = rest
-    by false false rest = numbered_one_line padding k
-
-pub block_name_one_line : (names : List (List ℕ)) (k : ℕ) (n : Option (List ℕ)) → HasOneLine n → HasOneLine (name_of_block names k n)
-block_name_one_line names k None h = free_one_line 1024 names 0 k
-block_name_one_line names k (Some n) h = h

@@ -1,3 +1,4 @@
 pub use Rattle.vs_elaborate.specs.DesignOf
+pub mod Named
 pub mod OneLine
 pub mod Same

@@ -5,8 +5,25 @@ ghost use Rattle.vs_syntax.specs.Same.{SameSource};
 ghost use Rattle.vs_design.specs.OneLine.{HasNamesOfOneLine};
 ghost use Rattle.vs_design.specs.Parts.{Parts};
 ghost use Rattle.vs_elaborate.specs.DesignOf.{DesignOf};
+ghost use Rattle.vs_elab_laws.specs.Named.{NamesAreOfSource, NamesOfModulesAreTokens};
 ghost use Rattle.vs_elab_laws.specs.OneLine.{HasModulesOfOneLine};
 ghost use Rattle.vs_elab_laws.specs.Same.{SameDesign};
+
+use vs_elab_pieces::used_are_tokens;
+use vs_syntax::names_are_tokens;
+
+/// What all names among tokens pass that derive a source, the names of its modules pass.
+pub fn names_of_modules_are_tokens()
+    ensures { NamesOfModulesAreTokens }
+{
+    names_are_tokens();
+    used_are_tokens();
+}
+
+/// The names of a design are those that its source declares or uses, or those of unnamed generate blocks, each printed.
+pub fn names_are_of_source()
+    ensures { NamesAreOfSource }
+{}
 
 /// Where no name that the modules of a source declare holds a line feed, no name of a design of the source does.
 pub fn names_of_one_line()

@@ -1,7 +1,7 @@
-//! What holds of the designs that sources define: a source and a top define one design, and its names are of one line
-//! (IEEE 1364-2005, clause 12).
+//! What holds of the designs that sources define: a source and a top define one design, and its names are those of the source, printed, each on one
+//! line (IEEE 1364-2005, clause 12).
 #![tactic(auto)]
 
 mod laws;
 
-pub use laws::{names_of_one_line, one_design};
+pub use laws::{names_are_of_source, names_of_modules_are_tokens, names_of_one_line, one_design};

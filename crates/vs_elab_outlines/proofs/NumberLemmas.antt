@@ -1,5 +1,5 @@
 -- Outlines declare signals in design order.
-use Rattle.std.proofs.Common.{◌≡◌, ℕ, zero, suc, ◌+◌, Bool, true, Option, Some, None, List, [], ◌∷◌, ◌++◌, length, map, refl, sym, ap, ◌∙◌, append-nil, arith}
+use Rattle.std.proofs.Common.{◌≡◌, ℕ, zero, suc, ◌+◌, Bool, true, Option, Some, None, List, [], ◌∷◌, ◌++◌, length, refl, sym, ap, ◌∙◌, append-nil, arith}
 use Rattle.std.proofs.lemmas.Bool.{and_from}
 use Rattle.std.proofs.lemmas.Grind.{flat_map-append}
 use Rattle.std.proofs.lemmas.List.{length-append, length-map}
@@ -9,7 +9,6 @@ use Rattle.vs_syntax.specs.declared.tree.Module.{Module}
 use Rattle.vs_design.specs.WellFormed.{counts_from}
 use Rattle.vs_scopes.specs.Nets.{permits_nets}
 use Rattle.vs_scopes.specs.Generate.{Inner}
-use Rattle.vs_scopes.specs.Printed.{printed_part}
 use Rattle.vs_scopes.specs.Scopes.{Scope, Before, behind, below, declarations_of, deepest, inner_of, listed, module_named, opened, opened_top, scopes_of, scopes_within, signal_count, within_first}
 use Rattle.vs_elab_listed.specs.Outlines.{Line, declare, enter, leave, declare_from, outline_around, outline_below, outline_of, outline_within, signal_of, signals_of}
 use Rattle.vs_elab_path_laws.proofs.PathsOpened.{what_is_opened, what_is_opened_top}

@@ -1,9 +1,8 @@
 -- The outline of a design is that of its source.
-use Rattle.std.proofs.Common.{◌≡◌, ℕ, suc, true, Some, None, List, [], ◌∷◌, ◌++◌, length, map, refl, sym, ap, subst, ◌∙◌}
+use Rattle.std.proofs.Common.{◌≡◌, ℕ, None, List, [], ◌∷◌, ◌++◌, length, refl, sym, ap, subst, ◌∙◌}
 use Rattle.std.proofs.lemmas.List.{length-map}
 use Rattle.std.proofs.lemmas.List.Elements.{All-head, All-tail}
 use Rattle.std.proofs.lemmas.Option.{get_or_from_slice_get, slice_get_within}
-use Rattle.std.specs.Prelude.{get_or, slice_get}
 use Rattle.std.specs.List.{flat_map, All, AllZip}
 use Rattle.vs_syntax.specs.declared.tree.Module.{Module}
 use Rattle.vs_design.specs.declared.design.Entry.{Entry}
@@ -13,10 +12,10 @@ use Rattle.vs_design.specs.Parts.{Parts}
 use Rattle.vs_design.specs.WellFormed.{counts_from, declared_in}
 use Rattle.vs_scopes.specs.Nets.{permits_nets}
 use Rattle.vs_scopes.specs.Scopes.{deepest, module_named, opened_top, scopes_of, signal_count}
-use Rattle.vs_elab_listed.specs.Outlines.{Line, declare, declared, enter, leave, outline_of, signals_of, IsEntry}
-use Rattle.vs_elaborate.specs.DesignOf.{DesignOf, Represents}
+use Rattle.vs_elab_listed.specs.Outlines.{Line, declare, declared, enter, leave, outline_of, IsEntry}
+use Rattle.vs_elaborate.specs.DesignOf.{Represents}
 use Rattle.vs_vcd_law.specs.Conditions.{IsOutlined}
-use Rattle.vs_vcd_law.specs.Said.{declarations_of, said_by}
+use Rattle.vs_vcd_law.specs.Said.{said_by}
 use Rattle.vs_vcd_lines.specs.Names.{IsScopeName}
 use Rattle.vs_vcd_reading.specs.Layout.{AreDeclared}
 use Rattle.vs_vcd_reading.specs.Plain.{PlainDeclaration as q}

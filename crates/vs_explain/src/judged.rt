@@ -1,9 +1,11 @@
 //! Designs that break a rule of certificates, and runs that take too many steps.
 
+use crate::scopes::put_scope;
 use std::alloc::{AllocError, Global};
 use vs_certificate::{CertFault, Certificate, ClaimedGrain, Version, from_json};
 use vs_design::Design;
 use vs_elaborate::{ElabFault, elaborate};
+use vs_explain_certificate::put_name_in;
 use vs_explain_outline::{Page, SourceText};
 use vs_explain_rules::{Taken, explain_broken, explain_steps};
 use vs_explain_steps::last_steps;
@@ -51,8 +53,28 @@ fn certificate_of(alloc: Global, bytes: &[u8]) -> Result<Certificate, AllocError
     }
 }
 
+/// Whether a design has a signal, an assignment or a process of this name.
+fn is_named(design: &Design, name: &[u8]) -> bool {
+    for signal in design.signals() {
+        if signal.path.as_slice() == name {
+            return true;
+        }
+    }
+    for assign in design.assigns() {
+        if assign.name.as_slice() == name {
+            return true;
+        }
+    }
+    for process in design.processes() {
+        if process.name.as_slice() == name {
+            return true;
+        }
+    }
+    false
+}
+
 /// The text that explains why a design breaks a rule of certificates: the rule of this number, at this place of the design. Bytes that are no certificate
-/// claim nothing: so it can be told why none was made.
+/// claim nothing: so it can be told why none was made. A name that the design lacks has its place in the certificate.
 pub fn explain_rule(
     alloc: Global,
     source: &[u8],
@@ -66,7 +88,11 @@ pub fn explain_rule(
     let design = design_of(alloc, source, top)?;
     let claimed = certificate_of(alloc, certificate)?;
     if let (Some(text), Some(design)) = (&text, &design) {
+        if !is_named(design, place) {
+            put_name_in(&mut page, certificate, place);
+        }
         explain_broken(&mut page, text, design, &claimed, number, place);
+        put_scope(&mut page, text, place);
     }
     page.finish()
 }
@@ -93,6 +119,7 @@ pub fn explain_limit(
             assigns: &last.assigns,
         };
         explain_steps(&mut page, text, design, steps, time, taken);
+        put_scope(&mut page, text, top);
     }
     page.finish()
 }

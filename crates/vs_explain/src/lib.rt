@@ -1,10 +1,12 @@
 //! What is said of a refusal after its first line: where it is in the text, what is wrong there, and what mends it.
 //!
-//! None of these texts has a contract. Each call takes the bytes of the source and finds by itself what it says; where it finds nothing, the text is empty.
+//! None of these texts has a contract. Each call takes the bytes that are refused, and finds by itself what it says of them. Each text names a line and
+//! a column, but that of what is no refusal of bytes, which is empty.
 #![tactic(auto)]
 
 mod certificates;
 mod judged;
+mod scopes;
 mod sources;
 
 pub use certificates::explain_certificate;

@@ -1,5 +1,6 @@
 //! Sources that are refused.
 
+use crate::scopes::put_scope;
 use std::alloc::{AllocError, Global};
 use vs_explain_elaboration::explain_design;
 use vs_explain_outline::{Page, SourceText};
@@ -24,7 +25,10 @@ fn put_elaboration(page: &mut Page, source: &[u8], fault: &ElabFault) {
         return;
     };
     match SourceText::read(page.alloc(), source) {
-        Ok(Some(text)) => explain_design(page, &text, *reason, path),
+        Ok(Some(text)) => {
+            explain_design(page, &text, *reason, path);
+            put_scope(page, &text, path);
+        }
         Ok(None) => {}
         Err(_) => page.leave_out(),
     }

@@ -60,20 +60,15 @@ fn is_module(region: &Region) -> bool {
     region.kind == RegionKind::Module
 }
 
-/// Puts the modules of a source, and the one whose name is nearest.
-fn put_modules(page: &mut Page, text: &SourceText, name: &[u8]) {
-    let mut nearest = Nearest::to(page.alloc(), name);
+/// Puts the modules of a source.
+fn put_modules(page: &mut Page, text: &SourceText) {
     let mut count = 0usize;
     page.put("The source has ");
     for region in &text.outline.regions {
         if is_module(region) {
-            let other = text.region_name(region);
             if count < TOLD {
                 page.put(if count == 0 { "the modules " } else { ", " });
-                page.put_name(other);
-            }
-            if count < COMPARED && nearest.look_at(other).is_err() {
-                page.leave_out();
+                page.put_name(text.region_name(region));
             }
             count = count.saturating_add(1);
         }
@@ -84,8 +79,21 @@ fn put_modules(page: &mut Page, text: &SourceText, name: &[u8]) {
         _ => "",
     });
     page.put(".");
-    put_nearest(page, &nearest);
-    page.put("\n");
+}
+
+/// The module whose name is nearest.
+fn nearest_module<'n>(page: &mut Page, text: &SourceText<'n>, name: &'n [u8]) -> Nearest<'n> {
+    let mut nearest = Nearest::to(page.alloc(), name);
+    let mut count = 0usize;
+    for region in &text.outline.regions {
+        if is_module(region) {
+            if count < COMPARED && nearest.look_at(text.region_name(region)).is_err() {
+                page.leave_out();
+            }
+            count = count.saturating_add(1);
+        }
+    }
+    nearest
 }
 
 /// Puts the nearest name, where there is one.
@@ -97,19 +105,51 @@ pub(crate) fn put_nearest(page: &mut Page, nearest: &Nearest) {
     }
 }
 
+/// Puts the place of the module of this name; of none that of the first module, and where there is no module that of the end. The words that say which.
+fn put_meant(page: &mut Page, text: &SourceText, name: Option<&[u8]>) -> &'static str {
+    let meant = match name {
+        Some(name) => text.module_named(name),
+        None => None,
+    };
+    let first = text.region(meant.unwrap_or(0));
+    let place = match first {
+        Some(region) => text.place_at(region.name.unwrap_or(region.first)),
+        None => text.bytes.len(),
+    };
+    page.put_place(text.bytes, place);
+    match (meant.is_some(), first.is_some()) {
+        (true, _) => " The mark shows it.",
+        (false, true) => " The mark shows the first one.",
+        (false, false) => " The mark shows where it ends.",
+    }
+}
+
 /// There is no module of the top's or of an instance's name.
 pub(crate) fn no_module(page: &mut Page, text: &SourceText, path: &[u8]) {
-    let mut name = last_name(path);
-    if !scope_of(path).is_empty() {
-        if let Some(instance) = instance_of(page, text, path) {
+    let instance = if scope_of(path).is_empty() {
+        None
+    } else {
+        instance_of(page, text, path)
+    };
+    let name = match instance {
+        Some(instance) => text.name_at(instance.of),
+        None => last_name(path),
+    };
+    let nearest = nearest_module(page, text, name);
+    let shown = match instance {
+        Some(instance) => {
             page.put_place(text.bytes, text.place_at(instance.of));
-            name = text.name_at(instance.of);
+            ""
         }
-    }
+        None => put_meant(page, text, nearest.found()),
+    };
     page.put("There is no module ");
     page.put_name(name);
     page.put(". ");
-    put_modules(page, text, name)
+    put_modules(page, text);
+    put_nearest(page, &nearest);
+    page.put(shown);
+    page.put("\n");
 }
 
 /// A module is instantiated inside itself.

@@ -17,6 +17,8 @@ pub struct Page {
     bytes: Vec<u8>,
     /// Whether a piece found no room.
     is_short: bool,
+    /// Whether a line and a column stand in it.
+    has_spot: bool,
 }
 
 /// What is shown for a byte: a tab and a visible letter as it is, any other one as `?`.
@@ -40,6 +42,7 @@ impl Page {
             alloc,
             bytes: Vec::new(alloc),
             is_short: false,
+            has_spot: false,
         }
     }
 
@@ -48,9 +51,9 @@ impl Page {
         self.alloc
     }
 
-    /// Whether nothing was put yet.
-    pub fn is_empty(&self) -> bool {
-        self.bytes.is_empty()
+    /// Whether a line and a column were put.
+    pub fn has_spot(&self) -> bool {
+        self.has_spot
     }
 
     /// Says that a piece found no room.
@@ -95,6 +98,7 @@ impl Page {
     /// Puts a line and a column, as `line 3, column 7`.
     pub fn put_spot(&mut self, source: &[u8], place: usize) {
         let spot = spot_of(source, place);
+        self.has_spot = true;
         self.put("line ");
         self.put_shown(spot.line);
         self.put(", column ");
@@ -131,6 +135,7 @@ impl Page {
             alloc: _,
             bytes,
             is_short,
+            has_spot: _,
         } = self;
         if is_short {
             return Err(AllocError);

@@ -190,17 +190,19 @@ impl<'s> SourceText<'s> {
         None
     }
 
-    /// The first declaration of a name in the marked regions.
+    /// The first declaration of a name in the marked regions; of a name without one its first use, which makes a net of it.
     pub fn declaration_in(&self, marked: &[bool], name: &[u8]) -> Option<Landmark> {
+        let mut used = None;
         for landmark in &self.outline.landmarks {
-            if matches!(landmark.kind, LandmarkKind::Declared(_))
-                && is_marked(marked, landmark.region)
-                && self.name_at(landmark.token) == name
-            {
-                return Some(*landmark);
+            if is_marked(marked, landmark.region) && self.name_at(landmark.token) == name {
+                match landmark.kind {
+                    LandmarkKind::Declared(_) => return Some(*landmark),
+                    LandmarkKind::Used(_) if used.is_none() => used = Some(*landmark),
+                    _ => {}
+                }
             }
         }
-        None
+        used
     }
 
     /// The token of a process or an assignment with a number, `t#p3` or `t#a0`, in the first region that its path may mean.

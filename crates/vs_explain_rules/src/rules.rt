@@ -9,7 +9,7 @@ use crate::uses::{Doing, all_doing, driven_by, read_by};
 use std::alloc::{AllocError, Global};
 use vs_certificate::{Certificate, ClaimedGrain, ClaimedKind, SignalEntry};
 use vs_design::{Assign, Design, EventTerm, Process, event_terms};
-use vs_explain_outline::{Page, SourceText};
+use vs_explain_outline::{Page, SourceText, is_marked};
 use vs_logic4::Edge;
 
 /// How many writers are told.
@@ -329,14 +329,31 @@ fn put_block(page: &mut Page, text: &SourceText, question: Question) {
     put_unawaited(page, text, question.design, process, doing)
 }
 
-/// The first signal that a block reads and neither waits for nor writes.
-fn unawaited_of(doing: &Doing, terms: &[EventTerm]) -> Option<usize> {
-    for read in &doing.reads {
-        let mut is_awaited = doing.writes_signal(*read, false);
-        for term in terms {
-            is_awaited = is_awaited || term.range.signal == *read;
+/// The signals that a block waits for or writes.
+fn awaited_of(
+    alloc: Global,
+    design: &Design,
+    doing: &Doing,
+    terms: &[EventTerm],
+) -> Result<Vec<bool>, AllocError> {
+    let mut awaited = vec![in alloc; false; design.signals().len()]?;
+    for written in &doing.writes {
+        if let Some(mark) = awaited.get_mut(written.signal) {
+            *mark = true;
         }
-        if !is_awaited {
+    }
+    for term in terms {
+        if let Some(mark) = awaited.get_mut(term.range.signal) {
+            *mark = true;
+        }
+    }
+    Ok(awaited)
+}
+
+/// The first signal that a block reads and neither waits for nor writes.
+fn unawaited_of(doing: &Doing, awaited: &[bool]) -> Option<usize> {
+    for read in &doing.reads {
+        if !is_marked(awaited, *read) {
             return Some(*read);
         }
     }
@@ -360,7 +377,11 @@ fn put_unawaited(
     let Some(terms) = found(page, terms) else {
         return;
     };
-    let unawaited = unawaited_of(doing, &terms).and_then(|read| design.signals().get(read));
+    let awaited = awaited_of(page.alloc(), design, doing, &terms);
+    let Some(awaited) = found(page, awaited) else {
+        return;
+    };
+    let unawaited = unawaited_of(doing, &awaited).and_then(|read| design.signals().get(read));
     match unawaited {
         Some(signal) => {
             page.put("It reads ");

@@ -6,6 +6,9 @@ use vs_vcd_reading::{Moment, VcdFault, read};
 const HEADER_2: &[u8] =
     b"$timescale 1 ns $end\n$scope module t $end\n$var reg 1 ! a $end\n$upscope $end\n$enddefinitions $end\n";
 
+const HEADER_4: &[u8] =
+    b"$timescale 1 ns $end\n$scope module t $end\n$var reg 4 ! a [3:0] $end\n$upscope $end\n$enddefinitions $end\n";
+
 const DUMP_2: &[u8] =
     b"$timescale 1 ns $end\n$scope module t $end\n$var reg 1 ! a $end\n$upscope $end\n$enddefinitions $end\n#0\n$dumpvars\n0!\n$end\n#5\n1!\n#10\n";
 
@@ -109,5 +112,119 @@ fn faults(rt: HostRuntime) -> Result<(), Fail> {
         fault_of_body(alloc, HEADER_2, b"#0\n$dumpvars\nb1 !\n$end\n")? == Some(VcdFault::Line)
     );
     assert!(rt; fault_of_body(alloc, HEADER_2, b"#1\n")? == Some(VcdFault::Time));
+    Ok(())
+}
+
+// The fault of a text with a body of one variable, which is 0 at 0, and more after it.
+fn fault_after(alloc: Global, more: &[u8]) -> Result<Option<VcdFault>, AllocError> {
+    let mut body = Vec::from_slice(alloc, b"#0\n$dumpvars\n0!\n$end\n")?;
+    body.extend_from_slice(more)?;
+    fault_of_body(alloc, HEADER_2, &body)
+}
+
+#[test]
+fn last_lines_of_headers(rt: HostRuntime) -> Result<(), Fail> {
+    let alloc = rt.alloc();
+    assert!(rt; fault_of(alloc, b"$timescale 1") == Some(VcdFault::Cut));
+    assert!(rt; fault_of(alloc, b"$timescale 10 n") == Some(VcdFault::Cut));
+    assert!(rt; fault_of(alloc, b"$timescale 10 ns $end") == Some(VcdFault::Cut));
+    assert!(rt; fault_of(alloc, b"$timescale 1000") == Some(VcdFault::Header));
+    assert!(rt; fault_of(alloc, b"$timescale 1 x") == Some(VcdFault::Header));
+    assert!(rt; fault_of(alloc, b"$timescale 1 ns $end\n$scope b") == Some(VcdFault::Header));
+    assert!(rt; fault_of(alloc, b"$timescale 1 ns $end\n$scope module \\a") == Some(VcdFault::Cut));
+    assert!(rt;
+        fault_of(
+            alloc,
+            b"$timescale 1 ns $end\n$scope module t $end\n$scope begin g[-"
+        ) == Some(VcdFault::Cut)
+    );
+    assert!(rt;
+        fault_of(
+            alloc,
+            b"$timescale 1 ns $end\n$scope module t $end\n$scope begin g[0"
+        ) == Some(VcdFault::Cut)
+    );
+    assert!(rt;
+        fault_of(
+            alloc,
+            b"$timescale 1 ns $end\n$scope module t $end\n$scope begin g[00"
+        ) == Some(VcdFault::Header)
+    );
+    assert!(rt;
+        fault_of(
+            alloc,
+            b"$timescale 1 ns $end\n$scope module t $end\n$var reg 6"
+        ) == Some(VcdFault::Cut)
+    );
+    assert!(rt;
+        fault_of(
+            alloc,
+            b"$timescale 1 ns $end\n$scope module t $end\n$var reg 65"
+        ) == Some(VcdFault::Header)
+    );
+    assert!(rt;
+        fault_of(
+            alloc,
+            b"$timescale 1 ns $end\n$scope module t $end\n$var reg 4 ! a [3:"
+        ) == Some(VcdFault::Cut)
+    );
+    assert!(rt;
+        fault_of(
+            alloc,
+            b"$timescale 1 ns $end\n$scope module t $end\n$var reg 4 \""
+        ) == Some(VcdFault::Header)
+    );
+    assert!(rt;
+        fault_of(
+            alloc,
+            b"$timescale 1 ns $end\n$scope module t $end\n$upscope $end\n$var"
+        ) == Some(VcdFault::Header)
+    );
+    Ok(())
+}
+
+#[test]
+fn last_lines_of_bodies(rt: HostRuntime) -> Result<(), Fail> {
+    let alloc = rt.alloc();
+    assert!(rt; fault_of_body(alloc, HEADER_2, b"#")? == Some(VcdFault::Cut));
+    assert!(rt; fault_of_body(alloc, HEADER_2, b"#1")? == Some(VcdFault::Time));
+    assert!(rt; fault_of_body(alloc, HEADER_2, b"#0\n$dump")? == Some(VcdFault::Cut));
+    assert!(rt; fault_of_body(alloc, HEADER_2, b"#0\n$dumpvars\n0")? == Some(VcdFault::Cut));
+    assert!(rt; fault_of_body(alloc, HEADER_2, b"#0\n$dumpvars\nb")? == Some(VcdFault::Line));
+    assert!(rt; fault_of_body(alloc, HEADER_2, b"#0\n$dumpvars\n0!\n$e")? == Some(VcdFault::Cut));
+    assert!(rt; fault_after(alloc, b"#5\n1")? == Some(VcdFault::Cut));
+    assert!(rt; fault_after(alloc, b"#5\n0")? == Some(VcdFault::Line));
+    assert!(rt; fault_after(alloc, b"#5\n1\"")? == Some(VcdFault::Code));
+    assert!(rt; fault_after(alloc, b"#5\n#")? == Some(VcdFault::Time));
+    assert!(rt; fault_after(alloc, b"#5\n1!\n1")? == Some(VcdFault::Line));
+    assert!(rt; fault_after(alloc, b"#0")? == Some(VcdFault::Time));
+    assert!(rt; fault_after(alloc, b"#10\n1!\n#1")? == Some(VcdFault::Cut));
+    assert!(rt; fault_after(alloc, b"#18446744073709551614\n1!\n#1")? == Some(VcdFault::Cut));
+    assert!(rt; fault_after(alloc, b"#18446744073709551614\n1!\n#2")? == Some(VcdFault::Time));
+    assert!(rt; fault_after(alloc, b"#18446744073709551615\n1!\n#")? == Some(VcdFault::Time));
+    Ok(())
+}
+
+// The fault of a text with a body of one variable of four bits, which is 0101 at 0, and more after its time 5.
+fn fault_at_5(alloc: Global, more: &[u8]) -> Result<Option<VcdFault>, AllocError> {
+    let mut body = Vec::from_slice(alloc, b"#0\n$dumpvars\nb101 !\n$end\n#5\n")?;
+    body.extend_from_slice(more)?;
+    fault_of_body(alloc, HEADER_4, &body)
+}
+
+#[test]
+fn last_lines_of_wide_values(rt: HostRuntime) -> Result<(), Fail> {
+    let alloc = rt.alloc();
+    assert!(rt; fault_of_body(alloc, HEADER_4, b"#0\n$dumpvars\nb")? == Some(VcdFault::Cut));
+    assert!(rt; fault_of_body(alloc, HEADER_4, b"#0\n$dumpvars\nb101 ")? == Some(VcdFault::Cut));
+    assert!(rt; fault_of_body(alloc, HEADER_4, b"#0\n$dumpvars\n1")? == Some(VcdFault::Line));
+    assert!(rt; fault_at_5(alloc, b"b101")? == Some(VcdFault::Cut));
+    assert!(rt; fault_at_5(alloc, b"b101 ")? == Some(VcdFault::Line));
+    assert!(rt; fault_at_5(alloc, b"b110 ")? == Some(VcdFault::Cut));
+    assert!(rt; fault_at_5(alloc, b"b110 !")? == Some(VcdFault::Cut));
+    assert!(rt; fault_at_5(alloc, b"b110 !!")? == Some(VcdFault::Code));
+    assert!(rt; fault_at_5(alloc, b"b1x0z")? == Some(VcdFault::Cut));
+    assert!(rt; fault_at_5(alloc, b"b10101")? == Some(VcdFault::Line));
+    assert!(rt; fault_at_5(alloc, b"b00")? == Some(VcdFault::Line));
     Ok(())
 }

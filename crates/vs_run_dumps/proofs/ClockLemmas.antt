@@ -1,5 +1,5 @@
 -- The times of the slots of an execution: the first is 0, and none is after the execution's.
-use Rattle.std.proofs.Common.{◌≡◌, ℕ, ◌<◌, ◌≤◌, Bool, true, false, Option, Some, None, List, [], ◌∷◌, ◌++◌, slice_get, refl, sym, subst, arith}
+use Rattle.std.proofs.Common.{◌≡◌, ℕ, ◌≤◌, Bool, true, false, Option, Some, None, List, [], ◌∷◌, ◌++◌, slice_get, refl, sym, subst, arith}
 use Rattle.std.proofs.lemmas.Bool.{ltb-false, or_parts}
 use Rattle.std.proofs.lemmas.List.{append-nil}
 use Rattle.std.specs.Prelude.{nat_lt}
@@ -11,7 +11,7 @@ use Rattle.vs_flatcode.specs.Steps.{step}
 use Rattle.vs_process.specs.declared.moves.Grain.{Grain}
 use Rattle.vs_process.specs.declared.moves.Move.{Move}
 use Rattle.vs_process.specs.declared.moves.Move.TheVariants.{Step, Evaluate, Propagate, Make, Rouse, Activate, EndSlot}
-use Rattle.vs_process.specs.Executions.{after, apply, ended_slot, ends, is_complete, is_enabled, Legal, next_time, slot_behind, slots, time_at}
+use Rattle.vs_process.specs.Executions.{after, apply, ended_slot, ends, is_enabled, Legal, next_time, slot_behind, slots, time_at}
 use Rattle.vs_process.specs.States.{AssignState, State, Update, evaluate, make, propagate, propagate_value, stepped}
 use Rattle.vs_process.proofs.Times.{Above, Each, Timed, behind_time, enabled_of, next_above, timed}
 use Rattle.vs_kernel.specs.Runs.{StopsAt}

@@ -1,2 +1,3 @@
 pub mod ClockLemmas
+pub mod EndLemmas
 pub mod WholeLemmas

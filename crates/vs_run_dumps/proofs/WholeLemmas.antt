@@ -1,9 +1,8 @@
 -- The slots of an execution are those of a whole dump.
-use Rattle.std.proofs.Common.{◌≡◌, ℕ, ◌<◌, ◌≤◌, ◌^◌, ◌&&◌, Bool, true, false, Option, Some, None, IfSome, List, [], ◌∷◌, length, refl, sym, ap, subst, ◌∙◌, arith, leb}
+use Rattle.std.proofs.Common.{◌≡◌, ℕ, ◌<◌, ◌≤◌, ◌^◌, ◌&&◌, Bool, true, false, Some, None, List, [], ◌∷◌, refl, subst, arith, leb}
 use Rattle.std.proofs.lemmas.Bool.{and_parts, leb-true}
 use Rattle.std.proofs.lemmas.List.Elements.{All-cons, Contains-get_or}
 use Rattle.std.specs.Prelude.{All, get_or, unwrap_or, if◌then◌else◌}
-use Rattle.std.specs.List.{Contains}
 use Rattle.vs_design.specs.Parts.{Parts}
 use Rattle.vs_design.specs.Stores.{Store}
 use Rattle.vs_design.specs.Traces.{Slot, AreRising, AreRisingAfter}
@@ -11,14 +10,13 @@ use Rattle.vs_process.specs.declared.moves.Grain.{Grain}
 use Rattle.vs_process.specs.declared.moves.Move.{Move}
 use Rattle.vs_process.specs.Executions.{after, finish_time, Legal, slots}
 use Rattle.vs_process.specs.Laws.{IsStoreOf}
-use Rattle.vs_process.specs.States.{State}
 use Rattle.vs_process.proofs.Times.{Each}
 use Rattle.vs_vcd_writing.specs.Codes.{shown}
 use Rattle.vs_vcd_writing.specs.Shown.{HasSize}
 use Rattle.vs_vcd_law.specs.Conditions.{AreSized, AreWhole, IsEnd}
 use Rattle.vs_kernel.specs.Runs.{StopsAt}
 use Rattle.vs_kernel.proofs.ShowsLemmas.{shown_sized}
-use Rattle.vs_run_dumps.proofs.ClockLemmas.{BeginsAtZero, IsClocked, all_by, clocked}
+use Rattle.vs_run_dumps.proofs.ClockLemmas.{BeginsAtZero, all_by, clocked}
 
 each_all : (P : Slot → Type 0) (xs : List Slot) → Each P xs → All P xs
 each_all P [] h = λ k x within. absurd (omega (arith, within))

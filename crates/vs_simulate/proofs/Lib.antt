@@ -1,1 +1,4 @@
+mod EndLemmas
 mod NameLemmas
+mod RangeLemmas
+mod ReadLemmas

@@ -4,17 +4,14 @@ ghost use Rattle.vs_design.specs.OneLine.{HasNamesOfOneLine};
 ghost use Rattle.vs_design.specs.Parts.{Parts};
 ghost use Rattle.vs_simulate.specs.Honesty.{Defines};
 
-use vs_elab_laws::names_of_one_line as defined_of_one_line;
-use vs_elab_pieces::used_are_tokens;
+use vs_elab_laws::{names_of_modules_are_tokens, names_of_one_line as defined_of_one_line};
 use vs_lexer::names_of_one_line as spelled_of_one_line;
-use vs_syntax::names_are_tokens;
 
 /// No name of a design that the bytes of a source and the name of a top module define holds a line feed.
 pub fn names_of_one_line()
     ensures { (bytes top : List ℕ) (d : Parts) → Defines bytes top d → HasNamesOfOneLine d }
 {
     spelled_of_one_line();
-    names_are_tokens();
-    used_are_tokens();
+    names_of_modules_are_tokens();
     defined_of_one_line();
 }

@@ -4,6 +4,7 @@
 mod fault;
 mod laws;
 mod listing;
+mod ranges;
 mod simulation;
 
 pub use fault::SimFault;

@@ -1,9 +1,9 @@
 -- The values and the changes of slots are those of times of a dump.
-use Rattle.std.proofs.Common.{◌≡◌, ℕ, zero, suc, ◌<◌, ◌≤◌, ◌-◌, Bool, true, false, Some, List, [], ◌∷◌, ◌++◌, length, map, take, drop, refl, sym, ap, subst, ◌∙◌, append_assoc, length-drop, arith}
+use Rattle.std.proofs.Common.{◌≡◌, ℕ, suc, ◌≤◌, ◌-◌, false, Some, List, [], ◌∷◌, ◌++◌, length, map, take, drop, refl, sym, ap, subst, ◌∙◌, append_assoc, length-drop, arith}
 use Rattle.std.proofs.lemmas.Bool.{cond_both, false≢true}
 use Rattle.std.proofs.lemmas.List.{take-append-drop, drop-set-lt}
 use Rattle.std.proofs.Math.Seq.{take-suc-set}
-use Rattle.std.specs.Prelude.{slice_get, slice_set, if◌then◌else◌}
+use Rattle.std.specs.Prelude.{slice_set}
 use Rattle.std.specs.List.{All}
 use Rattle.vs_logic4.specs.declared.digit.Digit.{Digit}
 use Rattle.vs_logic4.specs.Sameness.{same_digits-true, same_digits_self}
@@ -11,8 +11,7 @@ use Rattle.vs_logic4.specs.Vectors.{same_digits}
 use Rattle.vs_design.specs.Stores.{Store}
 use Rattle.vs_vcd_writing.specs.Text.{is_same}
 use Rattle.vs_vcd_writing.specs.Values.{shown_value}
-use Rattle.vs_vcd_lines.specs.declared.dump.ValueChange.{ValueChange}
-use Rattle.vs_vcd_reading.specs.Layout.{written, values_of, with_change, IsChange, AreAll, AreChanges}
+use Rattle.vs_vcd_reading.specs.Layout.{written, values_of, IsChange, AreAll, AreChanges}
 use Rattle.vs_vcd_reading.specs.Layout.{AreAll as a, AreChanges as c}
 use Rattle.vs_vcd_law.specs.Said.{value_in, values_in, changes_in}
 use Rattle.vs_vcd_law.proofs.ListLemmas.{drop_head, take_head, all_head, all_tail}

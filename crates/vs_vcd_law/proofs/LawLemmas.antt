@@ -1,5 +1,5 @@
 -- What is written of slots is a dump, and says what they show.
-use Rattle.std.proofs.Common.{◌≡◌, ℕ, ◌<◌, ◌≤◌, ◌^◌, Some, IfSome, List, [], ◌∷◌, ◌++◌, length, map, refl, sym, ap, subst, ◌∙◌, append-nil, arith}
+use Rattle.std.proofs.Common.{◌≡◌, ℕ, ◌≤◌, ◌^◌, Some, IfSome, List, [], ◌∷◌, ◌++◌, map, refl, sym, ap, subst, append-nil, arith}
 use Rattle.std.proofs.lemmas.List.Elements.{All-cons}
 use Rattle.std.specs.Prelude.{slice_get}
 use Rattle.std.specs.List.{flat_map, All}
@@ -13,11 +13,11 @@ use Rattle.vs_vcd_writing.specs.Shown.{slot_at}
 use Rattle.vs_vcd_reading.specs.declared.fault.VcdFault.{VcdFault}
 use Rattle.vs_vcd_reading.specs.declared.fault.VcdFault.TheVariants as f
 use Rattle.vs_vcd_reading.specs.Plain.{PlainDump, PlainMoment}
-use Rattle.vs_vcd_reading.specs.Layout.{later_lines, moment_at, widths_of, AreLater, AreMoments, IsLayout}
+use Rattle.vs_vcd_reading.specs.Layout.{later_lines, moment_at, AreLater, AreMoments, IsLayout}
 use Rattle.vs_vcd_reading.specs.Faults.{IsFault}
 use Rattle.vs_vcd_reading.proofs.LawLemmas.{faults_of_none}
 use Rattle.vs_vcd_law.specs.Conditions.{AreWhole, IsEnd, IsOutlined}
-use Rattle.vs_vcd_law.specs.Said.{declarations_of, dump_begun, dump_with, end_moments, moments_after, moments_of, values_in}
+use Rattle.vs_vcd_law.specs.Said.{dump_begun, dump_with, end_moments, moments_after, moments_of, values_in}
 use Rattle.vs_vcd_law.specs.Values.{values_at}
 use Rattle.vs_vcd_law.proofs.ListLemmas.{all_head, all_tail}
 use Rattle.vs_vcd_law.proofs.DeclaredLemmas.{widths_are}

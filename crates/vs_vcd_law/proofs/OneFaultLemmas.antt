@@ -1,17 +1,18 @@
 -- A text has one fault.
 use Rattle.std.proofs.Common.{◌≡◌, ◌⊎◌, inl, inr, ℕ, true, List, [], ◌∷◌, ◌++◌, refl, sym, ap, subst, ◌∙◌, append_assoc, arith}
+use Rattle.std.proofs.lemmas.List.{append-nil}
 use Rattle.vs_logic4.specs.declared.digit.Digit.{Digit}
 use Rattle.vs_logic4.specs.declared.digit.Digit.TheVariants.{Zero, One, X, Z}
 use Rattle.std.specs.List.{list_all}
 use Rattle.vs_vcd_writing.specs.Text.{text_of}
 use Rattle.vs_vcd_writing.specs.Values.{digit_character}
 use Rattle.vs_vcd_lines.specs.Cuts.{lacks}
-use Rattle.vs_vcd_lines.proofs.CutLemmas.{and_true, cut_once, lacks_cut}
+use Rattle.vs_vcd_lines.proofs.CutLemmas.{and_true, cut_once}
 use Rattle.vs_vcd_reading.specs.declared.fault.VcdFault.{VcdFault}
 use Rattle.vs_vcd_reading.specs.declared.fault.VcdFault.TheVariants as f
 use Rattle.vs_vcd_reading.specs.Layout.{IsLayout}
-use Rattle.vs_vcd_reading.specs.Faults.{are_lines, IsBadLine, IsBeginning, IsBody, IsCutShort, IsFault, IsOfNoCode, IsOfTime, IsShaped}
-use Rattle.vs_vcd_reading.specs.Faults.{IsShaped as s}
+use Rattle.vs_vcd_reading.specs.Faults.{are_lines, IsBadLine, IsBeginning, IsBody, IsCutShort, IsFault, IsLineEnd, IsOfNoCode, IsOfTime, IsShaped}
+use Rattle.vs_vcd_reading.specs.Faults.{IsLineEnd as z, IsShaped as s}
 use Rattle.vs_vcd_law.specs.OneFault.{FaultsAreOne}
 
 -- ---- beginnings
@@ -56,41 +57,33 @@ lines_once p (x ∷ xs) (y ∷ ys) l m r s hx hy hl hm e bx by nx ny =
     (λ h. ny (subst IsBeginning (sym (ap (λ w. p ++ w) (text_after y ys (m ++ 10 ∷ [])) ∙ as_x (text_of ys ++ (m ++ 10 ∷ [])))) h)) in
     (ap (λ w. w ∷ xs) same ∙ ap (λ w. y ∷ w) rest.0, rest.1)
 
--- a text that is cut short has no bad line
-cut_lines : (p : List ℕ) (xs ys : List (List ℕ)) (last m s : List ℕ) → are_lines xs ≡ true → are_lines ys ≡ true → lacks 10 last ≡ true → lacks 10 m ≡ true
-    → text_of xs ++ last ≡ text_of ys ++ (m ++ 10 ∷ s) → IsBeginning (p ++ text_of xs) → (IsBeginning (p ++ (text_of ys ++ (m ++ 10 ∷ []))) → ⊥) → ⊥
-cut_lines p [] [] last m s hx hy hl hm e bx ny = lacks_cut 10 last m s hl e
-cut_lines p [] (y ∷ ys) last m s hx hy hl hm e bx ny =
-    lacks_cut 10 last y (text_of ys ++ (m ++ 10 ∷ s)) hl (e ∙ text_after y ys (m ++ 10 ∷ s))
-cut_lines p (x ∷ xs) [] last m s hx hy hl hm e bx ny =
-    let head = and_true (lacks 10 x) (list_all (lacks 10) xs) hx in
-    let same = (cut_once 10 x m (text_of xs ++ last) s head.0 hm (sym (text_after x xs last) ∙ e)).0 in
-    ny (subst (λ w. IsBeginning (p ++ (w ++ 10 ∷ []))) same (first_begins p x (text_of xs) bx))
-cut_lines p (x ∷ xs) (y ∷ ys) last m s hx hy hl hm e bx ny =
-    let headx = and_true (lacks 10 x) (list_all (lacks 10) xs) hx in
-    let heady = and_true (lacks 10 y) (list_all (lacks 10) ys) hy in
-    let cut = cut_once 10 x y (text_of xs ++ last) (text_of ys ++ (m ++ 10 ∷ s)) headx.0 heady.0
-    (sym (text_after x xs last) ∙ e ∙ text_after y ys (m ++ 10 ∷ s)) in
-    let same : x ≡ y = cut.0 in
-    let q = p ++ (x ++ 10 ∷ []) in
-    let as_x : (t : List ℕ) → p ++ (y ++ 10 ∷ t) ≡ q ++ t = λ t. ap (λ w. p ++ (w ++ 10 ∷ t)) (sym same) ∙ seam p x t in
-    cut_lines q xs ys last m s headx.1 heady.1 hl hm cut.1 (subst IsBeginning (seam p x (text_of xs)) bx)
-    (λ h. ny (subst IsBeginning (sym (ap (λ w. p ++ w) (text_after y ys (m ++ 10 ∷ [])) ∙ as_x (text_of ys ++ (m ++ 10 ∷ [])))) h))
+-- a text with a line feed after it has its bad line ended
+as_ended : (text b line end rest : List ℕ) → IsLineEnd end rest → text ≡ b ++ line ++ end ++ rest → (r : List ℕ) × (text ++ 10 ∷ [] ≡ b ++ (line ++ 10 ∷ r))
+as_ended text b line _ _ (z.feed rest) is = (
+  rest ++ 10 ∷ [],
+  ap (λ l. l ++ 10 ∷ []) is ∙ append_assoc (b ++ line ++ 10 ∷ []) rest (10 ∷ []) ∙ append_assoc (b ++ line) (10 ∷ []) (rest ++ 10 ∷ [])
+      ∙ append_assoc b line (10 ∷ (rest ++ 10 ∷ [])),
+)
+as_ended text b line _ _ z.last is =
+    ([], ap (λ l. l ++ 10 ∷ []) (is ∙ append-nil (b ++ line ++ []) ∙ append-nil (b ++ line)) ∙ append_assoc b line (10 ∷ []))
 
--- a bad line, with the text of the lines before it in brackets
-bad_at : (before : List (List ℕ)) (line : List ℕ) → (IsBeginning (text_of before ++ line ++ 10 ∷ []) → ⊥) → IsBeginning ([] ++ (text_of before ++ (line ++ 10 ∷ []))) → ⊥
-bad_at before line bad h = bad (subst IsBeginning (sym (append_assoc (text_of before) line (10 ∷ []))) h)
+-- no text of the layout begins with a bad line that is ended
+bad_at : (b line end rest : List ℕ) → IsLineEnd end rest → (IsBeginning (b ++ line ++ end) → ⊥) → IsBeginning ([] ++ (b ++ (line ++ 10 ∷ []))) → ⊥
+bad_at b line _ _ (z.feed rest) bad h = bad (subst IsBeginning (sym (append_assoc b line (10 ∷ []))) h)
+bad_at b line _ _ z.last bad h =
+    bad
+    (subst IsBeginning (sym (append-nil (b ++ line))) (shorter (b ++ line) (10 ∷ []) (subst IsBeginning (sym (append_assoc b line (10 ∷ []))) h)))
 
 bad_once : (text : List ℕ) (xs ys : List (List ℕ)) (l m : List ℕ) → IsBadLine text xs l → IsBadLine text ys m → (xs ≡ ys) × (l ≡ m)
 bad_once text xs ys l m h k =
-    lines_once [] xs ys l m h.rest k.rest h.lines k.lines h.one_line k.one_line
-    (sym (append_assoc (text_of xs) l (10 ∷ h.rest)) ∙ sym h.is ∙ k.is ∙ append_assoc (text_of ys) m (10 ∷ k.rest))
-    h.begun k.begun (bad_at xs l h.bad) (bad_at ys m k.bad)
+    let first = as_ended text (text_of xs) l h.end h.rest h.ended h.is in
+    let second = as_ended text (text_of ys) m k.end k.rest k.ended k.is in
+    lines_once [] xs ys l m first.0 second.0 h.lines k.lines h.one_line k.one_line (sym first.1 ∙ second.1) h.begun k.begun
+    (bad_at (text_of xs) l h.end h.rest h.ended h.bad) (bad_at (text_of ys) m k.end k.rest k.ended k.bad)
 
+-- a text that is cut short has no bad line
 cut_not_bad : (text : List ℕ) (ys : List (List ℕ)) (m : List ℕ) → IsCutShort text → IsBadLine text ys m → ⊥
-cut_not_bad text ys m h k =
-    cut_lines [] h.before ys h.last m k.rest h.lines k.lines h.one_line k.one_line (sym h.is ∙ k.is ∙ append_assoc (text_of ys) m (10 ∷ k.rest))
-    h.begun (bad_at ys m k.bad)
+cut_not_bad text ys m h k = k.bad (shorter (text_of ys ++ m ++ k.end) k.rest (subst IsBeginning k.is h.begun))
 
 -- ---- kinds of lines
 

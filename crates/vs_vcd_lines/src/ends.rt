@@ -2,7 +2,7 @@
 ghost use Rattle.std.specs.Prelude.{◌≡◌, List, ℕ, ◌++◌, IsTrue, ◌↔◌, MatchOption};
 
 /// What stands in a text after a beginning.
-pub(crate) fn after<'t>(text: &'t [u8], beginning: &[u8]) -> Option<&'t [u8]>
+pub fn after<'t>(text: &'t [u8], beginning: &[u8]) -> Option<&'t [u8]>
     ensures { MatchOption result ((rest : List ℕ) → text.now ≡ beginning.now ++ rest → ⊥) (λ rest. text.now ≡ beginning.now ++ rest.now) }
 {
     text.strip_prefix(beginning)

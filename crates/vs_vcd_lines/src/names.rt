@@ -10,14 +10,14 @@ use crate::numbers::signed_of;
 use vs_design::ScopeKind;
 
 /// Whether a byte can begin a simple identifier.
-fn is_first(byte: u8) -> bool
+pub fn is_first(byte: u8) -> bool
     ensures { result ≡ is_first byte }
 {
     (b'A' <= byte && byte <= b'Z') || (b'a' <= byte && byte <= b'z') || byte == b'_'
 }
 
 /// Whether a byte can go on in a simple identifier.
-fn is_further(byte: u8) -> bool
+pub fn is_further(byte: u8) -> bool
     ensures { result ≡ is_further byte }
 {
     is_first(byte) || (b'0' <= byte && byte <= b'9') || byte == b'$'
@@ -38,7 +38,7 @@ fn are_further(text: &[u8]) -> bool
 }
 
 /// Whether all bytes of a text can stand in an escaped identifier.
-fn are_printable(text: &[u8]) -> bool
+pub fn are_printable(text: &[u8]) -> bool
     ensures { result ≡ list_all is_printable text.now }
 {
     text.iter().all(|byte| is_printable(*byte))
@@ -55,7 +55,7 @@ fn is_simple(text: &[u8]) -> bool
 }
 
 /// Whether a text is the body of an escaped identifier.
-fn is_body(text: &[u8]) -> bool
+pub fn is_body(text: &[u8]) -> bool
     ensures { result ≡ is_body text.now }
 {
     !text.is_empty() && are_printable(text)

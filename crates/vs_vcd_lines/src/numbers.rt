@@ -23,7 +23,7 @@ pub(crate) fn unsigned_of(word: &[u8]) -> Option<u64>
 }
 
 /// The number from -2^63 to 2^63 - 1 that is written so.
-pub(crate) fn signed_of(word: &[u8]) -> Option<i64>
+pub fn signed_of(word: &[u8]) -> Option<i64>
     ensures { MatchOption result ((n : ℤ) → IsShort n → word.now ≡ signed_decimal n → ⊥)
         (λ n. IsShort n × (word.now ≡ signed_decimal n)) }
 {

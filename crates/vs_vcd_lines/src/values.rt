@@ -10,7 +10,7 @@ ghost use Rattle.vs_vcd_lines.specs.Parts.{IsSpelled};
 use vs_logic4::{Digit, Vec4};
 
 /// The digit that a character stands for.
-pub(crate) fn digit_of(byte: u8) -> Option<Digit>
+pub fn digit_of(byte: u8) -> Option<Digit>
     ensures { MatchOption result ((d : Digit) → byte ≡ digit_character d → ⊥) (λ d. byte ≡ digit_character d) }
 {
     match byte {
@@ -92,7 +92,7 @@ fn extend(value: Vec4, width: u32) -> Vec4
 }
 
 /// The value of a size that a text writes without the left digits that extending gives back.
-pub(crate) fn value_of(width: u32, text: &[u8]) -> Option<Vec4>
+pub fn value_of(width: u32, text: &[u8]) -> Option<Vec4>
     requires some { 0 < width }
     requires most { width ≤ 64 }
     ensures { MatchOption result ((v : List Digit) → IsValue text.now width v → ⊥) (λ v. IsValue text.now width v) }

@@ -14,7 +14,7 @@ use crate::numbers::unsigned_of;
 use vs_design::{Magnitude, ScopeKind, SignalKind, TimeUnit};
 
 /// What a signal was declared as, by its word.
-pub(crate) fn kind_of(word: &[u8]) -> Option<SignalKind>
+pub fn kind_of(word: &[u8]) -> Option<SignalKind>
     ensures { MatchOption result ((kind : SignalKind) → word.now ≡ kind_word kind → ⊥) (λ kind. word.now ≡ kind_word kind) }
 {
     if word == b"wire".as_slice() {
@@ -104,7 +104,7 @@ pub(crate) fn unit_of(word: &[u8]) -> Option<TimeUnit>
 }
 
 /// The size of 1 to 64 bits that a word writes.
-pub(crate) fn size_of_word(word: &[u8]) -> Option<u32>
+pub fn size_of_word(word: &[u8]) -> Option<u32>
     ensures { MatchOption result ((width : ℕ) → IsSize word.now width → ⊥) (λ width. IsSize word.now width) }
 {
     let Some(width) = unsigned_of(word) else {

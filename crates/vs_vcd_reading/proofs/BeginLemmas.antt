@@ -97,7 +97,7 @@ record IsOpen (here : Place) : Type 0 where
 opened_by : (here : Place) (x : Item) (next : Place) → Step here x next → IsOpen next → IsOpen here
 opened_by here x next step h = record { items = x ∷ h.items; ended = one_more here x next h.items step h.ended }
 
-length-replicated : (n : ℕ) → length (replicate n X) ≡ n
+pub length-replicated : (n : ℕ) → length (replicate n X) ≡ n
 length-replicated zero = refl
 length-replicated (suc n) = ap suc (length-replicated n)
 

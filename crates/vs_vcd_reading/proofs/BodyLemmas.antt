@@ -2,6 +2,7 @@
 use Rattle.std.proofs.Common.{◌≡◌, ◌⊎◌, inl, inr, ℕ, suc, ◌+◌, ◌<◌, ◌≤◌, ◌^◌, Bool, true, false, List, [], ◌∷◌, ◌++◌, codes, decimal, get_or, length, map, take, drop, refl, sym, ap, subst, ◌∙◌, append_assoc, length-append, arith}
 use Rattle.std.proofs.Math.Seq.{take-append_seam}
 use Rattle.std.specs.Prelude.{◌==◌}
+use Rattle.std.proofs.lemmas.Bool.{false≢true}
 use Rattle.std.proofs.lemmas.List.{append-nil, length-map}
 use Rattle.std.proofs.lemmas.Option.{slice_get_within}
 use Rattle.std.specs.Fmt.{digits}
@@ -17,26 +18,64 @@ use Rattle.vs_vcd_reading.specs.declared.fault.VcdFault.TheVariants as f
 use Rattle.vs_vcd_reading.specs.Plain.{plain_moment}
 use Rattle.vs_vcd_reading.specs.Layout.{values_of, with_change, IsChange}
 use Rattle.vs_vcd_reading.specs.Bodies.{is_bare, AreAllLater, AreBegun, AreLast, AreSome, AreTimed, IsAtTime, IsFirst, IsNoChange, IsNoValue, IsUnexpected}
+use Rattle.vs_vcd_beginnings.specs.Beginnings.{Begins}
 use Rattle.vs_vcd_reading.specs.Bodies.{IsUnexpected as u}
 use Rattle.vs_vcd_reading.specs.Faults.{IsOfTime}
 use Rattle.vs_vcd_reading.specs.Steps.{Item, Place, Step, Steps, Follows, IsLast, change_items, later_items, line_of, text_from}
 use Rattle.vs_vcd_reading.specs.Steps.{Item as i, Place as p, Step as s, Steps as t}
-use Rattle.vs_vcd_reading.specs.Stops.{IsBodyKind, IsKindAt, IsToldAt}
-use Rattle.vs_vcd_reading.proofs.FaultLemmas.{told_bad, told_cut, told_later}
+use Rattle.vs_vcd_reading.specs.Stops.{GoesOn, IsBodyKind, IsKindAt, IsToldAt, IsUnended}
+use Rattle.vs_vcd_reading.proofs.FaultLemmas.{told_bad, told_end, told_later}
 use Rattle.vs_vcd_reading.proofs.FollowLemmas.{steps_append, steps_more, text_from-append, text_more}
 use Rattle.vs_vcd_reading.proofs.OnceLemmas.{change_begins}
 
 -- ---- lines that have to stand
 
-pub unexpected : (here : Place) (wanted : List ℕ) (count : ℕ) (text : List ℕ) (fault : VcdFault) → ((line : List ℕ) → Follows here line → line ≡ wanted)
+-- what begins a line that can stand at a place goes on there
+pub begins_on : (here : Place) (wanted part : List ℕ) → Follows here wanted → Begins part wanted → GoesOn here part
+begins_on here wanted part stands h = inr (record { rest = h.0; follows = subst (Follows here) h.1 stands })
+
+-- and nothing else, where no other line can stand there
+pub begins_by : (here : Place) (wanted part : List ℕ) → ((line : List ℕ) → Follows here line → line ≡ wanted) → GoesOn here part → Begins part wanted
+begins_by here wanted part only (inl none) = (wanted, ap (λ l. l ++ wanted) (sym none))
+begins_by here wanted part only (inr h) = (h.rest, sym (only (part ++ h.rest) h.follows))
+
+-- what is told of the body, of a last line that doesn't go on
+pub unended : (here : Place) (count : ℕ) (part : List ℕ) (fault : VcdFault) → ((line : List ℕ) (g : VcdFault) → IsBodyKind count line g → IsKindAt here line g)
+    → (GoesOn here part → ⊥) → IsBodyKind count part fault → IsUnended here part fault
+unended here count part f.Memory kinds none h = tt
+unended here count part f.Cut kinds none h = absurd h
+unended here count part f.Header kinds none h = absurd h
+unended here count part f.Line kinds none h = (none, kinds part f.Line h)
+unended here count part f.Code kinds none h = (none, kinds part f.Code h)
+unended here count part f.Time kinds none h = (none, kinds part f.Time h)
+
+-- the same, by a test
+pub unended_by : (here : Place) (count : ℕ) (part : List ℕ) (b : Bool) (fault : VcdFault) → ((line : List ℕ) (g : VcdFault) → IsBodyKind count line g → IsKindAt here line g)
+    → (b ≡ true → GoesOn here part) × (GoesOn here part → b ≡ true) → (b ≡ true → fault ≡ f.Cut) → (b ≡ false → IsBodyKind count part fault) → IsUnended here part fault
+unended_by here count part true fault kinds tells cut kind = subst (IsUnended here part) (sym (cut refl)) (tells.0 refl)
+unended_by here count part false fault kinds tells cut kind = unended here count part fault kinds (λ h. false≢true (tells.1 h)) (kind refl)
+
+pub unexpected_end : (wanted : List ℕ) (count : ℕ) (text : List ℕ) (b : Bool) (fault : VcdFault) → lacks 10 text ≡ true
+    → (b ≡ true → Begins text wanted) × (Begins text wanted → b ≡ true) → (b ≡ true → fault ≡ f.Cut) → (b ≡ false → IsBodyKind count text fault)
+    → IsUnexpected wanted count text fault
+unexpected_end wanted count text true fault one tells cut kind = subst (IsUnexpected wanted count text) (sym (cut refl)) (u.cut one (tells.0 refl))
+unexpected_end wanted count text false fault one tells cut kind = u.unended fault one (λ h. false≢true (tells.1 h)) (kind refl)
+
+pub unexpected : (here : Place) (wanted : List ℕ) (count : ℕ) (text : List ℕ) (fault : VcdFault) → Follows here wanted → ((line : List ℕ) → Follows here line → line ≡ wanted)
     → ((line : List ℕ) (g : VcdFault) → IsBodyKind count line g → IsKindAt here line g) → (IsLast here → ⊥) → IsUnexpected wanted count text fault → IsToldAt here text fault
-unexpected here wanted count text _ only kinds no_end (u.bad line rest fault cut other kind) =
+unexpected here wanted count text _ stands only kinds no_end (u.bad line rest fault cut other kind) =
     told_bad here text line rest fault cut (λ follows. other (only line follows)) (kinds line fault kind)
-unexpected here wanted count text _ only kinds no_end (u.cut one) = told_cut here text one (λ _. no_end)
+unexpected here wanted count text _ stands only kinds no_end (u.unended fault one other kind) =
+    told_end here text fault one (λ _. no_end) (unended here count text fault kinds (λ h. other (begins_by here wanted text only h)) kind)
+unexpected here wanted count text _ stands only kinds no_end (u.cut one begins) =
+    told_end here text f.Cut one (λ _. no_end) (begins_on here wanted text stands begins)
 
 zero_decimal : decimal 0 ≡ codes "0"
 unfolding digits
 zero_decimal = refl
+
+zero_stands : (ws : List ℕ) → Follows (p.Zero ws) (codes "#0")
+zero_stands ws = record { item = i.Time 0; next = p.First ws; step = s.at_zero ws; is = ap (λ l. 35 ∷ l) (sym zero_decimal) }
 
 zero_by : (ws line : List ℕ) (x : Item) (next : Place) → Step (p.Zero ws) x next → line ≡ line_of x → line ≡ codes "#0"
 zero_by ws line _ _ (s.at_zero _) is = is ∙ ap (λ l. 35 ∷ l) zero_decimal
@@ -44,11 +83,17 @@ zero_by ws line _ _ (s.at_zero _) is = is ∙ ap (λ l. 35 ∷ l) zero_decimal
 pub zero_wanted : (ws line : List ℕ) → Follows (p.Zero ws) line → line ≡ codes "#0"
 zero_wanted ws line h = zero_by ws line h.item h.next h.step h.is
 
+first_stands : (ws : List ℕ) → Follows (p.First ws) (codes "$dumpvars")
+first_stands ws = record { item = i.Values; next = p.Values ws []; step = s.values ws; is = refl }
+
 first_by : (ws line : List ℕ) (x : Item) (next : Place) → Step (p.First ws) x next → line ≡ line_of x → line ≡ codes "$dumpvars"
 first_by ws line _ _ (s.values _) is = is
 
 pub first_wanted : (ws line : List ℕ) → Follows (p.First ws) line → line ≡ codes "$dumpvars"
 first_wanted ws line h = first_by ws line h.item h.next h.step h.is
+
+end_stands : (ws : List ℕ) (vs : List (List Digit)) → length vs ≡ length ws → Follows (p.Values ws vs) (codes "$end")
+end_stands ws vs full = record { item = i.End; next = p.Later ws vs 0 (length ws) false; step = s.end ws vs full; is = refl }
 
 end_by : (ws : List ℕ) (vs : List (List Digit)) (line : List ℕ) (x : Item) (next : Place) → length vs ≡ length ws → Step (p.Values ws vs) x next → line ≡ line_of x
     → line ≡ codes "$end"
@@ -144,13 +189,13 @@ word_steps ws = t.go (p.First ws) i.Values (p.Values ws []) [] (p.Values ws []) 
 
 -- why the text is none is told of the place before
 pub zero_told : (ws text : List ℕ) (fault : VcdFault) → IsUnexpected (codes "#0") (length ws) text fault → IsToldAt (p.Zero ws) text fault
-zero_told ws text fault h = unexpected (p.Zero ws) (codes "#0") (length ws) text fault (zero_wanted ws) (λ line g k. k) (λ e. e) h
+zero_told ws text fault h = unexpected (p.Zero ws) (codes "#0") (length ws) text fault (zero_stands ws) (zero_wanted ws) (λ line g k. k) (λ e. e) h
 
 pub after_zero : (ws text rest : List ℕ) (fault : VcdFault) → text ≡ codes "#0" ++ 10 ∷ rest → IsToldAt (p.First ws) rest fault → IsToldAt (p.Zero ws) text fault
 after_zero ws text rest fault cut h = told_later (p.Zero ws) (p.First ws) text rest (i.Time 0 ∷ []) fault (zero_steps ws) (zero_text text rest cut) h
 
 pub first_told : (ws text : List ℕ) (fault : VcdFault) → IsUnexpected (codes "$dumpvars") (length ws) text fault → IsToldAt (p.First ws) text fault
-first_told ws text fault h = unexpected (p.First ws) (codes "$dumpvars") (length ws) text fault (first_wanted ws) (λ line g k. k) (λ e. e) h
+first_told ws text fault h = unexpected (p.First ws) (codes "$dumpvars") (length ws) text fault (first_stands ws) (first_wanted ws) (λ line g k. k) (λ e. e) h
 
 pub after_first : (ws text rest : List ℕ) (fault : VcdFault) → text ≡ codes "$dumpvars" ++ 10 ∷ rest → IsToldAt (p.Values ws []) rest fault → IsToldAt (p.First ws) text fault
 after_first ws text rest fault cut h = told_later (p.First ws) (p.Values ws []) text rest (i.Values ∷ []) fault (word_steps ws) (word_text text rest cut) h
@@ -159,6 +204,7 @@ pub end_told : (ws text : List ℕ) (cs : List ValueChange) (fault : VcdFault) �
     → IsToldAt (p.Values ws (values_of cs)) text fault
 end_told ws text cs fault full h =
     unexpected (p.Values ws (values_of cs)) (codes "$end") (length ws) text fault
+    (end_stands ws (values_of cs) (length-map cs (λ (c : ValueChange). c.value) ∙ full))
     (λ line. end_wanted ws (values_of cs) line (length-map cs (λ (c : ValueChange). c.value) ∙ full)) (λ line g k. k) (λ e. e) h
 
 pub after_values : (ws text rest : List ℕ) (cs : List ValueChange) (fault : VcdFault) → AreBegun ws text cs rest → IsToldAt (p.Values ws (values_of cs)) rest fault
@@ -191,8 +237,9 @@ value_bad ws text rest line after cs fault h cut less none =
     (told_bad (p.Values ws (values_of cs)) rest line after fault cut
     (value_refuses ws (values_of cs) line (omega (arith, size, less)) (λ c numbered. none.none c (numbered ∙ size))) none.kind)
 
-pub values_cut : (ws text rest : List ℕ) (cs : List ValueChange) → AreBegun ws text cs rest → lacks 10 rest ≡ true → IsToldAt (p.Values ws []) text f.Cut
-values_cut ws text rest cs h one = after_values ws text rest cs f.Cut h (told_cut (p.Values ws (values_of cs)) rest one (λ _ e. e))
+pub values_end : (ws text rest : List ℕ) (cs : List ValueChange) (fault : VcdFault) → AreBegun ws text cs rest → lacks 10 rest ≡ true
+    → IsUnended (p.Values ws (values_of cs)) rest fault → IsToldAt (p.Values ws []) text fault
+values_end ws text rest cs fault h one told = after_values ws text rest cs fault h (told_end (p.Values ws (values_of cs)) rest fault one (λ _ e. e) told)
 
 -- all values and their ends
 pub first_made : (ws text a b e rest : List ℕ) (cs : List ValueChange) → text ≡ codes "#0" ++ 10 ∷ a → a ≡ codes "$dumpvars" ++ 10 ∷ b → AreBegun ws b cs e
@@ -253,10 +300,11 @@ change_bad ws text rest line after old vs cs from last fault h cut away none =
     (told_bad (p.Later ws vs last from (is_bare cs)) rest line after fault cut
     (change_refuses ws vs last from (is_bare cs) line none.none (λ timed. away (inr (timed.0 ++ 10 ∷ after, cut.is ∙ ap (λ l. l ++ 10 ∷ after) timed.1)))) none.kind)
 
-pub changes_cut : (ws text rest : List ℕ) (old vs : List (List Digit)) (cs : List ValueChange) (from last : ℕ) → AreSome ws text old vs cs from rest → lacks 10 rest ≡ true
-    → (IsAtTime rest → ⊥) → IsToldAt (p.Later ws old last 0 true) text f.Cut
-changes_cut ws text rest old vs cs from last h one away =
-    after_changes ws text rest old vs cs from last f.Cut h (told_cut (p.Later ws vs last from (is_bare cs)) rest one (λ none _. away (inl none)))
+pub changes_end : (ws text rest : List ℕ) (old vs : List (List Digit)) (cs : List ValueChange) (from last : ℕ) (fault : VcdFault) → AreSome ws text old vs cs from rest
+    → lacks 10 rest ≡ true → (IsAtTime rest → ⊥) → IsUnended (p.Later ws vs last from (is_bare cs)) rest fault → IsToldAt (p.Later ws old last 0 true) text fault
+changes_end ws text rest old vs cs from last fault h one away told =
+    after_changes ws text rest old vs cs from last fault h
+    (told_end (p.Later ws vs last from (is_bare cs)) rest fault one (λ none _. away (inl none)) told)
 
 -- ---- later times
 
@@ -269,11 +317,12 @@ time_bad ws text rest line after old vs last bare ms ns fault h cut none =
     (told_bad (p.Later ws vs last h.from bare) rest line after fault cut
     (time_refuses ws vs last h.from bare line none.0 (away_from ws h.from rest line after h.timed cut.is)) none.1)
 
-pub later_cut : (ws text rest : List ℕ) (old vs : List (List Digit)) (last : ℕ) (bare : Bool) (ms ns : List Moment) → AreLast ws text old vs last bare ms ns rest
-    → lacks 10 rest ≡ true → (rest ≡ [] → ⊥) → IsToldAt (p.Later ws old 0 (length ws) false) text f.Cut
-later_cut ws text rest old vs last bare ms ns h one some =
-    told_later (p.Later ws old 0 (length ws) false) (p.Later ws vs last h.from bare) text rest (later_items (map plain_moment h.moments)) f.Cut h.steps h.is
-    (told_cut (p.Later ws vs last h.from bare) rest one (λ none _. some none))
+pub later_told : (ws text rest : List ℕ) (old vs : List (List Digit)) (last : ℕ) (bare : Bool) (ms ns : List Moment) (fault : VcdFault)
+    → (h : AreLast ws text old vs last bare ms ns rest) → lacks 10 rest ≡ true → (rest ≡ [] → ⊥) → IsUnended (p.Later ws vs last h.from bare) rest fault
+    → IsToldAt (p.Later ws old 0 (length ws) false) text fault
+later_told ws text rest old vs last bare ms ns fault h one some told =
+    told_later (p.Later ws old 0 (length ws) false) (p.Later ws vs last h.from bare) text rest (later_items (map plain_moment h.moments)) fault h.steps h.is
+    (told_end (p.Later ws vs last h.from bare) rest fault one (λ none _. some none) told)
 
 -- the line of a time
 time_steps : (ws : List ℕ) (old vs : List (List Digit)) (last from time : ℕ) (bare : Bool) (items : List Item) → bare ≡ false → last < time → time < 2 ^ 64

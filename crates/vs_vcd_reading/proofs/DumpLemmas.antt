@@ -12,7 +12,8 @@ use Rattle.vs_vcd_reading.specs.Layout.{declaration_lines, dump_lines, later_lin
 use Rattle.vs_vcd_reading.specs.Faults.{IsNoDump}
 use Rattle.vs_vcd_reading.specs.Steps.{Item, Place, Steps, Follows, IsLast, body_items, change_items, declared_items, items_of, later_items, line_of, text_from}
 use Rattle.vs_vcd_reading.specs.Steps.{Item as i, Place as p}
-use Rattle.vs_vcd_reading.proofs.FollowLemmas.{follows, ends}
+use Rattle.vs_vcd_reading.specs.Stops.{GoesOn}
+use Rattle.vs_vcd_reading.proofs.FollowLemmas.{follows, ends, part_goes_on}
 use Rattle.vs_vcd_reading.proofs.PartLemmas.{IsWholePart, whole_part}
 use Rattle.vs_vcd_reading.proofs.WayLemmas.{dump_end}
 
@@ -72,6 +73,13 @@ no_dump_cut text items place part steps is one bad = λ x h.
     let way = dump_end text x h in
     let both = ends p.Start place items (items_of x) way.last part steps way.steps one (sym is ∙ h.is ∙ dump_text_is x) in
     bad both.0 (subst IsLast (sym both.1) way.is)
+
+-- what stands after lines of a text of the layout goes on to one there
+pub no_begun_part : (items : List Item) (place : Place) (part rest : List ℕ) (x : PlainDump) → Steps p.Start items place → lacks 10 part ≡ true
+    → IsLayout (text_from items ++ (part ++ rest)) x → GoesOn place part
+no_begun_part items place part rest x steps one h =
+    let way = dump_end (text_from items ++ (part ++ rest)) x h in
+    part_goes_on p.Start place items (items_of x) way.last part rest steps way.steps one (h.is ∙ dump_text_is x)
 
 -- ---- items of a dump, once
 

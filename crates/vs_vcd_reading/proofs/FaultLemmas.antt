@@ -10,14 +10,15 @@ use Rattle.vs_vcd_reading.specs.Plain.{PlainDeclaration, PlainDump, PlainMoment}
 use Rattle.vs_vcd_reading.specs.Plain.{PlainDeclaration as d}
 use Rattle.vs_vcd_reading.specs.Layout.{IsLayout, widths_of}
 use Rattle.vs_vcd_lines.specs.declared.dump.ValueChange.{ValueChange}
-use Rattle.vs_vcd_reading.specs.Faults.{IsBadInBody, IsBadInHeader, IsBadLine, IsBody, IsFault, IsOfNoCode, IsOfTime}
+use Rattle.vs_vcd_reading.specs.Faults.{IsBadInBody, IsBadInHeader, IsBadLine, IsBeginning, IsBody, IsFault, IsLineEnd, IsOfNoCode, IsOfTime}
+use Rattle.vs_vcd_reading.specs.Faults.{IsLineEnd as z}
 use Rattle.vs_vcd_reading.specs.Steps.{Item, Place, Step, Steps, Follows, IsLast, body_items, change_items, declared_items, items_of, later_items, line_of, text_from}
 use Rattle.vs_vcd_reading.specs.Steps.{Item as i, Place as p, Step as s, Steps as t}
-use Rattle.vs_vcd_reading.specs.Stops.{IsBodyKind, IsKindAt, IsOfOtherCode, IsStop, IsStopped, IsToldAt}
+use Rattle.vs_vcd_reading.specs.Stops.{GoesOn, IsBodyKind, IsKindAt, IsOfOtherCode, IsStop, IsStopped, IsToldAt, IsUnended}
 use Rattle.vs_vcd_reading.specs.Stops.{IsStop as stop}
 use Rattle.vs_vcd_reading.proofs.BeginLemmas.{begun, place_widths}
-use Rattle.vs_vcd_reading.proofs.DumpLemmas.{dump_text_is, no_dump_cut, no_dump_ended}
-use Rattle.vs_vcd_reading.proofs.FollowLemmas.{all_lines, same_way, steps_append, text_from-append}
+use Rattle.vs_vcd_reading.proofs.DumpLemmas.{dump_text_is, no_begun_part, no_dump_cut, no_dump_ended}
+use Rattle.vs_vcd_reading.proofs.FollowLemmas.{all_lines, same_way, steps_append, steps_more, text_from-append}
 use Rattle.vs_vcd_reading.proofs.OnceLemmas.{other_letter}
 use Rattle.vs_vcd_reading.proofs.WayLemmas.{dump_end}
 
@@ -202,39 +203,71 @@ same_widths items place rest x steps body h =
 -- ---- faults
 
 -- a line stands after lines from the start, and can't
-record IsRefused (text : List ℕ) (items : List Item) (place : Place) (line rest : List ℕ) : Type 0 where
+record IsRefused (text : List ℕ) (items : List Item) (place : Place) (line : List ℕ) : Type 0 where
   pub steps : Steps p.Start items place
-  pub is : text ≡ text_from items ++ (line ++ 10 ∷ rest)
+  pub end : List ℕ
+  pub rest : List ℕ
+  pub is : text ≡ text_from items ++ line ++ end ++ rest
+  pub ended : IsLineEnd end rest
   pub one_line : lacks 10 line ≡ true
-  pub bad : Follows place line → ⊥
+  pub bad : IsBeginning (text_from items ++ line ++ end) → ⊥
 
-bad_line : (text : List ℕ) (items : List Item) (place : Place) (line rest : List ℕ) → IsRefused text items place line rest → IsBadLine text (map line_of items) line
-bad_line text items place line rest h = record {
+-- an ended line that can't stand at its place
+refused_ended : (text : List ℕ) (items : List Item) (place : Place) (line rest : List ℕ) → Steps p.Start items place → text ≡ text_from items ++ (line ++ 10 ∷ rest)
+    → lacks 10 line ≡ true → (Follows place line → ⊥) → IsRefused text items place line
+refused_ended text items place line rest steps is one bad = record {
+  steps = steps;
+  end = 10 ∷ [];
   rest = rest;
-  is = h.is ∙ sym (append_assoc (text_from items) line (10 ∷ rest));
-  lines = all_lines p.Start place items h.steps;
-  one_line = h.one_line;
-  begun = begun items place h.steps;
+  is = is ∙ sym (append_assoc (text_from items) line (10 ∷ rest)) ∙ sym (append_assoc (text_from items ++ line) (10 ∷ []) rest);
+  ended = z.feed rest;
+  one_line = one;
   bad = λ b.
       let whole : (text_from items ++ line ++ 10 ∷ []) ++ b.rest ≡ text_from items ++ (line ++ 10 ∷ b.rest) =
       append_assoc (text_from items ++ line) (10 ∷ []) b.rest ∙ append_assoc (text_from items) line (10 ∷ b.rest) in
-      no_dump_ended ((text_from items ++ line ++ 10 ∷ []) ++ b.rest) items place line b.rest h.steps whole h.one_line h.bad b.dump b.is;
+      no_dump_ended ((text_from items ++ line ++ 10 ∷ []) ++ b.rest) items place line b.rest steps whole one bad b.dump b.is;
 }
 
-in_header : (text : List ℕ) (items : List Item) (place : Place) (line rest : List ℕ) → IsRefused text items place line rest → in_body place ≡ false → IsBadInHeader text
-in_header text items place line rest h out = record {
+-- a last line that goes on to none that can stand at its place
+refused_part : (text : List ℕ) (items : List Item) (place : Place) (part : List ℕ) → Steps p.Start items place → text ≡ text_from items ++ part
+    → lacks 10 part ≡ true → (GoesOn place part → ⊥) → IsRefused text items place part
+refused_part text items place part steps is one bad = record {
+  steps = steps;
+  end = [];
+  rest = [];
+  is = is ∙ sym (append-nil (text_from items ++ part)) ∙ sym (append-nil (text_from items ++ part ++ []));
+  ended = z.last;
+  one_line = one;
+  bad = λ b. bad (no_begun_part items place part b.rest b.dump steps one
+      (subst (λ l. IsLayout l b.dump) (ap (λ l. l ++ b.rest) (append-nil (text_from items ++ part)) ∙ append_assoc (text_from items) part b.rest) b.is));
+}
+
+bad_line : (text : List ℕ) (items : List Item) (place : Place) (line : List ℕ) → IsRefused text items place line → IsBadLine text (map line_of items) line
+bad_line text items place line h = record {
+  end = h.end;
+  rest = h.rest;
+  is = h.is;
+  ended = h.ended;
+  lines = all_lines p.Start place items h.steps;
+  one_line = h.one_line;
+  begun = begun items place h.steps;
+  bad = h.bad;
+}
+
+in_header : (text : List ℕ) (items : List Item) (place : Place) (line : List ℕ) → IsRefused text items place line → in_body place ≡ false → IsBadInHeader text
+in_header text items place line h out = record {
   before = map line_of items;
   line = line;
-  bad = bad_line text items place line rest h;
+  bad = bad_line text items place line h;
   header = no_body place items h.steps out;
 }
 
-in_the_body : (text : List ℕ) (items : List Item) (place : Place) (line rest : List ℕ) (K : List (List ℕ) → List ℕ → Type 0) → IsRefused text items place line rest
+in_the_body : (text : List ℕ) (items : List Item) (place : Place) (line : List ℕ) (K : List (List ℕ) → List ℕ → Type 0) → IsRefused text items place line
     → in_body place ≡ true → K (map line_of items) line → IsBadInBody text K
-in_the_body text items place line rest K h within kind = record {
+in_the_body text items place line K h within kind = record {
   before = map line_of items;
   line = line;
-  bad = bad_line text items place line rest h;
+  bad = bad_line text items place line h;
   body = body_by p.Start place items h.steps refl within;
   kind = kind;
 }
@@ -258,44 +291,57 @@ no_code items place line steps body h =
     let most = h.undeclared b.rest b.dump b.is in
     record { number = h.number; shaped = h.shaped; least = omega (arith, same, most) }
 
-body_fault_is : (text : List ℕ) (items : List Item) (place : Place) (line rest : List ℕ) (fault : VcdFault) → IsRefused text items place line rest → in_body place ≡ true
+body_fault_is : (text : List ℕ) (items : List Item) (place : Place) (line : List ℕ) (fault : VcdFault) → IsRefused text items place line → in_body place ≡ true
     → IsBodyKind (length (place_widths place)) line fault → IsFault text fault
-body_fault_is text items place line rest f.Memory h body kind = tt
-body_fault_is text items place line rest f.Header h body kind = absurd kind
-body_fault_is text items place line rest f.Cut h body kind = absurd kind
-body_fault_is text items place line rest f.Time h body kind = in_the_body text items place line rest (λ before l. IsOfTime l) h body kind
-body_fault_is text items place line rest f.Code h body kind =
-    in_the_body text items place line rest (λ before l. IsOfNoCode before l) h body (other_code items place line h.steps body kind)
-body_fault_is text items place line rest f.Line h body kind =
-    in_the_body text items place line rest (λ before l. (IsOfTime l → ⊥) × (IsOfNoCode before l → ⊥)) h body
+body_fault_is text items place line f.Memory h body kind = tt
+body_fault_is text items place line f.Header h body kind = absurd kind
+body_fault_is text items place line f.Cut h body kind = absurd kind
+body_fault_is text items place line f.Time h body kind = in_the_body text items place line (λ before l. IsOfTime l) h body kind
+body_fault_is text items place line f.Code h body kind =
+    in_the_body text items place line (λ before l. IsOfNoCode before l) h body (other_code items place line h.steps body kind)
+body_fault_is text items place line f.Line h body kind =
+    in_the_body text items place line (λ before l. (IsOfTime l → ⊥) × (IsOfNoCode before l → ⊥)) h body
     (kind.0, λ k. kind.1 (no_code items place line h.steps body k))
 
-header_fault_is : (text : List ℕ) (items : List Item) (place : Place) (line rest : List ℕ) (fault : VcdFault) → IsRefused text items place line rest → in_body place ≡ false
+header_fault_is : (text : List ℕ) (items : List Item) (place : Place) (line : List ℕ) (fault : VcdFault) → IsRefused text items place line → in_body place ≡ false
     → fault ≡ f.Header → IsFault text fault
-header_fault_is text items place line rest fault h out is = subst (IsFault text) (sym is) (in_header text items place line rest h out)
+header_fault_is text items place line fault h out is = subst (IsFault text) (sym is) (in_header text items place line h out)
 
-fault_at : (text : List ℕ) (items : List Item) (place : Place) (line rest : List ℕ) (fault : VcdFault) → IsRefused text items place line rest → IsKindAt place line fault
+fault_at : (text : List ℕ) (items : List Item) (place : Place) (line : List ℕ) (fault : VcdFault) → IsRefused text items place line → IsKindAt place line fault
     → IsFault text fault
-fault_at text items p.Start line rest fault h kind = header_fault_is text items p.Start line rest fault h refl kind
-fault_at text items p.Top line rest fault h kind = header_fault_is text items p.Top line rest fault h refl kind
-fault_at text items (p.Header ws depth own) line rest fault h kind = header_fault_is text items (p.Header ws depth own) line rest fault h refl kind
-fault_at text items (p.Zero ws) line rest fault h kind = body_fault_is text items (p.Zero ws) line rest fault h refl kind
-fault_at text items (p.First ws) line rest fault h kind = body_fault_is text items (p.First ws) line rest fault h refl kind
-fault_at text items (p.Values ws vs) line rest fault h kind = body_fault_is text items (p.Values ws vs) line rest fault h refl kind
-fault_at text items (p.Later ws vs last from bare) line rest fault h kind = body_fault_is text items (p.Later ws vs last from bare) line rest fault h refl kind
+fault_at text items p.Start line fault h kind = header_fault_is text items p.Start line fault h refl kind
+fault_at text items p.Top line fault h kind = header_fault_is text items p.Top line fault h refl kind
+fault_at text items (p.Header ws depth own) line fault h kind = header_fault_is text items (p.Header ws depth own) line fault h refl kind
+fault_at text items (p.Zero ws) line fault h kind = body_fault_is text items (p.Zero ws) line fault h refl kind
+fault_at text items (p.First ws) line fault h kind = body_fault_is text items (p.First ws) line fault h refl kind
+fault_at text items (p.Values ws vs) line fault h kind = body_fault_is text items (p.Values ws vs) line fault h refl kind
+fault_at text items (p.Later ws vs last from bare) line fault h kind = body_fault_is text items (p.Later ws vs last from bare) line fault h refl kind
+
+-- some text of the layout begins with lines and the beginning of one more
+begun_part : (items : List Item) (place : Place) (part : List ℕ) → Steps p.Start items place → GoesOn place part → IsBeginning (text_from items ++ part)
+begun_part items place part steps (inl none) =
+    subst IsBeginning (sym (append-nil (text_from items)) ∙ ap (λ l. text_from items ++ l) (sym none)) (begun items place steps)
+begun_part items place part steps (inr h) =
+    let more = items ++ h.follows.item ∷ [] in
+    let b = begun more h.follows.next (steps_more p.Start place h.follows.next items h.follows.item steps h.follows.step) in
+    let whole : text_from more ≡ (text_from items ++ part) ++ (h.rest ++ 10 ∷ []) =
+    text_from-append items (h.follows.item ∷ []) ∙ ap (λ l. text_from items ++ (l ++ 10 ∷ [])) (sym h.follows.is)
+    ∙ ap (λ l. text_from items ++ l) (append_assoc part h.rest (10 ∷ [])) ∙ sym (append_assoc (text_from items) part (h.rest ++ 10 ∷ [])) in
+    record {
+      rest = (h.rest ++ 10 ∷ []) ++ b.rest;
+      dump = b.dump;
+      is = subst (λ l. IsLayout l b.dump) (ap (λ l. l ++ b.rest) whole ∙ append_assoc (text_from items ++ part) (h.rest ++ 10 ∷ []) b.rest) b.is;
+    }
 
 stop_is : (text : List ℕ) (items : List Item) (place : Place) (rest : List ℕ) (fault : VcdFault) → Steps p.Start items place → text ≡ text_from items ++ rest
     → IsStop place rest fault → IsFault text fault
 stop_is text items place rest _ steps is (stop.bad line after fault cut bad kind) =
-    fault_at text items place line after fault
-    (record { steps = steps; is = is ∙ ap (λ l. text_from items ++ l) cut.is; one_line = cut.first; bad = bad }) kind
-stop_is text items place rest _ steps is (stop.cut one none) = record {
-  before = map line_of items;
-  last = rest;
-  is = is;
-  lines = all_lines p.Start place items steps;
-  one_line = one;
-  begun = begun items place steps;
+    fault_at text items place line fault
+    (refused_ended text items place line after steps (is ∙ ap (λ l. text_from items ++ l) cut.is) cut.first bad) kind
+stop_is text items place rest _ steps is (stop.unended fault one bad kind) =
+    fault_at text items place rest fault (refused_part text items place rest steps is one bad) kind
+stop_is text items place rest _ steps is (stop.cut one more none) = record {
+  begun = subst IsBeginning (sym is) (begun_part items place rest steps more);
   none = no_dump_cut text items place rest steps is one none;
 }
 
@@ -345,9 +391,14 @@ told here text f.Cut h = h
 pub told_here : (here : Place) (text : List ℕ) (fault : VcdFault) → IsStop here text fault → IsToldAt here text fault
 told_here here text fault h = told here text fault (record { items = []; next = here; rest = text; steps = t.stay here; is = refl; stop = h })
 
--- the text is cut at this place
-pub told_cut : (here : Place) (text : List ℕ) → lacks 10 text ≡ true → (text ≡ [] → IsLast here → ⊥) → IsToldAt here text f.Cut
-told_cut here text one none = told_here here text f.Cut (stop.cut one none)
+-- the text has no ended line at this place
+pub told_end : (here : Place) (text : List ℕ) (fault : VcdFault) → lacks 10 text ≡ true → (text ≡ [] → IsLast here → ⊥) → IsUnended here text fault → IsToldAt here text fault
+told_end here text f.Memory one none h = tt
+told_end here text f.Cut one none h = told_here here text f.Cut (stop.cut one h none)
+told_end here text f.Header one none h = told_here here text f.Header (stop.unended f.Header one h.0 h.1)
+told_end here text f.Line one none h = told_here here text f.Line (stop.unended f.Line one h.0 h.1)
+told_end here text f.Code one none h = told_here here text f.Code (stop.unended f.Code one h.0 h.1)
+told_end here text f.Time one none h = told_here here text f.Time (stop.unended f.Time one h.0 h.1)
 
 -- its first line is bad
 pub told_bad : (here : Place) (text line rest : List ℕ) (fault : VcdFault) → IsCut 10 text line rest → (Follows here line → ⊥) → IsKindAt here line fault

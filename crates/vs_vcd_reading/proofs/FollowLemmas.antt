@@ -1,11 +1,13 @@
 -- Which line a text of the layout can have next.
-use Rattle.std.proofs.Common.{◌≡◌, ℕ, true, List, [], ◌∷◌, ◌++◌, map, refl, sym, ap, subst, ◌∙◌, append_assoc}
+use Rattle.std.proofs.Common.{◌≡◌, inl, inr, ℕ, true, List, [], ◌∷◌, ◌++◌, map, refl, sym, ap, subst, ◌∙◌, append_assoc}
 use Rattle.std.proofs.lemmas.Bool.{and_from}
 use Rattle.vs_vcd_lines.specs.Cuts.{lacks}
 use Rattle.vs_vcd_lines.proofs.CutLemmas.{cut_once, lacks_head}
+use Rattle.vs_vcd_beginnings.proofs.TextLemmas.{begins_before}
 use Rattle.vs_vcd_reading.specs.Faults.{are_lines}
 use Rattle.vs_vcd_reading.specs.Steps.{Item, Place, Step, Steps, Follows, line_of, text_from}
 use Rattle.vs_vcd_reading.specs.Steps.{Steps as t}
+use Rattle.vs_vcd_reading.specs.Stops.{GoesOn}
 use Rattle.vs_vcd_reading.proofs.OneLineLemmas.{step_one_line}
 use Rattle.vs_vcd_reading.proofs.OnceLemmas.{step_once}
 
@@ -100,3 +102,18 @@ same_items here r q _ _ (t.go _ x next xs _ step more) (t.go _ y other ys _ jump
     let same = step_once here x y next other step jump parts.0 in
     let rest = same_items next r q xs ys more (subst (λ p. Steps p ys q) (sym same.1) far) parts.1 in
     ap (λ a. a ∷ xs) same.0 ∙ ap (λ l. y ∷ l) rest
+
+-- ---- parts of lines
+
+part_follows : (here : Place) (ys : List Item) (r : Place) (part rest : List ℕ) → Steps here ys r → lacks 10 part ≡ true → part ++ rest ≡ text_from ys → GoesOn here part
+part_follows here _ r [] rest (t.stay _) one e = inl refl
+part_follows here _ r (b ∷ bs) rest (t.stay _) one e = absurd cc
+part_follows here _ r part rest (t.go _ y next ys _ step more) one e =
+    let begins = begins_before 10 part rest (line_of y) (text_from ys) one e in
+    inr (record { rest = begins.0; follows = record { item = y; next = next; step = step; is = sym begins.1 } })
+
+-- what stands after lines of a text of the layout goes on to one there
+pub part_goes_on : (here place : Place) (xs ys : List Item) (r : Place) (part rest : List ℕ) → Steps here xs place → Steps here ys r → lacks 10 part ≡ true
+    → text_from xs ++ (part ++ rest) ≡ text_from ys → GoesOn place part
+part_goes_on here place xs ys r part rest h k one e =
+    let after = same_way here place xs ys r (part ++ rest) h k e in part_follows place after.items r part rest after.steps one after.is

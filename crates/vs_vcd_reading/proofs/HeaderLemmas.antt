@@ -25,8 +25,10 @@ use Rattle.vs_vcd_reading.specs.Layout.{variable_text, widths_of, IsPlainVariabl
 use Rattle.vs_vcd_reading.specs.Headers.{declared, depth_with, header_items, header_place, item_for, own_with, Goes, IsBegun, IsClosed, IsHeader, IsHeaderFault, IsTaken, MayStand}
 use Rattle.vs_vcd_reading.specs.Steps.{Item, Place, Step, Steps, Follows, declared_items, line_of, text_from}
 use Rattle.vs_vcd_reading.specs.Steps.{Item as i, Place as p, Step as s, Steps as t}
-use Rattle.vs_vcd_reading.specs.Stops.{IsToldAt}
-use Rattle.vs_vcd_reading.proofs.FaultLemmas.{told_bad, told_cut, told_later}
+use Rattle.vs_vcd_reading.specs.Stops.{GoesOn, IsKindAt, IsToldAt, IsUnended}
+use Rattle.vs_vcd_beginnings.specs.Beginnings.{Begins}
+use Rattle.vs_vcd_reading.proofs.BodyLemmas.{begins_by, begins_on}
+use Rattle.vs_vcd_reading.proofs.FaultLemmas.{told_bad, told_end, told_later}
 use Rattle.vs_vcd_reading.proofs.FollowLemmas.{steps_more, text_more}
 use Rattle.vs_vcd_reading.proofs.OnceLemmas.{other_letter, scope_once}
 
@@ -220,8 +222,38 @@ goes_on text rest line after old new b cut g = record {
 header_told : (text rest : List ℕ) (h : Header) (fault : VcdFault) → IsBegun text h rest → IsToldAt (header_place h) rest fault → IsToldAt p.Top text fault
 header_told text rest h fault b told = told_later p.Top (header_place h) text rest (header_items h) fault b.kept.steps b.is told
 
-pub header_cut : (text rest : List ℕ) (h : Header) → IsBegun text h rest → lacks 10 rest ≡ true → IsToldAt p.Top text f.Cut
-header_cut text rest h b one = header_told text rest h f.Cut b (told_cut (header_place h) rest one (λ _ e. e))
+pub header_end : (text rest : List ℕ) (h : Header) (fault : VcdFault) → IsBegun text h rest → lacks 10 rest ≡ true → IsUnended (header_place h) rest fault
+    → IsToldAt p.Top text fault
+header_end text rest h fault b one told = header_told text rest h fault b (told_end (header_place h) rest fault one (λ _ e. e) told)
+
+-- what is told of a last line of the header, by a test
+pub unended_header : (here : Place) (part : List ℕ) (b : Bool) (fault : VcdFault) → IsKindAt here part f.Header
+    → (b ≡ true → GoesOn here part) × (GoesOn here part → b ≡ true) → (b ≡ true → fault ≡ f.Cut) → (b ≡ false → fault ≡ f.Header) → IsUnended here part fault
+unended_header here part true fault kind tells cut bad = subst (IsUnended here part) (sym (cut refl)) (tells.0 refl)
+unended_header here part false fault kind tells cut bad = subst (IsUnended here part) (sym (bad refl)) (λ h. false≢true (tells.1 h), kind)
+
+end_stands : (ws : List ℕ) (depth : ℕ) (own : Bool) → depth ≡ 0 → Follows (p.Header ws depth own) (codes "$enddefinitions $end")
+end_stands ws depth own closed =
+    subst (λ n. Follows (p.Header ws n own) (codes "$enddefinitions $end")) (sym closed)
+    (record { item = i.Definitions; next = p.Zero ws; step = s.definitions ws own; is = refl })
+
+end_by : (ws : List ℕ) (depth : ℕ) (own : Bool) (line : List ℕ) (x : Item) (next : Place) → depth ≡ 0 → Step (p.Header ws depth own) x next → line ≡ line_of x
+    → line ≡ codes "$enddefinitions $end"
+end_by ws _ own line _ _ closed (s.definitions _ _) is = is
+end_by ws _ own line _ _ closed (s.scope _ above _ kind name named) is = absurd (omega (arith, closed))
+end_by ws _ _ line _ _ closed (s.variable _ above x good) is = absurd (omega (arith, closed))
+end_by ws _ own line _ _ closed (s.upscope _ above _) is = absurd (omega (arith, closed))
+
+-- what goes on to the end of the header
+pub end_goes_on : (h : Header) (part : List ℕ) (b : Bool) → h.depth ≡ 0
+    → (b ≡ true → Begins part (codes "$enddefinitions $end")) × (Begins part (codes "$enddefinitions $end") → b ≡ true)
+    → (b ≡ true → GoesOn (header_place h) part) × (GoesOn (header_place h) part → b ≡ true)
+end_goes_on h part b closed tells = (
+  λ e. begins_on (header_place h) (codes "$enddefinitions $end") part (end_stands h.widths.items h.depth h.own closed) (tells.0 e),
+  λ g. tells.1
+      (begins_by (header_place h) (codes "$enddefinitions $end") part
+      (λ line k. end_by h.widths.items h.depth h.own line k.item k.next closed k.step k.is) g),
+)
 
 pub header_bad : (text rest line after : List ℕ) (h : Header) (fault : VcdFault) → IsBegun text h rest → IsCut 10 rest line after → IsHeaderFault h line fault
     → IsToldAt p.Top text fault

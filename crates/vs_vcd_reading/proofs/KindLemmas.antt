@@ -14,11 +14,11 @@ use Rattle.vs_vcd_writing.proofs.CodeLemmas.{code-short, code-injective}
 use Rattle.vs_vcd_lines.specs.Cuts.{lacks, IsCut}
 use Rattle.vs_vcd_lines.proofs.CodeLemmas.{code_above}
 use Rattle.vs_vcd_lines.proofs.CutLemmas.{and_true, cut_once, lacks_head}
+use Rattle.vs_vcd_beginnings.proofs.ValueLemmas.{characters_lack}
 use Rattle.vs_vcd_reading.specs.Faults.{IsShaped}
 use Rattle.vs_vcd_reading.specs.Faults.{IsShaped as sh}
 use Rattle.vs_vcd_reading.specs.Kinds.{are_characters, is_character, AreCharacters, AreCodeCharacters, IsOtherCode}
 use Rattle.vs_vcd_reading.specs.Stops.{IsOfOtherCode}
-use Rattle.vs_vcd_reading.proofs.OnceLemmas.{characters_lack}
 
 -- ---- codes
 

@@ -1,6 +1,5 @@
 -- A text is one dump, or has faults.
-use Rattle.std.proofs.Common.{◌≡◌, ℕ, List, [], ◌∷◌, ◌++◌, refl, sym, subst, ◌∙◌, append_assoc}
-use Rattle.vs_vcd_writing.specs.Text.{text_of}
+use Rattle.std.proofs.Common.{ℕ, List, refl, sym, subst, ◌∙◌}
 use Rattle.vs_vcd_reading.specs.declared.fault.VcdFault.TheVariants as f
 use Rattle.vs_vcd_reading.specs.Layout.{IsLayout}
 use Rattle.vs_vcd_reading.specs.Faults.{IsBadLine, IsNoDump}
@@ -19,9 +18,7 @@ dumps_once text x y h k =
     (same_items p.Start first.last second.last (items_of x) (items_of y) first.steps second.steps (sym (dump_text_is x) ∙ sym h.is ∙ k.is ∙ dump_text_is y))
 
 bad_is_none : (text : List ℕ) (before : List (List ℕ)) (line : List ℕ) → IsBadLine text before line → IsNoDump text
-bad_is_none text before line h = λ x k.
-    let whole : text ≡ (text_of before ++ line ++ 10 ∷ []) ++ h.rest = h.is ∙ sym (append_assoc (text_of before ++ line) (10 ∷ []) h.rest) in
-    h.bad (record { rest = h.rest; dump = x; is = subst (λ l. IsLayout l x) whole k })
+bad_is_none text before line h = λ x k. h.bad (record { rest = h.rest; dump = x; is = subst (λ l. IsLayout l x) h.is k })
 
 pub faults_of_none : FaultsAreOfNone
 faults_of_none text f.Memory h other = absurd (other refl)

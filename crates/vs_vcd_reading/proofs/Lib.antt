@@ -13,3 +13,6 @@ pub mod HeaderLemmas
 pub mod BodyLemmas
 pub mod NoneLemmas
 pub mod ReadLemmas
+pub mod TickLemmas
+pub mod BeginningLemmas
+pub mod TimeLemmas

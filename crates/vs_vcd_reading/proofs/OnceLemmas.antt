@@ -2,7 +2,7 @@
 use Rattle.std.proofs.Common.{◌≡◌, ℕ, suc, ◌<◌, ◌^◌, true, false, cond, eqb, Option, Some, List, [], ◌∷◌, ◌++◌, codes, decimal, get_or, length, map, reverse, refl, sym, ap, ◌∙◌, append_assoc, arith}
 use Rattle.std.specs.Prelude.{slice_get}
 use Rattle.std.proofs.lemmas.Fmt.{decimal_injective}
-use Rattle.std.proofs.lemmas.List.{append_cancel_right, append_cancel_left, reverse-reverse, length-reverse}
+use Rattle.std.proofs.lemmas.List.{append_cancel_right, append_cancel_left}
 use Rattle.vs_logic4.specs.declared.digit.Digit.{Digit}
 use Rattle.vs_logic4.specs.declared.digit.Digit.TheVariants.{Zero, One, X, Z}
 use Rattle.vs_design.specs.declared.design.ScopeKind.{ScopeKind}
@@ -15,13 +15,10 @@ use Rattle.vs_design.specs.declared.timescale.TimeSpan.{TimeSpan}
 use Rattle.vs_design.specs.declared.timescale.TimeUnit.{TimeUnit}
 use Rattle.vs_design.specs.declared.timescale.TimeUnit.TheVariants as units
 use Rattle.vs_vcd_writing.specs.Codes.{code}
-use Rattle.vs_vcd_writing.specs.Shown.{extended}
 use Rattle.vs_vcd_writing.specs.Text.{magnitude_word, unit_word, kind_word, scope_word, range_text, scope_line, time_line}
 use Rattle.vs_vcd_writing.specs.Values.{digit_character, shortened, value_change}
 use Rattle.vs_vcd_writing.proofs.CodeLemmas.{code-injective}
-use Rattle.vs_vcd_writing.proofs.ExtendLemmas.{extended-shortened}
 use Rattle.vs_vcd_lines.specs.declared.dump.ValueChange.{ValueChange}
-use Rattle.vs_vcd_lines.specs.Cuts.{lacks}
 use Rattle.vs_vcd_lines.specs.Lines.{span_line, change_line, IsSized}
 use Rattle.vs_vcd_lines.specs.Parts.{IsShape}
 use Rattle.vs_vcd_lines.proofs.ChangeLemmas.{wide_text}
@@ -31,6 +28,7 @@ use Rattle.vs_vcd_lines.proofs.LineLemmas.{scope_assoc}
 use Rattle.vs_vcd_lines.proofs.ValueLemmas.{spelled_once}
 use Rattle.vs_vcd_lines.proofs.VariableLemmas.{line_assoc, shape_parts, shape_three}
 use Rattle.vs_vcd_lines.proofs.WordLemmas.{scope_lacks, magnitude_lacks}
+use Rattle.vs_vcd_beginnings.proofs.ValueLemmas.{character_once, characters_lack, values_once}
 use Rattle.vs_vcd_reading.specs.Plain.{PlainVariable}
 use Rattle.vs_vcd_reading.specs.Layout.{variable_text, with_change, IsPlainVariable}
 use Rattle.vs_vcd_reading.specs.Steps.{Item, Place, Step, line_of}
@@ -131,25 +129,11 @@ variable_once v w m n h k e =
 
 -- ---- values
 
-pub character_once : (d e : Digit) → digit_character d ≡ digit_character e → d ≡ e
-character_once d e h =
-    let same = spelled_once (d ∷ []) (e ∷ []) (ap (λ x. x ∷ []) h) in cc
-
 no_character : (d : Digit) (b : ℕ) → 97 < b → b < 120 → digit_character d ≡ b → ⊥
 no_character Zero b least most h = omega (arith, least, h)
 no_character One b least most h = omega (arith, least, h)
 no_character X b least most h = omega (arith, most, h)
 no_character Z b least most h = omega (arith, most, h)
-
-character_lacks : (d : Digit) (bs : List ℕ) → lacks 32 bs ≡ true → lacks 32 (digit_character d ∷ bs) ≡ true
-character_lacks Zero bs h = h
-character_lacks One bs h = h
-character_lacks X bs h = h
-character_lacks Z bs h = h
-
-pub characters_lack : (ds : List Digit) → lacks 32 (map digit_character ds) ≡ true
-characters_lack [] = refl
-characters_lack (d ∷ ds) = character_lacks d (map digit_character ds) (characters_lack ds)
 
 -- a value of other than one digit, as its line has it
 abbrev wide_form : List Digit → List ℕ → List ℕ
@@ -162,12 +146,7 @@ wide_once v w m n e =
     (characters_lack (shortened (reverse v))) (characters_lack (shortened (reverse w))) tails in
     let short = spelled_once (shortened (reverse v)) (shortened (reverse w)) parts.0 in (
       code-injective m n parts.1,
-      λ size.
-          let turned : reverse v ≡ reverse w =
-          sym (extended-shortened (length (reverse v)) (reverse v) refl)
-          ∙ ap (extended (length (reverse v))) short
-          ∙ extended-shortened (length (reverse v)) (reverse w) (length-reverse v ∙ size ∙ sym (length-reverse w)) in
-          sym (reverse-reverse v) ∙ ap reverse turned ∙ reverse-reverse w,
+      λ size. values_once v w short size,
     )
 
 two_digits : (d e : Digit) (ds : List Digit) (c : List ℕ) → value_change (d ∷ e ∷ ds) c ≡ wide_form (d ∷ e ∷ ds) c

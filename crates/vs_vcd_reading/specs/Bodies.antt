@@ -4,6 +4,7 @@ use Rattle.vs_logic4.specs.declared.digit.Digit.{Digit}
 use Rattle.vs_vcd_lines.specs.declared.dump.ValueChange.{ValueChange}
 use Rattle.vs_vcd_lines.specs.Cuts.{lacks, IsCut}
 use Rattle.vs_vcd_lines.specs.Lines.{change_line, IsSized}
+use Rattle.vs_vcd_beginnings.specs.Beginnings.{Begins}
 use Rattle.vs_vcd_reading.specs.declared.dump.Moment.{Moment}
 use Rattle.vs_vcd_reading.specs.declared.fault.VcdFault.{VcdFault}
 use Rattle.vs_vcd_reading.specs.declared.fault.VcdFault.TheVariants as f
@@ -14,11 +15,12 @@ use Rattle.vs_vcd_reading.specs.Steps.{Place, Steps, IsLast, change_items, later
 use Rattle.vs_vcd_reading.specs.Steps.{Item as i, Place as p}
 use Rattle.vs_vcd_reading.specs.Stops.{IsBodyKind}
 
--- the first line of a text isn't the wanted one, or the text has none
+-- the first line of a text isn't the wanted one, or the text has no ended one: it begins the wanted one, or doesn't
 pub data IsUnexpected (wanted : List ℕ) (count : ℕ) (text : List ℕ) : VcdFault → Type 0 where
   bad : (line rest : List ℕ) (fault : VcdFault) → IsCut 10 text line rest → (line ≡ wanted → ⊥) → IsBodyKind count line fault →
       IsUnexpected wanted count text fault
-  cut : lacks 10 text ≡ true → IsUnexpected wanted count text f.Cut
+  unended : (fault : VcdFault) → lacks 10 text ≡ true → (Begins text wanted → ⊥) → IsBodyKind count text fault → IsUnexpected wanted count text fault
+  cut : lacks 10 text ≡ true → Begins text wanted → IsUnexpected wanted count text f.Cut
 
 -- a line is no value of the variable of a number
 pub record IsNoValue (widths : List ℕ) (number : ℕ) (line : List ℕ) (fault : VcdFault) : Type 0 where
@@ -50,6 +52,10 @@ is_bare (c ∷ cs) = false
 -- a text is at its end, or begins with `#`
 abbrev pub IsAtTime : List ℕ → Type 0
 IsAtTime text = (text ≡ []) ⊎ IsOfTime text
+
+-- no change of a variable from a number on can stand before a text
+abbrev pub IsFromTime : List ℕ → ℕ → List ℕ → Type 0
+IsFromTime ws from part = (from ≡ length ws) ⊎ IsAtTime part
 
 -- changes of a time that a text begins with
 pub record AreSome (widths text : List ℕ) (old new : List (List Digit)) (cs : List ValueChange) (from : ℕ) (rest : List ℕ) : Type 0 where

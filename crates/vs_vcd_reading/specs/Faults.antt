@@ -27,23 +27,26 @@ IsNoDump text = (x : PlainDump) → IsLayout text x → ⊥
 abbrev pub are_lines : List (List ℕ) → Bool
 are_lines ls = list_all (lacks 10) ls
 
--- the first ended line of a text that no text of the layout has there, and the lines before it
+-- what stands after a line of a text: a line feed and what follows it, or nothing after the last one
+pub data IsLineEnd : List ℕ → List ℕ → Type 0 where
+  feed : (rest : List ℕ) → IsLineEnd (10 ∷ []) rest
+  last : IsLineEnd [] []
+
+-- the first line of a text, ended or the last, that no text of the layout has there, and the lines before it: some text of the layout begins
+-- with these, and none with these and that line
 pub record IsBadLine (text : List ℕ) (before : List (List ℕ)) (line : List ℕ) : Type 0 where
+  pub end : List ℕ
   pub rest : List ℕ
-  pub is : text ≡ text_of before ++ line ++ 10 ∷ rest
+  pub is : text ≡ text_of before ++ line ++ end ++ rest
+  pub ended : IsLineEnd end rest
   pub lines : are_lines before ≡ true
   pub one_line : lacks 10 line ≡ true
   pub begun : IsBeginning (text_of before)
-  pub bad : IsBeginning (text_of before ++ line ++ 10 ∷ []) → ⊥
+  pub bad : IsBeginning (text_of before ++ line ++ end) → ⊥
 
--- every ended line of a text that is none of the layout is as in one that is
+-- some text of the layout begins so, and it is none itself
 pub record IsCutShort (text : List ℕ) : Type 0 where
-  pub before : List (List ℕ)
-  pub last : List ℕ
-  pub is : text ≡ text_of before ++ last
-  pub lines : are_lines before ≡ true
-  pub one_line : lacks 10 last ≡ true
-  pub begun : IsBeginning (text_of before)
+  pub begun : IsBeginning text
   pub none : IsNoDump text
 
 -- the line that ends the header is among lines

@@ -1,5 +1,5 @@
 -- Why the reader stops: nothing that is promised rests on these.
-use Rattle.std.specs.Prelude.{◌≡◌, ℕ, ◌≤◌, true, List, [], ◌++◌, length}
+use Rattle.std.specs.Prelude.{◌≡◌, ◌⊎◌, ℕ, ◌≤◌, true, List, [], ◌++◌, length}
 use Rattle.vs_vcd_lines.specs.Cuts.{lacks, IsCut}
 use Rattle.vs_vcd_reading.specs.declared.fault.VcdFault.{VcdFault}
 use Rattle.vs_vcd_reading.specs.declared.fault.VcdFault.TheVariants as f
@@ -32,10 +32,29 @@ IsKindAt (p.First ws) line fault = IsBodyKind (length ws) line fault
 IsKindAt (p.Values ws vs) line fault = IsBodyKind (length ws) line fault
 IsKindAt (p.Later ws vs last from bare) line fault = IsBodyKind (length ws) line fault
 
--- why a text can't stand at a place: its first line, or that it has none
+-- some line that can stand at a place begins so
+pub record IsPart (here : Place) (part : List ℕ) : Type 0 where
+  pub rest : List ℕ
+  pub follows : Follows here (part ++ rest)
+
+-- nothing, or the beginning of a line that can stand at a place
+abbrev pub GoesOn : Place → List ℕ → Type 0
+GoesOn here part = (part ≡ []) ⊎ IsPart here part
+
+-- why a text can't stand at a place: its first line, or that it has no ended one
 pub data IsStop (here : Place) (text : List ℕ) : VcdFault → Type 0 where
   bad : (line rest : List ℕ) (fault : VcdFault) → IsCut 10 text line rest → (Follows here line → ⊥) → IsKindAt here line fault → IsStop here text fault
-  cut : lacks 10 text ≡ true → (text ≡ [] → IsLast here → ⊥) → IsStop here text f.Cut
+  unended : (fault : VcdFault) → lacks 10 text ≡ true → (GoesOn here text → ⊥) → IsKindAt here text fault → IsStop here text fault
+  cut : lacks 10 text ≡ true → GoesOn here text → (text ≡ [] → IsLast here → ⊥) → IsStop here text f.Cut
+
+-- what is told of a last line that isn't ended, at a place
+abbrev pub IsUnended : Place → List ℕ → VcdFault → Type 0
+IsUnended here part f.Memory = Unit {0}
+IsUnended here part f.Cut = GoesOn here part
+IsUnended here part f.Header = (GoesOn here part → ⊥) × IsKindAt here part f.Header
+IsUnended here part f.Line = (GoesOn here part → ⊥) × IsKindAt here part f.Line
+IsUnended here part f.Code = (GoesOn here part → ⊥) × IsKindAt here part f.Code
+IsUnended here part f.Time = (GoesOn here part → ⊥) × IsKindAt here part f.Time
 
 -- why a text can't stand at a place: after some lines that can
 pub record IsStopped (here : Place) (text : List ℕ) (fault : VcdFault) : Type 0 where

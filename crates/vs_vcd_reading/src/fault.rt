@@ -4,7 +4,7 @@ ghost use Rattle.vs_vcd_reading.specs.declared.fault.VcdFault.TheVariants as fau
 
 use std::alloc::{AllocError, AllocFailed};
 
-/// Why a text is not read as a value change dump of this layout.
+/// Why a text is not read as a value change dump of this layout. The lines are ended ones, or the last one without a line feed.
 #[derive(Clone, Copy, PartialEq, Eq, Debug)]
 pub enum VcdFault {
     /// A growth of memory was refused.
@@ -17,7 +17,7 @@ pub enum VcdFault {
     Code,
     /// V4: one that begins with `#`.
     Time,
-    /// V5: the text ends too early: its ended lines are a beginning of one of the layout, but it is none.
+    /// V5: the text ends too early: some text of the layout begins so, but it is none itself.
     Cut,
 }
 

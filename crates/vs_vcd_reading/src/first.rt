@@ -6,9 +6,11 @@ ghost use Rattle.vs_vcd_reading.specs.Steps.{Place as p};
 ghost use Rattle.vs_vcd_reading.specs.Stops.{IsToldAt};
 
 use crate::fault::VcdFault;
-use crate::kinds::body_fault;
+use crate::kinds::{body_end, body_fault};
+use crate::parts::value_goes_on;
 use crate::text::first_line;
 use std::alloc::Global;
+use vs_vcd_beginnings::begins;
 use vs_vcd_lines::{ValueChange, change_of, is_same};
 
 /// What stands after the first line of a text, which is the wanted one, where there are so many variables.
@@ -16,7 +18,8 @@ fn expected<'t>(text: &'t [u8], wanted: &[u8], count: usize) -> Result<&'t [u8],
     ensures { MatchResult result (λ rest. text.now ≡ wanted.now ++ 10 ∷ rest.now) (λ f. IsUnexpected wanted.now count text.now f) }
 {
     let Some((line, rest)) = first_line(text) else {
-        return Err(VcdFault::Cut);
+        let goes_on = begins(text, wanted);
+        return Err(body_end(goes_on, text, count));
     };
     let same = is_same(line, wanted);
     if !same {
@@ -55,7 +58,8 @@ fn read_values<'t>(
     let mut rest = text;
     while changes.len() < widths.len() {
         let Some((line, after)) = first_line(rest) else {
-            return Err(VcdFault::Cut);
+            let goes_on = value_goes_on(rest, changes.len(), widths);
+            return Err(body_end(goes_on, rest, widths.len()));
         };
         let change = value_of(line, changes.len(), widths)?;
         changes.push(change)?;

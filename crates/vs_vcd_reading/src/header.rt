@@ -1,7 +1,7 @@
 //! The lines before the body.
-ghost use Rattle.std.specs.Prelude.{◌≡◌, ◌<◌, ◌^◌, ◌∷◌, ◌++◌, [], IsTrue, ◌↔◌, MatchResult};
+ghost use Rattle.std.specs.Prelude.{◌≡◌, ◌<◌, ◌^◌, ◌∷◌, ◌++◌, [], false, IsTrue, ◌↔◌, MatchResult};
 ghost use Rattle.vs_vcd_lines.specs.Lines.{IsDeclaration};
-ghost use Rattle.vs_vcd_reading.specs.declared.fault.VcdFault.TheVariants.{Memory};
+ghost use Rattle.vs_vcd_reading.specs.declared.fault.VcdFault.TheVariants.{Cut, Header as HeaderFault, Memory};
 ghost use Rattle.vs_vcd_reading.specs.Plain.{plain_declaration};
 ghost use Rattle.vs_vcd_reading.specs.Layout.{widths_of};
 ghost use Rattle.vs_vcd_reading.specs.Headers.{depth_with, own_with, Goes, IsBegun, IsClosed, IsHeader, IsHeaderFault, IsTaken, MayStand};
@@ -9,9 +9,12 @@ ghost use Rattle.vs_vcd_reading.specs.Steps.{Item as i, Place as p, text_from};
 ghost use Rattle.vs_vcd_reading.specs.Stops.{IsToldAt};
 
 use crate::fault::VcdFault;
+use crate::parts::{declaration_goes_on, top_goes_on};
 use crate::text::first_line;
+use crate::ticks::tick_goes_on;
 use std::alloc::Global;
 use vs_design::{ScopeKind, TimeSpan};
+use vs_vcd_beginnings::begins;
 use vs_vcd_lines::{Declaration, declaration_of, is_same, scope_of, span_of};
 
 /// Whether a declaration may stand where a variable may or may not.
@@ -109,12 +112,25 @@ impl Header {
     }
 }
 
+/// What is told of a last line of the header that isn't ended, by whether it goes on to a line that can stand there.
+fn header_end(goes_on: bool) -> VcdFault
+    ensures cut { IsTrue goes_on → result ≡ Cut }
+    ensures bad { goes_on ≡ false → result ≡ HeaderFault }
+{
+    if goes_on {
+        VcdFault::Cut
+    } else {
+        VcdFault::Header
+    }
+}
+
 /// What a tick stands for, by the first line of a text, and what stands after that line.
 pub(crate) fn read_tick(text: &[u8]) -> Result<(TimeSpan, &[u8]), VcdFault>
     ensures { MatchResult result (λ r. text.now ≡ text_from (i.Tick r.0 ∷ []) ++ r.1.now) (λ f. IsToldAt p.Start text.now f) }
 {
     let Some((line, rest)) = first_line(text) else {
-        return Err(VcdFault::Cut);
+        let goes_on = tick_goes_on(text);
+        return Err(header_end(goes_on));
     };
     match span_of(line) {
         Some(tick) => Ok((tick, rest)),
@@ -127,7 +143,8 @@ fn read_top(alloc: Global, text: &[u8]) -> Result<(Header, &[u8]), VcdFault>
     ensures { MatchResult result (λ r. IsBegun text.now r.0 r.1.now) (λ f. IsToldAt p.Top text.now f) }
 {
     let Some((line, rest)) = first_line(text) else {
-        return Err(VcdFault::Cut);
+        let goes_on = top_goes_on(text);
+        return Err(header_end(goes_on));
     };
     let Some((kind, name)) = scope_of(line) else {
         return Err(VcdFault::Header);
@@ -157,13 +174,15 @@ pub(crate) fn read_header(alloc: Global, text: &[u8]) -> Result<(Header, &[u8]),
     let (mut header, mut rest) = read_top(alloc, text)?;
     while header.depth > 0 {
         let Some((line, after)) = first_line(rest) else {
-            return Err(VcdFault::Cut);
+            let goes_on = declaration_goes_on(rest, header.widths.len(), header.own);
+            return Err(header_end(goes_on));
         };
         header.line(alloc, line)?;
         rest = after;
     }
     let Some((line, after)) = first_line(rest) else {
-        return Err(VcdFault::Cut);
+        let goes_on = begins(rest, b"$enddefinitions $end");
+        return Err(header_end(goes_on));
     };
     let ends = is_same(line, b"$enddefinitions $end");
     if !ends {

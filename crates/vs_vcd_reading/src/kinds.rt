@@ -1,6 +1,7 @@
 //! Lines of the body that can't stand where they do.
-ghost use Rattle.std.specs.Prelude.{◌≡◌, IsTrue, ◌↔◌};
+ghost use Rattle.std.specs.Prelude.{◌≡◌, false, IsTrue, ◌↔◌};
 ghost use Rattle.std.specs.List.{list_all};
+ghost use Rattle.vs_vcd_reading.specs.declared.fault.VcdFault.TheVariants.{Cut};
 ghost use Rattle.vs_vcd_reading.specs.Stops.{IsBodyKind, IsOfOtherCode};
 ghost use Rattle.vs_vcd_reading.specs.Kinds.{are_characters, is_character, AreCodeCharacters, IsOtherCode};
 
@@ -73,5 +74,17 @@ pub(crate) fn body_fault(line: &[u8], count: usize) -> VcdFault
         VcdFault::Code
     } else {
         VcdFault::Line
+    }
+}
+
+/// What is told of a last line of the body that isn't ended, by whether it goes on to a line that can stand there.
+pub(crate) fn body_end(goes_on: bool, part: &[u8], count: usize) -> VcdFault
+    ensures cut { IsTrue goes_on → result ≡ Cut }
+    ensures kind { goes_on ≡ false → IsBodyKind count part.now result }
+{
+    if goes_on {
+        VcdFault::Cut
+    } else {
+        body_fault(part, count)
     }
 }

@@ -9,8 +9,10 @@ ghost use Rattle.vs_vcd_reading.specs.Stops.{IsBodyKind, IsToldAt};
 
 use crate::dump::Moment;
 use crate::fault::VcdFault;
-use crate::kinds::body_fault;
+use crate::kinds::{body_end, body_fault};
+use crate::parts::change_goes_on;
 use crate::text::first_line;
+use crate::times::time_goes_on;
 use std::alloc::Global;
 use vs_logic4::Vec4;
 use vs_vcd_lines::{ValueChange, change_of, time_of};
@@ -91,7 +93,8 @@ fn read_changes<'t>(
     let mut from = 0;
     while !is_at_time(rest) {
         let Some((line, after)) = first_line(rest) else {
-            return Err(VcdFault::Cut);
+            let goes_on = change_goes_on(rest, from, widths, values);
+            return Err(body_end(goes_on, rest, widths.len()));
         };
         let change = next_change(line, from, widths, values)?;
         keep(values, &change);
@@ -120,7 +123,8 @@ pub(crate) fn read_later(
     let mut bare = false;
     while !rest.is_empty() {
         let Some((line, after)) = first_line(rest) else {
-            return Err(VcdFault::Cut);
+            let goes_on = time_goes_on(rest, last, bare);
+            return Err(body_end(goes_on, rest, widths.len()));
         };
         let time = next_time(line, last, bare, widths.len())?;
         let (changes, next) = read_changes(alloc, after, widths, &mut values)?;

@@ -8,8 +8,11 @@ mod header;
 mod kinds;
 mod later;
 mod laws;
+mod parts;
 mod reading;
 mod text;
+mod ticks;
+mod times;
 
 pub use dump::{Dump, Moment};
 pub use fault::VcdFault;

@@ -22,8 +22,7 @@ fn values_in(alloc: Global, changes: &[ValueChange]) -> Result<Vec<Vec4>, AllocE
 /// What a value change dump of the layout in `docs/vcd.md` says, or why a text is none. It takes time linear in the text, and memory for what it
 /// says alone.
 ///
-/// The fault is that of the first ended line that no such text has there; a text whose ended lines are a beginning of one and that is none itself
-/// is cut short (V5), also where what stands after its last line feed can't go on to a line of the layout.
+/// The fault is V5 where some text of the layout begins so; else it is that of the first line, ended or the last, that no such text has there.
 pub fn read(alloc: Global, text: &[u8]) -> Result<Dump, VcdFault>
     ensures dump { IfOk result (λ x. IsDump text.now x) }
     ensures fault { IfErr result (λ fault. IsFault text.now fault) }

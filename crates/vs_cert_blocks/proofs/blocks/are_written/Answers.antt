@@ -7,9 +7,9 @@ use Rattle.vs_cert_blocks.proofs.blocks.are_written.Goals as goal
 pub returns-then-not-branch : goal.returns-then-not-branch
 returns-then-not-branch c =
     one_not (λ v. IsSignalFirst c.args.design.now c.args.walks.now.tables.now v) c.args.signals.now c.loop-signal.signal-index c.loop-signal-test.true
-    (λ h. absurd (false≢true (sym c.if-not-branch.true ∙ c.in_ok-signal_is_written.ensures.1 h)))
+    (λ h. absurd (false≢true (sym c.if-not-branch.true ∙ c.in_ok-signal_is_written.ensures.exact.1 h)))
 
 pub returns : goal.returns
 returns c =
     all_do (λ v. IsSignalFirst c.args.design.now c.args.walks.now.tables.now v) c.args.signals.now c.loop-signal.signal-index c.loop-signal-test.false
-    c.loop-signal.invariant
+    c.loop-signal.invariant.first

@@ -1,17 +1,14 @@
-use Rattle.std.proofs.Common.{ℕ, ◌∙◌, ap}
-use Rattle.std.specs.declared.vec.Vec.{Vec}
-use Rattle.std.specs.declared.alloc.Global.{Global}
-use Rattle.vs_cert_blocks.proofs.SignalLemmas.{signals_kept, signals_more}
+use Rattle.std.proofs.lemmas.List.Filters.{dedup_is}
+use Rattle.std.proofs.lemmas.List.Kept.{Contains-dedup_nat, Contains-from_dedup}
+use Rattle.std.proofs.lemmas.List.Sorted.{Contains-permutation, IsPermutation-sym}
+use Rattle.vs_cert_blocks.proofs.SignalLemmas.{signals_are}
 use Rattle.vs_cert_blocks.proofs.blocks.signals_of.Goals as goal
-use Rattle.vs_cert_blocks.proofs.blocks.signals_of.Goals.{then-not-has+in_ok-push, else-not-has}
 
-pub loop-range-preserved : goal.loop-range-preserved
-loop-range-preserved c = elim c.if-not-has.branch [
-  | then-not-has+in_ok-push w ↦
-      signals_more c.args.ranges.now c.loop-range.range-index _ c.loop-range.signals.items c.if-not-has.signals.items c.loop-range-test.true
-      c.loop-range.invariant (ap (λ (v : Vec ℕ Global). v.items) w.signals-is ∙ w.in_ok-push.ensures.items)
-  | else-not-has w ↦
-      signals_kept c.args.ranges.now c.loop-range.range-index _ c.loop-range.signals.items c.deref.result.now c.if-not-has.signals.items
-      c.loop-range-test.true c.loop-range.invariant c.deref.ensures.value (ap (λ (v : Vec ℕ Global). v.items) w.signals-is)
-      (c.has.ensures.0 w.if-not-has.false)
-]
+pub returns : goal.returns
+returns c v =
+    let is = dedup_is _ _ _ c.dedup.ensures.filtered in
+    let moved = c.sort_unstable.ensures.permutation in
+    let of = signals_are c.args.ranges.now c.in_ok-signals.signals.items c.in_ok-signals.ensures v in (
+      λ h. of.0 (Contains-permutation _ _ v (IsPermutation-sym _ _ moved) (Contains-from_dedup _ _ v (rw is at h))),
+      λ h. rw is (Contains-dedup_nat _ v (Contains-permutation _ _ v moved (of.1 h))),
+    )

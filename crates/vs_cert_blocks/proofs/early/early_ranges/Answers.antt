@@ -8,7 +8,7 @@ use Rattle.vs_cert_blocks.proofs.early.early_ranges.Goals as goal
 
 pub loop-back-init : goal.loop-back-init
 loop-back-init c = (
-  scan_begins c.args.tables.now c.args.seeds.now c.greatest_of-high.result (suc c.greatest_of-high.result - 0) c.least_of-least.result c.new-seen.result.items c.requires.woken (omega arith)
+  scan_begins c.args.tables.now c.args.seeds.now c.greatest_of-high.result (suc c.greatest_of-high.result - 0) c.least_of-least.result c.none-seen.result c.requires.woken (omega arith)
       c.greatest_of-high.ensures c.least_of-least.ensures.each,
   none_early c.args.tables.now c.new-out.result.items c.new-out.ensures.items,
 )
@@ -22,8 +22,8 @@ loop-back-preserved c =
     let low : back ≤ high = c.if-back-high.false in
     let here : suc high - back ≡ suc p = omega (arith, low) in
     let next : suc high - (back + 1) ≡ p = omega (arith, low) in
-    let seen = c.loop-back.seen.items in
-    let more = c.in_ok-more.more.items in
+    let seen = c.loop-back.seen in
+    let more = c.in_ok-more.more in
     let so = subst (λ (n : ℕ). IsScanned t high n c.loop-back.least seen) here c.loop-back.invariant.0 in
     let calm = c.if-not-is_at_once.ensures.0 refl in
     let read = c.row.ensures ∙ c.requires.reads p in
@@ -32,5 +32,5 @@ loop-back-preserved c =
     let up = subst (λ (l : List ℕ). (q : ℕ) → Contains l q → q ≤ high) c.tos.ensures.are (c.if-not-are_up_to.ensures.0 refl) in
     let each = subst (λ (l : List ℕ). (q : ℕ) → Contains l q → c.least_of-least-in-loop-back.result ≤ q) c.tos-in-loop-back.ensures.are c.least_of-least-in-loop-back.ensures.each in (
       subst (λ (n : ℕ). IsScanned t high n c.least_of-least-in-loop-back.result more) (sym next) (scan_more t high p c.loop-back.least c.least_of-least-in-loop-back.result seen more so calm noted up c.least_of-least-in-loop-back.ensures.few each),
-      early_more t high p c.loop-back.least seen more c.deref.result.now c.loop-back.out.items c.push_early.new.out.items so calm noted c.deref.ensures.value c.loop-back.invariant.1 c.in_ok-push_early.ensures,
+      early_more t high p c.loop-back.least seen more c.loop-back.out.items c.push_early.new.out.items so calm noted c.loop-back.invariant.1 c.in_ok-push_early.ensures,
     )

@@ -1,4 +1,4 @@
-use Rattle.std.proofs.Common.{ℕ, ◌≤◌, get_or, ◌∙◌, subst, arith, below_more}
+use Rattle.std.proofs.Common.{ℕ, ◌≤◌, ◌∙◌, subst, arith}
 use Rattle.std.proofs.lemmas.List.{get_or_default}
 use Rattle.vs_cert_blocks.proofs.early.least_of.Goals as goal
 

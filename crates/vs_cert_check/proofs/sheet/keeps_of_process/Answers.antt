@@ -15,8 +15,8 @@ keeps_process_order-requires c =
     let n = f.facts.now.claims in
     subst (IsWiringOf d n) (sym f.cones_are) (wired d n)
 
-pub keeps_readings-requires : goal.keeps_readings-requires
-keeps_readings-requires c =
+pub keeps_readings-requires-clause-wiring : goal.keeps_readings-requires-clause-wiring
+keeps_readings-requires-clause-wiring c =
     let f = c.args.sheet.now in
     let d = f.facts.now.design in
     let n = f.facts.now.claims in

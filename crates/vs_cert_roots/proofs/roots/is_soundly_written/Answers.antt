@@ -9,3 +9,9 @@ returns-then-is_delay c =
     let F = c.args.facts.now in
     let l = written_is F.design F.claims c.args.root c.in-Some.i (λ k. c.in-Some.ensures k) (c.if-is_delay.ensures.0 refl) in
     IfOk-weaker _ (λ (b : Bool). (IsTrue b ↔ NeverHot F.design c.in-Some.i c.args.root)) _ (λ b e. (λ t. l.0 (e.0 t), λ h. e.1 (l.1 h))) c.never_hot.ensures
+
+pub never_hot-requires-clause-delay : goal.never_hot-requires-clause-delay
+never_hot-requires-clause-delay c = c.if-is_delay.ensures.0 refl
+
+pub never_hot-requires-clause-writer : goal.never_hot-requires-clause-writer
+never_hot-requires-clause-writer c = (c.in-Some.ensures c.in-Some.i).1 refl

@@ -9,8 +9,11 @@ use Rattle.vs_cert_roots.proofs.roots.keeps_root.Goals as goal
 pub returns-then-not-has_right_entries : goal.returns-then-not-has_right_entries
 returns-then-not-has_right_entries c = (λ t. cc, λ h. c.if-not-has_right_entries.ensures.1 (k6_not c.args.entries.now.design c.args.entries.now.claims c.args.v h))
 
-pub are_right-requires : goal.are_right-requires
-are_right-requires c = c.requires ∙ ap (λ (k : Case). k.design) (sym c.facts.ensures)
+pub are_right-requires-clause-writes : goal.are_right-requires-clause-writes
+are_right-requires-clause-writes c = c.writes.ensures ∙ sym c.facts.ensures
+
+pub are_right-requires-clause-copies : goal.are_right-requires-clause-copies
+are_right-requires-clause-copies c = c.requires ∙ ap (λ (k : Case). k.design) (sym c.facts.ensures)
 
 pub returns : goal.returns
 returns c =

@@ -1,5 +1,7 @@
-use Rattle.std.proofs.Common.{◌↔◌, Bool, IsTrue, refl, sym}
+use Rattle.std.proofs.Common.{◌≡◌, ◌↔◌, Bool, IsTrue, Some, slice_get, refl, sym, subst}
 use Rattle.std.proofs.lemmas.Result.{IfOk-weaker}
+use Rattle.vs_rules.specs.Claims.{IsDelay, IsWriter}
+use Rattle.vs_cert_facts.specs.Facts.{Case}
 use Rattle.vs_cert_roots.specs.Roots.{NeverHotIn}
 use Rattle.vs_cert_roots.proofs.HotLemmas.{past_never_hot, roots_by_places}
 use Rattle.vs_cert_roots.proofs.TermLemmas.{chart_is, no_chart}
@@ -16,4 +18,14 @@ returns-in-Some c =
     let t = c.in-Some.tables.now in
     let h = chart_is F.design F.charts c.maps.ensures c.args.i t (sym c.in-Some.ensures) in
     let l = roots_by_places F.design c.args.i h.process t.stops t.start c.args.v h.is h.text in
-    IfOk-weaker _ (λ (b : Bool). (IsTrue b ↔ NeverHotIn t c.args.v)) _ (λ b e. (λ k. l.0 (e.0 k), λ k. e.1 (l.1 k))) c.never_hot_in.ensures
+    IfOk-weaker _ (λ (b : Bool). (IsTrue b ↔ NeverHotIn t c.args.v)) _ (λ b e. (λ k. l.0 (e.0 k), λ k. e.1 (l.1 k))) c.never_hot_by.ensures
+
+pub never_hot_by-requires-clause-text : goal.never_hot_by-requires-clause-text
+never_hot_by-requires-clause-text c =
+    subst (λ (k : Case). slice_get k.charts c.args.i ≡ Some c.in-Some.tables.now) (sym c.requires.writes) (sym c.in-Some.ensures)
+
+pub never_hot_by-requires-clause-delay : goal.never_hot_by-requires-clause-delay
+never_hot_by-requires-clause-delay c = subst (λ (k : Case). IsDelay k.design k.claims c.args.i) (sym c.requires.writes) c.requires.delay
+
+pub never_hot_by-requires-clause-writer : goal.never_hot_by-requires-clause-writer
+never_hot_by-requires-clause-writer c = subst (λ (k : Case). IsWriter k.design k.claims c.args.v c.args.i) (sym c.requires.writes) c.requires.writer

@@ -7,6 +7,9 @@ use Rattle.vs_vcd_writing.specs.Shown.{slot_at}
 use Rattle.vs_vcd_writing.specs.Text.{vcd_header, vcd_slots, vcd_text}
 use Rattle.vs_vcd_writing.specs.Values.{shown_value}
 use Rattle.vs_vcd_reading.specs.Layout.{IsLayout}
+use Rattle.vs_vcd_reading.specs.Plain.{plain_dump}
+use Rattle.vs_kernel.specs.Runs.{text_so_far}
+use Rattle.vs_run_dumps.specs.ReadBack.{dump_so_far}
 use Rattle.vs_vcd_law.specs.Conditions.{AreWhole, IsEnd}
 use Rattle.vs_vcd_law.specs.Said.{dump_begun, dump_of}
 use Rattle.vs_vcd_law.specs.Values.{values_at}
@@ -23,13 +26,14 @@ returns c =
     let traced : AreWhole d (filter (is_by until) (slots d moves)) = subst (AreWhole d) (sym kept) all in
     let end = unwrap_or (finish_time until (after d moves)) until in
     let last : IsEnd (filter (is_by until) (slots d moves)) end = subst (λ l. IsEnd l end) (sym kept) (ended grain d moves until legal bound stops) in
+    let layout : IsLayout (text_so_far d moves until) (dump_so_far d moves until) =
+    elim (is_complete until (after d moves))
+    as (λ b. IsLayout (if b then vcd_text d (trace d moves until) until else vcd_header d ++ vcd_slots d (slots d moves)) (if b then dump_of d (trace d moves until) until else dump_begun d (slots d moves))) [
+      | true ↦ c.written_dumps_are_read.ensures.whole d (trace d moves until) until outlined traced last
+      | false ↦ c.written_dumps_are_read.ensures.begun d (slots d moves) outlined all
+    ] in
     record {
-      layout =
-          elim (is_complete until (after d moves))
-          as (λ b. IsLayout (if b then vcd_text d (trace d moves until) until else vcd_header d ++ vcd_slots d (slots d moves)) (if b then dump_of d (trace d moves until) until else dump_begun d (slots d moves))) [
-            | true ↦ c.written_dumps_are_read.ensures.whole d (trace d moves until) until outlined traced last
-            | false ↦ c.written_dumps_are_read.ensures.begun d (slots d moves) outlined all
-          ];
+      layout = layout;
       values = λ time.
           elim (is_complete until (after d moves))
           as (λ b. IfSome (slot_at time (slots d moves)) (λ (s : Slot). values_at time (if b then dump_of d (trace d moves until) until else dump_begun d (slots d moves)).moments ≡ map (shown_value s.store) (shown d))) [
@@ -38,4 +42,6 @@ returns c =
                 (c.dumps_give_values.ensures.whole d (trace d moves until) until time traced)
             | false ↦ c.dumps_give_values.ensures.begun d (slots d moves) time all
           ];
+      read = λ x is. c.dumps_are_one.ensures (text_so_far d moves until) (plain_dump x) (dump_so_far d moves until) is layout;
+      whole = λ fault other is. c.faults_are_of_none.ensures (text_so_far d moves until) fault is other (dump_so_far d moves until) layout;
     }

@@ -1,6 +1,10 @@
 use Rattle.std.proofs.Common.{◌≡◌, ◌<◌, length, ◌∙◌, arith}
 use Rattle.std.proofs.lemmas.Result.{err_from_is_err_and}
-use Rattle.vs_vcd_reading.proofs.BodyLemmas.{value_bad, value_more, values_cut, values_none}
+use Rattle.std.proofs.lemmas.List.{length-map}
+use Rattle.vs_vcd_lines.specs.declared.dump.ValueChange.{ValueChange}
+use Rattle.vs_vcd_reading.specs.Layout.{values_of}
+use Rattle.vs_vcd_reading.specs.Steps.{Place as p}
+use Rattle.vs_vcd_reading.proofs.BodyLemmas.{unended_by, value_bad, value_more, values_end, values_none}
 use Rattle.vs_vcd_reading.proofs.NoneLemmas.{value_at}
 use Rattle.vs_vcd_reading.proofs.first.read_values.Goals as goal
 
@@ -9,7 +13,16 @@ loop-rest-init c = values_none c.args.widths.now c.args.text.now c.new-changes.r
 
 pub returns-in_default : goal.returns-in_default
 returns-in_default c =
-    values_cut c.args.widths.now c.args.text.now c.loop-rest.rest.now c.loop-rest.changes.items c.loop-rest.invariant c.in_default.ensures
+    let ws = c.args.widths.now in
+    let cs = c.loop-rest.changes.items in
+    let vs = values_of cs in
+    let size = length-map cs (λ (x : ValueChange). x.value) in
+    values_end ws c.args.text.now c.loop-rest.rest.now cs c.body_end.result c.loop-rest.invariant c.in_default.ensures
+    (unended_by (p.Values ws vs) (length ws) c.loop-rest.rest.now c.value_goes_on-goes_on.result c.body_end.result (λ line g k. k)
+    (c.value_goes_on-goes_on.ensures vs (omega (arith, size))) c.body_end.ensures.cut c.body_end.ensures.kind)
+
+pub value_goes_on-goes_on-requires-clause-within : goal.value_goes_on-goes_on-requires-clause-within
+value_goes_on-goes_on-requires-clause-within c = omega (arith, c.loop-rest-test.true)
 
 pub returns-in_err-change : goal.returns-in_err-change
 returns-in_err-change c =

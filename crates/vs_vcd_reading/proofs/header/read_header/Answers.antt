@@ -1,11 +1,16 @@
 use Rattle.std.proofs.lemmas.Result.{err_from_is_err_and}
-use Rattle.std.proofs.Common.{sym, ◌∙◌, arith}
+use Rattle.std.proofs.Common.{refl, sym, ◌∙◌, arith}
 use Rattle.std.proofs.lemmas.Bool.{false≢true}
-use Rattle.vs_vcd_reading.proofs.HeaderLemmas.{closed_made, end_bad, goes_on, header_bad, header_cut}
+use Rattle.vs_vcd_reading.specs.Headers.{header_place}
+use Rattle.vs_vcd_reading.proofs.HeaderLemmas.{closed_made, end_bad, end_goes_on, goes_on, header_bad, header_end, unended_header}
 use Rattle.vs_vcd_reading.proofs.header.read_header.Goals as goal
 
 pub returns-in_default : goal.returns-in_default
-returns-in_default c = header_cut c.args.text.now c.loop-header.rest.now c.loop-header.header c.loop-header.invariant c.in_default.ensures
+returns-in_default c =
+    let h = c.loop-header.header in
+    header_end c.args.text.now c.loop-header.rest.now h c.header_end.result c.loop-header.invariant c.in_default.ensures
+    (unended_header (header_place h) c.loop-header.rest.now c.declaration_goes_on-goes_on.result c.header_end.result refl
+    (c.declaration_goes_on-goes_on.ensures h.widths.items h.depth (omega arith) (omega (arith, c.loop-header-test.true))) c.header_end.ensures.cut c.header_end.ensures.bad)
 
 pub returns-in_err-line : goal.returns-in_err-line
 returns-in_err-line c =
@@ -21,7 +26,10 @@ loop-header-preserved c =
 
 pub returns-in_default-first_line : goal.returns-in_default-first_line
 returns-in_default-first_line c =
-    header_cut c.args.text.now c.loop-header.rest.now c.loop-header.header c.loop-header.invariant c.in_default-first_line.ensures
+    let h = c.loop-header.header in
+    header_end c.args.text.now c.loop-header.rest.now h c.header_end-in_default-first_line.result c.loop-header.invariant c.in_default-first_line.ensures
+    (unended_header (header_place h) c.loop-header.rest.now c.begins-goes_on.result c.header_end-in_default-first_line.result refl
+    (end_goes_on h c.loop-header.rest.now c.begins-goes_on.result (omega arith) c.begins-goes_on.ensures) c.header_end-in_default-first_line.ensures.cut c.header_end-in_default-first_line.ensures.bad)
 
 pub returns-then-not-ends : goal.returns-then-not-ends
 returns-then-not-ends c =

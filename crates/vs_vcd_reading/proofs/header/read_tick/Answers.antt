@@ -1,13 +1,15 @@
 use Rattle.std.proofs.Common.{[], refl}
 use Rattle.vs_vcd_reading.specs.declared.fault.VcdFault.TheVariants as f
 use Rattle.vs_vcd_reading.specs.Steps.{Item as i, Place as p}
-use Rattle.vs_vcd_reading.proofs.FaultLemmas.{told_bad, told_cut}
+use Rattle.vs_vcd_reading.proofs.FaultLemmas.{told_bad, told_end}
 use Rattle.vs_vcd_reading.proofs.FollowLemmas.{text_more}
-use Rattle.vs_vcd_reading.proofs.HeaderLemmas.{start_refuses}
+use Rattle.vs_vcd_reading.proofs.HeaderLemmas.{start_refuses, unended_header}
 use Rattle.vs_vcd_reading.proofs.header.read_tick.Goals as goal
 
 pub returns-in_default : goal.returns-in_default
-returns-in_default c = told_cut p.Start c.args.text.now c.in_default.ensures (λ _ h. h)
+returns-in_default c =
+    told_end p.Start c.args.text.now c.header_end.result c.in_default.ensures (λ _ h. h)
+    (unended_header p.Start c.args.text.now c.tick_goes_on-goes_on.result c.header_end.result refl c.tick_goes_on-goes_on.ensures c.header_end.ensures.cut c.header_end.ensures.bad)
 
 pub returns-in-Some-span_of : goal.returns-in-Some-span_of
 returns-in-Some-span_of c =

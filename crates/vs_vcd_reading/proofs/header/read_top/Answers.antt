@@ -2,8 +2,8 @@ use Rattle.std.proofs.Common.{◌≡◌, [], ◌∷◌, rules, refl, sym, ap, �
 use Rattle.std.proofs.lemmas.Bool.{false≢true}
 use Rattle.vs_vcd_reading.specs.declared.fault.VcdFault.TheVariants as f
 use Rattle.vs_vcd_reading.specs.Steps.{Place as p}
-use Rattle.vs_vcd_reading.proofs.FaultLemmas.{told_bad, told_cut}
-use Rattle.vs_vcd_reading.proofs.HeaderLemmas.{top_made, top_other, top_refuses}
+use Rattle.vs_vcd_reading.proofs.FaultLemmas.{told_bad, told_end}
+use Rattle.vs_vcd_reading.proofs.HeaderLemmas.{top_made, top_other, top_refuses, unended_header}
 use denote.Enum.Bare.{same_true, sameb}
 use Rattle.vs_design.specs.declared.design.ScopeKind.TheVariants.{Module}
 use Rattle.vs_vcd_lines.specs.declared.dump.Declaration.TheVariants as v
@@ -11,7 +11,9 @@ use Rattle.vs_design.specs.contracts.design.ScopeKind.{the_type}
 use Rattle.vs_vcd_reading.proofs.header.read_top.Goals as goal
 
 pub returns-in_default : goal.returns-in_default
-returns-in_default c = told_cut p.Top c.args.text.now c.in_default.ensures (λ _ h. h)
+returns-in_default c =
+    told_end p.Top c.args.text.now c.header_end.result c.in_default.ensures (λ _ h. h)
+    (unended_header p.Top c.args.text.now c.top_goes_on-goes_on.result c.header_end.result refl c.top_goes_on-goes_on.ensures c.header_end.ensures.cut c.header_end.ensures.bad)
 
 pub returns-in_default-scope_of : goal.returns-in_default-scope_of
 returns-in_default-scope_of c =

@@ -3,7 +3,9 @@ use Rattle.std.proofs.lemmas.Bool.{false≢true}
 use Rattle.std.proofs.lemmas.List.{length-set}
 use Rattle.std.proofs.lemmas.Option.{slice_get_within}
 use Rattle.std.proofs.lemmas.Result.{err_from_is_err_and}
-use Rattle.vs_vcd_reading.proofs.BodyLemmas.{change_bad, change_more, changes_cut, changes_none}
+use Rattle.vs_vcd_reading.specs.Bodies.{is_bare, IsAtTime}
+use Rattle.vs_vcd_reading.specs.Steps.{Place as p}
+use Rattle.vs_vcd_reading.proofs.BodyLemmas.{change_bad, change_more, changes_end, changes_none, unended_by}
 use Rattle.vs_vcd_reading.proofs.later.read_changes.Goals as goal
 
 pub loop-rest-init : goal.loop-rest-init
@@ -14,8 +16,13 @@ loop-rest-init c = record {
 
 pub returns-in_default : goal.returns-in_default
 returns-in_default c = λ last.
-    changes_cut c.args.widths.now c.args.text.now c.loop-rest.rest.now c.args.values.now c.loop-rest.values c.loop-rest.changes.items c.loop-rest.from last
-    c.loop-rest.invariant.some c.in_default.ensures (λ at. false≢true (sym c.loop-rest-test.true ∙ c.is_at_time.ensures.1 at))
+    let cs = c.loop-rest.changes.items in
+    let away : IsAtTime c.loop-rest.rest.now → ⊥ = λ at. false≢true (sym c.loop-rest-test.true ∙ c.is_at_time.ensures.1 at) in
+    changes_end c.args.widths.now c.args.text.now c.loop-rest.rest.now c.args.values.now c.loop-rest.values cs c.loop-rest.from last c.body_end.result
+    c.loop-rest.invariant.some c.in_default.ensures away
+    (unended_by (p.Later c.args.widths.now c.loop-rest.values last c.loop-rest.from (is_bare cs)) (length c.args.widths.now) c.loop-rest.rest.now
+    c.change_goes_on-goes_on.result c.body_end.result (λ line g k. k) (c.change_goes_on-goes_on.ensures last (is_bare cs) away)
+    c.body_end.ensures.cut c.body_end.ensures.kind)
 
 pub returns-in_err-change : goal.returns-in_err-change
 returns-in_err-change c =

@@ -7,7 +7,7 @@ use Rattle.vs_vcd_reading.specs.declared.dump.Moment.{Moment}
 use Rattle.vs_vcd_reading.specs.Bodies.{AreLast, AreTimed}
 use Rattle.vs_vcd_reading.specs.Steps.{Place as p}
 use Rattle.vs_vcd_reading.specs.Stops.{IsToldAt}
-use Rattle.vs_vcd_reading.proofs.BodyLemmas.{bare_is, changes_told, later_cut, later_none, time_bad, time_more, whole_slice}
+use Rattle.vs_vcd_reading.proofs.BodyLemmas.{bare_is, changes_told, later_none, later_told, time_bad, time_more, unended_by, whole_slice}
 use Rattle.vs_vcd_reading.proofs.later.read_later.Goals as goal
 
 pub loop-rest-init : goal.loop-rest-init
@@ -16,9 +16,14 @@ loop-rest-init c =
 
 pub returns-in_default : goal.returns-in_default
 returns-in_default c =
-    later_cut c.args.widths.now c.args.text.now c.loop-rest.rest.now c.args.values.items c.loop-rest.values.items c.loop-rest.last c.loop-rest.bare
-    c.args.moments.now.items c.loop-rest.moments.items c.loop-rest.invariant.some c.in_default.ensures
+    let ws = c.args.widths.now in
+    let vs = c.loop-rest.values.items in
+    let h = c.loop-rest.invariant.some in
+    later_told ws c.args.text.now c.loop-rest.rest.now c.args.values.items vs c.loop-rest.last c.loop-rest.bare c.args.moments.now.items c.loop-rest.moments.items
+    c.body_end.result h c.in_default.ensures
     (λ none. false≢true (sym c.loop-rest-test.true ∙ c.is_empty.ensures ∙ ap (λ (l : List ℕ). length l == 0) none))
+    (unended_by (p.Later ws vs c.loop-rest.last h.from c.loop-rest.bare) (length ws) c.loop-rest.rest.now c.time_goes_on-goes_on.result c.body_end.result
+    (λ line g k. k) (c.time_goes_on-goes_on.ensures ws vs h.from h.timed) c.body_end.ensures.cut c.body_end.ensures.kind)
 
 pub returns-in_err-time : goal.returns-in_err-time
 returns-in_err-time c =

@@ -1,6 +1,9 @@
-use Rattle.std.proofs.Common.{ℕ, List, sym, subst}
+use Rattle.std.proofs.Common.{ℕ, List, inr, refl, sym, subst}
 use Rattle.std.specs.List.{Contains}
 use Rattle.vs_cert_edges.proofs.readings.Reader.may_read_range.Goals as goal
+
+pub returns-then-clear : goal.returns-then-clear
+returns-then-clear c = (λ t u blocking cone. inr (inr (c.in_ok-clear.ensures c.if-clear.true u c.args.range refl cone)), λ h. refl)
 
 pub returns : goal.returns
 returns c =

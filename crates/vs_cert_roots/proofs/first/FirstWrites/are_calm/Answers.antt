@@ -1,5 +1,4 @@
 use Rattle.std.proofs.Common.{ℕ, refl, arith}
-use Rattle.std.proofs.lemmas.Bool.{false≢true}
 use Rattle.vs_cert_roots.specs.First.{WakesEntry}
 use Rattle.vs_cert_roots.proofs.ListLemmas.{further, all_do, one_not}
 use Rattle.vs_cert_roots.proofs.first.FirstWrites.are_calm.Goals as goal

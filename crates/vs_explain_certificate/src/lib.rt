@@ -1,0 +1,11 @@
+//! What is said of bytes that are no certificate, and where a certificate has a name.
+#![tactic(auto)]
+
+mod breaks;
+mod forms;
+mod malformed;
+mod names;
+mod walk;
+
+pub use malformed::explain_malformed;
+pub use names::put_name_in;

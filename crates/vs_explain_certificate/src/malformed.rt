@@ -1,0 +1,155 @@
+//! Bytes that are no certificate.
+
+use crate::breaks::{Break, Reason, break_of};
+use crate::forms::Form;
+use crate::walk::{Flaw, Whole, Why, walk_over};
+use vs_certificate::CertFault;
+use vs_explain_outline::Page;
+
+/// The most bytes of a certificate: 16 MiB.
+const LENGTH_LIMIT: usize = 16777216;
+
+/// What is said in the end of a certificate that is to be made once more.
+const ANEW: &str = "Make the certificate anew: `vsim certify`.\n";
+
+/// Puts a line and a column of a certificate, its line, and a mark under the place.
+fn put_at(page: &mut Page, certificate: &[u8], place: usize) {
+    page.put("In the certificate, ");
+    page.put_place(certificate, place);
+}
+
+/// Puts why a certificate is no JSON text.
+fn put_reason(page: &mut Page, certificate: &[u8], at: Break) {
+    if certificate.is_empty() {
+        return page.put("This line is empty, and a certificate is wanted.\n");
+    }
+    let is_text = certificate.get(at.place) == Some(&b'"');
+    page.put(match (at.reason, is_text) {
+        (Reason::NoUtf8, _) => "This byte isn't UTF-8.\n",
+        (Reason::Ended, _) =>
+            "The certificate ends here, too early: a brace or a bracket is still open, or a value is missing.\n",
+        (Reason::Misplaced, true) =>
+            "This text can't stand here, isn't closed, or has a backslash or a byte that no text has.\n",
+        (Reason::Misplaced, false) => "What begins here can't stand here in JSON.\n",
+        (Reason::NoName, _) =>
+            "Here the name of a member with a colon after it is wanted, or the end of the object.\n",
+        (Reason::TooDeep, _) => "Here lists and objects nest more than 127 deep.\n",
+        (Reason::TooLarge, _) => "This number is too large.\n",
+        (Reason::NotOne, _) => "A certificate is one value, which has ended before this place.\n",
+    });
+}
+
+/// Puts where and why bytes are no JSON text.
+fn put_no_json(page: &mut Page, certificate: &[u8]) {
+    if certificate.len() > LENGTH_LIMIT {
+        put_at(page, certificate, LENGTH_LIMIT);
+        return page.put("The certificate has more than 16777216 bytes, the most that are read.\n");
+    }
+    let at = match break_of(page.alloc(), certificate) {
+        Ok(Some(at)) => at,
+        Ok(None) => Break {
+            reason: Reason::Misplaced,
+            place: 0,
+        },
+        Err(_) => return page.leave_out(),
+    };
+    put_at(page, certificate, at.place);
+    put_reason(page, certificate, at);
+    page.put(
+        "A certificate is a JSON text on the first line, from `{` to `}`; the source comes after it.\n",
+    );
+}
+
+/// Puts the members that an object lacks.
+fn put_missing(page: &mut Page, form: Form, missing: &[bool]) {
+    let mut count = 0usize;
+    page.put("The object that ends here has no member ");
+    for (number, is_missing) in missing.iter().enumerate() {
+        if let (true, Some((name, _form))) = (*is_missing, form.member(number)) {
+            page.put(if count == 0 { "" } else { ", " });
+            page.put_name(name.as_bytes());
+            count = count.saturating_add(1);
+        }
+    }
+    page.put(".\n");
+}
+
+/// Puts why a value of a certificate is refused.
+fn put_why(page: &mut Page, why: Why) {
+    match why {
+        Why::Other(form) => {
+            page.put("Here ");
+            page.put(form.words());
+            page.put(" is wanted.\n");
+        }
+        Why::Lacks(form, missing) => put_missing(page, form, &missing),
+        Why::Unknown(form) => {
+            page.put("There is no such member: here ");
+            page.put(form.words());
+            page.put(" is wanted.\n");
+        }
+        Why::AgainstKind => page.put(
+            "This goes against the kind of its process: `slots` of a `delay` alone aren't empty, and the start of a `comb` alone isn't `none`.\n",
+        ),
+        Why::AgainstVersion => page.put(
+            "Version 1 has no such thing: write `\"version\":2`, and whether it has `displays`.\n",
+        ),
+        Why::Long(most) => {
+            page.put("This entry is one too many: the list has at most ");
+            page.put_shown(most);
+            page.put(".\n");
+        }
+        Why::Residue => page.put(
+            "This residue is negative, not above the one before it, or not below the modulus.\n",
+        ),
+        Why::Modulus => page.put("This modulus isn't 1 to 4294967296.\n"),
+    }
+}
+
+/// Puts a value that is refused; where none was found, the beginning of the certificate.
+fn put_flaw(page: &mut Page, certificate: &[u8], flaw: Option<Flaw>) {
+    match flaw {
+        Some(flaw) => {
+            put_at(page, certificate, flaw.place);
+            put_why(page, flaw.why);
+        }
+        None => put_at(page, certificate, 0),
+    }
+    page.put(ANEW);
+}
+
+/// Puts where a certificate has its version.
+fn put_version(page: &mut Page, certificate: &[u8], whole: Whole) {
+    put_at(page, certificate, whole.version.unwrap_or(0));
+    page.put("This version is neither 1 nor 2. ");
+    page.put(ANEW);
+}
+
+/// Puts where a certificate that is a JSON text is refused.
+fn put_refused(page: &mut Page, certificate: &[u8], fault: CertFault) {
+    let Ok(text) = str::from_utf8(certificate) else {
+        return put_at(page, certificate, 0);
+    };
+    let Ok(whole) = walk_over(page.alloc(), text, None) else {
+        return page.leave_out();
+    };
+    if fault == CertFault::Version {
+        return put_version(page, certificate, whole);
+    }
+    if fault == CertFault::Shape {
+        return put_flaw(page, certificate, whole.flaw);
+    }
+    match walk_over(page.alloc(), text, Some(whole.modulus.unwrap_or(0))) {
+        Ok(limits) => put_flaw(page, certificate, limits.flaw),
+        Err(_) => page.leave_out(),
+    }
+}
+
+/// Says where and why bytes are no certificate.
+pub fn explain_malformed(page: &mut Page, certificate: &[u8], fault: CertFault) {
+    match fault {
+        CertFault::NotJson => put_no_json(page, certificate),
+        CertFault::Memory => {}
+        _ => put_refused(page, certificate, fault),
+    }
+}

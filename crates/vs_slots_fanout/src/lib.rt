@@ -1,0 +1,7 @@
+//! The signals that hang on variables which are written at residues.
+#![tactic(auto)]
+
+mod classes;
+mod forward;
+
+pub use classes::WriteClasses;

@@ -1,0 +1,12 @@
+pub mod TextLemmas
+pub mod NumberLemmas
+pub mod CodeLemmas
+pub mod TickLemmas
+pub mod ValueLemmas
+pub mod DigitLemmas
+pub mod WordLemmas
+pub mod SignedLemmas
+pub mod PartLemmas
+pub mod NameLemmas
+pub mod ScopeLemmas
+pub mod VariableLemmas

@@ -1,0 +1,17 @@
+//! Beginnings of the line that says what a tick stands for.
+ghost use Rattle.std.specs.Prelude.{IsTrue, ◌↔◌};
+ghost use Rattle.vs_vcd_reading.specs.Steps.{Place as p};
+ghost use Rattle.vs_vcd_reading.specs.Stops.{GoesOn};
+
+use vs_vcd_beginnings::{begins, begins_span};
+use vs_vcd_lines::after;
+
+/// Whether a text is empty, or begins a line that says what a tick stands for.
+pub(crate) fn tick_goes_on(part: &[u8]) -> bool
+    ensures { IsTrue result ↔ GoesOn p.Start part.now }
+{
+    match after(part, b"$timescale ") {
+        Some(rest) => begins_span(rest),
+        None => begins(part, b"$timescale "),
+    }
+}
