@@ -31,6 +31,28 @@ fn is_parameter(text: &SourceText, landmark: &Landmark) -> bool {
         && !matches!(word_of(text, landmark.token), Some((Word::Localparam, _)))
 }
 
+/// Of each name, the number of the first one that is the same.
+fn firsts_of(alloc: Global, names: &[&[u8]]) -> Result<Vec<usize>, AllocError> {
+    let mut sorted: Vec<(&[u8], usize)> = Vec::new(alloc);
+    for (number, name) in names.iter().enumerate() {
+        sorted.push((*name, number))?;
+    }
+    sorted.sort()?;
+    let mut firsts = vec![in alloc; 0; names.len()]?;
+    let mut first: Option<(&[u8], usize)> = None;
+    for (name, number) in &sorted {
+        let of = match first {
+            Some((same, number)) if same == *name => number,
+            _ => *number,
+        };
+        first = Some((*name, of));
+        if let Some(place) = firsts.get_mut(*number) {
+            *place = of;
+        }
+    }
+    Ok(firsts)
+}
+
 /// The names of the ports of a module, or of the parameters that may be overridden, each once.
 fn names_of<'s>(
     alloc: Global,
@@ -38,16 +60,23 @@ fn names_of<'s>(
     module: usize,
     ports: bool,
 ) -> Result<Vec<&'s [u8]>, AllocError> {
-    let mut names: Vec<&'s [u8]> = Vec::new(alloc);
+    let mut all: Vec<&'s [u8]> = Vec::new(alloc);
     for landmark in &text.outline.landmarks {
         let wanted = if ports {
             is_port(landmark.kind)
         } else {
             is_parameter(text, landmark)
         };
-        let name = text.name_at(landmark.token);
-        if wanted && landmark.region == module && !names.contains(&name) {
-            names.push(name)?;
+        if wanted && landmark.region == module {
+            all.push(text.name_at(landmark.token))?;
+        }
+    }
+    let mut names: Vec<&'s [u8]> = Vec::new(alloc);
+    for (number, first) in firsts_of(alloc, &all)?.iter().enumerate() {
+        if *first == number {
+            if let Some(name) = all.get(number) {
+                names.push(*name)?;
+            }
         }
     }
     Ok(names)
@@ -129,24 +158,35 @@ fn put_wrong_name<'s>(
     text: &SourceText<'s>,
     given: &Given,
     names: &[&'s [u8]],
-) -> bool {
-    for (index, token) in given.names.iter().enumerate() {
-        let name = text.name_at(*token);
-        if !names.contains(&name) {
-            put_missing(page, text, *token, names);
-            return true;
-        }
-        for earlier in given.names.get(..index).unwrap_or(&[]) {
-            if text.name_at(*earlier) == name {
-                page.put_place(text.bytes, text.place_at(*earlier));
-                page.put_place(text.bytes, text.place_at(*token));
-                page.put_name(name);
-                page.put(" is given at both places. Leave one out.\n");
-                return true;
-            }
-        }
+) -> Result<bool, AllocError> {
+    let alloc = page.alloc();
+    // The names that there are, and then those that are given.
+    let mut all: Vec<&'s [u8]> = Vec::new(alloc);
+    for name in names {
+        all.push(*name)?;
     }
-    false
+    for token in &given.names {
+        all.push(text.name_at(*token))?;
+    }
+    let firsts = firsts_of(alloc, &all)?;
+    // Of each name that there is, the token at which it is given.
+    let mut tokens: Vec<Option<usize>> = vec![in alloc; None; names.len()]?;
+    for (index, token) in given.names.iter().enumerate() {
+        let first = firsts.get(names.len().saturating_add(index));
+        let Some(place) = first.and_then(|first| tokens.get_mut(*first)) else {
+            put_missing(page, text, *token, names);
+            return Ok(true);
+        };
+        if let Some(earlier) = *place {
+            page.put_place(text.bytes, text.place_at(earlier));
+            page.put_place(text.bytes, text.place_at(*token));
+            page.put_name(text.name_at(*token));
+            page.put(" is given at both places. Leave one out.\n");
+            return Ok(true);
+        }
+        *place = Some(*token);
+    }
+    Ok(false)
 }
 
 /// Puts what may be wrong with an instance whose names are right.
@@ -177,7 +217,10 @@ fn put_given(page: &mut Page, text: &SourceText, instance: &Landmark, open: usiz
     ) else {
         return page.leave_out();
     };
-    if !put_wrong_name(page, text, &given, &names) {
+    let Ok(wrong) = put_wrong_name(page, text, &given, &names) else {
+        return page.leave_out();
+    };
+    if !wrong {
         page.put_place(text.bytes, text.place_at(instance.token));
         put_unfit(page, given.ordered, names.len(), ports);
     }
