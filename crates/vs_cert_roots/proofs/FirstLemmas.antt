@@ -16,7 +16,7 @@ use Rattle.vs_slots_paths.proofs.Texts.{from_on, from_back}
 use Rattle.vs_slots_paths.proofs.EachWalk.{writes_now_at, writes_later_at}
 use Rattle.vs_cert_facts.specs.Facts.{AreCharts}
 use Rattle.vs_cert_roots.specs.First.{FirstByPlaces, SiteAt, HasSite, StartsWell}
-use Rattle.vs_cert_roots.specs.Roots.{WritesAt}
+use Rattle.vs_cert_ranks.specs.Places.{WritesAt}
 use Rattle.vs_cert_roots.proofs.HotLemmas.{writes_numbered, end_writes, either}
 use Rattle.vs_rules.proofs.Past.{past_paths}
 use Rattle.vs_cert_roots.proofs.TermLemmas.{HasChart, chart_is}

@@ -21,7 +21,8 @@ use Rattle.vs_slots_paths.specs.Walks.{AreMarked, InHot}
 use Rattle.vs_slots_paths.proofs.Texts.{place_of, place_back}
 use Rattle.vs_slots_paths.proofs.EachWalk.{hot_exact, writes_now_at, writes_later_at}
 use Rattle.vs_cert_roots.specs.Entries.{HasEntries}
-use Rattle.vs_cert_roots.specs.Roots.{WritesAt, NeverHotIn, NeverHot, RootsByPlaces, IsSoundlyWritten, IsRight, is_blocking_mode}
+use Rattle.vs_cert_ranks.specs.Places.{WritesAt, NeverHotIn}
+use Rattle.vs_cert_roots.specs.Roots.{NeverHot, RootsByPlaces, IsSoundlyWritten, IsRight, is_blocking_mode}
 use Rattle.vs_rules.proofs.Past.{past_points}
 
 -- ---- what writes something has a number

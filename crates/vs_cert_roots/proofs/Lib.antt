@@ -4,5 +4,3 @@ pub mod HotLemmas
 pub mod ListLemmas
 pub mod FirstLemmas
 pub mod FirstRows
-pub mod RankLemmas
-pub mod WriteLemmas

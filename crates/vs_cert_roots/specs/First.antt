@@ -18,7 +18,7 @@ use Rattle.vs_slots_paths.specs.Indexes.{AreRows}
 use Rattle.vs_slots_paths.specs.Ranges.{HasSignal, later_at, statement_at}
 use Rattle.vs_slots_paths.specs.Reaches.{Chart, InSlot0}
 use Rattle.vs_cert_facts.specs.Facts.{Case, AreCharts, IsRootAt}
-use Rattle.vs_cert_roots.specs.Roots.{WritesAt}
+use Rattle.vs_cert_ranks.specs.Places.{WritesAt}
 
 -- a place is done in the first slot, and writes the signal
 abbrev pub SiteAt : Chart → ℕ → ℕ → Type 0

@@ -1,4 +1,3 @@
 pub mod Entries
 pub mod Roots
 pub mod First
-pub mod Ranks

@@ -1,5 +1,5 @@
 -- Roots, by the places of maps.
-use Rattle.std.specs.Prelude.{ℕ, ◌≡◌, ◌⊎◌, ◌↔◌, Bool, true, false, Option, Some, List, slice_get}
+use Rattle.std.specs.Prelude.{ℕ, ◌≡◌, ◌↔◌, Bool, true, false, Option, Some, List, slice_get}
 use Rattle.vs_certificate.specs.declared.members.SignalMode.{SignalMode}
 use Rattle.vs_certificate.specs.declared.members.SignalMode.TheVariants as modes
 use Rattle.vs_design.specs.declared.design.Process.{Process}
@@ -9,17 +9,7 @@ use Rattle.vs_flatcode.specs.Stops.{Stop, IsText}
 use Rattle.vs_rules.specs.Claims.{Claims, IsDelay, IsWriter}
 use Rattle.vs_rules.specs.Paths.{IsPoint, IsHot, WritesAny}
 use Rattle.vs_rules.specs.Rules.{HasWriter, CopiesRoot, IsSoundRoot}
-use Rattle.vs_slots_paths.specs.Ranges.{HasSignal, now_at, later_at}
-use Rattle.vs_slots_paths.specs.Reaches.{Chart, IsPlace}
-use Rattle.vs_slots_paths.specs.Walks.{InHot}
-
--- the statement at a place writes the signal, by `=` or by `<=`
-abbrev pub WritesAt : Chart → ℕ → ℕ → Type 0
-WritesAt t p v = HasSignal (now_at t p) v ⊎ HasSignal (later_at t p) v
-
--- a map has no place that writes the signal where it is hot
-abbrev pub NeverHotIn : Chart → ℕ → Type 0
-NeverHotIn t v = (p : ℕ) → IsPlace t p → WritesAt t p v → InHot t v p → ⊥
+use Rattle.vs_cert_ranks.specs.Places.{NeverHotIn}
 
 -- a process has no such point
 abbrev pub NeverHot : Parts → ℕ → ℕ → Type 0

@@ -13,10 +13,10 @@ ghost use Rattle.vs_cert_facts.specs.Facts.{IsRootAt};
 ghost use Rattle.vs_cert_roots.specs.First.{WakesSignal};
 ghost use Rattle.vs_cert_roots.specs.Entries.{NamesEntry, NamesTerm, WakesAt, AreTerms, HasEntries, is_edge_of};
 
-use crate::writes::Writes;
 use std::alloc::{AllocError, Global};
 use std::marker::Model;
 use vs_cert_facts::Facts;
+use vs_cert_ranks::Writes;
 use vs_certificate::Certificate;
 use vs_design::EventTerm;
 use vs_logic4::{Digit, Edge};

@@ -4,9 +4,7 @@
 mod entries;
 mod first;
 mod laws;
-mod ranks;
 mod roots;
-mod writes;
 
 pub use entries::Entries;
 pub use first::{FirstWrites, keeps_first_root};

@@ -5,12 +5,13 @@ ghost use Rattle.vs_rules.specs.Claims.{blocking, HasKind, HasMode, IsDelay, IsR
 ghost use Rattle.vs_rules.specs.Rules.{CopiesRoot, IsSoundRoot, K6};
 ghost use Rattle.vs_slots_paths.specs.Reaches.{places, IsPlace};
 ghost use Rattle.vs_slots_paths.specs.Walks.{InHot};
-ghost use Rattle.vs_cert_roots.specs.Roots.{WritesAt, NeverHotIn, NeverHot, IsSoundlyWritten, IsRight, is_blocking_mode};
+ghost use Rattle.vs_cert_ranks.specs.Places.{WritesAt, NeverHotIn};
+ghost use Rattle.vs_cert_roots.specs.Roots.{NeverHot, IsSoundlyWritten, IsRight, is_blocking_mode};
 
 use crate::entries::Entries;
-use crate::writes::Writes;
 use std::alloc::{AllocError, Global};
 use vs_cert_facts::Facts;
+use vs_cert_ranks::Writes;
 use vs_certificate::SignalMode;
 use vs_design::{Design, SignalKind};
 use vs_reach::{Rule, all_keep};

@@ -13,7 +13,7 @@ use Rattle.vs_process.specs.declared.moves.Move.TheVariants.{Step, Evaluate, Pro
 use Rattle.vs_process.specs.Executions.{after, apply, ended_slot, is_by, is_complete, lines_of, slots, trace}
 use Rattle.vs_process.specs.States.{AssignState, State, Update, evaluate, make, propagate, propagate_value, stepped}
 use Rattle.vs_process.proofs.Times.{behind_time, stepped_over}
-use Rattle.vs_run_events.proofs.MoveLemmas.{evaluate_over, make_over, propagate_over}
+use Rattle.vs_run_turns.proofs.MoveLemmas.{evaluate_over, make_over, propagate_over}
 use Rattle.vs_independence.specs.Displays.{DisplaySlot, LinesAreOfSlots, display_slots, displays, ended_display, is_display_by, lines_after, lines_in, lines_so_far}
 use Rattle.vs_kernel.specs.Runs.{StopsAt}
 use Rattle.vs_kernel.proofs.RunsLemmas.{all_kept}

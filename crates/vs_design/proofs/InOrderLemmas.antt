@@ -1,15 +1,17 @@
 -- Lemmas on the words of a store by one number each.
-use Rattle.std.proofs.Common.{◌≡◌, ℕ, zero, suc, ◌+◌, ◌-◌, ◌<◌, ◌≤◌, ⊎_elim, Some, List, [], ◌∷◌, ◌++◌, map, length, replicate, get_or, slice_get, refl, sym, ◌∙◌, ap, subst, arith}
-use Rattle.std.proofs.lemmas.Bool.{cases_lt}
+use Rattle.std.proofs.Common.{◌≡◌, ℕ, zero, suc, ◌+◌, ◌-◌, ◌<◌, ◌≤◌, ⊎_elim, Bool, true, false, nat_lt, if◌then◌else◌, Some, List, [], ◌∷◌, ◌++◌, map, length, replicate, get_or, slice_get, refl, sym, ◌∙◌, ap, subst, arith}
+use Rattle.std.proofs.lemmas.Bool.{cases_lt, lt-ltb, le-ltb}
 use Rattle.std.proofs.Math.ListN.{get_or-append}
 use Rattle.std.proofs.lemmas.List.{get_or-append-add, get_or-append_right, length-append, length-map, length-replicate}
 use Rattle.std.proofs.lemmas.Option.{none-some, same_Some, slice_get-get_or}
 use Rattle.vs_logic4.specs.declared.digit.Digit.{Digit}
 use Rattle.vs_design.specs.declared.extent.Layout.{Layout}
+use Rattle.vs_design.specs.declared.extent.Spot.{Spot}
 use Rattle.vs_design.specs.declared.signal.Signal.{Signal}
-use Rattle.vs_design.specs.Stores.{Store, word_of}
-use Rattle.vs_design.specs.InOrder.{words_in_order, numbered_word, words_before, word_sizes, sizes_of_signals, IsStoreOf}
-use Rattle.vs_design.specs.passes.Planes.{word_at, words_from, words_of, store_of, InTurn, IsWord, AreWords}
+use Rattle.vs_design.specs.Stores.{Store, changed_at, word_of}
+use Rattle.vs_design.specs.InOrder.{with_word, words_in_order, numbered_word, words_before, word_sizes, sizes_of_signals, IsStoreOf}
+use Rattle.vs_design.specs.passes.Planes.{word_at, words_from, words_of, store_of, spot_of, InTurn, IsWord, AreWords}
+use Rattle.vs_design.proofs.PlanesLemmas.{chosen}
 
 -- ---- what planes hold
 
@@ -31,11 +33,21 @@ as_many_words (e ∷ es) vs us from end t =
     let rest = as_many_words es vs us (from + e.count) end t.1 in
     omega (arith, rest, length-append (words_of e vs us) (words_in_order (store_of es vs us)), length-words_from e.width vs us e.first e.count)
 
--- what is known of the word at an index
+-- what is known of the word at an index: of which signal it is, where it is, what it holds, and what another word there makes of the store
 pub record IsHeld (es : List Layout) (vs us : List ℕ) (from index : ℕ) : Type 0 where
-  pub width : ℕ
-  pub digits : get_or (words_in_order (store_of es vs us)) (index - from) [] ≡ word_at width vs us index
-  pub is_word : IsWord width vs us index
+  pub signal : ℕ
+  pub word : ℕ
+  pub spot : Spot
+  pub found : spot_of es signal word ≡ Some spot
+  pub at : spot.index ≡ index
+  pub digits : get_or (words_in_order (store_of es vs us)) (index - from) [] ≡ word_at spot.width vs us index
+  pub is_word : IsWord spot.width vs us index
+  pub changed : (ds : List Digit) → with_word (store_of es vs us) (index - from) ds ≡ changed_at (changed_at (λ (w : List Digit). ds) word) signal (store_of es vs us)
+
+-- whether the word of a number is of the first signal
+with_first : (words : List (List Digit)) (rest : Store) (number : ℕ) (ds : List Digit) (b : Bool) → nat_lt number (length words) ≡ b →
+    with_word (words ∷ rest) number ds ≡ (if b then changed_at (λ (w : List Digit). ds) number words ∷ rest else words ∷ with_word rest (number - length words) ds)
+with_first words rest number ds b h = ap (λ c. if c then changed_at (λ (w : List Digit). ds) number words ∷ rest else words ∷ with_word rest (number - length words) ds) h
 
 -- the word of an index of the planes
 pub word_held : (es : List Layout) (vs us : List ℕ) (from end index : ℕ) → InTurn from es end → AreWords es vs us → from ≤ index → index < end → IsHeld es vs us from index
@@ -47,23 +59,39 @@ word_held (e ∷ es) vs us from end index t are low high =
     let place : e.first + (index - from) ≡ index = omega (arith, t.0) in
     let long : index - from < length (words_of e vs us) = omega (arith, length-words_from e.width vs us e.first e.count) in
     record {
-      width = e.width;
+      signal = 0;
+      word = index - from;
+      spot = record { index = e.first + (index - from); width = e.width };
+      found = chosen e (index - from) true (lt-ltb (index - from) e.count below);
+      at = place;
       digits =
           get_or-append (words_of e vs us) (words_in_order (store_of es vs us)) [] (index - from) long
           ∙ words_read e.width vs us e.first e.count (index - from) below
           ∙ ap (word_at e.width vs us) place;
       is_word = subst (IsWord e.width vs us) place (are.0 (index - from) below);
+      changed = λ ds. with_first (words_of e vs us) (store_of es vs us) (index - from) ds true (lt-ltb (index - from) (length (words_of e vs us)) long);
     })
     (λ past.
     let rest = word_held es vs us (from + e.count) end index t.1 are.1 past high in
     let place : (index - from) - e.count ≡ index - (from + e.count) = omega arith in
+    let long = length-words_from e.width vs us e.first e.count in
+    let after : length (words_of e vs us) ≤ index - from = omega (arith, long) in
     record {
-      width = rest.width;
+      signal = suc rest.signal;
+      word = rest.word;
+      spot = rest.spot;
+      found = rest.found;
+      at = rest.at;
       digits =
-          get_or-append_right (words_of e vs us) (words_in_order (store_of es vs us)) e.count (index - from) [] (length-words_from e.width vs us e.first e.count) (omega arith)
+          get_or-append_right (words_of e vs us) (words_in_order (store_of es vs us)) e.count (index - from) [] long (omega arith)
           ∙ ap (λ k. get_or (words_in_order (store_of es vs us)) k []) place
           ∙ rest.digits;
       is_word = rest.is_word;
+      changed = λ ds.
+          with_first (words_of e vs us) (store_of es vs us) (index - from) ds false (le-ltb (index - from) (length (words_of e vs us)) after)
+          ∙ ap (λ n. words_of e vs us ∷ with_word (store_of es vs us) ((index - from) - n) ds) long
+          ∙ ap (λ n. words_of e vs us ∷ with_word (store_of es vs us) n ds) place
+          ∙ ap (λ (store : Store). words_of e vs us ∷ store) (rest.changed ds);
     })
     (cases_lt index (from + e.count))
 
@@ -120,6 +148,26 @@ word_numbered (x ∷ xs) (ws ∷ rest) (suc i) word s is at below =
       is = inner.is ∙ ap Some (sym read);
       size = ap length read ∙ inner.size;
     }
+
+-- another word of a signal, by its number
+pub word_placed : (signals : List Signal) (store : Store) (signal word : ℕ) (s : Signal) (ds : List Digit) → IsStoreOf signals store → slice_get signals signal ≡ Some s → word < s.count →
+    with_word store (words_before signals signal + word) ds ≡ changed_at (changed_at (λ (w : List Digit). ds) word) signal store
+word_placed [] store signal word s ds is at below = absurd (none-some s at)
+word_placed (x ∷ xs) [] signal word s ds is at below = cc
+word_placed (x ∷ xs) (ws ∷ rest) zero word s ds is at below =
+    let same = same_Some x s at in
+    let here = subst (λ (y : Signal). map length ws ≡ replicate y.count y.width) same (same_head (map length ws) (replicate x.count x.width) (word_sizes rest) (sizes_of_signals xs) is) in
+    let long : 0 + word < length ws = omega (arith, head_long ws s here) in
+    let none : 0 + word ≡ word = omega arith in
+    with_first ws rest (0 + word) ds true (lt-ltb (0 + word) (length ws) long) ∙ ap (λ k. changed_at (λ (w : List Digit). ds) k ws ∷ rest) none
+word_placed (x ∷ xs) (ws ∷ rest) (suc i) word s ds is at below =
+    let long = head_long ws x (same_head (map length ws) (replicate x.count x.width) (word_sizes rest) (sizes_of_signals xs) is) in
+    let inner = word_placed xs rest i word s ds (same_tail (map length ws) (replicate x.count x.width) (word_sizes rest) (sizes_of_signals xs) is) at below in
+    let after : length ws ≤ (x.count + words_before xs i) + word = omega (arith, long) in
+    let place : ((x.count + words_before xs i) + word) - length ws ≡ words_before xs i + word = omega (arith, long) in
+    with_first ws rest ((x.count + words_before xs i) + word) ds false (le-ltb ((x.count + words_before xs i) + word) (length ws) after)
+    ∙ ap (λ n. ws ∷ with_word rest n ds) place
+    ∙ ap (λ (store : Store). ws ∷ store) inner
 
 -- ---- the table of a design
 

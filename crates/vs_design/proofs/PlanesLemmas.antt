@@ -24,7 +24,7 @@ record IsFound (es : List Layout) (i word : ℕ) (s : Spot) : Type 0 where
   index : extent.first + word ≡ s.index
   width : extent.width ≡ s.width
 
-chosen : (e : Layout) (word : ℕ) (b : Bool) → nat_lt word e.count ≡ b → spot_in (Some e) word ≡ (if b then Some (record { index = e.first + word; width = e.width }) else None)
+pub chosen : (e : Layout) (word : ℕ) (b : Bool) → nat_lt word e.count ≡ b → spot_in (Some e) word ≡ (if b then Some (record { index = e.first + word; width = e.width }) else None)
 chosen e word b h = ap (λ c. if c then Some (record { index = e.first + word; width = e.width }) else None) h
 
 -- a word that a signal has

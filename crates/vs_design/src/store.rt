@@ -1,8 +1,8 @@
 //! Stores.
 ghost use Rattle.std.specs.Prelude.{◌≡◌, Some, None, IfOk, IfSome, MatchOption, length, map};
 ghost use Rattle.vs_design.specs.Stores.{word_of, put, put_part, overlaid, changes_nothing, start_store};
-ghost use Rattle.vs_logic4.specs.Planes.{value_plane, unknown_plane};
-ghost use Rattle.vs_design.specs.InOrder.{numbered_word};
+ghost use Rattle.vs_logic4.specs.Planes.{value_plane, unknown_plane, digits_of_planes, ArePlanes};
+ghost use Rattle.vs_design.specs.InOrder.{numbered_word, with_word};
 ghost use Rattle.vs_design.specs.Behind.{behind, keeps};
 ghost use Rattle.vs_design.specs.Drivers.{undriven_word, driven_word, driven_at, driven_by, all_driven, in_copies};
 ghost use Rattle.vs_design.specs.passes.Planes.{AreInTurn, counts_of, widths_of};
@@ -93,6 +93,16 @@ impl<'a> Store<'a> {
         } else {
             (0, 0)
         }
+    }
+
+    /// Sets the value plane and the unknown plane of the word of a number, which have no bit above its size.
+    #[inline(always)]
+    pub fn set_planes(&mut self, number: usize, value: u64, unknown: u64)
+        requires { ArePlanes (length (numbered_word self.old number)) value unknown }
+        ensures { self.new ≡ with_word self.old number (digits_of_planes (length (numbered_word self.old number)) value unknown) }
+    {
+        self.values[number] = value;
+        self.unknowns[number] = unknown;
     }
 
     /// Makes a write: its parts one after another, digits out of range dropped, and a part without a word too (IEEE 1364-2005, clause 5.2.1).

@@ -1,8 +1,8 @@
 -- The code of a process does what the process does.
-use Rattle.std.proofs.Common.{Global, ◌≡◌, ℕ, zero, suc, ◌<◌, ◌+◌, Bool, true, false, Option, Some, None, List, [], ◌∷◌, ◌++◌, length, refl, sym, ◌∙◌, ap, subst, inl, arith}
+use Rattle.std.proofs.Common.{Global, ◌≡◌, ℕ, zero, suc, ◌+◌, Bool, true, false, Option, Some, None, List, [], ◌∷◌, ◌++◌, length, refl, sym, ◌∙◌, ap, subst, arith}
 use Rattle.std.specs.Prelude.{slice_get, Vec, find, if◌then◌else◌, IfOk, OnOk, OnErr, Result, Ok, Err}
 use Rattle.std.specs.declared.alloc.AllocError.{AllocError}
-use Rattle.std.proofs.lemmas.List.{append-nil, length-set}
+use Rattle.std.proofs.lemmas.List.{length-set}
 use Rattle.vs_logic4.specs.declared.digit.Digit.{Digit}
 use Rattle.vs_logic4.specs.declared.digit.Digit.TheVariants.{Zero, One, X, Z}
 use Rattle.vs_logic4.specs.Comparisons.{truth}
@@ -11,24 +11,18 @@ use Rattle.vs_design.specs.declared.statement.Statement.{Statement}
 use Rattle.vs_design.specs.declared.statement.Statement.TheOpen.{Statement-F}
 use Rattle.vs_design.specs.declared.statement.Statement.TheViews.{roll-Statement, out-Statement}
 use Rattle.vs_design.specs.Stores.{Store}
-use Rattle.vs_design.specs.Writes.{Write}
 use Rattle.vs_eval.specs.Values.{value_of}
 use Rattle.vs_flatcode.specs.declared.draft.Op.{Op}
 use Rattle.vs_flatcode.specs.declared.draft.Task.{Task}
 use Rattle.vs_flatcode.specs.declared.draft.Task.TheVariants.{Perform, Turns}
-use Rattle.vs_flatcode.specs.declared.made.Effect.{Effect}
-use Rattle.vs_flatcode.specs.declared.made.Effect.TheVariants as e
-use Rattle.vs_flatcode.specs.declared.changes.Change.{Change}
-use Rattle.vs_flatcode.specs.declared.made.Halt.{Halt}
-use Rattle.vs_flatcode.specs.declared.made.Halt.TheVariants as h
-use Rattle.vs_flatcode.specs.Changes.{store_behind, changes_of}
+use Rattle.vs_flatcode.specs.declared.halt.Halt.{Halt}
+use Rattle.vs_flatcode.specs.Changes.{store_behind}
 use Rattle.vs_flatcode.specs.Extras.{format_in, starts_in}
 use Rattle.vs_flatcode.specs.Places.{Todo, flat, perform}
-use Rattle.vs_flatcode.specs.Steps.{Next, Out, on, goes, has_nothing, step, statement_step, branch, first_of, flat_item, repeated, item_matches, is_default, turns_for}
-use Rattle.vs_flatcode.specs.Links.{Job, Link, performs, todo_at, todo_from, todo_within, item_of}
-use Rattle.vs_flatcode.specs.Went.{CalmSteps, CalmlyTo, IsCalmStep, IsFollowed, QuietSteps, TookStep, TookSteps}
+use Rattle.vs_flatcode.specs.Steps.{Out, step, statement_step, branch, first_of, flat_item, repeated, item_matches, is_default, turns_for}
+use Rattle.vs_flatcode.specs.Links.{Link, todo_at, item_of}
 use Rattle.vs_flatcode.specs.Codes.{Layout, todo_in, IsCode, IsTurn, LeadAll, FitsStatement, FitsTask, IsFormatOf, IsFormatFor, links_of, link_of, layout_of, job_of}
-use Rattle.vs_flatcode.specs.Landings.{Landing, landing, out_of, next_of, effect_in, made_out, item_write, layer_write, IsMade, IsStill, statement_lands, turned, start_where, place_or, layer_lands, lands, todo_behind}
+use Rattle.vs_flatcode.specs.Landings.{Landing, landing, next_of, EndsSo, statement_lands, turned, start_where, place_or, layer_lands, lands, todo_behind}
 use Rattle.vs_flatcode.proofs.Links.{todo_here}
 use Rattle.vs_flatcode.proofs.Drafts.{link_here}
 use Rattle.vs_flatcode.proofs.Shapes.{layer_of}
@@ -118,16 +112,20 @@ follows ops cs i x store time h e =
     todo_here (links_of ops) cs i (link_of x) h.linked (link_here ops i x e) in
     (at, ap (λ (t : Todo). todo_behind (step t store time).next) at ∙ follows_task (layout_of ops (length cs)) x (suc i) cs x.task store time refl (h.fits i x e) at)
 
--- what a step of the code makes is what the step of the process makes
-pub stepped : (ops : List Op) (cs : List ℕ) (place i : ℕ) (x : Op) (store : Store) (time : ℕ) (halt : Halt) (effect : Effect) (next : ℕ) (counters : List ℕ) → IsCode ops (length cs) → place ≡ suc i → slice_get ops i ≡ Some x →
-    landing next counters ≡ lands x x.task cs store time → IsMade (item_of cs (job_of x.counter x.task)) store time halt effect →
-    step (todo_at (links_of ops) cs place) store time ≡ made_out halt effect (item_write (item_of cs (job_of x.counter x.task)) store time) (todo_at (links_of ops) counters next)
-stepped ops cs place i x store time halt effect next counters h at e l m =
-    let f = follows ops cs i x store time h e in
-    let w : Option Write = item_write (item_of cs (job_of x.counter x.task)) store time in
-    ap (λ (p : ℕ). step (todo_at (links_of ops) cs p) store time) at
-    ∙ subst (λ (t : Todo). step t store time ≡ made_out halt effect w (todo_behind (step t store time).next)) (sym f.0) (m (todo_at (links_of ops) cs x.behind))
-    ∙ ap (made_out halt effect w) (f.1 ∙ ap (λ (k : Landing). todo_at (links_of ops) k.counters k.place) (sym l))
+-- a step of the code ends as the step of the process does, and leads where it leads
+stepped : (ops : List Op) (cs : List ℕ) (place i : ℕ) (x : Op) (store behind : Store) (time : ℕ) (halt : Halt) (next : ℕ) (counters : List ℕ) → IsCode ops (length cs) → place ≡ suc i → slice_get ops i ≡ Some x →
+    landing next counters ≡ lands x x.task cs store time → EndsSo (item_of cs (job_of x.counter x.task)) store time halt behind →
+    let out : Out = step (todo_in ops cs place) store time in (out.next ≡ next_of halt (todo_in ops counters next)) × (behind ≡ store_behind store out.write)
+stepped ops cs place i x store behind time halt next counters code at e l ends =
+    let f = follows ops cs i x store time code e in
+    let here : todo_in ops cs place ≡ item_of cs (job_of x.counter x.task) ∷ todo_in ops cs x.behind = ap (todo_in ops cs) at ∙ f.0 in
+    let so : ((step (todo_in ops cs place) store time).next ≡ next_of halt (todo_behind (step (todo_in ops cs place) store time).next)) × (behind ≡ store_behind store (step (todo_in ops cs place) store time).write) =
+    subst (λ (t : Todo). ((step t store time).next ≡ next_of halt (todo_behind (step t store time).next)) × (behind ≡ store_behind store (step t store time).write)) (sym here) (ends (todo_in ops cs x.behind))
+    in
+    let there : todo_behind (step (todo_in ops cs place) store time).next ≡ todo_in ops counters next =
+    ap (λ (p : ℕ). todo_behind (step (todo_in ops cs p) store time).next) at ∙ f.1 ∙ ap (λ (k : Landing). todo_in ops k.counters k.place) (sym l)
+    in
+    (so.0 ∙ ap (next_of halt) there, so.1)
 
 -- a step leaves the number of counters
 turned_length : (left : ℕ) (x : Op) (cs : List ℕ) → length (turned left x cs).counters ≡ length cs
@@ -157,136 +155,18 @@ pub still_code : (ops : List Op) (x : Op) (cs counters : List ℕ) (place : ℕ)
 still_code ops x cs counters place store time h is =
     subst (IsCode ops) (sym (ap (λ (l : Landing). length l.counters) is ∙ task_length x x.task cs store time)) h
 
--- a step that makes this writes what it is said to write
-pub made_write : (next : Next) (effect : Effect) (w : Option Write) → (out_of next w effect).write ≡ w
-made_write next e.Nothing w = refl
-made_write next (e.Part ticks p) w = refl
-made_write next (e.Update ticks u) w = refl
-made_write next (e.Strobe f) w = refl
-made_write next (e.Line text) w = refl
-made_write next e.Finish w = refl
-
--- a step and its own write
-pub own_write : (out : Out) (next : Next) (effect : Effect) (w : Option Write) → out ≡ out_of next w effect → (out ≡ out_of next out.write effect) × (w ≡ out.write)
-own_write out next effect w e =
-    let same : w ≡ out.write = sym (ap (λ (o : Out). o.write) e ∙ made_write next effect w) in
-    (e ∙ ap (λ (v : Option Write). out_of next v effect) same, same)
-
--- a step of the code at a place took the step of the process there
-pub took_step : (ops : List Op) (cs counters : List ℕ) (place i next : ℕ) (x : Op) (store behind : Store) (time : ℕ) (halt : Halt) (effect : Effect) (changes all : List Change) →
-    IsCode ops (length cs) → place ≡ suc i → slice_get ops i ≡ Some x → landing next counters ≡ lands x x.task cs store time → IsMade (item_of cs (job_of x.counter x.task)) store time halt effect →
-    let w : Option Write = item_write (item_of cs (job_of x.counter x.task)) store time in
-    IsStill halt w → behind ≡ store_behind store w → all ≡ changes ++ changes_of store w →
-    TookStep (todo_in ops cs place) store time halt (todo_in ops counters next) effect behind changes all
-took_step ops cs counters place i next x store behind time halt effect changes all code at e l m still written noted =
-    let here : Todo = todo_in ops cs place in
-    let there : Todo = todo_in ops counters next in
-    let w : Option Write = item_write (item_of cs (job_of x.counter x.task)) store time in
-    let own : (step here store time ≡ made_out halt effect (step here store time).write there) × (w ≡ (step here store time).write) =
-    own_write (step here store time) (next_of halt there) (effect_in halt effect) w (stepped ops cs place i x store time halt effect next counters code at e l m)
-    in
-    record {
-      out = own.0;
-      still = subst (IsStill halt) own.1 still;
-      written = written ∙ ap (store_behind store) own.1;
-      noted = noted ∙ ap (λ (v : Option Write). changes ++ changes_of store v) own.1;
-    }
-
 -- the same where there may have been no memory for it
-pub ok_step : (ops : List Op) (cs counters : List ℕ) (place i : ℕ) (x : Op) (store behind : Store) (time : ℕ) (effect : Effect) (changes all : List Change) (r : Result (Halt × ℕ) AllocError) →
+pub ok_step : (ops : List Op) (cs counters : List ℕ) (place i : ℕ) (x : Op) (store behind : Store) (time : ℕ) (r : Result (Halt × ℕ) AllocError) →
     IsCode ops (length cs) → place ≡ suc i → slice_get ops i ≡ Some x → IfOk r (λ v. landing v.1 counters ≡ lands x x.task cs store time) →
-    IfOk r (λ v. IsMade (item_of cs (job_of x.counter x.task)) store time v.0 effect) →
-    let w : Option Write = item_write (item_of cs (job_of x.counter x.task)) store time in
-    IfOk r (λ v. IsStill v.0 w) → OnOk r (behind ≡ store_behind store w) → OnOk r (all ≡ changes ++ changes_of store w) →
-    IfOk r (λ v. TookStep (todo_in ops cs place) store time v.0 (todo_in ops counters v.1) effect behind changes all)
-ok_step ops cs counters place i x store behind time effect changes all (Ok v) code at e l m still written noted =
-    took_step ops cs counters place i v.1 x store behind time v.0 effect changes all code at e l m still written noted
-ok_step ops cs counters place i x store behind time effect changes all (Err y) code at e l m still written noted = tt
+    IfOk r (λ v. EndsSo (item_of cs (job_of x.counter x.task)) store time v.0 behind) →
+    IfOk r (λ v. (step (todo_in ops cs place) store time).next ≡ next_of v.0 (todo_in ops counters v.1)) × OnOk r (behind ≡ store_behind store (step (todo_in ops cs place) store time).write)
+ok_step ops cs counters place i x store behind time (Ok v) code at e l ends = stepped ops cs place i x store behind time v.0 v.1 counters code at e l ends
+ok_step ops cs counters place i x store behind time (Err y) code at e l ends = (tt, tt)
 
 pub code_behind : (ops : List Op) (x : Op) (cs counters : List ℕ) (store : Store) (time : ℕ) (r : Result (Halt × ℕ) AllocError) → IsCode ops (length cs) →
     IfOk r (λ v. landing v.1 counters ≡ lands x x.task cs store time) → OnErr r (counters ≡ cs) → IsCode ops (length counters)
 code_behind ops x cs counters store time (Ok v) code l kept = still_code ops x cs counters v.1 store time code l
 code_behind ops x cs counters store time (Err y) code l kept = subst (λ (k : List ℕ). IsCode ops (length k)) (sym kept) code
-
--- where nothing is left to do, nothing is done
-pub took_none : (old : Todo) (store : Store) (time : ℕ) (effect : Effect) (changes : List Change) → old ≡ [] → TookStep old store time h.Nothing old effect store changes changes
-took_none old store time effect changes is =
-    subst (λ (t : Todo). TookStep t store time h.Nothing t effect store changes changes) (sym is)
-    (record { out = refl; still = refl; written = refl; noted = sym (append-nil changes) })
-
--- a calm step at a place
-pub calm_there : (ops : List Op) (cs : List ℕ) (place i : ℕ) (x : Op) (task : Task) (s : Statement) (store : Store) (time : ℕ) (halt : Halt) → IsCode ops (length cs) → place ≡ suc i → slice_get ops i ≡ Some x →
-    x.task ≡ task → job_of x.counter task ≡ performs s → lands x task cs store time ≡ landing x.first cs →
-    ((rest : Todo) → let out = step (perform s ∷ rest) store time in out ≡ goes (next_of halt (todo_behind out.next))) → IsCalmStep (todo_in ops cs place) store time halt (todo_in ops cs x.first)
-calm_there ops cs place i x task s store time halt code at e is job leads calm =
-    let f = follows ops cs i x store time code e in
-    let here : todo_in ops cs place ≡ perform s ∷ todo_in ops cs x.behind =
-    ap (todo_in ops cs) at ∙ f.0 ∙ ap (λ (j : Job). item_of cs j ∷ todo_in ops cs x.behind) (ap (job_of x.counter) is ∙ job)
-    in
-    let behind : todo_behind (step (todo_in ops cs place) store time).next ≡ todo_in ops cs x.first =
-    ap (λ (p : ℕ). todo_behind (step (todo_in ops cs p) store time).next) at
-    ∙ f.1 ∙ ap (λ (l : Landing). todo_in ops l.counters l.place) (ap (λ (t : Task). lands x t cs store time) is ∙ leads)
-    in
-    record {
-      some = ap (λ (t : Todo). has_nothing t) here;
-      out =
-          subst (λ (t : Todo). step t store time ≡ goes (next_of halt (todo_behind (step t store time).next))) (sym here) (calm (todo_in ops cs x.behind))
-          ∙ ap (λ (t : Todo). goes (next_of halt t)) behind;
-    }
-
--- one more calm step
-pub calm_more : (n : ℕ) (old mid new : Todo) (store : Store) (time : ℕ) (halt : Halt) → CalmSteps n old store time mid → IsCalmStep mid store time halt new → halt ≡ h.Nothing →
-    CalmSteps (n + 1) old store time new
-calm_more n old mid new store time halt before calm is =
-    let all : CalmSteps (suc n) old store time new = (mid, before, subst (λ (k : Halt). IsCalmStep mid store time k new) is calm) in
-    let more : suc n ≡ n + 1 = omega arith in
-    subst (λ (k : ℕ). CalmSteps k old store time new) more all
-
--- calm steps, and one more that ends so
-pub calmly_more : (n : ℕ) (old mid new : Todo) (store : Store) (time : ℕ) (halt : Halt) → CalmSteps n old store time mid → IsCalmStep mid store time halt new →
-    CalmlyTo (n + 1) old store time halt new
-calmly_more n old mid new store time halt before calm =
-    let all : CalmlyTo (suc n) old store time halt new = (mid, before, calm) in
-    let more : suc n ≡ n + 1 = omega arith in
-    subst (λ (k : ℕ). CalmlyTo k old store time halt new) more all
-
--- calm steps end with nothing
-pub calmly_so : (n : ℕ) (old new : Todo) (store : Store) (time : ℕ) → CalmSteps n old store time new → CalmlyTo n old store time h.Nothing new
-calmly_so zero old new store time is = (refl, is)
-calmly_so (suc n) old new store time steps = steps
-
-left_from : (cs counters : List ℕ) (rest other : ℕ → Todo) (l : Option Link) → has_nothing (todo_from cs rest l) ≡ has_nothing (todo_from counters other l)
-left_from cs counters rest other None = refl
-left_from cs counters rest other (Some l) = refl
-
--- whether something is left to do at a place is the same whatever the counters are
-pub left_there : (ops : List Op) (cs counters : List ℕ) (place : ℕ) → has_nothing (todo_in ops cs place) ≡ has_nothing (todo_in ops counters place)
-left_there ops cs counters zero = refl
-left_there ops cs counters (suc i) =
-    left_from cs counters (λ p. todo_within i (links_of ops) cs p) (λ p. todo_within i (links_of ops) counters p) (slice_get (links_of ops) i)
-
--- a step in a store that is another one's, behind changes that are others
-pub took_in : (mid new : Todo) (here store behind : Store) (time : ℕ) (halt : Halt) (effect : Effect) (so changes all : List Change) → here ≡ store → so ≡ changes →
-    TookStep mid here time halt new effect behind so all → TookStep mid store time halt new effect behind changes all
-took_in mid new here store behind time halt effect so changes all same old took =
-    subst (λ (s : Store). TookStep mid s time halt new effect behind changes all) same (subst (λ (l : List Change). TookStep mid here time halt new effect behind l all) old took)
-
--- one more step that does nothing beyond the process
-pub quiet_more : (n : ℕ) (old mid new : Todo) (store behind : Store) (time : ℕ) (halt : Halt) (effect : Effect) (changes all : List Change) → QuietSteps n old store time mid →
-    TookStep mid store time halt new effect behind changes all → halt ≡ h.Nothing → has_nothing new ≡ false →
-    QuietSteps (n + 1) old store time new × (behind ≡ store) × (all ≡ changes)
-quiet_more n old mid new store behind time halt effect changes all before took is some =
-    let w : Option Write = (step mid store time).write in
-    let none : w ≡ None = subst (λ (k : Halt). IsStill k w) is took.still in
-    let out : step mid store time ≡ goes (on new) =
-    subst (λ (k : Halt). step mid store time ≡ made_out k effect w new) is took.out ∙ ap (λ (v : Option Write). made_out h.Nothing effect v new) none
-    in
-    let steps : QuietSteps (suc n) old store time new = (mid, before, record { out = out; some = some }) in
-    let more : suc n ≡ n + 1 = omega arith in (
-      subst (λ (k : ℕ). QuietSteps k old store time new) more steps,
-      took.written ∙ ap (store_behind store) none,
-      took.noted ∙ ap (λ (v : Option Write). changes ++ changes_of store v) none ∙ append-nil changes,
-    )
 
 format_of_statement : (c : Layout) (x : Op) (here : ℕ) (s : Statement) (f : Statement-F Statement) → FitsStatement c x here s f → IsFormatOf (format_in x) f
 format_of_statement c x here s (Statement-F.Null n) h = tt
@@ -311,65 +191,21 @@ format_of_task c x here (Turns s) h = tt
 pub has_format : (ops : List Op) (n i : ℕ) (x : Op) → IsCode ops n → slice_get ops i ≡ Some x → IsFormatFor (format_in x) x.task
 has_format ops n i x h e = format_of_task (layout_of ops n) x (suc i) x.task (h.fits i x e)
 
--- steps that do nothing beyond the process, then one, and what follows it
-pub took_steps : (n more steps : ℕ) (old mid next new : Todo) (here store behind : Store) (time : ℕ) (halt last : Halt) (effect : Effect) (so changes all : List Change) → steps ≡ suc (n + more) →
-    QuietSteps n old store time mid → here ≡ store → so ≡ changes → TookStep mid here time halt next effect behind so all → IsFollowed more next behind time halt last new →
-    TookSteps steps old store time halt last new effect behind changes all
-took_steps n more steps old mid next new here store behind time halt last effect so changes all count quiet same kept took rest = record {
-  before = n;
-  more = more;
-  count = count;
-  mid = mid;
-  next = next;
-  quiet = quiet;
-  took = took_in mid next here store behind time halt effect so changes all same kept took;
-  rest = rest;
-}
-
--- steps that do nothing beyond the process, some of them, and no more
-pub took_quiet : (steps : ℕ) (old new : Todo) (store behind : Store) (time : ℕ) (effect : Effect) (changes all : List Change) → QuietSteps steps old store time new → (steps ≡ 0 → ⊥) → behind ≡ store → all ≡ changes →
-    TookSteps steps old store time h.Nothing h.Nothing new effect behind changes all
-took_quiet zero old new store behind time effect changes all quiet some same kept = absurd (some refl)
-took_quiet (suc n) old new store behind time effect changes all quiet some same kept =
-    let none : (step quiet.0 store time).write ≡ None = ap (λ (o : Out). o.write) quiet.2.out in
-    record {
-      before = n;
-      more = 0;
-      count = omega arith;
-      mid = quiet.0;
-      next = new;
-      quiet = quiet.1;
-      took = record {
-        out = quiet.2.out ∙ ap (λ (w : Option Write). made_out h.Nothing effect w new) (sym none);
-        still = none;
-        written = same ∙ ap (store_behind store) (sym none);
-        noted = kept ∙ sym (append-nil changes) ∙ ap (λ (w : Option Write). changes ++ changes_of store w) (sym none);
-      };
-      rest = inl (refl, refl, refl);
-    }
-
--- the step of a statement ended so, led there, has this effect where it has one, leaves the store so, and puts the words that it changes behind a list
-pub record IsPerformed (x : Op) (s : Statement) (cs counters : List ℕ) (store behind : Store) (time : ℕ) (halt : Halt) (place : ℕ) (effect : Effect) (changes all : List Change) : Type 0 where
+-- the step of a statement ended so, led there, and left the store so
+pub record IsPerformed (x : Op) (s : Statement) (cs counters : List ℕ) (store behind : Store) (time : ℕ) (halt : Halt) (place : ℕ) : Type 0 where
   pub lands : landing place counters ≡ statement_lands x s cs store time
-  pub made : IsMade (perform s) store time halt effect
-  pub still : IsStill halt (item_write (perform s) store time)
-  pub written : behind ≡ store_behind store (item_write (perform s) store time)
-  pub noted : all ≡ changes ++ changes_of store (item_write (perform s) store time)
+  pub ends : EndsSo (perform s) store time halt behind
 
 -- the same by the statement's outermost layer
-pub performed : (x : Op) (s t : Statement) (f : Statement-F Statement) (cs counters : List ℕ) (store behind : Store) (time : ℕ) (halt : Halt) (place : ℕ) (effect : Effect) (changes all : List Change) →
+pub performed : (x : Op) (s t : Statement) (f : Statement-F Statement) (cs counters : List ℕ) (store behind : Store) (time : ℕ) (halt : Halt) (place : ℕ) →
     s ≡ t → roll-Statement f ≡ t → landing place counters ≡ layer_lands x f cs store time →
-    ((rest : Todo) → let out = statement_step s f rest store time in out ≡ made_out halt effect (layer_write f store time) (todo_behind out.next)) →
-    IsStill halt (layer_write f store time) → behind ≡ store_behind store (layer_write f store time) → all ≡ changes ++ changes_of store (layer_write f store time) →
-    IsPerformed x s cs counters store behind time halt place effect changes all
-performed x s t f cs counters store behind time halt place effect changes all is built lands made still written noted =
+    ((rest : Todo) → let out : Out = statement_step s f rest store time in (out.next ≡ next_of halt (todo_behind out.next)) × (behind ≡ store_behind store out.write)) →
+    IsPerformed x s cs counters store behind time halt place
+performed x s t f cs counters store behind time halt place is built lands ends =
     let layer : f ≡ out-Statement s = sym (layer_of s t f is built) in
     record {
       lands = lands ∙ ap (λ (g : Statement-F Statement). layer_lands x g cs store time) layer;
-      made =
-          subst (λ (g : Statement-F Statement). (rest : Todo) → let out = statement_step s g rest store time in out ≡ made_out halt effect (layer_write g store time) (todo_behind out.next))
-          layer made;
-      still = subst (λ (g : Statement-F Statement). IsStill halt (layer_write g store time)) layer still;
-      written = written ∙ ap (λ (g : Statement-F Statement). store_behind store (layer_write g store time)) layer;
-      noted = noted ∙ ap (λ (g : Statement-F Statement). changes ++ changes_of store (layer_write g store time)) layer;
+      ends =
+          subst (λ (g : Statement-F Statement). (rest : Todo) → let out : Out = statement_step s g rest store time in (out.next ≡ next_of halt (todo_behind out.next)) × (behind ≡ store_behind store out.write))
+          layer ends;
     }

@@ -1,4 +1,5 @@
 pub mod Codes
+pub mod ControlLemmas
 pub mod Drafts
 pub mod Follows
 pub mod Heads
@@ -7,7 +8,10 @@ pub mod Links
 pub mod Lists
 pub mod Numbers
 pub mod Quick
+pub mod ScriptLemmas
+pub mod ScriptLists
 pub mod Shapes
+pub mod SpotLemmas
 pub mod Starts
 pub mod TextMaps
 pub mod Ways

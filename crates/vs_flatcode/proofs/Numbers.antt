@@ -1,9 +1,9 @@
 -- Lemmas on the numbers of the statements in a code.
-use Rattle.std.proofs.Common.{Global, ◌≡◌, ◌≢◌, ℕ, zero, suc, ◌+◌, ◌<◌, ◌≤◌, ◌==◌, Bool, true, false, ◌&&◌, Option, Some, None, List, [], ◌∷◌, ◌++◌, map, drop, get_or, length, refl, rules, sym, ◌∙◌, ap, subst, arith, ⊎_elim}
+use Rattle.std.proofs.Common.{Global, ◌≡◌, ◌≢◌, ℕ, zero, suc, ◌+◌, ◌<◌, ◌≤◌, ◌==◌, Bool, true, false, Option, Some, None, List, [], ◌∷◌, ◌++◌, map, drop, get_or, length, refl, rules, sym, ◌∙◌, ap, subst, arith, ⊎_elim}
 use Rattle.std.specs.Prelude.{slice_get, Vec, IfOk, Result, Ok, Err}
 use Rattle.std.specs.declared.boxed.Box.{Box}
 use Rattle.std.specs.declared.alloc.AllocError.{AllocError}
-use Rattle.std.proofs.lemmas.Bool.{eqb-true, eq-eqb, false≢true}
+use Rattle.std.proofs.lemmas.Bool.{eqb-true, eq-eqb}
 use Rattle.std.proofs.lemmas.Bool.Decides.{eqb_tells}
 use Rattle.std.proofs.lemmas.List.{map-append, drop_more}
 use Rattle.std.proofs.lemmas.Option.{none-some, same_Some}
@@ -202,6 +202,16 @@ same_spot links n p q le a b = ⊎_elim
     (λ (le : a.index ≤ b.index). omega (arith, a.at, b.at, ge, le))
     (below_or b.index a.index))
     (below_or a.index b.index)
+
+-- a statement's number stands at one place alone
+pub numbers_apart : (s : Statement) (ops : List Op) (counters start : ℕ) → IsCodeOf s ops counters start → counts_from 0 (numbers s) ≡ true →
+    (i j n : ℕ) (k l : Link) → slice_get (links_of ops) i ≡ Some k → slice_get (links_of ops) j ≡ Some l → number_at k.job ≡ Some n → number_at l.job ≡ Some n → i ≡ j
+numbers_apart s ops counters start code rise i j n k l at there is same =
+    let once : times_stands n (links_of ops) ≤ 1 = omega (arith, code.stand n, (counted_once n 0 (numbers s) rise).0) in
+    let one : suc i ≡ suc j =
+    same_spot (links_of ops) n (suc i) (suc j) once (record { index = i; link = k; at = refl; is = at; number = is })
+    (record { index = j; link = l; at = refl; is = there; number = same }) in
+    omega (arith, one)
 
 pub one_place : (s : Statement) (ops : List Op) (counters start : ℕ) → IsCodeOf s ops counters start → counts_from 0 (numbers s) ≡ true →
     (p q n : ℕ) → number_next (point_at (links_of ops) p) ≡ Some n → point_at (links_of ops) p ≡ point_at (links_of ops) q → p ≡ q

@@ -19,15 +19,12 @@ use Rattle.vs_flatcode.specs.Codes.{IsCodeOf, links_of, link_of, job_of}
 use Rattle.vs_flatcode.specs.Ways.{Way, Pause, none, way_on, past_ways, statement_ways, task_ways, op_ways, ways, point_at, next_by, next_at}
 use Rattle.vs_flatcode.proofs.Links.{todo_here}
 use Rattle.vs_flatcode.proofs.Drafts.{link_here}
-use Rattle.vs_flatcode.proofs.Ways.{has_ways}
+use Rattle.vs_flatcode.proofs.Ways.{has_ways, link_none}
 use Rattle.vs_flatcode.proofs.Numbers.{one_place}
 use Rattle.vs_flatcode.specs.Maps.{statement_pause, todo_pause, IsMap}
 use Rattle.vs_flatcode.specs.Stops.{inside, code_tos, behind_of, code_behind, Stop, stop_of, stop_at, stop_behind, stop_tos, stop_statement, stops_behind, stops_tos, next_statement, task_statement, IsText, code_stops, tos_in}
 
 -- ---- places past the end
-
-link_none : (ops : List Op) (i : ℕ) → slice_get ops i ≡ None → slice_get (links_of ops) i ≡ None
-link_none ops i e = slice_get-map link_of ops i ∙ ap (option_map link_of) e
 
 -- after the last instruction nothing is to be done
 past_end : (ops : List Op) (i : ℕ) → slice_get ops i ≡ None → point_at (links_of ops) (suc i) ≡ []

@@ -126,7 +126,7 @@ task_points c x here (Perform s) h at = statement_points c x here s.now (out-Sta
 task_points c x here (Turns s) h at = turn_ways c x s.now h
 
 -- behind the last instruction there is no place
-link_none : (ops : List Op) (i : ℕ) → slice_get ops i ≡ None → slice_get (links_of ops) i ≡ None
+pub link_none : (ops : List Op) (i : ℕ) → slice_get ops i ≡ None → slice_get (links_of ops) i ≡ None
 link_none ops i e = slice_get-map link_of ops i ∙ ap (option_map link_of) e
 
 op_points : (ops : List Op) (n i : ℕ) (o : Option Op) → IsCode ops n → slice_get ops i ≡ o → nexts (point_at (links_of ops) (suc i)) ≡ map (next_at (links_of ops)) (op_ways o)

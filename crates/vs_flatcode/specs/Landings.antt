@@ -1,30 +1,25 @@
 -- Where a step of the flat code leads.
-use Rattle.std.specs.Prelude.{ℕ, zero, suc, Bool, true, if◌then◌else◌, ◌≡◌, Option, Some, None, List, [], ◌∷◌, get_or, slice_get, slice_set, drop}
+use Rattle.std.specs.Prelude.{ℕ, zero, suc, Bool, if◌then◌else◌, ◌≡◌, Option, Some, None, List, [], ◌∷◌, get_or, slice_get, slice_set, drop}
 use Rattle.std.specs.declared.vec.Vec.{Vec}
 use Rattle.std.specs.declared.alloc.Global.{Global}
 use Rattle.vs_logic4.specs.declared.case.CaseKind.{CaseKind}
 use Rattle.vs_logic4.specs.declared.digit.Digit.{Digit}
 use Rattle.vs_logic4.specs.Comparisons.{truth}
 use Rattle.vs_design.specs.declared.expression.Typed.{Typed}
-use Rattle.vs_design.specs.declared.statement.CallKind.{CallKind}
-use Rattle.vs_design.specs.declared.statement.Ticks.{Ticks}
 use Rattle.vs_design.specs.declared.statement.Statement.{Statement}
 use Rattle.vs_design.specs.declared.statement.Statement.TheOpen.{Statement-F}
 use Rattle.vs_design.specs.declared.statement.Statement.TheViews.{out-Statement}
 use Rattle.vs_design.specs.Stores.{Store}
-use Rattle.vs_design.specs.Writes.{Write}
 use Rattle.vs_eval.specs.Values.{value_of}
-use Rattle.vs_strobe.specs.Lines.{Format}
 use Rattle.vs_flatcode.specs.declared.draft.Op.{Op}
 use Rattle.vs_flatcode.specs.declared.draft.Task.{Task}
 use Rattle.vs_flatcode.specs.declared.draft.Task.TheVariants as t
-use Rattle.vs_flatcode.specs.declared.made.Effect.{Effect}
-use Rattle.vs_flatcode.specs.declared.made.Effect.TheVariants as e
-use Rattle.vs_flatcode.specs.declared.made.Halt.{Halt}
-use Rattle.vs_flatcode.specs.declared.made.Halt.TheVariants as h
+use Rattle.vs_flatcode.specs.declared.halt.Halt.{Halt}
+use Rattle.vs_flatcode.specs.declared.halt.Halt.TheVariants as h
+use Rattle.vs_flatcode.specs.Changes.{store_behind}
 use Rattle.vs_flatcode.specs.Extras.{starts_in}
-use Rattle.vs_flatcode.specs.Places.{Todo, Item, perform, turns}
-use Rattle.vs_flatcode.specs.Steps.{Next, on, after, wait, Out, goes, assignment, called, step, branch, first_of, item_matches, is_default, turns_for}
+use Rattle.vs_flatcode.specs.Places.{Todo, Item}
+use Rattle.vs_flatcode.specs.Steps.{Next, on, after, wait, step, branch, first_of, item_matches, is_default, turns_for}
 
 -- a place, and the counters there
 pub record Landing : Type 0 where
@@ -87,57 +82,13 @@ todo_behind (on todo) = todo
 todo_behind (after n ticks todo) = todo
 todo_behind (wait n terms todo) = todo
 
--- a step that leads there, may write, and has this effect
-abbrev pub out_of : Next → Option Write → Effect → Out
-out_of next w e.Nothing = record (goes next) { write = w }
-out_of next w (e.Part ticks p) = record (goes next) { write = w; update = Some (ticks.count, p ∷ []) }
-out_of next w (e.Update ticks u) = record (goes next) { write = w; update = Some (ticks.count, u) }
-out_of next w (e.Strobe f) = record (goes next) { write = w; call = Some f.now }
-out_of next w (e.Line text) = record (goes next) { write = w; line = Some text.items }
-out_of next w e.Finish = record (goes next) { write = w; finish = true }
-
--- a step with this effect makes a nonblocking update of this write, due in so many ticks, and nothing else beside its own write
-abbrev pub MakesUpdate : Ticks → Write → Effect → Type 0
-MakesUpdate ticks u effect = (next : Next) (w : Option Write) → out_of next w effect ≡ record (goes next) { write = w; update = Some (ticks.count, u) }
-
 -- where a step leads that ends so, behind which a process still has this to do
 abbrev pub next_of : Halt → Todo → Next
 next_of h.Nothing todo = on todo
-next_of h.Wrote todo = on todo
-next_of h.Made todo = on todo
 next_of (h.Delay n ticks) todo = after n ticks.count todo
 next_of (h.Wait n terms) todo = wait n terms.now todo
 
--- the effect of a step that ends so, where it has one
-abbrev pub effect_in : Halt → Effect → Effect
-effect_in h.Made effect = effect
-effect_in _ effect = e.Nothing
-
--- a step that ends so, may have this effect and may write, behind which a process still has this to do
-abbrev pub made_out : Halt → Effect → Option Write → Todo → Out
-made_out halt effect w todo = out_of (next_of halt todo) w (effect_in halt effect)
-
--- a step that ends otherwise than with a write has written nothing
-abbrev pub IsStill : Halt → Option Write → Type 0
-IsStill h.Wrote w = Unit {0}
-IsStill _ w = w ≡ None
-
--- what the step of a statement writes, by its outermost layer: a blocking assignment writes (clause 9.2.1)
-abbrev pub layer_write : Statement-F Statement → Store → ℕ → Option Write
-layer_write (Statement-F.Assign n t e) store time = Some (assignment t e store time)
-layer_write _ store time = None
-
--- what the step of a process with this to do first writes
-abbrev pub item_write : Item → Store → ℕ → Option Write
-item_write (perform s) store time = layer_write (out-Statement s) store time
-item_write (turns n s) store time = None
-
--- a process with this to do first took its step, which ended so, with this effect where it has one
-abbrev pub IsMade : Item → Store → ℕ → Halt → Effect → Type 0
-IsMade i store time halt effect =
-    (rest : Todo) → let out = step (i ∷ rest) store time in out ≡ made_out halt effect (item_write i store time) (todo_behind out.next)
-
--- a call of this kind took its step, where it has a format: it has this effect
-abbrev pub IsCallMade : Option Format → CallKind → Store → ℕ → Effect → Type 0
-IsCallMade None kind store time effect = Unit {0}
-IsCallMade (Some f) kind store time effect = (rest : Todo) → called kind f rest store time ≡ made_out h.Made effect None rest
+-- the step of a process with this to do first ends so, and leaves the store so
+abbrev pub EndsSo : Item → Store → ℕ → Halt → Store → Type 0
+EndsSo i store time halt behind =
+    (rest : Todo) → let out = step (i ∷ rest) store time in (out.next ≡ next_of halt (todo_behind out.next)) × (behind ≡ store_behind store out.write)

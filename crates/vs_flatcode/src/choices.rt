@@ -1,10 +1,12 @@
 //! What conditions, `case` items and counts choose (IEEE 1364-2005, clauses 9.4 to 9.6).
-ghost use Rattle.std.specs.Prelude.{◌≡◌};
+ghost use Rattle.std.specs.Prelude.{◌≡◌, slice_set};
 ghost use Rattle.vs_logic4.specs.Comparisons.{truth};
 ghost use Rattle.vs_eval.specs.Values.{value_of};
 ghost use Rattle.vs_flatcode.specs.Steps.{branch, item_matches, is_default, turns_for};
-ghost use Rattle.vs_flatcode.specs.Landings.{start_where, start_taken};
+ghost use Rattle.vs_flatcode.specs.Extras.{starts_of};
+ghost use Rattle.vs_flatcode.specs.Landings.{landing, start_where, start_taken, turned};
 
+use crate::draft::{Extra, Op};
 use vs_design::{Statement, Store, Typed};
 use vs_eval::{quick_value, value};
 use vs_logic4::{CaseKind, Digit, Vec4};
@@ -18,15 +20,6 @@ pub(crate) fn branch(e: &Typed, store: &Store, time: u64, first: usize, second: 
         Digit::One => first,
         _ => second,
     }
-}
-
-/// The same for a loop. It stands apart, as what an instruction of a loop or a `case` does, so that the step of an instruction is small enough to be
-/// inlined into the loop of a run.
-#[inline(never)]
-pub(crate) fn loop_branch(e: &Typed, store: &Store, time: u64, first: usize, second: usize) -> usize
-    ensures { result ≡ branch (truth (value_of e.now store.now time)) first second }
-{
-    branch(e, store, time, first, second)
 }
 
 /// Whether a `case` item has an expression that matches.
@@ -123,4 +116,37 @@ pub(crate) fn turns_for(signed: bool, e: &Typed, store: &Store, time: u64) -> u6
     } else {
         digits.to_number().unwrap_or(0)
     }
+}
+
+/// The starts of the items of a `case` that its instruction has.
+#[inline(always)]
+pub(crate) fn starts_of<'a>(extra: &'a Extra<'a>) -> &'a [usize]
+    ensures { result.now ≡ starts_of extra.entry.now }
+{
+    match extra {
+        Extra::Starts(starts) => starts.as_slice(),
+        _ => &[],
+    }
+}
+
+/// Sets a counter.
+#[inline(always)]
+fn set_counter(counters: &mut Vec<u64>, k: usize, left: u64)
+    ensures { counters.new.items ≡ slice_set counters.old.items k left }
+{
+    if k < counters.len() {
+        counters[k] = left;
+    }
+}
+
+/// A test of a `repeat` with so many turns left: where it leads.
+#[inline(always)]
+pub(crate) fn turn(op: &Op, counters: &mut Vec<u64>, left: u64) -> usize
+    ensures { landing result counters.new.items ≡ turned left op.now counters.old.items }
+{
+    if left == 0 {
+        return op.behind;
+    }
+    set_counter(counters, op.counter, left - 1);
+    op.first
 }

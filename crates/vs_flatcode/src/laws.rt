@@ -1,4 +1,5 @@
 //! Laws of flat code.
+ghost use Rattle.vs_flatcode.specs.Texts.{ControlsAreApart};
 ghost use Rattle.vs_flatcode.specs.Ways.{OnePlace, WaysAre};
 
 /// The places of the code of a body are points of its text, and the ways from each place are the paths of the text from there, with the delays
@@ -10,4 +11,9 @@ pub fn ways_are()
 /// Where the numbers of a body count up, two places of its code where statements are done and that are one point of the text are one place.
 pub fn one_place()
     ensures { OnePlace }
+{}
+
+/// The event controls of a text are told apart by their numbers (IEEE 1364-2005, clause 9.7.2).
+pub fn controls_are_apart()
+    ensures { ControlsAreApart }
 {}

@@ -11,8 +11,8 @@ use std::alloc::{AllocError, Global};
 use std::marker::Model;
 use vs_design::Design;
 use vs_process::never_stuck;
-use vs_regions::Due;
-use vs_run_agenda::Pick;
+use vs_run_policies::Pick;
+use vs_run_updates::Due;
 use vs_time_wheel::EventQueue;
 use vs_vcd_writing::Sink;
 

@@ -8,7 +8,7 @@ use Rattle.vs_design.specs.declared.expression.Typed.{Typed}
 use Rattle.vs_design.specs.declared.statement.Target.{Target}
 use Rattle.vs_design.specs.declared.write.Part.{Part}
 use Rattle.vs_design.specs.Parts.{Parts}
-use Rattle.vs_design.specs.Stores.{Store, put, is_driven, start_store, words_in, chosen_bits, is_changed, changes_nothing}
+use Rattle.vs_design.specs.Stores.{Store, put, is_driven, start_store, words_in, is_changed, changes_nothing}
 use Rattle.vs_design.specs.Uses.{all_words, covers, reads, writes, writes_signal}
 use Rattle.vs_design.specs.WellFormed.{width_at}
 use Rattle.vs_design.specs.Writes.{Write, names}

@@ -1,11 +1,10 @@
 -- Stores by their digits: what a write makes of each of them.
-use Rattle.std.proofs.Common.{◌≡◌, ℕ, zero, suc, ◌==◌, ◌&&◌, ◌⊎◌, true, false, Option, Some, None, option_map, List, [], ◌∷◌, map, length, slice_get, refl, sym, ◌∙◌, ap, ap₂, inl, inr, pos, negsuc, ◌+ℤ◌, neg_ℤ, ℤ, arith, eqb-true, if◌then◌else◌}
+use Rattle.std.proofs.Common.{◌≡◌, ℕ, zero, suc, ◌==◌, ◌&&◌, ◌⊎◌, true, false, Option, Some, None, option_map, List, [], ◌∷◌, map, length, slice_get, refl, sym, ◌∙◌, ap, ap₂, inl, inr, pos, negsuc, ◌+ℤ◌, neg_ℤ, ℤ, eqb-true, if◌then◌else◌}
 use Rattle.std.specs.Prelude.{slice_index_or}
 use Rattle.std.proofs.lemmas.Bool.{cases_Bool, eqb-false, or_parts}
-use Rattle.std.proofs.lemmas.Int.{ints}
 use Rattle.std.proofs.lemmas.Option.{slice_get-map}
 use Rattle.vs_logic4.specs.declared.digit.Digit.{Digit}
-use Rattle.vs_logic4.specs.Parts.{digit_at, replaced_from}
+use Rattle.vs_logic4.specs.Parts.{digit_at}
 use Rattle.vs_design.specs.declared.write.Part.{Part}
 use Rattle.vs_design.specs.Stores.{Store, changed_at, overlaid, put_part, put, word_in, word_of}
 use Rattle.vs_design.specs.Writes.{Write, names}
@@ -15,7 +14,7 @@ use Rattle.vs_process.proofs.Stores.{changed_other, shape, shape-put}
 use Rattle.vs_design.proofs.Stores.{slice_get-changed_at as changed_same}
 use Rattle.vs_design.proofs.Stores.{word_changes as word_same}
 use Rattle.vs_eval.proofs.Digits.{replaced_digit as get-replaced_from}
-use Rattle.vs_logic4.proofs.Basics.{plus_suc, plus_zero, same_first as head_is, tail_is}
+use Rattle.vs_logic4.proofs.Basics.{same_first as head_is, tail_is}
 
 -- ---- digits of a word behind a part
 

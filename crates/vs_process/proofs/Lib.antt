@@ -1,11 +1,11 @@
 pub mod Assigns
 pub mod Blocks
 pub mod Digits
-pub mod Effects
 pub mod Idle
 pub mod Lists
 pub mod Permitted
 pub mod Ranges
+pub mod Results
 pub mod Sizes
 pub mod Stores
 pub mod Times

@@ -15,13 +15,12 @@ use Rattle.vs_design.specs.declared.expression.Slice.{Slice}
 use Rattle.vs_design.specs.declared.range.Bits.{Bits}
 use Rattle.vs_design.specs.declared.range.BitRange.{BitRange}
 use Rattle.vs_design.specs.declared.signal.Signal.{Signal}
-use Rattle.vs_design.specs.declared.signal.SignalKind.{SignalKind}
 use Rattle.vs_design.specs.declared.statement.Aim.{Aim}
 use Rattle.vs_design.specs.declared.statement.Aim.TheVariants.{Fixed, Chosen}
 use Rattle.vs_design.specs.declared.statement.Target.{Target}
 use Rattle.vs_design.specs.declared.write.Part.{Part}
 use Rattle.vs_design.specs.Parts.{Parts}
-use Rattle.vs_design.specs.Stores.{Store, word_in, word_of, words_in, one_word, chosen_words, chosen_bits, content, start_digits, start_word, start_words, start_store}
+use Rattle.vs_design.specs.Stores.{Store, word_of, words_in, one_word, chosen_words, chosen_bits, content, start_word, start_words, start_store}
 use Rattle.vs_design.specs.Uses.{aim_range, bits_from, bits_meet, covers, words_meet, has_bit, has_word, is_of, meet, slice_range, writes, writes_signal}
 use Rattle.vs_design.specs.WellFormed.{width_at, bits_or_all, have_common, share_a_bit}
 use Rattle.vs_design.specs.Writes.{Write, names}

@@ -1,10 +1,8 @@
 -- A value depends on what its expression reads.
-use Rattle.std.proofs.Common.{◌≡◌, ℕ, not, true, false, List, [], ◌∷◌, map, slice_get, refl, sym, ◌∙◌, ap, ap₂}
+use Rattle.std.proofs.Common.{◌≡◌, ℕ, not, false, map, slice_get, refl, sym, ◌∙◌, ap}
 use Rattle.std.specs.List.{list_any}
-use Rattle.std.proofs.lemmas.Bool.{and_parts, not-false, not_from_true, false≢true}
-use Rattle.vs_logic4.specs.declared.digit.Digit.{Digit}
-use Rattle.vs_logic4.specs.Vectors.{resized, same_digits}
-use Rattle.vs_logic4.specs.Sameness.{same_digits-true, same_digits_self}
+use Rattle.std.proofs.lemmas.Bool.{not-false, not_from_true}
+use Rattle.vs_logic4.specs.Vectors.{resized}
 use Rattle.vs_design.specs.declared.expression.Typed.{Typed}
 use Rattle.vs_design.specs.declared.range.BitRange.{BitRange}
 use Rattle.vs_design.specs.declared.statement.Target.{Target}

@@ -1,9 +1,7 @@
 pub mod Blocks
-pub mod Effects
 pub mod Examples
 pub mod Executions
 pub mod Idle
 pub mod Laws
 pub mod Permitted
 pub mod States
-pub mod Waits

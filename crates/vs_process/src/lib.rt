@@ -1,10 +1,9 @@
-//! Executions of a design (IEEE 1364-2005, clause 11): places of processes, states, moves, and what is permitted.
+//! Executions of a design (IEEE 1364-2005, clause 11): states, moves, and what is permitted.
 #![tactic(auto)]
 
 mod combinational;
 mod laws;
 mod moves;
-mod place;
 
 pub use combinational::is_combinational;
 pub use laws::{
@@ -12,5 +11,4 @@ pub use laws::{
     moves_are_permitted, never_stuck, none_inside_first, stores_are_sized, times_rise,
 };
 pub use moves::{Grain, Move};
-pub use place::{Place, Went};
-pub use vs_flatcode::{Change, Code, Effect, Gait, compile};
+pub use vs_flatcode::{Change, Code, Gait, compile};

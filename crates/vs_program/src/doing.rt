@@ -9,7 +9,6 @@ ghost use Rattle.vs_vcd_writing.specs.Sinks.{AppendsPart};
 ghost use Rattle.vs_program.specs.Ends.{CallFails, CheckingFails, HasWritten, Wrote, WroteCertified, WroteProposal, WroteVerdict};
 ghost use Rattle.vs_program.specs.Ends.{HasBegunCertifiedText, HasBegunProposal, HasBegunText, HasBegunVerdict, HasBegunWriting};
 
-use crate::dropped::Dropped;
 use crate::texts::{proposal_line, verdict_line};
 use std::alloc::Global;
 use vs_cert_check::Verdict;
@@ -18,6 +17,7 @@ use vs_certified::{CertifiedFault, certified, judge};
 use vs_kernel::{Outcome, RunFault};
 use vs_program_words::{Order, OutputText, Request, Subcommand};
 use vs_propose::{Proposal, propose};
+use vs_run_turns::Dropped;
 use vs_simulate::{Policy, SimFault, design_of, list_design, simulate};
 use vs_vcd_writing::{Sink, WriteFault, write_all};
 

@@ -4,7 +4,6 @@
 mod buffered;
 mod command;
 mod doing;
-mod dropped;
 mod explaining;
 mod input;
 mod telling;
@@ -12,8 +11,8 @@ mod texts;
 
 pub use command::program;
 pub use doing::Done;
-pub use dropped::Dropped;
 pub use telling::refuse_start;
 pub use texts::{fault_text, words_status};
 pub use vs_program_words::{Call, Order, OutputText, Request, Subcommand, WordsFault, read_words};
+pub use vs_run_turns::Dropped;
 pub use vs_simulate::{Policy, SimFault, list_design, simulate};

@@ -3,7 +3,7 @@
 use std::alloc::{AllocError, Global};
 use vs_design::{Assign, BitRange, Design, Part, Store};
 use vs_eval::{cut_value, write_of};
-use vs_flatcode::{Code, Cursor, Effect, Halt, compile};
+use vs_flatcode::{Code, Cursor, Halt, compile};
 
 /// How many steps a run of a block may take.
 const MAX_STEPS: u64 = 10_000;
@@ -50,11 +50,8 @@ fn arrives<'a>(
         if cursor.is_empty() {
             return Ok(false);
         }
-        let mut changes = Vec::new(alloc);
-        let mut effect = Effect::Nothing;
-        let (halt, _, _) = cursor.steps(alloc, store, 0, &mut changes, &mut effect, 1)?;
-        match halt {
-            Halt::Nothing | Halt::Wrote | Halt::Made => {}
+        match cursor.step(alloc, store, 0)? {
+            Halt::Nothing => {}
             Halt::Delay(_, _) => return Ok(false),
             Halt::Wait(_, _) => return Ok(true),
         }

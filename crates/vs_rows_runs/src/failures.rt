@@ -6,7 +6,7 @@ use std::process::Abort;
 use std::test::Fail;
 use vs_design::Design;
 use vs_kernel::{Fifo, Kernel, Outcome, RunFault};
-use vs_regions::Due;
+use vs_run_updates::Due;
 use vs_time_wheel::Wheel;
 use vs_vcd_writing::Counted;
 

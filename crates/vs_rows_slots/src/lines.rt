@@ -4,7 +4,7 @@ use crate::process_steps::steps_of_a_body;
 use crate::small_design::{put, three_signals};
 use std::alloc::{AllocError, Global};
 use std::process::Abort;
-use vs_design::{CallKind, Store};
+use vs_design::{CallKind, Design, Store};
 use vs_logic4::Vec4;
 use vs_strobe::{Format, FormatFault, FormatReason, full_line, line};
 
@@ -64,19 +64,20 @@ fn line_of_call(rt: &impl Abort, alloc: Global, question: &str, store: &Store) -
     full_line(alloc, &format, store, 0).expect(rt, "memory")
 }
 
-/// What is asked of a text, in a store.
+/// What is asked of a text, in a store of a design.
 fn told_in(
     rt: &impl Abort,
     alloc: Global,
     asked: Asked,
     question: &str,
+    design: &Design,
     store: &mut Store,
 ) -> Vec<u8> {
     match asked {
         Asked::Line(ratio, time) => line_in(rt, alloc, question, ratio, time, store),
         Asked::LineOfZero => line_of_zero(rt, alloc, question, store),
         Asked::Call => line_of_call(rt, alloc, question, store),
-        Asked::Steps(count) => steps_of_a_body(rt, alloc, count, store),
+        Asked::Steps(count) => steps_of_a_body(rt, alloc, design, count, store),
     }
 }
 
@@ -84,5 +85,5 @@ fn told_in(
 pub fn told(rt: &impl Abort, alloc: Global, asked: Asked, question: &str) -> Vec<u8> {
     let design = three_signals(alloc, false).expect(rt, "memory");
     let mut store = Store::start(alloc, &design).expect(rt, "memory");
-    told_in(rt, alloc, asked, question, &mut store)
+    told_in(rt, alloc, asked, question, &design, &mut store)
 }

@@ -3,9 +3,10 @@ ghost use Rattle.std.specs.Prelude.{◌≡◌, ◌<◌, ◌≤◌, ◌^◌, IfOk
 ghost use Rattle.vs_rows_slots.specs.ThreeSignals.{AreSignals, IsOutline};
 
 use std::alloc::{AllocError, Global};
+use std::process::Abort;
 use vs_design::{
-    Bounds, DEFAULT_TIMESCALE, Design, Entry, Magnitude, Part, ScopeKind, Signal, SignalKind,
-    Store, TimeSpan, TimeUnit, Timescale, Write,
+    Aim, Bounds, DEFAULT_TIMESCALE, Design, Entry, Magnitude, Part, ScopeKind, Signal, SignalKind,
+    Slice, Store, Target, TimeSpan, TimeUnit, Timescale, Write,
 };
 use vs_logic4::Vec4;
 
@@ -94,6 +95,19 @@ pub fn three_signals(alloc: Global, wide: bool) -> Result<Design, AllocError> {
         return three_signals_of(alloc, 64, Bounds { left: 63, right: 0 });
     }
     three_signals_of(alloc, 4, Bounds { left: -1, right: 2 })
+}
+
+/// The variable `a`, as what an assignment is made to.
+pub fn target_a(rt: &impl Abort, alloc: Global) -> Target {
+    let bit = Slice {
+        signal: 1,
+        word: 0,
+        low: 0,
+        width: 1,
+    };
+    let mut parts = Vec::new(alloc);
+    parts.push(Aim::Fixed(bit)).expect(rt, "memory");
+    Target { parts, width: 1 }
 }
 
 // Writes a whole signal.

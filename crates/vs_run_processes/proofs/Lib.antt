@@ -1,4 +1,6 @@
 pub mod ChangedLemmas
 pub mod ListedLemmas
-mod TimelinesLemmas
-mod TriggersLemmas
+pub mod GoneLemmas
+pub mod StandingsLemmas
+pub mod TakenLemmas
+pub mod TimelinesLemmas

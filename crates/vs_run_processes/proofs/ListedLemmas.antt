@@ -1,23 +1,13 @@
 -- Lists of the numbers of elements, and counts.
-use Rattle.std.proofs.Common.{◌≡◌, ℕ, zero, suc, ◌+◌, ◌<◌, ◌≤◌, ◌^◌, drop, ◌||◌, ◌&&◌, not, cond, Bool, true, false, Some, None, List, [], ◌∷◌, ◌++◌, map, length, slice_get, slice_set, nat_lt, refl, sym, ◌∙◌, ap, ap₂, arith, rules}
-use Rattle.std.specs.List.{list_any, remove}
+use Rattle.std.proofs.Common.{◌≡◌, ℕ, zero, suc, ◌+◌, ◌<◌, ◌≤◌, ◌^◌, ◌||◌, ◌&&◌, not, cond, Bool, true, false, Some, List, [], ◌∷◌, ◌++◌, map, length, slice_get, slice_set, nat_lt, refl, sym, ◌∙◌, ap, ap₂, arith, rules}
+use Rattle.std.specs.List.{list_any}
 use Rattle.std.proofs.Math.Bool.{or-false}
-use Rattle.std.proofs.lemmas.Bool.{false≢true}
 use Rattle.vs_design.specs.Stores.{changed_at}
 use Rattle.vs_process.specs.Executions.{if_some}
-use Rattle.vs_flatcode.specs.Places.{Place, is_going}
+use Rattle.vs_flatcode.specs.Places.{Place}
 use Rattle.vs_run_processes.specs.Triggers.{changed_all}
 use Rattle.vs_run_processes.specs.Listed.{is_number, names, Lists, count}
-use Rattle.vs_design.proofs.Stores.{length-changed_at as length-changed}
-use Rattle.vs_logic4.proofs.Basics.{and_false, and_true, or-true as or_true, past_end}
-
--- the process at a number is active
-pub active_there : {xs ys : List Place} (same : xs ≡ ys) (p : ℕ) (x : Place) → slice_get xs p ≡ Some x → if_some is_going (slice_get ys p) ≡ true → is_going x ≡ true
-active_there same p x here active = sym (ap (if_some is_going) here) ∙ ap (λ (l : List Place). if_some is_going (slice_get l p)) same ∙ active
-
--- past the end no process is active
-pub none_active : (xs : List Place) (p : ℕ) → (p < length xs → false ≡ true) → false ≡ if_some is_going (slice_get xs p)
-none_active xs p h = sym (ap (if_some is_going) (past_end xs p (λ below. false≢true (h below))))
+use Rattle.vs_logic4.proofs.Basics.{and_false, and_true, or-true as or_true}
 
 -- an element that is set twice, and one that is set to what it is
 pub set_twice : {A : Type 0} (xs : List A) (i : ℕ) (x y : A) → slice_set (slice_set xs i x) i y ≡ slice_set xs i y
@@ -88,17 +78,6 @@ pub lists_none : {A B : Type 0} (test : B → Bool) (f : A → B) → ((x : A) �
 lists_none test f off xs = record { each = none_map test f off xs }
 
 -- ---- one element is changed
-
-same_changed : {A : Type 0} (test : A → Bool) (f : A → A) → ((x : A) → test (f x) ≡ test x) → (xs : List A) (n i : ℕ) →
-    if_some test (slice_get xs i) ≡ if_some test (slice_get (changed_at f n xs) i)
-same_changed test f same [] n i = refl
-same_changed test f same (x ∷ xs) zero zero = sym (same x)
-same_changed test f same (x ∷ xs) zero (suc i) = refl
-same_changed test f same (x ∷ xs) (suc n) zero = refl
-same_changed test f same (x ∷ xs) (suc n) (suc i) = same_changed test f same xs n i
-
-pub lists_changed : {A : Type 0} {test : A → Bool} {xs : List A} {ns : List ℕ} → Lists test xs ns → (f : A → A) → ((x : A) → test (f x) ≡ test x) → (n : ℕ) → Lists test (changed_at f n xs) ns
-lists_changed {A} {test} {xs} {ns} h f same n = record { each = λ i. h.each i ∙ same_changed test f same xs n i }
 
 left : {A : Type 0} (test : A → Bool) (f : A → A) → ((x : A) → test (f x) ≡ false) → (n : ℕ) (xs : List A) (i : ℕ) →
     if_some test (slice_get (changed_at f n xs) i) ≡ (if_some test (slice_get xs i) && not (is_number n i))
@@ -183,23 +162,9 @@ recounted {A} test xs n is m p x y b c here before behind sums =
     let g : cond c 1 0 ≡ cond (test y) 1 0 = ap {B = ℕ} (λ (v : Bool). cond v 1 0) behind in
     omega (arith, f, g, count_set test xs p x y here)
 
-pub count_at : {A : Type 0} (test : A → Bool) (xs : List A) (i : ℕ) (x : A) → slice_get xs i ≡ Some x → count test (drop i xs) ≡ cond (test x) 1 0 + count test (drop (i + 1) xs)
-count_at test xs i x here = ap (count test) (drop_get xs i x here)
-  where
-    drop_get : {A : Type 0} (xs : List A) (i : ℕ) (x : A) → slice_get xs i ≡ Some x → drop i xs ≡ x ∷ drop (i + 1) xs
-    drop_get [] i x h = cc
-    drop_get {A} (z ∷ zs) zero x h = let e : z ≡ x = cc in ap (λ (v : A). v ∷ zs) e
-    drop_get {A} (z ∷ zs) (suc i) x h = let more : suc (i + 1) ≡ suc i + 1 = omega arith in drop_get zs i x h ∙ ap (λ (n : ℕ). x ∷ drop n (z ∷ zs)) more
-
 pub count_start : {A B : Type 0} (test : B → Bool) (f : A → B) → ((x : A) → test (f x) ≡ true) → (xs : List A) → length (map f xs) ≡ count test (map f xs)
 count_start test f all [] = refl
 count_start test f all (x ∷ xs) = omega (arith, count_start test f all xs, ap {B = ℕ} (λ (v : Bool). cond v 1 0) (all x))
-
--- an element is taken out
-pub count_remove : {A : Type 0} (test : A → Bool) (xs : List A) (i : ℕ) (x : A) → slice_get xs i ≡ Some x → count test (remove xs i) + cond (test x) 1 0 ≡ count test xs
-count_remove test [] i x h = cc
-count_remove {A} test (z ∷ zs) zero x h = let e : z ≡ x = cc in let f : cond (test z) 1 0 ≡ cond (test x) 1 0 = ap {B = ℕ} (λ (v : A). cond (test v) 1 0) e in omega (arith, f)
-count_remove test (z ∷ zs) (suc i) x h = omega (arith, count_remove test zs i x h)
 
 pub count_push : {A : Type 0} (test : A → Bool) (xs : List A) (x : A) → count test (xs ++ x ∷ []) ≡ count test xs + cond (test x) 1 0
 count_push test [] x = omega arith

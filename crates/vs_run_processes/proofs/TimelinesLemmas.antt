@@ -1,30 +1,21 @@
 -- The processes of a run by what they wait for.
-use Rattle.std.proofs.Common.{◌≡◌, ◌≢◌, ℕ, zero, suc, ◌+◌, ◌≤◌, ◌==◌, ◌||◌, ◌<◌, ◌⊎◌, ◌↔◌, IsTrue, inl, inr, min, Bool, true, false, if◌then◌else◌, Option, Some, None, List, [], ◌∷◌, ◌++◌, map, length, slice_get, slice_set, refl, sym, ◌∙◌, ap, subst, arith}
-use Rattle.std.specs.Option.{ForSome}
+use Rattle.std.proofs.Common.{◌≡◌, ◌≢◌, ℕ, zero, suc, ◌≤◌, ◌==◌, ◌||◌, ◌<◌, ◌⊎◌, ◌↔◌, IsTrue, inl, inr, min, Bool, true, false, if◌then◌else◌, Option, Some, None, List, [], ◌∷◌, ◌++◌, map, length, slice_get, slice_set, refl, sym, ◌∙◌, ap, subst, arith}
 use Rattle.std.specs.List.{list_any}
 use Rattle.std.proofs.lemmas.Bool.{eqb-true, eq-eqb, ne_eqb, cases_lt, cases_eq, false≢true}
 use Rattle.vs_time_wheel.specs.declared.timing.Timed.{Timed}
 use Rattle.vs_time_wheel.specs.Bag.{events_at, least_time, SameBag}
 use Rattle.vs_time_wheel.proofs.Bags.{IsLeast, least_time-from, events_at-append, events_at-here, events_at-apart}
-use Rattle.vs_logic4.specs.declared.digit.Digit.{Digit}
 use Rattle.vs_design.specs.declared.statement.Statement.{Statement}
-use Rattle.vs_design.specs.Stores.{Store, changed_at}
 use Rattle.vs_flatcode.specs.declared.gait.Gait.{Gait}
 use Rattle.vs_flatcode.specs.declared.gait.Gait.TheVariants.{Fresh, Woken}
-use Rattle.vs_flatcode.specs.Places.{Place, Todo, going, sleeping, inactive, waiting, ended, active_at, stepped_gait, is_going, is_inactive, start_place, todo_of, flat}
-use Rattle.vs_flatcode.specs.Steps.{Next, on, after, wait, step}
-use Rattle.vs_flatcode.specs.declared.changes.Change.{Change}
-use Rattle.vs_flatcode.specs.declared.made.Effect.{Effect}
-use Rattle.vs_flatcode.specs.declared.made.Effect.TheVariants.{Nothing}
-use Rattle.vs_process.specs.Effects.{AreCalm, Stepped}
+use Rattle.vs_flatcode.specs.Places.{Place, Todo, going, sleeping, inactive, waiting, ended, active_at, is_going, is_inactive, start_place, flat}
 use Rattle.vs_process.proofs.Lists.{set_same}
 use Rattle.vs_process.specs.Executions.{if_some, earlier, next_wake}
-use Rattle.vs_process.specs.States.{roused, woken_at, due_of, place_behind, paused, triggered}
+use Rattle.vs_process.specs.States.{roused, woken_at, due_of}
 use Rattle.vs_run_processes.specs.Listed.{is_number, names, Lists}
-use Rattle.vs_run_processes.specs.Timelines.{sleeps_until, AreKept, AreKeptBut, WentAt}
-use Rattle.vs_run_processes.specs.Triggers.{triggered_by, changed_all}
-use Rattle.vs_run_processes.proofs.ChangedLemmas.{changed_there}
-use Rattle.vs_run_processes.proofs.ListedLemmas.{set_twice, set_itself, is_itself, lists_same, lists_new, lists_map, lists_none, lists_changed, visited}
+use Rattle.vs_run_processes.specs.Timelines.{sleeps_until, AreKept, AreKeptBut}
+use Rattle.vs_run_processes.specs.Triggers.{changed_all}
+use Rattle.vs_run_processes.proofs.ListedLemmas.{set_twice, set_itself, is_itself, lists_same, lists_new, lists_map, lists_none, visited}
 
 -- ---- what a place waits for
 
@@ -105,24 +96,6 @@ woken_others time u apart (inactive todo) = refl
 woken_others time u apart (waiting terms todo) = refl
 woken_others time u apart ended = refl
 
-triggered_inactive : (x : Place) → is_inactive (triggered x) ≡ is_inactive x
-triggered_inactive (waiting terms todo) = active_inactive Woken todo
-triggered_inactive (going gait todo) = refl
-triggered_inactive (sleeping due todo) = refl
-triggered_inactive (inactive todo) = refl
-triggered_inactive ended = refl
-
-triggered_sleeps : (time : ℕ) (x : Place) → sleeps_until time (triggered x) ≡ sleeps_until time x
-triggered_sleeps time (waiting terms todo) = active_sleeps Woken time todo
-triggered_sleeps time (going gait todo) = refl
-triggered_sleeps time (sleeping due todo) = refl
-triggered_sleeps time (inactive todo) = refl
-triggered_sleeps time ended = refl
-
-if_triggered : {A : Type 0} (f : Place → A) (b : Bool) (x : Place) → f (triggered x) ≡ f x → f (if b then triggered x else x) ≡ f x
-if_triggered f true x h = h
-if_triggered f false x h = refl
-
 due_sleeps : (x : Place) (due : ℕ) → due_of x ≡ Some due → (time : ℕ) → sleeps_until time x ≡ (due == time)
 due_sleeps (sleeping u todo) due h time = let e : u ≡ due = cc in ap (λ (v : ℕ). v == time) e
 due_sleeps (going gait todo) due h time = cc
@@ -151,30 +124,6 @@ inactive_sleeps (sleeping u todo) h time = cc
 inactive_sleeps (waiting terms todo) h time = refl
 inactive_sleeps ended h time = refl
 
-active_due : (gait : Gait) (todo : Todo) (due : ℕ) → due_of (active_at gait todo) ≡ Some due → ⊥
-active_due gait [] due h = cc
-active_due gait (i ∷ rest) due h = cc
-
-paused_due : (time ticks : ℕ) (todo : Todo) (due : ℕ) → due_of (paused time ticks todo) ≡ Some due → time ≤ due
-paused_due time ticks todo due h = by_test (ticks == 0) h
-  where
-    by_test : (b : Bool) → due_of (if b then inactive todo else sleeping (time + ticks) todo) ≡ Some due → time ≤ due
-    by_test true h = absurd cc
-    by_test false h = let e : time + ticks ≡ due = cc in omega arith
-
-behind_due : (x : Place) (time : ℕ) (next : Next) (due : ℕ) → due_of (place_behind x time next) ≡ Some due → time ≤ due
-behind_due (going gait todo) time (on rest) due h = absurd (active_due (stepped_gait gait) rest due h)
-behind_due (sleeping u todo) time (on rest) due h = absurd cc
-behind_due (inactive todo) time (on rest) due h = absurd cc
-behind_due (waiting terms todo) time (on rest) due h = absurd cc
-behind_due ended time (on rest) due h = absurd cc
-behind_due x time (after number ticks rest) due h = paused_due time ticks rest due h
-behind_due x time (wait number terms rest) due h = absurd cc
-
--- a process that goes to sleep in a step sleeps until a time that isn't over
-pub stepped_due : (x y : Place) (store : Store) (time : ℕ) (effect : Effect) → Stepped x store time y effect → ForSome (due_of y) (λ due. time ≤ due)
-stepped_due x y store time effect h due e = behind_due x time (step (todo_of x) store time).next due (sym (ap due_of h.1) ∙ e)
-
 -- ---- what is kept
 
 kept_start : (bodies : List Statement) (bag : List (Timed ℕ)) → bag ≡ [] → AreKept (map start_place bodies) [] bag
@@ -202,11 +151,6 @@ set_back [] p x y h = cc
 set_back {A} (z ∷ zs) zero x y h = let e : z ≡ y = cc in ap (λ (v : A). v ∷ zs) (sym e)
 set_back {A} (z ∷ zs) (suc p) x y h = ap (λ (l : List A). z ∷ l) (set_back zs p x y h)
 
-set_none : {A : Type 0} (xs : List A) (p : ℕ) (x : A) → slice_get xs p ≡ None → slice_set xs p x ≡ xs
-set_none [] p x h = refl
-set_none (z ∷ zs) zero x h = cc
-set_none {A} (z ∷ zs) (suc p) x h = ap (λ (l : List A). z ∷ l) (set_none zs p x h)
-
 pub kept_but : {ps qs : List Place} {ns : List ℕ} {bag : List (Timed ℕ)} → AreKept ps ns bag → (p : ℕ) (x y : Place) → slice_get ps p ≡ Some x → is_going x ≡ true → qs ≡ slice_set ps p y → AreKeptBut qs ns bag p
 kept_but {ps} {qs} {ns} {bag} h p x y here active set = record {
   old = x;
@@ -214,97 +158,16 @@ kept_but {ps} {qs} {ns} {bag} h p x y here active set = record {
   kept = kept_as (sym (ap (λ (l : List Place). slice_set l p x) set ∙ set_twice ps p y x ∙ set_itself ps p x here)) h;
 }
 
--- a process that was active may stand anywhere
-pub kept_behind : {ps qs : List Place} {ns : List ℕ} {bag : List (Timed ℕ)} → AreKept ps ns bag → (p : ℕ) (to : Place) → if_some is_going (slice_get ps p) ≡ true → qs ≡ slice_set ps p to → AreKeptBut qs ns bag p
-kept_behind {ps} {qs} {ns} {bag} h p to active set = by_place (slice_get ps p) refl active
-  where
-    by_place : (o : Option Place) → slice_get ps p ≡ o → if_some is_going o ≡ true → AreKeptBut qs ns bag p
-    by_place None here e = cc
-    by_place (Some x) here e = kept_but h p x to here e set
-
--- the delay that begins in calm steps
-calm_due : (more : ℕ) (next to : Place) (store : Store) (time : ℕ) → AreCalm more next store time to → ((due : ℕ) → due_of next ≡ Some due → time ≤ due) → (due : ℕ) → due_of to ≡ Some due → time ≤ due
-calm_due zero next to store time same before due e = before due (ap due_of (sym same) ∙ e)
-calm_due (suc n) next to store time steps before due e = stepped_due steps.0 to store time Nothing steps.2.stepped due e
-
-pub late_behind : {steps : ℕ} {effect : Effect} {behind : Store} {changes all : List Change} (ps qs : List Place) (p : ℕ) (store : Store) (time : ℕ) → WentAt steps ps p store time qs effect behind changes all →
-    ForSome (slice_get qs p) (λ place. ForSome (due_of place) (λ due. time ≤ due))
-late_behind {steps} {effect} ps qs p store time h place is due e =
-    let there : slice_get qs p ≡ Some h.to = ap (λ (l : List Place). slice_get l p) h.set ∙ set_same ps p h.from h.to h.here in
-    let same : place ≡ h.to = some_place place h.to (sym is ∙ there) in
-    calm_due h.went.more h.went.next h.to _ time h.went.calm (λ d. stepped_due h.went.mid h.went.next store time effect h.went.stepped d) due (ap due_of (sym same) ∙ e)
-  where
-    some_place : (x y : Place) → Some x ≡ Some y → x ≡ y
-    some_place x y e = cc
-
-pub kept_none : {ps : List Place} {ns : List ℕ} {bag : List (Timed ℕ)} (p : ℕ) → AreKeptBut ps ns bag p → slice_get ps p ≡ None → AreKept ps ns bag
-kept_none {ps} p h none = kept_as (set_none ps p h.old none) h.kept
-
 -- it neither is inactive nor sleeps
 pub kept_other : {ps : List Place} {ns : List ℕ} {bag : List (Timed ℕ)} (p : ℕ) (y : Place) → AreKeptBut ps ns bag p → slice_get ps p ≡ Some y → is_inactive y ≡ false → due_of y ≡ None → AreKept ps ns bag
 kept_other {ps} p y h here awake none =
     kept_as (set_back ps p h.old y here) (kept_set h.kept p h.old y (set_same ps p y h.old here) h.active awake (none_sleeps y none))
 
--- it is active
-pub kept_going : {ps : List Place} {ns : List ℕ} {bag : List (Timed ℕ)} (p : ℕ) → AreKeptBut ps ns bag p → if_some is_going (slice_get ps p) ≡ true → AreKept ps ns bag
-kept_going {ps} {ns} {bag} p h active = by_place (slice_get ps p) refl active
-  where
-    awake : (y : Place) → is_going y ≡ true → is_inactive y ≡ false
-    awake (going gait todo) e = refl
-    awake (sleeping due todo) e = refl
-    awake (inactive todo) e = cc
-    awake (waiting terms todo) e = refl
-    awake ended e = refl
-
-    no_delay : (y : Place) → is_going y ≡ true → due_of y ≡ None
-    no_delay (going gait todo) e = refl
-    no_delay (sleeping due todo) e = cc
-    no_delay (inactive todo) e = refl
-    no_delay (waiting terms todo) e = refl
-    no_delay ended e = refl
-
-    by_place : (o : Option Place) → slice_get ps p ≡ o → if_some is_going o ≡ true → AreKept ps ns bag
-    by_place None here e = cc
-    by_place (Some y) here e = kept_other p y h here (awake y e) (no_delay y e)
-
--- a process that was active and is so still
-pub kept_active : {ps qs : List Place} {ns : List ℕ} {bag : List (Timed ℕ)} → AreKept ps ns bag → (p : ℕ) (to : Place) → if_some is_going (slice_get ps p) ≡ true → is_going to ≡ true → qs ≡ slice_set ps p to → AreKept qs ns bag
-kept_active {ps} {qs} {ns} {bag} h p to active still set = kept_going p (kept_behind h p to active set) (by_place (slice_get ps p) refl active)
-  where
-    by_place : (o : Option Place) → slice_get ps p ≡ o → if_some is_going o ≡ true → if_some is_going (slice_get qs p) ≡ true
-    by_place None here e = cc
-    by_place (Some x) here e = ap (λ (l : List Place). if_some is_going (slice_get l p)) set ∙ ap (if_some is_going) (set_same ps p x to here) ∙ still
-
--- steps between lists of places and at a time that go by other names
-pub went_in : {steps p time now : ℕ} {old ps new qs : List Place} {store behind : Store} {effect : Effect} {changes all : List Change} → old ≡ ps → time ≡ now → new ≡ qs →
-    WentAt steps old p store time new effect behind changes all → WentAt steps ps p store now qs effect behind changes all
-went_in {steps} {p} {time} {now} {old} {ps} {new} {qs} {store} {behind} {effect} {changes} {all} first at last went =
-    subst (λ (l : List Place). WentAt steps l p store now qs effect behind changes all) first
-    (subst (λ (t : ℕ). WentAt steps old p store t qs effect behind changes all) at
-    (subst (λ (l : List Place). WentAt steps old p store time l effect behind changes all) last went))
-
--- it becomes active again
-pub kept_roused : {ps qs : List Place} {ns ms : List ℕ} {bag : List (Timed ℕ)} (p : ℕ) (y : Place) → AreKeptBut ps ns bag p → slice_get ps p ≡ Some y → is_inactive y ≡ true → qs ≡ changed_at roused p ps → ms ≡ ns → AreKept qs ms bag
-kept_roused {ps} {qs} {ns} {ms} {bag} p y h here is changed same =
-    subst (λ (l : List ℕ). AreKept qs l bag) (sym same)
-    (kept_as (set_twice ps p h.old (roused y) ∙ changed_there roused ps p y (roused y) here refl ∙ sym changed)
-    (kept_set h.kept p h.old (roused y) (set_same ps p y h.old here) h.active (roused_inactive y) (λ t. roused_sleeps t y ∙ inactive_sleeps y is t)))
-
-same_bag : {ps : List Place} {ns : List ℕ} {bag bag' : List (Timed ℕ)} → SameBag bag' bag → AreKept ps ns bag → AreKept ps ns bag'
+pub same_bag : {ps : List Place} {ns : List ℕ} {bag bag' : List (Timed ℕ)} → SameBag bag' bag → AreKept ps ns bag → AreKept ps ns bag'
 same_bag {ps} same h = record {
   inactive_ones = h.inactive_ones;
   sleeping_ones = λ t. subst (λ (l : List ℕ). Lists (sleeps_until t) ps l) (sym (same.at_each t)) (h.sleeping_ones t);
 }
-
-pub kept_woken : {ps qs : List Place} {ns : List ℕ} {bag bag' : List (Timed ℕ)} (p due : ℕ) (y : Place) → AreKeptBut ps ns bag p → slice_get ps p ≡ Some y → due_of y ≡ Some due → qs ≡ changed_at (woken_at due) p ps → SameBag bag' bag → AreKept qs ns bag'
-kept_woken {ps} p due y h here is changed same =
-    same_bag same
-    (kept_as (set_twice ps p h.old (woken_at due y) ∙ changed_there (woken_at due) ps p y (woken_at due y) here refl ∙ sym changed)
-    (kept_set h.kept p h.old (woken_at due y) (set_same ps p y h.old here) h.active (woken_inactive due y ∙ due_inactive y due is) (λ t. by_time t (cases_eq due t))))
-  where
-    by_time : (t : ℕ) → (due ≡ t) ⊎ (due ≢ t) → sleeps_until t (woken_at due y) ≡ false
-    by_time t (inl e) = subst (λ (v : ℕ). sleeps_until v (woken_at due y) ≡ false) e (woken_sleeps due y)
-    by_time t (inr n) = woken_others due t n y ∙ due_sleeps y due is t ∙ ne_eqb due t n
 
 -- it is inactive, and stands in the list
 pub kept_inactive : {ps qs : List Place} {ns ms : List ℕ} {bag : List (Timed ℕ)} (p : ℕ) (y : Place) → AreKeptBut ps ns bag p → slice_get ps p ≡ Some y → is_inactive y ≡ true → qs ≡ ps → ms ≡ ns ++ p ∷ [] → AreKept qs ms bag
@@ -342,15 +205,6 @@ kept_sleeping {ps} {qs} {ns} {bag} p due y h here is same more =
     by_time t (inr n) =
         subst (λ (l : List ℕ). Lists (sleeps_until t) (slice_set (slice_set ps p h.old) p y) l) (sym (ap (λ (l : List ℕ). events_at t bag ++ l) (events_at-apart t (record { time = due; event = p }) [] n) ∙ none_behind (events_at t bag)))
         (lists_same (h.kept.sleeping_ones t) p h.old y there (due_sleeps y due is t ∙ ne_eqb due t n ∙ sym (going_sleeps h.old h.active t)))
-
--- a process is triggered
-pub kept_triggered : {ps qs : List Place} {ns : List ℕ} {bag : List (Timed ℕ)} → AreKept ps ns bag → (signal word : ℕ) (before behind : Option (List Digit)) (p : ℕ) → qs ≡ changed_at (triggered_by signal word before behind) p ps → AreKept qs ns bag
-kept_triggered h signal word before behind p changed =
-    kept_as (sym changed)
-    (record {
-      inactive_ones = lists_changed h.inactive_ones (triggered_by signal word before behind) (λ x. if_triggered is_inactive _ x (triggered_inactive x)) p;
-      sleeping_ones = λ t. lists_changed (h.sleeping_ones t) (triggered_by signal word before behind) (λ x. if_triggered (sleeps_until t) _ x (triggered_sleeps t x)) p;
-    })
 
 covered : (test : Place → Bool) (ps : List Place) (ns : List ℕ) → Lists test ps ns → (i : ℕ) → names ns i ≡ false → if_some test (slice_get ps i) ≡ false
 covered test ps ns h i none = sym (h.each i) ∙ none

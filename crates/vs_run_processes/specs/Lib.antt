@@ -1,3 +1,5 @@
 pub mod Listed
+pub mod Standings
+pub mod Taken
 pub mod Timelines
 pub mod Triggers

@@ -1,5 +1,5 @@
 -- Which words and signals a move may change.
-use Rattle.std.proofs.Common.{◌≡◌, ℕ, ◌+◌, ◌<◌, ◌==◌, ◌&&◌, not, Bool, true, false, Option, Some, None, option_map, List, [], ◌∷◌, ◌++◌, length, drop, get_or, slice_get, if◌then◌else◌, refl, sym, ◌∙◌, ap, ap₂, subst, arith}
+use Rattle.std.proofs.Common.{◌≡◌, ℕ, ◌+◌, ◌<◌, ◌==◌, ◌&&◌, Bool, true, false, Option, Some, None, List, [], ◌∷◌, ◌++◌, length, drop, get_or, slice_get, if◌then◌else◌, refl, sym, ◌∙◌, ap, ap₂, subst}
 use Rattle.std.specs.List.{list_any}
 use Rattle.std.proofs.lemmas.Bool.{cond-true, ne_eqb, eqb-false, or_parts, or_from}
 use Rattle.std.proofs.lemmas.List.{drop_more}
@@ -9,57 +9,20 @@ use Rattle.vs_logic4.specs.declared.digit.Digit.{Digit}
 use Rattle.vs_logic4.specs.Sameness.{same_digits-true, same_digits_self}
 use Rattle.vs_logic4.specs.Vectors.{same_digits}
 use Rattle.vs_design.specs.declared.write.Part.{Part}
-use Rattle.vs_design.specs.Behind.{is_kept}
-use Rattle.vs_design.specs.Stores.{Store, changed_at, overlaid, word_in, word_of, put, put_part, changes_nothing}
+use Rattle.vs_design.specs.Stores.{Store, word_of, put, put_part}
 use Rattle.vs_design.specs.Uses.{all_words, has_word}
 use Rattle.vs_design.specs.Writes.{Write}
 use Rattle.vs_edges.specs.Differences.{HaveOneSize, bits_differ, word_changes, part_changes}
 use Rattle.vs_edges.proofs.StoresLemmas.{changed_by_parts, put_size}
-use Rattle.vs_flatcode.proofs.Holding.{holds_one}
 use Rattle.vs_flatcode.specs.declared.changes.Change.{Change}
-use Rattle.vs_flatcode.specs.Changes.{changed_word, changed_part, changed_words, store_behind, changes_of}
-use Rattle.vs_flatcode.specs.Steps.{has_nothing}
+use Rattle.vs_flatcode.specs.Changes.{changed_word, changed_part, changed_words}
 use Rattle.vs_process.proofs.Assigns.{signal_kept}
-use Rattle.vs_design.proofs.Stores.{slice_get-changed_at as changed_same}
-use Rattle.vs_process.specs.States.{State}
-use Rattle.vs_run_wakes.specs.Changes.{HaveSizes, MarkChanges, MarkWords}
+use Rattle.vs_run_wakes.specs.Changes.{MarkChanges, MarkWords}
 use Rattle.vs_run_wakes.proofs.TouchesLemmas.{same_bits}
 
 -- whether one of some words is of a signal
 abbrev pub is_among : List Change → ℕ → Bool
 is_among cs v = list_any (λ (c : Change). c.signal == v) cs
-
--- a list with an element has some
-pub some_there : {A : Type 0} (xs : List A) (i : ℕ) → i < length xs → has_nothing xs ≡ false
-some_there [] i h = absurd (omega arith)
-some_there (x ∷ xs) i h = refl
-
--- ---- sizes
-
-sized_word : (signal word : ℕ) (before behind : Option (List Digit)) (cs : List Change) → HaveOneSize before behind → HaveSizes cs → HaveSizes (changed_word signal word before behind ++ cs)
-sized_word signal word None None cs size h = h
-sized_word signal word None (Some ds) cs size h = cc
-sized_word signal word (Some ds) None cs size h = cc
-sized_word signal word (Some before) (Some behind) cs size h = by_test (same_digits before behind)
-  where
-    by_test : (b : Bool) → HaveSizes ((if b then [] else record { signal = signal; word = word; before = before; behind = behind } ∷ []) ++ cs)
-    by_test true = h
-    by_test false = let e : length before ≡ length behind = cc in (e, h)
-
-sized_words : (old new : Store) (ps : Write) → ((signal word : ℕ) → HaveOneSize (word_of old signal word) (word_of new signal word)) → HaveSizes (changed_words old new ps)
-sized_words old new [] size = tt
-sized_words old new (p ∷ ps) size =
-    sized_word p.signal p.word (word_of old p.signal p.word) (word_of new p.signal p.word) (changed_words old new ps) (size p.signal p.word) (sized_words old new ps size)
-
--- the words that a write changes have one size before and behind
-pub sizes_put : (w : Write) (store new : Store) (cs : List Change) → new ≡ put store w → cs ≡ changed_words store new w → HaveSizes cs
-sizes_put w store new cs is words =
-    subst HaveSizes (sym (words ∙ ap (λ (s : Store). changed_words store s w) is)) (sized_words store (put store w) w (put_size w store))
-
--- the same of a step that may write
-pub sizes_behind : (w : Option Write) (store : Store) (cs : List Change) → cs ≡ changes_of store w → HaveSizes cs
-sizes_behind None store cs words = subst HaveSizes (sym words) tt
-sizes_behind (Some w) store cs words = sizes_put w store (put store w) cs refl words
 
 -- ---- signals
 
@@ -113,16 +76,6 @@ marks_put marks later w old new cs h words is = record {
       (m.0, kept_put w old new cs v (m.1 within) words is);
 }
 
--- the same of a step that may write
-pub marks_behind : (marks later : List ℕ) (w : Option Write) (old new : Store) (cs : List Change) → MarkWords marks later cs → cs ≡ changes_of old w → new ≡ store_behind old w →
-    MarkChanges marks later old new
-marks_behind marks later None old new cs h words is = record { len = h.len; marked = λ v off within. ((h.marked v off).0, ap (λ (s : Store). slice_get s v) is) }
-marks_behind marks later (Some w) old new cs h words is = marks_put marks later w old new cs h (words ∙ ap (λ (s : Store). changed_words old s w) (sym is)) is
-
--- as a contract sees the state before
-pub marks_seen : {s now : State} (marks later : List ℕ) (new : Store) → s ≡ now → MarkChanges marks later s.store new → MarkChanges marks later now.store new
-marks_seen marks later new same h = subst (λ (t : State). MarkChanges marks later t.store new) same h
-
 -- ---- a write of one part
 
 -- the word that it names has one size before and behind
@@ -157,24 +110,6 @@ pub word_other : (signal word : ℕ) (before behind : List Digit) → same_digit
     changed_word signal word (Some before) (Some behind) ≡ record { signal = signal; word = word; before = before; behind = behind } ∷ []
 word_other signal word before behind h = ap (λ (b : Bool). if b then [] else record { signal = signal; word = word; before = before; behind = behind } ∷ []) h
 
--- whether it is as it was
-pub part_told : (store new : Store) (p : Part) (before behind : List Digit) → new ≡ put_part store p → word_of store p.signal p.word ≡ Some before → word_of new p.signal p.word ≡ Some behind →
-    not (same_digits before behind) ≡ not (changes_nothing store (p ∷ []))
-part_told store new p before behind is a b =
-    let f : List Digit → List Digit = overlaid p.low p.digits in
-    let here : word_of (put_part store p) p.signal p.word ≡ option_map f (word_of store p.signal p.word) =
-    ap (λ (o : Option (List (List Digit))). word_in o p.word) (changed_same (changed_at f p.word) p.signal store) ∙ within f (slice_get store p.signal)
-    in
-    let there : Some behind ≡ Some (f before) = sym b ∙ ap (λ (s : Store). word_of s p.signal p.word) is ∙ here ∙ ap (option_map f) a in
-    ap not (ap (same_digits before) (same_Some behind (f before) there) ∙ sym (ap (is_kept f) a) ∙ holds_one store p)
-  where
-    within : (f : List Digit → List Digit) (o : Option (List (List Digit))) → word_in (option_map (changed_at f p.word) o) p.word ≡ option_map f (word_in o p.word)
-    within f None = refl
-    within f (Some words) = changed_same f p.word words
-
-pub part_missing : (store : Store) (p : Part) → word_of store p.signal p.word ≡ None → false ≡ not (changes_nothing store (p ∷ []))
-part_missing store p a = ap not (sym (ap (is_kept (overlaid p.low p.digits)) a) ∙ holds_one store p)
-
 -- a write that changes nothing changes no word
 pub nothing_words : (store : Store) (p : Part) → changed_words store store (p ∷ []) ≡ []
 nothing_words store p = ap (λ (l : List Change). l ++ []) (kept (word_of store p.signal p.word))
@@ -188,16 +123,6 @@ nothing_words store p = ap (λ (l : List Change). l ++ []) (kept (word_of store 
 -- without a changed word the marks stay
 pub no_words : (marks : List ℕ) → MarkWords marks marks []
 no_words marks = record { len = refl; marked = λ v off. (off, λ within. refl) }
-
--- where the store stays, the marks may
-pub same_store : (marks : List ℕ) (old new : Store) → new ≡ old → MarkChanges marks marks old new
-same_store marks old new same = record { len = refl; marked = λ v off within. (off, ap (λ (s : Store). slice_get s v) same) }
-
--- a list of one change
-pub one_change : (cs : List Change) (c : Change) → length cs ≡ 1 → c ≡ get_or cs 0 c → cs ≡ c ∷ []
-one_change [] c h is = absurd (omega arith)
-one_change (d ∷ []) c h is = ap (λ (x : Change). x ∷ []) (sym is)
-one_change (d ∷ f ∷ cs) c h is = absurd (omega arith)
 
 -- a word that is the same behind is no change
 pub word_same : (signal word : ℕ) (before behind : List Digit) → same_digits before behind ≡ true → changed_word signal word (Some before) (Some behind) ≡ []

@@ -2,4 +2,3 @@ pub mod ChangesLemmas
 pub mod MarkingLemmas
 pub mod TouchesLemmas
 pub mod WaitsLemmas
-pub mod TermsLemmas

@@ -1,8 +1,8 @@
 -- Which continuous assignments the words wake that a write changes.
-use Rattle.std.proofs.Common.{◌≡◌, ℕ, suc, ◌+◌, ◌<◌, ◌||◌, ◌&&◌, Bool, true, false, Option, Some, None, List, [], ◌∷◌, ◌++◌, map, length, drop, take, get_or, if◌then◌else◌, refl, sym, ◌∙◌, ap, ap₂, arith, append_assoc}
+use Rattle.std.proofs.Common.{◌≡◌, ℕ, suc, ◌+◌, ◌<◌, ◌||◌, ◌&&◌, Bool, true, false, Option, Some, None, List, [], ◌∷◌, ◌++◌, map, length, take, get_or, if◌then◌else◌, refl, sym, ◌∙◌, ap, ap₂, arith, append_assoc}
 use Rattle.std.specs.List.{list_any}
 use Rattle.std.proofs.Math.Bool.{or-false}
-use Rattle.std.proofs.lemmas.List.{length-append, drop_more, map-append, take_more}
+use Rattle.std.proofs.lemmas.List.{length-append, map-append, take_more}
 use Rattle.vs_logic4.specs.declared.digit.Digit.{Digit}
 use Rattle.vs_logic4.specs.Sameness.{same_digits-true}
 use Rattle.vs_logic4.specs.Vectors.{same_digits}
@@ -197,12 +197,6 @@ woken_of d test xs h = sources xs ∙ h
     sources : (xs : List AssignState) → map (λ (x : AssignState). x.source) (map (woken_by test) xs) ≡ map (λ (x : AssignState). x.source) xs
     sources [] = refl
     sources (x ∷ xs) = ap (λ (l : List Typed). x.source ∷ l) (sources xs)
-
--- one reader more is looked at
-pub reader_more : (test : BitRange → Bool) (rs : List Reader) (i : ℕ) (d : Reader) (xs ys all : List AssignState) → i < length rs → ys ≡ (if test (get_or rs i d).range then woken_in (get_or rs i d).assign xs else xs)
-    → all_woken test (drop i rs) xs ≡ all → all_woken test (drop (i + 1) rs) ys ≡ all
-reader_more test rs i d xs ys all lt is so_far =
-    ap (all_woken test (drop (i + 1) rs)) is ∙ sym (ap (λ (l : List Reader). all_woken test l xs) (drop_more rs i d lt)) ∙ so_far
 
 -- one continuous assignment more begins
 pub begun_more : (xs : List Assign) (i : ℕ) (x : Assign) (all more : List AssignState) (y : AssignState) → i < length xs → x ≡ get_or xs i x → all ≡ map start_assign (take i xs) → y ≡ start_assign x

@@ -1,14 +1,9 @@
 -- Which words and signals a move may change.
-use Rattle.std.specs.Prelude.{ℕ, ◌==◌, ◌≡◌, ◌<◌, ◌*◌, false, List, [], ◌∷◌, length, slice_get}
+use Rattle.std.specs.Prelude.{ℕ, ◌==◌, ◌≡◌, ◌<◌, ◌*◌, false, List, length, slice_get}
 use Rattle.std.specs.List.{list_any}
 use Rattle.vs_design.specs.Stores.{Store}
 use Rattle.vs_flatcode.specs.declared.changes.Change.{Change}
 use Rattle.vs_vcd_writing.specs.Marks.{is_marked}
-
--- each word has one size before and behind
-abbrev pub HaveSizes : List Change → Type 0
-HaveSizes [] = Unit {0}
-HaveSizes (c ∷ cs) = (length c.before ≡ length c.behind) × HaveSizes cs
 
 -- marks behind those of some words: as many, and a signal without a mark had none before, and none of these words is of it
 pub record MarkWords (old new : List ℕ) (changes : List Change) : Type 0 where

@@ -1,4 +1,3 @@
 pub mod Changes
-pub mod Sources
 pub mod Touches
 pub mod Waits

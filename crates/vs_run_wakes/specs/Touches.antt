@@ -1,5 +1,5 @@
 -- Which continuous assignments changes of words wake.
-use Rattle.std.specs.Prelude.{ℕ, ◌≡◌, ◌||◌, Bool, true, false, Some, None, is_some, List, [], ◌∷◌, map, if◌then◌else◌}
+use Rattle.std.specs.Prelude.{ℕ, ◌≡◌, ◌||◌, Bool, true, Some, is_some, List, [], ◌∷◌, map, if◌then◌else◌}
 use Rattle.std.specs.List.{list_any}
 use Rattle.vs_design.specs.declared.design.Assign.{Assign}
 use Rattle.vs_design.specs.declared.range.BitRange.{BitRange}
@@ -9,7 +9,7 @@ use Rattle.vs_design.specs.Stores.{changed_at}
 use Rattle.vs_design.specs.Uses.{reads}
 use Rattle.vs_edges.specs.Differences.{word_changes}
 use Rattle.vs_flatcode.specs.declared.changes.Change.{Change}
-use Rattle.vs_process.specs.States.{AssignState, State}
+use Rattle.vs_process.specs.States.{AssignState}
 
 -- ---- what is woken
 
@@ -20,10 +20,6 @@ is_left x = x.needs || is_some x.pending
 -- a continuous assignment that has to be evaluated
 abbrev pub woken : AssignState → AssignState
 woken x = record x { needs = true }
-
--- a continuous assignment of which nothing is left to do
-abbrev pub rested : AssignState → AssignState
-rested x = record x { needs = false; pending = None }
 
 -- continuous assignments of which one has to be evaluated
 abbrev pub woken_in : ℕ → List AssignState → List AssignState
@@ -48,7 +44,3 @@ woken_changes (c ∷ cs) xs = woken_changes cs (map (woken_by (word_changes c.si
 -- continuous assignments that evaluate the same expressions as those of a design
 abbrev pub AreOf : Parts → List AssignState → Type 0
 AreOf d xs = map (λ (x : AssignState). x.source) xs ≡ map (λ (a : Assign). a.source) d.assigns
-
--- the continuous assignments of a state are those of the design
-abbrev pub HasSources : Parts → State → Type 0
-HasSources d s = AreOf d s.assigns

@@ -1,5 +1,5 @@
 //! The marks of the blocks of signals that were written since the last slot of the value change dump.
-ghost use Rattle.std.specs.Prelude.{◌≡◌, ◌<◌, ◌≤◌, ◌*◌, ◌^◌, ℕ, true, false, length, IfOk};
+ghost use Rattle.std.specs.Prelude.{◌≡◌, ◌<◌, ◌≤◌, ◌*◌, ◌^◌, ℕ, false, length, IfOk};
 ghost use Rattle.vs_vcd_writing.specs.Marks.{is_marked};
 
 use std::alloc::{AllocError, Global};
@@ -15,19 +15,6 @@ pub fn no_marks(alloc: Global, signals: usize) -> Result<Vec<u64>, AllocError>
     let words = signals / BLOCK / 64 + 1;
     let marks = vec![in alloc; 0; words]?;
     Ok(marks)
-}
-
-/// Marks the block of a signal; one past the marks has none.
-#[inline(always)]
-pub(crate) fn mark(marks: &mut Vec<u64>, signal: usize)
-    ensures len { length marks.new.items ≡ length marks.old.items }
-    ensures set { signal < 512 * length marks.old.items → is_marked marks.new.items signal ≡ true }
-    ensures others { (other : ℕ) → is_marked marks.new.items other ≡ false → is_marked marks.old.items other ≡ false }
-{
-    let block = signal / BLOCK;
-    if let Some(bits) = marks.get_mut(block / 64) {
-        *bits |= 1 << (block % 64);
-    }
 }
 
 /// Takes all marks away.

@@ -18,8 +18,8 @@ use vs_kernel::{Fifo, Kernel, Lifo, Listed, Outcome, Pick, RunFault, dumps_show_
 use vs_lexer::lex;
 use vs_parser::parse;
 use vs_process::never_stuck;
-use vs_regions::Due;
 use vs_run_dumps::{complete_runs_end_slots, run_dumps_are_read};
+use vs_run_updates::Due;
 use vs_time_wheel::Wheel;
 use vs_vcd_writing::Sink;
 

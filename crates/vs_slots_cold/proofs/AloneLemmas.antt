@@ -1,62 +1,15 @@
 -- Processes run alone, step by step.
-use Rattle.std.proofs.Common.{◌≡◌, ℕ, zero, suc, ◌+◌, ◌-◌, ◌<◌, ◌≤◌, ◌⊎◌, Bool, true, false, Option, Some, None, option_map, List, [], ◌∷◌, refl, sym, ◌∙◌, ap, ap₂, inl, inr, arith}
+use Rattle.std.proofs.Common.{◌≡◌, ℕ, zero, suc, ◌-◌, ◌<◌, Bool, true, false, Option, Some, None, option_map, [], ◌∷◌, refl, sym, ◌∙◌, ap, ap₂, arith}
 use Rattle.vs_design.specs.declared.statement.Statement.{Statement}
 use Rattle.vs_design.specs.Stores.{Store}
 use Rattle.vs_design.specs.Writes.{Write}
-use Rattle.vs_flatcode.specs.declared.made.Effect.{Effect}
-use Rattle.vs_flatcode.specs.declared.made.Effect.TheVariants as e
-use Rattle.vs_flatcode.specs.declared.made.Halt.{Halt}
-use Rattle.vs_flatcode.specs.declared.made.Halt.TheVariants as h
-use Rattle.vs_flatcode.specs.Changes as changes
-use Rattle.vs_flatcode.specs.Landings.{effect_in, next_of, out_of}
+use Rattle.vs_flatcode.specs.Changes.{store_behind}
 use Rattle.vs_flatcode.specs.Places.{Todo, flat}
-use Rattle.vs_flatcode.specs.Steps.{Next, Out, on, after, wait, step, has_nothing}
-use Rattle.vs_flatcode.specs.Went.{IsFollowed, QuietSteps, TookStep, TookSteps}
-use Rattle.vs_flatcode.specs.declared.changes.Change.{Change}
+use Rattle.vs_flatcode.specs.Steps.{Next, on, after, wait, step, has_nothing}
 use Rattle.std.proofs.lemmas.Option.{same_Some}
-use Rattle.vs_law_threads.specs.Threads.{store_behind}
+use Rattle.vs_law_threads.specs.Threads as threads
 use Rattle.vs_rules.specs.Blocks.{arrived, run_alone}
 use Rattle.vs_slots_cold.specs.Alone.{Arrival, arrives, arrival, arrived_if, store_if, ComesTo}
-
--- ---- one step
-
--- where a step leads, whatever its effect
-pub out_next : (next : Next) (w : Option Write) (effect : Effect) → (out_of next w effect).next ≡ next
-out_next next w e.Nothing = refl
-out_next next w (e.Part ticks p) = refl
-out_next next w (e.Update ticks u) = refl
-out_next next w (e.Strobe f) = refl
-out_next next w (e.Line text) = refl
-out_next next w e.Finish = refl
-
-pub behind_is : (store : Store) (o : Option Write) → changes.store_behind store o ≡ store_behind store o
-behind_is store None = refl
-behind_is store (Some w) = refl
-
-pub record IsOneStep (old : Todo) (from : Store) (halt : Halt) (new : Todo) (behind : Store) : Type 0 where
-  pub next : (step old from 0).next ≡ next_of halt new
-  pub store : behind ≡ store_behind from (step old from 0).write
-
-by_counts : (before more : ℕ) → suc (before + more) ≤ 1 → (old mid next new : Todo) (store : Store) (halt last : Halt) (effect : Effect) (behind : Store) (noted all : List Change) →
-    QuietSteps before old store 0 mid → TookStep mid store 0 halt next effect behind noted all → IsFollowed more next behind 0 halt last new → IsOneStep old store halt new behind
-by_counts zero zero few old mid next new store halt last effect behind noted all quiet took rest = record {
-  next = ap (λ (k : Todo). (step k store 0).next) (sym quiet) ∙ ap (λ (o : Out). o.next) took.out ∙ out_next (next_of halt next) (step mid store 0).write (effect_in halt effect)
-      ∙ ap (next_of halt) (sym (same rest));
-  store = took.written ∙ behind_is store (step mid store 0).write ∙ ap (λ (k : Todo). store_behind store (step k store 0).write) quiet;
-}
-  where
-    same : IsFollowed zero next behind 0 halt last new → new ≡ next
-    same (inl r) = r.2
-    same (inr (inl r)) = r.1.1
-    same (inr (inr r)) = r.2.1
-by_counts zero (suc more) few old mid next new store halt last effect behind noted all quiet took rest = absurd (omega (arith, few))
-by_counts (suc before) more few old mid next new store halt last effect behind noted all quiet took rest = absurd (omega (arith, few))
-
--- steps that are one at most
-pub one_step : (steps : ℕ) (old new : Todo) (store : Store) (halt last : Halt) (effect : Effect) (behind : Store) (noted all : List Change) → steps ≤ 1 →
-    TookSteps steps old store 0 halt last new effect behind noted all → IsOneStep old store halt new behind
-one_step steps old new store halt last effect behind noted all few t =
-    by_counts t.before t.more (omega (arith, few, t.count)) old t.mid t.next new store halt last effect behind noted all t.quiet t.took t.rest
 
 -- ---- a run
 
@@ -87,12 +40,18 @@ by_next (on l) rest alone store same = same l
 by_next (after number ticks l) rest alone store same = refl
 by_next (wait number terms l) rest alone store same = refl
 
+-- the store behind a step as the rule has it
+behind_is : (store : Store) (o : Option Write) → threads.store_behind store o ≡ store_behind store o
+behind_is store None = refl
+behind_is store (Some w) = refl
+
 -- it is the run of the rule
 pub alone_is : (most : ℕ) (k : Todo) (store : Store) → run_alone most k store ≡ store_at (arrival most k store)
 alone_is zero k store = refl
 alone_is (suc most) k store =
     let new : Store = store_behind store (step k store 0).write in
-    by_next (step k store 0).next (λ l. arrival most l new) (λ l s. run_alone most l s) new (λ l. alone_is most l new)
+    ap (arrived (step k store 0).next (λ l s. run_alone most l s)) (behind_is store (step k store 0).write)
+    ∙ by_next (step k store 0).next (λ l. arrival most l new) (λ l s. run_alone most l s) new (λ l. alone_is most l new)
 
 -- ---- as it is told
 
@@ -114,12 +73,6 @@ same_arrival : (k l : Todo) (a b : Store) → Some (at k a) ≡ Some (at l b) �
 same_arrival k l a b e =
     let same : at k a ≡ at l b = same_Some (at k a) (at l b) e in
     (ap (λ (x : Arrival). x.todo) same, ap (λ (x : Arrival). x.store) same)
-
--- where it goes on
-pub stays_on : (halt : Halt) (k : Todo) → (halt ≡ h.Nothing) ⊎ ((halt ≡ h.Wrote) ⊎ (halt ≡ h.Made)) → next_of halt k ≡ on k
-stays_on halt k (inl e) = ap (λ (x : Halt). next_of x k) e
-stays_on halt k (inr (inl e)) = ap (λ (x : Halt). next_of x k) e
-stays_on halt k (inr (inr e)) = ap (λ (x : Halt). next_of x k) e
 
 -- where it waits after two steps
 pub came : (most : ℕ) (waits : Bool) → waits ≡ true → (start mid behind : Todo) (old here : Store) (body : Statement) → start ≡ flat body →

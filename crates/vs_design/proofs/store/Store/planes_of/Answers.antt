@@ -14,14 +14,14 @@ module _ (es : List Layout) (vs us : List ℕ) (p : ArePlanesOf es vs us) (numbe
     held : IsHeld es vs us 0 number
     held = let low : 0 ≤ number = omega arith in word_held es vs us 0 (length vs) number p.in_turn p.words low inside
 
-    is_held : numbered_word (store_of es vs us) number ≡ word_at held.width vs us number
+    is_held : numbered_word (store_of es vs us) number ≡ word_at held.spot.width vs us number
     is_held = let whole : number ≡ number - 0 = omega arith in ap (λ k. get_or (words_in_order (store_of es vs us)) k []) whole ∙ held.digits
 
     value_held : value_plane (numbered_word (store_of es vs us) number) ≡ slice_index vs number
-    value_held = ap value_plane is_held ∙ value_plane-digits_of_planes held.width (slice_index vs number) (slice_index us number) held.is_word.value_below
+    value_held = ap value_plane is_held ∙ value_plane-digits_of_planes held.spot.width (slice_index vs number) (slice_index us number) held.is_word.value_below
 
     unknown_held : unknown_plane (numbered_word (store_of es vs us) number) ≡ slice_index us number
-    unknown_held = ap unknown_plane is_held ∙ unknown_plane-digits_of_planes held.width (slice_index vs number) (slice_index us number) held.is_word.unknown_below
+    unknown_held = ap unknown_plane is_held ∙ unknown_plane-digits_of_planes held.spot.width (slice_index vs number) (slice_index us number) held.is_word.unknown_below
 
   none_held : length vs ≤ number → numbered_word (store_of es vs us) number ≡ []
   none_held past =

@@ -1,0 +1,3 @@
+pub mod ListLemmas
+pub mod RankLemmas
+pub mod WriteLemmas

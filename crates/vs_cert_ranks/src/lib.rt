@@ -1,0 +1,7 @@
+//! The places at which signals are written, and ranks of places, by which many of them are told never to be hot without a walk.
+#![tactic(auto)]
+
+mod ranks;
+mod writes;
+
+pub use writes::Writes;

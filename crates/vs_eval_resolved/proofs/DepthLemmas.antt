@@ -1,0 +1,9 @@
+-- Depths of the parts of resolved expressions.
+use Rattle.std.proofs.Common.{ℕ, max, List}
+use denote.Param.Weighed.{most}
+use Rattle.vs_eval_resolved.specs.declared.node.Node.{Node, size-Node}
+use Rattle.vs_eval_resolved.specs.declared.node.Sides.{Sides}
+
+-- the depth of the deepest of operands after operators
+abbrev pub links_depth : List (Sides × Node) → ℕ
+links_depth ls = most (λ (l : Sides × Node). max 0 (max (size-Node l.1) 0)) ls

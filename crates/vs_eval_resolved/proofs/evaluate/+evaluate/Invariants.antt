@@ -1,0 +1,21 @@
+use Rattle.std.proofs.Common.{◌≡◌, ◌+◌, ◌*◌, max, map, drop}
+use Rattle.vs_eval_resolved.specs.declared.node.Node.{size-Node}
+use Rattle.vs_eval_resolved.specs.Nodes.{planes_in, chained}
+use Rattle.vs_eval_resolved.proofs.DepthLemmas.{links_depth}
+use Rattle.vs_eval_resolved.proofs.evaluate.+evaluate.Given as goal
+
+abbrev pub invariant-chain-loop-sides : goal.invariant-chain-loop-sides
+invariant-chain-loop-sides l =
+    chained l.all (map (λ q. (q.0, planes_in q.1 l.store l.time)) (drop l.sides-index l.links)) ≡ chained l.fn.first (map (λ q. (q.0, planes_in q.1 l.store l.time)) l.links)
+
+abbrev pub decreases-planes_at : goal.decreases-planes_at
+decreases-planes_at l = 3 * size-Node l.node.now + 1
+
+abbrev pub decreases-quick_planes : goal.decreases-quick_planes
+decreases-quick_planes l = 3 * size-Node l.node.now + 2
+
+abbrev pub decreases-chain : goal.decreases-chain
+decreases-chain l = 3 * links_depth l.links.now + 3
+
+abbrev pub decreases-choice : goal.decreases-choice
+decreases-choice l = 3 * max (size-Node l.x.now) (size-Node l.y.now) + 3

@@ -1,0 +1,3 @@
+pub mod Meant
+pub mod Nodes
+pub mod PlanesOf

@@ -1,0 +1,116 @@
+//! Resolved expressions.
+ghost use Rattle.std.specs.Prelude.{◌≡◌, ◌<◌, ◌≤◌, ◌+◌, ◌^◌, true};
+ghost use Rattle.vs_logic4.specs.Operators.{is_even, sizing_of};
+
+use vs_design::Typed;
+use vs_logic4::{Binary, Unary};
+
+/// A value in two planes: a digit is 0, 1, z or x where their bits are 00, 10, 01 or 11.
+#[derive(Clone, Copy)]
+pub struct Planes {
+    /// A bit is set where the digit is 1 or x.
+    pub value: u64,
+    /// A bit is set where the digit is x or z.
+    pub unknown: u64,
+}
+
+/// A size in bits.
+#[derive(Clone, Copy)]
+pub(crate) struct Size {
+    pub width: u32,
+    pub ghost sized: { (0 < width) × (width ≤ 64) },
+}
+
+/// Bits of a word, all in range.
+#[derive(Clone, Copy)]
+pub(crate) struct Field {
+    /// The number of the word.
+    pub number: usize,
+    /// The place of the lowest bit.
+    pub low: u32,
+    /// How many bits there are.
+    pub width: u32,
+    pub ghost inside: { low < 64 },
+    pub ghost sized: { (0 < width) × (width ≤ 64) },
+}
+
+/// Words of one signal, of which an index chooses one: that of the index's value.
+#[derive(Clone, Copy)]
+pub(crate) struct Array {
+    /// The number of the first word.
+    pub first: usize,
+    /// How many words there are.
+    pub count: u32,
+    /// The size of each word in bits.
+    pub width: u32,
+    pub ghost sized: { (0 < width) × (width ≤ 64) },
+    pub ghost inside: { first + count < 2 ^ 64 },
+}
+
+/// An operator, and the sizes at which it takes what stands on its left and on its right.
+#[derive(Clone, Copy)]
+pub(crate) struct Sides {
+    pub operator: Binary,
+    /// Whether both sides are signed numbers.
+    pub signed: bool,
+    pub left: u32,
+    pub right: u32,
+    pub ghost left_sized: { (0 < left) × (left ≤ 64) },
+    pub ghost right_sized: { (0 < right) × (right ≤ 64) },
+    pub ghost even: { is_even (sizing_of operator) ≡ true → left ≡ right },
+}
+
+/// A size and a sign to which a value of another size is brought.
+#[derive(Clone, Copy)]
+pub(crate) struct Change {
+    pub from: u32,
+    pub to: u32,
+    /// Whether the value is extended by its sign.
+    pub signed: bool,
+    pub ghost from_sized: { (0 < from) × (from ≤ 64) },
+    pub ghost to_sized: { (0 < to) × (to ≤ 64) },
+}
+
+/// A resolved expression.
+pub(crate) enum Node<'a> {
+    /// A literal.
+    Number(Planes),
+    /// The word of a number; at a larger size without a sign it has the same planes. A number counts the words of all signals in design order.
+    Word(usize),
+    /// Bits of a word.
+    Bits(Field),
+    /// A word of an array.
+    Element(Array, Box<Node<'a>>),
+    /// A bit of the first word of an array, by an index of its own value.
+    Bit(Array, Box<Node<'a>>),
+    /// An operator and its operand, which has this size.
+    Unary(Unary, Size, Box<Node<'a>>),
+    /// An operator and its operands.
+    Two(Sides, Box<Node<'a>>, Box<Node<'a>>),
+    /// Operands with operators between them, from left to right.
+    Chain(Box<Node<'a>>, Vec<(Sides, Node<'a>)>),
+    /// `c ? v : e`: the size of the condition, that of both operands, and the three.
+    If(Size, Size, Box<Node<'a>>, Box<Node<'a>>, Box<Node<'a>>),
+    /// An operand brought to another size.
+    Resized(Change, Box<Node<'a>>),
+    /// Any other expression.
+    Other(&'a Typed),
+}
+
+impl<'a> Drop for Node<'a> {
+    fn drop(self) {
+        match self {
+            Self::Number(_)
+            | Self::Word(_)
+            | Self::Bits(_)
+            | Self::Element(_, _)
+            | Self::Bit(_, _)
+            | Self::Unary(_, _, _)
+            | Self::Two(_, _, _)
+            | Self::Chain(_, _)
+            | Self::If(_, _, _, _, _)
+            | Self::Resized(_, _)
+            | Self::Other(_) => {}
+        }
+    }
+}

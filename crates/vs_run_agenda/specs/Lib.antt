@@ -1,2 +1,0 @@
-pub mod ActiveEvents
-pub mod Policies

@@ -1,0 +1,6 @@
+pub mod Evaluations
+pub mod Forms
+pub mod Known
+pub mod Members
+pub mod MembersMade
+pub mod Placed

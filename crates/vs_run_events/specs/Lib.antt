@@ -1,6 +1,0 @@
-pub mod Insides
-pub mod Points
-pub mod Prints
-pub mod Recording
-pub mod Slots
-pub mod Turns

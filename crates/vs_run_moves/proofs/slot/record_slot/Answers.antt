@@ -1,0 +1,14 @@
+use Rattle.std.proofs.Common.{◌∙◌, ◌++◌, sym}
+use Rattle.vs_process.specs.declared.moves.Move.TheVariants.{EndSlot}
+use Rattle.vs_process.specs.Executions.{ended_slot}
+use Rattle.vs_run_steps.specs.Runs.{state_of}
+use Rattle.vs_run_moves.proofs.MarkingLemmas.{unnoted, unnoted_bytes}
+use Rattle.vs_run_moves.proofs.slot.record_slot.Goals as goal
+
+pub returns-then-not-is_writing-clause-written : goal.returns-then-not-is_writing-clause-written
+returns-then-not-is_writing-clause-written g c = λ d before h.
+    unnoted c.args.recorder.now (g.V.Sink.bytes c.args.vcd.now) d before (before ++ ended_slot EndSlot (state_of c.args.running.now)) (sym c.is_writing.ensures ∙ c.if-not-is_writing.true) h
+
+pub returns-then-not-is_writing-clause-bytes : goal.returns-then-not-is_writing-clause-bytes
+returns-then-not-is_writing-clause-bytes g c = λ d before h.
+    unnoted_bytes c.args.recorder.now (g.V.Sink.bytes c.args.vcd.now) d before (state_of c.args.running.now) (sym c.is_writing.ensures ∙ c.if-not-is_writing.true) h

@@ -1,4 +1,0 @@
-pub mod EffectsLemmas
-pub mod ExecutionsLemmas
-pub mod PrintsLemmas
-pub mod SilentLemmas

@@ -1,5 +1,0 @@
-pub mod Driven
-pub mod Effects
-pub mod Prints
-pub mod Silent
-pub mod Told

@@ -1,0 +1,3 @@
+pub mod RunsLemmas
+pub mod StepsLemmas
+pub mod TakingLemmas

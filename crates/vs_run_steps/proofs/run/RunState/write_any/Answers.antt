@@ -1,0 +1,11 @@
+use Rattle.vs_run_steps.proofs.RunsLemmas.{wrote, wrote_state}
+use Rattle.vs_run_steps.proofs.run.RunState.write_any.Goals as goal
+
+pub returns-clause-state : goal.returns-clause-state
+returns-clause-state g c =
+    wrote_state g.plan.design g.plan.terms c.args.self.now c.write_any.new.self c.write_any.new.changes c.args.write.now c.requires.1 c.in_ok-write_any.ensures.store c.in_ok-write_any.ensures.made
+
+pub returns-clause-keeps : goal.returns-clause-keeps
+returns-clause-keeps g c =
+    wrote g.plan.design g.plan.terms c.args.self.now c.write_any.new.self c.write_any.new.changes c.args.write.now c.requires.1 c.in_ok-write_any.ensures.store c.write_any.ensures.tables
+    c.in_ok-write_any.ensures.made c.write_any.ensures.marked

@@ -1,0 +1,5 @@
+use Rattle.vs_run_tables.specs.Rows.{AreRows}
+use Rattle.vs_run_tables.proofs.tables.Tables.of.Given as goal
+
+abbrev pub invariant-loop-signal : goal.invariant-loop-signal
+invariant-loop-signal l = AreRows l.signal l.design.assigns l.terms l.groups l.rows.items l.watchers.items

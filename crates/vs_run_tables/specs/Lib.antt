@@ -1,0 +1,10 @@
+pub mod Groups
+pub mod Left
+pub mod Lists
+pub mod Rows
+pub mod Terms
+pub mod Waiting
+pub mod Wakes
+pub mod Waking
+pub mod Walks
+pub mod Watchers

@@ -1,0 +1,9 @@
+pub mod Walks
+pub mod ItemsLemmas
+pub mod FilterLemmas
+pub mod ActiveLemmas
+pub mod RegionsLemmas
+pub mod TimesLemmas
+pub mod UpdatesLemmas
+pub mod HeldLemmas
+pub mod ClaimLemmas

@@ -1,0 +1,2 @@
+pub mod FastLemmas
+pub mod WritesLemmas
